@@ -95,11 +95,11 @@ fn follow(
 }
 
 impl ActiveItems {
-    ghost use Rattle.mm_frame.specs.Code.KeptActiveItems.{AreActive};
+    ghost use Rattle.mm_frame.specs.Code.KeptActiveItems.{AreActiveKept};
 
     /// No items. It takes no memory.
     pub fn new(alloc: Global) -> Self
-        ensures { AreActive [] [] result }
+        ensures { AreActiveKept [] [] result }
     {
         ActiveItems {
             essentials: ActiveNumbers::new(alloc),
@@ -139,8 +139,8 @@ impl ActiveItems {
     ) -> Result<(), AllocError>
         ensures { OnOk result ((before : List meant.Item) (said : meant.Item) (old : List (List Kept)) (symbols : List Kept) → kind_of item.kind ≡ said.kind
             → item.number ≡ length before → blocks.now ≡ block_marks (before ++ taken item.sound said ∷ [])
-            → length old ≡ length before → expressions.now ≡ old ++ symbols ∷ [] → AreActive before old self.old
-            → AreActive (before ++ taken item.sound said ∷ []) expressions.now self.new) }
+            → length old ≡ length before → expressions.now ≡ old ++ symbols ∷ [] → AreActiveKept before old self.old
+            → AreActiveKept (before ++ taken item.sound said ∷ []) expressions.now self.new) }
     {
         if !changes_active(item) {
             return Ok(());

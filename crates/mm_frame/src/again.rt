@@ -13,7 +13,7 @@ ghost use Rattle.mm_frame.specs.Language.Answering.{IsBase, IsBaseBy};
 ghost use Rattle.mm_frame.specs.Language.Older.{HasOlder};
 ghost use Rattle.mm_frame.specs.Code.Numbers.{AreNameNumbers};
 ghost use Rattle.mm_frame.specs.Code.KeptBase.{IsDraftLater};
-ghost use Rattle.mm_frame.specs.Code.KnownItem.{IsAgain, IsKnown, numbers_of};
+ghost use Rattle.mm_frame.specs.Code.KnownItem.{IsAgain, IsKnownItem, numbers_of};
 
 use crate::base::Base;
 use crate::draft::{Draft, number_all};
@@ -54,7 +54,7 @@ fn needs_no_names(kind: ItemKind) -> bool
 fn known_of<'a>(old: &'a Base, i: usize, item: &Item) -> Option<Known<'a>>
     requires { (base : BaseView) × IsBase base old.now }
     ensures { (names : List (List ℕ)) (files : FilesView) (base : BaseView) → IsBaseBy names base old.now → AllZip (Says files) base.found base.said
-        → IfSome result (IsKnown names files item.now) }
+        → IfSome result (IsKnownItem names files item.now) }
 {
     if !needs_no_names(item.kind) || !is_again(old, i, item) {
         return None;
@@ -91,7 +91,7 @@ fn statement_of<'a>(
     numbers: &mut Vec<usize>,
 ) -> Result<Statement<'a>, AllocError>
     requires read { CanBeRead files.now item.now }
-    requires known { IfSome known (IsKnown names.old files.now item.now) }
+    requires known { IfSome known (IsKnownItem names.old files.now item.now) }
     ensures grows { Begins names.old names.new }
     ensures says { IfOk result (Says files.now item.now) }
     ensures count { IfOk result (λ statement. length numbers.new.items ≡ length statement.symbols) }

@@ -13,7 +13,7 @@ ghost use Rattle.mm_frame.specs.Language.Base.{fault_by};
 ghost use Rattle.mm_frame.specs.Language.Names.{AreDistinct, Begins};
 ghost use Rattle.mm_frame.specs.Language.NumberedSymbols.{symbols_of, IsNumbered};
 ghost use Rattle.mm_frame.specs.Code.BlockMarks.{block_marks};
-ghost use Rattle.mm_frame.specs.Code.KeptActiveItems.{AreActive};
+ghost use Rattle.mm_frame.specs.Code.KeptActiveItems.{AreActiveKept};
 ghost use Rattle.mm_frame.specs.Code.KeptEarlier.{KnowsEarlier};
 ghost use Rattle.mm_frame.specs.Code.KeptPairTable.{KnowsPairs};
 ghost use Rattle.mm_frame.specs.Code.KeptScope.{ScopeHolds, taken};
@@ -153,7 +153,7 @@ fn earlier<'b>(
     expressions: &'b Expressions,
 ) -> Earlier<'b>
     ensures { (all : List (List ℕ)) (before : List meant.Item) → AreSound before → ScopeHolds all before scope.now → KnowsPairs all before pairs.now
-        → AreActive before expressions.now active.now → AreSymbols all before expressions.now → KnowsEarlier all before result }
+        → AreActiveKept before expressions.now active.now → AreSymbols all before expressions.now → KnowsEarlier all before result }
 {
     Earlier {
         tables: scope.tables(),

@@ -27,11 +27,11 @@ impl Model for Expressions {
 
     ghost Value = { List (List Kept) };
 
-    ghost use Rattle.mm_frame.specs.Code.KeptExpressions.{expressions_inside, AreCut};
+    ghost use Rattle.mm_frame.specs.Code.KeptExpressions.{expressions_inside, AreExpressionsCut};
 
     ghost view = { expressions_inside };
 
-    ghost invariant = { AreCut };
+    ghost invariant = { AreExpressionsCut };
 }
 
 /// Where the symbols of the item with this number start.

@@ -27,11 +27,11 @@ impl<T> Model for Sparse<T> {
 
     ghost Value = { List (Option T) };
 
-    ghost use Rattle.mm_frame.specs.Code.KeptSparse.{values_inside, AreCut};
+    ghost use Rattle.mm_frame.specs.Code.KeptSparse.{values_inside, AreValuesCut};
 
     ghost view = { values_inside };
 
-    ghost invariant = { AreCut };
+    ghost invariant = { AreValuesCut };
 }
 
 /// The element at a place of a list, if there is such a place.

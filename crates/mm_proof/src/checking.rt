@@ -10,7 +10,7 @@ ghost use Rattle.mm_proof.specs.Language.Verdict.{IsVerdictOnSteps};
 ghost use Rattle.mm_proof.specs.Language.VerdictAt.{IsVerdictAt, AreDoneAt, cites_at, statement_at};
 ghost use Rattle.mm_frame.specs.Language.Frame.{Symbol, Setting};
 ghost use Rattle.mm_proof.specs.Language.DecodedSteps.{decoded_steps};
-ghost use Rattle.mm_proof.specs.Code.DecodedProof.{IsDecoded, IsJudged, OfDecoded, steps_of};
+ghost use Rattle.mm_proof.specs.Code.DecodedProof.{IsDecoded, IsJudgedProof, OfDecoded, steps_of};
 ghost use Rattle.mm_proof.specs.Code.Judged.{HasProof, IsOutcomeWithin, OfProof, done_by};
 ghost use Rattle.mm_proof.specs.Language.ReadIn.{HasTheorem, OfTheorem};
 ghost use Rattle.mm_proof.specs.Code.Tasks.{RunSays, StopsAt};
@@ -193,7 +193,7 @@ fn judge_steps(
     proof: DecodedProof,
 ) -> Result<(Checked, u64), AllocError>
     requires { IsDecoded proof }
-    ensures says { IfOk result (λ judged. OfDecoded proof.entry (λ view. IsJudged view proof.entry.i judged)) }
+    ensures says { IfOk result (λ judged. OfDecoded proof.entry (λ view. IsJudgedProof view proof.entry.i judged)) }
     ensures few { IfOk result (λ judged. judged.1 ≤ 4294967295) }
 {
     decodes_short();
@@ -221,7 +221,7 @@ fn judge<'a>(
     proof: &'a ProofWords<'a>,
 ) -> Result<(Checked, u64), AllocError>
     requires { HasProof base.now i proof.now }
-    ensures says { IfOk result (λ judged. OfProof base.now i proof.now (λ view. IsJudged view i judged)) }
+    ensures says { IfOk result (λ judged. OfProof base.now i proof.now (λ view. IsJudgedProof view i judged)) }
     ensures few { IfOk result (λ judged. judged.1 ≤ 4294967295) }
 {
     mandatory_are_active();

@@ -1,7 +1,7 @@
 //! Which words are a command.
 
 ghost use Rattle.std.specs.Prelude.{◌≡◌, Some, None, IfOk, IfSome, IfNone};
-ghost use Rattle.mmkeep.specs.Language.Asking.{file_of, given, said, spelled, words_of};
+ghost use Rattle.mmkeep.specs.Language.Asking.{file_of, given, said, spelled_arguments, words_of};
 ghost use Rattle.mmkeep.specs.declared.arguments.Command.{Command as Asked};
 
 use crate::arguments::Command;
@@ -25,7 +25,7 @@ pub fn command<'a>(words: &[&'a str]) -> Option<Command<'a>>
 
 /// These arguments as words.
 fn words_in(alloc: Global, arguments: &[String]) -> Result<Vec<&str>, AllocError>
-    ensures { IfOk result (λ words. said words.items ≡ spelled arguments.now) }
+    ensures { IfOk result (λ words. said words.items ≡ spelled_arguments arguments.now) }
 {
     let mut words = Vec::new(alloc);
     for argument in arguments {

@@ -23,12 +23,12 @@ pub record IsPairAnswer (before : List Item) (x y : List ℕ) (upto : ℕ) (comm
   pub there : (f : ℕ) → common ≡ Some f → IsDisjointAt before x f × IsDisjointAt before y f
 
 -- so it is with an answer on the names that have these numbers
-abbrev pub IsKnown : List (List ℕ) → List Item → Answer → Type 0
-IsKnown all before answer = (x y : List ℕ) → IsNameNumber all answer.first x → IsNameNumber all answer.second y → IsPairAnswer before x y answer.upto answer.common
+abbrev pub IsKnownPair : List (List ℕ) → List Item → Answer → Type 0
+IsKnownPair all before answer = (x y : List ℕ) → IsNameNumber all answer.first x → IsNameNumber all answer.second y → IsPairAnswer before x y answer.upto answer.common
 
 -- so it is with each answer
 abbrev pub KnowsAsked : List (List ℕ) → List Item → AskedPairs → Type 0
-KnowsAsked all before asked = All (IsKnown all before) asked.answers.items
+KnowsAsked all before asked = All (IsKnownPair all before) asked.answers.items
 
 -- where the answers were right they are, after more of them
 abbrev pub AsksOn : PairTable → List Mark → AskedPairs → AskedPairs → Type 0

@@ -8,7 +8,7 @@ use Rattle.mm_frame.specs.declared.draft.Frame.{Frame}
 use Rattle.mm_frame.specs.declared.symbol.NumberedSymbol.{NumberedSymbol}
 use Rattle.mm_frame.specs.Language.Names.{AreDistinct, Begins}
 use Rattle.mm_frame.specs.Code.KeptAssertions.{TellsFrame, TellsPairs, AreAssertions}
-use Rattle.mm_frame.specs.Code.KeptActiveItems.{AreActive}
+use Rattle.mm_frame.specs.Code.KeptActiveItems.{AreActiveKept}
 use Rattle.mm_frame.specs.Code.KeptRows.{AreRowsKept, rows_of}
 use Rattle.mm_frame.specs.Code.KeptSymbols.{AreSymbols}
 use Rattle.mm_frame.specs.Code.KeptPairTable.{KnowsPairs}
@@ -40,7 +40,7 @@ pub record IsDraft (all : List (List ℕ)) (said : List Item) (draft : Draft) : 
   pub rows : AreRows IsLabelTold said (rows_of draft.rows)
   pub symbols : AreSymbols all (sound_items said) draft.expressions
   pub assertions : AreAssertions all said draft.assertions
-  pub active : AreActive (sound_items said) draft.expressions draft.active
+  pub active : AreActiveKept (sound_items said) draft.expressions draft.active
   pub pair_table : KnowsPairs all (sound_items said) draft.pair_table
 
 -- so it is for each list of names that begins with these

@@ -23,5 +23,5 @@ abbrev pub expressions_inside : Inside → List (List NumberedSymbol)
 expressions_inside inside = cut_from inside.symbols.items 0 inside.ends.items
 
 -- the ends are those of all symbols
-abbrev pub AreCut : Inside → Type 0
-AreCut inside = EndsFrom 0 inside.ends.items (length inside.symbols.items)
+abbrev pub AreExpressionsCut : Inside → Type 0
+AreExpressionsCut inside = EndsFrom 0 inside.ends.items (length inside.symbols.items)

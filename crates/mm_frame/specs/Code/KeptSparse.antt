@@ -13,8 +13,8 @@ abbrev pub values_inside : {X : Type 0} → Inside X → List (Option X)
 values_inside inside = map first_of (cut_from inside.values.items 0 inside.ends.items)
 
 -- the ends are those of all values
-abbrev pub AreCut : {X : Type 0} → Inside X → Type 0
-AreCut inside = EndsFrom 0 inside.ends.items (length inside.values.items)
+abbrev pub AreValuesCut : {X : Type 0} → Inside X → Type 0
+AreValuesCut inside = EndsFrom 0 inside.ends.items (length inside.values.items)
 
 -- a value, if there is such an item and it has one
 abbrev pub value_or_none : {X : Type 0} → Option (Option X) → Option X

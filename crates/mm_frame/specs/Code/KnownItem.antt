@@ -23,6 +23,6 @@ pub record IsAgain (found : List store.Item) (i : ℕ) (item : store.Item) : Typ
   pub end : was.end ≡ item.end
 
 -- what is known of an item is its label and the numbers of its symbols
-pub record IsKnown (names : List (List ℕ)) (files : FilesView) (item : store.Item) (known : Known) : Type 0 where
+pub record IsKnownItem (names : List (List ℕ)) (files : FilesView) (item : store.Item) (known : Known) : Type 0 where
   pub label : (said : Item) → Says files item said → option_map (λ label. label.now) known.label ≡ said.label
   pub symbols : (said : Item) → Says files item said → AreNameNumbers names (numbers_of known.symbols.now) said.symbols

@@ -11,43 +11,43 @@ abbrev pub letters : List ℕ → List (List ℕ)
 letters text = map (λ b. b ∷ []) text
 
 -- a letter as a symbol: `p`, `q` and `r` are variables, others are constants
-abbrev pub symbol : ℕ → Symbol
-symbol b = record { name = b ∷ []; variable = nat_le 112 b && nat_le b 114 }
+abbrev pub letter_symbol : ℕ → Symbol
+letter_symbol b = record { name = b ∷ []; variable = nat_le 112 b && nat_le b 114 }
 
 -- letters as an expression
-abbrev pub symbols : List ℕ → List Symbol
-symbols text = map symbol text
+abbrev pub letter_symbols : List ℕ → List Symbol
+letter_symbols text = map letter_symbol text
 
 -- the variable `p`
 abbrev pub p : Symbol
-p = symbol 112
+p = letter_symbol 112
 
 -- the variable `q`
 abbrev pub q : Symbol
-q = symbol 113
+q = letter_symbol 113
 
 -- the variable `r`
 abbrev pub r : Symbol
-r = symbol 114
+r = letter_symbol 114
 
 -- a mandatory `$f` with this typecode and this variable
 abbrev pub typing : List ℕ → Mandatory
-typing text = record { floating = true; expression = symbols text }
+typing text = record { floating = true; expression = letter_symbols text }
 
 -- a statement without a label
-abbrev pub plain : Kind → List ℕ → Item
-plain kind text = record { kind = kind; label = None; symbols = letters text; proof = [] }
+abbrev pub unlabelled_item : Kind → List ℕ → Item
+unlabelled_item kind text = record { kind = kind; label = None; symbols = letters text; proof = [] }
 
 -- a statement with this label
-abbrev pub labelled : List ℕ → Kind → List ℕ → Item
-labelled label kind text = record { kind = kind; label = Some label; symbols = letters text; proof = [] }
+abbrev pub labelled_item : List ℕ → Kind → List ℕ → Item
+labelled_item label kind text = record { kind = kind; label = Some label; symbols = letters text; proof = [] }
 
 -- `$c w ( > ) $.` `$v p q r $.` `wp $f w p $.` `wq $f w q $.` `wr $f w r $.` `wi $a w ( p > q ) $.` `$d p q r $.`
 abbrev pub database : List Item
 database =
-    plain Constants (codes "w(>)") ∷ plain Variables (codes "pqr")
-    ∷ labelled (codes "wp") Floating (codes "wp") ∷ labelled (codes "wq") Floating (codes "wq") ∷ labelled (codes "wr") Floating (codes "wr")
-    ∷ labelled (codes "wi") Axiom (codes "w(p>q)") ∷ plain Disjoint (codes "pqr") ∷ []
+    unlabelled_item Constants (codes "w(>)") ∷ unlabelled_item Variables (codes "pqr")
+    ∷ labelled_item (codes "wp") Floating (codes "wp") ∷ labelled_item (codes "wq") Floating (codes "wq") ∷ labelled_item (codes "wr") Floating (codes "wr")
+    ∷ labelled_item (codes "wi") Axiom (codes "w(p>q)") ∷ unlabelled_item Disjoint (codes "pqr") ∷ []
 
 -- Each statement of the database is sound: none is passed over.
 abbrev pub AllAreSound : Type 0
@@ -60,8 +60,8 @@ ThreePairsAreActive = active_pairs database ≡ (p, q) ∷ (p, r) ∷ (q, r) ∷
 -- The frame of `ax $a w ( q > p ) $.` after them: its mandatory variables are `p` and `q`, so its mandatory hypotheses are `wp` and `wq`, in the order of
 -- occurrence, and one of the three pairs is mandatory.
 abbrev pub HasOneMandatoryPair : Type 0
-HasOneMandatoryPair = frame database (labelled (codes "ax") Axiom (codes "w(q>p)")) ≡ record {
-  expression = symbols (codes "w(q>p)");
+HasOneMandatoryPair = frame database (labelled_item (codes "ax") Axiom (codes "w(q>p)")) ≡ record {
+  expression = letter_symbols (codes "w(q>p)");
   hypotheses = typing (codes "wp") ∷ typing (codes "wq") ∷ [];
   pairs = (p, q) ∷ [];
 }
@@ -69,15 +69,15 @@ HasOneMandatoryPair = frame database (labelled (codes "ax") Axiom (codes "w(q>p)
 -- The label `wi` means its own frame, which has no pairs, though the `$d` after it is active now.
 abbrev pub MeansItsFrame : Type 0
 MeansItsFrame = resolve database (codes "wi") ≡ Assertion (record {
-  expression = symbols (codes "w(p>q)");
+  expression = letter_symbols (codes "w(p>q)");
   hypotheses = typing (codes "wp") ∷ typing (codes "wq") ∷ [];
   pairs = [];
 })
 
 -- After a block the label of a `$e` in it is inactive.
 abbrev pub EndsWithItsBlock : Type 0
-EndsWithItsBlock = resolve (database ++ plain BlockStart [] ∷ labelled (codes "h") Essential (codes "wp") ∷ plain BlockEnd [] ∷ []) (codes "h") ≡ Inactive
+EndsWithItsBlock = resolve (database ++ unlabelled_item BlockStart [] ∷ labelled_item (codes "h") Essential (codes "wp") ∷ unlabelled_item BlockEnd [] ∷ []) (codes "h") ≡ Inactive
 
 -- A second `$f` of a variable, `wx $f w p $.`, has the fault F12, at its word 3, which is the variable.
 abbrev pub IsTypedTwice : Type 0
-IsTypedTwice = fault database (labelled (codes "wx") Floating (codes "wp")) ≡ Some (3, F12)
+IsTypedTwice = fault database (labelled_item (codes "wx") Floating (codes "wp")) ≡ Some (3, F12)

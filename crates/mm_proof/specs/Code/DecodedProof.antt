@@ -21,7 +21,7 @@ abbrev pub steps_of : DecodedProof → BaseView → List Step
 steps_of proof view = (decoded_steps view proof.decoding.now proof.words.now).steps
 
 -- the verdict and the words that cite are those of the item's proof, and so many of its steps are done
-pub record IsJudged (view : BaseView) (i : ℕ) (judged : Checked × ℕ) : Type 0 where
+pub record IsJudgedProof (view : BaseView) (i : ℕ) (judged : Checked × ℕ) : Type 0 where
   pub verdict : IsVerdictAt view i judged.0.verdict
   pub cites : judged.0.cites ≡ cites_at view i
   pub done : AreDoneAt view i judged.1

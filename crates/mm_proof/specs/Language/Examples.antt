@@ -3,7 +3,7 @@
 -- After the database of mm_frame's examples stands `t $p w ( ( p > p ) > ( p > p ) ) $= ( wi ) AABZCB $.`
 use Rattle.std.specs.Prelude.{◌≡◌, ℕ, Some, Ok, Err, List, [], ◌∷◌, ◌++◌, codes}
 use Rattle.mm_frame.specs.Language.Base.{BaseView}
-use Rattle.mm_frame.specs.Language.Examples.{database, letters, p, q, r, symbols, typing}
+use Rattle.mm_frame.specs.Language.Examples.{database, letters, p, q, r, letter_symbols, typing}
 use Rattle.mm_frame.specs.Language.Frame.{Assertion}
 use Rattle.mm_frame.specs.Language.Framing.{setting}
 use Rattle.mm_frame.specs.Language.Item.{Item, Theorem}
@@ -61,10 +61,10 @@ StandForSevenLabels = expansion (setting database) steps ≡ Some (record {
 abbrev pub HasThisView : Type 0
 HasThisView = view_at base 7 ≡ record {
   proof = proof;
-  expression = symbols (codes "w((p>p)>(p>p))");
+  expression = letter_symbols (codes "w((p>p)>(p>p))");
   hypotheses = typing (codes "wp") ∷ [];
   active = (p, q) ∷ (p, r) ∷ (q, r) ∷ [];
-  meanings = Assertion (record { expression = symbols (codes "w(p>q)"); hypotheses = typing (codes "wp") ∷ typing (codes "wq") ∷ []; pairs = [] }) ∷ [];
+  meanings = Assertion (record { expression = letter_symbols (codes "w(p>q)"); hypotheses = typing (codes "wp") ∷ typing (codes "wq") ∷ []; pairs = [] }) ∷ [];
 }
 
 -- The verdict on the proof: it is proved.

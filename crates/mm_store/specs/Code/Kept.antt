@@ -10,11 +10,11 @@ use Rattle.mm_store.specs.Language.FilesView.{KeyedFile, FilesView, File, plain,
 use Rattle.mm_store.specs.Code.Room.{HasRoom}
 use Rattle.mm_store.specs.Code.Starts.{HasStarts}
 
-abbrev pub file_of : {Y : Type 0} → Vec ℕ Y × FileText → KeyedFile
-file_of entry = record { name = entry.0.items; keys = entry.1.keys.items; tail = entry.1.tail.items }
+abbrev pub keyed_file : {Y : Type 0} → Vec ℕ Y × FileText → KeyedFile
+keyed_file entry = record { name = entry.0.items; keys = entry.1.keys.items; tail = entry.1.tail.items }
 
 abbrev pub files_view : Inside → FilesView
-files_view inside = record { keyed = map file_of inside.files.entries; pieces = inside.pieces }
+files_view inside = record { keyed = map keyed_file inside.files.entries; pieces = inside.pieces }
 
 -- one for the same key
 abbrev pub one : ℕ → ℕ → ℕ
@@ -73,7 +73,7 @@ HaveStarts (file ∷ files) (entry ∷ entries) = HasStarts file.pieces entry.1 
 pub record AreFilesKept (inside : Inside) : Type 0 where
   -- a piece stands in the files at one place, and a parked one at none: so a piece that stands nowhere is parked, and no key of the files
   -- is without a piece
-  pub once : (k : ℕ) → places k (map file_of inside.files.entries) ≡ standing_count (finite.get inside.pieces k)
+  pub once : (k : ℕ) → places k (map keyed_file inside.files.entries) ≡ standing_count (finite.get inside.pieces k)
   pub room : HaveRoom inside.pieces 0 inside.files.entries
   -- no piece is parked as deleted from a file that is not there
   pub known : (m : ℕ) → length inside.files.entries ≤ m → deletions m inside.pieces ≡ 0

@@ -21,9 +21,9 @@ abbrev pub said : List (Bor (List ℕ)) → List (List ℕ)
 said words = map (λ word. word.now) words
 
 -- arguments as words
-abbrev pub spelled : {Z : Type 0} → List (String Z) → List (List ℕ)
-spelled arguments = map (λ argument. string_bytes argument) arguments
+abbrev pub spelled_arguments : {Z : Type 0} → List (String Z) → List (List ℕ)
+spelled_arguments arguments = map (λ argument. string_bytes argument) arguments
 
 -- the words after the program's name, which is the first argument
 abbrev pub given : {Z : Type 0} → List (String Z) → List (List ℕ)
-given arguments = drop 1 (spelled arguments)
+given arguments = drop 1 (spelled_arguments arguments)

@@ -21,7 +21,7 @@ use Rattle.mm_store.specs.Language.FilesView.{File, KeyedFile, plain, plain_file
 use Rattle.mm_store.specs.Code.Starts.{HasStarts}
 use Rattle.mm_store.specs.Code.Inside.{ArePut}
 use Rattle.mm_store.specs.Code.Room.{HasRoom}
-use Rattle.mm_store.specs.Code.Kept.{files_view, file_of, one, times, places, standing_count, deleted_state, deletions, IsRoomy, HaveRoom, HaveStarts, AreFilesKept}
+use Rattle.mm_store.specs.Code.Kept.{files_view, keyed_file, one, times, places, standing_count, deleted_state, deletions, IsRoomy, HaveRoom, HaveStarts, AreFilesKept}
 use Rattle.mm_store.proofs.lemmas.files.MapLemmas.{get_put_same, get_put_other}
 use Rattle.mm_store.proofs.lemmas.files.PieceLemmas.{stands_put}
 use Rattle.mm_store.proofs.lemmas.expansion.WeightLemmas.{weight_fresh}
@@ -76,7 +76,7 @@ plain_kept p p' (file ∷ files) same =
     ap (λ (texts : List (List ℕ)). record { name = file.name; pieces = texts; tail = file.tail } ∷ map (plain_file p') files) (texts_kept p p' file.keys (λ q some. same q (omega (arith, some))))
     ∙ ap (λ fs. plain_file p file ∷ fs) (plain_kept p p' files (λ q some. same q (omega (arith, some))))
 
-places_more : {Y : Type 0} (e : Vec ℕ Y × FileText) (q : ℕ) (es : List (Vec ℕ Y × FileText)) → places q (map file_of (es ++ e ∷ [])) ≡ places q (map file_of es) + times q e.1.keys.items
+places_more : {Y : Type 0} (e : Vec ℕ Y × FileText) (q : ℕ) (es : List (Vec ℕ Y × FileText)) → places q (map keyed_file (es ++ e ∷ [])) ≡ places q (map keyed_file es) + times q e.1.keys.items
 places_more e q [] = omega arith
 places_more e q (x ∷ es) = omega (arith, places_more e q es)
 
@@ -104,32 +104,32 @@ module _ (inside : Inside) (kept : AreFilesKept inside) (e : Vec ℕ Global × F
   abbrev new_file : File
   new_file = record { name = e.0.items; pieces = texts; tail = e.1.tail.items }
 
-  keeps_texts : (q : ℕ) → 1 ≤ places q (map file_of es) → text_under now q ≡ text_under inside.pieces q
+  keeps_texts : (q : ℕ) → 1 ≤ places q (map keyed_file es) → text_under now q ≡ text_under inside.pieces q
   keeps_texts q some = ap text_in (put_keeps inside.pieces now texts e.1.keys.items put q (stands_some (finite.get inside.pieces q) (omega (arith, some, kept.once q))))
 
-  pub plain_added : map (plain_file now) (map file_of (es ++ e ∷ [])) ≡ map (plain_file inside.pieces) (map file_of es) ++ new_file ∷ []
+  pub plain_added : map (plain_file now) (map keyed_file (es ++ e ∷ [])) ≡ map (plain_file inside.pieces) (map keyed_file es) ++ new_file ∷ []
   plain_added =
-      ap (map (plain_file now)) (map-append (file_of {Y = Global}) es (e ∷ [])) ∙ map-append (plain_file now) (map file_of es) (file_of e ∷ [])
-      ∙ ap (λ fs. fs ++ plain_file now (file_of e) ∷ []) (plain_kept inside.pieces now (map file_of es) keeps_texts)
-      ∙ ap (λ (ts : List (List ℕ)). map (plain_file inside.pieces) (map file_of es) ++ record { name = e.0.items; pieces = ts; tail = e.1.tail.items } ∷ []) (put_texts inside.pieces now texts e.1.keys.items put)
+      ap (map (plain_file now)) (map-append (keyed_file {Y = Global}) es (e ∷ [])) ∙ map-append (plain_file now) (map keyed_file es) (keyed_file e ∷ [])
+      ∙ ap (λ fs. fs ++ plain_file now (keyed_file e) ∷ []) (plain_kept inside.pieces now (map keyed_file es) keeps_texts)
+      ∙ ap (λ (ts : List (List ℕ)). map (plain_file inside.pieces) (map keyed_file es) ++ record { name = e.0.items; pieces = ts; tail = e.1.tail.items } ∷ []) (put_texts inside.pieces now texts e.1.keys.items put)
 
   pub kept_added : (after : Inside) → after.files.entries ≡ es ++ e ∷ [] → after.pieces ≡ now → e.1.deleted ≡ 0 → HasRoom e.1 → HasStarts texts e.1 → HasWords e.1.tail.items []
       → after.bytes ≡ inside.bytes + length (concat texts ++ e.1.tail.items) → after.bytes ≤ 4294967295 → AreFilesKept after
   kept_added after is pieces deleted room starts tail counted within =
       let p = inside.pieces in
-      let plain_is : plain (files_view after) ≡ map (plain_file p) (map file_of es) ++ new_file ∷ [] = ap (λ m. map (plain_file m) (map file_of after.files.entries)) pieces ∙ ap (λ es. map (plain_file now) (map file_of es)) is ∙ plain_added in
+      let plain_is : plain (files_view after) ≡ map (plain_file p) (map keyed_file es) ++ new_file ∷ [] = ap (λ m. map (plain_file m) (map keyed_file after.files.entries)) pieces ∙ ap (λ es. map (plain_file now) (map keyed_file es)) is ∙ plain_added in
       let same : (m : ℕ) → deletions m now ≡ deletions m p = put_deletions p now texts e.1.keys.items put in
       let none = kept.known (length es) (omega arith) in
       record {
-        once = λ q. ap (λ es. places q (map file_of es)) is ∙ omega (arith, places_more e q es, kept.once q, put_stand p now texts e.1.keys.items put q, ap (λ m. standing_count (finite.get m q)) pieces);
+        once = λ q. ap (λ es. places q (map keyed_file es)) is ∙ omega (arith, places_more e q es, kept.once q, put_stand p now texts e.1.keys.items put q, ap (λ m. standing_count (finite.get m q)) pieces);
         room = subst (λ m. HaveRoom m 0 after.files.entries) (sym pieces) (subst (HaveRoom now 0) (sym is)
             (room_more now e 0 es (let at : length es ≡ 0 + length es = omega arith in subst (λ n. IsRoomy now n e.1) at
             (record { parked = deleted ∙ sym none ∙ sym (same (length es)); room = room })) (room_same p now 0 es (λ m lt. same m) kept.room)));
         known = λ m le. ap (deletions m) pieces ∙ same m ∙ kept.known m (omega (arith, le, ap length is, length-append es (e ∷ [])));
         starts = subst (λ files. HaveStarts files after.files.entries) (sym plain_is) (subst (HaveStarts
-            (map (plain_file p) (map file_of es) ++ new_file ∷ [])) (sym is) (starts_more new_file e (map (plain_file p) (map file_of es)) es starts tail
+            (map (plain_file p) (map keyed_file es) ++ new_file ∷ [])) (sym is) (starts_more new_file e (map (plain_file p) (map keyed_file es)) es starts tail
             kept.starts));
-        counted = omega (arith, counted, kept.counted, ap bytes_of plain_is, bytes_more (map (plain_file p) (map file_of es)) new_file);
+        counted = omega (arith, counted, kept.counted, ap bytes_of plain_is, bytes_more (map (plain_file p) (map keyed_file es)) new_file);
         within = within;
       }
 

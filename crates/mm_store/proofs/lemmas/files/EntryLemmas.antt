@@ -6,7 +6,7 @@ use Rattle.mm_store.specs.Code.Edited.{pieces_in, with_pieces}
 use Rattle.std.proofs.lemmas.Option.{same_Some, none-some}
 use Rattle.indexmap.specs.IndexMap.{set_value_at}
 use Rattle.mm_store.specs.declared.file_text.FileText.{FileText}
-use Rattle.mm_store.specs.Code.Kept.{file_of, IsRoomy, HaveRoom, deletions, HaveStarts}
+use Rattle.mm_store.specs.Code.Kept.{keyed_file, IsRoomy, HaveRoom, deletions, HaveStarts}
 use Rattle.mm_store.specs.Language.FilesView.{FilesView, File}
 use Rattle.mm_store.specs.Language.Pieces.{Pieces}
 use Rattle.mm_store.specs.Language.Undoing.{keys_in, with_keys}
@@ -15,15 +15,15 @@ module _ {Y : Type 0} where
   abbrev pub texts_of : List (Vec ℕ Y × FileText) → List FileText
   texts_of entries = map (λ e. e.1) entries
 
-  pub keys_at : (es : List (Vec ℕ Y × FileText)) (n : ℕ) (v : FileText) → slice_get (texts_of es) n ≡ Some v → keys_in (map file_of es) n ≡ v.keys.items
+  pub keys_at : (es : List (Vec ℕ Y × FileText)) (n : ℕ) (v : FileText) → slice_get (texts_of es) n ≡ Some v → keys_in (map keyed_file es) n ≡ v.keys.items
   keys_at [] n v there = absurd (none-some v there)
   keys_at (e ∷ es) zero v there = ap (λ v. v.keys.items) (same_Some e.1 v there)
   keys_at (e ∷ es) (suc n) v there = keys_at es n v there
 
-  pub view_set : (es : List (Vec ℕ Y × FileText)) (n : ℕ) (v w : FileText) → slice_get (texts_of es) n ≡ Some v → w.tail ≡ v.tail → map file_of (set_value_at es n w) ≡ with_keys (map file_of es) n w.keys.items
+  pub view_set : (es : List (Vec ℕ Y × FileText)) (n : ℕ) (v w : FileText) → slice_get (texts_of es) n ≡ Some v → w.tail ≡ v.tail → map keyed_file (set_value_at es n w) ≡ with_keys (map keyed_file es) n w.keys.items
   view_set [] n v w there same = refl
-  view_set (e ∷ es) zero v w there same = ap (λ (tail : List ℕ). record { name = e.0.items; keys = w.keys.items; tail = tail } ∷ map file_of es) (ap (λ t. t.items) same ∙ sym (ap (λ v. v.tail.items) (same_Some e.1 v there)))
-  view_set (e ∷ es) (suc n) v w there same = ap (λ fs. file_of e ∷ fs) (view_set es n v w there same)
+  view_set (e ∷ es) zero v w there same = ap (λ (tail : List ℕ). record { name = e.0.items; keys = w.keys.items; tail = tail } ∷ map keyed_file es) (ap (λ t. t.items) same ∙ sym (ap (λ v. v.tail.items) (same_Some e.1 v there)))
+  view_set (e ∷ es) (suc n) v w there same = ap (λ fs. keyed_file e ∷ fs) (view_set es n v w there same)
 
   pub room_at : (p : Pieces) (start : ℕ) (es : List (Vec ℕ Y × FileText)) (n at : ℕ) (v : FileText) → at ≡ start + n → HaveRoom p start es → slice_get (texts_of es) n ≡ Some v → IsRoomy p at v
   room_at p start [] n at v is room there = absurd (none-some v there)

@@ -11,7 +11,7 @@ use Rattle.mm_store.specs.declared.files.Files.TheInside.{Inside}
 use Rattle.mm_store.specs.Language.Pieces.{text_under}
 use Rattle.mm_store.specs.Language.FilesView.{FilesView, KeyedFile, plain, bytes_of}
 use Rattle.mm_store.specs.Language.Undoing.{keys_in}
-use Rattle.mm_store.specs.Code.Kept.{files_view, file_of, places, standing_count, IsRoomy, AreFilesKept}
+use Rattle.mm_store.specs.Code.Kept.{files_view, keyed_file, places, standing_count, IsRoomy, AreFilesKept}
 use Rattle.mm_store.specs.Code.Starts.{KnowsStarts}
 use Rattle.mm_store.proofs.lemmas.files.EntryLemmas.{texts_of, keys_at, room_at}
 use Rattle.mm_store.proofs.lemmas.files.FilesLemmas.{file_small}
@@ -21,7 +21,7 @@ use Rattle.mm_store.proofs.lemmas.places.ChangeLemmas.{starts_here}
 -- the file of this number
 pub record IsFile (inside : Inside) (n : ℕ) (v : FileText) : Type 0 where
   pub here : slice_get (texts_of inside.files.entries) n ≡ Some v
-  pub keys : keys_in (map file_of inside.files.entries) n ≡ v.keys.items
+  pub keys : keys_in (map keyed_file inside.files.entries) n ≡ v.keys.items
   pub has : IsRoomy inside.pieces n v
   pub starts : KnowsStarts inside.pieces v
   pub small : length (concat (map (text_under inside.pieces) v.keys.items)) ≤ 4294967295
@@ -32,7 +32,7 @@ file_is inside n v kept here = record {
   keys = keys_at inside.files.entries n v here;
   has = room_at inside.pieces 0 inside.files.entries n n v (omega arith) kept.room here;
   starts = starts_here inside.pieces inside.pieces inside.files.entries n v kept.starts here refl;
-  small = omega (arith, file_small inside.pieces (map file_of inside.files.entries) n v.keys.items (keys_at inside.files.entries n v here), kept.counted, kept.within);
+  small = omega (arith, file_small inside.pieces (map keyed_file inside.files.entries) n v.keys.items (keys_at inside.files.entries n v here), kept.counted, kept.within);
 }
 
 -- as it is lent to be changed
@@ -53,23 +53,23 @@ shown {entries} {o} {pair} inside n kept same is some =
 
 -- the piece at this place of the file
 pub record IsPiece (inside : Inside) (n at : ℕ) : Type 0 where
-  pub there : at < length (keys_in (map file_of inside.files.entries) n)
-  pub file : n < length (map file_of inside.files.entries)
+  pub there : at < length (keys_in (map keyed_file inside.files.entries) n)
+  pub file : n < length (map keyed_file inside.files.entries)
   pub entry : n < length inside.files.entries
-  pub within : length (text_under inside.pieces (get_or (keys_in (map file_of inside.files.entries) n) at 0)) ≤ inside.bytes
+  pub within : length (text_under inside.pieces (get_or (keys_in (map keyed_file inside.files.entries) n) at 0)) ≤ inside.bytes
 
 pub piece_is : {view : FilesView} (inside : Inside) (n at : ℕ) → AreFilesKept inside → files_view inside ≡ view → at < length (keys_in view.keyed n) → IsPiece inside n at
 piece_is {view} inside n at kept is fits =
-    let fs : List KeyedFile = map file_of inside.files.entries in
+    let fs : List KeyedFile = map keyed_file inside.files.entries in
     let there : at < length (keys_in fs n) = subst (λ (view : FilesView). at < length (keys_in view.keyed n)) (sym is) fits in
     let file = in_files fs n at there in
-    record { there = there; file = file; entry = omega (arith, file, length-map inside.files.entries (file_of {Y = Global})); within = omega (arith, text_within inside.pieces fs n at there, kept.counted) }
+    record { there = there; file = file; entry = omega (arith, file, length-map inside.files.entries (keyed_file {Y = Global})); within = omega (arith, text_within inside.pieces fs n at there, kept.counted) }
 
 pub in_keys : (inside : Inside) (n at : ℕ) (v : FileText) → IsFile inside n v → IsPiece inside n at → at < deque_len v.keys
 in_keys inside n at v file piece = omega (arith, piece.there, ap length file.keys, v.keys.ok.0)
 
 -- the key that was at this place
-pub old_key : {inside : Inside} {n key : ℕ} {v : FileText} → IsFile inside n v → (at : ℕ) → key ≡ get_or v.keys.items at 0 → key ≡ get_or (keys_in (map file_of inside.files.entries) n) at 0
+pub old_key : {inside : Inside} {n key : ℕ} {v : FileText} → IsFile inside n v → (at : ℕ) → key ≡ get_or v.keys.items at 0 → key ≡ get_or (keys_in (map keyed_file inside.files.entries) n) at 0
 old_key file at value = value ∙ ap (λ ks. get_or ks at 0) (sym file.keys)
 
 -- what is kept, said of the view

@@ -12,19 +12,19 @@ use Rattle.mm_store.specs.declared.file_text.FileText.{FileText}
 use Rattle.mm_store.specs.Language.Pieces.{Pieces, text_under}
 use Rattle.mm_store.specs.Language.FilesView.{KeyedFile, plain_file, find_file, file_at, bytes_of}
 use Rattle.mm_store.specs.Language.Undoing.{keys_in}
-use Rattle.mm_store.specs.Code.Kept.{file_of, places, standing_count}
+use Rattle.mm_store.specs.Code.Kept.{keyed_file, places, standing_count}
 use Rattle.mm_store.proofs.lemmas.files.ListLemmas.{times_at, places_in, members_within, plain_pieces}
 use Rattle.mm_store.proofs.lemmas.files.NumberLemmas.{number_is}
 
 module _ {Y : Type 0} (p : Pieces) (name : List ℕ) (entries : List (Vec ℕ Y × FileText)) where
   pub found_is : (n : ℕ) (entry : Vec ℕ Y × FileText) → Some n ≡ position (λ key. bytes_eq name key.items) (keys_of entries)
-      → slice_get entries n ≡ Some entry → find_file (map (plain_file p) (map file_of entries)) name ≡ Some (plain_file p (file_of entry))
+      → slice_get entries n ≡ Some entry → find_file (map (plain_file p) (map keyed_file entries)) name ≡ Some (plain_file p (keyed_file entry))
   found_is n entry at there =
-      ap (file_at (map (plain_file p) (map file_of entries))) (number_is p name entries ∙ sym at)
-      ∙ slice_get-map (plain_file p) (map file_of entries) n ∙ ap (option_map (plain_file p)) (slice_get-map (file_of {Y = Y}) entries n ∙ ap (option_map (file_of {Y = Y})) there)
+      ap (file_at (map (plain_file p) (map keyed_file entries))) (number_is p name entries ∙ sym at)
+      ∙ slice_get-map (plain_file p) (map keyed_file entries) n ∙ ap (option_map (plain_file p)) (slice_get-map (keyed_file {Y = Y}) entries n ∙ ap (option_map (keyed_file {Y = Y})) there)
 
-  pub none_is : None ≡ position (λ key. bytes_eq name key.items) (keys_of entries) → find_file (map (plain_file p) (map file_of entries)) name ≡ None
-  none_is at = ap (file_at (map (plain_file p) (map file_of entries))) (number_is p name entries ∙ sym at)
+  pub none_is : None ≡ position (λ key. bytes_eq name key.items) (keys_of entries) → find_file (map (plain_file p) (map keyed_file entries)) name ≡ None
+  none_is at = ap (file_at (map (plain_file p) (map keyed_file entries))) (number_is p name entries ∙ sym at)
 
 -- the key of a place has a piece
 pub key_some : (files : List KeyedFile) (p : Pieces) → ((q : ℕ) → places q files ≡ standing_count (finite.get p q)) → (n at d : ℕ) → at < length (keys_in files n) → is_some (finite.get p (get_or (keys_in files n) at d)) ≡ true

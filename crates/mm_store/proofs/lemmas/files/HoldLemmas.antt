@@ -6,7 +6,7 @@ use Rattle.mm_store.specs.declared.files.Files.TheInside.{Inside}
 use Rattle.mm_store.specs.Language.Pieces.{HeldPiece}
 use Rattle.mm_store.specs.Language.FilesView.{KeyedFile}
 use Rattle.mm_store.specs.Language.FileFacts.{HoldsPieces}
-use Rattle.mm_store.specs.Code.Kept.{file_of, files_view, one, times, places, standing_count, AreFilesKept}
+use Rattle.mm_store.specs.Code.Kept.{keyed_file, files_view, one, times, places, standing_count, AreFilesKept}
 use Rattle.mm_store.proofs.lemmas.files.ListLemmas.{one_same}
 
 key_times : (keys : List ℕ) (n d : ℕ) → n < length keys → 1 ≤ times (get_or keys n d) keys
@@ -25,5 +25,5 @@ some_standing (Some piece) h = refl
 
 pub pieces_held : (inside : Inside) → AreFilesKept inside → HoldsPieces (files_view inside)
 pieces_held inside kept m file h n d k =
-    let key = get_or (get_or (map file_of inside.files.entries) m file).keys n d in
-    some_standing (finite.get inside.pieces key) (omega (arith, kept.once key, key_places (map file_of inside.files.entries) m n file d h k))
+    let key = get_or (get_or (map keyed_file inside.files.entries) m file).keys n d in
+    some_standing (finite.get inside.pieces key) (omega (arith, kept.once key, key_places (map keyed_file inside.files.entries) m n file d h k))

@@ -20,7 +20,7 @@ use Rattle.mm_store.proofs.lemmas.places.ChangeLemmas.{starts_after}
 use Rattle.mm_store.proofs.lemmas.places.StartLemmas.{starts_stay}
 use Rattle.mm_store.specs.Code.Edited.{pieces_in, with_pieces}
 use Rattle.mm_store.proofs.lemmas.files.EntryLemmas.{texts_of, keys_at, view_set, room_at, room_same, room_set, starts_at, starts_set, tail_at, same_view}
-use Rattle.mm_store.specs.Code.Kept.{files_view, file_of, places, standing_count, deleted_state, deletions, HaveStarts, AreFilesKept}
+use Rattle.mm_store.specs.Code.Kept.{files_view, keyed_file, places, standing_count, deleted_state, deletions, HaveStarts, AreFilesKept}
 use Rattle.mm_store.specs.Language.FilesView.{FilesView, plain, KeyedFile, plain_file, bytes_of}
 use Rattle.mm_store.specs.Language.Pieces.{Replaced, Deleted, text_under, HeldPiece, Pieces, IsParked}
 use Rattle.mm_store.specs.Language.Undoing.{keys_in, with_keys}
@@ -35,67 +35,67 @@ file_in {Y} es n v here = omega (arith, slice_get_within (texts_of es) n v here,
 module _ (inside : Inside) (n : ℕ) (v w : FileText) (here : slice_get (texts_of inside.files.entries) n ≡ Some v) (tail : w.tail ≡ v.tail)
     (keys : List ℕ) (items : w.keys.items ≡ keys) (actual now : Pieces) (pieces : actual ≡ now) (bytes : ℕ) where
   fs : List KeyedFile
-  fs = map file_of inside.files.entries
+  fs = map keyed_file inside.files.entries
 
   abbrev after : Inside
   after = record { files = with_value_at inside.files n w; pieces = actual; bytes = bytes }
 
-  files_is : map file_of (set_value_at inside.files.entries n w) ≡ with_keys (map file_of inside.files.entries) n keys
-  files_is = view_set inside.files.entries n v w here tail ∙ ap (with_keys (map file_of inside.files.entries) n) items
+  files_is : map keyed_file (set_value_at inside.files.entries n w) ≡ with_keys (map keyed_file inside.files.entries) n keys
+  files_is = view_set inside.files.entries n v w here tail ∙ ap (with_keys (map keyed_file inside.files.entries) n) items
 
-  pub view_after : files_view after ≡ record { keyed = with_keys (map file_of inside.files.entries) n keys; pieces = now }
+  pub view_after : files_view after ≡ record { keyed = with_keys (map keyed_file inside.files.entries) n keys; pieces = now }
   view_after = same_view _ _ files_is pieces
 
   pub kept_after : AreFilesKept inside
-      → ((q : ℕ) → places q (with_keys (map file_of inside.files.entries) n keys) ≡ standing_count (finite.get now q))
+      → ((q : ℕ) → places q (with_keys (map keyed_file inside.files.entries) n keys) ≡ standing_count (finite.get now q))
       → ((m : ℕ) → m ≢ n → deletions m now ≡ deletions m inside.pieces)
       → w.deleted ≡ deletions n now
       → HasRoom w
-      → bytes ≡ bytes_of (map (plain_file now) (with_keys (map file_of inside.files.entries) n keys))
+      → bytes ≡ bytes_of (map (plain_file now) (with_keys (map keyed_file inside.files.entries) n keys))
       → bytes ≤ 4294967295
       → (members : List (List ℕ))
-      → map (plain_file now) (with_keys (map file_of inside.files.entries) n keys) ≡ with_pieces (map (plain_file inside.pieces) (map file_of inside.files.entries)) n members
+      → map (plain_file now) (with_keys (map keyed_file inside.files.entries) n keys) ≡ with_pieces (map (plain_file inside.pieces) (map keyed_file inside.files.entries)) n members
       → HasStarts members w
       → AreFilesKept after
   kept_after kept once others parked room counted within members means starts = record {
     once = λ q. ap (places q) files_is ∙ once q ∙ ap (λ p. standing_count (finite.get p q)) (sym pieces);
     room = room_set inside.pieces actual 0 inside.files.entries n n w (omega arith) (λ m d. ap (deletions m) pieces ∙ others m d) (record { parked = parked ∙ ap (deletions n) (sym pieces); room = room }) kept.room;
     known = λ m le. ap (deletions m) pieces ∙ others m (λ e. omega (arith, e, file_in inside.files.entries n v here, length_set inside.files.entries n w, le)) ∙ kept.known m (omega (arith, length_set inside.files.entries n w, le));
-    counted = counted ∙ ap (λ p. bytes_of (map (plain_file p) (with_keys (map file_of inside.files.entries) n keys))) (sym pieces) ∙ ap (λ gs. bytes_of (map (plain_file actual) gs)) (sym files_is);
+    counted = counted ∙ ap (λ p. bytes_of (map (plain_file p) (with_keys (map keyed_file inside.files.entries) n keys))) (sym pieces) ∙ ap (λ gs. bytes_of (map (plain_file actual) gs)) (sym files_is);
     within = within;
     starts = subst (λ files. HaveStarts files (set_value_at inside.files.entries n w)) (sym (ap (λ v. plain v) view_after ∙ means))
         (starts_set (plain (files_view inside)) inside.files.entries n w members kept.starts starts (subst (λ (t : Vec ℕ Global). HasWords t.items []) (sym tail) (tail_at (plain (files_view inside)) inside.files.entries n v kept.starts here)));
   }
 
   pub kept_edited : AreFilesKept inside
-      → ((q : ℕ) → places q (with_keys (map file_of inside.files.entries) n keys) ≡ standing_count (finite.get now q))
+      → ((q : ℕ) → places q (with_keys (map keyed_file inside.files.entries) n keys) ≡ standing_count (finite.get now q))
       → ((m : ℕ) → m ≢ n → deletions m now ≡ deletions m inside.pieces)
       → w.deleted ≡ deletions n now
       → HasRoom w
-      → bytes ≡ bytes_of (map (plain_file now) (with_keys (map file_of inside.files.entries) n keys))
+      → bytes ≡ bytes_of (map (plain_file now) (with_keys (map keyed_file inside.files.entries) n keys))
       → bytes ≤ 4294967295
       → (members : List (List ℕ))
-      → map (plain_file now) (with_keys (map file_of inside.files.entries) n keys) ≡ with_pieces (map (plain_file inside.pieces) (map file_of inside.files.entries)) n members
-      → (p : Pieces) → map (text_under p) keys ≡ map (text_under now) keys → n < length (map (file_of {Y = Global}) inside.files.entries) → KnowsStarts p w → AreFilesKept after
+      → map (plain_file now) (with_keys (map keyed_file inside.files.entries) n keys) ≡ with_pieces (map (plain_file inside.pieces) (map keyed_file inside.files.entries)) n members
+      → (p : Pieces) → map (text_under p) keys ≡ map (text_under now) keys → n < length (map (keyed_file {Y = Global}) inside.files.entries) → KnowsStarts p w → AreFilesKept after
   kept_edited kept once others parked room counted within members means p same there knows =
-      kept_after kept once others parked room counted within members means (starts_after (map file_of inside.files.entries) inside.pieces p now n keys members there means same w items knows)
+      kept_after kept once others parked room counted within members means (starts_after (map keyed_file inside.files.entries) inside.pieces p now n keys members there means same w items knows)
 
 -- the files after room was made in one of them, or it was found where more of its pieces begin
 module _ (inside : Inside) (n : ℕ) (v w : FileText) (here : slice_get (texts_of inside.files.entries) n ≡ Some v) (tail : w.tail ≡ v.tail)
     (items : w.keys.items ≡ v.keys.items) (actual : Pieces) (pieces : actual ≡ inside.pieces) where
-  same_keys : w.keys.items ≡ keys_in (map file_of inside.files.entries) n
+  same_keys : w.keys.items ≡ keys_in (map keyed_file inside.files.entries) n
   same_keys = items ∙ sym (keys_at inside.files.entries n v here)
 
   pub reserved_view : files_view (record { files = with_value_at inside.files n w; pieces = actual; bytes = inside.bytes }) ≡ files_view inside
   reserved_view =
-      view_after inside n v w here tail (keys_in (map file_of inside.files.entries) n) same_keys actual inside.pieces pieces inside.bytes
-      ∙ ap (λ (files : List KeyedFile). record { keyed = files; pieces = inside.pieces }) (with_same (map file_of inside.files.entries) n)
+      view_after inside n v w here tail (keys_in (map keyed_file inside.files.entries) n) same_keys actual inside.pieces pieces inside.bytes
+      ∙ ap (λ (files : List KeyedFile). record { keyed = files; pieces = inside.pieces }) (with_same (map keyed_file inside.files.entries) n)
 
   pub reserved_kept : w.deleted ≡ v.deleted → HasRoom w → (KnowsStarts inside.pieces v → KnowsStarts inside.pieces w)
       → AreFilesKept inside → AreFilesKept (record { files = with_value_at inside.files n w; pieces = actual; bytes = inside.bytes })
   reserved_kept deleted room knows kept =
       let had = room_at inside.pieces 0 inside.files.entries n n v (omega arith) kept.room here in
-      let fs : List KeyedFile = map file_of inside.files.entries in
+      let fs : List KeyedFile = map keyed_file inside.files.entries in
       let same = with_same fs n in
       let members = pieces_in (plain (files_view inside)) n in
       let f = text_under inside.pieces in
@@ -128,14 +128,14 @@ settled_kept inside n old is_parked actual is kept =
     let was = parked (finite.get p old) n Replaced is_parked in
     let same : (m : ℕ) → deletions m actual ≡ deletions m p = λ m. (let less = weight_dropped (λ (piece : HeldPiece). deleted_state m piece.state) p old was.piece was.is in
     ap (deletions m) is ∙ omega (arith, less, ap (deleted_state m) was.state, replaced_weight m n)) in
-    let plain_is : map (plain_file p') (map file_of inside.files.entries) ≡ map (plain_file p) (map file_of inside.files.entries) = plain_same p p' old (text_drop_other p old) (map file_of inside.files.entries) (kept.once old ∙ was.none) in
+    let plain_is : map (plain_file p') (map keyed_file inside.files.entries) ≡ map (plain_file p) (map keyed_file inside.files.entries) = plain_same p p' old (text_drop_other p old) (map keyed_file inside.files.entries) (kept.once old ∙ was.none) in
     record {
       once = λ q. kept.once q ∙ sym (stands_settled p old n Replaced q was.none) ∙ ap (λ p. standing_count (finite.get p q)) (sym is);
       room = room_same p actual 0 inside.files.entries (λ m lt. same m) kept.room;
       known = λ m le. same m ∙ kept.known m le;
-      counted = kept.counted ∙ ap bytes_of (sym plain_is) ∙ ap (λ p. bytes_of (map (plain_file p) (map file_of inside.files.entries))) (sym is);
+      counted = kept.counted ∙ ap bytes_of (sym plain_is) ∙ ap (λ p. bytes_of (map (plain_file p) (map keyed_file inside.files.entries))) (sym is);
       within = kept.within;
-      starts = subst (λ files. HaveStarts files inside.files.entries) (sym (ap (λ p. map (plain_file p) (map file_of inside.files.entries)) is ∙ plain_is)) kept.starts;
+      starts = subst (λ files. HaveStarts files inside.files.entries) (sym (ap (λ p. map (plain_file p) (map keyed_file inside.files.entries)) is ∙ plain_is)) kept.starts;
     }
 
 -- below a bound, from what holds beyond it
@@ -148,7 +148,7 @@ below_bound n bound d beyond some = elim (cases_eq (bound - n) 0) [
 -- a file has the pieces that were deleted from it
 pub deleted_from : {view : FilesView} (inside : Inside) (n old : ℕ) → AreFilesKept inside → files_view inside ≡ view → IsParked view.pieces old n Deleted → 0 < deletions n inside.pieces
 deleted_from inside n old kept is is_parked =
-    omega (arith, settled_here (map file_of inside.files.entries) inside.pieces n 0 kept.once old (subst (λ (view : FilesView). IsParked view.pieces old n Deleted) (sym is) is_parked))
+    omega (arith, settled_here (map keyed_file inside.files.entries) inside.pieces n 0 kept.once old (subst (λ (view : FilesView). IsParked view.pieces old n Deleted) (sym is) is_parked))
 
 pub deleted_file : {view : FilesView} (inside : Inside) (n old : ℕ) → AreFilesKept inside → files_view inside ≡ view → IsParked view.pieces old n Deleted → n < length inside.files.entries
 deleted_file inside n old kept is is_parked = below_bound n (length inside.files.entries) (deletions n inside.pieces) (kept.known n) (deleted_from inside n old kept is is_parked)

@@ -11,22 +11,22 @@ use Rattle.mm_store.specs.Language.FilesView.{File, KeyedFile, FilesView, plain,
 use Rattle.mm_store.specs.Language.Undoing.{keys_in}
 use Rattle.mm_store.specs.Language.Edits.{with_members}
 use Rattle.mm_store.specs.Code.Edited.{pieces_in, with_pieces}
-use Rattle.mm_store.specs.Code.Kept.{file_of}
+use Rattle.mm_store.specs.Code.Kept.{keyed_file}
 
 same_tests : (b : Bool) (m n : ℕ) → m ≡ n → cond (not b) (1 + m) 0 ≡ cond (not b) (1 + n) 0
 same_tests b m n e = ap (λ (k : ℕ). cond (not b) (1 + k) 0) e
 
 module _ {Y : Type 0} (p : Pieces) (name : List ℕ) where
-  names_before : (entries : List (Vec ℕ Y × FileText)) → position_or_len (λ file. bytes_eq name file.name) (map (plain_file p) (map file_of entries)) ≡ position_or_len (λ key. bytes_eq name key.items) (keys_of entries)
+  names_before : (entries : List (Vec ℕ Y × FileText)) → position_or_len (λ file. bytes_eq name file.name) (map (plain_file p) (map keyed_file entries)) ≡ position_or_len (λ key. bytes_eq name key.items) (keys_of entries)
   names_before [] = refl
   names_before (e ∷ entries) = same_tests (bytes_eq name e.0.items) _ _ (names_before entries)
 
   -- the number that a name has in the map is its number among the files
-  pub number_is : (entries : List (Vec ℕ Y × FileText)) → file_number (map (plain_file p) (map file_of entries)) name ≡ position (λ key. bytes_eq name key.items) (keys_of entries)
+  pub number_is : (entries : List (Vec ℕ Y × FileText)) → file_number (map (plain_file p) (map keyed_file entries)) name ≡ position (λ key. bytes_eq name key.items) (keys_of entries)
   number_is entries =
       let a = names_before entries in
-      let b : length (map (plain_file p) (map (file_of {Y = Y}) entries)) ≡ length (keys_of entries) =
-      length-map (map (file_of {Y = Y}) entries) (plain_file p) ∙ length-map entries (file_of {Y = Y}) ∙ sym (length-map entries (λ (e : Vec ℕ Y × FileText). e.0)) in
+      let b : length (map (plain_file p) (map (keyed_file {Y = Y}) entries)) ≡ length (keys_of entries) =
+      length-map (map (keyed_file {Y = Y}) entries) (plain_file p) ∙ length-map entries (keyed_file {Y = Y}) ∙ sym (length-map entries (λ (e : Vec ℕ Y × FileText). e.0)) in
       rw (a, b) refl
 
 -- the file of a number, without keys

@@ -10,7 +10,7 @@ use Rattle.mm_store.specs.Language.Pieces.{Pieces, text_under}
 use Rattle.mm_store.specs.Language.FilesView.{File, FilesView, plain, plain_file, text_of}
 use Rattle.mm_store.specs.Language.FileFacts.{IsByte, piece_offset}
 use Rattle.mm_store.specs.Code.Lines.{bytes_before}
-use Rattle.mm_store.specs.Code.Kept.{files_view, file_of}
+use Rattle.mm_store.specs.Code.Kept.{files_view, keyed_file}
 use Rattle.mm_store.proofs.lemmas.places.PlaceLemmas.{before_byte}
 
 -- a byte of one of these texts, and the bytes of all before it
@@ -31,11 +31,11 @@ module _ {inside : Inside} {number : ℕ} {entry : Vec ℕ Global × FileText} {
   abbrev p : Pieces
   p = inside.pieces
 
-  file_is : byte.file ≡ plain_file p (file_of entry)
+  file_is : byte.file ≡ plain_file p (keyed_file entry)
   file_is =
-      let here : slice_get (map (plain_file p) (map file_of inside.files.entries)) number ≡ Some (plain_file p (file_of entry)) =
-      slice_get-map (plain_file p) (map file_of inside.files.entries) number ∙ ap (option_map (plain_file p)) (slice_get-map (file_of {Y = Global}) inside.files.entries number ∙ ap (option_map (file_of {Y = Global})) had.there) in
-      same_Some byte.file (plain_file p (file_of entry)) (sym byte.there ∙ ap (λ (v : FilesView). slice_get (plain v) number) (sym is) ∙ here)
+      let here : slice_get (map (plain_file p) (map keyed_file inside.files.entries)) number ≡ Some (plain_file p (keyed_file entry)) =
+      slice_get-map (plain_file p) (map keyed_file inside.files.entries) number ∙ ap (option_map (plain_file p)) (slice_get-map (keyed_file {Y = Global}) inside.files.entries number ∙ ap (option_map (keyed_file {Y = Global})) had.there) in
+      same_Some byte.file (plain_file p (keyed_file entry)) (sym byte.there ∙ ap (λ (v : FilesView). slice_get (plain v) number) (sym is) ∙ here)
 
   pub byte_in : IsIn (map (text_under p) entry.1.keys.items) piece at (take offset text)
   byte_in =

@@ -7,16 +7,16 @@ use Rattle.mm_store.specs.Language.FilesView.{KeyedFile, plain_file}
 use Rattle.mm_store.specs.Language.Undoing.{keys_in, with_keys}
 use Rattle.mm_store.specs.Code.Starts.{HasStarts, KnowsStarts}
 use Rattle.mm_store.specs.Code.Edited.{pieces_in, with_pieces}
-use Rattle.mm_store.specs.Code.Kept.{file_of, HaveStarts}
+use Rattle.mm_store.specs.Code.Kept.{keyed_file, HaveStarts}
 use Rattle.mm_store.proofs.lemmas.files.ListLemmas.{plain_pieces, keys_with, pieces_with}
 use Rattle.mm_store.proofs.lemmas.files.EntryLemmas.{texts_of, keys_at, starts_at}
 
 -- where the pieces of a file begin, by its keys
-pub starts_here : {Y : Type 0} (p p1 : Pieces) (es : List (Vec ℕ Y × FileText)) (n : ℕ) (v : FileText) → HaveStarts (map (plain_file p) (map file_of es)) es → slice_get (texts_of es) n ≡ Some v
-    → map (text_under p1) (keys_in (map file_of es) n) ≡ map (text_under p) (keys_in (map file_of es) n) → KnowsStarts p1 v
+pub starts_here : {Y : Type 0} (p p1 : Pieces) (es : List (Vec ℕ Y × FileText)) (n : ℕ) (v : FileText) → HaveStarts (map (plain_file p) (map keyed_file es)) es → slice_get (texts_of es) n ≡ Some v
+    → map (text_under p1) (keys_in (map keyed_file es) n) ≡ map (text_under p) (keys_in (map keyed_file es) n) → KnowsStarts p1 v
 starts_here p p1 es n v have here same =
-    subst (λ texts. HasStarts texts v) (plain_pieces p (map file_of es) n ∙ sym same ∙ ap (map (text_under p1)) (keys_at es n v here))
-    (starts_at (map (plain_file p) (map file_of es)) es n v have here)
+    subst (λ texts. HasStarts texts v) (plain_pieces p (map keyed_file es) n ∙ sym same ∙ ap (map (text_under p1)) (keys_at es n v here))
+    (starts_at (map (plain_file p) (map keyed_file es)) es n v have here)
 
 module _ (fs : List KeyedFile) (p p1 p2 : Pieces) (n : ℕ) (keys : List ℕ) (members : List (List ℕ)) (there : n < length fs)
     (means : map (plain_file p2) (with_keys fs n keys) ≡ with_pieces (map (plain_file p) fs) n members)

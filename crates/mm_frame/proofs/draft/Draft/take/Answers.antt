@@ -6,7 +6,7 @@ use Rattle.mm_frame.specs.Language.Sound.{sound_items}
 use Rattle.mm_frame.specs.Language.Framing.{expression}
 use Rattle.mm_frame.specs.Language.NumberedSymbols.{AreSymbolsRead}
 use Rattle.mm_frame.specs.Language.Answering.{AreRows, IsLabelTold}
-use Rattle.mm_frame.specs.Code.KeptActiveItems.{AreActive}
+use Rattle.mm_frame.specs.Code.KeptActiveItems.{AreActiveKept}
 use Rattle.mm_frame.specs.Code.KeptPairTable.{KnowsPairs}
 use Rattle.mm_frame.specs.Code.KeptRows.{rows_of, fault_told}
 use Rattle.mm_frame.specs.Code.KeptScope.{ScopeHolds, taken}
@@ -61,6 +61,6 @@ returns c all said first d numbers_first numbers =
       symbols = subst (λ w. AreSymbols all w c.add.new.self) more
           (subst (λ w. AreSymbols all (before ++ taken flag item ∷ []) w) (sym added) (symbols_more all before (taken flag item) c.args.self.now.expressions symbols.items d.symbols numbered (symbols_taken all before item symbols.items flag own)));
       assertions = assertions;
-      active = subst (λ w. AreActive w c.add.new.self c.follow.new.self) more active;
+      active = subst (λ w. AreActiveKept w c.add.new.self c.follow.new.self) more active;
       pair_table = subst (λ w. KnowsPairs all w c.follow_pairs.new.pairs) more pairs;
     }

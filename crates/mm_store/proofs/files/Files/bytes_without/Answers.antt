@@ -6,7 +6,7 @@ use Rattle.mm_store.proofs.lemmas.files.ListLemmas.{read_member}
 use Rattle.mm_store.proofs.lemmas.edits.StepLemmas.{here_is_some}
 use Rattle.mm_store.proofs.files.Files.bytes_without.Goals as goal
 use Rattle.mm_store.specs.Code.Edited.{pieces_in}
-use Rattle.mm_store.specs.Code.Kept.{file_of}
+use Rattle.mm_store.specs.Code.Kept.{keyed_file}
 use Rattle.mm_store.specs.Language.FilesView.{FilesView, plain, bytes_of}
 use Rattle.mm_store.specs.Language.Pieces.{text_under}
 use Rattle.mm_store.specs.Language.Undoing.{keys_in}
@@ -24,15 +24,15 @@ pub text-requires : goal.text-requires
 text-requires c =
     let piece = piece_is c.self.inside c.args.number c.args.at c.self.invariant c.self.view_is c.requires in
     let file = (shown c.self.inside c.args.number c.self.invariant c.as_slice.ensures.entries c.get_index.ensures.entry c.unwrap.ensures).file in
-    let key : c.index.result.now ≡ get_or (keys_in (map file_of c.self.inside.files.entries) c.args.number) c.args.at 0 =
+    let key : c.index.result.now ≡ get_or (keys_in (map keyed_file c.self.inside.files.entries) c.args.number) c.args.at 0 =
     old_key file c.args.at (get_or_read c.unwrap.result.1.now.keys.items c.args.at c.index.result.now (omega (arith, piece.there, ap length file.keys)) c.index.ensures 0) in
-    ap (λ q. is_some (finite.get c.self.inside.pieces q)) key ∙ here_is_some (map file_of c.self.inside.files.entries) c.self.inside.pieces c.args.number c.args.at c.self.invariant.once piece.there
+    ap (λ q. is_some (finite.get c.self.inside.pieces q)) key ∙ here_is_some (map keyed_file c.self.inside.files.entries) c.self.inside.pieces c.args.number c.args.at c.self.invariant.once piece.there
 
 pub overflow_sub-result : goal.overflow_sub-result
 overflow_sub-result c =
     let piece = piece_is c.self.inside c.args.number c.args.at c.self.invariant c.self.view_is c.requires in
     let file = (shown c.self.inside c.args.number c.self.invariant c.as_slice.ensures.entries c.get_index.ensures.entry c.unwrap.ensures).file in
-    let key : c.index.result.now ≡ get_or (keys_in (map file_of c.self.inside.files.entries) c.args.number) c.args.at 0 =
+    let key : c.index.result.now ≡ get_or (keys_in (map keyed_file c.self.inside.files.entries) c.args.number) c.args.at 0 =
     old_key file c.args.at (get_or_read c.unwrap.result.1.now.keys.items c.args.at c.index.result.now (omega (arith, piece.there, ap length file.keys)) c.index.ensures 0) in
     omega (arith, ap length (c.text.ensures.text ∙ ap (text_under c.self.inside.pieces) key), piece.within)
 
@@ -40,9 +40,9 @@ pub returns : goal.returns
 returns c =
     let piece = piece_is c.self.inside c.args.number c.args.at c.self.invariant c.self.view_is c.requires in
     let file = (shown c.self.inside c.args.number c.self.invariant c.as_slice.ensures.entries c.get_index.ensures.entry c.unwrap.ensures).file in
-    let key : c.index.result.now ≡ get_or (keys_in (map file_of c.self.inside.files.entries) c.args.number) c.args.at 0 =
+    let key : c.index.result.now ≡ get_or (keys_in (map keyed_file c.self.inside.files.entries) c.args.number) c.args.at 0 =
     old_key file c.args.at (get_or_read c.unwrap.result.1.now.keys.items c.args.at c.index.result.now (omega (arith, piece.there, ap length file.keys)) c.index.ensures 0) in
     let same = ap (λ (view : FilesView). length (get_or (pieces_in (plain view) c.args.number) c.args.at [])) c.self.view_is in
     let all = ap (λ (view : FilesView). bytes_of (plain view)) c.self.view_is in
-    let member = read_member c.self.inside.pieces (map file_of c.self.inside.files.entries) c.args.number c.args.at piece.there in
+    let member = read_member c.self.inside.pieces (map keyed_file c.self.inside.files.entries) c.args.number c.args.at piece.there in
     omega (arith, ap length (c.text.ensures.text ∙ ap (text_under c.self.inside.pieces) key), piece.within, c.self.invariant.counted, ap length member, same, all)

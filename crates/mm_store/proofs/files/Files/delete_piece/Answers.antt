@@ -10,7 +10,7 @@ use Rattle.mm_store.proofs.lemmas.edits.StepLemmas as lemmas
 use Rattle.mm_store.proofs.files.Files.delete_piece.Goals as goal
 use Rattle.mm_store.specs.Language.EditedKeys.{deleted}
 use Rattle.mm_store.specs.Code.Edited.{pieces_in, IsDeleted}
-use Rattle.mm_store.specs.Code.Kept.{file_of}
+use Rattle.mm_store.specs.Code.Kept.{keyed_file}
 use Rattle.mm_store.specs.Language.FilesView.{KeyedFile, plain_file}
 use Rattle.mm_store.specs.Language.Pieces.{Parked, Deleted, with_state, text_under}
 use Rattle.mm_store.specs.Language.Undoing.{keys_in, key_at}
@@ -30,7 +30,7 @@ set_state-less-requires c =
     let piece = piece_is c.self.inside c.args.number c.args.at c.self.invariant c.self.view_is c.requires.there in
     let file = lent c.self.inside c.args.number c.self.invariant c.get_index_mut.ensures.value c.unwrap-file.ensures in
     ap (λ q. is_some (finite.get c.self.inside.pieces q)) (old_key file c.args.at c.delete_key-old.ensures.value)
-    ∙ lemmas.here_is_some (map file_of c.self.inside.files.entries) c.self.inside.pieces c.args.number c.args.at c.self.invariant.once piece.there
+    ∙ lemmas.here_is_some (map keyed_file c.self.inside.files.entries) c.self.inside.pieces c.args.number c.args.at c.self.invariant.once piece.there
 
 pub overflow_sub-self : goal.overflow_sub-self
 overflow_sub-self c =
@@ -43,7 +43,7 @@ invariant_of-self c =
     let n = c.args.number in
     let at = c.args.at in
     let inside = c.self.inside in
-    let fs : List KeyedFile = map file_of inside.files.entries in
+    let fs : List KeyedFile = map keyed_file inside.files.entries in
     let p = inside.pieces in
     let once = c.self.invariant.once in
     let piece = piece_is inside n at c.self.invariant c.self.view_is c.requires.there in
@@ -66,7 +66,7 @@ returns c =
     let n = c.args.number in
     let at = c.args.at in
     let inside = c.self.inside in
-    let fs : List KeyedFile = map file_of inside.files.entries in
+    let fs : List KeyedFile = map keyed_file inside.files.entries in
     let p = inside.pieces in
     let file = lent inside n c.self.invariant c.get_index_mut.ensures.value c.unwrap-file.ensures in
     let done = c.delete_key-old.ensures in

@@ -7,7 +7,7 @@ use Rattle.mm_store.proofs.lemmas.files.KeptLemmas.{view_after, kept_after, dele
 use Rattle.mm_store.proofs.lemmas.files.PieceLemmas.{stands_settled, text_drop_other}
 use Rattle.mm_store.proofs.lemmas.edits.StepLemmas as lemmas
 use Rattle.mm_store.proofs.files.Files.drop_deleted.Goals as goal
-use Rattle.mm_store.specs.Code.Kept.{file_of, places}
+use Rattle.mm_store.specs.Code.Kept.{keyed_file, places}
 use Rattle.mm_store.specs.Language.FilesView.{FilesView, KeyedFile, plain_file, bytes_of}
 use Rattle.mm_store.specs.Language.Pieces.{Deleted, IsParked}
 use Rattle.mm_store.specs.declared.start.Start.{Start}
@@ -30,7 +30,7 @@ invariant_of-self c =
     let n = c.args.number in
     let inside = c.self.inside in
     let es = c.self.inside.files.entries in
-    let fs : List KeyedFile = map file_of es in
+    let fs : List KeyedFile = map keyed_file es in
     let p = c.self.inside.pieces in
     let once = c.self.invariant.once in
     let is_parked = subst (λ (view : FilesView). IsParked view.pieces c.args.old n Deleted) (sym c.self.view_is) c.requires in
@@ -60,7 +60,7 @@ returns c =
     let n = c.args.number in
     let inside = c.self.inside in
     let es = c.self.inside.files.entries in
-    let fs : List KeyedFile = map file_of es in
+    let fs : List KeyedFile = map keyed_file es in
     let p = c.self.inside.pieces in
     let v = c.unwrap-file.result.now in
     let file = lent inside n c.self.invariant c.get_index_mut.ensures.value c.unwrap-file.ensures in

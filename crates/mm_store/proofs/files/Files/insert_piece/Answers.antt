@@ -15,7 +15,7 @@ use Rattle.mm_store.proofs.lemmas.edits.StepLemmas as lemmas
 use Rattle.mm_store.proofs.files.Files.insert_piece.Goals as goal
 use Rattle.mm_store.specs.Language.EditedKeys.{inserted}
 use Rattle.mm_store.specs.Code.Edited.{pieces_in, with_pieces, IsInserted}
-use Rattle.mm_store.specs.Code.Kept.{file_of}
+use Rattle.mm_store.specs.Code.Kept.{keyed_file}
 use Rattle.mm_store.specs.Code.Room.{HasRoomForOne}
 use Rattle.mm_store.specs.Code.Starts.{KnowsStarts}
 use Rattle.mm_store.specs.Language.FilesView.{FilesView, KeyedFile, plain, plain_file, bytes_of}
@@ -29,7 +29,7 @@ on_err (Err e) P p = p
 pub unwrap-file-requires : goal.unwrap-file-requires
 unwrap-file-requires c =
     let file = subst (λ (view : FilesView). c.args.number < length view.keyed) (sym c.self.view_is) c.requires.file in
-    c.get_index_mut.ensures.found.1 (omega (arith, file, length-map c.self.inside.files.entries (file_of {Y = Global})))
+    c.get_index_mut.ensures.found.1 (omega (arith, file, length-map c.self.inside.files.entries (keyed_file {Y = Global})))
 
 pub reserve_one-requires : goal.reserve_one-requires
 reserve_one-requires c = record { room = (lent c.self.inside c.args.number c.self.invariant c.get_index_mut.ensures.value c.unwrap-file.ensures).has.room }
@@ -86,7 +86,7 @@ invariant_of-self-2 c =
     let k = c.in_ok-key.key in
     let t = c.args.kept.text.items in
     let inside : Inside = record { files = with_value_at c.self.inside.files n c.reserve_one.new.self; pieces = c.self.inside.pieces; bytes = c.self.inside.bytes } in
-    let fs : List KeyedFile = map file_of inside.files.entries in
+    let fs : List KeyedFile = map keyed_file inside.files.entries in
     let p = inside.pieces in
     let once = made.0.once in
     let there = subst (λ (view : FilesView). n < length view.keyed) (sym made.1) c.requires.file in
@@ -114,7 +114,7 @@ returns-clause-ok c =
     let k = c.in_ok-key.key in
     let t = c.args.kept.text.items in
     let inside : Inside = record { files = with_value_at c.self.inside.files n c.reserve_one.new.self; pieces = c.self.inside.pieces; bytes = c.self.inside.bytes } in
-    let fs : List KeyedFile = map file_of inside.files.entries in
+    let fs : List KeyedFile = map keyed_file inside.files.entries in
     let now = c.put_key.ensures in
     let is = view_after inside n c.unwrap-file_again.result.now c.put_key.new.self again.here now.tail (insert (keys_in fs n) at k) (now.items ∙ ap (λ ks. insert ks at k) (sym again.keys)) c.put.new.self
     (finite.insert inside.pieces k (standing_piece t)) c.in_ok-key.ensures.ok (inside.bytes + c.len-more.result) ∙ ap (λ v. inserted v n at k t) made.1 in

@@ -5,14 +5,14 @@ use Rattle.mm_store.specs.declared.file_text.FileText.{FileText}
 use Rattle.mm_store.specs.declared.files.Files.TheInside.{Inside}
 use Rattle.mm_store.specs.declared.files.PieceKey.{PieceKey}
 use Rattle.mm_store.specs.Language.FilesView.{FilesView, piece_view}
-use Rattle.mm_store.specs.Code.Kept.{files_view, file_of}
+use Rattle.mm_store.specs.Code.Kept.{files_view, keyed_file}
 use Rattle.mm_store.proofs.lemmas.files.ViewLemmas.{piece_at_key, held_there}
 use Rattle.mm_store.proofs.files.Files.key_at.Goals as goal
 
 in_view : {view : FilesView} {entries : List (Vec ℕ Global × FileText)} {entry : Vec ℕ Global × FileText} (inside : Inside) (n : ℕ) → files_view inside ≡ view → entries ≡ inside.files.entries
-    → Some entry ≡ slice_get entries n → slice_get view.keyed n ≡ Some (file_of entry)
+    → Some entry ≡ slice_get entries n → slice_get view.keyed n ≡ Some (keyed_file entry)
 in_view inside n is same there =
-    ap (λ (view : FilesView). slice_get view.keyed n) (sym is) ∙ slice_get-map file_of inside.files.entries n ∙ ap (option_map file_of) (ap (λ l. slice_get l n) (sym same) ∙ sym there)
+    ap (λ (view : FilesView). slice_get view.keyed n) (sym is) ∙ slice_get-map keyed_file inside.files.entries n ∙ ap (option_map keyed_file) (ap (λ l. slice_get l n) (sym same) ∙ sym there)
 
 pub returns-in_err-at-clause-is : goal.returns-in_err-at-clause-is
 returns-in_err-at-clause-is c =

@@ -7,7 +7,7 @@ use Rattle.mm_store.proofs.lemmas.edits.UndoLemmas.{is_moved}
 use Rattle.mm_store.proofs.lemmas.edits.StepLemmas as lemmas
 use Rattle.mm_store.proofs.files.Files.move_piece.Goals as goal
 use Rattle.mm_store.specs.Code.Edited.{pieces_in, IsMoved}
-use Rattle.mm_store.specs.Code.Kept.{file_of}
+use Rattle.mm_store.specs.Code.Kept.{keyed_file}
 use Rattle.mm_store.specs.Language.FilesView.{KeyedFile, plain_file}
 use Rattle.mm_store.specs.Language.Undoing.{keys_in, moved_list, moved}
 
@@ -29,7 +29,7 @@ invariant_of-self c =
     let at = c.args.at in
     let to = c.args.to in
     let inside = c.self.inside in
-    let fs : List KeyedFile = map file_of inside.files.entries in
+    let fs : List KeyedFile = map keyed_file inside.files.entries in
     let p = inside.pieces in
     let once = c.self.invariant.once in
     let piece = piece_is inside n at c.self.invariant c.self.view_is c.requires.there in
@@ -46,7 +46,7 @@ returns c =
     let at = c.args.at in
     let to = c.args.to in
     let inside = c.self.inside in
-    let fs : List KeyedFile = map file_of inside.files.entries in
+    let fs : List KeyedFile = map keyed_file inside.files.entries in
     let file = lent inside n c.self.invariant c.get_index_mut.ensures.value c.unwrap-file.ensures in
     let items = c.move_key.ensures.items ∙ ap (λ ks. moved_list ks at to) (sym file.keys) in
     let is = view_after inside n c.unwrap-file.result.now c.move_key.new.self file.here c.move_key.ensures.tail (moved_list (keys_in fs n) at to) items inside.pieces inside.pieces refl inside.bytes ∙ ap (λ v. moved v n at to) c.self.view_is in

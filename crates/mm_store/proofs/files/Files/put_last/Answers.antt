@@ -14,7 +14,7 @@ use Rattle.mm_store.specs.Code.Inside.{ArePut}
 use Rattle.mm_store.specs.Code.Lines.{AreStarts}
 use Rattle.mm_store.specs.Code.Starts.{HasStarts}
 use Rattle.mm_store.specs.Code.Edited.{with_file}
-use Rattle.mm_store.specs.Code.Kept.{file_of}
+use Rattle.mm_store.specs.Code.Kept.{keyed_file}
 use Rattle.mm_store.proofs.lemmas.files.NumberLemmas.{number_is}
 use Rattle.mm_store.proofs.lemmas.files.StoreLemmas.{parked_all}
 use Rattle.mm_store.proofs.lemmas.files.AddLemmas.{can_be_kept, tail_of, done_ok, no_file, kept_added, plain_added, put_keeps, put_many}
@@ -83,8 +83,8 @@ returns-clause-ok c =
     done_ok c.insert.result c.unwrap.result _ c.unwrap.ensures c.insert.ensures.entries ∙ insert_entry-new (λ x y. bytes_eq x.items y.items) c.reserve.new.self c.in_ok-name.name value none
     ∙ ap (λ (es : List (Vec ℕ Global × FileText)). es ++ (c.in_ok-name.name, value) ∷ []) c.reserve.ensures.entries in
     let e : Vec ℕ Global × FileText = (c.in_ok-name.name, value) in
-    let old : plain (record { keyed = map file_of inside.files.entries; pieces = inside.pieces }) ≡ plain c.args.self.now = ap (λ (v : FilesView). plain v) c.self.view_is in
-    ap (λ es. map (plain_file c.put_all.new.self) (map file_of es)) entries ∙ plain_added inside c.self.invariant e texts c.put_all.new.self put
+    let old : plain (record { keyed = map keyed_file inside.files.entries; pieces = inside.pieces }) ≡ plain c.args.self.now = ap (λ (v : FilesView). plain v) c.self.view_is in
+    ap (λ es. map (plain_file c.put_all.new.self) (map keyed_file es)) entries ∙ plain_added inside c.self.invariant e texts c.put_all.new.self put
     ∙ ap (λ (files : List File). with_file files c.in_ok-name.name.items texts c.args.cut.tail.items) old
     ∙ ap (λ (name : List ℕ). with_file (plain c.args.self.now) name texts c.args.cut.tail.items) c.in_ok-name.ensures.items
     ∙ ap (λ (ts : List (List ℕ)). with_file (plain c.args.self.now) c.args.name.now ts c.args.cut.tail.items) c.in_ok-kept.ensures.texts

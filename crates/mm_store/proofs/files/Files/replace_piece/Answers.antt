@@ -9,7 +9,7 @@ use Rattle.mm_store.proofs.lemmas.edits.ReplaceLemmas as lemmas
 use Rattle.mm_store.proofs.files.Files.replace_piece.Goals as goal
 use Rattle.mm_store.specs.Language.EditedKeys.{replaced}
 use Rattle.mm_store.specs.Code.Edited.{pieces_in, with_pieces, IsReplaced}
-use Rattle.mm_store.specs.Code.Kept.{file_of}
+use Rattle.mm_store.specs.Code.Kept.{keyed_file}
 use Rattle.mm_store.specs.Code.Starts.{KnowsStarts}
 use Rattle.mm_store.specs.Language.FilesView.{FilesView, KeyedFile, plain, plain_file, bytes_of}
 use Rattle.mm_store.specs.Language.Pieces.{Parked, Replaced, standing_piece, with_state, text_under}
@@ -30,7 +30,7 @@ set_state-less-requires c =
     let n = c.args.number in
     let at = c.args.at in
     let inside = c.self.inside in
-    let fs : List KeyedFile = map file_of inside.files.entries in
+    let fs : List KeyedFile = map keyed_file inside.files.entries in
     let piece = piece_is c.self.inside c.args.number c.args.at c.self.invariant c.self.view_is c.requires.there in
     let file = lent inside n c.self.invariant c.get_index_mut.ensures.value c.unwrap-file.ensures in
     ap is_some (ap (finite.get c.put.new.self) (old_key file at c.replace_key-old.ensures.value) ∙ ap (λ p. finite.get p (get_or (keys_in fs n) at 0)) c.in_ok-key.ensures.ok)
@@ -41,7 +41,7 @@ overflow_sub-self c =
     let n = c.args.number in
     let at = c.args.at in
     let inside = c.self.inside in
-    let fs : List KeyedFile = map file_of inside.files.entries in
+    let fs : List KeyedFile = map keyed_file inside.files.entries in
     let piece = piece_is c.self.inside c.args.number c.args.at c.self.invariant c.self.view_is c.requires.there in
     let file = lent inside n c.self.invariant c.get_index_mut.ensures.value c.unwrap-file.ensures in
     let same = lemmas.old_text fs inside.pieces n at c.in_ok-key.key c.args.kept.text.items c.self.invariant.once piece.there c.in_ok-key.ensures.fresh in
@@ -53,7 +53,7 @@ invariant_of-self-2 c =
     let n = c.args.number in
     let at = c.args.at in
     let inside = c.self.inside in
-    let fs : List KeyedFile = map file_of inside.files.entries in
+    let fs : List KeyedFile = map keyed_file inside.files.entries in
     let k = c.in_ok-key.key in
     let t = c.args.kept.text.items in
     let p = inside.pieces in
@@ -88,7 +88,7 @@ returns-clause-ok c =
     let n = c.args.number in
     let at = c.args.at in
     let inside = c.self.inside in
-    let fs : List KeyedFile = map file_of inside.files.entries in
+    let fs : List KeyedFile = map keyed_file inside.files.entries in
     let k = c.in_ok-key.key in
     let t = c.args.kept.text.items in
     let file = lent inside n c.self.invariant c.get_index_mut.ensures.value c.unwrap-file.ensures in

@@ -8,7 +8,7 @@ use Rattle.mm_store.proofs.lemmas.files.PieceLemmas.{text_state}
 use Rattle.mm_store.proofs.lemmas.edits.StepLemmas as lemmas
 use Rattle.mm_store.proofs.files.Files.take_back_deletion.Goals as goal
 use Rattle.mm_store.specs.Code.Edited.{pieces_in}
-use Rattle.mm_store.specs.Code.Kept.{file_of}
+use Rattle.mm_store.specs.Code.Kept.{keyed_file}
 use Rattle.mm_store.specs.Language.FilesView.{FilesView, KeyedFile, plain, plain_file, bytes_of}
 use Rattle.mm_store.specs.Language.Pieces.{Standing, Deleted, with_state, text_under, IsParked}
 use Rattle.mm_store.specs.Language.Undoing.{keys_in, reversed}
@@ -28,7 +28,7 @@ restore_key-requires c =
 
 pub set_state-more-requires : goal.set_state-more-requires
 set_state-more-requires c =
-    lemmas.deleted_is_some (map file_of c.self.inside.files.entries) c.self.inside.pieces c.args.number c.args.at c.self.invariant.once c.args.old
+    lemmas.deleted_is_some (map keyed_file c.self.inside.files.entries) c.self.inside.pieces c.args.number c.args.at c.self.invariant.once c.args.old
     (subst (λ (view : FilesView). IsParked view.pieces c.args.old c.args.number Deleted) (sym c.self.view_is) c.requires.fits.1)
 
 pub overflow_add-self : goal.overflow_add-self
@@ -36,9 +36,9 @@ overflow_add-self c =
     let n = c.args.number in
     let at = c.args.at in
     let inside = c.self.inside in
-    let fs : List KeyedFile = map file_of inside.files.entries in
+    let fs : List KeyedFile = map keyed_file inside.files.entries in
     let is_parked = subst (λ (view : FilesView). IsParked view.pieces c.args.old n Deleted) (sym c.self.view_is) c.requires.fits.1 in
-    let file : n < length fs = omega (arith, deleted_file inside n c.args.old c.self.invariant c.self.view_is c.requires.fits.1, length-map inside.files.entries (file_of {Y = Global})) in
+    let file : n < length fs = omega (arith, deleted_file inside n c.args.old c.self.invariant c.self.view_is c.requires.fits.1, length-map inside.files.entries (keyed_file {Y = Global})) in
     let bytes = lemmas.bytes_undeleted fs inside.pieces n at c.self.invariant.once c.args.old is_parked file in
     let allowed = subst (λ v. bytes_of (plain (reversed n (action.Deleted at c.args.old) v)) ≤ 4294967295) (sym c.self.view_is) c.requires.within in
     omega (arith, c.set_state-more.ensures.len, c.self.invariant.counted, bytes, allowed)
@@ -48,11 +48,11 @@ invariant_of-self c =
     let n = c.args.number in
     let at = c.args.at in
     let inside = c.self.inside in
-    let fs : List KeyedFile = map file_of inside.files.entries in
+    let fs : List KeyedFile = map keyed_file inside.files.entries in
     let p = inside.pieces in
     let once = c.self.invariant.once in
     let is_parked = subst (λ (view : FilesView). IsParked view.pieces c.args.old n Deleted) (sym c.self.view_is) c.requires.fits.1 in
-    let there : n < length fs = omega (arith, deleted_file inside n c.args.old c.self.invariant c.self.view_is c.requires.fits.1, length-map inside.files.entries (file_of {Y = Global})) in
+    let there : n < length fs = omega (arith, deleted_file inside n c.args.old c.self.invariant c.self.view_is c.requires.fits.1, length-map inside.files.entries (keyed_file {Y = Global})) in
     let file = lent inside n c.self.invariant c.get_index_mut.ensures.value c.unwrap-file.ensures in
     let done = c.restore_key.ensures in
     let bytes = lemmas.bytes_undeleted fs p n at once c.args.old is_parked there in
@@ -70,7 +70,7 @@ returns c =
     let n = c.args.number in
     let at = c.args.at in
     let inside = c.self.inside in
-    let fs : List KeyedFile = map file_of inside.files.entries in
+    let fs : List KeyedFile = map keyed_file inside.files.entries in
     let file = lent inside n c.self.invariant c.get_index_mut.ensures.value c.unwrap-file.ensures in
     let done = c.restore_key.ensures in
     view_after inside n c.unwrap-file.result.now c.restore_key.new.self file.here done.tail (insert (keys_in fs n) at c.args.old) (done.items ∙ ap (λ ks. insert ks at c.args.old) (sym file.keys)) c.set_state-more.new.self

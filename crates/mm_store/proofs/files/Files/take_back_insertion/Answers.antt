@@ -7,7 +7,7 @@ use Rattle.mm_store.proofs.lemmas.files.KeptLemmas.{view_after, kept_edited}
 use Rattle.mm_store.proofs.lemmas.edits.StepLemmas as lemmas
 use Rattle.mm_store.proofs.files.Files.take_back_insertion.Goals as goal
 use Rattle.mm_store.specs.Code.Edited.{pieces_in}
-use Rattle.mm_store.specs.Code.Kept.{file_of}
+use Rattle.mm_store.specs.Code.Kept.{keyed_file}
 use Rattle.mm_store.specs.Language.FilesView.{KeyedFile, plain_file}
 use Rattle.mm_store.specs.Language.Pieces.{text_under}
 use Rattle.mm_store.specs.Language.Undoing.{keys_in, reversed}
@@ -33,7 +33,7 @@ invariant_of-self c =
     let n = c.args.number in
     let at = c.args.at in
     let inside = c.self.inside in
-    let fs : List KeyedFile = map file_of inside.files.entries in
+    let fs : List KeyedFile = map keyed_file inside.files.entries in
     let p = inside.pieces in
     let once = c.self.invariant.once in
     let piece = piece_is inside n at c.self.invariant c.self.view_is c.requires.fits in
@@ -54,7 +54,7 @@ returns c =
     let n = c.args.number in
     let at = c.args.at in
     let inside = c.self.inside in
-    let fs : List KeyedFile = map file_of inside.files.entries in
+    let fs : List KeyedFile = map keyed_file inside.files.entries in
     let file = lent inside n c.self.invariant c.get_index_mut.ensures.value c.unwrap-file.ensures in
     let done = c.take_key-key.ensures in
     view_after inside n c.unwrap-file.result.now c.take_key-key.new.self file.here done.tail (remove (keys_in fs n) at) (done.items ∙ ap (λ ks. remove ks at) (sym file.keys)) c.drop_piece-less.new.self

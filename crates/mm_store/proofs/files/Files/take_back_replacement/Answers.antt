@@ -6,7 +6,7 @@ use Rattle.mm_store.proofs.lemmas.files.KeptLemmas.{view_after, kept_edited}
 use Rattle.mm_store.proofs.lemmas.edits.StepLemmas as lemmas
 use Rattle.mm_store.proofs.files.Files.take_back_replacement.Goals as goal
 use Rattle.mm_store.specs.Code.Edited.{pieces_in}
-use Rattle.mm_store.specs.Code.Kept.{file_of}
+use Rattle.mm_store.specs.Code.Kept.{keyed_file}
 use Rattle.mm_store.specs.Language.FilesView.{FilesView, KeyedFile, plain, plain_file, bytes_of}
 use Rattle.mm_store.specs.Language.Pieces.{Standing, Replaced, with_state, text_under, IsParked}
 use Rattle.mm_store.specs.Language.Undoing.{keys_in, reversed}
@@ -27,7 +27,7 @@ set_state-more-requires c =
     let piece = piece_is c.self.inside c.args.number c.args.at c.self.invariant c.self.view_is c.requires.fits.0 in
     let file = lent c.self.inside c.args.number c.self.invariant c.get_index_mut.ensures.value c.unwrap-file.ensures in
     ap (λ m. is_some (finite.get m c.args.old)) (c.drop_piece-less.ensures.pieces ∙ ap (finite.remove p) (old_key file c.args.at c.replace_key-key.ensures.value))
-    ∙ lemmas.old_left (map file_of c.self.inside.files.entries) p c.args.number c.args.at c.self.invariant.once piece.there c.args.old
+    ∙ lemmas.old_left (map keyed_file c.self.inside.files.entries) p c.args.number c.args.at c.self.invariant.once piece.there c.args.old
     (subst (λ (view : FilesView). IsParked view.pieces c.args.old c.args.number Replaced) (sym c.self.view_is) c.requires.fits.1)
 
 pub overflow_sub-self : goal.overflow_sub-self
@@ -41,7 +41,7 @@ overflow_add-self c =
     let n = c.args.number in
     let at = c.args.at in
     let inside = c.self.inside in
-    let fs : List KeyedFile = map file_of inside.files.entries in
+    let fs : List KeyedFile = map keyed_file inside.files.entries in
     let p = inside.pieces in
     let once = c.self.invariant.once in
     let piece = piece_is inside n at c.self.invariant c.self.view_is c.requires.fits.0 in
@@ -61,7 +61,7 @@ invariant_of-self c =
     let n = c.args.number in
     let at = c.args.at in
     let inside = c.self.inside in
-    let fs : List KeyedFile = map file_of inside.files.entries in
+    let fs : List KeyedFile = map keyed_file inside.files.entries in
     let p = inside.pieces in
     let once = c.self.invariant.once in
     let piece = piece_is inside n at c.self.invariant c.self.view_is c.requires.fits.0 in
@@ -88,7 +88,7 @@ returns c =
     let n = c.args.number in
     let at = c.args.at in
     let inside = c.self.inside in
-    let fs : List KeyedFile = map file_of inside.files.entries in
+    let fs : List KeyedFile = map keyed_file inside.files.entries in
     let p = inside.pieces in
     let file = lent inside n c.self.invariant c.get_index_mut.ensures.value c.unwrap-file.ensures in
     let done = c.replace_key-key.ensures in

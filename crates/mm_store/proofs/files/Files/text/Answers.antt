@@ -4,7 +4,7 @@ use Rattle.std.specs.FinMap as finite
 use Rattle.std.proofs.lemmas.Option.{slice_get-map}
 use Rattle.mm_store.specs.declared.file_text.FileText.{FileText}
 use Rattle.mm_store.specs.Language.FilesView.{FilesView, plain, find_file, text_of}
-use Rattle.mm_store.specs.Code.Kept.{file_of}
+use Rattle.mm_store.specs.Code.Kept.{keyed_file}
 use Rattle.mm_store.proofs.lemmas.files.EntryLemmas.{keys_at}
 use Rattle.mm_store.proofs.lemmas.files.FilesLemmas.{found_is, none_is, key_some}
 use Rattle.mm_store.proofs.files.Files.text.Goals as goal
@@ -15,7 +15,7 @@ joined_text-requires c =
     let n = c.in-Some.field-0-0 in
     let second = λ (e : Vec ℕ Global × FileText). e.1 in
     let keys = keys_at es n c.in-Some.file.now (slice_get-map second es n ∙ ap (option_map second) c.in-Some.ensures.entry) in
-    λ at d lt. subst (λ ks. is_some (finite.get c.self.inside.pieces (get_or ks at d)) ≡ true) keys (key_some (map file_of es) c.self.inside.pieces c.self.invariant.once n at d (omega (arith, lt, ap length keys)))
+    λ at d lt. subst (λ ks. is_some (finite.get c.self.inside.pieces (get_or ks at d)) ≡ true) keys (key_some (map keyed_file es) c.self.inside.pieces c.self.invariant.once n at d (omega (arith, lt, ap length keys)))
 
 pub returns-in-None : goal.returns-in-None
 returns-in-None c =
