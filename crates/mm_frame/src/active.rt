@@ -58,7 +58,7 @@ impl ActiveNumbers {
         }
     }
 
-    /// Adds the number of a new item. After want of memory all is as before.
+    /// Adds the number of a new item. After out of memory all is as before.
     ///
     /// So it is called for each new item that is of this sort, with the count of the items before it; one that is
     /// not, and is no `$}`, changes nothing.

@@ -128,7 +128,8 @@ pub struct Beside<'a> {
     pub next: usize,
 }
 
-/// Reads one more item of the files, which may be the next one of an older base, and tells which may be the next one then. Want of memory leaves the draft as good for nothing, and may leave more names.
+/// Reads one more item of the files, which may be the next one of an older base, and tells which may be the next one then.
+/// Out of memory leaves the draft as good for nothing, and may leave more names.
 fn read_again<'a>(
     draft: &mut Draft<'a>,
     alloc: Global,

@@ -120,7 +120,7 @@ impl Assertions {
     }
 
     /// Keeps what citing one more item needs, and the list of the pairs that are active there. Its symbols are `own`, and
-    /// `disjoints` are the numbers of the active `$d`. Want of memory leaves the assertions as good for nothing.
+    /// `disjoints` are the numbers of the active `$d`. Out of memory leaves the assertions as good for nothing.
     pub fn keep(
         &mut self,
         alloc: Global,

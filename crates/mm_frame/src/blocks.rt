@@ -81,7 +81,7 @@ impl Blocks {
         })
     }
 
-    /// Adds an item that begins a block. After want of memory all is as before.
+    /// Adds an item that begins a block. After out of memory all is as before.
     pub fn begin(&mut self) -> Result<(), AllocError>
         ensures ok { OnOk result (self.new ≡ self.old ++ Opens ∷ []) }
         ensures err { OnErr result (self.new ≡ self.old) }
@@ -96,7 +96,7 @@ impl Blocks {
         Ok(())
     }
 
-    /// Adds an item that ends a block. After want of memory all is as before.
+    /// Adds an item that ends a block. After out of memory all is as before.
     pub fn end(&mut self) -> Result<(), AllocError>
         ensures ok { OnOk result (self.new ≡ self.old ++ Closes ∷ []) }
         ensures err { OnErr result (self.new ≡ self.old) }
@@ -110,7 +110,7 @@ impl Blocks {
         Ok(())
     }
 
-    /// Adds an item that neither begins nor ends a block. After want of memory all is as before.
+    /// Adds an item that neither begins nor ends a block. After out of memory all is as before.
     pub fn pass(&mut self) -> Result<(), AllocError>
         ensures ok { OnOk result (self.new ≡ self.old ++ Neither ∷ []) }
         ensures err { OnErr result (self.new ≡ self.old) }

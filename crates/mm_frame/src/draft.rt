@@ -97,7 +97,7 @@ fn told_fault(kind: ItemKind, fault: Option<FrameFault>) -> Option<FrameFault>
     }
 }
 
-/// Puts the numbers of the symbols of a statement, and names those that have none yet. Want of memory may leave more
+/// Puts the numbers of the symbols of a statement, and names those that have none yet. Out of memory may leave more
 /// names.
 pub fn number_all(
     alloc: Global,
@@ -212,7 +212,7 @@ impl<'a> Draft<'a> {
         })
     }
 
-    /// Takes one more statement, whose symbols have the numbers that are kept. Want of memory leaves the draft as good
+    /// Takes one more statement, whose symbols have the numbers that are kept. Out of memory leaves the draft as good
     /// for nothing.
     pub fn take(
         &mut self,
@@ -253,7 +253,7 @@ impl<'a> Draft<'a> {
         Ok(())
     }
 
-    /// Reads one more item of the files. Want of memory leaves the draft as good for nothing, and may leave more names.
+    /// Reads one more item of the files. Out of memory leaves the draft as good for nothing, and may leave more names.
     pub fn read(
         &mut self,
         alloc: Global,

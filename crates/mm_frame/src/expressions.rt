@@ -87,7 +87,7 @@ impl Expressions {
         part(&self.symbols, start, end_at(&self.ends, number))
     }
 
-    /// Adds the symbols of one more item. Want of memory changes nothing.
+    /// Adds the symbols of one more item. Out of memory changes nothing.
     pub fn add(&mut self, symbols: &[NumberedSymbol]) -> Result<(), AllocError>
         ensures { OnOk result (self.new ≡ self.old ++ symbols.now ∷ []) }
     {

@@ -147,7 +147,7 @@ impl Rows {
         kept_fault(&self.faults, n).is_none()
     }
 
-    /// Adds the label and the fault of one more item. Want of memory leaves the rows as good for nothing.
+    /// Adds the label and the fault of one more item. Out of memory leaves the rows as good for nothing.
     pub fn add(&mut self, label: Option<&[u8]>, fault: Option<FrameFault>) -> Result<(), AllocError>
         ensures kept { OnOk result (AreRowsKept self.old → AreRowsKept self.new) }
         ensures more { OnOk result (AreRowsKept self.old

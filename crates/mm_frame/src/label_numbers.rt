@@ -64,7 +64,7 @@ impl LabelNumbers {
         }
     }
 
-    /// Gives a label this number, in the place of the one that it had. Want of memory leaves the labels as good for nothing.
+    /// Gives a label this number, in the place of the one that it had. Out of memory leaves the labels as good for nothing.
     pub fn insert(&mut self, alloc: Global, label: &[u8], number: usize) -> Result<(), AllocError>
         ensures { OnOk result ((other : List ℕ) → label_number self.new other
             ≡ (if bytes_eq label.now other then Some number else label_number self.old other)) }

@@ -218,7 +218,7 @@ impl PairLists {
     }
 
     /// The number of the list of the first active `$d`, which is made now, of all their pairs, if there is none yet: `count`
-    /// is that of the items up to the last of them. Want of memory leaves the lists as good for nothing.
+    /// is that of the items up to the last of them. Out of memory leaves the lists as good for nothing.
     fn first_list(
         &mut self,
         alloc: Global,
@@ -307,7 +307,7 @@ impl PairLists {
     /// The number of the list of the active pairs behind sound items, which is made now if there is none yet.
     ///
     /// `disjoints` are the numbers of the active `$d`, and `expressions` the symbols of the items by their numbers.
-    /// Want of memory leaves the lists as good for nothing.
+    /// Out of memory leaves the lists as good for nothing.
     pub fn list_of(
         &mut self,
         alloc: Global,

@@ -199,7 +199,7 @@ impl PairTable {
         ask(asked, blocks, first, second, row, other)
     }
 
-    /// Has a row for the name with this number. Want of memory changes no row.
+    /// Has a row for the name with this number. Out of memory changes no row.
     fn grow(&mut self, alloc: Global, name: usize) -> Result<(), AllocError>
         ensures ok { OnOk result (name < length self.new.rows.items) }
         ensures same { (n : ℕ) → row_at self.new n ≡ row_at self.old n }
@@ -228,7 +228,7 @@ impl PairTable {
     }
 
     /// Takes one more sound `$d`, with the numbers of its variables, its own number, and the blocks of the items before
-    /// it. Want of memory leaves the table as good for nothing.
+    /// it. Out of memory leaves the table as good for nothing.
     pub fn take(
         &mut self,
         alloc: Global,

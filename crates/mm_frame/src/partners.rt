@@ -176,7 +176,8 @@ pub fn add_partners(
 ) -> Result<(), AllocError>
     requires { n < length variables.now }
     ensures { OnOk result ((all : List (List ℕ)) (before : List meant.Item) (said : List (Meaning × Meaning)) (first : NumberedSymbol)
-        → KnowsEarlier all before earlier.now → ArePlaces variables.now places.now → All (IsNumbered all) variables.now → ArePairsRead all said pairs.old.items → slice_get variables.now n ≡ Some first
+        → KnowsEarlier all before earlier.now → ArePlaces variables.now places.now → All (IsNumbered all) variables.now
+        → ArePairsRead all said pairs.old.items → slice_get variables.now n ≡ Some first
         → ArePairsRead all (said ++ filter (are_paired (active_pairs before))
         (map (λ y. (symbol_of all first, y)) (symbols_of all (drop (n + 1) variables.now)))) pairs.new.items) }
 {

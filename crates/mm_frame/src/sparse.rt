@@ -66,7 +66,7 @@ impl<T: Drop> Sparse<T> {
         }
     }
 
-    /// Adds one more item, which has this value. Want of memory changes nothing.
+    /// Adds one more item, which has this value. Out of memory changes nothing.
     pub fn add(&mut self, value: T) -> Result<(), AllocError>
         ensures { OnOk result (self.new ≡ self.old ++ Some value ∷ []) }
     {
@@ -76,7 +76,7 @@ impl<T: Drop> Sparse<T> {
         Ok(())
     }
 
-    /// Adds one more item, which has no value. Want of memory changes nothing.
+    /// Adds one more item, which has no value. Out of memory changes nothing.
     pub fn pass(&mut self) -> Result<(), AllocError>
         ensures { OnOk result (self.new ≡ self.old ++ None ∷ []) }
     {

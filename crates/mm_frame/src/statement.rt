@@ -313,7 +313,8 @@ fn behind_symbols<'a>(kind: ItemKind, text: &'a [u8]) -> WordCursor<'a>
     requires { (words : List Word) × HasWords text.now words × (0 < length words) }
     ensures text { result.text ≡ text.now }
     ensures rest { (words : List Word) → HasWords text.now words
-        → result.words ≡ drop (spoken.symbols_from (spoken.kind_of kind) + length (spoken.symbols_in (spoken.kind_of kind) (tokens_of text.now words)) + 1) words }
+        → result.words ≡ drop (spoken.symbols_from (spoken.kind_of kind)
+        + length (spoken.symbols_in (spoken.kind_of kind) (tokens_of text.now words)) + 1) words }
 {
     let mut cursor = WordCursor::new(text);
     read_label(kind, &mut cursor);

@@ -129,7 +129,7 @@ impl Tables {
         }
     }
 
-    /// Has a place for the name with this number. Want of memory changes nothing that is declared.
+    /// Has a place for the name with this number. Out of memory changes nothing that is declared.
     fn grow(&mut self, number: usize) -> Result<(), AllocError>
         ensures ok { OnOk result (number < length self.new.declared.items) }
         ensures same { (n : ℕ) → declared_at self.new n ≡ declared_at self.old n }
@@ -221,7 +221,7 @@ impl Tables {
         Ok(())
     }
 
-    /// Takes one more item, with its number and the numbers of its symbols. Want of memory leaves the tables as good for
+    /// Takes one more item, with its number and the numbers of its symbols. Out of memory leaves the tables as good for
     /// nothing.
     pub fn take(
         &mut self,

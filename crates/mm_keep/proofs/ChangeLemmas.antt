@@ -12,7 +12,8 @@ use Rattle.mm_proof.specs.Language.Work.{Judgement, Recorded}
 use Rattle.mm_keep.specs.declared.keeping.Next.{Next}
 use Rattle.mm_keep.specs.Code.Changing.{CanTake, HasKept, WereKept, session_of}
 use Rattle.mm_keep.specs.Code.KeptSession.{AreChecked}
-use Rattle.mm_keep.specs.Code.Next.{IsBuilt, IsNextBase, IsOldIn}
+use Rattle.mm_proof.specs.mm_frame.Language.Older.{IsOlder}
+use Rattle.mm_keep.specs.Code.Next.{IsBuilt, IsNextBase}
 use Rattle.mm_keep.specs.Code.Planned.{ArePlanned, AreRunBy, CanCarry}
 use Rattle.mm_keep.specs.Language.Sessions.{IsChanged}
 use Rattle.mm_keep.proofs.KeepLemmas.{ItemsStand, KeepsNumbers, batch_top, expansion_top, base_settled, says_edited}
@@ -53,12 +54,12 @@ changed_settled stand before after settled undos top names checked next can same
 
 -- the old base can be read in edited files
 pub old_in : (before after : FilesView) (undos : List UndoView) (top : List ℕ) (names : List (List ℕ)) (code : Base) (checked : List (Option Judgement))
-    → (were : WereKept before after undos top names code checked) → IsOldIn names after code were.base
+    → (were : WereKept before after undos top names code checked) → IsOlder names after code were.base
 old_in before after undos top names code checked were = record { later = were.kept.built.later; each = says_edited before after were.reading were.base.found were.base.said were.kept.built.of_files.each }
 
 pub can_take : (before after : FilesView) (undos : List UndoView) (top : List ℕ) (names all : List (List ℕ)) (code : Base)
     (checked : List (Option Judgement)) (next : Next) → (were : WereKept before after undos top names code checked)
-    → ((view : BaseView) → IsOldIn names after code view → IsNextBase all after top view next) → CanTake before after undos top all checked next
+    → ((view : BaseView) → IsOlder names after code view → IsNextBase all after top view next) → CanTake before after undos top all checked next
 can_take before after undos top names all code checked next were goes =
     let is = goes were.base (old_in before after undos top names code checked were) in
     record {

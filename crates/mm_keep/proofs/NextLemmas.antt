@@ -5,7 +5,8 @@ use Rattle.mm_proof.specs.mm_frame.Language.Base.{BaseView}
 use Rattle.mm_proof.specs.mm_frame.Language.Names.{AreDistinct, Begins}
 use Rattle.mm_proof.specs.mm_frame.declared.base.Base.{Base}
 use Rattle.mm_proof.specs.Language.ReadIn.{IsReadIn}
-use Rattle.mm_keep.specs.Code.Next.{IsBuilt, IsOldIn}
+use Rattle.mm_proof.specs.mm_frame.Language.Older.{IsOlder}
+use Rattle.mm_keep.specs.Code.Next.{IsBuilt}
 use Rattle.mm_keep.specs.Code.Planned.{AreBothRead}
 
 pub built_read : (names : List (List ℕ)) (files : FilesView) (top : List ℕ) (code : Base) (view : BaseView) → IsBuilt names files top code view → IsReadIn names files code view
@@ -13,7 +14,7 @@ built_read names files top code view built = record { base = built.by_names; eac
 
 -- old names have the same numbers among more
 pub both_read : (names all : List (List ℕ)) (files : FilesView) (top : List ℕ) (old new : Base) (view copy : BaseView) → AreDistinct all → Begins names all
-    → IsOldIn names files old view → IsBuilt all files top new copy → AreBothRead all files old new view copy
+    → IsOlder names files old view → IsBuilt all files top new copy → AreBothRead all files old new view copy
 both_read names all files top old new view copy distinct grows is built = record {
   old_is = record { base = is.later all distinct grows; each = is.each };
   new_is = built_read all files top new copy built;

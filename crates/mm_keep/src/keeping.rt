@@ -7,7 +7,8 @@ ghost use Rattle.mm_proof.specs.mm_store.Language.FilesView.{files_in, number_of
 ghost use Rattle.mm_proof.specs.mm_frame.Language.Base.{BaseView};
 ghost use Rattle.mm_proof.specs.mm_frame.Language.Names.{AreDistinct, Begins};
 ghost use Rattle.mm_proof.specs.Language.ReadIn.{IsReadIn};
-ghost use Rattle.mm_keep.specs.Code.Next.{KeepsOrRuns, HasOld, HasTop, IsBuilt, IsFirst, IsNextBase, IsOldIn, KeepsNothing, RunsAll};
+ghost use Rattle.mm_proof.specs.mm_frame.Language.Older.{HasOlder, IsOlder};
+ghost use Rattle.mm_keep.specs.Code.Next.{KeepsOrRuns, HasTop, IsBuilt, IsFirst, IsNextBase, KeepsNothing, RunsAll};
 ghost use Rattle.mm_keep.specs.Code.Planned.{AreBothRead};
 
 use crate::kept::Kept;
@@ -49,7 +50,7 @@ fn base_of(
     old: &Base,
 ) -> Result<Base, AllocError>
     requires top { HasTop files.now top.now }
-    requires old { HasOld names.old files.now old.now }
+    requires old { HasOlder names.old files.now old.now }
     ensures base { IfOk result (λ built. (base : BaseView) × IsBuilt names.new files.now top.now built base) }
     ensures grows { Begins names.old names.new }
 {
@@ -98,10 +99,10 @@ pub fn next_of(
     old: &Base,
 ) -> Result<Next, AllocError>
     requires top { HasTop files.now top.now }
-    requires old { HasOld names.old files.now old.now }
+    requires old { HasOlder names.old files.now old.now }
     ensures grows { Begins names.old names.new }
     ensures distinct { AreDistinct names.new }
-    ensures next { IfOk result (λ next. (view : BaseView) → IsOldIn names.old files.now old.now view → IsNextBase names.new files.now top.now view next) }
+    ensures next { IfOk result (λ next. (view : BaseView) → IsOlder names.old files.now old.now view → IsNextBase names.new files.now top.now view next) }
 {
     let built = base_of(alloc, &mut *names, files, top, old);
     // No name stands twice.

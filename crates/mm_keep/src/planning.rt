@@ -85,7 +85,8 @@ fn run_one(alloc: Global, source: Source<'_>, j: usize, work: &mut Work) -> Resu
     requires item { HasItemRead source.names.now source.files.now source.base.now j }
     requires room { 0 < work.old.room }
     requires steps { work.old.steps + 4294967295 < 2 ^ 64 }
-    ensures one { IfOk result (λ one. (view : BaseView) → IsReadIn source.entry.names.now source.entry.files.now source.entry.base.now view → IsCheckedAt view j one) }
+    ensures one { IfOk result (λ one. (view : BaseView) → IsReadIn source.entry.names.now source.entry.files.now source.entry.base.now view
+        → IsCheckedAt view j one) }
     ensures work { OnOk result ((view : BaseView) → IsReadIn source.entry.names.now source.entry.files.now source.entry.base.now view
         → RecordsIf view None j work.old work.new) }
 {
@@ -109,7 +110,8 @@ fn run_of(
     requires item { HasItemRead source.names.now source.files.now source.base.now j }
     requires room { 0 < work.old.room }
     requires steps { work.old.steps + 4294967295 < 2 ^ 64 }
-    ensures one { IfOk result (λ one. (view : BaseView) → IsReadIn source.entry.names.now source.entry.files.now source.entry.base.now view → IsRunBy view from j one) }
+    ensures one { IfOk result (λ one. (view : BaseView) → IsReadIn source.entry.names.now source.entry.files.now source.entry.base.now view
+        → IsRunBy view from j one) }
     ensures work { OnOk result ((view : BaseView) → IsReadIn source.entry.names.now source.entry.files.now source.entry.base.now view
         → RecordsIf view from j work.old work.new) }
 {

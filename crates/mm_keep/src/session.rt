@@ -225,7 +225,7 @@ impl Session {
     /// what the whole of them asks for: the proof of each sound `$p` of the files after them all for which the files
     /// before them all had none of the same label with an equal view; so each is run once at most.
     ///
-    /// Where an edit is refused, the error has its number, from 0, and the reason, which is never want of memory. After any
+    /// Where an edit is refused, the error has its number, from 0, and the reason, which is never out of memory. After any
     /// error the session is as before. No edits are accepted, and run nothing.
     pub fn edit_all(&mut self, edits: &[Edit<'_>]) -> Result<Work, BatchError>
         ensures files { OnOk result (IsBatchOf (map asked edits.now) (plain self.old.files) (plain self.new.files)) }
@@ -241,7 +241,7 @@ impl Session {
         *self.top.allocator()
     }
 
-    /// Does edits. Want of memory comes once the file and the members of the first are known, or where there are no edits.
+    /// Does edits. Out of memory comes once the file and the members of the first are known, or where there are no edits.
     fn change_all(&mut self, edits: &[Edit<'_>]) -> Result<Work, BatchError>
         ensures files { OnOk result (IsBatchOf (map asked edits.now) (plain self.old.files) (plain self.new.files)) }
         ensures runs { IfOk result (IsChanged self.old self.new) }

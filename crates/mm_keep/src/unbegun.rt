@@ -3,7 +3,7 @@
 use mm_proof::{Files, StoreError};
 
 /// The files of a session that did not begin, as they were handed in, and why: no file has the name of the top file, or
-/// want of memory.
+/// out of memory.
 #[derive(Drop)]
 pub struct Unbegun {
     /// The files, as they were handed in.

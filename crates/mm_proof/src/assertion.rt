@@ -84,7 +84,8 @@ fn assertion_of<'a>(
     mandatory: &mut Vec<Hypothesis<'a, NumberedSymbol>>,
 ) -> Result<Cited<'a, NumberedSymbol>, AllocError>
     requires { (view : BaseView) × IsBase view base.now × (is_framed_at view number ≡ true) × (number < length view.said) }
-    ensures grows { OnOk result ((more : List Mandatory) × (hypotheses_of by_number mandatory.new.items ≡ hypotheses_of by_number mandatory.old.items ++ more)) }
+    ensures grows { OnOk result ((more : List Mandatory)
+        × (hypotheses_of by_number mandatory.new.items ≡ hypotheses_of by_number mandatory.old.items ++ more)) }
     ensures within { IfOk result (λ cited. (cited.first ≤ cited.last) × (cited.last ≡ length mandatory.new.items)) }
     ensures frame { IfOk result (λ cited. ByNames base.now (λ names view. is_framed_at view number ≡ true →
         AreSameFrame (frame_of by_number (hypotheses_of by_number mandatory.new.items) cited) (numbered_frame names view number))) }

@@ -43,7 +43,7 @@ pub fn mandatory(base: &Base, i: usize) -> &[usize]
     &frame.hypotheses
 }
 
-/// The fault that decoding tells; want of memory stays what it is.
+/// The fault that decoding tells; out of memory stays what it is.
 pub fn decoding_fault(error: Undecoded) -> Result<ProofFault, AllocError>
     ensures { IfOk result (λ fault. error ≡ errors.Fault fault) }
 {
@@ -252,7 +252,7 @@ fn judge<'a>(
 /// these.
 ///
 /// A run has at most 4,294,967,295 steps. It takes time near linear in the symbols of the expressions that its steps
-/// make and compare, and memory for the entries of the stack and for what is saved. After want of memory nothing is
+/// make and compare, and memory for the entries of the stack and for what is saved. After out of memory nothing is
 /// recorded.
 pub fn check(
     alloc: Global,

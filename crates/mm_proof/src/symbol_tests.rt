@@ -240,7 +240,7 @@ fn run_lent<'a>(
     requires frames { All (λ f. IsRanged (length table.now.mandatory.items) (ranged f.first f.last (record {
       expression = map named_symbol f.expression.items;
       hypotheses = range_of f.first f.last (map (λ h. record { floating = h.floating; expression = map named_symbol h.expression.items })
-      table.now.mandatory.items);
+          table.now.mandatory.items);
       pairs = meant_pairs named_symbol f.pairs.items;
     }))) table.now.frames.items }
     requires within { All (IsUseWithin (length table.now.expressions.items) (length table.now.frames.items)) uses.now }

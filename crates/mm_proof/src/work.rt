@@ -92,7 +92,7 @@ impl Work {
         Ok(())
     }
 
-    /// Records the run of the proof of the item with this number, in which so many steps were done. Want of memory records
+    /// Records the run of the proof of the item with this number, in which so many steps were done. Out of memory records
     /// nothing; where the room was taken at the beginning, there is none.
     pub(crate) fn record(&mut self, i: usize, steps: u64) -> Result<(), AllocError>
         requires room { 0 < self.old.room }

@@ -51,7 +51,7 @@ impl Files {
         Ok(())
     }
 
-    /// Puts a file behind the others. After want of memory the files are as before.
+    /// Puts a file behind the others. After out of memory the files are as before.
     fn put_last(&mut self, name: &[u8], bytes: u64, cut: DividedCut) -> Result<(), AllocError>
         requires missing { file_number (plain self.old) name.now ≡ None }
         requires counted { bytes ≡ length (concat (map (λ piece. piece.text.items) cut.pieces.items) ++ cut.tail.items) }

@@ -21,7 +21,7 @@ use thiserror::Error;
 #[derive(Clone, Copy, Debug, PartialEq, Eq, Error)]
 pub enum BatchError {
     /// The edit with this number, from 0, is the first that is refused, on the files after those before it. The reason
-    /// is never want of memory.
+    /// is never out of memory.
     #[error("edit {0}: {1}")]
     Edit(usize, EditError),
     /// There was not enough memory.
@@ -55,7 +55,7 @@ impl Model for Undos {
     ghost view = { undos_of };
 }
 
-/// Why the edit with this number is refused; want of memory stays what it is.
+/// Why the edit with this number is refused; out of memory stays what it is.
 fn refused(number: usize, error: EditError) -> BatchError
     ensures { result ≡ refusal number error }
 {

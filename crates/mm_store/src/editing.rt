@@ -26,7 +26,7 @@ use crate::unit::new_piece;
 use std::alloc::AllocError;
 
 impl Files {
-    /// Puts a piece in the place of one, which is parked. After want of memory the files are as before.
+    /// Puts a piece in the place of one, which is parked. After out of memory the files are as before.
     fn replace_piece(
         &mut self,
         number: usize,
@@ -53,7 +53,7 @@ impl Files {
         })
     }
 
-    /// Puts a piece before the one at `at`. After want of memory the files are as before.
+    /// Puts a piece before the one at `at`. After out of memory the files are as before.
     fn insert_piece(
         &mut self,
         number: usize,

@@ -121,7 +121,7 @@ pub fn edits_reverse()
         → IsEditOf (Move name to at) between files }
 {}
 
-/// An edit of files gives one list of files, or it is refused for one reason, and never both; want of memory is no
+/// An edit of files gives one list of files, or it is refused for one reason, and never both; out of memory is no
 /// such reason.
 pub fn one_edit()
     ensures some { (edit : Asked) (files : List File)

@@ -101,7 +101,7 @@ impl PieceStore {
         Ok(self.slab.insert(piece)?)
     }
 
-    /// Puts standing pieces, each under a key that no piece has: all of them or, for want of memory, none.
+    /// Puts standing pieces, each under a key that no piece has: all of them or, if memory runs out, none.
     pub(crate) fn put_all(
         &mut self,
         alloc: Global,

@@ -228,7 +228,7 @@ impl Walk {
         }
     }
 
-    /// One step. After want of memory the walk stands where it stood.
+    /// One step. After out of memory the walk stands where it stood.
     pub(crate) fn step(&mut self, files: &Files) -> Result<Step, AllocError>
         ensures ok { IfOk result (λ step. IsStep (files_in files.now) self.old step self.new) }
         ensures err { OnErr result (self.new ≡ self.old) }
@@ -260,7 +260,7 @@ impl Walk {
     ///
     /// The walk then stands before that reference, and a file of that name may be added before the next call, which
     /// enters it; where none is, the next call goes past the reference. Each call goes on from where the last one
-    /// stopped. After want of memory the walk may have gone on, but past no missing name that it did not tell: the
+    /// stopped. After out of memory the walk may have gone on, but past no missing name that it did not tell: the
     /// next call goes on from there.
     pub fn next_missing(&mut self, files: &Files) -> Result<Option<Vec<u8>>, AllocError>
         ensures found { IfOk result (λ found. IfSome found (λ name. (top : List ℕ) (items : List Item)

@@ -24,7 +24,8 @@ pub record IsPairAnswer (before : List Item) (x y : List ℕ) (upto : ℕ) (comm
 
 -- so it is with an answer on the names that have these numbers
 abbrev pub IsKnownPair : List (List ℕ) → List Item → Answer → Type 0
-IsKnownPair all before answer = (x y : List ℕ) → IsNameNumber all answer.first x → IsNameNumber all answer.second y → IsPairAnswer before x y answer.upto answer.common
+IsKnownPair all before answer = (x y : List ℕ) → IsNameNumber all answer.first x → IsNameNumber all answer.second y
+    → IsPairAnswer before x y answer.upto answer.common
 
 -- so it is with each answer
 abbrev pub KnowsAsked : List (List ℕ) → List Item → AskedPairs → Type 0

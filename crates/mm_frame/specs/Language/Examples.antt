@@ -76,7 +76,8 @@ MeansItsFrame = resolve database (codes "wi") ≡ Assertion (record {
 
 -- After a block the label of a `$e` in it is inactive.
 abbrev pub EndsWithItsBlock : Type 0
-EndsWithItsBlock = resolve (database ++ unlabelled_item BlockStart [] ∷ labelled_item (codes "h") Essential (codes "wp") ∷ unlabelled_item BlockEnd [] ∷ []) (codes "h") ≡ Inactive
+EndsWithItsBlock = resolve (database ++ unlabelled_item BlockStart [] ∷ labelled_item (codes "h") Essential (codes "wp")
+    ∷ unlabelled_item BlockEnd [] ∷ []) (codes "h") ≡ Inactive
 
 -- A second `$f` of a variable, `wx $f w p $.`, has the fault F12, at its word 3, which is the variable.
 abbrev pub IsTypedTwice : Type 0

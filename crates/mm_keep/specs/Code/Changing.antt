@@ -53,7 +53,7 @@ pub record CanTake
 abbrev pub HasTaking : FilesView → List UndoView → List (Option Judgement) → Next → Type 0
 HasTaking after undos checked next = (before : FilesView) × (top : List ℕ) × (names : List (List ℕ)) × CanTake before after undos top names checked next
 
--- why edits of a session are not done: one is refused; or want of memory, once file and members of the first are known
+-- why edits of a session are not done: one is refused; or out of memory, once file and members of the first are known
 abbrev pub IsChangeError : List Asked → List File → BatchError → Type 0
 IsChangeError edits files (batch.Edit n error) = IsRefusedAt edits files n error
 IsChangeError edits files batch.Memory = StartsPlaced edits files ⊎ (edits ≡ [])

@@ -1,9 +1,7 @@
 -- What a session goes on with behind a change of its files.
 use Rattle.std.specs.Prelude.{◌≡◌, ◌≢◌, ℕ, true, Option, None, Some, List, length, slice_get}
-use Rattle.std.specs.List.{AllZip}
 use Rattle.mm_proof.specs.mm_store.Language.FilesView.{FilesView, files_in, number_of}
 use Rattle.mm_proof.specs.mm_frame.Language.Base.{BaseView, IsOfFiles, is_proof_at}
-use Rattle.mm_proof.specs.mm_frame.Language.Statement.{Says}
 use Rattle.mm_proof.specs.mm_frame.Language.Answering.{IsBaseBy, StandsLater}
 use Rattle.mm_proof.specs.mm_frame.declared.base.Base.{Base}
 use Rattle.mm_keep.specs.Code.KeptSession.{AreChecked}
@@ -25,15 +23,6 @@ pub record IsBuilt (names : List (List ℕ)) (files : FilesView) (top : List ℕ
   pub of_files : IsOfFiles files top base
   pub by_names : IsBaseBy names base code
   pub later : StandsLater names base code
-
--- the code's old base is read by any names that begin with these, and its items can be read in these files
-pub record IsOldIn (names : List (List ℕ)) (files : FilesView) (code : Base) (base : BaseView) : Type 0 where
-  pub later : StandsLater names base code
-  pub each : AllZip (Says files) base.found base.said
-
--- there is what it answers
-abbrev pub HasOld : List (List ℕ) → FilesView → Base → Type 0
-HasOld names files code = (base : BaseView) × IsOldIn names files code base
 
 -- each theorem of the new base keeps what was checked before, or is run
 pub record KeepsOrRuns (old base : BaseView) (run : Ran) : Type 0 where

@@ -21,7 +21,7 @@ meant_or names (Err number) = Err number
 abbrev pub meant_steps : List Step → List ProofStep → List (Step × Spot)
 meant_steps names steps = map (λ step. (meant names step.action, step.spot)) steps
 
--- a fault that is told is the fault; want of memory tells none
+-- a fault that is told is the fault; out of memory tells none
 abbrev pub TellsSteps : Undecoded → Steps → Type 0
 TellsSteps (errors.Fault fault) steps = steps ≡ Err fault
 TellsSteps errors.Memory steps = Unit {0}

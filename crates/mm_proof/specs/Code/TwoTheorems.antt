@@ -25,7 +25,8 @@ pub record CanBeCompared (two : TwoTheorems) (files : FilesView) : Type 0 where
 
 -- it is so of what the two bases are by these files
 abbrev pub OfTwoIn : TwoTheorems → FilesView → (BaseView → BaseView → Type 0) → Type 0
-OfTwoIn two files holds = (base copy : BaseView) → IsReadIn two.names.now files two.old.now base → IsReadIn two.names.now files two.new.now copy → holds base copy
+OfTwoIn two files holds = (base copy : BaseView) → IsReadIn two.names.now files two.old.now base
+    → IsReadIn two.names.now files two.new.now copy → holds base copy
 
 -- the label means the same at both
 abbrev pub MeansSame : TwoTheorems → BaseView → BaseView → List ℕ → Type 0

@@ -28,7 +28,7 @@ refusal number (edits.NotOne count) = batch.Edit number (edits.NotOne count)
 refusal number edits.TooMany = batch.Edit number edits.TooMany
 refusal number edits.Memory = batch.Memory
 
--- why the edit with this number is not done: it is refused, and not for want of memory; or want of memory, once its file and its members
+-- why the edit with this number is not done: it is refused, and not for lack of memory; or out of memory, once its file and its members
 -- are known
 abbrev pub IsNextError : Asked → List File → ℕ → BatchError → Type 0
 IsNextError edit files number (batch.Edit n error) = (n ≡ number) × IsEditError edit files error × (error ≢ edits.Memory)

@@ -19,7 +19,8 @@ keyword kind start = record { kind = kinds.Keyword kind; start = start; end = st
 
 -- A comment, and after it a statement of five words. The comment gives none. The label `wp` is the bytes 13 and 14, and so on.
 abbrev pub HasFiveWords : Type 0
-HasFiveWords = HasWords (codes "$( a type $)\nwp $f wff p $.\n") (plain_word 13 15 ∷ keyword Floating 16 ∷ plain_word 19 22 ∷ plain_word 23 24 ∷ keyword StatementEnd 25 ∷ [])
+HasFiveWords = HasWords (codes "$( a type $)\nwp $f wff p $.\n")
+    (plain_word 13 15 ∷ keyword Floating 16 ∷ plain_word 19 22 ∷ plain_word 23 24 ∷ keyword StatementEnd 25 ∷ [])
 
 -- The symbol `wff` of this text, whose first byte is number 19, stands in line 2, at column 7.
 abbrev pub StandsInSecondLine : Type 0
