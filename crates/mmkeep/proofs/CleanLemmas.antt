@@ -1,8 +1,5 @@
 -- A report is clean: no line stands in it before its summary.
-use Rattle.std.proofs.Common.{◌≡◌, ℕ, Bool, false, cond, zero-add, IsTrue, ◌+◌, List, [], ◌∷◌, length, refl, sym, ◌∙◌, ap, arith, nat_eq}
-use Rattle.std.specs.Prelude.{count_by}
-use Rattle.std.proofs.Common.{eq-eqb}
-use Rattle.std.proofs.lemmas.Bool.{eqb-true}
+use Rattle.std.proofs.Common.{◌≡◌, ℕ, Bool, false, cond, zero-add, IsTrue, ◌+◌, List, [], ◌∷◌, length, refl, sym, ◌∙◌, ap, arith, nat_eq, count_by, eqb-true, eq-eqb}
 use Rattle.std.proofs.lemmas.List.Sums.{sum_by-cons}
 use Rattle.mm_report.specs.mm_frame.Language.Item.{Item}
 use Rattle.mm_report.specs.mm_keep.declared.tally.Tally.{Tally}

@@ -1,5 +1,4 @@
-use Rattle.std.proofs.Common.{get_or, sym, arith}
-use Rattle.std.specs.Prelude.{codes}
+use Rattle.std.proofs.Common.{get_or, sym, arith, codes}
 use Rattle.std.proofs.lemmas.Slice.Eq.{bytes_eq-Decides}
 use Rattle.mmkeep.proofs.AskingLemmas.{differs, said_two, said_three, no_two, no_three, no_other}
 use Rattle.mmkeep.proofs.asking.command.Goals as goal
