@@ -40,7 +40,8 @@ told_expression true one other e = same_Some one other e
 told_expression false one other e = cc
 
 -- the symbols that are kept of an item have the numbers of its symbols
-pub numbers_known : (names : List (List ℕ)) (before : List Item) (symbols : List (List ℕ)) (kept : List NumberedSymbol) → symbols_of names kept ≡ map (symbol before) symbols → All (IsNumbered names) kept → AreNameNumbers names (numbers_of kept) symbols
+pub numbers_known : (names : List (List ℕ)) (before : List Item) (symbols : List (List ℕ)) (kept : List NumberedSymbol)
+    → symbols_of names kept ≡ map (symbol before) symbols → All (IsNumbered names) kept → AreNameNumbers names (numbers_of kept) symbols
 numbers_known names before symbols kept e numbered = record {
   count = length-map kept (λ (k : NumberedSymbol). k.name) ∙ sym (length-map kept (symbol_of names)) ∙ ap length e ∙ length-map symbols (symbol before);
   each = λ i n there.
