@@ -1,5 +1,6 @@
 -- What is answered, from what is written.
-use Rattle.std.proofs.Common.{◌≡◌, ◌⊎◌, ℕ, ◌<◌, Option, List, Result, Ok, Err, inl, inr, length, map, refl, sym, ap, ◌∙◌, subst, arith, take_all, Global, codes, IfErr, IfOk, IsErrOf, IsOk, IsTrue, OnOk, Bool, true, false, ◌↔◌, Some, Vec, get_or, slice_get}
+use Rattle.std.proofs.Common.{◌≡◌, ◌⊎◌, ℕ, ◌<◌, Option, List, Result, Ok, Err, inl, inr, length, map, refl, sym, ap, ◌∙◌, subst, arith, take_all, Global, codes, IfErr, IfOk, IsErrOf, IsOk, IsTrue, OnOk, Bool, true, false, ◌↔◌, Some, Vec}
+use Rattle.std.proofs.Common.{get_or, slice_get}
 use Rattle.std.specs.Result.{IsErrAnd}
 use Rattle.mm_keep.specs.declared.answers.KeepError.{KeepError}
 use Rattle.mm_keep.specs.declared.answers.KeepError.TheVariants as keep

@@ -112,7 +112,8 @@ stop_by bytes others end e s = a_stop end (subst (λ (w : List ℕ). StopsSo w e
 
 -- the last edit of a batch, without a text and without a line feed
 batch_last : (n : ℕ) (front : List Listed) (blanks : ℕ) (e : Asked) (bytes : List ℕ) → IsNumber n → AreGoodEdits front → IsGoodEdit e → edited_text e ≡ None → n ≡ length front + 1 → bytes ≡ batch_bytes n front blanks (edit_line e) → Begins bytes
-batch_last n front blanks e bytes number goods good none count is = a_last (Batch all) (subst IsNumber long number, good_more front one goods good) (last_in_line front one none) (fed ∙ ap (λ (k : ℕ). batch_line k ++ 10 ∷ flat_map listed_bytes all) long)
+batch_last n front blanks e bytes number goods good none count is =
+    a_last (Batch all) (subst IsNumber long number, good_more front one goods good) (last_in_line front one none) (fed ∙ ap (λ (k : ℕ). batch_line k ++ 10 ∷ flat_map listed_bytes all) long)
   where
     one : Listed
     one = record { blanks = blanks; edit = e }

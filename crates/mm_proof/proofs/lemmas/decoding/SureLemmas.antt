@@ -1,5 +1,6 @@
 -- What decoding makes sure of.
-use Rattle.std.proofs.Common.{◌≤◌, ◌≡◌, ℕ, zero, suc, ◌+◌, ◌<◌, Bool, true, false, ◌==◌, Option, Some, None, Result, Ok, Err, List, [], ◌∷◌, ◌++◌, length, map, drop, refl, ap, arith, inl, inr, eqb-true, subst, cond, nat_le, slice_get, bytes_eq, codes}
+use Rattle.std.proofs.Common.{◌≤◌, ◌≡◌, ℕ, zero, suc, ◌+◌, ◌<◌, Bool, true, false, ◌==◌, Option, Some, None, Result, Ok, Err, List, [], ◌∷◌, ◌++◌, length, map, drop, refl, ap, arith, inl, inr, eqb-true, subst, cond, nat_le, slice_get}
+use Rattle.std.proofs.Common.{bytes_eq, codes}
 use Rattle.std.specs.List.{AllByRecursion, range_with_len, before_first, list_any, after_first}
 use Rattle.std.proofs.lemmas.Bool.{cases_Bool, and_parts, leb-true}
 use Rattle.mm_frame.specs.Language.Frame.{Resolved, Inactive, Unknown, Setting}

@@ -1,5 +1,6 @@
 -- The machine as a function: what it answers is a turn, or the lowest line that holds.
-use Rattle.std.proofs.Common.{◌≡◌, ◌≢◌, ℕ, suc, ◌-◌, ◌≤◌, ◌<◌, true, false, Option, Some, None, Result, Ok, Err, List, [], ◌∷◌, ◌++◌, length, map, take, get_or, refl, sym, ◌∙◌, ap, subst, arith, inl, inr, ◌⊎◌, length-append, slice_get, Contains, All, Any}
+use Rattle.std.proofs.Common.{◌≡◌, ◌≢◌, ℕ, suc, ◌-◌, ◌≤◌, ◌<◌, true, false, Option, Some, None, Result, Ok, Err, List, [], ◌∷◌, ◌++◌, length, map, take, get_or, refl, sym, ◌∙◌, ap, subst, arith, inl, inr, ◌⊎◌, length-append, slice_get}
+use Rattle.std.proofs.Common.{Contains, All, Any}
 use Rattle.std.proofs.lemmas.List.{take-append-drop, length-drop, get_or_default}
 use native.Mathlib.Decide.{dec_lt}
 use mathlib.Core.Bool.{Bool-discrete}

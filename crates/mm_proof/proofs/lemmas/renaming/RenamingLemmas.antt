@@ -1,5 +1,6 @@
 -- A renaming of symbols, one to one, keeps verdicts.
-use Rattle.std.proofs.Common.{◌≡◌, ◌≢◌, ℕ, ◌+◌, ◌-◌, ◌<◌, Bool, true, false, Option, Some, None, Result, Ok, Err, List, [], ◌∷◌, ◌++◌, length, map, take, drop, get_or, refl, sym, ap, ap₂, ◌∙◌, subst, subst₂, arith, inl, inr, slice_get, Contains, All, Any, pos, if◌then◌else◌, ◌&&◌, filter, bytes_eq, codes}
+use Rattle.std.proofs.Common.{◌≡◌, ◌≢◌, ℕ, ◌+◌, ◌-◌, ◌<◌, Bool, true, false, Option, Some, None, Result, Ok, Err, List, [], ◌∷◌, ◌++◌, length, map, take, drop, get_or, refl, sym, ap, ap₂, ◌∙◌, subst, subst₂, arith, inl, inr, slice_get}
+use Rattle.std.proofs.Common.{Contains, All, Any, pos, if◌then◌else◌, ◌&&◌, filter, bytes_eq, codes}
 use Rattle.std.specs.List.{AllZip, list_any, before_first, after_first}
 use Rattle.std.specs.Ordering.{int_eq}
 use Rattle.std.proofs.lemmas.List.{length-map, get_or-map, map-append, drop-map}
