@@ -2,9 +2,6 @@ use Rattle.std.proofs.Common.{◌≡◌, ◌∙◌, ap, drop, arith}
 use Rattle.mm_text.proofs.NthLemmas.{goes_on, nth_of, nth_past}
 use Rattle.mm_text.proofs.reading.nth_word.Goals as goal
 
-pub loop-number-init : goal.loop-number-init
-loop-number-init c = record { text = c.new-cursor.ensures.text; left = c.new-cursor.ensures.only }
-
 pub loop-number-preserved : goal.loop-number-preserved
 loop-number-preserved c = record {
   text = c.in_ok-next_word.ensures.text ∙ c.loop-number.invariant.text;

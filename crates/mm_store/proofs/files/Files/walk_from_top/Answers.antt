@@ -4,9 +4,6 @@ use Rattle.mm_store.proofs.lemmas.files.ViewLemmas.{number_plain}
 use Rattle.mm_store.proofs.lemmas.expansion.SetLemmas.{not_no_top}
 use Rattle.mm_store.proofs.files.Files.walk_from_top.Goals as goal
 
-pub returns-in-None-clause-no_top : goal.returns-in-None-clause-no_top
-returns-in-None-clause-no_top c = (λ e. sym c.in-None.ensures.number, λ e. refl)
-
 pub returns-in_err-from_top-in-Some-clause-no_top : goal.returns-in_err-from_top-in-Some-clause-no_top
 returns-in_err-from_top-in-Some-clause-no_top c =
     (λ e. absurd (not_no_top c.from_residual.result c.from_residual.ensures.1 e), λ e. absurd (none-some c.in-Some.number (sym e ∙ sym c.in-Some.ensures.number)))
