@@ -116,7 +116,7 @@ fn label_bytes(text: &[u8], label: Option<Word>) -> Option<&[u8]>
     }
 }
 
-/// More symbols than most statements have. The memory for so many is less than a kilobyte: an allocator has such blocks at hand.
+/// More symbols than most statements have.
 const USUAL_COUNT: usize = 24;
 
 /// For how many symbols of an item of this kind there is room from the first on.
