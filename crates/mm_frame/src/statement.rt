@@ -117,7 +117,7 @@ fn label_bytes(text: &[u8], label: Option<Word>) -> Option<&[u8]>
 }
 
 /// More symbols than most statements have.
-const USUAL_COUNT: usize = 24;
+const USUAL_COUNT: usize = 32;
 
 /// For how many symbols of an item of this kind there is room from the first on.
 fn usual_count(kind: ItemKind) -> usize {
