@@ -118,7 +118,7 @@ module _ (inside : Inside) (kept : AreFilesKept inside) (e : Vec ℕ Global × F
   kept_added after is pieces deleted room starts tail counted within =
       let p = inside.pieces in
       let plain_is : plain (files_view after) ≡ map (plain_file p) (map keyed_file es) ++ new_file ∷ [] =
-          ap (λ m. map (plain_file m) (map keyed_file after.files.entries)) pieces ∙ ap (λ es. map (plain_file now) (map keyed_file es)) is ∙ plain_added in
+      ap (λ m. map (plain_file m) (map keyed_file after.files.entries)) pieces ∙ ap (λ es. map (plain_file now) (map keyed_file es)) is ∙ plain_added in
       let same : (m : ℕ) → deletions m now ≡ deletions m p = put_deletions p now texts e.1.keys.items put in
       let none = kept.known (length es) (omega arith) in
       record {
