@@ -5,7 +5,7 @@ ghost use Rattle.mm_frame.specs.Language.Base.{BaseView, hypothesis_at, is_shown
 ghost use Rattle.mm_frame.specs.Language.Answering.{BaseAnswers, IsBase, IsBaseBy};
 ghost use Rattle.mm_frame.specs.Language.Resolving.{IsCarrier};
 ghost use Rattle.mm_proof.specs.Code.InStep.{AreOrdinalsOf, HasAlike, IsStepAt, ordinal};
-ghost use Rattle.mm_proof.specs.Code.KeptMarks.{OfBases, AreTheorems, SharePairs, ShareFrame, IsCompared, IsComparedOf, IsKept, IsOneHypothesis, AreKept, kept_mark};
+ghost use Rattle.mm_proof.specs.Code.KeptMarks.{OfBases, AreTheorems, SharePairs, ShareFrame, IsCompared, IsComparedOf, IsHypothesisMark, IsOneHypothesis, AreHypothesisMarks, kept_mark};
 ghost use Rattle.mm_proof.specs.Language.BaseMarks.{AreMarks, HaveOneLabel, IsMark, mark_at};
 
 use crate::ordinals::{Ordinals, end_alike, is_labelled, small, wide};
@@ -98,7 +98,7 @@ fn compare(old: &Base, i: usize, new: &Base, j: usize, last: Option<Compared>) -
 
 /// Whether the marks so far tell that the hypothesis `m` of the new base is the hypothesis `n` of the old one.
 fn is_marked(marks: &[Mark], n: usize, m: usize) -> bool
-    ensures { IsTrue result → (old new : BaseAnswers) → AreKept old new marks.now
+    ensures { IsTrue result → (old new : BaseAnswers) → AreHypothesisMarks old new marks.now
         → OfBases old new (λ base copy. hypothesis_at base n ≡ hypothesis_at copy m) }
 {
     match marks.get(m) {
@@ -112,7 +112,7 @@ fn is_marked(marks: &[Mark], n: usize, m: usize) -> bool
 
 /// Whether the marks so far tell that hypotheses of the old base are those of the new one, one by one.
 fn are_marked(marks: &[Mark], mine: &[usize], yours: &[usize]) -> bool
-    ensures { IsTrue result → (old new : BaseAnswers) → AreKept old new marks.now
+    ensures { IsTrue result → (old new : BaseAnswers) → AreHypothesisMarks old new marks.now
         → OfBases old new (λ base copy. map (hypothesis_at base) mine.now ≡ map (hypothesis_at copy) yours.now) }
 {
     if mine.len() != yours.len() {
@@ -129,7 +129,7 @@ fn are_marked(marks: &[Mark], mine: &[usize], yours: &[usize]) -> bool
 /// Whether two items are sound assertions with the same frame. Hypotheses that the marks so far tell to be the same are not
 /// looked at.
 fn same_frames(old: &Base, i: usize, new: &Base, j: usize, marks: &[Mark]) -> bool
-    requires { AreKept old.now new.now marks.now }
+    requires { AreHypothesisMarks old.now new.now marks.now }
     ensures { OfBases old.now new.now (λ base copy. IsTrue result ↔ ShareFrame base copy i j) }
 {
     match (old.frame(i), new.frame(j)) {
@@ -192,9 +192,9 @@ fn mark_of(
     marks: &[Mark],
 ) -> (Mark, Option<Compared>)
     requires last { IsCompared old.now new.now last }
-    requires marks { AreKept old.now new.now marks.now }
+    requires marks { AreHypothesisMarks old.now new.now marks.now }
     ensures mark { OfBases old.now new.now (λ base copy. IsMark base copy j (kept_mark result.0)) }
-    ensures kept { IsKept old.now new.now j result.0 }
+    ensures kept { IsHypothesisMark old.now new.now j result.0 }
     ensures last { IsCompared old.now new.now result.1 }
 {
     let Some(i) = old_of(old, expected, new, j) else {
@@ -218,7 +218,7 @@ fn mark_of(
 /// Whether the item `j` of the new base has no label, or the old base has one with its label, its ordinal and its meaning.
 fn is_alike(old: &Base, new: &Base, j: usize, ordinals: &Ordinals, mark: Mark) -> bool
     requires { AreOrdinalsOf old.now new.now ordinals.now }
-    ensures { IsTrue result → IsKept old.now new.now j mark
+    ensures { IsTrue result → IsHypothesisMark old.now new.now j mark
         → OfBases old.now new.now (λ base copy. IsMark base copy j (kept_mark mark) → HasAlike base copy j) }
 {
     match wide(mark.old) {
@@ -283,9 +283,9 @@ fn marked(
 ) -> (Mark, Step)
     requires ordinals { AreOrdinalsOf old.now new.now ordinals.now }
     requires step { IsStepAt old.now new.now j step }
-    requires marks { AreKept old.now new.now marks.now }
+    requires marks { AreHypothesisMarks old.now new.now marks.now }
     ensures mark { OfBases old.now new.now (λ base copy. IsMark base copy j (kept_mark result.0)) }
-    ensures kept { IsKept old.now new.now j result.0 }
+    ensures kept { IsHypothesisMark old.now new.now j result.0 }
     ensures step { IsStepAt old.now new.now (j + 1) result.1 }
 {
     labels_mean();

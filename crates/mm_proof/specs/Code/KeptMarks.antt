@@ -74,12 +74,12 @@ pub record IsOneHypothesis (base copy : BaseView) (i j : ℕ) : Type 0 where
   pub same : hypothesis_at base i ≡ hypothesis_at copy j
 
 -- where a mark tells that item j is the same hypothesis as the old one that it tells, it is
-abbrev pub IsKept : Base → Base → ℕ → code.Mark → Type 0
-IsKept old new j mark = mark.hypothesis ≡ true → (i : ℕ) → mark.old ≡ Some i → OfBases old new (λ base copy. IsOneHypothesis base copy i j)
+abbrev pub IsHypothesisMark : Base → Base → ℕ → code.Mark → Type 0
+IsHypothesisMark old new j mark = mark.hypothesis ≡ true → (i : ℕ) → mark.old ≡ Some i → OfBases old new (λ base copy. IsOneHypothesis base copy i j)
 
 -- so it is with each of these marks
-abbrev pub AreKept : Base → Base → List code.Mark → Type 0
-AreKept old new marks = (m : ℕ) (mark : code.Mark) → slice_get marks m ≡ Some mark → IsKept old new m mark
+abbrev pub AreHypothesisMarks : Base → Base → List code.Mark → Type 0
+AreHypothesisMarks old new marks = (m : ℕ) (mark : code.Mark) → slice_get marks m ≡ Some mark → IsHypothesisMark old new m mark
 
 -- the marks of so many items are kept
 pub record AreItemMarks (base copy : BaseView) (count : ℕ) (marks : List ItemMark) : Type 0 where

@@ -10,7 +10,7 @@ use Rattle.mm_frame.specs.Language.Resolving.{IsCarrier}
 use Rattle.mm_frame.specs.declared.base.Base.{Base}
 use Rattle.mm_frame.specs.Language.Answering.{IsBaseBy}
 use Rattle.mm_proof.specs.Language.BaseMarks.{ItemMark, IsMark, HaveOneLabel, AreMarks, no_mark, mark_at}
-use Rattle.mm_proof.specs.Code.KeptMarks.{AreTheorems, ShareFrame, SharePairs, AreItemMarks, IsKept, AreKept}
+use Rattle.mm_proof.specs.Code.KeptMarks.{AreTheorems, ShareFrame, SharePairs, AreItemMarks, IsHypothesisMark, AreHypothesisMarks}
 use Rattle.mm_proof.specs.declared.marks.Mark as code
 use Rattle.std.proofs.Math.Decide.{ℕ_discrete}
 
@@ -139,10 +139,10 @@ got_last (x ∷ xs) y z (suc m) e = elim (got_last xs y z m e) [
   | inr p ↦ inr (ap suc p.0, p.1)
 ]
 
-pub kept_more : (old new : Base) (marks : List code.Mark) (mark : code.Mark) (n : ℕ) → length marks ≡ n → AreKept old new marks → IsKept old new n mark → AreKept old new (marks ++ mark ∷ [])
+pub kept_more : (old new : Base) (marks : List code.Mark) (mark : code.Mark) (n : ℕ) → length marks ≡ n → AreHypothesisMarks old new marks → IsHypothesisMark old new n mark → AreHypothesisMarks old new (marks ++ mark ∷ [])
 kept_more old new marks mark n count are is m other e = elim (got_last marks mark other m e) [
   | inl g ↦ are m other g
-  | inr p ↦ subst (λ (w : code.Mark). IsKept old new m w) p.1 (subst (λ k. IsKept old new k mark) (sym (p.0 ∙ count)) is)
+  | inr p ↦ subst (λ (w : code.Mark). IsHypothesisMark old new m w) p.1 (subst (λ k. IsHypothesisMark old new k mark) (sym (p.0 ∙ count)) is)
 ]
 
 -- the frames of two assertions are the same where their hypotheses are, and the rest is

@@ -1,9 +1,9 @@
 use Rattle.std.proofs.Common.{ℕ}
 use Rattle.mm_frame.specs.Language.Base.{hypothesis_at}
 use Rattle.mm_frame.specs.declared.base.Base.{Base}
-use Rattle.mm_proof.specs.Code.KeptMarks.{OfBases, AreKept}
+use Rattle.mm_proof.specs.Code.KeptMarks.{OfBases, AreHypothesisMarks}
 use Rattle.mm_proof.proofs.lemmas.views.KeptMarkLemmas.{AreSameTo}
 use Rattle.mm_proof.proofs.marks.are_marked.Given as goal
 
 abbrev pub invariant-loop-k : goal.invariant-loop-k
-invariant-loop-k l = (old new : Base) → AreKept old new l.marks → OfBases old new (λ base copy. AreSameTo (hypothesis_at base) (hypothesis_at copy) l.mine l.yours l.k)
+invariant-loop-k l = (old new : Base) → AreHypothesisMarks old new l.marks → OfBases old new (λ base copy. AreSameTo (hypothesis_at base) (hypothesis_at copy) l.mine l.yours l.k)

@@ -2,18 +2,18 @@ use Rattle.std.proofs.Common.{◌≡◌, ◌+◌, List, [], ◌∷◌, sym, ◌�
 use Rattle.std.proofs.lemmas.List.{length-append, map-append}
 use Rattle.mm_proof.specs.Language.BaseMarks.{ItemMark}
 use Rattle.mm_proof.specs.declared.marks.Mark as code
-use Rattle.mm_proof.specs.Code.KeptMarks.{AreItemMarks, AreKept, kept_mark, kept_marks}
+use Rattle.mm_proof.specs.Code.KeptMarks.{AreItemMarks, AreHypothesisMarks, kept_mark, kept_marks}
 use Rattle.mm_proof.proofs.lemmas.views.KeptMarkLemmas.{kept_more, marked_more, all_marked}
 use Rattle.mm_proof.proofs.marks.Marks.build.Goals as goal
 
 pub marked-requires-clause-marks : goal.marked-requires-clause-marks
-marked-requires-clause-marks c = subst (AreKept c.args.old.now c.args.new.now) (sym c.deref.ensures.value) c.loop-j.invariant.kept
+marked-requires-clause-marks c = subst (AreHypothesisMarks c.args.old.now c.args.new.now) (sym c.deref.ensures.value) c.loop-j.invariant.kept
 
 pub loop-j-preserved : goal.loop-j-preserved
 loop-j-preserved c = record {
   step = c.marked.ensures.step;
   count = ap length c.in_ok-push.ensures.items ∙ length-append c.loop-j.marks.items (c.marked.result.0 ∷ []) ∙ ap (λ k. k + 1) c.loop-j.invariant.count;
-  kept = subst (AreKept c.args.old.now c.args.new.now) (sym c.in_ok-push.ensures.items)
+  kept = subst (AreHypothesisMarks c.args.old.now c.args.new.now) (sym c.in_ok-push.ensures.items)
       (kept_more c.args.old.now c.args.new.now c.loop-j.marks.items c.marked.result.0 c.loop-j.j c.loop-j.invariant.count c.loop-j.invariant.kept c.marked.ensures.kept);
   marks = λ names base copy f g. (
       let j = c.loop-j.j in

@@ -1,12 +1,12 @@
 use Rattle.std.proofs.Common.{◌≡◌, length}
 use Rattle.mm_proof.specs.Code.InStep.{IsStepAt}
-use Rattle.mm_proof.specs.Code.KeptMarks.{OfBases, AreItemMarks, AreKept, kept_marks}
+use Rattle.mm_proof.specs.Code.KeptMarks.{OfBases, AreItemMarks, AreHypothesisMarks, kept_marks}
 use Rattle.mm_proof.proofs.marks.Marks.build.Given as goal
 
 abbrev pub invariant-loop-j : goal.invariant-loop-j
 invariant-loop-j l = record {
   step : IsStepAt l.old l.new l.j l.step;
   count : length l.marks.items ≡ l.j;
-  kept : AreKept l.old l.new l.marks.items;
+  kept : AreHypothesisMarks l.old l.new l.marks.items;
   marks : OfBases l.old l.new (λ base copy. AreItemMarks base copy l.j (kept_marks l.marks.items));
 }
