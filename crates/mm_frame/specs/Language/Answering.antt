@@ -1,4 +1,4 @@
--- What a base reports on its items, with the numbers of names in place of names, and when it does so rightly (Metamath book, section 4.2).
+-- What a base reports on its items, with the numbers of names in place of names, and when this is right (Metamath book, section 4.2).
 use Rattle.std.specs.Prelude.{◌≡◌, ℕ, ◌≤◌, Bool, true, ◌&&◌, ◌||◌, if◌then◌else◌, is_some, is_none, Option, Some, None, List, [], length, map, take, drop}
 use Rattle.std.specs.Prelude.{filter, flat_map, bytes_eq, slice_get, All, IfSome}
 use Rattle.std.specs.Option.{option_map}
@@ -16,8 +16,8 @@ use Rattle.mm_frame.specs.Language.Framing.{expression, pairs_of, active_pairs, 
 use Rattle.mm_frame.specs.Language.NumberedSymbols.{symbols_of, IsNumbered, ArePairsRead, AreSamePairsRead, AreInOrder}
 use Rattle.mm_frame.specs.Language.Base.{BaseView, told_fault}
 
--- what is reported of the items, each by its number: the items themselves; their labels and faults; the symbols; the numbers of the hypotheses and
--- the pairs of a frame; all active pairs; and what an item does to the blocks
+-- what is reported of the items, each by its number: the items themselves; their labels and faults; the symbols; the numbers of the
+-- hypotheses and the pairs of a frame; all active pairs; and what an item does to the blocks
 pub record BaseAnswers : Type 0 where
   pub items : List store.Item
   pub rows : List (Option (List ℕ) × Option (ℕ × FrameNumber))
@@ -79,7 +79,7 @@ pub record AreActiveTold (names : List (List ℕ)) (before : List Item) (item : 
   pub pairs : IfSome told (λ pairs. AreSamePairsRead names (active_pairs before) pairs)
   pub order : IfSome told AreInOrder
 
--- what is reported is right of these items, where names have the numbers of this list
+-- what is reported is right of these items, if names have the numbers of this list
 pub record IsBaseBy (names : List (List ℕ)) (base : BaseView) (answers : BaseAnswers) : Type 0 where
   pub distinct : AreDistinct names
   pub found : answers.items ≡ base.found
@@ -92,10 +92,10 @@ pub record IsBaseBy (names : List (List ℕ)) (base : BaseView) (answers : BaseA
   pub actives : AreRows (AreActiveTold names) base.said answers.actives
   pub marks : answers.marks ≡ map (λ item. mark_of item.kind) (sound_items base.said)
 
--- so it is for each list of names that begins with these: names that are added change nothing
+-- what is reported is right by each list of names that begins with these: names that are added change nothing
 abbrev pub StandsLater : List (List ℕ) → BaseView → BaseAnswers → Type 0
 StandsLater names base answers = (all : List (List ℕ)) → AreDistinct all → Begins names all → IsBaseBy all base answers
 
--- so it is for some list of names
+-- what is reported is right by some list of names
 abbrev pub IsBase : BaseView → BaseAnswers → Type 0
 IsBase base answers = (names : List (List ℕ)) × IsBaseBy names base answers

@@ -1,4 +1,4 @@
--- What a base answers: which items are sound, and what each sound one means, as functions of what the items say (Metamath book, section 4.2).
+-- What a base answers: which items are sound, and what each sound one means, by what the items say (Metamath book, section 4.2).
 use Rattle.std.specs.Prelude.{◌≡◌, ◌<◌, ◌↔◌, ℕ, suc, Bool, true, ◌&&◌, if◌then◌else◌, Option, Some, None, is_none, List, take, drop, map, All, AllPairs}
 use Rattle.std.specs.Prelude.{Contains}
 use Rattle.std.specs.List.{AllZip}
@@ -28,7 +28,7 @@ pub record IsOfFiles (files : FilesView) (top : List ℕ) (base : BaseView) : Ty
 abbrev pub AreSaid : BaseView → Type 0
 AreSaid base = (files : FilesView) × AllZip (Says files) base.found base.said
 
--- the items before the one with this number, where each statement at fault is passed over
+-- the items before the one with this number; each statement at fault is passed over
 abbrev pub before : BaseView → ℕ → List Item
 before base i = sound_items (take i base.said)
 
@@ -84,7 +84,8 @@ pub record IsMandatoryAt (base : BaseView) (i n : ℕ) : Type 0 where
   pub active : stays (drop (suc n) (before base i)) ≡ true
   pub mandatory : is_mandatory (mandatory_variables (before base i) (said_at base i)) (said_at base n) ≡ true
 
--- these are the numbers of all of them, rising; by them, in order, the hypotheses of the frame are reported, each as it is read at its own place
+-- these are the numbers of all mandatory hypotheses, rising; each is a sound statement before item i; in order they give the hypotheses of
+-- the frame
 pub record AreHypotheses (base : BaseView) (i : ℕ) (numbers : List ℕ) : Type 0 where
   pub which : (n : ℕ) → Contains numbers n ↔ IsMandatoryAt base i n
   pub rise : AllPairs (λ m n. m < n) numbers

@@ -57,8 +57,8 @@ AllAreSound = sound_items database ≡ database
 abbrev pub ThreePairsAreActive : Type 0
 ThreePairsAreActive = active_pairs database ≡ (p, q) ∷ (p, r) ∷ (q, r) ∷ []
 
--- The frame of `ax $a w ( q > p ) $.` after them: its mandatory variables are `p` and `q`, so its mandatory hypotheses are `wp` and `wq`, in the order of
--- occurrence, and one of the three pairs is mandatory.
+-- The frame of `ax $a w ( q > p ) $.` after them: its mandatory variables are `p` and `q`, so its mandatory hypotheses are `wp` and `wq`,
+-- in the order of occurrence, and one of the three pairs is mandatory.
 abbrev pub HasOneMandatoryPair : Type 0
 HasOneMandatoryPair = frame database (labelled_item (codes "ax") Axiom (codes "w(q>p)")) ≡ record {
   expression = letter_symbols (codes "w(q>p)");

@@ -1,4 +1,4 @@
--- Symbols, mandatory hypotheses, frames, and what a label means at a statement: the words that frames and proofs share (Metamath book, section 4.2).
+-- Symbols, mandatory hypotheses, frames, and what a label means at a statement (Metamath book, section 4.2).
 use Rattle.std.specs.Prelude.{◌≡◌, ◌↔◌, ℕ, Bool, true, ◌⊎◌, List, Contains}
 
 -- A symbol: a name, as a constant or as a variable.
@@ -17,8 +17,8 @@ pub record Frame : Type 0 where
   pub hypotheses : List Mandatory
   pub pairs : List (Symbol × Symbol)
 
--- What a label means at a statement: an active hypothesis with its expression, an assertion with its frame, a hypothesis that is no longer active, or
--- nothing.
+-- What a label means at a statement: an active hypothesis with its expression, an assertion with its frame, a hypothesis that is no longer
+-- active, or nothing.
 pub data Resolved : Type 0 where
   Hypothesis : List Symbol → Resolved
   Assertion : Frame → Resolved
@@ -34,7 +34,7 @@ pub record Setting : Type 0 where
 abbrev pub ArePair : List (Symbol × Symbol) → Symbol → Symbol → Type 0
 ArePair pairs x y = Contains pairs (x, y) ⊎ Contains pairs (y, x)
 
--- x is a variable, and stands in the list
+-- x is a variable of the list
 abbrev pub HasVariable : List Symbol → Symbol → Type 0
 HasVariable symbols x = Contains symbols x × (x.variable ≡ true)
 

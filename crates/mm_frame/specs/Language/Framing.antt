@@ -1,11 +1,11 @@
--- Frames: the mandatory variables, hypotheses and pairs of an assertion, and what a label means at a statement (Metamath book, section 4.2).
+-- Frames: the mandatory variables, hypotheses and pairs of an assertion, and what a label means (Metamath book, section 4.2).
 use Rattle.std.specs.Prelude.{ℕ, Bool, ◌&&◌, ◌||◌, if◌then◌else◌, List, [], ◌∷◌, ◌++◌, take, map, filter, flat_map}
 use Rattle.mm_frame.specs.Language.Frame.{Symbol, Mandatory, Frame, Resolved, Hypothesis, Assertion, Inactive, Unknown, Setting}
 use Rattle.mm_frame.specs.Language.Item.{Item, is_disjoint, is_floating, is_essential, is_assertion, has, labels_of, variable_of}
 use Rattle.mm_frame.specs.Language.Scope.{stays, active, active_numbers, symbols_by, active_variables}
 use Rattle.mm_frame.specs.Language.Sound.{sound_items}
 
--- what a name is after these items: a variable where it is an active one, and else a constant
+-- what a name is after these items: a variable if an active variable has it, and else a constant
 abbrev pub symbol : List Item → List ℕ → Symbol
 symbol before name = record { name = name; variable = has (active_variables before) name }
 
@@ -46,7 +46,7 @@ active_pairs before = flat_map (λ item. if is_disjoint item.kind then pairs_of 
 abbrev pub is_mandatory_pair : List (List ℕ) → Symbol × Symbol → Bool
 is_mandatory_pair mandatory pair = has mandatory pair.0.name && has mandatory pair.1.name
 
--- the frame of an assertion after these items: its expression, its mandatory hypotheses, and those active pairs of which both variables are mandatory
+-- the frame of an assertion after these items: its expression, its mandatory hypotheses, and the active pairs of two mandatory variables
 abbrev pub frame : List Item → Item → Frame
 frame before item = record {
   expression = expression before item;
@@ -54,15 +54,15 @@ frame before item = record {
   pairs = filter (is_mandatory_pair (mandatory_variables before item)) (active_pairs before);
 }
 
--- what the label of an item means after the whole list: an assertion means its frame, after the items in front of it alone; a hypothesis means its
--- expression, where no `$}` at the back has ended its block
+-- what the label of an item means after the whole list: an assertion means its frame, after the items in front of it alone; a hypothesis
+-- means its expression, if no `$}` at the back has ended its block
 abbrev pub meaning : List Item → List Item → Item → List Item → Resolved
 meaning whole front item back =
     if is_assertion item.kind then Assertion (frame front item)
     else if stays back then Hypothesis (expression whole item)
     else Inactive
 
--- what a label means after the whole list, where it is looked for in the back part of it alone
+-- what a label means after the whole list, if it is looked for in the back part alone
 abbrev pub resolve_from : List Item → List Item → List Item → List ℕ → Resolved
 resolve_from whole front [] label = Unknown
 resolve_from whole front (item ∷ back) label =

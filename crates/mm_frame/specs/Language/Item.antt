@@ -1,8 +1,9 @@
--- The items of a database: its statements, the beginnings and ends of its blocks, and inclusions of files that are missing (Metamath book, section 4.2).
+-- The items of a database: its statements, block beginnings and ends, and inclusions of missing files (Metamath book, section 4.2).
 use Rattle.std.specs.Prelude.{ℕ, ◌||◌, Bool, true, false, if◌then◌else◌, Option, None, List, [], bytes_eq, slice_index_or, option_to_list}
 use Rattle.std.specs.List.{list_any}
 
--- What an item is: `$c`, `$v`, `$d`, `$f`, `$e`, `$a`, `$p`, `${`, `$}`, or a missing file; `Passed` stands in the place of a statement at fault.
+-- What an item is: `$c`, `$v`, `$d`, `$f`, `$e`, `$a`, `$p`, `${`, `$}`, or a missing file; `Passed` takes the place of a statement at
+-- fault.
 pub data Kind : Type 0 where
   Constants : Kind
   Variables : Kind
@@ -23,7 +24,7 @@ pub record Item : Type 0 where
   pub symbols : List (List ℕ)
   pub proof : List (List ℕ)
 
--- what stands in the place of a statement at fault
+-- what takes the place of a statement at fault
 abbrev pub passed : Item
 passed = record { kind = Passed; label = None; symbols = []; proof = [] }
 
@@ -104,6 +105,6 @@ typecode_of item = slice_index_or item.symbols 0 []
 abbrev pub variable_of : Item → List ℕ
 variable_of item = slice_index_or item.symbols 1 []
 
--- the item with this number: past the last one, what stands for no statement
+-- the item with this number; past the last one, `passed`, which is no statement
 abbrev pub item_at : List Item → ℕ → Item
 item_at items n = slice_index_or items n passed

@@ -43,7 +43,7 @@ SoundHasNone = (before : List Item) (item : Item) → (fault before item ≡ Non
 abbrev pub KeptNext : Type 0
 KeptNext = (items : List Item) (item : Item) → sound_items (items ++ item ∷ []) ≡ sound_items items ++ judged item (fault (sound_items items) item) ∷ []
 
--- Items close no block that was open before them exactly where no beginning of them has more `$}` than `${`.
+-- Items close no block that was open before them exactly when no beginning of them has more `$}` than `${`.
 abbrev pub StaysByCounts : Type 0
 StaysByCounts = (items : List Item) → (stays items ≡ true) ↔ ((k : ℕ) → count_by is_end (take k items) ≤ count_by is_start (take k items))
 
@@ -51,7 +51,7 @@ StaysByCounts = (items : List Item) → (stays items ≡ true) ↔ ((k : ℕ) �
 abbrev pub ReaderIsActive : Type 0
 ReaderIsActive = (items : List Item) → closed items ≡ 0 → all_of (read_scopes ([] ∷ []) items) ≡ statements (active items)
 
--- A statement is active at a later one exactly where the items between them close no block that was open before them.
+-- A statement is active at a later one exactly when the items between them close no block that was open before them.
 abbrev pub ActiveByBlocks : Type 0
 ActiveByBlocks = (items : List Item) (i j : ℕ) (x y : Item) → stays items ≡ true → slice_get items i ≡ Some x → slice_get items j ≡ Some y
     → mark_of x.kind ≡ Neither → mark_of y.kind ≡ Neither → i < j → (stays (between items i j) ≡ true) ↔ IsActive items i j
@@ -78,7 +78,7 @@ AssertionsMean = (base : BaseView) (i j : ℕ) (label : List ℕ) → IsLabelOf 
 abbrev pub MandatoryMeans : Type 0
 MandatoryMeans = (base : BaseView) (i n : ℕ) (label : List ℕ) → IsCarrier base label n → IsMandatoryAt base i n → Resolves base i label (answers.Hypothesis n)
 
--- The mandatory hypotheses of an item are sound and stand before it, and are those of its frame.
+-- The mandatory hypotheses of an item are sound, come before it, and are those of its frame.
 abbrev pub MandatoryStandBefore : Type 0
 MandatoryStandBefore = (base : BaseView) (i : ℕ) → AreHypotheses base i (mandatory_numbers (before base i) (said_at base i))
 

@@ -7,7 +7,7 @@ use Rattle.mm_frame.specs.Language.Scope.{is_start, is_end}
 abbrev pub IsEven : List Item → ℕ → ℕ → Type 0
 IsEven items b e = count_by is_end (take (e + 1 - b) (drop b items)) ≡ count_by is_start (take (e + 1 - b) (drop b items))
 
--- item e is the first after item b at which this is so
+-- item e is the first after item b with which the counts are even
 pub record IsEndOf (items : List Item) (b e : ℕ) : Type 0 where
   pub behind : b < e
   pub even : IsEven items b e

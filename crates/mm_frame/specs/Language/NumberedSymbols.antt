@@ -1,4 +1,4 @@
--- Which symbols, expressions and pairs those are that are given by numbers of names, where the numbers are read by a list of all names.
+-- What symbols, expressions and pairs mean that are given by numbers of names: the numbers are read by a list of all names.
 use Rattle.std.specs.Prelude.{◌≡◌, ℕ, ◌<◌, ◌≤◌, ◌==◌, ◌&&◌, ◌||◌, Bool, true, false, Some, List, [], ◌∷◌, All, length, map, nat_lt, slice_get}
 use Rattle.mm_frame.specs.declared.symbol.NamedSymbol.{NamedSymbol}
 use Rattle.mm_frame.specs.declared.symbol.NumberedSymbol.{NumberedSymbol}
@@ -37,7 +37,7 @@ kept_pairs all kept = map (pair_of all) kept
 abbrev pub IsNumbered : List (List ℕ) → NumberedSymbol → Type 0
 IsNumbered all kept = kept.name < length all
 
--- so are those of both
+-- the numbers of both symbols of a pair are those of names
 abbrev pub IsPairNumbered : List (List ℕ) → NumberedSymbol × NumberedSymbol → Type 0
 IsPairNumbered all kept = IsNumbered all kept.0 × IsNumbered all kept.1
 
@@ -56,7 +56,7 @@ pub record AreSamePairsRead (all : List (List ℕ)) (said : List (Symbol × Symb
   pub pairs : AreSamePairs (kept_pairs all kept) said
   pub numbered : All (IsPairNumbered all) kept
 
--- the one pair of numbers comes before the other: by the first of the two, and by the second where the first are the same
+-- one pair of numbers comes before the other: by the first of the two, and by the second if the first are the same
 abbrev pub comes_before : ℕ × ℕ → ℕ × ℕ → Bool
 comes_before one other = nat_lt one.0 other.0 || ((one.0 == other.0) && nat_lt one.1 other.1)
 
@@ -64,7 +64,7 @@ comes_before one other = nat_lt one.0 other.0 || ((one.0 == other.0) && nat_lt o
 abbrev pub name_numbers : NumberedSymbol × NumberedSymbol → ℕ × ℕ
 name_numbers kept = (kept.0.name, kept.1.name)
 
--- each pair has the lower number of a name first, and none comes before one that stands before it
+-- each pair has the lower number of a name first, and no pair comes before an earlier one of the list
 pub record AreInOrder (kept : List (NumberedSymbol × NumberedSymbol)) : Type 0 where
   pub low : All (λ p. p.0.name ≤ p.1.name) kept
   pub rising : (i j : ℕ) (p q : NumberedSymbol × NumberedSymbol) → i ≤ j → slice_get kept i ≡ Some p → slice_get kept j ≡ Some q

@@ -14,7 +14,7 @@ mark_of BlockStart = Opens
 mark_of BlockEnd = Closes
 mark_of _ = Neither
 
--- how many blocks from before it are closed by an item and those after it, where those after it close so many from before them
+-- how many blocks that were open before an item are closed by it and those after it, if those after it close this many of theirs
 abbrev pub closed_at : Mark → ℕ → ℕ
 closed_at Opens count = pred count
 closed_at Closes count = suc count
@@ -30,7 +30,7 @@ abbrev pub is_zero : ℕ → Bool
 is_zero zero = true
 is_zero (suc count) = false
 
--- these items close no block that was open before them: what stood before them is still active after them
+-- these items close no block that was open before them: a statement right before them is still active after them
 abbrev pub stays : List Item → Bool
 stays items = is_zero (closed items)
 
@@ -39,7 +39,7 @@ abbrev pub active : List Item → List Item
 active [] = []
 active (item ∷ items) = if stays items then item ∷ active items else active items
 
--- the numbers of the items that are active at the end of the list and pass a test, where the first item has this number
+-- the numbers of the items that are active at the end of the list and pass a test; the first item has this number
 abbrev pub active_numbers_from : (Item → Bool) → ℕ → List Item → List ℕ
 active_numbers_from test n [] = []
 active_numbers_from test n (item ∷ items) =

@@ -26,7 +26,7 @@ passes test (Some name) = test name
 abbrev pub at_symbol : (ℕ → List ℕ → Bool) → Item → ℕ → Bool
 at_symbol test item word = leb (first_symbol item) word && passes (test (word - first_symbol item)) (slice_get item.symbols (word - first_symbol item))
 
--- a test of each symbol, wherever it stands
+-- a test of each symbol, at any place
 abbrev pub each : (List ℕ → Bool) → ℕ → List ℕ → Bool
 each test n name = test name
 
@@ -46,7 +46,7 @@ later test n name = ltb 0 n && test name
 abbrev pub is_third : ℕ → List ℕ → Bool
 is_third n name = n == 2
 
--- the symbol stands before, too, in the same statement
+-- the symbol occurs earlier in the same statement
 abbrev pub is_repeated : Item → ℕ → List ℕ → Bool
 is_repeated item n name = has (take n item.symbols) name
 
@@ -87,7 +87,7 @@ abbrev pub is_typed_otherwise : List Item → Item → List ℕ → Bool
 is_typed_otherwise before item name = list_any (λ other.
     bytes_eq (variable_of other) name && not (bytes_eq (typecode_of other) (typecode_of item))) (floats before)
 
--- a statement of this kind with so many symbols has too few
+-- a statement of this kind with this many symbols has too few
 abbrev pub is_short : Kind → ℕ → Bool
 is_short Constants count = count == 0
 is_short Variables count = count == 0
@@ -98,15 +98,15 @@ is_short Axiom count = count == 0
 is_short Theorem count = count == 0
 is_short _ count = false
 
--- The table of faults, a line for each number: a statement after these items has the fault of this number at this word. F14 is that of a missing file, which
--- is no statement.
+-- The table of faults, a line for each number: a statement after these items has the fault of this number at this word. F14 is the fault
+-- of a missing file, which is no statement.
 abbrev pub line_holds : List Item → Item → ℕ → FrameNumber → Bool
 -- too few symbols, or a third one of a `$f`
 line_holds before item word F01 = (is_short item.kind (length item.symbols) && word == closing_word item)
     || (is_floating item.kind && at_symbol is_third item word)
 -- a `$c` in a block
 line_holds before item word F02 = is_constants item.kind && (word == 0 && is_inside before)
--- a symbol that stands earlier in the same `$c`, `$v` or `$d`
+-- a symbol that occurs earlier in the same `$c`, `$v` or `$d`
 line_holds before item word F03 = (is_declaring item.kind || is_disjoint item.kind) && at_symbol (is_repeated item) item word
 -- a `$c` of what was ever declared, or a `$v` of a constant or an active variable
 line_holds before item word F04 =
@@ -183,7 +183,7 @@ abbrev pub fault_or : ℕ → Option FrameNumber → Option (ℕ × FrameNumber)
 fault_or word (Some number) later = Some (word, number)
 fault_or word None later = later
 
--- the first fault among the words from this one on, of which there are so many
+-- the first fault among this many words, from this one on
 abbrev pub fault_from : List Item → Item → ℕ → ℕ → Option (ℕ × FrameNumber)
 fault_from before item word zero = None
 fault_from before item word (suc more) = fault_or word (number_at before item word) (fault_from before item (suc word) more)
@@ -192,7 +192,7 @@ fault_from before item word (suc more) = fault_or word (number_at before item wo
 abbrev pub fault : List Item → Item → Option (ℕ × FrameNumber)
 fault before item = fault_from before item 0 (closing_word item + 1)
 
--- the statement, or, where it is at fault, what stands in its place
+-- the statement; if it is at fault, what takes its place
 abbrev pub judged : Item → Option (ℕ × FrameNumber) → Item
 judged item None = item
 judged item (Some at) = passed
@@ -202,6 +202,6 @@ abbrev pub sound_items_after : List Item → List Item → List Item
 sound_items_after before [] = before
 sound_items_after before (item ∷ items) = sound_items_after (before ++ judged item (fault before item) ∷ []) items
 
--- the items in order, where each statement at fault is passed over: it declares nothing, and takes no label
+-- the items in order; each statement at fault is passed over: it declares nothing, and takes no label
 abbrev pub sound_items : List Item → List Item
 sound_items items = sound_items_after [] items

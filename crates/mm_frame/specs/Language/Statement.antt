@@ -43,7 +43,7 @@ plain_from from tokens = take (prefix_len is_plain (drop from tokens)) (drop fro
 abbrev pub token_names : List Token → List (List ℕ)
 token_names tokens = map (λ token. token.bytes) tokens
 
--- the number of the word that is the first symbol: it stands after the keyword, and the label where there is one
+-- the number of the word that is the first symbol: it comes after the label, if there is one, and the keyword
 abbrev pub symbols_from : Kind → ℕ
 symbols_from kind = if is_labelled kind then 2 else 1
 

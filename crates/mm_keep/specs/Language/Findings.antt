@@ -1,4 +1,4 @@
--- What the findings of the code tell, and what its tally counts.
+-- What the findings of the code report, and what its tally counts.
 use Rattle.std.specs.Prelude.{◌<◌, List, length}
 use Rattle.mm_keep.specs.Language.Told.{Told, Quiet, AnAxiom, Proved, Incomplete, Wrong, Fault, Counts}
 use Rattle.mm_keep.specs.declared.finding.Finding.{Finding}
@@ -25,6 +25,6 @@ counted tally = record {
   faults = tally.faults;
 }
 
--- so few are reported that one more can be counted
+-- few enough are reported that one more can be counted
 abbrev pub AreFew : List Told → Type 0
 AreFew all = length all < 4294967295

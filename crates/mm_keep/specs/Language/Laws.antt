@@ -21,7 +21,7 @@ ItemsHaveFindings =
     (files : FilesView) (top : List ℕ) (base : BaseView) → IsOfFiles files top base → (i : ℕ) → i < length base.said
     → (one : Told) × IsRightlyTold files base i one
 
--- a label has one list at most that stands to it in this way, in sessions of files that mean the same
+-- the relation holds of a label and one list at most, in sessions of files that mean the same
 abbrev pub IsOneList : (SessionView → List ℕ → List ℕ → Type 0) → Type 0
 IsOneList AreSo =
     (session other : SessionView) (label numbers copies : List ℕ) → plain session.files ≡ plain other.files → session.top ≡ other.top →
@@ -57,7 +57,7 @@ LabelsAreDecided =
     (session : SessionView) (label : List ℕ) (base : BaseView) → IsOfFiles session.files session.top base
     → HasAssertion session label ⊎ (¬ HasAssertion session label)
 
--- there is a list that stands so to each label of an assertion
+-- the relation holds of each label of an assertion and some list
 abbrev pub HasListOf : (SessionView → List ℕ → List ℕ → Type 0) → Type 0
 HasListOf AreSo = (session : SessionView) (label : List ℕ) → HasAssertion session label → (numbers : List ℕ) × AreSo session label numbers
 

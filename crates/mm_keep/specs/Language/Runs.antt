@@ -40,7 +40,7 @@ pub record AreRunsOf (before after : FilesView) (top : List ℕ) (runs : List �
   pub are : IsOfFiles after top new
   pub those : AreRuns old new runs
 
--- the runs of these items do so many steps in all
+-- the runs of these items do this many steps in all
 pub record AreStepsOf (base : BaseView) (runs : List ℕ) (total : ℕ) : Type 0 where
   pub counts : List ℕ
   pub each : AllZip (AreDoneAt base) runs counts

@@ -16,7 +16,7 @@ pub record SessionView : Type 0 where
 abbrev pub OfItems : SessionView → (BaseView → Type 0) → Type 0
 OfItems session P = (base : BaseView) × IsOfFiles session.files session.top base × P base
 
--- the session has so many items
+-- the session has this many items
 abbrev pub IsCount : SessionView → ℕ → Type 0
 IsCount session count = OfItems session (λ base. count ≡ length base.said)
 
@@ -46,7 +46,7 @@ HasAssertion session label = OfItems session (λ base. (i : ℕ) × IsAssertion 
 abbrev pub IsVerdictOf : SessionView → List ℕ → Told → Type 0
 IsVerdictOf session label told = OfItems session (λ base. (i : ℕ) × IsAssertion base label i × IsRightlyTold session.files base i told)
 
--- these are the numbers of the items that stand in this way to the assertion with this label
+-- these are the numbers of the items in this relation to the assertion with this label
 abbrev pub AreNumbersOf : SessionView → List ℕ → (BaseView → ℕ → ℕ → Type 0) → List ℕ → Type 0
 AreNumbersOf session label stands numbers =
     OfItems session (λ base. (i : ℕ) × IsAssertion base label i × AreThose (stands base i) (length base.said) numbers)

@@ -1,4 +1,4 @@
--- What is reported of the items of files: of each whether it is at fault, an axiom or a theorem, and what the verdict on its proof is; and how
+-- What is reported of the items of files: for each whether it is at fault, an axiom or a theorem, and the verdict on its proof; and how
 -- many there are of each.
 use Rattle.std.specs.Prelude.{◌≡◌, ◌+◌, ℕ, true, false, Bool, Some, List, length, slice_get, slice_range, count_by}
 use Rattle.mm_proof.specs.mm_store.declared.item.Item as store
@@ -19,8 +19,8 @@ pub record Shown : Type 0 where
   pub at : At
   pub word : List ℕ
 
--- What is reported of an item: nothing; that it is an axiom; of a theorem, that its proof is proved, is incomplete at a place, or is wrong by a number at a
--- place; or its fault, by its number and the word that it is reported at.
+-- What is reported of an item: nothing; that it is an axiom; of a theorem, that its proof is proved, is incomplete at a place, or is wrong
+-- by a number at a place; or its fault, by its number and the word that it is reported at.
 pub data Told : Type 0 where
   Quiet : Told
   AnAxiom : Told

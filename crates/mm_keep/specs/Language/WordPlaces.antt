@@ -1,4 +1,4 @@
--- Where words of items stand, and bytes of these words, in the texts of the files.
+-- Where words of items are, and bytes of these words, in the texts of the files.
 use Rattle.std.specs.Prelude.{◌≡◌, ℕ, ◌+◌, Option, Some, None, List, [], length, slice_get, slice_range}
 use Rattle.mm_proof.specs.mm_text.declared.word.Word.{Word}
 use Rattle.mm_proof.specs.mm_text.Language.Place.{line_at, column_at}
@@ -11,12 +11,12 @@ use Rattle.mm_proof.specs.mm_frame.Language.Statement.{symbols_from}
 use Rattle.mm_proof.specs.declared.Spot.{Spot}
 use Rattle.mm_keep.specs.declared.finding.At.{At}
 
--- the byte at which a word begins; 0 where there is none
+-- the byte at which a word begins; 0 if there is none
 abbrev pub start_of : Option Word → ℕ
 start_of None = 0
 start_of (Some word) = word.start
 
--- how a word of a text is spelled; empty where there is none
+-- how a word of a text is spelled; empty if there is none
 abbrev pub spelled : List ℕ → Option Word → List ℕ
 spelled text None = []
 spelled text (Some word) = slice_range text word.start word.end
@@ -40,7 +40,7 @@ pub record HasPlace (files : FilesView) (item : store.Item) (word letter : ℕ) 
 abbrev pub proof_word : Item → ℕ → ℕ
 proof_word item n = symbols_from item.kind + length item.symbols + 1 + n
 
--- a spot in the proof of the item with this number has this place; the word after the last one of the proof is the `$.` that closes the statement
+-- a spot in the proof of the item with this number has this place; the word after the last one of the proof is the `$.` of the statement
 pub record IsPlaceOfSpot (files : FilesView) (view : BaseView) (n : ℕ) (spot : Spot) (at : At) : Type 0 where
   pub item : store.Item
   pub there : slice_get view.found n ≡ Some item

@@ -7,7 +7,7 @@ use Rattle.mm_frame.specs.Language.Frame.{Setting}
 use Rattle.mm_frame.specs.Language.Resolving.{Resolves}
 use Rattle.mm_frame.specs.declared.base.Resolved.TheVariants as answers
 
--- the label of the item with this number; empty where it has none
+-- the label of the item with this number; empty if it has none
 abbrev pub label_at : BaseView → ℕ → List ℕ
 label_at base j = unwrap_or (said_at base j).label []
 

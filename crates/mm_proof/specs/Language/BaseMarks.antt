@@ -18,7 +18,7 @@ pub record ItemMark : Type 0 where
 abbrev pub no_mark : ItemMark
 no_mark = record { old = None; frame = false; pairs = false; in_step = false }
 
--- the mark of the item with this number; where there is none, nothing stays
+-- the mark of the item with this number; if there is none, nothing stays
 abbrev pub mark_at : List ItemMark → ℕ → ItemMark
 mark_at marks j = slice_index_or marks j no_mark
 
@@ -56,7 +56,7 @@ pub record IsMark (old new : BaseView) (j : ℕ) (mark : ItemMark) : Type 0 wher
   pub pairs_is : (mark.pairs ≡ true) ↔ KeepsPairs old new j
   pub in_step_is : mark.in_step ≡ true → KeepsLabels old new j
 
--- the marks tell this of each item of the new base
+-- the marks are right of each item of the new base
 pub record AreMarks (old new : BaseView) (marks : List ItemMark) : Type 0 where
   pub count : length marks ≡ length new.said
   pub each : (j : ℕ) → j < length new.said → IsMark old new j (mark_at marks j)

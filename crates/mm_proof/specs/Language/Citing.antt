@@ -7,7 +7,8 @@ use Rattle.mm_proof.specs.Language.Decoding.{is_compressed, is_close}
 use Rattle.mm_proof.specs.Language.Verdict.{Decoded}
 use Rattle.mm_proof.specs.declared.step.ProofFault.{ProofFault}
 
--- the words of a proof that are labels, with their numbers from 0: those of a normal proof other than `?`, or those of the list of a compressed one
+-- the words of a proof that are labels, with their numbers from 0: those of a normal proof except `?`, or those of the list of a compressed
+-- one
 abbrev pub label_words : List (List ℕ) → List (ℕ × List ℕ)
 label_words words =
     if is_compressed words then enumerate_from 1 (before_first is_close (drop 1 words))
@@ -40,7 +41,7 @@ is_cited place steps label = means_assertion (place.resolve label) && list_any (
 abbrev pub cited_words : Setting → List (List ℕ) → List Step → List ℕ
 cited_words place words steps = map (λ word. word.0) (filter (λ word. is_cited place steps word.1) (firsts (label_words words)))
 
--- the numbers of the words of a proof that cite; none where decoding finds a fault
+-- the numbers of the words of a proof that cite; none if decoding finds a fault
 abbrev pub cites : Setting → List (List ℕ) → Result Decoded ProofFault → List ℕ
 cites place words (Ok d) = cited_words place words d.steps
 cites place words (Err fault) = []

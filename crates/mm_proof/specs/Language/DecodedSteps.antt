@@ -50,7 +50,7 @@ word_step word = if bytes_eq word (codes "?") then NotKnown else Named word
 abbrev pub label_table : List (List ℕ) → List (List ℕ) → List Step
 label_table mandatory words = if is_compressed words then map Named (mandatory ++ before_first is_close (drop 1 words)) else map word_step words
 
--- the step that an action stands for, where the labels of the proof's table are these steps
+-- the step that an action stands for, if the labels of the proof's table are these steps
 abbrev pub meant : List Step → Action → Step
 meant names (actions.Label k) = slice_index_or names k NotKnown
 meant names (actions.Saved n) = Saved n

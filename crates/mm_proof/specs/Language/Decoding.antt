@@ -40,7 +40,7 @@ in_order (reading ∷ readings) = read_first reading.spot reading.step (in_order
 abbrev pub word_spot : ℕ → Spot
 word_spot n = record { word = n; letter = 0 }
 
--- a label as a step: of an active hypothesis or of an assertion; P02 where its hypothesis is no longer active, P01 where there is no such label
+-- a label as a step: of an active hypothesis or of an assertion; P02 if its hypothesis is no longer active, P01 if there is no such label
 abbrev pub usable : List ℕ → Resolved → Result Step ProofNumber
 usable label (Hypothesis e) = Ok (Named label)
 usable label (Assertion frame) = Ok (Named label)
@@ -63,17 +63,17 @@ each_word read n words = map (λ word. record { spot = word_spot word.0; step = 
 abbrev pub nameable : List Step → ℕ → List Step
 nameable labels saves = labels ++ map Saved (range_with_len 0 saves)
 
--- the step that a number names, or P06, where it names none
+-- the step that a number names, or P06 if it names none
 abbrev pub named : Option Step → Result Step ProofNumber
 named (Some step) = Ok step
 named None = Err P06
 
--- a letter that takes no digits, as `Z` and `?`: this step, or P05, where digits stand before it
+-- a letter that takes no digits, `Z` or `?`: its step, or P05 if digits come before it
 abbrev pub alone : List Letter → Step → Result Step ProofNumber
 alone [] step = Ok step
 alone (digit ∷ digits) step = Err P05
 
--- what digits and the letter after them say: a number, `Z`, `?`, or P04, where it is no such letter. A number 1 names the first of the names
+-- what digits and the letter after them say: a number, `Z`, `?`, or P04 if it is no such letter. Number 1 names the first of the names
 abbrev pub read_letter : List Step → List Letter → ℕ → Result Step ProofNumber
 read_letter names digits byte =
     if is_last byte then named (slice_get names (value_of (map (λ digit. digit.byte) digits) byte - 1))
@@ -86,7 +86,7 @@ abbrev pub read_group : List Step → List Letter → Option Letter → Result S
 read_group names digits (Some letter) = read_letter names digits letter.byte
 read_group names digits None = Err P05
 
--- the spot of a group: that of the letter after its digits, or the end of the proof, where there is none
+-- the spot of a group: that of the letter after its digits, or the end of the proof if there is none
 abbrev pub group_spot : Spot → Option Letter → Spot
 group_spot close (Some letter) = letter.spot
 group_spot close None = close
@@ -96,7 +96,7 @@ abbrev pub is_save_letter : Option Letter → Bool
 is_save_letter (Some letter) = letter.byte == 90
 is_save_letter None = false
 
--- groups of letters, each read where so many steps are saved before it; a `Z` saves one more
+-- groups of letters, each read with this many steps saved before it; a `Z` saves one more
 abbrev pub each_group : List Step → Spot → ℕ → List Group → List Reading
 each_group labels close saves [] = []
 each_group labels close saves (group ∷ groups) =
@@ -112,12 +112,13 @@ abbrev pub if_read : Steps → Steps → Steps
 if_read (Ok steps) behind = behind
 if_read (Err fault) behind = Err fault
 
--- the steps that the letters of a compressed proof say, from word n on: numbers name the mandatory hypotheses, the listed labels, and what was saved
+-- the steps that the letters of a compressed proof say, from word n on: numbers name the mandatory hypotheses, the listed labels, and what
+-- was saved
 abbrev pub letter_steps : List (List ℕ) → List (List ℕ) → ℕ → List (List ℕ) → Spot → Steps
 letter_steps mandatory listed n words close = in_order (each_group (map Named (mandatory ++ listed)) close 0 (groups (letters_from n words)))
 
--- the steps of a compressed proof, by its words after the `(`: each label of the list has to be one that can be used; then the letters count; P03, where no
--- `)` ends the list
+-- the steps of a compressed proof, by its words after the `(`: each label of the list has to be one that can be used; then the letters
+-- count; P03 if no `)` ends the list
 abbrev pub compressed_steps : Setting → List (List ℕ) → List (List ℕ) → Spot → Steps
 compressed_steps place mandatory words close = let listed = before_first is_close words in
     if_read (in_order (each_word (read_label place) 1 listed))
@@ -140,6 +141,6 @@ abbrev pub decoded : Spot → Steps → Result Decoded ProofFault
 decoded close (Ok steps) = Ok (record { steps = map (λ step. step.0) steps; spots = map (λ step. step.1) steps; close = close })
 decoded close (Err fault) = Err fault
 
--- what a proof decodes to at a place: its steps, or its first fault P01 to P06, where these are the labels of the mandatory hypotheses
+-- what a proof decodes to at a place, by the labels of the mandatory hypotheses: its steps, or its first fault P01 to P06
 abbrev pub decoding : Setting → List (List ℕ) → List (List ℕ) → Result Decoded ProofFault
 decoding place mandatory words = let close = word_spot (length words) in decoded close (steps_in place mandatory words close)

@@ -56,7 +56,7 @@ pub record IsFirstDecodingFault (readings : List Reading) (fault : ProofFault) :
 abbrev pub TellsFirstFault : Type 0
 TellsFirstFault = (readings : List Reading) (fault : ProofFault) → (in_order readings ≡ Err fault) ↔ IsFirstDecodingFault readings fault
 
--- the steps, or the number of the fault, wherever they stand
+-- the steps, or the number of the fault, without spots
 abbrev pub without_spots : Result Decoded ProofFault → Result (List Step) ProofNumber
 without_spots (Ok d) = Ok d.steps
 without_spots (Err fault) = Err fault.number
@@ -72,14 +72,14 @@ LettersReadOn =
     list_any is_close listed ≡ false → flat_map (λ word. word) some ≡ flat_map (λ word. word) others →
     without_spots (decoding place mandatory (compressed_words listed some)) ≡ without_spots (decoding place mandatory (compressed_words listed others))
 
--- Decoding makes sure that each label can be used and each saved number is of one of the saves before it, and there is a spot for each step.
+-- Decoding makes sure that each label can be used and each saved number is of one of the saves before it; there is a spot for each step.
 abbrev pub DecodesSurely : Type 0
 DecodesSurely =
     (place : Setting) (mandatory words : List (List ℕ)) (d : Decoded) →
     AllByRecursion (λ label. IsUsable (place.resolve label)) mandatory → decoding place mandatory words ≡ Ok d →
     AreDecoded place d.steps × (length d.spots ≡ length d.steps)
 
--- Proofs with the same words decode to the same where their labels mean the same, though mandatory hypotheses may have other labels.
+-- Proofs with the same words decode to the same if their labels mean the same, even if mandatory hypotheses have other labels.
 abbrev pub SameDecodesSame : Type 0
 SameDecodesSame =
     (place other : Setting) (mandatory others words : List (List ℕ)) → AreSameToDecode place other mandatory others words →
@@ -107,7 +107,7 @@ Rise (n ∷ numbers) = AllByRecursion (λ m. n < m) numbers × Rise numbers
 abbrev pub CitesRise : Type 0
 CitesRise = (place : Setting) (words : List (List ℕ)) (decoding : Result Decoded ProofFault) → Rise (cites place words decoding)
 
--- There are at most as many steps as the words have bytes, where no word is empty.
+-- If no word is empty, there are at most as many steps as the words have bytes.
 abbrev pub DecodesShort : Type 0
 DecodesShort =
     (place : Setting) (mandatory words : List (List ℕ)) (d : Decoded) →

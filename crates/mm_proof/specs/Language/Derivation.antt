@@ -1,9 +1,9 @@
--- Derivation: which lists of labels derive which expressions, by hypotheses and by assertions under a substitution (Metamath book, section 4.1).
+-- Derivation: which lists of labels derive which expressions, by hypotheses, assertions and substitutions (Metamath book, section 4.1).
 use Rattle.std.specs.Prelude.{◌≡◌, ◌≢◌, ℕ, ◌≤◌, List, [], ◌∷◌, ◌++◌, length, map, All}
 use Rattle.mm_frame.specs.Language.Frame.{Symbol, Frame, Hypothesis, Assertion, Setting, ArePair, HasVariable}
 use Rattle.mm_proof.specs.Language.Substitution.{substituted}
 
--- some variable stands in both lists
+-- some variable is in both lists
 abbrev pub ShareVariable : List Symbol → List Symbol → Type 0
 ShareVariable xs ys = (x : Symbol) × HasVariable xs x × HasVariable ys x
 

@@ -1,6 +1,6 @@
 -- A compressed proof over a small database: what it decodes to, which labels its steps stand for, its view and its verdict.
 --
--- After the database of mm_frame's examples stands `t $p w ( ( p > p ) > ( p > p ) ) $= ( wi ) AABZCB $.`
+-- The database of mm_frame's examples is followed by `t $p w ( ( p > p ) > ( p > p ) ) $= ( wi ) AABZCB $.`
 use Rattle.std.specs.Prelude.{◌≡◌, ℕ, Some, Ok, Err, List, [], ◌∷◌, ◌++◌, codes}
 use Rattle.mm_frame.specs.Language.Base.{BaseView}
 use Rattle.mm_frame.specs.Language.Examples.{database, letters, p, q, r, letter_symbols, typing}
@@ -31,8 +31,8 @@ base = record { found = []; said = database ++ theorem ∷ [] }
 abbrev pub letter : ℕ → Spot
 letter n = record { word = 3; letter = n }
 
--- The letters: `A` is the mandatory hypothesis `wp`, `B` the listed label `wi`, `Z` saves what was derived last, and `C`, the first number after the
--- labels, is what was saved first.
+-- The letters: `A` is the mandatory hypothesis `wp`, `B` the listed label `wi`, `Z` saves what was derived last, and `C`, the first number
+-- after the labels, is what was saved first.
 abbrev pub steps : List Step
 steps = Named (codes "wp") ∷ Named (codes "wp") ∷ Named (codes "wi") ∷ Save ∷ Saved 0 ∷ Named (codes "wi") ∷ []
 
@@ -56,8 +56,8 @@ StandForSevenLabels = expansion (setting database) steps ≡ Some (record {
   saved = (codes "wp" ∷ codes "wp" ∷ codes "wi" ∷ []) ∷ [];
 })
 
--- The view of the theorem: its proof, its expression, its one mandatory hypothesis, the three pairs that are active at it, and what `wi` means there.
--- Neither the label `t` is in it, nor `wq`, `wr` and where the statements stand: an edit that changes these alone runs no proof.
+-- The view of the theorem: its proof, its expression, its one mandatory hypothesis, the three pairs that are active at it, and what `wi`
+-- means there. The label `t`, `wq`, `wr` and the places of the statements are not in it: an edit that changes these alone runs no proof.
 abbrev pub HasThisView : Type 0
 HasThisView = view_at base 7 ≡ record {
   proof = proof;

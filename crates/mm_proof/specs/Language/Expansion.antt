@@ -1,4 +1,4 @@
--- The steps of a compressed proof, and the labels that they stand for once each saved part is written out again (Metamath book, Appendix B).
+-- The steps of a compressed proof, and the labels that they stand for with each saved part written out (Metamath book, Appendix B).
 use Rattle.std.specs.Prelude.{◌≡◌, ℕ, ◌≤◌, Option, Some, None, List, [], ◌∷◌, ◌++◌, length, if◌then◌else◌, slice_get, ℤ, pos, ◌+ℤ◌, ◌-ℤ◌}
 use Rattle.std.specs.Ordering.{int_eq}
 use Rattle.mm_frame.specs.Language.Frame.{Resolved, Hypothesis, Assertion, Inactive, Unknown, Setting}
@@ -44,17 +44,18 @@ pub record Expanded : Type 0 where
   pub labels : List (List ℕ)
   pub saved : List (List (List ℕ))
 
--- the part is saved, where there is one
+-- the part is saved, if there is one
 abbrev pub with_saved : Expanded → Option (List (List ℕ)) → Option Expanded
 with_saved so_far None = None
 with_saved so_far (Some part) = Some (record so_far { saved = so_far.saved ++ part ∷ [] })
 
--- the saved list stands once more after the labels, where there is one
+-- the saved list is added once more after the labels, if there is one
 abbrev pub with_again : Expanded → Option (List (List ℕ)) → Option Expanded
 with_again so_far None = None
 with_again so_far (Some part) = Some (record so_far { labels = so_far.labels ++ part })
 
--- what one more step makes of it: a label is added; a saved list is added; the labels of the last expression are saved; an unknown step has no expansion
+-- what one more step does: a label is added; a saved list is added; the labels of the last expression are saved; an unknown step has no
+-- expansion
 abbrev pub expand_one : Setting → Expanded → Step → Option Expanded
 expand_one place so_far (Named label) = Some (record so_far { labels = so_far.labels ++ label ∷ [] })
 expand_one place so_far (Saved n) = with_again so_far (slice_get so_far.saved n)

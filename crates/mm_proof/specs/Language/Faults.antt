@@ -27,9 +27,9 @@ UnderGiven frame entries P =
 abbrev pub LackPair : List (Symbol × Symbol) → List Symbol → List Symbol → Type 0
 LackPair active xs ys = (x y : Symbol) × HasVariable xs x × HasVariable ys y × (x ≢ y) × (ArePair active x y → ⊥)
 
--- the table of faults of a citation, a line for each number: P07, there are too few entries; P08, the typecode of an entry is not that of its `$f`; P09, an
--- `$e` does not become its entry; P10, two expressions that have to be apart share a variable; P11, a pair of their variables is not active; P12, the result
--- has more than 1,000,000 symbols
+-- the table of faults of a citation, a line for each number. P07: there are too few entries. P08: the typecode of an entry is not that of
+-- its `$f`. P09: an `$e` does not become its entry. P10: two expressions that have to be apart share a variable. P11: a pair of their
+-- variables is not active. P12: the result has more than 1,000,000 symbols
 abbrev pub CitingFails : List (Symbol × Symbol) → Frame → List (List Symbol) → ProofNumber → Type 0
 -- fewer entries than mandatory hypotheses
 CitingFails active frame stack P07 = length stack < length frame.hypotheses
@@ -61,7 +61,7 @@ abbrev pub SaveFails : List (List Symbol) → ProofNumber → Type 0
 SaveFails stack P13 = stack ≡ []
 SaveFails stack _ = ⊥
 
--- the fault of this number holds of this step, where these entries are reached before it
+-- the fault of this number holds of this step, if these entries are reached before it
 abbrev pub StepLineHolds : Setting → Step → List (List Symbol) → ProofNumber → Type 0
 StepLineHolds place (Named label) stack number = LabelFails place.active (place.resolve label) stack number
 StepLineHolds place (Saved n) stack number = ⊥

@@ -25,7 +25,7 @@ MandatoryLabelsMean =
 abbrev pub HasOneVerdictAt : Type 0
 HasOneVerdictAt = (view : BaseView) (i : ℕ) (v w : Verdict) → IsVerdictAt view i v → IsVerdictAt view i w → v ≡ w
 
--- There is one, where the items say what their words say.
+-- There is one, if the items say what their words say.
 abbrev pub HasVerdictAt : Type 0
 HasVerdictAt = (view : BaseView) (i : ℕ) → AreSaid view → (v : Verdict) × IsVerdictAt view i v
 
@@ -33,7 +33,7 @@ HasVerdictAt = (view : BaseView) (i : ℕ) → AreSaid view → (v : Verdict) ×
 abbrev pub IsDerivedAt : BaseView → ℕ → Type 0
 IsDerivedAt view i = (d : Decoded) × (decoding_at view i ≡ Ok d) × AreAllKnown d.steps × StepsDerive (setting_at view i) d.steps (statement_at view i)
 
--- Proved is the verdict exactly where the labels that the steps of the proof stand for derive the statement.
+-- Proved is the verdict exactly when the labels that the steps of the proof stand for derive the statement.
 abbrev pub ProvedIsDerivedAt : Type 0
 ProvedIsDerivedAt = (view : BaseView) (i : ℕ) → IsVerdictAt view i Proved ↔ IsDerivedAt view i
 
@@ -41,7 +41,7 @@ ProvedIsDerivedAt = (view : BaseView) (i : ℕ) → IsVerdictAt view i Proved �
 abbrev pub HasOneCountAt : Type 0
 HasOneCountAt = (view : BaseView) (i a b : ℕ) → AreDoneAt view i a → AreDoneAt view i b → a ≡ b
 
--- There is one, where the items say what their words say.
+-- There is one, if the items say what their words say.
 abbrev pub HasCountAt : Type 0
 HasCountAt = (view : BaseView) (i : ℕ) → AreSaid view → (count : ℕ) × AreDoneAt view i count
 

@@ -37,7 +37,7 @@ ShorterWeighsLess =
     (place : Setting) (labels : List (List ℕ)) (e : List Symbol) → Derives place labels e →
     (front back : List (List ℕ)) → labels ≡ front ++ back → front ≢ [] → weight place back ≤ℤ pos 0
 
--- The last part is the shortest suffix of weight one, and there is none where no suffix weighs one.
+-- The last part is the shortest suffix of weight one; if no suffix weighs one, there is none.
 abbrev pub LastPartIsShortest : Type 0
 LastPartIsShortest =
     (place : Setting) (labels : List (List ℕ)) →
@@ -60,7 +60,7 @@ HasVerdict =
     (place : Setting) → HasFrames place → (statement : List Symbol) (d : Decoded) →
     AreDecoded place d.steps → length d.spots ≡ length d.steps → (v : Verdict) × IsVerdict place statement (Ok d) v
 
--- Proved is the verdict exactly where all steps are known and their expanded labels derive the statement.
+-- Proved is the verdict exactly when all steps are known and their expanded labels derive the statement.
 abbrev pub ProvedIsDerived : Type 0
 ProvedIsDerived =
     (place : Setting) (statement : List Symbol) (d : Decoded) →

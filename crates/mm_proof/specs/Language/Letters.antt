@@ -4,7 +4,7 @@ use Rattle.std.specs.List.{enumerate_from, AllByRecursion}
 use Rattle.mm_proof.specs.declared.Spot.{Spot}
 use Rattle.mm_proof.specs.Language.Numbers.{is_digit}
 
--- A byte of the letters, and where it stands in the proof.
+-- A byte of the letters, and its spot in the proof.
 pub record Letter : Type 0 where
   pub byte : ℕ
   pub spot : Spot
@@ -21,7 +21,7 @@ letters_in word = map (letter_at word.0) (enumerate_from 0 word.1)
 abbrev pub letters_from : ℕ → List (List ℕ) → List Letter
 letters_from n words = flat_map letters_in (enumerate_from n words)
 
--- Digits, and the letter after them: none where the letters end.
+-- Digits, and the letter after them; none if the letters end.
 pub record Group : Type 0 where
   pub digits : List Letter
   pub last : Option Letter
@@ -31,7 +31,7 @@ abbrev pub cut_group : List Letter → List Group
 cut_group [] = []
 cut_group (digit ∷ digits) = record { digits = digit ∷ digits; last = None } ∷ []
 
--- the groups of letters, where these digits stand before them
+-- the groups of letters, with these digits before them
 abbrev pub groups_behind : List Letter → List Letter → List Group
 groups_behind digits [] = cut_group digits
 groups_behind digits (letter ∷ letters) =
@@ -50,7 +50,7 @@ group_letters group = group.digits ++ option_to_list group.last
 abbrev pub AreDigits : List Letter → Type 0
 AreDigits letters = AllByRecursion (λ letter. is_digit letter.byte ≡ true) letters
 
--- after the digits of a group stands a letter that is no digit; digits with no letter after them are the last group
+-- after the digits of a group comes a letter that is no digit; digits with no letter after them are the last group
 abbrev pub EndsGroup : List Letter → Option Letter → List Group → Type 0
 EndsGroup digits (Some letter) groups = is_digit letter.byte ≡ false
 EndsGroup digits None groups = (digits ≢ []) × (groups ≡ [])

@@ -1,4 +1,4 @@
--- How the numbers of compressed proofs are written: digits `U` to `Y`, worth 1 to 5, and a last letter `A` to `T`, worth 1 to 20 (Metamath book, Appendix B).
+-- Numbers of compressed proofs: digits `U` to `Y`, worth 1 to 5, and a last letter `A` to `T`, worth 1 to 20 (Metamath book, Appendix B).
 use Rattle.std.specs.Prelude.{ℕ, ◌+◌, ◌-◌, ◌*◌, ◌^◌, Bool, ◌&&◌, nat_le, List, [], ◌∷◌, length, map}
 
 -- a letter that is a digit of a number: `U` to `Y`

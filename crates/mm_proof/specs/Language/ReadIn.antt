@@ -6,15 +6,15 @@ use Rattle.mm_frame.specs.Language.Base.{BaseView, is_proof_at}
 use Rattle.mm_frame.specs.Language.Answering.{BaseAnswers, IsBaseBy}
 use Rattle.mm_frame.specs.Language.Statement.{Says}
 
--- a base that answers so stands for this by these names, and it is what its items say in these files, in which their keys live
+-- the answers are right of this base by these names, and its items can be read in these files and say there what it says
 pub record IsReadIn (names : List (List ℕ)) (files : FilesView) (answers : BaseAnswers) (view : BaseView) : Type 0 where
   pub base : IsBaseBy names view answers
   pub each : AllZip (Says files) view.found view.said
 
--- there is what it stands for, and the item with this number is a sound `$p`
+-- there is such a base, and its item with this number is a sound `$p`
 abbrev pub HasTheorem : List (List ℕ) → FilesView → BaseAnswers → ℕ → Type 0
 HasTheorem names files answers i = (view : BaseView) × IsReadIn names files answers view × (i < length view.said) × (is_proof_at view i ≡ true)
 
--- so it is with the theorem of this number, in all that the base stands for
+-- this holds of the theorem with this number, in each such base
 abbrev pub OfTheorem : List (List ℕ) → FilesView → BaseAnswers → ℕ → (BaseView → Type 0) → Type 0
 OfTheorem names files answers i holds = (view : BaseView) → IsReadIn names files answers view → is_proof_at view i ≡ true → holds view

@@ -19,7 +19,7 @@ run_part steps = before_first is_unknown steps
 abbrev pub IsReached : Setting → List Step → Type 0
 IsReached place steps = (stack : List (List Symbol)) × Reaches place (run_part steps) stack
 
--- so many steps are done: up to and with the one at fault, or all that are run
+-- this many steps are done: up to and with the one at fault, or all that are run
 abbrev pub AreDone : Setting → List Step → ℕ → Type 0
 AreDone place steps count =
     ((n : ℕ) × (number : ProofNumber) × IsStepFault place (run_part steps) n number × (count ≡ n + 1)) ⊎

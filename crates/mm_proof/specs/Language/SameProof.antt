@@ -1,4 +1,4 @@
--- When two decoded proofs, at two places, are the same proof, and what makes them so. It compares what the steps mean and no labels.
+-- When two decoded proofs, at two places, are the same proof, and what makes them the same. Steps are compared by meaning, not by labels.
 use Rattle.std.specs.Prelude.{◌≡◌, ℕ, Result, Ok, Err, List, filter, bytes_eq, codes, not, drop, if◌then◌else◌}
 use Rattle.std.specs.List.{AllZip, AllByRecursion, before_first}
 use Rattle.mm_frame.specs.Language.Frame.{Symbol, Resolved, Hypothesis, Assertion, Inactive, Unknown, Setting, AreSamePairs, AreSameFrame}
@@ -36,7 +36,8 @@ IsSameDecoding place other (Ok proof) (Ok copy) = IsSameProof place other proof 
 IsSameDecoding place other (Err fault) (Err same) = fault ≡ same
 IsSameDecoding place other _ _ = ⊥
 
--- the labels that the words of a proof name: those of a normal one other than `?`, and those of a compressed one after the `(` up to the first `)`
+-- the labels that the words of a proof name: those of a normal one except `?`, or those of a compressed one after the `(` up to the first
+-- `)`
 abbrev pub labels_named : List (List ℕ) → List (List ℕ)
 labels_named words = if is_compressed words then before_first is_close (drop 1 words) else filter (λ word. not (bytes_eq word (codes "?"))) words
 

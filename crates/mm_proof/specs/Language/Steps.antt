@@ -3,7 +3,7 @@ use Rattle.std.specs.Prelude.{◌≡◌, List, [], ◌∷◌, ◌++◌}
 use Rattle.mm_frame.specs.Language.Frame.{Symbol, Frame, Resolved, Hypothesis, Assertion, Inactive, Unknown}
 use Rattle.mm_proof.specs.Language.Derivation.{Takes}
 
--- the last entries are taken by the frame, and its result stands in their place
+-- the last entries are taken by the frame, and its result takes their place
 pub record Cites (active : List (Symbol × Symbol)) (frame : Frame) (stack next : List (List Symbol)) : Type 0 where
   pub below : List (List Symbol)
   pub entries : List (List Symbol)

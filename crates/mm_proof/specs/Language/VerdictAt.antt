@@ -31,11 +31,11 @@ IsVerdictAt view i verdict = IsVerdict (setting_at view i) (statement_at view i)
 abbrev pub cites_at : BaseView → ℕ → List ℕ
 cites_at view i = cites (setting_at view i) (said_at view i).proof (decoding_at view i)
 
--- so many steps of what decoding gives are done; none where decoding finds a fault
+-- this many steps of what decoding gives are done; none if decoding finds a fault
 abbrev pub AreDoneIn : Setting → Result Decoded ProofFault → ℕ → Type 0
 AreDoneIn place (Err fault) count = count ≡ 0
 AreDoneIn place (Ok d) count = AreDone place d.steps count
 
--- so many steps of the proof of the item with this number are done
+-- this many steps of the proof of the item with this number are done
 abbrev pub AreDoneAt : BaseView → ℕ → ℕ → Type 0
 AreDoneAt view i count = AreDoneIn (setting_at view i) (decoding_at view i) count

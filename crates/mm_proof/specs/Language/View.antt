@@ -7,8 +7,8 @@ use Rattle.mm_frame.specs.Language.Framing.{active_pairs, resolve}
 use Rattle.mm_proof.specs.Language.SameProof.{AreSameMeaning, labels_named}
 use Rattle.mm_proof.specs.Language.VerdictAt.{statement_at}
 
--- The view of a theorem: the words of its proof, its expression, its mandatory hypotheses, all pairs that are active at it, and what each label that its
--- proof names means there. Neither its own label nor those of its hypotheses are in it, nor the places of the items.
+-- The view of a theorem: the words of its proof, its expression, its mandatory hypotheses, all pairs that are active at it, and what each
+-- label that its proof names means there. Neither its own label nor those of its hypotheses are in it, nor the places of the items.
 pub record View : Type 0 where
   pub proof : List (List ℕ)
   pub expression : List Symbol

@@ -1,4 +1,4 @@
--- The answers of a script, as its commands are asked of a session that they edit.
+-- The answers of a script: its commands are put to a session, and may edit it.
 use Rattle.std.specs.Prelude.{◌≡◌, ◌≢◌, ◌⊎◌, ℕ, unwrap_or}
 use Rattle.std.specs.Prelude.{List, [], ◌∷◌, ◌++◌, length, map, codes, decimal}
 use Rattle.std.specs.List.{flat_map}
@@ -74,15 +74,15 @@ told_line names label (Incomplete at) = incomplete_line names label at
 told_line names label (Wrong number at) = wrong_line names label number at
 told_line names label _ = []
 
--- the answer where edits are done: the word `ran`, with the labels of the theorems whose proofs are run, which are those whose views the edits change; the
--- top file stays
+-- the answer if edits are done: the word `ran`, with the labels of the theorems whose proofs are run, which are those whose views the
+-- edits change; the top file stays
 pub record IsRan (old new : SessionView) (answer : List ℕ) : Type 0 where
   pub top : new.top ≡ old.top
   pub runs : List ℕ
   pub are_runs : AreRunsOf old.files new.files old.top runs
   pub answer_is : answer ≡ numbers_listed (codes "ran") are_runs.new runs
 
--- the answer where an edit is refused: the reason, which is not out of memory; and nothing is changed
+-- the answer if an edit is refused: the reason, which is not out of memory; and nothing is changed
 pub record IsRefused (old new : SessionView) (edit : Asked) (answer : List ℕ) : Type 0 where
   pub error : EditError
   pub refused : IsEditError edit (plain old.files) error
@@ -90,7 +90,7 @@ pub record IsRefused (old new : SessionView) (edit : Asked) (answer : List ℕ) 
   pub unchanged : new ≡ old
   pub answer_is : answer ≡ refusal_line edit error
 
--- the answer where several edits are refused: the first of them that is, and why; and nothing is changed
+-- the answer if several edits are refused: the first of them that is, and why; and nothing is changed
 pub record IsBatchRefused (old new : SessionView) (edits : List Asked) (answer : List ℕ) : Type 0 where
   pub n : ℕ
   pub error : EditError
@@ -118,7 +118,7 @@ abbrev pub IsVerdictAnswer : SessionView → List ℕ → List ℕ → Type 0
 IsVerdictAnswer session label answer =
     (told : Told) × IsVerdictOf session label told × (answer ≡ told_line (names_of (plain session.files)) label told)
 
--- the answer `found`, with the labels of the items whose numbers are asked for
+-- the answer `found`, with the labels of the items whose numbers are those wanted
 abbrev pub IsFound : SessionView → (List ℕ → Type 0) → List ℕ → Type 0
 IsFound session are answer =
     (numbers : List ℕ) × are numbers × OfItems session (λ base. answer ≡ numbers_listed (codes "found") base numbers)
@@ -133,7 +133,7 @@ IsAnswer old (Axioms label) answer new = (IsUnknown old label answer ⊎ IsFound
 IsAnswer old (Cites label) answer new = (IsUnknown old label answer ⊎ IsFound old (AreCitesOf old label) answer) × (new ≡ old)
 IsAnswer old (Users label) answer new = (IsUnknown old label answer ⊎ IsFound old (AreUsersOf old label) answer) × (new ≡ old)
 
--- the answers to commands, each asked of the session after the one before it, joined; and the session after them all
+-- the answers to commands, joined, each put to the session after the one before it; and the session after them all
 abbrev pub AreAnswers : SessionView → List Command → List ℕ → SessionView → Type 0
 AreAnswers old [] answers new = (answers ≡ []) × (new ≡ old)
 AreAnswers old (command ∷ commands) answers new =

@@ -75,7 +75,7 @@ item_line names item (Wrong number at) = wrong_line names (unwrap_or item.label 
 item_line names item (Fault number shown) = fault_line names number shown
 item_line names item _ = []
 
--- the lines of the items, in order; an item with nothing to tell has none
+-- the lines of the items, in order; an item with nothing to report has none
 abbrev pub lines : List (List ℕ) → List Item → List Told → List ℕ
 lines names [] all = []
 lines names (item ∷ items) [] = []
@@ -88,7 +88,7 @@ summary counts =
     ++ codes " proved " ++ decimal counts.proved ++ codes " incomplete " ++ decimal counts.incomplete ++ codes " wrong " ++ decimal counts.wrong
     ++ codes " faults " ++ decimal counts.faults ++ codes "\n"
 
--- the report, where the files have these names: the lines of the items, and the summary
+-- the report, if the files have these names: the lines of the items, and the summary
 abbrev pub report : List (List ℕ) → List Item → List Told → List ℕ
 report names items all = lines names items all ++ summary (counts all)
 
@@ -100,7 +100,7 @@ pub record IsReport (session : SessionView) (bytes : List ℕ) : Type 0 where
   pub are_told : AreRightlyTold session.files base all
   pub bytes_are : bytes ≡ report (names_of (plain session.files)) base.said all
 
--- what is written, where it can be seen, grows by a beginning of the report of the session, or by all of it
+-- what is written, if it can be seen, grows by a beginning of the report of the session, or by all of it
 pub record BeginsReport (session : SessionView) (old new : Option (List ℕ)) : Type 0 where
   pub bytes : List ℕ
   pub is_report : IsReport session bytes

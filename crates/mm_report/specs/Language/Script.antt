@@ -4,7 +4,7 @@ use Rattle.std.specs.Prelude.{List, [], ◌∷◌, ◌++◌, length, codes, deci
 use Rattle.std.specs.List.{AllByRecursion, flat_map, filter_map, list_all, join_with_byte}
 use Rattle.mm_keep.specs.mm_store.Language.Edits.{Asked, Insert, Replace, Delete, Move, edited_text}
 
--- An edit of a batch, and how many empty lines stand before it.
+-- An edit of a batch, and how many empty lines come before it.
 pub record Listed : Type 0 where
   pub blanks : ℕ
   pub edit : Asked
@@ -19,7 +19,7 @@ pub data Command : Type 0 where
   Cites : List ℕ → Command
   Users : List ℕ → Command
 
--- the words of the line of an edit; where a text stands after the line, its last word counts the bytes of the text
+-- the words of the line of an edit; if a text comes after the line, its last word counts the bytes of the text
 abbrev pub edit_words : Asked → List (List ℕ)
 edit_words (Insert file at text) = codes "insert" ∷ file ∷ decimal at ∷ decimal (length text) ∷ []
 edit_words (Replace file at text) = codes "replace" ∷ file ∷ decimal at ∷ decimal (length text) ∷ []
@@ -49,7 +49,7 @@ abbrev pub ended_text : Option (List ℕ) → List ℕ
 ended_text None = []
 ended_text (Some text) = text ++ 10 ∷ []
 
--- the bytes of an edit: its line with a line feed, and its text with a line feed where it has one
+-- the bytes of an edit: its line with a line feed, and its text with a line feed if it has one
 abbrev pub edit_bytes : Asked → List ℕ
 edit_bytes edit = edit_line edit ++ 10 ∷ ended_text (edited_text edit)
 
@@ -57,13 +57,13 @@ edit_bytes edit = edit_line edit ++ 10 ∷ ended_text (edited_text edit)
 abbrev pub listed_bytes : Listed → List ℕ
 listed_bytes listed = replicate listed.blanks 10 ++ edit_bytes listed.edit
 
--- what stands after the line of a command and its line feed: the text of an edit, or the edits of a batch
+-- what comes after the line of a command and its line feed: the text of an edit, or the edits of a batch
 abbrev pub behind_line : Command → List ℕ
 behind_line (Change edit) = ended_text (edited_text edit)
 behind_line (Batch edits) = flat_map listed_bytes edits
 behind_line _ = []
 
--- the bytes of a command: its line with a line feed, and what stands after it
+-- the bytes of a command: its line with a line feed, and what comes after it
 abbrev pub command_bytes : Command → List ℕ
 command_bytes command = line_of command ++ 10 ∷ behind_line command
 
@@ -153,7 +153,7 @@ pub record LacksFeed (script : List ℕ) (entries : List Entry) : Type 0 where
   pub in_line : EndsInLine last
   pub is : script ++ 10 ∷ [] ≡ entries_bytes entries
 
--- the script is these empty lines and commands, and then a rest; at its end a line may lack its line feed, if no text has to follow it
+-- the script is these empty lines and commands, and then a rest; its last line may be without a line feed, if no text has to follow it
 pub record HasEntries (script : List ℕ) (entries : List Entry) (rest : List ℕ) : Type 0 where
   pub good : AreGood entries
   pub joined : (script ≡ entries_bytes entries ++ rest) ⊎ (LacksFeed script entries × (rest ≡ []))
@@ -178,8 +178,8 @@ abbrev pub IsNoneOrLine : Asked → List ℕ → Type 0
 IsNoneOrLine edit bytes =
     (bytes ≡ []) ⊎ ((more : List ℕ) × (missing : List ℕ) × (bytes ≡ edit_line edit ++ more) × (more ++ missing ≡ 10 ∷ ended_text (edited_text edit)))
 
--- after the line of a batch edits are missing: some of them are whole, and of the next there are empty lines alone, or its whole line and a part of what
--- belongs after it
+-- edits are missing after the line of a batch: some of them are whole, and of the next there are empty lines alone, or its whole line and
+-- a part of what belongs after it
 pub record MissesEdits (edits : List Listed) (part : List ℕ) : Type 0 where
   pub front : List Listed
   pub next : Listed
@@ -190,13 +190,14 @@ pub record MissesEdits (edits : List Listed) (part : List ℕ) : Type 0 where
   pub is : part ≡ 10 ∷ (flat_map listed_bytes front ++ (replicate blanks 10 ++ inner))
   pub none_or_line : IsNoneOrLine next.edit inner
 
--- after its line and this part of what belongs there, a command may break off: inside a text, or where edits of a batch are missing
+-- after its line and this part of what belongs there, a command may break off: inside a text, or if edits of a batch are missing
 abbrev pub MayBreak : Command → List ℕ → Type 0
 MayBreak (Change edit) part = edited_text edit ≢ None
 MayBreak (Batch edits) part = ((part ≡ []) × (edits ≢ [])) ⊎ MissesEdits edits part
 MayBreak _ part = ⊥
 
--- what is left of a script is cut short: the line of a command, and a part, but not all, of what belongs after it, where the command may break off
+-- what is left of a script is cut short: the line of a command, and a part, but not all, of what belongs after it; the command may break
+-- off there
 pub record IsCutShort (rest : List ℕ) : Type 0 where
   pub command : Command
   pub good : IsGood command
@@ -213,7 +214,7 @@ pub data End : Type 0 where
   CutShort : End
   BadLine : End
 
--- a script with this rest ends so: done, where nothing is left; cut short, in a text or where edits are missing; and else at a bad line
+-- how a script with this rest ends: done if nothing is left; cut short if a text or edits are incomplete; and else at a bad line
 abbrev pub EndsSo : List ℕ → End → Type 0
 EndsSo rest Done = rest ≡ []
 EndsSo rest CutShort = IsCutShort rest

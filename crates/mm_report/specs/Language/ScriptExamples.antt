@@ -4,7 +4,7 @@ use Rattle.mm_keep.specs.mm_store.Language.Edits.{Replace, Delete, Insert, Move}
 use Rattle.mm_report.specs.Language.Script.{Change, Batch, Report, Verdict, Axioms, Users, Blank, Given, Done, CutShort, BadLine}
 use Rattle.mm_report.specs.Language.ScriptLaws.{IsReadSo}
 
--- A text of two lines, and the line feed after it; the last line may lack its own.
+-- A text of two lines, and the line feed after it; the last line of the script may be without one.
 abbrev pub ReadsText : Type 0
 ReadsText = IsReadSo (codes "replace d.mm 7 15\n$c a $.\n$c b $.\n\nverdict t\nusers a1\n\naxioms t")
     (Given (Change (Replace (codes "d.mm") 7 (codes "$c a $.\n$c b $."))) ∷ Blank ∷ Given (Verdict (codes "t")) ∷ Given (Users (codes "a1")) ∷ Blank
@@ -18,7 +18,7 @@ ReadsBatch = IsReadSo (codes "batch 2\ninsert a.mm 5 8\n$c a $.\n\n\nmove a.mm 9
     ∷ Given Report ∷ [])
     [] Done
 
--- The last edit of a batch may lack its line feed, if it has no text.
+-- The last edit of a batch may be without its line feed, if it has no text.
 abbrev pub ReadsLastEdit : Type 0
 ReadsLastEdit = IsReadSo (codes "batch 1\ndelete a.mm 0") (Given (Batch (record { blanks = 0; edit = Delete (codes "a.mm") 0 } ∷ [])) ∷ []) [] Done
 
@@ -26,19 +26,19 @@ ReadsLastEdit = IsReadSo (codes "batch 1\ndelete a.mm 0") (Given (Batch (record 
 abbrev pub CutsText : Type 0
 CutsText = IsReadSo (codes "insert a.mm 0 9\nabc") [] (codes "insert a.mm 0 9\nabc") CutShort
 
--- Right after a text, where its line feed is missing, a script is cut short, too; the command before it is read.
+-- If only the line feed after a text is missing, a script is cut short, too; the command before it is read.
 abbrev pub CutsFeed : Type 0
 CutsFeed = IsReadSo (codes "report\ninsert a.mm 0 3\nabc") (Given Report ∷ []) (codes "insert a.mm 0 3\nabc") CutShort
 
--- So it is after the line of an edit whose text has no bytes.
+-- The same holds after the line of an edit whose text has no bytes.
 abbrev pub CutsLine : Type 0
 CutsLine = IsReadSo (codes "insert a.mm 0 0") [] (codes "insert a.mm 0 0") CutShort
 
--- So it is where edits of a batch are missing.
+-- The same holds if edits of a batch are missing.
 abbrev pub CutsBatch : Type 0
 CutsBatch = IsReadSo (codes "batch 2\ndelete a.mm 0\n\n") [] (codes "batch 2\ndelete a.mm 0\n\n") CutShort
 
--- But where the last line of a batch is no edit, the batch is a bad one.
+-- But if the last line of a batch is no edit, the batch is a bad line.
 abbrev pub EndsInEdit : Type 0
 EndsInEdit = IsReadSo (codes "batch 2\ndelete a.mm 0\ndel") [] (codes "batch 2\ndelete a.mm 0\ndel") BadLine
 
@@ -46,6 +46,6 @@ EndsInEdit = IsReadSo (codes "batch 2\ndelete a.mm 0\ndel") [] (codes "batch 2\n
 abbrev pub EndsAtLine : Type 0
 EndsAtLine = IsReadSo (codes "verdict th\nbogus\nreport\n") (Given (Verdict (codes "th")) ∷ []) (codes "bogus\nreport\n") BadLine
 
--- So does an edit after whose text another byte stands than a line feed.
+-- So does an edit whose text is followed by another byte than a line feed.
 abbrev pub EndsAtText : Type 0
 EndsAtText = IsReadSo (codes "insert a.mm 0 3\nabcd\n") [] (codes "insert a.mm 0 3\nabcd\n") BadLine

@@ -16,7 +16,7 @@ OneReading = (script : List ℕ) (a b : List Entry) (s t : List ℕ) → IsLonge
 abbrev pub OneEnd : Type 0
 OneEnd = (rest : List ℕ) (a b : End) → EndsSo rest a → EndsSo rest b → a ≡ b
 
--- What is read of some bytes stays so, whatever follows them: it is a beginning of the reading of them all.
+-- What is read of some bytes stays, whatever follows them: it is a beginning of the reading of them all.
 abbrev pub ReadingGoesOn : Type 0
 ReadingGoesOn = (bytes more : List ℕ) (entries all : List Entry) (rest left : List ℕ)
     → IsReadSoFar bytes entries rest → IsLongestReading (bytes ++ more) all left
@@ -46,12 +46,13 @@ pub record IsOneOutcome (answers copies : List ℕ) (end other : End) (new copy 
   pub end_is : end ≡ other
   pub sessions : AreAlike new copy
 
--- Asked of sessions that are alike, as each is with itself, a script has one list of answers and one end, and the sessions after it are alike again.
+-- In sessions that are alike, as each is with itself, a script has one list of answers and one end, and the sessions after it are alike
+-- again.
 abbrev pub OneScriptAnswer : Type 0
 OneScriptAnswer = (session other new copy : SessionView) (script answers copies : List ℕ) (end ended : End) → AreAlike session other
     → IsScriptAnswer session script answers new end → IsScriptAnswer other script copies copy ended → IsOneOutcome answers copies end ended new copy
 
--- bytes begin with these commands and empty lines; where no more bytes follow, the last line may lack its line feed
+-- bytes begin with these commands and empty lines; if no more bytes follow, the last line may be without its line feed
 abbrev pub AreTheFirst : List ℕ → List ℕ → List Entry → List ℕ → Type 0
 AreTheFirst bytes more entries rest = AreRead bytes entries rest ⊎ ((more ≡ []) × HasEntries bytes entries rest)
 
@@ -61,7 +62,7 @@ AnswersBegin = (session other new final : SessionView) (bytes more answers all :
     → AreAlike session other → AreTheFirst bytes more entries rest → AreAnswers session (commands_of entries) answers new
     → IsScriptAnswer other (bytes ++ more) all final end → (later : List ℕ) × (all ≡ answers ++ later)
 
--- the script is read so, and what is left of it ends it so
+-- the script is read as these entries, with this rest and this end
 pub record IsReadSo (script : List ℕ) (entries : List Entry) (rest : List ℕ) (end : End) : Type 0 where
   pub reading : IsLongestReading script entries rest
   pub ends : EndsSo rest end
@@ -84,7 +85,7 @@ pub record HasAnswers (session : SessionView) (script : List ℕ) : Type 0 where
   pub is : IsScriptAnswer session script answers new end
   pub whole : IsWholeSession new
 
--- Each script has answers, asked of each session: each edit is accepted or refused for a reason, each label is known or not, and each list,
+-- Each script has answers in each session: each edit is accepted or refused for a reason, each label is known or not, and each list,
 -- each verdict and each report exists.
 abbrev pub HasScriptAnswer : Type 0
 HasScriptAnswer = (session : SessionView) (script : List ℕ) → IsWholeSession session → HasAnswers session script

@@ -33,7 +33,7 @@ pub record AnswersFirst (old new : SessionView) (unread left before after : Opti
   pub answered : AreAnswers old (commands_of entries) answers new
   pub out : Appends before after answers
 
--- the bytes are these entries and then a rest; where no byte is left to be read, the last line may lack its line feed
+-- the bytes are these entries and then a rest; if no byte is left to be read, the last line may be without its line feed
 abbrev pub AreFirst : Option (List ℕ) → List ℕ → List Entry → List ℕ → Type 0
 AreFirst left bytes entries rest = AreRead bytes entries rest ⊎ (IsAtEnd left × HasEntries bytes entries rest)
 

@@ -4,7 +4,7 @@ use Rattle.std.specs.Io.KnownBytes.{Appends}
 use Rattle.mm_report.specs.declared.reading.Reading.{Reading}
 use Rattle.mm_report.specs.declared.stream.Writing.{Writing}
 
--- what the writer within has written, where that can be seen
+-- what the writer within has written, if that can be seen
 abbrev pub written : {W : Type 0} → (W → Option (List ℕ)) → Writing W → Option (List ℕ)
 written contents writing = contents writing.inner
 
@@ -12,7 +12,7 @@ written contents writing = contents writing.inner
 abbrev pub has_failed : {W : Type 0} → Writing W → Bool
 has_failed writing = writing.failed
 
--- what is written, where it can be seen, grows by some of the first of these bytes
+-- what is written, if it can be seen, grows by some of the first of these bytes
 pub record AppendsPart (old new : Option (List ℕ)) (bytes : List ℕ) : Type 0 where
   pub count : ℕ
   pub appends : Appends old new (take count bytes)
@@ -31,18 +31,18 @@ pub record Writes {W T E : Type 0} (contents : W → Option (List ℕ)) (old new
 abbrev pub calls_made : {W : Type 0} → Writing W → ℕ
 calls_made writing = min writing.calls 18446744073709551615
 
--- so many more calls were made
+-- this many more calls were made
 abbrev pub HasCalled : {W : Type 0} → Writing W → Writing W → ℕ → Type 0
 HasCalled old new calls = calls_made new ≡ min (calls_made old + calls) 18446744073709551615
 
--- a write fails with the last of so many calls: each call before it took a byte at least, and these are written
+-- a write fails with the last of this many calls: each call before it took at least one byte, and these are written
 pub record FailsLast {W : Type 0} (contents : W → Option (List ℕ)) (old new : Writing W) (bytes : List ℕ) (calls : ℕ) : Type 0 where
   pub taken : ℕ
   pub appends : Appends (written contents old) (written contents new) (take taken bytes)
   pub some : 0 < calls
   pub each : calls ≤ taken + 1
 
--- the calls of a write: none where there are no bytes, and each takes a byte at least, but for the last of a write that fails
+-- the calls of a write: none if there are no bytes; each takes at least one byte, except the last of a write that fails
 pub record WritesByCalls {W T E : Type 0} (contents : W → Option (List ℕ)) (old new : Writing W) (result : Result T E) (bytes : List ℕ) : Type 0 where
   pub calls : ℕ
   pub made : HasCalled old new calls
@@ -50,7 +50,7 @@ pub record WritesByCalls {W T E : Type 0} (contents : W → Option (List ℕ)) (
   pub some : 0 < length bytes → 0 < calls
   pub err : OnErr result (FailsLast contents old new bytes calls)
 
--- what the reader within has left to be read, where that can be seen
+-- what the reader within has left to be read, if that can be seen
 abbrev pub unread : {R : Type 0} → (R → Option (List ℕ)) → Reading R → Option (List ℕ)
 unread remaining reading = remaining reading.inner
 

@@ -49,8 +49,8 @@ IsExpansionError error = (error ≡ NoTop) ⊎ (error ≡ Memory)
 abbrev pub TakesMemory : Asked → Type 0
 TakesMemory edit = edited_text edit ≢ None
 
--- why an edit is refused, the first that holds in this order: no file has its name; its file has only so many pieces, and the edit names another; its text
--- has a fault; its text is not one unit but so many; the files would have more bytes than they may; or out of memory
+-- why an edit is refused, the first that holds in this order: no file has its name; its file has only this many pieces, and the edit
+-- names another; its text has a fault; its text is not one unit but this many; the files would have more bytes than they may; out of memory
 abbrev pub IsEditError : Asked → List File → EditError → Type 0
 IsEditError edit files edits.NoFile = file_number files (edited_name edit) ≡ None
 IsEditError edit files (edits.NoPiece count) = NamesNoMember edit files count

@@ -16,7 +16,7 @@ abbrev pub IsBatchOf : List Asked → List File → List File → Type 0
 IsBatchOf [] files after = after ≡ files
 IsBatchOf (edit ∷ edits) files after = (next : List File) × IsEditOf edit files next × IsBatchOf edits next after
 
--- the edit with this number, from 0, is the first that is refused, on the files that those before it left; running out of memory is no such refusal
+-- the edit with this number, from 0, is the first that is refused, on the files that those before it left; out of memory is no such refusal
 pub record IsRefusedAt (edits : List Asked) (files : List File) (n : ℕ) (error : EditError) : Type 0 where
   pub before : List File
   pub accepted : IsBatchOf (take n edits) files before
@@ -67,10 +67,10 @@ pub record ReadsAlike (old new : FilesView) (item : Item) (was : CanBeRead old i
   pub text : read.text ≡ was.text
   pub words : read.words ≡ was.words
 
--- so it is with each item that can be read
+-- each item that can be read in the old files can be read in the new ones, with the same text and the same words
 abbrev pub KeepsReading : FilesView → FilesView → Type 0
 KeepsReading old new = (item : Item) (was : CanBeRead old item) → ReadsAlike old new item was
 
--- so it is with each item that stands in the files
+-- the same holds for each item that is in the old files
 abbrev pub KeepsStanding : FilesView → FilesView → Type 0
 KeepsStanding old new = (item : Item) (was : CanBeRead old item) → StandsIn old item → ReadsAlike old new item was

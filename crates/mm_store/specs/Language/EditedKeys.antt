@@ -1,4 +1,4 @@
--- What an edit makes of the files by keys: where the key of the new piece stands, which key is parked, and what is kept to undo it.
+-- What an edit makes of the files by keys: where the key of the new piece is, which key is parked, and what is kept to undo the edit.
 use Rattle.std.specs.Prelude.{◌≡◌, ℕ, List, [], ◌∷◌, Some, None, slice_set}
 use Rattle.std.specs.List.{insert, remove}
 use Rattle.std.specs.FinMap as finite
@@ -9,14 +9,14 @@ use Rattle.mm_store.specs.Language.Pieces.{Parked, Replaced, Deleted, standing_p
 use Rattle.mm_store.specs.Language.Undoing as action
 use Rattle.mm_store.specs.Language.Undoing.{UndoView, keys_in, with_keys, key_at, moved}
 
--- a new member under this key, with this text, stands before member `at`
+-- a new member under this key, with this text, is put before member `at`
 abbrev pub inserted : FilesView → ℕ → ℕ → ℕ → List ℕ → FilesView
 inserted view number at key text = record {
   keyed = with_keys view.keyed number (insert (keys_in view.keyed number) at key);
   pieces = finite.insert view.pieces key (standing_piece text);
 }
 
--- a new member under this key stands in the place of member `at`, which is parked
+-- a new member under this key takes the place of member `at`, which is parked
 abbrev pub replaced : FilesView → ℕ → ℕ → ℕ → List ℕ → FilesView
 replaced view number at key text = record {
   keyed = with_keys view.keyed number (slice_set (keys_in view.keyed number) at key);
@@ -50,7 +50,7 @@ pub record IsEditByKeys (edit : Asked) (old new : FilesView) (undo : UndoView) :
   pub named : file_number (plain old) (edited_name edit) ≡ Some number
   pub made : IsMadeOf edit number old new undo
 
--- what accepted edits make of the files, by keys, each of the files after those before it; what is kept to undo them stands in their order
+-- what accepted edits make of the files, by keys, each after those before it; what is kept to undo them is in their order
 abbrev pub IsBatchByKeys : List Asked → FilesView → FilesView → List UndoView → Type 0
 IsBatchByKeys [] old new [] = new ≡ old
 IsBatchByKeys (edit ∷ edits) old new (undo ∷ undos) =

@@ -1,4 +1,4 @@
--- Edits: what is asked for, when it is refused, and what it makes of the files without keys.
+-- Edits: what an edit asks for, when it is refused, and what it makes of the files without keys.
 use Rattle.std.specs.Prelude.{◌≡◌, ◌≢◌, ℕ, ◌<◌, ◌≤◌, List, [], Option, Some, None, length, slice_get, slice_set, slice_index_or}
 use Rattle.std.specs.List.{insert, remove}
 use Rattle.mm_text.specs.declared.fault.TextFault.{TextFault}
@@ -7,15 +7,15 @@ use Rattle.mm_store.specs.declared.edit.Edit.{Edit}
 use Rattle.mm_store.specs.declared.edit.Edit.TheVariants as code
 use Rattle.mm_store.specs.Language.FilesView.{File, file_number, bytes_of}
 
--- an edit of the file of a name. A member is a piece of it, by its number, from 0: a text becomes a new member before the one with this number; or takes its
--- place; or a member is taken out; or it is taken out and put where it has another number
+-- an edit of the file with a name. A member is one of its pieces, by its number from 0. A text becomes a new member before the one with
+-- this number, or takes its place; or a member is taken out; or it is taken out and put back with another number
 pub data Asked : Type 0 where
   Insert : List ℕ → ℕ → List ℕ → Asked
   Replace : List ℕ → ℕ → List ℕ → Asked
   Delete : List ℕ → ℕ → Asked
   Move : List ℕ → ℕ → ℕ → Asked
 
--- the edit that a call is handed, as the definitions see it
+-- the edit that a call gets, as the definitions see it
 abbrev pub asked : Edit → Asked
 asked (code.Insert file at text) = Insert file.now at text.now
 asked (code.Replace file at text) = Replace file.now at text.now
@@ -36,7 +36,7 @@ edited_text (Replace file at text) = Some text
 edited_text (Delete file at) = None
 edited_text (Move file at to) = None
 
--- a file of so many members has those that the edit names; an insertion may name the place after the last
+-- a file of this many members has those that the edit names; an insertion may name the place after the last
 abbrev pub IsAmong : Asked → ℕ → Type 0
 IsAmong (Insert file at text) count = at ≤ count
 IsAmong (Replace file at text) count = at < count
@@ -63,7 +63,7 @@ pub record IsEditedFile (files : List File) (edit : Asked) (number : ℕ) (file 
   pub named : file_number files (edited_name edit) ≡ Some number
   pub there : slice_get files number ≡ Some file
 
--- the text can be cut, and has so many units: its cut has so many pieces
+-- the text can be cut, and has this many units: its cut has this many pieces
 pub record HasUnitCount (text : List ℕ) (count : ℕ) : Type 0 where
   pub pieces : List (List ℕ)
   pub tail : List ℕ
@@ -80,7 +80,7 @@ abbrev pub BringsFault : Option (List ℕ) → TextFault → Type 0
 BringsFault None fault = ⊥
 BringsFault (Some text) fault = IsFirstFault text fault
 
--- the edit brings a text that can be cut and has so many units, and not one
+-- the edit brings a text that can be cut and has this many units, and not one
 abbrev pub BringsNotOne : Option (List ℕ) → ℕ → Type 0
 BringsNotOne None count = ⊥
 BringsNotOne (Some text) count = HasUnitCount text count × (count ≢ 1)
@@ -90,13 +90,13 @@ pub record IsPlaced (files : List File) (edit : Asked) (number : ℕ) (file : Fi
   pub file_there : IsEditedFile files edit number file
   pub among : IsAmong edit (length file.pieces)
 
--- the edit names a file, which has so many members, and a member that it does not have
+-- the edit names a file, which has this many members, and a member that it does not have
 abbrev pub NamesNoMember : Asked → List File → ℕ → Type 0
 NamesNoMember edit files count =
     (number : ℕ) × (file : File) × IsEditedFile files edit number file × (count ≡ length file.pieces) × ¬ IsAmong edit count
 
--- the edit is accepted, and these are the files after it: its file and its members are there, its text is one unit, and the files do not grow beyond the
--- limit of 4,294,967,295 bytes
+-- the edit is accepted, and these are the files after it: its file and its members exist, its text is one unit, and the files have at
+-- most 4,294,967,295 bytes
 pub record IsEditOf (edit : Asked) (files after : List File) : Type 0 where
   pub number : ℕ
   pub file : File

@@ -14,7 +14,7 @@ use Rattle.mm_store.specs.declared.item.ItemKind.{ItemKind}
 use Rattle.mm_store.specs.declared.item.ItemKind.TheVariants as items
 use Rattle.mm_store.specs.Language.FilesView.{PieceView, FileView, number_of}
 
--- a part of units, and the name of the file that it includes; an empty name where it is no inclusion
+-- a part of units, and the name of the file that it includes; the name is empty if the part is no inclusion
 pub record Named : Type 0 where
   pub part : Part
   pub name : List ℕ
@@ -35,7 +35,7 @@ named_parts (Simple shape later) = record { part = shape_part shape; name = incl
 named_parts (Block begin inner end later) =
     nameless (part parts.BlockStart begin begin) ∷ (named_parts inner ++ nameless (part parts.BlockEnd end end) ∷ named_parts later)
 
--- a part of a piece: where the piece stands (the number of its file, its number in it, its key), the name that the part includes, and the part
+-- a part of a piece: where the piece is (the number of its file, its number in it, its key), the name that the part includes, and the part
 pub record Placed : Type 0 where
   pub file : ℕ
   pub piece : ℕ
@@ -43,7 +43,7 @@ pub record Placed : Type 0 where
   pub name : List ℕ
   pub part : Part
 
--- the kind of the item that a part gives. An inclusion gives one only where its file is missing
+-- the kind of the item that a part gives; an inclusion gives one only if its file is missing
 abbrev pub item_kind : PartKind → ItemKind
 item_kind parts.Constants = items.Constants
 item_kind parts.Variables = items.Variables
@@ -71,7 +71,7 @@ placed_item placed = record {
 abbrev pub IsInclusion : Placed → Type 0
 IsInclusion placed = placed.part.kind ≡ parts.Inclusion
 
--- a part of the piece that stands there
+-- a part of the piece at this place
 abbrev pub placed_part : ℕ → ℕ → PieceKey → Named → Placed
 placed_part file piece key named = record { file = file; piece = piece; key = key; name = named.name; part = named.part }
 
@@ -84,7 +84,7 @@ pub record ArePartsOf (file number : ℕ) (piece : PieceView) (placed : List Pla
   pub spells : unit_tokens units ≡ tokens_of piece.text words
   pub parts : placed ≡ map (placed_part file number piece.key) (named_parts units)
 
--- these are the parts of the pieces of a file, one after another, where the first piece has this number
+-- these are the parts of the pieces of a file, one after another; the first piece has this number
 abbrev pub ArePlaced : ℕ → ℕ → List PieceView → List Placed → Type 0
 ArePlaced file number [] placed = placed ≡ []
 ArePlaced file number (piece ∷ pieces) placed =
@@ -111,7 +111,7 @@ pub data Expands (files : List FileView) : List Placed → List (List ℕ) → L
       → ArePlaced number 0 file.pieces inner → Expands files inner (names ++ part.name ∷ []) gained between → Expands files parts between items after
       → Expands files (part ∷ parts) names (gained ++ items) after
 
--- the items of the files from the top file on. Its own name counts as included from the beginning, so that a ring of inclusions ends
+-- the items of the files from the top file on. Its name counts as included from the beginning; in this way a ring of inclusions ends
 pub record IsExpansion (files : List FileView) (top : List ℕ) (items : List Item) : Type 0 where
   pub number : ℕ
   pub file : FileView

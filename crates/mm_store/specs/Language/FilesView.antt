@@ -13,7 +13,7 @@ pub record KeyedFile : Type 0 where
   pub keys : List ℕ
   pub tail : List ℕ
 
--- the files in the order in which they were added, and all pieces under their keys: those that stand in files, and those that are parked
+-- the files in the order in which they were added, and all pieces under their keys: those that are in files, and those that are parked
 pub record FilesView : Type 0 where
   pub keyed : List KeyedFile
   pub pieces : Pieces
@@ -41,7 +41,7 @@ key_of at = record { at = at }
 abbrev pub piece_view : Pieces → ℕ → PieceView
 piece_view pieces key = record { key = key_of key; text = text_under pieces key }
 
--- a file with the keys and the texts of its pieces, where these are the pieces
+-- a file with the keys of its pieces, and their texts in this map of pieces
 abbrev pub file_view : Pieces → KeyedFile → FileView
 file_view pieces file = record { name = file.name; pieces = map (piece_view pieces) file.keys; tail = file.tail }
 
@@ -67,7 +67,7 @@ piece_texts pieces = map (λ piece. piece.text) pieces
 abbrev pub without_keys : FileView → File
 without_keys file = record { name = file.name; pieces = piece_texts file.pieces; tail = file.tail }
 
--- a file without keys, where these are the pieces
+-- a file without keys: the texts of its pieces are those in this map of pieces
 abbrev pub plain_file : Pieces → KeyedFile → File
 plain_file pieces file = record { name = file.name; pieces = map (text_under pieces) file.keys; tail = file.tail }
 

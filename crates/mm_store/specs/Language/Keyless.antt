@@ -17,7 +17,7 @@ bare_file file = record { name = file.name; pieces = map (λ text. record { key 
 abbrev pub bare : List File → List FileView
 bare files = map bare_file files
 
--- a part of a piece, where its piece stands, without the key of the piece
+-- a part of a piece, with the place of the piece, but without its key
 abbrev pub keyless_placed : Placed → Placed
 keyless_placed placed = record { file = placed.file; piece = placed.piece; key = one_key; name = placed.name; part = placed.part }
 

@@ -1,20 +1,20 @@
--- The pieces that are held, each under its key: those that stand in a file, and those that are parked until their edit is undone or settled.
+-- The pieces that are held, each under its key: those that are in a file, and those that are parked until their edit is undone or settled.
 use Rattle.std.specs.Prelude.{◌≡◌, ℕ, List, [], Option, Some, None}
 use Rattle.std.specs.Ordering.{nat_cmp}
 use Rattle.std.specs.List.{sum_by}
 use Rattle.std.specs.FinMap as finite
 
--- how an edit took a piece out of its file: another stands in its place, or none does
+-- how an edit took a piece out of its file: another took its place, or none did
 pub data Removal : Type 0 where
   Replaced : Removal
   Deleted : Removal
 
--- a piece stands in a file, or is parked, so that the edit which took it out can be undone: out of the file with this number, in this way
+-- a piece is in a file; or it is parked, so that the edit which took it out of the file with this number, in this way, can be undone
 pub data PieceState : Type 0 where
   Standing : PieceState
   Parked : ℕ → Removal → PieceState
 
--- a piece that is held: its text, and whether it stands in a file or is parked
+-- a piece that is held: its text, and whether it is in a file or parked
 pub record HeldPiece : Type 0 where
   pub text : List ℕ
   pub state : PieceState
@@ -23,7 +23,7 @@ pub record HeldPiece : Type 0 where
 abbrev pub Pieces : Type 0
 Pieces = finite.FinMap nat_cmp HeldPiece
 
--- a piece of this text that stands in a file
+-- a piece of this text that is in a file
 abbrev pub standing_piece : List ℕ → HeldPiece
 standing_piece text = record { text = text; state = Standing }
 
@@ -54,7 +54,7 @@ state_in (Some piece) = Some piece.state
 abbrev pub IsParked : Pieces → ℕ → ℕ → Removal → Type 0
 IsParked pieces key file removal = state_in (finite.get pieces key) ≡ Some (Parked file removal)
 
--- 1 for a parked piece, 0 for one that stands
+-- 1 for a parked piece, 0 for one in a file
 abbrev pub parked_state : PieceState → ℕ
 parked_state Standing = 0
 parked_state (Parked file removal) = 1
@@ -64,7 +64,7 @@ abbrev pub parked_count : Option HeldPiece → ℕ
 parked_count None = 0
 parked_count (Some piece) = parked_state piece.state
 
--- 1 where the piece under a key is parked, and else 0
+-- 1 if the piece under a key is parked, and else 0
 abbrev pub parked_under : Pieces → ℕ → ℕ
 parked_under pieces key = parked_count (finite.get pieces key)
 

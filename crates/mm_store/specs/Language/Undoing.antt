@@ -6,8 +6,8 @@ use Rattle.mm_store.specs.Language.Pieces.{Standing, with_state, IsParked, text_
 use Rattle.mm_store.specs.Language.Pieces as removal
 use Rattle.mm_store.specs.Language.FilesView.{KeyedFile, FilesView, plain, bytes_of}
 
--- what an edit did in its file: it put in a new member with this number; it put a new member in the place of the one with this number, or took
--- that out, whose piece is parked under this key; or it moved a member from the first number to the second
+-- what an edit did in its file: it put in a new member with this number; it put a new member in the place of the one with this number, or
+-- took that one out, and the old piece is parked under this key; or it moved a member from the first number to the second
 pub data EditAction : Type 0 where
   Inserted : ℕ → EditAction
   Replaced : ℕ → ℕ → EditAction
@@ -35,18 +35,18 @@ with_keys (file ∷ files) (suc n) keys = file ∷ with_keys files n keys
 abbrev pub key_at : FilesView → ℕ → ℕ → ℕ
 key_at view number at = slice_index_or (keys_in view.keyed number) at 0
 
--- the list with its member `at` taken out and put where it is member `to`
+-- the list with its member `at` taken out and put back as member `to`
 abbrev pub moved_list : List ℕ → ℕ → ℕ → List ℕ
 moved_list keys at to = insert (remove keys at) to (slice_index_or keys at 0)
 
--- the files with a member taken out and put where it has another number
+-- the files with a member taken out and put back with another number
 abbrev pub moved : FilesView → ℕ → ℕ → ℕ → FilesView
 moved view number at to = record {
   keyed = with_keys view.keyed number (moved_list (keys_in view.keyed number) at to);
   pieces = view.pieces;
 }
 
--- the files with an edit undone: its new piece is dropped, its old piece stands in its place again
+-- the files with an edit undone: its new piece is dropped, and its old piece is in its place again
 abbrev pub reversed : ℕ → EditAction → FilesView → FilesView
 reversed number (Inserted at) view = record {
   keyed = with_keys view.keyed number (remove (keys_in view.keyed number) at);
@@ -107,11 +107,11 @@ pub record KeepsText (old new : FilesView) (key : ℕ) : Type 0 where
   pub there : IsSome (finite.get new.pieces key)
   pub text : text_under new.pieces key ≡ text_under old.pieces key
 
--- each key that has a piece, standing or parked, keeps it with its text
+-- each key that has a piece, in a file or parked, keeps it with its text
 abbrev pub KeepsKeys : FilesView → FilesView → Type 0
 KeepsKeys old new = (key : ℕ) → IsSome (finite.get old.pieces key) → KeepsText old new key
 
--- each key that has a piece, standing or parked, keeps it with its text, but for the one that is dropped
+-- each key that has a piece, in a file or parked, keeps it with its text, except the one that is dropped
 abbrev pub KeepsOthers : Option ℕ → FilesView → FilesView → Type 0
 KeepsOthers dropped old new = (key : ℕ) → dropped ≢ Some key → IsSome (finite.get old.pieces key) → KeepsText old new key
 

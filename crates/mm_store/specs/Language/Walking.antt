@@ -11,8 +11,8 @@ pub record LevelView : Type 0 where
   pub file : ℕ
   pub piece : ℕ
 
--- a walk: the names taken so far, the files that it has entered and not left, the innermost after the others, and whether the reference that it
--- stands before was reported as missing
+-- a walk: the names taken so far; the files that it has entered and not left, the innermost last; and whether it has reported the reference
+-- that comes next as missing
 pub record WalkView : Type 0 where
   pub names : List (List ℕ)
   pub levels : List LevelView
@@ -30,7 +30,7 @@ ArePending files [] parts = parts ≡ []
 ArePending files (level ∷ inner) parts =
     (first : List Placed) × (own : List Placed) × ArePending files inner first × IsRest files level own × (parts ≡ first ++ own)
 
--- the expansion one part at a time: from parts and a set of names on, past these items, to the parts that are still to come and the names by then
+-- the expansion one part at a time: from parts and a set of names on, past these items, to the parts that are left and the names by then
 pub data Goes (files : List FileView) : List Placed → List (List ℕ) → List Item → List Placed → List (List ℕ) → Type 0 where
   here : {parts : List Placed} {names : List (List ℕ)} → Goes files parts names [] parts names
   own : {part : Placed} {parts rest : List Placed} {names after : List (List ℕ)} {items : List Item}
@@ -60,7 +60,7 @@ pub record IsWalk (files : List FileView) (top : List ℕ) (items : List Item) (
   pub are_pending : ArePending files walk.levels pending
   pub goes : Goes files parts (top ∷ []) items pending walk.names
 
--- a walk stands before a reference to a name that it has not taken
+-- the next part of a walk is a reference to a name that it has not taken
 pub record StandsBefore (files : List FileView) (walk : WalkView) (part : Placed) : Type 0 where
   pub later : List Placed
   pub are_pending : ArePending files walk.levels (part ∷ later)
@@ -71,7 +71,7 @@ pub record StandsBefore (files : List FileView) (walk : WalkView) (part : Placed
 abbrev pub MissNothing : List Item → Type 0
 MissNothing items = All (λ item. item.kind ≢ Missing) items
 
--- of items that a walk goes past none is a reference to a missing file, but for the one that the walk stood before and has reported
+-- a walk goes past these items, and none is a reference to a missing file, except the first if the walk has reported it before
 abbrev pub MissOnlyTold : List FileView → WalkView → List Item → Type 0
 MissOnlyTold files walk items =
     MissNothing items
@@ -83,7 +83,7 @@ pub record GoesOn (files : List FileView) (top : List ℕ) (items : List Item) (
   pub is_walk : IsWalk files top (items ++ more) new
   pub few : MissOnlyTold files old more
 
--- the walk goes on to the first reference to a missing file that it has not reported, and stands before it: it has this name
+-- the walk goes on to the first reference to a missing file that it has not reported, and stops before it; the file has this name
 pub record FindsMissing (files : List FileView) (top : List ℕ) (items : List Item) (old new : WalkView) (name : List ℕ) : Type 0 where
   pub goes_on : GoesOn files top items old new
   pub part : Placed

@@ -14,13 +14,13 @@ use Rattle.mm_text.specs.Language.Reading.{first_bad, HasWords, AreWords, HoldNo
 use Rattle.mm_text.specs.Language.Unit as units
 use Rattle.mm_text.specs.Language.Unit.{Token, Units, Nothing, Simple, Block, AreUnits, unit_tokens, tokens_of, IsViable, EndsInUnit, EndsInBlock}
 
--- whether the bytes end in white space; where there are none, they count as if they did
+-- whether the bytes end in white space; no bytes count as if they did
 abbrev pub ends_white : List ℕ → Bool
 ends_white [] = true
 ends_white (b ∷ []) = is_white b
 ends_white (b ∷ bytes) = ends_white bytes
 
--- the text that is cut: where a text does not end in white space, a line feed is added
+-- the text that is cut: if a text does not end in white space, a line feed is added
 abbrev pub ended : List ℕ → List ℕ
 ended text = if ends_white text then text else text ++ 10 ∷ []
 
@@ -30,7 +30,7 @@ IsOne Nothing = ⊥
 IsOne (Simple shape later) = later ≡ Nothing
 IsOne (Block begin inner end later) = later ≡ Nothing
 
--- the byte after the last of these words; 0 where there are none
+-- the byte after the last of these words; 0 if there are none
 abbrev pub end_of_words : List Word → ℕ
 end_of_words [] = 0
 end_of_words (word ∷ []) = word.end
@@ -46,7 +46,7 @@ pub record HoldsOne (text : List ℕ) : Type 0 where
   pub one : IsOne units
   pub ends : ends_white text ≡ true
 
--- a piece: its words are one unit, and after the last of them stands nothing but white space, one byte of it at least
+-- a piece: its words are one unit, and only white space follows the last of them, at least one byte
 pub record IsPiece (piece : List ℕ) : Type 0 where
   pub words : List Word
   pub units : Units
@@ -67,7 +67,7 @@ abbrev pub ArePieces : List (List ℕ) → List ℕ → Type 0
 ArePieces [] tail = HasWords tail []
 ArePieces (piece ∷ pieces) tail = IsPiece piece × BeginsSolid (concat pieces ++ tail) × ArePieces pieces tail
 
--- the cut of a text: its pieces and its tail joined are the text, with a line feed added where it does not end in white space
+-- the cut of a text: its pieces and its tail joined are the text, with a line feed added if it does not end in white space
 pub record IsCut (text : List ℕ) (pieces : List (List ℕ)) (tail : List ℕ) : Type 0 where
   pub joined : concat pieces ++ tail ≡ ended text
   pub are_pieces : ArePieces pieces tail
@@ -82,11 +82,12 @@ pub record EndsInComment (runs : List Run) (found : List Word) : Type 0 where
   pub opened : first.bytes ≡ opening
   pub no_marks : HoldNoMarks inside
 
--- what the runs are read as so far: as these words, or as these words and a comment after them that is still open
+-- how the runs are read up to here: as these words, or as these words and a comment after them that is still open
 abbrev pub HoldWords : List Run → List Word → Type 0
 HoldWords runs found = AreWords runs found ⊎ EndsInComment runs found
 
--- the run at this byte is the first with which no reading of words goes on, for the reason of this number; the words before it may still become whole units
+-- the run at this byte is the first with which no reading of words goes on; the number says why; the words before it may still become
+-- whole units
 pub record StopsWords (text : List ℕ) (number : TextNumber) (at : ℕ) : Type 0 where
   pub stop : words.StopsAtRun (runs text) number at
   pub found : List Word
@@ -100,8 +101,8 @@ pub record EndsWords (text : List ℕ) (at : ℕ) : Type 0 where
   pub read : EndsInComment (runs text) found
   pub viable : IsViable (tokens_of text found)
 
--- the word at this byte is the first with which the words can no longer become whole units, for the reason of this number; up to it the runs are read without
--- a fault
+-- the word at this byte is the first with which the words can no longer become whole units; the number says why; up to it the
+-- runs are read without a fault
 pub record StopsUnits (text : List ℕ) (number : TextNumber) (at : ℕ) : Type 0 where
   pub front : List Run
   pub rest : List Run
@@ -123,8 +124,8 @@ pub record EndsUnits (text : List ℕ) (Ends : List Token → ℕ → Type 0) (a
   pub there : slice_get (tokens_of text found) word ≡ Some token
   pub place : at ≡ token.start
 
--- the first fault of the text has this number and stands at this byte: a byte that no text may hold goes before all others, and of the others the first in
--- the order of reading counts; what is unfinished is met at the end of the text
+-- the first fault of the text has this number and this byte. A byte that no text may hold comes before all other faults; of the
+-- others the first in the order of reading counts. What is unfinished is found at the end of the text
 abbrev pub IsFirstFaultAt : List ℕ → TextNumber → ℕ → Type 0
 IsFirstFaultAt text T01 at = first_bad text ≡ Some at
 IsFirstFaultAt text T02 at = (first_bad text ≡ None) × EndsWords text at

@@ -1,4 +1,4 @@
--- Where the runs of a text stand: the text is white space and runs in turn.
+-- The layout of a text: white space and runs, alternating.
 use Rattle.std.specs.Prelude.{◌≡◌, ℕ, ◌+◌, ◌<◌, true, false, List, [], ◌∷◌, ◌++◌, length}
 use Rattle.std.specs.List.{AllByRecursion}
 use Rattle.mm_text.specs.Language.Run.{Run, is_white, ends_run}

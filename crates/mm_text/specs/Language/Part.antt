@@ -73,7 +73,7 @@ HasOwnParts piece = HasParts piece.text.items piece.parts.items
 abbrev pub part_bytes : List ℕ → Part → List ℕ
 part_bytes text part = slice_range text part.start part.end
 
--- a part has a byte at least, lies in the text, and is a text with words by itself, of which there is one at least
+-- a part has at least one byte, is in the text, and is by itself a text with at least one word
 pub record IsReadable (text : List ℕ) (part : Part) : Type 0 where
   pub some : part.start < part.end
   pub within : part.end ≤ length text

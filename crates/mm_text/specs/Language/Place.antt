@@ -10,6 +10,6 @@ is_line_feed b = b == 10
 abbrev pub line_at : List ℕ → ℕ → ℕ
 line_at text at = count_by is_line_feed (take at text) + 1
 
--- the column of a byte, from 1: one more than there are bytes between the last line feed before it, or else the beginning of the text, and the byte
+-- the column of a byte, from 1: one more than the number of bytes between it and the last line feed before it, or the beginning of the text
 abbrev pub column_at : List ℕ → ℕ → ℕ
 column_at text at = length (after_last is_line_feed (take at text)) + 1

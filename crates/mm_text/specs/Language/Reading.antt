@@ -23,7 +23,7 @@ is_allowed b = is_white b || nat_le 33 b && nat_le b 126
 abbrev pub first_bad : List ℕ → Option ℕ
 first_bad text = position (λ b. not (is_allowed b)) text
 
--- a part of a reading: a run that stands alone as a word, or a comment: the run that begins it, the runs inside it, and the run that ends it
+-- a part of a reading: a run that is one word, or a comment: the run that begins it, the runs inside it, and the run that ends it
 pub data Segment : Type 0 where
   Single : Run → Word → Segment
   Comment : Run → List Run → Run → Segment
@@ -72,7 +72,7 @@ HaveReading runs = (parts : List Segment) × IsReading runs parts
 abbrev pub AreViableRuns : List Run → Type 0
 AreViableRuns runs = (more : List Run) × HaveReading (runs ++ more)
 
--- the runs end inside a comment that begins with this run: what stands before it has a reading, and no mark stands after it
+-- the runs end inside a comment that begins with this run: the runs before it have a reading, and the runs after it hold no mark
 pub record IsOpen (runs : List Run) (first : Run) : Type 0 where
   pub front : List Run
   pub inside : List Run
@@ -81,8 +81,8 @@ pub record IsOpen (runs : List Run) (first : Run) : Type 0 where
   pub opened : first.bytes ≡ opening
   pub no_marks : HoldNoMarks inside
 
--- why no reading goes on with a run after these: T03, it holds a mark inside a comment, but is no `$)`; T04, it is a `$)`, and no comment is open; T05, it
--- holds a `$`, and is no keyword
+-- why no reading goes on with a run after these. T03: it holds a mark inside a comment, but is not `$)`. T04: it is `$)`, and no
+-- comment is open. T05: it holds a `$`, and is no keyword
 abbrev pub IsRunNumber : TextNumber → List Run → Run → Type 0
 IsRunNumber T03 front run = (first : Run) × IsOpen front first × HoldsMark run.bytes × (run.bytes ≢ closing)
 IsRunNumber T04 front run = HaveReading front × (run.bytes ≡ closing)
@@ -118,7 +118,7 @@ pub record HasWords (text : List ℕ) (words : List Word) : Type 0 where
   pub allowed : first_bad text ≡ None
   pub words_are : AreWords (runs text) words
 
--- the fault with this number, at this byte: the first bad byte, or else where no reading goes on
+-- the fault with this number, at this byte: the first bad byte; if there is none, the fault of the runs
 abbrev pub IsWordsFaultAt : List ℕ → TextNumber → ℕ → Type 0
 IsWordsFaultAt text T01 at = first_bad text ≡ Some at
 IsWordsFaultAt text number at = (first_bad text ≡ None) × IsRunFault (runs text) number at
@@ -138,7 +138,7 @@ pub record LiesIn (text : List ℕ) (word : Word) : Type 0 where
   pub within : word.end ≤ length text
   pub spelled : IsSpelled word.kind (slice_range text word.start word.end)
 
--- each word lies in the text, and a byte at least lies between it and each later one
+-- each word is in the text, and at least one byte is between it and each later word
 pub record AreWithin (text : List ℕ) (words : List Word) : Type 0 where
   pub each : All (LiesIn text) words
   pub rising : AllPairs (λ earlier later. earlier.end < later.start) words

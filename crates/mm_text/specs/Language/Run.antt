@@ -19,12 +19,12 @@ abbrev pub ends_run : List ℕ → Bool
 ends_run [] = true
 ends_run (b ∷ bytes) = is_white b
 
--- the runs where one more byte, at this place, stands right before the first of them
+-- the runs with one more byte, at this place, put in front of the first of them
 abbrev pub with_front : ℕ → ℕ → List Run → List Run
 with_front at b [] = []
 with_front at b (run ∷ runs) = record { start = at; bytes = b ∷ run.bytes } ∷ runs
 
--- the runs of bytes of which the first stands at this place
+-- the runs of bytes, the first of which is at this place
 abbrev pub runs_from : ℕ → List ℕ → List Run
 runs_from at [] = []
 runs_from at (b ∷ bytes) =

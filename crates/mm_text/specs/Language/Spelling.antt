@@ -24,12 +24,12 @@ spelling ProofStart = codes "$="
 spelling InclusionStart = codes "$["
 spelling InclusionEnd = codes "$]"
 
--- a keyword is spelled so, and a plain word holds no `$`
+-- how a word of this kind is spelled: a keyword as above, and a plain word without `$`
 abbrev pub IsSpelled : WordKind → List ℕ → Type 0
 IsSpelled (kinds.Keyword keyword) bytes = bytes ≡ spelling keyword
 IsSpelled kinds.Plain bytes = ¬ Contains bytes 36
 
--- a run that stands alone as this word: spelled as its kind says, and at the same place
+-- the run is this word: spelled as its kind says, and at the same place
 pub record IsWord (run : Run) (word : Word) : Type 0 where
   pub kind : IsSpelled word.kind run.bytes
   pub start : word.start ≡ run.start
@@ -43,10 +43,10 @@ opening = codes "$("
 abbrev pub closing : List ℕ
 closing = codes "$)"
 
--- the bytes of `part` stand among these, from number `k` on
+-- the bytes of `part` are among these, from number `k` on
 abbrev pub HasBytesAt : List ℕ → List ℕ → ℕ → Type 0
 HasBytesAt bytes part k = take (length part) (drop k bytes) ≡ part
 
--- `$(` or `$)` stands somewhere among these bytes
+-- `$(` or `$)` is somewhere among these bytes
 abbrev pub HoldsMark : List ℕ → Type 0
 HoldsMark bytes = (k : ℕ) × (HasBytesAt bytes opening k ⊎ HasBytesAt bytes closing k)

@@ -45,8 +45,8 @@ is_label_byte b = nat_le 48 b && nat_le b 57 || nat_le 65 b && nat_le b 90 || na
 abbrev pub IsLabel : Token → Type 0
 IsLabel token = IsPlain token × IsTrue (list_all is_label_byte token.bytes)
 
--- the words of a statement or an inclusion, by their places in it: `$c a b $.` (so `$v`, `$d`); `label $a a b $.` (so `$f`, `$e`); `label $p a b $= proof
--- $.`; `$[ name $]`
+-- the words of a statement or an inclusion, by their places in it: `$c a b $.` (also `$v`, `$d`); `label $a a b $.` (also `$f`, `$e`);
+-- `label $p a b $= proof $.`; `$[ name $]`
 pub data Shape : Type 0 where
   Declaration : Token → List Token → Token → Shape
   Labelled : Token → Token → List Token → Token → Shape
@@ -60,7 +60,8 @@ shape_tokens (Labelled label keyword symbols end) = label ∷ keyword ∷ (symbo
 shape_tokens (Provable label keyword symbols proof steps end) = label ∷ keyword ∷ (symbols ++ proof ∷ (steps ++ end ∷ []))
 shape_tokens (Inclusion begin name end) = begin ∷ name ∷ end ∷ []
 
--- each word of a statement or an inclusion is what belongs at its place; an inclusion stands only outside, where no block is open
+-- each word of a statement or an inclusion is what belongs at its place; an inclusion is allowed only if no block is open, as `outside`
+-- says
 abbrev pub IsShape : Bool → Shape → Type 0
 IsShape outside (Declaration keyword symbols end) =
     (IsKeyword Constants keyword ⊎ (IsKeyword Variables keyword ⊎ IsKeyword Disjoint keyword)) × AllByRecursion IsPlain symbols × IsKeyword StatementEnd end
@@ -85,7 +86,8 @@ unit_tokens Nothing = []
 unit_tokens (Simple shape later) = shape_tokens shape ++ unit_tokens later
 unit_tokens (Block begin inner end later) = begin ∷ (unit_tokens inner ++ end ∷ unit_tokens later)
 
--- a sequence of units is a right one: each statement and inclusion is, and each block goes from `${` to `$}`; outside says that no block is open
+-- a sequence of units is right: each statement and inclusion is, and each block goes from `${` to `$}`; `outside` says that no block is
+-- open
 abbrev pub AreUnits : Bool → Units → Type 0
 AreUnits outside Nothing = Unit {0}
 AreUnits outside (Simple shape later) = IsShape outside shape × AreUnits outside later
@@ -111,8 +113,8 @@ MayBegin front = IsViable (front ++ a_block ∷ [])
 abbrev pub EndsInInclusion : List Token → Type 0
 EndsInInclusion front = (before : List Token) × (begin : Token) × (front ≡ before ++ begin ∷ []) × IsKeyword InclusionStart begin
 
--- why no units go on with a word after these: T12, a keyword right after `$[`; T10, a `$[` where no inclusion may stand; T09, a `$}` between units with no
--- block open; T11, a plain word between units that cannot be a label; T06, any other word
+-- why no units go on with a word after these. T12: a keyword right after `$[`. T10: a `$[` where no inclusion is allowed. T09: a `$}`
+-- between units with no block open. T11: a plain word between units that cannot be a label. T06: any other word
 abbrev pub IsUnitNumber : TextNumber → List Token → Token → Type 0
 IsUnitNumber T12 front token = EndsInInclusion front × ¬ IsPlain token
 IsUnitNumber T10 front token = ¬ EndsInInclusion front × IsKeyword InclusionStart token
@@ -122,7 +124,7 @@ IsUnitNumber T06 front token = ¬ (EndsInInclusion front × ¬ IsPlain token) ×
     × ¬ (MayBegin front × (IsKeyword BlockEnd token ⊎ IsPlain token))
 IsUnitNumber _ front token = ⊥
 
--- the word with this number, from 0, is the first with which the words can no longer become whole units, for the reason of that other number
+-- the word with this number, from 0, is the first with which the words can no longer become whole units; the fault number says why
 pub record StopsAtWord (tokens : List Token) (number : TextNumber) (word : ℕ) : Type 0 where
   pub token : Token
   pub there : slice_get tokens word ≡ Some token
@@ -130,14 +132,14 @@ pub record StopsAtWord (tokens : List Token) (number : TextNumber) (word : ℕ) 
   pub stops : ¬ IsViable (take (word + 1) tokens)
   pub is_number : IsUnitNumber number (take word tokens) token
 
--- the words end inside a statement or an inclusion that begins with this one: a unit may begin there, and nowhere after it
+-- the words end inside a statement or an inclusion that begins with the word of this number: a unit may begin there, and nowhere after it
 pub record EndsInUnit (tokens : List Token) (word : ℕ) : Type 0 where
   pub within : word < length tokens
   pub viable : IsViable tokens
   pub begins : MayBegin (take word tokens)
   pub unfinished : (n : ℕ) → word < n → n ≤ length tokens → ¬ MayBegin (take n tokens)
 
--- the words end inside a block whose `${` is this word: after it stand whole units, and no `$}` of its own
+-- the words end inside a block whose `${` is this word: the words after it are whole units, without the `$}` of the block
 pub record EndsInBlock (tokens : List Token) (word : ℕ) : Type 0 where
   pub begin : Token
   pub inner : Units

@@ -4,7 +4,7 @@ use Rattle.std.specs.Borrow.{Bor}
 use Rattle.mmkeep.specs.declared.arguments.Command.{Command}
 use Rattle.mmkeep.specs.declared.arguments.Command.TheVariants.{Verify, Axioms, Session}
 
--- the words of a command, after the program's name: what is asked, the file, and for its axioms the label of an assertion
+-- the words of a command, after the program's name: its verb, the file, and for axioms the label of an assertion
 abbrev pub words_of : Command → List (List ℕ)
 words_of (Verify file) = codes "verify" ∷ file.now ∷ []
 words_of (Axioms file label) = codes "axioms" ∷ file.now ∷ label.now ∷ []

@@ -17,7 +17,7 @@ use Rattle.mmkeep.specs.declared.adding.FileError.TheVariants as errors
 abbrev pub IsNew : FilesView → List ℕ → Type 0
 IsNew files name = file_number (plain files) name ≡ None
 
--- a file of this name is added after the others, and its text is what its reader had left, where that is known
+-- a file of this name is added after the others, and its text is what its reader had left, if that is known
 pub record AddsFile (old new : List File) (name : List ℕ) (unread : Option (List ℕ)) : Type 0 where
   pub text : List ℕ
   pub is_added : IsAdded old new name text
@@ -38,7 +38,7 @@ IsTextError files text (errors.Text place number) = HasFaultAt text place number
 IsTextError files text errors.TooMany = HasTooMany files text
 IsTextError files text errors.Memory = Unit {0}
 
--- why a file is not added of which its reader had these bytes left, where they are known: a read failed, or its text is the reason
+-- why a file is not added: a read failed, or the text that its reader had left is the reason, if that is known
 abbrev pub IsFileError : List File → Option (List ℕ) → FileError → Type 0
 IsFileError files unread error = (error ≡ errors.Read) ⊎ IfSome unread (λ text. IsTextError files text error)
 
@@ -62,14 +62,14 @@ TakesTop Unknown old new name = AddsFile (plain old) (plain new) name None
 TakesTop NoFile old new name = ⊥
 TakesTop (Bytes bytes) old new name = AddsFile (plain old) (plain new) name (Some bytes)
 
--- an included file is added, where it can be opened
+-- an included file is added, if it can be opened
 abbrev pub TakesFile : KnownFile → FilesView → FilesView → List ℕ → Type 0
 TakesFile Unknown old new name = (new ≡ old) ⊎ AddsFile (plain old) (plain new) name None
 TakesFile NoFile old new name = new ≡ old
 TakesFile (Bytes bytes) old new name = AddsFile (plain old) (plain new) name (Some bytes)
 
--- Loading goes on from files and a walk through them to the end: each name that the walk finds missing is opened, at its first reference and
--- once, and its file is added, if it can be opened; then the walk goes on.
+-- Loading goes on from files and a walk through them to the end: each name that the walk finds missing is opened, at its first reference
+-- and once, and its file is added, if it can be opened; then the walk goes on.
 pub data Loads (holds : List ℕ → KnownFile) : FilesView → WalkView → FilesView → WalkView → Type 0 where
   ends : {files : FilesView} {walk last : WalkView} {top : List ℕ} {items : List Item}
       → IsWalk (bare (plain files)) top items walk → FindsEnd (bare (plain files)) top items walk last → Loads holds files walk files last

@@ -17,13 +17,13 @@ use Rattle.mmkeep.specs.declared.arguments.Command.TheVariants.{Verify, Axioms, 
 use Rattle.mmkeep.specs.declared.outcome.Outcome.{Outcome}
 use Rattle.mmkeep.specs.declared.outcome.Outcome.TheVariants.{Clean, Findings, NoLabel}
 
--- clean, where there are no lines before the summary of a report, and findings where there are some
+-- clean if there are no lines before the summary of a report, and findings if there are some
 abbrev pub IsByLines : List ℕ → Outcome → Type 0
 IsByLines lines Clean = lines ≡ []
 IsByLines lines Findings = lines ≢ []
 IsByLines lines _ = ⊥
 
--- how the program ends by the files of a session: clean, where its report has no line before the summary
+-- how the program ends by the files of a session: clean if its report has no line before the summary, and else findings
 pub record IsJudged (session : SessionView) (outcome : Outcome) : Type 0 where
   pub base : BaseView
   pub of_files : IsOfFiles session.files session.top base
@@ -38,7 +38,7 @@ pub record Reports (session : SessionView) (before after : Option (List ℕ)) (o
   pub out : Appends before after bytes
   pub is_judged : IsJudged session outcome
 
--- clean, where a sound assertion has the label, and no label where none has
+-- clean if a sound assertion has the label, and no label if none has
 abbrev pub IsByLabel : SessionView → List ℕ → Outcome → Type 0
 IsByLabel session label Clean = HasAssertion session label
 IsByLabel session label NoLabel = ¬ HasAssertion session label
@@ -81,7 +81,7 @@ abbrev pub StopsReport : SessionView → Option (List ℕ) → Option (List ℕ)
 StopsReport session before after errors.Write = BeginsReport session before after
 StopsReport session before after _ = ⊥
 
--- a list of axioms stops where a write fails, or for memory before anything is written, but not where no assertion has the label
+-- a list of axioms stops where a write fails, or for memory before anything is written, but not if no assertion has the label
 abbrev pub StopsAxioms : SessionView → List ℕ → Option (List ℕ) → Option (List ℕ) → ScriptError → Type 0
 StopsAxioms session label before after errors.Write = BeginsAxioms session label before after
 StopsAxioms session label before after errors.Memory = Keeps before after × (¬ HasAssertion session label → ⊥)
@@ -94,7 +94,7 @@ IsStopped (Verify file) old new unread left before after error = (new ≡ old) �
 IsStopped (Axioms file label) old new unread left before after error = (new ≡ old) × StopsAxioms old label.now before after error
 IsStopped (Session file) old new unread left before after error = StopsScript old new unread left before after error
 
--- what went out, where it is known, is the beginning of these bytes
+-- what went out, if it is known, is the beginning of these bytes
 abbrev pub GoesOut : Option (List ℕ) → Option (List ℕ) → Type 0
 GoesOut None out = ⊤
 GoesOut (Some bytes) None = ⊥

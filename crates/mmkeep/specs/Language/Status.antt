@@ -7,7 +7,7 @@ use Rattle.mmkeep.specs.declared.adding.FileError.TheVariants as file_errors
 use Rattle.mmkeep.specs.declared.outcome.Outcome.{Outcome}
 use Rattle.mmkeep.specs.declared.outcome.Outcome.TheVariants.{Clean, Findings, NoLabel, Input, Words, Memory, Stream}
 
--- 0 where nothing is wrong, 1 where something in the database is or no assertion has the label that is asked for; 2 for a file, 3 for the
+-- 0 if nothing is wrong, 1 if something in the database is or no assertion has the label that is asked for; 2 for a file, 3 for the
 -- arguments, 4 for memory and 5 for a script or a stream
 abbrev pub status_of : Outcome → ℕ
 status_of Clean = 0
