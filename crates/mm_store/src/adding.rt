@@ -22,10 +22,10 @@ use std::alloc::AllocError;
 use std::collections::VecDeque;
 
 impl Files {
-    /// Adds a file of this name behind the others: the text is cut into its pieces and its tail, and a line feed
-    /// is put behind it where it does not end in white space. The pieces get keys of their own. Any name will do.
+    /// Adds a file of this name after the others: the text is cut into its pieces and its tail, with a line feed added
+    /// if it does not end in white space. The pieces get keys of their own. Any name will do.
     ///
-    /// The answer is `Known` where a file has the name, before memory is taken. For a name that no file has it is
+    /// The answer is `Known` if a file has the name, before memory is taken. For a name that no file has it is
     /// `Text` with the first fault of a text that has one; `TooMany` for a text that has none, with which the files
     /// would have more than 4,294,967,295 bytes; and `Memory`, which can come in the place of each of these two.
     /// Whatever the error, the files are then as before. All pieces that are held keep their keys.
@@ -51,7 +51,7 @@ impl Files {
         Ok(())
     }
 
-    /// Puts a file behind the others. After out of memory the files are as before.
+    /// Puts a file after the others. After out of memory the files are as before.
     fn put_last(&mut self, name: &[u8], bytes: u64, cut: DividedCut) -> Result<(), AllocError>
         requires missing { file_number (plain self.old) name.now ≡ None }
         requires counted { bytes ≡ length (concat (map (λ piece. piece.text.items) cut.pieces.items) ++ cut.tail.items) }

@@ -77,7 +77,7 @@ impl Undos {
 }
 
 impl Files {
-    /// Does one edit more, the one with this number, and puts what is needed to undo it behind the others. After an error
+    /// Does one edit more, the one with this number, and adds what is needed to undo it to the others. After an error
     /// all is as before.
     fn edit_next(
         &mut self,
@@ -108,11 +108,11 @@ impl Files {
 
     /// Does edits, one after another, each on the files after those before it, and answers what is needed to undo them.
     ///
-    /// Where one is refused, none is done, and the answer has its number and the reason. `Memory` can come in the place
+    /// If one is refused, none is done, and the answer has its number and the reason. `Memory` can come in the place
     /// of each other answer, once the file and the pieces of the first edit are known to be there. After any error the
     /// files are as before. No edits are done without memory. It takes the time of the texts that the edits bring, moves
     /// for each edit the keys on the shorter side of its place in its file (of both its places, for a move), and then goes
-    /// once through the pieces behind the first place of each file; and it takes room for what is needed to undo each.
+    /// once through the pieces after the first place of each file; and it takes room for what is needed to undo each.
     pub fn edit_all(&mut self, edits: &[Edit<'_>]) -> Result<Undos, BatchError>
         ensures ok { OnOk result (IsBatchOf (map asked edits.now) (plain self.old) (plain self.new)) }
         ensures by_keys { IfOk result (IsBatchByKeys (map asked edits.now) self.old self.new) }
@@ -132,9 +132,9 @@ impl Files {
         Ok(undos)
     }
 
-    /// Reverses edits, the last of them first. Where the files stand as the edits left them, they are then as before the
+    /// Reverses edits, the last of them first. If the files are as the edits left them, they are then as before the
     /// first of them. It moves for each the keys on the shorter side of its place in its file (of both its places, for a
-    /// move), then goes once through the pieces behind the first place of each file, and takes no memory.
+    /// move), then goes once through the pieces after the first place of each file, and takes no memory.
     pub fn undo_all(&mut self, undos: Undos)
         requires { (old : FilesView) × IsSpendable old self.old undos }
         ensures { (old : FilesView) → IsSpendable old self.old undos → self.new ≡ old }
@@ -147,7 +147,7 @@ impl Files {
         self.restart_all();
     }
 
-    /// Drops the old pieces of edits: these can then no longer be undone. The files stay as they are, and what stands in
+    /// Drops the old pieces of edits: these can then no longer be undone. The files stay as they are, and what is in
     /// them can be read as before. It takes constant time for each, and no memory.
     pub fn settle_all(&mut self, undos: Undos)
         requires { (old : FilesView) × IsSpendable old self.old undos }

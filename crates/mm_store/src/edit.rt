@@ -11,7 +11,7 @@ use thiserror::Error;
 /// An edit of one file, by its name: of its pieces, counted from 0.
 #[derive(Clone, Copy, Debug)]
 pub enum Edit<'a> {
-    /// A new piece, of this text, before the piece `at`, or behind the last where `at` is their count.
+    /// A new piece, of this text, before the piece `at`; after the last if `at` is their count.
     Insert {
         /// The name of the file.
         file: &'a [u8],
@@ -36,7 +36,7 @@ pub enum Edit<'a> {
         /// Less than the count of the pieces.
         at: usize,
     },
-    /// The piece `at` is taken out and put where it is piece `to` of the list that is then there.
+    /// The piece `at` is taken out and put back as piece `to`.
     Move {
         /// The name of the file.
         file: &'a [u8],
@@ -60,7 +60,7 @@ impl Edit<'_> {
         }
     }
 
-    /// Whether its places are there in a file of so many pieces.
+    /// Whether its places are there in a file of this many pieces.
     pub(crate) fn is_among(&self, count: usize) -> bool
         ensures { IsTrue result ↔ IsAmong (asked self.now) count }
     {
@@ -78,13 +78,13 @@ pub enum EditError {
     /// No file has this name.
     #[error("no such file")]
     NoFile,
-    /// The file has only so many pieces.
+    /// The file has only this many pieces.
     #[error("no such piece, of {0}")]
     NoPiece(usize),
     /// The text has this fault, and it is its first.
     #[error("{0}")]
     Text(TextFault),
-    /// The text is not one unit, but so many.
+    /// The text is not one unit, but this many.
     #[error("{0} units in place of one")]
     NotOne(usize),
     /// The texts of the files would have more than 4,294,967,295 bytes.

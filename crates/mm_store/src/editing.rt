@@ -97,7 +97,7 @@ impl Files {
         }
     }
 
-    /// Takes a piece out and puts it where it is the one at `to`.
+    /// Takes a piece out and puts it back as piece `to`.
     pub(crate) fn move_piece(&mut self, number: usize, at: usize, to: usize) -> Undo
         requires there { at < length (keys_in self.old.keyed number) }
         requires there_too { to < length (keys_in self.old.keyed number) }
@@ -142,7 +142,7 @@ impl Files {
         Ok(number)
     }
 
-    /// Does an edit, and leaves open where the pieces behind its own begin.
+    /// Does an edit, and does not work out where the pieces after its own begin.
     pub(crate) fn apply(&mut self, edit: &Edit<'_>) -> Result<Undo, EditError>
         ensures ok { OnOk result (IsEditOf (asked edit.now) (plain self.old) (plain self.new)) }
         ensures by_keys { IfOk result (IsEditByKeys (asked edit.now) self.old self.new) }
@@ -168,15 +168,15 @@ impl Files {
 
     /// Does an edit, and answers what is needed to undo it.
     ///
-    /// The text that an edit brings becomes one piece as it is, with a line feed behind it where it does not end in
+    /// The text that an edit brings becomes one piece as it is, with a line feed after it if it does not end in
     /// white space. The piece that a replacement or a deletion takes out is parked until the answer is spent; its
     /// key and its text stay, and one piece more is parked. A new piece has a key that no piece had. A move parks
     /// nothing, and the moved piece keeps its key.
     ///
     /// The errors are, in this order: `NoFile`; `NoPiece` with the count of the pieces; `Text` with the first fault of
-    /// the text; `NotOne` with the number of its units; `TooMany` where the files would then have more than
+    /// the text; `NotOne` with the number of its units; `TooMany` if the files would then have more than
     /// 4,294,967,295 bytes. The first two come before memory is taken. `Memory` can come in the place of the others
-    /// and of success, and only where the edit brings a text. After any error the files are as before.
+    /// and of success, and only if the edit brings a text. After any error the files are as before.
     pub fn edit(&mut self, edit: &Edit<'_>) -> Result<Undo, EditError>
         ensures ok { OnOk result (IsEditOf (asked edit.now) (plain self.old) (plain self.new)) }
         ensures by_keys { IfOk result (IsEditByKeys (asked edit.now) self.old self.new) }

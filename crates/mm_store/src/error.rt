@@ -1,4 +1,4 @@
-//! Why the files do not do what was asked.
+//! Why a call on the files fails.
 
 ghost use Rattle.std.specs.Prelude.{◌≡◌};
 ghost use Rattle.mm_store.specs.declared.error.StoreError.TheVariants.{Memory, Text};

@@ -76,7 +76,7 @@ fn named(text: &[u8], part: Part) -> &[u8]
     second_word(&text[part.start..part.end])
 }
 
-/// The name that a piece includes; `None` where it includes nothing.
+/// The name that a piece includes; `None` if it includes nothing.
 pub(crate) fn included_name<'a>(text: &'a [u8], parts: &[KeptPart]) -> Option<&'a [u8]>
     requires unit { HoldsOne text.now }
     requires divided { HasParts text.now parts.now }
@@ -96,7 +96,7 @@ pub(crate) fn included_name<'a>(text: &'a [u8], parts: &[KeptPart]) -> Option<&'
     Some(named(text, part))
 }
 
-/// Puts the items of a piece behind others.
+/// Adds the items of a piece after others.
 fn push_items(spot: Spot, parts: &[KeptPart], items: &mut Vec<Item>) -> Result<(), AllocError>
     ensures { OnOk result (items.new.items ≡ items.old.items ++ map (item_of_part spot) parts.now) }
 {
@@ -106,7 +106,7 @@ fn push_items(spot: Spot, parts: &[KeptPart], items: &mut Vec<Item>) -> Result<(
     Ok(())
 }
 
-/// Puts the items that a walk goes past behind those that it has gone past.
+/// Adds the items that a walk goes past after those that it has gone past.
 pub(crate) fn push_rest(
     files: &Files,
     walk: &mut Walk,

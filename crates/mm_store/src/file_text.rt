@@ -16,9 +16,8 @@ use crate::start::Start;
 use std::alloc::{AllocError, Global};
 use std::collections::VecDeque;
 
-/// The keys of a file's pieces in order, where each of them and the tail begins, up to which of them this is known, what
-/// is behind the last, and how many of its deleted pieces are parked. Behind the starts that count there are others, as
-/// room.
+/// The keys of a file's pieces in order; where each of them and the tail begins, and up to which piece this is known; the
+/// tail; and how many of its deleted pieces are parked. Starts past those that count are there as room.
 #[derive(Drop)]
 pub struct FileText {
     pub(crate) keys: VecDeque<usize>,
@@ -46,7 +45,7 @@ pub(crate) fn starts(alloc: Global, pieces: &[PieceText]) -> Result<Vec<Start>, 
 }
 
 impl FileText {
-    /// Sets where the piece or the tail behind one piece begins.
+    /// Sets where the piece or the tail after this piece begins.
     fn set_next(&mut self, pieces: &PieceStore, piece: usize)
         requires there { piece < deque_len self.old.keys }
         requires room { deque_len self.old.keys < length self.old.starts.items }
@@ -62,7 +61,7 @@ impl FileText {
         self.starts[piece + 1] = pieces.next_start(self.starts[piece], self.keys[piece]);
     }
 
-    /// Sets where those pieces and the tail begin of which it is not known, in one step for each of them.
+    /// Sets the beginnings of pieces and tail that are not known, in one step for each.
     pub(crate) fn restart(&mut self, pieces: &PieceStore)
         requires room { deque_len self.old.keys < length self.old.starts.items }
         requires small { length (concat (map (text_under pieces.now) self.old.keys.items)) ≤ 4294967295 }
@@ -95,7 +94,7 @@ impl FileText {
         start
     }
 
-    /// Of the pieces behind this one it is no longer known where they begin.
+    /// It is no longer known where the pieces after this one begin.
     fn forget_behind(&mut self, piece: usize)
         ensures at_most { self.new.known ≤ piece }
         ensures no_more { self.new.known ≤ self.old.known }
@@ -107,7 +106,7 @@ impl FileText {
         self.known = self.known.min(piece);
     }
 
-    /// Makes room for one key more, beside the deleted pieces that are parked. Where there is none, it is made twice as large.
+    /// Makes room for one key more, in addition to the deleted pieces that are parked. If there is none, the room is doubled.
     pub(crate) fn reserve_one(&mut self) -> Result<(), AllocError>
         requires room { HasRoom self.old }
         ensures ok { OnOk result (HasRoomForOne self.new) }
@@ -221,7 +220,7 @@ impl FileText {
         self.deleted -= 1;
     }
 
-    /// Takes a key out and puts it where it is the one at `to`.
+    /// Takes a key out and puts it back at `to`.
     pub(crate) fn move_key(&mut self, at: usize, to: usize)
         requires there { at < deque_len self.old.keys }
         requires there_too { to < deque_len self.old.keys }

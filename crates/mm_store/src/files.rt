@@ -111,7 +111,7 @@ impl Files {
         }
     }
 
-    /// The text of the file of this name, its pieces and its tail joined; `None` where no file has the name.
+    /// The text of the file of this name, its pieces and its tail joined; `None` if no file has the name.
     pub fn text(&self, name: &[u8]) -> Result<Option<Vec<u8>>, AllocError>
         ensures { IfOk result
             (λ found. option_map (λ text. text.items) found ≡ option_map text_of (find_file (plain self.now) name.now)) }
@@ -126,7 +126,7 @@ impl Files {
         }
     }
 
-    /// How many pieces the file of this name has; `None` where no file has the name. It takes no memory.
+    /// How many pieces the file of this name has; `None` if no file has the name. It takes no memory.
     pub fn piece_count(&self, name: &[u8]) -> Option<usize>
         ensures { result ≡ option_map (λ file. length file.pieces) (find_file (plain self.now) name.now) }
     {
@@ -141,7 +141,7 @@ impl Files {
     /// the order of reading.
     ///
     /// There are at most as many as the texts of the files have bytes, and so at most 4,294,967,295. `NoTop` comes
-    /// where no file has the name `top`, before memory is taken; any other error is `Memory`. The files are gone
+    /// if no file has the name `top`, before memory is taken; any other error is `Memory`. The files are gone
     /// through once.
     pub fn statements(&self, top: &[u8]) -> Result<Vec<Item>, StoreError>
         ensures items { IfOk result (λ found. IsExpansion (files_in self.now) top.now found.items) }
@@ -168,7 +168,7 @@ impl Files {
 
     /// A walk through the files from the file of the name `top` on, which has gone past nothing.
     ///
-    /// `NoTop` comes where no file has the name `top`, before memory is taken; any other error is `Memory`.
+    /// `NoTop` comes if no file has the name `top`, before memory is taken; any other error is `Memory`.
     pub fn walk(&self, top: &[u8]) -> Result<Walk, StoreError>
         ensures ok { IfOk result (λ walk. IsWalk (bare (plain self.now)) top.now [] walk) }
         ensures untold { IfOk result (λ walk. walk.told ≡ false) }
@@ -192,7 +192,7 @@ impl Files {
         }
     }
 
-    /// The key of a piece of a file; `None` where the file has no such piece, or is not there.
+    /// The key of a piece of a file; `None` if the file has no such piece, or is not there.
     pub(crate) fn key_at(&self, file: usize, piece: usize) -> Option<PieceKey>
         ensures is { option_map (λ key. piece_view self.now.pieces key.at) result ≡ piece_at (files_in self.now) (record { file = file; piece = piece }) }
         ensures held { IfSome result (λ key. IsSome (finite.get self.now.pieces key.at)) }
@@ -212,7 +212,7 @@ impl Files {
         self.pieces.parts(key.at)
     }
 
-    /// The name that the piece with this key includes; `None` where it includes nothing.
+    /// The name that the piece with this key includes; `None` if it includes nothing.
     pub(crate) fn included_name(&self, key: PieceKey) -> Option<&[u8]>
         requires { IsSome (finite.get self.now.pieces key.at) }
         ensures none { IfNone result ((file number : ℕ) → IncludesNothing file number (piece_view self.now.pieces key.at)) }
@@ -229,7 +229,7 @@ impl Files {
         self.pieces.hold_units();
     }
 
-    /// The text of the piece with this key, which a piece has to have that stands in a file or is parked. It has at
+    /// The text of the piece with this key. A piece in a file, or a parked one, has to have the key. The text has at
     /// most 4,294,967,295 bytes. It takes no memory.
     pub fn piece(&self, key: PieceKey) -> &[u8]
         requires { (text : List ℕ) × IsLive self.now key text }
@@ -253,7 +253,7 @@ impl Files {
         self.hold_units();
     }
 
-    /// A piece that stands is at one place of the files, and a parked one at none. It does nothing.
+    /// A piece that is not parked is at one place of the files, and a parked one at none. It does nothing.
     pub(crate) fn stand_once(&self)
         ensures { StandOnce self.now }
     {
@@ -276,7 +276,7 @@ impl Files {
         name
     }
 
-    /// Where the byte `at` of a piece stands in the text of its file, counted from 0.
+    /// The place of the byte `at` of a piece in the text of its file, counted from 0.
     ///
     /// It takes no memory, and constant time.
     pub fn offset(&self, file: usize, piece: usize, at: usize) -> usize
@@ -287,10 +287,10 @@ impl Files {
         text.start(&self.pieces, piece).bytes as usize + at
     }
 
-    /// The line and the column, in the text of its file, of the byte `at` of a piece, or of its end where `at` is
+    /// The line and the column, in the text of its file, of the byte `at` of a piece, or of its end if `at` is
     /// the length of the piece.
     ///
-    /// It takes no memory. It goes through a kilobyte of the piece at most, wherever the byte stands.
+    /// It takes no memory. It goes through a kilobyte of the piece at most, wherever the byte is.
     pub fn place(&self, file: usize, piece: usize, at: usize) -> Place
         requires { (text : List ℕ) × (offset : ℕ) × IsByte self.now file piece at text offset }
         ensures line { (text : List ℕ) (offset : ℕ) → IsByte self.now file piece at text offset → result.line ≡ line_at text offset }
@@ -300,7 +300,7 @@ impl Files {
         lines_at(text, &self.pieces, piece, at).place()
     }
 
-    /// Goes through those pieces of a file of which it is not known where they begin, if there is such a file.
+    /// Goes through those pieces of a file whose beginnings are not known, if there is such a file.
     pub(crate) fn restart_file(&mut self, number: usize)
         ensures { self.new ≡ self.old }
     {
@@ -310,7 +310,7 @@ impl Files {
         }
     }
 
-    /// Goes through those pieces of each file of which it is not known where they begin.
+    /// Goes through those pieces of each file whose beginnings are not known.
     pub(crate) fn restart_all(&mut self)
         ensures { self.new ≡ self.old }
     {

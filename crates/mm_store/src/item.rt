@@ -40,6 +40,6 @@ pub struct Item {
     pub key: PieceKey,
     /// The first byte of its first word, from 0 in its piece.
     pub start: usize,
-    /// The byte behind its last word, from 0 in its piece.
+    /// The byte after its last word, from 0 in its piece.
     pub end: usize,
 }

@@ -30,7 +30,7 @@ pub fn has_expansion()
         → (items : List Item) × IsExpansion (files_in files) top items }
 {}
 
-/// Where each piece of files holds one unit, it does so after an edit; and there are files with keys that mean what these mean.
+/// If each piece of files holds one unit, the same is true after an edit; and there are files with keys that mean what these mean.
 pub fn edits_keep_units()
     ensures units { (edit : Asked) (files after : List File) → HoldOneEach files → IsEditOf edit files after → HoldOneEach after }
     ensures keys { (files : List File) → (view : FilesView) × HoldsPieces view × (plain view ≡ files) }
@@ -38,7 +38,7 @@ pub fn edits_keep_units()
     mm_text::one_unit_of_cut();
 }
 
-/// Each item of files can be read, and stands where it says.
+/// Each item of files can be read, and is where it says.
 pub fn items_stand()
     ensures read { (files : FilesView) (top : List ℕ) (items : List Item) → HoldsPieces files → IsExpansion (files_in files) top items
         → All (CanBeRead files) items }
@@ -73,7 +73,7 @@ pub fn walks_go_on()
     mm_text::one_division();
 }
 
-/// A byte of a piece, or the end of the piece, stands in the text of its file, or at its end.
+/// A byte of a piece, or the end of the piece, is in the text of its file, or at its end.
 pub fn bytes_are_within()
     ensures { (files : FilesView) (number piece at : ℕ) (text : List ℕ) (offset : ℕ) → IsByte files number piece at text offset → offset ≤ length text }
 {}
@@ -83,7 +83,7 @@ pub fn pieces_join_to_text()
     ensures { (file : File) → text_of file ≡ concat file.pieces ++ file.tail }
 {}
 
-/// An edit makes of the members of its file what its kind says; those before and behind stay as they were.
+/// An edit makes of the members of its file what its kind says; those before and after stay as they were.
 ///
 /// A new member is the text of the edit, which ends in white space; a moved one goes over those between its old
 /// place and its new one.
@@ -134,7 +134,7 @@ pub fn one_edit()
     mm_text::one_cut();
 }
 
-/// The text of a file that was added is the text that it was added with, with a line feed behind it where that does
+/// The text of a file that was added is the text that it was added with, with a line feed added if that does
 /// not end in white space; the other files stay as they were. A text is added in one way.
 pub fn added_files_have_their_text()
     ensures text { (old new : List File) (name text : List ℕ) → file_number old name ≡ None → IsAdded old new name text

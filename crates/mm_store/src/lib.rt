@@ -1,7 +1,7 @@
 //! The files of a Metamath database, as named lists of pieces, and the items that they give.
 //!
 //! A piece is a text with one unit: a statement, a block or an inclusion. The text of a file is its pieces and
-//! its tail, joined. A file includes another by `$[ name $]`: the contents of that file stand in the place of
+//! its tail, joined. A file includes another by `$[ name $]`: the contents of that file take the place of
 //! the command. Only the first reference to a name counts, in the order of reading; later ones, and references to
 //! the top file, give nothing (the Metamath book, section 4.1.2). What remains is a list of items: statements,
 //! beginnings and ends of blocks, and references to files that are missing.

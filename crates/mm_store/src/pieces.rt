@@ -20,7 +20,7 @@ use slab::Slab;
 use std::alloc::{AllocError, Global};
 use std::marker::Model;
 
-/// A text with what is found of it, and whether it stands in a file.
+/// A text with what is found of it, and whether it is in a file or parked.
 #[derive(Drop)]
 pub struct Piece {
     pub(crate) kept: PieceText,
@@ -61,7 +61,7 @@ fn count_parked(state: State) -> usize
     }
 }
 
-/// Puts standing pieces into a slab that has room for them; their keys go behind others.
+/// Puts pieces that are in a file into a slab with room for them; their keys are added after others.
 fn put_each(slab: &mut Slab<Piece>, pieces: Vec<PieceText>, keys: &mut Vec<usize>)
     requires slab_room { HasRoomFor slab.old (length pieces.items) }
     requires key_room { vec_len keys.old + length pieces.items ≤ vec_capacity keys.old }
@@ -87,7 +87,7 @@ impl PieceStore {
         }
     }
 
-    /// Puts a standing piece under a key that no piece has.
+    /// Puts a piece that is in a file under a key that no piece has.
     pub(crate) fn put(&mut self, kept: PieceText) -> Result<usize, AllocError>
         requires { IsPieceKept kept }
         ensures fresh { IfOk result (λ key. finite.get self.old key ≡ None) }
@@ -101,7 +101,7 @@ impl PieceStore {
         Ok(self.slab.insert(piece)?)
     }
 
-    /// Puts standing pieces, each under a key that no piece has: all of them or, if memory runs out, none.
+    /// Puts pieces that are in a file, each under a key that no piece has: all or, if memory runs out, none.
     pub(crate) fn put_all(
         &mut self,
         alloc: Global,
@@ -117,7 +117,7 @@ impl PieceStore {
         Ok(keys)
     }
 
-    /// Whether the piece under a key is parked: 1 where it is, and else 0.
+    /// Whether the piece under a key is parked: 1 if it is, and else 0.
     fn parked_under(&self, key: usize) -> usize
         ensures { result ≡ parked_under self.now key }
     {
@@ -145,7 +145,7 @@ impl PieceStore {
         }
     }
 
-    /// Drops the piece under a key, and answers how many bytes its text had; 0 where there is none.
+    /// Drops the piece under a key, and answers how many bytes its text had; 0 if there is none.
     pub(crate) fn drop_piece(&mut self, key: usize) -> usize
         ensures pieces { self.new ≡ finite.remove self.old key }
         ensures len { result ≡ length (text_under self.old key) }
@@ -204,7 +204,7 @@ impl PieceStore {
         }
     }
 
-    /// Where the next piece of a file begins, behind the piece under a key, which begins here.
+    /// Where the next piece of a file begins, if the piece under this key begins here.
     pub(crate) fn next_start(&self, start: Start, key: usize) -> Start
         requires { StaysSmall start (text_under self.now key) }
         ensures { (before : List ℕ) → IsStart before start → IsStart (before ++ text_under self.now key) result }

@@ -7,7 +7,7 @@ ghost use Rattle.mm_store.specs.Code.Inside.{IsPieceKept};
 use crate::lines::Lines;
 use crate::piece_text::PieceText;
 
-/// How many bytes of a file stand before a piece, and the lines of these bytes.
+/// How many bytes of a file are before a piece, and the lines of these bytes.
 #[derive(Clone, Copy)]
 pub struct Start {
     pub(crate) bytes: u32,
@@ -25,7 +25,7 @@ impl Start {
         }
     }
 
-    /// Where the piece behind this one begins, which begins here.
+    /// Where the piece after this one begins, if this one begins here.
     pub(crate) fn behind(self, piece: &PieceText) -> Start
         requires kept { IsPieceKept piece.now }
         requires small { StaysSmall self piece.now.text.items }

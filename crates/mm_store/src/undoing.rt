@@ -37,7 +37,7 @@ impl Files {
         self.bytes = self.bytes - less as u64 + more as u64;
     }
 
-    /// Puts a parked piece back where it stood.
+    /// Puts a parked piece back to its place.
     fn take_back_deletion(&mut self, number: usize, at: usize, old: usize)
         requires fits { Fits number (action.Deleted at old) self.old }
         requires within { bytes_of (plain (reversed number (action.Deleted at old) self.old)) ≤ 4294967295 }
@@ -49,7 +49,7 @@ impl Files {
         self.bytes += more as u64;
     }
 
-    /// Reverses an edit, and leaves open where the pieces behind its own begin.
+    /// Reverses an edit, and does not work out where the pieces after its own begin.
     pub(crate) fn take_back(&mut self, undo: Undo)
         requires { CanUndo undo self.old }
         ensures { self.new ≡ undone undo self.old }
@@ -65,9 +65,9 @@ impl Files {
         }
     }
 
-    /// Reverses an edit: its new piece, if it brought one, is dropped, and its old piece stands in its place again.
+    /// Reverses an edit: its new piece, if it brought one, is dropped, and its old piece is in its place again.
     ///
-    /// Where the files stand as the edit left them (the lists, the keys and the parked pieces), they are then as
+    /// If the files are as the edit left them (the lists, the keys and the parked pieces), they are then as
     /// before the edit. It takes no memory.
     pub fn undo(&mut self, undo: Undo)
         requires { CanUndo undo self.old }

@@ -11,7 +11,7 @@ use crate::room::fits;
 use mm_text::{DividedCut, DividedPiece, divided_cut, one_unit_of_cut};
 use std::alloc::Global;
 
-/// The whole text with its parts, and with a line feed behind it where it does not end in white space, if it is exactly one
+/// The whole text with its parts, and with a line feed added if it does not end in white space, if it is exactly one
 /// unit.
 fn read_unit(alloc: Global, text: &[u8]) -> Result<DividedPiece, EditError>
     ensures ok { IfOk result (λ unit. IsUnit text.now unit.text.items) }
@@ -28,7 +28,7 @@ fn read_unit(alloc: Global, text: &[u8]) -> Result<DividedPiece, EditError>
     Ok(unit)
 }
 
-/// That text as it is kept, if files that have so many bytes beside it may have it too.
+/// That text as it is kept, if files that hold this many bytes may have it too.
 pub(crate) fn new_piece(alloc: Global, held: u64, text: &[u8]) -> Result<PieceText, EditError>
     ensures unit { IfOk result (λ piece. IsUnit text.now piece.text.items) }
     ensures kept { IfOk result IsPieceKept }

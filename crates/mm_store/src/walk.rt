@@ -31,7 +31,7 @@ impl Model for Level {
     ghost inverse = { λ view. record { file = view.file; piece = view.piece } };
 }
 
-/// Where a piece stands, and its key.
+/// Where a piece is, and its key.
 #[derive(Clone, Copy)]
 pub struct Spot {
     pub(crate) file: usize,
@@ -46,16 +46,16 @@ pub enum Step {
     End,
     /// No items: a file is left or entered, or a name comes once more.
     Nothing,
-    /// The items of this piece, one for each part: a piece that includes nothing, or a reference that was told.
+    /// The items of this piece, one for each part: a piece that includes nothing, or a reference that was reported.
     Items(Spot),
-    /// A reference to a missing file of this name, past which the walk does not go before it is told.
+    /// A reference to a missing file of this name, past which the walk does not go before it is reported.
     Missing(Vec<u8>),
 }
 
 /// How far the files are gone through from a top file on, each at its first inclusion, in the order in which they
-/// are read: so that files can be added while the walk goes on.
+/// are read. Files can be added while the walk goes on.
 ///
-/// It has the names that it has taken so far, and where it stands in each file that it has entered and not left.
+/// It has the names taken so far, and how far it is in each file that it has entered and not left.
 #[derive(Drop)]
 pub struct Walk {
     names: IndexSet<Vec<u8>>,
@@ -73,7 +73,7 @@ impl Model for Walk {
     ghost view = { walk_view };
 }
 
-/// Goes behind the next piece of the innermost file.
+/// Goes past the next piece of the innermost file.
 fn advance(levels: &mut Vec<Level>)
     requires { (front : List Level) × (level : Level) × (levels.old.items ≡ front ++ level ∷ []) × (level.piece < 18446744073709551615) }
     ensures moved { (front : List Level) (level : Level) → levels.old.items ≡ front ++ level ∷ [] → levels.new.items ≡ front ++ behind level ∷ [] }
@@ -192,7 +192,7 @@ impl Walk {
         Ok(())
     }
 
-    /// A reference to a missing file: it is told, or gone past where it was told.
+    /// A reference to a missing file: it is reported, or gone past if it was reported.
     fn miss(&mut self, spot: Spot, name: &[u8]) -> Result<Step, AllocError>
         requires last { (front : List Level) × (level : Level) × (self.old.levels ≡ front ++ level ∷ []) × (level.piece < 18446744073709551615) }
         requires fresh { ¬ Contains self.old.names name.now }
@@ -209,7 +209,7 @@ impl Walk {
         Ok(Step::Missing(name))
     }
 
-    /// A reference: it is gone past where its name was taken, its file is entered, or it is missing.
+    /// A reference: it is gone past if its name was taken, or its file is entered, or it is missing.
     fn include(&mut self, files: &Files, spot: Spot, name: &[u8]) -> Result<Step, AllocError>
         requires { IsReference (files_in files.now) self.old.levels spot name.now }
         ensures ok { IfOk result (λ step. IsStep (files_in files.now) self.old step self.new) }
@@ -228,7 +228,7 @@ impl Walk {
         }
     }
 
-    /// One step. After out of memory the walk stands where it stood.
+    /// One step. After out of memory the walk is as before.
     pub(crate) fn step(&mut self, files: &Files) -> Result<Step, AllocError>
         ensures ok { IfOk result (λ step. IsStep (files_in files.now) self.old step self.new) }
         ensures err { OnErr result (self.new ≡ self.old) }
@@ -256,11 +256,11 @@ impl Walk {
     }
 
     /// The next name to which the files refer and which none of them has, in the order in which they are read: each
-    /// name once, at its first reference; `None` where no more come.
+    /// name once, at its first reference; `None` if no more come.
     ///
-    /// The walk then stands before that reference, and a file of that name may be added before the next call, which
-    /// enters it; where none is, the next call goes past the reference. Each call goes on from where the last one
-    /// stopped. After out of memory the walk may have gone on, but past no missing name that it did not tell: the
+    /// The walk is then right before that reference, and a file of that name may be added before the next call, which
+    /// enters it; if none is, the next call goes past the reference. Each call goes on from where the last one
+    /// stopped. After out of memory the walk may have gone on, but past no missing name that it did not report: the
     /// next call goes on from there.
     pub fn next_missing(&mut self, files: &Files) -> Result<Option<Vec<u8>>, AllocError>
         ensures found { IfOk result (λ found. IfSome found (λ name. (top : List ℕ) (items : List Item)

@@ -57,7 +57,7 @@ impl<'a> WordCursor<'a> {
         }
     }
 
-    /// Goes on over plain words alone, as far as that can be told by looking for the next `$`: most often to the next keyword.
+    /// Goes on over plain words alone, as far as a search for the next `$` can say: most often to the next keyword.
     pub fn skip_plain(&mut self)
         ensures text { self.new.text ≡ self.old.text }
         ensures skips { SkipsPlainWords self.old.words self.new.words }
@@ -65,7 +65,7 @@ impl<'a> WordCursor<'a> {
         self.reader.skip_plain();
     }
 
-    /// Goes on by a word, and gives it; `None` where no word is left.
+    /// Goes on by a word, and gives it; `None` if no word is left.
     #[inline(always)]
     pub fn next_word(&mut self) -> Option<Word>
         ensures text { self.new.text ≡ self.old.text }

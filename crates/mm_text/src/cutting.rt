@@ -16,8 +16,7 @@ use crate::reading::first_bad_byte;
 use crate::spelling::{is_white_space, white_len};
 use std::alloc::{AllocError, Global};
 
-/// Whether a text ends in white space, so that `cut` puts no line feed behind it; the empty text counts as one that
-/// does. It takes no memory.
+/// Whether a text ends in white space, so that `cut` adds no line feed; the empty text counts as one that does. It takes no memory.
 pub fn ends_white(bytes: &[u8]) -> bool
     ensures { result ≡ pieces.ends_white bytes.now }
 {
@@ -27,7 +26,7 @@ pub fn ends_white(bytes: &[u8]) -> bool
     }
 }
 
-/// A copy of bytes, with a line feed behind them if they do not end in white space.
+/// A copy of bytes, with a line feed after them if they do not end in white space.
 fn ended_copy(alloc: Global, bytes: &[u8]) -> Result<Vec<u8>, AllocError>
     ensures { IfOk result (λ copy. copy.items ≡ ended bytes.now) }
 {
@@ -98,7 +97,7 @@ pub fn divided_cut(alloc: Global, text: &[u8]) -> Result<DividedCut, TextError>
     ensures fault { IfErr result (IsCutError text.now) }
     ensures parts { IfOk result (λ found. All HasOwnParts found.pieces.items) }
 
-    // These follow: the fault lies in the text, the words of each piece are whole units, and each part is a text with words.
+    // These follow: the fault is in the text, the words of each piece are whole units, and each part is a text with words.
     ensures fault_within { IfErr result (IsTextErrorIn text.now) }
     ensures units { IfOk result (λ found. All (λ piece. (units : Units) × HasUnits piece.text.items units) found.pieces.items) }
     ensures readable { IfOk result (λ found. All (λ piece. All (IsReadable piece.text.items) piece.parts.items) found.pieces.items) }
@@ -128,18 +127,18 @@ fn texts_of(alloc: Global, pieces: Vec<DividedPiece>) -> Result<Vec<Vec<u8>>, Al
 
 /// The pieces of a text, each with one unit, and its tail.
 ///
-/// A unit is a statement, an inclusion, or a block with the units inside it. A piece goes from behind the piece
-/// before it to the end of the white space behind its unit, so the comments in front of a unit are in its piece;
-/// the tail is what stands behind the last piece. A text that does not end in white space is read as if a line
-/// feed stood behind it. The pieces and the tail are copies, and in order they are the text.
+/// A unit is a statement, an inclusion, or a block with the units inside it. A piece goes from the end of the piece
+/// before it to the end of the white space after its unit: the comments in front of a unit are in its piece. The tail
+/// is what follows the last piece. A text that does not end in white space is read as if a line feed followed it. The
+/// pieces and the tail are copies, and in order they are the text.
 ///
-/// An error is the first fault of the text, `T01` to `T12`, with the byte that it is told at; or `Memory`, where
+/// An error is the first fault of the text, `T01` to `T12`, with the byte that it is reported at; or `Memory`, if
 /// there was no room for the pieces. Every text without a fault is cut, the empty one too.
 pub fn cut(alloc: Global, text: &[u8]) -> Result<Cut, TextError>
     ensures cut { IfOk result (λ found. IsCut text.now (map (λ piece. piece.items) found.pieces.items) found.tail.items) }
     ensures fault { IfErr result (IsCutError text.now) }
 
-    // These follow: the fault lies in the text, and the words of each piece are whole units, as `parts` requires.
+    // These follow: the fault is in the text, and the words of each piece are whole units, as `parts` requires.
     ensures fault_within { IfErr result (IsTextErrorIn text.now) }
     ensures units { IfOk result (λ found. All (λ piece. (units : Units) × HasUnits piece.items units) found.pieces.items) }
 {

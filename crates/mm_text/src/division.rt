@@ -9,7 +9,7 @@ use crate::part::{Part, PartKind};
 use crate::word::{Keyword, Word, WordKind};
 use std::alloc::{AllocError, Global};
 
-/// What a word makes of the part that it stands in.
+/// The kind of a part after one more of its words.
 fn part_kind(kind: PartKind, word: WordKind) -> PartKind
     ensures { result ≡ word_part kind word }
 {

@@ -6,10 +6,10 @@ ghost use Rattle.mm_text.specs.declared.fault.TextError.TheVariants.{Memory, Fau
 use std::alloc::{AllocError, AllocFailed};
 use thiserror::Error;
 
-/// The kinds of fault that a text can have, and the byte that each is told at.
+/// The kinds of fault that a text can have, and the byte that each is reported at.
 ///
-/// `T01` goes before all others. Of the rest a text has the one that is met first when it is read from its
-/// beginning; `T02`, `T07` and `T08` are met at its end, where the lowest number counts.
+/// `T01` comes before all others. Of the rest a text has the one that is found first when it is read from its
+/// beginning; `T02`, `T07` and `T08` are found at its end, and the lowest number counts there.
 #[derive(Clone, Copy, Debug, PartialEq, Eq)]
 pub enum TextNumber {
     /// A byte that is neither printable (0x21 to 0x7E) nor white space, in a comment too. At the first such
@@ -32,11 +32,11 @@ pub enum TextNumber {
     T08,
     /// `$}` where a statement might begin and no block is open. At the word.
     T09,
-    /// `$[` inside a block, a statement or an inclusion, but not right behind another `$[`. At the word.
+    /// `$[` inside a block, a statement or an inclusion, but not right after another `$[`. At the word.
     T10,
     /// A plain word where a statement might begin, with a character that no label has. At the word.
     T11,
-    /// A keyword right behind `$[`, where the name of a file is to stand. At the word.
+    /// A keyword right after `$[`, in the place of the name of a file. At the word.
     T12,
 }
 
@@ -46,7 +46,7 @@ pub enum TextNumber {
 pub struct TextFault {
     /// What is wrong.
     pub number: TextNumber,
-    /// The byte that it is told at, counted from 0. `place` gives its line and column.
+    /// The byte that it is reported at, counted from 0. `place` gives its line and column.
     pub at: usize,
 }
 

@@ -18,7 +18,7 @@ use std::alloc::{AllocError, Global};
 pub enum Phase {
     /// A unit.
     Begin,
-    /// The keyword behind a label.
+    /// The keyword after a label.
     Labelled,
     /// Symbols, or the labels of a proof, and `$.`.
     Symbols,
@@ -26,11 +26,11 @@ pub enum Phase {
     Expression,
     /// The name of an inclusion.
     Including,
-    /// The `$]` behind the name.
+    /// The `$]` after the name.
     Named,
 }
 
-/// Where a reading of units stands.
+/// How far a reading of units is.
 #[derive(Drop)]
 pub struct Grammar {
     phase: Phase,
@@ -67,7 +67,7 @@ impl Grammar {
         matches!(self.phase, Phase::Symbols | Phase::Expression)
     }
 
-    /// Reads one more word, which is spelled so, or tells why no unit has it at this place.
+    /// Reads one more word, with this spelling, or says why no unit has it at this place.
     pub fn take(&mut self, word: &Word, spelling: &[u8]) -> Result<(), TextError>
         ensures { GrammarTakes self.old word.now (list_all is_label_byte spelling.now) result self.new }
     {
@@ -121,9 +121,9 @@ fn open_or_close(blocks: &mut Vec<usize>, word: &Word) -> Result<(), AllocError>
     Ok(())
 }
 
-/// What comes behind a word, which is spelled so, or the number of the fault if no unit has the word at this place.
+/// What comes after a word with this spelling, or the number of the fault if no unit has the word at this place.
 ///
-/// Outside is where no block is open.
+/// Outside means that no block is open.
 fn behind(phase: Phase, outside: bool, kind: WordKind, spelling: &[u8]) -> Result<Phase, TextNumber>
     ensures { result ≡ phase_of (next phase (level outside) kind (list_all is_label_byte spelling.now)) }
 {
@@ -133,7 +133,7 @@ fn behind(phase: Phase, outside: bool, kind: WordKind, spelling: &[u8]) -> Resul
     }
 }
 
-/// Only where a unit may begin is a plain word looked at: there it has to be a label.
+/// A plain word is looked at only where a unit may begin: there it has to be a label.
 fn behind_plain(phase: Phase, spelling: &[u8]) -> Result<Phase, TextNumber>
     ensures { (depth : ℕ) → result ≡ phase_of (next phase depth kinds.Plain (list_all is_label_byte spelling.now)) }
 {

@@ -15,7 +15,7 @@ ghost use Rattle.mm_text.specs.Language.Unit.{IsUnitFault};
 
 /// Each text has its words or its fault: one list of words or one fault, and never both.
 ///
-/// So `words` finds the words of each text that has them, and tells the fault only of a text that has none,
+/// So `words` finds the words of each text that has them, and reports the fault only of a text that has none,
 /// unless memory runs out.
 pub fn one_meaning()
     ensures some { (text : List ℕ) → ((words : List Word) × HasWords text words) ⊎ ((fault : TextFault) × IsWordsFault text fault) }
@@ -27,7 +27,7 @@ pub fn one_meaning()
 /// A text is laid out in one way: white space, a longest sequence of bytes without white space, white space,
 /// and so on.
 ///
-/// These sequences, in which words and the marks of comments are read, are what `words` goes by.
+/// `words` reads words and the marks of comments in these sequences.
 pub fn one_layout()
     ensures laid_out { (text : List ℕ) → IsLaidOut 0 text (runs text) }
     ensures only { (text : List ℕ) (others : List Run) → IsLaidOut 0 text others → runs text ≡ others }
@@ -49,7 +49,7 @@ pub fn one_division()
         → a ≡ b }
 {}
 
-/// Each part of a text of whole units has a byte at least, lies in the text, and is a text with words by itself.
+/// Each part of a text of whole units has at least one byte, is in the text, and is by itself a text with words.
 pub fn parts_are_texts()
     ensures { (text : List ℕ) (units : Units) → HasUnits text units → All (IsReadable text) (parts_of units) }
 {}
@@ -68,7 +68,7 @@ pub fn words_stand_alone()
 
 /// A text has one cut or one first fault, and never both.
 ///
-/// So `cut` cuts each text that can be cut, and tells the fault only of a text that cannot, unless memory runs
+/// So `cut` cuts each text that can be cut, and reports the fault only of a text that cannot, unless memory runs
 /// out.
 pub fn one_cut()
     ensures some { (text : List ℕ) → ((pieces : List (List ℕ)) × (tail : List ℕ) × IsCut text pieces tail) ⊎ ((fault : TextFault) × IsFirstFault text fault) }
@@ -84,7 +84,7 @@ pub fn first_faults_are_within()
 
 /// A text whose cut has one piece holds one unit, and no more.
 ///
-/// This is said of the text as it is cut: with one line feed added, if it does not end in white space. Its unit is that of
+/// This holds of the text as it is cut: with one line feed added, if it does not end in white space. Its unit is that of
 /// the piece, with each word at the same byte, so it has the parts of the piece.
 pub fn one_unit_of_cut()
     ensures unit { (text piece tail : List ℕ) → IsCut text (piece ∷ []) tail → HoldsOne (ended text) }

@@ -30,8 +30,8 @@ pub enum PartKind {
 pub struct Part {
     /// What the part is.
     pub kind: PartKind,
-    /// The first byte of its first word, of a label where it has one.
+    /// The first byte of its first word, which is its label if it has one.
     pub start: usize,
-    /// The byte behind its last word.
+    /// The byte after its last word.
     pub end: usize,
 }

@@ -2,7 +2,7 @@
 
 use crate::part::Part;
 
-/// The pieces of a text, each with one unit, and what stands behind them.
+/// The pieces of a text, each with one unit, and what follows them.
 #[derive(Debug, Drop)]
 pub struct Cut {
     /// The texts of the pieces, in order. Each ends in white space.

@@ -91,8 +91,8 @@ impl<'a> Reader<'a> {
         })
     }
 
-    /// The next word outside comments, or `None` where there is none before the end of the text. Most words have no `$`,
-    /// and are told at once.
+    /// The next word outside comments, or `None` if there is none before the end of the text. Most words have no `$`,
+    /// and are found at once.
     #[inline(always)]
     pub fn next_word(&mut self) -> Result<Option<Word>, TextFault>
         ensures text { self.new.text.now ≡ self.old.text.now }
@@ -112,7 +112,7 @@ impl<'a> Reader<'a> {
         }))
     }
 
-    /// The next word outside comments, where only white space stands before `start`. A keyword at `start` is told at once.
+    /// The next word outside comments, with only white space before `start`. A keyword at `start` is found at once.
     fn other_word(&mut self, start: usize) -> Result<Option<Word>, TextFault>
         requires within { start ≤ length self.old.text.now }
         requires forward { self.old.from ≤ start }
@@ -132,7 +132,7 @@ impl<'a> Reader<'a> {
         }))
     }
 
-    /// The next word outside comments, whatever stands before it.
+    /// The next word outside comments, whatever is before it.
     fn any_word(&mut self) -> Result<Option<Word>, TextFault>
         ensures text { self.new.text.now ≡ self.old.text.now }
         ensures word { GivesWord self.old.text.now self.old.from result self.new.from }

@@ -20,7 +20,7 @@ fn white_end(bytes: &[u8]) -> usize
     end
 }
 
-/// How many bytes stand before the run that has the first `$`: all, where there is none.
+/// How many bytes are before the run that has the first `$`: all, if there is none.
 pub fn dollarless_len(bytes: &[u8]) -> usize
     ensures within { result ≤ length bytes.now }
     ensures none { has_dollar (take result bytes.now) ≡ false }

@@ -38,7 +38,7 @@ pub fn white_len(bytes: &[u8]) -> usize
         .count()
 }
 
-/// How many bytes stand before the first white space, or before the end.
+/// How many bytes are before the first white space, or before the end.
 pub fn run_len(bytes: &[u8]) -> usize
     ensures within { result ≤ length bytes.now }
     ensures value { result ≡ prefix_len is_solid bytes.now }
@@ -49,7 +49,7 @@ pub fn run_len(bytes: &[u8]) -> usize
         .count()
 }
 
-/// Whether a byte is neither white space nor a `$`. Most bytes are told by one comparison.
+/// Whether a byte is neither white space nor a `$`. One comparison decides for most bytes.
 #[tactic(auto, unfolding(crate::specs::Language::Run::is_white))]
 fn is_plain_byte(byte: u8) -> bool
     ensures { result ≡ is_dollarless byte }
@@ -57,14 +57,14 @@ fn is_plain_byte(byte: u8) -> bool
     byte > b'$' || !(byte == b'$' || is_white_space(byte))
 }
 
-/// Where the first white space or `$` stands.
+/// Where the first white space or `$` is.
 fn plain_end(bytes: &[u8]) -> Option<usize>
     ensures { result ≡ position (λ b. not (is_dollarless b)) bytes.now }
 {
     bytes.iter().position(|byte| !is_plain_byte(*byte))
 }
 
-/// How many bytes the run has that these bytes begin with, where it has no `$`; none where it has one, or where there is no run.
+/// The length of the run that these bytes begin with, if it has no `$`; 0 if it has one, or if there is no run.
 pub fn plain_run_len(bytes: &[u8]) -> usize
     ensures within { result ≤ length bytes.now }
     ensures len { 0 < result → result ≡ prefix_len is_solid bytes.now }
@@ -77,7 +77,7 @@ pub fn plain_run_len(bytes: &[u8]) -> usize
     }
 }
 
-/// The keyword that has this byte behind its `$`, if there is one.
+/// The keyword that has this byte after its `$`, if there is one.
 fn keyword_of(byte: u8) -> Option<Keyword>
     ensures { result ≡ keyword_at byte }
 {
@@ -109,7 +109,7 @@ fn is_end_of_run(bytes: &[u8]) -> bool
     }
 }
 
-/// The keyword that these bytes begin with, where it is a run of its own. A comment mark is no keyword.
+/// The keyword that these bytes begin with, if it is a whole run. A comment mark is no keyword.
 pub fn keyword_run(bytes: &[u8]) -> Option<Keyword>
     ensures within { IfSome result (λ _. 2 ≤ length bytes.now) }
     ensures len { IfSome result (λ _. prefix_len is_solid bytes.now ≡ 2) }
@@ -121,7 +121,7 @@ pub fn keyword_run(bytes: &[u8]) -> Option<Keyword>
     }
 }
 
-/// What kind of word a run outside comments is: `None` where it has a `$` and is no keyword.
+/// What kind of word a run outside comments is: `None` if it has a `$` and is no keyword.
 pub fn kind(run: &[u8]) -> Option<WordKind>
     ensures { result ≡ word_kind run.now }
 {
@@ -158,7 +158,7 @@ fn is_comment_mark(first: u8, second: u8) -> bool
     first == b'$' && (second == b'(' || second == b')')
 }
 
-/// Whether `$(` or `$)` stands somewhere in a run.
+/// Whether `$(` or `$)` is somewhere in a run.
 pub fn has_mark(run: &[u8]) -> bool
     ensures { result ≡ holds_mark run.now }
 {

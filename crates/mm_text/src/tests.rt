@@ -33,7 +33,7 @@ fn part(kind: PartKind, start: usize, end: usize) -> Part {
     Part { kind, start, end }
 }
 
-/// The words that a cursor tells, one behind the last among them, and the first that one tells that began again behind the
+/// The words that a cursor gives, and what it gives after the last; and the first that a cursor gives that began again after the
 /// first word.
 fn told(text: &[u8]) -> ([Option<Word>; 4], Option<Word>)
     requires { (words : List Found) × HasWords text.now words }
@@ -50,7 +50,7 @@ fn told(text: &[u8]) -> ([Option<Word>; 4], Option<Word>)
     (found, other.next_word())
 }
 
-/// The words with these numbers, one behind the last among them.
+/// The words with these numbers, the last of which no word has.
 fn numbered(text: &[u8]) -> [Option<Word>; 4]
     requires { (words : List Found) × HasWords text.now words }
 {

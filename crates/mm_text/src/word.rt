@@ -29,7 +29,7 @@ pub enum Keyword {
     ProofStart,
     /// `$[` goes before the name of a file to be included.
     InclusionStart,
-    /// `$]` goes behind that name.
+    /// `$]` comes after that name.
     InclusionEnd,
 }
 
@@ -42,13 +42,13 @@ pub enum WordKind {
     Keyword(Keyword),
 }
 
-/// A word, and where it stands: the bytes of the text from `start` to before `end` spell it.
+/// A word, and where it is: the bytes of the text from `start` to before `end` spell it.
 #[derive(Clone, Copy, Debug, PartialEq, Eq)]
 pub struct Word {
     /// What the word is.
     pub kind: WordKind,
     /// Its first byte, counted from 0.
     pub start: usize,
-    /// The byte behind its last, counted from 0: white space, or the end of the text.
+    /// The byte after its last, counted from 0: white space, or the end of the text.
     pub end: usize,
 }
