@@ -28,7 +28,7 @@ impl Model for ActiveNumbers {
     ghost view = { numbers_inside };
 }
 
-/// Whether the item with this number is active behind the last item.
+/// Whether the item with this number is active after the last item.
 fn is_active_behind(blocks: &Blocks, number: usize) -> bool
     ensures { result ≡ stays_by (drop (number + 1) blocks.now) }
 {
@@ -72,8 +72,8 @@ impl ActiveNumbers {
         Ok(())
     }
 
-    /// Drops the numbers of what is no longer active behind one more item that is not of this sort. Only a `$}` can
-    /// make a difference: so it is called behind each.
+    /// Drops the numbers of what is no longer active after one more item that is not of this sort. Only a `$}` can
+    /// make a difference: so it is called after each `$}`.
     pub fn prune(&mut self, blocks: &Blocks)
         ensures { (test : meant.Item → Bool) (before : List meant.Item) (item : meant.Item) → test item ≡ false → blocks.now ≡ block_marks (before ++ item ∷ [])
             → self.old ≡ active_numbers test before → self.new ≡ active_numbers test (before ++ item ∷ []) }

@@ -1,4 +1,4 @@
-//! What is active behind the items so far.
+//! What is active after the items so far.
 
 ghost use Rattle.std.specs.Prelude.{◌≡◌, ◌∷◌, ◌++◌, ◌&&◌, ℕ, Bool, List, [], OnOk, length};
 ghost use Rattle.mm_frame.specs.declared.symbol.NumberedSymbol.{NumberedSymbol as Kept};
@@ -54,7 +54,7 @@ fn ends_block(kind: ItemKind) -> bool
     matches!(kind, ItemKind::BlockEnd)
 }
 
-/// Whether what is active may change behind this item: no other one makes a difference.
+/// Whether what is active may change with this item: no other item makes a difference.
 fn changes_active(item: TakenItem) -> bool
     ensures { result ≡ (item.sound && changes_active (kind_of item.kind)) }
 {
@@ -65,7 +65,7 @@ fn changes_active(item: TakenItem) -> bool
         )
 }
 
-/// Goes on with the active items of one sort behind one more item; `of_sort` tells whether its kind is of the sort.
+/// Goes on with the active items of one sort past one more item; `of_sort` says whether its kind is of the sort.
 fn follow(
     numbers: &mut ActiveNumbers,
     blocks: &Blocks,
@@ -129,7 +129,7 @@ impl ActiveItems {
         self.variables.as_slice()
     }
 
-    /// Goes on behind one more item: these are the blocks with it, and the symbols of all items with its own. After an
+    /// Goes on past one more item: these are the blocks with it, and the symbols of all items with its own. After an
     /// allocation failure what is active must not be used.
     pub fn follow(
         &mut self,

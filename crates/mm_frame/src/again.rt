@@ -1,4 +1,4 @@
-//! Reads the items of files beside an older base, of which most of them are known.
+//! Reads the items of files with the help of an older base, which knows most of them.
 
 ghost use Rattle.std.specs.Prelude.{◌≡◌, ◌<◌, ◌∷◌, ◌++◌, ℕ, List, [], All, IfOk, IfSome, IsTrue, OnOk, true, length};
 ghost use Rattle.std.specs.List.{AllZip};
@@ -40,7 +40,7 @@ fn is_again(old: &Base, i: usize, item: &Item) -> bool
     i < old.count() && is_same_range(old.item(i), item)
 }
 
-/// Whether names of symbols are seldom asked for in an item of this kind, which are kept where it is sound.
+/// Whether an item of this kind seldom needs the names of its symbols, which are kept if it is sound.
 fn needs_no_names(kind: ItemKind) -> bool
     ensures { IsTrue result → is_read (kind_of kind) ≡ true }
 {
@@ -107,7 +107,7 @@ fn statement_of<'a>(
     Ok(statement)
 }
 
-/// The number of the item of an older base that may be the one behind this item. Any number will do: it is compared.
+/// The number of the item of an older base that may be the next after this item. Any number will do: it is compared.
 fn place_behind(old: &Base, i: usize, item: &Item, label: Option<&[u8]>) -> usize
     requires { (base : BaseView) × IsBase base old.now }
 {
@@ -128,8 +128,8 @@ pub struct Beside<'a> {
     pub next: usize,
 }
 
-/// Reads one more item of the files, which may be the next one of an older base, and tells which may be the next one then.
-/// Out of memory leaves the draft as good for nothing, and may leave more names.
+/// Reads one more item of the files, which may be the next one of an older base, and answers which may be the next one then.
+/// After out of memory the draft must not be used, and there may be more names.
 fn read_again<'a>(
     draft: &mut Draft<'a>,
     alloc: Global,
@@ -153,7 +153,7 @@ fn read_again<'a>(
     Ok(place_behind(old, i, item, statement.label()))
 }
 
-/// Reads items of the files, from the first one on, beside an older base.
+/// Reads items of the files, from the first one on, with the help of an older base.
 pub fn read_all_again<'a>(
     alloc: Global,
     names: &mut Names,

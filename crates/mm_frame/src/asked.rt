@@ -1,4 +1,4 @@
-//! Which pairs of variables were asked, and what was found.
+//! Which pairs of variables were looked up, and what was found.
 
 ghost use Rattle.std.specs.Prelude.{◌≡◌, ℕ, List, [], OnOk};
 ghost use Rattle.mm_frame.specs.Language.Item as meant;
@@ -6,7 +6,7 @@ ghost use Rattle.mm_frame.specs.Language.Item as meant;
 use std::alloc::{AllocError, Global};
 use std::collections::HashMap;
 
-/// What was found where two variables were asked, by the numbers of their names.
+/// What was found when two variables were looked up, by the numbers of their names.
 #[derive(Clone, Copy)]
 pub struct Answer {
     /// The number of the one name.
@@ -19,21 +19,21 @@ pub struct Answer {
     pub common: Option<usize>,
 }
 
-/// The pairs of variables that were asked, each with its last answer.
+/// The pairs of variables that were looked up, each with its last answer.
 ///
 /// The first active `$d` that has both ends last of those that were looked at. So as long as it is active both are an
-/// active pair, and from then on the `$d` that came later are the only ones to look at.
+/// active pair, and after that only later `$d` have to be looked at.
 #[derive(Drop)]
 pub struct AskedPairs {
     answers: Vec<Answer>,
-    /// Where an answer may stand. What is found by it is compared, so that no answer depends on it.
+    /// The place where an answer may be. What is found there is compared, so no answer depends on it.
     places: HashMap<(usize, usize), usize>,
 }
 
 impl AskedPairs {
     ghost use Rattle.mm_frame.specs.Code.KeptAsked.{IsKnownPair, KnowsAsked};
 
-    /// No pair was asked yet. Takes no memory.
+    /// No pair was looked up yet. Takes no memory.
     pub fn new(alloc: Global) -> Self
         ensures { (all : List (List ℕ)) → KnowsAsked all [] result }
     {
@@ -43,7 +43,7 @@ impl AskedPairs {
         }
     }
 
-    /// Where the answer on two names may stand.
+    /// The place where the answer on two names may be.
     fn place(&self, first: usize, second: usize) -> usize {
         match self.places.get(&(first, second)) {
             Some(place) => *place,
@@ -51,7 +51,7 @@ impl AskedPairs {
         }
     }
 
-    /// What was found for the names with these numbers; where they were not asked yet, nothing was looked at.
+    /// What was found for the names with these numbers; if they were not looked up yet, nothing was looked at.
     pub fn known(&self, first: usize, second: usize) -> Answer
         ensures first { result.first ≡ first }
         ensures second { result.second ≡ second }

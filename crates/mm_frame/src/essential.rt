@@ -21,12 +21,12 @@ pub struct EssentialVariable {
     pub symbol: NumberedSymbol,
 }
 
-/// The variables of the active `$e`, each once, by the first of these that has it. They are kept as long as that one is
+/// The variables of the active `$e`, each once, by the first active `$e` that has it. They are kept as long as that one is
 /// active; so an assertion needs no look at each symbol of each active `$e`.
 #[derive(Drop)]
 pub struct EssentialVariables {
     found: Vec<EssentialVariable>,
-    /// Where a variable may stand, by the number of its name. What is found by it is compared, so that no answer depends
+    /// The place where a variable may be, by the number of its name. What is found there is compared, so no answer depends
     /// on it.
     places: Vec<usize>,
 }
@@ -41,7 +41,7 @@ fn is_later(number: usize, essentials: &[usize]) -> bool
     }
 }
 
-/// How many of the variables are left where these `$e` are active.
+/// How many of the variables are left if these `$e` are active.
 fn left_count(found: &[EssentialVariable], essentials: &[usize]) -> usize
     ensures within { result ≤ length found.now }
     ensures gone { IsRising essentials.now → (v : EssentialVariable) → Contains (drop result found.now) v → (n : ℕ) → Contains essentials.now n → n < v.number }
@@ -88,7 +88,7 @@ impl EssentialVariables {
         kept.symbol == symbol && is_among(essentials, kept.number)
     }
 
-    /// Notes where a variable will stand that is kept next.
+    /// Notes the place of the variable that is kept next.
     fn note(&mut self, symbol: NumberedSymbol) -> Result<(), AllocError>
         ensures { OnOk result (self.new.found ≡ self.old.found) }
     {
@@ -137,7 +137,7 @@ impl EssentialVariables {
         Ok(())
     }
 
-    /// Goes on behind one more item, which has this number: these are the active `$e` behind it, and the symbols of all.
+    /// Goes on past one more item, which has this number: these are the active `$e` after it, and the symbols of all.
     /// After an allocation failure the variables must not be used.
     pub fn follow(
         &mut self,

@@ -1,4 +1,4 @@
-//! The fault of a statement behind the sound items before it.
+//! The fault of a statement after the sound items before it.
 
 ghost use Rattle.std.specs.Prelude.{◌≡◌, ◌<◌, ◌∷◌, ◌++◌, ℕ, true, None, List, [], IfOk, length, take, slice_index_or};
 ghost use Rattle.std.specs.Option.{option_map};
@@ -20,12 +20,12 @@ use mm_store::ItemKind;
 use std::alloc::{AllocError, Global};
 use std::collections::HashSet;
 
-/// A fault of a statement: its number, and the word that it is told at, counted from 0 in the statement.
+/// A fault of a statement: its number, and the word that it is reported at, counted from 0 in the statement.
 #[derive(Clone, Copy, Debug, PartialEq, Eq)]
 pub struct FrameFault {
     /// Its number.
     pub number: FrameNumber,
-    /// The word that it is told at, from 0: the label if there is one, else the keyword, is word 0.
+    /// The word that it is reported at, from 0: the label if there is one, else the keyword, is word 0.
     pub word: usize,
 }
 
@@ -42,7 +42,7 @@ fn label_fault(names: &Names, scope: &Scope, label: &[u8]) -> Option<FrameNumber
     }
 }
 
-/// What is wrong at the first word: a `$c` stands in a block, or the label is wrong.
+/// What is wrong at the first word: a `$c` is in a block, or the label is wrong.
 fn front_fault(names: &Names, scope: &Scope, statement: &Statement) -> Option<FrameNumber>
     ensures { (before : List Item) → AreSound before → ScopeHolds names.now before scope.now → result ≡ judging.front_fault before statement.now }
 {
@@ -52,7 +52,7 @@ fn front_fault(names: &Names, scope: &Scope, statement: &Statement) -> Option<Fr
     label_fault(names, scope, statement.label()?)
 }
 
-/// What is wrong with a symbol of a `$c` or `$v`, if it is known whether the symbol stands earlier in the same
+/// What is wrong with a symbol of a `$c` or `$v`, if it is known whether the symbol occurs earlier in the same
 /// statement, and whether it is a symbol already that must not be declared again.
 fn declared_fault(scope: &Scope, name: &[u8], repeated: bool, declared: bool) -> Option<FrameNumber>
     ensures constant { (all : List (List ℕ)) (before : List Item) (item : Item) (n : ℕ) → AreSound before → ScopeHolds all before scope.now
@@ -73,7 +73,7 @@ fn declared_fault(scope: &Scope, name: &[u8], repeated: bool, declared: bool) ->
     }
 }
 
-/// What is wrong with a symbol of a `$d`, told by its number, if it is known whether the symbol stands earlier in the
+/// What is wrong with a symbol of a `$d`, given by its number, if it is known whether the symbol occurs earlier in the
 /// same statement.
 fn disjoint_fault(scope: &Scope, number: usize, repeated: bool) -> Option<FrameNumber>
     ensures { (all : List (List ℕ)) (before : List Item) (item : Item) (n : ℕ) (name : List ℕ) → AreSound before → ScopeHolds all before scope.now
@@ -99,7 +99,7 @@ fn typecode_fault(scope: &Scope, number: usize) -> Option<FrameNumber>
     None
 }
 
-/// What is wrong with the variable of a `$f`, told by its number, that gives it this typecode.
+/// What is wrong with the variable of a `$f`, given by its number, that gives it this typecode.
 fn typed_fault(scope: &Scope, number: usize, typecode: &[u8]) -> Option<FrameNumber>
     ensures { (all : List (List ℕ)) (before : List Item) (item : Item) (name : List ℕ) → AreSound before → ScopeHolds all before scope.now
         → IsNameNumber all number name → meant.typecode_of item ≡ typecode.now → result ≡ judging.typed_fault before item name }
@@ -134,7 +134,7 @@ fn floating_fault(
     }
 }
 
-/// What is wrong with the symbol behind a typecode that has this number.
+/// What is wrong with the symbol after a typecode that has this number.
 fn later_fault(scope: &Scope, number: usize) -> Option<FrameNumber>
     ensures { (all : List (List ℕ)) (before : List Item) (name : List ℕ) → AreSound before → ScopeHolds all before scope.now → IsNameNumber all number name
         → result ≡ judging.later_fault before name }
@@ -205,8 +205,8 @@ fn must_differ(kind: ItemKind) -> bool
     )
 }
 
-/// What is wrong with the n-th symbol, counted from 0, which has this number, if it is known whether it stands earlier
-/// in the same statement where it must not.
+/// What is wrong with the n-th symbol, counted from 0, which has this number, if it is known whether it occurs earlier
+/// in the same statement, for a kind that forbids this.
 fn symbol_fault(
     scope: &Scope,
     statement: &Statement,
@@ -252,11 +252,11 @@ fn stands_before(numbers: &[usize], n: usize) -> bool
     false
 }
 
-/// How many symbols are compared with one another; where there are more, they are found by hash.
+/// Up to this many symbols are compared with one another; more are found by hash.
 const FEW_SYMBOLS: usize = 16;
 
-/// Whether the n-th symbol, counted from 0, is one of those before it, where they have to differ: symbols are told by the
-/// numbers of their names. Where these are kept, those before it are those seen so far, which it joins; else no memory is
+/// Whether the n-th symbol, counted from 0, is one of those before it, if they have to differ: symbols are given by the
+/// numbers of their names. If these are kept, those before it are those seen so far, which it joins; else no memory is
 /// taken.
 fn is_repeated(
     seen: &mut HashSet<usize>,
@@ -276,7 +276,7 @@ fn is_repeated(
     Ok(differ && stands_before(numbers, n))
 }
 
-/// The first fault among the symbols, which have these numbers. Memory is taken where many have to differ.
+/// The first fault among the symbols, which have these numbers. Memory is taken if many have to differ.
 fn symbols_fault(
     alloc: Global,
     scope: &Scope,
@@ -329,8 +329,8 @@ fn end_fault(statement: &Statement) -> Option<FrameFault>
     })
 }
 
-/// The fault of a statement behind the sound items of a scope, if it has one: at the first word with a fault, with
-/// the lowest number there. What is no statement has none. Its symbols have these numbers among the names.
+/// The fault of a statement after the sound items of a scope, if it has one: at the first word with a fault, with
+/// the lowest number there. An item that is no statement has none. Its symbols have these numbers among the names.
 ///
 /// It reads the words once, in time near linear in them.
 pub fn fault_of(

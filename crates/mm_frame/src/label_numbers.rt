@@ -11,15 +11,15 @@ const MOST_SHORT: usize = 9;
 
 /// Labels, each with the number of an item.
 ///
-/// Nearly all labels that proofs name have few bytes. Such a one is kept as the number that its bytes make, beside the
-/// others: so a look-up reads little memory. A longer one is kept by its bytes.
+/// Nearly all labels that proofs name have few bytes. A short label is kept as the number that its bytes make, so a
+/// look-up reads little memory. A longer one is kept by its bytes.
 #[derive(Drop)]
 pub struct LabelNumbers {
     short: HashMap<u64, usize>,
     long: HashMap<Vec<u8>, usize>,
 }
 
-/// The number whose digits to the base 128 are these bytes, the first one the lowest, with a 1 on top; none where there
+/// The number whose digits to the base 128 are these bytes, the first one the lowest, with a 1 on top; none if there
 /// are more bytes than it has room for, or one is no ASCII.
 fn code_of(label: &[u8]) -> Option<u64>
     ensures { MatchOption result (is_coded label.now ≡ false) (λ code. (is_coded label.now ≡ true) × (code ≡ label_code label.now)) }
@@ -64,7 +64,7 @@ impl LabelNumbers {
         }
     }
 
-    /// Gives a label this number, in the place of the one that it had. Out of memory leaves the labels as good for nothing.
+    /// Gives a label this number, in the place of the one that it had. After out of memory the labels must not be used.
     pub fn insert(&mut self, alloc: Global, label: &[u8], number: usize) -> Result<(), AllocError>
         ensures { OnOk result ((other : List ℕ) → label_number self.new other
             ≡ (if bytes_eq label.now other then Some number else label_number self.old other)) }

@@ -41,7 +41,7 @@ pub fn kept_next()
     ensures { KeptNext }
 {}
 
-/// Items close no block that was open before them exactly where no beginning of them ends more blocks than it starts.
+/// Items close no block that was open before them exactly when no beginning of them ends more blocks than it starts.
 pub fn stays_by_counts()
     ensures { StaysByCounts }
 {}
@@ -51,7 +51,7 @@ pub fn reader_is_active()
     ensures { ReaderIsActive }
 {}
 
-/// A statement is active at a later one exactly where each block that holds it holds the later one.
+/// A statement is active at a later one exactly when each block that holds it holds the later one.
 pub fn active_by_blocks()
     ensures { ActiveByBlocks }
 {}
@@ -71,7 +71,7 @@ pub fn mandatory_means()
     ensures { MandatoryMeans }
 {}
 
-/// The mandatory hypotheses of an item are sound and stand before it, and are those of its frame.
+/// The mandatory hypotheses of an item are sound, come before it, and are those of its frame.
 pub fn mandatory_stand_before()
     ensures { MandatoryStandBefore }
 {}

@@ -1,4 +1,4 @@
-//! Scopes, soundness and frames: what is declared and active behind a list of items, which statements are sound, and what labels mean.
+//! Scopes, soundness and frames: what is declared and active after a list of items, which statements are sound, and what labels mean.
 #![tactic(auto)]
 
 mod active;
@@ -59,9 +59,9 @@ pub use symbol::{NamedSymbol, NumberedSymbol, Symbol};
 pub enum FrameNumber {
     /// The count of symbols is wrong.
     F01,
-    /// A `$c` stands in a block.
+    /// A `$c` is in a block.
     F02,
-    /// A symbol stands twice in a `$c`, `$v` or `$d`.
+    /// A symbol is in a `$c`, `$v` or `$d` twice.
     F03,
     /// A symbol is declared already.
     F04,

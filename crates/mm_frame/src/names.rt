@@ -9,10 +9,10 @@ use indexmap::IndexSet;
 use std::alloc::{AllocError, Global};
 use std::marker::Model;
 
-/// Names, each once, numbered from 0. A name keeps its number: new ones come behind the others.
+/// Names, each once, numbered from 0. A name keeps its number: new ones come after the others.
 ///
-/// Few names make up most of a text. So what a look-up found is kept as a guess, which the next one for a name of a like
-/// spelling compares before it looks the name up by hash.
+/// Few names make up most of a text. So what a look-up found is kept as a guess, which the next look-up of a name with a
+/// similar spelling compares before it looks the name up by hash.
 #[derive(Drop)]
 pub struct Names {
     names: IndexSet<Vec<u8>>,
@@ -77,7 +77,7 @@ impl Names {
         self.names.len()
     }
 
-    /// No name stands twice.
+    /// No name is there twice.
     pub(crate) fn distinct(&self)
         ensures { AreDistinct self.now }
     {
@@ -110,7 +110,7 @@ impl Names {
         }
     }
 
-    /// Keeps a guess, where there is a place for it.
+    /// Keeps a guess, if there is a place for it.
     fn keep_guess(&mut self, place: usize, number: usize)
         ensures { self.new ≡ self.old }
     {
@@ -146,7 +146,7 @@ impl Names {
         }
     }
 
-    /// Puts a new name behind the others.
+    /// Adds a new name after the others.
     fn add(&mut self, alloc: Global, name: &[u8]) -> Result<usize, AllocError>
         requires { list_any (bytes_eq name.now) self.old ≡ false }
         ensures ok { IfOk result (λ n. (n ≡ length self.old) × (self.new ≡ self.old ++ name.now ∷ [])) }

@@ -23,12 +23,12 @@ use std::collections::HashMap;
 /// active `$d` share one list; and so do two lists made one after the other that have the same pairs. A list has each
 /// pair once, with the lower number of a name first, and is sorted by these numbers.
 ///
-/// A list is made from that of the outer `$d`, those that were active where the last list was made: it is the same list
-/// where the others have no pair that is not in it, which takes time near linear in their pairs.
+/// A list is made from that of the outer `$d`, those that were active when the last list was made. It is the same list
+/// if the other `$d` add no pair to it, which takes time near linear in their pairs.
 #[derive(Drop)]
 pub struct PairLists {
     lists: Vec<Vec<(NumberedSymbol, NumberedSymbol)>>,
-    /// The number of the list, by the count of items up to the last active `$d`: 0 where no `$d` is active.
+    /// The number of the list, by the count of items up to the last active `$d`: 0 if no `$d` is active.
     made: HashMap<usize, usize>,
     /// The count of items up to the last `$d` of the last list that was made.
     reach: usize,
@@ -137,7 +137,7 @@ fn has_all(
     true
 }
 
-/// How many of the active `$d` were active where the last list was made, which was for so many items.
+/// How many of the active `$d` were active when the last list was made, which was for this many items.
 fn outer_count(disjoints: &[usize], reach: usize) -> usize
     ensures { result ≤ length disjoints.now }
 {
@@ -148,14 +148,14 @@ fn outer_count(disjoints: &[usize], reach: usize) -> usize
     count
 }
 
-/// The count of items up to the one with this number, of so many in all: 0 where there is no such item.
+/// The count of items up to the one with this number, of this many in all: 0 if there is no such item.
 fn count_to(number: usize, count: usize) -> usize
     ensures { number < count → result ≡ number + 1 }
 {
     if number < count { number + 1 } else { 0 }
 }
 
-/// The count of items up to the last of the first active `$d`: 0 where there is none.
+/// The count of items up to the last of the first active `$d`: 0 if there is none.
 fn count_to_last(disjoints: &[usize], expressions: &Expressions) -> usize
     ensures { (all : List (List ℕ)) (before : List meant.Item) (rest : List ℕ) → AreSymbols all before expressions.now
         → disjoints.now ++ rest ≡ active_numbers is_disjoint_item before → AreFrontNumbers before disjoints.now result }
@@ -180,7 +180,7 @@ impl PairLists {
         }
     }
 
-    /// The number of the list that is made for so many items, if one is made.
+    /// The number of the list that is made for this many items, if one is made.
     fn made_for(&self, count: usize) -> Option<usize>
         ensures { result ≡ list_made self.now count }
     {
@@ -218,7 +218,7 @@ impl PairLists {
     }
 
     /// The number of the list of the first active `$d`, which is made now, of all their pairs, if there is none yet: `count`
-    /// is that of the items up to the last of them. Out of memory leaves the lists as good for nothing.
+    /// is that of the items up to the last of them. After out of memory the lists must not be used.
     fn first_list(
         &mut self,
         alloc: Global,
@@ -276,7 +276,7 @@ impl PairLists {
 
     /// The number of the list of the outer `$d`, the first of those that are active, which is made now if there is none
     /// yet: `count` is that of the items up to the last of them. It is made from that of the most `$d` that have one, so
-    /// that no pair of these is asked again. After an allocation failure the lists must not be used.
+    /// that no pair of these `$d` is looked up again. After an allocation failure the lists must not be used.
     fn outer_list(
         &mut self,
         alloc: Global,
@@ -304,10 +304,10 @@ impl PairLists {
         Ok(k)
     }
 
-    /// The number of the list of the active pairs behind sound items, which is made now if there is none yet.
+    /// The number of the list of the active pairs after sound items, which is made now if there is none yet.
     ///
     /// `disjoints` are the numbers of the active `$d`, and `expressions` the symbols of the items by their numbers.
-    /// Out of memory leaves the lists as good for nothing.
+    /// After out of memory the lists must not be used.
     pub fn list_of(
         &mut self,
         alloc: Global,
@@ -333,7 +333,7 @@ impl PairLists {
         Ok(k)
     }
 
-    /// The list with this number: empty where there is no such list.
+    /// The list with this number: empty if there is no such list.
     pub fn list(&self, k: usize) -> &[(NumberedSymbol, NumberedSymbol)]
         ensures { result.now ≡ list_kept self.now k }
     {

@@ -22,14 +22,14 @@ use std::alloc::{AllocError, Global};
 /// and of some that are not.
 ///
 /// To take a `$d` takes time linear in its variables. Whether two variables are an active pair takes that of a search
-/// in the longer of their rows for each number in the shorter one, up to the first that both have; where both rows are
-/// long, and the two were asked before, no number is searched for again.
+/// in the longer of their rows for each number in the shorter one, up to the first that both have; if both rows are
+/// long, and the two were looked up before, no number is searched for again.
 #[derive(Drop)]
 pub struct PairTable {
     rows: Vec<Vec<usize>>,
 }
 
-/// Both rows are searched anew for each question where one has so many numbers at most.
+/// Both rows are searched anew for each look-up if one has at most this many numbers.
 const SHORT_ROW: usize = 16;
 
 /// The first number of a row that the other row has, too, and that is of an active `$d`.
@@ -101,7 +101,7 @@ fn is_active_number(blocks: &Blocks, number: Option<usize>) -> bool
     }
 }
 
-/// The number after the last of a row: 0 where it has none.
+/// The number after the last of a row: 0 if it has none.
 fn end_of(row: &[usize]) -> usize
     ensures { (count : ℕ) → ((n : ℕ) → Contains row.now n → n < count) → result ≤ count }
 {
@@ -171,8 +171,8 @@ impl PairTable {
         !self.row(name).is_empty()
     }
 
-    /// Whether an active `$d` has the two names with these numbers. After an allocation failure what was asked must not be
-    /// used.
+    /// Whether an active `$d` has the two names with these numbers. After an allocation failure what was looked up must
+    /// not be used.
     pub fn is_active_pair(
         &self,
         asked: &mut AskedPairs,
@@ -210,7 +210,7 @@ impl PairTable {
         Ok(())
     }
 
-    /// Puts a number behind those of a name that are active.
+    /// Adds a number after those of a name that are active.
     fn put(
         &mut self,
         alloc: Global,
@@ -228,7 +228,7 @@ impl PairTable {
     }
 
     /// Takes one more sound `$d`, with the numbers of its variables, its own number, and the blocks of the items before
-    /// it. Out of memory leaves the table as good for nothing.
+    /// it. After out of memory the table must not be used.
     pub fn take(
         &mut self,
         alloc: Global,

@@ -18,19 +18,19 @@ use crate::places::Places;
 use crate::symbol::NumberedSymbol;
 use std::alloc::{AllocError, Global};
 
-/// Each two of so many variables are asked at most.
+/// Up to this many variables, each two are looked up.
 const FEW: usize = 16;
 
-/// The variables of a frame, and where each stands among them if that is kept.
+/// The variables of a frame, and the place of each among them if that is kept.
 #[derive(Drop)]
 pub struct PlacedVariables<'a> {
     /// The variables, in order.
     pub variables: &'a [NumberedSymbol],
-    /// Where each stands.
+    /// The place of each.
     pub places: Option<Places>,
 }
 
-/// The places of the variables of a frame, where they are worth it: more than a few of them stand in some `$d`.
+/// The places of the variables of a frame, if they are worth it: more than a few of them are in some `$d`.
 pub fn places_if_many(
     alloc: Global,
     table: &PairTable,
@@ -64,7 +64,7 @@ pub fn are_short(expressions: &Expressions, row: &[usize], bound: usize) -> bool
     true
 }
 
-/// Adds the place of a symbol that is behind this one.
+/// Adds the place of a symbol if it is after this one.
 fn add_later_place(
     places: &Places,
     from: usize,
@@ -113,7 +113,7 @@ fn add_later_places_at(
     Ok(())
 }
 
-/// The places behind this one of the variables that an active one of these `$d` has, rising.
+/// The places after this one of the variables that an active one of these `$d` has, rising.
 fn later_places(
     alloc: Global,
     places: &Places,

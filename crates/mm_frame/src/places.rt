@@ -1,4 +1,4 @@
-//! Where the variables of a frame stand, by their names.
+//! The places of the variables of a frame, by their names.
 
 ghost use Rattle.std.specs.Prelude.{◌≡◌, IfOk, IfSome};
 ghost use Rattle.mm_frame.specs.Code.KeptPlaces.{ArePlaces};
@@ -16,7 +16,7 @@ pub struct Places {
 impl Places {
     ghost use Rattle.mm_frame.specs.Code.KeptPlaces.{place_of};
 
-    /// The places of these symbols: none where a name stands twice.
+    /// The places of these symbols: none if a name is there twice.
     pub fn of(alloc: Global, symbols: &[NumberedSymbol]) -> Result<Option<Places>, AllocError>
         ensures { IfOk result (λ places. IfSome places (ArePlaces symbols.now)) }
     {

@@ -51,7 +51,7 @@ impl<'a> ProofWords<'a> {
         }
     }
 
-    /// Goes on by a word, and gives it; `None` where no word is left.
+    /// Goes on by a word, and gives it; `None` if no word is left.
     pub fn next_word(&mut self) -> Option<&'a [u8]>
         ensures { MatchOption result ((self.old ≡ []) × (self.new ≡ [])) (λ word. self.old ≡ word.now ∷ self.new) }
     {

@@ -80,7 +80,7 @@ pub fn same_but_pairs(one: &Base, i: usize, other: &Base, j: usize) -> bool
 }
 
 /// Whether two sound `$a` or `$p` of bases over the same names have the same frame: the same expression, the same
-/// mandatory hypotheses in the same order, and the same mandatory pairs, in whatever `$d` they stand. It takes no memory,
+/// mandatory hypotheses in the same order, and the same mandatory pairs, whatever `$d` they are in. It takes no memory,
 /// and time linear in the two frames.
 pub fn same_frame(names: &Names, one: &Base, i: usize, other: &Base, j: usize) -> bool
     ensures { (base copy : BaseView) → IsBaseBy names.now base one.now → IsBaseBy names.now copy other.now → is_framed_at base i ≡ true
@@ -109,7 +109,7 @@ pub fn same_but_hypotheses(one: &Base, i: usize, other: &Base, j: usize) -> bool
     }
 }
 
-/// Whether a list has a pair, in this order. Lists are sorted, so a search finds it; where it does not, each is compared.
+/// Whether a list has a pair, in this order. Lists are sorted, so a search finds it; if it does not, each is compared.
 fn has_ordered(
     list: &[(NumberedSymbol, NumberedSymbol)],
     pair: &(NumberedSymbol, NumberedSymbol),
@@ -149,8 +149,8 @@ fn has_each(
 }
 
 /// Whether two sound `$p` of bases over the same names have the same active pairs, as sets of unordered pairs. It takes no
-/// memory, and time linear in the pairs where they are the same; else a search for each pair of the one in those of the
-/// other is added, up to the first that is missing.
+/// memory, and time linear in the pairs if they are the same; else a search for each pair of one list in the other is
+/// added, up to the first that is missing.
 pub fn same_active_pairs(one: &Base, i: usize, other: &Base, j: usize) -> bool
     ensures { (names : List (List ℕ)) (base copy : BaseView) → IsBaseBy names base one.now → IsBaseBy names copy other.now
         → is_proof_at base i ≡ true → is_proof_at copy j ≡ true

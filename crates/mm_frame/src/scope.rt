@@ -133,7 +133,7 @@ impl<'a> Scope<'a> {
         }
     }
 
-    /// Whether the name with this number may stand behind a typecode: it is a constant, or a variable that is active and
+    /// Whether the name with this number may come after a typecode: it is a constant, or a variable that is active and
     /// typed.
     pub fn may_follow(&self, number: usize) -> bool
         ensures { (all : List (List ℕ)) (before : List meant.Item) (name : List ℕ) → AreSound before → ScopeHolds all before self.now
@@ -166,7 +166,7 @@ impl<'a> Scope<'a> {
         }
     }
 
-    /// The typecode of the `$f` with this number; no bytes where there is no such item.
+    /// The typecode of the `$f` with this number; no bytes if there is no such item.
     fn typecode(&self, number: usize) -> &'a [u8]
         ensures { result.now ≡ slice_index_or (typecodes_of self.now) number [] }
     {
@@ -207,8 +207,8 @@ impl<'a> Scope<'a> {
         Ok(())
     }
 
-    /// Takes one more item, with the numbers of its symbols: as it is where it is sound, and else passes over it. Want of
-    /// memory leaves the scope as good for nothing.
+    /// Takes one more item, with the numbers of its symbols: as it is if it is sound, and else passes over it. After
+    /// out of memory the scope must not be used.
     pub fn next(
         &mut self,
         alloc: Global,

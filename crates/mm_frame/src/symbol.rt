@@ -68,7 +68,7 @@ pub trait Symbol: Drop {
     fn is_variable(&self) -> bool
         ensures { result ≡ (means self.now).variable };
 
-    /// The same symbol once more. It fails where memory for a name is wanting; a symbol by a number takes none.
+    /// The same symbol once more. It fails if there is no memory for a name; a symbol by a number takes none.
     fn copy(&self, alloc: Global) -> Result<Self, AllocError>
         ensures { IfOk result (λ copy. means copy ≡ means self.now) };
 }

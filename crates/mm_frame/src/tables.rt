@@ -15,7 +15,7 @@ use crate::statement::Statement;
 use mm_store::ItemKind;
 use std::alloc::{AllocError, Global};
 
-/// About one of so many items has a short label.
+/// About one item in this many has a short label.
 const LABEL_SHARE: usize = 3;
 
 /// What a name is declared as.
@@ -32,7 +32,7 @@ pub enum Declared {
     },
 }
 
-/// The names and labels of the items so far. Items are told by their numbers, from 0, and so are names of symbols.
+/// The names and labels of the items so far. Items are given by their numbers, from 0, and so are names of symbols.
 #[derive(Drop)]
 pub struct Tables {
     /// What each name is declared as, by its number.

@@ -12,7 +12,7 @@ ghost use Rattle.mm_keep.specs.Code.Cited.{AreRising, HasChecks, HasLabelAmong, 
 use crate::kept::{Held, Kept};
 use mm_proof::{Base, Files, ProofWords, cites_rise, cites_tell, has_own_labels, words_of_proof};
 
-/// The word behind so many others, if there is one. It is passed, and so are those before it.
+/// The word after this many others, if there is one. It is passed, and so are those before it.
 fn word_behind<'a>(words: &mut ProofWords<'a>, count: usize) -> Option<&'a [u8]>
     ensures word { option_map (λ word. word.now) result ≡ slice_get words.old count }
     ensures left { words.new ≡ drop (count + 1) words.old }
@@ -23,7 +23,7 @@ fn word_behind<'a>(words: &mut ProofWords<'a>, count: usize) -> Option<&'a [u8]>
     words.next_word()
 }
 
-/// How many words stand before the cited word at this place, behind the cited word before it.
+/// How many words are before the word that cites at this place, and after the one that cites before it.
 fn between(held: &Held, x: usize) -> usize
     requires rise { AreRising held.now.cites }
     requires within { x < length held.now.cites }

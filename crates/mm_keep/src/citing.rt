@@ -30,7 +30,7 @@ fn marked(alloc: Global, marks: &[bool]) -> Result<Vec<usize>, AllocError>
     Ok(numbers)
 }
 
-/// Marks of so many items, none of which is marked.
+/// Marks of this many items, none of which is marked.
 fn no_marks(alloc: Global, count: usize) -> Result<Vec<bool>, AllocError>
     ensures count { IfOk result (λ marks. length marks.items ≡ count) }
     ensures none { IfOk result (λ marks. (k : ℕ) → ¬ IsMarked marks.items k) }
@@ -138,7 +138,7 @@ impl Session {
     /// The numbers, rising, of the items that the sound `$a` or `$p` with this label cites: those that the decoded steps of
     /// its proof name. A `$a` cites none, and neither does a `$p` whose proof cannot be decoded.
     ///
-    /// That there is no such assertion is told before memory is taken.
+    /// `NoAssertion` comes before memory is taken.
     pub fn cites(&self, label: &[u8]) -> Result<Vec<usize>, KeepError>
         ensures ok { IfOk result (λ numbers. AreCitesOf self.now label.now numbers.items) }
         ensures none { IsErrOf result NoAssertion ↔ ¬ HasAssertion self.now label.now }
@@ -159,7 +159,7 @@ impl Session {
 
     /// The numbers, rising, of the sound `$p` that cite the sound `$a` or `$p` with this label.
     ///
-    /// That there is no such assertion is told before memory is taken.
+    /// `NoAssertion` comes before memory is taken.
     pub fn users(&self, label: &[u8]) -> Result<Vec<usize>, KeepError>
         ensures ok { IfOk result (λ numbers. AreUsersOf self.now label.now numbers.items) }
         ensures none { IsErrOf result NoAssertion ↔ ¬ HasAssertion self.now label.now }
@@ -182,7 +182,7 @@ impl Session {
     /// The numbers, rising, of the axioms of the sound `$a` or `$p` with this label: the sound `$a` to which chains of
     /// citations lead from it. Those of a `$a` are itself alone.
     ///
-    /// That there is no such assertion is told before memory is taken.
+    /// `NoAssertion` comes before memory is taken.
     pub fn axioms(&self, label: &[u8]) -> Result<Vec<usize>, KeepError>
         ensures ok { IfOk result (λ numbers. AreAxiomsOf self.now label.now numbers.items) }
         ensures none { IsErrOf result NoAssertion ↔ ¬ HasAssertion self.now label.now }

@@ -24,7 +24,7 @@ pub struct Ran {
     pub work: Work,
 }
 
-/// What a session goes on with behind a change of its files: the base of these, and what is run of it.
+/// What a session goes on with after a change of its files: the base of these, and what is run of it.
 #[derive(Drop)]
 pub struct Next {
     pub base: Base,
@@ -41,7 +41,7 @@ fn alloc_error(error: StoreError) -> AllocError
     }
 }
 
-/// The base of files that have the top file, beside an older base.
+/// The base of files that have the top file, made with the help of an older base.
 fn base_of(
     alloc: Global,
     names: &mut Names,
@@ -60,7 +60,7 @@ fn base_of(
     }
 }
 
-/// What a session goes on with, where memory was there for the runs of its base.
+/// What a session goes on with, if there was memory for the runs of its base.
 fn with_runs(base: Base, ran: Result<Ran, AllocError>) -> Result<Next, AllocError>
     ensures { IfOk result (λ next. (next.base ≡ base) × (ran ≡ Ok next.ran)) }
 {
@@ -90,7 +90,7 @@ fn keep_and_run(
     })
 }
 
-/// What a session goes on with behind a change of its files.
+/// What a session goes on with after a change of its files.
 pub fn next_of(
     alloc: Global,
     names: &mut Names,
@@ -105,14 +105,14 @@ pub fn next_of(
     ensures next { IfOk result (λ next. (view : BaseView) → IsOlder names.old files.now old.now view → IsNextBase names.new files.now top.now view next) }
 {
     let built = base_of(alloc, &mut *names, files, top, old);
-    // No name stands twice.
+    // No name is there twice.
     let _count = names.count();
     let base = built?;
     let ran = keep_and_run(alloc, names, files, old, &base);
     with_runs(base, ran)
 }
 
-/// A plan for so many items that keeps nothing.
+/// A plan for this many items that keeps nothing.
 fn nothing_kept(alloc: Global, count: usize) -> Result<Vec<Option<u32>>, AllocError>
     ensures count { IfOk result (λ plan. length plan.items ≡ count) }
     ensures nothing { IfOk result (λ plan. KeepsNothing plan.items) }

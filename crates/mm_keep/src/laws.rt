@@ -10,7 +10,7 @@ pub fn one_list_of_runs()
     mm_proof::files_have_one_base();
 }
 
-/// Of each item of files something is told rightly: so what is promised of findings and tallies can be met, of all files.
+/// Something is rightly reported of each item of files: so what is promised of findings and tallies can be met, of all files.
 pub fn items_have_findings()
     ensures { ItemsHaveFindings }
 {

@@ -72,7 +72,7 @@ pub fn planned(
     Ok(plan)
 }
 
-/// What checks read: a base, the files that its items stand in, and the names of its symbols.
+/// What checks read: a base, the files that its items are in, and the names of its symbols.
 #[derive(Clone, Copy)]
 struct Source<'a> {
     names: &'a Names,

@@ -1,4 +1,4 @@
-//! Where words of items and spots of proofs stand.
+//! Where words of items and spots of proofs are.
 
 ghost use Rattle.std.specs.Prelude.{◌≡◌, ◌≤◌, ◌+◌, ℕ, List, true, IfSome};
 ghost use Rattle.mm_proof.specs.mm_text.Language.Reading.{LiesIn};
@@ -19,7 +19,7 @@ pub struct Seen<'a> {
     pub word: &'a [u8],
 }
 
-/// Where a word begins; 0 where there is none.
+/// Where a word begins; 0 if there is none.
 fn start_of(word: Option<Word>) -> usize
     ensures { result ≡ places.start_of word }
 {
@@ -29,7 +29,7 @@ fn start_of(word: Option<Word>) -> usize
     }
 }
 
-/// How a word of a text is spelled; no bytes where there is none.
+/// How a word of a text is spelled; no bytes if there is none.
 fn spelled(text: &[u8], word: Option<Word>) -> &[u8]
     requires { IfSome word (LiesIn text.now) }
     ensures { result.now ≡ places.spelled text.now word }
@@ -40,8 +40,8 @@ fn spelled(text: &[u8], word: Option<Word>) -> &[u8]
     }
 }
 
-/// The place of a letter behind the beginning of a word, which begins at this byte of the text of an item. It may be the end of
-/// that text.
+/// The place of a letter of a word that begins at this byte of the text of an item; the letter is counted from the
+/// beginning of the word. It may be the end of that text.
 fn place_in(files: &Files, item: &Item, word: usize, letter: usize) -> At
     requires read { CanBeRead files.now item.now }
     requires stands { StandsIn files.now item.now }
@@ -71,7 +71,7 @@ pub fn seen_at<'a>(files: &'a Files, item: &Item, word: usize) -> Seen<'a>
 }
 
 /// The place of a spot in the proof of the sound theorem with this number. It takes no memory; the bytes of the item are
-/// read up to the spot, those of the symbols only for the `$=` behind them.
+/// read up to the spot, those of the symbols only for the `$=` after them.
 pub fn place_of_spot(files: &Files, base: &Base, number: usize, spot: Spot) -> At
     requires { HasSpotOf files.now base.now number spot }
     ensures { (names : List (List ℕ)) (view : BaseView) → IsOf names files.now base.now view → is_proof_at view number ≡ true

@@ -37,7 +37,7 @@ pub struct Session {
     pub(crate) top: Vec<u8>,
     pub(crate) names: Names,
     pub(crate) base: Base,
-    /// For the number of each item what the check of its proof said; nothing where it is no sound `$p`.
+    /// For the number of each item what the check of its proof said; nothing if it is no sound `$p`.
     pub(crate) checked: Vec<Kept>,
 }
 
@@ -171,7 +171,7 @@ impl Session {
     /// Begins a session over these files, from the file of the name `top` on: it runs the proof of each sound `$p`, in
     /// order, and answers with the record of these runs.
     ///
-    /// Where no file has the name `top`, or memory lacks, the files are handed back as they were.
+    /// If no file has the name `top`, or memory runs out, the files are returned as they were.
     pub fn begin(alloc: Global, files: Files, top: &[u8]) -> Result<(Session, Work), Unbegun>
         requires { parked_in files ≡ 0 }
         ensures files { IfOk result (λ begun. begun.0.files ≡ files) }
@@ -205,8 +205,8 @@ impl Session {
     /// The errors are those of [`Files::edit`], in its order; `Memory` can come in the place of each but the first two,
     /// and in the place of success. After any error the session is as before.
     ///
-    /// It takes time near linear in the items of the files and in what it runs; the old base and the new one are kept
-    /// beside each other until it is done.
+    /// It takes time near linear in the items of the files and in what it runs; both the old base and the new one are kept
+    /// until it is done.
     pub fn edit(&mut self, edit: &Edit<'_>) -> Result<Work, EditError>
         ensures files { OnOk result (IsEditOf (asked edit.now) (plain self.old.files) (plain self.new.files)) }
         ensures runs { IfOk result (IsChanged self.old self.new) }
@@ -225,7 +225,7 @@ impl Session {
     /// what the whole of them asks for: the proof of each sound `$p` of the files after them all for which the files
     /// before them all had none of the same label with an equal view; so each is run once at most.
     ///
-    /// Where an edit is refused, the error has its number, from 0, and the reason, which is never out of memory. After any
+    /// If an edit is refused, the error has its number, from 0, and the reason, which is never out of memory. After any
     /// error the session is as before. No edits are accepted, and run nothing.
     pub fn edit_all(&mut self, edits: &[Edit<'_>]) -> Result<Work, BatchError>
         ensures files { OnOk result (IsBatchOf (map asked edits.now) (plain self.old.files) (plain self.new.files)) }
@@ -241,7 +241,7 @@ impl Session {
         *self.top.allocator()
     }
 
-    /// Does edits. Out of memory comes once the file and the members of the first are known, or where there are no edits.
+    /// Does edits. Out of memory comes once the file and the members of the first are known, or if there are no edits.
     fn change_all(&mut self, edits: &[Edit<'_>]) -> Result<Work, BatchError>
         ensures files { OnOk result (IsBatchOf (map asked edits.now) (plain self.old.files) (plain self.new.files)) }
         ensures runs { IfOk result (IsChanged self.old self.new) }

@@ -136,7 +136,7 @@ impl<'a, S: Kept> Active<'a, S> {
     }
 }
 
-/// Whether a symbol stands in a list.
+/// Whether a symbol is in a list.
 pub fn stands_in<S: Kept>(x: &S, ys: &[S]) -> bool
     ensures { IsTrue result ↔ Contains (map S.means ys.now) (S.means x.now) }
 {
@@ -148,7 +148,7 @@ pub fn stands_in<S: Kept>(x: &S, ys: &[S]) -> bool
     false
 }
 
-/// Where a table of so many places has a symbol.
+/// The place of a symbol in a table of this many places.
 fn home_of<S: Kept>(symbol: &S, count: usize) -> usize
     ensures { result ≡ home_lem (S.key_of (S.means symbol.now)) count }
 {
@@ -164,7 +164,7 @@ fn note(places: &mut [usize], at: usize, place: usize)
     }
 }
 
-/// Notes for each symbol of a list where one stands that the table has at the same place.
+/// Notes, at the table's place for each symbol of a list, the number of a symbol of the list that has that place.
 fn mark<S: Kept>(xs: &[S], places: &mut [usize])
     ensures marks { AreKeyPlaces (home_at S.key_of (length places.old)) (map S.means xs.now) places.new (length xs.now) }
     ensures count { length places.new ≡ length places.old }
@@ -175,7 +175,7 @@ fn mark<S: Kept>(xs: &[S], places: &mut [usize])
     }
 }
 
-/// Whether a symbol stands in a list whose symbols are noted.
+/// Whether a symbol is in a list whose symbols are noted.
 fn is_marked<S: Kept>(xs: &[S], places: &[usize], y: &S) -> bool
     requires { AreKeyPlaces (home_at S.key_of (length places.now)) (map S.means xs.now) places.now (length xs.now) }
     ensures { IsTrue result ↔ Contains (map S.means xs.now) (S.means y.now) }
@@ -198,7 +198,7 @@ fn is_marked<S: Kept>(xs: &[S], places: &[usize], y: &S) -> bool
     stands_in(&*y, xs)
 }
 
-/// Whether one symbol stands in both lists.
+/// Whether one symbol is in both lists.
 pub fn share<S: Kept>(xs: &[S], ys: &[S], places: &mut [usize]) -> bool
     ensures { MatchBool result (SomeShared (map S.means xs.now) (map S.means ys.now))
         (SomeShared (map S.means xs.now) (map S.means ys.now) → ⊥) }

@@ -34,7 +34,7 @@ pub fn has_one_division()
     ensures { HasOneDivision }
 {}
 
-/// The fault that is told is the first in reading order.
+/// The fault that is reported is the first in reading order.
 ///
 /// It shows what the definitions mean; no code calls on it.
 pub fn tells_first_fault()
@@ -55,14 +55,14 @@ pub fn letters_read_on()
     ensures { LettersReadOn }
 {}
 
-/// Proofs with the same words decode to the same where their labels mean the same.
+/// Proofs with the same words decode to the same if their labels mean the same.
 ///
 /// For the law that equal views have equal verdicts.
 pub fn same_decodes_same()
     ensures { SameDecodesSame }
 {}
 
-/// Proofs with the same words cite by the same words where their labels mean the same.
+/// Proofs with the same words cite by the same words if their labels mean the same.
 ///
 /// For the law that with equal views the same words cite.
 pub fn same_cites_same()
@@ -85,7 +85,7 @@ pub fn decodes_short()
 
 /// No two sound items have the same label.
 ///
-/// For `cites`, which tells assertions by their numbers.
+/// For `cites`, which gives assertions by their numbers.
 pub fn labels_are_own()
     ensures { LabelsAreOwn }
 {

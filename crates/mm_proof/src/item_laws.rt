@@ -37,7 +37,7 @@ pub fn has_verdict_at()
     mandatory_stand_before();
 }
 
-/// Proved is the verdict on the proof of an item exactly where it decodes, no step is unknown, and its expanded labels
+/// Proved is the verdict on the proof of an item exactly when it decodes, no step is unknown, and its expanded labels
 /// derive the statement.
 ///
 /// It shows what the definitions mean; no code calls on it.

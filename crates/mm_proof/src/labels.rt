@@ -24,7 +24,7 @@ fn fault_at(number: ProofNumber, word: usize) -> Undecoded
     })
 }
 
-/// What the label that is the n-th word means at the item with the number `i`, where it can be used there.
+/// What the label that is the n-th word means at the item with the number `i`, if it can be used there.
 pub fn read_label(base: &Base, i: usize, label: &[u8], n: usize) -> Result<Resolved, Undecoded>
     ensures ok { IfOk result (λ meaning. (view : BaseView) → IsBase view base.now
         → read_label_lem (setting_at view i) label.now ≡ Ok (entry_step view meaning)) }
@@ -46,8 +46,8 @@ pub fn is_close(word: &[u8]) -> bool
     matches!(word, b")")
 }
 
-/// Reads the list of labels behind the `(` of a compressed proof, puts what they mean behind the `labels`, and gives the
-/// number of the first `)`; the words behind it are left. After an error some may have been put there.
+/// Reads the list of labels after the `(` of a compressed proof, adds what they mean to the `labels`, and gives the
+/// number of the first `)`; the words after it are left. After an error some may have been added.
 pub fn read_list(
     base: &Base,
     i: usize,

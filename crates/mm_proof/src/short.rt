@@ -21,8 +21,8 @@ fn taken_by(base: &Base, label: Resolved) -> usize
     }
 }
 
-/// Whether labels name assertions with more hypotheses than so many, all together. A proof whose steps do has a step that
-/// lacks an entry or is not known: each step pushes one entry at most.
+/// Whether labels name assertions with more hypotheses, all together, than this count. A proof whose steps do has a step
+/// with too few entries or that is not known: each step pushes one entry at most.
 pub fn take_more(base: &Base, labels: &[Resolved], count: usize) -> bool {
     let mut all = 0usize;
     for label in labels {
@@ -31,8 +31,8 @@ pub fn take_more(base: &Base, labels: &[Resolved], count: usize) -> bool {
     count < all
 }
 
-/// How many entries there are behind a step with this action, where there were so many before it; none where there were
-/// too few.
+/// How many entries there are after a step with this action, if there were this many before it; none if there were too
+/// few.
 fn entries_behind(base: &Base, labels: &[Resolved], action: Action, count: usize) -> Option<usize> {
     match action {
         Action::Label(k) if k < labels.len() => {
@@ -47,7 +47,7 @@ fn entries_behind(base: &Base, labels: &[Resolved], action: Action, count: usize
     }
 }
 
-/// How many steps there are before the first that lacks an entry, by the count of entries alone.
+/// How many steps there are before the first with too few entries, by the count of entries alone.
 pub fn steps_before(base: &Base, labels: &[Resolved], steps: &[ProofStep]) -> usize
     ensures { result ≤ length steps.now }
 {
@@ -61,7 +61,7 @@ pub fn steps_before(base: &Base, labels: &[Resolved], steps: &[ProofStep]) -> us
     steps.len()
 }
 
-/// Whether there is a step with this number, and it takes more entries than so many.
+/// Whether there is a step with this number, and it takes more entries than this count.
 pub fn takes_more(
     base: &Base,
     labels: &[Resolved],

@@ -26,7 +26,7 @@ use crate::work::Checked;
 use mm_frame::{Base, Files, NamedSymbol, Names, NumberedSymbol, ProofWords, words_of_proof};
 use std::alloc::{AllocError, Global};
 
-/// So many places have the tables of a run over names: fewer than names, so that some names share one.
+/// The tables of a run over names have this many places: fewer than there are names, so some names share one.
 const PLACES: usize = 7;
 
 /// A hypothesis, by names.

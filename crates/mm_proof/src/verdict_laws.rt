@@ -61,7 +61,7 @@ pub fn has_verdict()
     ensures { HasVerdict }
 {}
 
-/// Proved is the verdict exactly where all steps are known and their expanded labels derive the statement.
+/// Proved is the verdict exactly when all steps are known and their expanded labels derive the statement.
 ///
 /// It shows what the definitions mean; no code calls on it.
 pub fn proved_is_derived()
