@@ -43,7 +43,7 @@ impl Input {
         &self.bytes[self.at..]
     }
 
-    /// Passes the first of these bytes, so many of them.
+    /// Passes the first of these bytes, this many of them.
     pub(crate) fn pass(&mut self, count: usize)
         requires { count ≤ length (pending self.old) }
         ensures { pending self.new ≡ drop count (pending self.old) }
@@ -63,8 +63,8 @@ impl Input {
         self.bytes.truncate(kept);
     }
 
-    /// Reads once, into a buffer of 4,096 bytes: whether bytes came. None come at the end. Room for them is asked for before the
-    /// read, so that no byte is lost where memory lacks.
+    /// Reads once, into a buffer of 4,096 bytes: whether bytes came. None come at the end. Room for them is taken before the
+    /// read, so that no byte is lost if memory runs out.
     pub(crate) fn read_on<R: Read>(&mut self, reading: &mut Reading<R>) -> Result<bool, ScriptError>
         ensures grows { InputGrows self.old self.new (unread R.remaining reading.old) (unread R.remaining reading.new) }
         ensures more { IfOk result (λ more. more ≡ true → to_come self.new reading.new + 1 ≤ to_come self.old reading.old) }

@@ -99,7 +99,7 @@ fn code_of_proof(number: ProofNumber) -> &'static [u8]
     }
 }
 
-/// Writes a word and what stands behind it.
+/// Writes a word and what comes after it.
 pub(crate) fn write_part<W: Write>(
     word: &[u8],
     behind: &[u8],
@@ -225,7 +225,7 @@ fn write_lines<W: Write>(session: &Session, to: &mut Writing<W>) -> Result<Tally
 /// Writes the report of a session: in the order of its items a line for each fault and for each theorem whose proof is
 /// wrong or incomplete, and a line of counts. It takes no memory.
 ///
-/// It fails only where the writing has failed. What went out is then the beginning of the report.
+/// It fails only if the writing has failed. What went out is then the beginning of the report.
 pub fn write_report<W: Write>(
     session: &Session,
     writing: &mut Writing<W>,

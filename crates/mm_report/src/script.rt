@@ -1,4 +1,4 @@
-//! Scripts: the commands that are asked of a session, and their answers.
+//! Scripts: the commands that are put to a session, and their answers.
 
 ghost use Rattle.std.specs.Prelude.{◌≡◌, ◌≤◌, ◌+◌, ℕ, List, Option, true, OnOk, IfErr, IfOk, IfSome, IsErrOf};
 ghost use Rattle.mm_keep.specs.Language.Sessions.{SessionView};
@@ -27,7 +27,7 @@ pub enum ScriptError {
     /// A line is that of no command, or a text is not followed by a line feed.
     #[error("a line is no command")]
     BadLine,
-    /// The script ends inside a text, before the line feed behind it, or where edits of a batch are missing.
+    /// The script ends inside a text, before the line feed after it, or with edits of a batch missing.
     #[error("the script is cut short")]
     Cut,
     /// The reading has failed.
@@ -99,10 +99,10 @@ fn answer_next<R: Read, W: Write>(
     Ok(next.fed)
 }
 
-/// Reads a script, asks its commands of the session one after another, and writes their answers.
+/// Reads a script, puts its commands to the session one after another, and writes their answers.
 ///
 /// A command is answered before more is read than it takes to complete it. A line that is no command ends the script at
-/// once. Where memory lacks, the command at which it did is not done, and nothing of its answer is written. Where a write
+/// once. If memory runs out, the command at which it did is not done, and nothing of its answer is written. If a write
 /// fails, the command whose answer it was is done, and is the last that is: the answers before its own are written whole.
 pub fn run_script<R: Read, W: Write>(
     alloc: Global,

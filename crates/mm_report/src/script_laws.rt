@@ -18,7 +18,7 @@ pub fn has_reading()
     ensures { HasReading }
 {}
 
-/// What is read of some bytes stays so, whatever follows them: it is a beginning of the reading of them all. It is one
+/// What is read of some bytes stays, whatever follows them: it is a beginning of the reading of them all. It is one
 /// list.
 pub fn reading_goes_on()
     ensures on { ReadingGoesOn }
@@ -30,7 +30,7 @@ pub fn commands_leave_nothing()
     ensures { CommandsLeaveNothing }
 {}
 
-/// A script has one list of answers and one end, and the files behind it are the same but for the keys of their pieces.
+/// A script has one list of answers and one end, and the files after it are the same but for the keys of their pieces.
 ///
 /// So what `run_script` writes depends on nothing but the script, the names and the texts of the files, as they are cut
 /// into pieces, and the name of the top file.
@@ -47,8 +47,8 @@ pub fn one_script_answer()
     mm_keep::one_list_each();
 }
 
-/// Each script has answers, whatever session it is asked of: so what is promised where a script is not answered to its end, a
-/// beginning of its answers, is said of answers that there are. No memory is asked for.
+/// Each script has answers, whatever session it is put to. So if a script is not answered to its end, the beginning of its
+/// answers that is promised is one of answers that exist. No memory is asked for.
 pub fn has_script_answer()
     ensures { HasScriptAnswer }
 {

@@ -15,14 +15,14 @@ enum Question {
 }
 
 /// Asks what the theorem of a row cites, what uses its axiom, and what axioms the theorem rests on: each while a growth is
-/// refused, and again where it was.
+/// refused, and again if memory ran out.
 pub(crate) fn try_questions(rt: &impl Print, session: &Session, row: &Row) {
     try_question(rt, session, Question::Cites, row.theorem, row);
     try_question(rt, session, Question::Users, row.axiom, row);
     try_question(rt, session, Question::Axioms, row.theorem, row);
 }
 
-/// Asks while a growth is refused, and again where it was.
+/// Asks while a growth is refused, and again if memory ran out.
 fn try_question(rt: &impl Print, session: &Session, question: Question, label: &[u8], row: &Row) {
     if !ask(rt, session, question, label, Refused::One) {
         show_session(rt, session, row);
@@ -37,7 +37,7 @@ pub(crate) fn ask_for_no_label(rt: &impl Print, session: &Session) {
     ask(rt, session, Question::Axioms, b"none", Refused::All);
 }
 
-/// Asks, and prints the answer: whether memory did not lack.
+/// Asks, and prints the answer: whether there was memory for it.
 fn ask(
     rt: &impl Print,
     session: &Session,

@@ -1,4 +1,4 @@
-//! Databases, and what is asked of them: the rows of these names under `tests/rows`, and a batch of three edits.
+//! Databases, and the questions on them: the rows of these names under `tests/rows`, and a batch of three edits.
 
 use mm_report::Edit;
 
@@ -9,7 +9,7 @@ pub(crate) struct Text {
     pub(crate) bytes: &'static [u8],
 }
 
-/// A database, and what is asked of it.
+/// A database, and the questions on it.
 #[derive(Clone, Copy)]
 pub(crate) struct Row {
     pub(crate) name: &'static str,

@@ -1,4 +1,4 @@
-//! How refusals are printed: nothing stands for out of memory.
+//! How refusals are printed; out of memory is printed as nothing.
 
 use mm_report::{BatchError, EditError, KeepError, ScriptError, StoreError};
 

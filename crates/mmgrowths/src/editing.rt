@@ -6,7 +6,7 @@ use crate::marks::{Refused, refuse};
 use crate::show::{show_items, show_session, tell};
 use mm_report::{Edit, Session, Work};
 
-/// Does the edits of a row, one by one or all at once, each while a growth is refused, and again where it was.
+/// Does the edits of a row, one by one or all at once, each while a growth is refused, and again if memory ran out.
 pub(crate) fn try_edits(rt: &impl Print, session: &mut Session, row: &Row) {
     show_session(rt, session, row);
     if row.is_batch {
@@ -22,7 +22,7 @@ pub(crate) fn try_edits(rt: &impl Print, session: &mut Session, row: &Row) {
     }
 }
 
-/// Does an edit, and prints what comes of it: whether memory did not lack.
+/// Does an edit, and prints what comes of it: whether there was memory for it.
 pub(crate) fn do_edit(
     rt: &impl Print,
     session: &mut Session,
@@ -41,7 +41,7 @@ pub(crate) fn do_edit(
     is_told
 }
 
-/// Does edits at once, and prints what comes of them: whether memory did not lack.
+/// Does edits at once, and prints what comes of them: whether there was memory for them.
 pub(crate) fn do_batch(
     rt: &impl Print,
     session: &mut Session,

@@ -10,7 +10,7 @@ use crate::show::{say, show_files, show_items, tell};
 use mm_report::{Edit, Files, Session, Unbegun};
 use std::mem;
 
-/// The files of a row, each added while a growth is refused, and again where it was.
+/// The files of a row, each added while a growth is refused, and again if memory ran out.
 pub(crate) fn added(rt: &(impl Print + AllocGlobal), row: &Row) -> Files {
     let mut files = Files::new(rt.alloc());
     for text in row.texts {
@@ -21,7 +21,7 @@ pub(crate) fn added(rt: &(impl Print + AllocGlobal), row: &Row) -> Files {
     files
 }
 
-/// Adds a file, and prints what comes of it: whether memory did not lack.
+/// Adds a file, and prints what comes of it: whether there was memory for it.
 pub(crate) fn add(
     rt: &impl Print,
     files: &mut Files,
@@ -40,7 +40,7 @@ pub(crate) fn add(
     is_told
 }
 
-/// Does each edit of a row on the files while a growth is refused, and again where it was; and undoes it.
+/// Does each edit of a row on the files while a growth is refused, and again if memory ran out; and undoes it.
 pub(crate) fn try_edits(rt: &impl Print, files: &mut Files, row: &Row) {
     for edit in row.edits {
         if !do_and_undo(rt, files, row, edit, Refused::One) {
@@ -49,7 +49,7 @@ pub(crate) fn try_edits(rt: &impl Print, files: &mut Files, row: &Row) {
     }
 }
 
-/// Does an edit and undoes it, and prints what comes of it: whether memory did not lack.
+/// Does an edit and undoes it, and prints what comes of it: whether there was memory for it.
 pub(crate) fn do_and_undo(
     rt: &impl Print,
     files: &mut Files,
@@ -79,7 +79,7 @@ pub(crate) fn do_and_undo(
     }
 }
 
-/// Begins a session while a growth is refused, and again where it was, over the files that were handed back.
+/// Begins a session while a growth is refused, and again if memory ran out, over the files that were returned.
 pub(crate) fn begun(rt: &(impl Print + AllocGlobal), files: Files, row: &Row) -> Option<Session> {
     match begin(rt, unparked(files)?, row.top, row, Refused::One) {
         Ok(session) => Some(session),
@@ -87,7 +87,7 @@ pub(crate) fn begun(rt: &(impl Print + AllocGlobal), files: Files, row: &Row) ->
     }
 }
 
-/// The files, if none of their pieces is parked: so it is where they were only added, and where edits were undone.
+/// The files, if none of their pieces is parked: this holds of files that were only added, and if edits were undone.
 fn unparked(files: Files) -> Option<Files>
     ensures { IfSome result (λ files. parked_in files ≡ 0) }
 {
@@ -127,7 +127,7 @@ pub(crate) fn begun_with_memory(
     }
 }
 
-/// Begins a session, and prints what comes of it: the session, or the files that are handed back.
+/// Begins a session, and prints what comes of it: the session, or the files that are returned.
 pub(crate) fn begin(
     rt: &(impl Print + AllocGlobal),
     files: Files,

@@ -47,7 +47,7 @@ impl From<AllocError> for FileError {
     }
 }
 
-/// All bytes that are left to read. The errors are `Read`, where the reading has failed, and `Memory`.
+/// All bytes that are left to read. The errors are `Read`, if the reading has failed, and `Memory`.
 pub fn read_all<R: Read>(alloc: Global, reading: &mut Reading<R>) -> Result<Vec<u8>, FileError>
     ensures text { IfOk result (λ text. IfSome (unread R.remaining reading.old) (λ bytes. text.items ≡ bytes)) }
     ensures read { IsErrOf result errors.Read ↔ (cannot_read reading.new ≡ true) }

@@ -1,6 +1,6 @@
 //! The words of the command line.
 
-/// What the program is asked to do.
+/// What the program has to do.
 #[derive(Clone, Copy, Debug, PartialEq, Eq)]
 pub enum Command<'a> {
     /// Verify this file and write its report.

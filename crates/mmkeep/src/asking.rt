@@ -7,8 +7,8 @@ ghost use Rattle.mmkeep.specs.declared.arguments.Command.{Command as Asked};
 use crate::arguments::Command;
 use std::alloc::{AllocError, Global};
 
-/// The command that these words are, those behind the program's name: `verify FILE`, `axioms FILE LABEL` or
-/// `session FILE`, where FILE and LABEL are any words.
+/// The command that these words are, those after the program's name: `verify FILE`, `axioms FILE LABEL` or
+/// `session FILE`, with any words as FILE and LABEL.
 ///
 /// Takes no memory.
 pub fn command<'a>(words: &[&'a str]) -> Option<Command<'a>>
@@ -34,7 +34,7 @@ fn words_in(alloc: Global, arguments: &[String]) -> Result<Vec<&str>, AllocError
     Ok(words)
 }
 
-/// The command that these arguments are, of which the first is the program's name; nothing where they are none.
+/// The command that these arguments are, of which the first is the program's name; nothing if they are none.
 pub fn command_of(alloc: Global, arguments: &[String]) -> Result<Option<Command<'_>>, AllocError>
     ensures some { IfOk result (λ found. IfSome found (λ asked. given arguments.now ≡ words_of asked)) }
     ensures none { IfOk result (λ found. IfNone found ((asked : Asked) → ¬ (given arguments.now ≡ words_of asked))) }

@@ -1,4 +1,4 @@
-//! What the program does not ask of a base, of its items and of texts: the hypotheses of a frame, and where things stand.
+//! What the program does not look up in a base, its items and texts: the hypotheses of a frame, and where things are.
 
 ghost use Rattle.std.specs.Prelude.{All};
 ghost use Rattle.mm_report.specs.mm_store.Language.FileFacts.{CanBeRead, StandsIn};
@@ -27,7 +27,7 @@ fn has_hypotheses(alloc: Global, files: &Files) -> Result<bool, StoreError> {
     }
 }
 
-/// Whether the first word of a proof has the place behind label, keyword, two symbols and `$=`, and its `$.` the next.
+/// Whether the first word of a proof has the place after label, keyword, two symbols and `$=`, and its `$.` the next.
 fn has_proof_places(alloc: Global, files: &Files, item: &Item) -> Result<bool, AllocError>
     requires { CanBeRead files.now item.now }
 {
@@ -38,7 +38,7 @@ fn has_proof_places(alloc: Global, files: &Files, item: &Item) -> Result<bool, A
     Ok(statement.proof_place(0) == 5 && statement.proof_place(1) == 6)
 }
 
-/// Where an item stands in the text of its file.
+/// Where an item begins in the text of its file.
 fn offset_of(files: &Files, item: &Item) -> usize
     requires read { CanBeRead files.now item.now }
     requires stands { StandsIn files.now item.now }
@@ -78,7 +78,7 @@ fn a_base_and_its_items_have_their_places(rt: HostRuntime) {
     assert!(rt; added && framed == Ok(true) && placed == Ok(true));
 }
 
-/// Whether the one name that is missing is told once.
+/// Whether the one name that is missing is reported once.
 fn is_told_once(files: &Files) -> Result<bool, StoreError> {
     let mut walk = files.walk(b"t.mm")?;
     let first = is_next(&mut walk, files)?;

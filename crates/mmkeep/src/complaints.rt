@@ -1,4 +1,4 @@
-//! What keeps the program from its work, told by a line on standard error.
+//! What keeps the program from its work, reported by a line on standard error.
 
 ghost use Rattle.std.specs.Prelude.{◌≡◌};
 ghost use Rattle.mm_report.specs.mm_store.declared.error.StoreError.TheVariants.{Memory as Lacking};

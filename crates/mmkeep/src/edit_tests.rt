@@ -33,7 +33,7 @@ const UNFINISHED: TextFault = TextFault {
     at: 0,
 };
 
-/// Whether a file has so many pieces and this text.
+/// Whether a file has this many pieces and this text.
 fn has(files: &Files, count: usize, text: &[u8]) -> bool {
     files.piece_count(NAME) == Some(count) && has_text(files, NAME, text) == Ok(true)
 }

@@ -67,7 +67,7 @@ fn load<S: Source>(
     }
 }
 
-/// Adds the top file and the files that it includes, where there are no files.
+/// Adds the top file and the files that it includes, if there are no files.
 fn add_all<S: Source>(
     rt: &(impl Eprint + AllocGlobal),
     source: &S,

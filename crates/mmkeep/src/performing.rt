@@ -44,7 +44,7 @@ pub fn perform<R: Read, W: Write + Drop>(
     }
 }
 
-/// Hands on what is buffered, where nothing has failed yet: whether all has gone out, and the writer.
+/// Passes on what is buffered, if nothing has failed yet: whether all has gone out, and the writer.
 fn hand_on<W: Write + Drop>(writing: Writing<BufWriter<W>>) -> (bool, W)
     ensures all { IsTrue result.0 → Keeps (written (writer_contents W.contents) writing) (W.contents result.1) }
     ensures part { GoesOut (written (writer_contents W.contents) writing) (W.contents result.1) }
@@ -122,7 +122,7 @@ fn answer_script<R: Read, W: Write>(
     }
 }
 
-/// How the program ends by the files of a session: clean, where its report has no line before the summary.
+/// How the program ends by the files of a session: clean if its report has no line before the summary.
 pub fn judge(session: &Session) -> Outcome
     ensures { IsJudged session.now result }
 {
@@ -133,7 +133,7 @@ pub fn judge(session: &Session) -> Outcome
     }
 }
 
-/// Whether no line stands before the summary of a report with these counts.
+/// Whether no line comes before the summary of a report with these counts.
 fn is_clean(tally: &Tally) -> bool
     ensures { (names : List (List ℕ)) (items : List Item) (all : List Told) → length all ≡ length items → counted tally.now ≡ counts all
         → IsTrue result ↔ (lines names items all ≡ []) }

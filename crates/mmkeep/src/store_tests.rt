@@ -17,13 +17,13 @@ fn know_none(files: &Files, name: &[u8]) -> Result<bool, AllocError> {
     Ok(files.piece_count(name).is_none() && files.text(name)?.is_none())
 }
 
-/// Adds two files: one of a piece, with a comment behind it, and one without a name, whose text lacks its line feed.
+/// Adds two files: one of a piece, with a comment after it, and one without a name, whose text has no line feed at its end.
 fn add_two(files: &mut Files) -> Result<(), StoreError> {
     files.add(b"top", b"$c a $.\n$( end $)\n")?;
     files.add(b"", b"$c z $.")
 }
 
-/// Whether they tell what was added.
+/// Whether they hold what was added.
 fn tell_two(files: &Files) -> Result<bool, AllocError> {
     Ok(
         files.piece_count(b"top") == Some(1)

@@ -1,4 +1,4 @@
-//! What the program cannot show of streams that fail: a reader that may be called so often, and the session behind a script
+//! What the program cannot show of streams that fail: a reader with a limited number of calls, and the session after a script
 //! that was not answered to its end.
 
 use crate::adding::{FileError, read_all};
@@ -26,12 +26,12 @@ impl Read for Given {
     }
 }
 
-/// A reader of these bytes, so many a call.
+/// A reader of these bytes, at most this many a call.
 fn reader_of(bytes: &'static [u8], most: usize) -> Given {
     Given { bytes, most }
 }
 
-/// A writer that fails at one call, counted from 1, if at any, and takes everything before and behind it.
+/// A writer that fails at one call, counted from 1, if at any, and takes everything before and after it.
 #[derive(Drop)]
 struct Broken {
     at: usize,
@@ -62,14 +62,14 @@ const LOGIC: &[u8] =
         ${ h1 $e |- p $. h2 $e |- ( p -> q ) $. th $p |- q $= wp wq h1 h2 mp $. $}\n\
         id $p wff ( ( p -> p ) -> ( p -> p ) ) $= ( wi ) AABZCB $.\n";
 
-/// The report where nothing is wrong.
+/// The report if nothing is wrong.
 const CLEAN: &[u8] = b"axioms 2 theorems 2 proved 2 incomplete 0 wrong 0 faults 0\n";
 
-/// The report where the hypotheses of the rule are exchanged.
+/// The report if the hypotheses of the rule are exchanged.
 const BROKEN: &[u8] =
     b"wrong th a.mm:7:67 P09\naxioms 2 theorems 2 proved 1 incomplete 0 wrong 1 faults 0\n";
 
-/// A script that exchanges the hypotheses of the rule: its line ends behind 18 bytes, the line feed behind its text behind
+/// A script that exchanges the hypotheses of the rule: its line ends after 18 bytes, the line feed after its text after
 /// 76.
 const SCRIPT: &[u8] =
     b"replace a.mm 5 57\n${ ma $e |- ( p -> q ) $. mi $e |- p $. mp $a |- q $. $}\n\nreport\n";
@@ -96,12 +96,12 @@ fn begun(alloc: Global) -> Result<Session, StoreError> {
 struct Ended {
     end: Result<(), ScriptError>,
     answers: Vec<u8>,
-    /// The report of the session behind it.
+    /// The report of the session after it.
     report: Vec<u8>,
 }
 
 impl Ended {
-    /// Whether it ended so, with these answers and this report.
+    /// Whether it ended like this, with these answers and this report.
     fn is(&self, end: Result<(), ScriptError>, answers: &[u8], report: &[u8]) -> bool {
         self.end == end && self.answers.as_slice() == answers && self.report.as_slice() == report
     }
@@ -124,7 +124,7 @@ fn run(alloc: Global, session: &mut Session, mut reading: Reading<Given>, fails:
     }
 }
 
-/// Runs a script on a session over the logic, which is not taken apart behind it.
+/// Runs a script on a session over the logic, which is not taken apart afterwards.
 fn ran(alloc: Global, reading: Reading<Given>, fails: usize) -> Result<Ended, StoreError> {
     match begun(alloc) {
         Ok(mut session) => {
@@ -177,7 +177,7 @@ fn a_reading_knows_that_it_failed(rt: HostRuntime) {
     assert!(rt; first && sound && second && failed && left == b"b".as_slice());
 }
 
-/// The script, cut inside the text or right behind it.
+/// The script, cut inside the text or right after it.
 #[test]
 fn a_cut_text_is_not_put_in(rt: HostRuntime) -> Result<(), Fail> {
     for n in 18..76 {
