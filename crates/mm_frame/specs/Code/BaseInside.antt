@@ -1,4 +1,4 @@
--- What the code's base tells, from what it keeps.
+-- What the code's base reports, from what it keeps.
 use Rattle.std.specs.Prelude.{◌≡◌, ◌↔◌, ℕ, Some, None, List, map, slice_get}
 use Rattle.mm_frame.specs.declared.base.Base.TheInside.{Inside}
 use Rattle.mm_frame.specs.Language.Answering.{BaseAnswers}
@@ -16,8 +16,8 @@ answers_of inside = record {
   marks = inside.parts.blocks;
 }
 
--- what is kept of labels and faults fits together; it is kept of each item whether it is a `$f`, and of each label that an item without a fault has,
--- which item that is
+-- what is kept of labels and faults fits together; for each item it is kept whether it is a `$f`, and for each label of an item without a
+-- fault, which item that is
 pub record KnowsItems (inside : Inside) : Type 0 where
   pub rows : AreRowsKept inside.parts.rows
   pub floats : inside.floats.items ≡ map is_float_item inside.items.items

@@ -1,4 +1,4 @@
--- The fault of a statement as one reads it from left to right: by its kind, word by word, with the lowest number first (Metamath book, sections 4.1 and 4.2).
+-- The fault of a statement read from left to right: by its kind, word by word, the lowest number first (Metamath book, 4.1 and 4.2).
 use Rattle.std.specs.Prelude.{ℕ, suc, Bool, ◌&&◌, ◌||◌, ◌==◌, if◌then◌else◌, Option, Some, None, List, [], ◌∷◌, length}
 use Rattle.std.specs.Option.{option_or}
 use Rattle.mm_frame.specs.declared.FrameNumber.{FrameNumber}
@@ -11,7 +11,7 @@ use Rattle.mm_frame.specs.Language.Sound.{first_symbol, closing_word, is_repeate
 use Rattle.mm_frame.specs.Language.Sound.{is_no_active_symbol}
 use Rattle.mm_frame.specs.Language.Sound.{is_untyped, is_typed, is_typed_otherwise, is_short, fault_or}
 
--- the first symbol with a fault, where the first of these symbols has number n in its statement and stands at this word
+-- the first symbol with a fault; the first of these symbols has number n in its statement and is this word
 abbrev pub first_fault : (ℕ → List ℕ → Option FrameNumber) → ℕ → ℕ → List (List ℕ) → Option (ℕ × FrameNumber)
 first_fault test word n [] = None
 first_fault test word n (name ∷ symbols) = fault_or word (test n name) (first_fault test (suc word) (suc n) symbols)
@@ -20,7 +20,7 @@ first_fault test word n (name ∷ symbols) = fault_or word (test n name) (first_
 abbrev pub must_differ : Kind → Bool
 must_differ kind = is_declaring kind || is_disjoint kind
 
--- what is wrong with a symbol of a `$c`: it stands there twice, is declared, or is a label
+-- what is wrong with a symbol of a `$c`: it is there twice, is declared, or is a label
 abbrev pub constant_fault : List Item → Item → ℕ → List ℕ → Option FrameNumber
 constant_fault before item n name =
     if is_repeated item n name then Some F03
@@ -28,7 +28,7 @@ constant_fault before item n name =
     else if is_label before name then Some F05
     else None
 
--- what is wrong with a symbol of a `$v`: it stands there twice, is a constant or an active variable, or is a label
+-- what is wrong with a symbol of a `$v`: it is there twice, is a constant or an active variable, or is a label
 abbrev pub variable_fault : List Item → Item → ℕ → List ℕ → Option FrameNumber
 variable_fault before item n name =
     if is_repeated item n name then Some F03
@@ -36,7 +36,7 @@ variable_fault before item n name =
     else if is_label before name then Some F05
     else None
 
--- what is wrong with a symbol of a `$d`: it stands there twice, or is no active variable
+-- what is wrong with a symbol of a `$d`: it is there twice, or is no active variable
 abbrev pub disjoint_fault : List Item → Item → ℕ → List ℕ → Option FrameNumber
 disjoint_fault before item n name = if is_repeated item n name then Some F03 else (if is_no_variable before name then Some F09 else None)
 
@@ -56,7 +56,7 @@ typed_fault before item name =
 abbrev pub floating_fault : List Item → Item → ℕ → List ℕ → Option FrameNumber
 floating_fault before item n name = if n == 0 then typecode_fault before name else (if n == 1 then typed_fault before item name else Some F01)
 
--- what is wrong with a symbol behind a typecode: it is no active symbol, or is a variable that is not typed
+-- what is wrong with a symbol after a typecode: it is no active symbol, or is a variable that is not typed
 abbrev pub later_fault : List Item → List ℕ → Option FrameNumber
 later_fault before name = if is_no_active_symbol before name then Some F10 else (if is_untyped before name then Some F11 else None)
 
@@ -88,7 +88,7 @@ abbrev pub labels_fault : List Item → List (List ℕ) → Option FrameNumber
 labels_fault before [] = None
 labels_fault before (label ∷ labels) = label_fault before label
 
--- what is wrong at the first word: a `$c` stands in a block, or the label is wrong
+-- what is wrong at the first word: a `$c` is in a block, or the label is wrong
 abbrev pub front_fault : List Item → Item → Option FrameNumber
 front_fault before item = if is_constants item.kind && is_inside before then Some F02 else labels_fault before (labels_of item)
 

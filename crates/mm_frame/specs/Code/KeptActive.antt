@@ -1,4 +1,4 @@
--- What is left of the numbers of active items behind the end of a block.
+-- What is left of the numbers of active items after the end of a block.
 use Rattle.std.specs.Prelude.{◌≡◌, ℕ, ◌+◌, true, false, List, [], ◌∷◌, ◌++◌, drop, Contains}
 use Rattle.mm_frame.specs.Language.Scope.{Mark}
 use Rattle.mm_frame.specs.Code.BlockMarks.{stays_by}
@@ -7,7 +7,7 @@ use Rattle.mm_frame.specs.declared.active.ActiveNumbers.TheInside.{Inside}
 abbrev pub numbers_inside : Inside → List ℕ
 numbers_inside inside = inside.numbers.items
 
--- what went stood last and is active no more, and the last number that is left is that of an active item
+-- what is gone was last and is active no more, and the last number that is left is that of an active item
 pub record IsPruned (marks : List Mark) (old new : List ℕ) : Type 0 where
   pub gone : List ℕ
   pub parts : old ≡ new ++ gone

@@ -11,7 +11,7 @@ use Rattle.mm_frame.specs.Code.KeptVariables.{AreVariablesOf}
 abbrev pub changes_active : Kind → Bool
 changes_active kind = is_essential kind || is_disjoint kind || closes (mark_of kind)
 
--- these are active behind these items, whose symbols are kept so
+-- what is kept as active is right after these items; these are the symbols kept for them
 pub record AreActiveKept (before : List Item) (expressions : List (List NumberedSymbol)) (active : ActiveItems) : Type 0 where
   pub essentials : active.essentials ≡ active_numbers is_essential_item before
   pub disjoints : active.disjoints ≡ active_numbers is_disjoint_item before

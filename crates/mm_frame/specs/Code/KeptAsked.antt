@@ -1,4 +1,4 @@
--- What the code keeps of the pairs of variables that were asked.
+-- What the code keeps of the pairs of variables that were looked up.
 use Rattle.std.specs.Prelude.{◌≡◌, ℕ, ◌<◌, ◌≤◌, true, Option, Some, List, All, length}
 use Rattle.mm_frame.specs.declared.asked.Answer.{Answer}
 use Rattle.mm_frame.specs.declared.asked.AskedPairs.{AskedPairs}
@@ -9,7 +9,7 @@ use Rattle.mm_frame.specs.Code.LastItems.{is_active_at}
 use Rattle.mm_frame.specs.Code.Numbers.{IsNameNumber}
 use Rattle.mm_frame.specs.Code.KeptPairTable.{IsDisjointAt, ReadsPairs}
 
--- an active `$d` that has both names and was looked at: the first that was found is active, and stands no later
+-- an active `$d` that has both names and was looked at: the first that was found is active, and comes no later
 pub record IsFoundBefore (before : List Item) (common : Option ℕ) (n : ℕ) : Type 0 where
   pub first : ℕ
   pub found : common ≡ Some first
@@ -22,16 +22,16 @@ pub record IsPairAnswer (before : List Item) (x y : List ℕ) (upto : ℕ) (comm
   pub cover : (n : ℕ) → n < upto → IsDisjointAt before x n → IsDisjointAt before y n → is_active_at before n ≡ true → IsFoundBefore before common n
   pub there : (f : ℕ) → common ≡ Some f → IsDisjointAt before x f × IsDisjointAt before y f
 
--- so it is with an answer on the names that have these numbers
+-- an answer is right of the names that have its numbers
 abbrev pub IsKnownPair : List (List ℕ) → List Item → Answer → Type 0
 IsKnownPair all before answer = (x y : List ℕ) → IsNameNumber all answer.first x → IsNameNumber all answer.second y
     → IsPairAnswer before x y answer.upto answer.common
 
--- so it is with each answer
+-- each answer is right
 abbrev pub KnowsAsked : List (List ℕ) → List Item → AskedPairs → Type 0
 KnowsAsked all before asked = All (IsKnownPair all before) asked.answers.items
 
--- where the answers were right they are, after more of them
+-- if the answers were right, they are right after more of them
 abbrev pub AsksOn : PairTable → List Mark → AskedPairs → AskedPairs → Type 0
 AsksOn table blocks old new =
     (all : List (List ℕ)) (before : List Item) → ReadsPairs all before table blocks → KnowsAsked all before old → KnowsAsked all before new

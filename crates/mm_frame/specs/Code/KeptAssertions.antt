@@ -13,11 +13,11 @@ use Rattle.mm_frame.specs.Language.Answering.{AreRows, told_numbers, is_told_pro
 use Rattle.mm_frame.specs.Code.KeptAsked.{KnowsAsked}
 use Rattle.mm_frame.specs.Code.KeptPairLists.{IsList, AreMade}
 
--- the item is a sound `$a` or `$p` behind the sound items before it
+-- the item is a sound `$a` or `$p` after the sound items before it
 abbrev pub is_told_framed : List Item → Item → Bool
 is_told_framed before item = is_none (told_fault before item) && is_assertion item.kind
 
--- a frame is kept exactly for a sound `$a` or `$p`, and has the numbers and pairs of its frame behind the sound items before it
+-- a frame is kept exactly for a sound `$a` or `$p`, and has the numbers and pairs of its frame after the sound items before it
 pub record TellsFrame (all : List (List ℕ)) (before : List Item) (item : Item) (kept_frame : Option Frame) : Type 0 where
   pub hypotheses : option_map (λ frame. frame.hypotheses.items) kept_frame ≡ told_numbers before item
   pub pairs : IfSome kept_frame (λ kept. ArePairsRead all (pairs_in_order (frame before item)) kept.pairs.items)

@@ -25,7 +25,7 @@ use Rattle.mm_frame.specs.declared.tables.Tables.{Tables}
 use Rattle.mm_frame.specs.Code.KeptScope.{ScopeHolds}
 use Rattle.mm_frame.specs.Language.Base.{BaseView, before, said_at}
 
--- the numbers of the mandatory hypotheses of the item with this number, where it is a sound `$a` or `$p`
+-- the numbers of the mandatory hypotheses of the item with this number, if it is a sound `$a` or `$p`
 abbrev pub hypotheses_at : BaseView → ℕ → Option (List ℕ)
 hypotheses_at base i = told_numbers (before base i) (said_at base i)
 
@@ -33,7 +33,7 @@ hypotheses_at base i = told_numbers (before base i) (said_at base i)
 abbrev pub find_in : BaseView → List ℕ → Option ℕ
 find_in base label = last_where (carries label) (sound_items base.said)
 
--- the draft is that behind items that say this, by the numbers of names in the list of all
+-- the draft is that after items that say this, by the numbers of names in the list of all
 pub record IsDraft (all : List (List ℕ)) (said : List Item) (draft : Draft) : Type 0 where
   pub scope : ScopeHolds all (sound_items said) draft.scope
   pub kept : AreRowsKept draft.rows
@@ -43,11 +43,11 @@ pub record IsDraft (all : List (List ℕ)) (said : List Item) (draft : Draft) : 
   pub active : AreActiveKept (sound_items said) draft.expressions draft.active
   pub pair_table : KnowsPairs all (sound_items said) draft.pair_table
 
--- so it is for each list of names that begins with these
+-- the draft is right by each list of names that begins with these
 abbrev pub IsDraftLater : List (List ℕ) → List Item → Draft → Type 0
 IsDraftLater names said draft = (all : List (List ℕ)) → AreDistinct all → Begins names all → IsDraft all said draft
 
--- the tables tell which of these items carries a label
+-- the tables say which of these items carries a label
 abbrev pub KnowsLabels : List Item → Tables → Type 0
 KnowsLabels items tables = (label : List ℕ) → table_label tables label ≡ last_where (carries label) items
 

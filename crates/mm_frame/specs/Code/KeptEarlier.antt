@@ -26,7 +26,7 @@ pub record KnowsEarlier (all : List (List ℕ)) (before : List Item) (earlier : 
   pub numbered : AreNumbered all earlier.expressions.now
   pub symbols : AreSymbols all before earlier.expressions.now
 
--- the item is a sound `$a` or `$p` behind these items, and has these symbols
+-- the item is a sound `$a` or `$p` after these items, and has these symbols
 pub record IsFramed (all : List (List ℕ)) (before : List Item) (item : Item) (own : List NumberedSymbol) : Type 0 where
   pub sound : IsSound before item
   pub assertion : is_assertion item.kind ≡ true

@@ -11,12 +11,12 @@ use Rattle.mm_frame.specs.Language.Scope.{active_numbers}
 use Rattle.mm_frame.specs.Code.LastItems.{is_disjoint_item}
 use Rattle.mm_frame.specs.Language.NumberedSymbols.{AreSamePairsRead, AreInOrder}
 
--- the pairs of a list: none where there is no list
+-- the pairs of a list: none if there is no list
 abbrev pub pairs_or_none : Option (Vec (NumberedSymbol × NumberedSymbol) Global) → List (NumberedSymbol × NumberedSymbol)
 pairs_or_none None = []
 pairs_or_none (Some list) = list.items
 
--- the list with this number: empty where there is no such list
+-- the list with this number: empty if there is no such list
 abbrev pub list_kept : PairLists → ℕ → List (NumberedSymbol × NumberedSymbol)
 list_kept lists k = pairs_or_none (slice_get lists.lists.items k)
 
@@ -46,12 +46,12 @@ pub record IsList (all : List (List ℕ)) (lists : PairLists) (k : ℕ) (pairs :
 abbrev pub list_made : PairLists → ℕ → Option ℕ
 list_made lists count = get nat_eq lists.made count
 
--- the list with this number is of the pairs that are active behind so many of the items
+-- the list with this number has the pairs that are active after this many of the items
 pub record IsMadeFor (all : List (List ℕ)) (before : List Item) (lists : PairLists) (count k : ℕ) : Type 0 where
   pub within : count ≤ length before
   pub list : IsList all lists k (active_pairs (take count before))
 
--- so it is with each list that is made
+-- this holds of each list that is made
 abbrev pub AreMade : List (List ℕ) → List Item → PairLists → Type 0
 AreMade all before lists = (count k : ℕ) → list_made lists count ≡ Some k → IsMadeFor all before lists count k
 
@@ -60,7 +60,7 @@ pub record KeepsLists (old new : PairLists) : Type 0 where
   pub more : List (Vec (NumberedSymbol × NumberedSymbol) Global)
   pub whole : new.lists.items ≡ old.lists.items ++ more
 
--- behind so many of the items these are the numbers of the active `$d`
+-- these are the numbers of the `$d` that are active after this many of the items
 pub record AreFrontNumbers (before : List Item) (numbers : List ℕ) (count : ℕ) : Type 0 where
   pub within : count ≤ length before
   pub active : numbers ≡ active_numbers is_disjoint_item (take count before)

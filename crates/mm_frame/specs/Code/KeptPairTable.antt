@@ -11,7 +11,7 @@ use Rattle.mm_frame.specs.Code.KeptActive.{IsPruned}
 use Rattle.mm_frame.specs.Code.LastItems.{IsRising, is_active_at}
 use Rattle.mm_frame.specs.Code.Numbers.{IsNameNumber}
 
--- the numbers of a row: none where there is no row
+-- the numbers of a row: none if there is no row
 abbrev pub numbers_or_none : Option (Vec ℕ Global) → List ℕ
 numbers_or_none None = []
 numbers_or_none (Some row) = row.items
@@ -20,19 +20,19 @@ numbers_or_none (Some row) = row.items
 abbrev pub row_at : PairTable → ℕ → List ℕ
 row_at table n = numbers_or_none (slice_get table.rows.items n)
 
--- a number is put behind those of one row that are left of it, and nothing else changes
+-- a number is added after those of one row that are left, and nothing else changes
 pub record Puts (old : PairTable) (marks : List Mark) (name number : ℕ) (new : PairTable) : Type 0 where
   pub left : List ℕ
   pub pruned : IsPruned marks (row_at old name) left
   pub here : row_at new name ≡ left ++ number ∷ []
   pub others : (n : ℕ) → (n ≡ name → ⊥) → row_at new n ≡ row_at old n
 
--- so it is with each of these rows, and nothing else changes
+-- the number is added to each of these rows, and nothing else changes
 pub record PutsAll (old : PairTable) (marks : List Mark) (names : List ℕ) (number : ℕ) (new : PairTable) : Type 0 where
   pub each : (n : ℕ) → Contains names n → (left : List ℕ) × IsPruned marks (row_at old n) left × (row_at new n ≡ left ++ number ∷ [])
   pub others : (n : ℕ) → (Contains names n → ⊥) → row_at new n ≡ row_at old n
 
--- the numbers stand each at one place
+-- each number is at one place
 abbrev pub AreOnce : List ℕ → Type 0
 AreOnce numbers = (i j n : ℕ) → slice_get numbers i ≡ Some n → slice_get numbers j ≡ Some n → i ≡ j
 
@@ -49,7 +49,7 @@ pub record IsRow (before : List Item) (name : List ℕ) (row : List ℕ) : Type 
   pub there : (n : ℕ) → Contains row n → IsDisjointAt before name n
   pub cover : (n : ℕ) → IsDisjointAt before name n → is_active_at before n ≡ true → Contains row n
 
--- so it is for each name
+-- each name has such a row
 abbrev pub KnowsPairs : List (List ℕ) → List Item → PairTable → Type 0
 KnowsPairs all before table = (n : ℕ) (name : List ℕ) → IsNameNumber all n name → IsRow before name (row_at table n)
 

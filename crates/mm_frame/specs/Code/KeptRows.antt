@@ -6,16 +6,16 @@ use Rattle.mm_frame.specs.declared.judge.FrameFault.{FrameFault}
 use Rattle.mm_frame.specs.declared.item_rows.Rows.{Rows}
 use Rattle.mm_frame.specs.Code.KeptExpressions.{cut_from, EndsFrom}
 
--- the bytes of a label: none where there is no label
+-- the bytes of a label: none if there is no label
 abbrev pub bytes_or_none : Option (List ℕ) → List ℕ
 bytes_or_none None = []
 bytes_or_none (Some label) = label
 
--- what is told of a fault
+-- what is reported of a fault
 abbrev pub fault_told : Option FrameFault → Option (ℕ × FrameNumber)
 fault_told fault = option_map (λ f. (f.word, f.number)) fault
 
--- the fault at a place: none where there is no such place
+-- the fault at a place: none if there is no such place
 abbrev pub fault_or_none : Option (Option FrameFault) → Option FrameFault
 fault_or_none None = None
 fault_or_none (Some fault) = fault
@@ -23,11 +23,11 @@ fault_or_none (Some fault) = fault
 abbrev pub fault_kept : List (Option FrameFault) → ℕ → Option FrameFault
 fault_kept faults n = fault_or_none (slice_get faults n)
 
--- what is told of an item with these bytes, of which it is kept at a place whether it has a label, and its fault
+-- what is reported of an item with these bytes; whether it has a label, and its fault, are kept at a place
 abbrev pub row_told : List Bool → List (Option FrameFault) → ℕ → List ℕ → Option (List ℕ) × Option (ℕ × FrameNumber)
 row_told flags faults n bytes = (if slice_index_or flags n false then Some bytes else None, fault_told (fault_kept faults n))
 
--- of items one behind another, from this place on
+-- what is reported of items one after another, from this place on
 abbrev pub rows_from : ℕ → List (List ℕ) → List Bool → List (Option FrameFault) → List (Option (List ℕ) × Option (ℕ × FrameNumber))
 rows_from n [] flags faults = []
 rows_from n (bytes ∷ labels) flags faults = row_told flags faults n bytes ∷ rows_from (suc n) labels flags faults

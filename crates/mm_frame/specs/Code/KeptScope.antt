@@ -1,4 +1,4 @@
--- What a reader keeps of the items so far to judge the next one: what they declare, what they do to the blocks, and the typecode of each `$f`.
+-- What a reader keeps of the items so far to judge the next one: their declarations, their blocks, and the typecode of each `$f`.
 use Rattle.std.specs.Prelude.{◌≡◌, ℕ, Bool, true, if◌then◌else◌, List, [], ◌∷◌, ◌++◌, map}
 use Rattle.mm_frame.specs.declared.scope.Scope.{Scope}
 use Rattle.mm_frame.specs.Language.Item.{Item, passed, is_floating, typecode_of}
@@ -15,17 +15,17 @@ typecodes_of scope = map (λ typecode. typecode.now) scope.typecodes.items
 abbrev pub float_typecode : Item → List ℕ
 float_typecode item = if is_floating item.kind then typecode_of item else []
 
--- the scope is that behind these items, by the numbers of names in the list of all
+-- the scope is that after these items, by the numbers of names in the list of all
 pub record ScopeHolds (all : List (List ℕ)) (before : List Item) (scope : Scope) : Type 0 where
   pub knows : Knows all before scope.tables
   pub marks : scope.blocks ≡ block_marks before
   pub types : typecodes_of scope ≡ map float_typecode before
 
--- what is kept of an item: the item where it is sound, and else what stands in its place
+-- what is kept of an item: the item if it is sound, and else what takes its place
 abbrev pub taken : Bool → Item → Item
 taken sound item = if sound then item else passed
 
--- the scope takes one more item, whose symbols have these numbers, and which is sound if it is said to be so
+-- the scope takes one more item, whose symbols have these numbers, and which is sound if the flag says it is
 abbrev pub ScopeTakes : List ℕ → Scope → Item → Bool → Scope → Type 0
 ScopeTakes numbers old item sound new = (all : List (List ℕ)) (before : List Item) → AreSound before → ScopeHolds all before old
     → (sound ≡ true → IsSound before item) → AreNameNumbers all numbers item.symbols → ScopeHolds all (before ++ taken sound item ∷ []) new

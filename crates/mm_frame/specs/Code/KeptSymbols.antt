@@ -10,7 +10,7 @@ use Rattle.mm_frame.specs.Language.Framing.{expression}
 use Rattle.mm_frame.specs.Code.KeptTables.{declared_at, is_constant_as, float_of}
 use Rattle.mm_frame.specs.Language.NumberedSymbols.{symbols_of, IsNumbered}
 
--- a name as a symbol, where what is no declared constant is a variable
+-- a name as a symbol: a variable if it is no declared constant
 abbrev pub by_constants : List Item → List ℕ → Symbol
 by_constants before name = record { name = name; variable = not (has (constants before) name) }
 
@@ -22,7 +22,7 @@ symbol_by tables n = record { name = n; variable = not (is_constant_as (declared
 abbrev pub variable_by : ℕ → NumberedSymbol
 variable_by n = record { name = n; variable = true }
 
--- the symbols that are kept for an item: none where nothing is kept
+-- the symbols that are kept for an item: none if nothing is kept
 abbrev pub kept_or_none : Option (List NumberedSymbol) → List NumberedSymbol
 kept_or_none None = []
 kept_or_none (Some kept) = kept

@@ -10,7 +10,7 @@ use Rattle.mm_frame.specs.Code.Numbers.{number_in}
 use Rattle.mm_frame.specs.Code.KeptLabels.{label_number}
 use Rattle.mm_frame.specs.Code.LastItems.{last_where, declares_variable, types, carries}
 
--- what the tables tell of the name with a number
+-- what the tables say of the name with a number
 abbrev pub declared_at : Tables → ℕ → Option Declared
 declared_at tables n = slice_index_or tables.declared.items n None
 
@@ -18,11 +18,11 @@ abbrev pub declared_for : Tables → Option ℕ → Option Declared
 declared_for tables None = None
 declared_for tables (Some n) = declared_at tables n
 
--- what the tables tell of a name, by its number among all names
+-- what the tables say of a name, by its number among all names
 abbrev pub table_name : List (List ℕ) → Tables → List ℕ → Option Declared
 table_name all tables name = declared_for tables (number_in all name)
 
--- what the tables tell of a label
+-- what the tables say of a label
 abbrev pub table_label : Tables → List ℕ → Option ℕ
 table_label tables label = label_number tables.labels label
 
@@ -60,13 +60,13 @@ typed_by number None = None
 typed_by number (Some Constant) = Some Constant
 typed_by number (Some (Variable declared float)) = Some (Variable declared (Some number))
 
--- the tables tell what these items declare, by the numbers of names in the list of all
+-- the tables say what these items declare, by the numbers of names in the list of all
 pub record Knows (all : List (List ℕ)) (items : List Item) (tables : Tables) : Type 0 where
   pub distinct : AreDistinct all
   pub names : (name : List ℕ) → table_name all tables name ≡ declared_in items name
   pub labels : (label : List ℕ) → table_label tables label ≡ last_where (carries label) items
 
--- these names are declared from now on, each as the function tells from what it was, and nothing else changes
+-- these names are declared from now on, each by the function of what it was, and nothing else changes
 pub record Declares (all : List (List ℕ)) (old : Tables) (symbols : List (List ℕ)) (declared : Option Declared → Declared) (new : Tables) : Type 0 where
   pub names : (name : List ℕ) → table_name all new name ≡ (if has symbols name then Some (declared (table_name all old name)) else table_name all old name)
   pub labels : (label : List ℕ) → table_label new label ≡ table_label old label

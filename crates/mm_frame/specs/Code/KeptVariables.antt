@@ -14,14 +14,14 @@ by_essential n symbol = record { number = n; symbol = symbol }
 abbrev pub IsKeptBy : List ℕ → List EssentialVariable → NumberedSymbol → Type 0
 IsKeptBy essentials found symbol = (n : ℕ) × Contains essentials n × Contains found (by_essential n symbol)
 
--- no more than a symbol of this `$e` comes behind, and if that is a variable it is kept
+-- no more than a symbol of this `$e` is added, and if it is a variable it is kept
 pub record AddsOne (essentials : List ℕ) (number : ℕ) (symbol : NumberedSymbol) (old new : List EssentialVariable) : Type 0 where
   pub more : List EssentialVariable
   pub whole : new ≡ old ++ more
   pub own : (v : EssentialVariable) → Contains more v → v ≡ by_essential number symbol
   pub there : symbol.variable ≡ true → IsKeptBy essentials new symbol
 
--- so it is with each of these symbols
+-- no more than these symbols of this `$e` are added, and the variables among them are kept
 pub record AddsAll (essentials : List ℕ) (number : ℕ) (symbols : List NumberedSymbol) (old new : List EssentialVariable) : Type 0 where
   pub more : List EssentialVariable
   pub whole : new ≡ old ++ more

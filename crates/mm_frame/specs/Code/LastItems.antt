@@ -17,11 +17,11 @@ abbrev pub last_where : (Item → Bool) → List Item → Option ℕ
 last_where test [] = None
 last_where test (item ∷ items) = number_or_first (last_where test items) (test item)
 
--- the item with this number is active behind the items; a number past the last item counts as active
+-- the item with this number is active after the items; a number past the last item counts as active
 abbrev pub is_active_at : List Item → ℕ → Bool
 is_active_at items n = stays (drop (suc n) items)
 
--- there is a number, and its item is active behind the items
+-- there is a number, and its item is active after the items
 abbrev pub is_active_last : List Item → Option ℕ → Bool
 is_active_last items None = false
 is_active_last items (Some n) = is_active_at items n
@@ -43,7 +43,7 @@ abbrev pub is_otherwise_at : List Item → Item → Option ℕ → Bool
 is_otherwise_at items item None = false
 is_otherwise_at items item (Some n) = not (bytes_eq (typecode_of (item_at items n)) (typecode_of item))
 
--- a sort of items: none that opens or closes a block, and none that stands for a statement at fault
+-- a sort of items: none that opens or closes a block, and none that takes the place of a statement at fault
 pub record IsSort (test : Kind → Bool) : Type 0 where
   pub statement : (kind : Kind) → test kind ≡ true → mark_of kind ≡ Neither
   pub sound : test Passed ≡ false

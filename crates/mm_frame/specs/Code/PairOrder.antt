@@ -8,7 +8,7 @@ use Rattle.mm_frame.specs.Code.KeptSymbols.{expression_kept}
 abbrev pub is_among : List ℕ → ℕ → Bool
 is_among numbers n = list_any (nat_eq n) numbers
 
--- the variable of a `$f`, from what is kept for it: none where the number is one of the active `$e`
+-- the variable of a `$f`, from what is kept for it: none if the number is one of the active `$e`
 abbrev pub float_variable : List ℕ → List (List NumberedSymbol) → ℕ → List NumberedSymbol
 float_variable essentials expressions n = if is_among essentials n then [] else option_to_list (slice_get (expression_kept expressions n) 1)
 

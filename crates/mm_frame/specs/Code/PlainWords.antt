@@ -25,7 +25,7 @@ pub record AreFewWords (words : List (List ℕ)) : Type 0 where
   pub some : AllByRecursion (λ word. 0 < length word) words
   pub bytes : length (flat_map (λ word. word) words) ≤ 4294967295
 
--- the first word is taken where it is a label
+-- the first word is taken if it is a label
 abbrev pub TakesLabel : Bool → List Word → Option Word → List Word → Type 0
 TakesLabel true old (Some word) new = old ≡ word ∷ new
 TakesLabel true old None new = ⊥

@@ -7,7 +7,7 @@ use Rattle.mm_frame.specs.Code.PlainWords.{AreFewWords, plain_bytes}
 abbrev pub proof_left_of : Inside → List (List ℕ)
 proof_left_of inside = plain_bytes inside.text.now inside.cursor.words
 
--- they lie in the text, and are few
+-- the words are in the text, and are few
 pub record IsProofOver (inside : Inside) : Type 0 where
   pub text : inside.cursor.text ≡ inside.text.now
   pub few : AreFewWords (proof_left_of inside)

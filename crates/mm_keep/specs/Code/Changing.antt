@@ -28,7 +28,7 @@ pub record AreKept (files : FilesView) (top : List ℕ) (names : List (List ℕ)
 abbrev pub HasKept : FilesView → List ℕ → List (List ℕ) → Base → List (Option Judgement) → Type 0
 HasKept files top names code checked = (base : BaseView) × AreKept files top names code checked base
 
--- so it was of the files before edits, which can be undone and settled
+-- there was such a base of the files before edits, which can be undone and settled
 pub record WereKept
     (before after : FilesView) (undos : List UndoView) (top : List ℕ) (names : List (List ℕ)) (code : Base) (checked : List (Option Judgement)) : Type 0 where
   pub base : BaseView
@@ -37,7 +37,7 @@ pub record WereKept
   pub spendable : IsSpendable before after undos
   pub has_top : HasTop after top
 
--- so it was of the files of before, and what a session goes on with is there
+-- there was one of the files of before, and what a session goes on with is there
 pub record CanTake
     (before after : FilesView) (undos : List UndoView) (top : List ℕ) (names : List (List ℕ)) (checked : List (Option Judgement)) (next : Next) : Type 0 where
   pub spendable : IsSpendable before after undos

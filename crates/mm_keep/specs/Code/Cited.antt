@@ -25,11 +25,11 @@ pub record MarksBehind (view : BaseView) (before after : List Bool) : Type 0 whe
   pub count : length after ≡ length before
   pub each : (k : ℕ) → IsMarked after k ↔ ((i : ℕ) × IsMarked before i × LeadsTo view k i)
 
--- each number is below those behind it
+-- each number is below those after it
 abbrev pub AreRising : List ℕ → Type 0
 AreRising numbers = AllPairs (λ m n. m < n) numbers
 
--- how many words are passed where the next word that cites is the one at this place
+-- how many words are passed if the next word that cites is the one at this place
 abbrev pub passed_words : List ℕ → ℕ → ℕ
 passed_words cites zero = 0
 passed_words cites (suc x) = slice_index cites x + 1
@@ -46,11 +46,11 @@ pub record HasLabelAmong (view : BaseView) (words : List (List ℕ)) (cites : Li
   pub among : IsAmongCited words cites count label
   pub carrier : IsCarrier view label k
 
--- the item with this label, if there is one, has a place among so many marks
+-- the item with this label, if there is one, has a place among this many marks
 abbrev pub HasPlaceFor : Base → List ℕ → ℕ → Type 0
 HasPlaceFor code label count = (view : BaseView) × IsBase view code × ((k : ℕ) → IsCarrier view label k → k < count)
 
--- and so it is with all that the words that cite are labels of
+-- the same holds of all items whose labels are words that cite
 abbrev pub HasPlaces : Base → List (List ℕ) → List ℕ → ℕ → Type 0
 HasPlaces code words cites count =
     (view : BaseView) × IsBase view code × ((k : ℕ) → HasLabelAmong view words cites (length cites) k → k < count)

@@ -27,7 +27,7 @@ kind_of_verdict (verdicts.Wrong number spot) = kinds.Wrong
 abbrev pub IsFoundAs : FilesView → BaseView → ℕ → FindingKind → Type 0
 IsFoundAs files view n kind = (one : Told) × IsRightlyTold files view n one × (kind_told one ≡ kind)
 
--- the counts where one more is reported
+-- the counts after one more is reported
 abbrev pub one_more : FindingKind → Counts → Counts
 one_more kinds.Quiet c = c
 one_more kinds.Axiom c = record c { axioms = c.axioms + 1 }

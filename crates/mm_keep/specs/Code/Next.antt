@@ -1,4 +1,4 @@
--- What a session goes on with behind a change of its files.
+-- What a session goes on with after a change of its files.
 use Rattle.std.specs.Prelude.{◌≡◌, ◌≢◌, ℕ, true, Option, None, Some, List, length, slice_get}
 use Rattle.mm_proof.specs.mm_store.Language.FilesView.{FilesView, files_in, number_of}
 use Rattle.mm_proof.specs.mm_frame.Language.Base.{BaseView, IsOfFiles, is_proof_at}
@@ -38,7 +38,7 @@ pub record RunsAll (base : BaseView) (run : Ran) : Type 0 where
   pub runs : AreThose (λ i. is_proof_at base i ≡ true) (length base.said) run.work.runs
   pub steps : AreStepsOf base run.work.runs run.work.steps
 
--- so it is with the base of these files
+-- there is a base of these files, and each of its theorems keeps what was checked before, or is run
 pub record IsNextBase (names : List (List ℕ)) (files : FilesView) (top : List ℕ) (old : BaseView) (next : Next) : Type 0 where
   pub base : BaseView
   pub built : IsBuilt names files top next.base base

@@ -15,7 +15,7 @@ use Rattle.mm_keep.specs.declared.finding.At.{At}
 use Rattle.mm_keep.specs.Code.KeptSession.{AreChecked}
 use Rattle.mm_keep.specs.Language.WordPlaces.{start_of, HasPlace}
 
--- the code's base answers this by these names, what it answers is what its items say in these files, and the items stand in the files
+-- the code's base answers this by these names, what it answers is what its items say in these files, and the items are in the files
 pub record IsOf (names : List (List ℕ)) (files : FilesView) (code : Base) (view : BaseView) : Type 0 where
   pub read_in : IsReadIn names files code view
   pub stand : All (StandsIn files) view.found

@@ -17,17 +17,17 @@ abbrev pub IsPlanned : BaseView → BaseView → ℕ → Option ℕ → Type 0
 IsPlanned old new j (Some i) = HasSameView old new i j
 IsPlanned old new j None = ¬ HadView old new j
 
--- so it is planned for each item of the new base
+-- there is such a plan for each item of the new base
 pub record ArePlanned (old new : BaseView) (plan : List (Option ℕ)) : Type 0 where
   pub count : length plan ≡ length new.said
   pub each : (j : ℕ) (from : Option ℕ) → slice_get plan j ≡ Some from → IsPlanned old new j from
 
--- what the run of item j gives, by the plan: nothing where it keeps what was checked before or is no sound theorem
+-- what the run of item j gives, by the plan: nothing if it keeps what was checked before or is no sound theorem
 abbrev pub IsRunBy : BaseView → Option ℕ → ℕ → Option Judgement → Type 0
 IsRunBy new (Some i) j one = one ≡ None
 IsRunBy new None j one = IsCheckedAt new j one
 
--- so it is for each of the first items
+-- the first items have such results
 pub record AreRunBy (new : BaseView) (plan : List (Option ℕ)) (checked : List (Option Judgement)) : Type 0 where
   pub within : length checked ≤ length plan
   pub each : (j : ℕ) (from : Option ℕ) (one : Option Judgement) → slice_get plan j ≡ Some from → slice_get checked j ≡ Some one → IsRunBy new from j one
@@ -47,7 +47,7 @@ pub record AreBothRead (names : List (List ℕ)) (files : FilesView) (old new : 
   pub old_is : IsReadIn names files old base
   pub new_is : IsReadIn names files new copy
 
--- the marks of these two bases tell what stays of the old one
+-- the marks of these two bases say what stays of the old one
 abbrev pub AreMarksBy : List (List ℕ) → Base → Base → List ItemMark → Type 0
 AreMarksBy names old new marks = (base copy : BaseView) → IsBaseBy names base old → IsBaseBy names copy new → AreMarks base copy marks
 
@@ -68,7 +68,7 @@ pub record RecordsRun (new : BaseView) (j : ℕ) (before after : Recorded) : Typ
   pub few : count ≤ 4294967295
   pub steps : after.steps ≡ before.steps + count
 
--- the run of item j is recorded where it is a sound theorem that keeps nothing, and nothing else is
+-- the run of item j is recorded if it is a sound theorem that keeps nothing, and nothing else is
 abbrev pub RecordsIf : BaseView → Option ℕ → ℕ → Recorded → Recorded → Type 0
 RecordsIf new (Some i) j before after = after ≡ before
 RecordsIf new None j before after = ((is_proof_at new j ≡ true) × RecordsRun new j before after) ⊎ ((is_proof_at new j ≡ false) × (after ≡ before))

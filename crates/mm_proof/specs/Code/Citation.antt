@@ -57,7 +57,7 @@ IsSlot hs j v = (h : Mandatory) × (slice_get hs j ≡ Some h) × (h.floating �
 abbrev pub IsTypingOf : Mandatory → Symbol → Type 0
 IsTypingOf h v = (h.floating ≡ true) × (slice_get h.expression 1 ≡ Some v)
 
--- each variable of the expression has a `$f`, and is given what the entry of that has behind the typecode
+-- each variable of the expression has a `$f`, and is given what the entry of that `$f` has after the typecode
 pub record GivesVariables (given : Symbol → List Symbol) (hs : List Mandatory) (es : List (List Symbol)) (expression : List Symbol) : Type 0 where
   pub typed : (v : Symbol) → HasVariable expression v → IsTyped hs v
   pub slots : (j : ℕ) (v : Symbol) → IsSlot hs j v → (e : List Symbol) × (slice_get es j ≡ Some e) × (given v ≡ drop 1 e)
@@ -79,7 +79,7 @@ OtherTypecode h e = (h.floating ≡ true) × (slice_get h.expression 0 ≢ slice
 abbrev pub OtherEssential : (Symbol → List Symbol) → Mandatory → List Symbol → Type 0
 OtherEssential given h e = (h.floating ≡ false) × (substituted given h.expression ≢ e)
 
--- the lowest number that holds where the frame is cited after this stack
+-- the lowest number that holds if the frame is cited after this stack
 abbrev pub IsLowestCiting : List (Symbol × Symbol) → Frame → List (List Symbol) → ProofNumber → Type 0
 IsLowestCiting active frame stack number = CitingFails active frame stack number × ((other : ProofNumber) → CitingFails active frame stack other →
     row_of number ≤ row_of other)
@@ -96,6 +96,6 @@ CitingSays active frame es (Some number) = (stack : List (List Symbol)) → leng
 abbrev pub entries_of : {S : Type 0} → (S → Symbol) → Taken S → List (List Symbol)
 entries_of means taken = read_all (map means taken.symbols.now) taken.entries.now
 
--- what stands for a symbol
+-- what takes the place of a symbol
 abbrev pub replaced_by : {S : Type 0} → (S → Symbol) → Replacement S → List Symbol
 replaced_by means r = if (means r.symbol.now).variable then map means r.given.now else means r.symbol.now ∷ []

@@ -1,4 +1,4 @@
--- Which words cite, by the numbers of assertions: it stands between the code and the definition.
+-- Which words cite, by the numbers of assertions: it is between the code and the definition.
 use Rattle.std.specs.Prelude.{ℕ, ◌+◌, Bool, false, not, slice_index_or, ◌&&◌, if◌then◌else◌, nat_eq, Option, Some, None, List, [], ◌∷◌, slice_get}
 use Rattle.std.specs.List.{list_any}
 use Rattle.mm_frame.specs.declared.base.Resolved.{Resolved}
@@ -37,7 +37,7 @@ is_listed labels j = list_any (λ label. is_item (cited_item (Some label)) j) la
 abbrev pub marked_at : List Bool → ℕ → Bool
 marked_at marks j = slice_index_or marks j false
 
--- the assertions that are left once this one is told
+-- the assertions that are left once this one is reported
 abbrev pub without : (ℕ → Bool) → ℕ → ℕ → Bool
 without left j i = left i && not (nat_eq j i)
 

@@ -21,7 +21,7 @@ meant_or names (Err number) = Err number
 abbrev pub meant_steps : List Step → List ProofStep → List (Step × Spot)
 meant_steps names steps = map (λ step. (meant names step.action, step.spot)) steps
 
--- a fault that is told is the fault; out of memory tells none
+-- a fault that is reported is the fault; out of memory reports none
 abbrev pub TellsSteps : Undecoded → Steps → Type 0
 TellsSteps (errors.Fault fault) steps = steps ≡ Err fault
 TellsSteps errors.Memory steps = Unit {0}
@@ -30,7 +30,7 @@ TellsSteps errors.Memory steps = Unit {0}
 abbrev pub letters_give : List Step → List (List ℕ) → ℕ → Steps
 letters_give names words from = in_order (each_group names (word_spot (length words)) 0 (groups (letters_from from (drop from words))))
 
--- so it is with what the words that are left give as letters, for as many names as there are labels
+-- this holds of what the words that are left give as letters, for as many names as there are labels
 abbrev pub LettersGive : ℕ → List (List ℕ) → ℕ → (List Step → Steps → Type 0) → Type 0
 LettersGive labels left from holds =
     (names : List Step) (words : List (List ℕ)) → length names ≡ labels → AreLeft words left from → holds names (letters_give names words from)

@@ -8,7 +8,7 @@ use Rattle.mm_proof.specs.Code.Judged.{HasDecoding, OfDecoding}
 use Rattle.mm_proof.specs.declared.checking.DecodedProof.{DecodedProof}
 use Rattle.mm_proof.specs.declared.work.Checked.{Checked}
 
--- so it is in each view of the base in which the proof decodes to this
+-- this holds in each view of the base in which the proof decodes to this
 abbrev pub OfDecoded : DecodedProof → (BaseView → Type 0) → Type 0
 OfDecoded proof holds = OfDecoding proof.base.now proof.i proof.words.now proof.decoding.now holds
 
@@ -20,7 +20,7 @@ IsDecoded proof = HasDecoding proof.base.now proof.i proof.words.now proof.decod
 abbrev pub steps_of : DecodedProof → BaseView → List Step
 steps_of proof view = (decoded_steps view proof.decoding.now proof.words.now).steps
 
--- the verdict and the words that cite are those of the item's proof, and so many of its steps are done
+-- the verdict and the words that cite are those of the item's proof, and this many of its steps are done
 pub record IsJudgedProof (view : BaseView) (i : ℕ) (judged : Checked × ℕ) : Type 0 where
   pub verdict : IsVerdictAt view i judged.0.verdict
   pub cites : judged.0.cites ≡ cites_at view i

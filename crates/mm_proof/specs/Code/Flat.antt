@@ -11,6 +11,6 @@ read symbols e = take (e.end - e.start) (drop e.start symbols)
 abbrev pub read_all : List Symbol → List Entry → List (List Symbol)
 read_all symbols es = map (read symbols) es
 
--- the range lies within a list of this length
+-- the range is within a list of this length
 abbrev pub IsEntryWithin : ℕ → Entry → Type 0
 IsEntryWithin n e = (e.start ≤ e.end) × (e.end ≤ n)

@@ -10,12 +10,12 @@ use Rattle.mm_proof.specs.Code.KeptMarks.{OfBases, IsCompared, ShareFrame}
 use Rattle.mm_proof.specs.declared.marks.Step.{Step}
 use Rattle.mm_proof.specs.declared.ordinals.Ordinals.{Ordinals}
 
--- how many sound items with a label stand before item n
+-- how many sound items with a label come before item n
 abbrev pub ordinal : BaseView → ℕ → ℕ
 ordinal base zero = 0
 ordinal base (suc n) = if is_shown_at base n then suc (ordinal base n) else ordinal base n
 
--- these are the ordinals of so many items, from the first on
+-- these are the ordinals of this many items, from the first on
 pub record AreOrdinals (base : BaseView) (count : ℕ) (numbers : List ℕ) : Type 0 where
   pub count_is : length numbers ≡ count
   pub each : (n : ℕ) → n < count → slice_index numbers n ≡ ordinal base n
@@ -25,7 +25,7 @@ abbrev pub AreOrdinalsOf : Base → Base → Ordinals → Type 0
 AreOrdinalsOf old new ordinals = OfBases old new (λ base copy.
     AreOrdinals base (suc (length base.said)) ordinals.old.items × AreOrdinals copy (suc (length copy.said)) ordinals.new.items)
 
--- hypothesis n is active at the items behind it up to this one, or at all of them
+-- hypothesis n is active at the items after it up to this one, or at all of them
 pub record EndsAt (base : BaseView) (n : ℕ) (end : Option ℕ) : Type 0 where
   pub active : (label : List ℕ) (i : ℕ) → IsCarrier base label n → is_framed_at base n ≡ false → n < i → IsUpTo i end
       → Resolves base i label (answers.Hypothesis n)
@@ -38,7 +38,7 @@ AreEndsAlike base copy None None = Unit {0}
 AreEndsAlike base copy (Some a) (Some b) = ordinal base a ≡ ordinal copy b
 AreEndsAlike base copy _ _ = ⊥
 
--- two hypotheses end so
+-- two hypotheses have such ends
 pub record SharesEnd (base copy : BaseView) (i j : ℕ) : Type 0 where
   pub mine : Option ℕ
   pub yours : Option ℕ
@@ -46,7 +46,7 @@ pub record SharesEnd (base copy : BaseView) (i j : ℕ) : Type 0 where
   pub is : EndsAt copy j yours
   pub alike : AreEndsAlike base copy mine yours
 
--- both items are hypotheses with the same expression that end so
+-- both items are hypotheses with the same expression and such ends
 pub record KeepsHypothesis (base copy : BaseView) (i j : ℕ) : Type 0 where
   pub was : is_framed_at base i ≡ false
   pub is : is_framed_at copy j ≡ false
@@ -63,7 +63,7 @@ pub record IsAlike (base copy : BaseView) (i j : ℕ) : Type 0 where
 abbrev pub HasAlike : BaseView → BaseView → ℕ → Type 0
 HasAlike base copy j = is_shown_at copy j ≡ true → (i : ℕ) × IsAlike base copy i j
 
--- so it is for each item before this one
+-- there is such an item for each item before this one
 abbrev pub AreInStep : BaseView → BaseView → ℕ → Type 0
 AreInStep base copy j = (m : ℕ) → m < j → HasAlike base copy m
 

@@ -17,7 +17,7 @@ pub record IsTheorem (code : Base) (i : ℕ) (proof : List (List ℕ)) (view : B
   pub is_sound : is_proof_at view i ≡ true
   pub says : (said_at view i).proof ≡ proof
 
--- so it is in each view of the base
+-- this holds in each such view of the base
 abbrev pub OfProof : Base → ℕ → List (List ℕ) → (BaseView → Type 0) → Type 0
 OfProof code i proof holds = (view : BaseView) → IsTheorem code i proof view → holds view
 
@@ -32,7 +32,7 @@ pub record IsDecoding (code : Base) (i : ℕ) (proof : List (List ℕ)) (d : Dec
   pub entries : AreEntries view i d.labels.items
   pub table : entry_steps view d.labels.items ≡ label_table (mandatory_labels view i) proof
 
--- so it is in each view of the base
+-- this holds in each such view of the base
 abbrev pub OfDecoding : Base → ℕ → List (List ℕ) → Decoding → (BaseView → Type 0) → Type 0
 OfDecoding code i proof d holds = (view : BaseView) → IsDecoding code i proof d view → holds view
 
@@ -40,13 +40,13 @@ OfDecoding code i proof d holds = (view : BaseView) → IsDecoding code i proof 
 abbrev pub HasDecoding : Base → ℕ → List (List ℕ) → Decoding → Type 0
 HasDecoding code i proof d = (view : BaseView) × IsDecoding code i proof d view × (i < length view.said)
 
--- the step that an outcome names is one of so many
+-- the step that an outcome names is one of this many
 abbrev pub IsOutcomeWithin : ℕ → Outcome → Type 0
 IsOutcomeWithin steps (Fault number n) = n < steps
 IsOutcomeWithin steps (Unknown n) = n < steps
 IsOutcomeWithin steps _ = Unit {0}
 
--- how many of so many steps are done
+-- how many of this many steps are done
 abbrev pub done_by : ℕ → Outcome → ℕ
 done_by steps Proved = steps
 done_by steps (Fault number n) = n + 1

@@ -26,7 +26,7 @@ kept_marks marks = map kept_mark marks
 abbrev pub marks_of : Inside → List ItemMark
 marks_of inside = kept_marks inside.marks.items
 
--- it is so of what an old base and a new one answer, both by the same names
+-- this holds of what an old base and a new one answer, both by the same names
 abbrev pub OfBases : Base → Base → (BaseView → BaseView → Type 0) → Type 0
 OfBases old new holds = (names : List (List ℕ)) (base copy : BaseView) → IsBaseBy names base old → IsBaseBy names copy new → holds base copy
 
@@ -34,7 +34,7 @@ OfBases old new holds = (names : List (List ℕ)) (base copy : BaseView) → IsB
 abbrev pub OfBasesBy : List (List ℕ) → Base → Base → (BaseView → BaseView → Type 0) → Type 0
 OfBasesBy names old new holds = (base copy : BaseView) → IsBaseBy names base old → IsBaseBy names copy new → holds base copy
 
--- what is told of them is what stays of the old base in the new one
+-- what is reported of them is what stays of the old base in the new one
 abbrev pub AreMarksOf : List (List ℕ) → Base → Base → List ItemMark → Type 0
 AreMarksOf names old new marks = OfBasesBy names old new (λ base copy. AreMarks base copy marks)
 
@@ -57,12 +57,12 @@ pub record AreTheorems (base copy : BaseView) (i j : ℕ) : Type 0 where
 abbrev pub SharePairs : BaseView → BaseView → ℕ → ℕ → Type 0
 SharePairs base copy i j = AreSamePairs (active_pairs (before base i)) (active_pairs (before copy j))
 
--- so it is told of two theorems that were compared
+-- what is reported of two theorems that were compared is right
 abbrev pub IsCompared : Base → Base → Option Compared → Type 0
 IsCompared old new None = Unit {0}
 IsCompared old new (Some c) = OfBases old new (λ base copy. AreTheorems base copy c.i c.j × ((c.same ≡ true) ↔ SharePairs base copy c.i c.j))
 
--- it is told of these two, and nothing is told of two of which one is no theorem
+-- what is reported of these two is right, and nothing is reported if one of them is no theorem
 abbrev pub IsComparedOf : Base → Base → ℕ → ℕ → Option Compared → Type 0
 IsComparedOf old new i j None = OfBases old new (λ base copy. AreTheorems base copy i j → ⊥)
 IsComparedOf old new i j (Some c) = OfBases old new (λ base copy. AreTheorems base copy i j × ((c.same ≡ true) ↔ SharePairs base copy i j))
@@ -73,20 +73,20 @@ pub record IsOneHypothesis (base copy : BaseView) (i j : ℕ) : Type 0 where
   pub is : is_framed_at copy j ≡ false
   pub same : hypothesis_at base i ≡ hypothesis_at copy j
 
--- where a mark tells that item j is the same hypothesis as the old one that it tells, it is
+-- if a mark says that item j is the same hypothesis as the old item that it names, this is true
 abbrev pub IsHypothesisMark : Base → Base → ℕ → code.Mark → Type 0
 IsHypothesisMark old new j mark = mark.hypothesis ≡ true → (i : ℕ) → mark.old ≡ Some i → OfBases old new (λ base copy. IsOneHypothesis base copy i j)
 
--- so it is with each of these marks
+-- this holds of each of these marks
 abbrev pub AreHypothesisMarks : Base → Base → List code.Mark → Type 0
 AreHypothesisMarks old new marks = (m : ℕ) (mark : code.Mark) → slice_get marks m ≡ Some mark → IsHypothesisMark old new m mark
 
--- the marks of so many items are kept
+-- the marks of this many items are kept
 pub record AreItemMarks (base copy : BaseView) (count : ℕ) (marks : List ItemMark) : Type 0 where
   pub count_is : length marks ≡ count
   pub each : (j : ℕ) → j < count → IsMark base copy j (mark_at marks j)
 
--- the item that an answer tells is one that has an expression, or a frame
+-- the item that an answer names has an expression, or a frame
 abbrev pub IsShownItem : BaseView → answer.Resolved → Type 0
 IsShownItem base (answers.Hypothesis n) = is_shown_at base n ≡ true
 IsShownItem base (answers.Assertion n) = is_framed_at base n ≡ true
@@ -109,7 +109,7 @@ pub record ShareHypotheses (base copy : BaseView) (i j : ℕ) : Type 0 where
   pub expression : (frame_at base i).expression ≡ (frame_at copy j).expression
   pub hypotheses : (frame_at base i).hypotheses ≡ (frame_at copy j).hypotheses
 
--- the same words stand in their proofs, and the labels that these name mean the same
+-- their proofs have the same words, and the labels that these name mean the same
 pub record ShareProof (base copy : BaseView) (i j : ℕ) : Type 0 where
   pub words : (said_at base i).proof ≡ (said_at copy j).proof
   pub labels : AllByRecursion (IsSameLabel (setting_at base i) (setting_at copy j)) (labels_named (said_at copy j).proof)

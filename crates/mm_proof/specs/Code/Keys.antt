@@ -1,4 +1,4 @@
--- The numbers by which symbols are looked for, where a table has them, and pairs in the order of these numbers.
+-- The numbers by which symbols are looked for, their places in a table, and pairs in the order of these numbers.
 use Rattle.std.specs.Prelude.{◌≡◌, ℕ, ◌+◌, ◌*◌, ◌%◌, ◌≤◌, ◌==◌, ◌||◌, nat_lt, leb, if◌then◌else◌, false, Some, List, [], ◌∷◌, slice_get, slice_index}
 use Rattle.mm_frame.specs.Language.Frame.{Symbol}
 use Rattle.mm_frame.specs.Language.NumberedSymbols.{comes_before}
@@ -12,11 +12,11 @@ abbrev pub key_from : ℕ → List ℕ → ℕ
 key_from key [] = key
 key_from key (byte ∷ bytes) = key_from (key_next key byte) bytes
 
--- where a table of so many places has a key
+-- the place of a key in a table of this many places
 abbrev pub home : ℕ → ℕ → ℕ
 home key count = if nat_lt key count || (count == 0) then key else key % count
 
--- where it has a symbol
+-- the place of a symbol in such a table
 abbrev pub home_at : (Symbol → ℕ) → ℕ → Symbol → ℕ
 home_at key count symbol = home (key symbol) count
 
@@ -32,7 +32,7 @@ lower_first a b = if leb a b then (a, b) else (b, a)
 abbrev pub pair_keys : (Symbol → ℕ) → Symbol × Symbol → ℕ × ℕ
 pair_keys key pair = lower_first (key pair.0) (key pair.1)
 
--- none comes before one that stands before it
+-- no pair comes before an earlier one of the list
 abbrev pub AreInKeyOrder : (Symbol → ℕ) → List (Symbol × Symbol) → Type 0
 AreInKeyOrder key pairs = (i j : ℕ) (p q : Symbol × Symbol) → i ≤ j → slice_get pairs i ≡ Some p → slice_get pairs j ≡ Some q
     → comes_before (pair_keys key q) (pair_keys key p) ≡ false

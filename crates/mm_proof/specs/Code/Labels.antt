@@ -17,23 +17,23 @@ use Rattle.mm_proof.specs.Code.Coded.{TellsSteps, meant_steps}
 use Rattle.mm_proof.specs.Code.Left.{AreLeft}
 use Rattle.mm_proof.specs.declared.step.ProofStep.{ProofStep}
 
--- a fault that is told is that of a word
+-- a fault that is reported is that of a word
 abbrev pub TellsWord : Undecoded → ℕ → Result Step ProofNumber → Type 0
 TellsWord (errors.Fault fault) n read = (read ≡ Err fault.number) × (fault.spot ≡ word_spot n)
 TellsWord errors.Memory n read = Unit {0}
 
--- before the list: these words are left behind the `(`, and the entries are those of the mandatory hypotheses
+-- before the list: these words are left after the `(`, and the entries are those of the mandatory hypotheses
 pub record BeginsTable (base : BaseView) (i : ℕ) (mandatory words behind : List (List ℕ)) (labels : List Resolved) : Type 0 where
   pub left : AreLeft words behind 1
   pub labels_are : entry_steps base labels ≡ map Named mandatory
   pub entries : AreEntries base i labels
 
--- so it is with each such proof at an item of the base
+-- this holds of each such proof at an item of the base
 abbrev pub FromBegin : Base → ℕ → List (List ℕ) → List Resolved → (BaseView → List (List ℕ) → List (List ℕ) → Type 0) → Type 0
 FromBegin code i behind labels holds =
     (base : BaseView) (mandatory words : List (List ℕ)) → IsBase base code → BeginsTable base i mandatory words behind labels → holds base mandatory words
 
--- a fault that is told is that of the compressed proof
+-- a fault that is reported is that of the compressed proof
 abbrev pub TellsListed : Undecoded → BaseView → ℕ → List (List ℕ) → List (List ℕ) → Type 0
 TellsListed e base i mandatory words = TellsSteps e (compressed_steps (setting_at base i) mandatory (drop 1 words) (word_spot (length words)))
 

@@ -1,4 +1,4 @@
--- The letters read from left to right, with a number for the digits so far. No public contract speaks of it: it stands
+-- The letters read from left to right, with a number for the digits so far. No public contract speaks of it: it is
 -- between the code and the definition, with which it is proved to agree.
 use Rattle.std.specs.Prelude.{ℕ, ◌+◌, ◌-◌, ◌*◌, ◌==◌, if◌then◌else◌, Result, Ok, Err, List, [], ◌∷◌, ◌++◌, slice_get}
 use Rattle.mm_frame.specs.Language.Frame.{Setting}
@@ -10,11 +10,11 @@ use Rattle.mm_proof.specs.declared.Spot.{Spot}
 use Rattle.mm_proof.specs.declared.ProofNumber.{ProofNumber}
 use Rattle.mm_proof.specs.declared.ProofNumber.TheVariants.{P03, P04, P05}
 
--- a letter that takes no digits: their number is 0 where there are none
+-- a letter that takes no digits: their number is 0 if there are none
 abbrev pub alone_behind : ℕ → Step → Result Step ProofNumber
 alone_behind digits step = if digits == 0 then Ok step else Err P05
 
--- a letter that is no digit, behind digits with this number
+-- a letter that is no digit, after digits with this number
 abbrev pub read_behind : List Step → ℕ → ℕ → Result Step ProofNumber
 read_behind names digits byte =
     if is_last byte then named (slice_get names (20 * digits + last_worth byte - 1))
@@ -22,11 +22,11 @@ read_behind names digits byte =
     else if byte == 63 then alone_behind digits NotKnown
     else Err P04
 
--- the end, behind digits with this number
+-- the end, after digits with this number
 abbrev pub end_behind : Spot → ℕ → Steps
 end_behind close digits = if digits == 0 then Ok [] else Err (record { number = P05; spot = close })
 
--- letters behind some saves and behind digits with this number
+-- letters after some saves and after digits with this number
 abbrev pub read_on : List Step → Spot → ℕ → ℕ → List Letter → Steps
 read_on labels close saves digits [] = end_behind close digits
 read_on labels close saves digits (letter ∷ letters) =
@@ -40,12 +40,12 @@ abbrev pub with_steps : List (Step × Spot) → Steps → Steps
 with_steps done (Ok more) = Ok (done ++ more)
 with_steps done (Err fault) = Err fault
 
--- a label of the list, and what is behind it
+-- a label of the list, and what comes after it
 abbrev pub behind_label : ℕ → Result Step ProofNumber → Steps → Steps
 behind_label n (Ok step) behind = behind
 behind_label n (Err number) behind = Err (record { number = number; spot = word_spot n })
 
--- the words from word n on, behind labels that were listed
+-- the words from word n on, after labels that were listed
 abbrev pub list_on : Setting → List (List ℕ) → Spot → List (List ℕ) → ℕ → List (List ℕ) → Steps
 list_on place mandatory close listed n [] = Err (record { number = P03; spot = close })
 list_on place mandatory close listed n (word ∷ words) =

@@ -56,7 +56,7 @@ pub record AreCited (code : Base) (numbers : List ℕ) (mandatory : List (Hypoth
       → HasFrame names view (frames_cited mandatory assertions) n j)
   pub citable : All (IsCitable by_number (hypotheses_of by_number mandatory)) assertions
 
--- what stood in the list stands there still
+-- what was in the list is at the same place in it still
 abbrev pub Stays : List ℕ → List ℕ → Type 0
 Stays old new = (n j : ℕ) → slice_get old n ≡ Some j → slice_get new n ≡ Some j
 

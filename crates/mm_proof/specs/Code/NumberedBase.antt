@@ -29,6 +29,6 @@ numbered_frame names view n = renamed_frame (unnaming names) (frame_at view n)
 abbrev pub numbered_setting : List (List ℕ) → BaseView → ℕ → Setting
 numbered_setting names view i = renamed_setting (unnaming names) (setting_at view i)
 
--- so it is for each list of names by which the base is read, and what it answers by it
+-- this holds for each list of names by which the base is read, and for what it answers by the list
 abbrev pub ByNames : Base → (List (List ℕ) → BaseView → Type 0) → Type 0
 ByNames code holds = (names : List (List ℕ)) (view : BaseView) → IsBaseBy names view code → holds names view

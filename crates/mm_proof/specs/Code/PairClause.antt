@@ -32,7 +32,7 @@ EachApart active xs ys = (x y : Symbol) → Contains xs x → Contains ys y → 
 abbrev pub SomeNotApart : List (Symbol × Symbol) → List Symbol → List Symbol → Type 0
 SomeNotApart active xs ys = (x y : Symbol) × Contains xs x × Contains ys y × NotApart active x y
 
--- one stands in both
+-- one symbol is in both
 abbrev pub SomeShared : List Symbol → List Symbol → Type 0
 SomeShared xs ys = (x : Symbol) × Contains xs x × Contains ys x
 
@@ -44,7 +44,7 @@ entry_or (Some e) = e
 abbrev pub span_of : List Symbol → List Entry → ℕ → List Symbol
 span_of variables spans j = read variables (entry_or (slice_get spans j))
 
--- the range has the variables of an entry behind its typecode, and no other symbol
+-- the range has the variables of an entry after its typecode, and no other symbol
 abbrev pub IsGathered : List Symbol → Entry → List Symbol → Type 0
 IsGathered variables s e = (v : Symbol) → HasVariable (drop 1 e) v ↔ Contains (read variables s) v
 
@@ -56,13 +56,13 @@ pub record Gathers {S : Type 0} (hypotheses : List (Hypothesis S)) (es : List (L
   pub right : (k : ℕ) (s : Entry) (h : Hypothesis S) (e : List Symbol) → slice_get spans k ≡ Some s → slice_get hypotheses k ≡ Some h → h.floating ≡ true →
       slice_get es k ≡ Some e → IsGathered variables s e
 
--- behind the front stand the variables of the first symbols, and nothing else
+-- after the front come the variables of the first symbols, and nothing else
 pub record GatheredUpTo (symbols front all : List Symbol) (n : ℕ) : Type 0 where
   pub kept : take (length front) all ≡ front
   pub long : length front ≤ length all
   pub same : (v : Symbol) → HasVariable (take n symbols) v ↔ Contains (drop (length front) all) v
 
--- a symbol is added if it is a variable that does not stand behind this place yet
+-- a symbol is added if it is a variable that is not in the list after this place yet
 abbrev pub GathersOne : ℕ → Symbol → List Symbol → List Symbol → Type 0
 GathersOne start s before after = ((s.variable ≡ true) × (after ≡ before ++ s ∷ [])) ⊎ ((after ≡ before) × (s.variable ≡ true → Contains (drop start before) s))
 
@@ -76,7 +76,7 @@ pub record GathersEntry (floating : Bool) (e before after : List Symbol) (spans 
   pub long : length before ≤ length after
   pub same : floating ≡ true → (v : Symbol) → HasVariable (drop 1 e) v ↔ Contains (drop (length before) after) v
 
--- the ranges lie within a list of this length
+-- the ranges are within a list of this length
 abbrev pub AreSpans : ℕ → List Entry → Type 0
 AreSpans n spans = (k : ℕ) (s : Entry) → slice_get spans k ≡ Some s → IsEntryWithin n s
 

@@ -5,7 +5,7 @@ use Rattle.mm_proof.specs.Language.Machine.{State}
 use Rattle.mm_proof.specs.declared.pattern.Entry.{Entry}
 use Rattle.mm_proof.specs.Code.Flat.{read_all, IsEntryWithin}
 
--- the ranges lie within the list, those that are saved in its front, and no entry reaches into what a later one owns
+-- the ranges are within the list, those that are saved in its front, and no entry reaches into what a later one owns
 pub record AreOrderedRanges (n kept : ℕ) (stack saved : List Entry) : Type 0 where
   pub kept_within : kept ≤ n
   pub within : All (IsEntryWithin n) stack

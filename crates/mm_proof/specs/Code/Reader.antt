@@ -8,7 +8,7 @@ use Rattle.mm_proof.specs.Code.Coded.{meant_steps}
 use Rattle.mm_proof.specs.declared.Spot.{Spot}
 use Rattle.mm_proof.specs.declared.letters.LetterReader.{LetterReader}
 
--- The labels that numbers name, the spot behind the letters, and what all letters give.
+-- The labels that numbers name, the spot after the letters, and what all letters give.
 pub record Aim : Type 0 where
   pub names : List Step
   pub close : Spot

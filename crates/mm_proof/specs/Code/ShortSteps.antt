@@ -6,7 +6,7 @@ use Rattle.mm_frame.specs.Language.Base.{BaseView, frame_at, is_framed_at}
 use Rattle.mm_proof.specs.declared.step.Action.TheVariants as actions
 use Rattle.mm_proof.specs.declared.step.ProofStep.{ProofStep}
 
--- the label names an assertion with more than so many hypotheses
+-- the label names an assertion with more than this many hypotheses
 pub record NamesLarger (view : BaseView) (label : Resolved) (n : ℕ) : Type 0 where
   pub number : ℕ
   pub is : label ≡ answers.Assertion number

@@ -1,4 +1,4 @@
--- The numbers by which symbols by name are looked for, beside those of symbols by number.
+-- The numbers by which symbols by name are looked for, and those of symbols by number.
 use Rattle.std.specs.Prelude.{◌≡◌, ◌≤◌, ℕ}
 use Rattle.mm_frame.specs.Language.Frame.{Symbol, Frame}
 use Rattle.mm_frame.specs.Language.Typing.{IsFrame}
@@ -16,7 +16,7 @@ HasOneKey symbol = key_by_name symbol ≡ key_by_number symbol
 abbrev pub ranged : ℕ → ℕ → Frame → ℕ × ℕ × Frame
 ranged first last frame = (first, last, frame)
 
--- the range is one of so many hypotheses
+-- the range is one of this many hypotheses
 pub record IsRanged (count : ℕ) (assertion : ℕ × ℕ × Frame) : Type 0 where
   pub in_order : assertion.0 ≤ assertion.1
   pub within : assertion.1 ≤ count

@@ -34,7 +34,7 @@ named_frames means named = map (frame_of means (hypotheses_of means named.mandat
 abbrev pub AreCitable : {S : Type 0} → (S → Symbol) → Listed S → Type 0
 AreCitable means named = All (IsCitable means (hypotheses_of means named.mandatory.items)) named.assertions.items
 
--- what a label that is used so means at a place
+-- what a label with this use means at a place
 abbrev pub MeansUse : List (List Symbol) → List Frame → Setting → Use → Step → Type 0
 MeansUse expressions frames place (uses.Hypothesis n) (Named label) = (e : List Symbol) × (slice_get expressions n ≡ Some e) ×
     (place.resolve label ≡ Hypothesis e)
@@ -95,11 +95,11 @@ saves_in steps = sum_by (λ step. saves_by step.action) steps
 abbrev pub AreSavedBefore : List ProofStep → Type 0
 AreSavedBefore steps = (n : ℕ) (step : ProofStep) → slice_get steps n ≡ Some step → IsSavedWithin (saves_in (take n steps)) step.action
 
--- what the steps mean, where the table of the proof has these names
+-- what the steps mean, if the table of the proof has these names
 abbrev pub actions_mean : List Step → List ProofStep → List Step
 actions_mean names steps = map (λ step. meant names step.action) steps
 
--- the machine has the state of a run, behind the expressions of hypotheses that it keeps
+-- the machine has the state of a run, after the expressions of hypotheses that it keeps
 pub record HasState {S : Type 0} (means : S → Symbol) (expressions : List (List Symbol)) (machine : Machine S) (state : State) : Type 0 where
   pub stack : (state_of means machine).stack ≡ state.stack
   pub saved : (state_of means machine).saved ≡ expressions ++ state.saved

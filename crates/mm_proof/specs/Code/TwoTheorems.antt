@@ -9,11 +9,11 @@ use Rattle.mm_proof.specs.Language.SameProof.{IsSameLabel}
 use Rattle.mm_proof.specs.Code.KeptMarks.{OfBasesBy, AreMarksOf, AreTheorems}
 use Rattle.mm_proof.specs.declared.view.TwoTheorems.{TwoTheorems}
 
--- it is so of what the two bases answer, both by the names
+-- this holds of what the two bases answer, both by the names
 abbrev pub OfTwo : TwoTheorems → (BaseView → BaseView → Type 0) → Type 0
 OfTwo two holds = OfBasesBy two.names.now two.old.now two.new.now holds
 
--- what is told of the bases, if anything is, is what stays of the old one in the new one
+-- what is reported of the bases, if anything is, is what stays of the old one in the new one
 abbrev pub AreMarked : TwoTheorems → Type 0
 AreMarked two = IfSome two.marks (λ m. AreMarksOf two.names.now two.old.now two.new.now m.now)
 
@@ -23,7 +23,7 @@ pub record CanBeCompared (two : TwoTheorems) (files : FilesView) : Type 0 where
   pub is : HasTheorem two.names.now files two.new.now two.j
   pub marked : AreMarked two
 
--- it is so of what the two bases are by these files
+-- this holds of what the two bases are by these files
 abbrev pub OfTwoIn : TwoTheorems → FilesView → (BaseView → BaseView → Type 0) → Type 0
 OfTwoIn two files holds = (base copy : BaseView) → IsReadIn two.names.now files two.old.now base
     → IsReadIn two.names.now files two.new.now copy → holds base copy
@@ -32,14 +32,14 @@ OfTwoIn two files holds = (base copy : BaseView) → IsReadIn two.names.now file
 abbrev pub MeansSame : TwoTheorems → BaseView → BaseView → List ℕ → Type 0
 MeansSame two base copy label = IsSameLabel (setting_at base two.i) (setting_at copy two.j) label
 
--- it is told whether each of these labels does
+-- the answer says whether each of these labels means the same at both
 abbrev pub TellsLabels : TwoTheorems → List (List ℕ) → Bool → Type 0
 TellsLabels two labels told = OfTwo two (λ base copy. IsTrue told ↔ AllByRecursion (MeansSame two base copy) labels)
 
--- each of these labels does where each of those does
+-- each of these labels means the same at both exactly when each of those does
 abbrev pub LeavesLabels : TwoTheorems → List (List ℕ) → List (List ℕ) → Type 0
 LeavesLabels two labels left = OfTwo two (λ base copy. AllByRecursion (MeansSame two base copy) labels ↔ AllByRecursion (MeansSame two base copy) left)
 
--- it is told whether they share this
+-- the answer says whether the two theorems share this
 abbrev pub TellsShared : TwoTheorems → (BaseView → BaseView → ℕ → ℕ → Type 0) → Bool → Type 0
 TellsShared two shared told = OfTwo two (λ base copy. AreTheorems base copy two.i two.j → IsTrue told ↔ shared base copy two.i two.j)

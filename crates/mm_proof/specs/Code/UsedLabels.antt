@@ -15,6 +15,6 @@ pub record IsPart (labels used : List Resolved) : Type 0 where
 abbrev pub KeepsNamed : List Resolved → List Resolved → Action → Type 0
 KeepsNamed labels used action = (k : ℕ) → action ≡ actions.Label k → slice_get used k ≡ slice_get labels k
 
--- so it is with each of these steps
+-- this holds of each of these steps
 abbrev pub KeepsUsed : List Resolved → List Resolved → List ProofStep → Type 0
 KeepsUsed labels used steps = (n : ℕ) (step : ProofStep) → slice_get steps n ≡ Some step → KeepsNamed labels used step.action

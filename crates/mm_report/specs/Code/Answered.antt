@@ -17,12 +17,12 @@ use Rattle.mm_report.specs.Language.Script.{Command, Axioms, Cites, Users, Done,
 use Rattle.mm_report.specs.Language.Scripting.{AnswersScript, AnswersRead, AnswersFirst, BeginsAnswers}
 use Rattle.mm_report.specs.Language.Stream.{written, has_failed, unread, cannot_read, AppendsPart, Writes}
 
--- a fault of a text that is told is at one of its bytes, or at its end
+-- a fault of a text that is reported is at one of its bytes, or at its end
 abbrev pub IsToldIn : List ℕ → EditError → Type 0
 IsToldIn text (edits.Text fault) = fault.at ≤ length text
 IsToldIn text _ = Unit {0}
 
--- the text that an edit brings; no bytes where it brings none
+-- the text that an edit brings; no bytes if it brings none
 abbrev pub text_brought : Asked → List ℕ
 text_brought asked = unwrap_or (edited_text asked) []
 
@@ -68,7 +68,7 @@ pub record BeginsAnswer (old new : SessionView) (command : Command) (before afte
   pub is : IsAnswer old command answer new
   pub out : AppendsPart before after answer
 
--- why a command is not answered, or not in full: a write has failed in its answer, or behind it; or memory lacks, and nothing is done
+-- why a command is not answered, or not in full: a write has failed in its answer, or after it; or out of memory, and nothing is done
 abbrev pub FailsSo : {W : Type 0} → (W → Option (List ℕ)) → Command → SessionView → SessionView → Writing W → Writing W → ScriptError → Type 0
 FailsSo contents command old new before after errors.Write =
     (has_failed after ≡ true) × BeginsAnswer old new command (written contents before) (written contents after)
@@ -86,7 +86,7 @@ pub record HasAnswered (old new : SessionView) (unread left before after : Optio
   pub first : AnswersFirst old new unread left before after
   pub rest : first.rest ≡ pending
 
--- where more may follow, it stays so; else the whole script is answered
+-- if more may follow, the first commands are answered; else the whole script is
 abbrev pub AnswersSoFar : SessionView → SessionView → Option (List ℕ) → Option (List ℕ) → Option (List ℕ) → Option (List ℕ) → List ℕ → Bool → Type 0
 AnswersSoFar old new all left before after pending true = HasAnswered old new all left before after pending
 AnswersSoFar old new all left before after pending false = IfSome all (λ script. AnswersScript old new script Done before after)

@@ -15,7 +15,7 @@ pub record IsBatchFront (bytes : List ℕ) (n : ℕ) (front : List Listed) (at :
   pub within : at ≤ length bytes
   pub are : take at bytes ≡ batch_line n ++ 10 ∷ flat_map listed_bytes front
 
--- whatever the batch is of which so many edits are missing: the script ends so
+-- whatever the batch is of which this many edits are missing, the script has this end
 abbrev pub EndsBatch : ℕ → ℕ → List ℕ → List ℕ → Option (List ℕ) → End → Type 0
 EndsBatch from missing old new left end = (n : ℕ) (front : List Listed) → IsBatchFront old n front from → n ≡ length front + missing
     → IfSome left (λ more. StopsSo (new ++ more) end)
@@ -24,13 +24,13 @@ EndsBatch from missing old new left end = (n : ℕ) (front : List Listed) → Is
 abbrev pub HoldsBatch : ℕ → ℕ → List ℕ → List ℕ → Type 0
 HoldsBatch from missing old new = (n : ℕ) (front : List Listed) → IsBatchFront old n front from → n ≡ length front + missing → HasNoEntry new
 
--- an edit stands there behind empty lines
+-- there is an edit here after empty lines
 pub record IsListedRead (bytes : List ℕ) (left : Option (List ℕ)) (from : ℕ) (read : EditRead) : Type 0 where
   pub start : ℕ
   pub blanks : HasBlanks bytes from start
   pub edit : IsEditRead bytes left start read
 
--- the line of the batch and some of its edits stand there up to their end, or all of it up to the end of all, where the last line feed lacks
+-- the line of the batch and some of its edits are here up to their end; or all of it up to the end of all, without the last line feed
 pub record IsBatchRead (bytes : List ℕ) (left : Option (List ℕ)) (n : ℕ) (found : List EditAt) (end : ℕ) (fed : Bool) : Type 0 where
   pub number : IsNumber n
   pub front : List Listed

@@ -12,7 +12,7 @@ use Rattle.mm_report.specs.Code.Stops.{IsOneLine, HasTextOf}
 use Rattle.mm_report.specs.Language.Script.{IsGoodEdit, edit_bytes, edit_line}
 use Rattle.mm_report.specs.Language.Stream.{calls_left}
 
--- bytes are read on, behind those that were there
+-- bytes are read on, after those that were there
 pub record InputGrows (old new : Input) (unread left : Option (List ℕ)) : Type 0 where
   pub part : List ℕ
   pub consumes : Consumes unread left part
@@ -26,7 +26,7 @@ to_come input reading = 4097 * calls_left reading + length (pending input)
 abbrev pub line_bytes : List ℕ → LineAt → List ℕ
 line_bytes bytes line = slice_range bytes line.start line.end
 
--- a line stands there, and behind it its line feed, or nothing is left to read
+-- there is a line here, and after it its line feed, or nothing is left to read
 pub record IsLineAt (bytes : List ℕ) (left : Option (List ℕ)) (line : LineAt) : Type 0 where
   pub ordered : line.start ≤ line.end
   pub within : line.end ≤ length bytes
@@ -34,7 +34,7 @@ pub record IsLineAt (bytes : List ℕ) (left : Option (List ℕ)) (line : LineAt
   pub fed : line.fed ≡ true → drop line.end bytes ≡ 10 ∷ drop (line.end + 1) bytes
   pub unfed : line.fed ≡ false → (line.end ≡ length bytes) × IsAtEnd left
 
--- so many bytes from there on, and another byte than a line feed
+-- this many bytes from there on, and another byte than a line feed
 pub record IsOtherByte (bytes : List ℕ) (start count : ℕ) : Type 0 where
   pub text : List ℕ
   pub byte : ℕ
@@ -43,7 +43,7 @@ pub record IsOtherByte (bytes : List ℕ) (start count : ℕ) : Type 0 where
   pub other : byte ≢ 10
   pub are : drop start bytes ≡ text ++ byte ∷ more
 
--- nothing but empty lines stands from one place up to another
+-- only empty lines are between one place and another
 pub record HasBlanks (bytes : List ℕ) (from to : ℕ) : Type 0 where
   pub ordered : from ≤ to
   pub within : to ≤ length bytes
@@ -55,7 +55,7 @@ pub record IsLineBegun (bytes : List ℕ) (from : ℕ) : Type 0 where
   pub blanks : HasBlanks bytes from start
   pub one_line : IsOneLine (drop start bytes)
 
--- an edit stands there up to its end, or up to the end of all, where it has no text and lacks its line feed
+-- there is an edit here up to its end, or up to the end of all, if it has no text and no line feed
 pub record IsEditRead (bytes : List ℕ) (left : Option (List ℕ)) (start : ℕ) (read : EditRead) : Type 0 where
   pub good : IsGoodEdit (edit_in bytes read.edit)
   pub parts : IsEditWithin bytes read.edit
@@ -65,7 +65,7 @@ pub record IsEditRead (bytes : List ℕ) (left : Option (List ℕ)) (start : ℕ
   pub unfed : read.fed ≡ false → (drop start bytes ≡ edit_line (edit_in bytes read.edit)) × (edited_text (edit_in bytes read.edit) ≡ None)
       × IsAtEnd left × (read.end ≡ length bytes)
 
--- the line of an edit, and not all of its text or not the line feed behind it
+-- the line of an edit, and not all of its text or not the line feed after it
 pub record IsTextShort (bytes : List ℕ) : Type 0 where
   pub edit : Asked
   pub count : ℕ

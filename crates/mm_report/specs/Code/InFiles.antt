@@ -1,8 +1,8 @@
--- What is told names one of the files.
+-- What is reported names one of the files.
 use Rattle.std.specs.Prelude.{◌<◌, ℕ}
 use Rattle.mm_keep.specs.Language.Told.{Told, Incomplete, Wrong, Fault}
 
--- what is told names one of so many files
+-- what is reported names one of this many files
 abbrev pub IsInFiles : ℕ → Told → Type 0
 IsInFiles count (Incomplete at) = at.file < count
 IsInFiles count (Wrong number at) = at.file < count

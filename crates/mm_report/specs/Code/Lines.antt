@@ -16,7 +16,7 @@ use Rattle.mm_report.specs.Code.Stops.{batch_line}
 abbrev pub HasNoSpace : List ℕ → Type 0
 HasNoSpace bytes = AllByRecursion (λ b. b ≢ 32) bytes
 
--- bytes up to the first space, and those behind it
+-- bytes up to the first space, and those after it
 pub record CutsAt (bytes head tail : List ℕ) : Type 0 where
   pub is : bytes ≡ head ++ 32 ∷ tail
   pub none : HasNoSpace head
@@ -39,14 +39,14 @@ pub record BeginsWithVerb (line : List ℕ) (verb : Verb) (from : ℕ) : Type 0 
   pub from_is : from ≡ length (verb_word verb) + 1
   pub is : line ≡ verb_word verb ++ 32 ∷ drop from line
 
--- the name of a file, of so many bytes, and a number
+-- the name of a file, of this many bytes, and a number
 pub record IsFileAnd (bytes : List ℕ) (count n : ℕ) : Type 0 where
   pub name : IsName (take count bytes)
   pub number : IsNumber n
   pub within : count ≤ length bytes
   pub is : bytes ≡ take count bytes ++ 32 ∷ decimal n
 
--- the name of a file, of so many bytes, and two numbers
+-- the name of a file, of this many bytes, and two numbers
 pub record IsFileAndTwo (bytes : List ℕ) (count n m : ℕ) : Type 0 where
   pub name : IsName (take count bytes)
   pub number : IsNumber n

@@ -1,4 +1,4 @@
--- Where commands stand in the bytes of a script that are read and not answered yet.
+-- Where commands are in the bytes of a script that are read and not answered yet.
 use Rattle.std.specs.Prelude.{◌≡◌, ◌≤◌, ◌⊎◌, ℕ, true, false, Option, List, Contains, [], ◌∷◌, ◌++◌, length, map, drop, replicate, slice_range}
 use Rattle.std.specs.Io.KnownBytes.{Consumes, IsAtEnd}
 use Rattle.mm_keep.specs.mm_store.Language.Edits.{Asked, Insert, Replace, Delete, Move}
@@ -32,7 +32,7 @@ pub record IsPartWithin (bytes : List ℕ) (part : Part) : Type 0 where
   pub ordered : part.start ≤ part.end
   pub within : part.end ≤ length bytes
 
--- the edit that stands there
+-- the edit that is there
 abbrev pub edit_in : List ℕ → EditAt → Asked
 edit_in bytes (edits.Insert file at text) = Insert (bytes_of_part bytes file) at (bytes_of_part bytes text)
 edit_in bytes (edits.Replace file at text) = Replace (bytes_of_part bytes file) at (bytes_of_part bytes text)
@@ -46,12 +46,12 @@ IsEditWithin bytes (edits.Replace file at text) = IsPartWithin bytes file × IsP
 IsEditWithin bytes (edits.Delete file at) = IsPartWithin bytes file
 IsEditWithin bytes (edits.Move file at to) = IsPartWithin bytes file
 
--- the edits of a batch that stand there, one after another
+-- the edits of a batch that are there, one after another
 pub record AreEditsIn (bytes : List ℕ) (found : List EditAt) (listed : List Listed) : Type 0 where
   pub within : (k : EditAt) → Contains found k → IsEditWithin bytes k
   pub are : map (λ one. one.edit) listed ≡ map (edit_in bytes) found
 
--- the command that stands there
+-- the command that is there
 abbrev pub IsCommandIn : List ℕ → CommandAt → Command → Type 0
 IsCommandIn bytes (code.Change edit) command = IsEditWithin bytes edit × (command ≡ Change (edit_in bytes edit))
 IsCommandIn bytes (code.Batch found) command = (listed : List Listed) × AreEditsIn bytes found.items listed × (command ≡ Batch listed)
@@ -61,7 +61,7 @@ IsCommandIn bytes (code.Axioms label) command = IsPartWithin bytes label × (com
 IsCommandIn bytes (code.Cites label) command = IsPartWithin bytes label × (command ≡ Cites (bytes_of_part bytes label))
 IsCommandIn bytes (code.Users label) command = IsPartWithin bytes label × (command ≡ Users (bytes_of_part bytes label))
 
--- the bytes begin with the command, and so many are its
+-- the bytes begin with the command, and this many are its
 pub record IsWholeCommand (bytes : List ℕ) (command : Command) (end : ℕ) : Type 0 where
   pub within : end ≤ length bytes
   pub are : bytes ≡ command_bytes command ++ drop end bytes

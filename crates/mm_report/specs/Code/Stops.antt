@@ -5,7 +5,7 @@ use Rattle.mm_keep.specs.mm_store.Language.Edits.{Asked, edited_text}
 use Rattle.mm_report.specs.Language.Script.{Command, End, EndsSo, IsLongestReading, IsReadSoFar, IsGood, IsGoodEdit, AreGoodEdits, IsNumber}
 use Rattle.mm_report.specs.Language.Script.{Listed, listed_bytes, line_of, edit_line}
 
--- these bytes begin with no command and no empty line, and end the script so
+-- these bytes begin with no command and no empty line, and the script has this end there
 pub record StopsSo (bytes : List ℕ) (end : End) : Type 0 where
   pub reading : IsLongestReading bytes [] bytes
   pub ends : EndsSo bytes end
@@ -30,14 +30,14 @@ pub record IsBadEditLine (line : List ℕ) : Type 0 where
   pub one_line : IsOneLine line
   pub no_edit : (edit : Asked) → IsGoodEdit edit → line ≢ edit_line edit
 
--- an edit that a line can ask for, with a text of so many bytes behind its line
+-- an edit that a line can ask for, with a text of this many bytes after its line
 pub record HasTextOf (edit : Asked) (count : ℕ) : Type 0 where
   pub good : IsGoodEdit edit
   pub text : List ℕ
   pub is_text : edited_text edit ≡ Some text
   pub count_is : length text ≡ count
 
--- the line of a batch of so many edits
+-- the line of a batch of this many edits
 abbrev pub batch_line : ℕ → List ℕ
 batch_line n = join_with_byte 32 (codes "batch" ∷ decimal n ∷ [])
 
@@ -47,6 +47,6 @@ pub record AreListed (n : ℕ) (front : List Listed) : Type 0 where
   pub good : AreGoodEdits front
   pub fewer : length front < n
 
--- the line of the batch, these edits, so many empty lines, and what stands behind them
+-- the line of the batch, these edits, this many empty lines, and what comes after them
 abbrev pub batch_bytes : ℕ → List Listed → ℕ → List ℕ → List ℕ
 batch_bytes n front blanks inner = batch_line n ++ 10 ∷ (flat_map listed_bytes front ++ (replicate blanks 10 ++ inner))

@@ -15,11 +15,11 @@ use Rattle.mm_store.specs.Code.Kept.{places, standing_count}
 abbrev pub undos_of : Inside → List UndoView
 undos_of inside = inside.undos.items
 
--- a piece that stands is at one place of the files, and a parked one at none
+-- a piece that is not parked is at one place of the files, and a parked one at none
 abbrev pub StandOnce : FilesView → Type 0
 StandOnce view = (k : ℕ) → places k view.keyed ≡ standing_count (finite.get view.pieces k)
 
--- what is told of the edit with this number
+-- what is reported of the edit with this number
 abbrev pub refusal : ℕ → EditError → BatchError
 refusal number edits.NoFile = batch.Edit number edits.NoFile
 refusal number (edits.NoPiece count) = batch.Edit number (edits.NoPiece count)
@@ -28,7 +28,7 @@ refusal number (edits.NotOne count) = batch.Edit number (edits.NotOne count)
 refusal number edits.TooMany = batch.Edit number edits.TooMany
 refusal number edits.Memory = batch.Memory
 
--- why the edit with this number is not done: it is refused, and not for lack of memory; or out of memory, once its file and its members
+-- why the edit with this number is not done: it is refused, and not for out of memory; or out of memory, once its file and its members
 -- are known
 abbrev pub IsNextError : Asked → List File → ℕ → BatchError → Type 0
 IsNextError edit files number (batch.Edit n error) = (n ≡ number) × IsEditError edit files error × (error ≢ edits.Memory)

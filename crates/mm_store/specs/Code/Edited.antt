@@ -39,7 +39,7 @@ pub record IsReplaced (old new : FilesView) (number at : ℕ) (text : List ℕ) 
   pub undo_is : undo ≡ record { file = number; action = action.Replaced at (key_at old number at) }
   pub done : IsEditDone old new number (slice_set (members_of old number) at text) undo
 
--- a new piece stands before the member, under a key that no piece had
+-- a new piece is put before the member, under a key that no piece had
 pub record IsInserted (old new : FilesView) (number at : ℕ) (text : List ℕ) (undo : UndoView) : Type 0 where
   pub key : ℕ
   pub fresh : finite.get old.pieces key ≡ None
@@ -54,7 +54,7 @@ pub record IsDeleted (old new : FilesView) (number at : ℕ) (undo : UndoView) :
   pub within : bytes_of (plain new) ≤ 4294967295
   pub done : IsEditDone old new number (remove (members_of old number) at) undo
 
--- the member is taken out and put where it is member `to`
+-- the member is taken out and put back as member `to`
 pub record IsMoved (old new : FilesView) (number at to : ℕ) (undo : UndoView) : Type 0 where
   pub is : new ≡ moved old number at to
   pub undo_is : undo ≡ record { file = number; action = action.Moved at to }

@@ -19,7 +19,7 @@ pub record IsPieceKept (piece : PieceText) : Type 0 where
   pub marked : AreLineMarks piece.text.items piece.marks.items
   pub lined : AreLines piece.text.items piece.lines
 
--- standing pieces with these texts were put, one after another, each under a key that no piece had
+-- pieces of files, with these texts, were put in one after another, each under a key that no piece had
 abbrev pub ArePut : Pieces → List (List ℕ) → List ℕ → Pieces → Type 0
 ArePut old [] keys new = (keys ≡ []) × (new ≡ old)
 ArePut old (text ∷ texts) keys new =

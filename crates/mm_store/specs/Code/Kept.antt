@@ -20,11 +20,11 @@ files_view inside = record { keyed = map keyed_file inside.files.entries; pieces
 abbrev pub one : ℕ → ℕ → ℕ
 one k x = cond (nat_eq k x) 1 0
 
--- how often a key stands in a list
+-- how often a key is in a list
 abbrev pub times : ℕ → List ℕ → ℕ
 times k keys = sum_by (one k) keys
 
--- at how many places a key stands in the files
+-- at how many places a key is in the files
 abbrev pub places : ℕ → List KeyedFile → ℕ
 places k [] = 0
 places k (file ∷ files) = times k file.keys + places k files
@@ -33,7 +33,7 @@ abbrev pub standing_state : PieceState → ℕ
 standing_state Standing = 1
 standing_state (Parked file kind) = 0
 
--- one for a piece that stands
+-- one for a piece that is not parked
 abbrev pub standing_count : Option HeldPiece → ℕ
 standing_count None = 0
 standing_count (Some piece) = standing_state piece.state
@@ -64,14 +64,14 @@ abbrev pub HaveRoom : {Y : Type 0} → Pieces → ℕ → List (Vec ℕ Y × Fil
 HaveRoom pieces n [] = Unit {0}
 HaveRoom pieces n (entry ∷ entries) = IsRoomy pieces n entry.1 × HaveRoom pieces (suc n) entries
 
--- it is known of each file, up to one of its pieces or to its tail, where they begin, and the tail holds no word
+-- of each file the beginnings of the pieces, up to one of them or to the tail, are known, and the tail holds no word
 abbrev pub HaveStarts : {Y : Type 0} → List File → List (Vec ℕ Y × FileText) → Type 0
 HaveStarts files [] = files ≡ []
 HaveStarts [] (entry ∷ entries) = ⊥
 HaveStarts (file ∷ files) (entry ∷ entries) = HasStarts file.pieces entry.1 × HasWords entry.1.tail.items [] × HaveStarts files entries
 
 pub record AreFilesKept (inside : Inside) : Type 0 where
-  -- a piece stands in the files at one place, and a parked one at none: so a piece that stands nowhere is parked, and no key of the files
+  -- a piece in a file is at one place of the files, and a parked one at none: so a piece at no place is parked, and no key of the files
   -- is without a piece
   pub once : (k : ℕ) → places k (map keyed_file inside.files.entries) ≡ standing_count (finite.get inside.pieces k)
   pub room : HaveRoom inside.pieces 0 inside.files.entries

@@ -1,4 +1,4 @@
--- The lines of bytes: the line feeds among them, and the bytes behind the last of these. Where pieces begin.
+-- The lines of bytes: the line feeds among them, and the bytes after the last of these. Where pieces begin.
 use Rattle.std.specs.Prelude.{◌≡◌, ℕ, ◌+◌, ◌*◌, ◌/◌, ◌<◌, ◌≤◌, List, [], ◌++◌, length, take, count_by, slice_index_or}
 use Rattle.std.specs.List.{after_last, concat}
 use Rattle.mm_text.specs.Language.Place.{is_line_feed}
@@ -10,7 +10,7 @@ pub record AreLines (bytes : List ℕ) (lines : Lines) : Type 0 where
   pub feeds : lines.feeds ≡ count_by is_line_feed bytes
   pub behind : lines.behind ≡ length (after_last is_line_feed bytes)
 
--- these are the lines of bytes and of others behind them, which together are no more than files may have
+-- these are the lines of bytes and of others after them, which together are no more than files may have
 pub record Follow (lines later : Lines) : Type 0 where
   pub first : List ℕ
   pub second : List ℕ
@@ -23,18 +23,18 @@ pub record AreLineMarks (text : List ℕ) (marks : List Lines) : Type 0 where
   pub many : length marks ≡ length text / 1024
   pub each : (number : ℕ) (default : Lines) → number < length marks → AreLines (take ((number + 1) * 1024) text) (slice_index_or marks number default)
 
--- a piece begins behind these bytes of its file
+-- a piece begins after these bytes of its file
 pub record IsStart (before : List ℕ) (start : Start) : Type 0 where
   pub bytes : start.bytes ≡ length before
   pub lines : AreLines before start.lines
 
--- with this text behind it, what stands before is no more than files may have
+-- a text and what comes before it are together no more than files may have
 pub record StaysSmall (start : Start) (text : List ℕ) : Type 0 where
   pub before : List ℕ
   pub is_start : IsStart before start
   pub small : length before + length text ≤ 4294967295
 
--- where the first of these texts begin in their file, up to the one of this number
+-- where these texts begin in their file, from the first up to the one with this number
 abbrev pub AreStartsTo : ℕ → List (List ℕ) → List Start → Type 0
 AreStartsTo last texts starts = (number : ℕ) (default : Start) → number ≤ last → IsStart (concat (take number texts)) (slice_index_or starts number default)
 

@@ -30,7 +30,7 @@ pub record ArePiecesKept (inside : Inside) : Type 0 where
   pub kept : AreKeptIn inside.slab
   pub counted : inside.parked ≡ parked_pieces (pieces_view inside)
 
--- standing pieces were put into the slab, one after another, each under a key that had none
+-- pieces of files were put into the slab, one after another, each under a key that had none
 abbrev pub ArePutIn : Slab Piece → List PieceText → List ℕ → Slab Piece → Type 0
 ArePutIn old [] keys new = (keys ≡ []) × (new ≡ old)
 ArePutIn old (kept ∷ pieces) keys new =

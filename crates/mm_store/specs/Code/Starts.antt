@@ -4,7 +4,7 @@ use Rattle.mm_store.specs.declared.file_text.FileText.{FileText}
 use Rattle.mm_store.specs.Language.Pieces.{Pieces, text_under}
 use Rattle.mm_store.specs.Code.Lines.{AreStartsTo}
 
--- of pieces with these texts it is known where they begin, up to one of them or to the tail behind them
+-- the beginnings of pieces with these texts are known, up to one of them or to the tail after them
 pub record HasStarts (texts : List (List ℕ)) (file : FileText) : Type 0 where
   pub known : file.known ≤ length texts
   pub starts : AreStartsTo file.known texts file.starts.items

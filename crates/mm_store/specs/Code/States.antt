@@ -37,6 +37,6 @@ state_back Standing = refl
 state_back (Parked file Replaced) = refl
 state_back (Parked file Deleted) = refl
 
--- a state is told by what it is parked by
+-- a state is known by how it is parked
 abbrev pub state_code : Coded PieceState
 state_code = code_by (Option (ℕ × Bool)) (coded_option (coded× coded_ℕ coded_bool)) parking state_by state_back

@@ -16,7 +16,7 @@ piece_in (Some file) piece = slice_get file.pieces piece
 abbrev pub piece_at : List FileView → LevelView → Option PieceView
 piece_at files level = piece_in (slice_get files level.file) level.piece
 
--- behind the next piece of a file
+-- after the next piece of a file
 abbrev pub behind : LevelView → LevelView
 behind level = record { file = level.file; piece = level.piece + 1 }
 
@@ -91,7 +91,7 @@ pub record Passes (files : List FileView) (old : WalkView) (spot : Spot) (new : 
   pub nothing : IncludesNothing level.file level.piece piece
   pub after : new ≡ record { names = old.names; levels = front ++ behind level ∷ []; told = false }
 
--- the walk goes past a reference to a missing file that was told
+-- the walk goes past a reference to a missing file that was reported
 pub record PassesTold (files : List FileView) (old : WalkView) (spot : Spot) (new : WalkView) : Type 0 where
   pub front : List LevelView
   pub level : LevelView
@@ -105,7 +105,7 @@ pub record PassesTold (files : List FileView) (old : WalkView) (spot : Spot) (ne
   pub told : old.told ≡ true
   pub after : new ≡ record { names = old.names ++ name ∷ []; levels = front ++ behind level ∷ []; told = false }
 
--- the walk comes to a reference to a missing file of this name that was not told, and stands before it
+-- the walk comes to a reference to a missing file of this name that was not reported, and stops before it
 pub record Tells (files : List FileView) (old : WalkView) (name : List ℕ) (new : WalkView) : Type 0 where
   pub front : List LevelView
   pub level : LevelView

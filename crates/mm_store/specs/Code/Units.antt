@@ -20,7 +20,7 @@ IsUnitError text NoFile = ⊥
 IsUnitError text (NoPiece count) = ⊥
 IsUnitError text TooMany = ⊥
 
--- why a text does not become a piece of files that have so many bytes beside it
+-- why a text does not become a piece of files that already hold this many bytes
 abbrev pub IsTextRefused : ℕ → List ℕ → EditError → Type 0
 IsTextRefused held text (Text fault) = BringsFault (Some text) fault
 IsTextRefused held text (NotOne count) = BringsNotOne (Some text) count

@@ -1,4 +1,4 @@
--- How many `${` and `$}` stand in a list of words.
+-- How many `${` and `$}` are in a list of words.
 use Rattle.std.specs.Prelude.{ℕ, ◌+◌, List, [], ◌∷◌}
 use Rattle.mm_text.specs.declared.word.Keyword.TheVariants.{BlockStart, BlockEnd}
 use Rattle.mm_text.specs.declared.word.WordKind.{WordKind}

@@ -28,12 +28,12 @@ is_within Symbols = true
 is_within Expression = true
 is_within _ = false
 
--- where the unit begins to which a word belongs that begins here
+-- where the unit of a word begins, if the word begins here
 abbrev pub first_behind : Phase → ℕ → ℕ → ℕ
 first_behind Begin first start = start
 first_behind _ first start = first
 
--- where the open blocks begin behind a word that begins here
+-- where the open blocks begin, after a word that begins here
 abbrev pub blocks_behind : WordKind → List ℕ → ℕ → List ℕ
 blocks_behind (kinds.Keyword BlockStart) blocks start = blocks ++ start ∷ []
 blocks_behind (kinds.Keyword BlockEnd) blocks start = take (length blocks - 1) blocks

@@ -1,4 +1,4 @@
--- The reading of a text, computed from left to right. The public contracts do not speak of it: it stands between the
+-- The reading of a text, computed from left to right. The public contracts do not speak of it: it is between the
 -- code and the definitions of `Reading`, with which it is proved to agree.
 use Rattle.std.specs.Prelude.{◌≡◌, ◌++◌, Vec, ℕ, ◌+◌, ◌==◌, Bool, if◌then◌else◌, false, not, ◌&&◌}
 use Rattle.std.specs.Prelude.{◌||◌, List, [], ◌∷◌, length, Option, Some, None, Result, Ok, Err, option_map}
@@ -24,11 +24,11 @@ use Rattle.mm_text.specs.Language.Spelling.{opening, closing}
 abbrev pub is_dollarless : ℕ → Bool
 is_dollarless b = is_solid b && not (b == 36)
 
--- whether a `$` stands in these bytes
+-- whether a `$` is in these bytes
 abbrev pub has_dollar : List ℕ → Bool
 has_dollar bytes = list_any (λ c. c == 36) bytes
 
--- the keyword with this byte behind its `$`
+-- the keyword with this byte after its `$`
 abbrev pub keyword_at : ℕ → Option Keyword
 keyword_at b =
     if b == 123 then Some BlockStart
@@ -49,7 +49,7 @@ keyword_at b =
 abbrev pub plain_unless : Bool → Option WordKind
 plain_unless b = if b then None else Some kinds.Plain
 
--- the kind of a run that stands alone
+-- the kind of a run that is one word
 abbrev pub word_kind : List ℕ → Option WordKind
 word_kind (a ∷ b ∷ []) = if a == 36 then option_map kinds.Keyword (keyword_at b) else plain_unless (list_any (λ c. c == 36) (a ∷ b ∷ []))
 word_kind bytes = plain_unless (list_any (λ c. c == 36) bytes)
@@ -58,7 +58,7 @@ word_kind bytes = plain_unless (list_any (λ c. c == 36) bytes)
 abbrev pub is_mark : ℕ → ℕ → Bool
 is_mark a b = a == 36 && (b == 40 || b == 41)
 
--- whether a mark stands in these bytes
+-- whether a mark is in these bytes
 abbrev pub holds_mark : List ℕ → Bool
 holds_mark [] = false
 holds_mark (a ∷ []) = false
@@ -73,17 +73,17 @@ words_fault_at number at = record { number = number; at = at }
 abbrev pub Read : Type 0
 Read = Result (List Word) TextFault
 
--- what is read behind a word
+-- what is read after a word
 abbrev pub cons_word : Word → Read → Read
 cons_word word (Ok words) = Ok (word ∷ words)
 cons_word word (Err fault) = Err fault
 
--- what is read from a run that stands alone
+-- what is read from a run that is one word
 abbrev pub word_alone : Run → Option WordKind → Read → Read
 word_alone run (Some kind) rest = cons_word (word_at run kind) rest
 word_alone run None rest = Err (words_fault_at T05 run.start)
 
--- what is read from these runs, behind the beginning of a comment where one is given
+-- what is read from these runs; if the beginning of a comment is given, they come after it
 abbrev pub read_runs : Option ℕ → List Run → Read
 read_runs None [] = Ok []
 read_runs (Some start) [] = Err (words_fault_at T02 start)

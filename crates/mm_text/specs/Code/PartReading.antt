@@ -18,7 +18,7 @@ ends_part (kinds.Keyword StatementEnd) = true
 ends_part (kinds.Keyword InclusionEnd) = true
 ends_part _ = false
 
--- the parts, found word by word; where a part has begun, its first byte is given
+-- the parts, found word by word; if a part has begun, its first byte is given
 abbrev pub emit_word : Option ℕ → PartKind → WordKind → Token → (Option ℕ → PartKind → List Part) → List Part
 emit_word first kind word token later =
     if ends_part word then record { kind = word_part kind word; start = unwrap_or first token.start; end = token_end token } ∷ later None (word_part kind word)
@@ -33,7 +33,7 @@ abbrev pub parts_behind : Bool → List Part → Part → List Part
 parts_behind true parts part = parts ++ part ∷ []
 parts_behind false parts part = parts
 
--- where the part begins that goes on after such a word, if one does
+-- where the open part begins after such a word, if there is one
 abbrev pub open_behind : Bool → ℕ → Option ℕ
 open_behind true start = None
 open_behind false start = Some start

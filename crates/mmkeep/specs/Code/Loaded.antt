@@ -21,7 +21,7 @@ abbrev pub AddsOpened : {F E : Type 0} → (F → Option (List ℕ)) → Result 
 AddsOpened remaining (Ok file) old new name = AddsFile (plain old) (plain new) name (remaining file)
 AddsOpened remaining (Err error) old new name = ⊥
 
--- a file that was opened is added; where none was, the files are as before
+-- a file that was opened is added; if none was, the files are as before
 abbrev pub AddsIfOpened : {F E : Type 0} → (F → Option (List ℕ)) → Result F E → FilesView → FilesView → List ℕ → Type 0
 AddsIfOpened remaining (Ok file) old new name = AddsFile (plain old) (plain new) name (remaining file)
 AddsIfOpened remaining (Err error) old new name = new ≡ old
