@@ -49,7 +49,7 @@ variable name = record { name = name; variable = true }
 all_sound : sound_items five ≡ five
 all_sound = refl
 
--- what the labels mean behind them
+-- what the labels mean after them
 wp_is : resolve five (codes "wp") ≡ Hypothesis (constant wff ∷ variable p ∷ [])
 wp_is = refl
 
@@ -90,7 +90,7 @@ mp_is : resolve (five ++ block) (codes "mp") ≡ Assertion (record {
 })
 mp_is = refl
 
--- `w2 $p wff ( p -> ( p -> q ) )` behind the five: its place and statement
+-- `w2 $p wff ( p -> ( p -> q ) )` after the five: its place and statement
 abbrev with_w2 : List Item
 with_w2 = five ++ labelled (codes "w2") Theorem (wff ∷ left ∷ p ∷ arrow ∷ left ∷ p ∷ arrow ∷ q ∷ right ∷ right ∷ []) ∷ []
 

@@ -18,7 +18,7 @@ pub leads_earlier : (view : BaseView) (k i : ℕ) → LeadsTo view k i → k ≤
 leads_earlier view k i none = omega arith
 leads_earlier view k i (step {j = j} c rest) = let l = cites_earlier view i j c in let m = leads_earlier view k j rest in omega (arith, l, m)
 
--- one chain and another behind it
+-- one chain and another after it
 pub leads_on : (view : BaseView) (k j i : ℕ) → LeadsTo view j i → LeadsTo view k j → LeadsTo view k i
 leads_on view k j i none more = more
 leads_on view k j i (step {j = n} c rest) more = step c (leads_on view k j n rest more)

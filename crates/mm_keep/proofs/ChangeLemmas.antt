@@ -19,7 +19,7 @@ use Rattle.mm_keep.specs.Language.Sessions.{IsChanged}
 use Rattle.mm_keep.proofs.KeepLemmas.{ItemsStand, KeepsNumbers, batch_top, expansion_top, base_settled, says_edited}
 use Rattle.mm_keep.proofs.NextLemmas.{begins_trans}
 
--- what is checked can be carried, as the lists that are the same tell it
+-- what is checked can be carried, by lists that are equal to those of the session
 pub can_carry_by : (before after : FilesView) (undos : List UndoView) (top : List ℕ) (names : List (List ℕ)) (checked : List (Option Judgement)) (next : Next) → (can : CanTake before after undos top names checked next)
     → (was : List (Option Judgement)) (plan : List (Option ℕ)) (ran : List (Option Judgement)) → was ≡ checked → plan ≡ next.ran.plan.items → ran ≡ next.ran.checked.items → CanCarry can.old can.base was plan ran
 can_carry_by before after undos top names checked next can was plan ran a b d = record {

@@ -80,7 +80,7 @@ module _ (each : CitesNameAssertions) (tell : CitesTellAssertions) (own : HasOwn
   pub among_earlier : (k : ℕ) → HasLabelAmong view (said_at view j).proof (cites_at view j) (length (cites_at view j)) k → k < j
   among_earlier k h = cites_earlier view j k (among_cited k h.label h.among h.carrier)
 
-  -- one of them is the label of an assertion exactly where this is cited
+  -- one of them is the label of an assertion exactly when this is cited
   pub label_cited : (label : List ℕ) (i : ℕ) → IsAssertion view label i → IsAmongCited (said_at view j).proof (cites_at view j) (length (cites_at view j)) label ↔ CitesItem view j i
   label_cited label i a = (λ among. among_cited i label among (assertion_carries view label i a), to)
     where

@@ -1,4 +1,4 @@
--- Of each item of files something is told rightly: its fault at a word, or the verdict on its proof, each at a place that there is.
+-- Something is rightly reported of each item of files: its fault at a word, or the verdict on its proof, each at a place that there is.
 use Rattle.std.proofs.Common.{◌≡◌, ◌<◌, ◌≤◌, ◌⊎◌, ℕ, zero, suc, ◌+◌, Some, None, Option, is_none, true, false, ◌&&◌, List, [], ◌∷◌, length, slice_get, refl, sym, ap, subst, inl, inr, arith, All, slice_range}
 use Rattle.std.specs.List.{AllZip}
 use Rattle.std.proofs.lemmas.Option.{get_or_from_slice_get, slice_get_within}
@@ -34,7 +34,7 @@ has_place files item stands byte less =
     let at : At = record { file = item.file; line = line_at (text_of file) offset; column = column_at (text_of file) offset } in
     (at, placed_in files item stands byte at refl refl refl less)
 
--- ---- what is told of an item
+-- ---- what is reported of an item
 
 -- a `$a`, a `$p`, or neither
 kind_of : (kind : Kind) → (kind ≡ Axiom) ⊎ (kind ≡ Theorem) ⊎ (is_assertion kind ≡ false)
@@ -73,7 +73,7 @@ module _ (files : FilesView) (base : BaseView) (i : ℕ) (item : store.Item) (fo
       let place = spot_place spot spot_in in
       (Wrong number place.0, record { spot = spot; has_verdict = record { proof = proof; is_verdict = is }; is_place = place.1 }, refl)
 
-  -- what it is, where it is sound
+  -- what it is, if it is sound
   sound_told : ((v : Verdict) × IsVerdictAt base i v) → SpotsAreIn → is_sound_at base i ≡ true → (one : Told) × IsRightlyTold files base i one
   sound_told verdict spots sound =
       elim (kind_of (said_at base i).kind) [
@@ -91,14 +91,14 @@ module _ (files : FilesView) (base : BaseView) (i : ℕ) (item : store.Item) (fo
 
 -- ---- the items of files
 
--- the element of the one list where there is one of the other
+-- the element of one list, if there is one of the other
 zip_there : {A B : Type 0} (R : A → B → Type 0) (xs : List A) (ys : List B) (i : ℕ) → AllZip R xs ys → i < length ys → (x : A) × (slice_get xs i ≡ Some x)
 zip_there R [] [] i a less = absurd (omega (arith, less))
 zip_there R (w ∷ xs) (z ∷ ys) zero a less = (w, refl)
 zip_there R (w ∷ xs) (z ∷ ys) (suc i) a less = zip_there R xs ys i a.1 (omega (arith, less))
 zip_there R _ _ i a less = absurd a
 
--- the item with a number says what it says, and stands where it does
+-- the item with a number says what the base says it does, and is where it says
 pub item_at : (files : FilesView) (base : BaseView) (i : ℕ) → AllZip (Says files) base.found base.said → All (StandsIn files) base.found → i < length base.said
     → (item : store.Item) × (slice_get base.found i ≡ Some item) × Says files item (said_at base i) × StandsIn files item
 item_at files base i each stand less =
@@ -107,7 +107,7 @@ item_at files base i each stand less =
     let y = zip_found (Says files) base.found base.said i item each found.1 in
     (item, found.1, subst (Says files item) (sym (get_or_from_slice_get base.said i y.0 passed y.1)) y.2, subst (StandsIn files) (get_or_from_slice_get base.found i item item found.1) (stand i item (slice_get_within base.found i item found.1)))
 
--- each is told rightly
+-- each is reported rightly
 pub findings : ItemsStand → HasVerdictAt → SpotsAreIn → ItemsHaveFindings
 findings stand verdict spots files top base of_files i less =
     let t = item_at files base i of_files.each (stand files top base.found of_files.expansion) less in

@@ -20,7 +20,7 @@ use Rattle.mm_keep.specs.declared.session.Session.TheInside.{Inside}
 pub at_index : {X : Type 0} (xs : List X) (i : ℕ) (x : X) → i < length xs → x ≡ get_or xs i x → slice_get xs i ≡ Some x
 at_index xs i x within e = slice_get-get_or xs i x within ∙ ap Some (sym e)
 
--- no fault is told of a sound item
+-- no fault is reported of a sound item
 pub sound_none : (fault : Option FrameFault) (t : Option (ℕ × FrameNumber)) → option_map (λ (f : FrameFault). (f.word, f.number)) fault ≡ t → fault ≡ None → is_none t ≡ true
 sound_none None t e n = sym (ap is_none e)
 sound_none (Some f) t e n = cc
@@ -34,7 +34,7 @@ pub map_some : {X : Type 0} (P Q : X → Type 0) (one : Option X) → ((x : X) �
 map_some P Q None f p = p
 map_some P Q (Some x) f p = f x p
 
--- the items of all files stand where they say
+-- the items of all files are where they say
 abbrev pub ItemsStand : Type 0
 ItemsStand = (files : FilesView) (top : List ℕ) (items : List store.Item) → IsExpansion (files_in files) top items → All (StandsIn files) items
 

@@ -58,7 +58,7 @@ says_settled old new keeps [] [] a z = tt
 says_settled old new keeps (x ∷ xs) (y ∷ ys) a z = (says_alike old new x y z.0 (keeps x z.0.read a.0), says_settled old new keeps xs ys a.1 z.1)
 says_settled old new keeps _ _ a z = absurd z
 
--- each item stands in the files
+-- each item is in the files
 abbrev pub ItemsStand : Type 0
 ItemsStand = (files : FilesView) (top : List ℕ) (items : List store.Item) → IsExpansion (files_in files) top items → All (StandsIn files) items
 

@@ -25,7 +25,7 @@ theorem_shown _ _ e = absurd (false≢true e)
 pub shown : (base : BaseView) (i : ℕ) → is_proof_at base i ≡ true → is_shown_at base i ≡ true
 shown base i e = theorem_shown (is_sound_at base i) (said_at base i).kind e
 
--- the theorem whose view it had is the one that the mark tells
+-- the theorem whose view it had is the one that the mark names
 pub marked : (base copy : BaseView) (j : ℕ) (mark : ItemMark) → IsMark base copy j mark → (i : ℕ) → HasSameView base copy i j → mark.old ≡ Some i
 marked base copy j mark is i same = (is.old_is i).1 (record { within = same.within; was = shown base i same.was; is = shown copy j same.is; label = same.label })
 

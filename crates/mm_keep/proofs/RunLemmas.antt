@@ -16,7 +16,7 @@ use Rattle.mm_keep.specs.Language.Runs.{AreThose, AreRuns, AreStepsOf, HadView, 
 use Rattle.mm_keep.specs.Code.KeptSession.{AreChecked}
 use Rattle.mm_keep.specs.Code.Planned.{IsPlanned, ArePlanned, IsRunBy, AreRunBy, RunsBy, AreRecorded, RecordsRun, RecordsIf}
 
--- an element stands in the list with one more, and is the last or one before it
+-- an element is in the list with one more, and is the last or one before it
 pub get_front : {X : Type 0} (xs : List X) (y : X) (k : ℕ) (x : X) → slice_get (xs ++ y ∷ []) k ≡ Some x → ((k < length xs) × (slice_get xs k ≡ Some x)) ⊎ ((k ≡ length xs) × (y ≡ x))
 get_front xs y k x e =
     let within = slice_get_within (xs ++ y ∷ []) k x e in

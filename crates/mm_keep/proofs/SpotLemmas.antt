@@ -1,4 +1,4 @@
--- Where the words of items stand, and the spots of their proofs.
+-- Where the words of items are, and the spots of their proofs.
 use Rattle.std.proofs.Common.{◌≤◌, ◌≡◌, ℕ, zero, suc, ◌+◌, ◌-◌, Some, None, Option, List, [], ◌∷◌, ◌++◌, length, take, drop, slice_get, refl, sym, ap, ◌∙◌, subst, inl, inr, arith, slice_range, slice_index_or}
 use Rattle.std.specs.List.{AllByRecursion, flat_map, prefix_len}
 use Rattle.std.specs.Option.{option_map}
@@ -161,7 +161,7 @@ taken_less (suc p) n [] = omega arith
 taken_less (suc p) zero (token ∷ tokens) = omega arith
 taken_less (suc p) (suc n) (token ∷ tokens) = taken_less p n tokens
 
--- words behind the first ones are words behind these
+-- words after the first ones are words after these
 dropped_at : (m n : ℕ) (tokens : List Token) → slice_index_or (token_names (drop m tokens)) n [] ≡ slice_index_or (token_names tokens) (m + n) []
 dropped_at zero n tokens = let same : n ≡ 0 + n = omega arith in ap (λ k. slice_index_or (token_names tokens) k []) same
 dropped_at (suc m) n [] = refl

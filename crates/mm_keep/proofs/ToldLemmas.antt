@@ -25,15 +25,15 @@ says_at names files code view n item is e =
 pub read_at : (names : List (List ℕ)) (files : FilesView) (code : Base) (n : ℕ) (item : store.Item) → HasItemOf names files code n → ((view : BaseView) → IsBase view code → slice_get view.found n ≡ Some item) → CanBeRead files item
 read_at names files code n item has e = (says_at names files code has.0 n item has.1 (e has.0 (names, has.1.read_in.base))).read
 
--- that it stands where it says
+-- that it is where it says
 pub stands_at : (names : List (List ℕ)) (files : FilesView) (code : Base) (n : ℕ) (item : store.Item) → HasItemOf names files code n → ((view : BaseView) → IsBase view code → slice_get view.found n ≡ Some item) → StandsIn files item
 stands_at names files code n item has e =
     let there = e has.0 (names, has.1.read_in.base) in
     subst (StandsIn files) (get_or_from_slice_get has.0.found n item item there) (has.1.stand n item (slice_get_within has.0.found n item there))
 
--- ---- what is told of the items, one after another
+-- ---- what is reported of the items, one after another
 
--- so many are told rightly
+-- this many are reported rightly
 pub record ToldUpTo (files : FilesView) (view : BaseView) (n : ℕ) (all : List Told) : Type 0 where
   pub count : length all ≡ n
   pub each : (k : ℕ) (one : Told) → slice_get all k ≡ Some one → IsRightlyTold files view k one

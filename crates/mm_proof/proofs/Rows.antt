@@ -111,7 +111,7 @@ thousand_cut : read (with_list (replicate 1000 89 ∷ [])) ≡ Err (record { num
 unfolding read steps_of here meaning with_list wp wi at
 thousand_cut = refl
 
--- the words that cite, of `( x1 .. )` where the list has labels twice
+-- the words that cite, of `( x1 .. )` with labels that are listed twice
 cited : List (List ℕ) → List ℕ
 unfolding here meaning
 cited words = cites here words (decoding here (codes "wp" ∷ []) words)

@@ -18,7 +18,7 @@ use Rattle.mm_report.specs.Language.Laws.{OneReport}
 use Rattle.mm_report.specs.Language.Report.{names_of, report, IsReport}
 use Rattle.mm_report.proofs.DatabaseLemmas.{Laws, Database, same_items, same_spot_place, same_shown_word}
 
--- ---- what is told of one item
+-- ---- what is reported of one item
 
 -- what an item is, as a number: at fault, quiet, an axiom, or a theorem
 abbrev class_of : Bool → Kind → ℕ
@@ -30,7 +30,7 @@ class_of true _ = 1
 abbrev class_at : BaseView → ℕ → ℕ
 class_at view n = class_of (is_sound_at view n) (said_at view n).kind
 
--- of which items it is told
+-- of which items it is reported
 abbrev class_told : Told → ℕ
 class_told Quiet = 1
 class_told AnAxiom = 2

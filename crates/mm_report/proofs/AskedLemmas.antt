@@ -39,7 +39,7 @@ answered_stop contents command old new a b (Err e) answer err is s =
 
 -- ---- edits
 
--- the items of which the labels are told, and what is told
+-- the items whose labels are reported
 pub ran_base : (old new : SessionView) (work : Recorded) (changed : IsChanged old new work) → IsOfFiles new.files new.top changed.runs.new
 ran_base old new work changed = subst (λ top. IsOfFiles new.files top changed.runs.new) (sym changed.top) changed.runs.are
 
@@ -106,7 +106,7 @@ only_two {r = Err errors.Write} so = inl refl
 only_two {r = Err errors.Memory} so = inr refl
 only_two {r = Err _} so = absurd so.err
 
--- the axioms of an assertion are found where it is there
+-- the axioms of an assertion are found, if it is there
 has_found : (session : SessionView) (label : List ℕ) (found : Result (Vec ℕ Global) KeepError) → IfOk found (λ numbers. AreAxiomsOf session label numbers.items) → IsOk found → HasAssertion session label
 has_found session label (Ok numbers) are ok = (are.0, are.1, (are.2.0, are.2.1))
 has_found session label (Err e) are ok = absurd (cc)
@@ -119,7 +119,7 @@ axioms_there session label found (Err e) are none told = tt
 axioms_there session label found (Ok there) are none (inl h) = (λ t. has_found session label found are h.1, λ t. h.0)
 axioms_there session label found (Ok there) are none (inr h) = (λ t. (cc), λ has. absurd (none h.1 has))
 
--- ---- what is written is handed on
+-- ---- what is written is passed on
 
 pub kept_whole : (a b c : Option (List ℕ)) (bytes : List ℕ) → Appends a b bytes → Keeps b c → AppendsPart a c bytes
 kept_whole a b c bytes p q =

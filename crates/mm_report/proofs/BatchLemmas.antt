@@ -15,7 +15,7 @@ use Rattle.mm_report.proofs.EditLemmas.{fed_line, unfed_line}
 use Rattle.mm_report.proofs.GrowLemmas.{grows_not}
 use Rattle.mm_report.proofs.StopLemmas.{batch_no_feed, batch_cut, batch_bad_line, batch_bad_last, batch_text_cut, batch_text_none, batch_text_line_cut, batch_text_bad, batch_edit_cut}
 
--- where nothing is left
+-- if nothing is left
 pub at_end : (P : List ℕ → Type 0) (bytes : List ℕ) (left : Option (List ℕ)) → IsAtEnd left → P bytes → IfSome left (λ more. P (bytes ++ more))
 at_end P bytes None end h = tt
 at_end P bytes (Some more) end h = subst P (sym (ap (λ (xs : List ℕ). bytes ++ xs) end ∙ append-nil bytes)) h
@@ -25,7 +25,7 @@ pub always : (P : List ℕ → Type 0) (bytes : List ℕ) (left : Option (List �
 always P bytes None h = tt
 always P bytes (Some more) h = h more
 
--- the bytes are those of a batch, with what stands behind some of its edits and empty lines
+-- the bytes are those of a batch, with what comes after some of its edits and empty lines
 pub front_bytes : (a b : Input) (u v : Option (List ℕ)) (n : ℕ) (front : List Listed) (from start : ℕ) → IsBatchFront (pending a) n front from → InputGrows a b u v → HasBlanks (pending b) from start
     → pending b ≡ batch_bytes n front (start - from) (drop start (pending b))
 front_bytes a b u v n front from start f grows blanks =
@@ -38,7 +38,7 @@ front_bytes a b u v n front from start f grows blanks =
     ∙ append_assoc (batch_line n) (10 ∷ flat_map listed_bytes front) (replicate (start - from) 10 ++ inner)
     ∙ ap (λ (xs : List ℕ). batch_line n ++ 10 ∷ xs) refl
 
--- with more behind them
+-- with more after them
 pub batch_more : (n : ℕ) (front : List Listed) (blanks : ℕ) (bytes inner more : List ℕ) → bytes ≡ batch_bytes n front blanks inner → bytes ++ more ≡ batch_bytes n front blanks (inner ++ more)
 batch_more n front blanks bytes inner more is =
     let edits = flat_map listed_bytes front in
@@ -56,7 +56,7 @@ module _ (a b : Input) (u v : Option (List ℕ)) (n : ℕ) (front : List Listed)
   inner_is : (inner : List ℕ) → drop start (pending b) ≡ inner → pending b ≡ batch_bytes n front (start - from) inner
   inner_is inner is = whole ∙ ap (λ (xs : List ℕ). batch_bytes n front (start - from) xs) is
 
-  -- the bytes end so
+  -- the bytes have this end
   pub ends_here : (End : List ℕ → Type 0) (inner : List ℕ) → drop start (pending b) ≡ inner → IsAtEnd v → End (batch_bytes n front (start - from) inner) → IfSome v (λ more. End (pending b ++ more))
   ends_here End inner is end h = at_end End (pending b) v end (subst End (sym (inner_is inner is)) h)
 

@@ -21,7 +21,7 @@ use Rattle.mm_report.proofs.EditLemmas.{bytes_grown, fed_line, unfed_line, withi
 use Rattle.mm_report.proofs.GrowLemmas.{grows_not}
 use Rattle.mm_report.proofs.StopLemmas.{batch_line_cut}
 
--- the parts of an edit stand in the bytes as they grow
+-- the parts of an edit are in the bytes as they grow
 pub edit_within_grown : (a b : Input) (u v : Option (List ℕ)) (k : EditAt) → InputGrows a b u v → IsEditWithin (pending a) k → IsEditWithin (pending b) k
 edit_within_grown a b u v (Insert file at text) grows w = (within_grown a b u v file grows w.0, within_grown a b u v text grows w.1)
 edit_within_grown a b u v (Replace file at text) grows w = (within_grown a b u v file grows w.0, within_grown a b u v text grows w.1)

@@ -27,7 +27,7 @@ pub record Laws : Type 0 where
   pub verdict : HasOneVerdictAt
   pub stand : (files : FilesView) (top : List ℕ) (items : List store.Item) → IsExpansion (files_in files) top items → All (StandsIn files) items
 
--- ---- what stands in files that mean the same
+-- ---- what is in files that mean the same
 
 -- what holds of all elements holds of the one at a place
 kept_at : {X : Type 0} (P : X → Type 0) (xs : List X) (n : ℕ) (x : X) → All P xs → slice_get xs n ≡ Some x → P x
@@ -47,7 +47,7 @@ record AreAlike (a b : FilesView) (x y : store.Item) : Type 0 where
   first : StandsIn a x
   second : StandsIn b y
 
--- the files that they stand in
+-- the files that they are in
 same_file : (a b : FilesView) (x y : store.Item) (f g : File) → AreAlike a b x y → slice_get (plain a) x.file ≡ Some f → slice_get (plain b) y.file ≡ Some g → f ≡ g
 same_file a b x y f g alike at there = same_Some f g (sym at ∙ (λ i. slice_get (alike.files i) (alike.item i).file) ∙ there)
 

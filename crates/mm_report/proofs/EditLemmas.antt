@@ -1,4 +1,4 @@
--- Edits that stand in the bytes of a script: their lines, and their texts.
+-- Edits that are in the bytes of a script: their lines, and their texts.
 use Rattle.std.proofs.Common.{◌<◌, ◌≡◌, ℕ, ◌+◌, ◌-◌, ◌≤◌, Bool, true, false, List, [], ◌∷◌, ◌++◌, append_assoc, length, take, drop, replicate, refl, sym, ap, ◌∙◌, subst, arith, Option, Some, None, codes, decimal, slice_range}
 use Rattle.std.specs.List.{join_with_byte}
 use Rattle.std.proofs.lemmas.List.{append-nil, length-drop, length-take, length-replicate, drop-drop, drop-take, take-take, drop_all}
@@ -17,7 +17,7 @@ use Rattle.mm_report.specs.Code.Stops.{HasTextOf}
 use Rattle.mm_report.specs.Language.Script.{IsGoodEdit, IsNumber, edit_bytes, edit_line, ended_text}
 use Rattle.mm_report.proofs.GrowLemmas.{grown_long, part_grown, rest_grown}
 
--- a line asks for an edit with a text of so many bytes
+-- a line asks for an edit with a text of this many bytes
 pub record AsksText (line : List ℕ) (count : ℕ) (edit : List ℕ → Asked) : Type 0 where
   pub line_is : (text : List ℕ) → length text ≡ count → edit_line (edit text) ≡ line
   pub good : (text : List ℕ) → length text ≡ count → IsGoodEdit (edit text)
@@ -110,7 +110,7 @@ part_of_line bytes start end i j low within =
     let fourth : j - i ≡ (start + j) - (start + i) = omega arith in
     sym (ap (take (j - i)) first ∙ second ∙ ap (take (j - i)) third ∙ ap (λ (m : ℕ). take m (drop (start + i) bytes)) fourth)
 
--- the part of a line that stands so much later
+-- the part of a line that is later by this count
 pub record IsShifted (part shifted : Part) (by : ℕ) : Type 0 where
   pub start : shifted.start ≡ by + part.start
   pub end : shifted.end ≡ by + part.end
@@ -195,7 +195,7 @@ plain_read bytes left line at end is says good none parts fed unfed within low =
         ∙ sym (append_assoc (edit_line (edit_in bytes at)) (10 ∷ []) (drop end bytes))
         ∙ ap (λ (t : Option (List ℕ)). (edit_line (edit_in bytes at) ++ 10 ∷ ended_text t) ++ drop end bytes) (sym none)
 
--- where what stands behind a line begins
+-- the beginning of what comes after a line
 pub behind_within : (bytes : List ℕ) (left : Option (List ℕ)) (line : LineAt) (end : ℕ) → IsLineAt bytes left line → (line.fed ≡ true → end ≡ line.end + 1) → (line.fed ≡ false → end ≡ line.end)
     → (end ≤ length bytes) × (line.end ≤ end)
 behind_within bytes left line end is fed unfed = by line.fed refl

@@ -1,4 +1,4 @@
--- Files by number: their names; and what is told of an item names one of them.
+-- Files by number: their names; and what is reported of an item names one of them.
 use Rattle.std.proofs.Common.{◌≡◌, ℕ, ◌<◌, List, [], Some, length, slice_get, sym, ap, ◌∙◌, subst, slice_index_or}
 use Rattle.std.specs.Option.{option_map}
 use Rattle.std.proofs.lemmas.Option.{slice_get-map, slice_get_within, get_or_from_slice_get}
@@ -25,7 +25,7 @@ placed_in files item word letter at place =
     let stands = place.is_byte.stands in
     subst (λ n. n < length files.keyed) (sym place.in_file) (slice_get_within files.keyed item.file stands.file stands.there)
 
--- so is what is told rightly of an item
+-- so is what is rightly reported of an item
 pub told_in : (files : FilesView) (view : BaseView) (n : ℕ) (one : Told) → IsRightlyTold files view n one → IsInFiles (length files.keyed) one
 told_in files view n (Incomplete at) f = placed_in files f.is_place.item _ _ at f.is_place.has_place
 told_in files view n (Wrong number at) f = placed_in files f.is_place.item _ _ at f.is_place.has_place

@@ -1,4 +1,4 @@
--- Bytes that are read on keep what stood in them.
+-- Bytes that are read on keep what was in them.
 use Rattle.std.proofs.Common.{◌≡◌, ◌≢◌, ℕ, zero, suc, ◌+◌, ◌-◌, ◌<◌, ◌≤◌, true, false, List, [], ◌∷◌, ◌++◌, append_assoc, length, length-append, take, drop, replicate, refl, sym, ap, ◌∙◌, subst, arith, Option, ◌⊎◌, inl, inr}
 use Rattle.std.proofs.Common.{get_or, Result, Ok, Err, eq-eqb, eqb-true, ◌==◌, slice_index, slice_range}
 use Rattle.std.specs.Result.{IsErrAnd, IsErrOf}
@@ -105,7 +105,7 @@ last_line bytes left start count is within one at_end = record {
   unfed = λ no. (is, at_end);
 }
 
--- another byte behind so many
+-- another byte after this many
 pub other_byte : (bytes hay : List ℕ) (start count byte : ℕ) → hay ≡ drop start bytes → count < length hay → byte ≡ get_or hay count byte → byte ≢ 10 → IsOtherByte bytes start count
 other_byte bytes hay start count byte is some here other = record {
   text = take count hay;
@@ -116,7 +116,7 @@ other_byte bytes hay start count byte is some here other = record {
   are = sym is ∙ sym (take-append-drop count hay) ∙ ap (λ (xs : List ℕ). take count hay ++ xs) (drop_more hay count byte some ∙ ap (λ (b : ℕ). b ∷ drop (count + 1) hay) (sym here));
 }
 
--- a line feed behind so many bytes
+-- a line feed after this many bytes
 pub feed_behind : (bytes hay : List ℕ) (start count byte : ℕ) → hay ≡ drop start bytes → count < length hay → byte ≡ get_or hay count byte → byte ≡ 10
     → drop (start + count) bytes ≡ 10 ∷ drop ((start + count) + 1) bytes
 feed_behind bytes hay start count byte is some here feed =
@@ -162,7 +162,7 @@ blank_line bytes left line is fed none =
     let same : line.end ≡ line.start = omega (arith, is.ordered) in
     subst (λ (n : ℕ). drop n bytes ≡ 10 ∷ drop (n + 1) bytes) same (is.fed fed)
 
--- reading on where nothing is passed, and where empty lines are
+-- reading on with nothing passed, and with empty lines passed
 pub reads_not : (a : Input) (u : Option (List ℕ)) → ReadsOn a a u u
 reads_not a u = record { part = []; consumes = Consumes-nil u; blanks = 0; are = append-nil (pending a) }
 
@@ -183,12 +183,12 @@ reads_pass a b c u v p is = record {
   are = p.are ∙ ap (λ (xs : List ℕ). replicate p.blanks 10 ++ xs) is ∙ feeds p.blanks (pending c);
 }
 
--- an error that is handed on is the same
+-- an error that is passed on is the same
 pub same_error : {T U E : Type 0} (r : Result U E) (x e : E) → IsErrAnd r (λ (y : E). y ≡ x) → r ≡ Err e → IsErrOf {T = T} (Err x) e
 same_error (Ok done) x e f h = absurd (cc)
 same_error (Err y) x e f h = cc
 
--- it is none but those that are told of the call
+-- it is none but those that the call may answer
 pub other_error : {T U : Type 0} (r : Result U ScriptError) (call : Result T ScriptError) (x a b e : ScriptError) → IsErrAnd r (λ (y : ScriptError). y ≡ x)
     → call ≡ Err x → (call ≡ Err a) ⊎ (call ≡ Err b) → a ≢ e → b ≢ e → r ≡ Err e → ⊥
 other_error (Ok done) call x a b e f is told na nb h = absurd (cc)

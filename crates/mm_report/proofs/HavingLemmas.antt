@@ -31,7 +31,7 @@ pub record HavingLaws : Type 0 where
   pub lists : HasListEach
   pub reading : HasReading
 
--- ---- what is told of each item
+-- ---- what is reported of each item
 
 -- a list with something at each number
 pub record Chosen (P : ℕ → Told → Type 0) (count : ℕ) : Type 0 where
@@ -63,7 +63,7 @@ pub record Answered (session : SessionView) (command : Command) : Type 0 where
   whole : IsWholeSession new
 
 module _ (laws : HavingLaws) (session : SessionView) (whole : IsWholeSession session) where
-  -- edits are done, and what is run is told
+  -- edits are done, and what is run is reported
   record Ran (after : List File) : Type 0 where
     new : SessionView
     files : plain new.files ≡ after
@@ -141,7 +141,7 @@ module _ (laws : HavingLaws) (session : SessionView) (whole : IsWholeSession ses
       let c = chosen (IsRightlyTold session.files base) (length base.said) (laws.findings session.files session.top base whole.items.1) in
       (report (names_of (plain session.files)) base.said c.all, record { base = base; of_files = whole.items.1; all = c.all; are_told = record { count = c.long; each = c.each }; bytes_are = refl })
 
-  -- an assertion has the label, or none has and so it is told
+  -- an assertion has the label, or none has, and the answer says so
   by_label : (label : List ℕ) (P : List ℕ → Type 0) → (HasAssertion session label → (answer : List ℕ) × P answer) → (answer : List ℕ) × (IsUnknown session label answer ⊎ P answer)
   by_label label P f = elim (laws.decided session label whole.items.0 whole.items.1) [
     | inl has ↦ (let a = f has in (a.0, inr a.1))

@@ -1,4 +1,4 @@
--- What is read of a script behind commands that are answered.
+-- What is read of a script after commands that are answered.
 use Rattle.std.proofs.Common.{◌≡◌, ◌⊎◌, ℕ, ◌+◌, ◌<◌, ◌≤◌, List, [], ◌∷◌, ◌++◌, length, length-append, refl, sym, ap, ◌∙◌, subst, inl, inr, arith, append_assoc, append-nil}
 use Rattle.std.proofs.lemmas.Bool.{cases_lt}
 use Rattle.std.proofs.lemmas.List.Concat.{flat_map-append}
@@ -8,7 +8,7 @@ use Rattle.mm_report.specs.Language.Answers.{IsAnswer, AreAnswers}
 use Rattle.mm_report.specs.Language.Script.{Command, Entry, Blank, Given, entry_bytes, entries_bytes, commands_of, command_bytes, AreRead, HasEntries, IsLongestReading, IsReadSoFar, IsGood, EndsInLine}
 use Rattle.mm_report.proofs.ScriptLemmas.{IsBeginning, NoEntry, NoLast, blank_no, divisions_agree, entry_some, good_more, one_begins, read_less, read_more, reading_ended, reading_unended}
 
--- what is the reading of the rest is that behind the commands before it
+-- what the rest is read as is what follows the commands before it
 pub reading_behind : (bytes : List ℕ) (entries more : List Entry) (rest left : List ℕ) → AreRead bytes entries rest → IsLongestReading rest more left
     → IsLongestReading bytes (entries ++ more) left
 reading_behind bytes entries more rest left are reading = record { divided = read_more bytes entries more rest left are reading.divided; longest = longest }
@@ -57,7 +57,7 @@ no_last c g ends e = blank_no c [] [] g (e ∙ sym (append-nil (command_bytes c)
 pub reading_done : (bytes : List ℕ) (entries : List Entry) → AreRead bytes entries [] → IsLongestReading bytes entries []
 reading_done bytes entries are = reading_ended bytes entries [] are.good are.joined no_entry no_last
 
--- so they are with a last one that lacks its line feed
+-- so they are with a last one that has no line feed
 pub reading_last : (bytes : List ℕ) (entries : List Entry) (rest : List ℕ) (command : Command) → AreRead bytes entries rest → IsGood command → EndsInLine command
     → rest ++ 10 ∷ [] ≡ command_bytes command → IsLongestReading bytes (entries ++ Given command ∷ []) []
 reading_last bytes entries rest command are good in_line is = reading_unended bytes (entries ++ Given command ∷ []) (good_more entries (Given command ∷ []) are.good (good, tt)) (record {

@@ -52,7 +52,7 @@ lines_join : (base : BaseView) (xs ys : List ℕ) → lines_of base (xs ++ ys) �
 lines_join base xs ys =
     ap label_lines (map-append (said_at base) xs ys) ∙ flat_map-append (λ (item : Item). unwrap_or item.label [] ++ codes "\n") (map (said_at base) xs) (map (said_at base) ys)
 
--- one more item has its line behind the others'
+-- one more item has its line after the others'
 pub lines_more : (base : BaseView) (numbers : List ℕ) (k : ℕ) → k < length numbers
     → lines_of base (take (k + 1) numbers) ≡ lines_of base (take k numbers) ++ line_at_number base (get_or numbers k 0)
 lines_more base numbers k within =

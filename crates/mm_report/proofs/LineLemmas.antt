@@ -27,7 +27,7 @@ solid_by (x ∷ xs) f g = and_from _ _ (both_not _ _ (ne_eqb x 32 f.0) (ne_eqb x
 pub is_name_by : (xs : List ℕ) → xs ≢ [] → HasNoSpace xs → IsOneLine xs → IsName xs
 is_name_by xs some f g = record { some = some; bytes = solid_by xs f g }
 
--- a name has no space, and so is a number
+-- a name has no space, and neither has a number
 pub name_space : (xs : List ℕ) → IsName xs → HasNoSpace xs
 name_space xs n = solid_space xs n.bytes
 
@@ -55,7 +55,7 @@ pub some_by : (xs : List ℕ) → false ≡ (length xs == 0) → xs ≢ []
 some_by [] e is = absurd (cc)
 some_by (x ∷ xs) e is = absurd (cc)
 
--- what std reads as a number that is written so is the number
+-- what std reads as a number that is written like this is the number
 pub read_so : {E : Type 0} (n : ℕ) (word text : List ℕ) (r : Result ℕ E) → IsNumber n → word ≡ decimal n → text ≡ word → ParsesUnsigned 32 10 text r → r ≡ Ok n
 read_so n word text r h is same parses = parse-decimal 32 n text r (omega arith) (omega arith) (same ∙ is) parses
 
@@ -97,7 +97,7 @@ file_and_two bytes head tail first second n m cut cut_more some one number is ot
       is = cut.is ∙ ap (λ (xs : List ℕ). xs ++ 32 ∷ tail) (sym front) ∙ ap (λ (xs : List ℕ). take (length head) bytes ++ 32 ∷ xs) numbers;
     }
 
--- the first words of lines of more words than one, and what is behind them
+-- the first words of lines of more words than one, and what comes after them
 pub verb_space : (verb : Verb) → HasNoSpace (verb_word verb)
 verb_space Insert = solid_space (verb_word Insert) refl
 verb_space verb = solid_space (verb_word verb) refl

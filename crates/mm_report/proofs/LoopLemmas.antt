@@ -21,7 +21,7 @@ use Rattle.mm_report.specs.Language.Scripting.{AnswersScript, AnswersFirst, Answ
 use Rattle.mm_report.specs.Language.Stream.{cannot_read, unread, written}
 use Rattle.mm_report.proofs.JoinLemmas.{one_more, reading_behind, reading_done, reading_last, so_far_behind}
 
--- ---- empty lines, and commands, behind entries
+-- ---- empty lines, and commands, after entries
 
 blanks_good : (n : ℕ) → AreGood (replicate n Blank)
 blanks_good zero = tt
@@ -117,7 +117,7 @@ module _ (old session : SessionView) (all left before after : Option (List ℕ))
     rest = refl;
   }
 
-  -- where nothing is left, it is what was read
+  -- if nothing is left, the script is what was read
   pub all_read : (script bytes : List ℕ) → Consumes (Some script) left bytes → IsAtEnd left → script ≡ bytes
   all_read script bytes consumes at_end = by left consumes at_end
     where
@@ -127,7 +127,7 @@ module _ (old session : SessionView) (all left before after : Option (List ℕ))
 
   -- ---- where the script ends
 
-  -- the last command, whose line lacks its line feed, is answered
+  -- the last command, whose line has no line feed, is answered
   pub last_answered : (new : SessionView) (now : Option (List ℕ)) (pend : List ℕ) (command : Command) → IsGood command → IsLast pend left command
       → IsAnswered session new command after now → HasAnswered old session all left before after pend → IfSome all (λ script. AnswersScript old new script Done before now)
   last_answered new now pend command good last one so = by all so.first.consumes
@@ -240,7 +240,7 @@ module _ (old session : SessionView) (all left before after : Option (List ℕ))
 
 -- ---- one step of the loop
 
--- what an error is that is handed on
+-- what holds of an error that is passed on
 pub if_err_is : {T E : Type 0} (r : Result T E) (P : E → Type 0) (x : E) → IsErrAnd r (λ e. e ≡ x) → P x → IfErr r P
 if_err_is (Ok done) P x is h = absurd is
 if_err_is (Err e) P x is h = subst P (sym is) h

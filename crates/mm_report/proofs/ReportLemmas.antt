@@ -17,7 +17,7 @@ lines_join names [] more [] others e = refl
 lines_join names (x ∷ xs) more (y ∷ ys) others e = ap (λ bytes. item_line names x y ++ bytes) (lines_join names xs more ys others (cc)) ∙ sym (append_assoc (item_line names x y) (lines names xs ys) (lines names more others))
 lines_join names _ more _ others e = cc
 
--- one more item has its line behind the others'
+-- one more item has its line after the others'
 pub lines_push : (names : List (List ℕ)) (items : List Item) (all : List Told) (item : Item) (one : Told) → length all ≡ length items → lines names (items ++ item ∷ []) (all ++ one ∷ []) ≡ lines names items all ++ item_line names item one
 lines_push names items all item one e = lines_join names items (item ∷ []) all (one ∷ []) e ∙ ap (λ bytes. lines names items all ++ bytes) (append-nil (item_line names item one))
 

@@ -60,7 +60,7 @@ same_listed word base other xs ys e f = λ i. numbers_listed word (saying (e i))
 
 -- ---- edits
 
--- sessions that were alike stay so where nothing is changed
+-- sessions that were alike stay so if nothing is changed
 unchanged : (s t new copy : SessionView) → AreAlike s t → new ≡ s → copy ≡ t → AreAlike new copy
 unchanged s t new copy a e f = subst (λ (x : SessionView). AreAlike x copy) (sym e) (subst (λ (x : SessionView). AreAlike s x) (sym f) a)
 
@@ -88,7 +88,7 @@ same_batch laws (edit ∷ edits) files a b f g =
     let same : g.0 ≡ f.0 = laws.edits edit files g.0 f.0 g.1 f.1 in
     same_batch laws edits f.0 a b f.2 (subst (λ (fs : List File). IsBatchOf edits fs b) same g.2)
 
--- where more edits are accepted, the one behind the first of them is
+-- if more edits are accepted, the next one after the first of them is
 accepted : AnswerLaws → (edits : List Asked) (files before after : List File) (n m : ℕ) (edit : Asked) → n < m → slice_get edits n ≡ Some edit → IsBatchOf (take n edits) files before → IsBatchOf (take m edits) files after
     → (next : List File) × IsEditOf edit before next
 accepted laws [] files before after n m edit less there f g = absurd (let l : n < 0 = slice_get_within [] n edit there in omega arith)
@@ -168,7 +168,7 @@ same_verdict laws s t label x y a (inr f) (inr g) =
     let told : f.0 ≡ g.0 = same_told laws.database (database s t f.1.0 one f.1.1) (itself t g.1.0 g.1.1) g.1.2.0 f.0 g.0 (subst (λ (i : ℕ). IsRightlyTold s.files f.1.0 i f.0) number f.1.2.2) g.1.2.2 in
     f.2 ∙ (λ i. told_line (names_of (a.files i)) label (told i)) ∙ sym g.2
 
--- the items that stand so to the assertion of a label, where they are one list
+-- the items in a relation to the assertion of a label, if they are one list
 same_found : AnswerLaws → (s t : SessionView) (label : List ℕ) (stands : BaseView → ℕ → ℕ → Type 0) (x y : List ℕ) → IsOneList (λ session label numbers. AreNumbersOf session label stands numbers)
     → AreAlike s t → IsUnknown s label x ⊎ IsFound s (AreNumbersOf s label stands) x → IsUnknown t label y ⊎ IsFound t (AreNumbersOf t label stands) y → x ≡ y
 same_found laws s t label stands x y one a (inl f) (inl g) = f.answer_is ∙ sym g.answer_is

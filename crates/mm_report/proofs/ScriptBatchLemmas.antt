@@ -28,7 +28,7 @@ batch_lacks n h = join_lacks 32 10 (batch_words n) (λ (e : 32 ≡ 10). omega ar
 pub batch_some : (n : ℕ) → batch_line n ≢ []
 batch_some n e = cc
 
--- a command with this line is a batch of so many edits
+-- a command with this line is a batch of this many edits
 pub record IsBatch (n : ℕ) (c : Command) : Type 0 where
   pub edits : List Listed
   pub is : c ≡ Batch edits
@@ -51,9 +51,9 @@ listed_some x xs = by x.blanks
     by zero = let p = edit_head x.edit in subst (λ (line : List ℕ). 0 < length ((line ++ 10 ∷ ended_text (edited_text x.edit)) ++ flat_map listed_bytes xs)) (sym p.2) (omega arith)
     by (suc n) = omega arith
 
--- ---- the edit behind the whole ones
+-- ---- the edit after the whole ones
 
--- behind empty lines stands that of an edit, where a line begins
+-- after empty lines comes the line of an edit, which is no empty line
 pub feeds_no_line : (m k : ℕ) (e : Asked) (s : List ℕ) → replicate m 10 ≡ replicate k 10 ++ (edit_line e ++ 10 ∷ s) → ⊥
 feeds_no_line m k e s q = let p = edit_head e in by m k p.0 (p.1 ++ 10 ∷ s) p.3 (q ∙ ap (λ (w : List ℕ). replicate k 10 ++ (w ++ 10 ∷ s)) p.2)
   where
@@ -70,7 +70,7 @@ line_behind_feeds m k (x ∷ line) v e s some l q =
     let both = same_blanks m k x p.0 (line ++ v) (p.1 ++ s) l.0 p.3 (q ∙ ap (λ (w : List ℕ). replicate k 10 ++ (w ++ s)) p.2) in
     (both.0, both.1 ∙ sym (ap (λ (w : List ℕ). w ++ s) p.2))
 
--- the next edit of a batch, behind these
+-- the next edit of a batch, after these
 pub record NextEdit (n : ℕ) (front : List Listed) (blanks : ℕ) (w t : List ℕ) (c : Command) : Type 0 where
   pub next : Listed
   pub later : List Listed
@@ -185,7 +185,7 @@ some_behind : (bytes : List ℕ) (n : ℕ) (line : List ℕ) → line ≢ [] →
 some_behind [] zero [] h = absurd (h refl)
 some_behind _ _ _ h = omega arith
 
--- where a batch may break off, there is nothing of the next edit, or its line
+-- a batch does not break off at a line that is no line of an edit
 pub no_break : (n : ℕ) (front : List Listed) (blanks : ℕ) (line : List ℕ) (edits : List Listed) → AreGoodEdits front → AreGoodEdits edits → line ≢ [] → Lacks 10 line → ((e : Asked) → IsGoodEdit e → line ≢ edit_line e)
     → (next : Listed) (later : List Listed) → edits ≡ front ++ next ∷ later → MissesEdits edits (10 ∷ inside front blanks line) → ⊥
 no_break n front blanks line edits good goods some l none next later are m = by (cases_lt (length m.front) (length front))
@@ -203,7 +203,7 @@ no_break n front blanks line edits good goods some l none next later are m = by 
     front_good [] ys h = tt
     front_good (x ∷ xs) ys h = (h.0, front_good xs ys h.1)
 
-    -- the line stands where the next edit does
+    -- the line is at the place of the next edit
     begun : (more missing : List ℕ) → line ≡ edit_line m.next.edit ++ more → more ++ missing ≡ 10 ∷ ended_text (edited_text m.next.edit) → ⊥
     begun [] missing e k = none m.next.edit (good_tail m.front (m.next ∷ m.later) mine).0 (e ∙ append-nil (edit_line m.next.edit))
     begun (x ∷ more) missing e k = let ten : x ≡ 10 = cc in not_inside 10 line (edit_line m.next.edit) more l (e ∙ ap (λ (y : ℕ). edit_line m.next.edit ++ y ∷ more) ten)
@@ -223,7 +223,7 @@ no_break n front blanks line edits good goods some l none next later are m = by 
             let both = line_behind_feeds blanks m.blanks line [] m.next.edit z.0 some l (ap (λ (x : List ℕ). replicate blanks 10 ++ x) (append-nil line) ∙ e ∙ ap (λ (x : List ℕ). replicate m.blanks 10 ++ x) z.2) in
             begun z.0 z.1 (sym (append-nil line) ∙ both.1) z.3
 
-    -- or behind a whole edit
+    -- or it comes after a whole edit
     behind_whole : (x : Listed) (xs : List Listed) → IsGoodEdit x.edit → replicate blanks 10 ++ line ≡ flat_map listed_bytes (x ∷ xs) ++ (replicate m.blanks 10 ++ m.inner) → ⊥
     behind_whole x xs g e =
         let s = ended_text (edited_text x.edit) ++ (flat_map listed_bytes xs ++ (replicate m.blanks 10 ++ m.inner)) in

@@ -24,7 +24,7 @@ name_a1 = record { some = λ (e : codes "a1" ≡ []). cc; bytes = refl }
 name_th : IsName (codes "th")
 name_th = record { some = λ (e : codes "th" ≡ []). cc; bytes = refl }
 
--- a script that stops so, behind commands or at once
+-- a script that ends like this, after commands or at once
 stopped : (script : List ℕ) (end : End) → StopsSo script end → IsReadSo script [] script end
 stopped script end s = record { reading = s.reading; ends = s.ends }
 

@@ -22,7 +22,7 @@ same_entry Blank (Given d) s t g h e = absurd (blank_no d s t h e)
 same_entry (Given c) Blank s t g h e = absurd (blank_no c t s g (sym e))
 same_entry (Given c) (Given d) s t g h e = let both = same_first c d s t g h e in (ap Given both.0, both.1)
 
--- the one list is a beginning of the other, and what is behind it begins with the others
+-- one list is a beginning of the other, and what comes after it begins with the others
 pub record IsBeginning (a b : List Entry) (s t : List ℕ) : Type 0 where
   pub more : List Entry
   pub good : AreGood more
@@ -41,7 +41,7 @@ one_begins (x ∷ a) (y ∷ b) s t g h e =
     on p (inl w) = inl (record { more = w.more; good = w.good; longer = cc; left = w.left })
     on p (inr w) = inr (record { more = w.more; good = w.good; longer = cc; left = w.left })
 
--- what stands behind the entries in the script with one more line feed
+-- what comes after the entries in the script with one more line feed
 pub record IsTail (script : List ℕ) (entries : List Entry) (rest tail : List ℕ) : Type 0 where
   pub joined : script ++ 10 ∷ [] ≡ entries_bytes entries ++ tail
   pub is : (tail ≡ rest ++ 10 ∷ []) ⊎ ((tail ≡ []) × (rest ≡ []))
@@ -179,7 +179,7 @@ good_tail (x ∷ xs) ys h = good_tail xs ys h.1
 abbrev pub NoEntry : List ℕ → Type 0
 NoEntry rest = (x : Entry) (left : List ℕ) → IsGoodEntry x → rest ≡ entry_bytes x ++ left → ⊥
 
--- with a line feed behind them they are no command that ends in a line
+-- with a line feed after them they are no command that ends in a line
 abbrev pub NoLast : List ℕ → Type 0
 NoLast rest = (c : Command) → IsGood c → EndsInLine c → rest ++ 10 ∷ [] ≡ command_bytes c → ⊥
 
@@ -268,7 +268,7 @@ pub good_more : (a b : List Entry) → AreGood a → AreGood b → AreGood (a ++
 good_more [] b g h = h
 good_more (x ∷ a) b g h = (g.0, good_more a b g.1 h)
 
--- what is divided behind what is read
+-- what is divided after what is read
 pub read_more : (bytes : List ℕ) (entries more : List Entry) (rest left : List ℕ) → AreRead bytes entries rest → HasEntries rest more left → HasEntries bytes (entries ++ more) left
 read_more bytes entries more rest left r d = record { good = good_more entries more r.good d.good; joined = by d.joined }
   where
@@ -289,7 +289,7 @@ last_of : (x : Entry) (xs : List Entry) → (front : List Entry) × (z : Entry) 
 last_of x [] = ([], x, refl)
 last_of x (y ∷ xs) = let w = last_of y xs in (x ∷ w.0, w.1, ap (λ (zs : List Entry). x ∷ zs) w.2)
 
--- and what is divided of the rest, where all is
+-- and what is divided of the rest, if the whole is divided
 pub read_less : (bytes : List ℕ) (entries : List Entry) (x : Entry) (xs : List Entry) (rest left : List ℕ) → AreRead bytes entries rest → HasEntries bytes (entries ++ x ∷ xs) left → HasEntries rest (x ∷ xs) left
 read_less bytes entries x xs rest left r d = record { good = good_tail entries (x ∷ xs) d.good; joined = by d.joined }
   where

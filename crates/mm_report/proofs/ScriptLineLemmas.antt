@@ -37,7 +37,7 @@ LacksWhole line more = (c : Command) (left : List ℕ) → IsGood c → line ≡
 abbrev pub LacksLast : List ℕ → List ℕ → Type 0
 LacksLast line more = (c : Command) → IsGood c → EndsInLine c → line ≡ line_of c → more ++ 10 ∷ [] ≡ behind_line c → ⊥
 
--- there is no beginning of one, where it may break off
+-- the bytes are no beginning of a command that may break off
 abbrev pub LacksBeginning : List ℕ → List ℕ → Type 0
 LacksBeginning line more = (c : Command) (missing : List ℕ) → IsGood c → line ≡ line_of c → more ++ missing ≡ behind_line c → missing ≢ [] → MayBreak c (10 ∷ more) → ⊥
 
@@ -72,7 +72,7 @@ stops_cut bytes none last cut = record { reading = none_is_read bytes none last;
 pub stops_bad : (line more : List ℕ) → NoEntry (line ++ 10 ∷ more) → NoLast (line ++ 10 ∷ more) → ¬ IsCutShort (line ++ 10 ∷ more) → StopsSo (line ++ 10 ∷ more) BadLine
 stops_bad line more none last whole = record { reading = none_is_read (line ++ 10 ∷ more) none last; ends = (some_with line more, whole) }
 
--- where there is no beginning at all, the last line feed cannot lack either
+-- bytes that are no beginning of a command at all are a bad line
 pub stops_bad_by : (line more : List ℕ) → Lacks 10 line → line ≢ [] → LacksWhole line more → ((c : Command) (missing : List ℕ) → IsGood c → line ≡ line_of c → more ++ missing ≡ behind_line c → missing ≢ [] → ⊥) → StopsSo (line ++ 10 ∷ more) BadLine
 stops_bad_by line more l some whole begun =
     stops_bad line more (no_entry_by line more l some whole) (no_last_by line more l (λ c g ends e k. begun c (10 ∷ []) g e k feed)) (not_cut_by line more l (λ c missing g e k m b. begun c missing g e k m))
@@ -85,7 +85,7 @@ stops_bad_by line more l some whole begun =
 pub edit_line_some : (e : Asked) → edit_line e ≢ []
 edit_line_some e k = let p = edit_head e in let w : p.0 ∷ p.1 ≡ [] = sym p.2 ∙ k in cc
 
--- what is behind the line of a command is a text of so many bytes
+-- what comes after the line of a command is a text of this many bytes
 pub record HasTextBehind (c : Command) (count : ℕ) : Type 0 where
   pub text : List ℕ
   pub is_behind : behind_line c ≡ text ++ 10 ∷ []
@@ -136,7 +136,7 @@ with_text (Replace f a t) count text h l =
     record { other = Replace f a text; good = (h.good.0, h.good.1, subst IsNumber long h.good.2); is_text = refl; same_line = ap (λ (n : ℕ). join_with_byte 32 (codes "replace" ∷ f ∷ decimal a ∷ decimal n ∷ [])) long }
 with_text _ count text h l = absurd (none-some h.text h.is_text)
 
--- a text that is not all there, and other bytes behind a text
+-- a text that is not all there, and other bytes after a text
 
 pub too_long : (part text left : List ℕ) (count : ℕ) → part ≡ (text ++ 10 ∷ []) ++ left → length text ≡ count → length part ≤ count → ⊥
 too_long part text left count e l h =

@@ -35,7 +35,7 @@ find_feed (b ∷ bytes) = by (ℕ_discrete b 10) (find_feed bytes)
     by (no e) (inl h) = inl (record { line = b ∷ h.line; tail = h.tail; is = ap (λ (x : List ℕ). b ∷ x) h.is; lacks = (e, h.lacks) })
     by (no e) (inr l) = inr (e, l)
 
--- what there is of a text of so many bytes and the line feed behind it
+-- what there is of a text of this many bytes and the line feed after it
 data TextIs (count : ℕ) (bytes : List ℕ) : Type 0 where
   whole : (text left : List ℕ) → length text ≡ count → bytes ≡ text ++ 10 ∷ left → TextIs count bytes
   short : length bytes ≤ count → TextIs count bytes
@@ -81,7 +81,7 @@ edit_is bytes line tail k e g is = by (edited_text e) refl
     by None p = whole_edit e tail g (so ∙ ap (λ (o : Option (List ℕ)). edit_line e ++ 10 ∷ (ended_text o ++ tail)) (sym p) ∙ sym (append_assoc (edit_line e) (10 ∷ ended_text (edited_text e)) tail))
     by (Some t) p = on t (record { good = g; text = t; is_text = p; count_is = refl }) (text_is (length t) tail)
 
--- empty lines, and what stands behind them
+-- empty lines, and what comes after them
 record HasBlanks (bytes : List ℕ) : Type 0 where
   blanks : ℕ
   inner : List ℕ
@@ -98,7 +98,7 @@ pass_blanks (b ∷ bytes) = by (ℕ_discrete b 10) (pass_blanks bytes)
 
 -- ---- how bytes begin
 
--- with a command or an empty line; not at all; with nothing that is whole; or with a command that lacks its last line feed alone
+-- with a command or an empty line; not at all; with nothing that is whole; or with a command without its last line feed alone
 data Begins (bytes : List ℕ) : Type 0 where
   an_entry : (x : Entry) (left : List ℕ) → IsGoodEntry x → bytes ≡ entry_bytes x ++ left → Begins bytes
   at_end : bytes ≡ [] → Begins bytes
@@ -154,7 +154,7 @@ line_not_empty (x ∷ line) tail more b n e = λ k. cc
 not_empty : (bytes more : List ℕ) (b : ℕ) → bytes ≡ b ∷ more → bytes ≢ []
 not_empty bytes more b e k = cc
 
--- a batch of which these edits are there, where what follows a next one is known
+-- a batch of which these edits are there, if it is known how one with the next edit begins
 batch_next : (n k : ℕ) (front : List Listed) (s bytes : List ℕ) → IsNumber n → AreGoodEdits front → length front + suc k ≡ n → bytes ≡ batch_line n ++ 10 ∷ (flat_map listed_bytes front ++ s)
     → ((longer : List Listed) (left : List ℕ) → AreGoodEdits longer → length longer + k ≡ n → bytes ≡ batch_line n ++ 10 ∷ (flat_map listed_bytes longer ++ left) → Begins bytes) → HasBlanks s → Begins bytes
 batch_next n k front s bytes number goods count is again h = starts h.starts
@@ -192,7 +192,7 @@ batch_next n k front s bytes number goods count is again h = starts h.starts
     starts (inl e) = stop_by bytes (batch_bytes n front h.blanks []) CutShort (so ∙ ap (λ (w : List ℕ). batch_bytes n front h.blanks w) e) (batch_cut n front h.blanks are)
     starts (inr w) = line w.0 w.1 w.2 w.3 (find_feed h.inner)
 
--- a batch of which these edits are there, and so many are left
+-- a batch of which these edits are there, and this many are left
 batch_is : (n k : ℕ) (front : List Listed) (s bytes : List ℕ) → IsNumber n → AreGoodEdits front → length front + k ≡ n → bytes ≡ batch_line n ++ 10 ∷ (flat_map listed_bytes front ++ s) → Begins bytes
 batch_is n zero front s bytes number goods count is = an_entry (Given (Batch front)) s (subst IsNumber long number, goods)
     (is ∙ ap (λ (k : ℕ). batch_line k ++ 10 ∷ (flat_map listed_bytes front ++ s)) long ∙ sym (append_assoc (batch_line (length front)) (10 ∷ flat_map listed_bytes front) s))

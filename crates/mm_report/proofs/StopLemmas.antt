@@ -77,7 +77,7 @@ text_line_cut edit count has = stops_cut (edit_line edit) (line_no_entry (edit_l
       breaks = λ e. cc;
     }
 
--- one with another byte in the place of the line feed behind the text
+-- one with another byte in the place of the line feed after the text
 pub text_bad : (edit : Asked) (count : ℕ) (text more : List ℕ) (byte : ℕ) → HasTextOf edit count → length text ≡ count → byte ≢ 10
     → StopsSo (edit_line edit ++ 10 ∷ (text ++ byte ∷ more)) BadLine
 text_bad edit count text more byte has is other = stops_bad_by (edit_line edit) (text ++ byte ∷ more) (edit_lacks_feed edit has.good) (edit_line_some edit) whole begun
@@ -148,7 +148,7 @@ batch_cut n front blanks are = stops_cut (batch_bytes n front blanks []) (no_fee
     last : NoLast (batch_bytes n front blanks [])
     last = batch_no_last n front blanks [] are (λ c ends x. feeds_no_line (blanks + 1) x.next.blanks x.next.edit (ended_text (edited_text x.next.edit) ++ (flat_map listed_bytes x.later ++ [])) (sym (replicate_more blanks 10) ∙ x.left))
 
--- the line of the next edit is this one, and behind it stands what is here
+-- the line of the next edit is this one, and what comes after it is what is here
 next_line : (n : ℕ) (front : List Listed) (blanks : ℕ) (line more left : List ℕ) (c : Command) → line ≢ [] → IsOneLine line → (x : NextEdit n front blanks (line ++ 10 ∷ more) left c)
     → (line ≡ edit_line x.next.edit) × (more ≡ ended_text (edited_text x.next.edit) ++ (flat_map listed_bytes x.later ++ left))
 next_line n front blanks line more left c some l x =
@@ -305,7 +305,7 @@ batch_text_bad n front blanks edit count text more byte are has is other = stops
     whole : ¬ IsCutShort (batch_bytes n front blanks bytes)
     whole = batch_not_cut n front blanks bytes are (λ c missing good x b. by_more c missing x)
 
--- a batch with an edit without a text whose line is the last, where more edits are missing
+-- a batch whose last line is that of an edit without a text, with more edits missing
 pub batch_edit_cut : (n : ℕ) (front : List Listed) (blanks : ℕ) (edit : Asked) → AreListed n front → IsGoodEdit edit → edited_text edit ≡ None
     → length front + 1 < n → StopsSo (batch_bytes n front blanks (edit_line edit)) CutShort
 batch_edit_cut n front blanks edit are good none more = stops_cut (batch_bytes n front blanks (edit_line edit)) (no_feed_entry n front blanks (edit_line edit) are lacks) last cut

@@ -14,7 +14,7 @@ part_front a b xs ys p =
     let same : take n (xs ++ ys) ≡ take p.count xs = take-append-le n xs ys (omega arith) ∙ take_min p.count xs in
     record { count = n; appends = subst (Appends a b) (sym same) p.appends }
 
--- all of the first bytes, and a part of those behind
+-- all of the first bytes, and a part of those after
 pub part_behind : (a b c : Option (List ℕ)) (xs ys : List ℕ) → Appends a b xs → AppendsPart b c ys → AppendsPart a c (xs ++ ys)
 part_behind a b c xs ys p q =
     record { count = length xs + q.count; appends = subst (Appends a c) (sym (take-append-add xs ys q.count)) (Appends-trans a b c xs (take q.count ys) p q.appends) }
@@ -24,7 +24,7 @@ pub stops_front : {W : Type 0} {contents : W → Option (List ℕ)} {a b : Writi
 stops_front {contents = contents} {a = a} {b = b} {xs = xs} ys s =
     record { failed = s.failed; part = part_front (written contents a) (written contents b) xs ys s.part }
 
--- or behind them
+-- or after them
 pub stops_behind : {W : Type 0} (contents : W → Option (List ℕ)) (a b c : Writing W) (xs ys : List ℕ) → Appends (written contents a) (written contents b) xs → Stops contents b c ys → Stops contents a c (xs ++ ys)
 stops_behind contents a b c xs ys p s = record { failed = s.failed; part = part_behind (written contents a) (written contents b) (written contents c) xs ys p s.part }
 
@@ -41,7 +41,7 @@ pub writes_then : {W T E U F : Type 0} {contents : W → Option (List ℕ)} {a b
     → Writes {T = U} {E = F} contents a b (Ok done) xs → Writes contents b c r ys → Writes contents a c r (xs ++ ys)
 writes_then {contents = contents} {a = a} {b = b} {c = c} {r = r} {xs = xs} {ys = ys} w v = writes_behind contents a b c r xs ys w.ok v
 
--- where the answer is an error
+-- for an answer that is an error
 pub writes_stop : {W T E : Type 0} {contents : W → Option (List ℕ)} {a b : Writing W} {r : Result T E} {xs : List ℕ} → IsErr r → Stops contents a b xs → Writes contents a b r xs
 writes_stop {r = Ok done} e s = absurd (cc)
 writes_stop {r = Err error} e s = record { ok = tt; err = s }

@@ -147,7 +147,7 @@ words_are c g line e = by (command_words c) (has_first c) (lack_spaces (command_
         let k' : join_with_byte 32 (f.0 ∷ f.1) ≡ line = ap (λ (x : List (List ℕ)). join_with_byte 32 x) (sym f.2) ∙ sym k in
         f.2 ∙ sym (split_join f.0 f.1 h') ∙ ap words_in k'
 
--- some text of so many bytes, and so many edits
+-- some text of this many bytes, and this many edits
 abbrev some_text : ℕ → List ℕ
 some_text count = replicate count 0
 

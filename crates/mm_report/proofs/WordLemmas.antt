@@ -152,7 +152,7 @@ edit_lacks_feed e g = line_lacks_feed (Change e) g
 pub words_by_edit_line : (e f : Asked) → IsGoodEdit e → IsGoodEdit f → edit_line e ≡ edit_line f → edit_words e ≡ edit_words f
 words_by_edit_line e f g h k = same_words_by_line (edit_words e) (edit_words f) (has_first (Change e)) (has_first (Change f)) (words_solid (Change e) g) (words_solid (Change f) h) k
 
--- the bytes of an edit of a batch: the empty lines, the line, and what is behind it
+-- the bytes of an edit of a batch: the empty lines, the line, and what comes after it
 pub listed_parts : (x : Listed) (s : List ℕ) → listed_bytes x ++ s ≡ replicate x.blanks 10 ++ (edit_line x.edit ++ 10 ∷ (ended_text (edited_text x.edit) ++ s))
 listed_parts x s =
     append_assoc (replicate x.blanks 10) (edit_line x.edit ++ 10 ∷ ended_text (edited_text x.edit)) s
@@ -177,7 +177,7 @@ same_listed x y s t g h k =
     let same : (x.edit ≡ y.edit) × (s ≡ t) = same_edit x.edit y.edit s t g h words lines.1 in
     ((λ i. record { blanks = lines.0.0 i; edit = same.0 i }), same.1)
 
--- no more edits, and others behind which the same stands: these are a beginning of the others
+-- the first edits are a beginning of the others, and the bytes after them begin with the rest of the others
 pub record BeginsEdits (xs ys : List Listed) (s t : List ℕ) : Type 0 where
   pub later : List Listed
   pub are : ys ≡ xs ++ later
@@ -217,7 +217,7 @@ same_command (Change f) _ s t g h e k = absurd (omega (arith, edit_tag f, ap tag
 same_command _ (Change f) s t g h e k = absurd (omega (arith, edit_tag f, ap tag e))
 same_command _ _ s t g h e k = absurd (omega (arith, ap tag e))
 
--- the first command of some bytes is known, and what is behind it
+-- the first command of some bytes is known, and what comes after it
 pub same_first : (c d : Command) (s t : List ℕ) → IsGood c → IsGood d → command_bytes c ++ s ≡ command_bytes d ++ t → (c ≡ d) × (s ≡ t)
 same_first c d s t g h e =
     let lines : (line_of c ≡ line_of d) × (behind_line c ++ s ≡ behind_line d ++ t) = split_at 10 (line_of c) (line_of d) (behind_line c ++ s) (behind_line d ++ t) (line_lacks_feed c g) (line_lacks_feed d h)

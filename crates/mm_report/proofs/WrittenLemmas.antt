@@ -18,7 +18,7 @@ use Rattle.mm_report.specs.Language.Stream.{written, Stops}
 use Rattle.mm_report.proofs.ReportLemmas.{lines_join, lines_push}
 use Rattle.mm_report.proofs.StreamLemmas.{stops_front, stops_behind}
 
--- ---- what is told of the items, one after another
+-- ---- what is reported of the items, one after another
 
 -- an element of a list with one more
 pushed : {X : Type 0} (xs : List X) (x : X) (k : ℕ) (y : X) → slice_get (xs ++ x ∷ []) k ≡ Some y → (slice_get xs k ≡ Some y) ⊎ ((k ≡ length xs) × (x ≡ y))
@@ -36,7 +36,7 @@ told_more files base n all one t f = record {
   ];
 }
 
--- what is told of so many items more, behind what is told of the first ones
+-- what is reported of this many more items, after what is reported of the first ones
 told_rest : (files : FilesView) (base : BaseView) (n k : ℕ) (all : List Told) → n + k ≡ length base.said → ((i : ℕ) → i < length base.said → (one : Told) × IsRightlyTold files base i one) → ToldUpTo files base n all
     → (rest : List Told) × ToldUpTo files base (length base.said) (all ++ rest)
 told_rest files base n zero all e law f = ([], record { count = ap length (append-nil all) ∙ f.count ∙ omega (arith, e); each = λ i one at. f.each i one (sym (ap (λ (xs : List Told). slice_get xs i) (append-nil all)) ∙ at) })
@@ -52,7 +52,7 @@ lines_begin : (names : List (List ℕ)) (items : List Item) (n : ℕ) (all rest 
 lines_begin names items n all rest count within =
     ap (λ (xs : List Item). lines names xs (all ++ rest)) (sym (take-append-drop n items)) ∙ lines_join names (take n items) (drop n items) all rest (count ∙ sym (length-take-le n items within))
 
--- one more item has its line behind those of the items before it
+-- one more item has its line after those of the items before it
 lines_more : (names : List (List ℕ)) (items : List Item) (n : ℕ) (all : List Told) (one : Told) (x : Item) → length all ≡ n → n < length items
     → lines names (take (n + 1) items) (all ++ one ∷ []) ≡ lines names (take n items) all ++ item_line names (get_or items n x) one
 lines_more names items n all one x count within =
@@ -73,7 +73,7 @@ label_is session i label alone labelled base is =
 -- ---- what is written
 
 module _ (session : SessionView) (old now : Option (List ℕ)) (n : ℕ) (tally : Counts) (one : Told) (alone : FilesHaveOneBase) (found : IsFinding session n one) where
-  -- what is told of an item is told of it in whatever base of the session
+  -- what is reported of an item is reported of it in whatever base of the session
   told_here : (base : BaseView) → IsOfFiles session.files session.top base → IsRightlyTold session.files base n one
   told_here base is = subst (λ view. IsRightlyTold session.files view n one) (alone session.files session.top found.0 base found.1 is) found.2
 
@@ -92,12 +92,12 @@ module _ (session : SessionView) (old now : Option (List ℕ)) (n : ℕ) (tally 
         are_counted = count so.all so.are_counted;
       }
 
--- the report of what is told of all items
+-- the report of what is reported of all items
 report_is : (session : SessionView) (base : BaseView) (all : List Told) → IsOfFiles session.files session.top base → ToldUpTo session.files base (length base.said) all → IsReport session (report (names_of (plain session.files)) base.said all)
 report_is session base all is told = record { base = base; of_files = is; all = all; are_told = record { count = told.count; each = told.each }; bytes_are = refl }
 
 module _ {W : Type 0} (contents : W → Option (List ℕ)) (session : SessionView) (a b c : Writing W) where
-  -- a write fails in the line of an item, behind those of the items before it
+  -- a write fails in the line of an item, after those of the items before it
   pub line_fails : (n : ℕ) (tally : Counts) (one : Told) → FilesHaveOneBase → ItemsHaveFindings → (found : IsFinding session n one) → n < length found.0.said
       → Stops contents b c (item_line (names_of (plain session.files)) (said_at found.0 n) one)
       → AreWrittenUpTo session n (written contents a) (written contents b) tally → FailsWithin contents session a c
@@ -125,7 +125,7 @@ module _ {W : Type 0} (contents : W → Option (List ℕ)) (session : SessionVie
   all_lines tally is =
       subst (λ items. Appends (written contents a) (written contents b) (lines (names_of (plain session.files)) items is.2.all)) (take_all (length is.0.said) is.0.said (omega arith)) is.2.appends
 
-  -- or in the summary, behind the lines of all items
+  -- or in the summary, after the lines of all items
   pub summary_fails : (tally : Counts) → AreAllWritten session (written contents a) (written contents b) tally → Stops contents b c (summary tally) → FailsWithin contents session a c
   summary_fails tally is stops =
       let base = is.0 in

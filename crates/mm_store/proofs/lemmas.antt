@@ -1,4 +1,4 @@
--- Lemmas by what they are about. What is proved of one function stands in the folder of its module.
+-- Lemmas by what they are about. What is proved of one function is in the folder of its module.
 
 pub mod edits
 pub mod expansion

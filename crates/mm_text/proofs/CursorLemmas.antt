@@ -92,7 +92,7 @@ no_fault text from fault at e = cc
 
 -- ---- a text has no more words than bytes
 
--- the n-th word begins behind n bytes
+-- the n-th word begins after n bytes
 begins_behind : (text : List ℕ) (words : List Word) (d : Word) → AreWithin text words → (n : ℕ) → n < length words → n ≤ (get_or words n d).start
 begins_behind text words d within zero less = omega arith
 begins_behind text words d within (suc n) less =

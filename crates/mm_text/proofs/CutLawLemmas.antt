@@ -27,7 +27,7 @@ use Rattle.mm_text.proofs.UnitDivisionLemmas.{one_division}
 use Rattle.mm_text.proofs.PieceLemmas.{Seam, runs-append, shift_run, shift_word, runs-shift, words-shift, line_end, ended_is, runs-ended, ended_white}
 use Rattle.mm_text.proofs.PieceUnitLemmas.{one_words, allowed_all, all_allowed, bare, tokens-shift, tokens-front, run_bare, WholeRun}
 
--- ---- two texts, one behind the other
+-- ---- two texts, one after another
 
 runs_joined : (a b : List ℕ) → ends_white a ≡ true → runs (a ++ b) ≡ runs a ++ map (shift_run (length a)) (runs b)
 runs_joined a b white =
@@ -97,7 +97,7 @@ more_found front zs found later f g = by_read (read_runs None zs) refl where
   by_read (Ok us) is = (us, let e : Ok later ≡ Ok (found ++ us) = sym all ∙ ap (with_words found) is in cc)
   by_read (Err fault) is = absurd (let e : Ok later ≡ Err fault = sym all ∙ ap (with_words found) is in cc)
 
--- what is held behind more runs begins with the words before
+-- what is held after more runs begins with the words before
 longer : (front zs : List Run) (found later : List Word) → AreWords front found → HoldWords (front ++ zs) later → (us : List Word) × (later ≡ found ++ us)
 longer front zs found later f (inl h) = more_found front zs found later f h
 longer front zs found later f (inr h) =
@@ -170,7 +170,7 @@ bad_alone text number at h allowed = cc
 words_apart : (text : List ℕ) (number : TextNumber) (at : ℕ) (found : List Word) → IsWordsFaultAt text number at → HasWords text found → ⊥
 words_apart text number at found f g = let x : read_text text ≡ Err (words_fault_at number at) = text_fault text number at f in let y : read_text text ≡ Ok found = text_words text found g in cc
 
--- words of the whole text go on behind those that stop
+-- words of the whole text go on after those that stop
 units_apart : (text : List ℕ) (number : TextNumber) (at : ℕ) (found : List Word) → StopsUnits text number at → HasWords text found → ¬ IsViable (tokens_of text found)
 units_apart text number at found f g viable =
     let more = longer f.front f.rest f.found found f.read (inl (subst (λ (rs : List Run). AreWords rs found) f.joined g.words_are)) in
@@ -215,7 +215,7 @@ stop_more a b number word h =
 same_place : (tokens : List Token) (v w : ℕ) (a b : Token) → slice_get tokens v ≡ Some a → slice_get tokens w ≡ Some b → v ≡ w → a.start ≡ b.start
 same_place tokens v w a b f g same = let is : a ≡ b = cc in ap (λ (t : Token). t.start) is
 
--- behind more runs
+-- after more runs
 later_stop : (text : List ℕ) (a b : TextNumber) (i j : ℕ) (f : StopsUnits text a i) (g : StopsUnits text b j) (zs : List Run) → g.front ≡ f.front ++ zs → (a ≡ b) × (i ≡ j)
 later_stop text a b i j f g zs is =
     let more = longer f.front zs f.found g.found f.read (inl (subst (λ (rs : List Run). AreWords rs g.found) is g.read)) in
@@ -327,7 +327,7 @@ no_words_left : (text : List ℕ) (us : List Word) → tokens_of text us ≡ [] 
 no_words_left text [] e = refl
 no_words_left text (w ∷ us) e = absurd cc
 
--- a piece is no longer than another that begins with it, where that is not followed by white space
+-- a piece is no longer than another that begins with it, if that is not followed by white space
 no_longer : (p zs rest : List ℕ) → IsPiece p → IsPiece (p ++ zs) → BeginsSolid (zs ++ rest) → zs ≡ []
 no_longer p [] rest f g solid = refl
 no_longer p (z ∷ zs) rest f g solid = absurd (false≢true (sym solid ∙ passes_at (drop (end_of_words f.words) p) zs z white)) where
@@ -393,7 +393,7 @@ one_cut text ps qs s t f g = same_pieces ps qs s t (f.joined ∙ sym g.joined) f
 
 -- ---- a cut with one piece
 
--- a piece, and behind it bytes without a word: the same words
+-- a piece, and after it bytes without a word: the same words
 words_front : (piece tail : List ℕ) (h : IsPiece piece) → HasWords tail [] → HasWords (piece ++ tail) h.words
 words_front piece tail h none = subst (λ (ws : List Word). HasWords (piece ++ tail) ws) (append-nil h.words) (join_words piece tail h.words [] h.ends h.has_words none)
 

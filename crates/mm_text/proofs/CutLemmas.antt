@@ -25,13 +25,13 @@ use Rattle.mm_text.proofs.GrammarLemmas.{Stands, stands_none, stands_more, stand
 use Rattle.mm_text.proofs.PieceLemmas.{shift_word, runs-shift, words_unshift, runs-ended}
 use Rattle.mm_text.proofs.PieceUnitLemmas.{allowed-ended, allowed_rest, solid_ended, WholeRun, white_within, rest_solid, rest_ended, runs_behind, piece_is}
 
--- ---- where words lie
+-- ---- where words are
 
 lying_last : (text : List ℕ) (at : ℕ) (ws : List Word) (word : Word) → Lying text at (ws ++ word ∷ []) → (at ≤ word.start) × LiesIn text word
 lying_last text at [] word h = (h.0, h.1)
 lying_last text at (w ∷ ws) word h = let more = lying_last text (w.end + 1) ws word h.2 in (omega (arith, h.0, h.1.some, more.0), more.1)
 
--- the last of the words behind a place
+-- the last of the words after a place
 pub last_lies : (text : List ℕ) (from : ℕ) (since rest : List Run) (part : List Word) (word : Word) → from ≤ length text → runs_at text from ≡ since ++ rest → AreWords since (part ++ word ∷ []) → (from ≤ word.start) × LiesIn text word
 last_lies text from since rest part word within joined h =
     let all : Standing text from (runs_at text from) = runs_stand text (take from text) (drop from text) from (runs_at text from) (sym (take-append-drop from text)) (sym (length-take-le from text within)) (laid_out from (drop from text)) in
@@ -96,7 +96,7 @@ module _ (text : List ℕ) (pieces : List (List ℕ)) (from at : ℕ) (phase : m
   words_so_far : AreWords (h.front ++ h.since) (h.before ++ h.part)
   words_so_far = words-append h.front h.since h.before h.part h.reads_before h.reads_part
 
-  -- the words behind the pieces are read as from the beginning
+  -- the words after the pieces are read as from the beginning
   part_state : (part : List Word) (s : m.Phase × ℕ) → m.run m.Begin 0 (tokens_of text (h.before ++ part)) ≡ Ok s → m.run m.Begin 0 (tokens_of text part) ≡ Ok s
   part_state part s e = sym (ap (m.run m.Begin 0) (map-append (token_of text) h.before part) ∙ run-append (tokens_of text h.before) (tokens_of text part) m.Begin 0 (m.Begin, 0) h.whole_before) ∙ e
 

@@ -68,7 +68,7 @@ closed_block before inner begin end f g opens closes =
 behind : (tokens before inner : List Token) (begin token : Token) → tokens ≡ before ++ begin ∷ inner → tokens ++ token ∷ [] ≡ before ++ begin ∷ (inner ++ token ∷ [])
 behind tokens before inner begin token joined = ap (λ (ts : List Token). ts ++ token ∷ []) joined ∙ append_assoc before (begin ∷ inner) (token ∷ [])
 
--- a word behind stands inside the block that is open
+-- a later word is inside the block that is open
 opens_inside : {Now Later : List Token → Type 0} (start : ℕ) (tokens : List Token) (token : Token) (h : OpensAt tokens start Now) → Later (h.inner ++ token ∷ []) → OpensAt (tokens ++ token ∷ []) start Later
 opens_inside start tokens token h later = record {
   before = h.before;
@@ -117,7 +117,7 @@ innermost (start ∷ blocks) last tokens h =
       closed = more.closed;
     }
 
--- ---- what stands behind some words
+-- ---- what comes after some words
 
 -- a unit that is not finished begins at this byte
 pub record Unfinished (tokens : List Token) (first : ℕ) : Type 0 where

@@ -45,7 +45,7 @@ unfolding is_white
 none_white BlockStart = refl
 none_white _ = refl
 
--- a keyword behind which white space stands, or nothing, is a run of its own
+-- a keyword before white space, or before the end, is a whole run
 keyword_here : (b : ℕ) (k : Keyword) (bytes : List ℕ) → keyword_at b ≡ Some k → ends_run bytes ≡ true → prefix_len is_solid (36 ∷ b ∷ bytes) ≡ 2
 unfolding is_white
 keyword_here b k [] is ends = rw (ap (λ (run : List ℕ). is_white (get_or run 1 0)) (keyword_is b k is) ∙ none_white k) refl
@@ -77,7 +77,7 @@ keyword_spelled : (b : ℕ) (found : Option Keyword) (kind : WordKind) → keywo
 keyword_spelled b None kind is e = absurd cc
 keyword_spelled b (Some k) kind is e = let same : kinds.Keyword k ≡ kind = cc in subst (λ (v : WordKind). IsSpelled v (36 ∷ b ∷ [])) same (keyword_is b k is)
 
--- a kind is found exactly where the bytes spell it
+-- a kind is found exactly when the bytes spell it
 pub kind_spelled : (bytes : List ℕ) (kind : WordKind) → word_kind bytes ≡ Some kind → IsSpelled kind bytes
 kind_spelled [] kind e = plain_is [] kind e
 kind_spelled (a ∷ []) kind e = plain_is (a ∷ []) kind e

@@ -4,7 +4,7 @@ use Rattle.std.proofs.lemmas.Option.{slice_get_past}
 use Rattle.mm_text.specs.declared.word.Word.{Word}
 use Rattle.mm_text.specs.Code.LeftToRight.{Read, cons_word}
 
--- what is read behind the first word
+-- what is read after the first word
 pub first_word : (old new : Read) (word : Word) (rest : List Word) → old ≡ cons_word word new → old ≡ Ok rest → (more : List Word) × (rest ≡ word ∷ more) × (new ≡ Ok more)
 first_word old (Ok more) word rest e is = (more, cc, refl)
 first_word old (Err fault) word rest e is = absurd cc
@@ -19,11 +19,11 @@ first_at (x ∷ xs) (suc n) = first_at xs n
 pub goes_on : (words left new : List Word) (n : ℕ) (word : Word) → left ≡ drop n words → left ≡ word ∷ new → new ≡ drop (n + 1) words
 goes_on words left new n word at e = sym (sym (drop-drop 1 n words) ∙ ap (drop 1) (sym at ∙ e))
 
--- the word that a cursor gives behind n words
+-- the word that a cursor gives after n words
 pub nth_of : (words left new : List Word) (n : ℕ) (found : Option Word) → left ≡ drop n words → MatchOption found ((left ≡ []) × (new ≡ [])) (λ word. left ≡ word ∷ new) → found ≡ slice_get words n
 nth_of words left new n None at h = ap (λ (l : List Word). slice_get l 0) (sym h.0 ∙ at) ∙ first_at words n
 nth_of words left new n (Some word) at h = ap (λ (l : List Word). slice_get l 0) (sym h ∙ at) ∙ first_at words n
 
--- where no word is left there is none behind
+-- if no word is left, none is further on
 pub nth_past : (words left : List Word) (n m : ℕ) → left ≡ drop n words → left ≡ [] → n < m → None ≡ slice_get words m
 nth_past words left n m at none less = let past : length words ≤ m = omega (arith, length-drop n words, ap length (sym at ∙ none)) in sym (slice_get_past words m past)

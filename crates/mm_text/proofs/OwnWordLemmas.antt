@@ -1,4 +1,4 @@
--- A text without what stands before its first word and behind its last has the same words.
+-- A text without what comes before its first word and after its last has the same words.
 use Rattle.std.proofs.Common.{◌≡◌, ℕ, zero, suc, ◌+◌, ◌-◌, ◌<◌, ◌≤◌, true, List, [], ◌∷◌, ◌++◌, append_assoc, length, map, drop, None, Ok, Err, refl, sym, ap, ◌∙◌, subst, inl, inr, arith, slice_range, append-nil, length-append, take-append-drop}
 use Rattle.mm_text.specs.declared.word.Word.{Word}
 use Rattle.mm_text.specs.Language.Run.{runs, ends_run}

@@ -41,7 +41,7 @@ feed_allowed : is_allowed 10 ≡ true
 unfolding is_allowed is_white
 feed_allowed = refl
 
--- the line feed that is added, where one is
+-- the line feed that is added, if one is
 feed_passes : (test : ℕ → Bool) (text : List ℕ) → test 10 ≡ true → AllPass test (line_end text)
 feed_passes test text feed =
     elim (cases_Bool (ends_white text)) [
@@ -59,7 +59,7 @@ allowed_part text from to e = all_allowed (slice_range text from to) (All-take (
 pub allowed_rest : (text : List ℕ) (from : ℕ) → first_bad text ≡ None → first_bad (drop from text) ≡ None
 allowed_rest text from e = all_allowed (drop from text) (All-drop (λ b. is_allowed b ≡ true) from text (allowed_all text e))
 
--- ---- white space behind a unit
+-- ---- white space after a unit
 
 abbrev pub AllWhite : List ℕ → Type 0
 AllWhite bytes = AllByRecursion (λ b. is_white b ≡ true) bytes
@@ -93,7 +93,7 @@ seam_at : (before white rest : List ℕ) → AllWhite white → (white ≡ [] �
 seam_at before [] rest h ends = ap (λ (b : Bool). ends_white (before ++ []) || b) (ends refl) ∙ or-true (ends_white (before ++ []))
 seam_at before (w ∷ white) rest h ends = ap (λ (b : Bool). b || ends_run rest) (ends_behind before white w ∙ white_ends (w ∷ white) h)
 
--- behind the white space is the end, if there is none
+-- if there is no white space here, this is the end
 no_white_end : (bytes : List ℕ) → ends_run bytes ≡ true → take (prefix_len is_white bytes) bytes ≡ [] → ends_run (drop (prefix_len is_white bytes) bytes) ≡ true
 no_white_end [] ends none = refl
 no_white_end (b ∷ bytes) ends none = let first : b ∷ take (prefix_len is_white bytes) bytes ≡ [] = rw (one-add (prefix_len is_white bytes)) at (rw ends at none) in absurd cc

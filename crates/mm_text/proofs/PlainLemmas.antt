@@ -9,7 +9,7 @@ use Rattle.mm_text.specs.Code.LeftToRight.{is_dollarless, has_dollar}
 use Rattle.mm_text.proofs.PositionLemmas.{none_found}
 use Rattle.mm_text.proofs.SkipLemmas.{none_before}
 
--- a run that ends at the first byte that is white space or a `$`, or where there is none
+-- a run that ends at the first byte that is white space or a `$`, or at the end
 solid_is : (b : ℕ) → not (is_dollarless b) ≡ false → (is_solid b ≡ true) × (¬ (eqb b 36 ≡ true))
 solid_is b e = elim (cases_Bool (is_white b)) [ inl white ↦ absurd (false≢true (sym (rw white at e))) | inr solid ↦ (rw solid refl, λ dollar. false≢true (sym (rw (solid, dollar) at e))) ]
 

@@ -1,4 +1,4 @@
--- Where the words of a text lie, and which bytes a text has.
+-- Where the words of a text are, and which bytes a text has.
 use Rattle.std.proofs.Common.{◌≡◌, ℕ, ◌+◌, ◌-◌, ◌<◌, ◌≤◌, Bool, true, false, not, ◌||◌, ◌&&◌, eqb, List, [], ◌∷◌, ◌++◌, append_assoc, length, take, drop, get_or, Option, Some, None, IfSome, Result, length-append, nat_le, nat_lt}
 use Rattle.std.proofs.Common.{slice_range, slice_get}
 use Rattle.std.proofs.Common.{Err, IfErr, All, AllPairs, refl, sym, ap, ◌∙◌, subst, arith, inl, inr}
@@ -26,14 +26,14 @@ use Rattle.mm_text.proofs.LayoutLemmas.{laid_out}
 
 -- ---- runs
 
--- a run stands in the text, at a place or behind it
+-- a run is in the text, at a place or after it
 pub record Stands (text : List ℕ) (at : ℕ) (run : Run) : Type 0 where
   pub behind : at ≤ run.start
   pub some : 0 < length run.bytes
   pub within : run.start + length run.bytes ≤ length text
   pub bytes_are : slice_range text run.start (run.start + length run.bytes) ≡ run.bytes
 
--- the runs stand in the text one behind the other, with a gap between them
+-- the runs are in the text one after another, with a gap between them
 abbrev pub Standing : List ℕ → ℕ → List Run → Type 0
 Standing text at [] = Unit {0}
 Standing text at (run ∷ runs) = Stands text at run × Standing text (run.start + length run.bytes + 1) runs
@@ -48,12 +48,12 @@ pub skip : (text : List ℕ) (at : ℕ) (front later : List Run) → Standing te
 skip text at [] later h = h
 skip text at (run ∷ front) later h = at_or_before text at (run.start + length run.bytes + 1) later (λ x. omega (arith, h.0.behind)) (skip text (run.start + length run.bytes + 1) front later h.1)
 
--- runs behind are left out
+-- later runs are left out
 pub standing_front : (text : List ℕ) (at : ℕ) (a b : List Run) → Standing text at (a ++ b) → Standing text at a
 standing_front text at [] b h = tt
 standing_front text at (run ∷ a) b h = (h.0, standing_front text (run.start + length run.bytes + 1) a b h.1)
 
--- behind a run there is a gap
+-- after a run there is a gap
 gap_behind : (text : List ℕ) (at : ℕ) (later : List ℕ) (runs : List Run) → ends_run later ≡ true → IsLaidOut at later runs → Standing text at runs → Standing text (at + 1) runs
 gap_behind text at later [] ends laid h = tt
 gap_behind text at later (run ∷ runs) ends laid h = by_gap laid.gap run.bytes laid.joined laid.place laid.solid laid.some where
@@ -87,13 +87,13 @@ runs_stand text front bytes at (run ∷ runs) joined place h =
       gap_behind text (run.start + length run.bytes) h.later runs h.ends h.goes_on (runs_stand text (before ++ run.bytes) h.later (run.start + length run.bytes) runs on end h.goes_on),
     )
 
--- the runs of a text stand in it
+-- the runs of a text are in it
 text_stands : (text : List ℕ) → Standing text 0 (runs text)
 text_stands text = runs_stand text [] text 0 (runs text) refl refl (laid_out 0 text)
 
 -- ---- words
 
--- the words lie in the text one behind the other, from a place on
+-- the words are in the text one after another, from a place on
 abbrev pub Lying : List ℕ → ℕ → List Word → Type 0
 Lying text at [] = Unit {0}
 Lying text at (word ∷ words) = (at ≤ word.start) × LiesIn text word × Lying text (word.end + 1) words
@@ -130,7 +130,7 @@ read_lie text runs words standing h = subst (Lying text 0) h.singles (parts_lie 
 pub words_lie : (text : List ℕ) (words : List Word) → HasWords text words → Lying text 0 words
 words_lie text words h = read_lie text (runs text) words (text_stands text) h.words_are
 
--- the words of a text lie in it, in order
+-- the words of a text are in it, in order
 pub are_within : (text : List ℕ) (words : List Word) → HasWords text words → AreWithin text words
 are_within text words h = let lying = words_lie text words h in record { each = each_lies text 0 words lying; rising = all_rise text 0 words lying }
 
@@ -169,7 +169,7 @@ none_found test bytes e k d lt =
 pub all_below : (text : List ℕ) → first_bad text ≡ None → All (λ b. b < 127) text
 all_below text e k d lt = allowed_below (get_or text k d) (not-false (is_allowed (get_or text k d)) (none_found (λ b. not (is_allowed b)) text e k d lt))
 
--- the n-th word of a text lies in it
+-- the n-th word of a text is in it
 pub nth_lies : (text : List ℕ) (words : List Word) (n : ℕ) (found : Option Word) → HasWords text words → found ≡ slice_get words n → IfSome found (LiesIn text)
 nth_lies text words n None h is = tt
 nth_lies text words n (Some word) h is = subst (LiesIn text) (get_or_from_slice_get words n word word (sym is)) ((are_within text words h).each n word (slice_get_within words n word (sym is)))
@@ -228,7 +228,7 @@ first_fault_at_lies text number at h = unit_stop_lies text number at h.1
 pub first_fault_lies : (text : List ℕ) (fault : TextFault) → IsFirstFault text fault → fault.at < length text
 first_fault_lies text fault h = first_fault_at_lies text fault.number fault.at h
 
--- so an error of `cut` is told at one of them
+-- so an error of `cut` is reported at one of them
 pub cut_error_lies : {X : Type 0} (text : List ℕ) (r : Result X TextError) → IfErr r (IsCutError text) → IfErr r (IsTextErrorIn text)
 cut_error_lies text (Err (errors.Fault fault)) h = first_fault_lies text fault h
 cut_error_lies text _ h = tt

@@ -143,7 +143,7 @@ module _ (text : List ℕ) (from at : ℕ) (span : Span) (to : ℕ) (h : Passing
   }
   pass_fails _ place opens fails = absurd fails
 
--- a word that begins behind white space alone
+-- a word that begins after white space alone
 pub word_here : (text : List ℕ) (from start n : ℕ) (kind : WordKind) → from ≤ start → start + n ≤ length text → runs_at text from ≡ runs_at text start
     → n ≡ prefix_len is_solid (take (length text - start) (drop start text)) → 0 < n → word_kind (take n (take (length text - start) (drop start text))) ≡ Some kind
     → TakesWord text from (record { kind = kind; start = start; end = start + n }) (start + n)
@@ -240,7 +240,7 @@ held _ front found run h = absurd h
 stops_words : (text : List ℕ) (found : List Word) (number : TextNumber) (at : ℕ) → IsViable (tokens_of text found) → MeetsRun (runs text) found number at → StopsWords text number at
 stops_words text found number at viable h = record { stop = stop_of (runs text) found number at h; found = found; read = held number h.front found h.run h.refused; viable = viable }
 
--- a fault of words that is met behind words with which units go on
+-- a fault of words that is met after words with which units go on
 pub first_of_words : (text : List ℕ) (found : List Word) (number : TextNumber) (at : ℕ) → first_bad text ≡ None → IsViable (tokens_of text found) → FailsBehind (runs text) found number at → IsFirstFaultAt text number at
 first_of_words text found T02 at allowed viable h = (allowed, record { ends = ends_open (runs text) found at h.0 h.1; found = found; read = h.0; viable = viable })
 first_of_words text found T03 at allowed viable h = (allowed, stops_words text found T03 at viable h)

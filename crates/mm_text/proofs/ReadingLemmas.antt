@@ -201,7 +201,7 @@ stops_at state seen words run runs number h fails is = record {
   is_number = is;
 }
 
--- a run that stands alone
+-- a run that is one word
 alone_is : (seen : List Run) (words : List Word) (run : Run) (runs : List Run) (kind : Option WordKind) → AreWords seen words → run.bytes ≢ opening → run.bytes ≢ closing → word_kind run.bytes ≡ kind
     → ((word : Word) → IsWord run word → Outcome ((seen ++ run ∷ []) ++ runs) (words ++ word ∷ []) (read_runs None runs)) → Outcome (seen ++ run ∷ runs) words (read_runs None (run ∷ runs))
 alone_is seen words run runs (Some kind) h no_open no_close is later =

@@ -79,7 +79,7 @@ pub plain_tokens : (text : List ℕ) (runs : List Run) → AllByRecursion IsPlai
 plain_tokens text [] = tt
 plain_tokens text (run ∷ runs) = (refl, plain_tokens text runs)
 
--- what is read with words in front is read behind them, too
+-- what is read with words in front is read after them, too
 pub read_on : (words : List Word) (r : Read) (all : List Word) → with_words words r ≡ Ok all → (more : List Word) × (r ≡ Ok more) × (all ≡ words ++ more)
 read_on words (Ok more) all e = (more, refl, cc)
 read_on words (Err fault) all e = absurd cc

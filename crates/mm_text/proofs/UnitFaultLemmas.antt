@@ -230,7 +230,7 @@ ends_in_unit tokens word depth within e later = record {
 
 -- ---- one fault at most
 
--- behind the same words, the same word has one number
+-- after the same words, the same word has one number
 pub same_number : (front : List Token) (token : Token) (a b : TextNumber) → ¬ (MayBegin front × EndsInInclusion front) → IsUnitNumber a front token → IsUnitNumber b front token → a ≡ b
 same_number front token T12 T12 apart f g = refl
 same_number front token T10 T10 apart f g = refl

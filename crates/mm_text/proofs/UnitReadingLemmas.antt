@@ -195,7 +195,7 @@ IsWhole-run tokens h = ap (m.run m.Begin 0) (sym h.2 ∙ sym (append-nil (unit_t
 pub run-IsWhole : (tokens : List Token) → m.run m.Begin 0 tokens ≡ Ok (m.Begin, 0) → IsWhole tokens
 run-IsWhole tokens e = whole_run tokens m.Begin 0 e
 
--- ---- viable exactly where the machine goes on
+-- ---- viable exactly when the machine goes on
 
 unfoldable pub key : Keyword → Token
 key keyword = record { kind = kinds.Keyword keyword; bytes = []; start = 0 }

@@ -40,7 +40,7 @@ run_counts (token ∷ tokens) phase depth s e = by_step (λ p d h. run_counts to
   by_step more (Ok t) first e = let rest : t.1 + starts tokens ≡ s.1 + ends tokens = more t.0 t.1 e in omega arith
   by_step more (Err number) first e = absurd cc
 
--- from word number `from` on stand `level` more `$}` than `${`, and from no later word on more `${` than `$}`
+-- from word number `from` on there are `level` more `$}` than `${`, and from no later word on more `${` than `$}`
 pub record Scan (tokens : List Token) (from level : ℕ) : Type 0 where
   pub even : level + starts (drop from tokens) ≡ ends (drop from tokens)
   pub fewer : (n : ℕ) → from ≤ n → starts (drop n tokens) ≤ ends (drop n tokens)
@@ -88,11 +88,11 @@ other_counts token _ is f g = (refl, refl)
 pub scan_other : (tokens : List Token) (word level : ℕ) (token : Token) → slice_get tokens word ≡ Some token → ¬ IsKeyword BlockStart token → ¬ IsKeyword BlockEnd token → Scan tokens (word + 1) level → Scan tokens word level
 scan_other tokens word level token there f g h = let counts : (is_start_word token.kind ≡ 0) × (is_end_word token.kind ≡ 0) = other_counts token token.kind refl f g in scan_more tokens word level level token there (omega arith) h
 
--- the scan stops at a `${` that nothing behind it closes
+-- the scan stops at a `${` that nothing after it closes
 pub scan_found : (tokens : List Token) (word d : ℕ) (token : Token) → m.run m.Begin 0 tokens ≡ Ok (m.phase_state m.Begin d) → slice_get tokens word ≡ Some token → IsKeyword BlockStart token → Scan tokens (word + 1) 0 → IsUnitFault tokens T08 word
 scan_found tokens word d token e there is h = ends_in_block tokens word d token e there is (omega arith) (λ n l. h.fewer n (omega arith))
 
--- the scan does not come to the first word where a block is open
+-- the scan does not reach the first word if a block is open
 pub scan_all : (tokens : List Token) (level d : ℕ) → m.run m.Begin 0 tokens ≡ Ok (m.phase_state m.Begin (suc d)) → Scan tokens 0 level → ⊥
 scan_all tokens level d e h = let count : 0 + starts tokens ≡ suc d + ends tokens = run_counts tokens m.Begin 0 (m.Begin, suc d) e in omega arith
 

@@ -7,7 +7,7 @@ use Rattle.mmkeep.specs.declared.arguments.Command.{Command}
 use Rattle.mmkeep.specs.declared.arguments.Command.TheVariants.{Verify, Axioms, Session}
 use Rattle.mmkeep.specs.Language.Asking.{said, words_of}
 
--- the words that are given, where there are two or three
+-- the words that are given, if there are two or three
 two_words : (words : List (Bor (List ℕ))) (d : Bor (List ℕ)) → length words ≡ 2 → said words ≡ (get_or words 0 d).now ∷ ((get_or words 1 d).now ∷ [])
 two_words [] d l = cc
 two_words (x ∷ (y ∷ [])) d l = refl

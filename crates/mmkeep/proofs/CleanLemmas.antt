@@ -1,4 +1,4 @@
--- A report is clean: no line stands in it before its summary.
+-- A report is clean: it has no line before its summary.
 use Rattle.std.proofs.Common.{◌≡◌, ℕ, Bool, false, cond, zero-add, IsTrue, ◌+◌, List, [], ◌∷◌, length, refl, sym, ◌∙◌, ap, arith, nat_eq, count_by, eqb-true, eq-eqb}
 use Rattle.std.proofs.lemmas.List.Sums.{sum_by-cons}
 use Rattle.mm_report.specs.mm_frame.Language.Item.{Item}
@@ -27,7 +27,7 @@ none_behind : (one : Told) (all : List Told) → is_incomplete one ≡ false →
 none_behind one all i w f p =
     (sym (zero-add _) ∙ sym (count_cons is_incomplete one all ∙ rw i refl) ∙ p.0, sym (zero-add _) ∙ sym (count_cons is_wrong one all ∙ rw w refl) ∙ p.1, sym (zero-add _) ∙ sym (count_cons is_fault one all ∙ rw f refl) ∙ p.2)
 
--- no line stands in a report where nothing is incomplete, wrong or at fault
+-- a report has no line before its summary if nothing is incomplete, wrong or at fault
 pub no_lines : (names : List (List ℕ)) (items : List Item) (all : List Told) → HaveNoLines all → lines names items all ≡ []
 no_lines names (x ∷ xs) (Incomplete at ∷ ys) n = absurd (omega (arith, n.0, count_cons is_incomplete (Incomplete at) ys))
 no_lines names (x ∷ xs) (Wrong number at ∷ ys) n = absurd (omega (arith, n.1, count_cons is_wrong (Wrong number at) ys))
@@ -35,7 +35,7 @@ no_lines names (x ∷ xs) (Fault number shown ∷ ys) n = absurd (omega (arith, 
 no_lines names (x ∷ xs) (one ∷ ys) n = no_lines names xs ys (none_behind one ys refl refl refl n)
 no_lines names _ _ n = refl
 
--- and one stands there where something is
+-- and it has one if something is
 pub some_line : (names : List (List ℕ)) (items : List Item) (all : List Told) → length all ≡ length items → lines names items all ≡ [] → HaveNoLines all
 some_line names [] [] e l = (refl, refl, refl)
 some_line names (x ∷ xs) (Quiet ∷ ys) e l = none_more Quiet ys refl refl refl (some_line names xs ys (cc) l)
@@ -58,14 +58,14 @@ module _ (names : List (List ℕ)) (items : List Item) (all : List Told) (tally 
   none_fault : HaveNoLines all → tally.faults ≡ 0
   none_fault n = ap (λ (k : Counts). k.faults) same ∙ n.2
 
-  -- nothing is incomplete or wrong: it is clean where nothing is at fault
+  -- nothing is incomplete or wrong: it is clean exactly when nothing is at fault
   pub clean_by_faults : tally.incomplete ≡ 0 → tally.wrong ≡ 0 → IsAnswer names items all (nat_eq tally.faults 0)
   clean_by_faults i w = (
     λ clean. no_lines names items all (sym (ap (λ (k : Counts). k.incomplete) same) ∙ i, sym (ap (λ (k : Counts). k.wrong) same) ∙ w, sym (ap (λ (k : Counts). k.faults) same) ∙ eqb-true tally.faults 0 clean),
     λ none. eq-eqb tally.faults 0 (none_fault (some_line names items all count none)),
   )
 
-  -- it is not clean where something is incomplete or wrong
+  -- it is not clean if something is incomplete or wrong
   pub not_clean : (clean : Bool) → clean ≡ false → (tally.incomplete ≡ 0 → tally.wrong ≡ 0 → ⊥) → IsAnswer names items all clean
   not_clean clean is some = (
     λ yes. absurd (cc),

@@ -38,7 +38,7 @@ module _ {X : Type 0} (test : X → Bool) where
   place_last [] y t = subst (λ (b : Bool). cond (not b) (1 + 0) 0 < 1) (sym t) (omega arith)
   place_last (x ∷ xs) y t = step (test x) (position_or_len test (xs ++ y ∷ [])) (length (xs ++ y ∷ [])) (place_last xs y t)
 
-  -- one is there, where its place is within
+  -- there is one if its place is within
   there : (xs : List X) → position_or_len test xs < length xs → position test xs ≢ None
   there xs h e = none-some (position_or_len test xs) (sym e ∙ ap (λ b. cond b (Some (position_or_len test xs)) None) (lt-ltb (position_or_len test xs) (length xs) h))
 
@@ -149,7 +149,7 @@ number_plain files name = position_map (λ file. bytes_eq name file.name) (plain
 pub has_number : (files : FilesView) (name : List ℕ) → HasFile files name → number_of (files_in files) name ≢ None
 has_number files name has e = has (number_plain files name ∙ e)
 
--- it is want of memory
+-- it is out of memory
 pub is_memory : (error : StoreError) → IsExpansionError error → (error ≡ NoTop → ⊥) → error ≡ Memory
 is_memory error (inl e) some = absurd (some e)
 is_memory error (inr e) some = e
@@ -161,7 +161,7 @@ pub missing_new : (files : FilesView) (top name : List ℕ) (items : List Item) 
     → FindsMissing (bare (plain files)) top items before after name → IsNew files name
 missing_new files top name items before after finds = sym (position_map (λ file. bytes_eq name file.name) bare_file (plain files)) ∙ finds.none
 
--- a walk goes on among more files, where it has not taken the name that is added
+-- a walk goes on among more files, if it has not taken the name that is added
 abbrev pub WalksOn : Type 0
 WalksOn = (old new : List File) (name text top : List ℕ) (items : List Item) (walk : WalkView)
     → IsAdded old new name text → ¬ Contains walk.names name → IsWalk (bare old) top items walk → IsWalk (bare new) top items walk

@@ -1,4 +1,4 @@
--- Where pieces and their bytes stand: starts, lines and columns.
+-- Where pieces and their bytes are: starts, lines and columns.
 
 pub mod ByteLemmas
 pub mod ChangeLemmas

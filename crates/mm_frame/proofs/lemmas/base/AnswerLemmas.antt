@@ -1,4 +1,4 @@
--- What a base tells, from what is kept, and that it is right.
+-- What a base says, from what is kept, and that it is right.
 use Rattle.std.proofs.Common.{◌≡◌, ◌↔◌, ℕ, zero, suc, ◌≤◌, Bool, true, false, ◌&&◌, Option, Some, None, List, [], ◌∷◌, length, map, take, slice_get, nat_eq, is_none, is_some, refl, sym, ◌∙◌, ap, subst, arith, inl, inr, All, IfSome}
 use Rattle.std.specs.Borrow.{Bor}
 use Rattle.std.proofs.lemmas.List.Elements.{All-nil}
@@ -38,14 +38,14 @@ use Rattle.mm_frame.proofs.lemmas.base.ResolvingLemmas.{carrier_found, found_car
 use Rattle.mm_frame.proofs.lemmas.pairs.PairListLemmas.{list_read, list_in_order}
 use Rattle.mm_frame.proofs.lemmas.pairs.SharedPairs.{same_turned, same_joined}
 
--- ---- rows that are told from rows that are kept
+-- ---- rows that are reported, from rows that are kept
 
--- what is lent tells what is kept
+-- what is lent gives what is kept
 pub lent_told : {L X Y : Type 0} (now : L → X) (f : X → Y) (lent : Option L) (kept : Option X) → option_map now lent ≡ kept → option_map (λ l. f (now l)) lent ≡ option_map f kept
 lent_told now f None kept e = ap (option_map f) e
 lent_told now f (Some l) kept e = ap (option_map f) e
 
--- an element that is told is one that is kept
+-- an element that is reported is one that is kept
 told_from : {X Y : Type 0} (f : X → Y) (xs : List X) (n : ℕ) (y : Y) → slice_get (map f xs) n ≡ Some y → (x : X) × (slice_get xs n ≡ Some x) × (f x ≡ y)
 told_from f [] n y e = cc
 told_from f (x ∷ xs) zero y e = (x, refl, cc)
@@ -83,7 +83,7 @@ expressions_told all base expressions are = record {
         → symbols_of all symbols ≡ expression (before base n) (said_at base n)
     read n symbols e t = ap (λ o. symbols_of all (kept_or_none o)) (sym e) ∙ symbols_there all base n expressions are t
 
--- ---- what is told at a number
+-- ---- what is reported at a number
 
 row_there : {X : Type 0} (tells : List Item → Item → X → Type 0) (said : List Item) (rows : List X) (i : ℕ) → AreRows tells said rows → slice_get said i ≡ Some (item_at said i) → (row : X) × (slice_get rows i ≡ Some row)
 row_there tells said rows i are t =
@@ -121,7 +121,7 @@ proof_beyond front said n l = ap (is_told_proof front) (item_beyond said n l) �
     and_false true = refl
     and_false false = refl
 
--- what is kept of an item tells what is said of it, where nothing tells what is said behind the last one
+-- what is kept of an item is right of it, if the answer for no row is right past the last item
 told_at : {X Y : Type 0} (f : Option X → Y) (told : List Item → Item → Y → Type 0) (said : List Item) (kept : List (Option X)) → AreRows told said (map f kept) → (i : ℕ) → (length said ≤ i → told (sound_items (take i said)) (item_at said i) (f None))
     → told (sound_items (take i said)) (item_at said i) (f (value_kept kept i))
 told_at f told said kept are i beyond = by (slice_get kept i) refl
@@ -209,7 +209,7 @@ shown_told base rows are i = by (slice_get rows i) refl
     by (Some row) e = let told = are.each i row e in shown_is base i (is_none row.1) (is_some row.0) (ap is_none told.fault) told.labelled
     by None e = not_shown base i (row_none IsLabelTold base.said rows i are e)
 
--- what is kept of the items tells them rightly
+-- what is kept of the items is right of them
 pub base_told : (all : List (List ℕ)) (base : BaseView) (inside : Inside) → AreDistinct all → inside.items.items ≡ base.found → length base.found ≡ length base.said → length base.said ≤ 4294967295 → AllZip HasKind base.found base.said
     → AreParts all base.said inside.parts → IsBaseBy all base (answers_of inside)
 base_told all base inside distinct found count few kinds parts =

@@ -74,7 +74,7 @@ symbols_none all = record { count = refl; numbered = λ n. All-nil (IsNumbered a
 pub kept_are_sound : (said : List Item) → AreSound (sound_items said)
 kept_are_sound said = kept_sound (sound_items said) (kept_is_sound said)
 
--- an item is kept as it is where no fault was found
+-- an item is kept as it is if no fault was found
 pub kept_taken : {X : Type 0} (told : X → ℕ × FrameNumber) (said : List Item) (item : Item) (found : Option X)
     → option_map told found ≡ fault (sound_items said) item → sound_items said ++ taken (is_none found) item ∷ [] ≡ sound_items (said ++ item ∷ [])
 kept_taken told said item None e = ap (λ o. sound_items said ++ judged item o ∷ []) e ∙ sym (kept_next said item)
@@ -95,7 +95,7 @@ zip_more R (x ∷ xs) [] zero d y l z r = (r, tt)
 zip_more R (x ∷ xs) (w ∷ ys) (suc i) d y l z r = (z.0, zip_more R xs ys i d y (omega arith) z.1 r)
 zip_more R (x ∷ xs) _ _ d y l z r = absurd z
 
--- where there is no row there is no item
+-- if there is no row there is no item
 pub row_none : {X : Type 0} (tells : List Item → Item → X → Type 0) (said : List Item) (rows : List X) (n : ℕ) → AreRows tells said rows → slice_get rows n ≡ None → length said ≤ n
 row_none tells said rows n a e = let w = none_beyond rows n e in omega arith
   where
@@ -109,7 +109,7 @@ pub none_found : {X : Type 0} (found : Option X) (none : Bool) → is_some found
 none_found found true e = ap not e
 none_found found false e = ap not e
 
--- where none is found, none is told
+-- if none is found, none is reported
 pub none_is_told : {X Y : Type 0} (told : X → Y) (found : Option X) (other : Option Y) → option_map told found ≡ other → is_some found ≡ false → is_none other ≡ true
 none_is_told told None other e n = ap is_none (sym e)
 none_is_told told (Some x) other e n = absurd (false≢true (sym n))
@@ -141,7 +141,7 @@ pub symbols_taken : (all : List (List ℕ)) (before : List Item) (item : Item) (
 symbols_taken all before item symbols true h t = h refl t
 symbols_taken all before item symbols false h t = absurd (false≢true t)
 
--- where an item stands among what is kept
+-- where an item is among what is kept
 kept_after_front : (before items : List Item) → (rest : List Item) × (sound_items_after before items ≡ before ++ rest) × (length rest ≡ length items)
 kept_after_front before [] = ([], sym (append-nil before), refl)
 kept_after_front before (item ∷ items) =
@@ -181,7 +181,7 @@ kept_item_at said i item e f =
     let k = kept_at said i item e in
     ap (λ n. slice_get (sound_items said) n) (sym k.number) ∙ ap (λ w. slice_get w (length (sound_items (take i said)))) (k.whole ∙ ap (λ o. sound_items (take i said) ++ judged item o ∷ k.rest) f) ∙ get_between (sound_items (take i said)) item k.rest
 
--- where a label is told, no fault is told exactly for a sound item
+-- if a label is reported, no fault is reported exactly for a sound item
 pub none_told : (kind : Kind) (f : Option (ℕ × FrameNumber)) → is_none (fault_by kind f) ≡ true → f ≡ None
 none_told Missing f e = absurd (false≢true e)
 none_told _ None e = refl
@@ -239,7 +239,7 @@ not_closes m e c = false≢true (sym e ∙ ap closes c)
 numbers_same : (test : Item → Bool) (before : List Item) (item : Item) → closes (mark_of item.kind) ≡ false → test item ≡ false → active_numbers test before ≡ active_numbers test (before ++ item ∷ [])
 numbers_same test before item c e = sym (active_numbers_more test before item (not_closes (mark_of item.kind) c) ∙ ap (λ b. active_numbers test before ++ cond b (length before ∷ []) []) e ∙ append-nil (active_numbers test before))
 
--- a test of kinds that a missing inclusion does not pass tells of a sound item what it tells of one with no fault
+-- a test of kinds that a missing inclusion does not pass says of a sound item what it says of one with no fault
 told_kind : (test : Kind → Bool) → test Missing ≡ false → (kind : Kind) (f : Option (ℕ × FrameNumber)) → (is_none f && test kind) ≡ (is_none (fault_by kind f) && test kind)
 told_kind test e Missing None = e
 told_kind test e _ _ = refl

@@ -82,7 +82,7 @@ same_said laws a b x y said other alike f g =
     ∙ ap (λ words. item_of (kind_of y.kind) (tokens_of (bytes_in g.read.text y) words)) (same_words laws a b x y alike f.read g.read)
     ∙ sym g.is
 
--- the items stand in the files
+-- the items are in the files
 abbrev Stand : FilesView → List store.Item → Type 0
 Stand files items = AllByRecursion (StandsIn files) items
 

@@ -32,7 +32,7 @@ label_in true (Some l) label t = elim (or_cases (bytes_eq label l) false t) [
 ]
 label_in _ _ label t = absurd (false≢true t)
 
--- the item with the label, and what the label means at another behind it
+-- the item with the label, and what the label means at another after it
 pub record IsFound (base : BaseView) (i : ℕ) (label : List ℕ) (j : ℕ) : Type 0 where
   pub labels : IsLabelOf base i j label
   pub there : slice_get (before base i) j ≡ Some (said_at base j)
@@ -125,7 +125,7 @@ none_before base i label h = no_item_unknown (before base i) label (λ x k. fals
     let r = get_front (sound_items base.said) i g.0 x (subst (λ w. slice_get w g.0 ≡ Some x) (sym (kept_front base.said i)) g.1) in
     h g.0 x r.0 r.1 t))
 
--- the one sound item that has the label stands no earlier
+-- the one sound item that has the label comes no earlier
 pub later_means : (base : BaseView) (i : ℕ) (label : List ℕ) (j : ℕ) → IsCarrier base label j → i ≤ j → Resolves base i label answers.Unknown
 later_means base i label j e l = none_before base i label (λ n x m g t.
     let items = sound_items base.said in

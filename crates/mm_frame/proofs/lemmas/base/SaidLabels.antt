@@ -35,7 +35,7 @@ no_words Axiom t = refl
 no_words Theorem t = refl
 no_words _ t = absurd (false≢true t)
 
--- where there are symbols there is a first word
+-- if there are symbols there is a first word
 label_there : (kind : Kind) (tokens : List Token) → is_labelled kind ≡ true → (token_names (symbols_in kind tokens) ≡ [] → ⊥) → (label : List ℕ) × (label_in kind tokens ≡ Some label)
 label_there kind [] t n = absurd (n (no_words kind t))
 label_there kind (token ∷ tokens) t n = (token.bytes, ap (λ b. cond b (Some token.bytes) None) t)

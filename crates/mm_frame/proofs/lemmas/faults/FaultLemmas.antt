@@ -32,7 +32,7 @@ use Rattle.mm_frame.proofs.lemmas.scope.SoundItems.{sound_kept}
 use Rattle.mm_frame.proofs.lemmas.scope.KnownLemmas.{constant_no_variable}
 use Rattle.mm_frame.proofs.lemmas.scope.TableLemmas.{active_variable_last, typed_last}
 
--- whether a name that is declared so may stand behind a typecode
+-- whether a name with this declaration may come after a typecode
 abbrev pub may_follow_as : List Item → Option Declared → Bool
 may_follow_as before None = false
 may_follow_as before (Some Constant) = true
@@ -45,7 +45,7 @@ typed_active before h name t =
     let float = float_of before f.0 (sound_kept before h) f.1 f.2 in
     subst (λ w. has (active_variables before) w ≡ true) (sym (ap (λ symbols. get_or symbols 1 []) float.both) ∙ f.3) float.variable
 
--- what is wrong behind a typecode with a name that is a constant, an active variable, or typed
+-- what is wrong after a typecode with a name that is a constant, an active variable, or typed
 abbrev later_as : Bool → Bool → Bool → Option FrameNumber
 later_as constant active typed = cond (not (constant || active)) (Some F10) (cond (active && not typed) (Some F11) None)
 
@@ -66,7 +66,7 @@ follows_later before h name =
     by_test false None t active typed a b n e = rw a refl
     by_test false (Some d) t active typed a b n e = rw (← b) (both active typed e)
 
--- two tests are the same where each tells the other
+-- two tests are the same if each implies the other
 same_test : (b c : Bool) → (b ≡ true → c ≡ true) → (c ≡ true → b ≡ true) → b ≡ c
 same_test true true f g = refl
 same_test true false f g = absurd (false≢true (f refl))
@@ -90,7 +90,7 @@ sees_more numbers number old new h u other =
     either false true = refl
     either false false = refl
 
--- two numbers are the same where their names are
+-- two numbers are the same exactly when their names are
 same_number : (all : List (List ℕ)) (m n : ℕ) (x y : List ℕ) → AreDistinct all → IsNameNumber all m x → IsNameNumber all n y → nat_eq m n ≡ bytes_eq x y
 same_number all m n x y distinct a b = same_test (nat_eq m n) (bytes_eq x y)
     (λ t. (bytes_eq-Decides x y).1 (same_Some x y (sym a ∙ ap (slice_get all) ((Decides-eqb m n).0 t) ∙ b)))
@@ -107,7 +107,7 @@ among_names all (suc n) (m ∷ numbers) (x ∷ names) number name distinct is ea
 among_names all (suc n) [] (x ∷ names) number name distinct is each count = absurd (omega (arith, count))
 among_names all (suc n) (m ∷ numbers) [] number name distinct is each count = absurd (omega (arith, count))
 
--- a symbol stands before where its number does
+-- a symbol occurs earlier exactly when its number does
 pub repeated_by_number : (all : List (List ℕ)) (numbers : List ℕ) (names : List (List ℕ)) (n : ℕ) → AreDistinct all → AreNameNumbers all numbers names
     → IsNameNumber all (get_or numbers n 0) (get_or names n [])
     → has_number (take n numbers) (get_or numbers n 0) ≡ has (take n names) (get_or names n [])
@@ -122,7 +122,7 @@ pub sees_next : {S : Type 0} {kept : Bool} (numbers : List ℕ) (number n more :
     → (kept ≡ true → HasSeen (take n numbers ++ number ∷ []) seen) → kept ≡ true → HasSeen (take more numbers) seen
 sees_next numbers number n more seen m l e h d = subst (λ w. HasSeen w seen) (ap (λ x. take n numbers ++ x ∷ []) e ∙ sym (take-suc numbers n 0 l) ∙ ap (λ w. take w numbers) (sym m)) (h d)
 
--- so it is behind all sound items of a scope, where the symbols have these numbers
+-- this holds after all sound items of a scope, if the symbols have these numbers
 abbrev pub Judged : Scope → Item → List ℕ → (List Item → Type 0) → Type 0
 Judged scope item numbers holds = (all : List (List ℕ)) (before : List Item) → AreSound before → ScopeHolds all before scope → AreNameNumbers all numbers item.symbols → holds before
 
@@ -156,7 +156,7 @@ passes_more item numbers n more m l p none = record {
       ∙ (λ i. fault_or (first_symbol item + n) (sym (none all before h k a) i) (first_fault (symbol_fault before item) (word i) (sym m i) (drop (sym m i) item.symbols)));
 }
 
--- a symbol that may stand behind a typecode has no fault there
+-- a symbol that may come after a typecode has no fault there
 pub passed_later : (before : List Item) (n : ℕ) (name : List ℕ) → 0 < n → is_none (later_fault before name) ≡ true → None ≡ expression_fault before n name
 passed_later before n name l e = by_test (n == 0) refl
   where
@@ -175,7 +175,7 @@ expression_is Axiom e before item n name = refl
 expression_is Theorem e before item n name = refl
 expression_is _ e before item n name = absurd (false≢true e)
 
--- the fault of a statement, where it is found at the first word, among the symbols, or neither
+-- the fault of a statement, found at the first word, among the symbols, or at neither
 pub at_front : (before : List Item) (item : Item) (number : FrameNumber) → Some number ≡ front_fault before item → ◌≡◌ {A = Option (ℕ × FrameNumber)} (Some (0, number)) (fault before item)
 at_front before item number f = (λ i. fault_or 0 (f i) (option_or (symbols_fault before item) (fault_or (closing_word item) (end_fault item) None))) ∙ sym (fault_is before item)
 

@@ -45,11 +45,11 @@ by_word : (before : List Item) (item : Item) (word : ℕ) (ends starts : Bool) (
     → number_at before item word ≡ number_of item.kind before item ends starts at
 by_word before item word ends starts at e s a = λ i. number_of item.kind before item (e i) (s i) (λ test. a test i)
 
--- no symbol stands at a word
+-- no symbol is at a word
 abbrev nothing : (ℕ → List ℕ → Bool) → Bool
 nothing test = false
 
--- symbol n stands at a word
+-- symbol n is at a word
 abbrev at_name : ℕ → List ℕ → (ℕ → List ℕ → Bool) → Bool
 at_name n name test = test n name
 
@@ -59,17 +59,17 @@ start_of : (kind : Kind) (before : List Item) (item : Item)
 start_of Constants before item = refl
 start_of _ before item = refl
 
--- at a keyword behind a label
+-- at a keyword after a label
 keyword_of : (kind : Kind) (before : List Item) (item : Item) → number_of kind before item false false nothing ≡ None
 keyword_of Constants before item = refl
 keyword_of _ before item = refl
 
--- behind the last symbol
+-- after the last symbol
 end_of : (kind : Kind) (before : List Item) (item : Item) (ends : Bool) → number_of kind before item ends false nothing ≡ cond ends (Some F01) None
 end_of kind before item true = refl
 end_of kind before item false = keyword_of kind before item
 
--- at a symbol of a `$f`, where only the third one is one too many
+-- at a symbol of a `$f`, of which only the third one is one too many
 abbrev third_fault : List Item → Item → ℕ → List ℕ → Option FrameNumber
 third_fault before item n name = cond (n == 0) (typecode_fault before name) (cond (n == 1) (typed_fault before item name) (cond (n == 2) (Some F01) None))
 
@@ -99,7 +99,7 @@ expression_is (suc n) x y z = same (suc n == 0) (ltb 0 (suc n)) (ne_eqb (suc n) 
     same : (a b : Bool) → a ≡ false → b ≡ true → cond (a && x) (Some F08) (cond (b && y) (Some F10) (cond (b && z) (Some F11) None)) ≡ cond a (cond x (Some F08) None) (cond y (Some F10) (cond z (Some F11) None))
     same a b p q = (λ i. cond (p i && x) (Some F08) (cond (q i && y) (Some F10) (cond (q i && z) (Some F11) None))) ∙ sym (λ i. cond (p i) (cond x (Some F08) None) (cond y (Some F10) (cond z (Some F11) None)))
 
--- what is wrong with a symbol, where only the third one of a `$f` is one too many
+-- what is wrong with a symbol; only the third one of a `$f` is one too many
 abbrev symbol_number : Kind → List Item → Item → ℕ → List ℕ → Option FrameNumber
 symbol_number Floating before item n name = third_fault before item n name
 symbol_number kind before item n name = symbol_fault_of kind before item n name
@@ -113,7 +113,7 @@ symbol_of Axiom before item n name = expression_is n (is_no_constant before name
 symbol_of Theorem before item n name = expression_is n (is_no_constant before name) (is_no_active_symbol before name) (is_untyped before name)
 symbol_of _ before item n name = refl
 
--- where no symbol stands
+-- where no symbol is
 before_symbols : (test : ℕ → List ℕ → Bool) (item : Item) (word : ℕ) → word < first_symbol item → at_symbol test item word ≡ false
 before_symbols test item word l = and_left (leb (first_symbol item) word) _ (by_test (leb (first_symbol item) word) refl)
   where
@@ -125,7 +125,7 @@ at_closing : (test : ℕ → List ℕ → Bool) (item : Item) → at_symbol test
 at_closing test item = and_right (leb (first_symbol item) (closing_word item)) (passes (test (closing_word item - first_symbol item)) (slice_get item.symbols (closing_word item - first_symbol item)))
     (subst (λ o. passes (test (closing_word item - first_symbol item)) o ≡ false) (sym (slice_get_past item.symbols (closing_word item - first_symbol item) (omega arith))) refl)
 
--- where a symbol stands
+-- where a symbol is
 at_place : (test : ℕ → List ℕ → Bool) (item : Item) (n : ℕ) (name : List ℕ) → slice_get item.symbols n ≡ Some name → at_symbol test item (first_symbol item + n) ≡ test n name
 at_place test item n name g =
     let d : first_symbol item + n - first_symbol item ≡ n = omega arith in
@@ -191,7 +191,7 @@ pass_over before item start (suc gap) more h =
     (h start (omega arith) (omega arith)) ∙ pass_over before item (suc start) gap more (λ word l m. h word (omega arith) (omega arith))
     ∙ ap (λ w. fault_from before item w more) there
 
--- the symbols from one on, and the word behind them
+-- the symbols from one on, and the word after them
 from_symbol : (before : List Item) (item : Item) (test : ℕ → List ℕ → Option FrameNumber) (word n : ℕ) (symbols : List (List ℕ)) → ((k : ℕ) (name : List ℕ) → slice_get symbols k ≡ Some name → number_at before item (word + k) ≡ test (n + k) name)
     → fault_from before item word (length symbols + 1) ≡ option_or (first_fault test word n symbols) (fault_or (word + length symbols) (number_at before item (word + length symbols)) None)
 from_symbol before item test word n [] h = ap (λ w. fault_or w (number_at before item w) None) (omega arith)
@@ -206,7 +206,7 @@ from_symbol before item test word n (name ∷ symbols) h =
     joined None w a b = refl
     joined (Some m) w a b = refl
 
--- behind a third symbol of a `$f` nothing is looked at
+-- after a third symbol of a `$f` nothing is looked at
 third_first : (before : List Item) (item : Item) (word : ℕ) (symbols : List (List ℕ)) → first_fault (third_fault before item) word 0 symbols ≡ first_fault (floating_fault before item) word 0 symbols
 third_first before item word [] = refl
 third_first before item word (x ∷ []) = refl

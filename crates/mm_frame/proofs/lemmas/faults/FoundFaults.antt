@@ -15,7 +15,7 @@ use Rattle.mm_frame.specs.Language.Sound.{StatementLineHolds, IsSound, row}
 use Rattle.mm_frame.specs.Language.Sound.{IsStatementFault, numbers, number_at, fault_or, fault_from, fault, judged, sound_items_after, sound_items}
 use Rattle.mm_frame.proofs.lemmas.scope.Facts.{AreKept}
 
--- no line holds behind the statement's words
+-- no line holds after the statement's words
 past_symbols : (test : ℕ → List ℕ → Bool) (item : Item) (word : ℕ) → closing_word item < word → at_symbol test item word ≡ false
 past_symbols test item word l = and_right (leb (first_symbol item) word) (passes (test (word - first_symbol item)) (slice_get item.symbols (word - first_symbol item)))
     (subst (λ o. passes (test (word - first_symbol item)) o ≡ false) (sym (slice_get_past item.symbols (word - first_symbol item) (omega arith))) refl)

@@ -72,7 +72,7 @@ hypothesis_labelled Floating b t = refl
 hypothesis_labelled Essential b t = refl
 hypothesis_labelled _ b t = absurd (false≢true t)
 
--- a mandatory hypothesis stands before the statement, is sound, and is read there as at its own place
+-- a mandatory hypothesis comes before the statement, is sound, and is read there as at its own place
 record IsHypothesisAt (base : BaseView) (i n : ℕ) : Type 0 where
   earlier : n < i
   shown : is_shown_at base n ≡ true
@@ -97,7 +97,7 @@ mandatory_at base i n k =
       same = ap (hypothesis (before base n)) (sym s.0) ∙ sym (ap (hypothesis front) there ∙ (λ j. record { floating = is_floating x.kind; expression = read j }));
     }
 
--- a sound item with a label stands in the sound items
+-- a sound item with a label is in the sound items
 pub shown_there : (base : BaseView) (j : ℕ) → is_shown_at base j ≡ true → slice_get (sound_items base.said) j ≡ Some (said_at base j)
 shown_there base j s =
     let p = and_parts (is_sound_at base j) (is_labelled (said_at base j).kind) s in
@@ -110,7 +110,7 @@ front_get (y ∷ ys) zero n x l e = absurd (omega arith)
 front_get (y ∷ ys) (suc i) zero x l e = e
 front_get (y ∷ ys) (suc i) (suc n) x l e = front_get ys i n x (omega arith) e
 
--- it stands among those before a later one
+-- it is among the items before a later one
 pub shown_before : (base : BaseView) (i j : ℕ) → j < i → is_shown_at base j ≡ true → slice_get (before base i) j ≡ Some (said_at base j)
 shown_before base i j l s = subst (λ w. slice_get w j ≡ Some (said_at base j)) (kept_front base.said i) (front_get (sound_items base.said) i j (said_at base j) l (shown_there base j s))
 
@@ -147,22 +147,22 @@ numbers_told : (framed : Bool) (front : List Item) (item : Item) (numbers : List
 numbers_told true front item numbers e = cc
 numbers_told false front item numbers e = cc
 
--- the numbers that are told for an assertion are those of its mandatory hypotheses
+-- the numbers that are reported for an assertion are those of its mandatory hypotheses
 pub frame_numbers : (base : BaseView) (i : ℕ) (numbers : List ℕ) → hypotheses_at base i ≡ Some numbers → AreHypotheses base i numbers
 frame_numbers base i numbers e = subst (AreHypotheses base i) (numbers_told _ (before base i) (said_at base i) numbers e) (mandatory_are base i)
 
--- the same of what is kept, where it is
+-- the same of what is kept, if there is something
 pub frame_means : {X : Type 0} (told : X → List ℕ) (base : BaseView) (i : ℕ) (found : Option X) → option_map told found ≡ hypotheses_at base i → IfSome found (λ x. AreHypotheses base i (told x))
 frame_means told base i None e = tt
 frame_means told base i (Some x) e = frame_numbers base i (told x) (sym e)
 
--- what is kept, where it is
+-- what is kept, if there is something
 pub frame_is : {X : Type 0} (told : X → List ℕ) (base : BaseView) (i : ℕ) (found : Option X) → option_map told found ≡ hypotheses_at base i →
     IfSome found (λ x. told x ≡ mandatory_numbers (before base i) (said_at base i))
 frame_is told base i None e = tt
 frame_is told base i (Some x) e = sym (numbers_told _ (before base i) (said_at base i) (told x) (sym e))
 
--- a frame is told exactly for an assertion
+-- a frame is reported exactly for an assertion
 told_some : {X : Type 0} (told : X → List ℕ) (found : Option X) (framed : Bool) (front : List Item) (item : Item) → option_map told found ≡ numbers_if framed front item → is_some found ≡ framed
 told_some told None false front item e = refl
 told_some told (Some x) true front item e = refl

@@ -148,7 +148,7 @@ named_typed before item name k s t h =
     let whole : hypothesis before r.0 ≡ record { floating = true; expression = symbol before x.typecode ∷ symbol before name ∷ [] } = λ i. record { floating = r.2 i; expression = e i } in
     (symbol before x.typecode, x.constant, in_contains _ (mandatory_hypotheses before item) (subst (λ w. In w (mandatory_hypotheses before item)) whole there))
 
--- a variable of an expression that is read behind these items
+-- a variable of an expression that is read after these items
 read_variable : (before : List Item) (names : List (List ℕ)) (v : Symbol) → HasVariable (map (symbol before) names) v → (name : List ℕ) × In name names × In name (active_variables before) × (symbol before name ≡ v)
 read_variable before names v h =
     let r = from_map (symbol before) v names (contains_in v (map (symbol before) names) h.0) in

@@ -157,7 +157,7 @@ active_float_last before h n x e s t =
 abbrev pub AreTyped : List Item → Item → Type 0
 AreTyped before item = (name : List ℕ) → In name (mandatory_variables before item) → In name (typed before)
 
--- as it is where the statement is sound
+-- this holds if the statement is sound
 pub sound_typed : (before : List Item) → AreSound before → (item : Item) → IsSound before item → is_expression item.kind ≡ true → AreTyped before item
 sound_typed before h item s t name m = (mandatory_typed before item name (sound_kept before h) s t m).1
 

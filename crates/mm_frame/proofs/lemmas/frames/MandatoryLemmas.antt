@@ -91,7 +91,7 @@ kept_essential all before expressions n e h a there s t =
     let labelled = expression_labelled e.kind (essential_expression e.kind t) in
     a n e there labelled ∙ sym (expression_at_number before h n e there s labelled)
 
--- the item is a sound `$a` or `$p` behind sound items, of which all this is kept
+-- the item is a sound `$a` or `$p` after sound items, of which all this is kept
 pub record IsAssertionBehind (all : List (List ℕ)) (before : List Item) (item : Item) (tables : Tables) (kept : List (List NumberedSymbol)) (own : List NumberedSymbol) : Type 0 where
   pub sound : AreSound before
   pub known : Knows all before tables

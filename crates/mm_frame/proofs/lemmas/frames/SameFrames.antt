@@ -1,4 +1,4 @@
--- Frames are the same exactly where their expressions, their hypotheses and their pairs in one order are.
+-- Frames are the same exactly when their expressions, their hypotheses and their pairs in one order are.
 use Rattle.std.proofs.Common.{◌≡◌, ℕ, Bool, true, false, ◌&&◌, ◌||◌, List, filter, map, bytes_eq, refl, sym, ◌∙◌, ap, subst, inl, inr, IsTrue, ◌↔◌, All}
 use Rattle.std.proofs.lemmas.Bool.{false≢true, and_from, and_parts, or_left, or_right}
 use Rattle.mm_frame.specs.Language.Frame.{Symbol, Mandatory, Frame, ArePair, AreSamePairs, AreSameFrame}
@@ -44,7 +44,7 @@ same_in_order frame other s =
     filter_same (are_paired frame.pairs) (are_paired other.pairs) (pairs_of (typed_variables frame.hypotheses)) (λ pair m. same_paired frame.pairs other.pairs s.pairs pair)
     ∙ ap (λ (hypotheses : List Mandatory). filter (are_paired other.pairs) (pairs_of (typed_variables hypotheses))) s.hypotheses
 
--- and frames whose pairs in one order are their pairs are the same where these are
+-- frames with their pairs in one order are the same if their expressions, hypotheses and pairs in that order are
 pub same_from_order : (frame other : Frame) → AreSamePairs (pairs_in_order frame) frame.pairs → AreSamePairs (pairs_in_order other) other.pairs
     → frame.expression ≡ other.expression → frame.hypotheses ≡ other.hypotheses → pairs_in_order frame ≡ pairs_in_order other → AreSameFrame frame other
 same_from_order frame other a b e h p = record {
@@ -73,7 +73,7 @@ framed_shown base i e =
     let p = and_parts (is_sound_at base i) (is_assertion (said_at base i).kind) e in
     and_from (is_sound_at base i) (is_labelled (said_at base i).kind) p.0 (assertion_labelled (said_at base i).kind p.1)
 
--- hypotheses by their numbers are the same where those of the frames are
+-- hypotheses by their numbers are the same exactly when those of the frames are
 pub same_by_numbers : (base copy : BaseView) (i j : ℕ) (mine yours : List ℕ) (P : Type 0) → AreHypotheses base i mine → AreHypotheses copy j yours
     → P ↔ (map (hypothesis_at base) mine ≡ map (hypothesis_at copy) yours) → P ↔ ((frame_at base i).hypotheses ≡ (frame_at copy j).hypotheses)
 same_by_numbers base copy i j mine yours P a b p = (λ x. sym a.are ∙ p.0 x ∙ b.are, λ e. p.1 (a.are ∙ e ∙ sym b.are))

@@ -15,7 +15,7 @@ use Rattle.mm_frame.specs.Language.Framing.{expression}
 use Rattle.mm_frame.specs.Language.Base.{BaseView, before, said_at, is_shown_at, expression_at}
 use Rattle.mm_frame.specs.Language.NumberedSymbols.{symbol_of, symbols_of, pair_of, kept_pairs, IsNumbered, IsPairNumbered}
 
--- under these functions, so many elements of two lists are the same
+-- under these functions, this many elements of two lists are the same
 abbrev pub AreSameTo : {X Y Z : Type 0} → (X → Z) → (Y → Z) → List X → List Y → ℕ → Type 0
 AreSameTo {X} {Y} f g xs ys k = (m : ℕ) (x : X) (y : Y) → m < k → slice_get xs m ≡ Some x → slice_get ys m ≡ Some y → f x ≡ g y
 
@@ -37,7 +37,7 @@ same_whole f g (x ∷ xs) (y ∷ ys) h l =
     λ i. a i ∷ (same_whole f g xs ys (λ m v w n c d. h (suc m) v w (omega arith) c d) (omega arith)) i
 same_whole f g _ _ h l = absurd (omega arith)
 
--- and where all are, each is
+-- if all are, each is
 pub same_each : {X Y Z : Type 0} (f : X → Z) (g : Y → Z) (xs : List X) (ys : List Y) (k : ℕ) (x : X) (y : Y) → map f xs ≡ map g ys → slice_get xs k ≡ Some x → slice_get ys k ≡ Some y → f x ≡ g y
 same_each f g xs ys k x y e p q =
     let z : Some (f x) ≡ Some (g y) = sym (ap (option_map f) p) ∙ sym (slice_get-map f xs k) ∙ ap (λ w. slice_get w k) e ∙ slice_get-map g ys k ∙ ap (option_map g) q in
@@ -80,13 +80,13 @@ both_decide true true p q = (λ t. (p.0 refl, q.0 refl), λ e. refl)
 both_decide true false p q = (λ t. absurd (false≢true t), λ e. absurd (false≢true (q.1 e.1)))
 both_decide false r p q = (λ t. absurd (false≢true t), λ e. absurd (false≢true (p.1 e.0)))
 
--- two symbols are equal where their numbers and their sorts are
+-- two symbols are equal exactly when their numbers and their sorts are
 pub symbols_decide : (a b : NumberedSymbol) → Decides ((a.name == b.name) && (beq a.variable b.variable)) (a ≡ b)
 symbols_decide a b =
     let both = both_decide (a.name == b.name) (beq a.variable b.variable) (Decides-eqb a.name b.name) (booleans_Decides a.variable b.variable) in
     (λ t. (let e = both.0 t in λ i. record { name = e.0 i; variable = e.1 i }), λ e. both.1 (ap (λ (w : NumberedSymbol). w.name) e, ap (λ (w : NumberedSymbol). w.variable) e))
 
--- and two pairs where their parts are
+-- two pairs are equal exactly when their parts are
 pub pairs_decide : (a b : NumberedSymbol × NumberedSymbol)
     → Decides (((a.0.name == b.0.name) && (beq a.0.variable b.0.variable)) && ((a.1.name == b.1.name) && (beq a.1.variable b.1.variable))) (a ≡ b)
 pairs_decide a b =

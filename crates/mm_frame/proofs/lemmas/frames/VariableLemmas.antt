@@ -1,4 +1,4 @@
--- The variables of the active `$e`: behind one more item, and what numbers they give.
+-- The variables of the active `$e`: after one more item, and what numbers they give.
 use Rattle.std.proofs.Common.{◌≡◌, ℕ, zero, suc, ◌+◌, ◌<◌, ◌≤◌, Bool, true, false, cond, Some, List, [], ◌∷◌, ◌++◌, length, flat_map, take, drop, slice_get, Contains}
 use Rattle.std.proofs.Common.{get_or, refl, sym, ◌∙◌, ap, subst, take-append-drop, append_assoc, append-nil, length-append, arith, inl, inr, ◌⊎◌}
 use native.Mathlib.Decide.{dec_lt}
@@ -169,7 +169,7 @@ variables_left before item old symbols found count long are gone out =
       ]) e c t;
     }
 
--- an item behind which the same `$e` are active adds none
+-- an item after which the same `$e` are active adds none
 pub variables_stay : (before : List Item) (essentials : List ℕ) (old : List (List NumberedSymbol)) (symbols : List NumberedSymbol) (found : List EssentialVariable) → length old ≡ length before → essentials ≡ active_numbers is_essential_item before
     → AreVariablesOf essentials old found → AreVariablesOf essentials (old ++ symbols ∷ []) found
 variables_stay before essentials old symbols found long e are = record {

@@ -1,4 +1,4 @@
--- What stands in a list, by recursion, and what tests find.
+-- What is in a list, by recursion, and what tests find.
 use Rattle.std.proofs.Common.{◌≡◌, ℕ, zero, suc, ◌<◌, Bool, true, false, cond, Some, List, [], ◌∷◌, ◌++◌, length, map, filter, flat_map, get_or, bytes_eq, slice_get, refl, sym, ◌∙◌, ap, subst, arith, inl, inr, ◌⊎◌, Contains}
 use Rattle.std.proofs.lemmas.Bool.{or_cases, false≢true, or_left, or_right}
 use Rattle.std.proofs.lemmas.Slice.Eq.{bytes_eq-Decides}
@@ -19,7 +19,7 @@ contains_cases x xs y c = contains_cases_at x xs y c.0 c.1 c.2
 pub contains_there : {X : Type 0} (x : X) (xs : List X) (y : X) → Contains xs y → Contains (x ∷ xs) y
 contains_there x xs y c = (suc c.0, omega arith, c.2)
 
--- x stands in the list
+-- x is in the list
 abbrev pub In : {X : Type 0} → X → List X → Type 0
 In x [] = ⊥
 In x (y ∷ ys) = (y ≡ x) ⊎ In x ys

@@ -1,4 +1,4 @@
--- Numbers that rise: the beginning of them, one more behind them, and what a search among them finds.
+-- Numbers that rise: the beginning of them, one more after them, and what a search among them finds.
 use Rattle.std.proofs.Common.{◌≡◌, ℕ, zero, suc, ◌+◌, ◌-◌, ◌<◌, ◌≤◌, true, false, Some, Result, Ok, Err, List, [], ◌∷◌, ◌++◌, length, drop, slice_get, get_or, refl, sym, ◌∙◌, ap, subst, arith, inl, inr, ◌⊎◌, length-append, Contains, is_ok}
 use Rattle.std.specs.List.Sorted.{IsBinarySearchResult}
 use Rattle.std.specs.Ordering.{nat_cmp}
@@ -16,7 +16,7 @@ use Rattle.mm_frame.specs.Code.PairOrder.{is_among}
 use Rattle.mm_frame.proofs.lemmas.lists.Members.{In, in_contains, contains_in, in_get, get_in}
 use Rattle.mm_frame.proofs.lemmas.frames.Frames.{in_at}
 
--- the beginning of rising numbers rises, and so do they with a larger one behind them
+-- the beginning of rising numbers rises, and so do they with a larger one after them
 pub rising_front : (kept gone : List ℕ) → IsRising (kept ++ gone) → IsRising kept
 rising_front kept gone r i j d l m =
     let n = length-append kept gone in
@@ -77,7 +77,7 @@ among_found numbers n r s h = elim (found_or_not numbers n r s h) [
   | inr p ↦ p.0 ∙ sym (false_from_ne_true (is_among numbers n) (λ t. p.1 (among_in numbers n t)))
 ]
 
--- a number of a rising list that stands no earlier than another is no less
+-- a number of a rising list that comes no earlier than another is no less
 pub rising_least : (row : List ℕ) (k at n : ℕ) → IsRising row → k < length row → slice_get row at ≡ Some n → (at < k → ⊥) → get_or row k 0 ≤ n
 rising_least row k at n rising within e later =
     let w = slice_get_within row at n e in
@@ -90,14 +90,14 @@ rising_least row k at n rising within e later =
       ]
     ]
 
--- an element behind the first ones
+-- an element after the first ones
 pub get_drop : {X : Type 0} (xs : List X) (k i n : ℕ) → k + i ≡ n → slice_get (drop k xs) i ≡ slice_get xs n
 get_drop xs zero i n e = let z : i ≡ n = omega arith in ap (slice_get xs) z
 get_drop [] (suc k) i n e = refl
 get_drop (x ∷ xs) (suc k) i zero e = absurd (omega arith)
 get_drop (x ∷ xs) (suc k) i (suc n) e = get_drop xs k i n (omega arith)
 
--- where the one before them is less than a number, the numbers from there on are those that are no less
+-- if the one before them is less than a number, the numbers from there on are those that are no less
 pub rest_whole : (row : List ℕ) (at number n : ℕ) → IsRising row → 0 < at → at ≤ length row → get_or row (at - 1) 0 < number → number ≤ n → Contains row n → Contains (drop at row) n
 rest_whole row at number n rising some within less l there =
     let g = in_get n row (contains_in n row there) in

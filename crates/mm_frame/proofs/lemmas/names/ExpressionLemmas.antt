@@ -11,7 +11,7 @@ pub cut_length : {X : Type 0} (symbols : List X) (from : ℕ) (ends : List ℕ) 
 cut_length symbols from [] = refl
 cut_length symbols from (end ∷ ends) = ap suc (cut_length symbols end ends)
 
--- no part starts or ends behind the last end
+-- no part starts or ends after the last end
 ends_within : (from : ℕ) (ends : List ℕ) (last : ℕ) → EndsFrom from ends last → from ≤ last
 ends_within from [] last e = omega arith
 ends_within from (end ∷ ends) last e = let r = ends_within end ends last e.1 in omega arith

@@ -1,4 +1,4 @@
--- Short labels have codes of their own, which fit into 64 bits; what is kept of labels behind one more.
+-- Short labels have codes of their own, which fit into 64 bits; what is kept of labels after one more.
 use Rattle.std.proofs.Common.{◌≡◌, ℕ, zero, suc, ◌*◌, ◌-◌, ◌^◌, ◌<◌, ◌≤◌, Bool, true, false, cond, not, Some, List, [], ◌∷◌, length, drop, length-drop, nat_eq, bytes_eq, Vec, inl, inr, refl, sym, ◌∙◌, ap, subst, arith, Global, nat_le, nat_lt}
 use Rattle.std.specs.HashMap.{HashMap, UpdatesBy, get_by}
 use Rattle.std.specs.Map.{KeepsOthers, IsKeyTest, AreApart, lookup}
@@ -38,7 +38,7 @@ code_below (suc n) (b ∷ bs) k f =
     let p = code_below n bs (omega arith) both.1 in
     omega arith
 
--- labels of few bytes have one code where they are one
+-- labels of few bytes have one code exactly when they are one
 same_code : (xs ys : List ℕ) → are_ascii xs ≡ true → are_ascii ys ≡ true → nat_eq (label_code xs) (label_code ys) ≡ bytes_eq xs ys
 same_code xs ys s t = elim (cases_Bool (bytes_eq xs ys)) [
   | inl y ↦ (Decides-eqb (label_code xs) (label_code ys)).1 (ap label_code ((bytes_eq-Decides xs ys).0 y)) ∙ sym y
@@ -60,7 +60,7 @@ other_entries : {K X : Type 0} (eq : K → K → Bool) (test : K → Bool) (old 
 unfolding KeepsOthers
 other_entries eq test old new h = h
 
--- the look-ups by bytes behind a write at one key
+-- the look-ups by bytes after a write at one key
 written : {X S : Type 0} (bs : List ℕ) (m n : HashMap (Vec ℕ Global) X S) (x : X) → UpdatesBy (λ a b. bytes_eq a.items b.items) (λ k. bytes_eq bs k.items) m
     n (Some x) → (cs : List ℕ) → get_by (λ k. bytes_eq cs k.items) n ≡ cond (bytes_eq bs cs) (Some x) (get_by (λ k. bytes_eq cs k.items) m)
 written bs m n x h cs = elim (cases_Bool (bytes_eq bs cs)) [
@@ -69,14 +69,14 @@ written bs m n x h cs = elim (cases_Bool (bytes_eq bs cs)) [
       ∙ sym (cond-false (bytes_eq bs cs) (Some x) (get_by (λ k. bytes_eq cs k.items) m) e)
 ]
 
--- the look-ups behind an `insert`, with the bytes of the key by an equation
+-- the look-ups after an `insert`, with the bytes of the key by an equation
 pub inserted : {X S : Type 0} (ks bs : List ℕ) (m n : HashMap (Vec ℕ Global) X S) (x : X) → ks ≡ bs
     → UpdatesBy (λ a b. bytes_eq a.items b.items) (λ k. bytes_eq ks k.items) m n (Some x) → (cs : List ℕ)
     → get_by (λ k. bytes_eq cs k.items) n ≡ cond (bytes_eq bs cs) (Some x) (get_by (λ k. bytes_eq cs k.items) m)
 inserted ks bs m n x e h cs =
     written ks m n x h cs ∙ ap (λ l. cond (bytes_eq l cs) (Some x) (get_by (λ k. bytes_eq cs k.items) m)) e
 
--- what is kept behind one more short label
+-- what is kept after one more short label
 pub short_put : (old new : LabelNumbers) (label other : List ℕ) (number : ℕ) → is_coded label ≡ true → new.long ≡ old.long
     → ((d : ℕ) → get_by (nat_eq d) new.short ≡ cond (nat_eq (label_code label) d) (Some number) (get_by (nat_eq d) old.short))
     → label_number new other ≡ cond (bytes_eq label other) (Some number) (label_number old other)
@@ -93,7 +93,7 @@ short_put old new label other number s long put = by_length (is_coded other) ref
         ap (λ m. get_by (λ key. bytes_eq other key.items) m) long
         ∙ ap (λ b. cond b (Some number) (get_by (λ key. bytes_eq other key.items) old.long)) (sym (other_length label other true s t))
 
--- what is kept behind one more long label
+-- what is kept after one more long label
 pub long_put : (old new : LabelNumbers) (label other : List ℕ) (number : ℕ) → is_coded label ≡ false → new.short ≡ old.short
     → ((cs : List ℕ) → get_by (λ key. bytes_eq cs key.items) new.long ≡ cond (bytes_eq label cs) (Some number) (get_by (λ key. bytes_eq cs key.items) old.long))
     → label_number new other ≡ cond (bytes_eq label other) (Some number) (label_number old other)

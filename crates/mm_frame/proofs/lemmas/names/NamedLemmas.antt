@@ -21,7 +21,7 @@ use Rattle.mm_frame.proofs.lemmas.pairs.ActivePairLemmas.{disjoint_named}
 use Rattle.mm_frame.proofs.lemmas.names.NumberLemmas.{name_read, number_at}
 use Rattle.mm_frame.proofs.lemmas.scope.KnownLemmas.{known_at, constant_in}
 
--- a symbol of a sound `$f`, `$e`, `$a` or `$p` is a variable where it is no declared constant
+-- a symbol of a sound `$f`, `$e`, `$a` or `$p` is a variable if it is no declared constant
 by_constants_is : (before : List Item) (item : Item) (name : List ℕ) → AreSound before → IsSound before item → is_labelled item.kind ≡ true → In name item.symbols → by_constants before name ≡ symbol before name
 by_constants_is before item name h s t n = let same = is_variable (named before item name s t n) in λ i. record { name = name; variable = same i }
   where
@@ -29,7 +29,7 @@ by_constants_is before item name h s t n = let same = is_variable (named before 
     is_variable (inl c) = ap not (in_has (constants before) name c) ∙ sym (false_from_ne_true (has (active_variables before) name) (λ v. not_constant before (sound_kept before h) name c (has_in (active_variables before) name v)))
     is_variable (inr v) = ap not (false_from_ne_true (has (constants before) name) (λ c. not_constant before (sound_kept before h) name (has_in (constants before) name c) v)) ∙ sym (in_has (active_variables before) name v)
 
--- what is made of each number, where it is known what is made of the number of a name
+-- what is made of each number, if it is known what is made of the number of a name
 each_read : (all : List (List ℕ)) (kept : ℕ → NumberedSymbol) (said : List ℕ → Symbol) → ((n : ℕ) (name : List ℕ) → IsNameNumber all n name
     → symbol_of all (kept n) ≡ said name) → (numbers : List ℕ) (names : List (List ℕ)) → AreNameNumbers all numbers names
     → symbols_of all (map kept numbers) ≡ map said names

@@ -23,7 +23,7 @@ same_tests b m n e = ap (λ (k : ℕ). cond (not b) (1 + k) 0) e
 pub begins_on : (one two three : List (List ℕ)) → Begins one two → Begins two three → Begins one three
 begins_on one two three a b n name p = b n name (a n name p)
 
--- names behind a list leave it in front
+-- names after a list leave it in front
 pub begins_more : (names more : List (List ℕ)) → Begins names (names ++ more)
 begins_more [] more n name p = cc
 begins_more (x ∷ names) more zero name p = p
@@ -101,7 +101,7 @@ pub any_by_keys : {Y : Type 0} (name : List ℕ) (keys : List (Vec ℕ Y)) → l
 any_by_keys name [] = refl
 any_by_keys name (x ∷ keys) = ap (λ r. bytes_eq name x.items || r) (any_by_keys name keys)
 
--- what a new name behind the others leaves
+-- what a new name after the others leaves
 pub added_named : {E : Type 0} (r : Result ℕ E) (old new : List (List ℕ)) (name : List ℕ) → IfOk r (λ n. (n ≡ length old) × (new ≡ old ++ name ∷ [])) → IfOk r (λ n. slice_get new n ≡ Some name)
 added_named (Ok n) old new name h = rw (h.0, h.1) (last_at old name)
 added_named (Err e) old new name h = h
@@ -123,7 +123,7 @@ first_within name (x ∷ names) (suc n) h = by (bytes_eq name x) (first_within n
     by true l = omega arith
     by false l = omega (arith, l)
 
--- a name that stands at a place has a number
+-- a name that is at a place has a number
 named_somewhere : (names : List (List ℕ)) (name : List ℕ) (n : ℕ) → slice_get names n ≡ Some name → number_in names name ≡ None → ⊥
 named_somewhere names name n there none = by (nat_lt (position_or_len (bytes_eq name) names) (length names)) refl none
   where
@@ -131,7 +131,7 @@ named_somewhere names name n there none = by (nat_lt (position_or_len (bytes_eq 
     by true e h = cc
     by false e h = let l = ltb-false _ _ e in let m = first_within name names n there in omega (arith, l, m)
 
--- and where names are distinct it is that place
+-- if names are distinct, it is that place
 pub number_of_named : (names : List (List ℕ)) (name : List ℕ) (n : ℕ) → AreDistinct names → slice_get names n ≡ Some name → number_in names name ≡ Some n
 number_of_named names name n distinct there = by (number_in names name) refl
   where
@@ -145,7 +145,7 @@ same_number n = (Decides-eqb n n).1 refl
 pub other_number : (m n : ℕ) → (m ≡ n → ⊥) → nat_eq m n ≡ false
 other_number m n h = elim (eqb_tells m n) [ inl p ↦ absurd (h p.1) | inr p ↦ p.0 ]
 
--- what the tables tell of a name is what they tell by its number
+-- what the tables say of a name is what they say by its number
 pub declared_named : (all : List (List ℕ)) (tables : Tables) (n : ℕ) (name : List ℕ) → AreDistinct all → IsNameNumber all n name → declared_at tables n ≡ table_name all tables name
 declared_named all tables n name distinct there = ap (declared_for tables) (sym (number_of_named all name n distinct there))
 

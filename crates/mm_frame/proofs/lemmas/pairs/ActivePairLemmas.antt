@@ -1,4 +1,4 @@
--- Active pairs: they grow by those of each `$d`, an active statement reads at its own place as behind all items, and which `$d` has a pair.
+-- Active pairs: they grow by those of each `$d`, an active statement reads at its own place as after all items, and which `$d` has a pair.
 use Rattle.std.proofs.Common.{◌≡◌, ◌≢◌, ℕ, zero, suc, ◌+◌, ◌<◌, Bool, true, false, cond, ◌&&◌, ◌||◌, Some, List, [], ◌∷◌, ◌++◌, length, map, filter, flat_map, take, drop, slice_get, get_or, bytes_eq, refl, sym, ◌∙◌, ap, subst, arith, inl, inr, ◌⊎◌}
 use Rattle.std.proofs.lemmas.Bool.{false≢true, or_cases, or_left, or_right, or_parts, and_from, false_from_ne_true, not-false, and_parts}
 use Rattle.std.proofs.lemmas.Option.{get_or_from_slice_get}
@@ -52,7 +52,7 @@ expression_at_number before h n item e s t = expression_stays before (take n bef
 pub disjoint_at_number : (before : List Item) → AreSound before → (n : ℕ) (item : Item) → slice_get before n ≡ Some item → is_active_at before n ≡ true → is_disjoint item.kind ≡ true → expression before item ≡ expression (take n before) item
 disjoint_at_number before h n item e s t = disjoint_stays before (take n before) item (drop (suc n) before) h (split_at before n item e) t s
 
--- the pairs of an item, as it reads behind these items
+-- the pairs of an item, as it reads after these items
 abbrev pub item_pairs : List Item → Item → List (Symbol × Symbol)
 item_pairs items item = cond (is_disjoint item.kind) (pairs_of (expression items item)) []
 
@@ -137,7 +137,7 @@ pub all_more : {X : Type 0} (f : X → Symbol) (variables : List X) (n : ℕ) (d
     (map f (drop (n + 1) variables))
 all_more f variables n d l = let z : suc n ≡ n + 1 = omega arith in all_next f variables n d l ∙ ap (λ k. pairs_with (f (get_or variables n d)) (map f (drop k variables)) ++ pairs_of (map f (drop k variables))) z
 
--- of two elements of a list, one stands before the other
+-- of two elements of a list, one comes before the other
 with_first : (x y z : Symbol) (xs : List Symbol) → z ≡ x → In y xs → In (x, y) (pairs_with z xs)
 with_first x y z xs e k = subst (λ w. In (w, y) (pairs_with z xs)) e (in_map (λ (t : Symbol). (z, t)) y xs k)
 

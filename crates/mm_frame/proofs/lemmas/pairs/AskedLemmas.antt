@@ -1,4 +1,4 @@
--- What was found for pairs that were asked: after one more item, and what it tells of active pairs.
+-- What was found for pairs that were looked up: after one more item, and what it says of active pairs.
 use Rattle.std.proofs.Common.{◌≡◌, ℕ, zero, suc, ◌<◌, ◌≤◌, Bool, true, false, Option, Some, None, List, [], ◌∷◌, ◌++◌, length, take, drop, get_or, refl, sym, ◌∙◌, ap, subst, take-append-drop, append_assoc, length-append, arith, inl, inr}
 use Rattle.std.specs.Prelude.{Contains, IfSome, IfNone, is_some}
 use native.Mathlib.Decide.{dec_lt}
@@ -76,7 +76,7 @@ answer_more before item x y upto common a =
 pub asked_more : (all : List (List ℕ)) (before : List Item) (item : Item) (asked : AskedPairs) → KnowsAsked all before asked → KnowsAsked all (before ++ item ∷ []) asked
 asked_more all before item asked knows k d l x y a b = answer_more before item x y (get_or asked.answers.items k d).upto (get_or asked.answers.items k d).common (knows k d l x y a b)
 
--- ---- what an answer tells
+-- ---- what an answer says
 
 common_pair : (all : List (List ℕ)) (before : List Item) (table : PairTable) (blocks : List Mark) (first second : ℕ) (x y : List ℕ) → ReadsPairs all before table blocks → IsNameNumber all first x → IsNameNumber all second y → (n : ℕ)
     → IsCommon blocks (row_at table first) (row_at table second) n → HavePair before x y n
@@ -110,7 +110,7 @@ active_told all before table blocks first second x y upto common k a b apart ans
     let there = answer.there yet.0 yet.1 in
     sym (paired_to before x y yet.0 (names_apart all first second x y before table blocks k a b apart) (record { first = there.0; second = there.1; stayed = active_at_marks before blocks yet.0 k.marks ∙ yet.2 }))
 
--- where none is active of those that were looked at, an active one is no earlier
+-- if none is active of those that were looked at, an active one is no earlier
 later_common : (all : List (List ℕ)) (before : List Item) (table : PairTable) (blocks : List Mark) (first second : ℕ) (x y : List ℕ) (upto : ℕ)
     (common : Option ℕ) → ReadsPairs all before table blocks → IsNameNumber all first x → IsNameNumber all second y
     → IsPairAnswer before x y upto common → IsEnded blocks common → (n : ℕ) → HavePair before x y n → upto ≤ n

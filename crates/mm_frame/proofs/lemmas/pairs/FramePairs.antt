@@ -136,7 +136,7 @@ typed_variable before item v h m =
           | inr b ↦ (and_parts (is_floating f.kind) (has (mandatory_variables before item) (variable_of f)) b).1
         ]
 
--- mandatory variables are a pair of the frame where they are an active pair
+-- mandatory variables are a pair of the frame exactly when they are an active pair
 paired_same : (mandatory : List (List ℕ)) (pairs : List (Symbol × Symbol)) (named : Symbol × Symbol) → has mandatory named.0.name ≡ true
     → has mandatory named.1.name ≡ true → are_paired pairs named ≡ are_paired (filter (is_mandatory_pair mandatory) pairs) named
 paired_same mandatory pairs named a b = sym (any-filter_same (is_pair named) (is_mandatory_pair mandatory) true (λ pair t. kept pair (same_names named pair t)) pairs)
@@ -159,7 +159,7 @@ nothing : (b : Bool) → cond {A = List NumberedSymbol} b [] [] ≡ []
 nothing true = refl
 nothing false = refl
 
--- nor has one of the active `$e`, wherever it stands among them
+-- nor has one of the active `$e`, wherever it is among them
 pub no_variable : (essentials : List ℕ) (expressions : List (List NumberedSymbol)) (n place : ℕ) → slice_get essentials place ≡ Some n → float_variable essentials expressions n ≡ []
 no_variable essentials expressions n place e =
     ap (λ b. cond b [] (option_to_list (slice_get (expression_kept expressions n) 1))) (in_among essentials n (get_in n essentials place e))

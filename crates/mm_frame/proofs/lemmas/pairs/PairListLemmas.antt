@@ -1,4 +1,4 @@
--- The active pairs are those behind the items up to the last active `$d`, and the lists that are made of them.
+-- The active pairs are those after the items up to the last active `$d`, and the lists that are made of them.
 use Rattle.std.proofs.Common.{◌≡◌, ℕ, zero, suc, ◌+◌, ◌-◌, ◌<◌, ◌≤◌, Bool, true, false, cond, ◌&&◌, ◌||◌, Option, Some, None, List, [], ◌∷◌, ◌++◌, length, Global, All, Contains, Decides, ◌⊎◌, ◌↔◌, leb, map}
 use Rattle.std.proofs.Common.{flat_map, take, drop, slice_get, get_or, nat_eq, Vec, refl, sym, ◌∙◌, ap, subst, append-nil, arith, length-append}
 use Rattle.std.proofs.Common.{length-take-le, inl, inr}
@@ -67,7 +67,7 @@ get_join [] ys n x e = cc
 get_join (z ∷ xs) ys zero x e = e
 get_join (z ∷ xs) ys (suc n) x e = get_join xs ys n x e
 
--- a number of an active item of a beginning, behind which the items close no block, is one of all items
+-- a number of an active item of a beginning, after which the items close no block, is one of all items
 number_of_front : (test : Item → Bool) (a d : List Item) → stays d ≡ true → (m : ℕ) → In m (active_numbers test a) → In m (active_numbers test (a ++ d))
 number_of_front test a d s m h =
     let r = from_active_number test a m h in
@@ -75,7 +75,7 @@ number_of_front test a d s m h =
     let stayed : is_active_at (a ++ d) m ≡ true = ap stays (drop-append-le (suc m) a d (omega arith)) ∙ stays_join (drop (suc m) a) d r.2 s in
     to_active_number test (a ++ d) m r.0 (get_join a d m r.0 r.1) stayed r.3
 
--- of rising numbers those of a beginning are less than those behind it
+-- of rising numbers those of a beginning are less than those after it
 front_below : (numbers rest : List ℕ) (n m : ℕ) → IsRising (numbers ++ rest) → In n numbers → In m rest → n < m
 front_below [] rest n m r h k = absurd h
 front_below (x ∷ xs) rest n m r (inl e) k = let l = above x (xs ++ rest) m r (in_right m xs rest k) in omega arith
@@ -139,7 +139,7 @@ pairs_of_front a d m h =
     let same = here ∙ sym there in
     λ i. pairs_of (expression (sym (take-append-le m a d (omega arith)) i) (same i))
 
--- the active pairs behind so many of the items are those of their active `$d`
+-- the active pairs after this many of the items are those of their active `$d`
 pub front_pairs : (before : List Item) (numbers : List ℕ) (count : ℕ) → AreSound before → AreFrontNumbers before numbers count → active_pairs (take count before) ≡ flat_map (pairs_at before) numbers
 front_pairs before numbers count h front =
     let a = take count before in
@@ -151,7 +151,7 @@ front_pairs before numbers count h front =
 pub whole_front : (before : List Item) (numbers : List ℕ) (count : ℕ) → AreSound before → numbers ≡ active_numbers is_disjoint_item before → AreFrontNumbers before numbers count → active_pairs (take count before) ≡ active_pairs before
 whole_front before numbers count h e front = front_pairs before numbers count h front ∙ ap (flat_map (pairs_at before)) e ∙ sym (active_pairs_by_numbers before h)
 
--- the items up to the last of the first active `$d`, and none where there is none
+-- the items up to the last of the first active `$d`, and none if there is none
 abbrev pub number_last : List ℕ → Option ℕ
 number_last numbers = slice_get numbers (length numbers - 1)
 
@@ -345,19 +345,19 @@ front_read all before expressions numbers count h a front =
         let r = from_active_number is_disjoint_item (take count before) n (subst (In n) front.active k) in
         (r.0, subst (λ w. slice_get w n ≡ Some r.0) (take-append-drop count before) (get_join (take count before) (drop count before) n r.0 r.1), r.3)
 
--- the pairs behind so many of the items, with those of the `$d` behind, are the active ones
+-- the pairs after this many of the items, with those of the later `$d`, are the active ones
 pub front_and_own : (before : List Item) (outer own : List ℕ) (count : ℕ) → AreSound before → outer ++ own ≡ active_numbers is_disjoint_item before
     → AreFrontNumbers before outer count → active_pairs (take count before) ++ flat_map (pairs_at before) own ≡ active_pairs before
 front_and_own before outer own count h e front =
     ap (λ w. w ++ flat_map (pairs_at before) own) (front_pairs before outer count h front) ∙ sym (flat_map-append (pairs_at before) outer own) ∙ ap (flat_map (pairs_at before)) e ∙ sym (active_pairs_by_numbers before h)
 
--- so it is with those of the first of these `$d`, and the ones of the others
+-- the same holds for those of the first of these `$d`, and the ones of the others
 pub front_and_more : (before : List Item) (outer done own : List ℕ) (count front : ℕ) → AreSound before → done ++ own ≡ outer → AreFrontNumbers before outer count → AreFrontNumbers before done front
     → active_pairs (take front before) ++ flat_map (pairs_at before) own ≡ active_pairs (take count before)
 front_and_more before outer done own count front h e all first =
     ap (λ w. w ++ flat_map (pairs_at before) own) (front_pairs before done front h first) ∙ sym (flat_map-append (pairs_at before) done own) ∙ ap (flat_map (pairs_at before)) e ∙ sym (front_pairs before outer count h all)
 
--- pairs of a list that has each of some pairs, and of two lists behind one another
+-- pairs of a list that has each of some pairs, and of two lists one after another
 pair_more : (all : List (List ℕ)) (xs ys : List (NumberedSymbol × NumberedSymbol)) (x y : Symbol) → HasEach ys xs → ArePair (kept_pairs all xs) x y → ArePair (kept_pairs all ys) x y
 pair_more all xs ys x y each are = by are
   where
@@ -389,7 +389,7 @@ same_members all said xs ys same read = record {
   numbered = λ k d l. All-contains (IsPairNumbered all) xs (get_or ys k d) read.numbered (same.1 (get_or ys k d) (All-contains_itself ys k d l));
 }
 
--- two lists behind one another
+-- two lists one after another
 both_read : (all : List (List ℕ)) (said added : List (Symbol × Symbol)) (base own : List (NumberedSymbol × NumberedSymbol)) → AreSamePairsRead all said base → AreSamePairsRead all added own → AreSamePairsRead all (said ++ added) (own ++ base)
 both_read all said added base own b o = record {
   pairs = λ x y. (λ h. from x y (pair_parts (kept_pairs all own) (kept_pairs all base) x y (subst (λ w. ArePair w x y) split h)), λ h. subst (λ w. ArePair w x y) (sym split) (to x y (pair_parts said added x y h)));
@@ -431,7 +431,7 @@ list_read all lists k pairs is = subst (λ o. AreSamePairsRead all pairs (pairs_
 pub list_in_order : (all : List (List ℕ)) (lists : PairLists) (k : ℕ) (pairs : List (Symbol × Symbol)) → IsList all lists k pairs → AreInOrder (list_kept lists k)
 list_in_order all lists k pairs is = subst (λ o. AreInOrder (pairs_or_none o)) (sym is.there) is.order
 
--- the lists that are made stay so behind more items
+-- the lists that are made stay right after more items
 pub made_more : (all : List (List ℕ)) (before later : List Item) (lists : PairLists) → AreMade all before lists → AreMade all (before ++ later) lists
 made_more all before later lists m count k e =
     let r = m count k e in
@@ -462,7 +462,7 @@ made_one_more all before old new count k keeps made within is told other j e = b
     ]
     by_test false t = before_it (sym (ap (λ b. cond b (Some k) (list_made old other)) t) ∙ sym (told other) ∙ e)
 
--- the last list, where the test says that it is of these pairs
+-- the last list, if the test says that it is of these pairs
 pub is_there : (lists : PairLists) (last : Vec (NumberedSymbol × NumberedSymbol) Global) (kept : List (NumberedSymbol × NumberedSymbol))
     → slice_get lists.lists.items (length lists.lists.items - 1) ≡ Some last → pointwise is_same_pair last.items kept ≡ true
     → IsThere lists (length lists.lists.items - 1) kept
@@ -472,7 +472,7 @@ is_there lists last kept there t = record { list = last; there = there; same = (
 pub is_list : (all : List (List ℕ)) (lists : PairLists) (k : ℕ) (kept : List (NumberedSymbol × NumberedSymbol)) (pairs : List (Symbol × Symbol)) → IsThere lists k kept → AreSamePairsRead all pairs kept → AreInOrder kept → IsList all lists k pairs
 is_list all lists k kept pairs there read order = record { list = there.list; there = there.there; read = subst (AreSamePairsRead all pairs) (sym there.same) read; order = subst AreInOrder (sym there.same) order }
 
--- the rows of numbers of lists, where there may be more lists
+-- the rows of numbers of lists stay right with more lists
 pairs_stay : (all : List (List ℕ)) (said : List Item) (old new : PairLists) (numbers : List (Option ℕ)) → KeepsLists old new → AreRows (TellsPairs all old) said numbers → AreRows (TellsPairs all new) said numbers
 pairs_stay all said old new numbers keeps rows = record {
   count = rows.count;

@@ -1,4 +1,4 @@
--- Lists of pairs in the order of the numbers of their names: behind a sort, and with each kept once.
+-- Lists of pairs in the order of the numbers of their names: after a sort, and with each kept once.
 use Rattle.std.proofs.Common.{◌≡◌, ℕ, zero, suc, ◌+◌, ◌≤◌, Bool, true, false, cond, leb, Some, List, [], ◌∷◌, flat_map, map, get_or, slice_get, refl, sym, ◌∙◌, ap, subst, arith, leb-true}
 use Rattle.std.specs.Prelude.{All, ⊤}
 use Rattle.std.specs.Ordering.{is_lt, nat_cmp, ordering_then}
@@ -30,7 +30,7 @@ not_before_itself a = grind (arith, nat_tests)
 abbrev IsBefore : Pair → Pair → Type 0
 IsBefore p q = comes_before (name_numbers q) (name_numbers p) ≡ false
 
--- so it is for each of them
+-- the same holds for each of them
 abbrev Rise : List Pair → Type 0
 Rise [] = ⊤
 Rise (p ∷ ps) = All (IsBefore p) ps × Rise ps
@@ -55,7 +55,7 @@ sorted_rise (p ∷ q ∷ ps) up =
     let next = sorts_so p q (up 0 p (omega arith) (omega arith)) in
     (All-cons (IsBefore p) q ps next (λ k d l. not_before_on (name_numbers p) (name_numbers q) (name_numbers (get_or ps k d)) next (rest.0 k d l)), rest)
 
--- where each is kept once, they still rise
+-- if each is kept once, they still rise
 module _ (same : Pair → Pair → Bool) where
   rise_if : (b : Bool) (ps qs : List Pair) → (b ≡ true → Rise ps) → (b ≡ false → Rise qs) → Rise (cond b ps qs)
   rise_if true ps qs h k = h refl

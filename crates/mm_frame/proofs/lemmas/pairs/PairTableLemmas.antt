@@ -1,4 +1,4 @@
--- The table of pairs: its rows behind a write and behind one more item, and what they tell of active pairs.
+-- The table of pairs: its rows after a write and after one more item, and what they say of active pairs.
 use Rattle.std.proofs.Common.{◌≡◌, ◌≢◌, ℕ, zero, suc, ◌+◌, ◌<◌, Bool, true, false, Some, List, [], ◌∷◌, ◌++◌, length, take, drop, slice_get, get_or, refl, sym, ◌∙◌, ap, subst, take-suc, arith, inl, inr, ◌⊎◌, Global, Contains, MatchBool, Vec}
 use Rattle.std.specs.Vec.{with_item}
 use Rattle.std.proofs.Math.ListN.{set}
@@ -275,7 +275,7 @@ paired_to before x y n apart p = elim (in_order (symbol before x) (symbol before
 pub active_at_marks : (before : List Item) (marks : List Mark) (n : ℕ) → marks ≡ block_marks before → is_active_at before n ≡ stays_by (drop (suc n) marks)
 active_at_marks before marks n e = let z : n + 1 ≡ suc n = omega arith in active_by_marks before n ∙ (λ i. stays_by (drop (z i) (sym e i)))
 
--- what two rows have in common tells whether the names are an active pair
+-- what two rows have in common says whether the names are an active pair
 abbrev HaveCommon : List Mark → List ℕ → List ℕ → Type 0
 HaveCommon marks row other = (n : ℕ) × IsCommon marks row other n
 

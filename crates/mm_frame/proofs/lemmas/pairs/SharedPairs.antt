@@ -67,7 +67,7 @@ module _ (all : List (List ℕ)) (distinct : AreDistinct all) (list pairs : List
         | inr b ↦ inr (back (p.1, p.0) (numbered.1, numbered.0) b)
       ]
 
--- two lists by distinct names are of the same pairs exactly where each has those of the other
+-- two lists by distinct names are of the same pairs exactly when each has those of the other
 pub same_either_way : (all : List (List ℕ)) → AreDistinct all → (mine yours : List (NumberedSymbol × NumberedSymbol)) → All (IsPairNumbered all) mine
     → All (IsPairNumbered all) yours → (HasEitherWay mine yours × HasEitherWay yours mine) ↔ AreSamePairs (kept_pairs all mine) (kept_pairs all yours)
 same_either_way all distinct mine yours m n = (
@@ -75,7 +75,7 @@ same_either_way all distinct mine yours m n = (
   λ s. (each_read all distinct mine yours m n (λ x y p. (s x y).1 p), each_read all distinct yours mine n m (λ x y p. (s x y).0 p)),
 )
 
--- so the pairs that are told by them are
+-- the same holds of the pairs that these lists report
 pub same_told : (all : List (List ℕ)) → AreDistinct all → (mine yours : List (NumberedSymbol × NumberedSymbol)) (pairs others : List (Symbol × Symbol)) → All (IsPairNumbered all) mine → All (IsPairNumbered all) yours
     → AreSamePairs (kept_pairs all mine) pairs → AreSamePairs (kept_pairs all yours) others → (HasEitherWay mine yours × HasEitherWay yours mine) ↔ AreSamePairs pairs others
 same_told all distinct mine yours pairs others m n s t =

@@ -1,4 +1,4 @@
--- What an older base tells of an item that is the same bytes as one of its items.
+-- What an older base says of an item that is the same bytes as one of its items.
 use Rattle.std.proofs.Common.{◌≡◌, ℕ, zero, suc, Bool, true, false, if◌then◌else◌, Some, None, List, [], ◌∷◌, map, get_or, length, sym, ◌∙◌, ap, subst, All, slice_get}
 use Rattle.std.specs.Option.{option_map}
 use Rattle.std.specs.List.{AllZip}
@@ -34,7 +34,7 @@ pub same_again : (files : FilesView) (found : List store.Item) (said : List Item
 same_again files found said i item law h again told says =
     same_said files again.was item (record { kind = again.kind; key = again.key; start = again.start; end = again.end }) law (item_at said i) told (says_at files found said i again.was h again.there) says
 
--- an expression that is told is that of the item
+-- an expression that is reported is that of the item
 pub told_expression : (b : Bool) (one other : List Symbol) → Some one ≡ (if b then Some other else None) → one ≡ other
 told_expression true one other e = same_Some one other e
 told_expression false one other e = cc

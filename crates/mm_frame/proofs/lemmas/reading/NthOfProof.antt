@@ -20,7 +20,7 @@ pub left_next : (words left new : List Word) (n : ℕ) (word : Option Word) → 
 left_next words left new n None e h = ap (λ (l : List Word). slice_get l 0) (sym h.0 ∙ e) ∙ get_drop words n 0 n (omega arith)
 left_next words left new n (Some word) e h = ap (λ (l : List Word). slice_get l 0) (sym h ∙ e) ∙ get_drop words n 0 n (omega arith)
 
--- where none is left, none is further on
+-- if none is left, none is further on
 pub left_none : (words left : List Word) (k n : ℕ) → left ≡ drop k words → left ≡ [] → k ≤ n → None ≡ slice_get words n
 left_none words left k n e none less = ap (λ (l : List Word). slice_get l (n - k)) (sym none ∙ e) ∙ get_drop words k (n - k) n (omega arith)
 

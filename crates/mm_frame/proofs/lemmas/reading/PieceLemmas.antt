@@ -23,7 +23,7 @@ bytes_in text item = slice_range text item.start item.end
 abbrev pub OneReading : Type 0
 OneReading = (text : List ℕ) (a b : List Word) → HasWords text a → HasWords text b → a ≡ b
 
--- the words, where they are the only ones
+-- the words, if they are the only ones
 abbrev pub OnlyWords : List ℕ → List Word → Type 0
 OnlyWords text words = (others : List Word) → HasWords text others → words ≡ others
 

@@ -49,7 +49,7 @@ symbols_more words left new symbols word h e plain = record {
       ap (drop 1) (sym e ∙ h.behind) ∙ drop-drop 1 (length symbols) words ∙ ap (λ k. drop k words) one;
 }
 
--- all symbols, and the words behind the one that closes them
+-- all symbols, and the words after the one that closes them
 pub record AllSymbols (words new symbols : List Word) : Type 0 where
   pub are : symbols ≡ plain_words words
   pub rest : new ≡ drop (length (plain_words words) + 1) words
@@ -81,7 +81,7 @@ symbols_passed words left new symbols skips h = passed_more skips.passed words l
 
 -- ---- a statement
 
--- the words behind one word
+-- the words after one word
 pub behind_one : (old new : List Word) (word : Option Word) → MatchOption word ((old ≡ []) × (new ≡ [])) (λ w. old ≡ w ∷ new) → new ≡ drop 1 old
 behind_one old new None h = h.1 ∙ ap (drop 1) (sym h.0)
 behind_one old new (Some word) h = ap (drop 1) (sym h)
@@ -105,7 +105,7 @@ pub count_bytes : (text : List ℕ) (words : List Word) → length (map (word_by
 count_bytes text [] = refl
 count_bytes text (word ∷ words) = ap suc (count_bytes text words)
 
--- the words behind the label and the keyword
+-- the words after the label and the keyword
 behind_label : (labelled : Bool) (words new : List Word) (label : Option Word) → TakesLabel labelled words label new → drop 1 new ≡ drop (if labelled then 2 else 1) words
 behind_label true words new (Some word) h = sym (ap (drop 2) h)
 behind_label false words new None h = ap (drop 1) h
@@ -125,12 +125,12 @@ pub record Reads (kind : Kind) (words : List Word) (label : Option Word) (symbol
   pub keyword : first ≡ drop 1 behind
   pub all : AllSymbols first rest symbols
 
--- so they are where the symbols are passed over
+-- this is read if the symbols are passed over
 pub passed : (kind : Kind) (words : List Word) (label : Option Word) (behind first rest : List Word) → TakesLabel (is_labelled kind) words label behind → first ≡ drop 1 behind
     → rest ≡ drop (length (plain_words first) + 1) first → Reads kind words label (plain_words first) rest
 passed kind words label behind first rest takes keyword after = record { behind = behind; takes = takes; first = first; keyword = keyword; all = record { are = refl; rest = after } }
 
--- the words of the proof, and what stands behind them
+-- the words of the proof, and what comes after them
 pub rest_at : (kind : Kind) (text : List ℕ) (words : List Word) (label : Option Word) (symbols rest : List Word) → Reads kind words label symbols rest
     → (map (word_bytes text) symbols ≡ token_names (symbols_in kind (tokens_of text words))) × (rest ≡ drop (symbols_from kind + length (symbols_in kind (tokens_of text words)) + 1) words)
 rest_at kind text words label symbols rest h =
@@ -159,7 +159,7 @@ AreSome names = AllByRecursion (λ name. 0 < length name) names
 abbrev bytes_of : List (List ℕ) → ℕ
 bytes_of names = length (flat_map (λ name. name) names)
 
--- so it is with the words behind some place, and with those before it
+-- the same holds for the words after some place, and with those before it
 some_behind : (n : ℕ) (names : List (List ℕ)) → AreSome names → AreSome (drop n names)
 some_behind zero names h = h
 some_behind (suc n) [] h = tt
@@ -219,6 +219,6 @@ module _ (text : List ℕ) (kind : Kind) (words : List Word) (label : Option Wor
       let plain : n ≤ length h.first = omega (arith, length-take (prefix_len (λ (w : Word). is_plain_kind w.kind) h.first) h.first) in
       omega (arith, first, plain, ap length h.all.are, ap length h.all.rest, length-drop (n + 1) h.first)
 
--- behind the first word there are few
+-- after the first word there are few
 pub few_more : (word : List ℕ) (words : List (List ℕ)) → AreFewWords (word ∷ words) → AreFewWords words
 few_more word words few = record { few = omega (arith, few.few); some = few.some.1; bytes = omega (arith, few.bytes, length-append word (flat_map (λ (w : List ℕ). w) words)) }

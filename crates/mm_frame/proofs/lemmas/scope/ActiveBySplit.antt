@@ -36,7 +36,7 @@ stays_front xs ys h =
     let n : closed xs ≡ 0 = omega arith in
     ap is_zero n
 
--- where an active item stands
+-- where an active item is
 pub record Split (xs : List Item) (x : Item) : Type 0 where
   pub front : List Item
   pub back : List Item
@@ -55,7 +55,7 @@ pub active_split : (xs : List Item) (x : Item) → In x (active xs) → Split xs
 active_split [] x h = absurd h
 active_split (y ∷ ys) x h = split_at y ys x (stays ys) refl h (λ k. active_split ys x k)
 
--- what stands in a list whose first element is kept under a condition
+-- what is in a list whose first element is kept under a condition
 pub in_first : {X : Type 0} (b : Bool) (x : X) (xs : List X) → b ≡ true → In x (cond b (x ∷ xs) xs)
 in_first true x xs e = inl refl
 in_first false x xs e = absurd (false≢true e)

@@ -11,14 +11,14 @@ use Rattle.mm_frame.specs.Code.BlockEnds.{end_of_block}
 use Rattle.mm_frame.specs.Code.KeptBlocks.{marks_from, StandsEnded, Stands, AreBlockEndsKept}
 use Rattle.mm_frame.proofs.lemmas.scope.BlockLemmas.{length_marks, before_none, is_active_open, is_active_ended}
 
--- what stands between an item and a later one, be there one or not
+-- what is between an item and a later place, with or without an item there
 behind_range : (marks : List Mark) (from at : ℕ) → from < at → slice_range marks (from + 1) at ≡ drop (suc from) (take at marks)
 behind_range marks from at l =
     let next : from + 1 ≡ suc from = omega arith in
     let whole : (from + 1) + (at - (from + 1)) ≡ at = omega arith in
     sym (drop-take (from + 1) (at - (from + 1)) marks) ∙ ap (λ n. drop (from + 1) (take n marks)) whole ∙ ap (λ n. drop n (take at marks)) next
 
--- nothing stands behind an item that there is not
+-- nothing comes after an item that there is not
 pub until_absent : (marks : List Mark) (from at : ℕ) → length marks ≤ from → (stays_by (drop (suc from) (take at marks)) ≡ true) ↔ IsUpTo at None
 until_absent marks from at l = (λ e. tt, λ u. before_none marks from at (min at (length marks)) refl (omega arith))
 

@@ -56,7 +56,7 @@ marks_push : (ends : List (Option ℕ)) (item before : ℕ) (blocks : List ℕ) 
 marks_push ends item before [] behind n q = (let e : item ≡ n = omega arith in ap (λ w. mark_between ends w before behind ∷ []) e)
 marks_push ends item before (block ∷ blocks) behind n q = ap (λ w. mark_between ends item before block ∷ w) (marks_push ends (suc item) block blocks behind n (omega arith))
 
--- ends behind the items say nothing of them
+-- ends at later items say nothing of the marks
 marks_same : (ends more : List (Option ℕ)) (item before : ℕ) (blocks : List ℕ) → ((block n : ℕ) → n < item + length blocks
     → is_at (end_of_block more block) n ≡ is_at (end_of_block ends block) n) → marks_from more item before blocks ≡ marks_from ends item before blocks
 marks_same ends more item before [] h = refl
@@ -152,7 +152,7 @@ entered blocks ends more outer current marks h l k = record {
 pub entered_marks : (ends more : List (Option ℕ)) (blocks : List ℕ) → ((block : ℕ) → end_of_block more block ≡ end_of_block ends block) → marks_from more 0 0 blocks ≡ marks_from ends 0 0 blocks
 entered_marks ends more blocks h = marks_same ends more 0 0 blocks (λ block n l. ap (λ end. is_at end n) (h block))
 
--- one more mark behind an item
+-- one more mark after an item
 more_ended : (behind : List Mark) (mark : Mark) (item end : ℕ) → StandsEnded behind item end → StandsEnded (behind ++ mark ∷ []) item end
 more_ended behind mark item end s = record {
   front = s.front;
@@ -167,7 +167,7 @@ stand_more : (old stack : List ℕ) (behind : List Mark) (mark : Mark) (block it
 stand_more old stack behind mark block item None s f = f s
 stand_more old stack behind mark block item (Some end) s f = more_ended behind mark item end s
 
--- the last item stands in the innermost block
+-- the last item is in the innermost block
 stand_last : (outer : List ℕ) (behind : List Mark) (block item : ℕ) (end : Option ℕ) → end ≡ None → behind ≡ [] → Stands (outer ++ block ∷ []) behind block item end
 stand_last outer behind block item end e q =
     let z : 0 ≡ length (outer ++ block ∷ []) - suc (length outer) = omega (arith, length_push outer block) in
@@ -177,7 +177,7 @@ stand_last outer behind block item end e q =
       leaves = subst (λ w. LeavesOpen w (length (outer ++ block ∷ []) - suc (length outer))) (sym q) (subst (λ n. LeavesOpen [] n) z leaves_nothing);
     })
 
--- the blocks of all items, where those of the earlier ones are known
+-- the blocks of all items, if those of the earlier ones are known
 stands_all : (blocks : List ℕ) (ends : List (Option ℕ)) (outer : List ℕ) (next : ℕ) (marks : List Mark) (mark : Mark) → length marks ≡ length blocks → end_of_block ends next ≡ None
     → ((item block : ℕ) → slice_get blocks item ≡ Some block → Stands (outer ++ next ∷ []) (drop (suc item) marks ++ mark ∷ []) block item (end_of_block ends block)) → (item block : ℕ) → slice_get (blocks ++ next ∷ []) item ≡ Some block
     → Stands (outer ++ next ∷ []) (drop (suc item) (marks ++ mark ∷ [])) block item (end_of_block ends block)
@@ -189,7 +189,7 @@ stands_all blocks ends outer next marks mark count e h = each_more (λ item bloc
         let l = slice_get_within blocks item block there in
         subst (λ behind. Stands (outer ++ next ∷ []) behind block item (end_of_block ends block)) (sym (drop-append-le (suc item) marks (mark ∷ []) (omega arith))) (h item block there)
 
--- no number stands twice in a list
+-- no number is there twice in a list
 abbrev pub IsDistinct : List ℕ → Type 0
 IsDistinct xs = (one other x : ℕ) → slice_get xs one ≡ Some x → slice_get xs other ≡ Some x → one ≡ other
 
@@ -275,12 +275,12 @@ popped_is (block ∷ outer) rest next fresh None e v q = absurd (false≢true (v
 no_element : (level block : ℕ) → slice_get [] level ≡ Some block → ⊥
 no_element level block there = cc
 
--- an open block that is not the innermost stands where it stood
+-- an open block that is not the innermost is where it was
 stays_put : (outer rest : List ℕ) (next fresh level block : ℕ) → Popped outer rest next fresh → slice_get outer level ≡ Some block → (slice_get (rest ++ next ∷ []) level ≡ Some block) × (length (rest ++ next ∷ []) ≡ length outer)
 stays_put outer rest next fresh level block (inl e) there = (subst (λ w. slice_get w level ≡ Some block) e there, ap length (sym e))
 stays_put outer rest next fresh level block (inr e) there = absurd (no_element level block (subst (λ w. slice_get w level ≡ Some block) (e.0) there))
 
--- an open block stood among the outer ones, or is the only one, and new
+-- an open block was among the outer ones, or is the only one, and new
 stood_there : (outer rest : List ℕ) (next fresh level block : ℕ) → Popped outer rest next fresh → slice_get (rest ++ next ∷ []) level ≡ Some block → (slice_get outer level ≡ Some block) ⊎ ((outer ≡ []) × (level ≡ 0) × (block ≡ fresh))
 stood_there outer rest next fresh level block (inl e) there = inl (subst (λ w. slice_get w level ≡ Some block) (sym e) there)
 stood_there outer rest next fresh level block (inr e) there = (let h = the_only level (subst (λ w. slice_get (w ++ next ∷ []) level ≡ Some block) (e.1) there) in inr (e.0, h.0, h.1))
@@ -289,7 +289,7 @@ stood_there outer rest next fresh level block (inr e) there = (let h = the_only 
     the_only zero h = (refl, sym (same_Some next block h) ∙ e.2)
     the_only (suc level) h = absurd (cc)
 
--- the ends, where an item ends a block
+-- the ends after an item that ends a block
 abbrev pub closing : List (Option ℕ) → ℕ → ℕ → List (Option ℕ)
 closing ends block item = set ends block (Some item)
 
@@ -473,21 +473,21 @@ items_within ends blocks marks n e l = omega (arith, ap length e, length_marks e
 pub marks_count : (ends : List (Option ℕ)) (blocks : List ℕ) (marks : List Mark) → marks_from ends 0 0 blocks ≡ marks → length marks ≡ length blocks
 marks_count ends blocks marks e = sym (ap length e) ∙ length_marks ends 0 0 blocks
 
--- what stands behind an item up to the last one
+-- what comes after an item up to the last one
 pub behind_item : (marks : List Mark) (from count : ℕ) → count ≡ length marks → slice_range marks (from + 1) count ≡ drop (suc from) marks
 behind_item marks from count e =
     let next : from + 1 ≡ suc from = omega arith in
     ap (slice_range marks (from + 1)) e ∙ take_rest marks (from + 1) ∙ ap (λ n. drop n marks) next
 
--- nothing stands behind an item that is yet to come
+-- nothing comes after an item that is yet to come
 pub behind_none : (marks : List Mark) (from : ℕ) → length marks ≤ from → stays_by (drop (suc from) marks) ≡ true
 behind_none marks from l = ap stays_by (drop_all (suc from) marks (omega arith))
 
--- the number of an item, or of the one that is yet to come where there is none
+-- the number of an item, or of the one that is yet to come, if there is none
 pub end_within : (ends : List (Option ℕ)) (blocks : List ℕ) (marks : List Mark) (at count end : ℕ) → marks_from ends 0 0 blocks ≡ marks → count ≡ length blocks → end ≡ min at count → end ≡ min at (length marks)
 end_within ends blocks marks at count end v c e = e ∙ ap (min at) (c ∙ sym (marks_count ends blocks marks v))
 
--- what stands behind an item before another
+-- what comes after an item before another
 pub behind_before : (marks : List Mark) (from at end : ℕ) → end ≡ min at (length marks) → from < end → slice_range marks (from + 1) end ≡ drop (suc from) (take at marks)
 behind_before marks from at end e l =
     let next : from + 1 ≡ suc from = omega arith in

@@ -1,4 +1,4 @@
--- What a `$}` leaves of the numbers of active items: those that stood last go.
+-- What a `$}` leaves of the numbers of active items: the last of them are dropped.
 use Rattle.std.proofs.Common.{◌≡◌, ℕ, zero, suc, ◌+◌, ◌-◌, ◌<◌, Bool, true, false, cond, Option, Some, None, List, [], ◌∷◌, ◌++◌, length, take, drop, slice_get, get_or, refl, sym, ◌∙◌, ap, subst, append_assoc, arith, inl, inr, ◌⊎◌}
 use Rattle.std.specs.Prelude.{Contains, option_to_list}
 use Rattle.std.proofs.lemmas.Bool.{false≢true}
@@ -18,7 +18,7 @@ use Rattle.mm_frame.proofs.lemmas.scope.BlockLemmas.{get_front, get_cases, get_l
 use Rattle.mm_frame.proofs.lemmas.lists.Rising.{rising_front, get_drop}
 use Rattle.mm_frame.proofs.lemmas.frames.HypothesisNumbers.{to_active_number, from_active_number, active_numbers_rise, active_numbers_more, same_rising}
 
--- what is active behind one more item was active before it
+-- what is active after one more item was active before it
 pub active_at_front : (before : List Item) (item : Item) (n : ℕ) → n < length before → is_active_at (before ++ item ∷ []) n ≡ true → is_active_at before n ≡ true
 active_at_front before item n l h = stays_front (drop (suc n) before) (item ∷ []) (subst (λ w. stays w ≡ true) (drop-append-le (suc n) before (item ∷ []) (omega arith)) h)
 
@@ -32,7 +32,7 @@ drop_drop xs zero k = let z : 0 + k ≡ k = omega arith in ap (λ n. drop n xs) 
 drop_drop [] (suc m) k = drop-nil k ∙ sym (drop-nil (suc m + k))
 drop_drop (x ∷ xs) (suc m) k = let z : suc (m + k) ≡ suc m + k = omega arith in drop_drop xs m k ∙ ap (λ n. drop n (x ∷ xs)) z
 
--- where an earlier item and a later one were active, the earlier one is active as long as the later one is
+-- if an earlier item and a later one were active, the earlier one is active as long as the later one is
 pub active_at_earlier : (before : List Item) (item : Item) (m n : ℕ) (x : Item) → m < n → slice_get before n ≡ Some x → is_active_at before m ≡ true → is_active_at (before ++ item ∷ []) n ≡ true → is_active_at (before ++ item ∷ []) m ≡ true
 active_at_earlier before item m n x l e h k =
     let w = slice_get_within before n x e in
@@ -51,7 +51,7 @@ active_at_earlier before item m n x l e h k =
 pub active_numbers_passed : (test : Item → Bool) (before : List Item) (item : Item) → mark_of item.kind ≡ Neither → test item ≡ true → active_numbers test (before ++ item ∷ []) ≡ active_numbers test before ++ length before ∷ []
 active_numbers_passed test before item m t = active_numbers_more test before item (not_closing (mark_of item.kind) m) ∙ ap (λ b. active_numbers test before ++ cond b (length before ∷ []) []) t
 
--- a number of an active item behind one more that does not pass
+-- a number of an active item after one more that does not pass
 number_before : (test : Item → Bool) (before : List Item) (item : Item) → test item ≡ false → (n : ℕ) → In n (active_numbers test (before ++ item ∷ [])) → In n (active_numbers test before) × (is_active_at (before ++ item ∷ []) n ≡ true)
 number_before test before item t n h =
     let r = from_active_number test (before ++ item ∷ []) n h in
@@ -74,7 +74,7 @@ last_of (n ∷ numbers) = elim (last_of numbers) [
   | inr p ↦ inr (n ∷ p.0, p.1, ap (λ w. n ∷ w) p.2)
 ]
 
--- what is left is a beginning, and the longest of which all are still active: so it is what is active behind the `$}`
+-- what is left is a beginning, and the longest of which all are still active: so it is what is active after the `$}`
 pub pruned_numbers : (test : Item → Bool) (before : List Item) (item : Item) (kept gone : List ℕ) → test item ≡ false → active_numbers test before ≡ kept ++ gone → ((n : ℕ) → In n gone → is_active_at (before ++ item ∷ []) n ≡ false)
     → ((front : List ℕ) (n : ℕ) → kept ≡ front ++ n ∷ [] → is_active_at (before ++ item ∷ []) n ≡ true) → kept ≡ active_numbers test (before ++ item ∷ [])
 pruned_numbers test before item kept gone t e ended last =
@@ -144,7 +144,7 @@ dropped_more marks old now new number d e f = record {
   ];
 }
 
--- nothing more goes where the last number that is left is that of an active item, or none is left
+-- nothing more is dropped if the last number that is left is that of an active item, or none is left
 last_number : (numbers front : List ℕ) (n : ℕ) → numbers ≡ front ++ n ∷ [] → slice_get numbers (length numbers - 1) ≡ Some n
 last_number numbers front n e =
     let long : length numbers - 1 ≡ length front = (let p = length_push front n in let q = ap length e in omega arith) in

@@ -55,7 +55,7 @@ rise high h low (suc n) l = elim (dec_lt low (high n)) [
     more r m x (yes g) y = let q : suc n ≡ m = omega arith in subst (λ w. low < high w) q l
     more r m x (no g) y = r.above m x (omega arith)
 
--- no item between i and j goes below the height of i exactly where each block around i is around j
+-- no item between i and j goes below the height of i exactly when each block around i is around j
 pub from_height : (high : ℕ → ℕ) → IsHeight high → (i j b e : ℕ) → ((k : ℕ) → i < k → k ≤ j → high (suc i) ≤ high k) → high j ≤ high (suc j) → EndsAt high b e → high (suc b) ≡ suc (high b) → b < i → i < e → j < e
 from_height high h i j b e stay flat d s l m = elim (dec_lt j e) [
   | yes a ↦ a
@@ -74,7 +74,7 @@ from_height high h i j b e stay flat d s l m = elim (dec_lt j e) [
         let y : high e ≤ high (suc e) = subst (λ w. high w ≤ high (suc w)) (sym q) flat in
         omega arith
 
--- where it goes below that height first, a block ends
+-- if it goes below that height first, a block ends
 abbrev pub Around : (ℕ → ℕ) → ℕ → ℕ → Type 0
 Around high i j = (b : ℕ) → b < i → high (suc b) ≡ suc (high b) → ((e : ℕ) → EndsAt high b e → i < e) → (e : ℕ) → EndsAt high b e → j < e
 

@@ -1,4 +1,4 @@
--- What a scope keeps tells what is active and how it is typed, and what one more item makes of it.
+-- What a scope keeps says what is active and how it is typed, and what one more item makes of it.
 use Rattle.std.proofs.Common.{◌≡◌, ℕ, suc, Bool, false, if◌then◌else◌, Option, Some, List, [], ◌∷◌, ◌++◌, length, drop, map, get_or, sym, ◌∙◌, ap, subst}
 use Rattle.std.proofs.Math.ListN.{get_or-map}
 use Rattle.std.proofs.lemmas.List.{map-append, drop-map, length-map}

@@ -36,7 +36,7 @@ use Rattle.mm_frame.proofs.lemmas.scope.TableLemmas.{last_where_next, last_cases
 pub has_one : (bs cs : List ℕ) → bytes_eq bs cs ≡ has (bs ∷ []) cs
 has_one bs cs = nat_list_eq_equiv.symm bs cs ∙ sym (or-false (bytes_eq cs bs))
 
--- what is told of names, where what is told by one number changes
+-- what is reported of names, after what is reported by one number has changed
 told_of : (all : List (List ℕ)) (old new : Tables) (n : ℕ) (name other : List ℕ) (f : Option Declared → Option Declared) → AreDistinct all
     → IsNameNumber all n name → ((m : ℕ) → declared_at new m ≡ cond (nat_eq m n) (f (declared_at old m)) (declared_at old m))
     → table_name all new other ≡ cond (bytes_eq name other) (f (table_name all old other)) (table_name all old other)
@@ -161,7 +161,7 @@ no_variable before name e = variable_last before name ∙ ap is_some e
 pub constant_no_variable : (before : List Item) → AreSound before → (name : List ℕ) → has (constants before) name ≡ true → last_where (declares_variable name) before ≡ None
 constant_no_variable before h name t = without_number (last_where (declares_variable name) before) (sym (variable_last before name) ∙ constant_or_variable before h name t)
 
--- what is told of the last `$v` and the last `$f` of a name
+-- what is reported of the last `$v` and the last `$f` of a name
 pub variable_in : (before : List Item) → AreSound before → (name : List ℕ) → variable_number (declared_in before name) ≡ last_where (declares_variable name) before
 variable_in before h name = by_test (has (constants before) name) (last_where (declares_variable name) before) (last_where (types name) before) (constant_no_variable before h name)
   where
@@ -178,7 +178,7 @@ float_in before h name = by_test (has (constants before) name) (last_where (decl
     by_test false None t n u = sym (u refl)
     by_test false (Some d) t n u = refl
 
--- what is told is told of a declared name
+-- what is reported is reported of a declared name
 pub is_declared_in : (before : List Item) (name : List ℕ) → is_some (declared_in before name) ≡ is_declared before name
 is_declared_in before name = by_test (has (constants before) name) (last_where (declares_variable name) before) (last_where (types name) before) ∙ ap (λ b. has (constants before) name || b) (sym (variable_last before name))
   where
@@ -187,7 +187,7 @@ is_declared_in before name = by_test (has (constants before) name) (last_where (
     by_test false None t = refl
     by_test false (Some d) t = refl
 
--- what is told is told of a constant
+-- what is reported is reported of a constant
 pub constant_in : (before : List Item) (name : List ℕ) → is_constant_as (declared_in before name) ≡ has (constants before) name
 constant_in before name = by_test (has (constants before) name) (last_where (declares_variable name) before) (last_where (types name) before)
   where
@@ -196,7 +196,7 @@ constant_in before name = by_test (has (constants before) name) (last_where (dec
     by_test false None t = refl
     by_test false (Some d) t = refl
 
--- what is told by the number of a name
+-- what is reported by the number of a name
 pub known_at : (all : List (List ℕ)) (before : List Item) (tables : Tables) (n : ℕ) (name : List ℕ) → Knows all before tables → IsNameNumber all n name → declared_at tables n ≡ declared_in before name
 known_at all before tables n name k there = declared_named all tables n name k.distinct there ∙ k.names name
 
@@ -276,7 +276,7 @@ knows_next all before item kind number old new e h l k t = record {
   labels = λ label. (let q = k.labels label in t.labels label ∙ (λ i. label_next (e i) item.label (sym l i) label (q i)) ∙ sym (last_where_next (carries label) before item));
 }
 
--- what stands in the place of a statement at fault changes nothing
+-- what takes the place of a statement at fault changes nothing
 pub knows_passed : (all : List (List ℕ)) (before : List Item) (tables : Tables) → Knows all before tables → Knows all (before ++ passed ∷ []) tables
 knows_passed all before tables k = record {
   distinct = k.distinct;

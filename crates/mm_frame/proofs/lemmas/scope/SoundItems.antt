@@ -51,7 +51,7 @@ sound_take items j h = sound_front (take j items) (drop j items) (subst AreSound
 pub sound_more : (items : List Item) (item : Item) → AreSound items → IsSound items item → AreSound (items ++ item ∷ [])
 sound_more items item h s = kept_sound (items ++ item ∷ []) (kept_more [] items item (sound_kept items h) s)
 
--- a labelled statement stands in no other block than before it
+-- a labelled statement is in no other block than before it
 pub labelled_neither : (k : Kind) → is_labelled k ≡ true → mark_of k ≡ Neither
 labelled_neither Floating e = refl
 labelled_neither Essential e = refl

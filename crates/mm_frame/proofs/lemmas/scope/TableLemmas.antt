@@ -25,7 +25,7 @@ pub last_where_next : (test : Item → Bool) (items : List Item) (item : Item) �
 last_where_next test [] item = refl
 last_where_next test (x ∷ items) item = ap (λ o. number_or_first o (test x)) (last_where_next test items item) ∙ next_at (test item) (test x) (last_where test items) (length items)
 
--- the item between those before it and those behind it
+-- the item between those before it and those after it
 pub item_between : (front : List Item) (item : Item) (back : List Item) → item_at (front ++ item ∷ back) (length front) ≡ item
 item_between [] item back = refl
 item_between (x ∷ front) item back = item_between front item back
@@ -46,12 +46,12 @@ pub last_none : (test : Item → Bool) (items : List Item) → ((y : Item) → I
 last_none test [] h = refl
 last_none test (x ∷ items) h = ap (λ o. number_or_first o (test x)) (last_none test items (λ y k. h y (inr k))) ∙ ap (λ b. cond b (Some 0) None) (h x (inl refl))
 
--- an item that passes, with none behind it that does, is the last
+-- an item that passes, with none after it that does, is the last
 pub last_is : (test : Item → Bool) (front : List Item) (item : Item) (back : List Item) → test item ≡ true → ((y : Item) → In y back → test y ≡ false) → last_where test (front ++ item ∷ back) ≡ Some (length front)
 last_is test [] item back t h = ap (λ o. number_or_first o (test item)) (last_none test back h) ∙ ap (λ b. cond b (Some 0) None) t
 last_is test (x ∷ front) item back t h = ap (λ o. number_or_first o (test x)) (last_is test front item back t h)
 
--- where the last item that passes stands
+-- where the last item that passes is
 pub record Last (test : Item → Bool) (items : List Item) : Type 0 where
   pub front : List Item
   pub item : Item
@@ -84,7 +84,7 @@ first_cases true x i xs (inl e) = inl (e, refl)
 first_cases true x i xs (inr h) = inr h
 first_cases false x i xs h = inr h
 
--- an active item stands before an item and was active there, or is that item, or stands behind it
+-- an active item comes before an item and was active there, or is that item, or comes after it
 pub active_cases : (front : List Item) (item : Item) (back : List Item) (i : Item) → In i (active (front ++ item ∷ back)) → In i (active front) ⊎ (((item ≡ i) × (stays back ≡ true)) ⊎ In i (active back))
 active_cases [] item back i h = inr (first_cases (stays back) item i (active back) h)
 active_cases (x ∷ front) item back i h = elim (first_cases (stays (front ++ item ∷ back)) x i (active (front ++ item ∷ back)) h) [
@@ -95,7 +95,7 @@ active_cases (x ∷ front) item back i h = elim (first_cases (stays (front ++ it
   ]
 ]
 
--- where no two items that pass are active at once, one that passes is active if the last one is
+-- if no two items that pass are active at once, one that passes is active if the last one is
 last_active : (test : Item → Bool) (before : List Item) → ((front : List Item) (item : Item) (back : List Item) → before ≡ front ++ item ∷ back
     → test item ≡ true → (y : Item) → In y (active front) → test y ≡ true → ⊥) → (b : Bool) → (b ≡ true
     → (y : Item) × In y (active before) × (test y ≡ true))
@@ -138,7 +138,7 @@ new_active before item name s t h v =
     let f = no_symbol_of (is_variables item.kind) (each (is_active_symbol before)) item (λ word. (or_parts _ _ (s word F04)).1) t g.0 name g.1 in
     false≢true (sym (or_parts (has (constants before) name) (has (active_variables before) name) f).1 ∙ in_has (active_variables before) name v)
 
--- a variable is active where the last `$v` of it is
+-- a variable is active exactly when the last `$v` of it is
 pub active_variable_last : (before : List Item) → AreSound before → (name : List ℕ) → has (active_variables before) name ≡ is_active_last before (last_where (declares_variable name) before)
 active_variable_last before h name = last_active (declares_variable name) before
     (λ front item back e t y k u. let p = declared name item t in let q = declared name y u in new_active front item name (h front item back e) p.0 p.1 (to_symbols is_variables name (active front) y k q.0 q.1))
@@ -150,7 +150,7 @@ active_variable_last before h name = last_active (declares_variable name) before
 pub float_second : (before : List Item) (item : Item) → IsSound before item → is_floating item.kind ≡ true → slice_get item.symbols 1 ≡ Some (variable_of item)
 float_second before item s t = let two = float_two before item s t in ap (λ w. slice_get w 1) two.2 ∙ ap (λ w. Some (slice_index_or w 1 [])) (sym two.2)
 
--- a variable is typed where the last `$f` of it is active
+-- a variable is typed exactly when the last `$f` of it is active
 pub typed_last : (before : List Item) → AreSound before → (name : List ℕ) → has (typed before) name ≡ is_active_last before (last_where (types name) before)
 typed_last before h name = last_active (types name) before
     (λ front item back e t y k u.
@@ -203,7 +203,7 @@ float_at_last before name n e = elim (last_cases (types name) before) [
       ∙ ap (λ (w : Item). is_floating w.kind) (item_between l.front l.item l.back) ∙ (typed_by name l.item l.good).0))
 ]
 
--- another `$f` gives the variable another typecode where the last `$f` of it does
+-- another `$f` gives the variable another typecode exactly when the last `$f` of it does
 pub typed_otherwise_last : (before : List Item) → AreSound before → (name : List ℕ) (item : Item) → is_typed_otherwise before item name ≡ is_otherwise_at before item (last_where (types name) before)
 typed_otherwise_last before h name item = elim (last_cases (types name) before) [
   | inl n ↦ false_from_ne_true (is_typed_otherwise before item name) (λ t. let r = otherwise_from before item name t in false≢true (sym (n r.0 r.1) ∙ r.2)) ∙ sym (ap (is_otherwise_at before item) (last_none (types name) before n))
@@ -233,7 +233,7 @@ typed_otherwise_last before h name item = elim (last_cases (types name) before) 
 pub constant_or_variable : (before : List Item) → AreSound before → (name : List ℕ) → has (constants before) name ≡ true → has (variables before) name ≡ false
 constant_or_variable before h name t = false_from_ne_true (has (variables before) name) (λ v. apart before (sound_kept before h) name (has_in (constants before) name t) (has_in (variables before) name v))
 
--- some item passes where there is a last one
+-- some item passes exactly when there is a last one
 last_some : (test : Item → Bool) (before : List Item) (b : Bool) → (b ≡ true → (y : Item) × In y before × (test y ≡ true)) → ((y : Item) → In y before → test y ≡ true → b ≡ true) → b ≡ is_some (last_where test before)
 last_some test before b from to = elim (last_cases test before) [
   | inl n ↦ false_from_ne_true b (λ t. let r = from t in false≢true (sym (n r.0 r.1) ∙ r.2)) ∙ sym (ap is_some (last_none test before n))
@@ -250,7 +250,7 @@ label_last before label = last_some (carries label) before (has (labels before) 
     (λ t. let r = from_flat labels_of label before (has_in (labels before) label t) in (r.0, r.1, in_has (labels_of r.0) label r.2))
     (λ y k t. in_has (labels before) label (in_flat labels_of y label before k (has_in (labels_of y) label t)))
 
--- where an item stands in a list
+-- where an item is in a list
 pub record Stands (x : Item) (xs : List Item) : Type 0 where
   pub front : List Item
   pub back : List Item

@@ -1,4 +1,4 @@
--- A label that means an assertion at an item is the label of one that stands before the item.
+-- A label that means an assertion at an item is the label of one that comes before the item.
 use Rattle.std.proofs.Common.{◌≡◌, ◌<◌, ◌≤◌, ◌⊎◌, ℕ, zero, suc, true, Option, Some, None, List, [], ◌∷◌, ◌++◌, length, take, slice_get, refl, sym, ◌∙◌, ap, subst, inl, inr, arith, is_none, append-nil}
 use Rattle.std.proofs.Math.Decide.{dec_lt}
 use Rattle.std.proofs.Math.Seq.{take-suc, take-length}
@@ -16,7 +16,7 @@ use Rattle.mm_frame.specs.Language.Sound.{fault, judged, sound_items}
 use Rattle.mm_proof.specs.Language.Citing.{means_assertion}
 use Rattle.mm_proof.proofs.lemmas.views.MeaningLemmas.{labelled, sound_label, take_end}
 
--- what stands at a place of a longer list
+-- what is at a place of a longer list
 longer : {X : Type 0} (xs : List X) (x : X) (n : ℕ) (y : X) → slice_get (xs ++ x ∷ []) n ≡ Some y → (slice_get xs n ≡ Some y) ⊎ ((n ≡ length xs) × (y ≡ x))
 longer [] x zero y e = inr (refl, cc)
 longer [] x (suc n) y e = cc
@@ -56,7 +56,7 @@ module _ (view : BaseView) (next : KeptNext) where
   count_before zero l = refl
   count_before (suc i) l = ap length (one_more i (omega (arith, l))) ∙ longer_by_one (before view i) (judged_at i) ∙ ap suc (count_before i (omega (arith, l)))
 
-  -- what stands at place n before item i
+  -- what is at place n before item i
   record Stood (i n : ℕ) (item : Item) : Type 0 where
     earlier : n < i
     is : item ≡ judged_at n
@@ -92,7 +92,7 @@ module _ (view : BaseView) (next : KeptNext) where
   stood zero n item e = cc
   stood (suc i) n item e = stood_next i n item (stood i n item) e (dec_lt i (length view.said))
 
--- the item that a label means, where it means an assertion
+-- the item that a label means, if it means an assertion
 record Found (whole front back : List Item) (label : List ℕ) : Type 0 where
   place : ℕ
   item : Item
@@ -128,7 +128,7 @@ found whole front (item ∷ back) label h = elim (cases_Bool (has (labels_of ite
       }
 ]
 
--- a sound item, told by what stands in its place
+-- a sound item, known by what takes its place
 judged_sound : (item : Item) (label : List ℕ) (o : Option (ℕ × FrameNumber)) → has (labels_of (judged item o)) label ≡ true → o ≡ None
 judged_sound item label None h = refl
 judged_sound item label (Some at) h = absurd (false≢true h)

@@ -1,4 +1,4 @@
--- The words that the code tells are those that cite.
+-- The words that the code gives are those that cite.
 use Rattle.std.proofs.Common.{◌≡◌, ℕ, zero, suc, ◌+◌, Bool, true, false, not, ◌&&◌, List, [], ◌∷◌, ◌++◌, length, map, drop, refl, sym, ap, ◌∙◌, inl, inr, eqb-true, eq-eqb, filter, bytes_eq, codes, nat_eq, slice_get, slice_index_or}
 use Rattle.std.specs.List.{list_any, enumerate_from, before_first}
 use Rattle.std.proofs.lemmas.Bool.{cases_Bool, false≢true}
@@ -160,7 +160,7 @@ module _ (view : BaseView) where
   entry_some : (i j : ℕ) → IsEntry view i (answers.Assertion j) → means_assertion ((setting_at view i).resolve (label_at view j)) ≡ true
   entry_some i j h = rw h.2 refl
 
-  -- a step names the label of an assertion where its entry is that assertion
+  -- a step names the label of an assertion exactly when its entry is that assertion
   label_named :
       NoLabelTwice view → (i j : ℕ) (labels : List Resolved) (k : ℕ) → AreEntries view i labels → is_shown_at view j ≡ true →
       means_assertion ((setting_at view i).resolve (label_at view j)) ≡ true →

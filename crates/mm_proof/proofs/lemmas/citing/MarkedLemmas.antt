@@ -20,7 +20,7 @@ listed_behind _ _ j e = e
 listed_here : (j : ℕ) (labels : List Resolved) → is_listed (answers.Assertion j ∷ labels) j ≡ true
 listed_here j labels = rw (eq-eqb j j refl) refl
 
--- tests that are alike for the assertions of the entries tell the same words
+-- tests that are alike for the assertions of the entries give the same words
 pub cites_alike : (S T : ℕ → Bool) (n : ℕ) (labels : List Resolved) → ((j : ℕ) → is_listed labels j ≡ true → S j ≡ T j) → item_cites S n labels ≡ item_cites T n labels
 cites_alike S T n [] same = refl
 cites_alike S T n (answers.Assertion j ∷ labels) same = elim (cases_Bool (T j)) [

@@ -28,7 +28,7 @@ use Rattle.mm_proof.proofs.lemmas.lists.Members.{Contains-here, contains_there, 
 use Rattle.mm_proof.proofs.lemmas.base.StoodLemmas.{assertion_stands}
 use Rattle.mm_proof.proofs.lemmas.decoding.SureLemmas.{decoded_ok}
 
--- ---- what stands in a list, by recursion
+-- ---- what is in a list, by recursion
 
 abbrev In : {X : Type 0} → X → List X → Type 0
 In x [] = ⊥
@@ -244,7 +244,7 @@ get_behind : (xs : List (List ℕ)) (k : ℕ) (x : List ℕ) → slice_get (drop
 get_behind [] k x e = e
 get_behind (y ∷ xs) k x e = e
 
--- so it is of a word with its number
+-- the same holds of a word with its number
 abbrev is_label_at : ℕ × List ℕ → Bool
 is_label_at word = not (bytes_eq word.1 (codes "?"))
 

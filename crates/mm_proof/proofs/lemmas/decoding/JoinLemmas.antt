@@ -26,7 +26,7 @@ worths_more : (ds : List Letter) (l : Letter) → worths (ds ++ l ∷ []) ≡ wo
 worths_more [] l = refl
 worths_more (d ∷ ds) l = ap (λ (w : List ℕ). digit_worth d.byte ∷ w) (worths_more ds l)
 
--- no digits are told by the number 0
+-- the number 0 means that there are no digits
 some_digits : (d : Letter) (ds : List Letter) → AreDigits (d ∷ ds) → (number (d ∷ ds) == 0) ≡ false
 some_digits d ds all = elim (cases_Bool (number (d ∷ ds) == 0)) [
   | inl e ↦ let nil = none (worths (d ∷ ds)) (are_worth (d ∷ ds) all) (eqb-true (number (d ∷ ds)) 0 e) in cc

@@ -9,11 +9,11 @@ use Rattle.mm_proof.proofs.lemmas.decoding.ListLemmas.{before_one}
 abbrev pub OfListed : (List ℕ → Type 0) → List (List ℕ) → Type 0
 OfListed P words = AllByRecursion P (before_first is_close words)
 
--- it holds of them all where it held of the first and holds of those behind it
+-- if it held of the first, it holds of them all exactly when it holds of those after the first
 pub one_more : (P Q R S : Type 0) → P ↔ (Q × R) → Q → S ↔ P → S ↔ R
 one_more P Q R S both q s = (λ t. (both.0 (s.0 t)).1, λ r. s.1 (both.1 (q, r)))
 
--- it does not hold of them all where it does not hold of the first
+-- it does not hold of them all if it does not hold of the first
 pub not_first : (P Q R S : Type 0) → P ↔ (Q × R) → IsTrue false ↔ Q → S ↔ P → IsTrue false ↔ S
 not_first P Q R S both q s = (λ t. absurd (false≢true t), λ w. q.1 (both.0 (s.0 w)).0)
 

@@ -13,7 +13,7 @@ power_more ds d = rw (longer_by_one ds d) (pow-succ' 5 (length ds))
 carried : (x p q r s d : ℕ) → q ≡ 5 * p → s ≡ 5 * r + d → x * q + s ≡ 5 * (x * p + r) + d
 carried x p q r s d e f = rw (e, f) (omega arith)
 
--- one more digit behind the others
+-- one more digit after the others
 pub base_five_more : (ds : List ℕ) (d : ℕ) → in_base_five (ds ++ d ∷ []) ≡ 5 * in_base_five ds + d
 base_five_more [] d = omega arith
 base_five_more (x ∷ ds) d = carried x (5 ^ length ds) (5 ^ length (ds ++ d ∷ [])) (in_base_five ds) (in_base_five (ds ++ d ∷ [])) d (power_more ds d) (base_five_more ds d)
@@ -71,7 +71,7 @@ apart_within (suc n) ds es few a b same = elim (has_last ds) [
   ]
 ]
 
--- digits are told by their number
+-- digits are known by their number
 pub digits_apart : (ds es : List ℕ) → AreWorth ds → AreWorth es → in_base_five ds ≡ in_base_five es → ds ≡ es
 digits_apart ds es a b same = apart_within (length ds) ds es (omega arith) a b same
 

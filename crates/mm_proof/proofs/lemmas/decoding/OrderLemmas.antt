@@ -8,7 +8,7 @@ use Rattle.mm_proof.specs.declared.Spot.{Spot}
 use Rattle.mm_proof.specs.declared.ProofNumber.{ProofNumber}
 use Rattle.mm_proof.specs.declared.step.ProofFault.{ProofFault}
 
--- a step and those behind it
+-- a step and those after it
 abbrev pub ReadsOn : Spot → Result Step ProofNumber → Steps → List (Step × Spot) → Type 0
 ReadsOn spot r rest steps = (step : Step) × (more : List (Step × Spot)) × (r ≡ Ok step) × (rest ≡ Ok more) × (steps ≡ (step, spot) ∷ more)
 
@@ -27,7 +27,7 @@ with_err step spot (Err other) fault e = e
 further : (reading : Reading) (readings : List Reading) (fault : ProofFault) → ReadsStep reading → IsFirstDecodingFault readings fault → IsFirstDecodingFault (reading ∷ readings) fault
 further reading readings fault is f = record { front = reading ∷ f.front; back = f.back; whole = ap (λ (w : List Reading). reading ∷ w) f.whole; before = (is, f.before) }
 
--- what is told of a fault that is read first
+-- what is reported of a fault that is read first
 told_here : (number : ProofNumber) (spot : Spot) (fault : ProofFault) → ◌≡◌ {A = Steps} (Err (record { number = number; spot = spot })) (Err fault) → record { number = number; spot = spot } ≡ fault
 told_here number spot fault e = cc
 

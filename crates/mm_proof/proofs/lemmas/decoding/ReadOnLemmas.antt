@@ -79,7 +79,7 @@ behind_same labels saves at by ds es (l ∷ ls) (m ∷ ms) d e =
     ]
 behind_same labels saves at by ds es _ _ d e = cc
 
--- the words before a `)` and behind it
+-- the words before a `)` and after it
 pub close_at : (listed words : List (List ℕ)) → list_any is_close listed ≡ false → prefix_len (λ word. not (is_close word)) (listed ++ codes ")" ∷ words) ≡ length listed
 close_at [] words e = refl
 close_at (word ∷ listed) words e = let p = or_parts (is_close word) (list_any is_close listed) e in rw (p.0, close_at listed words p.1) (omega arith)
@@ -123,7 +123,7 @@ letters_same : (mandatory listed : List (List ℕ)) (n : ℕ) (at by : Spot) (so
     (letter_steps mandatory listed n others by)
 letters_same mandatory listed n at by some others e = behind_same (map Named (mandatory ++ listed)) 0 at by [] [] (letters_from n some) (letters_from n others) refl (bytes_from n some ∙ e ∙ sym (bytes_from n others))
 
--- the spot behind a compressed proof with these listed labels and these words of letters
+-- the spot after a compressed proof with these listed labels and these words of letters
 abbrev close_of : List (List ℕ) → List (List ℕ) → Spot
 close_of listed words = word_spot (length (compressed_words listed words))
 

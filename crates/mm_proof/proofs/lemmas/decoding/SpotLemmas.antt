@@ -37,7 +37,7 @@ some_words : (words : List (List ℕ)) → is_compressed words ≡ true → 0 < 
 some_words [] e = absurd (cc)
 some_words (word ∷ words) e = omega arith
 
--- so many and two more are so many and one behind the first
+-- the words after the first n + 2 are those after n + 1 of the words past the first
 further : (n : ℕ) (words : List (List ℕ)) → drop (n + 2) words ≡ drop (n + 1) (drop 1 words)
 further n words = let count : n + 2 ≡ 1 + (n + 1) = omega arith in ap (λ k. drop k words) count ∙ sym (drop-drop (n + 1) 1 words)
 

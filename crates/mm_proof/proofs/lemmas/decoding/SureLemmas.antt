@@ -37,7 +37,7 @@ IsWord place NotKnown = Unit {0}
 abbrev AreSure : Setting → List Step → Type 0
 AreSure place steps = AllByRecursion (IsSure place) steps
 
--- a step of letters behind some saves, which is a save or none
+-- a step of letters after some saves, which is a save or none
 abbrev IsAfter : Setting → ℕ → Bool → Step → Type 0
 IsAfter place saves save (Named label) = (save ≡ false) × IsUsable (place.resolve label)
 IsAfter place saves save (Saved n) = (save ≡ false) × (n < saves)

@@ -39,7 +39,7 @@ starts view i mandatory words labels e all = record {
 }
 
 module _ (view : BaseView) (i : ℕ) (mandatory words : List (List ℕ)) (n : ℕ) (labels : List Resolved) (lists : Lists view i mandatory words n labels) where
-  -- the words behind the first, by the one at n
+  -- the words after the first, by the one at n
   by_next : (word : List ℕ) → n < length words → word ≡ get_or words n [] → drop 1 words ≡ lists.listed ++ word ∷ drop (n + 1) words
   by_next word less is = lists.before ∙ ap (λ (w : List (List ℕ)). lists.listed ++ w) (next_is words n [] less ∙ ap (λ (w : List ℕ). w ∷ drop (n + 1) words) (sym is))
 
@@ -94,13 +94,13 @@ pub hypothesis_entries : (view : BaseView) (i : ℕ) (numbers : List ℕ) → Ar
 hypothesis_entries view i [] all = tt
 hypothesis_entries view i (j ∷ numbers) all = (all.0, hypothesis_entries view i numbers all.1)
 
--- behind the `(`, with the mandatory hypotheses as entries
+-- after the `(`, with the mandatory hypotheses as entries
 pub list_begins : (view : BaseView) (i : ℕ) (numbers : List ℕ) (words behind : List (List ℕ)) (labels : List Resolved)
     → labels ≡ map answers.Hypothesis numbers → AreActive view i numbers → AreLeft words behind 1 → BeginsTable view i (labels_at view numbers) words behind
     labels
 list_begins view i numbers words behind labels e active left = record { left = left; labels_are = rw e (hypothesis_steps view numbers); entries = rw e (hypothesis_entries view i numbers active) }
 
--- the letters behind the list
+-- the letters after the list
 pub compressed_ok :
     (view : BaseView) (i : ℕ) (mandatory words : List (List ℕ)) (n : ℕ) (labels : List Resolved) (steps : List ProofStep) →
     IsListed view i mandatory words n labels → letters_give (entry_steps view labels) words (n + 1) ≡ Ok (meant_steps (entry_steps view labels) steps) →

@@ -1,4 +1,4 @@
--- What stands in a list, and in one that is longer by one.
+-- What is in a list, and in one that is longer by one.
 use Rattle.std.proofs.Common.{◌≡◌, ℕ, zero, suc, ◌<◌, List, ◌∷◌, length, get_or, refl, arith, inl, inr, ◌⊎◌, Contains}
 
 pub Contains-here : {X : Type 0} (x : X) (xs : List X) → Contains (x ∷ xs) x

@@ -97,7 +97,7 @@ gathered_none symbols front =
       same = λ v. (λ h. let l = h.0.1 in absurd (omega arith), λ h. let l = (subst (λ w. Contains w v) behind h).1 in absurd (omega arith));
     }
 
--- what stands at a place of a list that has grown
+-- what is at a place of a list that has grown
 pub last_at : {X : Type 0} (xs : List X) (x : X) (k : ℕ) → k ≡ length xs → slice_get (xs ++ x ∷ []) k ≡ Some x
 last_at xs x k e = slice_get-get_or (xs ++ x ∷ []) k x (omega (arith, length-append xs (x ∷ []))) ∙ ap Some (get_or_at xs x [] x k (sym e))
 

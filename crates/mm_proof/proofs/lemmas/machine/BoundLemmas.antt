@@ -12,7 +12,7 @@ use Rattle.mm_proof.proofs.lemmas.verdicts.Unique.{replacement-variable, replace
 use Rattle.mm_proof.proofs.lemmas.machine.FlatLemmas.{mapped_or}
 use Rattle.mm_proof.proofs.lemmas.machine.ApartLemmas.{contains_at, contains_get}
 
--- where nothing that stands for a symbol is longer than this
+-- if nothing that takes the place of a symbol is longer than this
 pub short_by : (given : Symbol → List Symbol) (n : ℕ) (expression : List Symbol) → ((k : ℕ) (s : Symbol) → slice_get expression k ≡ Some s → length (replacement given s) ≤ n) → length (substituted given expression) ≤ length expression * n
 short_by given n [] each = omega arith
 short_by given n (s ∷ expression) each =

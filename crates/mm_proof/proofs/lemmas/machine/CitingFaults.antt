@@ -1,4 +1,4 @@
--- The lowest number that holds where an assertion is cited.
+-- The lowest number that holds if an assertion is cited.
 use Rattle.std.proofs.Common.{◌≡◌, ℕ, ◌-◌, ◌<◌, ◌≤◌, Some, None, List, [], ◌∷◌, ◌++◌, length, take, sym, ◌∙◌, subst, arith, All, Any}
 use Rattle.mm_frame.specs.Language.Frame.{Symbol, Frame}
 use Rattle.mm_frame.specs.Language.Typing.{IsFrame}
@@ -92,7 +92,7 @@ module _ (active : List (Symbol × Symbol)) (frame : Frame) (es : List (List Sym
           q (given_by frame.hypotheses es) gives,
         )
 
--- where nothing is wrong, the assertion is cited, and its result is any that the entries give
+-- if nothing is wrong, the assertion is cited, and its result is any that the entries give
 pub cited_by : (active : List (Symbol × Symbol)) (frame : Frame) (stack : List (List Symbol)) (es : List (List Symbol)) → IsFrame frame
     → length es ≡ length frame.hypotheses → length frame.hypotheses ≤ length stack → entries_for frame stack ≡ es → CitingSays active frame es None →
     (result : List Symbol) → ((given : Symbol → List Symbol) → GivesEntries given frame.hypotheses es → result ≡ substituted given frame.expression) → Cites active frame stack (take (length stack - length frame.hypotheses) stack ++ result ∷ [])

@@ -8,7 +8,7 @@ use Rattle.mm_proof.specs.Language.Substitution.{substituted, replacement}
 use Rattle.mm_proof.specs.declared.pattern.Entry.{Entry}
 use Rattle.mm_proof.specs.Code.Flat.{read}
 
--- what stands at a place of a list that is mapped
+-- what is at a place of a list that is mapped
 pub mapped_at : {X Y : Type 0} (f : X → Y) (xs : List X) (n : ℕ) (x : X) (y : Y) → n < length xs → x ≡ get_or xs n x → slice_get (map f xs) n ≡ Some y → y ≡ f x
 mapped_at f xs n x y l is e =
     let a = get_or_from_slice_get (map f xs) n y (f x) e in
@@ -23,7 +23,7 @@ mapped_get f xs n x l is =
 pub mapped_or : {X Y : Type 0} (f : X → Y) (xs : List X) (n : ℕ) (d : X) (y : Y) → n < length xs → slice_get (map f xs) n ≡ Some y → y ≡ f (get_or xs n d)
 mapped_or f xs n d y l e = mapped_at f xs n (get_or xs n d) y l (get_or_default xs n d (get_or xs n d) l) e
 
--- behind the first symbol of a range
+-- after the first symbol of a range
 drop_one_take : {X : Type 0} (m : ℕ) (xs : List X) → drop 1 (take m xs) ≡ take (m - 1) (drop 1 xs)
 drop_one_take zero [] = ap (λ k. take k []) none
   where
@@ -68,7 +68,7 @@ of_constant variable xs ys e = ap (λ (b : Bool). if b then xs else ys) e
 pub of_variable : (variable : Bool) (xs ys : List Symbol) → variable ≡ true → (if variable then xs else ys) ≡ xs
 of_variable variable xs ys e = ap (λ (b : Bool). if b then xs else ys) e
 
--- where the lists mean the same, so do their elements
+-- if the lists mean the same, so do their elements
 pub same_at : {S M : Type 0} (f : S → M) (xs ys : List S) (i : ℕ) (x y : S) → x ≡ get_or xs i x → y ≡ get_or ys i y → i < length xs → i < length ys → map f xs ≡ map f ys → f x ≡ f y
 same_at f xs ys i x y at_x at_y in_xs in_ys e =
     ap f at_x ∙ sym (get_or-map f xs i x (f x) in_xs) ∙ ap (λ ms. get_or ms i (f x)) e ∙ get_or-map f ys i y (f x) in_ys ∙ sym (ap f at_y)
@@ -91,7 +91,7 @@ fits_on entry front part at n p e =
     ∙ ap (λ w. front ++ (w ++ drop (at + n) entry)) (sym p)
     ∙ sym (append_assoc front part (drop (at + n) entry))
 
--- where it is the whole, its next part is that of the next symbol
+-- if the expression gives the whole entry, the entry's next part is that of the next symbol
 pub fits_next : (given : Symbol → List Symbol) (expression : List Symbol) (k : ℕ) (s : Symbol) (entry : List Symbol) (at : ℕ)
     → slice_get expression k ≡ Some s → entry ≡ substituted given (take k expression) ++ drop at entry → substituted given expression ≡ entry →
     drop at entry ≡ replacement given s ++ substituted given (drop (k + 1) expression)
@@ -115,13 +115,13 @@ fits_end whole entry at l e = (
   λ s. (let none = append_cancel_left entry (drop at entry) [] (ap (λ w. w ++ drop at entry) (sym s) ∙ sym e ∙ sym (append-nil entry)) in let k = none_left at entry none in omega arith),
 )
 
--- a range, before and behind the map
+-- a range, before and after the map
 pub range_map : {X Y : Type 0} (f : X → Y) (xs : List X) (at n : ℕ) → map f (take (at + n - at) (drop at xs)) ≡ take n (drop at (map f xs))
 range_map f xs at n =
     let e : at + n - at ≡ n = omega arith in
     ap (λ k. map f (take k (drop at xs))) e ∙ sym (take-map f n (drop at xs)) ∙ ap (take n) (sym (drop-map f at xs))
 
--- an entry, before and behind the map
+-- an entry, before and after the map
 pub entry_map : {X : Type 0} (f : X → Symbol) (xs : List X) (e : Entry) → map f (take (e.end - e.start) (drop e.start xs)) ≡ read (map f xs) e
 entry_map f xs e = sym (take-map f (e.end - e.start) (drop e.start xs)) ∙ ap (take (e.end - e.start)) (sym (drop-map f e.start xs))
 

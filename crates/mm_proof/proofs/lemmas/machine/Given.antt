@@ -37,7 +37,7 @@ unfolding pick
 pick-no (yes p) a b h = absurd (h p)
 pick-no (no n) a b h = refl
 
--- the entry behind its typecode, of the first `$f` of the variable
+-- the entry after its typecode, of the first `$f` of the variable
 pub given_by : List Mandatory → List (List Symbol) → Symbol → List Symbol
 given_by (h ∷ hs) (e ∷ es) v = pick (dec_types h v) (drop 1 e) (given_by hs es v)
 given_by _ _ v = []

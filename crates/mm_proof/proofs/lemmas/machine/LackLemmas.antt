@@ -36,7 +36,7 @@ use Rattle.mm_proof.proofs.lemmas.machine.Reaching.{at_start}
 use Rattle.mm_proof.proofs.lemmas.machine.Running.{faulty, runs_reach, runs_follow}
 use Rattle.mm_proof.proofs.lemmas.machine.StepLemmas.{kept_at, part_ends}
 
--- where steps stop, a run says so, whatever the statement is
+-- if steps stop, a run says so, whatever the statement is
 pub stopped_says : (place : Setting) (steps : List Step) (statement : List Symbol) (outcome : Outcome) → StopsAt place steps outcome → RunSays place steps statement outcome
 stopped_says place steps statement (Fault number n) s = s
 stopped_says place steps statement (Unknown n) s = s
@@ -62,7 +62,7 @@ fault_longer place steps rest n number f =
       number_is = f.number_is;
     }
 
--- where the first steps stop, all stop
+-- if the first steps stop, all stop
 pub stops_on : (place : Setting) (front behind : List Step) (outcome : Outcome) → StopsAt place front outcome → StopsAt place (front ++ behind) outcome
 stops_on place front behind (Fault number n) s =
     let more = part_longer front behind in
@@ -79,7 +79,7 @@ known_longer : (front : List Step) (step : Step) (behind : List Step) → AreAll
 known_longer [] step behind all known = part_one step behind (known_one step known)
 known_longer (x ∷ front) step behind all known = part_one x (front ++ step ∷ behind) (known_one x all.0) ∙ ap (λ (w : List Step). x ∷ w) (known_longer front step behind all.1 known)
 
--- the step behind those that are done lacks an entry
+-- the step after those that are done lacks an entry
 pub lacks_entry :
     (place : Setting) → HasFrames place → (front behind : List Step) (label : List ℕ) (frame : Frame) (stack : List (List Symbol)) → AreDoneTo place front stack →
     place.resolve label ≡ Assertion frame → length stack < length frame.hypotheses → StopsAt place (front ++ Named label ∷ behind) (Fault P07 (length front))
@@ -100,7 +100,7 @@ entry_at view i [] k label entries e = cc
 entry_at view i (l ∷ labels) zero label entries e = let same : l ≡ label = cc in subst (IsEntry view i) same entries.0
 entry_at view i (l ∷ labels) (suc k) label entries e = entry_at view i labels k label entries.1 e
 
--- where steps stop by numbers, they stop by names
+-- if steps stop by numbers, they stop by names
 stops_named : (names : List (List ℕ)) (place : Setting) (steps : List Step) (outcome : Outcome) → StopsAt (renamed_setting (unnaming names) place) steps outcome → StopsAt place steps outcome
 stops_named names place steps (Fault number n) s = run_named names place steps [] (Fault number n) s
 stops_named names place steps (Unknown n) s = run_named names place steps [] (Unknown n) s
@@ -113,7 +113,7 @@ module _ (names : List (List ℕ)) (view : BaseView) (i : ℕ) (labels used : Li
   abbrev numbered : Setting
   numbered = numbered_setting names view i
 
-  -- where the first steps of a proof stop, all stop
+  -- if the first steps of a proof stop, all stop
   pub front_stops : (outcome : Outcome) → StopsAt numbered (actions_mean (entry_steps view used) (take n steps)) outcome → StopsAt (setting_at view i) (actions_mean (entry_steps view labels) steps) outcome
   front_stops outcome s =
       let table = entry_steps view labels in
@@ -121,7 +121,7 @@ module _ (names : List (List ℕ)) (view : BaseView) (i : ℕ) (labels used : Li
       let all = stops_on numbered (actions_mean table (take n steps)) (actions_mean table (drop n steps)) outcome here in
       stops_named names (setting_at view i) (actions_mean table steps) outcome (subst (λ (w : List Step). StopsAt numbered w outcome) (sym (divided table steps n)) all)
 
-  -- and where all of them are done, and the next one takes more entries than there are, that one is at fault
+  -- and if all of them are done, and the next one takes more entries than there are, that one is at fault
   pub front_lacks :
       (stack : List (List Symbol)) → HasFrames numbered → AreEntries view i labels → TakesMore view labels steps n (length stack) → AreDoneTo numbered (actions_mean (entry_steps view used) (take n steps)) stack →
       StopsAt (setting_at view i) (actions_mean (entry_steps view labels) steps) (Fault P07 n)

@@ -26,7 +26,7 @@ marked_more key xs before after n x at e f i y l at_y room = by_case (ℕ_discre
         let low = b.0 in
         (omega arith, (b.1.0, ap (slice_get xs) here ∙ b.1.1, b.1.2))
 
--- what stands in the list is found by its key
+-- what is in the list is found by its key
 pub marked_found : (key : Symbol → ℕ) (xs : List Symbol) (places : List ℕ) (n : ℕ) (y : Symbol) → length xs ≤ n → AreKeyPlaces key xs places n
     → Contains xs y → key y < length places → (x : Symbol) × (slice_get xs (slice_index places (key y)) ≡ Some x) × (key x ≡ key y)
 marked_found key xs places n y l f c room = (f c.0 y (omega arith) (contains_get xs y c) room).1

@@ -35,7 +35,7 @@ last_there (y ∷ xs) x = ap (slice_get (y ∷ (xs ++ x ∷ []))) (sym one) ∙ 
     one : suc (length xs) ≡ length (y ∷ xs)
     one = omega arith
 
--- what stands in a list with one more stands before it, or is that
+-- what is in a list with one more was in it before, or is that one
 pub before_or_last : {X : Type 0} (xs : List X) (x y : X) (n : ℕ) → slice_get (xs ++ x ∷ []) n ≡ Some y → (slice_get xs n ≡ Some y) ⊎ ((n ≡ length xs) × (x ≡ y))
 before_or_last [] x y zero e = inr (refl, same_Some x y e)
 before_or_last [] x y (suc n) e = cc
@@ -56,7 +56,7 @@ placed_more shown R xs more ys new x y count e f right before n k at is = elim (
   | inr h ↦ (y, ap (λ w. slice_get w n) f ∙ ap (slice_get (ys ++ y ∷ [])) (h.0 ∙ sym count) ∙ last_there ys y, subst (R y) h.1 (right (subst shown (sym h.1) is)))
 ]
 
--- where one more stands
+-- the place of one more
 pub stands_last : (old new : List ℕ) (n j : ℕ) → new ≡ old ++ j ∷ [] → n ≡ length old → slice_get new n ≡ Some j
 stands_last old new n j e f = ap (λ w. slice_get w n) e ∙ ap (slice_get (old ++ j ∷ [])) f ∙ last_there old j
 

@@ -16,14 +16,14 @@ use Rattle.mm_proof.specs.Code.NamedItems.{AreCited, frames_cited}
 use Rattle.mm_proof.specs.Code.NumberedBase.{ByNames, numbered_frame}
 use Rattle.mm_proof.proofs.lemmas.machine.NamedLemmas.{placed_more}
 
--- what is put behind
+-- the range of what is added at the end
 pub range_behind : {X : Type 0} (first last : ℕ) (xs more new : List X) → new ≡ xs ++ more → first ≡ length xs → last ≡ length new → range_of first last new ≡ more
 range_behind first last xs more new e a b =
     let count : length more ≤ last - first = omega (arith, ap length e, length-append xs more) in
     ap (λ w. take (last - first) (drop first w)) e ∙ ap (λ k. take (last - first) (drop k (xs ++ more))) a
     ∙ ap (take (last - first)) (drop-append_seam xs more) ∙ take_all (last - first) more count
 
--- before and behind the map
+-- before and after the map
 pub range_mapped : {X Y : Type 0} (f : X → Y) (first last : ℕ) (xs : List X) → map f (range_of first last xs) ≡ range_of first last (map f xs)
 range_mapped f first last xs = sym (take-map f (last - first) (drop first xs)) ∙ ap (take (last - first)) (sym (drop-map f first xs))
 
@@ -55,7 +55,7 @@ citable_stay means hs more (a ∷ all) are = All-cons (IsCitable means (hs ++ mo
     one : IsCitable means (hs ++ more) a
     one = record { in_order = is.in_order; within = omega (arith, is.within, length-append hs more); frame = subst IsFrame (sym (frame_stays means hs more a is)) is.frame }
 
--- one more assertion, whose hypotheses are put behind the others
+-- one more assertion, whose hypotheses are added after the others
 pub cited_more :
     (code : Base) (numbers : List ℕ) (j : ℕ) (mandatory new : List (Hypothesis NumberedSymbol)) (all next : List (Cited NumberedSymbol)) (a : Cited NumberedSymbol) (more : List Mandatory) →
     AreCited code numbers mandatory all → hypotheses_of by_number new ≡ hypotheses_of by_number mandatory ++ more → next ≡ all ++ a ∷ [] → IsCitable by_number (hypotheses_of by_number new) a →

@@ -97,12 +97,12 @@ pub no_stack : {place : Setting} {labels : List (List ℕ)} {stack : List (List 
 no_stack nothing e = refl
 no_stack (first_then h t) e = cc
 
--- a last entry, where there is one
+-- a last entry, if there is one
 pub last_entry : (x : List Symbol) (xs : List (List Symbol)) → (below : List (List Symbol)) × (e : List Symbol) × (x ∷ xs ≡ below ++ e ∷ [])
 last_entry x [] = ([], x, refl)
 last_entry x (y ∷ ys) = let l = last_entry y ys in (x ∷ l.0, l.1, ap (λ s. x ∷ s) l.2)
 
--- what the machine's turn has to be, where something is reached
+-- what the machine's turn has to be, if something is reached
 pub record Goes (place : Setting) (step : Step) (before : State) (next : List (List Symbol)) : Type 0 where
   pub after : State
   pub turns : Turns place step before after
@@ -159,7 +159,7 @@ goes_save place is before next (x ∷ xs) so_far expanded (Some part) at e s d d
       is_next = sym s ∙ one_stack place is (x ∷ xs) next labels d d';
     }
 
--- where one more step reaches something, the machine does it
+-- if one more step reaches something, the machine does it
 pub goes : (place : Setting) → HasFrames place → (steps : List Step) (step : Step) (before : State) (next : List (List Symbol)) → Follows place steps before → Reaches place (steps ++ step ∷ []) next → Goes place step before next
 goes place is steps (Named label) before next f r =
     let e = sym (expand_more place f.expanded _ steps (Named label) f.expands) ∙ r.expands in

@@ -33,7 +33,7 @@ seam (x ∷ done) rest step = seam done rest step
 take_seam : (done rest : List Step) (step : Step) → take (length done + 1) (done ++ step ∷ rest) ≡ done ++ step ∷ []
 take_seam done rest step = ap (λ l. take (length done + 1) l) (sym (append_assoc done (step ∷ []) rest)) ∙ take_at (done ++ step ∷ []) rest (length done + 1) (length-append done (step ∷ []))
 
--- where the machine has no turn, the step is at fault
+-- if the machine has no turn, the step is at fault
 pub faulty :
     (place : Setting) → HasFrames place → (done rest : List Step) (s : State) (step : Step) (number : ProofNumber) → Follows place done s →
     StepLineHolds place step s.stack number × ((other : ProofNumber) → StepLineHolds place step s.stack other → row_of number ≤ row_of other) →
@@ -87,7 +87,7 @@ same_reached place is steps xs ys r q =
 within_steps : (steps : List Step) (n : ℕ) (step : Step) → slice_get steps n ≡ Some step → n + 1 ≤ length steps
 within_steps steps n step e = let l = slice_get_within steps n step e in omega arith
 
--- no fault where all is reached
+-- no fault if all is reached
 pub no_fault : (place : Setting) (steps : List Step) (stack : List (List Symbol)) (n : ℕ) (number : ProofNumber) → Reaches place steps stack → IsStepFault place steps n number → ⊥
 no_fault place steps stack n number r f =
     let whole = sym (take_all (length steps) steps (omega arith)) in

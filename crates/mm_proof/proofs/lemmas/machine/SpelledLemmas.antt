@@ -19,7 +19,7 @@ alike P f g xs ys same are k d l =
     let long = length-map xs f in
     subst P (get_or-map f xs k d (f d) l) (all k (f d) (omega arith))
 
--- where two lists say the same of ranges of hypotheses and of frames with these, the assertions of one can be cited if the others are such
+-- if two lists give the same ranges and frames, the assertions of one can be cited if those of the other can
 pub citable_alike :
     {S Y : Type 0} (means : S → Symbol) (g : Y → ℕ × ℕ × Frame) (hs kept : List Mandatory) (n : ℕ) (xs : List (Cited S)) (ys : List Y) → hs ≡ kept → length kept ≡ n →
     map (λ (a : Cited S). ranged a.first a.last (frame_of means kept a)) xs ≡ map g ys → All (λ y. IsRanged n (g y)) ys → All (IsCitable means hs) xs

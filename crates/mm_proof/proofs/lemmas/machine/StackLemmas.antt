@@ -13,7 +13,7 @@ use Rattle.mm_proof.specs.declared.assertion.Hypothesis.{Hypothesis}
 use Rattle.mm_proof.specs.Code.Citation.{frame_from, mandatory_of}
 use Rattle.mm_proof.proofs.lemmas.machine.ApartLemmas.{read_kept, last_at, front_at}
 
--- entries that lie in the front read the same
+-- entries that are in the front read the same
 pub read_all_kept : (before after : List Symbol) (es : List Entry) → All (λ e. e.end ≤ length before) es → take (length before) after ≡ before → read_all after es ≡ read_all before es
 read_all_kept before after [] all kept = refl
 read_all_kept before after (e ∷ es) all kept =
@@ -30,7 +30,7 @@ grown_all before more after n es e l all = read_all_kept before after es (ends_o
 pub wider : (n m : ℕ) (es : List Entry) → n ≤ m → All (IsEntryWithin n) es → All (IsEntryWithin m) es
 wider n m es l all k d i = let w = all k d i in (w.0, omega arith)
 
--- so it is with one more
+-- this holds with one more
 one_more : (P : Entry → Type 0) (es : List Entry) (new : Entry) → All P es → P new → All P (es ++ new ∷ [])
 one_more P es new all p = All-append P es (new ∷ []) all (All-cons P new [] p (λ k d i. absurd (omega arith)))
 
@@ -69,7 +69,7 @@ top_of f es n x l m is =
     ∙ map-append f (take n es) (get_or es n x ∷ [])
     ∙ ap (λ w. map f (take n es) ++ f w ∷ []) (sym is)
 
--- the front stays where it is cut behind it
+-- the front reads the same after a cut at its end
 cut_kept : (symbols : List Symbol) (f : ℕ) (es : List Entry) → f ≤ length symbols → All (λ e. e.end ≤ f) es → read_all (take f symbols) es ≡ read_all symbols es
 cut_kept symbols f es l all = sym (read_all_kept (take f symbols) symbols es (λ k d i. let w = all k d i in let c = length-take-le f symbols l in omega arith) (ap (λ n. take n symbols) (length-take-le f symbols l)))
 
@@ -101,7 +101,7 @@ replaced_all symbols more after f below es next new e l all s a b =
         let high : k < length es = omega arith in
         subst (λ (w : Entry). w.end ≤ f) (sym (get_or-take below es k d low)) (all k (get_or es k d) low (slice_get-get_or es k d high))
 
--- what stands at a place of entries that were cut and got one more
+-- what is at a place of entries that were cut and got one more
 cut_or_last : (es : List Entry) (below k : ℕ) (new s : Entry) → below ≤ length es → slice_get (take below es ++ new ∷ []) k ≡ Some s → ((k < below) × (slice_get es k ≡ Some s)) ⊎ ((k ≡ below) × (new ≡ s))
 cut_or_last es below k new s l at = by_case (ℕ_discrete k below)
   where
@@ -169,7 +169,7 @@ pub slice_taken : {X : Type 0} (read_symbols symbols : List X) (f : X → Symbol
 slice_taken read_symbols symbols f read_es es below a b =
     ap (read_all (map f read_symbols)) (take_rest read_es below ∙ ap (drop below) b) ∙ ap (λ w. read_all (map f w) (drop below es)) a
 
--- the entries that are taken lie within the symbols
+-- the entries that are taken are within the symbols
 pub all_taken :
     {S : Type 0} (symbols seen : List S) (es known : List Entry) (k : ℕ) → seen ≡ symbols → known ≡ es → All (IsEntryWithin (length symbols)) es →
     All (IsEntryWithin (length seen)) (take (length known - k) (drop k known))

@@ -104,7 +104,7 @@ cite_turns active place label kept frame stack before after (Some number) pairs 
           (turned active place.active pairs) (frame_back kept frame same) (subst (λ (r : Resolved). LabelFails place.active r before.stack other) at p));
     }
 
--- ---- behind what is kept
+-- ---- after what is kept
 
 pub kept_at : {X : Type 0} (front back : List X) (n : ℕ) (x : X) → slice_get front n ≡ Some x → slice_get (front ++ back) n ≡ Some x
 kept_at [] back n x e = cc

@@ -119,7 +119,7 @@ long_by frame is f g es a b l =
     let s = ap length (same_substituted f g frame.expression (λ v w. agree f g frame.hypotheses es v a b w.1 (is.expression_typed v w))) in
     omega arith
 
--- where no line holds, the assertion is cited
+-- if no line holds, the assertion is cited
 pub cites_by :
     (active : List (Symbol × Symbol)) (frame : Frame) (stack : List (List Symbol)) (given : Symbol → List Symbol) →
     (length stack < length frame.hypotheses → ⊥) → map (λ h. substituted given h.expression) frame.hypotheses ≡ entries_for frame stack →
@@ -229,7 +229,7 @@ turn_says place is s (Saved n) r = saved_says place s n (slice_get s.saved n) re
 turn_says place is s Save r = save_says place s s.stack refl
 turn_says place is s NotKnown r = absurd r
 
--- where a line holds, the machine has no turn
+-- if a line holds, the machine has no turn
 pub no_turn : (place : Setting) → HasFrames place → (s after : State) (step : Step) (number : ProofNumber) → StepLineHolds place step s.stack number → Turns place step s after → ⊥
 no_turn place is s after (Named label) number h t = label_none (place.resolve label) refl h t.0
   where

@@ -314,7 +314,7 @@ setting_back to back is place other s = record {
   active = pairs_back to back is place.active other.active s.active;
 }
 
--- a step means the same where its label does
+-- a step means the same if its label does
 step_alike : (to : Symbol → Symbol) (place other : Setting) → IsRenamedSetting to place other → (step : Step) → IsSameStep (renamed_setting to place) other step step
 step_alike to place other s (Named label) = s.resolve label
 step_alike to place other s (Saved n) = refl

@@ -70,7 +70,7 @@ dec_lack active xs ys =
     (dec_some {P = λ x. (x.variable ≡ true) × ((y : Symbol) × Contains ys y × ((y.variable ≡ true) × ((x ≢ y) × (ArePair active x y → ⊥))))}
     (λ x. both_of (dec_variable x) (dec_some {P = λ y. (y.variable ≡ true) × ((x ≢ y) × (ArePair active x y → ⊥))} (λ y. both_of (dec_variable y) (both_of (not_of (symbol_discrete x y)) (not_of (dec_pair active x y)))) ys)) xs)
 
--- where they share none and lack none, they are apart
+-- if they share none and lack none, they are apart
 pub are_apart : (active : List (Symbol × Symbol)) (xs ys : List Symbol) → (ShareVariable xs ys → ⊥) → (LackPair active xs ys → ⊥) → AreApart active xs ys
 are_apart active xs ys share lack = record {
   unshared = share;

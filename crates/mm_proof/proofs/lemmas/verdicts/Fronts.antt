@@ -8,7 +8,7 @@ use Rattle.mm_proof.specs.Language.Reaches.{Reaches}
 use Rattle.mm_proof.proofs.lemmas.verdicts.Unique.{last_of}
 use Rattle.mm_proof.proofs.lemmas.machine.Reaching.{expand_less, no_stack}
 
--- a last element, where there is one
+-- a last element, if there is one
 pub last_element : {X : Type 0} (x : X) (xs : List X) → (below : List X) × (e : X) × (x ∷ xs ≡ below ++ e ∷ [])
 last_element x [] = ([], x, refl)
 last_element x (y ∷ ys) = let l = last_element y ys in (x ∷ l.0, l.1, ap (λ s. x ∷ s) l.2)

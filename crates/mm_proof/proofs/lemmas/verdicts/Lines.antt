@@ -58,7 +58,7 @@ entries_are active frame stack next m =
 floats_of : (active : List (Symbol × Symbol)) (frame : Frame) (stack next : List (List Symbol)) → (m : Cites active frame stack next) → FloatsMatch m.given frame.hypotheses m.entries
 floats_of active frame stack next m = all_zip_map (λ h e. h.floating ≡ true → substituted m.given h.expression ≡ e) (λ h. substituted m.given h.expression) frame.hypotheses m.entries m.takes.entries_match (λ h _. refl)
 
--- where a line holds, the assertion is not cited
+-- if a line holds, the assertion is not cited
 no_typecode : (f : Symbol → List Symbol) (h : Mandatory) → IsTyping h.expression → slice_get h.expression 0 ≡ slice_get (substituted f h.expression) 0
 no_typecode f h t =
     let e = t.2 in

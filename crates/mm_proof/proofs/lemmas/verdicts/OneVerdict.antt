@@ -29,7 +29,7 @@ derived_reached place steps statement = (
   λ r. (r.expanded, r.expands, only r.in_order),
 )
 
--- so the verdict on known steps is Proved exactly where they derive the statement
+-- so the verdict on known steps is Proved exactly when they derive the statement
 pub proved_derived : (place : Setting) (statement : List Symbol) (d : Decoded) → IsVerdict place statement (Ok d) Proved ↔ (AreAllKnown d.steps × StepsDerive place d.steps statement)
 proved_derived place statement d =
     let both = derived_reached place d.steps statement in

@@ -28,14 +28,14 @@ same_one p q Save Save s = refl
 same_one p q NotKnown NotKnown s = refl
 same_one p q _ _ s = absurd s
 
--- a known step is run, and what is behind it counts; an unknown one ends the run
+-- a known step is run, and what comes after it counts; an unknown one ends the run
 pub part_one : (x : Step) (steps : List Step) → is_unknown x ≡ false → run_part (x ∷ steps) ≡ x ∷ run_part steps
 part_one x steps e = rw (e, one-add) refl
 
 pub part_none : (x : Step) (steps : List Step) → is_unknown x ≡ true → run_part (x ∷ steps) ≡ []
 part_none x steps e = rw e refl
 
--- all are run where all are known
+-- all are run if all are known
 pub known_part : (steps : List Step) → AreAllKnown steps → run_part steps ≡ steps
 known_part [] k = refl
 known_part (x ∷ steps) k = part_one x steps (known_one x k.0) ∙ ap (λ (w : List Step). x ∷ w) (known_part steps k.1)
@@ -48,7 +48,7 @@ part_known (x ∷ steps) = elim (cases_Bool (is_unknown x)) [
   | inr e ↦ rw (part_one x steps e) (one_known x e, part_known steps)
 ]
 
--- it stands where it stood
+-- its place is as it was
 pub part_front : (steps : List Step) (n : ℕ) (x : Step) → slice_get (run_part steps) n ≡ Some x → slice_get steps n ≡ Some x
 part_front [] n x e = e
 part_front (y ∷ steps) n x e = elim (cases_Bool (is_unknown y)) [

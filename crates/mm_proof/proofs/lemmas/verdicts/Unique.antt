@@ -72,7 +72,7 @@ same_at f g xs x e c =
     let at_g = ap g c.2 in
     cc
 
--- what stands in the place of a variable, and of a constant
+-- what takes the place of a variable, and of a constant
 pub replacement-variable : (f : Symbol → List Symbol) (s : Symbol) → s.variable ≡ true → replacement f s ≡ f s
 replacement-variable f s e = of_variable s.variable (f s) (s ∷ []) e
 

@@ -37,11 +37,11 @@ ordinal_more base m (suc n) l = by_order (ordinal_more base m n) (dec_lt n m)
     by_order more (yes a) = (let z : m ≡ suc n = omega (arith, l, a) in subst (λ k. ordinal base k ≤ ordinal base (suc n)) (sym z) (omega arith))
     by_order more (no a) = (let front = more (omega (arith, a)) in let last = step_more (is_shown_at base n) (ordinal base n) in omega (arith, front, last))
 
--- behind an item with a label the ordinals are greater
+-- after an item with a label the ordinals are greater
 ordinal_less : (base : BaseView) (m n : ℕ) → is_shown_at base m ≡ true → m < n → ordinal base m < ordinal base n
 ordinal_less base m n e l = let here = shown_step base m e in let more = ordinal_more base (suc m) n (omega (arith, l)) in omega (arith, here, more)
 
--- an item with a lesser ordinal stands before
+-- an item with a lesser ordinal comes before
 ordinal_back : (base : BaseView) (m n : ℕ) → ordinal base m < ordinal base n → m < n
 ordinal_back base m n l = by_order (dec_lt m n)
   where
@@ -149,7 +149,7 @@ module _ (base copy : BaseView) (i j : ℕ) (was : is_shown_at base i ≡ true) 
 
 -- ---- marks
 
--- the frame that a mark tells is that of the old item that it tells
+-- if the mark says so, the frame is that of the old item that it names
 pub frame_kept : (base copy : BaseView) (i j : ℕ) (mark : ItemMark) → IsMark base copy j mark → mark.old ≡ Some i → mark.frame ≡ true → ShareFrame base copy i j
 frame_kept base copy i j mark is old told =
     let kept = is.frame_is.0 told in
@@ -175,7 +175,7 @@ stepped base copy j old frame pairs told in_step is labels = record {
   in_step_is = λ t i h. labels t i h ((is.old_is i).1 h);
 }
 
--- the mark of an item tells that every label means the same
+-- the mark of an item says that every label means the same
 marked_within : (marks : List ItemMark) (j i : ℕ) → (mark_at marks j).old ≡ Some i → j < length marks
 marked_within [] j i e = absurd (none-some i e)
 marked_within (m ∷ marks) zero i e = omega arith
@@ -191,7 +191,7 @@ in_step_kept base copy marks are i j old told =
 
 -- ---- what the code keeps
 
--- an item has a label where it is told to have an expression
+-- an item has a label exactly when it is reported to have an expression
 pub told_shown : {X Y : Type 0} (f : X → Y) (o : Option X) (b : Bool) (e : Y) → option_map f o ≡ cond b (Some e) None → is_some o ≡ b
 told_shown f None true e q = absurd (none-some e q)
 told_shown f (Some x) false e q = absurd (none-some (f x) (sym q))

@@ -64,7 +64,7 @@ one_label base copy i j label shown e = (
   λ h. record { shown = h.was; label_is = h.label ∙ e },
 )
 
--- where no expression is told, the item is not shown, and where one is, it is
+-- the item is shown exactly when an expression is reported
 pub none_shown : (b : Bool) (e : List Symbol) → None ≡ cond b (Some e) None → b ≡ true → ⊥
 none_shown true e n t = cc
 none_shown false e n t = false≢true t
@@ -73,7 +73,7 @@ pub some_shown : (b : Bool) (e d : List Symbol) → Some d ≡ cond b (Some e) N
 some_shown true e d n = refl
 some_shown false e d n = cc
 
--- nothing is found exactly where there is nothing
+-- nothing is found exactly when there is nothing
 pub no_number : (found : Option ℕ) (i : ℕ) (P : Type 0) → found ≡ None → (P → ⊥) → (found ≡ Some i) ↔ P
 no_number found i P e none = (λ h. cc, λ p. absurd (none p))
 
@@ -129,7 +129,7 @@ marked_more base copy n marks mark are is = record {
 pub all_marked : (base copy : BaseView) (n : ℕ) (marks : List ItemMark) → AreItemMarks base copy n marks → n ≡ length copy.said → AreMarks base copy marks
 all_marked base copy n marks are e = record { count = are.count_is ∙ e; each = λ j l. are.each j (omega (arith, l, e)) }
 
--- no marks tell anything, and one more
+-- marks that say nothing, and one more
 got_last : {X : Type 0} (xs : List X) (y z : X) (m : ℕ) → slice_get (xs ++ y ∷ []) m ≡ Some z → (slice_get xs m ≡ Some z) ⊎ ((m ≡ length xs) × (y ≡ z))
 got_last [] y z zero e = inr (refl, same_Some y z e)
 got_last [] y z (suc m) e = absurd (none-some z e)
@@ -145,7 +145,7 @@ kept_more old new marks mark n count are is m other e = elim (got_last marks mar
   | inr p ↦ subst (λ (w : code.Mark). IsHypothesisMark old new m w) p.1 (subst (λ k. IsHypothesisMark old new k mark) (sym (p.0 ∙ count)) is)
 ]
 
--- the frames of two assertions are the same where their hypotheses are, and the rest is
+-- the frames of two assertions are the same if their hypotheses are, and the rest is
 pub frames_by : (base copy : BaseView) (i j : ℕ) (told rest : Bool) → is_framed_at base i ≡ true → is_framed_at copy j ≡ true →
     (told ≡ true → (frame_at base i).hypotheses ≡ (frame_at copy j).hypotheses) → (AreSameFrame (frame_at base i) (frame_at copy j) → told ≡ true) →
     ((frame_at base i).hypotheses ≡ (frame_at copy j).hypotheses → (rest ≡ true) ↔ AreSameFrame (frame_at base i) (frame_at copy j)) →
@@ -156,7 +156,7 @@ frames_by base copy i j true rest was is h g r = (
 )
 frames_by base copy i j false rest was is h g r = (λ e. absurd (false≢true e), λ s. absurd (false≢true (g s.same)))
 
--- two lists have the same things of so many elements
+-- two lists agree in this many elements, by these functions
 abbrev pub AreSameTo : {X : Type 0} → (ℕ → X) → (ℕ → X) → List ℕ → List ℕ → ℕ → Type 0
 AreSameTo {X} f g xs ys k = (m x y : ℕ) → m < k → slice_get xs m ≡ Some x → slice_get ys m ≡ Some y → f x ≡ g y
 

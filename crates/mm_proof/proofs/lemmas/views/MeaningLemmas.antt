@@ -96,7 +96,7 @@ means base i label _ m h = (h, tt)
 moved : (same : Bool) (m n y z : Resolved) → m ≡ n → y ≡ z → IsTrue same ↔ AreSameMeaning n z → IsTrue same ↔ AreSameMeaning m y
 moved same m n y z e f s = subst (λ w. IsTrue same ↔ AreSameMeaning w y) (sym e) (subst (λ w. IsTrue same ↔ AreSameMeaning n w) (sym f) s)
 
--- the label means the same where two answers stand for the same
+-- the label means the same exactly when its two answers stand for the same
 pub means_same :
     (base copy : BaseView) (i j : ℕ) (label : List ℕ) (mine yours : answer.Resolved) (same : Bool) → Resolves base i label mine → Resolves copy j label yours →
     (IsShownItem base mine → IsShownItem copy yours → IsTrue same ↔ AreSameMeaning (stands_for base mine) (stands_for copy yours)) → IsTrue same ↔ IsSameLabel (setting_at base i) (setting_at copy j) label
@@ -109,7 +109,7 @@ means_same base copy i j label mine yours same h k t =
 
 -- ---- by marks
 
--- the label of an assertion means the same where its mark tells that the frame is kept, and both are earlier
+-- the label of an assertion means the same if its mark says that the frame is kept, and both are earlier
 pub kept_means :
     frame.AssertionsMean → (base copy : BaseView) (marks : List ItemMark) → AreMarks base copy marks → (i j : ℕ) (label : List ℕ) (m k : ℕ) → IsCarrier copy label m →
     (mark_at marks m).frame ≡ true → m < j → (mark_at marks m).old ≡ Some k → k < i → IsSameLabel (setting_at base i) (setting_at copy j) label
@@ -123,7 +123,7 @@ kept_means assertions base copy marks are i j label m k carrier told later old e
     let yours = assertions copy j m label (record { earlier = later; carrier = carrier }) kept.is in
     (means_same base copy i j label (answers.Assertion kept.i) (answers.Assertion m) true mine yours (λ a b. (λ t. kept.same, λ s. refl))).0 refl
 
--- the label of an assertion means the same where its mark tells that the frame is kept
+-- the label of an assertion means the same if its mark says that the frame is kept
 pub frames_marked :
     frame.HasOwnLabels → (base copy : BaseView) (marks : List ItemMark) → AreMarks base copy marks → (i j : ℕ) (label : List ℕ) (m a b : ℕ) (same : Bool) → IsCarrier copy label m →
     Resolves base i label (answers.Assertion a) → Resolves copy j label (answers.Assertion b) → same ≡ (mark_at marks m).frame →
@@ -145,7 +145,7 @@ frames_marked own base copy marks are i j label m a b same carrier h k told =
       }),
     )
 
--- the item of the old base that a mark tells carries the label
+-- the item of the old base that a mark names carries the label
 pub old_carries :
     (base copy : BaseView) (marks : List ItemMark) → AreMarks base copy marks → (label : List ℕ) (m : ℕ) → IsCarrier copy label m → (n : ℕ) →
     ((mark_at marks m).old ≡ Some n) ↔ IsCarrier base label n
@@ -154,7 +154,7 @@ old_carries base copy marks are label m carrier n =
     let one = one_label base copy n m label carrier.shown carrier.label_is in
     (λ e. one.1 (is.0 e), λ c. is.1 (one.0 c))
 
--- where the mark tells the same frame, both are assertions
+-- if the mark says that the frame is the same, both are assertions
 pub old_framed :
     (base copy : BaseView) (marks : List ItemMark) → AreMarks base copy marks → (m : ℕ) → is_shown_at copy m ≡ true → (mark_at marks m).frame ≡ true → (n : ℕ) →
     (mark_at marks m).old ≡ Some n → is_framed_at base n ≡ true
@@ -167,7 +167,7 @@ pub new_framed :
     (base copy : BaseView) (marks : List ItemMark) → AreMarks base copy marks → (m : ℕ) → is_shown_at copy m ≡ true → (mark_at marks m).frame ≡ true → (n : ℕ) → Some m ≡ Some n → is_framed_at copy n ≡ true
 new_framed base copy marks are m shown told n e = subst (λ (k : ℕ). is_framed_at copy k ≡ true) (same_Some m n e) ((are.each m (shown_within copy m shown)).frame_is.0 told).is
 
--- the active pairs are the same where the mark of this item of the old base tells so
+-- the active pairs are the same if the mark of this item of the old base says so
 pub pairs_marked :
     (base copy : BaseView) (marks : List ItemMark) → AreMarks base copy marks → (i j : ℕ) (same : Bool) → AreTheorems base copy i j → (mark_at marks j).old ≡ Some i →
     same ≡ (mark_at marks j).pairs → IsTrue same ↔ SharePairs base copy i j
@@ -179,7 +179,7 @@ pairs_marked base copy marks are i j same these old told =
       λ s. told ∙ is.pairs_is.1 (record { i = i; one_label = (is.old_is i).0 old; was = these.was; is = these.is; same = s }),
     )
 
--- the mandatory hypotheses are the same where the mark of this item of the old base tells so
+-- the mandatory hypotheses are the same if the mark of this item of the old base says so
 pub hypotheses_marked :
     (base copy : BaseView) (marks : List ItemMark) → AreMarks base copy marks → (i j : ℕ) → AreTheorems base copy i j → (mark_at marks j).old ≡ Some i → (mark_at marks j).frame ≡ true →
     ShareHypotheses base copy i j

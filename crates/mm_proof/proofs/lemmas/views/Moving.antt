@@ -26,7 +26,7 @@ use Rattle.mm_proof.specs.declared.Verdict.TheVariants.{Proved, Incomplete, Wron
 abbrev pub AreSameLabels : Setting → Setting → List (List ℕ) → List (List ℕ) → Type 0
 AreSameLabels p q xs ys = AllZip (λ a b. AreSameMeaning (p.resolve a) (q.resolve b)) xs ys
 
--- a list beside two joined ones, cut
+-- a list that is related to two joined ones, cut
 pub record Beside {A B : Type 0} (R : A → B → Type 0) (xs ys : List A) (zs : List B) : Type 0 where
   pub front : List B
   pub back : List B

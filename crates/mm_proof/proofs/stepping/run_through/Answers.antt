@@ -12,7 +12,7 @@ use Rattle.mm_proof.proofs.lemmas.machine.Reaching.{at_start}
 use Rattle.mm_proof.proofs.lemmas.machine.StepLemmas.{nothing_known, known_more, known_all, follows_more, fault_here, unknown_here, reached_all, means_known, action_at, saves_next}
 use Rattle.mm_proof.proofs.stepping.run_through.Goals as goal
 
--- a step of a proof, where there is none
+-- the step of a proof past its end
 abbrev nowhere : ProofStep
 nowhere = record { action = actions.Label 0; spot = record { word = 0; letter = 0 } }
 

@@ -88,6 +88,6 @@ by_number : SomeCut → (edit : Asked) (files : List File) (number : Option ℕ)
 by_number some edit files None at = inr (edits.NoFile, (λ e. cc), at)
 by_number some edit files (Some number) at = file_answer some edit files number (get_or files number no_file) (record { named = at; there = number_there files (edited_name edit) number at })
 
--- each edit has an answer beside want of memory
+-- each edit has an answer other than out of memory
 pub some_answer : SomeCut → (edit : Asked) (files : List File) → Answered edit files
 some_answer some edit files = by_number some edit files (file_number files (edited_name edit)) refl

@@ -19,7 +19,7 @@ use Rattle.mm_store.proofs.lemmas.edits.ReplaceLemmas.{key_stands}
 use Rattle.mm_store.proofs.lemmas.edits.StepLemmas.{parked}
 use Rattle.mm_store.proofs.lemmas.files.StoreLemmas.{parked_changed, parked_dropped}
 
--- one edit more, behind the others
+-- one edit more, after the others
 pub undone_last : (front : List UndoView) (undo : UndoView) (view : FilesView) → undone_all (front ++ undo ∷ []) view ≡ undone_all front (undone undo view)
 undone_last [] undo view = refl
 undone_last (first ∷ front) undo view = ap (undone first) (undone_last front undo view)
@@ -116,7 +116,7 @@ settled_count a b [] can also same = same
 settled_count a b (undo ∷ undos) can also same =
     spent_count (settled_all undos a) (settled_all undos b) undo.file undo.action can.1 also.1 (settled_count a b undos can.0 also.0 same)
 
--- a piece that stands is there, and is not parked
+-- a piece of a file is there, and is not parked
 record Stands (o : Option HeldPiece) : Type 0 where
   pub piece : HeldPiece
   pub is : o ≡ Some piece
@@ -135,7 +135,7 @@ standing_drop p k is =
     let was = stands (finite.get p k) is in
     omega (arith, parked_dropped p k was.piece was.is, was.none)
 
--- a piece that stands again is not parked, and the others are as before
+-- a piece that is put back is not parked, and the others are as before
 stood : (p : Pieces) (k key file : ℕ) (kind : Removal) → IsParked (with_state p k Standing) key file kind → key ≢ k
 stood p k key file kind is same =
     let now = with_state p k Standing in

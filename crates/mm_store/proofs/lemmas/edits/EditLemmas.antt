@@ -46,7 +46,7 @@ module _ {view : FilesView} {edit : Asked} {number : ℕ} (had : NamesPlace edit
     pub no_memory : IsEditError edit (plain view) Memory
     no_memory = (number, found.file, placed, λ none. none-some text (sym none ∙ brings))
 
-    -- what is told of a text is told of the edit that brings it
+    -- what is reported of a text is reported of the edit that brings it
     pub not_new : (held : ℕ)
         → (4294967295 < held + length (ended text) → 4294967295 < bytes_of (with_pieces (plain view) number (edited edit (pieces_in (plain view) number))))
         → (error : EditError) → IsTextRefused held text error → IsEditError edit (plain view) error
@@ -60,7 +60,7 @@ pub if_err : {T E : Type 0} (r : Result T E) (P Q : E → Type 0) → IsErrAnd r
 if_err (Ok x) P Q h f = tt
 if_err (Err e) P Q h f = f e h
 
--- the two errors that come before memory is taken are told where they hold, and nowhere else
+-- the two errors that come before memory is taken are reported exactly when they hold
 module _ {T : Type 0} (edit : Asked) (files after : List File) where
   pub no_file_told : (r : Result T EditError) → OnOk r (IsEditOf edit files after) → IfErr r (IsEditError edit files) → IsErrOf r NoFile ↔ (file_number files (edited_name edit) ≡ None)
   no_file_told r done fails = search rules

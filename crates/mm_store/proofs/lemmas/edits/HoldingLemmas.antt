@@ -1,4 +1,4 @@
--- Files each piece of which holds one unit: edits keep them so, and keys can be given to them.
+-- Files each piece of which holds one unit: edits keep this, and keys can be given to the files.
 use Rattle.std.proofs.Common.{◌≡◌, ℕ, zero, suc, ◌+◌, ◌<◌, Some, is_some, List, [], ◌∷◌, ◌++◌, length, map, take, drop, get_or, set, refl, sym, ap, ◌∙◌, subst, arith, All, IsSome, slice_get}
 use Rattle.std.specs.List.{AllByRecursion, insert, remove}
 use Rattle.std.specs.Option.{option_map}

@@ -1,4 +1,4 @@
--- An edit that is refused is refused for one reason, but for want of memory.
+-- An edit that is refused is refused for one reason, unless memory runs out.
 use Rattle.std.proofs.Common.{◌≡◌, ◌≢◌, ℕ, List, Option, Some, None, length, refl, sym, ap, ◌∙◌, subst, slice_get}
 use Rattle.std.proofs.lemmas.Option.{none-some, same_Some}
 use Rattle.mm_text.specs.declared.fault.TextFault.{TextFault}

@@ -27,7 +27,7 @@ by_keys_last [] edit old between new [] undo are is = (new, subst (λ view. IsEd
 by_keys_last (first ∷ edits) edit old between new (one ∷ undos) undo are is = (are.0, are.1, by_keys_last edits edit are.0 between new undos undo are.2 is)
 by_keys_last _ edit old between new _ undo are is = absurd are
 
--- the edits of a list of which so many are done
+-- the edits of a list of which this many are done
 pub mapped_there : (edits : List code.Edit) (n : ℕ) (default : code.Edit) → n < length edits → slice_get (map asked edits) n ≡ Some (asked (get_or edits n default))
 mapped_there [] n default lt = absurd (omega arith)
 mapped_there (edit ∷ edits) zero default lt = refl
@@ -67,7 +67,7 @@ starts_placed [] files between n edit are there at file placed = absurd (none-so
 starts_placed (first ∷ edits) files between zero edit are there at file placed = (edit, at, file, there, subst (λ files. IsPlaced files edit at file) are placed)
 starts_placed (first ∷ edits) files between (suc n) edit are there at file placed = (first, are.1.number, are.1.file, refl, are.1.placed)
 
--- why the edit behind others is not done is why they all are not
+-- why the edit after others is not done is why they all are not
 pub batch_error : (edits : List Asked) (files between : List File) (n : ℕ) (edit : Asked) (error : BatchError) → IsBatchOf (take n edits) files between
     → slice_get edits n ≡ Some edit → IsNextError edit between n error → IsBatchError edits files error
 batch_error edits files between n edit (Edit number error) are there fails = record {
@@ -80,7 +80,7 @@ batch_error edits files between n edit (Edit number error) are there fails = rec
 }
 batch_error edits files between n edit Memory are there fails = starts_placed edits files between n edit are there fails.0 fails.1 fails.2
 
--- where each key keeps its text, what can be read is read alike
+-- if each key keeps its text, what can be read is read alike
 pub reads_alike : (old new : FilesView) → KeepsKeys old new → KeepsReading old new
 reads_alike old new keeps = λ item was.
     let kept = keeps item.key.at (ap is_some was.live.held) in

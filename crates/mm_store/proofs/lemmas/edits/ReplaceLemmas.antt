@@ -13,7 +13,7 @@ use Rattle.mm_store.specs.Language.FilesView.{KeyedFile, plain_file, bytes_of}
 use Rattle.mm_store.specs.Language.Pieces.{PieceState, Standing, Parked, Replaced, HeldPiece, Pieces, in_state, with_state, standing_piece, text_under}
 use Rattle.mm_store.specs.Language.Undoing.{keys_in, with_keys}
 
--- at most one piece stands under a key
+-- at most one piece is under a key
 pub at_most_one : (o : Option HeldPiece) → standing_count o ≤ 1
 at_most_one None = omega arith
 at_most_one (Some piece) = by piece.state
@@ -26,7 +26,7 @@ not_deleted : (m : ℕ) (s : PieceState) → standing_state s ≡ 1 → deleted_
 not_deleted m Standing is = refl
 not_deleted m (Parked n kind) is = absurd (omega arith)
 
--- a piece that stands is there, and was not deleted
+-- a piece of a file is there, and was not deleted
 pub record Stands (o : Option HeldPiece) : Type 0 where
   pub piece : HeldPiece
   pub is : o ≡ Some piece
@@ -39,7 +39,7 @@ stands (Some piece) is = record { piece = piece; is = refl; kept = λ m. not_del
 pub replaced_weight : (m n : ℕ) → deleted_state m (Parked n Replaced) ≡ 0
 replaced_weight m n = grind arith
 
--- what stands under a key of a file
+-- what is under a key of a file
 pub key_stands : (fs : List KeyedFile) (p : Pieces) (n at : ℕ) → ((q : ℕ) → places q fs ≡ standing_count (finite.get p q)) → at < length (keys_in fs n) → standing_count (finite.get p (get_or (keys_in fs n) at 0)) ≡ 1
 key_stands fs p n at once there =
     let o = get_or (keys_in fs n) at 0 in

@@ -44,7 +44,7 @@ module _ (p p' : Pieces) (k : ℕ) (same : (q : ℕ) → q ≢ k → text_under 
       ap (λ (pieces : List PieceView). record { name = file.name; pieces = pieces; tail = file.tail } ∷ map (file_view p') files) (views_same file.keys (omega arith))
       ∙ ap (λ fs. file_view p file ∷ fs) (keyed_same files (omega arith))
 
--- the files stay as they are, and what stands in them can be read as before
+-- the files stay as they are, and what is in them can be read as before
 pub record Stays (old new : FilesView) : Type 0 where
   pub keys : new.keyed ≡ old.keyed
   pub plain_is : plain new ≡ plain old

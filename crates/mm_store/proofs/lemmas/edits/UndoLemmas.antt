@@ -37,7 +37,7 @@ remove_inserted xs zero y le = refl
 remove_inserted [] (suc i) y le = absurd (omega arith)
 remove_inserted (x ∷ xs) (suc i) y le = ap (λ ys. x ∷ ys) (remove_inserted xs i y (omega arith))
 
--- a piece that stands is there
+-- a piece of a file is there
 pub record StandsIn (o : Option HeldPiece) : Type 0 where
   pub piece : HeldPiece
   pub is : o ≡ Some piece
@@ -66,7 +66,7 @@ module _ (p : Pieces) (old : ℕ) (stands : StandsIn (finite.get p old)) where
   revived : in_state (finite.get p old) Standing ≡ stands.piece
   revived = ap (λ o. in_state o Standing) stands.is ∙ same_piece stands.piece Standing stands.state
 
-  -- parked, and standing again
+  -- parked, and put back
   pub parked_back : (n : ℕ) (kind : Removal) → with_state (with_state p old (Parked n kind)) old Standing ≡ p
   parked_back n kind = same_but _ _ old
       (get_state_same (with_state p old (Parked n kind)) old Standing ∙ ap Some (ap (λ o. in_state o Standing) (get_state_same p old (Parked n kind)) ∙ twice (finite.get p old) (Parked n kind) Standing ∙ revived) ∙ sym stands.is)

@@ -1,4 +1,4 @@
--- The items that a walk goes past, as the code puts them behind one another.
+-- The items that a walk goes past, as the code puts them one after another.
 use Rattle.std.proofs.Common.{◌≡◌, ℕ, List, [], ◌∷◌, ◌++◌, map, sym, ap, ◌∙◌, subst, append-nil, inl, inr, IsSome}
 use Rattle.std.specs.FinMap as finite
 use Rattle.std.proofs.lemmas.Simd.{map-map}

@@ -42,14 +42,14 @@ pub test_from_contains : {Y : Type 0} (name : List ℕ) (names : List (Vec ℕ Y
 test_from_contains name [] h = absurd (omega (arith, h.1))
 test_from_contains name (x ∷ names) h = missed name x names (bytes_eq name x.items) refl (Contains-append_cases (x.items ∷ []) (names_of names) name h) (test_from_contains name names)
 
--- a new name goes behind the others
+-- a new name goes after the others
 pub inserted : {Y : Type 0} (names : List (Vec ℕ Y)) (key : Vec ℕ Y) (name : List ℕ) → key.items ≡ name → ¬ Contains (names_of names) name → names_of (insert_key (λ x y. bytes_eq x.items y.items) names key) ≡ names_of names ++ name ∷ []
 inserted names key name is new =
     let fresh : tests name names ≡ false = false_from_ne_true (tests name names) (λ t. new (contains_from_test name names t)) in
     let none : tests key.items names ≡ false = ap (λ n. tests n names) is ∙ fresh in
     ap (λ b. names_of (if b then names else names ++ key ∷ [])) none ∙ map_push (λ key. key.items) names key ∙ ap (λ n. names_of names ++ n ∷ []) is
 
--- want of memory is no want of a top file
+-- out of memory is not the lack of a top file
 pub not_no_top : {T : Type 0} (r : Result T StoreError) → IsErrAnd r (λ e. e ≡ Memory) → r ≡ Err NoTop → ⊥
 not_no_top (Ok x) h e = absurd h
 not_no_top (Err x) h e = cc

@@ -1,4 +1,4 @@
--- The pieces of items stand in their files, and their texts can be read.
+-- The pieces of items are in their files, and their texts can be read.
 use Rattle.std.proofs.Common.{◌≡◌, ℕ, ◌+◌, ◌<◌, List, [], ◌∷◌, ◌++◌, Some, length, map, refl, sym, ap, ◌∙◌, subst, append_assoc, arith, length-append, slice_get, All}
 use Rattle.std.specs.List.{AllByRecursion}
 use Rattle.std.specs.FinMap as finite
@@ -18,7 +18,7 @@ use Rattle.mm_store.proofs.lemmas.files.ViewLemmas.{PieceThere, piece_there, hel
 abbrev pub PartsAreTexts : Type 0
 PartsAreTexts = (text : List ℕ) (units : Units) → HasUnits text units → All (IsReadable text) (parts_of units)
 
--- where the piece of a part stands, and that the part is a text in it
+-- where the piece of a part is, and that the part is a text in it
 record Stands (view : FilesView) (part : Placed) : Type 0 where
   pub file : KeyedFile
   pub there : slice_get view.keyed part.file ≡ Some file
@@ -63,7 +63,7 @@ module _ (parts_are_texts : PartsAreTexts) (view : FilesView) where
       let rest = placed_stand file number (n + 1) (front ++ piece ∷ []) pieces are.1 there (whole ∙ sym (append_assoc front (piece ∷ []) pieces)) next are.3 in
       subst (AllByRecursion (Stands view)) (sym are.4) (all_and (Stands view) are.0 are.1 first rest)
 
-  -- what holds of the items of parts that stand holds of all items
+  -- what holds of the items of parts with such places holds of all items
   items_found : (P : Item → Type 0) → ((part : Placed) → Stands view part → P (placed_item part)) → {files : List FileView} {parts : List Placed} {names after : List (List ℕ)} {items : List Item}
       → files ≡ files_in view → Expands files parts names items after → AllByRecursion (Stands view) parts → AllByRecursion P items
   items_found P found e nothing h = tt

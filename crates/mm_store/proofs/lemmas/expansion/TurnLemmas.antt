@@ -26,7 +26,7 @@ abbrev pub untold : Bool → ℕ
 untold true = 0
 untold false = 1
 
--- twice the turns that are left at most, and one for telling a missing name
+-- twice the turns that are left at most, and one for reporting a missing name
 abbrev pub turns : List FileView → WalkView → ℕ
 turns files walk = 2 * (weight file_turns files walk.names + level_turns files walk.levels) + untold walk.told
 
@@ -42,7 +42,7 @@ turn_in : (file : Option FileView) (n : ℕ) (piece : PieceView) → piece_in fi
 turn_in None n piece there = absurd (none-some piece there)
 turn_in (Some file) n piece there = omega (arith, slice_get_within file.pieces n piece there)
 
--- the turns that are left behind a piece
+-- the turns that are left after a piece
 moved : (files : List FileView) (levels front : List LevelView) (level : LevelView) (piece : PieceView) → IsHere files levels front level piece → level_turns files (front ++ behind level ∷ []) + 1 ≡ level_turns files levels
 moved files levels front level piece h =
     omega (arith, level_turns_last files front level, level_turns_last files front (behind level), turn_in (slice_get files level.file) level.piece piece h.there, ap (level_turns files) h.last)

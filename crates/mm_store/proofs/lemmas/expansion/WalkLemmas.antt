@@ -29,7 +29,7 @@ own_miss : (parts : List Placed) → AllByRecursion (λ part. ¬ IsInclusion par
 own_miss [] h = tt
 own_miss (part ∷ parts) h = ((λ kind. h.0 (kind_missing part.part.kind kind)), own_miss parts h.1)
 
--- what a walk has gone past since it was the first; a missing name that it has told stays told until the next step
+-- what a walk has gone past since it was the first; a missing name that it has reported stays reported until the next step
 pub record Since (files : List FileView) (top : List ℕ) (items : List Item) (first now : WalkView) : Type 0 where
   pub goes_on : GoesOn files top items first now
   pub same : now.told ≡ true → now ≡ first

@@ -32,7 +32,7 @@ module _ {Y : Type 0} where
       subst (λ at. IsRoomy p at v) same (subst (IsRoomy p start) (same_Some e.1 v there) room.0)
   room_at p start (e ∷ es) (suc n) at v is room there = room_at p (suc start) es n at v (omega arith) room.1 there
 
-  -- the other files, where no piece deleted from them was parked or dropped
+  -- the other files, if no piece deleted from them was parked or dropped
   pub room_same : (p p' : Pieces) (start : ℕ) (es : List (Vec ℕ Y × FileText)) → ((m : ℕ) → start < m + 1 → deletions m p' ≡ deletions m p) → HaveRoom p start es → HaveRoom p' start es
   room_same p p' start [] same room = tt
   room_same p p' start (e ∷ es) same room = (
@@ -77,6 +77,6 @@ module _ {Y : Type 0} where
   starts_set (file ∷ files) (e ∷ es) zero w members have are tail = (are, tail, have.2)
   starts_set (file ∷ files) (e ∷ es) (suc n) w members have are tail = (have.0, have.1, starts_set files es n w members have.2 are tail)
 
--- views are one where their files and their pieces are
+-- views are one if their files and their pieces are
 pub same_view : (a b : FilesView) → a.keyed ≡ b.keyed → a.pieces ≡ b.pieces → a ≡ b
 same_view a b files pieces = λ i. record { keyed = files i; pieces = pieces i }

@@ -1,4 +1,4 @@
--- A key that stands in a file has a piece.
+-- A key that is in a file has a piece.
 use Rattle.std.proofs.Common.{ℕ, zero, suc, ◌<◌, ◌≤◌, List, [], ◌∷◌, Option, Some, None, map, length, get_or, refl, arith, IsSome}
 use Rattle.std.specs.FinMap as finite
 use Rattle.std.proofs.lemmas.List.Sums.{get_or-le-sum_by}

@@ -1,4 +1,4 @@
--- Files by name: each name has one number, and a file that comes last is found where no other has its name.
+-- Files by name: each name has one number, and a file that comes last is found if no other has its name.
 use Rattle.std.proofs.Common.{◌≡◌, ◌≢◌, ℕ, ◌<◌, Bool, true, false, cond, nat_lt, List, [], ◌∷◌, ◌++◌, Some, None, length, get_or, refl, sym, ap, ◌∙◌, arith, slice_get}
 use Rattle.std.specs.List.{find, position_or_len}
 use Rattle.std.specs.Option.{option_map}

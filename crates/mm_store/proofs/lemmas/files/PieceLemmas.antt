@@ -1,4 +1,4 @@
--- What changes of single pieces make of their texts, of what stands, and of weights.
+-- What changes of single pieces make of their texts, of the pieces that are not parked, and of weights.
 use Rattle.std.proofs.Common.{◌≡◌, ◌≢◌, inl, inr, ℕ, ◌+◌, List, Option, Some, None, refl, sym, ap, ◌∙◌, arith}
 use Rattle.std.proofs.lemmas.Bool.{cases_eq}
 use Rattle.std.specs.FinMap as finite
@@ -38,14 +38,14 @@ module _ (p : Pieces) (k : ℕ) where
   pub get_state_other : (state : PieceState) (q : ℕ) → q ≢ k → finite.get (with_state p k state) q ≡ finite.get p q
   get_state_other state q differs = get_put_other p k (in_state (finite.get p k) state) q differs
 
-  -- a piece more stands, under this key
+  -- one piece more is in a file, under this key
   pub stands_more : (p' : Pieces) (q : ℕ) → standing_count (finite.get p' k) ≡ standing_count (finite.get p k) + 1 → (q ≢ k → finite.get p' q ≡ finite.get p q) → standing_count (finite.get p' q) ≡ standing_count (finite.get p q) + one q k
   stands_more p' q more others = elim (cases_eq q k) [
     | inl is ↦ omega (arith, one_same k, ap (λ q. one q k) is, more, ap (λ q. standing_count (finite.get p' q)) is, ap (λ q. standing_count (finite.get p q)) is)
     | inr differs ↦ omega (arith, one_other q k differs, ap standing_count (others differs))
   ]
 
-  -- as many pieces stand
+  -- as many pieces are in files
   pub stands_same : (p' : Pieces) (q : ℕ) → standing_count (finite.get p' k) ≡ standing_count (finite.get p k) → (q ≢ k → finite.get p' q ≡ finite.get p q) → standing_count (finite.get p' q) ≡ standing_count (finite.get p q)
   stands_same p' q same others = elim (cases_eq q k) [
     | inl is ↦ ap (λ q. standing_count (finite.get p' q)) is ∙ same ∙ ap (λ q. standing_count (finite.get p q)) (sym is)

@@ -17,7 +17,7 @@ there_from_map f [] n y h = cc
 there_from_map f (x ∷ xs) zero y h = (x, refl, sym (same_Some (f x) y h))
 there_from_map f (x ∷ xs) (suc n) y h = there_from_map f xs n y h
 
--- a piece of a file stands under its key
+-- a piece of a file is under its key
 pub record PieceThere (view : FilesView) (number n : ℕ) (piece : PieceView) : Type 0 where
   pub file : KeyedFile
   pub there : slice_get view.keyed number ≡ Some file
@@ -31,7 +31,7 @@ piece_there view number file n piece there here =
     let at : piece.key.at ≡ k.0 = ap (λ (piece : PieceView). piece.key.at) k.2 in
     record { file = f.0; there = f.1; is_key = k.1 ∙ ap Some (sym at); text = ap (λ (piece : PieceView). piece.text) k.2 ∙ ap (text_under view.pieces) (sym at) }
 
--- the piece that is next in a file stands there
+-- the piece that is next in a file is there
 pub next_there : (view : FilesView) (level : LevelView) (piece : PieceView) → piece_at (files_in view) level ≡ Some piece → PieceThere view level.file level.piece piece
 next_there view level piece there = case (slice_get (files_in view) level.file) refl there
   where

@@ -1,4 +1,4 @@
--- Where a byte of a piece stands in its file, by the fields of `Files`.
+-- Where a byte of a piece is in its file, by the fields of `Files`.
 use Rattle.std.proofs.Common.{◌≡◌, ℕ, ◌+◌, ◌<◌, ◌≤◌, List, [], Some, length, map, take, get_or, sym, ap, ◌∙◌, subst, Global, Vec, slice_get}
 use Rattle.std.specs.List.{concat}
 use Rattle.std.specs.Option.{option_map}

@@ -1,11 +1,11 @@
--- A piece lies in the text of its file.
+-- A piece is in the text of its file.
 use Rattle.std.proofs.Common.{◌≡◌, ℕ, zero, suc, ◌+◌, ◌≤◌, Some, List, [], ◌∷◌, length, length-append, take, slice_get, ap, arith}
 use Rattle.std.specs.List.{concat}
 use Rattle.std.proofs.lemmas.Option.{same_Some}
 use Rattle.mm_store.specs.Language.FilesView.{FilesView}
 use Rattle.mm_store.specs.Language.FileFacts.{IsByte}
 
--- a text, behind those before it, lies in all of them joined
+-- a text, after those before it, is in all of them joined
 lies_in_joined : (texts : List (List ℕ)) (n : ℕ) (text : List ℕ) → slice_get texts n ≡ Some text → length (concat (take n texts)) + length text ≤ length (concat texts)
 lies_in_joined [] n text there = cc
 lies_in_joined (first ∷ texts) zero text there =

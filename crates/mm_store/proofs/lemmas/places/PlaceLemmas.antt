@@ -1,4 +1,4 @@
--- Lines and columns behind joined bytes, and where the bytes of a piece stand.
+-- Lines and columns after joined bytes, and where the bytes of a piece are.
 use Rattle.std.proofs.Common.{◌≡◌, ℕ, zero, suc, ◌+◌, ◌-◌, ◌<◌, ◌≤◌, Bool, true, false, not, eqb, cond, List, [], ◌∷◌, ◌++◌, Some, length, take, drop, get_or, reverse, count_by, refl, sym, ap, ◌∙◌, subst, append_assoc, arith, length-append}
 use Rattle.std.specs.Prelude.{slice_get}
 use Rattle.std.specs.List.{suffix_len, prefix_len, after_last, concat}
@@ -17,7 +17,7 @@ use Rattle.mm_store.specs.Code.Lines.{bytes_before}
 abbrev is_other : ℕ → Bool
 is_other b = not (is_line_feed b)
 
--- no line feed is among bytes exactly where all are other bytes
+-- no line feed is among bytes exactly when all are other bytes
 other_step : (b : Bool) (p n c : ℕ) → (p ≡ n → c ≡ 0) × (c ≡ 0 → p ≡ n) → (cond (not b) (1 + p) 0 ≡ suc n → cond b 1 0 + c ≡ 0) × (cond b 1 0 + c ≡ 0 → cond (not b) (1 + p) 0 ≡ suc n)
 other_step true p n c h = (λ e. absurd (omega arith), λ e. absurd (omega arith))
 other_step false p n c h = (λ e. (omega arith), λ e. (omega arith))
@@ -58,7 +58,7 @@ column_begins a b some =
 pub lines_joined : (a b : List ℕ) → count_by is_line_feed (a ++ b) ≡ count_by is_line_feed a + count_by is_line_feed b
 lines_joined a b = sum_by-append (λ x. cond (is_line_feed x) 1 0) a b
 
--- what holds of the elements of a list by their places, and of one more behind them
+-- what holds of the elements of a list by their places, and of one more after them
 pub each_more : {X : Type 0} (P : ℕ → X → Type 0) (xs : List X) (x : X) (n : ℕ) → length xs ≡ n → ((k : ℕ) (d : X) → k < n → P k (get_or xs k d)) → P n x → (k : ℕ) (d : X) → k < n + 1 → P k (get_or (xs ++ x ∷ []) k d)
 each_more P [] x n long each last zero d h = subst (λ m. P m x) (sym long) last
 each_more P [] x n long each last (suc k) d h = absurd (omega arith)
@@ -75,7 +75,7 @@ next_piece texts n at h =
     append-nil (concat (take (n + 1) texts)) ∙ concat_one texts n h ∙ ap (λ l. concat (take n texts) ++ l) (sym (take-append-drop at (get_or texts n []))) ∙
     sym (append_assoc (concat (take n texts)) (take at (get_or texts n [])) (drop at (get_or texts n [])))
 
--- bytes of a piece lie within the joined texts
+-- bytes of a piece are within the joined texts
 pub within_joined : (texts : List (List ℕ)) (n at : ℕ) → n < length texts → length (bytes_before texts n at) + length (drop at (get_or texts n [])) ≤ length (concat texts)
 within_joined texts n at h =
     let a = next_piece texts n at h in
@@ -86,7 +86,7 @@ within_joined texts n at h =
     let m = length-append (concat (take (n + 1) texts)) (concat (drop (n + 1) texts)) in
     omega (arith, ap length (sym a ∙ b), ap length (sym d ∙ c))
 
--- what stands before a text among joined ones, and the text, are no longer than all
+-- what comes before a text among joined ones, and the text, are no longer than all
 pub piece_within : (texts : List (List ℕ)) (n : ℕ) → n < length texts → length (concat (take n texts)) + length (get_or texts n []) ≤ length (concat texts)
 piece_within texts n h = omega (arith, within_joined texts n 0 h, ap length (append-nil (concat (take n texts))))
 

@@ -40,7 +40,7 @@ known_same p v w less within same starts knows =
           (take-map f number v.keys.items ∙ ap (map f) (sym (same number le)) ∙ sym (take-map f number w.keys.items)) (knows.starts number default (omega (arith, le, less))));
     }
 
--- and where room was made
+-- and if room was made
 pub starts_stay : (p : Pieces) (v w : FileText) → w.keys.items ≡ v.keys.items → w.known ≡ v.known
     → ((number : ℕ) (default : Start) → number ≤ deque_len v.keys → get_or w.starts.items number default ≡ get_or v.starts.items number default)
     → KnowsStarts p v → KnowsStarts p w
@@ -54,7 +54,7 @@ starts_stay p v w items known same knows =
           (subst (λ ts. IsStart (concat (take number ts)) (get_or v.starts.items number default)) texts (knows.starts number default (omega (arith, le, known))));
     }
 
--- and where nothing of this changed
+-- and if nothing of this changed
 pub starts_alike : (texts : List (List ℕ)) (v w : FileText) → w.known ≡ v.known → w.starts ≡ v.starts → HasStarts texts v → HasStarts texts w
 starts_alike texts v w known starts has = record {
   known = omega (arith, known, has.known);

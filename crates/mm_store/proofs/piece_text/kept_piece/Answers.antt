@@ -5,7 +5,7 @@ use Rattle.mm_text.specs.Language.Part.{HasUnits, HasParts, IsReadable, parts_of
 use Rattle.mm_store.specs.Code.Inside.{CanBeKept}
 use Rattle.mm_store.proofs.piece_text.kept_piece.Goals as goal
 
--- each part lies in the text
+-- each part is in the text
 parts_lie : (text : List ℕ) (parts : List Part) → CanBeKept text → HasParts text parts → ((text : List ℕ) (units : Units) → HasUnits text units → All (IsReadable text) (parts_of units)) → All (IsReadable text) parts
 parts_lie text parts can has law =
     let unit = can.unit in

@@ -11,7 +11,7 @@ use Rattle.mm_store.specs.Code.Units.{IsUnitError}
 use Rattle.mm_store.proofs.lemmas.edits.EditLemmas.{if_err}
 use Rattle.mm_store.proofs.unit.read_unit.Goals as goal
 
--- what is told of a text that has no cut
+-- what is reported of a text that has no cut
 not_cut : (text : List ℕ) (error : TextError) → IsCutError text error → IsUnitError text (edit_error_of error)
 not_cut text (Fault fault) is = is
 not_cut text Memory is = tt

@@ -90,7 +90,7 @@ returns-clause-within c = c.loop-parts.invariant.progress.within
 pub returns-clause-cut : goal.returns-clause-cut
 returns-clause-cut c = ends_cut _ _ _ _ c.loop-parts.grammar c.loop-parts.invariant.progress c.requires.allowed (rw (c.in_default.is, c.loop-parts.invariant.text) at c.in_ok-word.ensures.word) c.in-None.ensures
 
--- the reader goes on with each word, and further where it skips plain words
+-- the reader goes on with each word, and further if it skips plain words
 pub loop-parts-smaller-then-is_whole : goal.loop-parts-smaller-then-is_whole
 loop-parts-smaller-then-is_whole c =
     let taken = rw c.in-Some.is at c.in_ok-word.ensures.word in omega (arith, ap length c.in_ok-word.ensures.text, taken.begins, taken.some, taken.next, c.next_word.new.self.in_text)

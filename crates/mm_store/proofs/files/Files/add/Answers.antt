@@ -15,7 +15,7 @@ no_number : (number : Option ℕ) → is_some number ≡ false → number ≡ No
 no_number None none = refl
 no_number (Some n) none = absurd (false≢true (sym none))
 
--- what is told of a text that has no cut
+-- what is reported of a text that has no cut
 not_cut : (files : List File) (name text : List ℕ) → file_number files name ≡ None → (error : TextError) → IsCutError text error → IsAddError files name text (store_error_of error)
 not_cut files name text missing (Fault fault) is = (missing, is)
 not_cut files name text missing Memory is = missing
