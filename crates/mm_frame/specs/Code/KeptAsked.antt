@@ -16,7 +16,7 @@ pub record IsFoundBefore (before : List Item) (common : Option ℕ) (n : ℕ) : 
   pub least : first ≤ n
   pub active : is_active_at before first ≡ true
 
--- of the first items, those that were looked at; and what was found is a `$d` that has both names
+-- the active `$d` with both names among the first items were looked at, and what was found is a `$d` that has both names
 pub record IsPairAnswer (before : List Item) (x y : List ℕ) (upto : ℕ) (common : Option ℕ) : Type 0 where
   pub within : upto ≤ length before
   pub cover : (n : ℕ) → n < upto → IsDisjointAt before x n → IsDisjointAt before y n → is_active_at before n ≡ true → IsFoundBefore before common n

@@ -31,22 +31,22 @@ pub record AreRows {X : Type 0} (tells : List Item → Item → X → Type 0) (s
   pub count : length rows ≡ length said
   pub each : (n : ℕ) (row : X) → slice_get rows n ≡ Some row → tells (sound_items (take n said)) (item_at said n) row
 
--- the label of an item, which one that may have a label has, and its fault
+-- a row has the label of an item, if its kind has one, and its fault
 pub record IsLabelTold (before : List Item) (item : Item) (row : Option (List ℕ) × Option (ℕ × FrameNumber)) : Type 0 where
   pub label : row.0 ≡ item.label
   pub labelled : is_some row.0 ≡ is_labelled item.kind
   pub fault : row.1 ≡ told_fault before item
 
--- the expression of a sound `$f`, `$e`, `$a` or `$p`, and the variables of a sound `$d`; of any other item, whatever symbols
+-- the symbols are the expression of a sound `$f`, `$e`, `$a` or `$p`, or the variables of a sound `$d`; for other items they may be any
 pub record IsExpressionTold (names : List (List ℕ)) (before : List Item) (item : Item) (symbols : List NumberedSymbol) : Type 0 where
   pub expression : (is_none (told_fault before item) && is_read item.kind) ≡ true → symbols_of names symbols ≡ expression before item
   pub numbered : All (IsNumbered names) symbols
 
--- the numbers of the mandatory hypotheses of an assertion
+-- the numbers of the mandatory hypotheses of an item, if the flag says that it is an assertion
 abbrev pub numbers_if : Bool → List Item → Item → Option (List ℕ)
 numbers_if framed before item = if framed then Some (mandatory_numbers before item) else None
 
--- of a sound `$a` or `$p` after the sound items before it, and no other item
+-- the numbers of the mandatory hypotheses of a sound `$a` or `$p` after the sound items before it; none of any other item
 abbrev pub told_numbers : List Item → Item → Option (List ℕ)
 told_numbers before item = numbers_if (is_none (told_fault before item) && is_assertion item.kind) before item
 
@@ -64,7 +64,7 @@ typed_variables hypotheses = flat_map (λ h. if h.floating then drop 1 h.express
 abbrev pub pairs_in_order : Frame → List (Symbol × Symbol)
 pairs_in_order frame = filter (are_paired frame.pairs) (pairs_of (typed_variables frame.hypotheses))
 
--- the numbers of its mandatory hypotheses, and its mandatory pairs in one order, of a sound `$a` or `$p`, and of no other item
+-- a row has the numbers of the mandatory hypotheses of a sound `$a` or `$p`, and its mandatory pairs in one order; other items have no row
 pub record IsFrameTold (all : List (List ℕ)) (before : List Item) (item : Item) (row : Option (List ℕ × List (NumberedSymbol × NumberedSymbol))) : Type 0 where
   pub hypotheses : option_map (λ it. it.0) row ≡ told_numbers before item
   pub pairs : IfSome row (λ it. ArePairsRead all (pairs_in_order (frame before item)) it.1)
@@ -73,7 +73,7 @@ pub record IsFrameTold (all : List (List ℕ)) (before : List Item) (item : Item
 abbrev pub is_told_proof : List Item → Item → Bool
 is_told_proof before item = is_none (told_fault before item) && is_theorem item.kind
 
--- all pairs that are active at a sound `$p`, in the order of the numbers of their names, and at no other item
+-- a sound `$p` has all pairs that are active at it, in the order of the numbers of their names; any other item has nothing
 pub record AreActiveTold (names : List (List ℕ)) (before : List Item) (item : Item) (told : Option (List (NumberedSymbol × NumberedSymbol))) : Type 0 where
   pub some : is_some told ≡ is_told_proof before item
   pub pairs : IfSome told (λ pairs. AreSamePairsRead names (active_pairs before) pairs)

@@ -23,19 +23,19 @@ abbrev pub HasOneStatementFault : Type 0
 HasOneStatementFault = (before : List Item) (item : Item) (w v : ℕ) (n m : FrameNumber)
     → IsStatementFault before item w n → IsStatementFault before item v m → (w ≡ v) × (n ≡ m)
 
--- It has a fault, or is sound.
+-- A statement has a fault, or is sound.
 abbrev pub HasFaultOrIsSound : Type 0
 HasFaultOrIsSound = (before : List Item) (item : Item) → ((w : ℕ) × (n : FrameNumber) × IsStatementFault before item w n) ⊎ IsSound before item
 
--- It is never both.
+-- No statement has a fault and is sound.
 abbrev pub NeverFaultAndSound : Type 0
 NeverFaultAndSound = (before : List Item) (item : Item) (w : ℕ) (n : FrameNumber) → IsStatementFault before item w n → IsSound before item → ⊥
 
--- The fault that is computed is the fault.
+-- The fault that is computed for a statement is its fault.
 abbrev pub FaultIsFound : Type 0
 FaultIsFound = (before : List Item) (item : Item) (w : ℕ) (n : FrameNumber) → (fault before item ≡ Some (w, n)) ↔ IsStatementFault before item w n
 
--- None is computed exactly for sound statements.
+-- No fault is computed exactly for sound statements.
 abbrev pub SoundHasNone : Type 0
 SoundHasNone = (before : List Item) (item : Item) → (fault before item ≡ None) ↔ IsSound before item
 
@@ -92,7 +92,7 @@ pub record AreAlikeBases (a b : FilesView) (top : List ℕ) (base other : BaseVi
   pub is_base : IsOfFiles a top base
   pub is_other : IsOfFiles b top other
 
--- Such bases are the same but for keys: their items say the same.
+-- Bases of files that are the same but for keys are the same but for keys: their items say the same.
 abbrev pub AlikeFilesSayTheSame : Type 0
 AlikeFilesSayTheSame = (a b : FilesView) (top : List ℕ) (base other : BaseView) → AreAlikeBases a b top base other
     → (map keyless_item base.found ≡ map keyless_item other.found) × (base.said ≡ other.said)

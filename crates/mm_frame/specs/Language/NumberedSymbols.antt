@@ -5,7 +5,7 @@ use Rattle.mm_frame.specs.declared.symbol.NumberedSymbol.{NumberedSymbol}
 use Rattle.mm_frame.specs.Language.Frame.{Symbol, AreSamePairs}
 use Rattle.mm_frame.specs.Language.Names.{name_at}
 
--- what symbol it is, with its name in it
+-- the symbol that a symbol with its name is
 abbrev pub named_symbol : NamedSymbol → Symbol
 named_symbol kept = record { name = kept.name.items; variable = kept.variable }
 
@@ -13,11 +13,11 @@ named_symbol kept = record { name = kept.name.items; variable = kept.variable }
 abbrev pub by_number : NumberedSymbol → Symbol
 by_number kept = record { name = kept.name ∷ []; variable = kept.variable }
 
--- what symbol it is
+-- the symbol that a symbol by number is, by the list of all names
 abbrev pub symbol_of : List (List ℕ) → NumberedSymbol → Symbol
 symbol_of all kept = record { name = name_at all kept.name; variable = kept.variable }
 
--- what expression they are
+-- the expression that symbols by number are
 abbrev pub symbols_of : List (List ℕ) → List NumberedSymbol → List Symbol
 symbols_of all kept = map (symbol_of all) kept
 
@@ -25,15 +25,15 @@ symbols_of all kept = map (symbol_of all) kept
 abbrev pub as_variable : List ℕ → Symbol
 as_variable name = record { name = name; variable = true }
 
--- what pair of symbols it is
+-- the pair of symbols that a pair by number is
 abbrev pub pair_of : List (List ℕ) → NumberedSymbol × NumberedSymbol → Symbol × Symbol
 pair_of all kept = (symbol_of all kept.0, symbol_of all kept.1)
 
--- what pairs they are
+-- the pairs that pairs by number are
 abbrev pub kept_pairs : List (List ℕ) → List (NumberedSymbol × NumberedSymbol) → List (Symbol × Symbol)
 kept_pairs all kept = map (pair_of all) kept
 
--- the number of its name is that of a name
+-- the number of the symbol's name is that of a name in the list
 abbrev pub IsNumbered : List (List ℕ) → NumberedSymbol → Type 0
 IsNumbered all kept = kept.name < length all
 

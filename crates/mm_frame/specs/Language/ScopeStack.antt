@@ -24,7 +24,7 @@ turn Opens item scopes = [] ∷ scopes
 turn Closes item scopes = outer scopes
 turn Neither item scopes = put item scopes
 
--- what the items make of it, one after another
+-- what the items make of the stack, one after another
 abbrev pub read_scopes : List (List Item) → List Item → List (List Item)
 read_scopes scopes [] = scopes
 read_scopes scopes (item ∷ items) = read_scopes (turn (mark_of item.kind) item scopes) items

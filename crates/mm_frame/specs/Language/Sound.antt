@@ -135,11 +135,11 @@ line_holds before item word F13 = is_floating item.kind && at_symbol (second (is
 -- a missing inclusion, which is no statement
 line_holds before item word F14 = false
 
--- the line holds
+-- the line of this number holds
 abbrev pub StatementLineHolds : List Item → Item → ℕ → FrameNumber → Type 0
 StatementLineHolds before item word number = line_holds before item word number ≡ true
 
--- no line holds
+-- the statement is sound: no line of the table holds at any word
 abbrev pub IsSound : List Item → Item → Type 0
 IsSound before item = (word : ℕ) (number : FrameNumber) → line_holds before item word number ≡ false
 
@@ -147,7 +147,7 @@ IsSound before item = (word : ℕ) (number : FrameNumber) → line_holds before 
 abbrev pub AreSound : List Item → Type 0
 AreSound items = (front : List Item) (item : Item) (back : List Item) → items ≡ front ++ item ∷ back → IsSound front item
 
--- the numbers in order
+-- the place of a number in the order of numbers
 abbrev pub row : FrameNumber → ℕ
 row F01 = 1
 row F02 = 2

@@ -6,7 +6,7 @@ use Rattle.mm_frame.specs.Language.Frame.{Symbol, Mandatory, Frame, Assertion, S
 abbrev pub IsTyped : List Mandatory → Symbol → Type 0
 IsTyped hypotheses v = (c : Symbol) × (c.variable ≡ false) × Contains hypotheses (record { floating = true; expression = c ∷ v ∷ [] })
 
--- a constant and a variable
+-- the expression is a constant and a variable
 abbrev pub IsTyping : List Symbol → Type 0
 IsTyping e = (c v : Symbol) × (e ≡ c ∷ v ∷ []) × (c.variable ≡ false) × (v.variable ≡ true)
 

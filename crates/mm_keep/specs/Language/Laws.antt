@@ -15,7 +15,7 @@ OneListOfRuns =
     (before after others later : FilesView) (top runs copies : List ℕ) → plain before ≡ plain others → plain after ≡ plain later →
     AreRunsOf before after top runs → AreRunsOf others later top copies → runs ≡ copies
 
--- Of each item of files something is reported rightly.
+-- Something is rightly reported of each item of files.
 abbrev pub ItemsHaveFindings : Type 0
 ItemsHaveFindings =
     (files : FilesView) (top : List ℕ) (base : BaseView) → IsOfFiles files top base → (i : ℕ) → i < length base.said

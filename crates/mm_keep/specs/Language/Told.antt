@@ -34,7 +34,7 @@ pub record IsShown (files : FilesView) (item : store.Item) (word : ℕ) (shown :
   pub has_place : HasPlace files item word 0 shown.at
   pub is_word : shown.word ≡ spelled (slice_range has_place.is_byte.read.text item.start item.end) (slice_get has_place.is_byte.read.words word)
 
--- it reports the fault with this number, at this word of an item
+-- what is reported is the fault with this number, at this word of an item
 abbrev pub TellsFaultAt : FilesView → store.Item → ℕ → FrameNumber → Told → Type 0
 TellsFaultAt files item word number one = (shown : Shown) × (one ≡ Fault number shown) × IsShown files item word shown
 

@@ -6,8 +6,8 @@ use Rattle.mm_frame.specs.Language.Framing.{active_pairs}
 use Rattle.mm_proof.specs.Language.BaseLabels.{setting_at}
 use Rattle.mm_proof.specs.Language.SameProof.{IsSameLabel}
 
--- What is reported of an item: the number of the sound item of the old base that has its label, whether both are assertions with the same
--- frame, whether both are theorems with the same active pairs, and whether it is known that every label means the same at both.
+-- What is reported of an item: the number of the sound item of the old base that has its label; whether both are assertions with the same
+-- frame; whether both are theorems with the same active pairs; and whether every label is known to mean the same at both.
 pub record ItemMark : Type 0 where
   pub old : Option ℕ
   pub frame : Bool
@@ -37,7 +37,7 @@ pub record KeepsFrame (old new : BaseView) (j : ℕ) : Type 0 where
   pub is : is_framed_at new j ≡ true
   pub same : AreSameFrame (frame_at old i) (frame_at new j)
 
--- it is a theorem, and the old base has one with its label and the same active pairs
+-- item j of the new base is a theorem, and the old base has one with its label and the same active pairs
 pub record KeepsPairs (old new : BaseView) (j : ℕ) : Type 0 where
   pub i : ℕ
   pub one_label : HaveOneLabel old new i j
@@ -45,7 +45,7 @@ pub record KeepsPairs (old new : BaseView) (j : ℕ) : Type 0 where
   pub is : is_proof_at new j ≡ true
   pub same : AreSamePairs (active_pairs (before old i)) (active_pairs (before new j))
 
--- every label means the same at it and at the sound item of the old base that has its label
+-- every label means the same at item j and at the sound item of the old base that has its label
 abbrev pub KeepsLabels : BaseView → BaseView → ℕ → Type 0
 KeepsLabels old new j = (i : ℕ) → HaveOneLabel old new i j → (label : List ℕ) → IsSameLabel (setting_at old i) (setting_at new j) label
 

@@ -85,7 +85,7 @@ SameDecodesSame =
     (place other : Setting) (mandatory others words : List (List ℕ)) → AreSameToDecode place other mandatory others words →
     IsSameDecoding place other (decoding place mandatory words) (decoding other others words)
 
--- and they cite by the same words.
+-- Proofs with the same words cite by the same words if their labels mean the same.
 abbrev pub SameCitesSame : Type 0
 SameCitesSame =
     (place other : Setting) (mandatory others words : List (List ℕ)) → AreSameToDecode place other mandatory others words →
@@ -103,7 +103,7 @@ abbrev pub Rise : List ℕ → Type 0
 Rise [] = Unit {0}
 Rise (n ∷ numbers) = AllByRecursion (λ m. n < m) numbers × Rise numbers
 
--- The words that cite rise.
+-- The numbers of the words that cite rise.
 abbrev pub CitesRise : Type 0
 CitesRise = (place : Setting) (words : List (List ℕ)) (decoding : Result Decoded ProofFault) → Rise (cites place words decoding)
 

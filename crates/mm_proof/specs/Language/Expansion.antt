@@ -62,7 +62,7 @@ expand_one place so_far (Saved n) = with_again so_far (slice_get so_far.saved n)
 expand_one place so_far Save = with_saved so_far (last_part place so_far.labels)
 expand_one place so_far NotKnown = None
 
--- what steps make of it, one after another; nothing, as soon as one of them has no expansion
+-- what steps make of the expansion so far, one after another; nothing, as soon as one of them has no expansion
 abbrev pub expand_from : Setting → Option Expanded → List Step → Option Expanded
 expand_from place so_far [] = so_far
 expand_from place None (step ∷ steps) = None

@@ -41,7 +41,7 @@ CitingFails active frame stack P09 =
     (λ given. AnyZip (λ h e. (h.floating ≡ false) × (substituted given h.expression ≢ e)) frame.hypotheses (entries_for frame stack))
 -- what the two variables of a mandatory pair stand for shares a variable
 CitingFails active frame stack P10 = UnderGiven frame (entries_for frame stack) (λ given. Any (λ pair. ShareVariable (given pair.0) (given pair.1)) frame.pairs)
--- what they stand for has two different variables, one from each, that are no active pair
+-- what the variables of a mandatory pair stand for has two different variables, one from each, that are no active pair
 CitingFails active frame stack P11 =
     UnderGiven frame (entries_for frame stack) (λ given. Any (λ pair. LackPair active (given pair.0) (given pair.1)) frame.pairs)
 -- the result has over 1,000,000 symbols

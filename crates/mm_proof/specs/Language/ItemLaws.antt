@@ -25,7 +25,7 @@ MandatoryLabelsMean =
 abbrev pub HasOneVerdictAt : Type 0
 HasOneVerdictAt = (view : BaseView) (i : ℕ) (v w : Verdict) → IsVerdictAt view i v → IsVerdictAt view i w → v ≡ w
 
--- There is one, if the items say what their words say.
+-- There is a verdict on the proof of an item, if the items say what their words say.
 abbrev pub HasVerdictAt : Type 0
 HasVerdictAt = (view : BaseView) (i : ℕ) → AreSaid view → (v : Verdict) × IsVerdictAt view i v
 
@@ -41,7 +41,7 @@ ProvedIsDerivedAt = (view : BaseView) (i : ℕ) → IsVerdictAt view i Proved �
 abbrev pub HasOneCountAt : Type 0
 HasOneCountAt = (view : BaseView) (i a b : ℕ) → AreDoneAt view i a → AreDoneAt view i b → a ≡ b
 
--- There is one, if the items say what their words say.
+-- There is a number of the steps of the proof of an item that are done, if the items say what their words say.
 abbrev pub HasCountAt : Type 0
 HasCountAt = (view : BaseView) (i : ℕ) → AreSaid view → (count : ℕ) × AreDoneAt view i count
 

@@ -91,7 +91,7 @@ TurnsOrFails =
     (place : Setting) → HasFrames place → (s : State) (step : Step) → IsReady place s step →
     ((after : State) × Turns place step s after) ⊎ ((number : ProofNumber) × IsLowest place step s.stack number)
 
--- It never has both.
+-- A step never has both a turn and a line that holds.
 abbrev pub NeverTurnsAndFails : Type 0
 NeverTurnsAndFails =
     (place : Setting) → HasFrames place → (s after : State) (step : Step) (number : ProofNumber) →
@@ -103,10 +103,10 @@ HasOneStepFault =
     (place : Setting) → HasFrames place → (steps : List Step) (n m : ℕ) (a b : ProofNumber) →
     IsStepFault place steps n a → IsStepFault place steps m b → (n ≡ m) × (a ≡ b)
 
--- So many steps are done, and no other number of them.
+-- There is one number at most of the steps that are done.
 abbrev pub HasOneCount : Type 0
 HasOneCount = (place : Setting) → HasFrames place → (steps : List Step) (a b : ℕ) → AreDone place steps a → AreDone place steps b → a ≡ b
 
--- There is such a number for what decoding gives.
+-- There is a number of the steps that are done, if decoding gives steps.
 abbrev pub HasCount : Type 0
 HasCount = (place : Setting) → HasFrames place → (steps : List Step) → AreDecoded place steps → (count : ℕ) × AreDone place steps count

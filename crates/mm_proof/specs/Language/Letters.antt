@@ -55,7 +55,7 @@ abbrev pub EndsGroup : List Letter → Option Letter → List Group → Type 0
 EndsGroup digits (Some letter) groups = is_digit letter.byte ≡ false
 EndsGroup digits None groups = (digits ≢ []) × (groups ≡ [])
 
--- these are groups
+-- each of these groups is digits with a letter after them, and only the last may be without the letter
 abbrev pub AreGroups : List Group → Type 0
 AreGroups [] = Unit {0}
 AreGroups (group ∷ groups) = AreDigits group.digits × EndsGroup group.digits group.last groups × AreGroups groups

@@ -27,7 +27,7 @@ IsUsable (Assertion frame) = Unit {0}
 IsUsable Inactive = ⊥
 IsUsable Unknown = ⊥
 
--- a save
+-- the step is a save
 abbrev pub is_save : Step → Bool
 is_save Save = true
 is_save _ = false

@@ -11,10 +11,10 @@ pub record IsReadIn (names : List (List ℕ)) (files : FilesView) (answers : Bas
   pub base : IsBaseBy names view answers
   pub each : AllZip (Says files) view.found view.said
 
--- there is such a base, and its item with this number is a sound `$p`
+-- there is a base of which the answers are right in these files, and its item with this number is a sound `$p`
 abbrev pub HasTheorem : List (List ℕ) → FilesView → BaseAnswers → ℕ → Type 0
 HasTheorem names files answers i = (view : BaseView) × IsReadIn names files answers view × (i < length view.said) × (is_proof_at view i ≡ true)
 
--- this holds of the theorem with this number, in each such base
+-- this holds of the theorem with this number, in each base of which the answers are right in these files
 abbrev pub OfTheorem : List (List ℕ) → FilesView → BaseAnswers → ℕ → (BaseView → Type 0) → Type 0
 OfTheorem names files answers i holds = (view : BaseView) → IsReadIn names files answers view → is_proof_at view i ≡ true → holds view

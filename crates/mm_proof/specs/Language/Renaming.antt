@@ -9,19 +9,19 @@ pub record IsRenaming (to back : Symbol → Symbol) : Type 0 where
   pub again : (s : Symbol) → to (back s) ≡ s
   pub kinds : (s : Symbol) → (to s).variable ≡ s.variable
 
--- both symbols of a pair
+-- a pair with both symbols renamed
 abbrev pub renamed_pair : (Symbol → Symbol) → Symbol × Symbol → Symbol × Symbol
 renamed_pair to pair = (to pair.0, to pair.1)
 
--- each of the pairs
+-- pairs with their symbols renamed
 abbrev pub renamed_pairs : (Symbol → Symbol) → List (Symbol × Symbol) → List (Symbol × Symbol)
 renamed_pairs to pairs = map (renamed_pair to) pairs
 
--- the symbols of a hypothesis
+-- a hypothesis with its symbols renamed
 abbrev pub renamed_mandatory : (Symbol → Symbol) → Mandatory → Mandatory
 renamed_mandatory to h = record h { expression = map to h.expression }
 
--- all symbols of a frame
+-- a frame with all its symbols renamed
 abbrev pub renamed_frame : (Symbol → Symbol) → Frame → Frame
 renamed_frame to frame = record {
   expression = map to frame.expression;
@@ -29,7 +29,7 @@ renamed_frame to frame = record {
   pairs = renamed_pairs to frame.pairs;
 }
 
--- all symbols of what a label means
+-- what a label means, with all symbols renamed
 abbrev pub renamed_meaning : (Symbol → Symbol) → Resolved → Resolved
 renamed_meaning to (Hypothesis e) = Hypothesis (map to e)
 renamed_meaning to (Assertion frame) = Assertion (renamed_frame to frame)

@@ -15,7 +15,7 @@ AreSameMeaning Inactive Inactive = Unit {0}
 AreSameMeaning Unknown Unknown = Unit {0}
 AreSameMeaning _ _ = ⊥
 
--- the same step, though a label may have another name
+-- the two steps are the same, though a label may have another name
 abbrev pub IsSameStep : Setting → Setting → Step → Step → Type 0
 IsSameStep place other (Named a) (Named b) = AreSameMeaning (place.resolve a) (other.resolve b)
 IsSameStep place other (Saved n) (Saved m) = n ≡ m
@@ -23,14 +23,14 @@ IsSameStep place other Save Save = Unit {0}
 IsSameStep place other NotKnown NotKnown = Unit {0}
 IsSameStep place other _ _ = ⊥
 
--- the same proof: the same active pairs, the same steps, and the same spots
+-- the two proofs are the same: they have the same active pairs, the same steps, and the same spots
 pub record IsSameProof (place other : Setting) (proof copy : Decoded) : Type 0 where
   pub active : AreSamePairs place.active other.active
   pub steps : AllZip (IsSameStep place other) proof.steps copy.steps
   pub spots : proof.spots ≡ copy.spots
   pub close : proof.close ≡ copy.close
 
--- the same proof, or the same decoding fault
+-- the two decodings give the same proof, or the same fault
 abbrev pub IsSameDecoding : Setting → Setting → Result Decoded ProofFault → Result Decoded ProofFault → Type 0
 IsSameDecoding place other (Ok proof) (Ok copy) = IsSameProof place other proof copy
 IsSameDecoding place other (Err fault) (Err same) = fault ≡ same
@@ -41,7 +41,7 @@ IsSameDecoding place other _ _ = ⊥
 abbrev pub labels_named : List (List ℕ) → List (List ℕ)
 labels_named words = if is_compressed words then before_first is_close (drop 1 words) else filter (λ word. not (bytes_eq word (codes "?"))) words
 
--- a mandatory hypothesis with the same expression at both places, though it may have another label
+-- the mandatory hypotheses have the same expression at both places, though their labels may differ
 abbrev pub IsSameHypothesis : Setting → Setting → List ℕ → List ℕ → Type 0
 IsSameHypothesis place other a b = (e : List Symbol) × (place.resolve a ≡ Hypothesis e) × (other.resolve b ≡ Hypothesis e)
 

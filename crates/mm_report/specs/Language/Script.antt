@@ -168,12 +168,12 @@ pub record AreRead (bytes : List ℕ) (entries : List Entry) (rest : List ℕ) :
   pub good : AreGood entries
   pub joined : bytes ≡ entries_bytes entries ++ rest
 
--- the bytes are the longest such list and then a rest: what is complete in them, whatever follows them
+-- the bytes are the longest list of complete entries, and then a rest: these are complete, whatever follows the bytes
 pub record IsReadSoFar (bytes : List ℕ) (entries : List Entry) (rest : List ℕ) : Type 0 where
   pub are : AreRead bytes entries rest
   pub longest : (others : List Entry) (left : List ℕ) → AreRead bytes others left → length others ≤ length entries
 
--- of an edit there are no bytes; or its whole line, and a part of what belongs after it
+-- there are no bytes of an edit, or its whole line and a part of what belongs after it
 abbrev pub IsNoneOrLine : Asked → List ℕ → Type 0
 IsNoneOrLine edit bytes =
     (bytes ≡ []) ⊎ ((more : List ℕ) × (missing : List ℕ) × (bytes ≡ edit_line edit ++ more) × (more ++ missing ≡ 10 ∷ ended_text (edited_text edit)))

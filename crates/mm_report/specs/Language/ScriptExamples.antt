@@ -30,11 +30,11 @@ CutsText = IsReadSo (codes "insert a.mm 0 9\nabc") [] (codes "insert a.mm 0 9\na
 abbrev pub CutsFeed : Type 0
 CutsFeed = IsReadSo (codes "report\ninsert a.mm 0 3\nabc") (Given Report ∷ []) (codes "insert a.mm 0 3\nabc") CutShort
 
--- The same holds after the line of an edit whose text has no bytes.
+-- After the line of an edit whose text has no bytes, a script is cut short, too.
 abbrev pub CutsLine : Type 0
 CutsLine = IsReadSo (codes "insert a.mm 0 0") [] (codes "insert a.mm 0 0") CutShort
 
--- The same holds if edits of a batch are missing.
+-- A script is cut short if edits of a batch are missing.
 abbrev pub CutsBatch : Type 0
 CutsBatch = IsReadSo (codes "batch 2\ndelete a.mm 0\n\n") [] (codes "batch 2\ndelete a.mm 0\n\n") CutShort
 
@@ -46,6 +46,6 @@ EndsInEdit = IsReadSo (codes "batch 2\ndelete a.mm 0\ndel") [] (codes "batch 2\n
 abbrev pub EndsAtLine : Type 0
 EndsAtLine = IsReadSo (codes "verdict th\nbogus\nreport\n") (Given (Verdict (codes "th")) ∷ []) (codes "bogus\nreport\n") BadLine
 
--- So does an edit whose text is followed by another byte than a line feed.
+-- An edit whose text is followed by another byte than a line feed is a bad line.
 abbrev pub EndsAtText : Type 0
 EndsAtText = IsReadSo (codes "insert a.mm 0 3\nabcd\n") [] (codes "insert a.mm 0 3\nabcd\n") BadLine

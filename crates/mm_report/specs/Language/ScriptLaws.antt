@@ -12,7 +12,7 @@ use Rattle.mm_report.specs.Language.Script.{Entry, End, EndsSo, commands_of, Are
 abbrev pub OneReading : Type 0
 OneReading = (script : List ℕ) (a b : List Entry) (s t : List ℕ) → IsLongestReading script a s → IsLongestReading script b t → (a ≡ b) × (s ≡ t)
 
--- What is left of it ends it in one way at most.
+-- What is left of a script ends it in one way at most.
 abbrev pub OneEnd : Type 0
 OneEnd = (rest : List ℕ) (a b : End) → EndsSo rest a → EndsSo rest b → a ≡ b
 
@@ -22,7 +22,7 @@ ReadingGoesOn = (bytes more : List ℕ) (entries all : List Entry) (rest left : 
     → IsReadSoFar bytes entries rest → IsLongestReading (bytes ++ more) all left
     → (later : List Entry) × (all ≡ entries ++ later)
 
--- It is one list.
+-- What is read of some bytes is one list.
 abbrev pub OneReadSoFar : Type 0
 OneReadSoFar = (bytes : List ℕ) (a b : List Entry) (s t : List ℕ) → IsReadSoFar bytes a s → IsReadSoFar bytes b t → (a ≡ b) × (s ≡ t)
 
@@ -77,7 +77,7 @@ pub record IsWholeSession (session : SessionView) : Type 0 where
   pub units : HoldOneEach (plain session.files)
   pub items : HasItems session
 
--- the script has answers and an end, and the session after it is such a one again
+-- the script has answers and an end, and the session after it is whole again
 pub record HasAnswers (session : SessionView) (script : List ℕ) : Type 0 where
   pub answers : List ℕ
   pub new : SessionView

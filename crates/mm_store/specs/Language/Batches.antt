@@ -39,38 +39,38 @@ abbrev pub undone_all : List UndoView → FilesView → FilesView
 undone_all [] view = view
 undone_all (undo ∷ undos) view = undone undo (undone_all undos view)
 
--- when they may be undone
+-- edits may be undone in these files, the last of them first
 abbrev pub CanUndoAll : List UndoView → FilesView → Type 0
 CanUndoAll [] view = Unit {0}
 CanUndoAll (undo ∷ undos) view = CanUndoAll undos view × CanUndo undo (undone_all undos view)
 
--- the files with the old pieces of edits dropped, that of the last first
+-- the files with the old pieces of edits dropped, those of the last edit first
 abbrev pub settled_all : List UndoView → FilesView → FilesView
 settled_all [] view = view
 settled_all (undo ∷ undos) view = settled undo (settled_all undos view)
 
--- when they may be settled
+-- edits may be settled in these files, the last of them first
 abbrev pub CanSettleAll : List UndoView → FilesView → Type 0
 CanSettleAll [] view = Unit {0}
 CanSettleAll (undo ∷ undos) view = CanSettleAll undos view × CanSettle undo.file undo.action (settled_all undos view)
 
--- what edits left may be spent in these files, in either way: undoing gives the files of before, and settling as many parked pieces
+-- edits may be undone or settled in these files: undoing them gives the old files, and settling them leaves as many parked pieces as before
 pub record IsSpendable (old new : FilesView) (undos : List UndoView) : Type 0 where
   pub can_undo : CanUndoAll undos new
   pub back : undone_all undos new ≡ old
   pub can_settle : CanSettleAll undos new
   pub parked : parked_in (settled_all undos new) ≡ parked_in old
 
--- an item that can be read in the one files can be read in the others, with the same text and the same words
+-- an item that can be read in the old files can be read in the new ones, with the same text and the same words
 pub record ReadsAlike (old new : FilesView) (item : Item) (was : CanBeRead old item) : Type 0 where
   pub read : CanBeRead new item
   pub text : read.text ≡ was.text
   pub words : read.words ≡ was.words
 
--- each item that can be read in the old files can be read in the new ones, with the same text and the same words
+-- each item that can be read in the old files is read alike in the new ones
 abbrev pub KeepsReading : FilesView → FilesView → Type 0
 KeepsReading old new = (item : Item) (was : CanBeRead old item) → ReadsAlike old new item was
 
--- the same holds for each item that is in the old files
+-- each item that is in the old files, and can be read there, is read alike in the new ones
 abbrev pub KeepsStanding : FilesView → FilesView → Type 0
 KeepsStanding old new = (item : Item) (was : CanBeRead old item) → StandsIn old item → ReadsAlike old new item was

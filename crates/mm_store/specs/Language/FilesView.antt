@@ -1,5 +1,5 @@
--- What a contract sees of the files: each with its name, the keys of its pieces in order and what is after them; and the pieces, under
--- their keys. Two readings of it are what other definitions go by: with keys and texts, and without keys, which is what the files mean.
+-- What a contract sees of the files: each with its name, the keys of its pieces in order, and its tail; and the pieces, under their keys.
+-- Other definitions see them in two ways: with keys and texts, or without keys, which is what the files mean.
 use Rattle.std.specs.Prelude.{ℕ, ◌+◌, List, [], ◌∷◌, ◌++◌, Option, Some, None, length, map, position, slice_get}
 use Rattle.std.specs.List.{concat}
 use Rattle.std.specs.Str.{bytes_eq}

@@ -59,7 +59,7 @@ abbrev pub parked_state : PieceState → ℕ
 parked_state Standing = 0
 parked_state (Parked file removal) = 1
 
--- one for a piece that is parked
+-- 1 for a piece that is parked, and else 0
 abbrev pub parked_count : Option HeldPiece → ℕ
 parked_count None = 0
 parked_count (Some piece) = parked_state piece.state

@@ -73,7 +73,7 @@ Fits number (Replaced at key) view = (at < length (keys_in view.keyed number)) �
 Fits number (Deleted at key) view = (at ≤ length (keys_in view.keyed number)) × IsParked view.pieces key number removal.Deleted
 Fits number (Moved at to) view = (at < length (keys_in view.keyed number)) × (to < length (keys_in view.keyed number))
 
--- when an edit may be undone in these files
+-- an edit may be undone in these files
 pub record CanUndo (undo : UndoView) (view : FilesView) : Type 0 where
   pub fits : Fits undo.file undo.action view
   pub within : bytes_of (plain (undone undo view)) ≤ 4294967295
@@ -89,14 +89,14 @@ spent (Moved at to) view = view
 abbrev pub settled : UndoView → FilesView → FilesView
 settled undo view = spent undo.action view
 
--- when an edit may be settled: its old piece is parked
+-- an edit may be settled in these files: its old piece is parked
 abbrev pub CanSettle : ℕ → EditAction → FilesView → Type 0
 CanSettle number (Inserted at) view = Unit {0}
 CanSettle number (Replaced at key) view = IsParked view.pieces key number removal.Replaced
 CanSettle number (Deleted at key) view = IsParked view.pieces key number removal.Deleted
 CanSettle number (Moved at to) view = Unit {0}
 
--- an undo may be spent in these files and in files that equal them, in either way, and undoing gives the files of before
+-- an edit may be undone or settled in these files, and undoing it gives the old files
 pub record IsUndoable (old new : FilesView) (undo : UndoView) : Type 0 where
   pub can_undo : CanUndo undo new
   pub can_settle : CanSettle undo.file undo.action new

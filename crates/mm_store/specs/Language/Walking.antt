@@ -1,5 +1,5 @@
--- The walk through the files, part by part, while files may still be added: how far the expansion of a top file is
--- gone through, and what is still to come.
+-- The walk through the files, part by part, while files may still be added: how much of the expansion of a top file it has passed, and what
+-- is still to come.
 use Rattle.std.specs.Prelude.{◌≡◌, ◌≢◌, ℕ, Bool, true, List, [], ◌∷◌, ◌++◌, Some, None, Contains, All, drop, slice_get, ◌⊎◌}
 use Rattle.mm_store.specs.declared.item.Item.{Item}
 use Rattle.mm_store.specs.declared.item.ItemKind.TheVariants.{Missing}

@@ -55,7 +55,7 @@ shape_part (Labelled label keyword symbols end) = part (word_part parts.Axiom ke
 shape_part (Provable label keyword symbols proof steps end) = part parts.Theorem label end
 shape_part (Inclusion begin name end) = part parts.Inclusion begin end
 
--- each statement and inclusion, each `${` and each `$}`
+-- the parts of units: each statement and inclusion, each `${` and each `$}`
 abbrev pub parts_of : Units → List Part
 parts_of Nothing = []
 parts_of (Simple shape later) = shape_part shape ∷ parts_of later

@@ -48,7 +48,7 @@ pub record IsComment (first : Run) (inside : List Run) (last : Run) : Type 0 whe
   pub no_marks : HoldNoMarks inside
   pub closed : last.bytes ≡ closing
 
--- a part of a reading is a right one: the word is what its run spells, or the runs are a comment
+-- a part of a reading is right: the word is what its run spells, or the runs are a comment
 abbrev pub IsSegment : Segment → Type 0
 IsSegment (Single run word) = IsWord run word
 IsSegment (Comment first inside last) = IsComment first inside last

@@ -24,7 +24,7 @@ spelling ProofStart = codes "$="
 spelling InclusionStart = codes "$["
 spelling InclusionEnd = codes "$]"
 
--- how a word of this kind is spelled: a keyword as above, and a plain word without `$`
+-- how a word of this kind is spelled: a keyword by its `spelling`, a plain word without `$`
 abbrev pub IsSpelled : WordKind → List ℕ → Type 0
 IsSpelled (kinds.Keyword keyword) bytes = bytes ≡ spelling keyword
 IsSpelled kinds.Plain bytes = ¬ Contains bytes 36

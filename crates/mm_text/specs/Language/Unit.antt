@@ -41,7 +41,7 @@ IsPlain token = token.kind ≡ kinds.Plain
 unfoldable pub is_label_byte : ℕ → Bool
 is_label_byte b = nat_le 48 b && nat_le b 57 || nat_le 65 b && nat_le b 90 || nat_le 97 b && nat_le b 122 || b == 45 || b == 95 || b == 46
 
--- a plain word of such bytes alone
+-- a label: a plain word of label bytes alone
 abbrev pub IsLabel : Token → Type 0
 IsLabel token = IsPlain token × IsTrue (list_all is_label_byte token.bytes)
 
@@ -60,8 +60,7 @@ shape_tokens (Labelled label keyword symbols end) = label ∷ keyword ∷ (symbo
 shape_tokens (Provable label keyword symbols proof steps end) = label ∷ keyword ∷ (symbols ++ proof ∷ (steps ++ end ∷ []))
 shape_tokens (Inclusion begin name end) = begin ∷ name ∷ end ∷ []
 
--- each word of a statement or an inclusion is what belongs at its place; an inclusion is allowed only if no block is open, as `outside`
--- says
+-- each word of a statement or an inclusion is what belongs at its place; an inclusion needs `outside`: no block is open
 abbrev pub IsShape : Bool → Shape → Type 0
 IsShape outside (Declaration keyword symbols end) =
     (IsKeyword Constants keyword ⊎ (IsKeyword Variables keyword ⊎ IsKeyword Disjoint keyword)) × AllByRecursion IsPlain symbols × IsKeyword StatementEnd end
@@ -86,8 +85,7 @@ unit_tokens Nothing = []
 unit_tokens (Simple shape later) = shape_tokens shape ++ unit_tokens later
 unit_tokens (Block begin inner end later) = begin ∷ (unit_tokens inner ++ end ∷ unit_tokens later)
 
--- a sequence of units is right: each statement and inclusion is, and each block goes from `${` to `$}`; `outside` says that no block is
--- open
+-- a sequence of units is right: each statement and inclusion is; each block goes from `${` to `$}`; `outside` says that no block is open
 abbrev pub AreUnits : Bool → Units → Type 0
 AreUnits outside Nothing = Unit {0}
 AreUnits outside (Simple shape later) = IsShape outside shape × AreUnits outside later

@@ -44,14 +44,14 @@ IsByLabel session label Clean = HasAssertion session label
 IsByLabel session label NoLabel = ¬ HasAssertion session label
 IsByLabel session label _ = ⊥
 
--- the axioms are written that the assertion with a label rests on, or that there is none
+-- the axioms that the assertion with a label rests on are written, or that there is no such assertion
 pub record ListsAxioms (session : SessionView) (label : List ℕ) (before after : Option (List ℕ)) (outcome : Outcome) : Type 0 where
   pub answer : List ℕ
   pub is_answer : IsAnswer session (script.Axioms label) answer session
   pub out : Appends before after answer
   pub is_by_label : IsByLabel session label outcome
 
--- the beginning of that answer, or all of it, is written
+-- the beginning of the answer on axioms, or all of it, is written
 pub record BeginsAxioms (session : SessionView) (label : List ℕ) (before after : Option (List ℕ)) : Type 0 where
   pub answer : List ℕ
   pub is_answer : IsAnswer session (script.Axioms label) answer session
@@ -76,12 +76,12 @@ IsDone (Verify file) old new unread before after outcome = (new ≡ old) × Repo
 IsDone (Axioms file label) old new unread before after outcome = (new ≡ old) × ListsAxioms old label.now before after outcome
 IsDone (Session file) old new unread before after outcome = EndsScript old new unread before after outcome
 
--- a report stops where a write fails
+-- a report stops only at a write that fails, and its beginning is written
 abbrev pub StopsReport : SessionView → Option (List ℕ) → Option (List ℕ) → ScriptError → Type 0
 StopsReport session before after errors.Write = BeginsReport session before after
 StopsReport session before after _ = ⊥
 
--- a list of axioms stops where a write fails, or for memory before anything is written, but not if no assertion has the label
+-- a list of axioms stops at a write that fails, or for memory before anything is written; for memory only if an assertion has the label
 abbrev pub StopsAxioms : SessionView → List ℕ → Option (List ℕ) → Option (List ℕ) → ScriptError → Type 0
 StopsAxioms session label before after errors.Write = BeginsAxioms session label before after
 StopsAxioms session label before after errors.Memory = Keeps before after × (¬ HasAssertion session label → ⊥)

@@ -18,7 +18,7 @@ status_of Words = 3
 status_of Memory = 4
 status_of Stream = 5
 
--- what comes of a script that is not answered to its end
+-- the outcome of a script that is not answered to its end
 abbrev pub outcome_of : ScriptError → Outcome
 outcome_of errors.BadLine = Stream
 outcome_of errors.Cut = Stream
@@ -26,7 +26,7 @@ outcome_of errors.Read = Stream
 outcome_of errors.Write = Stream
 outcome_of errors.Memory = Memory
 
--- what comes of a file that is not added
+-- the outcome of a file that is not added
 abbrev pub outcome_of_file : FileError → Outcome
 outcome_of_file file_errors.Read = Input
 outcome_of_file (file_errors.Text place number) = Input
