@@ -9,9 +9,9 @@ use std::collections::HashMap;
 /// What was found when two variables were looked up, by the numbers of their names.
 #[derive(Clone, Copy)]
 pub struct Answer {
-    /// The number of the one name.
+    /// The number of one name.
     pub first: usize,
-    /// That of the other.
+    /// The number of the other name.
     pub second: usize,
     /// The `$d` with numbers below this one were looked at.
     pub upto: usize,
@@ -21,8 +21,8 @@ pub struct Answer {
 
 /// The pairs of variables that were looked up, each with its last answer.
 ///
-/// The first active `$d` that has both ends last of those that were looked at. So as long as it is active both are an
-/// active pair, and after that only later `$d` have to be looked at.
+/// Of the `$d` that were looked at and have both variables, the first active one stays active longest. As long as it is
+/// active, both are an active pair; after that only later `$d` have to be looked at.
 #[derive(Drop)]
 pub struct AskedPairs {
     answers: Vec<Answer>,

@@ -26,12 +26,12 @@ pub fn never_both()
     ensures { NeverFaultAndSound }
 {}
 
-/// The fault that is computed is the fault.
+/// The fault that is computed for a statement is its fault.
 pub fn fault_is_found()
     ensures { FaultIsFound }
 {}
 
-/// None is computed exactly for sound statements.
+/// No fault is computed exactly for sound statements.
 pub fn sound_has_none()
     ensures { SoundHasNone }
 {}

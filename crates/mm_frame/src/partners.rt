@@ -81,7 +81,7 @@ fn add_later_place(
     Ok(())
 }
 
-/// Adds those of some symbols.
+/// Adds the places of those of some symbols that are after this one.
 fn add_later_places(
     places: &Places,
     from: usize,
@@ -96,7 +96,7 @@ fn add_later_places(
     Ok(())
 }
 
-/// Adds those of the variables of the `$d` with this number, if it is active.
+/// Adds the places after this one of the variables of the `$d` with this number, if it is active.
 fn add_later_places_at(
     places: &Places,
     blocks: &Blocks,
@@ -150,7 +150,7 @@ fn add_partner_at(
     Ok(())
 }
 
-/// Adds those of a variable with the ones at these places.
+/// Adds the pairs of a variable with the variables at these places.
 fn add_partners_at(
     first: NumberedSymbol,
     variables: &[NumberedSymbol],

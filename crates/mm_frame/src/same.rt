@@ -27,8 +27,8 @@ pub fn same_pairs(
     one == other
 }
 
-/// Whether two sound `$f`, `$e`, `$a` or `$p` of bases over the same names have the same expression. No look is taken whether
-/// they are. It takes no memory.
+/// Whether two sound `$f`, `$e`, `$a` or `$p` of bases over the same names have the same expression. Whether they are
+/// sound is not checked. It takes no memory.
 pub fn same_expression(one: &Base, i: usize, other: &Base, j: usize) -> bool
     ensures { (names : List (List ℕ)) (base copy : BaseView) → IsBaseBy names base one.now → IsBaseBy names copy other.now
         → is_shown_at base i ≡ true → is_shown_at copy j ≡ true

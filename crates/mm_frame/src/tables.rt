@@ -221,8 +221,8 @@ impl Tables {
         Ok(())
     }
 
-    /// Takes one more item, with its number and the numbers of its symbols. Out of memory leaves the tables as good for
-    /// nothing.
+    /// Takes one more item, with its number and the numbers of its symbols. After out of memory the tables must not be
+    /// used.
     pub fn take(
         &mut self,
         alloc: Global,

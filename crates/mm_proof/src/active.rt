@@ -107,7 +107,7 @@ impl<'a, S: Kept> Active<'a, S> {
         self.has(x, y)
     }
 
-    /// Whether a variable is apart from each of these.
+    /// Whether a variable is apart from each of a list.
     fn is_apart_from(&self, x: &S, ys: &[S]) -> bool
         ensures { MatchBool result
             ((y : Meaning) → Contains (map S.means ys.now) y → Apart (meant_pairs S.means self.now.pairs.now) (S.means x.now) y)
@@ -121,7 +121,7 @@ impl<'a, S: Kept> Active<'a, S> {
         true
     }
 
-    /// Whether each of the one is apart from each of the other.
+    /// Whether each variable of one list is apart from each of the other.
     pub fn are_apart(&self, xs: &[S], ys: &[S]) -> bool
         ensures { MatchBool result
             (EachApart (meant_pairs S.means self.now.pairs.now) (map S.means xs.now) (map S.means ys.now))
@@ -155,7 +155,7 @@ fn home_of<S: Kept>(symbol: &S, count: usize) -> usize
     home(symbol.key(), count)
 }
 
-/// Writes a place into a table, if the table has the other.
+/// Writes `place` at `at` into a table, if the table has `at`.
 fn note(places: &mut [usize], at: usize, place: usize)
     ensures { places.new ≡ slice_set places.old at place }
 {

@@ -15,7 +15,7 @@ pub fn same_view_same_verdict()
     same_proof_same_verdict();
 }
 
-/// And the same words of their proofs cite.
+/// In two theorems with equal views the same words of the proofs cite.
 pub fn same_view_same_cites()
     ensures { SameViewSameCites }
 {

@@ -73,7 +73,7 @@ impl<W: Write> Writing<W> {
         Ok(())
     }
 
-    /// Hands on what the writer within has kept back, by one call of its `flush`.
+    /// Passes on what the writer within has kept back, by one call of its `flush`.
     pub fn flush(&mut self) -> Result<(), WriteFailed>
         ensures written { Keeps (written W.contents self.old) (written W.contents self.new) }
         ensures sound { OnOk result (has_failed self.new ≡ false) }

@@ -37,7 +37,7 @@ impl From<AllocError> for BatchError {
     }
 }
 
-/// Edits that were done one after another, to be spent by [`Files::undo_all`] or by [`Files::settle_all`]. They cannot be
+/// Edits that were done one after another, to be passed to [`Files::undo_all`] or to [`Files::settle_all`]. They cannot be
 /// copied or thrown away.
 #[must_use]
 pub struct Undos {
@@ -66,7 +66,7 @@ fn refused(number: usize, error: EditError) -> BatchError
 }
 
 impl Undos {
-    /// Nothing to be spent. It takes no memory.
+    /// No edits. It takes no memory.
     fn new(alloc: Global) -> Undos
         ensures { result ≡ [] }
     {

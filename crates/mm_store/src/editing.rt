@@ -26,7 +26,7 @@ use crate::unit::new_piece;
 use std::alloc::AllocError;
 
 impl Files {
-    /// Puts a piece in the place of one, which is parked. After out of memory the files are as before.
+    /// Puts a piece in the place of another, which is parked. After out of memory the files are as before.
     fn replace_piece(
         &mut self,
         number: usize,

@@ -78,7 +78,7 @@ impl FileText {
         self.known = self.keys.len();
     }
 
-    /// Where a piece begins: this is counted on from the last piece before it of which it is known.
+    /// Where a piece begins: this is counted on from the last piece before it whose beginning is known.
     pub(crate) fn start(&self, pieces: &PieceStore, piece: usize) -> Start
         requires there { piece < deque_len self.now.keys }
         requires room { deque_len self.now.keys < length self.now.starts.items }
@@ -128,7 +128,7 @@ impl FileText {
         Ok(())
     }
 
-    /// Puts another key in the place of one, which is the answer.
+    /// Replaces a key, and answers the old one.
     pub(crate) fn replace_key(&mut self, at: usize, key: usize) -> usize
         requires there { at < deque_len self.old.keys }
         requires room { HasRoom self.old }
@@ -159,7 +159,7 @@ impl FileText {
         self.forget_behind(at);
     }
 
-    /// Takes a key out, which is the answer.
+    /// Takes a key out, and answers it.
     pub(crate) fn take_key(&mut self, at: usize) -> usize
         requires there { at < deque_len self.old.keys }
         requires room { HasRoom self.old }
@@ -175,7 +175,7 @@ impl FileText {
         key
     }
 
-    /// Takes a key out, whose piece is parked: room for it is kept.
+    /// Takes a key out, and answers it. Its piece is parked, and room for it is kept.
     pub(crate) fn delete_key(&mut self, at: usize) -> usize
         requires there { at < deque_len self.old.keys }
         requires room { HasRoom self.old }
@@ -192,7 +192,7 @@ impl FileText {
         key
     }
 
-    /// Puts a key back, whose piece was parked.
+    /// Puts the key of a parked piece back.
     pub(crate) fn restore_key(&mut self, at: usize, key: usize)
         requires there { at ≤ deque_len self.old.keys }
         requires parked { 0 < self.old.deleted }

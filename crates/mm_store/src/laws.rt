@@ -60,9 +60,9 @@ pub fn keys_do_not_matter()
 
 /// A walk goes on among more files.
 ///
-/// Where a walk has gone past items of files, it has gone past the same items once a file is added whose name it has
-/// not taken. Where a walk has come to the end, the items that it has gone past are the expansion of the files
-/// without keys; and that is what the items are that the files give, without keys.
+/// If a walk has gone past items of files, it has gone past the same items once a file is added whose name it has
+/// not taken. If a walk has come to the end, the items that it has gone past are the expansion of the files
+/// without keys; and these are the items that the files give, without keys.
 pub fn walks_go_on()
     ensures added { (old new : List File) (name text top : List ℕ) (items : List Item) (walk : WalkView) → IsAdded old new name text
         → ¬ Contains walk.names name → IsWalk (bare old) top items walk → IsWalk (bare new) top items walk }

@@ -12,7 +12,7 @@ pub(crate) enum Action {
     Moved(usize, usize),
 }
 
-/// An edit that was done, to be spent by [`Files::undo`](crate::Files::undo) or by
+/// An edit that was done, to be passed to [`Files::undo`](crate::Files::undo) or to
 /// [`Files::settle`](crate::Files::settle). It cannot be copied or thrown away.
 #[must_use]
 pub struct Undo {

@@ -24,7 +24,7 @@ impl Files {
         self.bytes -= less as u64;
     }
 
-    /// Puts a parked piece back in the place of one, which is dropped.
+    /// Puts a parked piece back in the place of another, which is dropped.
     fn take_back_replacement(&mut self, number: usize, at: usize, old: usize)
         requires fits { Fits number (action.Replaced at old) self.old }
         requires within { bytes_of (plain (reversed number (action.Replaced at old) self.old)) ≤ 4294967295 }

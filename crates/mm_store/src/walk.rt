@@ -85,7 +85,7 @@ fn advance(levels: &mut Vec<Level>)
     level.piece += 1;
 }
 
-/// Puts a name into the set that is not there.
+/// Adds a name to the set, which does not have it.
 fn take_name(name: &[u8], names: &mut IndexSet<Vec<u8>>) -> Result<(), AllocError>
     requires { ¬ Contains (names_in names.old) name.now }
     ensures ok { OnOk result (names_in names.new ≡ names_in names.old ++ name.now ∷ []) }

@@ -1,4 +1,4 @@
-//! The files of a database, from where they are opened.
+//! Loads the files of a database from a source.
 
 ghost use Rattle.std.specs.Prelude.{◌≡◌, ◌≢◌, IfErr, IfOk, IsErrOf, IsOk, OnOk};
 ghost use Rattle.std.specs.IoError.{error_kind};
@@ -124,7 +124,7 @@ fn add_top<R: Read + Drop>(
     }
 }
 
-/// Adds the files that are missing, as they are come upon.
+/// Adds the files that are missing, as the walk finds them.
 fn add_missing<S: Source>(
     rt: &(impl Eprint + AllocGlobal),
     source: &S,

@@ -19,7 +19,7 @@ use mm_report::{
 use std::alloc::Global;
 use std::io::{BufWriter, Read, Write};
 
-/// Does a command with a session, over a writer that is buffered: how the program then ends, and the writer. Where it
+/// Does a command with a session, over a writer that is buffered: how the program then ends, and the writer. If it
 /// answers an outcome, all that was written has gone out.
 ///
 /// The reading is that of the script; the other two commands read nothing. After a failure no write is tried again.
