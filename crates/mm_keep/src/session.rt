@@ -1,4 +1,4 @@
-//! A session: files whose items are verified, and stay so from edit to edit.
+//! A session: files whose items are verified, and stay verified from edit to edit.
 
 ghost use Rattle.std.specs.Prelude.{◌≡◌, ◌≤◌, ◌↔◌, ℕ, List, Ok, Err, None, IfOk, IfErr, OnOk, OnErr, IsErrOf, map};
 ghost use Rattle.std.specs.Option.{option_map};
@@ -25,7 +25,7 @@ use std::alloc::{AllocError, Global};
 use std::marker::Model;
 use std::slice;
 
-/// Files that are verified from a top file on, and stay so from edit to edit: an edit runs the proofs whose view it
+/// Files that are verified from a top file on, and stay verified from edit to edit: an edit runs the proofs whose view it
 /// changes, and no others.
 ///
 /// The view of a theorem is all of the database that the verdict on its proof depends on: the words of the proof, the

@@ -60,7 +60,7 @@ same_listed word base other xs ys e f = λ i. numbers_listed word (saying (e i))
 
 -- ---- edits
 
--- sessions that were alike stay so if nothing is changed
+-- sessions that were alike stay alike if nothing is changed
 unchanged : (s t new copy : SessionView) → AreAlike s t → new ≡ s → copy ≡ t → AreAlike new copy
 unchanged s t new copy a e f = subst (λ (x : SessionView). AreAlike x copy) (sym e) (subst (λ (x : SessionView). AreAlike s x) (sym f) a)
 

@@ -65,7 +65,7 @@ pub record AreParts (all : List (List ℕ)) (said : List Item) (parts : Parts) :
 abbrev pub is_float_item : store.Item → Bool
 is_float_item item = is_floating (kind_of item.kind)
 
--- from the frame that is kept, if one is
+-- what is reported from the frame that is kept, if one is
 abbrev pub frame_told : Option Frame → Option (List ℕ × List (NumberedSymbol × NumberedSymbol))
 frame_told kept_frame = option_map (λ frame. (frame.hypotheses.items, frame.pairs.items)) kept_frame
 

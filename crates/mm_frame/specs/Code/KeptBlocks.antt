@@ -62,12 +62,12 @@ pub record AreBlocks (blocks : List ℕ) (ends : List (Option ℕ)) (outer : Lis
   pub newest : current ≤ length ends
   pub last : last_block 0 blocks ≡ current
 
--- they are those of the marks that they give, and the counts of items that began and that ended a block are right
+-- blocks, ends and open blocks are right by their own marks, and the counts of items that began and that ended a block are right
 pub record AreBlockEndsKept (blocks : List ℕ) (ends : List (Option ℕ)) (outer : List ℕ) (current begun ended : ℕ) : Type 0 where
   pub are_blocks : AreBlocks blocks ends outer current (marks_from ends 0 0 blocks)
   pub begun_is : begun ≡ count_by opens (marks_from ends 0 0 blocks)
   pub ended_is : ended ≡ count_by closes (marks_from ends 0 0 blocks)
 
--- the same of the fields
+-- the fields are right in this way
 abbrev pub AreBlocksKept : Inside → Type 0
 AreBlocksKept inside = AreBlockEndsKept inside.block_of.items inside.ends.items inside.outer.items inside.current inside.begun inside.ended

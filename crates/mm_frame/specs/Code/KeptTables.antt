@@ -31,7 +31,7 @@ abbrev pub variable_at : Option ℕ → Option ℕ → Option Declared
 variable_at None float = None
 variable_at (Some declared) float = Some (Variable declared float)
 
--- it is a constant
+-- a name with this declaration is a constant
 abbrev pub is_constant_as : Option Declared → Bool
 is_constant_as (Some Constant) = true
 is_constant_as _ = false

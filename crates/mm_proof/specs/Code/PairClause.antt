@@ -22,7 +22,7 @@ IsPair p x y = ((p.0 ≡ x) × (p.1 ≡ y)) ⊎ ((p.0 ≡ y) × (p.1 ≡ x))
 abbrev pub Apart : List (Symbol × Symbol) → Symbol → Symbol → Type 0
 Apart active x y = (x ≢ y) × ArePair active x y
 
--- they are one, or no active pair
+-- two variables are one, or no active pair
 abbrev pub NotApart : List (Symbol × Symbol) → Symbol → Symbol → Type 0
 NotApart active x y = (x ≡ y) ⊎ ((x ≢ y) × (ArePair active x y → ⊥))
 
@@ -96,19 +96,19 @@ AreTypedPairs hs pairs = All (λ p. IsTyped hs p.0 × IsTyped hs p.1) pairs
 abbrev pub AtSlot : List Mandatory → List Symbol → List Entry → Symbol → List Symbol → Type 0
 AtSlot hs variables spans v xs = (j : ℕ) × IsSlot hs j v × (xs ≡ span_of variables spans j)
 
--- it is said of the ranges of slots of the two variables
+-- this holds of the ranges of slots of the two variables
 abbrev pub AtSlots : (List Symbol → List Symbol → Type 0) → List Mandatory → List Symbol → List Entry → Symbol × Symbol → Type 0
 AtSlots P hs variables spans p = (i j : ℕ) × IsSlot hs i p.0 × IsSlot hs j p.1 × P (span_of variables spans i) (span_of variables spans j)
 
--- it is said of what was gathered for the two variables of a pair
+-- this holds of what was gathered for the two variables of a pair
 abbrev pub AtPair : {S : Type 0} → (S → Symbol) → (List Symbol → List Symbol → Type 0) → Taken S → Gathered S → Symbol × Symbol → Type 0
 AtPair means P taken gathered p = AtSlots P (hypotheses_of means taken.hypotheses.now) (map means gathered.variables.items) gathered.spans.items p
 
--- it is said at each pair
+-- this holds at each pair
 abbrev pub AtEachPair : {S : Type 0} → (S → Symbol) → (List Symbol → List Symbol → Type 0) → Taken S → Gathered S → List (S × S) → Type 0
 AtEachPair means P taken gathered pairs = (k : ℕ) (p : Symbol × Symbol) → slice_get (meant_pairs means pairs) k ≡ Some p → AtPair means P taken gathered p
 
--- it is said at some pair
+-- this holds at some pair
 abbrev pub AtSomePair : {S : Type 0} → (S → Symbol) → (List Symbol → List Symbol → Type 0) → Taken S → Gathered S → List (S × S) → Type 0
 AtSomePair means P taken gathered pairs = (k : ℕ) × (p : Symbol × Symbol) × (slice_get (meant_pairs means pairs) k ≡ Some p) × AtPair means P taken gathered p
 

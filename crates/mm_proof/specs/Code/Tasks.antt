@@ -61,7 +61,7 @@ IsUseWithin hypotheses assertions (uses.Hypothesis n) = n < hypotheses
 IsUseWithin hypotheses assertions (uses.Assertion n) = n < assertions
 IsUseWithin hypotheses assertions uses.Nothing = Unit {0}
 
--- the number of a task is in range, after so many saves
+-- the number of a task is in range, after this many saves
 abbrev pub IsTaskWithin : ℕ → ℕ → ℕ → Task → Type 0
 IsTaskWithin hypotheses assertions saves (tasks.Push n) = n < hypotheses
 IsTaskWithin hypotheses assertions saves (tasks.Cite n) = n < assertions
@@ -73,11 +73,11 @@ abbrev pub saves_of : Task → ℕ
 saves_of tasks.Keep = 1
 saves_of _ = 0
 
--- all are
+-- the uses of all labels are in range
 abbrev pub AreUsesWithin : {S : Type 0} → Listed S → Type 0
 AreUsesWithin named = All (IsUseWithin (length named.hypotheses.items) (length named.assertions.items)) named.uses.items
 
--- what is put again was saved, after so many saves
+-- what is put again was saved, after this many saves
 abbrev pub IsSavedWithin : ℕ → Action → Type 0
 IsSavedWithin saves (actions.Saved n) = n < saves
 IsSavedWithin saves _ = Unit {0}

@@ -20,7 +20,7 @@ abbrev pub EndsBatch : ℕ → ℕ → List ℕ → List ℕ → Option (List �
 EndsBatch from missing old new left end = (n : ℕ) (front : List Listed) → IsBatchFront old n front from → n ≡ length front + missing
     → IfSome left (λ more. StopsSo (new ++ more) end)
 
--- or it is not whole
+-- whatever the batch is of which this many edits are missing, the bytes are not whole
 abbrev pub HoldsBatch : ℕ → ℕ → List ℕ → List ℕ → Type 0
 HoldsBatch from missing old new = (n : ℕ) (front : List Listed) → IsBatchFront old n front from → n ≡ length front + missing → HasNoEntry new
 

@@ -66,7 +66,7 @@ pub record IsWholeCommand (bytes : List ℕ) (command : Command) (end : ℕ) : T
   pub within : end ≤ length bytes
   pub are : bytes ≡ command_bytes command ++ drop end bytes
 
--- they are all of it but the last line feed, and nothing is left to read
+-- the bytes are all of the command but the last line feed, and nothing is left to read
 pub record IsLast (bytes : List ℕ) (left : Option (List ℕ)) (command : Command) : Type 0 where
   pub at_end : IsAtEnd left
   pub in_line : EndsInLine command
@@ -75,7 +75,7 @@ pub record IsLast (bytes : List ℕ) (left : Option (List ℕ)) (command : Comma
 abbrev pub IsWholeOrLast : List ℕ → Option (List ℕ) → Next → Command → Type 0
 IsWholeOrLast bytes left next command = ((next.fed ≡ true) × IsWholeCommand bytes command next.end) ⊎ ((next.fed ≡ false) × IsLast bytes left command)
 
--- a command begins these bytes, and it is whole
+-- the bytes begin with a command, and it is whole
 pub record IsNextCommand (bytes : List ℕ) (left : Option (List ℕ)) (next : Next) : Type 0 where
   pub command : Command
   pub good : IsGood command

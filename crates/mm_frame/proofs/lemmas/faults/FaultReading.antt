@@ -17,7 +17,7 @@ use Rattle.mm_frame.specs.Language.Sound.{number_at, fault_or}
 use Rattle.mm_frame.specs.Language.Sound.{fault_from, fault}
 use Rattle.mm_frame.specs.Code.FaultInOrder.{first_fault, typecode_fault, typed_fault, floating_fault, symbol_fault_of, labels_fault, front_fault, end_fault, symbols_fault, fault_by_kind}
 
--- what a line asks of a word: whether the statement ends there too early, whether it is word 0, and what its symbol passes
+-- what a line looks at in a word: whether the statement ends there too early, whether it is word 0, and what its symbol passes
 abbrev line_of : Kind → List Item → Item → Bool → Bool → ((ℕ → List ℕ → Bool) → Bool) → FrameNumber → Bool
 line_of kind before item ends starts at F01 = ends || (is_floating kind && at is_third)
 line_of kind before item ends starts at F02 = is_constants kind && (starts && is_inside before)
@@ -34,7 +34,7 @@ line_of kind before item ends starts at F12 = is_floating kind && at (second (is
 line_of kind before item ends starts at F13 = is_floating kind && at (second (is_typed_otherwise before item))
 line_of kind before item ends starts at F14 = false
 
--- the lowest number for which this is so
+-- the lowest number whose line holds
 abbrev number_of : Kind → List Item → Item → Bool → Bool → ((ℕ → List ℕ → Bool) → Bool) → Option FrameNumber
 number_of kind before item ends starts at = find (λ number. line_of kind before item ends starts at number) numbers
 

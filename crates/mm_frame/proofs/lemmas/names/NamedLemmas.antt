@@ -54,7 +54,7 @@ read_all all tables before item numbers h k a s t =
     known_as : (n : ℕ) (name : List ℕ) → IsNameNumber all n name → is_constant_as (declared_at tables n) ≡ has (constants before) name
     known_as n name there = ap is_constant_as (known_at all before tables n name k there) ∙ constant_in before name
 
--- so are those of a sound `$d`, as variables
+-- the symbols of a sound `$d` are read as variables
 pub variables_read_all : (all : List (List ℕ)) (before : List Item) (item : Item) (numbers : List ℕ) → AreNameNumbers all numbers item.symbols
     → IsSound before item → is_disjoint item.kind ≡ true → symbols_of all (map variable_by numbers) ≡ expression before item
 variables_read_all all before item numbers a s t =

@@ -468,7 +468,7 @@ pub is_there : (lists : PairLists) (last : Vec (NumberedSymbol × NumberedSymbol
     → IsThere lists (length lists.lists.items - 1) kept
 is_there lists last kept there t = record { list = last; there = there; same = (pointwise_decides pair_decides last.items kept).0 t }
 
--- the list with this number is of pairs that are read so
+-- the list with this number is of pairs with this reading
 pub is_list : (all : List (List ℕ)) (lists : PairLists) (k : ℕ) (kept : List (NumberedSymbol × NumberedSymbol)) (pairs : List (Symbol × Symbol)) → IsThere lists k kept → AreSamePairsRead all pairs kept → AreInOrder kept → IsList all lists k pairs
 is_list all lists k kept pairs there read order = record { list = there.list; there = there.there; read = subst (AreSamePairsRead all pairs) (sym there.same) read; order = subst AreInOrder (sym there.same) order }
 

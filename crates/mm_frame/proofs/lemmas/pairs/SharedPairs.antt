@@ -52,7 +52,7 @@ read_each all list pairs h x y (inr c) = swapped (kept_pairs all list) y x (read
 
 -- and what the readings have, the lists of numbers have
 module _ (all : List (List ℕ)) (distinct : AreDistinct all) (list pairs : List (NumberedSymbol × NumberedSymbol)) (m : All (IsPairNumbered all) list) (n : All (IsPairNumbered all) pairs) where
-  -- the pair that is read so is this one
+  -- the pair with this reading is this one
   back : (p : NumberedSymbol × NumberedSymbol) → IsPairNumbered all p → Contains (kept_pairs all list) (pair_of all p) → Contains list p
   back p numbered c =
       let r = from_map (pair_of all) (pair_of all p) list (contains_in (pair_of all p) (kept_pairs all list) c) in

@@ -12,7 +12,7 @@ use Rattle.mm_frame.specs.Code.PlainWords.{word_bytes}
 use Rattle.mm_frame.proofs.lemmas.frames.FrameNumbers.{front_get}
 use Rattle.mm_frame.proofs.lemmas.reading.SpokenLemmas.{names_from}
 
--- each of the plain words is spelled so
+-- each of the plain words has this spelling
 pub spelled_at : (text : List ℕ) (words : List Word) (n : ℕ) (word : Word) → slice_get words n ≡ Some word → word_bytes text word ≡ get_or (map (word_bytes text) words) n []
 spelled_at text words n word e = sym (get_or_from_slice_get (map (word_bytes text) words) n (word_bytes text word) [] (slice_get-map (word_bytes text) words n ∙ ap (option_map (word_bytes text)) e))
 

@@ -500,7 +500,7 @@ behind_before marks from at end e l =
 pub before_none : (marks : List Mark) (from at end : ℕ) → end ≡ min at (length marks) → end ≤ from → stays_by (drop (suc from) (take at marks)) ≡ true
 before_none marks from at end e l = let c = length-take at marks in ap stays_by (drop_all (suc from) (take at marks) (omega arith))
 
--- an item whose block is open is active, and one whose block has ended is so up to the end
+-- an item whose block is open is active, and one whose block has ended is active up to the end
 pub is_active_open : (blocks : List ℕ) (ends : List (Option ℕ)) (outer : List ℕ) (current begun ended from at block : ℕ)
     → AreBlockEndsKept blocks ends outer current begun ended → from < length blocks → block ≡ get_or blocks from block → end_of_block ends block ≡ None
     → stays_by (slice_range (marks_from ends 0 0 blocks) (from + 1) at) ≡ true

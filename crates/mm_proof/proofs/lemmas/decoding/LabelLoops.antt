@@ -1,4 +1,4 @@
--- What is so of each label that the words of a proof name, word by word.
+-- What holds of each label that the words of a proof name, word by word.
 use Rattle.std.proofs.Common.{◌≡◌, ℕ, false, List, ◌∷◌, sym, ◌∙◌, ap, subst, ◌↔◌, IsTrue}
 use Rattle.std.specs.List.{AllByRecursion, before_first}
 use Rattle.std.proofs.lemmas.Bool.{false≢true}

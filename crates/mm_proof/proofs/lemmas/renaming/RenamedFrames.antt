@@ -21,7 +21,7 @@ use Rattle.mm_proof.specs.Code.NumberedBase.{renamed_setting}
 use Rattle.mm_proof.proofs.lemmas.renaming.NumberingLemmas.{naming_is_renaming, pairs_numbered}
 use Rattle.mm_proof.proofs.lemmas.renaming.RenamingLemmas.{map_back, contains_map, contains_back, pair_there, pair_back, renaming_back, mandatory_there, has_there, has_back, setting_back, run_renamed}
 
--- what means the same does so renamed
+-- what means the same means the same when renamed
 same_there : (r : Resolved) → AreSameMeaning r r
 same_there (Hypothesis e) = refl
 same_there (Assertion frame) = record { expression = refl; hypotheses = refl; pairs = λ x y. (λ are. are, λ are. are) }

@@ -231,7 +231,7 @@ pub same_level :
 same_level base copy mine yours i j a b (l, m, e) =
     sym (a.each i (subst (λ n. i < n) a.count_is l)) ∙ e ∙ b.each j (subst (λ n. j < n) b.count_is m)
 
--- what holds of all is so of each of some
+-- what holds of all holds of each of some
 pub of_each : {X : Type 0} (P : X → Type 0) → ((x : X) → P x) → (xs : List X) → AllByRecursion P xs
 of_each P all [] = tt
 of_each P all (x ∷ xs) = (all x, of_each P all xs)
