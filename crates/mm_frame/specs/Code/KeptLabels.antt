@@ -3,7 +3,7 @@ use Rattle.std.specs.Prelude.{ℕ, ◌+◌, ◌*◌, Bool, true, ◌&&◌, nat_l
 use Rattle.std.specs.HashMap.{get_by}
 use Rattle.mm_frame.specs.declared.label_numbers.LabelNumbers.{LabelNumbers}
 
--- each is less than 128
+-- each byte is less than 128
 abbrev pub are_ascii : List ℕ → Bool
 are_ascii [] = true
 are_ascii (byte ∷ bytes) = nat_lt byte 128 && are_ascii bytes
@@ -13,7 +13,7 @@ abbrev pub label_code : List ℕ → ℕ
 label_code [] = 1
 label_code (byte ∷ bytes) = label_code bytes * 128 + byte
 
--- it is looked up by its code, which has 64 bits at most
+-- the label is looked up by its code, which has 64 bits at most
 abbrev pub is_coded : List ℕ → Bool
 is_coded label = nat_le (length label) 9 && are_ascii label
 

@@ -14,7 +14,7 @@ use Rattle.mm_frame.specs.Language.NumberedSymbols.{symbols_of, IsNumbered}
 abbrev pub by_constants : List Item → List ℕ → Symbol
 by_constants before name = record { name = name; variable = not (has (constants before) name) }
 
--- the same by the number of a name
+-- a name by its number as a symbol: a variable if it is no declared constant
 abbrev pub symbol_by : Tables → ℕ → NumberedSymbol
 symbol_by tables n = record { name = n; variable = not (is_constant_as (declared_at tables n)) }
 
@@ -40,7 +40,7 @@ AreExpressions all before expressions = (n : ℕ) (item : Item) → slice_get be
 abbrev pub AreNumbered : List (List ℕ) → List (List NumberedSymbol) → Type 0
 AreNumbered all expressions = (n : ℕ) → All (IsNumbered all) (expression_kept expressions n)
 
--- for each of these its symbols are kept, read at its own place
+-- for each `$f`, `$e`, `$a`, `$p` and `$d` its symbols are kept, read at its own place
 pub record AreSymbols (all : List (List ℕ)) (before : List Item) (expressions : List (List NumberedSymbol)) : Type 0 where
   pub count : length expressions ≡ length before
   pub numbered : AreNumbered all expressions

@@ -15,7 +15,7 @@ word_bytes text word = slice_range text word.start word.end
 abbrev pub plain_words : List Word → List Word
 plain_words words = take (prefix_len (λ word. is_plain_kind word.kind) words) words
 
--- how they are spelled
+-- how the words before the first keyword are spelled
 abbrev pub plain_bytes : List ℕ → List Word → List (List ℕ)
 plain_bytes text words = map (word_bytes text) (plain_words words)
 

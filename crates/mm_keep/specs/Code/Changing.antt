@@ -24,7 +24,7 @@ pub record AreKept (files : FilesView) (top : List ℕ) (names : List (List ℕ)
   pub checked_is : AreChecked base checked
   pub parked : parked_in files ≡ 0
 
--- there is such a base
+-- there is a base of the files, and what a check says of each item
 abbrev pub HasKept : FilesView → List ℕ → List (List ℕ) → Base → List (Option Judgement) → Type 0
 HasKept files top names code checked = (base : BaseView) × AreKept files top names code checked base
 
@@ -49,7 +49,7 @@ pub record CanTake
   pub built : IsBuilt names after top next.base base
   pub goes_on : KeepsOrRuns old base next.ran
 
--- for some files of before
+-- this holds of some files of before
 abbrev pub HasTaking : FilesView → List UndoView → List (Option Judgement) → Next → Type 0
 HasTaking after undos checked next = (before : FilesView) × (top : List ℕ) × (names : List (List ℕ)) × CanTake before after undos top names checked next
 

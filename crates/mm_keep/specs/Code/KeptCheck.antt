@@ -7,7 +7,7 @@ use Rattle.mm_keep.specs.declared.kept.Numbers.TheVariants.{Short, Long}
 use Rattle.mm_keep.specs.declared.kept.Held.TheInside.{Inside as Held}
 use Rattle.mm_keep.specs.declared.kept.Kept.TheInside.{Inside}
 
--- the numbers
+-- the numbers as a list
 abbrev pub numbers_in : Numbers → List ℕ
 numbers_in (Short numbers) = numbers.items
 numbers_in (Long numbers) = numbers.items

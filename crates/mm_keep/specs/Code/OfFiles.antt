@@ -24,13 +24,13 @@ pub record IsOf (names : List (List ℕ)) (files : FilesView) (code : Base) (vie
 abbrev pub HasItemOf : List (List ℕ) → FilesView → Base → ℕ → Type 0
 HasItemOf names files code n = (view : BaseView) × IsOf names files code view × (n < length view.said)
 
--- and this item is a sound `$p`, and the spot is in its proof, by some names
+-- such a base has a sound `$p` with this number, and the spot is in its proof, by some names
 abbrev pub HasSpotOf : FilesView → Base → ℕ → Spot → Type 0
 HasSpotOf files code n spot =
     (names : List (List ℕ)) × (view : BaseView) × IsOf names files code view × (n < length view.said) × (is_proof_at view n ≡ true)
     × IsSpotIn (said_at view n).proof spot
 
--- and the verdict on its proof is this, by some names
+-- such a base has a sound `$p` with this number, and the verdict on its proof is this, by some names
 abbrev pub HasVerdictOf : FilesView → Base → ℕ → Verdict → Type 0
 HasVerdictOf files code n verdict =
     (names : List (List ℕ)) × (view : BaseView) × IsOf names files code view × (n < length view.said) × (is_proof_at view n ≡ true)
@@ -40,7 +40,7 @@ HasVerdictOf files code n verdict =
 abbrev pub HasChecked : FilesView → Base → List (Option Judgement) → Type 0
 HasChecked files code checked = (names : List (List ℕ)) × (view : BaseView) × IsOf names files code view × AreChecked view checked
 
--- there is what the code's base answers, and it has an item with this number
+-- there is what the code's base answers, and what a check of its theorems says; and it has an item with this number
 abbrev pub HasCheckedItem : FilesView → Base → List (Option Judgement) → ℕ → Type 0
 HasCheckedItem files code checked n =
     (names : List (List ℕ)) × (view : BaseView) × IsOf names files code view × AreChecked view checked × (n < length view.said)

@@ -51,7 +51,7 @@ pub record AreBothRead (names : List (List ℕ)) (files : FilesView) (old new : 
 abbrev pub AreMarksBy : List (List ℕ) → Base → Base → List ItemMark → Type 0
 AreMarksBy names old new marks = (base copy : BaseView) → IsBaseBy names base old → IsBaseBy names copy new → AreMarks base copy marks
 
--- the new one has an item with this number
+-- there are two such bases, and the new one has an item with this number
 abbrev pub HasItemBothRead : List (List ℕ) → FilesView → Base → Base → ℕ → Type 0
 HasItemBothRead names files old new j = (base : BaseView) × (copy : BaseView) × AreBothRead names files old new base copy × (j < length copy.said)
 
@@ -82,6 +82,6 @@ pub record CanCarry (base copy : BaseView) (checked : List (Option Judgement)) (
   pub ran_is : AreRunBy copy plan ran
   pub count : length ran ≡ length plan
 
--- there is
+-- there are two bases of which what was checked can be carried like this
 abbrev pub CanBeCarried : List (Option Judgement) → List (Option ℕ) → List (Option Judgement) → Type 0
 CanBeCarried checked plan ran = (base : BaseView) × (copy : BaseView) × CanCarry base copy checked plan ran

@@ -13,14 +13,14 @@ use Rattle.mm_proof.specs.declared.pattern.Taken.{Taken}
 use Rattle.mm_proof.specs.declared.assertion.Hypothesis.{Hypothesis}
 use Rattle.mm_proof.specs.declared.assertion.Cited.{Cited}
 
--- a hypothesis
+-- a hypothesis of the code as the definitions see it
 abbrev pub mandatory_of : {S : Type 0} → (S → Symbol) → Hypothesis S → Mandatory
 mandatory_of means h = record { floating = h.floating; expression = map means h.expression.now }
 
 abbrev pub hypotheses_of : {S : Type 0} → (S → Symbol) → List (Hypothesis S) → List Mandatory
 hypotheses_of means hs = map (mandatory_of means) hs
 
--- a pair of symbols
+-- a pair of symbols of the code as the definitions see it
 abbrev pub meant_pair : {S : Type 0} → (S → Symbol) → S × S → Symbol × Symbol
 meant_pair means p = (means p.0, means p.1)
 
@@ -43,7 +43,7 @@ frame_of means mandatory cited = record {
   pairs = meant_pairs means cited.pairs.now;
 }
 
--- its range is one of these hypotheses, and what it has is a frame
+-- the assertion's range is one of these hypotheses, and its parts are a frame
 pub record IsCitable {S : Type 0} (means : S → Symbol) (mandatory : List Mandatory) (cited : Cited S) : Type 0 where
   pub in_order : cited.first ≤ cited.last
   pub within : cited.last ≤ length mandatory
@@ -53,7 +53,7 @@ pub record IsCitable {S : Type 0} (means : S → Symbol) (mandatory : List Manda
 abbrev pub IsSlot : List Mandatory → ℕ → Symbol → Type 0
 IsSlot hs j v = (h : Mandatory) × (slice_get hs j ≡ Some h) × (h.floating ≡ true) × (slice_get h.expression 1 ≡ Some v)
 
--- it is the `$f` of this variable
+-- the hypothesis is the `$f` of this variable
 abbrev pub IsTypingOf : Mandatory → Symbol → Type 0
 IsTypingOf h v = (h.floating ≡ true) × (slice_get h.expression 1 ≡ Some v)
 

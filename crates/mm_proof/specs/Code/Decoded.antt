@@ -12,11 +12,11 @@ use Rattle.mm_proof.specs.Language.Expansion.{Step, Named}
 use Rattle.mm_proof.specs.declared.Spot.{Spot}
 use Rattle.mm_proof.specs.declared.reading.Decoding.{Decoding}
 
--- in each view that the base stands for
+-- this holds in each view that the base stands for
 abbrev pub InViews : Base → (BaseView → Type 0) → Type 0
 InViews code holds = (view : BaseView) → IsBase view code → holds view
 
--- in each in which these hypotheses are active at item i
+-- this holds in each view of the base in which these hypotheses are active at item i
 abbrev pub WhereActive : Base → ℕ → List ℕ → (BaseView → Type 0) → Type 0
 WhereActive code i mandatory holds = (view : BaseView) → IsBase view code → AreActive view i mandatory → holds view
 
@@ -24,7 +24,7 @@ WhereActive code i mandatory holds = (view : BaseView) → IsBase view code → 
 abbrev pub compressed_at : BaseView → ℕ → List ℕ → List (List ℕ) → Steps
 compressed_at view i mandatory words = compressed_steps (setting_at view i) (labels_at view mandatory) (drop 1 words) (word_spot (length words))
 
--- those of a normal one
+-- the steps of a normal proof of item i
 abbrev pub normal_at : BaseView → ℕ → List (List ℕ) → Steps
 normal_at view i words = in_order (each_word (read_word (setting_at view i)) 0 words)
 

@@ -12,7 +12,7 @@ use Rattle.mm_proof.specs.declared.work.Checked.{Checked}
 abbrev pub OfDecoded : DecodedProof → (BaseView → Type 0) → Type 0
 OfDecoded proof holds = OfDecoding proof.base.now proof.i proof.words.now proof.decoding.now holds
 
--- and there is one
+-- there is a view of the base in which the proof decodes to this
 abbrev pub IsDecoded : DecodedProof → Type 0
 IsDecoded proof = HasDecoding proof.base.now proof.i proof.words.now proof.decoding.now
 

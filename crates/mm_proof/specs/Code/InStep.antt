@@ -20,7 +20,7 @@ pub record AreOrdinals (base : BaseView) (count : ℕ) (numbers : List ℕ) : Ty
   pub count_is : length numbers ≡ count
   pub each : (n : ℕ) → n < count → slice_index numbers n ≡ ordinal base n
 
--- these are those of two bases
+-- these are the ordinals of the items of two bases, and of their ends
 abbrev pub AreOrdinalsOf : Base → Base → Ordinals → Type 0
 AreOrdinalsOf old new ordinals = OfBases old new (λ base copy.
     AreOrdinals base (suc (length base.said)) ordinals.old.items × AreOrdinals copy (suc (length copy.said)) ordinals.new.items)

@@ -21,11 +21,11 @@ pub record IsTheorem (code : Base) (i : ℕ) (proof : List (List ℕ)) (view : B
 abbrev pub OfProof : Base → ℕ → List (List ℕ) → (BaseView → Type 0) → Type 0
 OfProof code i proof holds = (view : BaseView) → IsTheorem code i proof view → holds view
 
--- and there is one
+-- there is such a view of the base
 abbrev pub HasProof : Base → ℕ → List (List ℕ) → Type 0
 HasProof code i proof = (view : BaseView) × IsTheorem code i proof view × (i < length view.said)
 
--- its proof decodes to this
+-- the base has such a theorem, and its proof decodes to this
 pub record IsDecoding (code : Base) (i : ℕ) (proof : List (List ℕ)) (d : Decoding) (view : BaseView) : Type 0 where
   pub theorem : IsTheorem code i proof view
   pub decodes : decoding_at view i ≡ Ok (decoded_steps view d proof)
@@ -36,7 +36,7 @@ pub record IsDecoding (code : Base) (i : ℕ) (proof : List (List ℕ)) (d : Dec
 abbrev pub OfDecoding : Base → ℕ → List (List ℕ) → Decoding → (BaseView → Type 0) → Type 0
 OfDecoding code i proof d holds = (view : BaseView) → IsDecoding code i proof d view → holds view
 
--- and there is one
+-- there is such a view of the base
 abbrev pub HasDecoding : Base → ℕ → List (List ℕ) → Decoding → Type 0
 HasDecoding code i proof d = (view : BaseView) × IsDecoding code i proof d view × (i < length view.said)
 

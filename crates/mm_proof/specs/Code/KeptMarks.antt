@@ -30,7 +30,7 @@ marks_of inside = kept_marks inside.marks.items
 abbrev pub OfBases : Base → Base → (BaseView → BaseView → Type 0) → Type 0
 OfBases old new holds = (names : List (List ℕ)) (base copy : BaseView) → IsBaseBy names base old → IsBaseBy names copy new → holds base copy
 
--- both by these names
+-- this holds of what an old base and a new one answer, both by these names
 abbrev pub OfBasesBy : List (List ℕ) → Base → Base → (BaseView → BaseView → Type 0) → Type 0
 OfBasesBy names old new holds = (base copy : BaseView) → IsBaseBy names base old → IsBaseBy names copy new → holds base copy
 

@@ -3,11 +3,11 @@ use Rattle.std.specs.Prelude.{◌≡◌, ℕ, ◌+◌, ◌*◌, ◌%◌, ◌≤�
 use Rattle.mm_frame.specs.Language.Frame.{Symbol}
 use Rattle.mm_frame.specs.Language.NumberedSymbols.{comes_before}
 
--- one byte more of a name
+-- the key after one byte more of a name
 abbrev pub key_next : ℕ → ℕ → ℕ
 key_next key byte = (key * 31 + byte) % 4294967296
 
--- byte after byte
+-- the key after these bytes more of a name
 abbrev pub key_from : ℕ → List ℕ → ℕ
 key_from key [] = key
 key_from key (byte ∷ bytes) = key_from (key_next key byte) bytes

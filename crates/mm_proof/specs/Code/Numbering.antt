@@ -2,7 +2,7 @@
 use Rattle.std.specs.Prelude.{ℕ, ◌+◌, if◌then◌else◌, List, [], ◌∷◌, bytes_eq}
 use Rattle.mm_frame.specs.Language.Frame.{Symbol}
 
--- the one name for the other, and the other way round
+-- the first two names exchanged in the third
 abbrev pub exchanged : List ℕ → List ℕ → List ℕ → List ℕ
 exchanged a b name = if bytes_eq name a then b else if bytes_eq name b then a else name
 

@@ -14,7 +14,7 @@ use Rattle.mm_proof.specs.declared.pattern.Taken.{Taken}
 use Rattle.mm_proof.specs.declared.gather.Gathered.{Gathered}
 use Rattle.mm_proof.specs.Code.Flat.{read, IsEntryWithin}
 
--- it is the pair of these two, in one order or the other
+-- a pair is of these two, in one order or the other
 abbrev pub IsPair : Symbol × Symbol → Symbol → Symbol → Type 0
 IsPair p x y = ((p.0 ≡ x) × (p.1 ≡ y)) ⊎ ((p.0 ≡ y) × (p.1 ≡ x))
 
@@ -32,7 +32,7 @@ EachApart active xs ys = (x y : Symbol) → Contains xs x → Contains ys y → 
 abbrev pub SomeNotApart : List (Symbol × Symbol) → List Symbol → List Symbol → Type 0
 SomeNotApart active xs ys = (x y : Symbol) × Contains xs x × Contains ys y × NotApart active x y
 
--- one symbol is in both
+-- one symbol is in both lists
 abbrev pub SomeShared : List Symbol → List Symbol → Type 0
 SomeShared xs ys = (x : Symbol) × Contains xs x × Contains ys x
 

@@ -13,7 +13,7 @@ pub record AreOrderedRanges (n kept : ℕ) (stack saved : List Entry) : Type 0 w
   pub saved_within : All (IsEntryWithin kept) saved
   pub apart : (i j : ℕ) (a b : Entry) → i < j → slice_get stack i ≡ Some a → slice_get stack j ≡ Some b → (a.end ≤ b.floor) × (a.floor ≤ b.floor)
 
--- the expressions
+-- the expressions of these ranges
 abbrev pub expressions : List Symbol → List Entry → List Entry → State
 expressions symbols stack saved = record { stack = read_all symbols stack; saved = read_all symbols saved }
 

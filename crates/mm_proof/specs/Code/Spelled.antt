@@ -8,7 +8,7 @@ use Rattle.mm_proof.specs.Code.Keys.{key_by_number, key_from}
 abbrev pub key_by_name : Symbol → ℕ
 key_by_name symbol = key_from 0 symbol.name
 
--- it is the number that its name is
+-- the key of a symbol by the bytes of its name is the number that its name is
 abbrev pub HasOneKey : Symbol → Type 0
 HasOneKey symbol = key_by_name symbol ≡ key_by_number symbol
 

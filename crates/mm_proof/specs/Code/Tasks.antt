@@ -30,7 +30,7 @@ named_expressions means named = map (λ e. map means e.now) named.hypotheses.ite
 abbrev pub named_frames : {S : Type 0} → (S → Symbol) → Listed S → List Frame
 named_frames means named = map (frame_of means (hypotheses_of means named.mandatory.items)) named.assertions.items
 
--- each can be cited
+-- each assertion that is named can be cited
 abbrev pub AreCitable : {S : Type 0} → (S → Symbol) → Listed S → Type 0
 AreCitable means named = All (IsCitable means (hypotheses_of means named.mandatory.items)) named.assertions.items
 

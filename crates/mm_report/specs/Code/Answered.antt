@@ -35,14 +35,14 @@ WritesOf contents session bytes old new result =
 abbrev pub label_lines : List Item → List ℕ
 label_lines items = flat_map (λ item. unwrap_or item.label [] ++ codes "\n") items
 
--- these are the numbers that a command asks for which asks for items by a label
+-- the command asks for items by a label, and these are their numbers
 abbrev pub Finds : SessionView → Command → List ℕ → Type 0
 Finds session (Axioms label) numbers = AreAxiomsOf session label numbers
 Finds session (Cites label) numbers = AreCitesOf session label numbers
 Finds session (Users label) numbers = AreUsersOf session label numbers
 Finds session _ numbers = ⊥
 
--- there is no assertion with the label that it asks by
+-- the command asks for items by a label that no assertion has
 abbrev pub Lacks : SessionView → Command → Type 0
 Lacks session (Axioms label) = ¬ HasAssertion session label
 Lacks session (Cites label) = ¬ HasAssertion session label

@@ -21,7 +21,7 @@ pub record CutsAt (bytes head tail : List ℕ) : Type 0 where
   pub is : bytes ≡ head ++ 32 ∷ tail
   pub none : HasNoSpace head
 
--- the word
+-- the first word of a line
 abbrev pub verb_word : Verb → List ℕ
 verb_word Insert = codes "insert"
 verb_word Replace = codes "replace"
@@ -61,7 +61,7 @@ words_said line (edits.Replace file at count) = codes "replace" ∷ bytes_of_par
 words_said line (edits.Delete file at) = codes "delete" ∷ bytes_of_part line file ∷ decimal at ∷ []
 words_said line (edits.Move file at to) = codes "move" ∷ bytes_of_part line file ∷ decimal at ∷ decimal to ∷ []
 
--- there is a name
+-- the part of the line is a name
 pub record IsNameIn (line : List ℕ) (part : Part) : Type 0 where
   pub within : IsPartWithin line part
   pub name : IsName (bytes_of_part line part)
@@ -77,7 +77,7 @@ pub record SaysEdit (line : List ℕ) (asked : EditLine) : Type 0 where
   pub good : IsGoodLine line asked
   pub is : line ≡ join_with_byte 32 (words_said line asked)
 
--- a word and a label
+-- the line is this word and a label
 pub record SaysLabel (line word : List ℕ) (label : Part) : Type 0 where
   pub good : IsNameIn line label
   pub is : line ≡ word ++ 32 ∷ bytes_of_part line label

@@ -27,7 +27,7 @@ pub record ReadsOn (old new : Input) (unread left : Option (List ℕ)) : Type 0 
 abbrev pub bytes_of_part : List ℕ → Part → List ℕ
 bytes_of_part bytes part = slice_range bytes part.start part.end
 
--- there are these bytes
+-- the part is within the bytes
 pub record IsPartWithin (bytes : List ℕ) (part : Part) : Type 0 where
   pub ordered : part.start ≤ part.end
   pub within : part.end ≤ length bytes
@@ -39,7 +39,7 @@ edit_in bytes (edits.Replace file at text) = Replace (bytes_of_part bytes file) 
 edit_in bytes (edits.Delete file at) = Delete (bytes_of_part bytes file) at
 edit_in bytes (edits.Move file at to) = Move (bytes_of_part bytes file) at to
 
--- its parts are there
+-- the parts of the edit are within the bytes
 abbrev pub IsEditWithin : List ℕ → EditAt → Type 0
 IsEditWithin bytes (edits.Insert file at text) = IsPartWithin bytes file × IsPartWithin bytes text
 IsEditWithin bytes (edits.Replace file at text) = IsPartWithin bytes file × IsPartWithin bytes text

@@ -16,7 +16,7 @@ keyed_file entry = record { name = entry.0.items; keys = entry.1.keys.items; tai
 abbrev pub files_view : Inside → FilesView
 files_view inside = record { keyed = map keyed_file inside.files.entries; pieces = inside.pieces }
 
--- one for the same key
+-- 1 for the same key, 0 for another
 abbrev pub one : ℕ → ℕ → ℕ
 one k x = cond (nat_eq k x) 1 0
 
@@ -33,7 +33,7 @@ abbrev pub standing_state : PieceState → ℕ
 standing_state Standing = 1
 standing_state (Parked file kind) = 0
 
--- one for a piece that is not parked
+-- 1 for a piece that is in a file, and else 0
 abbrev pub standing_count : Option HeldPiece → ℕ
 standing_count None = 0
 standing_count (Some piece) = standing_state piece.state
@@ -59,7 +59,7 @@ pub record IsRoomy (pieces : Pieces) (n : ℕ) (file : FileText) : Type 0 where
   pub parked : file.deleted ≡ deletions n pieces
   pub room : HasRoom file
 
--- each file from this number on does
+-- each file from this number on has such room
 abbrev pub HaveRoom : {Y : Type 0} → Pieces → ℕ → List (Vec ℕ Y × FileText) → Type 0
 HaveRoom pieces n [] = Unit {0}
 HaveRoom pieces n (entry ∷ entries) = IsRoomy pieces n entry.1 × HaveRoom pieces (suc n) entries

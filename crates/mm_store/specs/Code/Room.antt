@@ -8,7 +8,7 @@ pub record HasRoom (file : FileText) : Type 0 where
   pub keys : deque_len file.keys + file.deleted ≤ deque_capacity file.keys
   pub starts : deque_len file.keys + file.deleted < length file.starts.items
 
--- and for one more
+-- there is such room, and room for one more
 pub record HasRoomForOne (file : FileText) : Type 0 where
   pub keys : deque_len file.keys + file.deleted + 1 ≤ deque_capacity file.keys
   pub starts : deque_len file.keys + file.deleted + 1 < length file.starts.items

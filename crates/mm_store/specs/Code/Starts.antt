@@ -9,6 +9,6 @@ pub record HasStarts (texts : List (List ℕ)) (file : FileText) : Type 0 where
   pub known : file.known ≤ length texts
   pub starts : AreStartsTo file.known texts file.starts.items
 
--- the same of those under the keys of the file
+-- the beginnings of the pieces under the keys of the file are known, up to one of them or to the tail after them
 abbrev pub KnowsStarts : Pieces → FileText → Type 0
 KnowsStarts pieces file = HasStarts (map (text_under pieces) file.keys.items) file

@@ -86,7 +86,7 @@ pub record TakesWord (text : List ℕ) (from : ℕ) (word : Word) (to : ℕ) : T
   pub next : to ≡ word.end
   pub ends : ends_run (drop to text) ≡ true
 
--- a run at which the runs after these words cannot go on
+-- why a run cannot follow runs that are read as these words: it has the fault with this number
 abbrev pub IsRunRefused : TextNumber → List Run → List Word → Run → Type 0
 IsRunRefused T03 front found run = EndsInComment front found × HoldsMark run.bytes × (run.bytes ≢ closing)
 IsRunRefused T04 front found run = AreWords front found × (run.bytes ≡ closing)
@@ -101,7 +101,7 @@ pub record MeetsRun (runs : List Run) (found : List Word) (number : TextNumber) 
   pub place : at ≡ run.start
   pub refused : IsRunRefused number front found run
 
--- a fault comes after these words
+-- the runs have this fault after these words
 abbrev pub FailsBehind : List Run → List Word → TextNumber → ℕ → Type 0
 FailsBehind runs found T02 at = (h : EndsInComment runs found) × (at ≡ h.first.start)
 FailsBehind runs found number at = MeetsRun runs found number at

@@ -12,7 +12,7 @@ use Rattle.mmkeep.specs.Language.Loading.{AddsFile}
 abbrev pub HasFile : FilesView → List ℕ → Type 0
 HasFile files name = file_number (plain files) name ≢ None
 
--- no file goes
+-- each file that was there is still there
 abbrev pub KeepsFiles : FilesView → FilesView → Type 0
 KeepsFiles old new = (name : List ℕ) → HasFile old name → HasFile new name
 
