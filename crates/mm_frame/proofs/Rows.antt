@@ -1,4 +1,4 @@
--- The first five lines of the base, by computing.
+-- A small database, and what is sound, active and mandatory in it, by computing.
 use Rattle.std.proofs.Common.{◌≡◌, ℕ, true, false, Some, None, List, [], ◌∷◌, ◌++◌, refl, codes}
 use Rattle.mm_frame.specs.Language.Frame.{Symbol, Hypothesis, Assertion, Unknown, Inactive}
 use Rattle.mm_frame.specs.Language.Item.{Kind, Constants, Variables, Disjoint, Floating, Essential, Axiom, Theorem, BlockStart, BlockEnd, Item, item_at, has}

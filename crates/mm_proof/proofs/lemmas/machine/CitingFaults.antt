@@ -1,4 +1,4 @@
--- The lowest number that holds if an assertion is cited.
+-- The lowest number that holds when an assertion is cited.
 use Rattle.std.proofs.Common.{◌≡◌, ℕ, ◌-◌, ◌<◌, ◌≤◌, Some, None, List, [], ◌∷◌, ◌++◌, length, take, sym, ◌∙◌, subst, arith, All, Any}
 use Rattle.mm_frame.specs.Language.Frame.{Symbol, Frame}
 use Rattle.mm_frame.specs.Language.Typing.{IsFrame}

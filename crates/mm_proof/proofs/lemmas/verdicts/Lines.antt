@@ -1,4 +1,4 @@
--- Where a fault of a step holds, nothing is reached by it.
+-- If a fault of a step holds, nothing is reached by it.
 use Rattle.std.proofs.Common.{◌≡◌, ◌≢◌, ◌-◌, ◌<◌, true, false, List, [], ◌∷◌, length, map, drop, refl, sym, ◌∙◌, ap, subst, arith, length-append, inl, inr, slice_get, Contains, All, Any}
 use Rattle.std.specs.List.{AllZip}
 use Rattle.std.proofs.lemmas.List.{length-map, drop_at}
