@@ -14,7 +14,7 @@ mark_of BlockStart = Opens
 mark_of BlockEnd = Closes
 mark_of _ = Neither
 
--- how many blocks that were open before an item are closed by it and those after it, if those after it close this many of theirs
+-- how many blocks open before an item are closed by it and those after it, if those after it close this many that were open before them
 abbrev pub closed_at : Mark → ℕ → ℕ
 closed_at Opens count = pred count
 closed_at Closes count = suc count
