@@ -52,8 +52,8 @@ fn front_fault(names: &Names, scope: &Scope, statement: &Statement) -> Option<Fr
     label_fault(names, scope, statement.label()?)
 }
 
-/// What is wrong with a symbol of a `$c` or `$v`, if it is known whether the symbol occurs earlier in the same
-/// statement, and whether it is a symbol already that must not be declared again.
+/// What is wrong with a symbol of a `$c` or `$v`: `repeated` says that it occurs earlier in the same statement, and
+/// `declared` that it is a symbol already and must not be declared again.
 fn declared_fault(scope: &Scope, name: &[u8], repeated: bool, declared: bool) -> Option<FrameNumber>
     ensures constant { (all : List (List ℕ)) (before : List Item) (item : Item) (n : ℕ) → AreSound before → ScopeHolds all before scope.now
         → repeated ≡ sound.is_repeated item n name.now → declared ≡ sound.is_declared before name.now

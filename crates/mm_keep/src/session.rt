@@ -199,8 +199,8 @@ impl Session {
         }
     }
 
-    /// Does an edit of the files, and runs, in order, the proof of each sound `$p` of the edited files for which the files
-    /// before had no sound `$p` of the same label with an equal view. The answer is the record of these runs.
+    /// Does an edit of the files. Then it runs, in order, the proof of each sound `$p` of the edited files, unless the files
+    /// before had a sound `$p` of the same label with an equal view. The answer is the record of these runs.
     ///
     /// The errors are those of [`Files::edit`], in its order; `Memory` can come in the place of each but the first two,
     /// and in the place of success. After any error the session is as before.

@@ -110,9 +110,9 @@ impl Files {
     ///
     /// If one is refused, none is done, and the answer has its number and the reason. `Memory` can come in the place
     /// of each other answer, once the file and the pieces of the first edit are known to be there. After any error the
-    /// files are as before. No edits are done without memory. It takes the time of the texts that the edits bring, moves
-    /// for each edit the keys on the shorter side of its place in its file (of both its places, for a move), and then goes
-    /// once through the pieces after the first place of each file; and it takes room for what is needed to undo each.
+    /// files are as before. No edits are done without memory. It takes the time of the texts that the edits bring. For each
+    /// edit it moves the keys on the shorter side of its place in its file (of both its places, for a move). Then it goes once
+    /// through the pieces after the first place of each file. It takes room for what is needed to undo each edit.
     pub fn edit_all(&mut self, edits: &[Edit<'_>]) -> Result<Undos, BatchError>
         ensures ok { OnOk result (IsBatchOf (map asked edits.now) (plain self.old) (plain self.new)) }
         ensures by_keys { IfOk result (IsBatchByKeys (map asked edits.now) self.old self.new) }
@@ -133,8 +133,8 @@ impl Files {
     }
 
     /// Reverses edits, the last of them first. If the files are as the edits left them, they are then as before the
-    /// first of them. It moves for each the keys on the shorter side of its place in its file (of both its places, for a
-    /// move), then goes once through the pieces after the first place of each file, and takes no memory.
+    /// first of them. For each it moves the keys on the shorter side of its place in its file (of both its places, for a
+    /// move). Then it goes once through the pieces after the first place of each file. It takes no memory.
     pub fn undo_all(&mut self, undos: Undos)
         requires { (old : FilesView) × IsSpendable old self.old undos }
         ensures { (old : FilesView) → IsSpendable old self.old undos → self.new ≡ old }
