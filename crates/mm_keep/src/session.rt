@@ -221,9 +221,9 @@ impl Session {
         }
     }
 
-    /// Does all these edits, one after another, each on the files after those before it, or none of them. What is run is
-    /// what the whole of them asks for: the proof of each sound `$p` of the files after them all for which the files
-    /// before them all had none of the same label with an equal view; so each is run once at most.
+    /// Does all these edits, one after another, each on the files after those before it, or none of them. Then it runs, in
+    /// order, the proof of each sound `$p` of the files after them all, unless the files before them all had a sound `$p` of
+    /// the same label with an equal view. So each proof is run once at most.
     ///
     /// If an edit is refused, the error has its number, from 0, and the reason, which is never out of memory. After any
     /// error the session is as before. No edits are accepted, and run nothing.
