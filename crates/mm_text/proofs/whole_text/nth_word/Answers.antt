@@ -1,6 +1,6 @@
 use Rattle.std.proofs.Common.{◌≡◌, ◌∙◌, ap, drop, arith}
 use Rattle.mm_text.proofs.NthLemmas.{goes_on, nth_of, nth_past}
-use Rattle.mm_text.proofs.reading.nth_word.Goals as goal
+use Rattle.mm_text.proofs.whole_text.nth_word.Goals as goal
 
 pub loop-number-preserved : goal.loop-number-preserved
 loop-number-preserved c = record {

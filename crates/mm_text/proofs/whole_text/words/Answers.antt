@@ -6,7 +6,7 @@ use Rattle.mm_text.specs.Language.Reading.{HasWords, IsWordsError, IsTextErrorIn
 use Rattle.mm_text.specs.Code.LeftToRight.{GivesWords, read_text}
 use Rattle.mm_text.proofs.ReadingLemmas.{words_of_text, fault_of_text}
 use Rattle.mm_text.proofs.PositionLemmas.{are_within, all_below, fault_lies}
-use Rattle.mm_text.proofs.reading.words.Goals as goal
+use Rattle.mm_text.proofs.whole_text.words.Goals as goal
 
 given_words : (text : List ℕ) (r : Result (Vec Word Global) TextError) → GivesWords r (read_text text) → IfOk r (λ found. HasWords text found.items)
 given_words text (Ok v) h = words_of_text text v.items h
