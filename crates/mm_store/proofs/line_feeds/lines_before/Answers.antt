@@ -1,7 +1,7 @@
 use Rattle.std.proofs.Common.{◌≡◌, ◌+◌, ◌-◌, ◌*◌, ◌<◌, ◌++◌, length, take, drop, get_or, sym, ap, ◌∙◌, subst, arith, ◌/◌}
 use Rattle.std.proofs.Math.Seq.{take-add}
 use Rattle.mm_store.specs.Code.Lines.{AreLines}
-use Rattle.mm_store.proofs.lines.lines_before.Goals as goal
+use Rattle.mm_store.proofs.line_feeds.lines_before.Goals as goal
 
 pub returns : goal.returns
 returns c =

@@ -1,7 +1,7 @@
 use Rattle.std.proofs.Common.{◌≡◌, ℕ, ◌+◌, ◌*◌, ◌<◌, length, take, get_or}
-use Rattle.mm_store.specs.declared.lines.Lines.{Lines}
+use Rattle.mm_store.specs.declared.line_feeds.Lines.{Lines}
 use Rattle.mm_store.specs.Code.Lines.{AreLines}
-use Rattle.mm_store.proofs.lines.marks.Given as goal
+use Rattle.mm_store.proofs.line_feeds.marks.Given as goal
 
 abbrev pub invariant-loop-number : goal.invariant-loop-number
 invariant-loop-number l = record {

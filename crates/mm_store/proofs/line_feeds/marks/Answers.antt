@@ -1,9 +1,9 @@
 use Rattle.std.proofs.Common.{◌≡◌, ℕ, ◌+◌, ◌-◌, ◌*◌, ◌<◌, [], ◌∷◌, ◌++◌, length, take, drop, get_or, sym, ap, ◌∙◌, subst, arith, length-append}
 use Rattle.std.proofs.Math.Seq.{take-add}
-use Rattle.mm_store.specs.declared.lines.Lines.{Lines}
+use Rattle.mm_store.specs.declared.line_feeds.Lines.{Lines}
 use Rattle.mm_store.specs.Code.Lines.{AreLines}
 use Rattle.mm_store.proofs.lemmas.places.PlaceLemmas.{each_more}
-use Rattle.mm_store.proofs.lines.marks.Goals as goal
+use Rattle.mm_store.proofs.line_feeds.marks.Goals as goal
 
 pub loop-number-preserved : goal.loop-number-preserved
 loop-number-preserved c =
