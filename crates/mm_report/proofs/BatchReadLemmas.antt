@@ -10,7 +10,7 @@ use Rattle.mm_report.specs.declared.edits.EditRead.{EditRead}
 use Rattle.mm_report.specs.declared.entry.EditAt.{EditAt}
 use Rattle.mm_report.specs.declared.entry.EditAt.TheVariants.{Insert, Replace, Delete, Move}
 use Rattle.mm_report.specs.declared.input.Input.{Input}
-use Rattle.mm_report.specs.declared.lines.LineAt.{LineAt}
+use Rattle.mm_report.specs.declared.script_lines.LineAt.{LineAt}
 use Rattle.mm_report.specs.Code.Batches.{IsBatchRead, IsBatchFront, IsListedRead}
 use Rattle.mm_report.specs.Code.Growing.{InputGrows, IsLineAt, line_bytes}
 use Rattle.mm_report.specs.Code.Pending.{pending, bytes_of_part, edit_in, AreEditsIn, IsEditWithin}

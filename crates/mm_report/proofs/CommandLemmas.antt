@@ -6,7 +6,7 @@ use Rattle.std.proofs.lemmas.List.Folds.{drop_split}
 use Rattle.mm_report.specs.declared.entry.EditAt.{EditAt}
 use Rattle.mm_report.specs.declared.entry.Next.{Next}
 use Rattle.mm_report.specs.declared.entry.Part.{Part}
-use Rattle.mm_report.specs.declared.lines.LineAt.{LineAt}
+use Rattle.mm_report.specs.declared.script_lines.LineAt.{LineAt}
 use Rattle.mm_report.specs.Code.Batches.{IsBatchRead}
 use Rattle.mm_report.specs.Code.Growing.{IsLineAt, IsTextBad, IsTextLine, IsTextShort, line_bytes}
 use Rattle.mm_report.specs.Code.Lines.{SaysLabel}

@@ -11,7 +11,7 @@ use Rattle.mm_keep.specs.Language.Sessions.{SessionView}
 use Rattle.mm_report.specs.declared.input.Input.{Input}
 use Rattle.mm_report.specs.declared.entry.Next.{Next}
 use Rattle.mm_report.specs.declared.stream.Writing.{Writing}
-use Rattle.mm_report.specs.declared.reading.Reading.{Reading}
+use Rattle.mm_report.specs.declared.read_stream.Reading.{Reading}
 use Rattle.mm_report.specs.Code.Answered.{IsAnswered, BeginsAnswer, FailsSo, AnswersSoFar, HasAnswered, StopsAnswering}
 use Rattle.mm_report.specs.Code.Pending.{pending, ReadsOn, IsNextCommand, IsWholeCommand, IsLast, IsWholeOrLast}
 use Rattle.mm_report.specs.Code.Stops.{HasNoEntry, StopsSo}

@@ -14,9 +14,9 @@ ghost use Rattle.mm_report.specs.Language.Stream.{cannot_read, unread};
 use crate::entry::{EditAt, Part};
 use crate::input::Input;
 use crate::line::{EditLine, edit_asked};
-use crate::lines::{LineAt, read_some_line, read_text};
-use crate::reading::Reading;
+use crate::read_stream::Reading;
 use crate::script::ScriptError;
+use crate::script_lines::{LineAt, read_some_line, read_text};
 use std::alloc::Global;
 use std::io::Read;
 

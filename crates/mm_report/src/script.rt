@@ -13,7 +13,7 @@ ghost use Rattle.mm_report.specs.Language.Stream.{cannot_read, has_failed, unrea
 use crate::answer::answer;
 use crate::entry::next_command;
 use crate::input::Input;
-use crate::reading::Reading;
+use crate::read_stream::Reading;
 use crate::report::ReportError;
 use crate::stream::{WriteFailed, Writing};
 use mm_keep::Session;

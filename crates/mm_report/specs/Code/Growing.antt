@@ -5,8 +5,8 @@ use Rattle.std.specs.Io.KnownBytes.{Consumes, IsAtEnd}
 use Rattle.mm_keep.specs.mm_store.Language.Edits.{Asked, edited_text}
 use Rattle.mm_report.specs.declared.edits.EditRead.{EditRead}
 use Rattle.mm_report.specs.declared.input.Input.{Input}
-use Rattle.mm_report.specs.declared.lines.LineAt.{LineAt}
-use Rattle.mm_report.specs.declared.reading.Reading.{Reading}
+use Rattle.mm_report.specs.declared.script_lines.LineAt.{LineAt}
+use Rattle.mm_report.specs.declared.read_stream.Reading.{Reading}
 use Rattle.mm_report.specs.Code.Pending.{pending, edit_in, IsEditWithin}
 use Rattle.mm_report.specs.Code.Stops.{IsOneLine, HasTextOf}
 use Rattle.mm_report.specs.Language.Script.{IsGoodEdit, edit_bytes, edit_line}

@@ -3,7 +3,7 @@ use Rattle.std.proofs.lemmas.Bool.{not-false}
 use Rattle.mm_report.specs.Code.Growing.{HasBlanks}
 use Rattle.mm_report.specs.Code.Pending.{pending}
 use Rattle.mm_report.proofs.GrowLemmas.{blank_line, blank_more, blanks_grown, grows_not, grows_then, no_blanks, same_error}
-use Rattle.mm_report.proofs.lines.read_some_line.Goals as goal
+use Rattle.mm_report.proofs.script_lines.read_some_line.Goals as goal
 
 pub loop-line-preserved : goal.loop-line-preserved
 loop-line-preserved g c =

@@ -1,7 +1,7 @@
 use Rattle.std.proofs.Common.{◌≤◌, ◌-◌}
 use Rattle.mm_report.specs.Code.Growing.{InputGrows, HasBlanks, to_come}
 use Rattle.mm_report.specs.Code.Pending.{pending}
-use Rattle.mm_report.proofs.lines.read_some_line.Given as goal
+use Rattle.mm_report.proofs.script_lines.read_some_line.Given as goal
 
 abbrev pub invariant-loop-line : goal.invariant-loop-line
 invariant-loop-line g l = record {

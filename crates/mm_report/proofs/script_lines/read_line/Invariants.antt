@@ -2,7 +2,7 @@ use Rattle.std.proofs.Common.{◌≤◌, length, slice_range}
 use Rattle.mm_report.specs.Code.Growing.{InputGrows, to_come}
 use Rattle.mm_report.specs.Code.Pending.{pending}
 use Rattle.mm_report.specs.Code.Stops.{IsOneLine}
-use Rattle.mm_report.proofs.lines.read_line.Given as goal
+use Rattle.mm_report.proofs.script_lines.read_line.Given as goal
 
 abbrev pub invariant-loop-more : goal.invariant-loop-more
 invariant-loop-more g l = record {

@@ -10,7 +10,7 @@ ghost use Rattle.mm_report.specs.Language.Stream.{cannot_read, unread};
 
 use crate::entry::Part;
 use crate::input::Input;
-use crate::reading::Reading;
+use crate::read_stream::Reading;
 use crate::script::ScriptError;
 use memchr::memchr;
 use std::io::Read;

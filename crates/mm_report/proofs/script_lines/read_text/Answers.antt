@@ -3,7 +3,7 @@ use Rattle.mm_report.specs.declared.script.ScriptError.{ScriptError}
 use Rattle.mm_report.specs.declared.script.ScriptError.TheVariants as errors
 use Rattle.mm_report.specs.Code.Pending.{pending}
 use Rattle.mm_report.proofs.GrowLemmas.{feed_behind, grown_long, grows_not, grows_then, other_byte, other_error, rest_of, same_error}
-use Rattle.mm_report.proofs.lines.read_text.Goals as goal
+use Rattle.mm_report.proofs.script_lines.read_text.Goals as goal
 
 pub loop-byte-init : goal.loop-byte-init
 loop-byte-init g c = record { grows = grows_not _ _; within = c.requires; fewer = omega arith }

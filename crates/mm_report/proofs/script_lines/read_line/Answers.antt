@@ -3,7 +3,7 @@ use Rattle.std.proofs.lemmas.List.{take_rest}
 use Rattle.mm_report.specs.Code.Pending.{pending}
 use Rattle.mm_report.specs.Code.Stops.{IsOneLine}
 use Rattle.mm_report.proofs.GrowLemmas.{found_line, no_feed_left, last_line, nothing_between, rest_of, same_error, grows_not, grows_then, grown_long, part_grown}
-use Rattle.mm_report.proofs.lines.read_line.Goals as goal
+use Rattle.mm_report.proofs.script_lines.read_line.Goals as goal
 
 pub returns-in-Some-clause-line : goal.returns-in-Some-clause-line
 returns-in-Some-clause-line g c =

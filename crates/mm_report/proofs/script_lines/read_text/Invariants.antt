@@ -1,7 +1,7 @@
 use Rattle.std.proofs.Common.{◌≤◌, length}
 use Rattle.mm_report.specs.Code.Growing.{InputGrows, to_come}
 use Rattle.mm_report.specs.Code.Pending.{pending}
-use Rattle.mm_report.proofs.lines.read_text.Given as goal
+use Rattle.mm_report.proofs.script_lines.read_text.Given as goal
 
 abbrev pub invariant-loop-byte : goal.invariant-loop-byte
 invariant-loop-byte g l = record {
