@@ -92,7 +92,7 @@ fn answer_next<R: Read, W: Write>(
     let Some(next) = next_command(alloc, input, reading)? else {
         return Ok(false);
     };
-    answer(alloc, session, input.pending(), &next.command, writing)?;
+    answer(alloc, session, input.pending(), &next.found, writing)?;
     if next.fed {
         input.pass(next.end);
     }

@@ -44,7 +44,7 @@ returns-in_err-read-in-Change-clause-read g c = λ stop.
 
 pub returns-in_ok-read-in-Batch-clause-found : goal.returns-in_ok-read-in-Batch-clause-found
 returns-in_ok-read-in-Batch-clause-found g c =
-    batch_next _ _ c.in-Batch.count _ c.in_ok-read-in-Batch.read.edits.items c.in_ok-read-in-Batch.ensures.batch c.in_ok-read-in-Batch.ensures.all (λ command is. is)
+    batch_next _ _ c.in-Batch.count _ c.in_ok-read-in-Batch.read.found.items c.in_ok-read-in-Batch.ensures.batch c.in_ok-read-in-Batch.ensures.all (λ command is. is)
 
 pub returns-in-Report-clause-found : goal.returns-in-Report-clause-found
 returns-in-Report-clause-found g c =
