@@ -96,7 +96,7 @@ fn finding_of<'a>(files: &'a Files, base: &Base, checked: &[Kept], i: usize) -> 
         return at_fault(files, item, fault);
     }
     match checked[i].get() {
-        Some(held) => judged(files, base, i, held.verdict()),
+        Some(check) => judged(files, base, i, check.verdict()),
         None => unproved(item.kind),
     }
 }
@@ -112,7 +112,7 @@ fn kind_of(base: &Base, checked: &[Kept], i: usize) -> FindingKind
         return FindingKind::Fault;
     }
     match checked[i].get() {
-        Some(held) => FindingKind::of_verdict(held.verdict()),
+        Some(check) => FindingKind::of_verdict(check.verdict()),
         None => unproved(base.item(i).kind).kind(),
     }
 }

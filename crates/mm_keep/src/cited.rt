@@ -9,7 +9,7 @@ ghost use Rattle.mm_keep.specs.Language.Citations.{CitesItem};
 ghost use Rattle.mm_keep.specs.Language.Sessions.{IsAssertion};
 ghost use Rattle.mm_keep.specs.Code.Cited.{AreRising, HasChecks, HasLabelAmong, HasPlaceFor, HasPlaces, IsAmongCited, MarksMore, OfChecks, passed_words};
 
-use crate::kept::{Held, Kept};
+use crate::kept::{Kept, KeptCheck};
 use mm_proof::{Base, Files, ProofWords, cites_rise, cites_tell, has_own_labels, words_of_proof};
 
 /// The word after this many others, if there is one. It is passed, and so are those before it.
@@ -24,27 +24,27 @@ fn word_behind<'a>(words: &mut ProofWords<'a>, count: usize) -> Option<&'a [u8]>
 }
 
 /// How many words are before the word that cites at this place, and after the one that cites before it.
-fn between(held: &Held, x: usize) -> usize
-    requires rise { AreRising held.now.cites }
-    requires within { x < length held.now.cites }
-    ensures { passed_words held.now.cites x + result ≡ slice_index held.now.cites x }
+fn between(check: &KeptCheck, x: usize) -> usize
+    requires rise { AreRising check.now.cites }
+    requires within { x < length check.now.cites }
+    ensures { passed_words check.now.cites x + result ≡ slice_index check.now.cites x }
 {
     if x == 0 {
-        held.cite(0)
+        check.cite(0)
     } else {
-        held.cite(x) - held.cite(x - 1) - 1
+        check.cite(x) - check.cite(x - 1) - 1
     }
 }
 
 /// The word that cites at this place. It is passed, and so are those before it.
-fn cited_word<'a>(words: &mut ProofWords<'a>, held: &Held, x: usize) -> Option<&'a [u8]>
-    requires rise { AreRising held.now.cites }
-    requires within { x < length held.now.cites }
-    ensures word { (all : List (List ℕ)) → words.old ≡ drop (passed_words held.now.cites x) all
-        → option_map (λ word. word.now) result ≡ slice_get all (slice_index held.now.cites x) }
-    ensures left { (all : List (List ℕ)) → words.old ≡ drop (passed_words held.now.cites x) all → words.new ≡ drop (passed_words held.now.cites (x + 1)) all }
+fn cited_word<'a>(words: &mut ProofWords<'a>, check: &KeptCheck, x: usize) -> Option<&'a [u8]>
+    requires rise { AreRising check.now.cites }
+    requires within { x < length check.now.cites }
+    ensures word { (all : List (List ℕ)) → words.old ≡ drop (passed_words check.now.cites x) all
+        → option_map (λ word. word.now) result ≡ slice_get all (slice_index check.now.cites x) }
+    ensures left { (all : List (List ℕ)) → words.old ≡ drop (passed_words check.now.cites x) all → words.new ≡ drop (passed_words check.now.cites (x + 1)) all }
 {
-    word_behind(words, between(held, x))
+    word_behind(words, between(check, x))
 }
 
 /// Marks the item that has this label.
@@ -58,28 +58,28 @@ fn mark(base: &Base, label: &[u8], marks: &mut [bool])
 }
 
 /// Marks the items whose labels are words that cite.
-fn mark_words(base: &Base, words: ProofWords, held: &Held, marks: &mut [bool])
-    requires rise { AreRising held.now.cites }
-    requires places { HasPlaces base.now words held.now.cites (length marks.old) }
+fn mark_words(base: &Base, words: ProofWords, check: &KeptCheck, marks: &mut [bool])
+    requires rise { AreRising check.now.cites }
+    requires places { HasPlaces base.now words check.now.cites (length marks.old) }
     ensures { (view : BaseView) → IsBase view base.now
-        → MarksMore (HasLabelAmong view words.entry held.now.cites (length held.now.cites)) marks.old marks.new }
+        → MarksMore (HasLabelAmong view words.entry check.now.cites (length check.now.cites)) marks.old marks.new }
 {
     let mut words = words;
-    for x in 0..held.count() {
-        if let Some(word) = cited_word(&mut words, held, x) {
+    for x in 0..check.count() {
+        if let Some(word) = cited_word(&mut words, check, x) {
             mark(base, word, &mut *marks);
         }
     }
 }
 
 /// Whether one of the words that cite is this label.
-fn has_label(words: ProofWords, held: &Held, label: &[u8]) -> bool
-    requires { AreRising held.now.cites }
-    ensures { IsTrue result ↔ IsAmongCited words.entry held.now.cites (length held.now.cites) label.now }
+fn has_label(words: ProofWords, check: &KeptCheck, label: &[u8]) -> bool
+    requires { AreRising check.now.cites }
+    ensures { IsTrue result ↔ IsAmongCited words.entry check.now.cites (length check.now.cites) label.now }
 {
     let mut words = words;
-    for x in 0..held.count() {
-        if let Some(word) = cited_word(&mut words, held, x) {
+    for x in 0..check.count() {
+        if let Some(word) = cited_word(&mut words, check, x) {
             if word == label {
                 return true;
             }
@@ -97,9 +97,9 @@ pub fn mark_cites(files: &Files, base: &Base, checked: &[Kept], j: usize, marks:
     cites_rise();
     cites_tell();
     has_own_labels();
-    if let Some(held) = checked[j].get() {
+    if let Some(check) = checked[j].get() {
         let words = words_of_proof(files, base.item(j));
-        mark_words(base, words, held, marks);
+        mark_words(base, words, check, marks);
     }
 }
 
@@ -112,9 +112,9 @@ pub fn cites_label(files: &Files, base: &Base, checked: &[Kept], j: usize, label
     cites_tell();
     has_own_labels();
     match checked[j].get() {
-        Some(held) => {
+        Some(check) => {
             let words = words_of_proof(files, base.item(j));
-            has_label(words, held, label)
+            has_label(words, check, label)
         }
         None => false,
     }

@@ -10,7 +10,7 @@ use std::marker::Model;
 
 /// Numbers of words, in half the room where each fits there, as nearly always.
 #[derive(Drop)]
-enum Numbers {
+enum WordNumbers {
     Short(Vec<u32>),
     Long(Vec<usize>),
 }
@@ -29,14 +29,14 @@ fn short_numbers(alloc: Global, numbers: &[usize]) -> Result<Option<Vec<u32>>, A
     Ok(Some(short))
 }
 
-impl Numbers {
+impl WordNumbers {
     /// These numbers.
-    fn of(alloc: Global, numbers: &[usize]) -> Result<Numbers, AllocError>
+    fn of(alloc: Global, numbers: &[usize]) -> Result<WordNumbers, AllocError>
         ensures { IfOk result (λ kept. numbers_in kept ≡ numbers.now) }
     {
         match short_numbers(alloc, numbers)? {
-            Some(short) => Ok(Numbers::Short(short)),
-            None => Ok(Numbers::Long(Vec::from_slice(alloc, numbers)?)),
+            Some(short) => Ok(WordNumbers::Short(short)),
+            None => Ok(WordNumbers::Long(Vec::from_slice(alloc, numbers)?)),
         }
     }
 
@@ -45,8 +45,8 @@ impl Numbers {
         ensures { result ≡ length (numbers_in self.now) }
     {
         match self {
-            Numbers::Short(short) => short.len(),
-            Numbers::Long(long) => long.len(),
+            WordNumbers::Short(short) => short.len(),
+            WordNumbers::Long(long) => long.len(),
         }
     }
 
@@ -56,37 +56,37 @@ impl Numbers {
         ensures { result ≡ slice_index (numbers_in self.now) x }
     {
         match self {
-            Numbers::Short(short) => short[x] as usize,
-            Numbers::Long(long) => long[x],
+            WordNumbers::Short(short) => short[x] as usize,
+            WordNumbers::Long(long) => long[x],
         }
     }
 }
 
 /// What a check of a proof said: its verdict, and the numbers of the words that cite, rising.
 #[derive(Drop)]
-pub struct Held {
+pub struct KeptCheck {
     verdict: Verdict,
-    cites: Numbers,
+    cites: WordNumbers,
 }
 
-impl Model for Held {
+impl Model for KeptCheck {
     ghost use Rattle.mm_proof.specs.Language.Work.{Judgement};
 
     ghost Value = { Judgement };
 
-    ghost use Rattle.mm_keep.specs.Code.KeptCheck.{judgement_held};
+    ghost use Rattle.mm_keep.specs.Code.KeptCheck.{judgement_kept};
 
-    ghost view = { judgement_held };
+    ghost view = { judgement_kept };
 }
 
-impl Held {
+impl KeptCheck {
     /// What this check said.
-    fn of(alloc: Global, checked: &Checked) -> Result<Held, AllocError>
-        ensures { IfOk result (λ held. held ≡ checked.now) }
+    fn of(alloc: Global, checked: &Checked) -> Result<KeptCheck, AllocError>
+        ensures { IfOk result (λ check. check ≡ checked.now) }
     {
-        Ok(Held {
+        Ok(KeptCheck {
             verdict: checked.verdict(),
-            cites: Numbers::of(alloc, checked.cites())?,
+            cites: WordNumbers::of(alloc, checked.cites())?,
         })
     }
 
@@ -117,7 +117,7 @@ impl Held {
 /// of an address, and that of what was said behind it.
 #[derive(Drop)]
 pub struct Kept {
-    held: Option<Box<Held>>,
+    check: Option<Box<KeptCheck>>,
 }
 
 impl Model for Kept {
@@ -136,25 +136,25 @@ impl Kept {
     pub fn nothing() -> Kept
         ensures { result ≡ None }
     {
-        Kept { held: None }
+        Kept { check: None }
     }
 
     /// What this check said.
     pub fn of(alloc: Global, checked: &Checked) -> Result<Kept, AllocError>
         ensures { IfOk result (λ kept. kept ≡ Some checked.now) }
     {
-        let held = Held::of(alloc, checked)?;
+        let check = KeptCheck::of(alloc, checked)?;
         Ok(Kept {
-            held: Some(Box::new(alloc, held)?),
+            check: Some(Box::new(alloc, check)?),
         })
     }
 
     /// What the check said, if there was one.
-    pub fn get(&self) -> Option<&Held>
-        ensures { option_map (λ held. held.now) result ≡ self.now }
+    pub fn get(&self) -> Option<&KeptCheck>
+        ensures { option_map (λ check. check.now) result ≡ self.now }
     {
-        match &self.held {
-            Some(held) => Some(&**held),
+        match &self.check {
+            Some(check) => Some(&**check),
             None => None,
         }
     }

@@ -4,7 +4,7 @@ use Rattle.std.specs.List.{flat_map}
 use Rattle.std.specs.Io.KnownBytes.{IsAtEnd}
 use Rattle.std.proofs.lemmas.List.{append-nil, length-drop, length-take, take-append-drop, take-append-le, drop_all}
 use Rattle.mm_report.specs.declared.input.Input.{Input}
-use Rattle.mm_report.specs.declared.lines.LineAt.{LineAt}
+use Rattle.mm_report.specs.declared.script_lines.LineAt.{LineAt}
 use Rattle.mm_report.specs.Code.Batches.{IsBatchFront}
 use Rattle.mm_report.specs.Code.Growing.{InputGrows, HasBlanks, IsLineAt, IsTextBad, IsTextLine, IsTextShort, line_bytes}
 use Rattle.mm_report.specs.Code.Pending.{pending}

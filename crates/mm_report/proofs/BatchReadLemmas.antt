@@ -6,11 +6,11 @@ use Rattle.std.proofs.lemmas.List.Concat.{flat_map-append}
 use Rattle.std.proofs.lemmas.List.Elements.{Contains-append_left, Contains-append_right, Contains-push, Contains-push_cases}
 use Rattle.mm_keep.specs.mm_store.Language.Edits.{Asked, edited_text}
 use Rattle.mm_keep.specs.mm_store.Language.Edits as ask
-use Rattle.mm_report.specs.declared.edits.EditRead.{EditRead}
+use Rattle.mm_report.specs.declared.entry.Complete.{Complete}
 use Rattle.mm_report.specs.declared.entry.EditAt.{EditAt}
 use Rattle.mm_report.specs.declared.entry.EditAt.TheVariants.{Insert, Replace, Delete, Move}
 use Rattle.mm_report.specs.declared.input.Input.{Input}
-use Rattle.mm_report.specs.declared.lines.LineAt.{LineAt}
+use Rattle.mm_report.specs.declared.script_lines.LineAt.{LineAt}
 use Rattle.mm_report.specs.Code.Batches.{IsBatchRead, IsBatchFront, IsListedRead}
 use Rattle.mm_report.specs.Code.Growing.{InputGrows, IsLineAt, line_bytes}
 use Rattle.mm_report.specs.Code.Pending.{pending, bytes_of_part, edit_in, AreEditsIn, IsEditWithin}
@@ -84,11 +84,11 @@ batch_front bytes left n end found fed b yes_fed fewer =
     }
 
 -- one edit more is read
-pub batch_one_more : (a b : Input) (u v : Option (List ℕ)) (n end : ℕ) (found : List EditAt) (fed : Bool) (read : EditRead) → IsBatchRead (pending a) u n found end fed → fed ≡ true → length found < n
-    → InputGrows a b u v → IsListedRead (pending b) v end read → (read.fed ≡ false → length found + 1 ≡ n) → IsBatchRead (pending b) v n (found ++ read.edit ∷ []) read.end read.fed
+pub batch_one_more : (a b : Input) (u v : Option (List ℕ)) (n end : ℕ) (found : List EditAt) (fed : Bool) (read : Complete EditAt) → IsBatchRead (pending a) u n found end fed → fed ≡ true → length found < n
+    → InputGrows a b u v → IsListedRead (pending b) v end read → (read.fed ≡ false → length found + 1 ≡ n) → IsBatchRead (pending b) v n (found ++ read.found ∷ []) read.end read.fed
 batch_one_more a b u v n end found fed read s yes_fed fewer grows r last =
     let bytes = pending b in
-    let edit = edit_in bytes read.edit in
+    let edit = edit_in bytes read.found in
     let blanks = r.start - end in
     let one : Listed = record { blanks = blanks; edit = edit } in
     let front = s.front ++ one ∷ [] in
@@ -101,7 +101,7 @@ batch_one_more a b u v n end found fed read s yes_fed fewer grows r last =
       number = s.number;
       front = front;
       good = good_more s.front one s.good r.edit.good;
-      edits = edits_more a b u v found s.front read.edit blanks grows s.edits r.edit.parts;
+      edits = edits_more a b u v found s.front read.found blanks grows s.edits r.edit.parts;
       within = r.edit.within;
       fed_so = λ e.
           let rest = drop read.end bytes in

@@ -4,9 +4,10 @@ use Rattle.std.specs.List.{flat_map}
 use Rattle.std.specs.Io.KnownBytes.{IsAtEnd}
 use Rattle.std.proofs.lemmas.List.Folds.{drop_split}
 use Rattle.mm_report.specs.declared.entry.EditAt.{EditAt}
-use Rattle.mm_report.specs.declared.entry.Next.{Next}
+use Rattle.mm_report.specs.declared.entry.CommandAt.{CommandAt}
+use Rattle.mm_report.specs.declared.entry.Complete.{Complete}
 use Rattle.mm_report.specs.declared.entry.Part.{Part}
-use Rattle.mm_report.specs.declared.lines.LineAt.{LineAt}
+use Rattle.mm_report.specs.declared.script_lines.LineAt.{LineAt}
 use Rattle.mm_report.specs.Code.Batches.{IsBatchRead}
 use Rattle.mm_report.specs.Code.Growing.{IsLineAt, IsTextBad, IsTextLine, IsTextShort, line_bytes}
 use Rattle.mm_report.specs.Code.Lines.{SaysLabel}
@@ -57,8 +58,8 @@ pub held_edit : (bytes : List ℕ) (start : ℕ) → start ≡ 0 → IsTextShort
 held_edit bytes start none t = subst HasNoEntry (sym (all_bytes bytes start none ∙ t.are)) (text_none t.edit t.count t.part t.has t.short)
 
 -- a command that is no more than its line
-pub line_next : (bytes : List ℕ) (left : Option (List ℕ)) (line : LineAt) (command : Command) (next : Next) → IsLineAt bytes left line → line.start ≡ 0
-    → line_bytes bytes line ≡ line_of command → behind_line command ≡ [] → IsGood command → IsCommandIn bytes next.command command → EndsInLine command
+pub line_next : (bytes : List ℕ) (left : Option (List ℕ)) (line : LineAt) (command : Command) (next : Complete CommandAt) → IsLineAt bytes left line → line.start ≡ 0
+    → line_bytes bytes line ≡ line_of command → behind_line command ≡ [] → IsGood command → IsCommandIn bytes next.found command → EndsInLine command
     → next.fed ≡ line.fed → (line.fed ≡ true → next.end ≡ line.end + 1) → IsNextCommand bytes left next
 line_next bytes left line command next is start says none good is_command in_line fed end = record {
   command = command;
@@ -93,10 +94,10 @@ line_next bytes left line command next is start says none good is_command in_lin
     )
 
 -- one with a label
-pub label_next : (bytes : List ℕ) (left : Option (List ℕ)) (line : LineAt) (label : Part) (word : List ℕ) (make : List ℕ → Command) (next : Next) → IsLineAt bytes left line → line.start ≡ 0
+pub label_next : (bytes : List ℕ) (left : Option (List ℕ)) (line : LineAt) (label : Part) (word : List ℕ) (make : List ℕ → Command) (next : Complete CommandAt) → IsLineAt bytes left line → line.start ≡ 0
     → SaysLabel (line_bytes bytes line) word label → ((name : List ℕ) → line_of (make name) ≡ word ++ 32 ∷ name) → ((name : List ℕ) → behind_line (make name) ≡ [])
     → ((name : List ℕ) → IsName name → IsGood (make name)) → ((name : List ℕ) → EndsInLine (make name))
-    → (IsPartWithin bytes label → IsCommandIn bytes next.command (make (bytes_of_part bytes label)))
+    → (IsPartWithin bytes label → IsCommandIn bytes next.found (make (bytes_of_part bytes label)))
     → next.fed ≡ line.fed → (line.fed ≡ true → next.end ≡ line.end + 1) → IsNextCommand bytes left next
 label_next bytes left line label word make next is start says line_is none good in_line is_command fed end =
     let at : IsShifted label label line.start = record { start = omega arith; end = omega arith } in
@@ -107,8 +108,8 @@ label_next bytes left line label word make next is start says line_is none good 
     (is_command (shifted_within bytes left line label label is says.good.within at)) (in_line (bytes_of_part bytes label)) fed end
 
 -- a batch
-pub batch_next : (bytes : List ℕ) (left : Option (List ℕ)) (n : ℕ) (next : Next) (found : List EditAt) → IsBatchRead bytes left n found next.end next.fed → length found ≡ n
-    → ((command : Command) → ((listed : List Listed) × AreEditsIn bytes found listed × (command ≡ Batch listed)) → IsCommandIn bytes next.command command) → IsNextCommand bytes left next
+pub batch_next : (bytes : List ℕ) (left : Option (List ℕ)) (n : ℕ) (next : Complete CommandAt) (found : List EditAt) → IsBatchRead bytes left n found next.end next.fed → length found ≡ n
+    → ((command : Command) → ((listed : List Listed) × AreEditsIn bytes found listed × (command ≡ Batch listed)) → IsCommandIn bytes next.found command) → IsNextCommand bytes left next
 batch_next bytes left n next found b count is_command =
     let long : n ≡ length b.front = sym count ∙ sym (edits_counted bytes found b.front b.edits) in
     record {

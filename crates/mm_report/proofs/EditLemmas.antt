@@ -9,7 +9,7 @@ use Rattle.mm_report.specs.declared.entry.EditAt.{EditAt}
 use Rattle.mm_report.specs.declared.entry.Part.{Part}
 use Rattle.mm_report.specs.declared.input.Input.{Input}
 use Rattle.mm_report.specs.declared.line.EditLine.TheVariants as lines
-use Rattle.mm_report.specs.declared.lines.LineAt.{LineAt}
+use Rattle.mm_report.specs.declared.script_lines.LineAt.{LineAt}
 use Rattle.mm_report.specs.Code.Growing.{InputGrows, IsEditRead, IsLineAt, IsOtherByte, IsTextBad, IsTextLine, IsTextShort, line_bytes}
 use Rattle.mm_report.specs.Code.Lines.{SaysEdit}
 use Rattle.mm_report.specs.Code.Pending.{pending, bytes_of_part, edit_in, IsEditWithin, IsPartWithin}
@@ -147,7 +147,7 @@ pub text_read : (a b : Input) (u v : Option (List ℕ)) (line : LineAt) (count :
     → AsksText (line_bytes (pending a) line) count edit → IsLineAt (pending a) u line → InputGrows a b u v → line.fed ≡ true
     → IsPartWithin (pending b) text → text.start ≡ line.end + 1 → text.end ≡ (line.end + 1) + count → drop text.end (pending b) ≡ 10 ∷ drop (text.end + 1) (pending b)
     → edit_in (pending b) at ≡ edit (bytes_of_part (pending b) text) → IsEditWithin (pending b) at
-    → IsEditRead (pending b) v line.start record { edit = at; end = text.end + 1; fed = true }
+    → IsEditRead (pending b) v line.start record { found = at; end = text.end + 1; fed = true }
 text_read a b u v line count edit text at asks is grows fed within start end feed same parts =
     let bytes = pending b in
     let body = bytes_of_part bytes text in
@@ -176,7 +176,7 @@ text_read a b u v line count edit text at asks is grows fed within start end fee
 pub plain_read : (bytes : List ℕ) (left : Option (List ℕ)) (line : LineAt) (at : EditAt) (end : ℕ) → IsLineAt bytes left line
     → line_bytes bytes line ≡ edit_line (edit_in bytes at) → IsGoodEdit (edit_in bytes at) → edited_text (edit_in bytes at) ≡ None → IsEditWithin bytes at
     → (line.fed ≡ true → end ≡ line.end + 1) → (line.fed ≡ false → end ≡ line.end) → end ≤ length bytes → line.end ≤ end
-    → IsEditRead bytes left line.start record { edit = at; end = end; fed = line.fed }
+    → IsEditRead bytes left line.start record { found = at; end = end; fed = line.fed }
 plain_read bytes left line at end is says good none parts fed unfed within low = record {
   good = good;
   parts = parts;

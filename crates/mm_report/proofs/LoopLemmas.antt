@@ -9,9 +9,10 @@ use Rattle.std.proofs.lemmas.Grind.{flat_map-append}
 use Rattle.mm_report.proofs.ScriptLemmas.{good_more}
 use Rattle.mm_keep.specs.Language.Sessions.{SessionView}
 use Rattle.mm_report.specs.declared.input.Input.{Input}
-use Rattle.mm_report.specs.declared.entry.Next.{Next}
+use Rattle.mm_report.specs.declared.entry.CommandAt.{CommandAt}
+use Rattle.mm_report.specs.declared.entry.Complete.{Complete}
 use Rattle.mm_report.specs.declared.stream.Writing.{Writing}
-use Rattle.mm_report.specs.declared.reading.Reading.{Reading}
+use Rattle.mm_report.specs.declared.read_stream.Reading.{Reading}
 use Rattle.mm_report.specs.Code.Answered.{IsAnswered, BeginsAnswer, FailsSo, AnswersSoFar, HasAnswered, StopsAnswering}
 use Rattle.mm_report.specs.Code.Pending.{pending, ReadsOn, IsNextCommand, IsWholeCommand, IsLast, IsWholeOrLast}
 use Rattle.mm_report.specs.Code.Stops.{HasNoEntry, StopsSo}
@@ -268,7 +269,7 @@ module _ {R W : Type 0} (remaining : R → Option (List ℕ)) (contents : W → 
   next_stops r so bad cut read failed told errors.Memory is = so.first
 
   -- the command that is read is not answered, or not in full
-  pub answer_stops : (next : Next) (is : IsNextCommand (pending now) (unread remaining left) next) (new : SessionView) (b : Writing W)
+  pub answer_stops : (next : Complete CommandAt) (is : IsNextCommand (pending now) (unread remaining left) next) (new : SessionView) (b : Writing W)
       → HasAnswered begun session all (unread remaining left) before (written contents a) (pending now)
       → (e : ScriptError) → FailsSo contents is.command session new a b e → StopsAnswering remaining contents begun new all left before b e
   answer_stops next is new b so errors.Write fails = (
@@ -284,7 +285,7 @@ module _ {R W : Type 0} (remaining : R → Option (List ℕ)) (contents : W → 
   answer_stops next is new b so _ fails = absurd fails
 
   -- it is answered
-  pub goes_on : (next : Next) (is : IsNextCommand (pending now) (unread remaining left) next) (new : SessionView) (b : Writing W) (input : Input)
+  pub goes_on : (next : Complete CommandAt) (is : IsNextCommand (pending now) (unread remaining left) next) (new : SessionView) (b : Writing W) (input : Input)
       → HasAnswered begun session all (unread remaining left) before (written contents a) (pending now)
       → IsAnswered session new is.command (written contents a) (written contents b)
       → (next.fed ≡ true → pending input ≡ drop next.end (pending now))

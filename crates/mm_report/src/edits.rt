@@ -11,32 +11,14 @@ ghost use Rattle.mm_report.specs.Code.Stops.{HasNoEntry, StopsSo, batch_line};
 ghost use Rattle.mm_report.specs.Language.Script.{BadLine, CutShort, IsNumber};
 ghost use Rattle.mm_report.specs.Language.Stream.{cannot_read, unread};
 
-use crate::entry::{EditAt, Part};
+use crate::entry::{Complete, EditAt, Part};
 use crate::input::Input;
 use crate::line::{EditLine, edit_asked};
-use crate::lines::{LineAt, read_some_line, read_text};
-use crate::reading::Reading;
+use crate::read_stream::Reading;
 use crate::script::ScriptError;
+use crate::script_lines::{LineAt, read_some_line, read_text};
 use std::alloc::Global;
 use std::io::Read;
-
-/// An edit that is complete, and where it ends.
-#[derive(Clone, Copy)]
-pub(crate) struct EditRead {
-    pub(crate) edit: EditAt,
-    pub(crate) end: usize,
-    /// Whether the line feed is there that ends it; else the script ends with it.
-    pub(crate) fed: bool,
-}
-
-/// The edits of a batch, and where they end.
-#[derive(Drop)]
-pub(crate) struct BatchRead {
-    pub(crate) edits: Vec<EditAt>,
-    pub(crate) end: usize,
-    /// Whether the line feed is there that ends them; else the script ends with them.
-    pub(crate) fed: bool,
-}
 
 /// The part that begins so much later.
 fn shifted(part: Part, by: usize) -> Part
@@ -56,7 +38,7 @@ pub(crate) fn read_edit<R: Read>(
     reading: &mut Reading<R>,
     asked: EditLine,
     line: LineAt,
-) -> Result<EditRead, ScriptError>
+) -> Result<Complete<EditAt>, ScriptError>
     requires line { IsLineAt (pending input.old) (unread R.remaining reading.old) line }
     requires says { SaysEdit (line_bytes (pending input.old) line) asked }
     ensures grows { InputGrows input.old input.new (unread R.remaining reading.old) (unread R.remaining reading.new) }
@@ -76,8 +58,8 @@ pub(crate) fn read_edit<R: Read>(
                 return Err(ScriptError::Cut);
             }
             let text = read_text(input, reading, line.end + 1, count)?;
-            Ok(EditRead {
-                edit: EditAt::Insert { file, at, text },
+            Ok(Complete {
+                found: EditAt::Insert { file, at, text },
                 end: text.end + 1,
                 fed: true,
             })
@@ -88,22 +70,22 @@ pub(crate) fn read_edit<R: Read>(
                 return Err(ScriptError::Cut);
             }
             let text = read_text(input, reading, line.end + 1, count)?;
-            Ok(EditRead {
-                edit: EditAt::Replace { file, at, text },
+            Ok(Complete {
+                found: EditAt::Replace { file, at, text },
                 end: text.end + 1,
                 fed: true,
             })
         }
-        EditLine::Delete { file, at } => Ok(EditRead {
-            edit: EditAt::Delete {
+        EditLine::Delete { file, at } => Ok(Complete {
+            found: EditAt::Delete {
                 file: shifted(file, line.start),
                 at,
             },
             end: line.behind(),
             fed: line.fed,
         }),
-        EditLine::Move { file, at, to } => Ok(EditRead {
-            edit: EditAt::Move {
+        EditLine::Move { file, at, to } => Ok(Complete {
+            found: EditAt::Move {
                 file: shifted(file, line.start),
                 at,
                 to,
@@ -120,7 +102,7 @@ fn read_listed<R: Read>(
     reading: &mut Reading<R>,
     from: usize,
     missing: usize,
-) -> Result<EditRead, ScriptError>
+) -> Result<Complete<EditAt>, ScriptError>
     requires { from ≤ length (pending input.old) }
     ensures grows { InputGrows input.old input.new (unread R.remaining reading.old) (unread R.remaining reading.new) }
     ensures edit { IfOk result (IsListedRead (pending input.new) (unread R.remaining reading.new) from) }
@@ -155,14 +137,14 @@ pub(crate) fn read_batch<R: Read>(
     reading: &mut Reading<R>,
     line: LineAt,
     count: usize,
-) -> Result<BatchRead, ScriptError>
+) -> Result<Complete<Vec<EditAt>>, ScriptError>
     requires line { IsLineAt (pending input.old) (unread R.remaining reading.old) line }
     requires start { line.start ≡ 0 }
     requires number { IsNumber count }
     requires says { line_bytes (pending input.old) line ≡ batch_line count }
     ensures grows { InputGrows input.old input.new (unread R.remaining reading.old) (unread R.remaining reading.new) }
-    ensures batch { IfOk result (λ read. IsBatchRead (pending input.new) (unread R.remaining reading.new) count read.edits.items read.end read.fed) }
-    ensures all { IfOk result (λ read. length read.edits.items ≡ count) }
+    ensures batch { IfOk result (λ read. IsBatchRead (pending input.new) (unread R.remaining reading.new) count read.found.items read.end read.fed) }
+    ensures all { IfOk result (λ read. length read.found.items ≡ count) }
     ensures fewer { OnOk result (to_come input.new reading.new ≤ to_come input.old reading.old) }
     ensures bad { IsErrOf result errors.BadLine → IfSome (unread R.remaining reading.new) (λ more. StopsSo (pending input.new ++ more) BadLine) }
     ensures cut { IsErrOf result errors.Cut → IfSome (unread R.remaining reading.new) (λ more. StopsSo (pending input.new ++ more) CutShort) }
@@ -178,9 +160,13 @@ pub(crate) fn read_batch<R: Read>(
     let mut fed = line.fed;
     while edits.len() < count {
         let read = read_listed(input, reading, end, count - edits.len())?;
-        edits.push(read.edit)?;
+        edits.push(read.found)?;
         end = read.end;
         fed = read.fed;
     }
-    Ok(BatchRead { edits, end, fed })
+    Ok(Complete {
+        found: edits,
+        end,
+        fed,
+    })
 }

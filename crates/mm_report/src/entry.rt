@@ -13,9 +13,9 @@ ghost use Rattle.mm_report.specs.Language.Stream.{cannot_read, unread};
 use crate::edits::{read_batch, read_edit};
 use crate::input::Input;
 use crate::line::{CommandLine, command_asked};
-use crate::lines::{LineAt, read_line};
-use crate::reading::Reading;
+use crate::read_stream::Reading;
 use crate::script::ScriptError;
+use crate::script_lines::{LineAt, read_line};
 use mm_keep::Edit;
 use std::alloc::Global;
 use std::io::Read;
@@ -48,11 +48,11 @@ pub(crate) enum CommandAt {
     Users(Part),
 }
 
-/// A command that is complete, and where it ends.
+/// What is complete in the bytes of a script, such as a command, and where it ends.
 #[derive(Drop)]
-pub(crate) struct Next {
-    pub(crate) command: CommandAt,
-    /// How many bytes are its.
+pub(crate) struct Complete<T: Drop> {
+    pub(crate) found: T,
+    /// The byte behind it.
     pub(crate) end: usize,
     /// Whether the line feed is there that ends it; else the script ends with it.
     pub(crate) fed: bool,
@@ -116,14 +116,14 @@ fn first_line<R: Read>(input: &mut Input, reading: &mut Reading<R>) -> Result<Li
 }
 
 /// A command that is no more than its line.
-fn of_line(command: CommandAt, line: LineAt) -> Next
+fn of_line(command: CommandAt, line: LineAt) -> Complete<CommandAt>
     requires { line.end + 1 < 2 ^ 64 }
-    ensures command { result.command ≡ command }
+    ensures command { result.found ≡ command }
     ensures fed { result.fed ≡ line.fed }
     ensures end { line.fed ≡ true → result.end ≡ line.end + 1 }
 {
-    Next {
-        command,
+    Complete {
+        found: command,
         end: line.behind(),
         fed: line.fed,
     }
@@ -135,7 +135,7 @@ fn read_command<R: Read>(
     input: &mut Input,
     reading: &mut Reading<R>,
     line: LineAt,
-) -> Result<Next, ScriptError>
+) -> Result<Complete<CommandAt>, ScriptError>
     requires line { IsLineAt (pending input.old) (unread R.remaining reading.old) line }
     requires start { line.start ≡ 0 }
     requires some { 0 < line.end }
@@ -154,16 +154,16 @@ fn read_command<R: Read>(
     match asked {
         CommandLine::Change(edit) => {
             let read = read_edit(input, reading, edit, line)?;
-            Ok(Next {
-                command: CommandAt::Change(read.edit),
+            Ok(Complete {
+                found: CommandAt::Change(read.found),
                 end: read.end,
                 fed: read.fed,
             })
         }
         CommandLine::Batch(count) => {
             let read = read_batch(alloc, input, reading, line, count)?;
-            Ok(Next {
-                command: CommandAt::Batch(read.edits),
+            Ok(Complete {
+                found: CommandAt::Batch(read.found),
                 end: read.end,
                 fed: read.fed,
             })
@@ -183,7 +183,7 @@ pub(crate) fn next_command<R: Read>(
     alloc: Global,
     input: &mut Input,
     reading: &mut Reading<R>,
-) -> Result<Option<Next>, ScriptError>
+) -> Result<Option<Complete<CommandAt>>, ScriptError>
     ensures reads { ReadsOn input.old input.new (unread R.remaining reading.old) (unread R.remaining reading.new) }
     ensures found { IfOk result (λ next. IfSome next (IsNextCommand (pending input.new) (unread R.remaining reading.new))) }
     ensures none { IfOk result (λ next. next ≡ None → (pending input.new ≡ []) × IsAtEnd (unread R.remaining reading.new)) }

@@ -2,7 +2,7 @@
 
 ghost use Rattle.std.specs.Prelude.{◌≤◌, vec_len};
 
-use crate::reading::Reading;
+use crate::read_stream::Reading;
 use crate::script::ScriptError;
 use std::alloc::Global;
 use std::io::Read;

@@ -7,11 +7,11 @@ mod entry;
 mod input;
 mod laws;
 mod line;
-mod lines;
-mod reading;
+mod read_stream;
 mod report;
 mod script;
 mod script_laws;
+mod script_lines;
 mod stream;
 
 pub use answer::{fault_name, write_axioms};
@@ -23,7 +23,7 @@ pub use mm_keep::{
     TextError, TextFault, TextNumber, Unbegun, Undo, Undos, Verdict, Walk, Word, WordKind, Work,
     edits_keep_units, fits, has_expansion, nth_word, place, walks_go_on,
 };
-pub use reading::{ReadFailed, Reading};
+pub use read_stream::{ReadFailed, Reading};
 pub use report::{ReportError, write_report};
 pub use script::{ScriptError, run_script};
 pub use script_laws::{

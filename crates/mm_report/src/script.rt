@@ -13,7 +13,7 @@ ghost use Rattle.mm_report.specs.Language.Stream.{cannot_read, has_failed, unrea
 use crate::answer::answer;
 use crate::entry::next_command;
 use crate::input::Input;
-use crate::reading::Reading;
+use crate::read_stream::Reading;
 use crate::report::ReportError;
 use crate::stream::{WriteFailed, Writing};
 use mm_keep::Session;
@@ -92,7 +92,7 @@ fn answer_next<R: Read, W: Write>(
     let Some(next) = next_command(alloc, input, reading)? else {
         return Ok(false);
     };
-    answer(alloc, session, input.pending(), &next.command, writing)?;
+    answer(alloc, session, input.pending(), &next.found, writing)?;
     if next.fed {
         input.pass(next.end);
     }

@@ -31,7 +31,7 @@ use crate::expanding::{included_name, push_rest};
 use crate::file_text::{FileText, starts};
 use crate::item::Item;
 use crate::kept_part::KeptPart;
-use crate::lines::Lines;
+use crate::line_feeds::Lines;
 use crate::pieces::PieceStore;
 use crate::walk::Walk;
 use indexmap::IndexMap;

@@ -19,7 +19,7 @@ mod files;
 mod item;
 mod kept_part;
 mod laws;
-mod lines;
+mod line_feeds;
 mod piece_text;
 mod pieces;
 mod room;

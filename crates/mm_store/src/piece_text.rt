@@ -5,7 +5,7 @@ ghost use Rattle.mm_text.specs.Language.Part.{HasOwnParts};
 ghost use Rattle.mm_store.specs.Code.Inside.{CanBeKept, IsPieceKept};
 
 use crate::kept_part::{KeptPart, kept_parts};
-use crate::lines::{Lines, lines_before, marks};
+use crate::line_feeds::{Lines, lines_before, marks};
 use mm_text::DividedPiece;
 use std::alloc::{AllocError, Global};
 

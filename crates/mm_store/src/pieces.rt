@@ -12,7 +12,7 @@ ghost use Rattle.mm_store.specs.Code.Slots.{ArePutIn};
 ghost use Rattle.mm_store.specs.Code.States.{piece_state};
 
 use crate::kept_part::KeptPart;
-use crate::lines::{Lines, lines_before};
+use crate::line_feeds::{Lines, lines_before};
 use crate::piece_text::PieceText;
 use crate::start::Start;
 use crate::state::State;

@@ -4,7 +4,7 @@ ghost use Rattle.std.specs.Prelude.{ℕ, ◌++◌, List, []};
 ghost use Rattle.mm_store.specs.Code.Lines.{IsStart, StaysSmall};
 ghost use Rattle.mm_store.specs.Code.Inside.{IsPieceKept};
 
-use crate::lines::Lines;
+use crate::line_feeds::Lines;
 use crate::piece_text::PieceText;
 
 /// How many bytes of a file are before a piece, and the lines of these bytes.

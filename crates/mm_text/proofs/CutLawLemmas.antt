@@ -24,7 +24,7 @@ use Rattle.mm_text.proofs.PositionLemmas.{Lying, words_lie}
 use Rattle.mm_text.proofs.UnitReadingLemmas.{run-append, run-IsViable, IsWhole-run, run-IsWhole}
 use Rattle.mm_text.proofs.UnitFaultLemmas.{cut_twice, viable_front, not_viable_all, block_viable, one_stop, one_unit_fault, whole_has_no_fault}
 use Rattle.mm_text.proofs.UnitDivisionLemmas.{one_division}
-use Rattle.mm_text.proofs.PieceLemmas.{Seam, runs-append, shift_run, shift_word, runs-shift, words-shift, line_end, ended_is, runs-ended, ended_white}
+use Rattle.mm_text.proofs.PieceLemmas.{runs-append, shift_run, shift_word, runs-shift, words-shift, line_end, ended_is, runs-ended, ended_white}
 use Rattle.mm_text.proofs.PieceUnitLemmas.{one_words, allowed_all, all_allowed, bare, tokens-shift, tokens-front, run_bare, WholeRun}
 
 -- ---- two texts, one after another

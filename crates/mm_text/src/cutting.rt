@@ -12,8 +12,8 @@ use crate::fault::{TextError, TextFault, TextNumber};
 use crate::grammar::Grammar;
 use crate::pieces::{Cut, DividedCut, DividedPiece};
 use crate::reader::Reader;
-use crate::reading::first_bad_byte;
 use crate::spelling::{is_white_space, white_len};
+use crate::whole_text::first_bad_byte;
 use std::alloc::{AllocError, Global};
 
 /// Whether a text ends in white space, so that `cut` adds no line feed; the empty text counts as one that does. It takes no memory.

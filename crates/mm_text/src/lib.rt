@@ -19,14 +19,14 @@ mod examples;
 mod fault;
 mod grammar;
 mod laws;
-mod lines;
 mod location;
 mod part;
 mod pieces;
+mod placing;
 mod reader;
-mod reading;
 mod skipping;
 mod spelling;
+mod whole_text;
 mod word;
 
 pub use cursor::WordCursor;
@@ -37,12 +37,12 @@ pub use laws::{
     first_faults_are_within, one_cut, one_division, one_layout, one_meaning, one_unit_fault,
     one_unit_of_cut, parts_are_texts, words_stand_alone,
 };
-pub use lines::place;
 pub use location::Place;
 pub use part::{Part, PartKind};
 pub use pieces::{Cut, DividedCut, DividedPiece};
-pub use reading::{nth_word, words};
+pub use placing::place;
 pub use spelling::could_label;
+pub use whole_text::{nth_word, words};
 pub use word::{Keyword, Word, WordKind};
 
 #[cfg(test)]

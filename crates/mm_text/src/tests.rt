@@ -9,7 +9,7 @@ use crate::cursor::WordCursor;
 use crate::cutting::{cut, divided_cut};
 use crate::fault::{TextError, TextFault, TextNumber};
 use crate::part::{Part, PartKind};
-use crate::reading::{nth_word, words};
+use crate::whole_text::{nth_word, words};
 use crate::word::{Keyword, Word, WordKind};
 use std::test::Fail;
 

@@ -10,7 +10,7 @@ use Rattle.mm_keep.specs.mm_frame.Language.Item.{Item}
 use Rattle.mm_keep.specs.Language.Sessions.{SessionView, HasAssertion, AreAxiomsOf, AreCitesOf, AreUsersOf}
 use Rattle.mm_report.specs.declared.script.ScriptError.{ScriptError}
 use Rattle.mm_report.specs.declared.script.ScriptError.TheVariants as errors
-use Rattle.mm_report.specs.declared.reading.Reading.{Reading}
+use Rattle.mm_report.specs.declared.read_stream.Reading.{Reading}
 use Rattle.mm_report.specs.declared.stream.Writing.{Writing}
 use Rattle.mm_report.specs.Language.Answers.{IsAnswer}
 use Rattle.mm_report.specs.Language.Script.{Command, Axioms, Cites, Users, Done, CutShort, BadLine}

@@ -2,7 +2,7 @@
 use Rattle.std.specs.Prelude.{◌≡◌, ◌≤◌, ◌+◌, ℕ, Bool, true, false, Option, List, [], ◌∷◌, ◌++◌, length, take, drop, IfSome}
 use Rattle.std.specs.List.{flat_map}
 use Rattle.std.specs.Io.KnownBytes.{IsAtEnd}
-use Rattle.mm_report.specs.declared.edits.EditRead.{EditRead}
+use Rattle.mm_report.specs.declared.entry.Complete.{Complete}
 use Rattle.mm_report.specs.declared.entry.EditAt.{EditAt}
 use Rattle.mm_report.specs.Code.Growing.{HasBlanks, IsEditRead}
 use Rattle.mm_report.specs.Code.Pending.{AreEditsIn}
@@ -25,7 +25,7 @@ abbrev pub HoldsBatch : ℕ → ℕ → List ℕ → List ℕ → Type 0
 HoldsBatch from missing old new = (n : ℕ) (front : List Listed) → IsBatchFront old n front from → n ≡ length front + missing → HasNoEntry new
 
 -- there is an edit here after empty lines
-pub record IsListedRead (bytes : List ℕ) (left : Option (List ℕ)) (from : ℕ) (read : EditRead) : Type 0 where
+pub record IsListedRead (bytes : List ℕ) (left : Option (List ℕ)) (from : ℕ) (read : Complete EditAt) : Type 0 where
   pub start : ℕ
   pub blanks : HasBlanks bytes from start
   pub edit : IsEditRead bytes left start read

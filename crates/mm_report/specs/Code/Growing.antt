@@ -3,10 +3,11 @@ use Rattle.std.specs.Prelude.{◌≡◌, ◌≢◌, ◌≤◌, ◌+◌, ◌*◌,
 use Rattle.std.specs.Prelude.{None, List, ◌∷◌, ◌++◌, ◌-◌, length, drop, replicate, slice_range}
 use Rattle.std.specs.Io.KnownBytes.{Consumes, IsAtEnd}
 use Rattle.mm_keep.specs.mm_store.Language.Edits.{Asked, edited_text}
-use Rattle.mm_report.specs.declared.edits.EditRead.{EditRead}
+use Rattle.mm_report.specs.declared.entry.Complete.{Complete}
+use Rattle.mm_report.specs.declared.entry.EditAt.{EditAt}
 use Rattle.mm_report.specs.declared.input.Input.{Input}
-use Rattle.mm_report.specs.declared.lines.LineAt.{LineAt}
-use Rattle.mm_report.specs.declared.reading.Reading.{Reading}
+use Rattle.mm_report.specs.declared.script_lines.LineAt.{LineAt}
+use Rattle.mm_report.specs.declared.read_stream.Reading.{Reading}
 use Rattle.mm_report.specs.Code.Pending.{pending, edit_in, IsEditWithin}
 use Rattle.mm_report.specs.Code.Stops.{IsOneLine, HasTextOf}
 use Rattle.mm_report.specs.Language.Script.{IsGoodEdit, edit_bytes, edit_line}
@@ -56,13 +57,13 @@ pub record IsLineBegun (bytes : List ℕ) (from : ℕ) : Type 0 where
   pub one_line : IsOneLine (drop start bytes)
 
 -- there is an edit here up to its end, or up to the end of all, if it has no text and no line feed
-pub record IsEditRead (bytes : List ℕ) (left : Option (List ℕ)) (start : ℕ) (read : EditRead) : Type 0 where
-  pub good : IsGoodEdit (edit_in bytes read.edit)
-  pub parts : IsEditWithin bytes read.edit
+pub record IsEditRead (bytes : List ℕ) (left : Option (List ℕ)) (start : ℕ) (read : Complete EditAt) : Type 0 where
+  pub good : IsGoodEdit (edit_in bytes read.found)
+  pub parts : IsEditWithin bytes read.found
   pub ordered : start ≤ read.end
   pub within : read.end ≤ length bytes
-  pub fed : read.fed ≡ true → drop start bytes ≡ edit_bytes (edit_in bytes read.edit) ++ drop read.end bytes
-  pub unfed : read.fed ≡ false → (drop start bytes ≡ edit_line (edit_in bytes read.edit)) × (edited_text (edit_in bytes read.edit) ≡ None)
+  pub fed : read.fed ≡ true → drop start bytes ≡ edit_bytes (edit_in bytes read.found) ++ drop read.end bytes
+  pub unfed : read.fed ≡ false → (drop start bytes ≡ edit_line (edit_in bytes read.found)) × (edited_text (edit_in bytes read.found) ≡ None)
       × IsAtEnd left × (read.end ≡ length bytes)
 
 -- the line of an edit, and not all of its text or not the line feed after it

@@ -7,7 +7,7 @@ use Rattle.mm_report.specs.declared.entry.EditAt.{EditAt}
 use Rattle.mm_report.specs.declared.entry.EditAt.TheVariants as edits
 use Rattle.mm_report.specs.declared.entry.CommandAt.{CommandAt}
 use Rattle.mm_report.specs.declared.entry.CommandAt.TheVariants as code
-use Rattle.mm_report.specs.declared.entry.Next.{Next}
+use Rattle.mm_report.specs.declared.entry.Complete.{Complete}
 use Rattle.mm_report.specs.declared.input.Input.{Input}
 use Rattle.mm_report.specs.Language.Script.{Command, Change, Batch, Report, Verdict, Axioms, Cites, Users}
 use Rattle.mm_report.specs.Language.Script.{Listed, command_bytes, IsGood, EndsInLine}
@@ -72,12 +72,12 @@ pub record IsLast (bytes : List ℕ) (left : Option (List ℕ)) (command : Comma
   pub in_line : EndsInLine command
   pub are : bytes ++ 10 ∷ [] ≡ command_bytes command
 
-abbrev pub IsWholeOrLast : List ℕ → Option (List ℕ) → Next → Command → Type 0
+abbrev pub IsWholeOrLast : List ℕ → Option (List ℕ) → Complete CommandAt → Command → Type 0
 IsWholeOrLast bytes left next command = ((next.fed ≡ true) × IsWholeCommand bytes command next.end) ⊎ ((next.fed ≡ false) × IsLast bytes left command)
 
 -- the bytes begin with a command, and it is whole
-pub record IsNextCommand (bytes : List ℕ) (left : Option (List ℕ)) (next : Next) : Type 0 where
+pub record IsNextCommand (bytes : List ℕ) (left : Option (List ℕ)) (next : Complete CommandAt) : Type 0 where
   pub command : Command
   pub good : IsGood command
-  pub is_command : IsCommandIn bytes next.command command
+  pub is_command : IsCommandIn bytes next.found command
   pub whole : IsWholeOrLast bytes left next command

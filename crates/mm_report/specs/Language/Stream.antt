@@ -1,7 +1,7 @@
 -- What a writer that remembers its failure has written, and what such a reader has left.
 use Rattle.std.specs.Prelude.{◌≡◌, ◌≤◌, ◌<◌, ◌⊎◌, ◌+◌, ℕ, min, Bool, true, Option, List, Result, OnOk, OnErr, length, take}
 use Rattle.std.specs.Io.KnownBytes.{Appends}
-use Rattle.mm_report.specs.declared.reading.Reading.{Reading}
+use Rattle.mm_report.specs.declared.read_stream.Reading.{Reading}
 use Rattle.mm_report.specs.declared.stream.Writing.{Writing}
 
 -- what the writer within has written, if that can be seen

@@ -2,7 +2,7 @@
 use Rattle.std.specs.Prelude.{◌≡◌, ℕ, ◌+◌, ◌*◌, ◌/◌, ◌<◌, ◌≤◌, List, [], ◌++◌, length, take, count_by, slice_index_or}
 use Rattle.std.specs.List.{after_last, concat}
 use Rattle.mm_text.specs.Language.Place.{is_line_feed}
-use Rattle.mm_store.specs.declared.lines.Lines.{Lines}
+use Rattle.mm_store.specs.declared.line_feeds.Lines.{Lines}
 use Rattle.mm_store.specs.declared.start.Start.{Start}
 
 -- these are the lines of the bytes

@@ -8,12 +8,12 @@ use Rattle.mm_keep.proofs.cited.has_label.Goals.{in-Some+else-eq, in_default}
 use Rattle.mm_keep.proofs.cited.has_label.Goals as goal
 
 pub loop-x-init : goal.loop-x-init
-loop-x-init c = record { left = refl; none = among_none c.args.words c.args.held.now.cites c.args.label.now }
+loop-x-init c = record { left = refl; none = among_none c.args.words c.args.check.now.cites c.args.label.now }
 
 pub loop-x-preserved : goal.loop-x-preserved
 loop-x-preserved c = record {
   left = c.cited_word.ensures.left c.args.words c.loop-x.invariant.left;
-  none = λ a. elim (last_or_before c.args.words c.args.held.now.cites c.loop-x.x c.args.label.now a) [
+  none = λ a. elim (last_or_before c.args.words c.args.check.now.cites c.loop-x.x c.args.label.now a) [
     | inl before ↦ c.loop-x.invariant.none before
     | inr there ↦ elim c.match-cited_word.branch [
       | in-Some+else-eq w ↦
@@ -26,5 +26,5 @@ loop-x-preserved c = record {
 
 pub returns : goal.returns
 returns c =
-    let e : c.loop-x.x ≡ length c.args.held.now.cites = omega (arith, c.loop-x-test.false, c.loop-x.auto.x-end) in
-    (λ t. absurd (false≢true t), λ a. absurd (c.loop-x.invariant.none (subst (λ x. IsAmongCited c.args.words c.args.held.now.cites x c.args.label.now) (sym e) a)))
+    let e : c.loop-x.x ≡ length c.args.check.now.cites = omega (arith, c.loop-x-test.false, c.loop-x.auto.x-end) in
+    (λ t. absurd (false≢true t), λ a. absurd (c.loop-x.invariant.none (subst (λ x. IsAmongCited c.args.words c.args.check.now.cites x c.args.label.now) (sym e) a)))

@@ -8,7 +8,7 @@ use Rattle.mm_keep.proofs.cited.mark_words.Goals as goal
 pub mark-requires : goal.mark-requires
 mark-requires c =
     let r = c.requires.places in
-    let cites = c.args.held.now.cites in
+    let cites = c.args.check.now.cites in
     let there = sym (c.in-Some.ensures.word c.args.words c.loop-x.invariant.left) in
     let within : length c.loop-x.marks ≡ length c.args.marks.now = (c.loop-x.invariant.marks r.0 r.1).count in
     let before : c.loop-x.x < length cites = omega (arith, c.loop-x-test.true, c.count-x-end.ensures) in
@@ -17,7 +17,7 @@ mark-requires c =
     (r.0, r.1, λ k carrier. let l = r.2 k (has k carrier) in omega (arith, l, within))
 
 pub loop-x-init : goal.loop-x-init
-loop-x-init c = record { left = refl; marks = λ view is. words_none view c.args.words c.args.held.now.cites c.args.marks.now }
+loop-x-init c = record { left = refl; marks = λ view is. words_none view c.args.words c.args.check.now.cites c.args.marks.now }
 
 pub loop-x-preserved : goal.loop-x-preserved
 loop-x-preserved c = record {
@@ -26,15 +26,15 @@ loop-x-preserved c = record {
     | in-Some w ↦
         let there = sym (w.in-Some.ensures.word c.args.words c.loop-x.invariant.left) in
         let marks = subst (MarksMore (IsCarrier view w.in-Some.word.now) c.loop-x.marks) (sym w.marks-is) (w.mark.ensures view is) in
-        words_more view c.args.words c.args.held.now.cites c.loop-x.x w.in-Some.word.now c.args.marks.now c.loop-x.marks c.match-cited_word.marks there (c.loop-x.invariant.marks view is) marks
+        words_more view c.args.words c.args.check.now.cites c.loop-x.x w.in-Some.word.now c.args.marks.now c.loop-x.marks c.match-cited_word.marks there (c.loop-x.invariant.marks view is) marks
     | in_default w ↦
         let none = sym (w.in_default.ensures.word c.args.words c.loop-x.invariant.left) in
-        let marks = subst (MarksMore (HasLabelAmong view c.args.words c.args.held.now.cites c.loop-x.x) c.args.marks.now) (sym w.marks-is) (c.loop-x.invariant.marks view is) in
-        words_skip view c.args.words c.args.held.now.cites c.loop-x.x c.args.marks.now c.match-cited_word.marks none marks
+        let marks = subst (MarksMore (HasLabelAmong view c.args.words c.args.check.now.cites c.loop-x.x) c.args.marks.now) (sym w.marks-is) (c.loop-x.invariant.marks view is) in
+        words_skip view c.args.words c.args.check.now.cites c.loop-x.x c.args.marks.now c.match-cited_word.marks none marks
   ];
 }
 
 pub returns : goal.returns
 returns c view is =
-    let e : c.loop-x.x ≡ length c.args.held.now.cites = omega (arith, c.loop-x-test.false, c.loop-x.auto.x-end) in
-    subst (λ x. MarksMore (HasLabelAmong view c.args.words c.args.held.now.cites x) c.args.marks.now c.loop-x.marks) e (c.loop-x.invariant.marks view is)
+    let e : c.loop-x.x ≡ length c.args.check.now.cites = omega (arith, c.loop-x-test.false, c.loop-x.auto.x-end) in
+    subst (λ x. MarksMore (HasLabelAmong view c.args.words c.args.check.now.cites x) c.args.marks.now c.loop-x.marks) e (c.loop-x.invariant.marks view is)

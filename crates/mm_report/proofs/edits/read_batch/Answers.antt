@@ -59,8 +59,8 @@ pub loop-input-preserved : goal.loop-input-preserved
 loop-input-preserved g c =
     let fewer : length c.loop-input.edits.items < c.args.count = omega arith in
     let fed = fed_by c.loop-input.fed (length c.loop-input.edits.items) c.args.count c.loop-input.invariant.last fewer in
-    let items : c.push.new.self.items ≡ c.loop-input.edits.items ++ c.in_ok-read.read.edit ∷ [] = c.in_ok-push.ensures.items in
-    let count : length c.push.new.self.items ≡ length c.loop-input.edits.items + 1 = ap length items ∙ length-append c.loop-input.edits.items (c.in_ok-read.read.edit ∷ []) in
+    let items : c.push.new.self.items ≡ c.loop-input.edits.items ++ c.in_ok-read.read.found ∷ [] = c.in_ok-push.ensures.items in
+    let count : length c.push.new.self.items ≡ length c.loop-input.edits.items + 1 = ap length items ∙ length-append c.loop-input.edits.items (c.in_ok-read.read.found ∷ []) in
     let last : c.in_ok-read.read.fed ≡ false → length c.loop-input.edits.items + 1 ≡ c.args.count = λ e. omega (arith, c.in_ok-read.ensures.last e, fewer) in
     let more = batch_one_more c.loop-input.input c.read_listed.new.input _ _ c.args.count c.loop-input.end c.loop-input.edits.items c.loop-input.fed c.in_ok-read.read
     c.loop-input.invariant.read fed fewer c.in_ok-read.ensures.grows c.in_ok-read.ensures.edit last in

@@ -84,7 +84,7 @@ returns-then-missing-gt1-clause-cut g c = λ cut n front f count.
     let grows = grows_then _ _ _ _ _ _ c.in_ok-line.ensures.grows c.in_ok-read.ensures.grows in
     let edit = c.in_ok-read.ensures.edit in
     let last = edit.unfed (not-true _ c.if-not-read.true) in
-    edit_missing c.args.input.now c.read_edit.new.input _ _ n front c.args.from line.start f grows blanks (edit_in (pending c.read_edit.new.input) c.in_ok-read.read.edit) last.0 edit.good last.1
+    edit_missing c.args.input.now c.read_edit.new.input _ _ n front c.args.from line.start f grows blanks (edit_in (pending c.read_edit.new.input) c.in_ok-read.read.found) last.0 edit.good last.1
     (omega (arith, count)) last.2
 
 pub returns-clause-grows : goal.returns-clause-grows

@@ -1,6 +1,6 @@
 use Rattle.std.proofs.Common.{◌≡◌, ◌<◌, ◌∙◌, ap, sym, subst, arith, refl, List, ℕ, codes, slice_range}
 use Rattle.mm_report.specs.declared.line.CommandLine.{CommandLine}
-use Rattle.mm_report.specs.declared.lines.LineAt.{LineAt}
+use Rattle.mm_report.specs.declared.script_lines.LineAt.{LineAt}
 use Rattle.mm_report.specs.Code.Growing.{line_bytes}
 use Rattle.mm_report.specs.Code.Lines.{SaysLine}
 use Rattle.mm_report.specs.Code.Pending.{pending, bytes_of_part, IsCommandIn}
@@ -44,7 +44,7 @@ returns-in_err-read-in-Change-clause-read g c = λ stop.
 
 pub returns-in_ok-read-in-Batch-clause-found : goal.returns-in_ok-read-in-Batch-clause-found
 returns-in_ok-read-in-Batch-clause-found g c =
-    batch_next _ _ c.in-Batch.count _ c.in_ok-read-in-Batch.read.edits.items c.in_ok-read-in-Batch.ensures.batch c.in_ok-read-in-Batch.ensures.all (λ command is. is)
+    batch_next _ _ c.in-Batch.count _ c.in_ok-read-in-Batch.read.found.items c.in_ok-read-in-Batch.ensures.batch c.in_ok-read-in-Batch.ensures.all (λ command is. is)
 
 pub returns-in-Report-clause-found : goal.returns-in-Report-clause-found
 returns-in-Report-clause-found g c =

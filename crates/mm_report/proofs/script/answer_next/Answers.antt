@@ -28,7 +28,7 @@ returns-in_err-answer-clause-err g c begun all before so =
     let had = reads_on begun c.args.session.now all (unread g.R.Read.remaining c.args.reading.now) before (written g.W.Write.contents c.args.writing.now) (unread g.R.Read.remaining next.new.reading)
     c.args.input.now next.new.input next.ensures.reads so in
     let is = rw c.in-Some.is at c.in_ok-next.ensures.found in
-    let command = subst (λ bytes. IsCommandIn bytes c.in-Some.next.command is.command) (sym c.pending.ensures) is.is_command in
+    let command = subst (λ bytes. IsCommandIn bytes c.in-Some.next.found is.command) (sym c.pending.ensures) is.is_command in
     if_err_is c.from_residual-in_err-answer.result _ c.in_err-answer.field-0.0 c.from_residual-in_err-answer.ensures.1
     (answer_stops g.R.Read.remaining g.W.Write.contents begun c.args.session.now all before next.new.input next.new.reading c.args.writing.now c.in-Some.next is c.answer.new.session c.answer.new.to had
     c.in_err-answer.field-0.0 (c.in_err-answer.ensures is.command command).err)
@@ -39,7 +39,7 @@ returns-clause-ok g c begun all before so =
     let had = reads_on begun c.args.session.now all (unread g.R.Read.remaining c.args.reading.now) before (written g.W.Write.contents c.args.writing.now) (unread g.R.Read.remaining next.new.reading)
     c.args.input.now next.new.input next.ensures.reads so in
     let is = rw c.in-Some.is at c.in_ok-next.ensures.found in
-    let command = subst (λ bytes. IsCommandIn bytes c.in-Some.next.command is.command) (sym c.pending.ensures) is.is_command in
+    let command = subst (λ bytes. IsCommandIn bytes c.in-Some.next.found is.command) (sym c.pending.ensures) is.is_command in
     let passed : c.in-Some.next.fed ≡ true → pending c.if-next.input ≡ drop c.in-Some.next.end (pending next.new.input) =
     elim c.if-next.branch [
       | then-next w ↦ λ fed. ap pending w.input-is ∙ w.pass.ensures
