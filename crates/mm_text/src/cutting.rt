@@ -138,7 +138,7 @@ pub fn cut(alloc: Global, text: &[u8]) -> Result<Cut, TextError>
     ensures cut { IfOk result (λ found. IsCut text.now (map (λ piece. piece.items) found.pieces.items) found.tail.items) }
     ensures fault { IfErr result (IsCutError text.now) }
 
-    // These follow: the fault is in the text, and the words of each piece are whole units, as `parts` requires.
+    // These follow: the fault is in the text, and the words of each piece are whole units.
     ensures fault_within { IfErr result (IsTextErrorIn text.now) }
     ensures units { IfOk result (λ found. All (λ piece. (units : Units) × HasUnits piece.items units) found.pieces.items) }
 {
