@@ -18,6 +18,7 @@ use crate::slots::note_places;
 use crate::symbol::Kept;
 use mm_frame::Symbol;
 use std::alloc::{AllocError, Global};
+use std::mem;
 
 /// The stack of expressions, and what was saved.
 #[derive(Drop)]
@@ -227,7 +228,8 @@ impl<S: Kept> Machine<S> {
             return Ok(Some(number));
         }
         self.result.clear();
-        substitute(alloc, &taken, expression, &mut self.result)?;
+        let others = mem::replace(&mut self.result, Vec::new(alloc));
+        self.result = substitute(alloc, &taken, expression, others)?;
         self.replace(below)?;
         Ok(None)
     }

@@ -46,16 +46,16 @@ returns g c =
     let says = rw c.in_default.is at c.in_ok-number.ensures in
     let active = meant_pairs m c.args.active.now.pairs.now in
     let here : length stack - length frame.hypotheses ≡ below = omega (arith, length-map es (read (map m symbols)), length-map hs (mandatory_of m), k, c.len-2.ensures) in
-    let result = map m c.substitute.new.to.items in
+    let result = map m c.in_ok-self.field-0.items in
     record {
       cites = let whole = cited_by active frame stack (read_all (map m c.deref.result.now) entries) c.requires.frame
           (ap length taken ∙ omega (arith, length-map (drop below es) (read (map m symbols)), length-drop below es, length-map hs (mandatory_of m), c.len.ensures, c.len-2.ensures, k, c.if-len-count.false))
           (omega (arith, c.len.ensures, k, c.if-len-count.false, length-map es (read (map m symbols)), length-map hs (mandatory_of m)))
           (entries_taken m hs c.args.expression.now c.args.pairs.now (map m symbols) es below (omega (arith, c.len.ensures, c.len-2.ensures, k, c.if-len-count.false)) ∙ sym taken)
           says result
-          (λ given gives. c.in_ok-substitute.ensures given (gives_all frame.hypotheses given (read_all (map m c.deref.result.now) entries) frame.expression
+          (λ given gives. c.in_ok-self.ensures given (gives_all frame.hypotheses given (read_all (map m c.deref.result.now) entries) frame.expression
           (hypotheses_known frame c.requires.frame) gives c.requires.frame.expression_typed) ∙ ap (λ w. map m w ++ substituted given
-          (map m c.args.expression.now)) c.clear.ensures.items) in
+          (map m c.args.expression.now)) (ap (λ (w : _). w.items) c.replace-others.ensures.value ∙ c.clear.ensures.items)) in
           subst (λ w. Cites active frame stack w) (ap (λ k. take k stack ++ result ∷ []) here ∙ sym c.in_ok-replace.ensures.stack) whole;
       whole = c.in_ok-replace.ensures.whole;
       saved = c.in_ok-replace.ensures.saved;
