@@ -14,6 +14,9 @@ ghost use Rattle.mm_proof.specs.Code.NumberedBase.{ByNames, all_by_number, numbe
 use mm_frame::{Base, NumberedSymbol, places_have_frames};
 use std::alloc::{AllocError, Global};
 
+/// At first there is room for the mandatory hypotheses of so many assertions at most.
+const FIRST_ASSERTIONS: usize = 64;
+
 /// A mandatory hypothesis of an assertion.
 #[derive(Drop)]
 pub struct Hypothesis<'a, S> {
@@ -117,7 +120,9 @@ pub fn assertions_of<'a>(
     ensures { IfOk result (λ r. AreCited base.now numbers.now r.0.items r.1.items) }
 {
     places_have_frames();
-    let mut mandatory = Vec::with_capacity(alloc, numbers.len())?;
+    let some = numbers.len().min(FIRST_ASSERTIONS);
+    // Most assertions have four mandatory hypotheses at most.
+    let mut mandatory = Vec::with_capacity(alloc, some * 4)?;
     let mut assertions = Vec::with_capacity(alloc, numbers.len())?;
     for number in numbers {
         assertions.push(assertion_of(base, *number, &mut mandatory)?)?;

@@ -10,14 +10,14 @@ ghost use Rattle.mm_proof.specs.Language.Machine.{nothing_yet};
 use crate::ProofNumber;
 use crate::active::Active;
 use crate::assertion::{Cited, Hypothesis};
-use crate::citation::citing_fault;
+use crate::citation::{citing_fault, take_floats};
 use crate::gather::Gathered;
 use crate::pairs::PairRoom;
 use crate::pattern::{Entry, Taken, substitute};
-use crate::slots::note_places;
 use crate::symbol::Kept;
 use mm_frame::Symbol;
 use std::alloc::{AllocError, Global};
+use std::mem;
 
 /// The stack of expressions, and what was saved.
 #[derive(Drop)]
@@ -209,16 +209,21 @@ impl<S: Kept> Machine<S> {
             return Ok(Some(ProofNumber::P07));
         }
         let below = self.stack.len() - count;
-        note_places(hypotheses, &mut self.places);
+        let symbols: &[S] = &self.symbols;
+        let entries = &self.stack[below..];
+        let Some(first) = take_floats(symbols, entries, hypotheses, &mut self.places) else {
+            return Ok(Some(ProofNumber::P08));
+        };
         let taken = Taken {
-            symbols: &self.symbols,
-            entries: &self.stack[below..],
+            symbols,
+            entries,
             hypotheses,
             places: &self.places,
         };
         if let Some(number) = citing_fault(
             alloc,
             &taken,
+            first,
             expression,
             pairs,
             &*active,
@@ -227,7 +232,8 @@ impl<S: Kept> Machine<S> {
             return Ok(Some(number));
         }
         self.result.clear();
-        substitute(alloc, &taken, expression, &mut self.result)?;
+        let others = mem::replace(&mut self.result, Vec::new(alloc));
+        self.result = substitute(alloc, &taken, expression, others)?;
         self.replace(below)?;
         Ok(None)
     }

@@ -1,6 +1,6 @@
 //! Expressions of an assertion under the substitution that entries give.
 
-ghost use Rattle.std.specs.Prelude.{◌≡◌, ◌↔◌, ◌++◌, ◌<◌, ◌≤◌, ◌+◌, List, IsTrue, OnOk, All, MatchBool, Some, drop, length, map, slice_get};
+ghost use Rattle.std.specs.Prelude.{◌≡◌, ◌↔◌, ◌++◌, ◌<◌, ◌≤◌, ◌+◌, List, IsTrue, IfOk, OnOk, All, MatchBool, Some, drop, length, map, slice_get};
 ghost use Rattle.mm_frame.specs.Language.Frame.{Symbol as Meaning};
 ghost use Rattle.mm_proof.specs.Language.Substitution.{replacement, substituted};
 ghost use Rattle.mm_proof.specs.Code.Flat.{IsEntryWithin};
@@ -128,23 +128,25 @@ fn replacement_of<'s, 'a, S: Kept>(
     }
 }
 
-/// Puts an expression under the substitution behind other symbols.
+/// Puts an expression under the substitution behind other symbols, and hands these back. They are moved in and out, so
+/// that no other value has to be looked at when one more is put.
 pub fn substitute<'s, 'a, S: Kept>(
     alloc: Global,
     taken: &Taken<'s, 'a, S>,
     expression: &'a [S],
-    to: &mut Vec<S>,
-) -> Result<(), AllocError>
+    others: Vec<S>,
+) -> Result<Vec<S>, AllocError>
     requires within { All (IsEntryWithin (length taken.now.symbols.now)) taken.now.entries.now }
-    ensures { OnOk result ((given : Meaning → List Meaning)
+    ensures { IfOk result (λ all. (given : Meaning → List Meaning)
         → GivesVariables given (hypotheses_of S.means taken.now.hypotheses.now) (entries_of S.means taken.now)
         (map S.means expression.now)
-        → map S.means to.new.items ≡ map S.means to.old.items ++ substituted given (map S.means expression.now)) }
+        → map S.means all.items ≡ map S.means others.items ++ substituted given (map S.means expression.now)) }
 {
+    let mut to = others;
     for place in 0..expression.len() {
-        replacement_of(&*taken, expression, place).put(alloc, &mut *to)?;
+        replacement_of(&*taken, expression, place).put(alloc, &mut to)?;
     }
-    Ok(())
+    Ok(to)
 }
 
 /// Whether an expression under the substitution has at most 1,000,000 symbols.

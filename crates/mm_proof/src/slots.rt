@@ -33,16 +33,12 @@ fn is_float_of<'a, S: Kept>(hypothesis: &Hypothesis<'a, S>, variable: &S) -> boo
     hypothesis.expression[1].same(variable)
 }
 
-/// Notes for each variable of a `$f` where it stands among the hypotheses. What is found by it is compared, so that
-/// no answer depends on it.
-pub fn note_places<'a, S: Kept>(hypotheses: &[Hypothesis<'a, S>], places: &mut [usize]) {
-    for place in 0..hypotheses.len() {
-        let hypothesis = &hypotheses[place];
-        if hypothesis.floating && hypothesis.expression.len() > 1 {
-            let at = home(hypothesis.expression[1].key(), places.len());
-            if at < places.len() {
-                places[at] = place;
-            }
+/// Notes for the variable of a `$f` where it stands. What is found by it is compared, so that no answer depends on it.
+pub fn note_place<S: Kept>(typing: &[S], place: usize, places: &mut [usize]) {
+    if typing.len() > 1 {
+        let at = home(typing[1].key(), places.len());
+        if at < places.len() {
+            places[at] = place;
         }
     }
 }

@@ -56,6 +56,7 @@ impl Kept for NumberedSymbol {
         self.name
     }
 
+    #[inline(always)]
     fn append(_alloc: Global, to: &mut Vec<Self>, from: &[Self]) -> Result<(), AllocError> {
         // Most often it is one, and a push takes less than a block of one.
         if from.len() == 1 {

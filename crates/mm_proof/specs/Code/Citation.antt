@@ -1,5 +1,5 @@
 -- An assertion that is cited, as the code has it.
-use Rattle.std.specs.Prelude.{if◌then◌else◌, ◌≡◌, ◌≢◌, ℕ, ◌-◌, ◌≤◌, true, false, Option, Some, None, List, [], ◌∷◌, length, map, take, drop, slice_get, All, Contains}
+use Rattle.std.specs.Prelude.{if◌then◌else◌, ◌≡◌, ◌≢◌, ℕ, ◌-◌, ◌≤◌, ◌<◌, true, false, Option, Some, None, List, [], ◌∷◌, length, map, take, drop, slice_get, All, Contains}
 use Rattle.std.specs.List.{AllZip}
 use Rattle.mm_frame.specs.Language.Frame.{Symbol, Mandatory, Frame, HasVariable}
 use Rattle.mm_frame.specs.Language.Typing.{IsFrame, IsTyped, IsTyping}
@@ -70,6 +70,10 @@ pub record AreAllTyped (hs : List Mandatory) : Type 0 where
 -- the substitution gives the entry of each `$f`
 abbrev pub GivesEntries : (Symbol → List Symbol) → List Mandatory → List (List Symbol) → Type 0
 GivesEntries given hs es = AllZip (λ h e. h.floating ≡ true → substituted given h.expression ≡ e) hs es
+
+-- the hypotheses before this place are `$f`
+abbrev pub AreFloating : List Mandatory → ℕ → Type 0
+AreFloating hs n = (k : ℕ) (h : Mandatory) → k < n → slice_get hs k ≡ Some h → h.floating ≡ true
 
 -- an entry of a `$f` has another typecode
 abbrev pub OtherTypecode : Mandatory → List Symbol → Type 0

@@ -3,7 +3,7 @@ use Rattle.mm_proof.specs.Code.Flat.{read_all}
 use Rattle.mm_proof.specs.Code.Citation.{frame_from}
 use Rattle.mm_proof.specs.Code.Citation.{meant_pairs}
 use Rattle.mm_proof.proofs.lemmas.machine.EntryFaults.{gives_all, hypotheses_known, count_of}
-use Rattle.mm_proof.proofs.lemmas.machine.CitingFaults.{says08, says09, says_pairs, says12}
+use Rattle.mm_proof.proofs.lemmas.machine.CitingFaults.{says09, says_pairs, says12}
 use Rattle.mm_proof.proofs.citation.citing_fault.Goals as goal
 
 pub essentials_fit-requires : goal.essentials_fit-requires
@@ -11,6 +11,7 @@ essentials_fit-requires g c = record {
   typed = hypotheses_known (frame_from g.S.Symbol.means c.args.taken.now.hypotheses.now c.args.expression.now c.args.pairs.now) c.requires.frame;
   within = c.requires.within;
   count = c.requires.count;
+  before = c.requires.before;
 }
 
 pub pairs_fault-requires : goal.pairs_fault-requires
@@ -21,20 +22,13 @@ pairs_fault-requires g c = record {
   count = c.requires.count;
 }
 
-pub returns-then-not-typecodes_match : goal.returns-then-not-typecodes_match
-returns-then-not-typecodes_match g c =
-    let m = g.S.Symbol.means in
-    let frame = frame_from m c.args.taken.now.hypotheses.now c.args.expression.now c.args.pairs.now in
-    let es = read_all (map m c.args.taken.now.symbols.now) c.args.taken.now.entries.now in
-    says08 (meant_pairs m c.args.active.now.pairs.now) frame es c.requires.frame (count_of m (map m c.args.taken.now.symbols.now) c.args.taken.now.entries.now c.args.taken.now.hypotheses.now c.requires.count) c.if-not-typecodes_match.ensures
-
 pub returns-then-not-essentials_fit : goal.returns-then-not-essentials_fit
 returns-then-not-essentials_fit g c =
     let m = g.S.Symbol.means in
     let frame = frame_from m c.args.taken.now.hypotheses.now c.args.expression.now c.args.pairs.now in
     let es = read_all (map m c.args.taken.now.symbols.now) c.args.taken.now.entries.now in
     says09 (meant_pairs m c.args.active.now.pairs.now) frame es c.requires.frame (count_of m (map m c.args.taken.now.symbols.now)
-    c.args.taken.now.entries.now c.args.taken.now.hypotheses.now c.requires.count) c.if-not-typecodes_match.ensures c.if-not-essentials_fit.ensures
+    c.args.taken.now.entries.now c.args.taken.now.hypotheses.now c.requires.count) c.requires.typecodes c.if-not-essentials_fit.ensures
 
 pub returns-in-Some : goal.returns-in-Some
 returns-in-Some g c =
@@ -42,7 +36,7 @@ returns-in-Some g c =
     let frame = frame_from m c.args.taken.now.hypotheses.now c.args.expression.now c.args.pairs.now in
     let es = read_all (map m c.args.taken.now.symbols.now) c.args.taken.now.entries.now in
     says_pairs (meant_pairs m c.args.active.now.pairs.now) frame es c.requires.frame (count_of m (map m c.args.taken.now.symbols.now)
-    c.args.taken.now.entries.now c.args.taken.now.hypotheses.now c.requires.count) c.if-not-typecodes_match.ensures c.if-not-essentials_fit.ensures
+    c.args.taken.now.entries.now c.args.taken.now.hypotheses.now c.requires.count) c.requires.typecodes c.if-not-essentials_fit.ensures
     c.in-Some.number (rw c.in-Some.is at c.in_ok-number.ensures)
 
 pub returns-then-not-is_short : goal.returns-then-not-is_short
@@ -51,7 +45,7 @@ returns-then-not-is_short g c =
     let frame = frame_from m c.args.taken.now.hypotheses.now c.args.expression.now c.args.pairs.now in
     let es = read_all (map m c.args.taken.now.symbols.now) c.args.taken.now.entries.now in
     says12 (meant_pairs m c.args.active.now.pairs.now) frame es c.requires.frame (count_of m (map m c.args.taken.now.symbols.now)
-    c.args.taken.now.entries.now c.args.taken.now.hypotheses.now c.requires.count) c.if-not-typecodes_match.ensures c.if-not-essentials_fit.ensures
+    c.args.taken.now.entries.now c.args.taken.now.hypotheses.now c.requires.count) c.requires.typecodes c.if-not-essentials_fit.ensures
     (rw c.in_default.is at c.in_ok-number.ensures)
     (λ given gives. c.if-not-is_short.ensures given (gives_all frame.hypotheses given es frame.expression (hypotheses_known frame c.requires.frame) gives c.requires.frame.expression_typed))
 
@@ -61,19 +55,13 @@ returns g c =
     let frame = frame_from m c.args.taken.now.hypotheses.now c.args.expression.now c.args.pairs.now in
     let es = read_all (map m c.args.taken.now.symbols.now) c.args.taken.now.entries.now in
     let pairs = rw c.in_default.is at c.in_ok-number.ensures in (
-      c.if-not-typecodes_match.ensures,
+      c.requires.typecodes,
       λ given gives. (
         c.if-not-essentials_fit.ensures given gives,
         pairs given gives,
         c.if-not-is_short.ensures given (gives_all frame.hypotheses given es frame.expression (hypotheses_known frame c.requires.frame) gives c.requires.frame.expression_typed),
       ),
     )
-
-pub typecodes_match-requires-clause-within : goal.typecodes_match-requires-clause-within
-typecodes_match-requires-clause-within g c = c.requires.within
-
-pub typecodes_match-requires-clause-count : goal.typecodes_match-requires-clause-count
-typecodes_match-requires-clause-count g c = c.requires.count
 
 pub is_short-requires : goal.is_short-requires
 is_short-requires g c = record { within = c.requires.within }

@@ -8,6 +8,6 @@ pub returns : goal.returns
 returns g c =
     let d : Entry = record { start = 0; end = 0; floor = 0 } in
     let m = g.S.Symbol.means in
-    let symbols = c.args.taken.now.symbols.now in
-    let e = get_or c.args.taken.now.entries.now c.args.place d in
-    mapped_or_get (read (map m symbols)) c.args.taken.now.entries.now c.args.place d c.requires.in_range ∙ ap Some (sym (entry_map m symbols e))
+    let symbols = c.args.symbols.now in
+    let e = get_or c.args.entries.now c.args.place d in
+    mapped_or_get (read (map m symbols)) c.args.entries.now c.args.place d c.requires.in_range ∙ ap Some (sym (entry_map m symbols e))

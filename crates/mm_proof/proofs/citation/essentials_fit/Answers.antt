@@ -13,10 +13,13 @@ returns-then-is_other_essential g c given gives =
     let hs = hypotheses_of m c.args.taken.now.hypotheses.now in
     let es = read_all (map m c.args.taken.now.symbols.now) c.args.taken.now.entries.now in
     let h = get_or c.args.taken.now.hypotheses.now c.loop-place.place c.index-taken-place.result in
-    any_at (OtherEssential given) hs es c.loop-place.place (mandatory_of m h) (map m c.entry_at.result.now)
-    (mapped_or_get (mandatory_of m) c.args.taken.now.hypotheses.now c.loop-place.place c.index-taken-place.result c.loop-place-test.true) c.entry_at.ensures
+    any_at (OtherEssential given) hs es c.loop-place.place (mandatory_of m h) (map m c.entry_at-entry.result.now)
+    (mapped_or_get (mandatory_of m) c.args.taken.now.hypotheses.now c.loop-place.place c.index-taken-place.result c.loop-place-test.true) c.entry_at-entry.ensures
     ((c.is_other_essential.ensures given (λ e. gives_essential hs given es c.loop-place.place (mandatory_of m h) c.requires.typed gives (mapped_or_get
     (mandatory_of m) c.args.taken.now.hypotheses.now c.loop-place.place c.index-taken-place.result c.loop-place-test.true))).0 c.if-is_other_essential.true)
+
+pub loop-place-init : goal.loop-place-init
+loop-place-init g c given gives k l at = false≢true (sym at.holds.0 ∙ c.requires.before k at.x l at.first)
 
 pub loop-place-preserved : goal.loop-place-preserved
 loop-place-preserved g c given gives =
@@ -24,8 +27,8 @@ loop-place-preserved g c given gives =
     let hs = hypotheses_of m c.args.taken.now.hypotheses.now in
     let es = read_all (map m c.args.taken.now.symbols.now) c.args.taken.now.entries.now in
     let h = get_or c.args.taken.now.hypotheses.now c.loop-place.place c.index-taken-place.result in
-    none_more (OtherEssential given) hs es c.loop-place.place (mandatory_of m h) (map m c.entry_at.result.now)
-    (mapped_or_get (mandatory_of m) c.args.taken.now.hypotheses.now c.loop-place.place c.index-taken-place.result c.loop-place-test.true) c.entry_at.ensures
+    none_more (OtherEssential given) hs es c.loop-place.place (mandatory_of m h) (map m c.entry_at-entry.result.now)
+    (mapped_or_get (mandatory_of m) c.args.taken.now.hypotheses.now c.loop-place.place c.index-taken-place.result c.loop-place-test.true) c.entry_at-entry.ensures
     (λ r. false≢true (sym c.if-is_other_essential.false ∙ (c.is_other_essential.ensures given (λ e. gives_essential hs given es c.loop-place.place (mandatory_of m h) c.requires.typed gives (mapped_or_get
     (mandatory_of m) c.args.taken.now.hypotheses.now c.loop-place.place c.index-taken-place.result c.loop-place-test.true))).1 r))
     (c.loop-place.invariant given gives)

@@ -18,12 +18,12 @@ loop-place-preserved g c given slots =
     c.in_ok-put.ensures
     ∙ ap (λ w. map m c.loop-place.to.items ++ w) (c.replacement_of.ensures given (get_or expression k d) slots here)
     ∙ ap (λ w. w ++ part) (c.loop-place.invariant given slots)
-    ∙ append_assoc (map m c.args.to.now.items) front part
-    ∙ ap (λ w. map m c.args.to.now.items ++ w) (sym (put_more given expression k (get_or expression k d) here))
+    ∙ append_assoc (map m c.args.others.items) front part
+    ∙ ap (λ w. map m c.args.others.items ++ w) (sym (put_more given expression k (get_or expression k d) here))
 
 pub returns : goal.returns
 returns g c given slots =
     let m = g.S.Symbol.means in
     let expression = map m c.args.expression.now in
     c.loop-place.invariant given slots
-    ∙ ap (λ w. map m c.args.to.now.items ++ substituted given w) (take_all c.loop-place.place expression (omega (arith, length-map c.args.expression.now m, c.loop-place-test.false)))
+    ∙ ap (λ w. map m c.args.others.items ++ substituted given w) (take_all c.loop-place.place expression (omega (arith, length-map c.args.expression.now m, c.loop-place-test.false)))

@@ -6,4 +6,4 @@ use Rattle.mm_proof.proofs.pattern.substitute.Given as goal
 
 abbrev pub invariant-loop-place : goal.invariant-loop-place
 invariant-loop-place g l = (given : Symbol → List Symbol) → GivesVariables given (hypotheses_of g.S.Symbol.means l.taken.hypotheses.now) (entries_of g.S.Symbol.means l.taken) (map g.S.Symbol.means l.expression) →
-    map g.S.Symbol.means l.to.items ≡ map g.S.Symbol.means l.initial.to.items ++ substituted given (take l.place (map g.S.Symbol.means l.expression))
+    map g.S.Symbol.means l.to.items ≡ map g.S.Symbol.means l.fn.others.items ++ substituted given (take l.place (map g.S.Symbol.means l.expression))
