@@ -7,10 +7,13 @@ ghost use Rattle.mm_proof.specs.Language.Decoding.{nameable, named as named_lem}
 ghost use Rattle.mm_proof.specs.Code.LeftToRight.{read_behind, alone_behind, read_on};
 ghost use Rattle.mm_proof.specs.Language.DecodedSteps.{meant};
 ghost use Rattle.mm_proof.specs.Code.Coded.{TellsSteps, meant_or, meant_steps, LettersGive};
+ghost use Rattle.mm_proof.specs.Code.UsedLabels.{AreMarks, IsLabelWithin};
 
 use crate::step::{Action, ProofFault, ProofStep, Undecoded};
+use crate::used::mark;
 use crate::{ProofNumber, Spot};
 use mm_frame::ProofWords;
+use std::alloc::AllocError;
 
 /// Whether a byte is one of the digits `U` to `Y`.
 fn is_digit(byte: u8) -> bool
@@ -30,7 +33,8 @@ fn with_digit(digits: usize, worth: usize) -> usize
 fn named(labels: usize, saves: usize, digits: usize, last: usize) -> Result<Action, ProofNumber>
     requires few { labels + saves < 2 ^ 64 - 1 }
     requires some { 0 < last }
-    ensures { (names : List Step) (n : ℕ) → length names ≡ labels → digits ≡ min n (2 ^ 64 - 1) →
+    ensures within { IfOk result (IsLabelWithin labels) }
+    ensures says { (names : List Step) (n : ℕ) → length names ≡ labels → digits ≡ min n (2 ^ 64 - 1) →
         meant_or names result ≡ named_lem (slice_get (nameable names saves) (20 * n + last - 1)) }
 {
     let value = digits.saturating_mul(20).saturating_add(last);
@@ -45,7 +49,8 @@ fn named(labels: usize, saves: usize, digits: usize, last: usize) -> Result<Acti
 
 /// An action that takes no digits.
 fn alone(digits: usize, action: Action) -> Result<Action, ProofNumber>
-    ensures { (names : List Step) (n : ℕ) → digits ≡ min n (2 ^ 64 - 1) → meant_or names result ≡ alone_behind n (meant names action) }
+    ensures same { IfOk result (λ found. found ≡ action) }
+    ensures says { (names : List Step) (n : ℕ) → digits ≡ min n (2 ^ 64 - 1) → meant_or names result ≡ alone_behind n (meant names action) }
 {
     if digits == 0 {
         Ok(action)
@@ -57,7 +62,8 @@ fn alone(digits: usize, action: Action) -> Result<Action, ProofNumber>
 /// What a letter that is no digit does behind these digits.
 fn action(labels: usize, saves: usize, digits: usize, byte: u8) -> Result<Action, ProofNumber>
     requires few { labels + saves < 2 ^ 64 - 1 }
-    ensures { (names : List Step) (n : ℕ) → length names ≡ labels → digits ≡ min n (2 ^ 64 - 1) →
+    ensures within { IfOk result (IsLabelWithin labels) }
+    ensures says { (names : List Step) (n : ℕ) → length names ≡ labels → digits ≡ min n (2 ^ 64 - 1) →
         meant_or names result ≡ read_behind (nameable names saves) n byte }
 {
     match byte {
@@ -66,6 +72,13 @@ fn action(labels: usize, saves: usize, digits: usize, byte: u8) -> Result<Action
         b'?' => alone(digits, Action::Unknown),
         _ => Err(ProofNumber::P04),
     }
+}
+
+/// The steps that letters stand for, and for each label that numbers name whether one of the steps names it.
+#[derive(Drop)]
+pub struct MarkedSteps {
+    pub steps: Vec<ProofStep>,
+    pub used: Vec<bool>,
 }
 
 /// The letters so far: the steps that they stand for, and digits that wait for the letter behind them.
@@ -78,8 +91,11 @@ pub struct LetterReader {
     /// The digits in base five: 0 where there are none, and no more than the largest number there is.
     digits: usize,
     steps: Vec<ProofStep>,
+    /// For each label whether one of the steps names it.
+    used: Vec<bool>,
     ghost few_labels: { labels < 2 ^ 63 },
     ghost few_saves: { saves ≤ length steps.items },
+    ghost marked: { AreMarks labels used.items steps.items },
 }
 
 impl LetterReader {
@@ -87,24 +103,30 @@ impl LetterReader {
     ghost use Rattle.mm_proof.specs.Language.Letters.{Letter, letters_in};
     ghost use Rattle.mm_proof.specs.Code.Reader.{Aim, ReadsLetters};
 
-    /// A reader before the first letter, where numbers name this many labels. It puts the steps in place of what a list
-    /// has.
-    fn new(room: Vec<ProofStep>, labels: usize) -> Self
+    /// A reader before the first letter, where numbers name this many labels. It puts the steps and the marks in place of
+    /// what the lists have.
+    fn new(room: MarkedSteps, labels: usize) -> Result<Self, AllocError>
         requires { labels < 2 ^ 63 }
-        ensures { (aim : Aim) (ls : List Letter) → length aim.names ≡ labels → aim.total ≡ read_on aim.names aim.close 0 0 ls → ReadsLetters aim result ls }
+        ensures labels { IfOk result (λ reader. reader.labels ≡ labels) }
+        ensures reads { IfOk result (λ reader. (aim : Aim) (ls : List Letter) → length aim.names ≡ labels → aim.total ≡ read_on aim.names aim.close 0 0 ls → ReadsLetters aim reader ls) }
     {
-        let mut steps = room;
+        let mut steps = room.steps;
         steps.clear();
-        LetterReader {
+        let mut used = room.used;
+        used.clear();
+        used.resize(labels, false)?;
+        Ok(LetterReader {
             labels,
             saves: 0,
             digits: 0,
             steps,
-        }
+            used,
+        })
     }
 
     /// Reads one letter.
     fn read(&mut self, byte: u8, spot: Spot) -> Result<(), Undecoded>
+        ensures labels { OnOk result (self.new.labels ≡ self.old.labels) }
         ensures ok { OnOk result ((aim : Aim) (ls : List Letter)
             → ReadsLetters aim self.old (record { byte = byte; spot = spot } ∷ ls) → ReadsLetters aim self.new ls) }
         ensures err { IfErr result (λ e. (aim : Aim) (ls : List Letter)
@@ -117,6 +139,7 @@ impl LetterReader {
         match action(self.labels, self.saves, self.digits, byte) {
             Ok(action) => {
                 self.steps.push(ProofStep { action, spot })?;
+                mark(&mut self.used, action);
                 self.digits = 0;
                 if byte == b'Z' {
                     self.saves += 1;
@@ -129,6 +152,7 @@ impl LetterReader {
 
     /// Reads the letters of the word with this number.
     fn read_word(&mut self, n: usize, word: &[u8]) -> Result<(), Undecoded>
+        ensures labels { OnOk result (self.new.labels ≡ self.old.labels) }
         ensures ok { OnOk result ((aim : Aim) (ls : List Letter) → ReadsLetters aim self.old (letters_in (n, word.now) ++ ls) → ReadsLetters aim self.new ls) }
         ensures err { IfErr result (λ e. (aim : Aim) (ls : List Letter) → ReadsLetters aim self.old (letters_in (n, word.now) ++ ls) → TellsSteps e aim.total) }
     {
@@ -139,12 +163,16 @@ impl LetterReader {
     }
 
     /// The steps, or the fault of digits that no letter follows.
-    fn end(self, close: Spot) -> Result<Vec<ProofStep>, Undecoded>
-        ensures ok { IfOk result (λ steps. (aim : Aim) → aim.close ≡ close → ReadsLetters aim self [] → aim.total ≡ Ok (meant_steps aim.names steps.items)) }
+    fn end(self, close: Spot) -> Result<MarkedSteps, Undecoded>
+        ensures marks { IfOk result (λ read. AreMarks self.labels read.used.items read.steps.items) }
+        ensures ok { IfOk result (λ read. (aim : Aim) → aim.close ≡ close → ReadsLetters aim self [] → aim.total ≡ Ok (meant_steps aim.names read.steps.items)) }
         ensures err { IfErr result (λ e. (aim : Aim) → aim.close ≡ close → ReadsLetters aim self [] → TellsSteps e aim.total) }
     {
         if self.digits == 0 {
-            Ok(self.steps)
+            Ok(MarkedSteps {
+                steps: self.steps,
+                used: self.used,
+            })
         } else {
             Err(Undecoded::Fault(ProofFault {
                 number: ProofNumber::P05,
@@ -155,19 +183,21 @@ impl LetterReader {
 }
 
 /// The steps of the letters of a proof, which are the words that are left, from the word with the number `from` on, where
-/// numbers name this many labels and then the saves. They are put in place of what a list has.
+/// numbers name this many labels and then the saves; with marks for the labels. They are put in place of what the lists
+/// have.
 pub fn read_letters(
-    room: Vec<ProofStep>,
+    room: MarkedSteps,
     words: &mut ProofWords,
     from: usize,
     labels: usize,
-) -> Result<Vec<ProofStep>, Undecoded>
+) -> Result<MarkedSteps, Undecoded>
     requires few { from + length words.old < 2 ^ 64 }
     requires labels { labels < 2 ^ 63 }
-    ensures ok { IfOk result (λ steps. LettersGive labels words.old from (λ names given. given ≡ Ok (meant_steps names steps.items))) }
+    ensures marks { IfOk result (λ read. AreMarks labels read.used.items read.steps.items) }
+    ensures ok { IfOk result (λ read. LettersGive labels words.old from (λ names given. given ≡ Ok (meant_steps names read.steps.items))) }
     ensures err { IfErr result (λ e. LettersGive labels words.old from (λ names given. TellsSteps e given)) }
 {
-    let mut reader = LetterReader::new(room, labels);
+    let mut reader = LetterReader::new(room, labels)?;
     let mut n = from;
     while let Some(word) = words.next_word() {
         reader.read_word(n, word)?;
