@@ -1,6 +1,6 @@
 //! The letters of a compressed proof, read in one pass.
 
-ghost use Rattle.std.specs.Prelude.{◌≡◌, ℕ, ◌+◌, ◌-◌, ◌*◌, ◌^◌, ◌<◌, ◌≤◌, min, length, List, slice_get, IfOk, IfErr, Ok};
+ghost use Rattle.std.specs.Prelude.{◌≡◌, ℕ, ◌+◌, ◌-◌, ◌*◌, ◌^◌, ◌<◌, ◌≤◌, min, nat_lt, length, List, slice_get, IfOk, IfErr, Ok};
 ghost use Rattle.mm_proof.specs.Language.Expansion.{Step};
 ghost use Rattle.mm_proof.specs.Language.Numbers as numbers;
 ghost use Rattle.mm_proof.specs.Language.Decoding.{nameable, named as named_lem};
@@ -22,22 +22,47 @@ fn is_digit(byte: u8) -> bool
     matches!(byte, b'U'..=b'Y')
 }
 
+/// Whether digits in base five are those of a number that is far from the largest one.
+fn is_small(digits: usize) -> bool
+    ensures { result ≡ nat_lt digits (2 ^ 59) }
+{
+    digits < 576_460_752_303_423_488
+}
+
 /// The digits so far in base five, with one more: no more than the largest number there is, which names nothing.
 fn with_digit(digits: usize, worth: usize) -> usize
+    requires { worth ≤ 5 }
     ensures { (n : ℕ) → digits ≡ min n (2 ^ 64 - 1) → result ≡ min (5 * n + worth) (2 ^ 64 - 1) }
 {
-    digits.saturating_mul(5).saturating_add(worth)
+    if is_small(digits) {
+        digits * 5 + worth
+    } else {
+        digits.saturating_mul(5).saturating_add(worth)
+    }
+}
+
+/// The number that these digits in base five and this last letter write: no more than the largest number there is.
+fn value_of(digits: usize, last: usize) -> usize
+    requires { last ≤ 20 }
+    ensures { result ≡ min (20 * digits + last) (2 ^ 64 - 1) }
+{
+    if is_small(digits) {
+        digits * 20 + last
+    } else {
+        digits.saturating_mul(20).saturating_add(last)
+    }
 }
 
 /// What a number names among the labels and the saves so far.
 fn named(labels: usize, saves: usize, digits: usize, last: usize) -> Result<Action, ProofNumber>
     requires few { labels + saves < 2 ^ 64 - 1 }
     requires some { 0 < last }
+    requires letter { last ≤ 20 }
     ensures within { IfOk result (IsLabelWithin labels) }
     ensures says { (names : List Step) (n : ℕ) → length names ≡ labels → digits ≡ min n (2 ^ 64 - 1) →
         meant_or names result ≡ named_lem (slice_get (nameable names saves) (20 * n + last - 1)) }
 {
-    let value = digits.saturating_mul(20).saturating_add(last);
+    let value = value_of(digits, last);
     if value <= labels {
         Ok(Action::Label(value - 1))
     } else if value - labels <= saves {
