@@ -16,6 +16,7 @@ pub mod MachineState
 pub mod NamedItems
 pub mod Tasks
 pub mod UsedLabels
+pub mod MarkedLabels
 pub mod Judged
 pub mod DecodedProof
 pub mod Numbering

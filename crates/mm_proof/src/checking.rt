@@ -14,18 +14,19 @@ ghost use Rattle.mm_proof.specs.Code.DecodedProof.{IsDecoded, IsJudgedProof, OfD
 ghost use Rattle.mm_proof.specs.Code.Judged.{HasProof, IsOutcomeWithin, OfProof, done_by};
 ghost use Rattle.mm_proof.specs.Language.ReadIn.{HasTheorem, OfTheorem};
 ghost use Rattle.mm_proof.specs.Code.Tasks.{RunSays, StopsAt};
+ghost use Rattle.mm_proof.specs.Code.UsedLabels.{AreMarks, AreUsed};
 ghost use Rattle.mm_proof.specs.declared.step.Undecoded.TheVariants as errors;
 
 use crate::active::Active;
 use crate::assertion::{active, expression};
-use crate::citing::cites;
+use crate::citing::cites_used;
 use crate::decoding_laws::{decodes_short, decodes_surely, labels_are_own, mandatory_are_active};
 use crate::named::{NamingRoom, name_all};
-use crate::reading::{Decoding, decode};
+use crate::reading::{Decoding, MarkedDecoding, decode_marked};
 use crate::short::{steps_before, take_more, takes_more};
 use crate::step::{ProofFault, ProofStep, Undecoded};
 use crate::stepping::{Outcome, run, run_through};
-use crate::used::labels_used;
+use crate::used::{labels_marked, labels_used};
 use crate::work::{Checked, Scratch, Work};
 use crate::{ProofNumber, Spot, Verdict};
 use mm_frame::{
@@ -139,9 +140,15 @@ fn run_front(
     Ok(None)
 }
 
-/// Runs all steps of a proof.
-fn run_all(alloc: Global, scratch: &mut Scratch, proof: DecodedProof) -> Result<Outcome, AllocError>
-    requires { IsDecoded proof }
+/// Runs all steps of a proof, which name these labels.
+fn run_all(
+    alloc: Global,
+    scratch: &mut Scratch,
+    used: &[Resolved],
+    proof: DecodedProof,
+) -> Result<Outcome, AllocError>
+    requires decoded { IsDecoded proof }
+    requires used { AreUsed proof.decoding.now.labels.items used.now proof.decoding.now.steps.items }
     ensures within { IfOk result (IsOutcomeWithin (length proof.entry.decoding.now.steps.items)) }
     ensures says { IfOk result (λ outcome. OfDecoded proof.entry (λ view.
         RunSays (setting_at view proof.entry.i) (steps_of proof.entry view) (statement_at view proof.entry.i) outcome)) }
@@ -149,11 +156,9 @@ fn run_all(alloc: Global, scratch: &mut Scratch, proof: DecodedProof) -> Result<
     places_have_frames();
     decodes_surely();
     mandatory_are_active();
-    let labels: &[Resolved] = &proof.decoding.labels;
     let steps: &[ProofStep] = &proof.decoding.steps;
     let room = mem::replace(&mut scratch.naming, NamingRoom::new(alloc));
-    let used = labels_used(alloc, labels, steps)?;
-    let (named, room) = name_all(alloc, proof.base, &used, room)?;
+    let (named, room) = name_all(alloc, proof.base, used, room)?;
     scratch.naming = room;
     let active = Active::new(active(proof.base, proof.i));
     run(
@@ -166,13 +171,15 @@ fn run_all(alloc: Global, scratch: &mut Scratch, proof: DecodedProof) -> Result<
     )
 }
 
-/// Runs the steps of a proof.
+/// Runs the steps of a proof, which name these labels.
 fn run_steps(
     alloc: Global,
     scratch: &mut Scratch,
+    used: &[Resolved],
     proof: DecodedProof,
 ) -> Result<Outcome, AllocError>
-    requires { IsDecoded proof }
+    requires decoded { IsDecoded proof }
+    requires used { AreUsed proof.decoding.now.labels.items used.now proof.decoding.now.steps.items }
     ensures within { IfOk result (IsOutcomeWithin (length proof.entry.decoding.now.steps.items)) }
     ensures says { IfOk result (λ outcome. OfDecoded proof.entry (λ view.
         RunSays (setting_at view proof.entry.i) (steps_of proof.entry view) (statement_at view proof.entry.i) outcome)) }
@@ -183,30 +190,36 @@ fn run_steps(
             return Ok(outcome);
         }
     }
-    run_all(alloc, &mut *scratch, proof)
+    run_all(alloc, &mut *scratch, used, proof)
 }
 
-/// What a check says of a proof that decodes, and how many steps are done.
+/// What a check says of a proof that decodes, and how many steps are done. Marks tell which labels its steps name.
 fn judge_steps(
     alloc: Global,
     scratch: &mut Scratch,
+    marks: &[bool],
     proof: DecodedProof,
 ) -> Result<(Checked, u64), AllocError>
-    requires { IsDecoded proof }
+    requires decoded { IsDecoded proof }
+    requires marks { AreMarks (length proof.decoding.now.labels.items) marks.now proof.decoding.now.steps.items }
     ensures says { IfOk result (λ judged. OfDecoded proof.entry (λ view. IsJudgedProof view proof.entry.i judged)) }
     ensures few { IfOk result (λ judged. judged.1 ≤ 4294967295) }
 {
     decodes_short();
     labels_are_own();
     let hypotheses = mandatory(proof.base, proof.i).len();
-    let cites = cites(
+    let room = mem::replace(&mut scratch.used, Vec::new(alloc));
+    let used = labels_marked(room, &proof.decoding.labels, marks)?;
+    let cites = cites_used(
         alloc,
         &mut scratch.marks,
         proof.decoding,
+        &used,
         hypotheses,
         proof.words,
     )?;
-    let outcome = run_steps(alloc, &mut *scratch, proof)?;
+    let outcome = run_steps(alloc, &mut *scratch, &used, proof)?;
+    scratch.used = used;
     let done = steps_done(outcome, proof.decoding.steps.len());
     let verdict = verdict(outcome, proof.decoding, proof.words.again());
     Ok((Checked::new(verdict, cites), done as u64))
@@ -226,17 +239,17 @@ fn judge<'a>(
 {
     mandatory_are_active();
     let mandatory = mandatory(base, i);
-    let room = mem::replace(&mut scratch.decoding, Decoding::new(alloc));
-    match decode(base, i, mandatory, proof, room) {
-        Ok(decoding) => {
+    let room = mem::replace(&mut scratch.decoding, MarkedDecoding::new(alloc));
+    match decode_marked(base, i, mandatory, proof, room) {
+        Ok(marked) => {
             let decoded = DecodedProof {
                 base,
                 i,
                 words: proof,
-                decoding: &decoding,
+                decoding: &marked.decoding,
             };
-            let judged = judge_steps(alloc, &mut *scratch, decoded)?;
-            scratch.decoding = decoding;
+            let judged = judge_steps(alloc, &mut *scratch, &marked.used, decoded)?;
+            scratch.decoding = marked;
             Ok(judged)
         }
         Err(error) => {

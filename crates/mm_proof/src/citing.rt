@@ -1,8 +1,8 @@
 //! Which words of a proof cite an assertion.
 
 ghost use Rattle.std.specs.Prelude.{◌≡◌, ◌≤◌, true, false, ℕ, ◌+◌, ◌++◌, ◌∷◌, ◌||◌, nat_eq, List, IfOk, OnOk, drop, length};
-ghost use Rattle.std.specs.List.{list_any};
-ghost use Rattle.mm_proof.specs.Code.Cited.{item_named, names_item, item_cites, without, marked_at, is_listed};
+ghost use Rattle.mm_proof.specs.Code.Cited.{item_cites, without, marked_at, is_listed};
+ghost use Rattle.mm_proof.specs.Code.UsedLabels.{AreUsed};
 ghost use Rattle.mm_frame.specs.declared.base.Resolved as labels;
 ghost use Rattle.mm_frame.specs.Language.Base.{BaseView};
 ghost use Rattle.mm_proof.specs.Language.BaseLabels.{NoLabelTwice};
@@ -11,22 +11,9 @@ ghost use Rattle.mm_proof.specs.Language.Citing.{cited_words};
 ghost use Rattle.mm_proof.specs.Language.DecodedSteps.{decoded_steps, AreEntries, entry_steps, label_table, labels_at};
 
 use crate::reading::{Decoding, is_compressed};
-use crate::step::{Action, ProofStep};
+use crate::used::labels_used;
 use mm_frame::{ProofWords, Resolved};
 use std::alloc::{AllocError, Global};
-
-/// The assertion that an action names, if it names one.
-fn assertion_of(labels: &[Resolved], action: Action) -> Option<usize>
-    ensures { result ≡ item_named labels.now action }
-{
-    match action {
-        Action::Label(k) => match labels.get(k) {
-            Some(Resolved::Assertion(j)) => Some(*j),
-            _ => None,
-        },
-        _ => None,
-    }
-}
 
 /// Marks a number.
 fn put(marks: &mut Vec<bool>, j: usize) -> Result<(), AllocError>
@@ -65,13 +52,13 @@ fn forget(marks: &mut Vec<bool>, labels: &[Resolved])
     }
 }
 
-/// Marks, of the assertions that labels name, those that steps name. Of others the marks do not count.
-fn named(marks: &mut Vec<bool>, labels: &[Resolved], steps: &[ProofStep]) -> Result<(), AllocError>
-    ensures { OnOk result ((j : ℕ) → is_listed labels.now j ≡ true → marked_at marks.new.items j ≡ list_any (names_item labels.now j) steps.now) }
+/// Marks, of the assertions that labels name, those that the labels in use name. Of others the marks do not count.
+fn named(marks: &mut Vec<bool>, labels: &[Resolved], used: &[Resolved]) -> Result<(), AllocError>
+    ensures { OnOk result ((j : ℕ) → is_listed labels.now j ≡ true → marked_at marks.new.items j ≡ is_listed used.now j) }
 {
     forget(&mut *marks, labels);
-    for step in steps {
-        if let Some(j) = assertion_of(labels, step.action) {
+    for label in used {
+        if let Resolved::Assertion(j) = *label {
             put(&mut *marks, j)?;
         }
     }
@@ -98,26 +85,51 @@ fn cite(
 }
 
 /// The numbers of the words that cite: those of the labels from entry `skip` on, the first of which is word `from`.
-/// Each assertion that a step names is told once, by the first word that is its label. There is room for so many words
-/// from the beginning.
+/// Each assertion that the labels in use name is told once, by the first word that is its label. There is room for so many
+/// words from the beginning.
 fn cited(
     alloc: Global,
     marks: &mut Vec<bool>,
-    decoding: &Decoding,
+    labels: &[Resolved],
+    used: &[Resolved],
     skip: usize,
     from: usize,
     room: usize,
 ) -> Result<Vec<usize>, AllocError>
     requires { from ≤ 1 }
-    ensures { IfOk result (λ words. words.items
-        ≡ item_cites (λ j. list_any (names_item decoding.now.labels.items j) decoding.now.steps.items) from (drop skip decoding.now.labels.items)) }
+    ensures { IfOk result (λ words. words.items ≡ item_cites (is_listed used.now) from (drop skip labels.now)) }
 {
-    named(&mut *marks, &decoding.labels, &decoding.steps)?;
+    named(&mut *marks, labels, used)?;
     let mut words = Vec::with_capacity(alloc, room)?;
-    for k in skip..decoding.labels.len() {
-        cite(&mut *marks, &mut words, decoding.labels[k], k - skip + from)?;
+    for k in skip..labels.len() {
+        cite(&mut *marks, &mut words, labels[k], k - skip + from)?;
     }
     Ok(words)
+}
+
+/// The numbers of the words of a proof that cite, where these labels are in use.
+pub fn cites_used(
+    alloc: Global,
+    marks: &mut Vec<bool>,
+    decoding: &Decoding,
+    used: &[Resolved],
+    mandatory: usize,
+    proof: &ProofWords,
+) -> Result<Vec<usize>, AllocError>
+    requires { AreUsed decoding.now.labels.items used.now decoding.now.steps.items }
+    ensures { IfOk result (λ words. (view : BaseView) (i : ℕ) (numbers : List ℕ) → NoLabelTwice view → length numbers ≡ mandatory →
+        AreEntries view i decoding.now.labels.items →
+        entry_steps view decoding.now.labels.items ≡ label_table (labels_at view numbers) proof.now →
+        words.items ≡ cited_words (setting_at view i) proof.now (decoded_steps view decoding.now proof.now).steps) }
+{
+    let labels: &[Resolved] = &decoding.labels;
+    if is_compressed(proof) {
+        // Most labels of a list are those of assertions that are cited.
+        let room = labels.len().saturating_sub(mandatory);
+        cited(alloc, &mut *marks, labels, used, mandatory, 1, room)
+    } else {
+        cited(alloc, &mut *marks, labels, used, 0, 0, 0)
+    }
 }
 
 /// The numbers of the words of a proof that cite: for each assertion that a decoded step names, the first word that is
@@ -135,11 +147,6 @@ pub fn cites(
         entry_steps view decoding.now.labels.items ≡ label_table (labels_at view numbers) proof.now →
         words.items ≡ cited_words (setting_at view i) proof.now (decoded_steps view decoding.now proof.now).steps) }
 {
-    if is_compressed(proof) {
-        // Most labels of a list are those of assertions that are cited.
-        let room = decoding.labels.len().saturating_sub(mandatory);
-        cited(alloc, &mut *marks, decoding, mandatory, 1, room)
-    } else {
-        cited(alloc, &mut *marks, decoding, 0, 0, 0)
-    }
+    let used = labels_used(alloc, &decoding.labels, &decoding.steps)?;
+    cites_used(alloc, marks, decoding, &used, mandatory, proof)
 }

@@ -1,16 +1,19 @@
 //! The letters of a compressed proof, read in one pass.
 
-ghost use Rattle.std.specs.Prelude.{◌≡◌, ℕ, ◌+◌, ◌-◌, ◌*◌, ◌^◌, ◌<◌, ◌≤◌, min, length, List, slice_get, IfOk, IfErr, Ok};
+ghost use Rattle.std.specs.Prelude.{◌≡◌, ℕ, ◌+◌, ◌-◌, ◌*◌, ◌^◌, ◌<◌, ◌≤◌, min, nat_lt, length, List, slice_get, IfOk, IfErr, Ok};
 ghost use Rattle.mm_proof.specs.Language.Expansion.{Step};
 ghost use Rattle.mm_proof.specs.Language.Numbers as numbers;
 ghost use Rattle.mm_proof.specs.Language.Decoding.{nameable, named as named_lem};
 ghost use Rattle.mm_proof.specs.Code.LeftToRight.{read_behind, alone_behind, read_on};
 ghost use Rattle.mm_proof.specs.Language.DecodedSteps.{meant};
 ghost use Rattle.mm_proof.specs.Code.Coded.{TellsSteps, meant_or, meant_steps, LettersGive};
+ghost use Rattle.mm_proof.specs.Code.UsedLabels.{AreMarks, IsLabelWithin};
 
 use crate::step::{Action, ProofFault, ProofStep, Undecoded};
+use crate::used::mark;
 use crate::{ProofNumber, Spot};
 use mm_frame::ProofWords;
+use std::alloc::AllocError;
 
 /// Whether a byte is one of the digits `U` to `Y`.
 fn is_digit(byte: u8) -> bool
@@ -19,21 +22,47 @@ fn is_digit(byte: u8) -> bool
     matches!(byte, b'U'..=b'Y')
 }
 
+/// Whether digits in base five are those of a number that is far from the largest one.
+fn is_small(digits: usize) -> bool
+    ensures { result ≡ nat_lt digits (2 ^ 59) }
+{
+    digits < 576_460_752_303_423_488
+}
+
 /// The digits so far in base five, with one more: no more than the largest number there is, which names nothing.
 fn with_digit(digits: usize, worth: usize) -> usize
+    requires { worth ≤ 5 }
     ensures { (n : ℕ) → digits ≡ min n (2 ^ 64 - 1) → result ≡ min (5 * n + worth) (2 ^ 64 - 1) }
 {
-    digits.saturating_mul(5).saturating_add(worth)
+    if is_small(digits) {
+        digits * 5 + worth
+    } else {
+        digits.saturating_mul(5).saturating_add(worth)
+    }
+}
+
+/// The number that these digits in base five and this last letter write: no more than the largest number there is.
+fn value_of(digits: usize, last: usize) -> usize
+    requires { last ≤ 20 }
+    ensures { result ≡ min (20 * digits + last) (2 ^ 64 - 1) }
+{
+    if is_small(digits) {
+        digits * 20 + last
+    } else {
+        digits.saturating_mul(20).saturating_add(last)
+    }
 }
 
 /// What a number names among the labels and the saves so far.
 fn named(labels: usize, saves: usize, digits: usize, last: usize) -> Result<Action, ProofNumber>
     requires few { labels + saves < 2 ^ 64 - 1 }
     requires some { 0 < last }
-    ensures { (names : List Step) (n : ℕ) → length names ≡ labels → digits ≡ min n (2 ^ 64 - 1) →
+    requires letter { last ≤ 20 }
+    ensures within { IfOk result (IsLabelWithin labels) }
+    ensures says { (names : List Step) (n : ℕ) → length names ≡ labels → digits ≡ min n (2 ^ 64 - 1) →
         meant_or names result ≡ named_lem (slice_get (nameable names saves) (20 * n + last - 1)) }
 {
-    let value = digits.saturating_mul(20).saturating_add(last);
+    let value = value_of(digits, last);
     if value <= labels {
         Ok(Action::Label(value - 1))
     } else if value - labels <= saves {
@@ -45,7 +74,8 @@ fn named(labels: usize, saves: usize, digits: usize, last: usize) -> Result<Acti
 
 /// An action that takes no digits.
 fn alone(digits: usize, action: Action) -> Result<Action, ProofNumber>
-    ensures { (names : List Step) (n : ℕ) → digits ≡ min n (2 ^ 64 - 1) → meant_or names result ≡ alone_behind n (meant names action) }
+    ensures same { IfOk result (λ found. found ≡ action) }
+    ensures says { (names : List Step) (n : ℕ) → digits ≡ min n (2 ^ 64 - 1) → meant_or names result ≡ alone_behind n (meant names action) }
 {
     if digits == 0 {
         Ok(action)
@@ -57,7 +87,8 @@ fn alone(digits: usize, action: Action) -> Result<Action, ProofNumber>
 /// What a letter that is no digit does behind these digits.
 fn action(labels: usize, saves: usize, digits: usize, byte: u8) -> Result<Action, ProofNumber>
     requires few { labels + saves < 2 ^ 64 - 1 }
-    ensures { (names : List Step) (n : ℕ) → length names ≡ labels → digits ≡ min n (2 ^ 64 - 1) →
+    ensures within { IfOk result (IsLabelWithin labels) }
+    ensures says { (names : List Step) (n : ℕ) → length names ≡ labels → digits ≡ min n (2 ^ 64 - 1) →
         meant_or names result ≡ read_behind (nameable names saves) n byte }
 {
     match byte {
@@ -66,6 +97,13 @@ fn action(labels: usize, saves: usize, digits: usize, byte: u8) -> Result<Action
         b'?' => alone(digits, Action::Unknown),
         _ => Err(ProofNumber::P04),
     }
+}
+
+/// The steps that letters stand for, and for each label that numbers name whether one of the steps names it.
+#[derive(Drop)]
+pub struct MarkedSteps {
+    pub steps: Vec<ProofStep>,
+    pub used: Vec<bool>,
 }
 
 /// The letters so far: the steps that they stand for, and digits that wait for the letter behind them.
@@ -78,8 +116,11 @@ pub struct LetterReader {
     /// The digits in base five: 0 where there are none, and no more than the largest number there is.
     digits: usize,
     steps: Vec<ProofStep>,
+    /// For each label whether one of the steps names it.
+    used: Vec<bool>,
     ghost few_labels: { labels < 2 ^ 63 },
     ghost few_saves: { saves ≤ length steps.items },
+    ghost marked: { AreMarks labels used.items steps.items },
 }
 
 impl LetterReader {
@@ -87,24 +128,30 @@ impl LetterReader {
     ghost use Rattle.mm_proof.specs.Language.Letters.{Letter, letters_in};
     ghost use Rattle.mm_proof.specs.Code.Reader.{Aim, ReadsLetters};
 
-    /// A reader before the first letter, where numbers name this many labels. It puts the steps in place of what a list
-    /// has.
-    fn new(room: Vec<ProofStep>, labels: usize) -> Self
+    /// A reader before the first letter, where numbers name this many labels. It puts the steps and the marks in place of
+    /// what the lists have.
+    fn new(room: MarkedSteps, labels: usize) -> Result<Self, AllocError>
         requires { labels < 2 ^ 63 }
-        ensures { (aim : Aim) (ls : List Letter) → length aim.names ≡ labels → aim.total ≡ read_on aim.names aim.close 0 0 ls → ReadsLetters aim result ls }
+        ensures labels { IfOk result (λ reader. reader.labels ≡ labels) }
+        ensures reads { IfOk result (λ reader. (aim : Aim) (ls : List Letter) → length aim.names ≡ labels → aim.total ≡ read_on aim.names aim.close 0 0 ls → ReadsLetters aim reader ls) }
     {
-        let mut steps = room;
+        let mut steps = room.steps;
         steps.clear();
-        LetterReader {
+        let mut used = room.used;
+        used.clear();
+        used.resize(labels, false)?;
+        Ok(LetterReader {
             labels,
             saves: 0,
             digits: 0,
             steps,
-        }
+            used,
+        })
     }
 
     /// Reads one letter.
     fn read(&mut self, byte: u8, spot: Spot) -> Result<(), Undecoded>
+        ensures labels { OnOk result (self.new.labels ≡ self.old.labels) }
         ensures ok { OnOk result ((aim : Aim) (ls : List Letter)
             → ReadsLetters aim self.old (record { byte = byte; spot = spot } ∷ ls) → ReadsLetters aim self.new ls) }
         ensures err { IfErr result (λ e. (aim : Aim) (ls : List Letter)
@@ -117,6 +164,7 @@ impl LetterReader {
         match action(self.labels, self.saves, self.digits, byte) {
             Ok(action) => {
                 self.steps.push(ProofStep { action, spot })?;
+                mark(&mut self.used, action);
                 self.digits = 0;
                 if byte == b'Z' {
                     self.saves += 1;
@@ -129,6 +177,7 @@ impl LetterReader {
 
     /// Reads the letters of the word with this number.
     fn read_word(&mut self, n: usize, word: &[u8]) -> Result<(), Undecoded>
+        ensures labels { OnOk result (self.new.labels ≡ self.old.labels) }
         ensures ok { OnOk result ((aim : Aim) (ls : List Letter) → ReadsLetters aim self.old (letters_in (n, word.now) ++ ls) → ReadsLetters aim self.new ls) }
         ensures err { IfErr result (λ e. (aim : Aim) (ls : List Letter) → ReadsLetters aim self.old (letters_in (n, word.now) ++ ls) → TellsSteps e aim.total) }
     {
@@ -139,12 +188,16 @@ impl LetterReader {
     }
 
     /// The steps, or the fault of digits that no letter follows.
-    fn end(self, close: Spot) -> Result<Vec<ProofStep>, Undecoded>
-        ensures ok { IfOk result (λ steps. (aim : Aim) → aim.close ≡ close → ReadsLetters aim self [] → aim.total ≡ Ok (meant_steps aim.names steps.items)) }
+    fn end(self, close: Spot) -> Result<MarkedSteps, Undecoded>
+        ensures marks { IfOk result (λ read. AreMarks self.labels read.used.items read.steps.items) }
+        ensures ok { IfOk result (λ read. (aim : Aim) → aim.close ≡ close → ReadsLetters aim self [] → aim.total ≡ Ok (meant_steps aim.names read.steps.items)) }
         ensures err { IfErr result (λ e. (aim : Aim) → aim.close ≡ close → ReadsLetters aim self [] → TellsSteps e aim.total) }
     {
         if self.digits == 0 {
-            Ok(self.steps)
+            Ok(MarkedSteps {
+                steps: self.steps,
+                used: self.used,
+            })
         } else {
             Err(Undecoded::Fault(ProofFault {
                 number: ProofNumber::P05,
@@ -155,19 +208,21 @@ impl LetterReader {
 }
 
 /// The steps of the letters of a proof, which are the words that are left, from the word with the number `from` on, where
-/// numbers name this many labels and then the saves. They are put in place of what a list has.
+/// numbers name this many labels and then the saves; with marks for the labels. They are put in place of what the lists
+/// have.
 pub fn read_letters(
-    room: Vec<ProofStep>,
+    room: MarkedSteps,
     words: &mut ProofWords,
     from: usize,
     labels: usize,
-) -> Result<Vec<ProofStep>, Undecoded>
+) -> Result<MarkedSteps, Undecoded>
     requires few { from + length words.old < 2 ^ 64 }
     requires labels { labels < 2 ^ 63 }
-    ensures ok { IfOk result (λ steps. LettersGive labels words.old from (λ names given. given ≡ Ok (meant_steps names steps.items))) }
+    ensures marks { IfOk result (λ read. AreMarks labels read.used.items read.steps.items) }
+    ensures ok { IfOk result (λ read. LettersGive labels words.old from (λ names given. given ≡ Ok (meant_steps names read.steps.items))) }
     ensures err { IfErr result (λ e. LettersGive labels words.old from (λ names given. TellsSteps e given)) }
 {
-    let mut reader = LetterReader::new(room, labels);
+    let mut reader = LetterReader::new(room, labels)?;
     let mut n = from;
     while let Some(word) = words.next_word() {
         reader.read_word(n, word)?;

@@ -13,11 +13,14 @@ ghost use Rattle.mm_proof.specs.Code.Coded.{TellsSteps};
 ghost use Rattle.mm_proof.specs.Code.Decoded.{InViews, WhereActive, compressed_at, normal_at};
 ghost use Rattle.mm_proof.specs.Code.Decoded.{steps_by, listed_table};
 ghost use Rattle.mm_proof.specs.Code.Labels.{TellsWord};
+ghost use Rattle.mm_proof.specs.Code.UsedLabels.{IsLabelWithin};
+ghost use Rattle.mm_proof.specs.Code.MarkedLabels.{HasMarks};
 
 use crate::Spot;
 use crate::labels::{read_label, read_list};
-use crate::letters::read_letters;
+use crate::letters::{MarkedSteps, read_letters};
 use crate::step::{Action, ProofStep, Undecoded};
+use crate::used::mark;
 use mm_frame::{Base, ProofWords, Resolved};
 use std::alloc::{AllocError, Global};
 
@@ -41,6 +44,23 @@ impl Decoding {
     }
 }
 
+/// A decoding, and for each of its labels whether one of its steps names it.
+#[derive(Drop)]
+pub struct MarkedDecoding {
+    pub decoding: Decoding,
+    pub used: Vec<bool>,
+}
+
+impl MarkedDecoding {
+    /// Nothing, which takes no memory.
+    pub fn new(alloc: Global) -> MarkedDecoding {
+        MarkedDecoding {
+            decoding: Decoding::new(alloc),
+            used: Vec::new(alloc),
+        }
+    }
+}
+
 /// The entries of the mandatory hypotheses, which are the items with these numbers, in place of what a list has.
 fn hypotheses(room: Vec<Resolved>, mandatory: &[usize]) -> Result<Vec<Resolved>, AllocError>
     ensures { IfOk result (λ labels. labels.items ≡ map answers.Hypothesis mandatory.now) }
@@ -59,23 +79,37 @@ fn decode_compressed(
     i: usize,
     mandatory: &[usize],
     proof: &ProofWords,
-    room: Decoding,
-) -> Result<Decoding, Undecoded>
+    room: MarkedDecoding,
+) -> Result<MarkedDecoding, Undecoded>
     requires { is_compressed_lem proof.now ≡ true }
+    ensures marks { IfOk result HasMarks }
     ensures ok { IfOk result (λ d. WhereActive base.now i mandatory.now (λ view.
-        compressed_at view i mandatory.now proof.now ≡ Ok (steps_by view d))) }
-    ensures entries { IfOk result (λ d. WhereActive base.now i mandatory.now (λ view. AreEntries view i d.labels.items)) }
+        compressed_at view i mandatory.now proof.now ≡ Ok (steps_by view d.decoding))) }
+    ensures entries { IfOk result (λ d. WhereActive base.now i mandatory.now (λ view. AreEntries view i d.decoding.labels.items)) }
     ensures table { IfOk result (λ d. WhereActive base.now i mandatory.now (λ view.
-        entry_steps view d.labels.items ≡ listed_table view mandatory.now proof.now)) }
+        entry_steps view d.decoding.labels.items ≡ listed_table view mandatory.now proof.now)) }
     ensures err { IfErr result (λ e. WhereActive base.now i mandatory.now (λ view.
         TellsSteps e (compressed_at view i mandatory.now proof.now))) }
 {
-    let mut labels = hypotheses(room.labels, mandatory)?;
+    let MarkedDecoding { decoding, used } = room;
+    let mut labels = hypotheses(decoding.labels, mandatory)?;
     let mut words = proof.again();
     let _open = words.next_word();
     let close = read_list(base, i, &mut words, &mut labels)?;
-    let steps = read_letters(room.steps, &mut words, close + 1, labels.len())?;
-    Ok(Decoding { labels, steps })
+    let steps = decoding.steps;
+    let read = read_letters(
+        MarkedSteps { steps, used },
+        &mut words,
+        close + 1,
+        labels.len(),
+    )?;
+    Ok(MarkedDecoding {
+        decoding: Decoding {
+            labels,
+            steps: read.steps,
+        },
+        used: read.used,
+    })
 }
 
 /// Whether a word is a `?`.
@@ -88,6 +122,7 @@ pub fn is_unknown(word: &[u8]) -> bool
 /// What the n-th word of a normal proof of the item with the number `i` names, and what it does.
 fn read_word(base: &Base, i: usize, word: &[u8], n: usize) -> Result<(Resolved, Action), Undecoded>
     ensures ok { IfOk result (λ read. InViews base.now (λ view. read_word_lem (setting_at view i) word.now ≡ Ok (entry_step view read.0))) }
+    ensures within { IfOk result (λ read. IsLabelWithin (n + 1) read.1) }
     ensures action { IfOk result (λ read. (view : BaseView) (before after : List Step) → IsBase view base.now → length before ≡ n →
         meant (before ++ entry_step view read.0 ∷ after) read.1 ≡ entry_step view read.0) }
     ensures entry { IfOk result (λ read. InViews base.now (λ view. IsEntry view i read.0)) }
@@ -105,17 +140,20 @@ fn decode_normal(
     base: &Base,
     i: usize,
     proof: &ProofWords,
-    room: Decoding,
-) -> Result<Decoding, Undecoded>
-    ensures ok { IfOk result (λ d. InViews base.now (λ view. normal_at view i proof.now ≡ Ok (steps_by view d))) }
-    ensures entries { IfOk result (λ d. InViews base.now (λ view. AreEntries view i d.labels.items)) }
-    ensures table { IfOk result (λ d. InViews base.now (λ view. entry_steps view d.labels.items ≡ map word_step proof.now)) }
+    room: MarkedDecoding,
+) -> Result<MarkedDecoding, Undecoded>
+    ensures marks { IfOk result HasMarks }
+    ensures ok { IfOk result (λ d. InViews base.now (λ view. normal_at view i proof.now ≡ Ok (steps_by view d.decoding))) }
+    ensures entries { IfOk result (λ d. InViews base.now (λ view. AreEntries view i d.decoding.labels.items)) }
+    ensures table { IfOk result (λ d. InViews base.now (λ view. entry_steps view d.decoding.labels.items ≡ map word_step proof.now)) }
     ensures err { IfErr result (λ e. InViews base.now (λ view. TellsSteps e (normal_at view i proof.now))) }
 {
-    let mut labels = room.labels;
+    let mut labels = room.decoding.labels;
     labels.clear();
-    let mut steps = room.steps;
+    let mut steps = room.decoding.steps;
     steps.clear();
+    let mut used = room.used;
+    used.clear();
     let mut words = proof.again();
     let mut n = 0;
     while let Some(word) = words.next_word() {
@@ -125,9 +163,12 @@ fn decode_normal(
             action,
             spot: Spot { word: n, letter: 0 },
         })?;
+        used.push(false)?;
+        mark(&mut used, action);
         n += 1;
     }
-    Ok(Decoding { labels, steps })
+    let decoding = Decoding { labels, steps };
+    Ok(MarkedDecoding { decoding, used })
 }
 
 /// Whether a word begins the list of labels of a compressed proof.
@@ -145,6 +186,30 @@ pub fn is_compressed(proof: &ProofWords) -> bool
     match words.next_word() {
         Some(word) => is_open(word),
         None => false,
+    }
+}
+
+/// Decodes the proof of the item with the number `i` as `decode` does, and marks the labels that its steps name.
+pub fn decode_marked(
+    base: &Base,
+    i: usize,
+    mandatory: &[usize],
+    proof: &ProofWords,
+    room: MarkedDecoding,
+) -> Result<MarkedDecoding, Undecoded>
+    ensures marks { IfOk result HasMarks }
+    ensures ok { IfOk result (λ d. WhereActive base.now i mandatory.now (λ view.
+        decoding_of view i mandatory.now proof.now ≡ Ok (decoded_steps view d.decoding proof.now))) }
+    ensures entries { IfOk result (λ d. WhereActive base.now i mandatory.now (λ view. AreEntries view i d.decoding.labels.items)) }
+    ensures table { IfOk result (λ d. WhereActive base.now i mandatory.now (λ view.
+        entry_steps view d.decoding.labels.items ≡ label_table (labels_at view mandatory.now) proof.now)) }
+    ensures err { IfErr result (λ e. WhereActive base.now i mandatory.now (λ view.
+        TellsFault e (decoding_of view i mandatory.now proof.now))) }
+{
+    if is_compressed(proof) {
+        decode_compressed(base, i, mandatory, proof, room)
+    } else {
+        decode_normal(base, i, proof, room)
     }
 }
 
@@ -168,9 +233,13 @@ pub fn decode(
     ensures err { IfErr result (λ e. (view : BaseView) → IsBase view base.now → AreActive view i mandatory.now →
         TellsFault e (decoding_of view i mandatory.now proof.now)) }
 {
-    if is_compressed(proof) {
-        decode_compressed(base, i, mandatory, proof, room)
-    } else {
-        decode_normal(base, i, proof, room)
+    let used = Vec::new(*room.steps.allocator());
+    let room = MarkedDecoding {
+        decoding: room,
+        used,
+    };
+    match decode_marked(base, i, mandatory, proof, room) {
+        Ok(marked) => Ok(marked.decoding),
+        Err(error) => Err(error),
     }
 }

@@ -5,15 +5,17 @@ ghost use Rattle.std.specs.Prelude.{◌≡◌, ◌<◌, ◌+◌, ◌++◌, ◌�
 use crate::Verdict;
 use crate::machine::Machine;
 use crate::named::NamingRoom;
-use crate::reading::Decoding;
-use mm_frame::NumberedSymbol;
+use crate::reading::MarkedDecoding;
+use mm_frame::{NumberedSymbol, Resolved};
 use std::alloc::{AllocError, Global};
 use std::marker::Model;
 
 /// What checks use over again, so that none takes its memory anew. What one leaves there does not count in the next.
 #[derive(Drop)]
 pub struct Scratch {
-    pub decoding: Decoding,
+    pub decoding: MarkedDecoding,
+    /// The labels that steps name.
+    pub used: Vec<Resolved>,
     pub naming: NamingRoom,
     /// For the number of an item a mark.
     pub marks: Vec<bool>,
@@ -24,7 +26,8 @@ impl Scratch {
     /// It has taken no memory yet.
     fn new(alloc: Global) -> Scratch {
         Scratch {
-            decoding: Decoding::new(alloc),
+            decoding: MarkedDecoding::new(alloc),
+            used: Vec::new(alloc),
             naming: NamingRoom::new(alloc),
             marks: Vec::new(alloc),
             machine: Machine::new(alloc),

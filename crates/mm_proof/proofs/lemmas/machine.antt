@@ -10,6 +10,7 @@ pub mod Given
 pub mod KeyOrderLemmas
 pub mod LackLemmas
 pub mod MarkLemmas
+pub mod MarkedLabels
 pub mod NamedLemmas
 pub mod PairClauseLemmas
 pub mod RangeLemmas

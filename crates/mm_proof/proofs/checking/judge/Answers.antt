@@ -2,18 +2,18 @@ use Rattle.mm_proof.proofs.lemmas.decoding.DecodedProofs.{decoded}
 use Rattle.mm_proof.proofs.lemmas.base.FrameLemmas.{framed_proof}
 use Rattle.mm_proof.proofs.checking.judge.Goals as goal
 
-pub judge_steps-requires : goal.judge_steps-requires
-judge_steps-requires c =
+pub judge_steps-requires-clause-decoded : goal.judge_steps-requires-clause-decoded
+judge_steps-requires-clause-decoded c =
     let has = c.requires in (
       has.0,
-      decoded c.args.base.now c.args.i c.args.proof.now c.in-Ok.decoding c.mandatory-mandatory.result.now has.0 has.1 c.mandatory-mandatory.ensures (c.mandatory_are_active.ensures has.0 c.args.i has.1.said)
+      decoded c.args.base.now c.args.i c.args.proof.now c.in-Ok.marked.decoding c.mandatory-mandatory.result.now has.0 has.1 c.mandatory-mandatory.ensures (c.mandatory_are_active.ensures has.0 c.args.i has.1.said)
           c.in-Ok.ensures.ok c.in-Ok.ensures.entries c.in-Ok.ensures.table,
       has.2,
     )
 
 pub returns-in_ok-judged-in-Ok-clause-says : goal.returns-in_ok-judged-in-Ok-clause-says
 returns-in_ok-judged-in-Ok-clause-says c view theorem =
-    c.in_ok-judged-in-Ok.ensures.says view (decoded c.args.base.now c.args.i c.args.proof.now c.in-Ok.decoding c.mandatory-mandatory.result.now view theorem c.mandatory-mandatory.ensures (c.mandatory_are_active.ensures view c.args.i theorem.said)
+    c.in_ok-judged-in-Ok.ensures.says view (decoded c.args.base.now c.args.i c.args.proof.now c.in-Ok.marked.decoding c.mandatory-mandatory.result.now view theorem c.mandatory-mandatory.ensures (c.mandatory_are_active.ensures view c.args.i theorem.said)
     c.in-Ok.ensures.ok c.in-Ok.ensures.entries c.in-Ok.ensures.table)
 
 pub mandatory-mandatory-requires : goal.mandatory-mandatory-requires

@@ -18,7 +18,7 @@ use Rattle.mm_proof.proofs.checking.judge_steps.Goals as goal
 
 pub returns : goal.returns
 returns c =
-    let has = c.requires in
+    let has = c.requires.decoded in
     let view = has.0 in
     let i = c.args.proof.i in
     let d = c.args.proof.decoding.now in
@@ -41,18 +41,24 @@ returns c =
           let many : length steps ≡ c.len.result = omega (arith, c.len.ensures, d.steps.ok, length-map d.steps.items (λ (step : ProofStep). meant names step.action)) in
           let done = ap (λ n. done_by n c.in_ok-outcome.outcome) many ∙ sym c.steps_done-done.ensures.value in
           record {
-            verdict = rw (ap (λ j. j.verdict) c.new.ensures, is.decodes) on;
-            cites = ap (λ j. j.cites) c.new.ensures ∙ told ∙ sym (ap (λ (o : Result Decoded ProofFault). cites place (said_at view i).proof o) is.decodes ∙ ap (λ (words : List (List ℕ)). cited_words place words steps) is.theorem.says);
+            verdict = rw (ap (λ j. j.verdict) c.new-2.ensures, is.decodes) on;
+            cites = ap (λ j. j.cites) c.new-2.ensures ∙ told ∙ sym (ap (λ (o : Result Decoded ProofFault). cites place (said_at view i).proof o) is.decodes ∙ ap (λ (words : List (List ℕ)). cited_words place words steps) is.theorem.says);
             done = rw is.decodes (rw done at (done_says place (statement_at view i) steps c.in_ok-outcome.outcome says));
           };
       few = omega (arith, c.steps_done-done.ensures.within, c.len.ensures, d.steps.ok, length-map d.steps.items (λ (step : ProofStep). meant names step.action));
     }
 
 pub mandatory-hypotheses-requires : goal.mandatory-hypotheses-requires
-mandatory-hypotheses-requires c = let has = c.requires in (has.0, has.1.theorem.base, framed_proof has.0 c.args.proof.i has.1.theorem.is_sound)
+mandatory-hypotheses-requires c = let has = c.requires.decoded in (has.0, has.1.theorem.base, framed_proof has.0 c.args.proof.i has.1.theorem.is_sound)
 
 pub run_steps-requires : goal.run_steps-requires
-run_steps-requires c = c.requires
+run_steps-requires c = record {
+  decoded = c.requires.decoded;
+  used = rw c.deref-3.ensures.value ((rw c.deref.ensures.value at c.in_ok-used.ensures) c.args.proof.decoding.now.steps.items c.requires.marks);
+}
+
+pub cites_used-requires : goal.cites_used-requires
+cites_used-requires c = rw c.deref-2.ensures.value ((rw c.deref.ensures.value at c.in_ok-used.ensures) c.args.proof.decoding.now.steps.items c.requires.marks)
 
 pub steps_done-done-requires : goal.steps_done-done-requires
 steps_done-done-requires c =

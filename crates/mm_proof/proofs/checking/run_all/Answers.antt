@@ -14,13 +14,12 @@ use Rattle.mm_proof.proofs.checking.run_all.Goals as goal
 
 pub name_all-requires : goal.name_all-requires
 name_all-requires c =
-    let has = c.requires in
-    let labels = c.args.proof.decoding.now.labels.items in
-    rw c.deref.ensures.value (used_named c.args.proof.base.now has.0 c.args.proof.i has.1.theorem.base has.2 labels c.in_ok-used.used.items (rw c.deref-labels.ensures.value at c.in_ok-used.ensures.part) has.1.entries)
+    let has = c.requires.decoded in
+    used_named c.args.proof.base.now has.0 c.args.proof.i has.1.theorem.base has.2 c.args.proof.decoding.now.labels.items c.args.used.now c.requires.used.part has.1.entries
 
 pub run-requires : goal.run-requires
 run-requires c = record {
-  saved = rw c.deref-steps.ensures.value (decoded_saved c.mandatory_are_active.ensures c.decodes_surely.ensures _ _ _ _ _ c.requires.1);
+  saved = rw c.deref-steps.ensures.value (decoded_saved c.mandatory_are_active.ensures c.decodes_surely.ensures _ _ _ _ _ c.requires.decoded.1);
   frames = c.in_ok-named.ensures.frames;
   within = c.in_ok-named.ensures.within;
 }
@@ -32,17 +31,16 @@ returns-clause-says c = IfOk-weaker c.run.result _ _ (λ outcome says view is. (
     let d = proof.decoding.now in
     let names = is.theorem.base.0 in
     let base = is.theorem.base.1 in
-    let used = c.in_ok-used.used.items in
-    let entries = part_entries view i d.labels.items used (rw c.deref-labels.ensures.value at c.in_ok-used.ensures.part) is.entries in
-    let keeps = rw (c.deref-labels.ensures.value, c.deref-steps.ensures.value) at c.in_ok-used.ensures.used in
-    let mean = (rw c.deref.ensures.value at c.in_ok-named.ensures.means) names view base i entries in
+    let used = c.args.used.now in
+    let entries = part_entries view i d.labels.items used c.requires.used.part is.entries in
+    let mean = c.in_ok-named.ensures.means names view base i entries in
     let frames = frames_by_number names (setting_at view i) (c.places_have_frames.ensures view.said i) in
     let said = says (numbered_setting names view i) (entry_steps view used) frames (rw c.new-active.ensures (c.active.ensures.same names view base is.theorem.is_sound)) mean in
-    let here = rw (c.deref-steps.ensures.value, part_means view d.labels.items used d.steps.items keeps, c.expression.ensures names view base (shown_proof view i is.theorem.is_sound)) at said in
+    let here = rw (c.deref-steps.ensures.value, part_means view d.labels.items used d.steps.items c.requires.used.kept, c.expression.ensures names view base (shown_proof view i is.theorem.is_sound)) at said in
     run_named names (setting_at view i) (steps_of proof view) (statement_at view i) outcome here)) c.run.ensures.says
 
 pub active-requires : goal.active-requires
-active-requires c = let has = c.requires in (has.0, has.1.theorem.base, has.1.theorem.is_sound)
+active-requires c = let has = c.requires.decoded in (has.0, has.1.theorem.base, has.1.theorem.is_sound)
 
 pub returns-clause-within : goal.returns-clause-within
 returns-clause-within c = subst (λ n. IfOk c.run.result (IsOutcomeWithin n)) (ap length c.deref-steps.ensures.value) c.run.ensures.within

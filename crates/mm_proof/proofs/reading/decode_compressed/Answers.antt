@@ -16,9 +16,9 @@ returns-in_err-close-clause-err c =
     let begins = list_begins view c.args.i c.args.mandatory.now words c.next_word-open.new.self c.in_ok-labels.labels.items c.in_ok-labels.ensures active left in
     c.in_err-close.ensures.err view (labels_at view c.args.mandatory.now) words is begins)
 
-pub returns-in_err-steps-clause-err : goal.returns-in_err-steps-clause-err
-returns-in_err-steps-clause-err c =
-    let p = err_from_is_err_and c.from_residual-in_err-steps.result c.from_residual-in_err-steps.ensures.1 in
+pub returns-in_err-read-clause-err : goal.returns-in_err-read-clause-err
+returns-in_err-read-clause-err c =
+    let p = err_from_is_err_and c.from_residual-in_err-read.result c.from_residual-in_err-read.ensures.1 in
     let words = c.args.proof.now in
     let left = behind_open (λ (word : Bor (List ℕ)). word.now) words c.again-words.result c.next_word-open.new.self c.next_word-open.result c.requires c.again-words.ensures.words c.next_word-open.ensures in
     rw (p.1, p.2) (λ view is active.
@@ -26,7 +26,7 @@ returns-in_err-steps-clause-err c =
     let listed = c.in_ok-close.ensures.ok view (labels_at view c.args.mandatory.now) words is begins in
     let labels = c.read_list.new.labels in
     let len : length (entry_steps view labels.items) ≡ c.len.result = omega (arith, length-map labels.items (entry_step view), c.len.ensures, labels.ok.0) in
-    compressed_err view c.args.i (labels_at view c.args.mandatory.now) words c.in_ok-close.close labels.items _ listed (c.in_err-steps.ensures.err (entry_steps view labels.items) words len (c.in_ok-close.ensures.behind words left)))
+    compressed_err view c.args.i (labels_at view c.args.mandatory.now) words c.in_ok-close.close labels.items _ listed (c.in_err-read.ensures.err (entry_steps view labels.items) words len (c.in_ok-close.ensures.behind words left)))
 
 pub returns-clause-ok : goal.returns-clause-ok
 returns-clause-ok c view is active =
@@ -36,8 +36,8 @@ returns-clause-ok c view is active =
     let listed = c.in_ok-close.ensures.ok view (labels_at view c.args.mandatory.now) words is begins in
     let labels = c.read_list.new.labels in
     let len : length (entry_steps view labels.items) ≡ c.len.result = omega (arith, length-map labels.items (entry_step view), c.len.ensures, labels.ok.0) in
-    compressed_ok view c.args.i (labels_at view c.args.mandatory.now) words c.in_ok-close.close labels.items c.in_ok-steps.steps.items listed
-    (c.in_ok-steps.ensures.ok (entry_steps view labels.items) words len (c.in_ok-close.ensures.behind words left))
+    compressed_ok view c.args.i (labels_at view c.args.mandatory.now) words c.in_ok-close.close labels.items c.in_ok-read.read.steps.items listed
+    (c.in_ok-read.ensures.ok (entry_steps view labels.items) words len (c.in_ok-close.ensures.behind words left))
 
 pub returns-clause-entries : goal.returns-clause-entries
 returns-clause-entries c view is active =

@@ -1,4 +1,6 @@
-use Rattle.std.proofs.Common.{◌≤◌, length, arith}
+use Rattle.std.proofs.Common.{◌≤◌, false, [], ◌∷◌, length, ap, arith}
+use Rattle.std.proofs.lemmas.List.{length-append}
+use Rattle.mm_proof.proofs.lemmas.machine.MarkedLabels.{marks_next}
 use Rattle.std.proofs.lemmas.Result.{err_from_is_err_and}
 use Rattle.mm_proof.proofs.lemmas.decoding.LeftLemmas.{take_one, none_left}
 use Rattle.mm_proof.proofs.lemmas.decoding.NormalLemmas.{word_on, word_fails, table_is, finishes}
@@ -14,6 +16,9 @@ loop-word-preserved c =
     let read = c.in_ok-label in
     record {
       left = took.left;
+      table = omega (arith, ap length c.in_ok-push.ensures.items, length-append at.labels.items (read.label ∷ []), at.invariant.table);
+      count = omega (arith, c.mark.ensures.count, ap length c.in_ok-push-3.ensures.items, length-append at.used.items (false ∷ []), at.invariant.count);
+      marks = marks_next at.used.items _ _ at.steps.items _ _ at.invariant.marks c.in_ok-push-3.ensures.items c.mark.ensures.each c.in_ok-push-2.ensures.items;
       normal = λ view is.
           let normal = at.invariant.normal view is in
           rw (c.in_ok-push.ensures.items, c.in_ok-push-2.ensures.items) (word_on view c.args.i words at.n at.labels.items at.steps.items normal word
@@ -33,6 +38,12 @@ returns-clause-ok c view is =
     let words = c.args.proof.now in
     let past : length words ≤ c.loop-word.n = omega (arith, none_left words c.loop-word.words c.loop-word.n c.loop-word.invariant.left c.in_default.ensures.0) in
     finishes view c.args.i words c.loop-word.n c.loop-word.labels.items c.loop-word.steps.items (c.loop-word.invariant.normal view is) past
+
+pub returns-clause-marks : goal.returns-clause-marks
+returns-clause-marks c = record {
+  count = omega (arith, c.loop-word.invariant.count, c.loop-word.invariant.table);
+  each = λ k less. c.loop-word.invariant.marks k;
+}
 
 pub returns-clause-table : goal.returns-clause-table
 returns-clause-table c view is =
