@@ -5,8 +5,8 @@ ghost use Rattle.std.specs.Option.{option_map};
 ghost use Rattle.mm_frame.specs.Code.KeptRows.{bytes_or_none, fault_kept, fault_told, row_label, row_fault, is_shown_in};
 ghost use Rattle.mm_frame.specs.Code.KeptRows.{AreRowsKept, rows_of};
 
-use crate::expressions::{end_at, start_at};
 use crate::judge::FrameFault;
+use crate::symbol_lists::{end_at, start_at};
 use std::alloc::{AllocError, Global};
 
 /// For each item, by its number from 0, its label, where it is one that has a label, and its fault: F14 where it is a missing

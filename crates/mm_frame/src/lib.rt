@@ -12,6 +12,7 @@ mod draft;
 mod essential;
 mod examples;
 mod expressions;
+mod guesses;
 mod item_rows;
 mod judge;
 mod label_numbers;
@@ -28,6 +29,7 @@ mod scope;
 mod sparse;
 mod statement;
 mod symbol;
+mod symbol_lists;
 mod tables;
 
 pub use base::{Base, Resolved};

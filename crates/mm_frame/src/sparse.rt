@@ -4,7 +4,7 @@ ghost use Rattle.std.specs.Prelude.{◌≡◌, ◌∷◌, ◌++◌, [], Some, No
 ghost use Rattle.std.specs.Option.{option_map};
 ghost use Rattle.mm_frame.specs.Code.KeptSparse.{value_kept};
 
-use crate::expressions::{end_at, start_at};
+use crate::symbol_lists::{end_at, start_at};
 use std::alloc::{AllocError, Global};
 use std::marker::Model;
 

@@ -4,7 +4,7 @@ use Rattle.std.specs.Option.{option_map}
 use Rattle.mm_frame.specs.declared.FrameNumber.{FrameNumber}
 use Rattle.mm_frame.specs.declared.judge.FrameFault.{FrameFault}
 use Rattle.mm_frame.specs.declared.item_rows.Rows.{Rows}
-use Rattle.mm_frame.specs.Code.KeptExpressions.{cut_from, EndsFrom}
+use Rattle.mm_frame.specs.Code.KeptParts.{cut_from, EndsFrom}
 
 -- the bytes of a label: none where there is no label
 abbrev pub bytes_or_none : Option (List ℕ) → List ℕ

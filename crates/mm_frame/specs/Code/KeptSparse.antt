@@ -1,7 +1,7 @@
 -- What some items have, as the code keeps it: the values of these in one list, with the count of those up to each item.
 use Rattle.std.specs.Prelude.{ℕ, Option, Some, None, List, [], ◌∷◌, map, length, slice_get}
 use Rattle.mm_frame.specs.declared.sparse.Sparse.TheInside.{Inside}
-use Rattle.mm_frame.specs.Code.KeptExpressions.{cut_from, EndsFrom}
+use Rattle.mm_frame.specs.Code.KeptParts.{cut_from, EndsFrom}
 
 -- the first of some values, if there is one
 abbrev pub first_of : {X : Type 0} → List X → Option X

@@ -9,7 +9,7 @@ use Rattle.std.proofs.lemmas.List.{get_or_append_left}
 use Rattle.std.proofs.lemmas.Option.{slice_get_past}
 use Rattle.mm_frame.specs.declared.judge.FrameFault.{FrameFault}
 use Rattle.mm_frame.specs.declared.item_rows.Rows.{Rows}
-use Rattle.mm_frame.specs.Code.KeptExpressions.{cut_from, start_at}
+use Rattle.mm_frame.specs.Code.KeptParts.{cut_from, start_at}
 use Rattle.mm_frame.specs.Code.KeptRows.{bytes_or_none, fault_or_none, fault_kept, fault_told, row_told, rows_from, rows_of, row_label, row_fault, is_shown_in, AreRowsKept}
 use Rattle.mm_frame.proofs.lemmas.names.ExpressionLemmas.{cut_length, cut_there, cut_added}
 

@@ -4,7 +4,7 @@ use Rattle.std.specs.List.{slice_range}
 use Rattle.std.specs.Option.{option_map}
 use Rattle.std.proofs.lemmas.Option.{slice_get-map}
 use Rattle.std.proofs.lemmas.List.{take-append-le, drop-append-le, take_all, length-drop}
-use Rattle.mm_frame.specs.Code.KeptExpressions.{cut_from, EndsFrom, start_at}
+use Rattle.mm_frame.specs.Code.KeptParts.{cut_from, EndsFrom, start_at}
 use Rattle.mm_frame.specs.Code.KeptSparse.{first_of, value_or_none, value_kept}
 
 pub cut_length : {X : Type 0} (symbols : List X) (from : ℕ) (ends : List ℕ) → length (cut_from symbols from ends) ≡ length ends

@@ -1,6 +1,6 @@
 use Rattle.std.proofs.Common.{◌≡◌, ◌<◌, false, Some, length, get_or, sym, ap, ◌∙◌, arith}
 use Rattle.std.specs.List.{slice_range}
-use Rattle.mm_frame.specs.Code.KeptExpressions.{start_at}
+use Rattle.mm_frame.specs.Code.KeptParts.{start_at}
 use Rattle.mm_frame.proofs.lemmas.names.ExpressionLemmas.{part_within}
 use Rattle.mm_frame.proofs.lemmas.base.RowLemmas.{flag_within, label_none, label_some}
 use Rattle.mm_frame.proofs.item_rows.Rows.label.Goals as goal

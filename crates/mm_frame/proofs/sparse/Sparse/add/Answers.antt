@@ -1,6 +1,6 @@
 use Rattle.std.proofs.Common.{◌++◌, ◌∷◌, [], Some, map, ap, ◌∙◌, arith}
 use Rattle.std.proofs.lemmas.List.{map-append}
-use Rattle.mm_frame.specs.Code.KeptExpressions.{cut_from}
+use Rattle.mm_frame.specs.Code.KeptParts.{cut_from}
 use Rattle.mm_frame.specs.Code.KeptSparse.{first_of}
 use Rattle.mm_frame.proofs.lemmas.scope.BlockLemmas.{pushed}
 use Rattle.mm_frame.proofs.lemmas.names.ExpressionLemmas.{cut_added}

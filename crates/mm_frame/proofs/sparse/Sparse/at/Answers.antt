@@ -1,7 +1,7 @@
 use Rattle.std.proofs.Common.{◌<◌, length, get_or, slice_get, sym, ap, ◌∙◌, arith}
 use Rattle.std.proofs.lemmas.List.{length-map}
 use Rattle.std.proofs.lemmas.Option.{slice_get_past}
-use Rattle.mm_frame.specs.Code.KeptExpressions.{cut_from, start_at}
+use Rattle.mm_frame.specs.Code.KeptParts.{cut_from, start_at}
 use Rattle.mm_frame.specs.Code.KeptSparse.{first_of, value_or_none, value_kept}
 use Rattle.mm_frame.proofs.lemmas.names.ExpressionLemmas.{cut_length, value_there, value_missing}
 use Rattle.mm_frame.proofs.sparse.Sparse.at.Goals as goal

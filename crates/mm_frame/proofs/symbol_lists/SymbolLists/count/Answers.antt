@@ -1,6 +1,6 @@
 use Rattle.std.proofs.Common.{◌≡◌, length, sym, ap, ◌∙◌, arith}
 use Rattle.mm_frame.proofs.lemmas.names.ExpressionLemmas.{cut_length}
-use Rattle.mm_frame.proofs.expressions.Expressions.count.Goals as goal
+use Rattle.mm_frame.proofs.symbol_lists.SymbolLists.count.Goals as goal
 
 pub returns : goal.returns
 returns c =

@@ -2,9 +2,9 @@ use Rattle.std.proofs.Common.{◌≡◌, ◌<◌, length, get_or, sym, ap, ◌�
 use Rattle.std.specs.List.{slice_range}
 use Rattle.std.proofs.lemmas.Option.{slice_get_past}
 use Rattle.mm_frame.specs.Code.KeptSymbols.{kept_or_none, expression_kept}
-use Rattle.mm_frame.specs.Code.KeptExpressions.{start_at}
+use Rattle.mm_frame.specs.Code.KeptParts.{start_at}
 use Rattle.mm_frame.proofs.lemmas.names.ExpressionLemmas.{cut_length, cut_there, part_within}
-use Rattle.mm_frame.proofs.expressions.Expressions.at.Goals as goal
+use Rattle.mm_frame.proofs.symbol_lists.SymbolLists.at.Goals as goal
 
 pub returns-then-number-len : goal.returns-then-number-len
 returns-then-number-len c =

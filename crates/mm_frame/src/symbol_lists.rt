@@ -1,0 +1,107 @@
+//! Lists of symbols, one behind another in one list.
+
+ghost use Rattle.std.specs.Prelude.{◌≡◌, ◌<◌, ◌≤◌, List, [], ◌∷◌, ◌++◌, IfOk, IsTrue, OnErr, OnOk, Some, length, slice_get, slice_index_or, slice_range};
+ghost use Rattle.mm_frame.specs.Code.KeptSymbols.{expression_kept};
+ghost use Rattle.mm_frame.specs.Code.KeptParts.{start_at};
+
+use crate::symbol::{NumberedSymbol, same_symbols};
+use std::alloc::{AllocError, Global};
+use std::marker::Model;
+
+/// For how many symbols of each list there is room at the beginning: about as many as databases have.
+const FEW_SYMBOLS: usize = 8;
+
+/// Lists of symbols, numbered from 0. Their symbols lie in one list.
+///
+/// To add a list takes time linear in it on the average; to find one takes constant time.
+#[derive(Drop)]
+pub struct SymbolLists {
+    symbols: Vec<NumberedSymbol>,
+    /// For each list, how many symbols there are up to its last one.
+    ends: Vec<usize>,
+}
+
+impl Model for SymbolLists {
+    ghost use Rattle.std.specs.Prelude.{List};
+    ghost use Rattle.mm_frame.specs.declared.symbol.NumberedSymbol.{NumberedSymbol as Kept};
+
+    ghost Value = { List (List Kept) };
+
+    ghost use Rattle.mm_frame.specs.Code.KeptSymbolLists.{lists_inside, AreListsCut};
+
+    ghost view = { lists_inside };
+
+    ghost invariant = { AreListsCut };
+}
+
+/// Where the part with this number starts.
+pub fn start_at(ends: &[usize], number: usize) -> usize
+    requires { number < length ends.now }
+    ensures { result ≡ start_at 0 ends.now number }
+{
+    if number == 0 { 0 } else { ends[number - 1] }
+}
+
+/// Where the part with this number ends.
+pub fn end_at(ends: &[usize], number: usize) -> usize
+    requires { number < length ends.now }
+    ensures { result ≡ slice_index_or ends.now number 0 }
+{
+    ends[number]
+}
+
+/// The symbols from one place to another.
+fn part(symbols: &[NumberedSymbol], start: usize, end: usize) -> &[NumberedSymbol]
+    requires start { start ≤ end }
+    requires end { end ≤ length symbols.now }
+    ensures { result.now ≡ slice_range symbols.now start end }
+{
+    &symbols[start..end]
+}
+
+impl SymbolLists {
+    /// No lists, with room for this many, each with a few symbols.
+    pub fn with_room(alloc: Global, count: usize) -> Result<SymbolLists, AllocError>
+        ensures { IfOk result (λ lists. lists ≡ []) }
+    {
+        let ends = Vec::with_capacity(alloc, count)?;
+        let symbols = Vec::with_capacity(alloc, count.saturating_mul(FEW_SYMBOLS))?;
+        Ok(SymbolLists { symbols, ends })
+    }
+
+    /// How many lists there are.
+    pub fn count(&self) -> usize
+        ensures { result ≡ length self.now }
+    {
+        self.ends.len()
+    }
+
+    /// The list with this number: no symbols where there is no such list.
+    pub fn at(&self, number: usize) -> &[NumberedSymbol]
+        ensures { result.now ≡ expression_kept self.now number }
+    {
+        if number >= self.ends.len() {
+            return &[];
+        }
+        let start = start_at(&self.ends, number);
+        part(&self.symbols, start, end_at(&self.ends, number))
+    }
+
+    /// Whether the list with this number has these symbols.
+    pub fn is_at(&self, number: usize, symbols: &[NumberedSymbol]) -> bool
+        ensures { IsTrue result → slice_get self.now number ≡ Some symbols.now }
+    {
+        number < self.count() && same_symbols(self.at(number), symbols)
+    }
+
+    /// Adds one more list. Out of memory changes nothing.
+    pub fn add(&mut self, symbols: &[NumberedSymbol]) -> Result<(), AllocError>
+        ensures ok { OnOk result (self.new ≡ self.old ++ symbols.now ∷ []) }
+        ensures err { OnErr result (self.new ≡ self.old) }
+    {
+        self.ends.reserve(1)?;
+        self.symbols.extend_from_slice(symbols)?;
+        self.ends.push(self.symbols.len()).unwrap();
+        Ok(())
+    }
+}
