@@ -15,6 +15,7 @@ pub mod KeptScope
 pub mod SeenNumbers
 pub mod KeptSymbols
 pub mod KeptParts
+pub mod KeptCounts
 pub mod KeptSymbolLists
 pub mod KeptExpressions
 pub mod KeptSparse

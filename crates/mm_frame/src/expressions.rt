@@ -4,6 +4,7 @@ ghost use Rattle.std.specs.Prelude.{◌≡◌, List, [], ◌∷◌, ◌++◌, If
 ghost use Rattle.mm_frame.specs.Code.KeptSymbols.{expression_kept};
 ghost use Rattle.mm_frame.specs.Code.KeptExpressions.{KeepsLists};
 
+use crate::counts::Counts;
 use crate::guesses::ListGuesses;
 use crate::symbol::NumberedSymbol;
 use crate::symbol_lists::SymbolLists;
@@ -17,7 +18,7 @@ use std::marker::Model;
 pub struct Expressions {
     lists: SymbolLists,
     /// For each item, the number of the list of its symbols.
-    numbers: Vec<usize>,
+    numbers: Counts,
 }
 
 impl Model for Expressions {
@@ -58,7 +59,7 @@ impl Expressions {
     pub fn with_room(alloc: Global, count: usize) -> Result<Expressions, AllocError>
         ensures { IfOk result (λ expressions. expressions ≡ []) }
     {
-        let numbers = Vec::with_capacity(alloc, count)?;
+        let numbers = Counts::with_room(alloc, count)?;
         let lists = SymbolLists::with_room(alloc, count)?;
         Ok(Expressions { lists, numbers })
     }
@@ -75,7 +76,7 @@ impl Expressions {
         ensures { result.now ≡ expression_kept self.now number }
     {
         match self.numbers.get(number) {
-            Some(list) => self.lists.at(*list),
+            Some(list) => self.lists.at(list),
             None => &[],
         }
     }

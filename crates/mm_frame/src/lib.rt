@@ -8,6 +8,7 @@ mod asked;
 mod assertions;
 mod base;
 mod blocks;
+mod counts;
 mod draft;
 mod essential;
 mod examples;

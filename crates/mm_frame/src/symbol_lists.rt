@@ -1,9 +1,9 @@
 //! Lists of symbols, one behind another in one list.
 
-ghost use Rattle.std.specs.Prelude.{◌≡◌, ◌<◌, ◌≤◌, List, [], ◌∷◌, ◌++◌, IfOk, IsTrue, OnErr, OnOk, Some, length, slice_get, slice_index_or, slice_range};
+ghost use Rattle.std.specs.Prelude.{◌≡◌, ◌≤◌, List, [], ◌∷◌, ◌++◌, IfOk, IsTrue, OnErr, OnOk, Some, length, slice_get, slice_range};
 ghost use Rattle.mm_frame.specs.Code.KeptSymbols.{expression_kept};
-ghost use Rattle.mm_frame.specs.Code.KeptParts.{start_at};
 
+use crate::counts::{Counts, Part};
 use crate::symbol::{NumberedSymbol, same_symbols};
 use std::alloc::{AllocError, Global};
 use std::marker::Model;
@@ -18,7 +18,7 @@ const FEW_SYMBOLS: usize = 8;
 pub struct SymbolLists {
     symbols: Vec<NumberedSymbol>,
     /// For each list, how many symbols there are up to its last one.
-    ends: Vec<usize>,
+    ends: Counts,
 }
 
 impl Model for SymbolLists {
@@ -32,22 +32,6 @@ impl Model for SymbolLists {
     ghost view = { lists_inside };
 
     ghost invariant = { AreListsCut };
-}
-
-/// Where the part with this number starts.
-pub fn start_at(ends: &[usize], number: usize) -> usize
-    requires { number < length ends.now }
-    ensures { result ≡ start_at 0 ends.now number }
-{
-    if number == 0 { 0 } else { ends[number - 1] }
-}
-
-/// Where the part with this number ends.
-pub fn end_at(ends: &[usize], number: usize) -> usize
-    requires { number < length ends.now }
-    ensures { result ≡ slice_index_or ends.now number 0 }
-{
-    ends[number]
 }
 
 /// The symbols from one place to another.
@@ -64,7 +48,7 @@ impl SymbolLists {
     pub fn with_room(alloc: Global, count: usize) -> Result<SymbolLists, AllocError>
         ensures { IfOk result (λ lists. lists ≡ []) }
     {
-        let ends = Vec::with_capacity(alloc, count)?;
+        let ends = Counts::with_room(alloc, count)?;
         let symbols = Vec::with_capacity(alloc, count.saturating_mul(FEW_SYMBOLS))?;
         Ok(SymbolLists { symbols, ends })
     }
@@ -80,11 +64,12 @@ impl SymbolLists {
     pub fn at(&self, number: usize) -> &[NumberedSymbol]
         ensures { result.now ≡ expression_kept self.now number }
     {
-        if number >= self.ends.len() {
-            return &[];
+        let Part { start, end } = self.ends.part(number);
+        if start < end {
+            part(&self.symbols, start, end)
+        } else {
+            &[]
         }
-        let start = start_at(&self.ends, number);
-        part(&self.symbols, start, end_at(&self.ends, number))
     }
 
     /// Whether the list with this number has these symbols.
@@ -99,9 +84,9 @@ impl SymbolLists {
         ensures ok { OnOk result (self.new ≡ self.old ++ symbols.now ∷ []) }
         ensures err { OnErr result (self.new ≡ self.old) }
     {
-        self.ends.reserve(1)?;
-        self.symbols.extend_from_slice(symbols)?;
-        self.ends.push(self.symbols.len()).unwrap();
+        self.symbols.reserve(symbols.len())?;
+        self.ends.push(self.symbols.len() + symbols.len())?;
+        self.symbols.extend_from_slice(symbols).unwrap();
         Ok(())
     }
 }

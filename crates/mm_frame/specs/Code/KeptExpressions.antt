@@ -6,11 +6,11 @@ use Rattle.mm_frame.specs.Code.KeptSymbols.{expression_kept}
 
 -- the symbols of each item
 abbrev pub expressions_inside : Inside → List (List NumberedSymbol)
-expressions_inside inside = map (expression_kept inside.lists) inside.numbers.items
+expressions_inside inside = map (expression_kept inside.lists) inside.numbers
 
 -- each number is that of a list
 abbrev pub HaveLists : Inside → Type 0
-HaveLists inside = All (λ n. n < length inside.lists) inside.numbers.items
+HaveLists inside = All (λ n. n < length inside.lists) inside.numbers
 
 -- each of the first lists is among the second ones, with the same number
 abbrev pub KeepsLists : List (List NumberedSymbol) → List (List NumberedSymbol) → Type 0

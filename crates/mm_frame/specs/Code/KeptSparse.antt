@@ -10,11 +10,11 @@ first_of (x ∷ xs) = Some x
 
 -- the value of each item, if it has one
 abbrev pub values_inside : {X : Type 0} → Inside X → List (Option X)
-values_inside inside = map first_of (cut_from inside.values.items 0 inside.ends.items)
+values_inside inside = map first_of (cut_from inside.values.items 0 inside.ends)
 
 -- the ends are those of all values
 abbrev pub AreValuesCut : {X : Type 0} → Inside X → Type 0
-AreValuesCut inside = EndsFrom 0 inside.ends.items (length inside.values.items)
+AreValuesCut inside = EndsFrom 0 inside.ends (length inside.values.items)
 
 -- a value, if there is such an item and it has one
 abbrev pub value_or_none : {X : Type 0} → Option (Option X) → Option X

@@ -6,8 +6,8 @@ use Rattle.mm_frame.specs.Code.KeptParts.{cut_from, EndsFrom}
 
 -- each list
 abbrev pub lists_inside : Inside → List (List NumberedSymbol)
-lists_inside inside = cut_from inside.symbols.items 0 inside.ends.items
+lists_inside inside = cut_from inside.symbols.items 0 inside.ends
 
 -- the ends are those of all symbols
 abbrev pub AreListsCut : Inside → Type 0
-AreListsCut inside = EndsFrom 0 inside.ends.items (length inside.symbols.items)
+AreListsCut inside = EndsFrom 0 inside.ends (length inside.symbols.items)

@@ -1,11 +1,29 @@
--- Lists of symbols by their numbers: a list that is there, one more list, and lists that keep their numbers.
-use Rattle.std.proofs.Common.{◌≡◌, ℕ, ◌<◌, Some, List, [], ◌∷◌, ◌++◌, length, map, slice_get, refl, sym, ◌∙◌, ap, All}
-use Rattle.std.proofs.lemmas.Option.{slice_get-get_or}
+-- Lists of symbols by their numbers: a list by its part, a list that is there, and lists that keep their numbers.
+use Rattle.std.proofs.Common.{◌≡◌, ℕ, ◌-◌, ◌<◌, ◌≤◌, Some, List, [], ◌∷◌, ◌++◌, length, map, take, drop, slice_get, get_or, refl, sym, ◌∙◌, ap, arith, All}
+use Rattle.std.specs.List.{slice_range}
+use native.Mathlib.Decide.{dec_lt}
+use Rattle.std.proofs.lemmas.Option.{slice_get-get_or, slice_get_past}
 use Rattle.std.proofs.lemmas.List.Elements.{All-head, All-tail}
 use Rattle.std.proofs.lemmas.List.{map-append}
 use Rattle.mm_frame.specs.declared.symbol.NumberedSymbol.{NumberedSymbol}
 use Rattle.mm_frame.specs.Code.KeptSymbols.{kept_or_none, expression_kept}
 use Rattle.mm_frame.specs.Code.KeptExpressions.{KeepsLists}
+use Rattle.mm_frame.specs.Code.KeptParts.{cut_from, start_at}
+use Rattle.mm_frame.proofs.lemmas.names.ExpressionLemmas.{cut_length, cut_there, end_there}
+
+-- a list by its part of the symbols
+pub part_told : (symbols : List NumberedSymbol) (ends : List ℕ) (n start end : ℕ) → start ≡ start_at 0 ends n → end ≡ get_or ends n 0 → start < end → slice_range symbols start end ≡ expression_kept (cut_from symbols 0 ends) n
+part_told symbols ends n start end s e l =
+    (λ i. slice_range symbols (s i) (e i)) ∙ sym (ap kept_or_none (cut_there symbols 0 ends n (end_there ends n (omega (arith, e, l)))))
+
+range_none : (symbols : List NumberedSymbol) (start end : ℕ) → end ≤ start → slice_range symbols start end ≡ []
+range_none symbols start end l = let none : end - start ≡ 0 = omega arith in ap (λ n. take n (drop start symbols)) none
+
+pub none_told : (symbols : List NumberedSymbol) (ends : List ℕ) (n start end : ℕ) → start ≡ start_at 0 ends n → end ≡ get_or ends n 0 → end ≤ start → [] ≡ expression_kept (cut_from symbols 0 ends) n
+none_told symbols ends n start end s e l = elim (dec_lt n (length ends)) [
+  | yes w ↦ sym (ap kept_or_none (cut_there symbols 0 ends n w) ∙ (λ i. slice_range symbols (sym s i) (sym e i)) ∙ range_none symbols start end l)
+  | no m ↦ let count = cut_length symbols 0 ends in sym (ap kept_or_none (slice_get_past (cut_from symbols 0 ends) n (omega (arith, count, m))))
+]
 
 -- a list that is there
 there : (lists : List (List NumberedSymbol)) (n : ℕ) → n < length lists → slice_get lists n ≡ Some (expression_kept lists n)
