@@ -14,6 +14,9 @@ pub mod SpokenProof
 pub mod KeptScope
 pub mod SeenNumbers
 pub mod KeptSymbols
+pub mod KeptParts
+pub mod KeptCounts
+pub mod KeptSymbolLists
 pub mod KeptExpressions
 pub mod KeptSparse
 pub mod KeptRows

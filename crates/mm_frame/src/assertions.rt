@@ -17,7 +17,7 @@ ghost use Rattle.mm_frame.specs.Code.LastItems.{is_disjoint_item};
 use crate::active_items::TakenItem;
 use crate::draft::Frame;
 use crate::expressions::Expressions;
-use crate::mandatory::{Earlier, Making, hypotheses, mandatory_pairs};
+use crate::mandatory::{Earlier, FrameRoom, hypotheses, mandatory_pairs};
 use crate::pair_lists::PairLists;
 use crate::sparse::Sparse;
 use crate::symbol::NumberedSymbol;
@@ -34,7 +34,7 @@ pub struct Assertions {
     /// The number of the list of all active pairs, for each sound `$p`, by its number; none for any other item.
     pub pair_numbers: Sparse<usize>,
     /// What the frames are made with.
-    pub making: Making,
+    pub room: FrameRoom,
 }
 
 /// Whether such an item has a frame.
@@ -56,14 +56,14 @@ fn keep_frame(
     alloc: Global,
     frames: &mut Sparse<Frame>,
     earlier: &Earlier,
-    making: &mut Making,
+    room: &mut FrameRoom,
     own: &[NumberedSymbol],
     framed: bool,
 ) -> Result<(), AllocError>
-    ensures asked { OnOk result ((all : List (List ℕ)) (before : List meant.Item) → KnowsEarlier all before earlier.now → KnowsAsked all before making.old.asked
-        → KnowsAsked all before making.new.asked) }
+    ensures asked { OnOk result ((all : List (List ℕ)) (before : List meant.Item) → KnowsEarlier all before earlier.now → KnowsAsked all before room.old.asked
+        → KnowsAsked all before room.new.asked) }
     ensures frames { OnOk result ((all : List (List ℕ)) (said : List meant.Item) (item : meant.Item) → KnowsEarlier all (sound_items said) earlier.now
-        → KnowsAsked all (sound_items said) making.old.asked → framed ≡ is_told_framed (sound_items said) item
+        → KnowsAsked all (sound_items said) room.old.asked → framed ≡ is_told_framed (sound_items said) item
         → (framed ≡ true → IsFramed all (sound_items said) item own.now)
         → AreRows (TellsFrame all) said frames.old → AreRows (TellsFrame all) (said ++ item ∷ []) frames.new) }
 {
@@ -71,8 +71,8 @@ fn keep_frame(
         frames.pass()?;
         return Ok(());
     }
-    let hypotheses = hypotheses(alloc, earlier, own, &mut making.numbers)?;
-    let pairs = mandatory_pairs(alloc, earlier, making, &hypotheses)?;
+    let hypotheses = hypotheses(alloc, earlier, own, &mut room.numbers)?;
+    let pairs = mandatory_pairs(alloc, earlier, room, &hypotheses)?;
     frames.add(Frame { hypotheses, pairs })?;
     Ok(())
 }
@@ -115,7 +115,7 @@ impl Assertions {
             frames,
             pair_lists: PairLists::new(alloc),
             pair_numbers,
-            making: Making::new(alloc),
+            room: FrameRoom::new(alloc),
         })
     }
 
@@ -139,7 +139,7 @@ impl Assertions {
             alloc,
             &mut self.frames,
             earlier,
-            &mut self.making,
+            &mut self.room,
             own,
             is_framed(item),
         )?;

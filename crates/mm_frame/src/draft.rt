@@ -26,6 +26,7 @@ use crate::active_items::{ActiveItems, TakenItem, is_disjoint};
 use crate::assertions::Assertions;
 use crate::blocks::Blocks;
 use crate::expressions::Expressions;
+use crate::guesses::ListGuesses;
 use crate::item_rows::Rows;
 use crate::judge::{FrameFault, fault_of};
 use crate::mandatory::Earlier;
@@ -61,6 +62,8 @@ pub struct Draft<'a> {
     rows: Rows,
     /// The symbols of each sound `$f`, `$e`, `$a`, `$p` and `$d`, by its number; none for any other item.
     expressions: Expressions,
+    /// Where equal symbols may be kept.
+    guesses: ListGuesses,
     assertions: Assertions,
     active: ActiveItems,
     /// The pairs of the active `$d`.
@@ -199,6 +202,7 @@ impl<'a> Draft<'a> {
         let scope = Scope::with_room(alloc, count)?;
         let rows = Rows::with_room(alloc, count)?;
         let expressions = Expressions::with_room(alloc, count)?;
+        let guesses = ListGuesses::with_room(alloc, count)?;
         let assertions = Assertions::with_room(alloc, count)?;
         Ok(Draft {
             scope,
@@ -206,6 +210,7 @@ impl<'a> Draft<'a> {
             symbols: Vec::new(alloc),
             rows,
             expressions,
+            guesses,
             assertions,
             active: ActiveItems::new(alloc),
             pair_table: PairTable::new(alloc),
@@ -245,7 +250,7 @@ impl<'a> Draft<'a> {
         self.assertions
             .keep(alloc, &earlier, disjoints, &self.symbols, item)?;
         follow_pairs(alloc, &mut self.pair_table, blocks, &self.numbers, item)?;
-        self.expressions.add(&self.symbols)?;
+        self.expressions.add(&mut self.guesses, &self.symbols)?;
         self.rows.add(statement.label(), told_fault(kind, fault))?;
         self.scope.next(alloc, statement, &self.numbers, sound)?;
         let blocks = self.scope.blocks();

@@ -1,24 +1,24 @@
-//! The symbols of the items, one item's behind another's in one list.
+//! The symbols of the items, equal ones kept once.
 
-ghost use Rattle.std.specs.Prelude.{◌≡◌, ◌<◌, ◌≤◌, List, [], ◌∷◌, ◌++◌, IfOk, OnOk, length, slice_index_or, slice_range};
+ghost use Rattle.std.specs.Prelude.{◌≡◌, List, [], ◌∷◌, ◌++◌, IfOk, OnOk, Some, length, slice_get};
 ghost use Rattle.mm_frame.specs.Code.KeptSymbols.{expression_kept};
-ghost use Rattle.mm_frame.specs.Code.KeptExpressions.{start_at};
+ghost use Rattle.mm_frame.specs.Code.KeptExpressions.{KeepsLists};
 
+use crate::counts::Counts;
+use crate::guesses::ListGuesses;
 use crate::symbol::NumberedSymbol;
+use crate::symbol_lists::SymbolLists;
 use std::alloc::{AllocError, Global};
 use std::marker::Model;
 
-/// For how many symbols of each item there is room at the beginning: about as many as databases have.
-const FEW_SYMBOLS: usize = 8;
-
-/// The symbols of items, by the numbers of the items from 0. Those of all items lie in one list.
+/// The symbols of items, by the numbers of the items from 0. Most often equal ones are kept once, in one list.
 ///
 /// To add those of one more item takes time linear in them on the average; to find those of an item takes constant time.
 #[derive(Drop)]
 pub struct Expressions {
-    symbols: Vec<NumberedSymbol>,
-    /// For each item, how many symbols there are up to its last one.
-    ends: Vec<usize>,
+    lists: SymbolLists,
+    /// For each item, the number of the list of its symbols.
+    numbers: Counts,
 }
 
 impl Model for Expressions {
@@ -27,36 +27,31 @@ impl Model for Expressions {
 
     ghost Value = { List (List Kept) };
 
-    ghost use Rattle.mm_frame.specs.Code.KeptExpressions.{expressions_inside, AreExpressionsCut};
+    ghost use Rattle.mm_frame.specs.Code.KeptExpressions.{expressions_inside, HaveLists};
 
     ghost view = { expressions_inside };
 
-    ghost invariant = { AreExpressionsCut };
+    ghost invariant = { HaveLists };
 }
 
-/// Where the symbols of the item with this number start.
-pub fn start_at(ends: &[usize], number: usize) -> usize
-    requires { number < length ends.now }
-    ensures { result ≡ start_at 0 ends.now number }
+/// The number of a list with these symbols. It is added, if none is found by a guess.
+fn number_of(
+    lists: &mut SymbolLists,
+    guesses: &mut ListGuesses,
+    symbols: &[NumberedSymbol],
+) -> Result<usize, AllocError>
+    ensures keeps { KeepsLists lists.old lists.new }
+    ensures there { IfOk result (λ number. slice_get lists.new number ≡ Some symbols.now) }
 {
-    if number == 0 { 0 } else { ends[number - 1] }
-}
-
-/// Where the symbols of the item with this number end.
-pub fn end_at(ends: &[usize], number: usize) -> usize
-    requires { number < length ends.now }
-    ensures { result ≡ slice_index_or ends.now number 0 }
-{
-    ends[number]
-}
-
-/// The symbols from one place to another.
-fn part(symbols: &[NumberedSymbol], start: usize, end: usize) -> &[NumberedSymbol]
-    requires start { start ≤ end }
-    requires end { end ≤ length symbols.now }
-    ensures { result.now ≡ slice_range symbols.now start end }
-{
-    &symbols[start..end]
+    let place = guesses.place_of(symbols);
+    let guess = guesses.guess(place);
+    if lists.is_at(guess, symbols) {
+        return Ok(guess);
+    }
+    let number = lists.count();
+    lists.add(symbols)?;
+    guesses.keep(place, number);
+    Ok(number)
 }
 
 impl Expressions {
@@ -64,36 +59,38 @@ impl Expressions {
     pub fn with_room(alloc: Global, count: usize) -> Result<Expressions, AllocError>
         ensures { IfOk result (λ expressions. expressions ≡ []) }
     {
-        let ends = Vec::with_capacity(alloc, count)?;
-        let symbols = Vec::with_capacity(alloc, count.saturating_mul(FEW_SYMBOLS))?;
-        Ok(Expressions { symbols, ends })
+        let numbers = Counts::with_room(alloc, count)?;
+        let lists = SymbolLists::with_room(alloc, count)?;
+        Ok(Expressions { lists, numbers })
     }
 
     /// How many items there are.
     pub fn count(&self) -> usize
         ensures { result ≡ length self.now }
     {
-        self.ends.len()
+        self.numbers.len()
     }
 
     /// The symbols of the item with this number: none where there is no such item.
     pub fn at(&self, number: usize) -> &[NumberedSymbol]
         ensures { result.now ≡ expression_kept self.now number }
     {
-        if number >= self.ends.len() {
-            return &[];
+        match self.numbers.get(number) {
+            Some(list) => self.lists.at(list),
+            None => &[],
         }
-        let start = start_at(&self.ends, number);
-        part(&self.symbols, start, end_at(&self.ends, number))
     }
 
-    /// Adds the symbols of one more item. Out of memory changes nothing.
-    pub fn add(&mut self, symbols: &[NumberedSymbol]) -> Result<(), AllocError>
+    /// Adds the symbols of one more item, for which there may be a guess. Out of memory changes nothing.
+    pub fn add(
+        &mut self,
+        guesses: &mut ListGuesses,
+        symbols: &[NumberedSymbol],
+    ) -> Result<(), AllocError>
         ensures { OnOk result (self.new ≡ self.old ++ symbols.now ∷ []) }
     {
-        self.ends.reserve(1)?;
-        self.symbols.extend_from_slice(symbols)?;
-        self.ends.push(self.symbols.len()).unwrap();
+        let number = number_of(&mut self.lists, guesses, symbols)?;
+        self.numbers.push(number)?;
         Ok(())
     }
 }

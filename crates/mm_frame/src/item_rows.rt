@@ -5,7 +5,7 @@ ghost use Rattle.std.specs.Option.{option_map};
 ghost use Rattle.mm_frame.specs.Code.KeptRows.{bytes_or_none, fault_kept, fault_told, row_label, row_fault, is_shown_in};
 ghost use Rattle.mm_frame.specs.Code.KeptRows.{AreRowsKept, rows_of};
 
-use crate::expressions::{end_at, start_at};
+use crate::counts::{Counts, Part};
 use crate::judge::FrameFault;
 use std::alloc::{AllocError, Global};
 
@@ -19,7 +19,7 @@ pub struct Rows {
     /// The bytes of the labels, one label behind another.
     bytes: Vec<u8>,
     /// For each item, how many bytes there are up to the end of its label.
-    ends: Vec<usize>,
+    ends: Counts,
     /// For each item, whether it has a label.
     labelled: Vec<bool>,
     /// The faults, up to the last: most often there is none.
@@ -99,7 +99,7 @@ impl Rows {
         ensures kept { IfOk result AreRowsKept }
         ensures none { IfOk result (λ rows. rows_of rows ≡ []) }
     {
-        let ends = Vec::with_capacity(alloc, count)?;
+        let ends = Counts::with_room(alloc, count)?;
         let labelled = Vec::with_capacity(alloc, count)?;
         Ok(Rows {
             bytes: Vec::new(alloc),
@@ -124,8 +124,8 @@ impl Rows {
         if !is_labelled(&self.labelled, n) {
             return None;
         }
-        let start = start_at(&self.ends, n);
-        Some(bytes_between(&self.bytes, start, end_at(&self.ends, n)))
+        let Part { start, end } = self.ends.part(n);
+        Some(bytes_between(&self.bytes, start, end))
     }
 
     /// The fault of the item with this number, if there is such an item and it has one.

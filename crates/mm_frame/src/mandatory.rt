@@ -29,7 +29,7 @@ use std::alloc::{AllocError, Global};
 
 /// What frames are made with, one after another: the lists are used again, and take memory only where they grow.
 #[derive(Drop)]
-pub struct Making {
+pub struct FrameRoom {
     /// Which pairs were asked, so that none is searched for twice.
     pub asked: AskedPairs,
     /// The numbers of the hypotheses of the last frame.
@@ -40,12 +40,12 @@ pub struct Making {
     pub pairs: Vec<(NumberedSymbol, NumberedSymbol)>,
 }
 
-impl Making {
+impl FrameRoom {
     /// No frame is made yet. Takes no memory.
-    pub fn new(alloc: Global) -> Making
+    pub fn new(alloc: Global) -> FrameRoom
         ensures { (all : List (List ℕ)) → KnowsAsked all [] result.asked }
     {
-        Making {
+        FrameRoom {
             asked: AskedPairs::new(alloc),
             numbers: Vec::new(alloc),
             variables: Vec::new(alloc),
@@ -317,21 +317,21 @@ fn active_among(
 pub fn mandatory_pairs(
     alloc: Global,
     earlier: &Earlier,
-    making: &mut Making,
+    room: &mut FrameRoom,
     hypotheses: &[usize],
 ) -> Result<Vec<(NumberedSymbol, NumberedSymbol)>, AllocError>
-    ensures asked { OnOk result ((all : List (List ℕ)) (before : List meant.Item) → KnowsEarlier all before earlier.now → KnowsAsked all before making.old.asked
-        → KnowsAsked all before making.new.asked) }
+    ensures asked { OnOk result ((all : List (List ℕ)) (before : List meant.Item) → KnowsEarlier all before earlier.now → KnowsAsked all before room.old.asked
+        → KnowsAsked all before room.new.asked) }
     ensures pairs { IfOk result (λ pairs. (all : List (List ℕ)) (before : List meant.Item) (item : meant.Item) → KnowsEarlier all before earlier.now
-        → KnowsAsked all before making.old.asked → hypotheses.now ≡ mandatory_numbers before item
+        → KnowsAsked all before room.old.asked → hypotheses.now ≡ mandatory_numbers before item
         → ArePairsRead all (pairs_in_order (frame before item)) pairs.items) }
 {
-    let Making {
+    let FrameRoom {
         asked,
         variables,
         pairs,
         ..
-    } = making;
+    } = room;
     put_typed(
         earlier.essentials,
         earlier.expressions,

@@ -8,14 +8,7 @@ ghost use Rattle.mm_frame.specs.Language.Frame.{AreSameFrame, AreSamePairs};
 
 use crate::base::Base;
 use crate::names::Names;
-use crate::symbol::NumberedSymbol;
-
-/// Whether two lists of symbols are the same, one by one.
-fn same_symbols(one: &[NumberedSymbol], other: &[NumberedSymbol]) -> bool
-    ensures { IsTrue result ↔ (one.now ≡ other.now) }
-{
-    one == other
-}
+use crate::symbol::{NumberedSymbol, same_symbols};
 
 /// Whether two lists of pairs are the same, one by one.
 pub fn same_pairs(

@@ -4,7 +4,7 @@ ghost use Rattle.std.specs.Prelude.{◌≡◌, ◌∷◌, ◌++◌, [], Some, No
 ghost use Rattle.std.specs.Option.{option_map};
 ghost use Rattle.mm_frame.specs.Code.KeptSparse.{value_kept};
 
-use crate::expressions::{end_at, start_at};
+use crate::counts::{Counts, Part};
 use std::alloc::{AllocError, Global};
 use std::marker::Model;
 
@@ -19,7 +19,7 @@ const VALUE_SHARE: usize = 3;
 pub struct Sparse<T> {
     values: Vec<T>,
     /// For each item, how many values there are up to its own.
-    ends: Vec<usize>,
+    ends: Counts,
 }
 
 impl<T> Model for Sparse<T> {
@@ -46,7 +46,7 @@ impl<T: Drop> Sparse<T> {
     pub fn with_room(alloc: Global, count: usize) -> Result<Sparse<T>, AllocError>
         ensures { IfOk result (λ sparse. sparse ≡ []) }
     {
-        let ends = Vec::with_capacity(alloc, count)?;
+        let ends = Counts::with_room(alloc, count)?;
         let values = Vec::with_capacity(alloc, count / VALUE_SHARE)?;
         Ok(Sparse { values, ends })
     }
@@ -55,11 +55,8 @@ impl<T: Drop> Sparse<T> {
     pub fn at(&self, number: usize) -> Option<&T>
         ensures { option_map (λ value. value.now) result ≡ value_kept self.now number }
     {
-        if number >= self.ends.len() {
-            return None;
-        }
-        let start = start_at(&self.ends, number);
-        if start < end_at(&self.ends, number) {
+        let Part { start, end } = self.ends.part(number);
+        if start < end {
             element_at(&self.values, start)
         } else {
             None
@@ -70,9 +67,9 @@ impl<T: Drop> Sparse<T> {
     pub fn add(&mut self, value: T) -> Result<(), AllocError>
         ensures { OnOk result (self.new ≡ self.old ++ Some value ∷ []) }
     {
-        self.ends.reserve(1)?;
-        self.values.push(value)?;
-        self.ends.push(self.values.len()).unwrap();
+        self.values.reserve(1)?;
+        self.ends.push(self.values.len() + 1)?;
+        self.values.push(value).unwrap();
         Ok(())
     }
 

@@ -115,6 +115,13 @@ fn symbol_numbered(tables: &Tables, number: usize) -> NumberedSymbol
     }
 }
 
+/// Whether two lists of symbols are the same, one by one.
+pub fn same_symbols(one: &[NumberedSymbol], other: &[NumberedSymbol]) -> bool
+    ensures { IsTrue result ↔ (one.now ≡ other.now) }
+{
+    one == other
+}
+
 /// Puts the symbols whose names have these numbers: what is no declared constant is a variable.
 pub fn put_symbols(
     tables: &Tables,

@@ -2,5 +2,6 @@
 
 pub mod ExpressionLemmas
 pub mod LabelCodes
+pub mod ListLemmas
 pub mod NamedLemmas
 pub mod NumberLemmas

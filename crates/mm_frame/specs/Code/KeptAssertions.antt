@@ -32,4 +32,4 @@ pub record AreAssertions (all : List (List ℕ)) (said : List Item) (assertions 
   pub frames : AreRows (TellsFrame all) said assertions.frames
   pub made : AreMade all (sound_items said) assertions.pair_lists
   pub pair_numbers : AreRows (TellsPairs all assertions.pair_lists) said assertions.pair_numbers
-  pub making : KnowsAsked all (sound_items said) assertions.making.asked
+  pub room : KnowsAsked all (sound_items said) assertions.room.asked

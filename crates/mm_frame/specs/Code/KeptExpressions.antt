@@ -3,7 +3,7 @@ use Rattle.std.specs.Prelude.{◌≡◌, ℕ, zero, suc, ◌≤◌, List, [], �
 use Rattle.mm_frame.specs.declared.symbol.NumberedSymbol.{NumberedSymbol}
 use Rattle.mm_frame.specs.declared.expressions.Expressions.TheInside.{Inside}
 
--- the parts of a list from one place on, which have these ends
+-- the parts of a list from one place on that end so
 abbrev pub cut_from : {X : Type 0} → List X → ℕ → List ℕ → List (List X)
 cut_from symbols from [] = []
 cut_from symbols from (end ∷ ends) = slice_range symbols from end ∷ cut_from symbols end ends

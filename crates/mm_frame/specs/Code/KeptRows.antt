@@ -4,7 +4,7 @@ use Rattle.std.specs.Option.{option_map}
 use Rattle.mm_frame.specs.declared.FrameNumber.{FrameNumber}
 use Rattle.mm_frame.specs.declared.judge.FrameFault.{FrameFault}
 use Rattle.mm_frame.specs.declared.item_rows.Rows.{Rows}
-use Rattle.mm_frame.specs.Code.KeptExpressions.{cut_from, EndsFrom}
+use Rattle.mm_frame.specs.Code.KeptParts.{cut_from, EndsFrom}
 
 -- the bytes of a label: none if there is no label
 abbrev pub bytes_or_none : Option (List ℕ) → List ℕ
@@ -34,13 +34,13 @@ rows_from n (bytes ∷ labels) flags faults = row_told flags faults n bytes ∷ 
 
 -- the labels and faults of the items
 abbrev pub rows_of : Rows → List (Option (List ℕ) × Option (ℕ × FrameNumber))
-rows_of rows = rows_from 0 (cut_from rows.bytes.items 0 rows.ends.items) rows.labelled.items rows.faults.items
+rows_of rows = rows_from 0 (cut_from rows.bytes.items 0 rows.ends) rows.labelled.items rows.faults.items
 
 -- the ends are those of all bytes, it is kept of each item whether it has a label, and there are no more faults
 pub record AreRowsKept (rows : Rows) : Type 0 where
-  pub cut : EndsFrom 0 rows.ends.items (length rows.bytes.items)
-  pub flags : length rows.labelled.items ≡ length rows.ends.items
-  pub faults : length rows.faults.items ≤ length rows.ends.items
+  pub cut : EndsFrom 0 rows.ends (length rows.bytes.items)
+  pub flags : length rows.labelled.items ≡ length rows.ends
+  pub faults : length rows.faults.items ≤ length rows.ends
 
 -- the label of an item, its fault, and whether it has a label and no fault, if there is such an item
 abbrev pub row_label : Option (Option (List ℕ) × Option (ℕ × FrameNumber)) → Option (List ℕ)

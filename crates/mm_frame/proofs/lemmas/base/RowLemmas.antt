@@ -9,7 +9,7 @@ use Rattle.std.proofs.lemmas.List.{get_or_append_left}
 use Rattle.std.proofs.lemmas.Option.{slice_get_past}
 use Rattle.mm_frame.specs.declared.judge.FrameFault.{FrameFault}
 use Rattle.mm_frame.specs.declared.item_rows.Rows.{Rows}
-use Rattle.mm_frame.specs.Code.KeptExpressions.{cut_from, start_at}
+use Rattle.mm_frame.specs.Code.KeptParts.{cut_from, start_at}
 use Rattle.mm_frame.specs.Code.KeptRows.{bytes_or_none, fault_or_none, fault_kept, fault_told, row_told, rows_from, rows_of, row_label, row_fault, is_shown_in, AreRowsKept}
 use Rattle.mm_frame.proofs.lemmas.names.ExpressionLemmas.{cut_length, cut_there, cut_added}
 
@@ -17,8 +17,8 @@ rows_length : (n : ℕ) (labels : List (List ℕ)) (flags : List Bool) (faults :
 rows_length n [] flags faults = refl
 rows_length n (x ∷ labels) flags faults = ap suc (rows_length (suc n) labels flags faults)
 
-pub row_count : (rows : Rows) → length (rows_of rows) ≡ length rows.ends.items
-row_count rows = rows_length 0 (cut_from rows.bytes.items 0 rows.ends.items) rows.labelled.items rows.faults.items ∙ cut_length rows.bytes.items 0 rows.ends.items
+pub row_count : (rows : Rows) → length (rows_of rows) ≡ length rows.ends
+row_count rows = rows_length 0 (cut_from rows.bytes.items 0 rows.ends) rows.labelled.items rows.faults.items ∙ cut_length rows.bytes.items 0 rows.ends
 
 row_from : (n : ℕ) (labels : List (List ℕ)) (flags : List Bool) (faults : List (Option FrameFault)) (k : ℕ) (bytes : List ℕ)
     → slice_get labels k ≡ Some bytes → slice_get (rows_from n labels flags faults) k ≡ Some (row_told flags faults (n + k) bytes)
@@ -31,15 +31,15 @@ row_from n (x ∷ labels) flags faults (suc k) bytes e =
     let z : suc n + k ≡ n + suc k = omega arith in
     row_from (suc n) labels flags faults k bytes e ∙ (λ i. Some (row_told flags faults (z i) bytes))
 
-pub row_there : (rows : Rows) (k : ℕ) (bytes : List ℕ) → slice_get (cut_from rows.bytes.items 0 rows.ends.items) k ≡ Some bytes → slice_get (rows_of rows) k ≡ Some (row_told rows.labelled.items rows.faults.items k bytes)
+pub row_there : (rows : Rows) (k : ℕ) (bytes : List ℕ) → slice_get (cut_from rows.bytes.items 0 rows.ends) k ≡ Some bytes → slice_get (rows_of rows) k ≡ Some (row_told rows.labelled.items rows.faults.items k bytes)
 row_there rows k bytes e =
     let z : 0 + k ≡ k = omega arith in
-    row_from 0 (cut_from rows.bytes.items 0 rows.ends.items) rows.labelled.items rows.faults.items k bytes e ∙ (λ i. Some (row_told rows.labelled.items rows.faults.items (z i) bytes))
+    row_from 0 (cut_from rows.bytes.items 0 rows.ends) rows.labelled.items rows.faults.items k bytes e ∙ (λ i. Some (row_told rows.labelled.items rows.faults.items (z i) bytes))
 
-pub row_at : (rows : Rows) (k : ℕ) → k < length rows.ends.items → slice_get (rows_of rows) k ≡ Some (row_told rows.labelled.items rows.faults.items k (slice_range rows.bytes.items (start_at 0 rows.ends.items k) (get_or rows.ends.items k 0)))
-row_at rows k l = row_there rows k _ (cut_there rows.bytes.items 0 rows.ends.items k l)
+pub row_at : (rows : Rows) (k : ℕ) → k < length rows.ends → slice_get (rows_of rows) k ≡ Some (row_told rows.labelled.items rows.faults.items k (slice_range rows.bytes.items (start_at 0 rows.ends k) (get_or rows.ends k 0)))
+row_at rows k l = row_there rows k _ (cut_there rows.bytes.items 0 rows.ends k l)
 
-pub no_row : (rows : Rows) (k : ℕ) → length rows.ends.items ≤ k → slice_get (rows_of rows) k ≡ None
+pub no_row : (rows : Rows) (k : ℕ) → length rows.ends ≤ k → slice_get (rows_of rows) k ≡ None
 no_row rows k l = let count = row_count rows in slice_get_past (rows_of rows) k (omega arith)
 
 -- a flag that is set is there
@@ -48,17 +48,17 @@ flag_within [] n e = absurd (false≢true e)
 flag_within (x ∷ flags) zero e = omega arith
 flag_within (x ∷ flags) (suc n) e = let l = flag_within flags n e in omega arith
 
-pub label_some : (rows : Rows) (k : ℕ) → k < length rows.ends.items → get_or rows.labelled.items k false ≡ true → row_label (slice_get (rows_of rows) k) ≡ Some (slice_range rows.bytes.items (start_at 0 rows.ends.items k) (get_or rows.ends.items k 0))
-label_some rows k l t = ap row_label (row_at rows k l) ∙ ap (λ b. cond b (Some (slice_range rows.bytes.items (start_at 0 rows.ends.items k) (get_or rows.ends.items k 0))) None) t
+pub label_some : (rows : Rows) (k : ℕ) → k < length rows.ends → get_or rows.labelled.items k false ≡ true → row_label (slice_get (rows_of rows) k) ≡ Some (slice_range rows.bytes.items (start_at 0 rows.ends k) (get_or rows.ends k 0))
+label_some rows k l t = ap row_label (row_at rows k l) ∙ ap (λ b. cond b (Some (slice_range rows.bytes.items (start_at 0 rows.ends k) (get_or rows.ends k 0))) None) t
 
 pub label_none : (rows : Rows) (k : ℕ) → get_or rows.labelled.items k false ≡ false → row_label (slice_get (rows_of rows) k) ≡ None
-label_none rows k f = elim (dec_lt k (length rows.ends.items)) [
-  | yes l ↦ ap row_label (row_at rows k l) ∙ ap (λ b. cond b (Some (slice_range rows.bytes.items (start_at 0 rows.ends.items k) (get_or rows.ends.items k 0))) None) f
+label_none rows k f = elim (dec_lt k (length rows.ends)) [
+  | yes l ↦ ap row_label (row_at rows k l) ∙ ap (λ b. cond b (Some (slice_range rows.bytes.items (start_at 0 rows.ends k) (get_or rows.ends k 0))) None) f
   | no m ↦ ap row_label (no_row rows k (omega arith))
 ]
 
 pub fault_there : (rows : Rows) → AreRowsKept rows → (k : ℕ) → row_fault (slice_get (rows_of rows) k) ≡ fault_told (fault_kept rows.faults.items k)
-fault_there rows kept k = elim (dec_lt k (length rows.ends.items)) [
+fault_there rows kept k = elim (dec_lt k (length rows.ends)) [
   | yes l ↦ ap row_fault (row_at rows k l)
   | no m ↦ (
       let few = kept.faults in
@@ -67,10 +67,10 @@ fault_there rows kept k = elim (dec_lt k (length rows.ends.items)) [
 ]
 
 pub shown_none : (rows : Rows) (k : ℕ) → get_or rows.labelled.items k false ≡ false → is_shown_in (slice_get (rows_of rows) k) ≡ false
-shown_none rows k f = elim (dec_lt k (length rows.ends.items)) [
+shown_none rows k f = elim (dec_lt k (length rows.ends)) [
   | yes l ↦ (
-      let row = row_told rows.labelled.items rows.faults.items k (slice_range rows.bytes.items (start_at 0 rows.ends.items k) (get_or rows.ends.items k 0)) in
-      ap is_shown_in (row_at rows k l) ∙ ap (λ b. is_none row.1 && is_some (cond b (Some (slice_range rows.bytes.items (start_at 0 rows.ends.items k) (get_or rows.ends.items k 0))) None)) f ∙ never (is_none row.1)
+      let row = row_told rows.labelled.items rows.faults.items k (slice_range rows.bytes.items (start_at 0 rows.ends k) (get_or rows.ends k 0)) in
+      ap is_shown_in (row_at rows k l) ∙ ap (λ b. is_none row.1 && is_some (cond b (Some (slice_range rows.bytes.items (start_at 0 rows.ends k) (get_or rows.ends k 0))) None)) f ∙ never (is_none row.1)
       )
   | no m ↦ ap is_shown_in (no_row rows k (omega arith))
 ]
@@ -83,8 +83,8 @@ pub shown_some : (rows : Rows) → AreRowsKept rows → (k : ℕ) → get_or row
 shown_some rows kept k t =
     let l = flag_within rows.labelled.items k t in
     let same = kept.flags in
-    let row = row_told rows.labelled.items rows.faults.items k (slice_range rows.bytes.items (start_at 0 rows.ends.items k) (get_or rows.ends.items k 0)) in
-    ap is_shown_in (row_at rows k (omega arith)) ∙ ap (λ b. is_none row.1 && is_some (cond b (Some (slice_range rows.bytes.items (start_at 0 rows.ends.items k) (get_or rows.ends.items k 0))) None)) t ∙ always (fault_kept rows.faults.items k)
+    let row = row_told rows.labelled.items rows.faults.items k (slice_range rows.bytes.items (start_at 0 rows.ends k) (get_or rows.ends k 0)) in
+    ap is_shown_in (row_at rows k (omega arith)) ∙ ap (λ b. is_none row.1 && is_some (cond b (Some (slice_range rows.bytes.items (start_at 0 rows.ends k) (get_or rows.ends k 0))) None)) t ∙ always (fault_kept rows.faults.items k)
   where
     always : (o : Option FrameFault) → (is_none (fault_told o) && true) ≡ is_none o
     always None = refl
@@ -115,19 +115,19 @@ labelled_told (Some label) = refl
 -- what is added for one more item
 pub record AddsRow (old : Rows) (label : Option (List ℕ)) (fault : Option FrameFault) (new : Rows) : Type 0 where
   pub bytes : new.bytes.items ≡ old.bytes.items ++ bytes_or_none label
-  pub ends : new.ends.items ≡ old.ends.items ++ length new.bytes.items ∷ []
+  pub ends : new.ends ≡ old.ends ++ length new.bytes.items ∷ []
   pub flags : new.labelled.items ≡ old.labelled.items ++ is_some label ∷ []
-  pub same : (n : ℕ) → n < length old.ends.items → fault_kept new.faults.items n ≡ fault_kept old.faults.items n
-  pub here : fault_kept new.faults.items (length old.ends.items) ≡ fault
-  pub within : length new.faults.items ≤ length old.ends.items + 1
+  pub same : (n : ℕ) → n < length old.ends → fault_kept new.faults.items n ≡ fault_kept old.faults.items n
+  pub here : fault_kept new.faults.items (length old.ends) ≡ fault
+  pub within : length new.faults.items ≤ length old.ends + 1
 
 pub some_lent : {L X : Type 0} (now : L → X) (lent : Option L) → is_some (option_map now lent) ≡ is_some lent
 some_lent now None = refl
 some_lent now (Some x) = refl
 
 -- by the count of the items before it
-pub adds_row : (old new : Rows) (label : Option (List ℕ)) (fault : Option FrameFault) (count : ℕ) → count ≡ length old.ends.items → AreRowsKept old → new.bytes.items ≡ old.bytes.items ++ bytes_or_none label
-    → new.ends.items ≡ old.ends.items ++ length new.bytes.items ∷ [] → new.labelled.items ≡ old.labelled.items ++ is_some label ∷ []
+pub adds_row : (old new : Rows) (label : Option (List ℕ)) (fault : Option FrameFault) (count : ℕ) → count ≡ length old.ends → AreRowsKept old → new.bytes.items ≡ old.bytes.items ++ bytes_or_none label
+    → new.ends ≡ old.ends ++ length new.bytes.items ∷ [] → new.labelled.items ≡ old.labelled.items ++ is_some label ∷ []
     → (length old.faults.items ≤ count → (n : ℕ) → n < count → fault_kept new.faults.items n ≡ fault_kept old.faults.items n) → (length old.faults.items ≤ count → fault_kept new.faults.items count ≡ fault)
     → (length old.faults.items ≤ count → length new.faults.items ≤ count + 1) → AddsRow old label fault new
 adds_row old new label fault count e kept bytes ends flags same here within =
@@ -145,29 +145,29 @@ adds_row old new label fault count e kept bytes ends flags same here within =
 
 pub kept_more : (old new : Rows) (label : Option (List ℕ)) (fault : Option FrameFault) → AreRowsKept old → AddsRow old label fault new → AreRowsKept new
 kept_more old new label fault k a =
-    let count = length-append old.ends.items (length new.bytes.items ∷ []) in
+    let count = length-append old.ends (length new.bytes.items ∷ []) in
     let ends = ap length a.ends in
     let flags = ap length a.flags in
     let marks = length-append old.labelled.items (is_some label ∷ []) in
     let same = k.flags in
     let within = a.within in
     record {
-      cut = (cut_added old.bytes.items (bytes_or_none label) new.bytes.items old.ends.items new.ends.items (length new.bytes.items) k.cut a.bytes refl a.ends).0;
+      cut = (cut_added old.bytes.items (bytes_or_none label) new.bytes.items old.ends new.ends (length new.bytes.items) k.cut a.bytes refl a.ends).0;
       flags = omega arith;
       faults = omega arith;
     }
 
 pub rows_more : (old new : Rows) (label : Option (List ℕ)) (fault : Option FrameFault) → AreRowsKept old → AddsRow old label fault new → rows_of new ≡ rows_of old ++ (label, fault_told fault) ∷ []
 rows_more old new label fault k a =
-    let labels = cut_from old.bytes.items 0 old.ends.items in
+    let labels = cut_from old.bytes.items 0 old.ends in
     let bytes = bytes_or_none label in
-    let cut = (cut_added old.bytes.items bytes new.bytes.items old.ends.items new.ends.items (length new.bytes.items) k.cut a.bytes refl a.ends).1 in
-    let count = cut_length old.bytes.items 0 old.ends.items in
+    let cut = (cut_added old.bytes.items bytes new.bytes.items old.ends new.ends (length new.bytes.items) k.cut a.bytes refl a.ends).1 in
+    let count = cut_length old.bytes.items 0 old.ends in
     let same = k.flags in
     let flags = λ (n : ℕ) (l : n < 0 + length labels). ap (λ w. get_or w n false) a.flags ∙ get_or_append_left old.labelled.items (is_some label ∷ []) false n (omega arith) in
     let faults = λ (n : ℕ) (l : n < 0 + length labels). a.same n (omega arith) in
     let z : 0 + length labels ≡ length old.labelled.items = omega arith in
-    let y : 0 + length labels ≡ length old.ends.items = omega arith in
+    let y : 0 + length labels ≡ length old.ends = omega arith in
     let flag = ap (λ n. get_or new.labelled.items n false) z ∙ ap (λ w. get_or w (length old.labelled.items) false) a.flags ∙ get_or-append_seam old.labelled.items (is_some label) [] false in
     let told : cond (get_or new.labelled.items (0 + length labels) false) (Some bytes) None ≡ label = ap (λ b. cond b (Some bytes) None) flag ∙ labelled_told label in
     ap (λ w. rows_from 0 w new.labelled.items new.faults.items) cut

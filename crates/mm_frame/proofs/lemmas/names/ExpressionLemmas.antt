@@ -2,9 +2,10 @@
 use Rattle.std.proofs.Common.{◌≡◌, ℕ, zero, suc, ◌+◌, ◌-◌, ◌<◌, ◌≤◌, Some, None, List, [], ◌∷◌, ◌++◌, length, map, take, drop, get_or, slice_get, refl, sym, ◌∙◌, ap, subst, arith, length-append}
 use Rattle.std.specs.List.{slice_range}
 use Rattle.std.specs.Option.{option_map}
-use Rattle.std.proofs.lemmas.Option.{slice_get-map}
-use Rattle.std.proofs.lemmas.List.{take-append-le, drop-append-le, take_all, length-drop}
-use Rattle.mm_frame.specs.Code.KeptExpressions.{cut_from, EndsFrom, start_at}
+use native.Mathlib.Decide.{dec_lt}
+use Rattle.std.proofs.lemmas.Option.{slice_get-map, slice_get_past}
+use Rattle.std.proofs.lemmas.List.{take-append-le, drop-append-le, take_all, length-drop, length-map}
+use Rattle.mm_frame.specs.Code.KeptParts.{cut_from, EndsFrom, start_at}
 use Rattle.mm_frame.specs.Code.KeptSparse.{first_of, value_or_none, value_kept}
 
 pub cut_length : {X : Type 0} (symbols : List X) (from : ℕ) (ends : List ℕ) → length (cut_from symbols from ends) ≡ length ends
@@ -28,6 +29,18 @@ cut_there symbols from [] n l = absurd (omega arith)
 cut_there symbols from (end ∷ ends) zero l = refl
 cut_there symbols from (end ∷ ends) (suc zero) l = cut_there symbols end ends zero (omega arith)
 cut_there symbols from (end ∷ ends) (suc (suc n)) l = cut_there symbols end ends (suc n) (omega arith)
+
+-- an end that is not 0 is there, and none is behind the last one
+pub end_there : (ends : List ℕ) (n : ℕ) → 0 < get_or ends n 0 → n < length ends
+end_there [] n l = absurd (omega arith)
+end_there (x ∷ ends) zero l = omega arith
+end_there (x ∷ ends) (suc n) l = let m = end_there ends n l in omega arith
+
+pub end_within : (ends : List ℕ) (last n : ℕ) → EndsFrom 0 ends last → get_or ends n 0 ≤ last
+end_within ends last n e = elim (dec_lt 0 (get_or ends n 0)) [
+  | yes l ↦ (part_within 0 ends last n e (end_there ends n l)).1
+  | no m ↦ omega arith
+]
 
 -- one more part
 range_front : {X : Type 0} (symbols more : List X) (from end : ℕ) → from ≤ end → end ≤ length symbols → slice_range (symbols ++ more) from end ≡ slice_range symbols from end
@@ -83,8 +96,16 @@ first_past xs start end l = let none : end - start ≡ 0 = omega arith in ap (λ
 kept : {X : Type 0} (values : List X) (ends : List ℕ) (n : ℕ) → n < length ends → value_kept (map first_of (cut_from values 0 ends)) n ≡ first_of (slice_range values (start_at 0 ends n) (get_or ends n 0))
 kept values ends n l = ap value_or_none (slice_get-map first_of (cut_from values 0 ends) n ∙ ap (option_map first_of) (cut_there values 0 ends n l))
 
-pub value_there : {X : Type 0} (values : List X) (ends : List ℕ) (n start end : ℕ) → n < length ends → start ≡ start_at 0 ends n → end ≡ get_or ends n 0 → start < end → slice_get values start ≡ value_kept (map first_of (cut_from values 0 ends)) n
-value_there values ends n start end w s e l = sym (kept values ends n w ∙ (λ i. first_of (slice_range values (sym s i) (sym e i))) ∙ first_there values start end l)
+pub value_there : {X : Type 0} (values : List X) (ends : List ℕ) (n start end : ℕ) → start ≡ start_at 0 ends n → end ≡ get_or ends n 0 → start < end → slice_get values start ≡ value_kept (map first_of (cut_from values 0 ends)) n
+value_there values ends n start end s e l =
+    sym (kept values ends n (end_there ends n (omega (arith, e, l))) ∙ (λ i. first_of (slice_range values (sym s i) (sym e i))) ∙ first_there values start end l)
 
-pub value_missing : {X : Type 0} (values : List X) (ends : List ℕ) (n start end : ℕ) → n < length ends → start ≡ start_at 0 ends n → end ≡ get_or ends n 0 → end ≤ start → None ≡ value_kept (map first_of (cut_from values 0 ends)) n
-value_missing values ends n start end w s e l = sym (kept values ends n w ∙ (λ i. first_of (slice_range values (sym s i) (sym e i))) ∙ first_past values start end l)
+pub value_missing : {X : Type 0} (values : List X) (ends : List ℕ) (n start end : ℕ) → start ≡ start_at 0 ends n → end ≡ get_or ends n 0 → end ≤ start → None ≡ value_kept (map first_of (cut_from values 0 ends)) n
+value_missing values ends n start end s e l = elim (dec_lt n (length ends)) [
+  | yes w ↦ sym (kept values ends n w ∙ (λ i. first_of (slice_range values (sym s i) (sym e i))) ∙ first_past values start end l)
+  | no m ↦ (
+      let parts = cut_from values 0 ends in
+      let count = length-map parts first_of ∙ cut_length values 0 ends in
+      sym (ap value_or_none (slice_get_past (map first_of parts) n (omega (arith, count, m))))
+      )
+]

@@ -9,5 +9,5 @@ returns c = λ all. record {
   frames = subst (AreRows (TellsFrame all) []) (sym c.in_ok-frames.ensures) (rows_none (TellsFrame all));
   made = c.new.ensures all;
   pair_numbers = subst (AreRows (TellsPairs all c.new.result) []) (sym c.in_ok-pair_numbers.ensures) (rows_none (TellsPairs all c.new.result));
-  making = c.new-2.ensures all;
+  room = c.new-2.ensures all;
 }

@@ -1,19 +1,9 @@
-use Rattle.std.proofs.Common.{◌++◌, ◌∷◌, [], ap, ◌∙◌, arith}
-use Rattle.mm_frame.proofs.lemmas.scope.BlockLemmas.{pushed}
-use Rattle.mm_frame.proofs.lemmas.names.ExpressionLemmas.{cut_added}
+use Rattle.std.proofs.Common.{◌++◌, ◌∷◌, [], ◌∙◌, ap}
+use Rattle.mm_frame.proofs.lemmas.names.ListLemmas.{told_more}
 use Rattle.mm_frame.proofs.expressions.Expressions.add.Goals as goal
-
-pub invariant_of-self-2 : goal.invariant_of-self-2
-invariant_of-self-2 c =
-    let last = c.len.result in
-    let all = c.extend_from_slice.new.self in
-    let ends = pushed c.push.result c.unwrap.result c.push.new.self.items (c.reserve.new.self.items ++ last ∷ []) c.reserve.new.self.items c.unwrap.ensures c.push.ensures.items ∙ ap (λ w. w ++ last ∷ []) c.reserve.ensures.items in
-    (cut_added c.self.inside.symbols.items c.args.symbols.now all.items c.self.inside.ends.items c.push.new.self.items last c.self.invariant c.in_ok-extend_from_slice.ensures.items (omega (arith, c.len.ensures, all.ok.0)) ends).0
 
 pub returns : goal.returns
 returns c =
-    let last = c.len.result in
-    let all = c.extend_from_slice.new.self in
-    let ends = pushed c.push.result c.unwrap.result c.push.new.self.items (c.reserve.new.self.items ++ last ∷ []) c.reserve.new.self.items c.unwrap.ensures c.push.ensures.items ∙ ap (λ w. w ++ last ∷ []) c.reserve.ensures.items in
-    (cut_added c.self.inside.symbols.items c.args.symbols.now all.items c.self.inside.ends.items c.push.new.self.items last c.self.invariant c.in_ok-extend_from_slice.ensures.items (omega (arith, c.len.ensures, all.ok.0)) ends).1
-    ∙ ap (λ w. w ++ c.args.symbols.now ∷ []) c.self.view_is
+    let inside = c.self.inside in
+    told_more inside.lists c.number_of.new.lists inside.numbers c.push.new.self c.in_ok-number.number c.args.symbols.now c.number_of.ensures.keeps c.self.invariant
+    c.in_ok-number.ensures.there c.in_ok-push.ensures.ok ∙ ap (λ w. w ++ c.args.symbols.now ∷ []) c.self.view_is

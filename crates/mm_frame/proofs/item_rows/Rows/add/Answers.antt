@@ -9,17 +9,17 @@ returns c = record {
   kept = λ kept. let old = c.args.self.now in
       let new : Rows = record { bytes = c.add_label.new.bytes; ends = c.push-2.new.self; labelled = c.push.new.self; faults = c.add_fault.new.faults } in
       let label = option_map (λ label. label.now) c.args.label in
-      let count : c.len.result ≡ length old.ends.items = omega (arith, c.len.ensures, old.ends.ok.0) in
+      let count : c.len.result ≡ length old.ends = c.len.ensures in
       let last : c.len-2.result ≡ length c.add_label.new.bytes.items = omega (arith, c.len-2.ensures, c.add_label.new.bytes.ok.0) in
       let flags = c.in_ok-push.ensures.items ∙ ap (λ b. old.labelled.items ++ b ∷ []) (c.is_some.ensures ∙ sym (some_lent (λ label. label.now) c.args.label)) in
       let fault = c.in_ok-add_fault.ensures in
-      kept_more old new label c.args.fault kept (adds_row old new label c.args.fault c.len.result count kept c.in_ok-add_label.ensures (c.in_ok-push-2.ensures.items ∙ ap (λ n. old.ends.items ++ n ∷ []) last) flags fault.same fault.here fault.within);
+      kept_more old new label c.args.fault kept (adds_row old new label c.args.fault c.len.result count kept c.in_ok-add_label.ensures (c.in_ok-push-2.ensures.ok ∙ ap (λ n. old.ends ++ n ∷ []) last) flags fault.same fault.here fault.within);
   more = λ kept. let old = c.args.self.now in
       let new : Rows = record { bytes = c.add_label.new.bytes; ends = c.push-2.new.self; labelled = c.push.new.self; faults = c.add_fault.new.faults } in
       let label = option_map (λ label. label.now) c.args.label in
-      let count : c.len.result ≡ length old.ends.items = omega (arith, c.len.ensures, old.ends.ok.0) in
+      let count : c.len.result ≡ length old.ends = c.len.ensures in
       let last : c.len-2.result ≡ length c.add_label.new.bytes.items = omega (arith, c.len-2.ensures, c.add_label.new.bytes.ok.0) in
       let flags = c.in_ok-push.ensures.items ∙ ap (λ b. old.labelled.items ++ b ∷ []) (c.is_some.ensures ∙ sym (some_lent (λ label. label.now) c.args.label)) in
       let fault = c.in_ok-add_fault.ensures in
-      rows_more old new label c.args.fault kept (adds_row old new label c.args.fault c.len.result count kept c.in_ok-add_label.ensures (c.in_ok-push-2.ensures.items ∙ ap (λ n. old.ends.items ++ n ∷ []) last) flags fault.same fault.here fault.within);
+      rows_more old new label c.args.fault kept (adds_row old new label c.args.fault c.len.result count kept c.in_ok-add_label.ensures (c.in_ok-push-2.ensures.ok ∙ ap (λ n. old.ends ++ n ∷ []) last) flags fault.same fault.here fault.within);
 }

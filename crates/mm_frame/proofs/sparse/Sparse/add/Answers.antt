@@ -1,6 +1,6 @@
-use Rattle.std.proofs.Common.{◌++◌, ◌∷◌, [], Some, map, ap, ◌∙◌, arith}
+use Rattle.std.proofs.Common.{◌+◌, ◌++◌, ◌∷◌, [], Some, length, map, ap, ◌∙◌, arith, length-append}
 use Rattle.std.proofs.lemmas.List.{map-append}
-use Rattle.mm_frame.specs.Code.KeptExpressions.{cut_from}
+use Rattle.mm_frame.specs.Code.KeptParts.{cut_from}
 use Rattle.mm_frame.specs.Code.KeptSparse.{first_of}
 use Rattle.mm_frame.proofs.lemmas.scope.BlockLemmas.{pushed}
 use Rattle.mm_frame.proofs.lemmas.names.ExpressionLemmas.{cut_added}
@@ -8,15 +8,19 @@ use Rattle.mm_frame.proofs.sparse.Sparse.add.Goals as goal
 
 pub invariant_of-self-2 : goal.invariant_of-self-2
 invariant_of-self-2 g c =
-    let last = c.len.result in
-    let all = c.push.new.self in
-    let ends = pushed c.push-2.result c.unwrap.result c.push-2.new.self.items (c.reserve.new.self.items ++ last ∷ []) c.reserve.new.self.items c.unwrap.ensures c.push-2.ensures.items ∙ ap (λ w. w ++ last ∷ []) c.reserve.ensures.items in
-    (cut_added c.self.inside.values.items (c.args.value ∷ []) all.items c.self.inside.ends.items c.push-2.new.self.items last c.self.invariant c.in_ok-push.ensures.items (omega (arith, c.len.ensures, all.ok.0)) ends).0
+    let i = c.self.inside in
+    let value = c.args.value in
+    let all = pushed c.push-2.result c.unwrap.result c.push-2.new.self.items (c.reserve.new.self.items ++ value ∷ []) c.reserve.new.self.items c.unwrap.ensures c.push-2.ensures.items ∙ ap (λ w. w ++ value ∷ []) c.reserve.ensures.items in
+    let count = ap length all ∙ length-append i.values.items (value ∷ []) in
+    (cut_added i.values.items (value ∷ []) c.push-2.new.self.items i.ends c.push.new.self (c.len.result + 1) c.self.invariant all
+    (omega (arith, c.len.ensures, c.reserve.new.self.ok.0, ap length c.reserve.ensures.items, count)) c.in_ok-push.ensures.ok).0
 
 pub returns : goal.returns
 returns g c =
-    let last = c.len.result in
-    let all = c.push.new.self in
-    let ends = pushed c.push-2.result c.unwrap.result c.push-2.new.self.items (c.reserve.new.self.items ++ last ∷ []) c.reserve.new.self.items c.unwrap.ensures c.push-2.ensures.items ∙ ap (λ w. w ++ last ∷ []) c.reserve.ensures.items in
-    ap (map first_of) (cut_added c.self.inside.values.items (c.args.value ∷ []) all.items c.self.inside.ends.items c.push-2.new.self.items last c.self.invariant c.in_ok-push.ensures.items (omega (arith, c.len.ensures, all.ok.0)) ends).1
-    ∙ map-append first_of (cut_from c.self.inside.values.items 0 c.self.inside.ends.items) ((c.args.value ∷ []) ∷ []) ∙ ap (λ w. w ++ Some c.args.value ∷ []) c.self.view_is
+    let i = c.self.inside in
+    let value = c.args.value in
+    let all = pushed c.push-2.result c.unwrap.result c.push-2.new.self.items (c.reserve.new.self.items ++ value ∷ []) c.reserve.new.self.items c.unwrap.ensures c.push-2.ensures.items ∙ ap (λ w. w ++ value ∷ []) c.reserve.ensures.items in
+    let count = ap length all ∙ length-append i.values.items (value ∷ []) in
+    ap (map first_of) (cut_added i.values.items (value ∷ []) c.push-2.new.self.items i.ends c.push.new.self (c.len.result + 1) c.self.invariant all
+    (omega (arith, c.len.ensures, c.reserve.new.self.ok.0, ap length c.reserve.ensures.items, count)) c.in_ok-push.ensures.ok).1
+    ∙ map-append first_of (cut_from i.values.items 0 i.ends) ((value ∷ []) ∷ []) ∙ ap (λ w. w ++ Some value ∷ []) c.self.view_is

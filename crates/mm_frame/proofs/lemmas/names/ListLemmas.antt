@@ -1,0 +1,45 @@
+-- Lists of symbols by their numbers: a list by its part, a list that is there, and lists that keep their numbers.
+use Rattle.std.proofs.Common.{◌≡◌, ℕ, ◌-◌, ◌<◌, ◌≤◌, Some, List, [], ◌∷◌, ◌++◌, length, map, take, drop, slice_get, get_or, refl, sym, ◌∙◌, ap, arith, All}
+use Rattle.std.specs.List.{slice_range}
+use native.Mathlib.Decide.{dec_lt}
+use Rattle.std.proofs.lemmas.Option.{slice_get-get_or, slice_get_past}
+use Rattle.std.proofs.lemmas.List.Elements.{All-head, All-tail}
+use Rattle.std.proofs.lemmas.List.{map-append}
+use Rattle.mm_frame.specs.declared.symbol.NumberedSymbol.{NumberedSymbol}
+use Rattle.mm_frame.specs.Code.KeptSymbols.{kept_or_none, expression_kept}
+use Rattle.mm_frame.specs.Code.KeptExpressions.{KeepsLists}
+use Rattle.mm_frame.specs.Code.KeptParts.{cut_from, start_at}
+use Rattle.mm_frame.proofs.lemmas.names.ExpressionLemmas.{cut_length, cut_there, end_there}
+
+-- a list by its part of the symbols
+pub part_told : (symbols : List NumberedSymbol) (ends : List ℕ) (n start end : ℕ) → start ≡ start_at 0 ends n → end ≡ get_or ends n 0 → start < end → slice_range symbols start end ≡ expression_kept (cut_from symbols 0 ends) n
+part_told symbols ends n start end s e l =
+    (λ i. slice_range symbols (s i) (e i)) ∙ sym (ap kept_or_none (cut_there symbols 0 ends n (end_there ends n (omega (arith, e, l)))))
+
+range_none : (symbols : List NumberedSymbol) (start end : ℕ) → end ≤ start → slice_range symbols start end ≡ []
+range_none symbols start end l = let none : end - start ≡ 0 = omega arith in ap (λ n. take n (drop start symbols)) none
+
+pub none_told : (symbols : List NumberedSymbol) (ends : List ℕ) (n start end : ℕ) → start ≡ start_at 0 ends n → end ≡ get_or ends n 0 → end ≤ start → [] ≡ expression_kept (cut_from symbols 0 ends) n
+none_told symbols ends n start end s e l = elim (dec_lt n (length ends)) [
+  | yes w ↦ sym (ap kept_or_none (cut_there symbols 0 ends n w) ∙ (λ i. slice_range symbols (sym s i) (sym e i)) ∙ range_none symbols start end l)
+  | no m ↦ let count = cut_length symbols 0 ends in sym (ap kept_or_none (slice_get_past (cut_from symbols 0 ends) n (omega (arith, count, m))))
+]
+
+-- a list that is there
+there : (lists : List (List NumberedSymbol)) (n : ℕ) → n < length lists → slice_get lists n ≡ Some (expression_kept lists n)
+there lists n l = let g = slice_get-get_or lists n [] l in g ∙ ap (λ o. Some (kept_or_none o)) (sym g)
+
+pub list_there : (lists : List (List NumberedSymbol)) (n : ℕ) (symbols : List NumberedSymbol) → n < length lists → expression_kept lists n ≡ symbols → slice_get lists n ≡ Some symbols
+list_there lists n symbols l e = there lists n l ∙ ap Some e
+
+-- the numbers tell the same symbols
+still_told : (old new : List (List NumberedSymbol)) (numbers : List ℕ) → KeepsLists old new → All (λ n. n < length old) numbers → map (expression_kept new) numbers ≡ map (expression_kept old) numbers
+still_told old new [] k a = refl
+still_told old new (n ∷ numbers) k a =
+    (λ i. (k n (All-head (λ n. n < length old) n numbers a)).1 i ∷ still_told old new numbers k (All-tail (λ n. n < length old) n numbers a) i)
+
+-- one more number
+pub told_more : (old new : List (List NumberedSymbol)) (numbers all : List ℕ) (n : ℕ) (symbols : List NumberedSymbol) → KeepsLists old new → All (λ n. n < length old) numbers
+    → slice_get new n ≡ Some symbols → all ≡ numbers ++ n ∷ [] → map (expression_kept new) all ≡ map (expression_kept old) numbers ++ symbols ∷ []
+told_more old new numbers all n symbols k a t e =
+    ap (map (expression_kept new)) e ∙ map-append (expression_kept new) numbers (n ∷ []) ∙ (λ i. still_told old new numbers k a i ++ kept_or_none (t i) ∷ [])

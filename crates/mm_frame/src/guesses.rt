@@ -1,0 +1,53 @@
+//! Guesses of the numbers of lists of symbols.
+
+use crate::symbol::NumberedSymbol;
+use std::alloc::{AllocError, Global};
+
+/// The most guesses: about as many as the largest databases have different expressions. They find 97 of 100 symbols that
+/// stood in an earlier item.
+const MOST_GUESSES: usize = 65_536;
+
+/// Numbers of lists of symbols, each kept at a place that the symbols of its list tell; another list may tell the same one.
+///
+/// What is guessed is compared, so that no answer depends on it.
+#[derive(Drop)]
+pub struct ListGuesses {
+    numbers: Vec<u32>,
+}
+
+impl ListGuesses {
+    /// A guess for each of so many items, but not more than the most.
+    pub fn with_room(alloc: Global, count: usize) -> Result<ListGuesses, AllocError> {
+        let places = count.min(MOST_GUESSES);
+        let mut numbers = Vec::with_capacity(alloc, places)?;
+        numbers.resize(places, 0)?;
+        Ok(ListGuesses { numbers })
+    }
+
+    /// Where the guess for a list of symbols is kept. It takes time linear in the list.
+    pub fn place_of(&self, symbols: &[NumberedSymbol]) -> usize {
+        let mut hash: usize = 0;
+        for symbol in symbols {
+            hash = hash.wrapping_mul(131).wrapping_add(symbol.name);
+        }
+        let places = self.numbers.len();
+        if places == 0 { 0 } else { hash % places }
+    }
+
+    /// The guess that is kept at a place.
+    pub fn guess(&self, place: usize) -> usize {
+        match self.numbers.get(place) {
+            Some(number) => *number as usize,
+            None => 0,
+        }
+    }
+
+    /// Keeps a guess, where there is a place for it.
+    pub fn keep(&mut self, place: usize, number: usize) {
+        if let Ok(number) = u32::try_from(number) {
+            if place < self.numbers.len() {
+                self.numbers[place] = number;
+            }
+        }
+    }
+}
