@@ -1,6 +1,6 @@
 //! What an item of the files says.
 
-ghost use Rattle.std.specs.Prelude.{◌≡◌, ◌↔◌, ◌+◌, ◌<◌, ◌≤◌, [], List, Some, false, None, All, IsTrue, IfOk, IfSome, OnOk, length, drop, is_some, slice_get, slice_index_or};
+ghost use Rattle.std.specs.Prelude.{◌≡◌, ◌≢◌, ◌↔◌, ◌+◌, ◌<◌, ◌≤◌, [], List, Some, false, None, All, IsTrue, IsFalse, IfOk, IfSome, OnOk, length, drop, is_some, slice_get, slice_index_or};
 ghost use Rattle.std.specs.List.{AllByRecursion, flat_map};
 ghost use Rattle.std.specs.Option.{option_map};
 ghost use Rattle.mm_store.specs.Language.FileFacts.{CanBeRead};
@@ -8,12 +8,13 @@ ghost use Rattle.mm_frame.specs.Language.Item as meant;
 ghost use Rattle.mm_frame.specs.Language.Sound.{first_symbol};
 ghost use Rattle.mm_frame.specs.Code.PlainWords.{AreWordsOf, LiesInText, TakesLabel, plain_words, word_bytes};
 ghost use Rattle.mm_frame.specs.Language.Statement as spoken;
-ghost use Rattle.mm_frame.specs.Language.Statement.{Says};
+ghost use Rattle.mm_frame.specs.Language.Statement.{HasBytes, Says};
 ghost use Rattle.mm_store.specs.mm_text.declared.word.Word.{Word};
 ghost use Rattle.mm_store.specs.mm_text.Language.Reading.{HasWords};
 ghost use Rattle.mm_store.specs.mm_text.Language.Unit.{tokens_of};
 
 use crate::proof_words::ProofWords;
+use memchr::memmem;
 use mm_store::{Files, Item, ItemKind, Word, WordCursor, WordKind, nth_word};
 use std::alloc::{AllocError, Global};
 use std::marker::Model;
@@ -362,6 +363,17 @@ pub fn same_proof(files: &Files, one: &Item, other: &Item) -> bool
         return true;
     }
     same_words(words_of_proof(files, one), words_of_proof(files, other))
+}
+
+/// Whether these bytes stand one after another somewhere among those of an item. Where they do not, no word of its proof is
+/// spelled so. The words are not looked for. It takes no memory.
+pub fn has_bytes(files: &Files, item: &Item, bytes: &[u8]) -> bool
+    requires { CanBeRead files.now item.now }
+    ensures found { IsTrue result ↔ HasBytes files.now item.now bytes.now }
+    ensures absent { IsFalse result → (said : meant.Item) → Says files.now item.now said → AllByRecursion (λ word. word ≢ bytes.now) said.proof }
+{
+    let piece = files.piece(item.key);
+    memmem::find(&piece[item.start..item.end], bytes).is_some()
 }
 
 /// Whether two items are the same bytes of one piece, read as the same kind.

@@ -7,7 +7,7 @@ use Rattle.mm_proof.specs.mm_frame.Language.Base.{BaseView, said_at, is_sound_at
 use Rattle.mm_proof.specs.mm_frame.Language.Item.{Kind, Theorem, is_labelled, is_theorem}
 use Rattle.mm_proof.specs.mm_frame.Language.Answering.{IsBaseBy}
 use Rattle.mm_proof.specs.mm_frame.declared.base.Base.{Base}
-use Rattle.mm_proof.specs.Language.BaseMarks.{ItemMark, IsMark, mark_at}
+use Rattle.mm_proof.specs.Language.BaseMarks.{ItemMark, MarksView, IsMark, mark_at}
 use Rattle.mm_proof.specs.Language.DecodingLaws.{LabelsAreOwn}
 use Rattle.mm_proof.specs.Language.View.{view_at, AreSameViews}
 use Rattle.mm_proof.specs.Language.ViewLaws.{SameViewSameVerdict, SameViewSameCites}
@@ -67,7 +67,7 @@ kept_by_one own base copy checked plan ran can i j k a b =
     own copy can.new_said j k (shown copy j a.is) (shown copy k b.is) (ap (λ (l : Option (List ℕ)). unwrap_or l []) (sym a.label ∙ b.label))
 
 -- what is marked of an item of the new base
-pub mark_here : (names : List (List ℕ)) (files : FilesView) (old new : Base) (marks : List ItemMark) (j : ℕ) → HasItemBothRead names files old new j → AreMarksBy names old new marks → (base copy : BaseView) → AreBothRead names files old new base copy
+pub mark_here : (names : List (List ℕ)) (files : FilesView) (old new : Base) (marks : MarksView) (j : ℕ) → HasItemBothRead names files old new j → AreMarksBy names old new marks → (base copy : BaseView) → AreBothRead names files old new base copy
     → IsMark base copy j (mark_at marks j)
 mark_here names files old new marks j has are base copy both =
     (are base copy both.old_is.base both.new_is.base).each j (subst (λ n. j < n) (one_count names names has.1 copy new has.2.new_is.base both.new_is.base) has.3)

@@ -4,9 +4,9 @@ ghost use Rattle.std.specs.Prelude.{◌≡◌, ◌↔◌, ◌+◌, ◌<◌, ℕ,
 ghost use Rattle.mm_frame.specs.Language.Base.{BaseView, hypothesis_at, is_shown_at};
 ghost use Rattle.mm_frame.specs.Language.Answering.{BaseAnswers, IsBase, IsBaseBy};
 ghost use Rattle.mm_frame.specs.Language.Resolving.{IsCarrier};
-ghost use Rattle.mm_proof.specs.Code.InStep.{AreOrdinalsOf, HasAlike, IsStepAt, ordinal};
+ghost use Rattle.mm_proof.specs.Code.InStep.{AreOrdinalsOf, HasLevel, IsStepAt, MeanOne, changed_behind};
 ghost use Rattle.mm_proof.specs.Code.KeptMarks.{OfBases, AreTheorems, SharePairs, ShareFrame, IsCompared, IsComparedOf, IsHypothesisMark, IsOneHypothesis, AreHypothesisMarks, kept_mark};
-ghost use Rattle.mm_proof.specs.Language.BaseMarks.{AreMarks, HaveOneLabel, IsMark, mark_at};
+ghost use Rattle.mm_proof.specs.Language.BaseMarks.{AreMarks, HaveOneLabel, IsMark, KeepsLabels, mark_at};
 
 use crate::ordinals::{Ordinals, end_alike, is_labelled, small, wide};
 use mm_frame::{
@@ -17,8 +17,8 @@ use std::alloc::{AllocError, Global};
 use std::marker::Model;
 
 /// What stays of an item: the number of the sound item of the old base that has its label, whether both have the same
-/// frame, whether they are the same hypothesis, whether both have the same active pairs, and whether every label means the
-/// same at both.
+/// frame, whether they are the same hypothesis, whether both have the same active pairs, and whether every label that is
+/// not told to be changed means the same at both.
 #[derive(Clone, Copy)]
 struct Mark {
     old: Option<u32>,
@@ -42,13 +42,17 @@ const NO_MARK: Mark = Mark {
 #[derive(Drop)]
 pub struct Marks {
     marks: Vec<Mark>,
+    /// The items of the new base whose labels are told to be changed.
+    changed: Vec<usize>,
 }
 
-impl Model for Marks {
-    ghost use Rattle.std.specs.Prelude.{List};
-    ghost use Rattle.mm_proof.specs.Language.BaseMarks.{ItemMark};
+/// With more changed labels two bases are out of step.
+const MOST_CHANGED: usize = 4;
 
-    ghost Value = { List ItemMark };
+impl Model for Marks {
+    ghost use Rattle.mm_proof.specs.Language.BaseMarks.{MarksView};
+
+    ghost Value = { MarksView };
 
     ghost use Rattle.mm_proof.specs.Code.KeptMarks.{marks_of};
 
@@ -215,29 +219,26 @@ fn mark_of(
     }
 }
 
-/// Whether the item `j` of the new base has no label, or the old base has one with its label, its ordinal and its meaning.
-fn is_alike(old: &Base, new: &Base, j: usize, ordinals: &Ordinals, mark: Mark) -> bool
-    requires { AreOrdinalsOf old.now new.now ordinals.now }
-    ensures { IsTrue result → IsHypothesisMark old.now new.now j mark
-        → OfBases old.now new.now (λ base copy. IsMark base copy j (kept_mark mark) → HasAlike base copy j) }
+/// Whether the item `j` of the new base has no label, or the old base has an item with its label and its ordinal.
+fn keeps_place(new: &Base, j: usize, ordinals: &Ordinals, mark: Mark) -> bool
+    ensures { IsTrue result → (old : BaseAnswers) → AreOrdinalsOf old new.now ordinals.now
+        → OfBases old new.now (λ base copy. IsMark base copy j (kept_mark mark) → HasLevel base copy j) }
 {
     match wide(mark.old) {
-        Some(i) => {
-            ordinals.are_same(i, j)
-                && (mark.frame || mark.hypothesis && end_alike(old, i, new, j, ordinals))
-        }
+        Some(i) => ordinals.are_same(i, j),
         None => !is_labelled(new, j),
     }
 }
 
-/// Whether the item `j` of the new base has the ordinal of the one of the old base with its label.
-fn is_level(ordinals: &Ordinals, mark: Mark, j: usize) -> bool
-    ensures { IsTrue result → (old new : BaseAnswers) → AreOrdinalsOf old new ordinals.now
-        → OfBases old new (λ base copy. (i : ℕ) → mark.old ≡ Some i → ordinal base i ≡ ordinal copy j) }
+/// Whether the item `j` of the new base means the same as the item of the old base with its label, if there is one.
+fn is_alike(old: &Base, new: &Base, j: usize, ordinals: &Ordinals, mark: Mark) -> bool
+    requires { AreOrdinalsOf old.now new.now ordinals.now }
+    ensures { IsTrue result → IsHypothesisMark old.now new.now j mark
+        → OfBases old.now new.now (λ base copy. IsMark base copy j (kept_mark mark) → (i : ℕ) → HaveOneLabel base copy i j → MeanOne base copy i j) }
 {
     match wide(mark.old) {
-        Some(i) => ordinals.are_same(i, j),
-        None => false,
+        Some(i) => mark.frame || mark.hypothesis && end_alike(old, i, new, j, ordinals),
+        None => true,
     }
 }
 
@@ -259,8 +260,11 @@ fn next_expected(base: &Base, found: Option<usize>, expected: usize) -> usize {
 struct Step {
     /// The two theorems that were compared last.
     last: Option<Compared>,
-    /// Whether each labelled item so far means the same as the one of the old base with its ordinal.
+    /// Whether each labelled item so far has the label of the one of the old base with its ordinal, and means the same but
+    /// where it is told to be changed.
     in_step: bool,
+    /// Whether the item before is to be told so.
+    changed: bool,
     /// The item of the old base that is tried first.
     expected: usize,
 }
@@ -269,10 +273,12 @@ struct Step {
 const FIRST_STEP: Step = Step {
     last: None,
     in_step: true,
+    changed: false,
     expected: 0,
 };
 
-/// The mark of an item, beside those of the items before it; and what is known before the next one is marked.
+/// The mark of an item, beside those of the items before it, of which these are told to be changed; and what is known before
+/// the next one is marked.
 fn marked(
     old: &Base,
     new: &Base,
@@ -280,23 +286,32 @@ fn marked(
     j: usize,
     step: Step,
     marks: &[Mark],
+    changed: &[usize],
 ) -> (Mark, Step)
     requires ordinals { AreOrdinalsOf old.now new.now ordinals.now }
-    requires step { IsStepAt old.now new.now j step }
+    requires step { IsStepAt old.now new.now changed.now j step }
     requires marks { AreHypothesisMarks old.now new.now marks.now }
     ensures mark { OfBases old.now new.now (λ base copy. IsMark base copy j (kept_mark result.0)) }
+    ensures labels { IsTrue result.0.in_step → OfBases old.now new.now (λ base copy. KeepsLabels base copy changed.now j) }
     ensures kept { IsHypothesisMark old.now new.now j result.0 }
-    ensures step { IsStepAt old.now new.now (j + 1) result.1 }
+    ensures step { IsStepAt old.now new.now (changed_behind changed.now j result.1.changed) (j + 1) result.1 }
 {
     labels_mean();
     let (mark, last) = mark_of(old, new, j, step.last, step.expected, marks);
-    let in_step = step.in_step && is_level(ordinals, mark, j);
+    let placed = step.in_step && keeps_place(new, j, ordinals, mark);
+    let alike = placed && is_alike(old, new, j, ordinals, mark);
+    let here = placed && !alike && changed.len() < MOST_CHANGED;
     let next = Step {
         last,
-        in_step: step.in_step && is_alike(old, new, j, ordinals, mark),
+        in_step: alike || here,
+        changed: here,
         expected: next_expected(old, wide(mark.old), step.expected),
     };
-    (Mark { in_step, ..mark }, next)
+    let mark = Mark {
+        in_step: placed,
+        ..mark
+    };
+    (mark, next)
 }
 
 /// Whether there is a number, and it is below another one.
@@ -318,13 +333,17 @@ impl Marks {
     {
         let ordinals = Ordinals::build(alloc, old, new)?;
         let mut marks = Vec::with_capacity(alloc, new.count())?;
+        let mut changed = Vec::new(alloc);
         let mut step = FIRST_STEP;
         for j in 0..new.count() {
-            let (mark, next) = marked(old, new, &ordinals, j, step, &marks);
+            let (mark, next) = marked(old, new, &ordinals, j, step, &marks, &changed);
             marks.push(mark)?;
+            if next.changed {
+                changed.push(j)?;
+            }
             step = next;
         }
-        Ok(Marks { marks })
+        Ok(Marks { marks, changed })
     }
 
     /// The number of the sound item of the old base that has the label of the item `j` of the new one, if both are sound.
@@ -371,7 +390,8 @@ impl Marks {
         }
     }
 
-    /// Whether every label means the same at the item `j` of the new base as at the one of the old base with its label.
+    /// Whether every label that is not told to be changed means the same at the item `j` of the new base as at the one of the
+    /// old base with its label.
     pub(crate) fn in_step(&self, j: usize) -> bool
         ensures { result ≡ (mark_at self.now j).in_step }
     {
@@ -379,5 +399,12 @@ impl Marks {
             Some(mark) => mark.in_step,
             None => false,
         }
+    }
+
+    /// The items of the new base whose labels are told to be changed, in order: a few at most.
+    pub(crate) fn changed(&self) -> &[usize]
+        ensures { result.now ≡ self.now.changed }
+    {
+        &self.changed
     }
 }

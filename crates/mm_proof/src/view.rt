@@ -1,7 +1,7 @@
 //! Whether two theorems have the same view: all that the verdicts on their proofs depend on.
 
-ghost use Rattle.std.specs.Prelude.{◌≡◌, ◌↔◌, true, ℕ, List, Some, IsTrue, filter};
-ghost use Rattle.std.specs.List.{before_first};
+ghost use Rattle.std.specs.Prelude.{◌≡◌, ◌↔◌, true, ℕ, List, Some, IsTrue, IsFalse, filter, length};
+ghost use Rattle.std.specs.List.{AllByRecursion, before_first};
 ghost use Rattle.mm_frame.specs.mm_store.Language.FileFacts.{CanBeRead};
 ghost use Rattle.mm_frame.specs.Language.Base.{BaseView, is_framed_at, is_proof_at};
 ghost use Rattle.mm_frame.specs.Language.Item as meant;
@@ -9,7 +9,7 @@ ghost use Rattle.mm_frame.specs.Language.Statement.{Says};
 ghost use Rattle.mm_frame.specs.Language.Resolving.{IsCarrier, Resolves};
 ghost use Rattle.mm_frame.specs.Language.Answering.{IsBase, IsBaseBy};
 ghost use Rattle.mm_proof.specs.Code.KeptMarks.{AreTheorems, IsOneCarrier, IsShownItem, SharePairs, ShareHypotheses, ShareProof, is_label_word, stands_for};
-ghost use Rattle.mm_proof.specs.Code.TwoTheorems.{AreMarked, CanBeCompared, OfTwo, OfTwoIn, MeansSame, TellsLabels, TellsShared};
+ghost use Rattle.mm_proof.specs.Code.TwoTheorems.{AreMarked, AreUnnamed, CanBeCompared, IsUnnamed, OfTwo, OfTwoIn, MeansSame, TellsLabels, TellsShared};
 ghost use Rattle.mm_proof.specs.Language.ReadIn.{IsReadIn, HasTheorem};
 ghost use Rattle.mm_proof.specs.Language.BaseMarks.{AreMarks, mark_at};
 ghost use Rattle.mm_proof.specs.Language.Decoding.{is_close as is_closing};
@@ -20,8 +20,9 @@ use crate::labels::is_close;
 use crate::marks::Marks;
 use crate::reading::{is_open, is_unknown};
 use mm_frame::{
-    Base, Files, Item, Names, ProofWords, Resolved, has_own_labels, kept_next, labels_mean,
-    same_active_pairs, same_but_pairs, same_expression, same_frame, same_proof, words_of_proof,
+    Base, Files, Item, Names, ProofWords, Resolved, has_bytes, has_own_labels, kept_next,
+    labels_mean, same_active_pairs, same_but_pairs, same_expression, same_frame, same_proof,
+    words_of_proof,
 };
 
 /// The item `i` of an old base and the item `j` of a new one. The symbols of both bases are read by these names. The marks,
@@ -202,22 +203,58 @@ fn same_but_active(two: TwoTheorems) -> bool
     }
 }
 
-/// Whether the marks tell that the items have one label, and that every label means the same at both.
+/// Whether the marks tell that the items have one label, and that every label that is not told to be changed means the same
+/// at both.
 fn is_in_step(marks: &Marks, i: usize, j: usize) -> bool
     ensures { IsTrue result ↔ ((mark_at marks.now j).old ≡ Some i) × ((mark_at marks.now j).in_step ≡ true) }
 {
     is_marked(marks, i, j) && marks.in_step(j)
 }
 
-/// Whether the labels that the proof of this item names mean the same at both. Nothing is read where the marks tell that
-/// every label does.
+/// Whether the item `m` of the new base stands before the theorem, and its label stands among the bytes of this item.
+fn may_name(two: TwoTheorems, m: usize, files: &Files, item: &Item) -> bool
+    requires { CanBeRead files.now item.now }
+    ensures { (said : meant.Item) → Says files.now item.now said → IsFalse result → IsUnnamed two.entry said.proof m }
+{
+    m < two.j
+        && match two.new.label(m) {
+            Some(label) => has_bytes(files, item, label),
+            None => false,
+        }
+}
+
+/// Whether the label of one of these items may be named so.
+fn may_name_any(two: TwoTheorems, changed: &[usize], files: &Files, item: &Item) -> bool
+    requires { CanBeRead files.now item.now }
+    ensures { (said : meant.Item) → Says files.now item.now said → IsFalse result → AreUnnamed two.entry said.proof changed.now (length changed.now) }
+{
+    for k in 0..changed.len() {
+        if may_name(two, changed[k], files, item) {
+            return true;
+        }
+    }
+    false
+}
+
+/// Whether the marks tell that the items have one label, and that every label that the proof of this item names means the
+/// same at both. Its bytes are searched for each label that is told to be changed.
+fn are_kept(two: TwoTheorems, marks: &Marks, files: &Files, item: &Item) -> bool
+    requires { CanBeRead files.now item.now }
+    ensures { (said : meant.Item) → Says files.now item.now said → IsTrue result → OfTwo two.entry (λ base copy. AreMarks base copy marks.now
+        → AllByRecursion (MeansSame two.entry base copy) (labels_named said.proof)) }
+{
+    is_in_step(marks, two.i, two.j) && !may_name_any(two, marks.changed(), files, item)
+}
+
+/// Whether the labels that the proof of this item names mean the same at both. No word is read where the marks tell that they
+/// do.
 fn same_labels(two: TwoTheorems, files: &Files, item: &Item) -> bool
     requires read { CanBeRead files.now item.now }
     requires marked { AreMarked two }
     ensures { (said : meant.Item) → Says files.now item.now said → TellsLabels two.entry (labels_named said.proof) result }
 {
     match two.marks {
-        Some(marks) if is_in_step(marks, two.i, two.j) => true,
+        Some(marks) if are_kept(two, marks, files, item) => true,
         _ => same_named(two, words_of_proof(files, item)),
     }
 }
@@ -264,7 +301,8 @@ pub fn same_view(names: &Names, files: &Files, one: &Base, i: usize, other: &Bas
 }
 
 /// Answers what [`same_view`] does, by the marks of the two bases: no frame is compared, and each label that the proof
-/// names is looked up once; none is where the bases are in step up to the two. It takes no memory.
+/// names is looked up once. None is where the bases are in step up to the two, but for a few changed labels, and none of
+/// these stands among the bytes of the theorem. It takes no memory.
 pub fn same_view_by(
     names: &Names,
     files: &Files,

@@ -1,5 +1,6 @@
 -- What an item says, read from the words of its piece.
 
+pub mod ByteLemmas
 pub mod NthOfProof
 pub mod PieceLemmas
 pub mod SpokenLemmas

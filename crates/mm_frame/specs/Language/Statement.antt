@@ -72,3 +72,10 @@ item_of kind tokens = record {
 pub record Says (files : FilesView) (item : store.Item) (said : Item) : Type 0 where
   pub read : CanBeRead files item
   pub is : said ≡ item_of (kind_of item.kind) (tokens_of (slice_range read.text item.start item.end) read.words)
+
+-- these bytes stand one after another among those of the item
+pub record HasBytes (files : FilesView) (item : store.Item) (bytes : List ℕ) : Type 0 where
+  pub read : CanBeRead files item
+  pub start : ℕ
+  pub end : ℕ
+  pub stand : slice_range (slice_range read.text item.start item.end) start end ≡ bytes

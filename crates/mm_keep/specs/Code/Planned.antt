@@ -4,7 +4,7 @@ use Rattle.mm_proof.specs.mm_store.Language.FilesView.{FilesView}
 use Rattle.mm_proof.specs.mm_frame.Language.Base.{BaseView, AreSaid, is_proof_at}
 use Rattle.mm_proof.specs.mm_frame.declared.base.Base.{Base}
 use Rattle.mm_proof.specs.mm_frame.Language.Answering.{IsBaseBy}
-use Rattle.mm_proof.specs.Language.BaseMarks.{ItemMark, AreMarks}
+use Rattle.mm_proof.specs.Language.BaseMarks.{MarksView, AreMarks}
 use Rattle.mm_proof.specs.Language.VerdictAt.{AreDoneAt}
 use Rattle.mm_proof.specs.Language.ReadIn.{IsReadIn}
 use Rattle.mm_proof.specs.Language.Work.{Recorded, Judgement}
@@ -48,7 +48,7 @@ pub record AreBothRead (names : List (List ℕ)) (files : FilesView) (old new : 
   pub new_is : IsReadIn names files new copy
 
 -- the marks of these two bases say what stays of the old one
-abbrev pub AreMarksBy : List (List ℕ) → Base → Base → List ItemMark → Type 0
+abbrev pub AreMarksBy : List (List ℕ) → Base → Base → MarksView → Type 0
 AreMarksBy names old new marks = (base copy : BaseView) → IsBaseBy names base old → IsBaseBy names copy new → AreMarks base copy marks
 
 -- there are two such bases, and the new one has an item with this number

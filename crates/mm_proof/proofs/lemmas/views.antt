@@ -6,4 +6,5 @@ pub mod MeaningLemmas
 pub mod Moving
 pub mod SameCites
 pub mod SameLemmas
+pub mod UnnamedLemmas
 pub mod ViewLemmas

@@ -1,5 +1,5 @@
 -- How far two bases are in step.
-use Rattle.std.specs.Prelude.{◌≡◌, ◌<◌, ◌⊎◌, ℕ, zero, suc, false, true, if◌then◌else◌, Option, Some, None, List, length, slice_index}
+use Rattle.std.specs.Prelude.{◌≡◌, ◌<◌, ◌⊎◌, ◌++◌, ◌∷◌, [], ℕ, Bool, zero, suc, false, true, if◌then◌else◌, Option, Some, None, List, length, slice_get, slice_index}
 use Rattle.mm_frame.specs.Language.Base.{BaseView, before, said_at, is_shown_at, is_framed_at}
 use Rattle.mm_frame.specs.Language.Framing.{expression}
 use Rattle.mm_frame.specs.Language.Resolving.{IsCarrier, IsUpTo, Resolves}
@@ -53,21 +53,36 @@ pub record KeepsHypothesis (base copy : BaseView) (i j : ℕ) : Type 0 where
   pub same : expression (before base i) (said_at base i) ≡ expression (before copy j) (said_at copy j)
   pub end : SharesEnd base copy i j
 
--- two sound items have one label and one ordinal, and are assertions with one frame, or such hypotheses
-pub record IsAlike (base copy : BaseView) (i j : ℕ) : Type 0 where
+-- both items are assertions with one frame, or such hypotheses
+abbrev pub MeanOne : BaseView → BaseView → ℕ → ℕ → Type 0
+MeanOne base copy i j = ShareFrame base copy i j ⊎ KeepsHypothesis base copy i j
+
+-- two sound items have one label and one ordinal
+pub record AreLevel (base copy : BaseView) (i j : ℕ) : Type 0 where
   pub one_label : HaveOneLabel base copy i j
   pub ordinal_is : ordinal base i ≡ ordinal copy j
-  pub kept : ShareFrame base copy i j ⊎ KeepsHypothesis base copy i j
+
+-- the item is told to be changed
+abbrev pub IsTold : List ℕ → ℕ → Type 0
+IsTold changed j = (place : ℕ) × (slice_get changed place ≡ Some j)
 
 -- there is such an item of the old base for item j of the new one, if that has a label
-abbrev pub HasAlike : BaseView → BaseView → ℕ → Type 0
-HasAlike base copy j = is_shown_at copy j ≡ true → (i : ℕ) × IsAlike base copy i j
+abbrev pub HasLevel : BaseView → BaseView → ℕ → Type 0
+HasLevel base copy j = is_shown_at copy j ≡ true → (i : ℕ) × AreLevel base copy i j
+
+-- and both mean the same, but where this is told to be changed
+abbrev pub HasAlike : BaseView → BaseView → List ℕ → ℕ → Type 0
+HasAlike base copy changed j = is_shown_at copy j ≡ true → (i : ℕ) × AreLevel base copy i j × (IsTold changed j ⊎ MeanOne base copy i j)
 
 -- there is such an item for each item before this one
-abbrev pub AreInStep : BaseView → BaseView → ℕ → Type 0
-AreInStep base copy j = (m : ℕ) → m < j → HasAlike base copy m
+abbrev pub AreInStep : BaseView → BaseView → List ℕ → ℕ → Type 0
+AreInStep base copy changed j = (m : ℕ) → m < j → HasAlike base copy changed m
 
--- what is known of the items before item j
-pub record IsStepAt (old new : Base) (j : ℕ) (step : Step) : Type 0 where
+-- what is told to be changed behind item j
+abbrev pub changed_behind : List ℕ → ℕ → Bool → List ℕ
+changed_behind changed j here = if here then changed ++ j ∷ [] else changed
+
+-- what is known of the items before item j, where these are told to be changed
+pub record IsStepAt (old new : Base) (changed : List ℕ) (j : ℕ) (step : Step) : Type 0 where
   pub last : IsCompared old new step.last
-  pub in_step : step.in_step ≡ true → OfBases old new (λ base copy. AreInStep base copy j)
+  pub in_step : step.in_step ≡ true → OfBases old new (λ base copy. AreInStep base copy changed j)

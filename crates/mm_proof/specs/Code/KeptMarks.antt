@@ -10,7 +10,7 @@ use Rattle.mm_frame.specs.declared.base.Base.{Base}
 use Rattle.mm_frame.specs.declared.base.Resolved as answer
 use Rattle.mm_frame.specs.declared.base.Resolved.TheVariants as answers
 use Rattle.mm_proof.specs.Language.BaseLabels.{setting_at}
-use Rattle.mm_proof.specs.Language.BaseMarks.{ItemMark, AreMarks, IsMark, mark_at}
+use Rattle.mm_proof.specs.Language.BaseMarks.{ItemMark, MarksView, AreMarks, IsMark, KeepsLabels, mark_at}
 use Rattle.mm_proof.specs.Language.SameProof.{IsSameLabel, labels_named}
 use Rattle.mm_proof.specs.declared.marks.Compared.{Compared}
 use Rattle.mm_proof.specs.declared.marks.Mark as code
@@ -23,8 +23,8 @@ kept_mark mark = record { old = mark.old; frame = mark.frame; pairs = mark.pairs
 abbrev pub kept_marks : List code.Mark → List ItemMark
 kept_marks marks = map kept_mark marks
 
-abbrev pub marks_of : Inside → List ItemMark
-marks_of inside = kept_marks inside.marks.items
+abbrev pub marks_of : Inside → MarksView
+marks_of inside = record { items = kept_marks inside.marks.items; changed = inside.changed.items }
 
 -- this holds of what an old base and a new one answer, both by the same names
 abbrev pub OfBases : Base → Base → (BaseView → BaseView → Type 0) → Type 0
@@ -35,7 +35,7 @@ abbrev pub OfBasesBy : List (List ℕ) → Base → Base → (BaseView → BaseV
 OfBasesBy names old new holds = (base copy : BaseView) → IsBaseBy names base old → IsBaseBy names copy new → holds base copy
 
 -- what is reported of them is what stays of the old base in the new one
-abbrev pub AreMarksOf : List (List ℕ) → Base → Base → List ItemMark → Type 0
+abbrev pub AreMarksOf : List (List ℕ) → Base → Base → MarksView → Type 0
 AreMarksOf names old new marks = OfBasesBy names old new (λ base copy. AreMarks base copy marks)
 
 -- this is the item that carries the label, or none does
@@ -82,9 +82,10 @@ abbrev pub AreHypothesisMarks : Base → Base → List code.Mark → Type 0
 AreHypothesisMarks old new marks = (m : ℕ) (mark : code.Mark) → slice_get marks m ≡ Some mark → IsHypothesisMark old new m mark
 
 -- the marks of this many items are kept
-pub record AreItemMarks (base copy : BaseView) (count : ℕ) (marks : List ItemMark) : Type 0 where
-  pub count_is : length marks ≡ count
+pub record AreItemMarks (base copy : BaseView) (count : ℕ) (marks : MarksView) : Type 0 where
+  pub count_is : length marks.items ≡ count
   pub each : (j : ℕ) → j < count → IsMark base copy j (mark_at marks j)
+  pub in_step : (j : ℕ) → j < count → (mark_at marks j).in_step ≡ true → KeepsLabels base copy marks.changed j
 
 -- the item that an answer names has an expression, or a frame
 abbrev pub IsShownItem : BaseView → answer.Resolved → Type 0

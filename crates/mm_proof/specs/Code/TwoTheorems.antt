@@ -1,8 +1,9 @@
 -- Two theorems whose views are compared, one of an old base and one of a new one.
-use Rattle.std.specs.Prelude.{◌↔◌, Bool, List, IsTrue, IfSome, ℕ}
+use Rattle.std.specs.Prelude.{◌≡◌, ◌≢◌, ◌↔◌, ◌<◌, Bool, List, Some, IsTrue, IfSome, ℕ, slice_get}
 use Rattle.std.specs.List.{AllByRecursion}
 use Rattle.mm_frame.specs.mm_store.Language.FilesView.{FilesView}
-use Rattle.mm_frame.specs.Language.Base.{BaseView}
+use Rattle.mm_frame.specs.Language.Base.{BaseView, said_at}
+use Rattle.mm_frame.specs.Language.Answering.{IsBase}
 use Rattle.mm_proof.specs.Language.BaseLabels.{setting_at}
 use Rattle.mm_proof.specs.Language.ReadIn.{HasTheorem, IsReadIn}
 use Rattle.mm_proof.specs.Language.SameProof.{IsSameLabel}
@@ -43,3 +44,12 @@ LeavesLabels two labels left = OfTwo two (λ base copy. AllByRecursion (MeansSam
 -- the answer says whether the two theorems share this
 abbrev pub TellsShared : TwoTheorems → (BaseView → BaseView → ℕ → ℕ → Type 0) → Bool → Type 0
 TellsShared two shared told = OfTwo two (λ base copy. AreTheorems base copy two.i two.j → IsTrue told ↔ shared base copy two.i two.j)
+
+-- where item m of the new base stands before the theorem, none of these words is its label
+abbrev pub IsUnnamed : TwoTheorems → List (List ℕ) → ℕ → Type 0
+IsUnnamed two words m = (copy : BaseView) → IsBase copy two.new.now → m < two.j → (label : List ℕ) → (said_at copy m).label ≡ Some label
+    → AllByRecursion (λ word. word ≢ label) words
+
+-- so it is for the first so many of these items
+abbrev pub AreUnnamed : TwoTheorems → List (List ℕ) → List ℕ → ℕ → Type 0
+AreUnnamed two words changed count = (place m : ℕ) → place < count → slice_get changed place ≡ Some m → IsUnnamed two words m

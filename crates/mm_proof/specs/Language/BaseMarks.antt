@@ -1,5 +1,5 @@
 -- What stays of an old base in a new one, for each item of the new one.
-use Rattle.std.specs.Prelude.{◌≡◌, ◌↔◌, ℕ, ◌<◌, Bool, true, false, Option, Some, None, List, length, slice_index_or}
+use Rattle.std.specs.Prelude.{◌≡◌, ◌↔◌, ℕ, ◌<◌, Bool, true, false, Option, Some, None, List, length, slice_get, slice_index_or}
 use Rattle.mm_frame.specs.Language.Base.{BaseView, before, said_at, is_framed_at, is_proof_at, is_shown_at, frame_at}
 use Rattle.mm_frame.specs.Language.Frame.{AreSameFrame, AreSamePairs}
 use Rattle.mm_frame.specs.Language.Framing.{active_pairs}
@@ -14,13 +14,18 @@ pub record ItemMark : Type 0 where
   pub pairs : Bool
   pub in_step : Bool
 
+-- What is reported of two bases: a mark for each item of the new one; and the items of the new one whose labels are told to be changed.
+pub record MarksView : Type 0 where
+  pub items : List ItemMark
+  pub changed : List ℕ
+
 -- nothing stays
 abbrev pub no_mark : ItemMark
 no_mark = record { old = None; frame = false; pairs = false; in_step = false }
 
 -- the mark of the item with this number; if there is none, nothing stays
-abbrev pub mark_at : List ItemMark → ℕ → ItemMark
-mark_at marks j = slice_index_or marks j no_mark
+abbrev pub mark_at : MarksView → ℕ → ItemMark
+mark_at marks j = slice_index_or marks.items j no_mark
 
 -- item i of the old base and item j of the new one are sound and have one label
 pub record HaveOneLabel (old new : BaseView) (i j : ℕ) : Type 0 where
@@ -45,18 +50,27 @@ pub record KeepsPairs (old new : BaseView) (j : ℕ) : Type 0 where
   pub is : is_proof_at new j ≡ true
   pub same : AreSamePairs (active_pairs (before old i)) (active_pairs (before new j))
 
--- every label means the same at item j and at the sound item of the old base that has its label
-abbrev pub KeepsLabels : BaseView → BaseView → ℕ → Type 0
-KeepsLabels old new j = (i : ℕ) → HaveOneLabel old new i j → (label : List ℕ) → IsSameLabel (setting_at old i) (setting_at new j) label
+-- the label is that of an item of the new base before item j that is told to be changed
+pub record IsToldChanged (new : BaseView) (changed : List ℕ) (j : ℕ) (label : List ℕ) : Type 0 where
+  pub m : ℕ
+  pub place : ℕ
+  pub told : slice_get changed place ≡ Some m
+  pub earlier : m < j
+  pub label_is : (said_at new m).label ≡ Some label
+
+-- every label that is not told to be changed means the same at it and at the sound item of the old base that has its label
+abbrev pub KeepsLabels : BaseView → BaseView → List ℕ → ℕ → Type 0
+KeepsLabels old new changed j = (i : ℕ) → HaveOneLabel old new i j → (label : List ℕ) → ¬ IsToldChanged new changed j label
+    → IsSameLabel (setting_at old i) (setting_at new j) label
 
 -- the mark says this of item j of the new base
 pub record IsMark (old new : BaseView) (j : ℕ) (mark : ItemMark) : Type 0 where
   pub old_is : (i : ℕ) → (mark.old ≡ Some i) ↔ HaveOneLabel old new i j
   pub frame_is : (mark.frame ≡ true) ↔ KeepsFrame old new j
   pub pairs_is : (mark.pairs ≡ true) ↔ KeepsPairs old new j
-  pub in_step_is : mark.in_step ≡ true → KeepsLabels old new j
 
 -- the marks are right of each item of the new base
-pub record AreMarks (old new : BaseView) (marks : List ItemMark) : Type 0 where
-  pub count : length marks ≡ length new.said
+pub record AreMarks (old new : BaseView) (marks : MarksView) : Type 0 where
+  pub count : length marks.items ≡ length new.said
   pub each : (j : ℕ) → j < length new.said → IsMark old new j (mark_at marks j)
+  pub in_step : (j : ℕ) → j < length new.said → (mark_at marks j).in_step ≡ true → KeepsLabels old new marks.changed j

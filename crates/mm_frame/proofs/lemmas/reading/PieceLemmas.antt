@@ -28,7 +28,7 @@ abbrev pub OnlyWords : List ℕ → List Word → Type 0
 OnlyWords text words = (others : List Word) → HasWords text others → words ≡ others
 
 module _ (files : FilesView) (item : store.Item) (piece : List ℕ) (r : CanBeRead files item) (is : IsTextOf files item piece) where
-  same_bytes : bytes_in piece item ≡ bytes_in r.text item
+  pub same_bytes : bytes_in piece item ≡ bytes_in r.text item
   same_bytes = ap (λ text. bytes_in text item) (is r.text r.live)
 
   -- the bytes of an item have the words that it can be read with

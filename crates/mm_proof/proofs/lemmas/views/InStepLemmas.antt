@@ -1,9 +1,8 @@
 -- How far two bases are in step, and what labels mean there.
-use Rattle.std.proofs.Common.{◌≡◌, ◌+◌, ◌<◌, ◌≤◌, ◌⊎◌, ◌++◌, ℕ, zero, suc, cond, Bool, true, false, Option, Some, None, List, [], ◌∷◌, length, refl, sym, ◌∙◌, ap, subst, inl, inr, arith, length-append, is_some, slice_index}
+use Rattle.std.proofs.Common.{◌≡◌, ◌+◌, ◌<◌, ◌≤◌, ◌⊎◌, ◌++◌, ℕ, zero, suc, cond, Bool, true, false, Option, Some, None, List, [], ◌∷◌, length, refl, sym, ◌∙◌, ap, subst, inl, inr, arith, length-append, is_some, slice_get, slice_index, slice_index_or}
 use Rattle.std.specs.Option.{option_map}
-use Rattle.std.specs.List.{AllByRecursion}
 use Rattle.std.proofs.Math.Decide.{dec_lt}
-use Rattle.std.proofs.lemmas.Bool.{cases_Bool}
+use Rattle.std.proofs.lemmas.Bool.{cases_Bool, false≢true}
 use Rattle.std.proofs.lemmas.Option.{same_Some, none-some}
 use Rattle.mm_frame.specs.declared.base.Resolved as answer
 use Rattle.mm_frame.specs.declared.base.Resolved.TheVariants as answers
@@ -11,11 +10,12 @@ use Rattle.mm_frame.specs.Language.Base.{BaseView, said_at, is_shown_at}
 use Rattle.mm_frame.specs.Language.Laws as frame
 use Rattle.mm_frame.specs.Language.Resolving.{IsLabelOf, IsUpTo, Resolves}
 use Rattle.mm_proof.specs.Language.BaseLabels.{setting_at}
-use Rattle.mm_proof.specs.Language.BaseMarks.{ItemMark, IsMark, HaveOneLabel, AreMarks, mark_at}
+use Rattle.mm_proof.specs.Language.BaseMarks.{ItemMark, MarksView, IsMark, IsToldChanged, HaveOneLabel, AreMarks, mark_at, no_mark}
 use Rattle.mm_proof.specs.Language.SameProof.{AreSameMeaning, IsSameLabel}
-use Rattle.mm_proof.specs.Code.InStep.{ordinal, AreOrdinals, AreEndsAlike, AreInStep, EndsAt, HasAlike, KeepsHypothesis}
+use Rattle.mm_proof.specs.Code.InStep.{ordinal, AreOrdinals, AreEndsAlike, AreInStep, EndsAt, HasAlike, HasLevel, IsTold, KeepsHypothesis, MeanOne, changed_behind}
 use Rattle.mm_proof.specs.Code.KeptMarks.{ShareFrame, stands_for}
 use Rattle.mm_proof.proofs.lemmas.views.MeaningLemmas.{means_same}
+use Rattle.mm_proof.proofs.lemmas.views.KeptMarkLemmas.{got_front}
 
 -- ---- ordinals
 
@@ -124,28 +124,35 @@ module _ (base copy : BaseView) (i j : ℕ) (was : is_shown_at base i ≡ true) 
   kept_means assertions label k m h g (inl s) = both_mean label (answers.Assertion k) (answers.Assertion m) (assertions base i k label h s.was) (assertions copy j m label g s.is) s.same
   kept_means assertions label k m h g (inr s) = ends_mean label k m s.end.mine s.end.yours h g s s.end.was s.end.is s.end.alike
 
-  -- every label
-  pub in_step_labels : frame.HasItemOrIsUnknown → frame.AssertionsMean → AreInStep base copy j → (label : List ℕ) → IsSame label
-  in_step_labels item assertions step label = by_item (item base i label) (item copy j label)
+  -- every label that is not told to be changed
+  pub in_step_labels :
+      frame.HasItemOrIsUnknown → frame.AssertionsMean → (changed : List ℕ) → AreInStep base copy changed j → (label : List ℕ) → ¬ IsToldChanged copy changed j label → IsSame label
+  in_step_labels item assertions changed step label unchanged = by_item (item base i label) (item copy j label)
     where
+      by_told : (k m : ℕ) → IsLabelOf base i k label → IsLabelOf copy j m label → IsTold changed m ⊎ MeanOne base copy k m → IsSame label
+      by_told k m h g (inl t) = absurd (unchanged (record { m = m; place = t.0; told = t.1; earlier = g.earlier; label_is = (let c = g.carrier in c.label_is) }))
+      by_told k m h g (inr s) = kept_means assertions label k m h g s
+
       by_item : StandsOrNot label base i → StandsOrNot label copy j → IsSame label
       by_item (inl (k, h)) other =
           let c = h.carrier in
           let less = ordinal_less base k i c.shown h.earlier in
           let there = item_with copy j (ordinal base k) (omega (arith, less, level)) in
-          let alike = step there.m there.earlier there.shown in
-          let same = one_ordinal base alike.0 k alike.1.one_label.was c.shown (alike.1.ordinal_is ∙ there.ordinal_is) in
-          let label_is = sym alike.1.one_label.label ∙ ap (λ n. (said_at base n).label) same ∙ c.label_is in
-          kept_means assertions label k there.m h (record { earlier = there.earlier; carrier = record { shown = there.shown; label_is = label_is } })
-          (subst (λ n. ShareFrame base copy n there.m ⊎ KeepsHypothesis base copy n there.m) same alike.1.kept)
+          let found = step there.m there.earlier there.shown in
+          let both = found.1 in
+          let same = one_ordinal base found.0 k both.one_label.was c.shown (both.ordinal_is ∙ there.ordinal_is) in
+          let label_is = sym both.one_label.label ∙ ap (λ n. (said_at base n).label) same ∙ c.label_is in
+          by_told k there.m h (record { earlier = there.earlier; carrier = record { shown = there.shown; label_is = label_is } })
+          (subst (λ n. IsTold changed there.m ⊎ MeanOne base copy n there.m) same found.2)
       by_item (inr (none, unknown)) (inr (other, unknown_too)) = both_mean label answers.Unknown answers.Unknown unknown unknown_too tt
       by_item (inr (none, unknown)) (inl (m, g)) =
           let c = g.carrier in
-          let alike = step m g.earlier c.shown in
+          let found = step m g.earlier c.shown in
+          let both = found.1 in
           let less = ordinal_less copy m j c.shown g.earlier in
-          let at = alike.1.ordinal_is in
-          let earlier = ordinal_back base alike.0 i (omega (arith, less, at, level)) in
-          absurd (none alike.0 (record { earlier = earlier; carrier = record { shown = alike.1.one_label.was; label_is = alike.1.one_label.label ∙ c.label_is } }))
+          let at = both.ordinal_is in
+          let earlier = ordinal_back base found.0 i (omega (arith, less, at, level)) in
+          absurd (none found.0 (record { earlier = earlier; carrier = record { shown = both.one_label.was; label_is = both.one_label.label ∙ c.label_is } }))
 
 -- ---- marks
 
@@ -156,38 +163,66 @@ frame_kept base copy i j mark is old told =
     subst (λ (n : ℕ). ShareFrame base copy n j) (same_Some kept.i i (sym ((is.old_is kept.i).1 kept.one_label) ∙ old)) (record { was = kept.was; is = kept.is; same = kept.same })
 
 -- one more item
-pub in_step_more : (base copy : BaseView) (j : ℕ) → AreInStep base copy j → HasAlike base copy j → AreInStep base copy (j + 1)
-in_step_more base copy j front here m l = by_order (dec_lt m j)
+in_step_more : (base copy : BaseView) (changed : List ℕ) (j : ℕ) → AreInStep base copy changed j → HasAlike base copy changed j → AreInStep base copy changed (j + 1)
+in_step_more base copy changed j front here m l = by_order (dec_lt m j)
   where
-    by_order : Dec (m < j) → HasAlike base copy m
+    by_order : Dec (m < j) → HasAlike base copy changed m
     by_order (yes a) = front m a
-    by_order (no a) = (let z : j ≡ m = omega (arith, l, a) in subst (HasAlike base copy) z here)
+    by_order (no a) = (let z : j ≡ m = omega (arith, l, a) in subst (HasAlike base copy changed) z here)
+
+-- an item that is level, and means the same as the old one with its label
+alike_here : (base copy : BaseView) (changed : List ℕ) (j : ℕ) → HasLevel base copy j → ((i : ℕ) → HaveOneLabel base copy i j → MeanOne base copy i j) → HasAlike base copy changed j
+alike_here base copy changed j level same shown = let found = level shown in let both = found.1 in (found.0, both, inr (same found.0 both.one_label))
+
+-- one more is told to be changed
+got_end : (xs : List ℕ) (y : ℕ) → slice_get (xs ++ y ∷ []) (length xs) ≡ Some y
+got_end [] y = refl
+got_end (x ∷ xs) y = got_end xs y
+
+told_more : (base copy : BaseView) (changed : List ℕ) (j m : ℕ) → HasAlike base copy changed m → HasAlike base copy (changed ++ j ∷ []) m
+told_more base copy changed j m here shown = let found = here shown in (found.0, found.1, more found.0 found.2)
+  where
+    more : (i : ℕ) → IsTold changed m ⊎ MeanOne base copy i m → IsTold (changed ++ j ∷ []) m ⊎ MeanOne base copy i m
+    more i (inl t) = inl (t.0, got_front changed (j ∷ []) t.0 m t.1)
+    more i (inr s) = inr s
+
+in_step_changed : (base copy : BaseView) (changed : List ℕ) (j : ℕ) → AreInStep base copy changed j → HasLevel base copy j → AreInStep base copy (changed ++ j ∷ []) (j + 1)
+in_step_changed base copy changed j front level =
+    in_step_more base copy (changed ++ j ∷ []) j (λ m l. told_more base copy changed j m (front m l))
+    (λ shown. (let found = level shown in (found.0, found.1, inl (length changed, got_end changed j))))
+
+-- what is in step behind an item: one that is told to be changed, or one that means the same
+pub in_step_behind :
+    (base copy : BaseView) (changed : List ℕ) (j : ℕ) (here placed alike next : Bool) → (here ≡ true → placed ≡ true) → (next ≡ true → (here ≡ true) ⊎ ((placed ≡ true) × (alike ≡ true))) →
+    (placed ≡ true → AreInStep base copy changed j × HasLevel base copy j) → (alike ≡ true → (i : ℕ) → HaveOneLabel base copy i j → MeanOne base copy i j) → next ≡ true →
+    AreInStep base copy (changed_behind changed j here) (j + 1)
+in_step_behind base copy changed j true placed alike next told by at same t = let front = at (told refl) in in_step_changed base copy changed j front.0 front.1
+in_step_behind base copy changed j false placed alike next told by at same t = elim (by t) [
+  | inl e ↦ absurd (false≢true e)
+  | inr e ↦ (let front = at e.0 in in_step_more base copy changed j front.0 (alike_here base copy changed j front.1 (same e.1)))
+]
 
 -- a mark that is known to be in step
 pub stepped :
     (base copy : BaseView) (j : ℕ) (old : Option ℕ) (frame pairs told in_step : Bool) → IsMark base copy j (record { old = old; frame = frame; pairs = pairs; in_step = told }) →
-    (in_step ≡ true → (i : ℕ) → HaveOneLabel base copy i j → old ≡ Some i → (label : List ℕ) → IsSameLabel (setting_at base i) (setting_at copy j) label) →
     IsMark base copy j (record { old = old; frame = frame; pairs = pairs; in_step = in_step })
-stepped base copy j old frame pairs told in_step is labels = record {
-  old_is = is.old_is;
-  frame_is = is.frame_is;
-  pairs_is = is.pairs_is;
-  in_step_is = λ t i h. labels t i h ((is.old_is i).1 h);
-}
+stepped base copy j old frame pairs told in_step is = record { old_is = is.old_is; frame_is = is.frame_is; pairs_is = is.pairs_is }
 
 -- the mark of an item says that every label means the same
-marked_within : (marks : List ItemMark) (j i : ℕ) → (mark_at marks j).old ≡ Some i → j < length marks
+marked_within : (marks : List ItemMark) (j i : ℕ) → (slice_index_or marks j no_mark).old ≡ Some i → j < length marks
 marked_within [] j i e = absurd (none-some i e)
 marked_within (m ∷ marks) zero i e = omega arith
 marked_within (m ∷ marks) (suc j) i e = let l = marked_within marks j i e in omega (arith, l)
 
 pub in_step_kept :
-    (base copy : BaseView) (marks : List ItemMark) → AreMarks base copy marks → (i j : ℕ) → (mark_at marks j).old ≡ Some i → (mark_at marks j).in_step ≡ true → (label : List ℕ) →
-    IsSameLabel (setting_at base i) (setting_at copy j) label
+    (base copy : BaseView) (marks : MarksView) → AreMarks base copy marks → (i j : ℕ) → (mark_at marks j).old ≡ Some i → (mark_at marks j).in_step ≡ true → (label : List ℕ) →
+    ¬ IsToldChanged copy marks.changed j label → IsSameLabel (setting_at base i) (setting_at copy j) label
 in_step_kept base copy marks are i j old told =
-    let within = marked_within marks j i old in
-    let is = are.each j (omega (arith, within, are.count)) in
-    is.in_step_is told i ((is.old_is i).0 old)
+    let count = are.count in
+    let here = marked_within marks.items j i old in
+    let within : j < length copy.said = omega (arith, here, count) in
+    let is = are.each j within in
+    are.in_step j within told i ((is.old_is i).0 old)
 
 -- ---- what the code keeps
 
@@ -230,8 +265,3 @@ pub same_level :
     (i < length mine) × (j < length yours) × (slice_index mine i ≡ slice_index yours j) → ordinal base i ≡ ordinal copy j
 same_level base copy mine yours i j a b (l, m, e) =
     sym (a.each i (subst (λ n. i < n) a.count_is l)) ∙ e ∙ b.each j (subst (λ n. j < n) b.count_is m)
-
--- what holds of all holds of each of some
-pub of_each : {X : Type 0} (P : X → Type 0) → ((x : X) → P x) → (xs : List X) → AllByRecursion P xs
-of_each P all [] = tt
-of_each P all (x ∷ xs) = (all x, of_each P all xs)

@@ -9,7 +9,8 @@ use Rattle.mm_frame.specs.Language.Item.{Item, passed, is_labelled}
 use Rattle.mm_frame.specs.Language.Resolving.{IsCarrier}
 use Rattle.mm_frame.specs.declared.base.Base.{Base}
 use Rattle.mm_frame.specs.Language.Answering.{IsBaseBy}
-use Rattle.mm_proof.specs.Language.BaseMarks.{ItemMark, IsMark, HaveOneLabel, AreMarks, no_mark, mark_at}
+use Rattle.mm_proof.specs.Language.BaseMarks.{ItemMark, MarksView, IsMark, HaveOneLabel, KeepsLabels, AreMarks, no_mark, mark_at}
+use Rattle.mm_proof.specs.Code.InStep.{changed_behind}
 use Rattle.mm_proof.specs.Code.KeptMarks.{AreTheorems, ShareFrame, SharePairs, AreItemMarks, IsHypothesisMark, AreHypothesisMarks}
 use Rattle.mm_proof.specs.declared.marks.Mark as code
 use Rattle.std.proofs.Math.Decide.{ℕ_discrete}
@@ -83,7 +84,6 @@ nothing_kept base copy j none = record {
   old_is = λ i. (λ e. cc, λ h. absurd (none i h));
   frame_is = (λ e. absurd (false≢true e), λ k. absurd (none k.i k.one_label));
   pairs_is = (λ e. absurd (false≢true e), λ k. absurd (none k.i k.one_label));
-  in_step_is = λ e. absurd (false≢true e);
 }
 
 -- what stays of one whose label an old one has
@@ -100,7 +100,6 @@ some_kept base copy i j frame pairs old f p = record {
     λ e. (let s = p.0 e in record { i = i; one_label = (old i).0 refl; was = s.0.was; is = s.0.is; same = s.1 }),
     λ k. p.1 (subst (λ (n : ℕ). AreTheorems base copy n j × SharePairs base copy n j) (same_Some k.i i (sym ((old k.i).1 k.one_label))) (record { was = k.was; is = k.is }, k.same)),
   );
-  in_step_is = λ e. absurd (false≢true e);
 }
 
 at_front : {X : Type 0} (xs ys : List X) (n : ℕ) (d : X) → n < length xs → slice_index_or (xs ++ ys) n d ≡ slice_index_or xs n d
@@ -113,21 +112,62 @@ at_end [] y d = refl
 at_end (x ∷ xs) y d = at_end xs y d
 
 -- one more mark
-pub marked_more : (base copy : BaseView) (n : ℕ) (marks : List ItemMark) (mark : ItemMark) → AreItemMarks base copy n marks → IsMark base copy n mark → AreItemMarks base copy (n + 1) (marks ++ mark ∷ [])
-marked_more base copy n marks mark are is = record {
+pub marked_more :
+    (base copy : BaseView) (n : ℕ) (marks : List ItemMark) (changed : List ℕ) (mark : ItemMark) → AreItemMarks base copy n (record { items = marks; changed = changed }) →
+    IsMark base copy n mark → (mark.in_step ≡ true → KeepsLabels base copy changed n) → AreItemMarks base copy (n + 1) (record { items = marks ++ mark ∷ []; changed = changed })
+marked_more base copy n marks changed mark are is keeps = record {
   count_is = length-append marks (mark ∷ []) ∙ ap (λ k. k + 1) are.count_is;
-  each = λ j l. by_case j l (ℕ_discrete j n);
+  each = λ j l. each_case j l (ℕ_discrete j n);
+  in_step = λ j l. step_case j l (ℕ_discrete j n);
 }
   where
-    by_case : (j : ℕ) → j < n + 1 → Dec (j ≡ n) → IsMark base copy j (mark_at (marks ++ mark ∷ []) j)
-    by_case j l (yes e) =
-        let here = subst (λ k. mark_at (marks ++ mark ∷ []) k ≡ mark) (are.count_is ∙ sym e) (at_end marks mark no_mark) in
-        subst (λ m. IsMark base copy j m) (sym here) (subst (λ k. IsMark base copy k mark) (sym e) is)
-    by_case j l (no other) = subst (λ m. IsMark base copy j m) (sym (at_front marks (mark ∷ []) j no_mark (omega (arith, l, other, are.count_is)))) (are.each j (omega (arith, l, other)))
+    here : (j : ℕ) → j ≡ n → mark_at (record { items = marks ++ mark ∷ []; changed = changed }) j ≡ mark
+    here j e = subst (λ k. slice_index_or (marks ++ mark ∷ []) k no_mark ≡ mark) (are.count_is ∙ sym e) (at_end marks mark no_mark)
+
+    front : (j : ℕ) → j < n + 1 → (j ≡ n → ⊥) → mark_at (record { items = marks ++ mark ∷ []; changed = changed }) j ≡ mark_at (record { items = marks; changed = changed }) j
+    front j l other = at_front marks (mark ∷ []) j no_mark (omega (arith, l, other, are.count_is))
+
+    each_case : (j : ℕ) → j < n + 1 → Dec (j ≡ n) → IsMark base copy j (mark_at (record { items = marks ++ mark ∷ []; changed = changed }) j)
+    each_case j l (yes e) = subst (λ m. IsMark base copy j m) (sym (here j e)) (subst (λ k. IsMark base copy k mark) (sym e) is)
+    each_case j l (no other) = subst (λ m. IsMark base copy j m) (sym (front j l other)) (are.each j (omega (arith, l, other)))
+
+    step_case : (j : ℕ) → j < n + 1 → Dec (j ≡ n) → (mark_at (record { items = marks ++ mark ∷ []; changed = changed }) j).in_step ≡ true → KeepsLabels base copy changed j
+    step_case j l (yes e) t = subst (KeepsLabels base copy changed) (sym e) (keeps (sym (ap (λ (m : ItemMark). m.in_step) (here j e)) ∙ t))
+    step_case j l (no other) t = are.in_step j (omega (arith, l, other)) (sym (ap (λ (m : ItemMark). m.in_step) (front j l other)) ∙ t)
+
+-- what is told first is told still where more is
+pub got_front : (xs ys : List ℕ) (n x : ℕ) → slice_get xs n ≡ Some x → slice_get (xs ++ ys) n ≡ Some x
+got_front [] ys n x e = absurd (none-some x e)
+got_front (y ∷ xs) ys zero x e = e
+got_front (y ∷ xs) ys (suc n) x e = got_front xs ys n x e
+
+-- then less is said of labels
+keeps_less : (base copy : BaseView) (changed more : List ℕ) (j : ℕ) → KeepsLabels base copy changed j → KeepsLabels base copy (changed ++ more) j
+keeps_less base copy changed more j keeps i h label unchanged =
+    keeps i h label (λ t. unchanged (record { m = t.m; place = t.place; told = got_front changed more t.place t.m t.told; earlier = t.earlier; label_is = t.label_is }))
+
+marked_less :
+    (base copy : BaseView) (n : ℕ) (marks : List ItemMark) (changed more : List ℕ) → AreItemMarks base copy n (record { items = marks; changed = changed }) →
+    AreItemMarks base copy n (record { items = marks; changed = changed ++ more })
+marked_less base copy n marks changed more are = record {
+  count_is = are.count_is;
+  each = are.each;
+  in_step = λ j l t. keeps_less base copy changed more j (are.in_step j l t);
+}
+
+pub marked_behind :
+    (base copy : BaseView) (n : ℕ) (marks : List ItemMark) (changed : List ℕ) (j : ℕ) (here : Bool) → AreItemMarks base copy n (record { items = marks; changed = changed }) →
+    AreItemMarks base copy n (record { items = marks; changed = changed_behind changed j here })
+marked_behind base copy n marks changed j true are = marked_less base copy n marks changed (j ∷ []) are
+marked_behind base copy n marks changed j false are = are
 
 -- all are marked
-pub all_marked : (base copy : BaseView) (n : ℕ) (marks : List ItemMark) → AreItemMarks base copy n marks → n ≡ length copy.said → AreMarks base copy marks
-all_marked base copy n marks are e = record { count = are.count_is ∙ e; each = λ j l. are.each j (omega (arith, l, e)) }
+pub all_marked : (base copy : BaseView) (n : ℕ) (marks : MarksView) → AreItemMarks base copy n marks → n ≡ length copy.said → AreMarks base copy marks
+all_marked base copy n marks are e = record {
+  count = are.count_is ∙ e;
+  each = λ j l. are.each j (omega (arith, l, e));
+  in_step = λ j l. are.in_step j (omega (arith, l, e));
+}
 
 -- marks that say nothing, and one more
 got_last : {X : Type 0} (xs : List X) (y z : X) (m : ℕ) → slice_get (xs ++ y ∷ []) m ≡ Some z → (slice_get xs m ≡ Some z) ⊎ ((m ≡ length xs) × (y ≡ z))

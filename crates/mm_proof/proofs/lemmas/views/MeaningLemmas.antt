@@ -19,7 +19,7 @@ use Rattle.mm_proof.specs.Code.KeptMarks.{AreTheorems, IsOneCarrier, IsShownItem
 use Rattle.mm_proof.proofs.lemmas.base.FrameLemmas.{shown_proof}
 use Rattle.std.proofs.lemmas.Option.{none-some, same_Some}
 use Rattle.mm_proof.specs.Language.BaseLabels.{setting_at}
-use Rattle.mm_proof.specs.Language.BaseMarks.{ItemMark, AreMarks, mark_at}
+use Rattle.mm_proof.specs.Language.BaseMarks.{MarksView, AreMarks, mark_at}
 use Rattle.mm_proof.specs.Language.SameProof.{AreSameMeaning, IsSameLabel}
 use Rattle.mm_proof.proofs.lemmas.views.KeptMarkLemmas.{shown_within, one_label}
 use Rattle.std.proofs.lemmas.Bool.{and_from}
@@ -111,7 +111,7 @@ means_same base copy i j label mine yours same h k t =
 
 -- the label of an assertion means the same if its mark says that the frame is kept, and both are earlier
 pub kept_means :
-    frame.AssertionsMean → (base copy : BaseView) (marks : List ItemMark) → AreMarks base copy marks → (i j : ℕ) (label : List ℕ) (m k : ℕ) → IsCarrier copy label m →
+    frame.AssertionsMean → (base copy : BaseView) (marks : MarksView) → AreMarks base copy marks → (i j : ℕ) (label : List ℕ) (m k : ℕ) → IsCarrier copy label m →
     (mark_at marks m).frame ≡ true → m < j → (mark_at marks m).old ≡ Some k → k < i → IsSameLabel (setting_at base i) (setting_at copy j) label
 kept_means assertions base copy marks are i j label m k carrier told later old earlier =
     let within = shown_within copy m carrier.shown in
@@ -125,7 +125,7 @@ kept_means assertions base copy marks are i j label m k carrier told later old e
 
 -- the label of an assertion means the same if its mark says that the frame is kept
 pub frames_marked :
-    frame.HasOwnLabels → (base copy : BaseView) (marks : List ItemMark) → AreMarks base copy marks → (i j : ℕ) (label : List ℕ) (m a b : ℕ) (same : Bool) → IsCarrier copy label m →
+    frame.HasOwnLabels → (base copy : BaseView) (marks : MarksView) → AreMarks base copy marks → (i j : ℕ) (label : List ℕ) (m a b : ℕ) (same : Bool) → IsCarrier copy label m →
     Resolves base i label (answers.Assertion a) → Resolves copy j label (answers.Assertion b) → same ≡ (mark_at marks m).frame →
     IsTrue same ↔ IsSameLabel (setting_at base i) (setting_at copy j) label
 frames_marked own base copy marks are i j label m a b same carrier h k told =
@@ -147,7 +147,7 @@ frames_marked own base copy marks are i j label m a b same carrier h k told =
 
 -- the item of the old base that a mark names carries the label
 pub old_carries :
-    (base copy : BaseView) (marks : List ItemMark) → AreMarks base copy marks → (label : List ℕ) (m : ℕ) → IsCarrier copy label m → (n : ℕ) →
+    (base copy : BaseView) (marks : MarksView) → AreMarks base copy marks → (label : List ℕ) (m : ℕ) → IsCarrier copy label m → (n : ℕ) →
     ((mark_at marks m).old ≡ Some n) ↔ IsCarrier base label n
 old_carries base copy marks are label m carrier n =
     let is = (are.each m (shown_within copy m carrier.shown)).old_is n in
@@ -156,7 +156,7 @@ old_carries base copy marks are label m carrier n =
 
 -- if the mark says that the frame is the same, both are assertions
 pub old_framed :
-    (base copy : BaseView) (marks : List ItemMark) → AreMarks base copy marks → (m : ℕ) → is_shown_at copy m ≡ true → (mark_at marks m).frame ≡ true → (n : ℕ) →
+    (base copy : BaseView) (marks : MarksView) → AreMarks base copy marks → (m : ℕ) → is_shown_at copy m ≡ true → (mark_at marks m).frame ≡ true → (n : ℕ) →
     (mark_at marks m).old ≡ Some n → is_framed_at base n ≡ true
 old_framed base copy marks are m shown told n old =
     let is = are.each m (shown_within copy m shown) in
@@ -164,12 +164,12 @@ old_framed base copy marks are m shown told n old =
     subst (λ (k : ℕ). is_framed_at base k ≡ true) (same_Some kept.i n (sym ((is.old_is kept.i).1 kept.one_label) ∙ old)) kept.was
 
 pub new_framed :
-    (base copy : BaseView) (marks : List ItemMark) → AreMarks base copy marks → (m : ℕ) → is_shown_at copy m ≡ true → (mark_at marks m).frame ≡ true → (n : ℕ) → Some m ≡ Some n → is_framed_at copy n ≡ true
+    (base copy : BaseView) (marks : MarksView) → AreMarks base copy marks → (m : ℕ) → is_shown_at copy m ≡ true → (mark_at marks m).frame ≡ true → (n : ℕ) → Some m ≡ Some n → is_framed_at copy n ≡ true
 new_framed base copy marks are m shown told n e = subst (λ (k : ℕ). is_framed_at copy k ≡ true) (same_Some m n e) ((are.each m (shown_within copy m shown)).frame_is.0 told).is
 
 -- the active pairs are the same if the mark of this item of the old base says so
 pub pairs_marked :
-    (base copy : BaseView) (marks : List ItemMark) → AreMarks base copy marks → (i j : ℕ) (same : Bool) → AreTheorems base copy i j → (mark_at marks j).old ≡ Some i →
+    (base copy : BaseView) (marks : MarksView) → AreMarks base copy marks → (i j : ℕ) (same : Bool) → AreTheorems base copy i j → (mark_at marks j).old ≡ Some i →
     same ≡ (mark_at marks j).pairs → IsTrue same ↔ SharePairs base copy i j
 pairs_marked base copy marks are i j same these old told =
     let is = are.each j (shown_within copy j (shown_proof copy j these.is)) in (
@@ -181,7 +181,7 @@ pairs_marked base copy marks are i j same these old told =
 
 -- the mandatory hypotheses are the same if the mark of this item of the old base says so
 pub hypotheses_marked :
-    (base copy : BaseView) (marks : List ItemMark) → AreMarks base copy marks → (i j : ℕ) → AreTheorems base copy i j → (mark_at marks j).old ≡ Some i → (mark_at marks j).frame ≡ true →
+    (base copy : BaseView) (marks : MarksView) → AreMarks base copy marks → (i j : ℕ) → AreTheorems base copy i j → (mark_at marks j).old ≡ Some i → (mark_at marks j).frame ≡ true →
     ShareHypotheses base copy i j
 hypotheses_marked base copy marks are i j these old told =
     let is = are.each j (shown_within copy j (shown_proof copy j these.is)) in

@@ -1,5 +1,4 @@
-use Rattle.std.proofs.Common.{get_or, sym, ◌∙◌, arith}
-use Rattle.std.proofs.lemmas.Bool.{false≢true}
+use Rattle.std.proofs.Common.{get_or, arith}
 use Rattle.std.proofs.lemmas.Option.{slice_get-get_or}
 use Rattle.mm_frame.specs.Language.Base.{hypothesis_at}
 use Rattle.mm_proof.proofs.lemmas.views.KeptMarkLemmas.{same_more, same_whole}

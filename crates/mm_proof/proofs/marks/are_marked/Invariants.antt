@@ -1,4 +1,3 @@
-use Rattle.std.proofs.Common.{ℕ}
 use Rattle.mm_frame.specs.Language.Base.{hypothesis_at}
 use Rattle.mm_frame.specs.declared.base.Base.{Base}
 use Rattle.mm_proof.specs.Code.KeptMarks.{OfBases, AreHypothesisMarks}

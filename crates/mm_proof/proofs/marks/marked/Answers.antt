@@ -1,29 +1,62 @@
-use Rattle.std.proofs.Common.{sym, ◌∙◌}
+use Rattle.std.proofs.Common.{◌≡◌, true, inl, inr, sym, ◌∙◌, subst}
 use Rattle.std.proofs.lemmas.Bool.{false≢true}
-use Rattle.mm_proof.proofs.lemmas.views.InStepLemmas.{in_step_labels, in_step_more, stepped}
-use Rattle.mm_proof.proofs.marks.marked.Goals.{then-step, else-step, then-step-2, else-step-2}
+use Rattle.std.proofs.lemmas.Option.{same_Some}
+use Rattle.mm_proof.specs.Code.InStep.{ordinal}
+use Rattle.mm_proof.proofs.lemmas.views.InStepLemmas.{in_step_behind, in_step_labels, stepped}
+use Rattle.mm_proof.proofs.marks.marked.Goals.{then-step, else-step, then-placed, else-placed, then-placed-2, else-placed-2, then-not-alike, else-not-alike, then-alike, else-alike}
 use Rattle.mm_proof.proofs.marks.marked.Goals as goal
 
 pub returns-clause-mark : goal.returns-clause-mark
 returns-clause-mark c names base copy f g =
     let mark = c.mark_of-last.result.0 in
-    let j = c.args.j in
-    let is = c.mark_of-last.ensures.mark names base copy f g in
-    stepped base copy j mark.old mark.frame mark.pairs mark.in_step c.if-step.in_step is (λ t i h old. elim c.if-step.branch [
-      | then-step w ↦
-          let level = w.is_level-in_step.ensures (sym w.in_step-is ∙ t) c.args.old.now c.args.new.now c.requires.ordinals names base copy f g i old in
-          let laws = c.labels_mean.ensures in
-          in_step_labels base copy i j h.was h.is level laws.one laws.assertions (c.requires.step.in_step w.if-step.true names base copy f g)
-      | else-step w ↦ absurd (false≢true (sym (w.in_step-is ∙ w.if-step.false) ∙ t))
-    ])
+    stepped base copy c.args.j mark.old mark.frame mark.pairs mark.in_step c.if-step.placed (c.mark_of-last.ensures.mark names base copy f g)
+
+pub returns-clause-labels : goal.returns-clause-labels
+returns-clause-labels c t names base copy f g i h label unchanged = elim c.if-step.branch [
+  | then-step w ↦
+      let j = c.args.j in
+      let is = c.mark_of-last.ensures.mark names base copy f g in
+      let found = w.keeps_place-placed.ensures (sym w.placed-is ∙ t) c.args.old.now c.requires.ordinals names base copy f g is h.is in
+      let both = found.1 in
+      let same = same_Some found.0 i (sym ((is.old_is found.0).1 both.one_label) ∙ (is.old_is i).1 h) in
+      let level = subst (λ n. ordinal base n ≡ ordinal copy j) same both.ordinal_is in
+      let laws = c.labels_mean.ensures in
+      in_step_labels base copy i j h.was h.is level laws.one laws.assertions c.args.changed.now (c.requires.step.in_step w.if-step.true names base copy f g) label unchanged
+  | else-step w ↦ absurd (false≢true (sym (w.placed-is ∙ w.if-step.false) ∙ t))
+]
+
+-- what is told to be changed has its place, and so has what is alike
+is_placed : (c : goal.After-next_expected) → c.if-not-alike.here ≡ true → c.if-step.placed ≡ true
+is_placed c e = elim c.if-not-alike.branch [
+  | then-not-alike w ↦ elim c.if-placed-2.branch [
+    | then-placed-2 v ↦ v.if-placed-2.true
+    | else-placed-2 v ↦ absurd (false≢true (sym (v.value-is ∙ v.if-placed-2.false) ∙ w.if-not-alike.true))
+  ]
+  | else-not-alike w ↦ absurd (false≢true (sym (w.here-is ∙ w.if-not-alike.false) ∙ e))
+]
+
+alike_placed : (c : goal.After-next_expected) → c.if-placed.alike ≡ true → c.if-step.placed ≡ true
+alike_placed c e = elim c.if-placed.branch [
+  | then-placed w ↦ w.if-placed.true
+  | else-placed w ↦ absurd (false≢true (sym (w.alike-is ∙ w.if-placed.false) ∙ e))
+]
 
 pub returns-clause-step : goal.returns-clause-step
 returns-clause-step c = record {
   last = c.mark_of-last.ensures.last;
-  in_step = λ t names base copy f g. elim c.if-step-2.branch [
-    | then-step-2 w ↦
-        let here = w.is_alike.ensures (sym w.next-is ∙ t) c.mark_of-last.ensures.kept names base copy f g (c.mark_of-last.ensures.mark names base copy f g) in
-        in_step_more base copy c.args.j (c.requires.step.in_step w.if-step-2.true names base copy f g) here
-    | else-step-2 w ↦ absurd (false≢true (sym (w.next-is ∙ w.if-step-2.false) ∙ t))
-  ];
+  in_step = λ t names base copy f g. (
+      let is = c.mark_of-last.ensures.mark names base copy f g in
+      in_step_behind base copy c.args.changed.now c.args.j c.if-not-alike.here c.if-step.placed c.if-placed.alike c.if-alike.next (is_placed c) (
+      λ e. elim c.if-alike.branch [
+        | then-alike w ↦ inr (alike_placed c w.if-alike.true, w.if-alike.true)
+        | else-alike w ↦ inl (sym w.next-is ∙ e)
+      ]) (
+      λ e. elim c.if-step.branch [
+        | then-step w ↦ (c.requires.step.in_step w.if-step.true names base copy f g, w.keeps_place-placed.ensures (sym w.placed-is ∙ e) c.args.old.now c.requires.ordinals names base copy f g is)
+        | else-step w ↦ absurd (false≢true (sym (w.placed-is ∙ w.if-step.false) ∙ e))
+      ]) (
+      λ e. elim c.if-placed.branch [
+        | then-placed w ↦ w.is_alike-alike.ensures (sym w.alike-is ∙ e) c.mark_of-last.ensures.kept names base copy f g is
+        | else-placed w ↦ absurd (false≢true (sym (w.alike-is ∙ w.if-placed.false) ∙ e))
+      ]) t);
 }

@@ -1,31 +1,46 @@
-use Rattle.std.proofs.Common.{◌≡◌, ◌+◌, List, [], ◌∷◌, sym, ◌∙◌, ap, subst, arith, length}
+use Rattle.std.proofs.Common.{◌≡◌, ◌+◌, ℕ, List, [], ◌∷◌, sym, ◌∙◌, ap, subst, arith, length}
 use Rattle.std.proofs.lemmas.List.{length-append, map-append}
-use Rattle.mm_proof.specs.Language.BaseMarks.{ItemMark}
+use Rattle.mm_proof.specs.Language.BaseMarks.{ItemMark, KeepsLabels}
 use Rattle.mm_proof.specs.declared.marks.Mark as code
+use Rattle.mm_proof.specs.Code.InStep.{IsStepAt, changed_behind}
 use Rattle.mm_proof.specs.Code.KeptMarks.{AreItemMarks, AreHypothesisMarks, kept_mark, kept_marks}
-use Rattle.mm_proof.proofs.lemmas.views.KeptMarkLemmas.{kept_more, marked_more, all_marked}
+use Rattle.mm_proof.proofs.lemmas.views.KeptMarkLemmas.{kept_more, marked_behind, marked_more, all_marked}
+use Rattle.mm_proof.proofs.marks.Marks.build.Goals.{then-next+in_ok-push-2, else-next}
 use Rattle.mm_proof.proofs.marks.Marks.build.Goals as goal
 
 pub marked-requires-clause-marks : goal.marked-requires-clause-marks
 marked-requires-clause-marks c = subst (AreHypothesisMarks c.args.old.now c.args.new.now) (sym c.deref.ensures.value) c.loop-j.invariant.kept
 
+-- what is told to be changed behind the item
+told_behind : (c : goal.Joined-next) → c.if-next.changed.items ≡ changed_behind c.loop-j.changed.items c.loop-j.j c.marked.result.1.changed
+told_behind c = elim c.if-next.branch [
+  | then-next+in_ok-push-2 w ↦ ap (λ v. v.items) w.changed-is ∙ w.in_ok-push-2.ensures.items ∙ ap (changed_behind c.loop-j.changed.items c.loop-j.j) (sym w.if-next.true)
+  | else-next w ↦ ap (λ v. v.items) w.changed-is ∙ ap (changed_behind c.loop-j.changed.items c.loop-j.j) (sym w.if-next.false)
+]
+
 pub loop-j-preserved : goal.loop-j-preserved
 loop-j-preserved c = record {
-  step = c.marked.ensures.step;
+  step = subst (λ (changed : List ℕ). IsStepAt c.args.old.now c.args.new.now changed (c.loop-j.j + 1) c.marked.result.1)
+      (ap (λ (changed : List ℕ). changed_behind changed c.loop-j.j c.marked.result.1.changed) c.deref-in-loop-j.ensures.value ∙ sym (told_behind c)) c.marked.ensures.step;
   count = ap length c.in_ok-push.ensures.items ∙ length-append c.loop-j.marks.items (c.marked.result.0 ∷ []) ∙ ap (λ k. k + 1) c.loop-j.invariant.count;
   kept = subst (AreHypothesisMarks c.args.old.now c.args.new.now) (sym c.in_ok-push.ensures.items)
       (kept_more c.args.old.now c.args.new.now c.loop-j.marks.items c.marked.result.0 c.loop-j.j c.loop-j.invariant.count c.loop-j.invariant.kept c.marked.ensures.kept);
   marks = λ names base copy f g. (
       let j = c.loop-j.j in
       let old = c.loop-j.marks.items in
+      let before = c.loop-j.changed.items in
       let mark = c.marked.result.0 in
-      let more = marked_more base copy j (kept_marks old) (kept_mark mark) (c.loop-j.invariant.marks names base copy f g) (c.marked.ensures.mark names base copy f g) in
-      let joined = subst (λ (ms : List ItemMark). AreItemMarks base copy (j + 1) ms) (sym (map-append kept_mark old (mark ∷ []))) more in
-      subst (λ (ms : List code.Mark). AreItemMarks base copy (j + 1) (kept_marks ms)) (sym c.in_ok-push.ensures.items) joined);
+      let here = c.marked.result.1.changed in
+      let more = marked_more base copy j (kept_marks old) before (kept_mark mark) (c.loop-j.invariant.marks names base copy f g) (c.marked.ensures.mark names base copy f g) (
+      λ t. subst (λ (changed : List ℕ). KeepsLabels base copy changed j) c.deref-in-loop-j.ensures.value (c.marked.ensures.labels t names base copy f g)) in
+      let joined = subst (λ (ms : List ItemMark). AreItemMarks base copy (j + 1) (record { items = ms; changed = before })) (sym (map-append kept_mark old (mark ∷ []))) more in
+      let pushed = subst (λ (ms : List code.Mark). AreItemMarks base copy (j + 1) (record { items = kept_marks ms; changed = before })) (sym c.in_ok-push.ensures.items) joined in
+      subst (λ (changed : List ℕ). AreItemMarks base copy (j + 1) (record { items = kept_marks c.push.new.self.items; changed = changed })) (sym (told_behind c))
+      (marked_behind base copy (j + 1) (kept_marks c.push.new.self.items) before j here pushed));
 }
 
 pub returns : goal.returns
 returns c base copy f g =
     let count = c.count-j-end.ensures.count copy (c.args.names.now, g) in
     let all : c.loop-j.j ≡ length copy.said = omega (arith, count, c.loop-j.auto.j-end, c.loop-j-test.false) in
-    all_marked base copy c.loop-j.j (kept_marks c.loop-j.marks.items) (c.loop-j.invariant.marks c.args.names.now base copy f g) all
+    all_marked base copy c.loop-j.j (record { items = kept_marks c.loop-j.marks.items; changed = c.loop-j.changed.items }) (c.loop-j.invariant.marks c.args.names.now base copy f g) all

@@ -1,0 +1,7 @@
+use Rattle.mm_frame.specs.Language.Item as meant
+use Rattle.mm_frame.specs.Language.Statement.{Says}
+use Rattle.mm_proof.specs.Code.TwoTheorems.{AreUnnamed}
+use Rattle.mm_proof.proofs.view.may_name_any.Given as goal
+
+abbrev pub invariant-loop-k : goal.invariant-loop-k
+invariant-loop-k l = (said : meant.Item) → Says l.files l.item said → AreUnnamed l.two said.proof l.changed l.k
