@@ -51,7 +51,7 @@ fn has_proof(item: TakenItem) -> bool
     item.sound && matches!(item.kind, ItemKind::Theorem)
 }
 
-/// Keeps the frame of one more item, which has these symbols, where it is a sound assertion.
+/// Keeps the frame of one more item, which has these symbols, if it is a sound assertion.
 fn keep_frame(
     alloc: Global,
     frames: &mut Sparse<Frame>,
@@ -77,7 +77,7 @@ fn keep_frame(
     Ok(())
 }
 
-/// Keeps the number of the list of active pairs of one more item, where it is a sound `$p`.
+/// Keeps the number of the list of active pairs of one more item, if it is a sound `$p`.
 fn keep_pairs(
     alloc: Global,
     pair_lists: &mut PairLists,
@@ -120,7 +120,7 @@ impl Assertions {
     }
 
     /// Keeps what citing one more item needs, and the list of the pairs that are active there. Its symbols are `own`, and
-    /// `disjoints` are the numbers of the active `$d`. Out of memory leaves the assertions as good for nothing.
+    /// `disjoints` are the numbers of the active `$d`. After out of memory the assertions must not be used.
     pub fn keep(
         &mut self,
         alloc: Global,

@@ -35,7 +35,7 @@ use std::marker::Model;
 
 /// The items of files from a top file on, which of them are sound, and the frames of the assertions.
 ///
-/// Items are numbered from 0 in order. What is asked of a base takes no memory, and constant time; a label is looked
+/// Items are numbered from 0 in order. To ask a base takes no memory, and constant time; a label is looked
 /// up by hash. What a base keeps stands for the items of the files and what they say.
 #[derive(Drop)]
 pub struct Base {
@@ -95,12 +95,12 @@ fn floats_among(alloc: Global, items: &[Item]) -> Result<Vec<bool>, AllocError>
 }
 
 impl Base {
-    /// Builds the base of the files from a top file on. `NoTop` comes where no file has the name `top`; any other
+    /// Builds the base of the files from a top file on. `NoTop` comes if no file has the name `top`; any other
     /// error is `Memory`. It reads each item once, in time near linear in the texts and in the lists of active pairs,
     /// of which it makes one for each last active `$d` of a sound `$p`.
     ///
     /// A base has numbers in place of names of symbols, and is read through the names as they are afterwards, or through
-    /// any that begin with these. New names come behind those that were there, also where an error is told.
+    /// any that begin with these. New names come after those that were there, also if there is an error.
     pub fn build(
         alloc: Global,
         names: &mut Names,
@@ -124,7 +124,7 @@ impl Base {
         })
     }
 
-    /// Builds the base of the files from a top file on as `build` does, beside an older base whose items can still be read: of
+    /// Builds the base of the files from a top file on as `build` does, with an older base whose items can still be read: of
     /// a `$d`, `$e`, `$a` or `$p` that is the same bytes as an item of the older one, in the same order, the numbers of the symbols
     /// are taken from there, and no symbol is read.
     pub fn rebuild(
@@ -159,7 +159,7 @@ impl Base {
         self.parts.rows.is_shown(i)
     }
 
-    /// The symbols that are kept of the item with this number: none where none are kept.
+    /// The symbols that are kept of the item with this number: none if none are kept.
     fn symbols(&self, i: usize) -> &[NumberedSymbol]
         ensures { result.now ≡ expression_kept self.now.expressions i }
     {
@@ -207,7 +207,7 @@ impl Base {
         self.parts.rows.fault(i)
     }
 
-    /// The expression of the item with this number, where it is a sound `$f`, `$e`, `$a` or `$p`.
+    /// The expression of the item with this number, if it is a sound `$f`, `$e`, `$a` or `$p`.
     pub fn expression(&self, i: usize) -> Option<&[NumberedSymbol]>
         ensures symbols { (names : List (List ℕ)) (base : BaseView) → IsBaseBy names base self.now
             → option_map (λ e. symbols_of names e.now) result ≡ expression_at base i }
@@ -221,7 +221,7 @@ impl Base {
         }
     }
 
-    /// The symbols that are kept of the item with this number, where it has no fault: those of a `$f`, `$e`, `$a`, `$p` or `$d`.
+    /// The symbols that are kept of the item with this number, if it has no fault: those of a `$f`, `$e`, `$a`, `$p` or `$d`.
     pub(crate) fn sound_symbols(&self, i: usize) -> Option<&[NumberedSymbol]>
         ensures symbols { (names : List (List ℕ)) (base : BaseView) → IsBaseBy names base self.now → meant.is_read (said_at base i).kind ≡ true
             → IfSome result (λ e. symbols_of names e.now ≡ expression (before base i) (said_at base i)) }
@@ -245,7 +245,7 @@ impl Base {
         self.symbols(i)
     }
 
-    /// The frame that is kept of the item with this number, if one is kept; its pairs stand in the order of its `$f`.
+    /// The frame that is kept of the item with this number, if one is kept; its pairs are in the order of its `$f`.
     pub(crate) fn kept_frame(&self, i: usize) -> Option<&Frame>
         ensures numbers { (base : BaseView) → IsBase base self.now → option_map (λ frame. frame.now.hypotheses.items) result ≡ hypotheses_at base i }
         ensures order { (names : List (List ℕ)) (base : BaseView) → IsBaseBy names base self.now →
@@ -254,7 +254,7 @@ impl Base {
         self.parts.frames.at(i)
     }
 
-    /// The frame of the item with this number, where it is a sound `$a` or `$p`: its mandatory hypotheses and pairs.
+    /// The frame of the item with this number, if it is a sound `$a` or `$p`: its mandatory hypotheses and pairs.
     pub fn frame(&self, i: usize) -> Option<&Frame>
         ensures some { (base : BaseView) → IsBase base self.now → is_some result ≡ is_framed_at base i }
         ensures means { (base : BaseView) → IsBase base self.now → IfSome result (λ frame. AreHypotheses base i frame.now.hypotheses.items) }
@@ -268,8 +268,8 @@ impl Base {
         self.kept_frame(i)
     }
 
-    /// All active pairs at the item with this number, where it is a sound `$p`: its own and those of its scope,
-    /// mandatory or not. They are sorted by the numbers of the names, the lower one first, and each stands there once.
+    /// All active pairs at the item with this number, if it is a sound `$p`: its own and those of its scope,
+    /// mandatory or not. They are sorted by the numbers of the names, the lower one first, and each is there once.
     pub fn pairs(&self, i: usize) -> Option<&[(NumberedSymbol, NumberedSymbol)]>
         ensures some { (base : BaseView) → IsBase base self.now → is_some result ≡ is_proof_at base i }
         ensures pairs { (names : List (List ℕ)) (base : BaseView) → IsBaseBy names base self.now
@@ -327,8 +327,8 @@ impl Base {
         }
     }
 
-    /// The first item behind the sound hypothesis `j` at which this is active no longer: at the items between the two its
-    /// label means it, and from there on a hypothesis that is not active. `None` where it stays active up to the last item.
+    /// The first item after the sound hypothesis `j` at which this is active no longer: at the items between the two its
+    /// label means it, and from there on a hypothesis that is not active. `None` if it stays active up to the last item.
     pub fn active_until(&self, j: usize) -> Option<usize>
         ensures active { (base : BaseView) (label : List ℕ) (i : ℕ) → IsBase base self.now → IsCarrier base label j → is_framed_at base j ≡ false
             → j < i → IsUpTo i result → Resolves base i label (answers.Hypothesis j) }

@@ -13,17 +13,17 @@ use std::marker::Model;
 /// The blocks of a list of items: which were open at each item, and where each ended.
 ///
 /// Items are numbered from 0 in order. To add one takes constant time on the average, and each question constant
-/// time; some machine words are kept for each item. What stands outside of all blocks counts as standing in an
+/// time; some machine words are kept for each item. What is outside of all blocks counts as being in an
 /// outermost one: a `$}` where no other is open ends it, and the next one begins.
 #[derive(Drop)]
 pub struct Blocks {
-    /// For each item, the block that is innermost behind it: a `${` has the one that it begins.
+    /// For each item, the block that is innermost after it: a `${` has the one that it begins.
     block_of: Counts,
     /// For each block, the item that ended it. The newest may have no entry as long as it is open.
     ends: Vec<Option<usize>>,
     /// The open blocks around the innermost one, outermost first.
     outer: Vec<usize>,
-    /// The block that is innermost behind the last item.
+    /// The block that is innermost after the last item.
     current: usize,
     /// How many items began a block.
     begun: usize,
@@ -44,7 +44,7 @@ impl Model for Blocks {
     ghost invariant = { AreBlocksKept };
 }
 
-/// Gives a block an entry among the ends, where it has none yet.
+/// Gives a block an entry among the ends, if it has none yet.
 fn enter(ends: &mut Vec<Option<usize>>, block: usize) -> Result<(), AllocError>
     requires { block ≤ length ends.old.items }
     ensures same { (other : ℕ) → end_of_block ends.new.items other ≡ end_of_block ends.old.items other }
@@ -59,7 +59,7 @@ fn enter(ends: &mut Vec<Option<usize>>, block: usize) -> Result<(), AllocError>
     Ok(())
 }
 
-/// The item that ended a block; `None` where the block is open.
+/// The item that ended a block; `None` if the block is open.
 fn end_of_block(ends: &[Option<usize>], block: usize) -> Option<usize>
     ensures { result ≡ end_of_block ends.now block }
 {
@@ -132,15 +132,15 @@ impl Blocks {
         Ok(())
     }
 
-    /// Whether a block is open behind the last item: more items began one than ended one.
+    /// Whether a block is open after the last item: more items began one than ended one.
     pub fn is_inside(&self) -> bool
         ensures { result ≡ is_inside_by self.now }
     {
         self.ended < self.begun
     }
 
-    /// Whether the item `from` is active at the item `at`, or behind the last one where `at` is their count: the
-    /// items between the two end no block that was open behind `from`.
+    /// Whether the item `from` is active at the item `at`, or after the last one if `at` is their count: the
+    /// items between the two end no block that was open after `from`.
     pub fn is_active(&self, from: usize, at: usize) -> bool
         requires earlier { from < at }
         requires within { at ≤ length self.now }
@@ -152,8 +152,8 @@ impl Blocks {
         }
     }
 
-    /// Whether the item `from` is active at the item `at`, or behind the last one where none has that number; an item
-    /// that does not stand before it counts as active.
+    /// Whether the item `from` is active at the item `at`, or after the last one if none has that number; an item
+    /// that does not come before it counts as active.
     pub fn is_active_at(&self, from: usize, at: usize) -> bool
         ensures { result ≡ stays_by (drop (suc from) (take at self.now)) }
     {
@@ -161,8 +161,8 @@ impl Blocks {
         end <= from || self.is_active(from, end)
     }
 
-    /// The first item behind the item `from` at which this is active no longer; `None` where its block is open behind the
-    /// last item, and where there is no such item.
+    /// The first item after the item `from` at which this is active no longer; `None` if its block is open after the
+    /// last item, and if there is no such item.
     pub fn active_until(&self, from: usize) -> Option<usize>
         ensures { (at : ℕ) → from < at → (stays_by (drop (suc from) (take at self.now)) ≡ true) ↔ IsUpTo at result }
     {
@@ -175,7 +175,7 @@ impl Blocks {
         }
     }
 
-    /// Whether the item `from` is active behind the last one; an item that is yet to come counts as active.
+    /// Whether the item `from` is active after the last one; an item that is yet to come counts as active.
     pub fn is_active_now(&self, from: usize) -> bool
         ensures { result ≡ stays_by (drop (suc from) self.now) }
     {

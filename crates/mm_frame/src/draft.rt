@@ -87,7 +87,7 @@ pub struct Parts {
     pub pair_numbers: Sparse<usize>,
 }
 
-/// The fault that is told of an item of this kind, if its statement has this fault.
+/// The fault that is reported of an item of this kind, if its statement has this fault.
 fn told_fault(kind: ItemKind, fault: Option<FrameFault>) -> Option<FrameFault>
     ensures { option_map (λ f. (f.word, f.number)) result ≡ fault_by (kind_of kind) (option_map (λ f. (f.word, f.number)) fault) }
 {
@@ -168,7 +168,7 @@ fn earlier<'b>(
     }
 }
 
-/// Goes on with the pairs behind one more item, whose symbols have these numbers.
+/// Goes on with the pairs past one more item, whose symbols have these numbers.
 fn follow_pairs(
     alloc: Global,
     pairs: &mut PairTable,
@@ -258,7 +258,7 @@ impl<'a> Draft<'a> {
         Ok(())
     }
 
-    /// Reads one more item of the files. Out of memory leaves the draft as good for nothing, and may leave more names.
+    /// Reads one more item of the files. After out of memory the draft must not be used, and there may be more names.
     pub fn read(
         &mut self,
         alloc: Global,

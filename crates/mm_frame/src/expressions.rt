@@ -71,7 +71,7 @@ impl Expressions {
         self.numbers.len()
     }
 
-    /// The symbols of the item with this number: none where there is no such item.
+    /// The symbols of the item with this number: none if there is no such item.
     pub fn at(&self, number: usize) -> &[NumberedSymbol]
         ensures { result.now ≡ expression_kept self.now number }
     {

@@ -9,14 +9,14 @@ use crate::counts::{Counts, Part};
 use crate::judge::FrameFault;
 use std::alloc::{AllocError, Global};
 
-/// For each item, by its number from 0, its label, where it is one that has a label, and its fault: F14 where it is a missing
+/// For each item, by its number from 0, its label, if it is one that has a label, and its fault: F14 if it is a missing
 /// inclusion.
 ///
 /// To add those of one more item takes time linear in its label on the average; what is kept of an item is found in
 /// constant time.
 #[derive(Drop)]
 pub struct Rows {
-    /// The bytes of the labels, one label behind another.
+    /// The bytes of the labels, one label after another.
     bytes: Vec<u8>,
     /// For each item, how many bytes there are up to the end of its label.
     ends: Counts,
@@ -36,7 +36,7 @@ fn add_label(bytes: &mut Vec<u8>, label: Option<&[u8]>) -> Result<(), AllocError
     Ok(())
 }
 
-/// Has places for the faults of so many items.
+/// Has places for the faults of this many items.
 fn fill(faults: &mut Vec<Option<FrameFault>>, count: usize) -> Result<(), AllocError>
     ensures same { OnOk result ((n : ℕ) → fault_kept faults.new.items n ≡ fault_kept faults.old.items n) }
     ensures count { OnOk result (length faults.old.items ≤ count → length faults.new.items ≡ count) }
@@ -47,7 +47,7 @@ fn fill(faults: &mut Vec<Option<FrameFault>>, count: usize) -> Result<(), AllocE
     Ok(())
 }
 
-/// Adds the fault of the item behind so many, if it has one.
+/// Adds the fault of the item after this many, if it has one.
 fn add_fault(
     faults: &mut Vec<Option<FrameFault>>,
     count: usize,
@@ -147,7 +147,7 @@ impl Rows {
         kept_fault(&self.faults, n).is_none()
     }
 
-    /// Adds the label and the fault of one more item. Out of memory leaves the rows as good for nothing.
+    /// Adds the label and the fault of one more item. After out of memory the rows must not be used.
     pub fn add(&mut self, label: Option<&[u8]>, fault: Option<FrameFault>) -> Result<(), AllocError>
         ensures kept { OnOk result (AreRowsKept self.old → AreRowsKept self.new) }
         ensures more { OnOk result (AreRowsKept self.old

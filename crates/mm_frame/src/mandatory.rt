@@ -27,10 +27,10 @@ use crate::symbol::NumberedSymbol;
 use crate::tables::Tables;
 use std::alloc::{AllocError, Global};
 
-/// What frames are made with, one after another: the lists are used again, and take memory only where they grow.
+/// What frames are made with, one after another: the lists are used again, and take memory only when they grow.
 #[derive(Drop)]
 pub struct FrameRoom {
-    /// Which pairs were asked, so that none is searched for twice.
+    /// Which pairs were looked up, so that none is searched for twice.
     pub asked: AskedPairs,
     /// The numbers of the hypotheses of the last frame.
     pub numbers: Vec<usize>,
@@ -163,7 +163,7 @@ pub fn is_among(numbers: &[usize], number: usize) -> bool
     numbers.binary_search(&number).is_ok()
 }
 
-/// Whether a number stands at a place.
+/// Whether a number is at a place.
 fn stands_at(numbers: &[usize], place: usize, number: usize) -> bool
     ensures at { IsTrue result → slice_get numbers.now place ≡ Some number }
     ensures within { IsTrue result → place < length numbers.now }
@@ -172,7 +172,7 @@ fn stands_at(numbers: &[usize], place: usize, number: usize) -> bool
 }
 
 /// Adds the variable of a mandatory hypothesis that is a `$f`: its number is none of those of the active `$e`. These rise
-/// as the hypotheses do, and each is one of them; so only where the number is not that of the next `$e` is it looked for.
+/// as the hypotheses do, and each is one of them; so a number is looked for only if it is not that of the next `$e`.
 fn add_variable(
     essentials: &[usize],
     expressions: &Expressions,
@@ -258,8 +258,8 @@ fn add_active_with(
     Ok(())
 }
 
-/// Adds the pairs of the variable at a place with each later one that an active `$d` has: from its `$d`, where these are
-/// short; else each later one is asked.
+/// Adds the pairs of the variable at a place with each later one that an active `$d` has: from its `$d`, if these are
+/// short; else each later one is looked up.
 fn add_pairs_with_later(
     alloc: Global,
     earlier: &Earlier,
@@ -313,7 +313,7 @@ fn active_among(
 }
 
 /// The pairs of a sound assertion with these mandatory hypotheses: of the variables of its mandatory `$f`, in their
-/// order, those that an active `$d` has. After an allocation failure what was asked must not be used.
+/// order, those that an active `$d` has. After an allocation failure what was looked up must not be used.
 pub fn mandatory_pairs(
     alloc: Global,
     earlier: &Earlier,

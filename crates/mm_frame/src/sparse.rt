@@ -8,10 +8,10 @@ use crate::counts::{Counts, Part};
 use std::alloc::{AllocError, Global};
 use std::marker::Model;
 
-/// At the beginning there is room for the values of one of so many items.
+/// At the beginning there is room for the values of one in this many items.
 const VALUE_SHARE: usize = 3;
 
-/// A value of each of some items, by the numbers of all items from 0. The values lie in one list; for an item that has
+/// A value of each of some items, by the numbers of all items from 0. The values are in one list; for an item that has
 /// none, only a number is kept.
 ///
 /// To add one more item takes constant time on the average, and so does a look at an item.

@@ -22,7 +22,7 @@ use std::marker::Model;
 /// A statement or another item of the files: its kind, its label, its symbols, and the words of its proof.
 ///
 /// The words are slices of the text of the item's piece; nothing is copied. The symbols are read once and kept, or else
-/// where they are asked for; so are the words of the proof.
+/// when they are asked for; so are the words of the proof.
 #[derive(Drop)]
 pub struct Statement<'a> {
     kind: ItemKind,
@@ -32,7 +32,7 @@ pub struct Statement<'a> {
     words: WordCursor<'a>,
     /// How many symbols there are.
     count: usize,
-    /// The symbols; none where they are not kept.
+    /// The symbols; none if they are not kept.
     symbols: Vec<Word>,
 }
 
@@ -92,7 +92,7 @@ fn words_of<'a>(files: &'a Files, item: &Item) -> (&'a [u8], WordCursor<'a>)
     (text, WordCursor::new(text))
 }
 
-/// The first word of an item of this kind, where that is a label.
+/// The first word of an item of this kind, if that is a label.
 fn read_label(kind: ItemKind, words: &mut WordCursor) -> Option<Word>
     requires { 0 < length words.old.words }
     ensures text { words.new.text ≡ words.old.text }
@@ -128,7 +128,7 @@ fn usual_count(kind: ItemKind) -> usize {
     }
 }
 
-/// The words before the next keyword; it is read, too. There is room for so many from the first on.
+/// The words before the next keyword; it is read, too. There is room for this many from the first on.
 fn read_symbols(alloc: Global, words: &mut WordCursor, room: usize) -> Result<Vec<Word>, AllocError>
     ensures text { words.new.text ≡ words.old.text }
     ensures symbols { IfOk result (λ symbols. symbols.items ≡ plain_words words.old.words) }
@@ -180,7 +180,7 @@ impl<'a> Statement<'a> {
         })
     }
 
-    /// What an item of the files says that is known to have this label and so many symbols. Nothing is read, and no memory
+    /// What an item of the files says that is known to have this label and this many symbols. Nothing is read, and no memory
     /// is taken.
     pub(crate) fn known(
         alloc: Global,
@@ -240,7 +240,7 @@ impl<'a> Statement<'a> {
     }
 
     /// The place of the n-th symbol, counted from 0, among all words of the statement, which are counted from 0 as
-    /// well, the label being the first. Where n is the count of symbols, it is the place of the `$.` or `$=` behind
+    /// well, the label being the first. If n is the count of symbols, it is the place of the `$.` or `$=` after
     /// them.
     pub fn symbol_place(&self, n: usize) -> usize
         requires { n ≤ length self.now.symbols }
@@ -249,7 +249,7 @@ impl<'a> Statement<'a> {
         symbols_from(self.kind) + n
     }
 
-    /// The words of the proof, from the first one on: at most 4,294,967,295, and none where there is no proof. Each has a
+    /// The words of the proof, from the first one on: at most 4,294,967,295, and none if there is no proof. Each has a
     /// byte at least, and together they have at most 4,294,967,295. It takes no memory.
     pub fn proof(&self) -> ProofWords<'a>
         ensures words { result ≡ self.now.proof }
@@ -271,7 +271,7 @@ impl<'a> Statement<'a> {
     }
 }
 
-/// The words of the proof of an item, from the first one on; none where it has no proof. The item's bytes are read up to
+/// The words of the proof of an item, from the first one on; none if it has no proof. The item's bytes are read up to
 /// its proof. It takes no memory.
 pub fn words_of_proof<'a>(files: &'a Files, item: &Item) -> ProofWords<'a>
     requires { CanBeRead files.now item.now }
@@ -293,8 +293,8 @@ fn proof_among<'a>(kind: ItemKind, text: &'a [u8], words: WordCursor<'a>) -> Pro
     ProofWords::new(text, words)
 }
 
-/// The n-th word of the proof of an item, counted from 0, by its bytes among those of the item; where n is the count of
-/// these words, the `$.` behind them. The words before the `$=` are passed over. It takes no memory.
+/// The n-th word of the proof of an item, counted from 0, by its bytes among those of the item; if n is the count of
+/// these words, the `$.` after them. The words before the `$=` are passed over. It takes no memory.
 pub fn nth_of_proof(files: &Files, item: &Item, n: usize) -> Option<Word>
     requires { CanBeRead files.now item.now }
     ensures { (said : meant.Item) → (says : Says files.now item.now said)
@@ -309,7 +309,7 @@ pub fn nth_of_proof(files: &Files, item: &Item, n: usize) -> Option<Word>
     words.next_word()
 }
 
-/// The words of an item of this kind behind the one that closes its symbols.
+/// The words of an item of this kind after the one that closes its symbols.
 fn behind_symbols<'a>(kind: ItemKind, text: &'a [u8]) -> WordCursor<'a>
     requires { (words : List Word) × HasWords text.now words × (0 < length words) }
     ensures text { result.text ≡ text.now }
@@ -335,7 +335,7 @@ fn nth_bytes(text: &[u8], n: usize) -> &[u8]
     }
 }
 
-/// Goes behind the next keyword. Most often its `$` is the next one, and the words before it are not looked at.
+/// Goes past the next keyword. Most often its `$` is the next one, and the words before it are not looked at.
 fn pass_symbols(words: &mut WordCursor)
     ensures text { words.new.text ≡ words.old.text }
     ensures rest { words.new.words ≡ drop (length (plain_words words.old.words) + 1) words.old.words }

@@ -8,7 +8,7 @@ use mm_proof::{Checked, Verdict};
 use std::alloc::{AllocError, Global};
 use std::marker::Model;
 
-/// Numbers of words, in half the room where each fits there, as nearly always.
+/// Numbers of words, in half the room if each fits there, as nearly always.
 #[derive(Drop)]
 enum WordNumbers {
     Short(Vec<u32>),
@@ -113,8 +113,8 @@ impl KeptCheck {
     }
 }
 
-/// What the check of the proof of an item said; nothing where the item is no sound `$p`, as most are not. It takes the room
-/// of an address, and that of what was said behind it.
+/// What the check of the proof of an item said; nothing if the item is no sound `$p`, as most are not. It takes the room
+/// of an address, and that of what was said, at the address.
 #[derive(Drop)]
 pub struct Kept {
     check: Option<Box<KeptCheck>>,

@@ -65,7 +65,7 @@ fn hypothesis_of(base: &Base, number: usize) -> Hypothesis<'_, NumberedSymbol>
     }
 }
 
-/// Puts the hypotheses with these numbers behind others.
+/// Adds the hypotheses with these numbers after others.
 fn add_hypotheses<'a>(
     base: &'a Base,
     numbers: &[usize],
@@ -80,7 +80,7 @@ fn add_hypotheses<'a>(
     Ok(())
 }
 
-/// The assertion with this number. Its mandatory hypotheses are put behind others.
+/// The assertion with this number. Its mandatory hypotheses are added after others.
 fn assertion_of<'a>(
     base: &'a Base,
     number: usize,
@@ -104,7 +104,7 @@ fn assertion_of<'a>(
     })
 }
 
-/// The assertions with these numbers, behind a list of their mandatory hypotheses.
+/// The assertions with these numbers, and before them a list of their mandatory hypotheses.
 pub fn assertions_of<'a>(
     alloc: Global,
     base: &'a Base,

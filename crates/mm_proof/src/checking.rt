@@ -44,7 +44,7 @@ pub fn mandatory(base: &Base, i: usize) -> &[usize]
     &frame.hypotheses
 }
 
-/// The fault that decoding tells; out of memory stays what it is.
+/// The fault that decoding reports; out of memory stays what it is.
 pub fn decoding_fault(error: Undecoded) -> Result<ProofFault, AllocError>
     ensures { IfOk result (λ fault. error ≡ errors.Fault fault) }
 {
@@ -54,7 +54,7 @@ pub fn decoding_fault(error: Undecoded) -> Result<ProofFault, AllocError>
     }
 }
 
-/// The spot behind the words of a proof.
+/// The spot after the words of a proof.
 fn closing_spot(words: ProofWords) -> Spot
     requires { length words ≤ 4294967295 }
     ensures { result ≡ word_spot (length words.entry) }
@@ -84,7 +84,7 @@ pub fn verdict(outcome: Outcome, decoding: &Decoding, words: ProofWords) -> Verd
     }
 }
 
-/// How many of so many steps are done in a run that came to this.
+/// How many of this many steps are done in a run that came to this.
 fn steps_done(outcome: Outcome, steps: usize) -> usize
     requires { IsOutcomeWithin steps outcome }
     ensures value { result ≡ done_by steps outcome }
@@ -106,8 +106,8 @@ pub struct DecodedProof<'a> {
     pub decoding: &'a Decoding,
 }
 
-/// Runs the steps of a proof before the first that lacks an entry, by the count of entries alone, and looks at that one. It
-/// loads no assertion for a step that lacks an entry. Where that does not tell what the steps come to, it tells nothing.
+/// Runs the steps of a proof before the first with too few entries, by the count of entries alone, and looks at that one. It
+/// loads no assertion for a step with too few entries. If that does not say what the steps come to, it answers `None`.
 fn run_front(
     alloc: Global,
     scratch: &mut Scratch,

@@ -1,4 +1,4 @@
-//! What is right or wrong where an assertion is cited.
+//! What is right or wrong when an assertion is cited.
 
 ghost use Rattle.std.specs.Prelude.{◌≡◌, ◌↔◌, ◌<◌, List, false, IsTrue, IfOk, MatchBool, MatchOption, All, Some, length, map, slice_get};
 ghost use Rattle.mm_frame.specs.Language.Frame.{Symbol as Meaning};

@@ -65,7 +65,7 @@ fn named(marks: &mut Vec<bool>, labels: &[Resolved], used: &[Resolved]) -> Resul
     Ok(())
 }
 
-/// Tells a word, where its label is that of an assertion that is left.
+/// Adds a word, if its label is that of an assertion that is left.
 fn cite(
     left: &mut Vec<bool>,
     words: &mut Vec<usize>,

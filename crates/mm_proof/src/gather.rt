@@ -13,7 +13,7 @@ use crate::symbol::Kept;
 use mm_frame::Symbol;
 use std::alloc::{AllocError, Global};
 
-/// Up to so many variables are compared one by one.
+/// Up to this many variables are compared one by one.
 const FEW: usize = 8;
 
 /// The variables of the entries that an assertion takes.
@@ -23,7 +23,7 @@ pub struct Gathered<S> {
     pub variables: Vec<S>,
     /// For each entry the range of its variables.
     pub spans: Vec<Entry>,
-    /// For the key of a variable where it may stand. What is found by it is compared, so that no answer depends on it.
+    /// For the key of a variable, where it may be. What is found by it is compared, so that no answer depends on it.
     pub places: Vec<usize>,
 }
 

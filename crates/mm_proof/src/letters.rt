@@ -84,7 +84,7 @@ fn alone(digits: usize, action: Action) -> Result<Action, ProofNumber>
     }
 }
 
-/// What a letter that is no digit does behind these digits.
+/// What a letter that is no digit does after these digits.
 fn action(labels: usize, saves: usize, digits: usize, byte: u8) -> Result<Action, ProofNumber>
     requires few { labels + saves < 2 ^ 64 - 1 }
     ensures within { IfOk result (IsLabelWithin labels) }
@@ -106,14 +106,14 @@ pub struct MarkedSteps {
     pub used: Vec<bool>,
 }
 
-/// The letters so far: the steps that they stand for, and digits that wait for the letter behind them.
+/// The letters so far: the steps that they stand for, and digits that wait for the letter after them.
 #[derive(Drop)]
 pub struct LetterReader {
     /// How many labels numbers name: the mandatory hypotheses and the listed labels.
     labels: usize,
     /// How many of the steps so far are saves.
     saves: usize,
-    /// The digits in base five: 0 where there are none, and no more than the largest number there is.
+    /// The digits in base five: 0 if there are none, and no more than the largest number there is.
     digits: usize,
     steps: Vec<ProofStep>,
     /// For each label whether one of the steps names it.

@@ -28,17 +28,17 @@ pub struct Machine<S> {
     pub stack: Vec<Entry>,
     /// What was saved, in order; before it the expressions of hypotheses, which are kept from the beginning.
     pub saved: Vec<Entry>,
-    /// What was saved lies below this place.
+    /// What was saved is below this place.
     pub kept: usize,
     /// The result of a step, until it is put in its place.
     result: Vec<S>,
-    /// For the key of a variable where its `$f` may stand among the hypotheses of the assertion that is cited.
+    /// For the key of a variable, where its `$f` may be among the hypotheses of the assertion that is cited.
     places: Vec<usize>,
     /// What the pair clause uses over again.
     pairs: PairRoom<S>,
 }
 
-/// Gives a table so many places, if it has fewer.
+/// Gives a table this many places, if it has fewer.
 fn widen(places: &mut Vec<usize>, keys: usize) -> Result<(), AllocError> {
     if places.len() < keys {
         places.resize(keys, 0)?;
@@ -87,7 +87,7 @@ impl<S: Kept> Machine<S> {
         }
     }
 
-    /// Gives the tables a place for each of so many keys of variables, if they have fewer.
+    /// Gives the tables a place for each of this many keys of variables, if they have fewer.
     pub fn widen(&mut self, keys: usize) -> Result<(), AllocError> {
         widen(&mut self.places, keys)?;
         widen(&mut self.pairs.marks, keys)?;

@@ -88,7 +88,7 @@ fn same_pairs(old: &Base, i: usize, new: &Base, j: usize, last: Option<Compared>
     }
 }
 
-/// Compares the active pairs of two items, where both are sound `$p`.
+/// Compares the active pairs of two items, if both are sound `$p`.
 fn compare(old: &Base, i: usize, new: &Base, j: usize, last: Option<Compared>) -> Option<Compared>
     requires { IsCompared old.now new.now last }
     ensures told { IsCompared old.now new.now result }
@@ -100,7 +100,7 @@ fn compare(old: &Base, i: usize, new: &Base, j: usize, last: Option<Compared>) -
     Some(Compared { i, j, same })
 }
 
-/// Whether the marks so far tell that the hypothesis `m` of the new base is the hypothesis `n` of the old one.
+/// Whether the marks so far say that the hypothesis `m` of the new base is the hypothesis `n` of the old one.
 fn is_marked(marks: &[Mark], n: usize, m: usize) -> bool
     ensures { IsTrue result → (old new : BaseAnswers) → AreHypothesisMarks old new marks.now
         → OfBases old new (λ base copy. hypothesis_at base n ≡ hypothesis_at copy m) }
@@ -114,7 +114,7 @@ fn is_marked(marks: &[Mark], n: usize, m: usize) -> bool
     }
 }
 
-/// Whether the marks so far tell that hypotheses of the old base are those of the new one, one by one.
+/// Whether the marks so far say that hypotheses of the old base are those of the new one, one by one.
 fn are_marked(marks: &[Mark], mine: &[usize], yours: &[usize]) -> bool
     ensures { IsTrue result → (old new : BaseAnswers) → AreHypothesisMarks old new marks.now
         → OfBases old new (λ base copy. map (hypothesis_at base) mine.now ≡ map (hypothesis_at copy) yours.now) }
@@ -130,7 +130,7 @@ fn are_marked(marks: &[Mark], mine: &[usize], yours: &[usize]) -> bool
     true
 }
 
-/// Whether two items are sound assertions with the same frame. Hypotheses that the marks so far tell to be the same are not
+/// Whether two items are sound assertions with the same frame. Hypotheses that are the same by the marks so far are not
 /// looked at.
 fn same_frames(old: &Base, i: usize, new: &Base, j: usize, marks: &[Mark]) -> bool
     requires { AreHypothesisMarks old.now new.now marks.now }
@@ -165,7 +165,7 @@ fn has_label(base: &Base, i: usize, label: &[u8]) -> bool
     }
 }
 
-/// The sound item of a base that has this label. It is looked up where it is not the one that is expected.
+/// The sound item of a base that has this label. It is looked up if it is not the one that is expected.
 fn find_expected(base: &Base, label: &[u8], expected: usize) -> Option<usize>
     ensures { (view : BaseView) (i : ℕ) → IsBase view base.now → (result ≡ Some i) ↔ IsCarrier view label.now i }
 {
@@ -185,7 +185,7 @@ fn old_of(old: &Base, expected: usize, new: &Base, j: usize) -> Option<usize>
     find_expected(old, new.label(j)?, expected)
 }
 
-/// What stays of the item with this number, beside the marks of those before it; and the two theorems that were compared
+/// What stays of the item with this number, by the marks of those before it; and the two theorems that were compared
 /// last.
 fn mark_of(
     old: &Base,
@@ -242,7 +242,7 @@ fn is_alike(old: &Base, new: &Base, j: usize, ordinals: &Ordinals, mark: Mark) -
     }
 }
 
-/// The first labelled item of a base behind the one that was found; else the one that was expected.
+/// The first labelled item of a base after the one that was found; else the one that was expected.
 fn next_expected(base: &Base, found: Option<usize>, expected: usize) -> usize {
     let Some(i) = found else {
         return expected;

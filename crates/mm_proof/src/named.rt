@@ -12,7 +12,7 @@ use crate::assertion::{Cited, Hypothesis, assertions_of, expression};
 use mm_frame::{Base, NumberedSymbol, Resolved};
 use std::alloc::{AllocError, Global};
 
-/// At first there is room for so many labels at most.
+/// At first there is room for this many labels at most.
 const FIRST_LABELS: usize = 64;
 
 /// What a label is used for.
@@ -43,7 +43,7 @@ pub struct Named<'a, S> {
 #[derive(Drop)]
 pub struct Numbers {
     pub items: Vec<usize>,
-    /// For the number of an item where it may stand. What is found by it is compared, so that no answer depends on it.
+    /// For the number of an item, where it may be. What is found by it is compared, so that no answer depends on it.
     places: Vec<u32>,
 }
 
@@ -58,7 +58,7 @@ impl Numbers {
         }
     }
 
-    /// None, with the room that these have, and a place for each of so many items.
+    /// None, with the room that these have, and a place for each of this many items.
     fn emptied(self, count: usize) -> Result<Numbers, AllocError>
         ensures { IfOk result (λ numbers. numbers.items.items ≡ []) }
     {
@@ -71,7 +71,7 @@ impl Numbers {
         Ok(Numbers { items, places })
     }
 
-    /// Where a number stands, if it is there.
+    /// Where a number is, if it is there.
     fn find(&self, number: usize) -> Option<usize>
         ensures { IfSome result (λ n. slice_get self.now.items.items n ≡ Some number) }
     {
@@ -88,7 +88,7 @@ impl Numbers {
         Some(place)
     }
 
-    /// Adds a number behind the others, and tells where it stands.
+    /// Adds a number after the others, and answers where it is.
     fn add(&mut self, number: usize) -> Result<usize, AllocError>
         ensures items { OnOk result (self.new.items.items ≡ self.old.items.items ++ number ∷ []) }
         ensures place { IfOk result (λ n. n ≡ length self.old.items.items) }
@@ -128,7 +128,7 @@ pub struct Naming<'a> {
 }
 
 impl<'a> Naming<'a> {
-    /// Nothing was named. There will be so many labels.
+    /// Nothing was named. There will be this many labels.
     fn new(
         alloc: Global,
         base: &'a Base,

@@ -10,7 +10,7 @@ use mm_frame::Base;
 use std::alloc::{AllocError, Global};
 
 /// The labelled items of a base are its sound `$f`, `$e`, `$a` and `$p`, in order; the ordinal of an item is how many of
-/// them stand before it. Here are those of the items of two bases, and of the end of each.
+/// them come before it. Here are those of the items of two bases, and of the end of each.
 #[derive(Drop)]
 pub struct Ordinals {
     old: Vec<u32>,

@@ -21,7 +21,7 @@ use std::alloc::{AllocError, Global};
 pub struct PairRoom<S> {
     /// The variables of entries.
     pub gathered: Gathered<S>,
-    /// For the key of a variable where it may stand in one of two lists.
+    /// For the key of a variable, where it may be in one of two lists.
     pub marks: Vec<usize>,
 }
 

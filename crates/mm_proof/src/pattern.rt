@@ -34,11 +34,11 @@ pub struct Taken<'s, 'a, S> {
     pub entries: &'s [Entry],
     /// The mandatory hypotheses of the assertion, in order.
     pub hypotheses: &'s [Hypothesis<'a, S>],
-    /// For the key of a variable where its `$f` may stand among the hypotheses.
+    /// For the key of a variable, where its `$f` may be among the hypotheses.
     pub places: &'s [usize],
 }
 
-/// What an entry gives: its symbols behind the typecode. None where there is no such entry.
+/// What an entry gives: its symbols after the typecode. None if there is no such entry.
 pub fn entry_symbols<'s, 'a, S: Kept>(taken: &Taken<'s, 'a, S>, slot: usize) -> &'s [S]
     requires { All (IsEntryWithin (length taken.now.symbols.now)) taken.now.entries.now }
     ensures { (e : List Meaning) → slice_get (entries_of S.means taken.now) slot ≡ Some e → map S.means result.now ≡ drop 1 e }
@@ -53,7 +53,7 @@ pub fn entry_symbols<'s, 'a, S: Kept>(taken: &Taken<'s, 'a, S>, slot: usize) -> 
     &taken.symbols[entry.start + 1..entry.end]
 }
 
-/// What stands for a symbol of an expression: the constant itself, or what is given for a variable.
+/// What takes the place of a symbol of an expression: the constant itself, or what is given for a variable.
 #[derive(Drop)]
 pub struct Replacement<'s, 'a, S> {
     symbol: &'a S,
@@ -75,7 +75,7 @@ impl<'s, 'a, S: Kept> Replacement<'s, 'a, S> {
         }
     }
 
-    /// Puts its symbols behind others.
+    /// Adds its symbols after others.
     fn put(&self, alloc: Global, to: &mut Vec<S>) -> Result<(), AllocError>
         ensures { OnOk result (map S.means to.new.items ≡ map S.means to.old.items ++ replaced_by S.means self.now) }
     {
@@ -101,7 +101,7 @@ impl<'s, 'a, S: Kept> Replacement<'s, 'a, S> {
     }
 }
 
-/// What stands for the symbol at a place of an expression.
+/// What takes the place of the symbol at a place of an expression.
 fn replacement_of<'s, 'a, S: Kept>(
     taken: &Taken<'s, 'a, S>,
     expression: &'a [S],

@@ -28,7 +28,7 @@ use std::alloc::{AllocError, Global};
 #[derive(Drop)]
 pub struct Decoding {
     /// Of a compressed proof what its numbers name first: the mandatory hypotheses and the listed labels; of a normal
-    /// one what its words name, `Unknown` standing for a `?`.
+    /// one what its words name, with `Unknown` for a `?`.
     pub labels: Vec<Resolved>,
     /// The steps, in order.
     pub steps: Vec<ProofStep>,

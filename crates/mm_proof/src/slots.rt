@@ -9,7 +9,7 @@ use crate::assertion::Hypothesis;
 use crate::symbol::Kept;
 use mm_frame::Symbol;
 
-/// Where a key is noted in a table of so many places: at its own place, or at what is left of it.
+/// Where a key is noted in a table of this many places: at its own place, or at its remainder.
 pub fn home(key: usize, count: usize) -> usize
     ensures { result ≡ home_lem key count }
 {

@@ -53,7 +53,7 @@ pub enum Outcome {
     Other,
 }
 
-/// What an entry of a proof's table is used for; nothing where there is no such entry.
+/// What an entry of a proof's table is used for; nothing if there is no such entry.
 fn use_of(uses: &[Use], k: usize) -> Use
     ensures means { (expressions : List (List Meaning)) (frames : List Frame) (place : Setting) (names : List Step)
         → AllZip (MeansUse expressions frames place) uses.now names
@@ -67,7 +67,7 @@ fn use_of(uses: &[Use], k: usize) -> Use
     }
 }
 
-/// What the machine does at a step with this action; nothing where the step is not known.
+/// What the machine does at a step with this action; nothing if the step is not known.
 fn task_of<'a, S: Kept>(named: &Named<'a, S>, action: Action) -> Option<Task>
     ensures means { (place : Setting) (names : List Step) → AreUses S.means named.now place names
         → MatchOption result (meant names action ≡ NotKnown)
@@ -161,8 +161,8 @@ fn load<'a, S: Kept>(
     Ok(())
 }
 
-/// Runs steps up to the first that is at fault or not known, and tells what they come to. Where there is none, all are done,
-/// and it tells nothing. What the machine has from other runs does not count.
+/// Runs steps up to the first that is at fault or not known, and answers what they come to. If there is none, all are done,
+/// and it answers `None`. What the machine has from other runs does not count.
 pub fn run_through<'a, S: Kept>(
     alloc: Global,
     machine: &mut Machine<S>,

@@ -1,4 +1,4 @@
-//! What the machine asks of symbols that it keeps in a list.
+//! What the machine needs of symbols that it keeps in a list.
 
 ghost use Rattle.std.specs.Prelude.{◌≡◌, ◌<◌, ◌^◌, ◌++◌, ℕ, OnOk, map};
 ghost use Rattle.mm_frame.specs.Language.Frame.{Symbol as Meaning};
@@ -12,16 +12,16 @@ pub trait Kept: Symbol {
     /// The number by which a symbol is looked for.
     ghost key_of: { Meaning → ℕ };
 
-    /// The number by which it is looked for. Look-ups are quick where different symbols have different numbers.
+    /// The number by which it is looked for. Look-ups are quick if different symbols have different numbers.
     fn key(&self) -> usize
         ensures { result ≡ key_of (Self.means self.now) };
 
-    /// Puts copies of symbols behind others.
+    /// Adds copies of symbols after others.
     fn append(alloc: Global, to: &mut Vec<Self>, from: &[Self]) -> Result<(), AllocError>
         ensures { OnOk result (map Self.means to.new.items ≡ map Self.means to.old.items ++ map Self.means from.now) };
 }
 
-/// The next number behind some bytes of a name.
+/// The next number after some bytes of a name.
 fn key_behind(key: usize, byte: u8) -> usize
     requires { key < 2 ^ 32 }
     ensures value { result ≡ key_next key byte }

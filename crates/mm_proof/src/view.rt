@@ -26,7 +26,7 @@ use mm_frame::{
 };
 
 /// The item `i` of an old base and the item `j` of a new one. The symbols of both bases are read by these names. The marks,
-/// where there are any, tell what stays of the old base in the new one.
+/// if there are any, say what stays of the old base in the new one.
 #[derive(Clone, Copy)]
 pub struct TwoTheorems<'names, 'old, 'new, 'marks> {
     pub names: &'names Names,
@@ -54,7 +54,7 @@ fn same_meaning(two: TwoTheorems, mine: Resolved, yours: Resolved) -> bool
     }
 }
 
-/// What the label of an item means at the item `i`, where there is such an item, and what one means that none carries. Of an
+/// What the label of an item means at the item `i`, if there is such an item, and what one means that none carries. Of an
 /// item that is known to be an assertion nothing is looked at.
 fn meaning_of(base: &Base, carrier: Option<usize>, framed: bool, i: usize) -> Resolved
     ensures { (view : BaseView) (label : List ℕ) → IsBase view base.now → IsOneCarrier view label carrier
@@ -68,7 +68,7 @@ fn meaning_of(base: &Base, carrier: Option<usize>, framed: bool, i: usize) -> Re
     }
 }
 
-/// Whether the label of the item `m` of the new base means the same at both, where it means these. No frame is compared.
+/// Whether the label of the item `m` of the new base means the same at both, if it means these. No frame is compared.
 fn same_marked(two: TwoTheorems, mine: Resolved, yours: Resolved, marks: &Marks, m: usize) -> bool
     ensures { OfTwo two.entry (λ base copy. AreMarks base copy marks.now → (label : List ℕ) → IsCarrier copy label m
         → Resolves base two.entry.i label mine → Resolves copy two.entry.j label yours → IsTrue result ↔ MeansSame two.entry base copy label) }
@@ -163,7 +163,7 @@ fn same_named(two: TwoTheorems, words: ProofWords) -> bool
     }
 }
 
-/// Whether the marks tell that the item `j` of the new base has the label of the item `i` of the old one.
+/// Whether the marks say that the item `j` of the new base has the label of the item `i` of the old one.
 fn is_marked(marks: &Marks, i: usize, j: usize) -> bool
     ensures { IsTrue result ↔ ((mark_at marks.now j).old ≡ Some i) }
 {
@@ -184,15 +184,15 @@ fn same_pairs(two: TwoTheorems) -> bool
     }
 }
 
-/// Whether the marks tell that the items are assertions with the same label and the same frame.
+/// Whether the marks say that the items are assertions with the same label and the same frame.
 fn is_frame_marked(marks: &Marks, i: usize, j: usize) -> bool
     ensures { IsTrue result ↔ ((mark_at marks.now j).old ≡ Some i) × ((mark_at marks.now j).frame ≡ true) }
 {
     is_marked(marks, i, j) && marks.same(j)
 }
 
-/// Whether two sound `$p` have the same expression and the same mandatory hypotheses. Nothing is compared where the marks
-/// tell that their frames are the same.
+/// Whether two sound `$p` have the same expression and the same mandatory hypotheses. Nothing is compared if the marks
+/// say that their frames are the same.
 fn same_but_active(two: TwoTheorems) -> bool
     requires { AreMarked two }
     ensures { TellsShared two.entry ShareHypotheses result }

@@ -34,8 +34,8 @@ impl Scratch {
         }
     }
 
-    /// Gives the marks a place for each of so many items, and the machine's tables for each of so many keys of variables,
-    /// where they have fewer.
+    /// Gives the marks a place for each of this many items, and the machine's tables for each of this many keys of variables,
+    /// if they have fewer.
     pub fn widen(&mut self, items: usize, keys: usize) -> Result<(), AllocError> {
         if self.marks.len() < items {
             self.marks.resize(items, false)?;
@@ -50,7 +50,7 @@ pub struct Work {
     runs: Vec<usize>,
     steps: u64,
     room: usize,
-    /// What checks use over again, where none has it.
+    /// What checks use over again, if none has it.
     scratch: Vec<Scratch>,
 }
 
@@ -65,7 +65,7 @@ impl Model for Work {
 }
 
 impl Work {
-    /// Nothing was run yet; there is room for so many runs.
+    /// Nothing was run yet; there is room for this many runs.
     pub fn new(alloc: Global, room: usize) -> Result<Work, AllocError>
         ensures { IfOk result (λ work. work ≡ record { runs = []; steps = 0; room = room }) }
     {
@@ -95,8 +95,8 @@ impl Work {
         Ok(())
     }
 
-    /// Records the run of the proof of the item with this number, in which so many steps were done. Out of memory records
-    /// nothing; where the room was taken at the beginning, there is none.
+    /// Records the run of the proof of the item with this number, in which this many steps were done. Out of memory records
+    /// nothing; it cannot come if the room was taken at the beginning.
     pub(crate) fn record(&mut self, i: usize, steps: u64) -> Result<(), AllocError>
         requires room { 0 < self.old.room }
         requires steps { self.old.steps + steps < 2 ^ 64 }

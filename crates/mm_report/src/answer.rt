@@ -53,7 +53,7 @@ pub fn fault_name(number: TextNumber) -> &'static str
     }
 }
 
-/// The text that an edit brings; no bytes where it brings none.
+/// The text that an edit brings; no bytes if it brings none.
 fn text_of_edit<'a>(edit: &Edit<'a>) -> &'a [u8]
     ensures { result.now ≡ text_brought (asked edit.now) }
 {
@@ -202,11 +202,11 @@ fn write_list<W: Write>(
 }
 
 /// Writes what is answered when a script asks for the axioms of the assertion with this label: the labels of the sound `$a`
-/// to which chains of citations lead from it. The answer tells whether there is such an assertion; that there is none is
+/// to which chains of citations lead from it. The answer says whether there is such an assertion; that there is none is
 /// written too.
 ///
-/// The errors are `Write`, where the writing has failed and the beginning of the answer went out, and `Memory`, where
-/// memory lacks and nothing is written; that there is no such assertion is told before memory is taken.
+/// The errors are `Write`, if the writing has failed and the beginning of the answer went out, and `Memory`, if
+/// memory runs out and nothing is written; that there is no such assertion is found before memory is taken.
 pub fn write_axioms<W: Write>(
     session: &Session,
     label: &[u8],
@@ -237,7 +237,7 @@ fn write_line_of<W: Write>(
     to.write_all(b"\n")
 }
 
-/// Writes the line that tells what is found of the assertion with this label.
+/// Writes the line that reports what is found of the assertion with this label.
 fn write_told<W: Write>(
     files: &Files,
     label: &[u8],
@@ -270,7 +270,7 @@ fn write_verdict<W: Write>(
     }
 }
 
-/// Writes why an edit is refused; where memory lacked, nothing.
+/// Writes why an edit is refused; if memory ran out, nothing.
 fn tell_refused<W: Write>(
     edit: &Edit<'_>,
     error: EditError,
@@ -287,7 +287,7 @@ fn tell_refused<W: Write>(
     }
 }
 
-/// Writes why edits that were to be done together are refused; where memory lacked, nothing.
+/// Writes why edits that were to be done together are refused; if memory ran out, nothing.
 fn tell_batch_refused<W: Write>(
     edits: &[Edit<'_>],
     error: BatchError,
@@ -321,7 +321,7 @@ fn answer_edit<W: Write>(
     }
 }
 
-/// The edits that stand there.
+/// The edits that are there.
 fn edits_of<'a>(
     alloc: Global,
     bytes: &'a [u8],
@@ -356,7 +356,7 @@ fn answer_batch<W: Write>(
     }
 }
 
-/// Asks the session the command that stands there, and writes the answer.
+/// Puts the command that is there to the session, and writes the answer.
 fn ask<W: Write>(
     alloc: Global,
     session: &mut Session,
@@ -385,9 +385,9 @@ fn ask<W: Write>(
     }
 }
 
-/// Asks the session the command that stands there, writes the answer and hands it on to the system.
+/// Puts the command that is there to the session, writes the answer and passes it on to the system.
 ///
-/// Where memory lacks, nothing is done and nothing written. Where a write fails, the command is done.
+/// If memory runs out, nothing is done and nothing written. If a write fails, the command is done.
 pub(crate) fn answer<W: Write>(
     alloc: Global,
     session: &mut Session,

@@ -20,7 +20,7 @@ use crate::script_lines::{LineAt, read_some_line, read_text};
 use std::alloc::Global;
 use std::io::Read;
 
-/// The part that begins so much later.
+/// The part that begins later by this count.
 fn shifted(part: Part, by: usize) -> Part
     requires { (part.end + by < 2 ^ 64) × (part.start ≤ part.end) }
     ensures start { result.start ≡ by + part.start }
@@ -96,7 +96,7 @@ pub(crate) fn read_edit<R: Read>(
     }
 }
 
-/// Reads on until the next edit of a batch is complete, from `from` on, where so many are missing.
+/// Reads on until the next edit of a batch is complete, from `from` on, with this many missing.
 fn read_listed<R: Read>(
     input: &mut Input,
     reading: &mut Reading<R>,
@@ -130,7 +130,7 @@ fn read_listed<R: Read>(
     Ok(read)
 }
 
-/// Reads on until the edits of a batch are complete, so many of them, behind its line.
+/// Reads on until the edits of a batch are complete, this many of them, after its line.
 pub(crate) fn read_batch<R: Read>(
     alloc: Global,
     input: &mut Input,

@@ -27,7 +27,7 @@ pub(crate) struct Part {
     pub(crate) end: usize,
 }
 
-/// Where an edit stands in the bytes of a script.
+/// Where an edit is in the bytes of a script.
 #[derive(Clone, Copy)]
 pub(crate) enum EditAt {
     Insert { file: Part, at: usize, text: Part },
@@ -36,7 +36,7 @@ pub(crate) enum EditAt {
     Move { file: Part, at: usize, to: usize },
 }
 
-/// Where a command stands in the bytes of a script.
+/// Where a command is in the bytes of a script.
 #[derive(Drop)]
 pub(crate) enum CommandAt {
     Change(EditAt),
@@ -66,7 +66,7 @@ pub(crate) fn bytes_of<'a>(bytes: &'a [u8], part: Part) -> &'a [u8]
     &bytes[part.start..part.end]
 }
 
-/// The edit that stands there.
+/// The edit that is there.
 pub(crate) fn edit_of<'a>(bytes: &'a [u8], edit: &EditAt) -> Edit<'a>
     requires { IsEditWithin bytes.now edit.now }
     ensures { asked result ≡ edit_in bytes.now edit.now }
@@ -95,7 +95,7 @@ pub(crate) fn edit_of<'a>(bytes: &'a [u8], edit: &EditAt) -> Edit<'a>
 }
 
 /// Reads on until a line that is not empty is complete, and passes the empty lines before it as they come, so that they take no
-/// memory, however many there are; one that is empty tells the end.
+/// memory, however many there are; an empty one means the end.
 fn first_line<R: Read>(input: &mut Input, reading: &mut Reading<R>) -> Result<LineAt, ScriptError>
     ensures reads { ReadsOn input.old input.new (unread R.remaining reading.old) (unread R.remaining reading.new) }
     ensures line { IfOk result (IsLineAt (pending input.new) (unread R.remaining reading.new)) }
@@ -176,7 +176,7 @@ fn read_command<R: Read>(
     }
 }
 
-/// Reads on until a command is complete, past the empty lines before it; none where the script ends before one.
+/// Reads on until a command is complete, past the empty lines before it; none if the script ends before one.
 ///
 /// No read call is made once the command is complete.
 pub(crate) fn next_command<R: Read>(

@@ -16,9 +16,9 @@ use std::str;
 /// An edit that a line asks for. The part of the line is the name of the file.
 #[derive(Clone, Copy)]
 pub(crate) enum EditLine {
-    /// A text of so many bytes stands behind the line.
+    /// A text of this many bytes comes after the line.
     Insert { file: Part, at: usize, count: usize },
-    /// So it does here.
+    /// The same holds here.
     Replace { file: Part, at: usize, count: usize },
     Delete { file: Part, at: usize },
     Move { file: Part, at: usize, to: usize },
@@ -28,7 +28,7 @@ pub(crate) enum EditLine {
 #[derive(Clone, Copy)]
 pub(crate) enum CommandLine {
     Change(EditLine),
-    /// So many edits stand behind the line.
+    /// This many edits come after the line.
     Batch(usize),
     Report,
     Verdict(Part),
@@ -51,7 +51,7 @@ pub(crate) enum Verb {
     Users,
 }
 
-/// What stands before the first space, and what behind it.
+/// What comes before the first space, and what after it.
 fn cut_at_space(bytes: &[u8]) -> Option<(&[u8], &[u8])>
     ensures some { IfSome result (λ cut. CutsAt bytes.now cut.0.now cut.1.now) }
     ensures none { result ≡ None → HasNoSpace bytes.now }
@@ -62,7 +62,7 @@ fn cut_at_space(bytes: &[u8]) -> Option<(&[u8], &[u8])>
     }
 }
 
-/// The number that is written so: in decimal, without sign or leading zeros, at most 4,294,967,295.
+/// The number that is written like this: in decimal, without sign or leading zeros, at most 4,294,967,295.
 fn number(word: &[u8]) -> Option<usize>
     ensures some { IfSome result (λ n. IsNumber n × (word.now ≡ decimal n)) }
     ensures none { result ≡ None → (n : ℕ) → IsNumber n → word.now ≢ decimal n }
@@ -80,7 +80,7 @@ fn number(word: &[u8]) -> Option<usize>
     }
 }
 
-/// How many bytes the name of a file has, and the number behind it.
+/// How many bytes the name of a file has, and the number after it.
 fn file_and_number(bytes: &[u8]) -> Option<(usize, usize)>
     requires { IsOneLine bytes.now }
     ensures some { IfSome result (λ found. IsFileAnd bytes.now found.0 found.1) }
@@ -93,7 +93,7 @@ fn file_and_number(bytes: &[u8]) -> Option<(usize, usize)>
     Some((name.len(), number(rest)?))
 }
 
-/// How many bytes the name of a file has, and the two numbers behind it.
+/// How many bytes the name of a file has, and the two numbers after it.
 fn file_and_numbers(bytes: &[u8]) -> Option<(usize, usize, usize)>
     requires { IsOneLine bytes.now }
     ensures some { IfSome result (λ found. IsFileAndTwo bytes.now found.0 found.1 found.2) }
@@ -157,7 +157,7 @@ fn verb_of(word: &[u8]) -> Option<Verb>
     None
 }
 
-/// The name behind the first word of a line, of so many bytes.
+/// The name after the first word of a line, of this many bytes.
 fn name_part(line: &[u8], from: usize, count: usize) -> Part
     requires { (from ≤ length line.now) × (count ≤ length (drop from line.now)) }
     ensures start { result.start ≡ from }
@@ -202,7 +202,7 @@ fn edit_with(verb: Verb, line: &[u8], from: usize) -> Option<EditLine>
     }
 }
 
-/// The edit that a line asks for; none where the line is that of no edit.
+/// The edit that a line asks for; none if the line is that of no edit.
 pub(crate) fn edit_asked(line: &[u8]) -> Option<EditLine>
     requires { IsOneLine line.now }
     ensures some { IfSome result (SaysEdit line.now) }
@@ -244,7 +244,7 @@ fn command_with(verb: Verb, line: &[u8], from: usize) -> Option<CommandLine>
     }
 }
 
-/// What a line asks for; none where the line is that of no command.
+/// What a line asks for; none if the line is that of no command.
 pub(crate) fn command_asked(line: &[u8]) -> Option<CommandLine>
     requires { IsOneLine line.now }
     ensures some { IfSome result (SaysLine line.now) }

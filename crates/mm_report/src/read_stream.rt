@@ -30,7 +30,7 @@ impl<R: Read> Reading<R> {
         Reading::within(inner, u32::MAX)
     }
 
-    /// A reader that has not failed, and may be called so many times: one more call that is asked of it is a failure.
+    /// A reader that has not failed, and may be called this many times: one more call of it is a failure.
     pub fn within(inner: R, calls: u32) -> Reading<R>
         ensures unread { unread R.remaining result ≡ R.remaining inner }
         ensures calls { calls_left result ≡ calls }
@@ -57,7 +57,7 @@ impl<R: Read> Reading<R> {
         self.inner
     }
 
-    /// Reads once: the count of the bytes that came, which stand first in `buf`; 0 at the end, or where `buf` is empty.
+    /// Reads once: the count of the bytes that came, which are first in `buf`; 0 at the end, or if `buf` is empty.
     pub fn read(&mut self, buf: &mut [u8]) -> Result<usize, ReadFailed>
         ensures bound { IfOk result (λ n. n ≤ length buf.new) }
         ensures bytes { ReadConsumes (unread R.remaining self.old) (unread R.remaining self.new) result buf.new }

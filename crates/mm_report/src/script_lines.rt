@@ -15,7 +15,7 @@ use crate::script::ScriptError;
 use memchr::memchr;
 use std::io::Read;
 
-/// Where a line stands: up to its line feed, or up to the end of the script.
+/// Where a line is: up to its line feed, or up to the end of the script.
 #[derive(Clone, Copy)]
 pub(crate) struct LineAt {
     pub(crate) start: usize,
@@ -25,7 +25,7 @@ pub(crate) struct LineAt {
 }
 
 impl LineAt {
-    /// Where what stands behind the line begins.
+    /// Where what comes after the line begins.
     pub(crate) fn behind(self) -> usize
         requires { self.end + 1 < 2 ^ 64 }
         ensures fed { self.fed ≡ true → result ≡ self.end + 1 }
@@ -72,7 +72,7 @@ pub(crate) fn read_line<R: Read>(
     }
 }
 
-/// Reads on until the text of so many bytes behind a line is complete, and the line feed behind it.
+/// Reads on until the text of this many bytes after a line is complete, and the line feed after it.
 pub(crate) fn read_text<R: Read>(
     input: &mut Input,
     reading: &mut Reading<R>,
@@ -106,7 +106,7 @@ pub(crate) fn read_text<R: Read>(
     }
 }
 
-/// Reads on until a line that is not empty is complete, past the empty lines from `from` on; one that is empty tells the end.
+/// Reads on until a line that is not empty is complete, past the empty lines from `from` on; an empty one means the end.
 pub(crate) fn read_some_line<R: Read>(
     input: &mut Input,
     reading: &mut Reading<R>,

@@ -6,10 +6,10 @@ ghost use Rattle.mm_store.specs.Code.Lines.{AreLines, AreLineMarks, Follow};
 use mm_text::{Place, place};
 use std::alloc::{AllocError, Global};
 
-/// How many bytes stand between one mark of a text and the next.
+/// How many bytes are between one mark of a text and the next.
 const MARK_STEP: usize = 1024;
 
-/// How many line feeds are among some bytes, and how many bytes stand behind the last of them: all, where there is
+/// How many line feeds are among some bytes, and how many bytes come after the last of them: all, if there is
 /// none.
 #[derive(Clone, Copy)]
 pub struct Lines {
@@ -40,7 +40,7 @@ impl Lines {
         }
     }
 
-    /// The lines of bytes and of others behind them.
+    /// The lines of bytes and of others after them.
     pub(crate) fn then(self, later: Lines) -> Lines
         requires { Follow self later }
         ensures { (first second : List ℕ) → AreLines first self → AreLines second later → AreLines (first ++ second) result }
@@ -56,7 +56,7 @@ impl Lines {
         }
     }
 
-    /// The place of the byte behind these.
+    /// The place of the byte after these.
     pub(crate) fn place(self) -> Place
         ensures line { result.line ≡ self.feeds + 1 }
         ensures column { result.column ≡ self.behind + 1 }

@@ -2,13 +2,13 @@
 //!
 //! A text holds printable characters (the bytes 0x21 to 0x7E) and white space: tab, line feed, form feed,
 //! carriage return and space. White space separates words. A comment runs from a word `$(` to the next word
-//! `$)`; it counts as white space, may stand anywhere, does not nest, and holds neither mark in any of its other
+//! `$)`; it counts as white space, may be anywhere, does not nest, and holds neither mark in any of its other
 //! words. A word outside comments is one of the keywords, or holds no `$` (the Metamath book, section 4.1). A
 //! text that keeps these rules has one list of words, which `words` finds; any other has one first fault, which
-//! it tells.
+//! it reports.
 //!
 //! The words of a database make units: statements, inclusions, and blocks with units inside. `cut` cuts a text
-//! into pieces with one unit each, or tells the first fault of its words or units, and `divided_cut` also divides
+//! into pieces with one unit each, or reports the first fault of its words or units, and `divided_cut` also divides
 //! each piece into its statements.
 #![tactic(auto)]
 

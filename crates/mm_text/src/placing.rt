@@ -6,7 +6,7 @@ ghost use Rattle.mm_text.specs.Language.Place.{line_at, column_at};
 use crate::location::Place;
 use memchr::{memchr_iter, memrchr};
 
-/// The line and the column of the byte `at`, counted from 0, or of the end where `at` is the length of the text.
+/// The line and the column of the byte `at`, counted from 0, or of the end if `at` is the length of the text.
 ///
 /// It takes no memory. Any bytes will do, a fault among them or not.
 pub fn place(text: &[u8], at: usize) -> Place

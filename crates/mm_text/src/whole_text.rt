@@ -60,7 +60,7 @@ fn read_all(alloc: Global, text: &[u8]) -> Result<Vec<Word>, TextError>
 
 /// The words of a text outside comments, in order, each with its kind and the bytes that spell it.
 ///
-/// An error is the first fault of the text, `T01` to `T05`, with the byte that it is told at; or `Memory`, where
+/// An error is the first fault of the text, `T01` to `T05`, with the byte that it is reported at; or `Memory`, if
 /// there was no room for the words. Every text without a fault is read, the empty one too. The text is gone
 /// through twice: once for bytes that no text may hold, since that fault goes before all others, and once for
 /// its words.
@@ -68,7 +68,7 @@ pub fn words(alloc: Global, text: &[u8]) -> Result<Vec<Word>, TextError>
     ensures words { IfOk result (λ found. HasWords text.now found.items) }
     ensures fault { IfErr result (IsWordsError text.now) }
 
-    // These follow: where the fault and the words lie, and that every byte is ASCII.
+    // These follow: where the fault and the words are, and that every byte is ASCII.
     ensures fault_within { IfErr result (IsTextErrorIn text.now) }
     ensures within { IfOk result (λ found. AreWithin text.now found.items) }
     ensures ascii { OnOk result (All (λ byte. byte < 127) text.now) }
@@ -76,7 +76,7 @@ pub fn words(alloc: Global, text: &[u8]) -> Result<Vec<Word>, TextError>
     read_all(alloc, text)
 }
 
-/// The word with the number `n` outside comments, counted from 0, of a text that has no fault; `None` where the
+/// The word with the number `n` outside comments, counted from 0, of a text that has no fault; `None` if the
 /// text has no more than `n` words.
 ///
 /// It takes no memory: the text is read from its beginning up to this word.
