@@ -1,12 +1,11 @@
 //! Blocks: whether an item is active at a later one.
 
-ghost use Rattle.std.specs.Prelude.{◌≡◌, ◌↔◌, ℕ, true, suc, ◌+◌, ◌-◌, ◌<◌, ◌≤◌, List, [], ◌∷◌, ◌++◌, length, take, drop, slice_get, slice_range, unwrap_or, IfOk, OnOk, OnErr};
+ghost use Rattle.std.specs.Prelude.{◌≡◌, ◌↔◌, ℕ, true, suc, ◌+◌, ◌<◌, ◌≤◌, List, [], ◌∷◌, ◌++◌, length, take, drop, slice_range, IfOk, OnOk, OnErr};
 ghost use Rattle.mm_frame.specs.Language.Scope.{Opens, Closes, Neither};
 ghost use Rattle.mm_frame.specs.Language.Resolving.{IsUpTo};
 ghost use Rattle.mm_frame.specs.Code.BlockMarks.{is_inside_by, stays_by};
 ghost use Rattle.mm_frame.specs.Code.BlockEnds.{end_of_block};
 
-use crate::counts::Counts;
 use std::alloc::{AllocError, Global};
 use std::marker::Model;
 
@@ -18,7 +17,7 @@ use std::marker::Model;
 #[derive(Drop)]
 pub struct Blocks {
     /// For each item, the block that is innermost after it: a `${` has the one that it begins.
-    block_of: Counts,
+    block_of: Vec<usize>,
     /// For each block, the item that ended it. The newest may have no entry as long as it is open.
     ends: Vec<Option<usize>>,
     /// The open blocks around the innermost one, outermost first.
@@ -66,22 +65,12 @@ fn end_of_block(ends: &[Option<usize>], block: usize) -> Option<usize>
     ends.get(block).copied().unwrap_or(None)
 }
 
-/// The last of some blocks, or else this one.
-fn last_or(blocks: &[usize], other: usize) -> usize
-    ensures { result ≡ unwrap_or (slice_get blocks.now (length blocks.now - 1)) other }
-{
-    match blocks.last() {
-        Some(block) => *block,
-        None => other,
-    }
-}
-
 impl Blocks {
     /// No items, with room for this many.
     pub fn with_room(alloc: Global, count: usize) -> Result<Blocks, AllocError>
         ensures { IfOk result (λ blocks. blocks ≡ []) }
     {
-        let block_of = Counts::with_room(alloc, count)?;
+        let block_of = Vec::with_capacity(alloc, count)?;
         Ok(Blocks {
             block_of,
             ends: Vec::new(alloc),
@@ -113,12 +102,10 @@ impl Blocks {
         ensures err { OnErr result (self.new ≡ self.old) }
     {
         enter(&mut self.ends, self.current)?;
-        let item = self.block_of.len();
-        let next = last_or(&self.outer, self.ends.len());
-        self.block_of.push(next)?;
-        self.ends[self.current] = Some(item);
-        self.outer.pop();
-        self.current = next;
+        self.block_of.reserve(1)?;
+        self.ends[self.current] = Some(self.block_of.len());
+        self.current = self.outer.pop().unwrap_or(self.ends.len());
+        self.block_of.push(self.current).unwrap();
         self.ended += 1;
         Ok(())
     }
@@ -146,7 +133,7 @@ impl Blocks {
         requires within { at ≤ length self.now }
         ensures { result ≡ stays_by (slice_range self.now (from + 1) at) }
     {
-        match end_of_block(&self.ends, self.block_of.at(from)) {
+        match end_of_block(&self.ends, self.block_of[from]) {
             None => true,
             Some(end) => at <= end,
         }
@@ -169,7 +156,7 @@ impl Blocks {
         if from >= self.block_of.len() {
             return None;
         }
-        match end_of_block(&self.ends, self.block_of.at(from)) {
+        match end_of_block(&self.ends, self.block_of[from]) {
             None => None,
             Some(end) => Some(end + 1),
         }

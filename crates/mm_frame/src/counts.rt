@@ -1,6 +1,6 @@
 //! Counts, kept in half the room where they fit.
 
-ghost use Rattle.std.specs.Prelude.{◌≡◌, ◌<◌, [], ◌∷◌, ◌++◌, IfOk, OnErr, OnOk, length, slice_get, slice_index_or};
+ghost use Rattle.std.specs.Prelude.{◌≡◌, [], ◌∷◌, ◌++◌, IfOk, OnErr, OnOk, length, slice_get, slice_index_or};
 ghost use Rattle.mm_frame.specs.Code.KeptParts.{start_at};
 
 use std::alloc::{AllocError, Global};
@@ -114,7 +114,6 @@ impl Counts {
     #[inline(always)]
     pub fn push(&mut self, count: usize) -> Result<(), AllocError>
         ensures ok { OnOk result (self.new ≡ self.old ++ count ∷ []) }
-        ensures few { OnOk result (length self.new < 18446744073709551616) }
         ensures err { OnErr result (self.new ≡ self.old) }
     {
         if count <= MOST_NARROW && self.wide.is_empty() {
@@ -128,7 +127,6 @@ impl Counts {
     #[inline(never)]
     fn push_wide(&mut self, count: usize) -> Result<(), AllocError>
         ensures ok { OnOk result (self.new ≡ self.old ++ count ∷ []) }
-        ensures few { OnOk result (length self.new < 18446744073709551616) }
         ensures err { OnErr result (self.new ≡ self.old) }
     {
         self.wide.push(count)?;

@@ -22,7 +22,7 @@ marks_from ends item before (behind ∷ blocks) = mark_between ends item before 
 
 -- what each item did; block 0 was innermost at first
 abbrev pub blocks_view : Inside → List Mark
-blocks_view inside = marks_from inside.ends.items 0 0 inside.block_of
+blocks_view inside = marks_from inside.ends.items 0 0 inside.block_of.items
 
 -- the block that is innermost after the last item
 abbrev pub last_block : ℕ → List ℕ → ℕ
@@ -70,4 +70,4 @@ pub record AreBlockEndsKept (blocks : List ℕ) (ends : List (Option ℕ)) (oute
 
 -- the fields are right in this way
 abbrev pub AreBlocksKept : Inside → Type 0
-AreBlocksKept inside = AreBlockEndsKept inside.block_of inside.ends.items inside.outer.items inside.current inside.begun inside.ended
+AreBlocksKept inside = AreBlockEndsKept inside.block_of.items inside.ends.items inside.outer.items inside.current inside.begun inside.ended

@@ -1,6 +1,6 @@
 -- Blocks by marks: what ties marks to items, and what one more mark makes of the block numbers.
 use Rattle.std.proofs.Common.{◌≡◌, ◌≢◌, ℕ, zero, suc, pred, ◌+◌, ◌-◌, ◌≤◌, ◌<◌, ◌==◌, leb, Bool, true, false, cond, Option, Some, None, List, [], ◌∷◌, ◌++◌, Result, Ok, is_ok, IsSome, slice_range, unwrap_or, option_to_list}
-use Rattle.std.proofs.Common.{length, length-append, min, take, drop, get_or, set, count_by, slice_get, refl, sym, ◌∙◌, ap, subst, append_assoc, append-nil, arith, ◌⊎◌, inl}
+use Rattle.std.proofs.Common.{length, min, take, drop, get_or, set, count_by, slice_get, refl, sym, ◌∙◌, ap, subst, append_assoc, append-nil, arith, ◌⊎◌, inl}
 use Rattle.std.proofs.Common.{inr}
 use Rattle.std.proofs.lemmas.Bool.{eq-eqb, ne_eqb, le-leb, lt-leb, false≢true}
 use Rattle.std.proofs.Math.Seq.{take-append-add}
@@ -271,21 +271,6 @@ pub popped_is : (outer rest : List ℕ) (next fresh : ℕ) (popped : Option ℕ)
 popped_is outer rest next fresh (Some block) e v q = inl (e ∙ ap (λ w. rest ++ w ∷ []) (sym q))
 popped_is [] rest next fresh None e v q = inr (refl, sym (e ∙ append-nil rest), q)
 popped_is (block ∷ outer) rest next fresh None e v q = absurd (false≢true (v (omega arith)))
-
--- the last block is the one that is taken off
-last_there : (rest : List ℕ) (block : ℕ) → slice_get (rest ++ block ∷ []) (length rest) ≡ Some block
-last_there [] block = refl
-last_there (x ∷ rest) block = last_there rest block
-
-last_one : (rest : List ℕ) (block : ℕ) → slice_get (rest ++ block ∷ []) (length (rest ++ block ∷ []) - 1) ≡ Some block
-last_one rest block =
-    let count : length (rest ++ block ∷ []) - 1 ≡ length rest = omega (arith, length-append rest (block ∷ [])) in
-    ap (slice_get (rest ++ block ∷ [])) count ∙ last_there rest block
-
-pub last_popped : (outer rest : List ℕ) (popped : Option ℕ) → outer ≡ rest ++ option_to_list popped → (0 < length outer → IsSome popped) → slice_get outer (length outer - 1) ≡ popped
-last_popped outer rest (Some block) e v = ap (λ w. slice_get w (length w - 1)) e ∙ last_one rest block
-last_popped [] rest None e v = refl
-last_popped (block ∷ outer) rest None e v = absurd (false≢true (v (omega arith)))
 
 no_element : (level block : ℕ) → slice_get [] level ≡ Some block → ⊥
 no_element level block there = cc

@@ -1,5 +1,4 @@
 use Rattle.std.proofs.Common.{◌≡◌, ◌<◌, ◌+◌, List, suc, true, length, take, drop, arith, sym, ◌∙◌, ap, subst, ◌↔◌, Some, None}
-use Rattle.std.proofs.lemmas.List.{get_or_default}
 use Rattle.mm_frame.specs.Language.Scope.{Mark}
 use Rattle.mm_frame.specs.Language.Resolving.{IsUpTo}
 use Rattle.mm_frame.specs.Code.BlockMarks.{stays_by}
@@ -8,34 +7,37 @@ use Rattle.mm_frame.proofs.lemmas.scope.BlockLemmas.{marks_count}
 use Rattle.mm_frame.proofs.lemmas.scope.ActiveUntil.{until_absent, until_open, until_ended, end_there}
 use Rattle.mm_frame.proofs.blocks.Blocks.active_until.Goals as goal
 
+pub index-requires : goal.index-requires
+index-requires c = let inside = c.self.inside in omega (arith, c.len.ensures, inside.block_of.ok.0, c.if-from-len.false)
+
 pub overflow_add-result : goal.overflow_add-result
 overflow_add-result c =
     let inside = c.self.inside in
-    let block = c.at.result in
-    let in_range : c.args.from < length inside.block_of = omega (arith, c.len.ensures, c.if-from-len.false) in
+    let block = c.index.result.now in
+    let in_range : c.args.from < length inside.block_of.items = omega (arith, c.len.ensures, inside.block_of.ok.0, c.if-from-len.false) in
     let ended = ap (λ ends. end_of_block ends block) (sym c.deref.ensures.value) ∙ sym c.end_of_block.ensures ∙ c.in-Some.is in
-    let there = end_there inside.block_of inside.ends.items inside.outer.items inside.current inside.begun inside.ended c.args.from block c.in-Some.end c.self.invariant in_range (c.at.ensures ∙ get_or_default inside.block_of c.args.from 0 block in_range) ended in
-    omega (arith, there)
+    let there = end_there inside.block_of.items inside.ends.items inside.outer.items inside.current inside.begun inside.ended c.args.from block c.in-Some.end c.self.invariant in_range c.index.ensures ended in
+    omega (arith, there, inside.block_of.ok)
 
 pub returns-then-from-len : goal.returns-then-from-len
 returns-then-from-len c at l =
     let inside = c.self.inside in
-    until_absent c.args.self.now c.args.from at (omega (arith, c.if-from-len.true, c.len.ensures, marks_count inside.ends.items inside.block_of c.args.self.now c.self.view_is))
+    until_absent c.args.self.now c.args.from at (omega (arith, c.if-from-len.true, c.len.ensures, inside.block_of.ok.0, marks_count inside.ends.items inside.block_of.items c.args.self.now c.self.view_is))
 
 pub returns-in-None : goal.returns-in-None
 returns-in-None c at l =
     let inside = c.self.inside in
-    let block = c.at.result in
-    let in_range : c.args.from < length inside.block_of = omega (arith, c.len.ensures, c.if-from-len.false) in
+    let block = c.index.result.now in
+    let in_range : c.args.from < length inside.block_of.items = omega (arith, c.len.ensures, inside.block_of.ok.0, c.if-from-len.false) in
     let open_block = ap (λ ends. end_of_block ends block) (sym c.deref.ensures.value) ∙ sym c.end_of_block.ensures ∙ c.in-None.is in
     subst (λ (marks : List Mark). (stays_by (drop (suc c.args.from) (take at marks)) ≡ true) ↔ IsUpTo at None) c.self.view_is
-    (until_open inside.block_of inside.ends.items inside.outer.items inside.current inside.begun inside.ended c.args.from at block c.self.invariant l in_range (c.at.ensures ∙ get_or_default inside.block_of c.args.from 0 block in_range) open_block)
+    (until_open inside.block_of.items inside.ends.items inside.outer.items inside.current inside.begun inside.ended c.args.from at block c.self.invariant l in_range c.index.ensures open_block)
 
 pub returns-in-Some : goal.returns-in-Some
 returns-in-Some c at l =
     let inside = c.self.inside in
-    let block = c.at.result in
-    let in_range : c.args.from < length inside.block_of = omega (arith, c.len.ensures, c.if-from-len.false) in
+    let block = c.index.result.now in
+    let in_range : c.args.from < length inside.block_of.items = omega (arith, c.len.ensures, inside.block_of.ok.0, c.if-from-len.false) in
     let ended = ap (λ ends. end_of_block ends block) (sym c.deref.ensures.value) ∙ sym c.end_of_block.ensures ∙ c.in-Some.is in
     subst (λ (marks : List Mark). (stays_by (drop (suc c.args.from) (take at marks)) ≡ true) ↔ IsUpTo at (Some (c.in-Some.end + 1))) c.self.view_is
-    (until_ended inside.block_of inside.ends.items inside.outer.items inside.current inside.begun inside.ended c.args.from at block c.in-Some.end c.self.invariant l in_range (c.at.ensures ∙ get_or_default inside.block_of c.args.from 0 block in_range) ended)
+    (until_ended inside.block_of.items inside.ends.items inside.outer.items inside.current inside.begun inside.ended c.args.from at block c.in-Some.end c.self.invariant l in_range c.index.ensures ended)

@@ -1,4 +1,4 @@
-use Rattle.std.proofs.Common.{◌≡◌, ◌++◌, ◌∷◌, [], length, refl, ◌∙◌, ap, arith, length-append}
+use Rattle.std.proofs.Common.{◌≡◌, ◌++◌, ◌∷◌, [], length, refl, ◌∙◌, ap, arith}
 use Rattle.mm_frame.specs.Language.Scope.{Opens, opens}
 use Rattle.mm_frame.specs.Code.KeptBlocks.{marks_from}
 use Rattle.mm_frame.proofs.lemmas.scope.BlockLemmas.{kept_moved, kept_entered, kept_begun, entered_marks, begun_marks, count_within, pushed}
@@ -7,35 +7,35 @@ use Rattle.mm_frame.proofs.blocks.Blocks.begin.Goals as goal
 pub invariant_of-self-in_err-reserve : goal.invariant_of-self-in_err-reserve
 invariant_of-self-in_err-reserve c =
     let i = c.self.inside in
-    kept_moved i.block_of i.block_of _ c.enter.new.ends.items i.outer.items c.reserve.new.self.items i.current i.begun i.ended refl refl c.reserve.ensures.items
-    (kept_entered i.block_of i.ends.items c.enter.new.ends.items i.outer.items i.current i.begun i.ended c.enter.ensures.same c.enter.ensures.longer c.self.invariant)
+    kept_moved i.block_of.items i.block_of.items _ c.enter.new.ends.items i.outer.items c.reserve.new.self.items i.current i.begun i.ended refl refl c.reserve.ensures.items
+    (kept_entered i.block_of.items i.ends.items c.enter.new.ends.items i.outer.items i.current i.begun i.ended c.enter.ensures.same c.enter.ensures.longer c.self.invariant)
 
 pub invariant_of-self-in_err-push : goal.invariant_of-self-in_err-push
 invariant_of-self-in_err-push c =
     let i = c.self.inside in
-    kept_moved i.block_of c.push.new.self _ c.enter.new.ends.items i.outer.items c.reserve.new.self.items i.current i.begun i.ended c.in_err-push.ensures.err refl c.reserve.ensures.items
-    (kept_entered i.block_of i.ends.items c.enter.new.ends.items i.outer.items i.current i.begun i.ended c.enter.ensures.same c.enter.ensures.longer c.self.invariant)
+    kept_moved i.block_of.items c.push.new.self.items _ c.enter.new.ends.items i.outer.items c.reserve.new.self.items i.current i.begun i.ended c.in_err-push.ensures.items refl c.reserve.ensures.items
+    (kept_entered i.block_of.items i.ends.items c.enter.new.ends.items i.outer.items i.current i.begun i.ended c.enter.ensures.same c.enter.ensures.longer c.self.invariant)
 
 pub overflow_add-self : goal.overflow_add-self
 overflow_add-self c =
     let i = c.self.inside in
-    omega (arith, count_within opens i.ends.items i.block_of i.begun c.self.invariant.begun_is, c.in_ok-push.ensures.few, ap length c.in_ok-push.ensures.ok, length-append i.block_of (c.len-block.result ∷ []))
+    omega (arith, count_within opens i.ends.items i.block_of.items i.begun c.self.invariant.begun_is, i.block_of.ok.0, c.in_ok-push.ensures.len)
 
 pub invariant_of-self-2 : goal.invariant_of-self-2
 invariant_of-self-2 c =
     let i = c.self.inside in
     let ends = c.enter.new.ends in
     let next : c.len-block.result ≡ length ends.items = omega (arith, c.len-block.ensures, ends.ok.0) in
-    let kept = kept_entered i.block_of i.ends.items ends.items i.outer.items i.current i.begun i.ended c.enter.ensures.same c.enter.ensures.longer c.self.invariant in
+    let kept = kept_entered i.block_of.items i.ends.items ends.items i.outer.items i.current i.begun i.ended c.enter.ensures.same c.enter.ensures.longer c.self.invariant in
     let outer = pushed c.push-2.result c.unwrap.result c.push-2.new.self.items (c.reserve.new.self.items ++ i.current ∷ []) c.reserve.new.self.items c.unwrap.ensures c.push-2.ensures.items ∙ ap (λ w. w ++ i.current ∷ []) c.reserve.ensures.items in
-    kept_moved _ c.push.new.self _ ends.items _ c.push-2.new.self.items c.len-block.result _ i.ended c.in_ok-push.ensures.ok refl outer
-    (kept_begun i.block_of ends.items i.outer.items i.current c.len-block.result i.begun i.ended c.in_ok-enter.ensures.ok next kept)
+    kept_moved _ c.push.new.self.items _ ends.items _ c.push-2.new.self.items c.len-block.result _ i.ended c.in_ok-push.ensures.items refl outer
+    (kept_begun i.block_of.items ends.items i.outer.items i.current c.len-block.result i.begun i.ended c.in_ok-enter.ensures.ok next kept)
 
 pub returns-clause-ok : goal.returns-clause-ok
 returns-clause-ok c =
     let i = c.self.inside in
     let ends = c.enter.new.ends in
     let next : c.len-block.result ≡ length ends.items = omega (arith, c.len-block.ensures, ends.ok.0) in
-    let kept = kept_entered i.block_of i.ends.items ends.items i.outer.items i.current i.begun i.ended c.enter.ensures.same c.enter.ensures.longer c.self.invariant in
-    ap (marks_from ends.items 0 0) c.in_ok-push.ensures.ok ∙ begun_marks i.block_of ends.items i.outer.items i.current c.len-block.result (marks_from ends.items 0 0 i.block_of) c.in_ok-enter.ensures.ok next kept.are_blocks
-    ∙ ap (λ marks. marks ++ Opens ∷ []) (entered_marks i.ends.items ends.items i.block_of c.enter.ensures.same ∙ c.self.view_is)
+    let kept = kept_entered i.block_of.items i.ends.items ends.items i.outer.items i.current i.begun i.ended c.enter.ensures.same c.enter.ensures.longer c.self.invariant in
+    ap (marks_from ends.items 0 0) c.in_ok-push.ensures.items ∙ begun_marks i.block_of.items ends.items i.outer.items i.current c.len-block.result (marks_from ends.items 0 0 i.block_of.items) c.in_ok-enter.ensures.ok next kept.are_blocks
+    ∙ ap (λ marks. marks ++ Opens ∷ []) (entered_marks i.ends.items ends.items i.block_of.items c.enter.ensures.same ∙ c.self.view_is)

@@ -1,24 +1,28 @@
 use Rattle.std.proofs.Common.{◌<◌, ◌+◌, length, sym, ◌∙◌, ap, arith, slice_range}
-use Rattle.std.proofs.lemmas.List.{get_or_default}
 use Rattle.mm_frame.specs.Code.BlockMarks.{stays_by}
 use Rattle.mm_frame.specs.Code.BlockEnds.{end_of_block}
 use Rattle.mm_frame.proofs.lemmas.scope.BlockLemmas.{items_within, is_active_open, is_active_ended}
 use Rattle.mm_frame.proofs.blocks.Blocks.is_active.Goals as goal
 
+pub index-requires : goal.index-requires
+index-requires c =
+    let inside = c.self.inside in
+    omega (arith, inside.block_of.ok.0, items_within inside.ends.items inside.block_of.items c.args.self.now c.args.at c.self.view_is c.requires.within)
+
 pub returns-in-None : goal.returns-in-None
 returns-in-None c =
     let inside = c.self.inside in
-    let block = c.at.result in
-    let in_range : c.args.from < length inside.block_of = omega (arith, items_within inside.ends.items inside.block_of c.args.self.now c.args.at c.self.view_is c.requires.within) in
-    sym (ap (λ marks. stays_by (slice_range marks (c.args.from + 1) c.args.at)) (sym c.self.view_is) ∙ is_active_open inside.block_of
-    inside.ends.items inside.outer.items inside.current inside.begun inside.ended c.args.from c.args.at block c.self.invariant in_range (c.at.ensures ∙ get_or_default inside.block_of c.args.from 0 block in_range)
+    let block = c.index.result.now in
+    let in_range : c.args.from < length inside.block_of.items = omega (arith, items_within inside.ends.items inside.block_of.items c.args.self.now c.args.at c.self.view_is c.requires.within) in
+    sym (ap (λ marks. stays_by (slice_range marks (c.args.from + 1) c.args.at)) (sym c.self.view_is) ∙ is_active_open inside.block_of.items
+    inside.ends.items inside.outer.items inside.current inside.begun inside.ended c.args.from c.args.at block c.self.invariant in_range c.index.ensures
     (ap (λ ends. end_of_block ends block) (sym c.deref.ensures.value) ∙ sym c.end_of_block.ensures ∙ c.in-None.is))
 
 pub returns-in-Some : goal.returns-in-Some
 returns-in-Some c =
     let inside = c.self.inside in
-    let block = c.at.result in
-    let in_range : c.args.from < length inside.block_of = omega (arith, items_within inside.ends.items inside.block_of c.args.self.now c.args.at c.self.view_is c.requires.within) in
+    let block = c.index.result.now in
+    let in_range : c.args.from < length inside.block_of.items = omega (arith, items_within inside.ends.items inside.block_of.items c.args.self.now c.args.at c.self.view_is c.requires.within) in
     let ended_block = ap (λ ends. end_of_block ends block) (sym c.deref.ensures.value) ∙ sym c.end_of_block.ensures ∙ c.in-Some.is in
     sym (ap (λ marks. stays_by (slice_range marks (c.args.from + 1) c.args.at)) (sym c.self.view_is)
-    ∙ is_active_ended inside.block_of inside.ends.items inside.outer.items inside.current inside.begun inside.ended c.args.from c.args.at block c.in-Some.end c.self.invariant c.requires.earlier in_range (c.at.ensures ∙ get_or_default inside.block_of c.args.from 0 block in_range) ended_block)
+    ∙ is_active_ended inside.block_of.items inside.ends.items inside.outer.items inside.current inside.begun inside.ended c.args.from c.args.at block c.in-Some.end c.self.invariant c.requires.earlier in_range c.index.ensures ended_block)

@@ -6,7 +6,7 @@ use Rattle.mm_frame.proofs.blocks.Blocks.is_active_now.Goals as goal
 pub is_active-requires-clause-within : goal.is_active-requires-clause-within
 is_active-requires-clause-within c =
     let inside = c.self.inside in
-    omega (arith, c.len-else-from-len.ensures, marks_count inside.ends.items inside.block_of c.args.self.now c.self.view_is)
+    omega (arith, c.len-else-from-len.ensures, inside.block_of.ok.0, marks_count inside.ends.items inside.block_of.items c.args.self.now c.self.view_is)
 
 pub returns-then-from-len : goal.returns-then-from-len
 returns-then-from-len c =
@@ -16,7 +16,8 @@ returns-then-from-len c =
       arith,
       c.if-from-len.true,
       c.len.ensures,
-      marks_count inside.ends.items inside.block_of c.args.self.now
+      inside.block_of.ok.0,
+      marks_count inside.ends.items inside.block_of.items c.args.self.now
           c.self.view_is,
     )))
 
@@ -27,6 +28,7 @@ returns-else-from-len c =
     (omega (
       arith,
       c.len-else-from-len.ensures,
-      marks_count inside.ends.items inside.block_of c.args.self.now
+      inside.block_of.ok.0,
+      marks_count inside.ends.items inside.block_of.items c.args.self.now
           c.self.view_is,
     )))

@@ -7,11 +7,11 @@ use Rattle.mm_frame.proofs.blocks.Blocks.pass.Goals as goal
 pub invariant_of-self-2 : goal.invariant_of-self-2
 invariant_of-self-2 c =
     let i = c.self.inside in
-    kept_moved _ c.push.new.self i.ends.items i.ends.items i.outer.items i.outer.items i.current i.begun i.ended c.in_ok-push.ensures.ok refl refl
-    (kept_passed i.block_of i.ends.items i.outer.items i.current i.begun i.ended c.self.invariant)
+    kept_moved _ c.push.new.self.items i.ends.items i.ends.items i.outer.items i.outer.items i.current i.begun i.ended c.in_ok-push.ensures.items refl refl
+    (kept_passed i.block_of.items i.ends.items i.outer.items i.current i.begun i.ended c.self.invariant)
 
 pub returns-clause-ok : goal.returns-clause-ok
 returns-clause-ok c =
     let i = c.self.inside in
-    ap (marks_from i.ends.items 0 0) c.in_ok-push.ensures.ok ∙ passed_marks i.block_of i.ends.items i.outer.items i.current
-    (marks_from i.ends.items 0 0 i.block_of) c.self.invariant.are_blocks ∙ ap (λ marks. marks ++ Neither ∷ []) c.self.view_is
+    ap (marks_from i.ends.items 0 0) c.in_ok-push.ensures.items ∙ passed_marks i.block_of.items i.ends.items i.outer.items i.current
+    (marks_from i.ends.items 0 0 i.block_of.items) c.self.invariant.are_blocks ∙ ap (λ marks. marks ++ Neither ∷ []) c.self.view_is
