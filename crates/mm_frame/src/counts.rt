@@ -17,7 +17,7 @@ const MOST_NARROW: usize = 4_294_967_295;
 pub struct Counts {
     /// The counts before the first one that does not fit.
     narrow: Vec<u32>,
-    /// That one, and all behind it.
+    /// That one, and all after it.
     wide: Vec<usize>,
 }
 
@@ -36,7 +36,7 @@ impl Model for Counts {
 pub struct Part {
     /// The place of its first element.
     pub start: usize,
-    /// The place behind its last one.
+    /// The place after its last one.
     pub end: usize,
 }
 
@@ -70,14 +70,14 @@ impl Counts {
         self.wide.get(number - self.narrow.len()).copied()
     }
 
-    /// The count with this number: 0 where there is none.
+    /// The count with this number: 0 if there is none.
     pub fn at(&self, number: usize) -> usize
         ensures { result ≡ slice_index_or self.now number 0 }
     {
         self.get(number).unwrap_or(0)
     }
 
-    /// The part with this number, where these are the ends of parts one behind another.
+    /// The part with this number, if these are the ends of parts one after another.
     #[inline(always)]
     pub fn part(&self, number: usize) -> Part
         ensures start { result.start ≡ start_at 0 self.now number }
@@ -97,7 +97,7 @@ impl Counts {
         }
     }
 
-    /// The same, be its end among those that fit or not.
+    /// The part with this number, whether its end is among those that fit or not.
     #[inline(never)]
     fn far_part(&self, number: usize) -> Part
         ensures start { result.start ≡ start_at 0 self.now number }
@@ -123,7 +123,7 @@ impl Counts {
         self.push_wide(count)
     }
 
-    /// Adds a count to those that have full width, where it does not fit, or one before it does not.
+    /// Adds a count to those that have full width, if it does not fit, or one before it does not.
     #[inline(never)]
     fn push_wide(&mut self, count: usize) -> Result<(), AllocError>
         ensures ok { OnOk result (self.new ≡ self.old ++ count ∷ []) }

@@ -4,10 +4,10 @@ use crate::symbol::NumberedSymbol;
 use std::alloc::{AllocError, Global};
 
 /// The most guesses: about as many as the largest databases have different expressions. They find 97 of 100 symbols that
-/// stood in an earlier item.
+/// occurred in an earlier item.
 const MOST_GUESSES: usize = 65_536;
 
-/// Numbers of lists of symbols, each kept at a place that the symbols of its list tell; another list may tell the same one.
+/// Numbers of lists of symbols, each kept at a place that the symbols of its list give; another list may give the same place.
 ///
 /// What is guessed is compared, so that no answer depends on it.
 #[derive(Drop)]
@@ -16,7 +16,7 @@ pub struct ListGuesses {
 }
 
 impl ListGuesses {
-    /// A guess for each of so many items, but not more than the most.
+    /// A guess for each of this many items, but not more than the most.
     pub fn with_room(alloc: Global, count: usize) -> Result<ListGuesses, AllocError> {
         let places = count.min(MOST_GUESSES);
         let mut numbers = Vec::with_capacity(alloc, places)?;

@@ -365,8 +365,8 @@ pub fn same_proof(files: &Files, one: &Item, other: &Item) -> bool
     same_words(words_of_proof(files, one), words_of_proof(files, other))
 }
 
-/// Whether these bytes stand one after another somewhere among those of an item. Where they do not, no word of its proof is
-/// spelled so. The words are not looked for. It takes no memory.
+/// Whether these bytes occur one after another somewhere in those of an item. If they do not, no word of its proof is
+/// spelled like this. The words are not looked for. It takes no memory.
 pub fn has_bytes(files: &Files, item: &Item, bytes: &[u8]) -> bool
     requires { CanBeRead files.now item.now }
     ensures found { IsTrue result ↔ HasBytes files.now item.now bytes.now }

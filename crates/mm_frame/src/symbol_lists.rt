@@ -1,4 +1,4 @@
-//! Lists of symbols, one behind another in one list.
+//! Lists of symbols, one after another in one list.
 
 ghost use Rattle.std.specs.Prelude.{◌≡◌, ◌≤◌, List, [], ◌∷◌, ◌++◌, IfOk, IsTrue, OnErr, OnOk, Some, length, slice_get, slice_range};
 ghost use Rattle.mm_frame.specs.Code.KeptSymbols.{expression_kept};

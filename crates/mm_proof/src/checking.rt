@@ -193,7 +193,7 @@ fn run_steps(
     run_all(alloc, &mut *scratch, used, proof)
 }
 
-/// What a check says of a proof that decodes, and how many steps are done. Marks tell which labels its steps name.
+/// What a check says of a proof that decodes, and how many steps are done. Marks say which labels its steps name.
 fn judge_steps(
     alloc: Global,
     scratch: &mut Scratch,

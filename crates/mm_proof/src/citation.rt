@@ -38,8 +38,8 @@ fn have_same_typecode<S: Kept>(a: &[S], b: &[S]) -> bool
     a[0].same(&b[0])
 }
 
-/// Compares the typecode of each `$f` with that of its entry, and notes for each variable where its `$f` stands. Answers
-/// where the first `$e` stands, or nothing where an entry has another typecode.
+/// Compares the typecode of each `$f` with that of its entry, and notes for each variable where its `$f` is. Answers
+/// where the first `$e` is, or nothing if an entry has another typecode.
 pub fn take_floats<'a, S: Kept>(
     symbols: &[S],
     entries: &[Entry],
@@ -83,7 +83,7 @@ fn is_other_essential<'s, 'a, S: Kept>(
     !hypothesis.floating && !fits(&*taken, hypothesis.expression, entry)
 }
 
-/// Whether each entry of a `$e` is the `$e` under the substitution. No `$e` stands before the first.
+/// Whether each entry of a `$e` is the `$e` under the substitution. No `$e` comes before the place `first`.
 fn essentials_fit<'s, 'a, S: Kept>(taken: &Taken<'s, 'a, S>, first: usize) -> bool
     requires within { All (IsEntryWithin (length taken.now.symbols.now)) taken.now.entries.now }
     requires count { length taken.now.entries.now ≡ length taken.now.hypotheses.now }
@@ -103,8 +103,8 @@ fn essentials_fit<'s, 'a, S: Kept>(taken: &Taken<'s, 'a, S>, first: usize) -> bo
     true
 }
 
-/// What is wrong where an assertion is cited that has its entries, and those of its `$f` have their typecodes: the lowest
-/// number that holds. No `$e` stands before the first.
+/// What is wrong when an assertion is cited that has its entries, and those of its `$f` have their typecodes: the lowest
+/// number that holds. No `$e` comes before the place `first`.
 pub fn citing_fault<'s, 'a, S: Kept>(
     alloc: Global,
     taken: &Taken<'s, 'a, S>,

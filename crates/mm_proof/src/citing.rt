@@ -85,7 +85,7 @@ fn cite(
 }
 
 /// The numbers of the words that cite: those of the labels from entry `skip` on, the first of which is word `from`.
-/// Each assertion that the labels in use name is told once, by the first word that is its label. There is room for so many
+/// Each assertion that the labels in use name is given once, by the first word that is its label. There is room for this many
 /// words from the beginning.
 fn cited(
     alloc: Global,

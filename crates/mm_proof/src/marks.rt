@@ -18,7 +18,7 @@ use std::marker::Model;
 
 /// What stays of an item: the number of the sound item of the old base that has its label, whether both have the same
 /// frame, whether they are the same hypothesis, whether both have the same active pairs, and whether every label that is
-/// not told to be changed means the same at both.
+/// not listed as changed means the same at both.
 #[derive(Clone, Copy)]
 struct Mark {
     old: Option<u32>,
@@ -42,7 +42,7 @@ const NO_MARK: Mark = Mark {
 #[derive(Drop)]
 pub struct Marks {
     marks: Vec<Mark>,
-    /// The items of the new base whose labels are told to be changed.
+    /// The items of the new base whose labels are listed as changed.
     changed: Vec<usize>,
 }
 
@@ -261,9 +261,9 @@ struct Step {
     /// The two theorems that were compared last.
     last: Option<Compared>,
     /// Whether each labelled item so far has the label of the one of the old base with its ordinal, and means the same but
-    /// where it is told to be changed.
+    /// if it is listed as changed.
     in_step: bool,
-    /// Whether the item before is to be told so.
+    /// Whether the item before is to be listed as changed.
     changed: bool,
     /// The item of the old base that is tried first.
     expected: usize,
@@ -277,7 +277,7 @@ const FIRST_STEP: Step = Step {
     expected: 0,
 };
 
-/// The mark of an item, beside those of the items before it, of which these are told to be changed; and what is known before
+/// The mark of an item, by those of the items before it, of which these are listed as changed; and what is known before
 /// the next one is marked.
 fn marked(
     old: &Base,
@@ -390,7 +390,7 @@ impl Marks {
         }
     }
 
-    /// Whether every label that is not told to be changed means the same at the item `j` of the new base as at the one of the
+    /// Whether every label that is not listed as changed means the same at the item `j` of the new base as at the one of the
     /// old base with its label.
     pub(crate) fn in_step(&self, j: usize) -> bool
         ensures { result ≡ (mark_at self.now j).in_step }
@@ -401,7 +401,7 @@ impl Marks {
         }
     }
 
-    /// The items of the new base whose labels are told to be changed, in order: a few at most.
+    /// The items of the new base whose labels are listed as changed, in order: a few at most.
     pub(crate) fn changed(&self) -> &[usize]
         ensures { result.now ≡ self.now.changed }
     {

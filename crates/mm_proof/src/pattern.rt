@@ -128,8 +128,8 @@ fn replacement_of<'s, 'a, S: Kept>(
     }
 }
 
-/// Puts an expression under the substitution behind other symbols, and hands these back. They are moved in and out, so
-/// that no other value has to be looked at when one more is put.
+/// Puts an expression under the substitution after other symbols, and returns them. They are moved in and out, so
+/// that their length and address stay in registers.
 pub fn substitute<'s, 'a, S: Kept>(
     alloc: Global,
     taken: &Taken<'s, 'a, S>,

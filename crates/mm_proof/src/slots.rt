@@ -33,7 +33,7 @@ fn is_float_of<'a, S: Kept>(hypothesis: &Hypothesis<'a, S>, variable: &S) -> boo
     hypothesis.expression[1].same(variable)
 }
 
-/// Notes for the variable of a `$f` where it stands. What is found by it is compared, so that no answer depends on it.
+/// Notes for the variable of a `$f` where it is. What is found by it is compared, so no answer depends on it.
 pub fn note_place<S: Kept>(typing: &[S], place: usize, places: &mut [usize]) {
     if typing.len() > 1 {
         let at = home(typing[1].key(), places.len());

@@ -203,7 +203,7 @@ fn same_but_active(two: TwoTheorems) -> bool
     }
 }
 
-/// Whether the marks tell that the items have one label, and that every label that is not told to be changed means the same
+/// Whether the marks say that the items have one label, and that every label that is not listed as changed means the same
 /// at both.
 fn is_in_step(marks: &Marks, i: usize, j: usize) -> bool
     ensures { IsTrue result ↔ ((mark_at marks.now j).old ≡ Some i) × ((mark_at marks.now j).in_step ≡ true) }
@@ -211,7 +211,7 @@ fn is_in_step(marks: &Marks, i: usize, j: usize) -> bool
     is_marked(marks, i, j) && marks.in_step(j)
 }
 
-/// Whether the item `m` of the new base stands before the theorem, and its label stands among the bytes of this item.
+/// Whether the item `m` of the new base comes before the theorem, and its label is among the bytes of this item.
 fn may_name(two: TwoTheorems, m: usize, files: &Files, item: &Item) -> bool
     requires { CanBeRead files.now item.now }
     ensures { (said : meant.Item) → Says files.now item.now said → IsFalse result → IsUnnamed two.entry said.proof m }
@@ -223,7 +223,7 @@ fn may_name(two: TwoTheorems, m: usize, files: &Files, item: &Item) -> bool
         }
 }
 
-/// Whether the label of one of these items may be named so.
+/// Whether the label of one of these items may be named in this way.
 fn may_name_any(two: TwoTheorems, changed: &[usize], files: &Files, item: &Item) -> bool
     requires { CanBeRead files.now item.now }
     ensures { (said : meant.Item) → Says files.now item.now said → IsFalse result → AreUnnamed two.entry said.proof changed.now (length changed.now) }
@@ -236,8 +236,8 @@ fn may_name_any(two: TwoTheorems, changed: &[usize], files: &Files, item: &Item)
     false
 }
 
-/// Whether the marks tell that the items have one label, and that every label that the proof of this item names means the
-/// same at both. Its bytes are searched for each label that is told to be changed.
+/// Whether the marks say that the items have one label, and that every label that the proof of this item names means the
+/// same at both. Its bytes are searched for each label that is listed as changed.
 fn are_kept(two: TwoTheorems, marks: &Marks, files: &Files, item: &Item) -> bool
     requires { CanBeRead files.now item.now }
     ensures { (said : meant.Item) → Says files.now item.now said → IsTrue result → OfTwo two.entry (λ base copy. AreMarks base copy marks.now
@@ -246,7 +246,7 @@ fn are_kept(two: TwoTheorems, marks: &Marks, files: &Files, item: &Item) -> bool
     is_in_step(marks, two.i, two.j) && !may_name_any(two, marks.changed(), files, item)
 }
 
-/// Whether the labels that the proof of this item names mean the same at both. No word is read where the marks tell that they
+/// Whether the labels that the proof of this item names mean the same at both. No word is read if the marks say that they
 /// do.
 fn same_labels(two: TwoTheorems, files: &Files, item: &Item) -> bool
     requires read { CanBeRead files.now item.now }
@@ -301,8 +301,8 @@ pub fn same_view(names: &Names, files: &Files, one: &Base, i: usize, other: &Bas
 }
 
 /// Answers what [`same_view`] does, by the marks of the two bases: no frame is compared, and each label that the proof
-/// names is looked up once. None is where the bases are in step up to the two, but for a few changed labels, and none of
-/// these stands among the bytes of the theorem. It takes no memory.
+/// names is looked up once. None is if the bases are in step up to the two, except for a few changed labels, and none of
+/// these labels is among the bytes of the theorem. It takes no memory.
 pub fn same_view_by(
     names: &Names,
     files: &Files,

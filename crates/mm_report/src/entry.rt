@@ -52,7 +52,7 @@ pub(crate) enum CommandAt {
 #[derive(Drop)]
 pub(crate) struct Complete<T: Drop> {
     pub(crate) found: T,
-    /// The byte behind it.
+    /// The byte after it.
     pub(crate) end: usize,
     /// Whether the line feed is there that ends it; else the script ends with it.
     pub(crate) fed: bool,

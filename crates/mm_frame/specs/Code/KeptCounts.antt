@@ -1,4 +1,4 @@
--- Counts as the code keeps them: those that fit into half the room, and all behind the first that does not.
+-- Counts as the code keeps them: those that fit into half the room, and all from the first that does not.
 use Rattle.std.specs.Prelude.{ℕ, List, ◌++◌}
 use Rattle.mm_frame.specs.declared.counts.Counts.TheInside.{Inside}
 

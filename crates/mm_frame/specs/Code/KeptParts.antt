@@ -1,4 +1,4 @@
--- The parts of one list, one behind another, by where they end.
+-- The parts of one list, one after another, by where they end.
 use Rattle.std.specs.Prelude.{◌≡◌, ℕ, zero, suc, ◌≤◌, List, [], ◌∷◌, slice_range, slice_index_or}
 
 -- the parts of a list from one place on that end so

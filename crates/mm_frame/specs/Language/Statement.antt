@@ -73,7 +73,7 @@ pub record Says (files : FilesView) (item : store.Item) (said : Item) : Type 0 w
   pub read : CanBeRead files item
   pub is : said ≡ item_of (kind_of item.kind) (tokens_of (slice_range read.text item.start item.end) read.words)
 
--- these bytes stand one after another among those of the item
+-- these bytes occur one after another in those of the item
 pub record HasBytes (files : FilesView) (item : store.Item) (bytes : List ℕ) : Type 0 where
   pub read : CanBeRead files item
   pub start : ℕ

@@ -62,7 +62,7 @@ pub record AreLevel (base copy : BaseView) (i j : ℕ) : Type 0 where
   pub one_label : HaveOneLabel base copy i j
   pub ordinal_is : ordinal base i ≡ ordinal copy j
 
--- the item is told to be changed
+-- the item is listed as changed
 abbrev pub IsTold : List ℕ → ℕ → Type 0
 IsTold changed j = (place : ℕ) × (slice_get changed place ≡ Some j)
 
@@ -70,7 +70,7 @@ IsTold changed j = (place : ℕ) × (slice_get changed place ≡ Some j)
 abbrev pub HasLevel : BaseView → BaseView → ℕ → Type 0
 HasLevel base copy j = is_shown_at copy j ≡ true → (i : ℕ) × AreLevel base copy i j
 
--- and both mean the same, but where this is told to be changed
+-- and both mean the same, unless the item is listed as changed
 abbrev pub HasAlike : BaseView → BaseView → List ℕ → ℕ → Type 0
 HasAlike base copy changed j = is_shown_at copy j ≡ true → (i : ℕ) × AreLevel base copy i j × (IsTold changed j ⊎ MeanOne base copy i j)
 
@@ -78,11 +78,11 @@ HasAlike base copy changed j = is_shown_at copy j ≡ true → (i : ℕ) × AreL
 abbrev pub AreInStep : BaseView → BaseView → List ℕ → ℕ → Type 0
 AreInStep base copy changed j = (m : ℕ) → m < j → HasAlike base copy changed m
 
--- what is told to be changed behind item j
+-- what is listed as changed after item j
 abbrev pub changed_behind : List ℕ → ℕ → Bool → List ℕ
 changed_behind changed j here = if here then changed ++ j ∷ [] else changed
 
--- what is known of the items before item j, where these are told to be changed
+-- what is known of the items before item j, if these are listed as changed
 pub record IsStepAt (old new : Base) (changed : List ℕ) (j : ℕ) (step : Step) : Type 0 where
   pub last : IsCompared old new step.last
   pub in_step : step.in_step ≡ true → OfBases old new (λ base copy. AreInStep base copy changed j)

@@ -45,7 +45,7 @@ LeavesLabels two labels left = OfTwo two (λ base copy. AllByRecursion (MeansSam
 abbrev pub TellsShared : TwoTheorems → (BaseView → BaseView → ℕ → ℕ → Type 0) → Bool → Type 0
 TellsShared two shared told = OfTwo two (λ base copy. AreTheorems base copy two.i two.j → IsTrue told ↔ shared base copy two.i two.j)
 
--- where item m of the new base stands before the theorem, none of these words is its label
+-- if item m of the new base comes before the theorem, none of these words is its label
 abbrev pub IsUnnamed : TwoTheorems → List (List ℕ) → ℕ → Type 0
 IsUnnamed two words m = (copy : BaseView) → IsBase copy two.new.now → m < two.j → (label : List ℕ) → (said_at copy m).label ≡ Some label
     → AllByRecursion (λ word. word ≢ label) words

@@ -14,7 +14,7 @@ pub record ItemMark : Type 0 where
   pub pairs : Bool
   pub in_step : Bool
 
--- What is reported of two bases: a mark for each item of the new one; and the items of the new one whose labels are told to be changed.
+-- What is reported of two bases: a mark for each item of the new one; and the items of the new one whose labels are listed as changed.
 pub record MarksView : Type 0 where
   pub items : List ItemMark
   pub changed : List ℕ
@@ -50,7 +50,7 @@ pub record KeepsPairs (old new : BaseView) (j : ℕ) : Type 0 where
   pub is : is_proof_at new j ≡ true
   pub same : AreSamePairs (active_pairs (before old i)) (active_pairs (before new j))
 
--- the label is that of an item of the new base before item j that is told to be changed
+-- the label is that of an item of the new base before item j that is listed as changed
 pub record IsToldChanged (new : BaseView) (changed : List ℕ) (j : ℕ) (label : List ℕ) : Type 0 where
   pub m : ℕ
   pub place : ℕ
@@ -58,7 +58,7 @@ pub record IsToldChanged (new : BaseView) (changed : List ℕ) (j : ℕ) (label 
   pub earlier : m < j
   pub label_is : (said_at new m).label ≡ Some label
 
--- every label that is not told to be changed means the same at it and at the sound item of the old base that has its label
+-- every label that is not listed as changed means the same at it and at the sound item of the old base that has its label
 abbrev pub KeepsLabels : BaseView → BaseView → List ℕ → ℕ → Type 0
 KeepsLabels old new changed j = (i : ℕ) → HaveOneLabel old new i j → (label : List ℕ) → ¬ IsToldChanged new changed j label
     → IsSameLabel (setting_at old i) (setting_at new j) label

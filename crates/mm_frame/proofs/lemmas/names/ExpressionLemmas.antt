@@ -30,7 +30,7 @@ cut_there symbols from (end ∷ ends) zero l = refl
 cut_there symbols from (end ∷ ends) (suc zero) l = cut_there symbols end ends zero (omega arith)
 cut_there symbols from (end ∷ ends) (suc (suc n)) l = cut_there symbols end ends (suc n) (omega arith)
 
--- an end that is not 0 is there, and none is behind the last one
+-- an end that is not 0 is there, and none comes after the last one
 pub end_there : (ends : List ℕ) (n : ℕ) → 0 < get_or ends n 0 → n < length ends
 end_there [] n l = absurd (omega arith)
 end_there (x ∷ ends) zero l = omega arith

@@ -32,7 +32,7 @@ there lists n l = let g = slice_get-get_or lists n [] l in g ∙ ap (λ o. Some 
 pub list_there : (lists : List (List NumberedSymbol)) (n : ℕ) (symbols : List NumberedSymbol) → n < length lists → expression_kept lists n ≡ symbols → slice_get lists n ≡ Some symbols
 list_there lists n symbols l e = there lists n l ∙ ap Some e
 
--- the numbers tell the same symbols
+-- the numbers give the same symbols
 still_told : (old new : List (List NumberedSymbol)) (numbers : List ℕ) → KeepsLists old new → All (λ n. n < length old) numbers → map (expression_kept new) numbers ≡ map (expression_kept old) numbers
 still_told old new [] k a = refl
 still_told old new (n ∷ numbers) k a =

@@ -1,4 +1,4 @@
--- Bytes that stand among others, and words that are spelled by bytes of a text.
+-- Bytes that occur in others, and words that are spelled by bytes of a text.
 use Rattle.std.proofs.Common.{◌≡◌, ℕ, ◌+◌, ◌-◌, Option, Some, None, List, [], ◌∷◌, length, map, take, drop, refl, sym, ◌∙◌, ap, subst, arith, slice_range, length-take, length-drop, get_or, get_or-take, get_or-drop}
 use Rattle.std.specs.Prelude.{◌≢◌, ◌↔◌, IsTrue, is_some}
 use Rattle.std.specs.List.{AllByRecursion}
@@ -12,11 +12,11 @@ use Rattle.mm_frame.specs.Language.Statement.{symbols_from, symbols_in, item_of}
 use Rattle.mm_frame.specs.Code.PlainWords.{plain_words, word_bytes}
 use Rattle.mm_frame.proofs.lemmas.reading.SpokenLemmas.{names_from}
 
--- where a search finds bytes, they stand
+-- where a search finds bytes, they occur
 found_stand : (text bytes : List ℕ) (k : ℕ) → OccursAt text bytes k → slice_range text k (k + length bytes) ≡ bytes
 found_stand text bytes k h = let count : k + length bytes - k ≡ length bytes = omega arith in ap (λ n. take n (drop k text)) count ∙ OccursAt-part text bytes k h
 
--- where they stand, a search can find them
+-- where they occur, a search can find them
 stand_found : (text bytes : List ℕ) (from to : ℕ) → slice_range text from to ≡ bytes → (k : ℕ) × OccursAt text bytes k
 stand_found text [] from to e = (0, record { fits = omega arith; reads = λ j l. absurd (omega (arith, l)) })
 stand_found text (x ∷ xs) from to e =
@@ -30,11 +30,11 @@ stand_found text (x ∷ xs) from to e =
       },
     )
 
--- the bytes stand somewhere
+-- the bytes occur somewhere
 abbrev pub Stand : List ℕ → List ℕ → Type 0
 Stand text bytes = (from : ℕ) × (to : ℕ) × (slice_range text from to ≡ bytes)
 
--- a search tells whether they do
+-- a search says whether they do
 pub search_tells : (text bytes : List ℕ) (r : Option ℕ) → FindsNeedle text bytes 0 r → IsTrue (is_some r) ↔ Stand text bytes
 search_tells text bytes (Some k) h = (λ t. (k, k + length bytes, found_stand text bytes k h.1), λ s. refl)
 search_tells text bytes None h = (
@@ -42,7 +42,7 @@ search_tells text bytes None h = (
   λ s. let found = stand_found text bytes s.0 s.1 s.2 in let fits = found.1.fits in absurd (h found.0 (omega arith) (omega (arith, fits)) found.1),
 )
 
--- bytes that stand nowhere in a text spell none of its words
+-- bytes that occur nowhere in a text spell none of its words
 no_word : (text bytes : List ℕ) (words : List Word) → (Stand text bytes → ⊥) → AllByRecursion (λ word. word ≢ bytes) (map (word_bytes text) words)
 no_word text bytes [] none = tt
 no_word text bytes (word ∷ words) none = (λ e. none (word.start, word.end, e), no_word text bytes words none)

@@ -124,7 +124,7 @@ module _ (base copy : BaseView) (i j : ℕ) (was : is_shown_at base i ≡ true) 
   kept_means assertions label k m h g (inl s) = both_mean label (answers.Assertion k) (answers.Assertion m) (assertions base i k label h s.was) (assertions copy j m label g s.is) s.same
   kept_means assertions label k m h g (inr s) = ends_mean label k m s.end.mine s.end.yours h g s s.end.was s.end.is s.end.alike
 
-  -- every label that is not told to be changed
+  -- every label that is not listed as changed
   pub in_step_labels :
       frame.HasItemOrIsUnknown → frame.AssertionsMean → (changed : List ℕ) → AreInStep base copy changed j → (label : List ℕ) → ¬ IsToldChanged copy changed j label → IsSame label
   in_step_labels item assertions changed step label unchanged = by_item (item base i label) (item copy j label)
@@ -174,7 +174,7 @@ in_step_more base copy changed j front here m l = by_order (dec_lt m j)
 alike_here : (base copy : BaseView) (changed : List ℕ) (j : ℕ) → HasLevel base copy j → ((i : ℕ) → HaveOneLabel base copy i j → MeanOne base copy i j) → HasAlike base copy changed j
 alike_here base copy changed j level same shown = let found = level shown in let both = found.1 in (found.0, both, inr (same found.0 both.one_label))
 
--- one more is told to be changed
+-- one more item is listed as changed
 got_end : (xs : List ℕ) (y : ℕ) → slice_get (xs ++ y ∷ []) (length xs) ≡ Some y
 got_end [] y = refl
 got_end (x ∷ xs) y = got_end xs y
@@ -191,7 +191,7 @@ in_step_changed base copy changed j front level =
     in_step_more base copy (changed ++ j ∷ []) j (λ m l. told_more base copy changed j m (front m l))
     (λ shown. (let found = level shown in (found.0, found.1, inl (length changed, got_end changed j))))
 
--- what is in step behind an item: one that is told to be changed, or one that means the same
+-- what is in step after an item: one that is listed as changed, or one that means the same
 pub in_step_behind :
     (base copy : BaseView) (changed : List ℕ) (j : ℕ) (here placed alike next : Bool) → (here ≡ true → placed ≡ true) → (next ≡ true → (here ≡ true) ⊎ ((placed ≡ true) × (alike ≡ true))) →
     (placed ≡ true → AreInStep base copy changed j × HasLevel base copy j) → (alike ≡ true → (i : ℕ) → HaveOneLabel base copy i j → MeanOne base copy i j) → next ≡ true →

@@ -135,7 +135,7 @@ marked_more base copy n marks changed mark are is keeps = record {
     step_case j l (yes e) t = subst (KeepsLabels base copy changed) (sym e) (keeps (sym (ap (λ (m : ItemMark). m.in_step) (here j e)) ∙ t))
     step_case j l (no other) t = are.in_step j (omega (arith, l, other)) (sym (ap (λ (m : ItemMark). m.in_step) (front j l other)) ∙ t)
 
--- what is told first is told still where more is
+-- what is listed first is still listed if more is
 pub got_front : (xs ys : List ℕ) (n x : ℕ) → slice_get xs n ≡ Some x → slice_get (xs ++ ys) n ≡ Some x
 got_front [] ys n x e = absurd (none-some x e)
 got_front (y ∷ xs) ys zero x e = e

@@ -1,4 +1,4 @@
--- Words of a proof that are no label that is told to be changed.
+-- Words of a proof that are no label that is listed as changed.
 use Rattle.std.proofs.Common.{◌≡◌, ◌<◌, ℕ, zero, suc, Bool, true, false, cond, not, Some, List, [], ◌∷◌, length, take, drop, filter, bytes_eq, refl, arith}
 use Rattle.std.specs.Prelude.{◌≢◌, slice_get, codes}
 use Rattle.std.specs.List.{AllByRecursion, before_first, position_or_len}
@@ -39,7 +39,7 @@ pub all_with : (P Q : List ℕ → Type 0) → ((word : List ℕ) → P word →
 all_with P Q leads [] all = tt
 all_with P Q leads (word ∷ words) all = (leads word all.0, all_with P Q leads words all.1)
 
--- none of the words is a label that is told to be changed, where none is the label of such an item
+-- none of the words is a label that is listed as changed, if none is the label of such an item
 pub none_changed :
     (copy : BaseView) (changed : List ℕ) (j : ℕ) (words : List (List ℕ)) → ((label : List ℕ) → IsToldChanged copy changed j label → AllByRecursion (λ word. word ≢ label) words) →
     AllByRecursion (λ word. ¬ IsToldChanged copy changed j word) words

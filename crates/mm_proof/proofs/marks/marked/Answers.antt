@@ -25,7 +25,7 @@ returns-clause-labels c t names base copy f g i h label unchanged = elim c.if-st
   | else-step w ↦ absurd (false≢true (sym (w.placed-is ∙ w.if-step.false) ∙ t))
 ]
 
--- what is told to be changed has its place, and so has what is alike
+-- what is listed as changed has its place, and so has what is alike
 is_placed : (c : goal.After-next_expected) → c.if-not-alike.here ≡ true → c.if-step.placed ≡ true
 is_placed c e = elim c.if-not-alike.branch [
   | then-not-alike w ↦ elim c.if-placed-2.branch [

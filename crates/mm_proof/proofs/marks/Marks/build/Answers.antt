@@ -11,7 +11,7 @@ use Rattle.mm_proof.proofs.marks.Marks.build.Goals as goal
 pub marked-requires-clause-marks : goal.marked-requires-clause-marks
 marked-requires-clause-marks c = subst (AreHypothesisMarks c.args.old.now c.args.new.now) (sym c.deref.ensures.value) c.loop-j.invariant.kept
 
--- what is told to be changed behind the item
+-- what is listed as changed after the item
 told_behind : (c : goal.Joined-next) → c.if-next.changed.items ≡ changed_behind c.loop-j.changed.items c.loop-j.j c.marked.result.1.changed
 told_behind c = elim c.if-next.branch [
   | then-next+in_ok-push-2 w ↦ ap (λ v. v.items) w.changed-is ∙ w.in_ok-push-2.ensures.items ∙ ap (changed_behind c.loop-j.changed.items c.loop-j.j) (sym w.if-next.true)
