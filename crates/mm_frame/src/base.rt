@@ -1,6 +1,6 @@
 //! What the items of files mean, from a top file on.
 
-ghost use Rattle.std.specs.Prelude.{All, true, false, ◌≡◌, ◌<◌, ◌≤◌, ◌↔◌, ◌&&◌, is_none, is_some, Some, None, List, length, ℕ};
+ghost use Rattle.std.specs.Prelude.{All, true, false, ◌≡◌, ◌<◌, ◌≤◌, ◌↔◌, ◌&&◌, is_some, Some, None, List, length, ℕ};
 ghost use Rattle.std.specs.Prelude.{IfSome, IfOk, IfErr, IsErrOf, IsTrue, map, slice_get};
 ghost use Rattle.std.specs.Option.{option_map};
 ghost use Rattle.mm_store.specs.Language.FilesView.{files_in, number_of};

@@ -83,18 +83,18 @@ fn is_other_essential<'s, 'a, S: Kept>(
     !hypothesis.floating && !fits(&*taken, hypothesis.expression, entry)
 }
 
-/// Whether each entry of a `$e` is the `$e` under the substitution. No `$e` comes before the place `first`.
-fn essentials_fit<'s, 'a, S: Kept>(taken: &Taken<'s, 'a, S>, first: usize) -> bool
+/// Whether each entry of a `$e` is the `$e` under the substitution.
+fn essentials_fit<'s, 'a, S: Kept>(taken: &Taken<'s, 'a, S>) -> bool
     requires within { All (IsEntryWithin (length taken.now.symbols.now)) taken.now.entries.now }
     requires count { length taken.now.entries.now ≡ length taken.now.hypotheses.now }
     requires typed { AreAllTyped (hypotheses_of S.means taken.now.hypotheses.now) }
-    requires before { AreFloating (hypotheses_of S.means taken.now.hypotheses.now) first }
+    requires before { AreFloating (hypotheses_of S.means taken.now.hypotheses.now) taken.now.first }
     ensures { (given : Meaning → List Meaning) → GivesEntries given (hypotheses_of S.means taken.now.hypotheses.now) (entries_of S.means taken.now)
         → MatchBool result
         (AnyZip (OtherEssential given) (hypotheses_of S.means taken.now.hypotheses.now) (entries_of S.means taken.now) → ⊥)
         (AnyZip (OtherEssential given) (hypotheses_of S.means taken.now.hypotheses.now) (entries_of S.means taken.now)) }
 {
-    for place in first..taken.hypotheses.len() {
+    for place in taken.first..taken.hypotheses.len() {
         let entry = entry_at(taken.symbols, taken.entries, place);
         if is_other_essential(&*taken, &taken.hypotheses[place], entry) {
             return false;
@@ -104,11 +104,10 @@ fn essentials_fit<'s, 'a, S: Kept>(taken: &Taken<'s, 'a, S>, first: usize) -> bo
 }
 
 /// What is wrong when an assertion is cited that has its entries, and those of its `$f` have their typecodes: the lowest
-/// number that holds. No `$e` comes before the place `first`.
+/// number that holds.
 pub fn citing_fault<'s, 'a, S: Kept>(
     alloc: Global,
     taken: &Taken<'s, 'a, S>,
-    first: usize,
     expression: &'a [S],
     pairs: &[(S, S)],
     active: &Active<'a, S>,
@@ -118,11 +117,11 @@ pub fn citing_fault<'s, 'a, S: Kept>(
     requires count { length taken.now.entries.now ≡ length taken.now.hypotheses.now }
     requires frame { IsFrame (frame_from S.means taken.now.hypotheses.now expression.now pairs.now) }
     requires typecodes { AnyZip OtherTypecode (hypotheses_of S.means taken.now.hypotheses.now) (entries_of S.means taken.now) → ⊥ }
-    requires before { AreFloating (hypotheses_of S.means taken.now.hypotheses.now) first }
+    requires before { AreFloating (hypotheses_of S.means taken.now.hypotheses.now) taken.now.first }
     ensures { IfOk result (λ found. CitingSays (meant_pairs S.means active.now.pairs.now)
         (frame_from S.means taken.now.hypotheses.now expression.now pairs.now) (entries_of S.means taken.now) found) }
 {
-    if !essentials_fit(&*taken, first) {
+    if !essentials_fit(&*taken) {
         return Ok(Some(ProofNumber::P09));
     }
     if let Some(number) = pairs_fault(alloc, &*taken, &*pairs, &*active, &mut *room)? {

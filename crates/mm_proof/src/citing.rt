@@ -84,7 +84,16 @@ fn cite(
     Ok(())
 }
 
-/// The numbers of the words that cite: those of the labels from entry `skip` on, the first of which is word `from`.
+/// The first label that is a word of a proof.
+#[derive(Clone, Copy)]
+struct FirstLabel {
+    /// Its place in the proof's table.
+    place: usize,
+    /// The number of its word.
+    word: usize,
+}
+
+/// The numbers of the words that cite: those of the labels from the first on that is a word of the proof.
 /// Each assertion that the labels in use name is given once, by the first word that is its label. There is room for this many
 /// words from the beginning.
 fn cited(
@@ -92,17 +101,17 @@ fn cited(
     marks: &mut Vec<bool>,
     labels: &[Resolved],
     used: &[Resolved],
-    skip: usize,
-    from: usize,
+    first: FirstLabel,
     room: usize,
 ) -> Result<Vec<usize>, AllocError>
-    requires { from ≤ 1 }
-    ensures { IfOk result (λ words. words.items ≡ item_cites (is_listed used.now) from (drop skip labels.now)) }
+    requires { first.word ≤ 1 }
+    ensures { IfOk result (λ words. words.items ≡ item_cites (is_listed used.now) first.entry.word (drop first.entry.place labels.now)) }
 {
     named(&mut *marks, labels, used)?;
     let mut words = Vec::with_capacity(alloc, room)?;
-    for k in skip..labels.len() {
-        cite(&mut *marks, &mut words, labels[k], k - skip + from)?;
+    for k in first.place..labels.len() {
+        let word = k - first.place + first.word;
+        cite(&mut *marks, &mut words, labels[k], word)?;
     }
     Ok(words)
 }
@@ -126,9 +135,14 @@ pub fn cites_used(
     if is_compressed(proof) {
         // Most labels of a list are those of assertions that are cited.
         let room = labels.len().saturating_sub(mandatory);
-        cited(alloc, &mut *marks, labels, used, mandatory, 1, room)
+        let first = FirstLabel {
+            place: mandatory,
+            word: 1,
+        };
+        cited(alloc, &mut *marks, labels, used, first, room)
     } else {
-        cited(alloc, &mut *marks, labels, used, 0, 0, 0)
+        let first = FirstLabel { place: 0, word: 0 };
+        cited(alloc, &mut *marks, labels, used, first, 0)
     }
 }
 

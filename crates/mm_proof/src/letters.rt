@@ -133,7 +133,8 @@ impl LetterReader {
     fn new(room: MarkedSteps, labels: usize) -> Result<Self, AllocError>
         requires { labels < 2 ^ 63 }
         ensures labels { IfOk result (λ reader. reader.labels ≡ labels) }
-        ensures reads { IfOk result (λ reader. (aim : Aim) (ls : List Letter) → length aim.names ≡ labels → aim.total ≡ read_on aim.names aim.close 0 0 ls → ReadsLetters aim reader ls) }
+        ensures reads { IfOk result (λ reader. (aim : Aim) (ls : List Letter) → length aim.names ≡ labels
+            → aim.total ≡ read_on aim.names aim.close 0 0 ls → ReadsLetters aim reader ls) }
     {
         let mut steps = room.steps;
         steps.clear();
@@ -190,7 +191,8 @@ impl LetterReader {
     /// The steps, or the fault of digits that no letter follows.
     fn end(self, close: Spot) -> Result<MarkedSteps, Undecoded>
         ensures marks { IfOk result (λ read. AreMarks self.labels read.used.items read.steps.items) }
-        ensures ok { IfOk result (λ read. (aim : Aim) → aim.close ≡ close → ReadsLetters aim self [] → aim.total ≡ Ok (meant_steps aim.names read.steps.items)) }
+        ensures ok { IfOk result (λ read. (aim : Aim) → aim.close ≡ close → ReadsLetters aim self []
+            → aim.total ≡ Ok (meant_steps aim.names read.steps.items)) }
         ensures err { IfErr result (λ e. (aim : Aim) → aim.close ≡ close → ReadsLetters aim self [] → TellsSteps e aim.total) }
     {
         if self.digits == 0 {

@@ -218,12 +218,12 @@ impl<S: Kept> Machine<S> {
             symbols,
             entries,
             hypotheses,
+            first,
             places: &self.places,
         };
         if let Some(number) = citing_fault(
             alloc,
             &taken,
-            first,
             expression,
             pairs,
             &*active,

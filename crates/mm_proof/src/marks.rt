@@ -1,6 +1,6 @@
 //! What stays of an old base in a new one.
 
-ghost use Rattle.std.specs.Prelude.{◌≡◌, ◌↔◌, ◌+◌, ◌<◌, ℕ, true, List, Some, IfOk, IsTrue, map};
+ghost use Rattle.std.specs.Prelude.{◌≡◌, ◌↔◌, ◌+◌, ◌<◌, ℕ, true, Some, IfOk, IsTrue, map};
 ghost use Rattle.mm_frame.specs.Language.Base.{BaseView, hypothesis_at, is_shown_at};
 ghost use Rattle.mm_frame.specs.Language.Answering.{BaseAnswers, IsBase, IsBaseBy};
 ghost use Rattle.mm_frame.specs.Language.Resolving.{IsCarrier};
@@ -255,6 +255,14 @@ fn next_expected(base: &Base, found: Option<usize>, expected: usize) -> usize {
     base.count()
 }
 
+/// Two bases, and the ordinals of their items.
+#[derive(Clone, Copy)]
+struct TwoBases<'a> {
+    old: &'a Base,
+    new: &'a Base,
+    ordinals: &'a Ordinals,
+}
+
 /// What is known before an item of the new base is marked.
 #[derive(Clone, Copy)]
 struct Step {
@@ -280,23 +288,23 @@ const FIRST_STEP: Step = Step {
 /// The mark of an item, by those of the items before it, of which these are listed as changed; and what is known before
 /// the next one is marked.
 fn marked(
-    old: &Base,
-    new: &Base,
-    ordinals: &Ordinals,
+    bases: TwoBases<'_>,
     j: usize,
     step: Step,
     marks: &[Mark],
     changed: &[usize],
 ) -> (Mark, Step)
-    requires ordinals { AreOrdinalsOf old.now new.now ordinals.now }
-    requires step { IsStepAt old.now new.now changed.now j step }
-    requires marks { AreHypothesisMarks old.now new.now marks.now }
-    ensures mark { OfBases old.now new.now (λ base copy. IsMark base copy j (kept_mark result.0)) }
-    ensures labels { IsTrue result.0.in_step → OfBases old.now new.now (λ base copy. KeepsLabels base copy changed.now j) }
-    ensures kept { IsHypothesisMark old.now new.now j result.0 }
-    ensures step { IsStepAt old.now new.now (changed_behind changed.now j result.1.changed) (j + 1) result.1 }
+    requires ordinals { AreOrdinalsOf bases.old.now bases.new.now bases.ordinals.now }
+    requires step { IsStepAt bases.old.now bases.new.now changed.now j step }
+    requires marks { AreHypothesisMarks bases.old.now bases.new.now marks.now }
+    ensures mark { OfBases bases.entry.old.now bases.entry.new.now (λ base copy. IsMark base copy j (kept_mark result.0)) }
+    ensures labels { IsTrue result.0.in_step
+        → OfBases bases.entry.old.now bases.entry.new.now (λ base copy. KeepsLabels base copy changed.now j) }
+    ensures kept { IsHypothesisMark bases.entry.old.now bases.entry.new.now j result.0 }
+    ensures step { IsStepAt bases.entry.old.now bases.entry.new.now (changed_behind changed.now j result.1.changed) (j + 1) result.1 }
 {
     labels_mean();
+    let TwoBases { old, new, ordinals } = bases;
     let (mark, last) = mark_of(old, new, j, step.last, step.expected, marks);
     let placed = step.in_step && keeps_place(new, j, ordinals, mark);
     let alike = placed && is_alike(old, new, j, ordinals, mark);
@@ -334,9 +342,14 @@ impl Marks {
         let ordinals = Ordinals::build(alloc, old, new)?;
         let mut marks = Vec::with_capacity(alloc, new.count())?;
         let mut changed = Vec::new(alloc);
+        let bases = TwoBases {
+            old,
+            new,
+            ordinals: &ordinals,
+        };
         let mut step = FIRST_STEP;
         for j in 0..new.count() {
-            let (mark, next) = marked(old, new, &ordinals, j, step, &marks, &changed);
+            let (mark, next) = marked(bases, j, step, &marks, &changed);
             marks.push(mark)?;
             if next.changed {
                 changed.push(j)?;

@@ -1,6 +1,6 @@
 //! How long two bases are in step: their labelled items mean the same, one by one, from the first on.
 
-ghost use Rattle.std.specs.Prelude.{◌≡◌, ◌<◌, ◌≤◌, ℕ, true, suc, IfOk, IsTrue, length, slice_index};
+ghost use Rattle.std.specs.Prelude.{◌≡◌, ◌<◌, ◌≤◌, true, suc, IfOk, IsTrue, length, slice_index};
 ghost use Rattle.mm_frame.specs.Language.Base.{BaseView, is_shown_at};
 ghost use Rattle.mm_frame.specs.Language.Answering.{IsBase};
 ghost use Rattle.mm_proof.specs.Code.InStep.{AreOrdinals, AreOrdinalsOf, SharesEnd};

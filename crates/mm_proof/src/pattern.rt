@@ -34,6 +34,8 @@ pub struct Taken<'s, 'a, S> {
     pub entries: &'s [Entry],
     /// The mandatory hypotheses of the assertion, in order.
     pub hypotheses: &'s [Hypothesis<'a, S>],
+    /// No `$e` comes before this place among the hypotheses.
+    pub first: usize,
     /// For the key of a variable, where its `$f` may be among the hypotheses.
     pub places: &'s [usize],
 }

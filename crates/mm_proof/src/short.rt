@@ -1,6 +1,6 @@
 //! Proofs that name assertions with more hypotheses than they have steps: somewhere an entry is missing.
 
-ghost use Rattle.std.specs.Prelude.{◌≡◌, ◌<◌, ◌≤◌, ℕ, true, Some, IsTrue, length, slice_get};
+ghost use Rattle.std.specs.Prelude.{◌<◌, ◌≤◌, ℕ, Some, IsTrue, length};
 ghost use Rattle.mm_frame.specs.Language.Base.{BaseView};
 ghost use Rattle.mm_frame.specs.Language.Answering.{IsBase};
 ghost use Rattle.mm_proof.specs.Code.ShortSteps.{NamesLarger, TakesMore};

@@ -1,6 +1,6 @@
 //! The machine over names and over numbers: it says the same of a proof.
 
-ghost use Rattle.std.specs.Prelude.{◌≡◌, ℕ, List, All, IfOk, length, map};
+ghost use Rattle.std.specs.Prelude.{◌≡◌, List, All, IfOk, length, map};
 ghost use Rattle.mm_frame.specs.Language.Frame.{Mandatory};
 ghost use Rattle.mm_frame.specs.Language.NumberedSymbols.{by_number, named_symbol};
 ghost use Rattle.mm_proof.specs.Code.Citation.{frame_of, hypotheses_of, meant_pairs, range_of};

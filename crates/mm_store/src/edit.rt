@@ -5,7 +5,7 @@ ghost use Rattle.mm_store.specs.declared.edit.EditError.TheVariants.{Memory};
 ghost use Rattle.mm_store.specs.Language.Edits.{asked, edited_name, IsAmong};
 
 use mm_text::{TextError, TextFault};
-use std::alloc::{AllocError, Global};
+use std::alloc::AllocError;
 use thiserror::Error;
 
 /// An edit of one file, by its name: of its pieces, counted from 0.

@@ -11,7 +11,7 @@ ghost use Rattle.mm_store.specs.Language.FileFacts.{parked_in};
 ghost use Rattle.mm_store.specs.Language.Edits.{asked, edited_name, IsEditOf, NamesNoMember};
 ghost use Rattle.mm_store.specs.Language.EditedKeys.{IsEditByKeys, parks};
 ghost use Rattle.mm_store.specs.Language.Undoing as action;
-ghost use Rattle.mm_store.specs.Language.Undoing.{keys_in, spent};
+ghost use Rattle.mm_store.specs.Language.Undoing.{keys_in};
 ghost use Rattle.mm_store.specs.Language.Undoing.{IsUndoable, KeepsKeys};
 ghost use Rattle.mm_store.specs.Language.Answers.{IsEditError};
 ghost use Rattle.mm_store.specs.Code.Edited.{pieces_in, with_pieces, IsReplaced, IsInserted, IsDeleted, IsMoved, NamesPlace};

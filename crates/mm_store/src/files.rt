@@ -14,7 +14,7 @@ ghost use Rattle.mm_store.specs.Language.Pieces.{text_under};
 ghost use Rattle.mm_store.specs.Language.FilesView.{no_files, bytes_of, file_number, files_in, find_file, number_of, piece_view, plain, text_of};
 ghost use Rattle.mm_store.specs.Language.Holding.{HoldOneEach};
 ghost use Rattle.mm_store.specs.Language.FileFacts.{CanBeRead, HoldsPieces, IsByte, IsLive, NamesNoFile, StandsIn, parked_in};
-ghost use Rattle.mm_store.specs.Language.Undoing.{keys_in, undone, settled};
+ghost use Rattle.mm_store.specs.Language.Undoing.{keys_in};
 ghost use Rattle.mm_store.specs.Language.Answers.{IsExpansionError};
 ghost use Rattle.mm_store.specs.Language.Expansion.{IsExpansion};
 ghost use Rattle.mm_store.specs.Language.Walking.{IsWalk};

@@ -13,10 +13,8 @@ use crate::complaints::{lack, lack_memory, refuse_file, refuse_reading, refuse_s
 use crate::outcome::Outcome;
 use crate::source::Source;
 use mm_report::{Files as Database, Session, Walk, walks_go_on};
-use std::fs::File;
+use std::io;
 use std::io::{ErrorKind, Read};
-use std::rt::Files;
-use std::{io, str};
 
 /// Loads the files of a database from a top file on, and begins a session over them.
 pub fn load_session<S: Source>(

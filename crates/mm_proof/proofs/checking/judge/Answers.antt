@@ -13,7 +13,8 @@ judge_steps-requires-clause-decoded c =
 
 pub returns-in_ok-judged-in-Ok-clause-says : goal.returns-in_ok-judged-in-Ok-clause-says
 returns-in_ok-judged-in-Ok-clause-says c view theorem =
-    c.in_ok-judged-in-Ok.ensures.says view (decoded c.args.base.now c.args.i c.args.proof.now c.in-Ok.marked.decoding c.mandatory-mandatory.result.now view theorem c.mandatory-mandatory.ensures (c.mandatory_are_active.ensures view c.args.i theorem.said)
+    c.in_ok-judged-in-Ok.ensures.says view (decoded c.args.base.now c.args.i c.args.proof.now c.in-Ok.marked.decoding c.mandatory-mandatory.result.now view theorem c.mandatory-mandatory.ensures
+    (c.mandatory_are_active.ensures view c.args.i theorem.said)
     c.in-Ok.ensures.ok c.in-Ok.ensures.entries c.in-Ok.ensures.table)
 
 pub mandatory-mandatory-requires : goal.mandatory-mandatory-requires

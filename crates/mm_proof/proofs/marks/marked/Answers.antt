@@ -16,7 +16,7 @@ returns-clause-labels c t names base copy f g i h label unchanged = elim c.if-st
   | then-step w ↦
       let j = c.args.j in
       let is = c.mark_of-last.ensures.mark names base copy f g in
-      let found = w.keeps_place-placed.ensures (sym w.placed-is ∙ t) c.args.old.now c.requires.ordinals names base copy f g is h.is in
+      let found = w.keeps_place-placed.ensures (sym w.placed-is ∙ t) c.args.bases.old.now c.requires.ordinals names base copy f g is h.is in
       let both = found.1 in
       let same = same_Some found.0 i (sym ((is.old_is found.0).1 both.one_label) ∙ (is.old_is i).1 h) in
       let level = subst (λ n. ordinal base n ≡ ordinal copy j) same both.ordinal_is in
@@ -52,7 +52,7 @@ returns-clause-step c = record {
         | else-alike w ↦ inl (sym w.next-is ∙ e)
       ]) (
       λ e. elim c.if-step.branch [
-        | then-step w ↦ (c.requires.step.in_step w.if-step.true names base copy f g, w.keeps_place-placed.ensures (sym w.placed-is ∙ e) c.args.old.now c.requires.ordinals names base copy f g is)
+        | then-step w ↦ (c.requires.step.in_step w.if-step.true names base copy f g, w.keeps_place-placed.ensures (sym w.placed-is ∙ e) c.args.bases.old.now c.requires.ordinals names base copy f g is)
         | else-step w ↦ absurd (false≢true (sym (w.placed-is ∙ w.if-step.false) ∙ e))
       ]) (
       λ e. elim c.if-placed.branch [

@@ -17,7 +17,9 @@ pub returns-then-start-end : goal.returns-then-start-end
 returns-then-start-end c =
     let inside = c.self.inside in
     let n = c.args.number in
-    c.part.ensures ∙ ap (λ w. slice_range w c.part-start.result.start c.part-start.result.end) c.deref.ensures.value ∙ part_told inside.symbols.items inside.ends n c.part-start.result.start c.part-start.result.end c.part-start.ensures.start c.part-start.ensures.end c.if-start-end.true ∙ ap (λ w. expression_kept w n) c.self.view_is
+    c.part.ensures ∙ ap (λ w. slice_range w c.part-start.result.start c.part-start.result.end) c.deref.ensures.value
+    ∙ part_told inside.symbols.items inside.ends n c.part-start.result.start c.part-start.result.end c.part-start.ensures.start c.part-start.ensures.end c.if-start-end.true
+    ∙ ap (λ w. expression_kept w n) c.self.view_is
 
 pub returns-else-start-end : goal.returns-else-start-end
 returns-else-start-end c =
