@@ -105,7 +105,7 @@ fn cited(
     room: usize,
 ) -> Result<Vec<usize>, AllocError>
     requires { first.word ≤ 1 }
-    ensures { IfOk result (λ words. words.items ≡ item_cites (is_listed used.now) first.entry.word (drop first.entry.place labels.now)) }
+    ensures { IfOk result (λ words. words.items ≡ item_cites (is_listed used.now) first.word (drop first.place labels.now)) }
 {
     named(&mut *marks, labels, used)?;
     let mut words = Vec::with_capacity(alloc, room)?;
