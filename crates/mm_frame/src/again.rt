@@ -1,6 +1,6 @@
 //! Reads the items of files with the help of an older base, which knows most of them.
 
-ghost use Rattle.std.specs.Prelude.{◌≡◌, ◌<◌, ◌∷◌, ◌++◌, ℕ, List, [], All, IfOk, IfSome, IsTrue, OnOk, true, length};
+ghost use Rattle.std.specs.Prelude.{◌≡◌, ◌<◌, ◌∷◌, ◌++◌, ℕ, List, [], All, IfOk, IfSome, IsTrue, MatchBool, OnOk, true, length};
 ghost use Rattle.std.specs.List.{AllZip};
 ghost use Rattle.mm_store.specs.Language.FilesView.{FilesView};
 ghost use Rattle.mm_store.specs.Language.FileFacts.{CanBeRead};
@@ -30,6 +30,8 @@ pub struct Known<'a> {
     pub label: Option<&'a [u8]>,
     /// Its symbols.
     pub symbols: &'a [NumberedSymbol],
+    /// The number of the list of its symbols there.
+    pub list: Option<usize>,
 }
 
 /// Whether the item with this number in an older base is the same bytes of one piece, of the same kind.
@@ -65,6 +67,7 @@ fn known_of<'a>(old: &'a Base, i: usize, item: &Item) -> Option<Known<'a>>
         Some(symbols) => Some(Known {
             label: old.label(i),
             symbols,
+            list: old.list_number(i),
         }),
         None => None,
     }
@@ -81,30 +84,67 @@ fn put_numbers(symbols: &[NumberedSymbol], numbers: &mut Vec<usize>) -> Result<(
     Ok(())
 }
 
-/// What an item says, and the numbers of its symbols, by what is known of it, or else by its words.
+/// What an item says: by what is known of it, or else by its words.
 fn statement_of<'a>(
     alloc: Global,
-    names: &mut Names,
     files: &'a Files,
     item: &Item,
     known: Option<Known<'a>>,
-    numbers: &mut Vec<usize>,
 ) -> Result<Statement<'a>, AllocError>
     requires read { CanBeRead files.now item.now }
-    requires known { IfSome known (IsKnownItem names.old files.now item.now) }
-    ensures grows { Begins names.old names.new }
+    requires known { (names : List (List ℕ)) × IfSome known (IsKnownItem names files.now item.now) }
     ensures says { IfOk result (Says files.now item.now) }
-    ensures count { IfOk result (λ statement. length numbers.new.items ≡ length statement.symbols) }
-    ensures numbers { IfOk result (λ statement. (all : List (List ℕ)) → Begins names.new all → AreNameNumbers all numbers.new.items statement.symbols) }
 {
-    if let Some(known) = known {
-        put_numbers(known.symbols, numbers)?;
-        let count = known.symbols.len();
-        return Ok(Statement::known(alloc, files, item, known.label, count));
+    match known {
+        Some(known) => {
+            let count = known.symbols.len();
+            Ok(Statement::known(alloc, files, item, known.label, count))
+        }
+        None => Statement::read(alloc, files, item),
     }
-    let statement = Statement::read(alloc, files, item)?;
-    number_all(alloc, names, &statement, numbers)?;
-    Ok(statement)
+}
+
+/// Puts the numbers of the symbols of a statement, by what is known of it, or else by its words. Out of memory may leave more names.
+fn number_by(
+    alloc: Global,
+    names: &mut Names,
+    statement: &Statement,
+    known: Option<Known>,
+    numbers: &mut Vec<usize>,
+) -> Result<(), AllocError>
+    requires { IfSome known (λ known. AreNameNumbers names.old (numbers_of known.symbols.now) statement.now.symbols) }
+    ensures grows { Begins names.old names.new }
+    ensures count { OnOk result (length numbers.new.items ≡ length statement.now.symbols) }
+    ensures numbers { OnOk result ((all : List (List ℕ)) → Begins names.new all → AreNameNumbers all numbers.new.items statement.now.symbols) }
+{
+    match known {
+        Some(known) => put_numbers(known.symbols, numbers),
+        None => number_all(alloc, names, statement, numbers),
+    }
+}
+
+/// The number of the list of its symbols in the older base, if an item is known.
+fn list_of(known: Option<Known>) -> Option<usize> {
+    known?.list
+}
+
+/// Takes a statement by what is known of it, if it can be so taken.
+fn take_known<'a>(
+    draft: &mut Draft<'a>,
+    alloc: Global,
+    names: &Names,
+    statement: &Statement<'a>,
+    known: Option<Known>,
+) -> Result<bool, AllocError>
+    requires { IfSome known (λ known. AreNameNumbers names.now (numbers_of known.symbols.now) statement.now.symbols) }
+    ensures { IfOk result (λ taken. MatchBool taken ((said : List meant.Item) → IsDraftLater names.now said draft.old
+        → IsDraftLater names.now (said ++ statement.now ∷ []) draft.new) (draft.new ≡ draft.old)) }
+{
+    names.distinct();
+    match known {
+        Some(known) => draft.take_known(alloc, names, statement, known.symbols, known.list),
+        None => Ok(false),
+    }
 }
 
 /// The number of the item of an older base that may be the next after this item. Any number will do: it is compared.
@@ -147,10 +187,15 @@ fn read_again<'a>(
     let Beside { base: old, next: i } = beside;
     names.distinct();
     let known = known_of(old, i, item);
-    let statement = statement_of(alloc, names, files, item, known, &mut draft.numbers)?;
+    let statement = statement_of(alloc, files, item, known)?;
+    let next = place_behind(old, i, item, statement.label());
+    if take_known(draft, alloc, names, &statement, known)? {
+        return Ok(next);
+    }
+    number_by(alloc, names, &statement, known, &mut draft.numbers)?;
     names.distinct();
-    draft.take(alloc, names, &statement)?;
-    Ok(place_behind(old, i, item, statement.label()))
+    draft.take(alloc, names, &statement, list_of(known))?;
+    Ok(next)
 }
 
 /// Reads items of the files, from the first one on, with the help of an older base.

@@ -235,6 +235,11 @@ impl Base {
         Some(symbols)
     }
 
+    /// The number of the list of the symbols of the item with this number among those of the base: equal symbols have one list.
+    pub(crate) fn list_number(&self, i: usize) -> Option<usize> {
+        self.parts.expressions.list_number(i)
+    }
+
     /// The expression of the item with this number, which is known to be a sound `$f`, `$e`, `$a` or `$p`: no look is taken
     /// whether it is.
     pub fn known_expression(&self, i: usize) -> &[NumberedSymbol]

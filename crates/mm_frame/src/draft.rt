@@ -1,13 +1,14 @@
 //! A base in the making: what the items read so far leave.
 
-ghost use Rattle.std.specs.Prelude.{◌≡◌, ◌∷◌, ◌++◌, ℕ, List, [], true, IfOk, OnOk, All, length};
+ghost use Rattle.std.specs.Prelude.{◌≡◌, ◌∷◌, ◌++◌, ℕ, List, [], true, is_none, IfOk, MatchBool, OnOk, All, length};
 ghost use Rattle.std.specs.Option.{option_map};
 ghost use Rattle.std.specs.List.{AllZip};
 ghost use Rattle.mm_store.specs.Language.FileFacts.{CanBeRead};
 ghost use Rattle.mm_frame.specs.Language.Item as meant;
 ghost use Rattle.mm_frame.specs.Language.Item.{is_read};
 ghost use Rattle.mm_frame.specs.Language.Statement.{Says, kind_of};
-ghost use Rattle.mm_frame.specs.Language.Sound.{AreSound, IsSound};
+ghost use Rattle.mm_frame.specs.Language.Sound as meaning;
+ghost use Rattle.mm_frame.specs.Language.Sound.{AreSound, IsSound, sound_items};
 ghost use Rattle.mm_frame.specs.Language.Framing.{expression};
 ghost use Rattle.mm_frame.specs.Language.Base.{fault_by};
 ghost use Rattle.mm_frame.specs.Language.Names.{AreDistinct, Begins};
@@ -16,8 +17,9 @@ ghost use Rattle.mm_frame.specs.Code.BlockMarks.{block_marks};
 ghost use Rattle.mm_frame.specs.Code.KeptActiveItems.{AreActiveKept};
 ghost use Rattle.mm_frame.specs.Code.KeptEarlier.{KnowsEarlier};
 ghost use Rattle.mm_frame.specs.Code.KeptPairTable.{KnowsPairs};
-ghost use Rattle.mm_frame.specs.Code.KeptScope.{ScopeHolds, taken};
-ghost use Rattle.mm_frame.specs.Code.KeptSymbols.{AreSymbols};
+ghost use Rattle.mm_frame.specs.Code.KeptScope.{ScopeHolds, taken, uses_numbers};
+ghost use Rattle.mm_frame.specs.Code.KeptSymbols.{AreSymbols, AreSymbolsOf};
+ghost use Rattle.mm_frame.specs.Code.KnownItem.{numbers_of};
 ghost use Rattle.mm_frame.specs.Code.KeptTables.{Knows};
 ghost use Rattle.mm_frame.specs.Code.Numbers.{AreNameNumbers};
 
@@ -28,7 +30,7 @@ use crate::blocks::Blocks;
 use crate::expressions::Expressions;
 use crate::guesses::ListGuesses;
 use crate::item_rows::Rows;
-use crate::judge::{FrameFault, fault_of};
+use crate::judge::{FrameFault, fault_of, is_sound_as_known};
 use crate::mandatory::Earlier;
 use crate::names::Names;
 use crate::pair_lists::PairLists;
@@ -177,8 +179,8 @@ fn follow_pairs(
     item: TakenItem,
 ) -> Result<(), AllocError>
     ensures { OnOk result ((all : List (List ℕ)) (before : List meant.Item) (said : meant.Item) → AreDistinct all → AreSound before
-        → kind_of item.kind ≡ said.kind → item.number ≡ length before → blocks.now ≡ block_marks before → AreNameNumbers all numbers.now said.symbols
-        → (item.sound ≡ true → IsSound before said)
+        → kind_of item.kind ≡ said.kind → item.number ≡ length before → blocks.now ≡ block_marks before
+        → (meant.is_disjoint said.kind ≡ true → AreNameNumbers all numbers.now said.symbols) → (item.sound ≡ true → IsSound before said)
         → KnowsPairs all before pairs.old → KnowsPairs all (before ++ taken item.sound said ∷ []) pairs.new) }
 {
     let TakenItem {
@@ -217,23 +219,22 @@ impl<'a> Draft<'a> {
         })
     }
 
-    /// Takes one more statement, whose symbols have the numbers that are kept. Out of memory leaves the draft as good
-    /// for nothing.
-    pub fn take(
+    /// Adds one more statement, which has this fault or none. Its symbols are kept, and, where they are needed, their numbers; the list
+    /// with the expected number may have these symbols. After out of memory the draft must not be used.
+    fn add(
         &mut self,
         alloc: Global,
-        names: &Names,
         statement: &Statement<'a>,
+        fault: Option<FrameFault>,
+        expected: Option<usize>,
     ) -> Result<(), AllocError>
-        requires { length self.old.numbers.items ≡ length statement.now.symbols }
-        ensures { OnOk result ((all : List (List ℕ)) (said : List meant.Item) → IsDraft names.now said self.old → IsDraft all said self.old
-            → AreNameNumbers names.now self.old.numbers.items statement.now.symbols → AreNameNumbers all self.old.numbers.items statement.now.symbols
+        ensures { OnOk result ((all : List (List ℕ)) (said : List meant.Item) → IsDraft all said self.old
+            → option_map (λ f. (f.word, f.number)) fault ≡ meaning.fault (sound_items said) statement.now
+            → (uses_numbers statement.now.kind ≡ true → AreNameNumbers all self.old.numbers.items statement.now.symbols)
+            → AreSymbolsOf all (sound_items said) statement.now (is_none fault) self.old.symbols.items
             → IsDraft all (said ++ statement.now ∷ []) self.new) }
     {
-        let fault = fault_of(alloc, names, &self.scope, statement, &self.numbers)?;
         let sound = fault.is_none();
-        let tables = self.scope.tables();
-        keep_symbols(tables, statement, &self.numbers, sound, &mut self.symbols)?;
         let (kind, number) = (statement.kind(), self.rows.count());
         let item = TakenItem {
             kind,
@@ -250,12 +251,60 @@ impl<'a> Draft<'a> {
         self.assertions
             .keep(alloc, &earlier, disjoints, &self.symbols, item)?;
         follow_pairs(alloc, &mut self.pair_table, blocks, &self.numbers, item)?;
-        self.expressions.add(&mut self.guesses, &self.symbols)?;
+        self.expressions
+            .add(&mut self.guesses, &self.symbols, expected)?;
         self.rows.add(statement.label(), told_fault(kind, fault))?;
         self.scope.next(alloc, statement, &self.numbers, sound)?;
         let blocks = self.scope.blocks();
         self.active.follow(blocks, &self.expressions, item)?;
         Ok(())
+    }
+
+    /// Takes one more statement, whose symbols have the numbers that are kept; the list with the expected number may have what is
+    /// kept of them. After out of memory the draft must not be used.
+    pub fn take(
+        &mut self,
+        alloc: Global,
+        names: &Names,
+        statement: &Statement<'a>,
+        expected: Option<usize>,
+    ) -> Result<(), AllocError>
+        requires { length self.old.numbers.items ≡ length statement.now.symbols }
+        ensures { OnOk result ((all : List (List ℕ)) (said : List meant.Item) → IsDraft names.now said self.old → IsDraft all said self.old
+            → AreNameNumbers names.now self.old.numbers.items statement.now.symbols → AreNameNumbers all self.old.numbers.items statement.now.symbols
+            → IsDraft all (said ++ statement.now ∷ []) self.new) }
+    {
+        let fault = fault_of(alloc, names, &self.scope, statement, &self.numbers)?;
+        let tables = self.scope.tables();
+        let sound = fault.is_none();
+        keep_symbols(tables, statement, &self.numbers, sound, &mut self.symbols)?;
+        self.add(alloc, statement, fault, expected)
+    }
+
+    /// Takes one more statement, whose symbols are known, if it is a `$e`, `$a` or `$p` that is sound with them as they are; else nothing
+    /// changes, and the answer is `false`. The list with the expected number may have these symbols. After out of memory the
+    /// draft must not be used.
+    pub fn take_known(
+        &mut self,
+        alloc: Global,
+        names: &Names,
+        statement: &Statement<'a>,
+        symbols: &[NumberedSymbol],
+        expected: Option<usize>,
+    ) -> Result<bool, AllocError>
+        requires { length symbols.now ≡ length statement.now.symbols }
+        ensures { IfOk result (λ taken. MatchBool taken ((all : List (List ℕ)) (said : List meant.Item) → IsDraft names.now said self.old
+            → IsDraft all said self.old → AreNameNumbers names.now (numbers_of symbols.now) statement.now.symbols
+            → AreNameNumbers all (numbers_of symbols.now) statement.now.symbols → IsDraft all (said ++ statement.now ∷ []) self.new)
+            (self.new ≡ self.old)) }
+    {
+        if !is_sound_as_known(names, &self.scope, statement, symbols) {
+            return Ok(false);
+        }
+        self.symbols.clear();
+        self.symbols.extend_from_slice(symbols)?;
+        self.add(alloc, statement, None, expected)?;
+        Ok(true)
     }
 
     /// Reads one more item of the files. After out of memory the draft must not be used, and there may be more names.
@@ -274,7 +323,7 @@ impl<'a> Draft<'a> {
         let statement = Statement::read(alloc, files, item)?;
         number_all(alloc, names, &statement, &mut self.numbers)?;
         names.distinct();
-        self.take(alloc, names, &statement)
+        self.take(alloc, names, &statement, None)
     }
 
     /// Reads items of the files, from the first one on.

@@ -1,6 +1,6 @@
 //! The fault of a statement after the sound items before it.
 
-ghost use Rattle.std.specs.Prelude.{◌≡◌, ◌<◌, ◌∷◌, ◌++◌, ℕ, true, None, List, [], IfOk, length, take, slice_index_or};
+ghost use Rattle.std.specs.Prelude.{◌≡◌, ◌<◌, ◌∷◌, ◌++◌, ℕ, true, None, List, [], IfOk, IsTrue, length, map, take, slice_index_or};
 ghost use Rattle.std.specs.Option.{option_map};
 ghost use Rattle.mm_frame.specs.Language.Item as meant;
 ghost use Rattle.mm_frame.specs.Language.Item.{Item};
@@ -8,6 +8,8 @@ ghost use Rattle.mm_frame.specs.Code.FaultInOrder as judging;
 ghost use Rattle.mm_frame.specs.Language.Sound as sound;
 ghost use Rattle.mm_frame.specs.Language.Sound.{AreSound};
 ghost use Rattle.mm_frame.specs.Code.KeptScope.{ScopeHolds};
+ghost use Rattle.mm_frame.specs.Code.KeptSymbols.{symbol_by};
+ghost use Rattle.mm_frame.specs.Code.KnownItem.{numbers_of};
 ghost use Rattle.mm_frame.specs.Code.SeenNumbers.{HasSeen, has_number};
 ghost use Rattle.mm_frame.specs.Language.Statement.{kind_of};
 ghost use Rattle.mm_frame.specs.Code.Numbers.{IsNameNumber, AreNameNumbers};
@@ -16,6 +18,7 @@ use crate::FrameNumber;
 use crate::names::Names;
 use crate::scope::Scope;
 use crate::statement::Statement;
+use crate::symbol::NumberedSymbol;
 use mm_store::ItemKind;
 use std::alloc::{AllocError, Global};
 use std::collections::HashSet;
@@ -351,4 +354,58 @@ pub fn fault_of(
         return Ok(Some(fault));
     }
     Ok(end_fault(statement))
+}
+
+/// Whether the n-th symbol of a `$e`, `$a` or `$p`, counted from 0, has no fault, and is a constant or a variable as its name is.
+fn is_right(scope: &Scope, n: usize, symbol: NumberedSymbol) -> bool
+    ensures fault { IsTrue result → (all : List (List ℕ)) (before : List Item) (name : List ℕ) → AreSound before → ScopeHolds all before scope.now
+        → IsNameNumber all symbol.name name → None ≡ judging.expression_fault before n name }
+    ensures sort { IsTrue result → symbol ≡ symbol_by scope.now.tables symbol.name }
+{
+    let constant = scope.tables().is_constant(symbol.name);
+    if symbol.variable == constant {
+        return false;
+    }
+    if n > 0 && scope.may_follow(symbol.name) {
+        return true;
+    }
+    expression_fault(scope, n, symbol.name).is_none()
+}
+
+/// Whether none of these symbols of a `$e`, `$a` or `$p` has a fault, and each is a constant or a variable as its name is.
+fn are_right(scope: &Scope, statement: &Statement, symbols: &[NumberedSymbol]) -> bool
+    requires count { length symbols.now ≡ length statement.now.symbols }
+    requires expression { meant.is_expression statement.now.kind ≡ true }
+    ensures faults { IsTrue result → (all : List (List ℕ)) (before : List Item) → AreSound before → ScopeHolds all before scope.now
+        → AreNameNumbers all (numbers_of symbols.now) statement.now.symbols → None ≡ judging.symbols_fault before statement.now }
+    ensures sorts { IsTrue result → map (symbol_by scope.now.tables) (numbers_of symbols.now) ≡ symbols.now }
+{
+    for n in 0..symbols.len() {
+        if !is_right(scope, n, symbols[n]) {
+            return false;
+        }
+    }
+    true
+}
+
+/// Whether a statement is a `$e`, `$a` or `$p` that has no fault after the sound items of a scope, and each of its symbols, which are
+/// known, is a constant or a variable as its name is.
+///
+/// It takes no memory, and time near linear in the symbols; no word is read.
+pub fn is_sound_as_known(
+    names: &Names,
+    scope: &Scope,
+    statement: &Statement,
+    symbols: &[NumberedSymbol],
+) -> bool
+    requires { length symbols.now ≡ length statement.now.symbols }
+    ensures expression { IsTrue result → meant.is_expression statement.now.kind ≡ true }
+    ensures fault { IsTrue result → (before : List Item) → AreSound before → ScopeHolds names.now before scope.now
+        → AreNameNumbers names.now (numbers_of symbols.now) statement.now.symbols → None ≡ sound.fault before statement.now }
+    ensures sorts { IsTrue result → map (symbol_by scope.now.tables) (numbers_of symbols.now) ≡ symbols.now }
+{
+    if !has_expression(statement.kind()) || symbols.is_empty() {
+        return false;
+    }
+    front_fault(names, scope, statement).is_none() && are_right(scope, statement, symbols)
 }

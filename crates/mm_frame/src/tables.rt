@@ -1,12 +1,13 @@
 //! What the items so far declare, found by hash.
 
-ghost use Rattle.std.specs.Prelude.{◌≡◌, ◌<◌, ◌++◌, ◌∷◌, ℕ, IfOk, OnOk, List, [], None, Some, length, nat_eq, option_to_list};
+ghost use Rattle.std.specs.Prelude.{◌≡◌, ◌<◌, ◌++◌, ◌∷◌, ℕ, IfOk, OnOk, List, [], None, Some, true, length, nat_eq, option_to_list};
 ghost use Rattle.std.specs.Prelude.{if◌then◌else◌, slice_index_or};
 ghost use Rattle.mm_frame.specs.Language.Item as meant;
 ghost use Rattle.mm_frame.specs.Language.Scope.{constants};
 ghost use Rattle.mm_frame.specs.Language.Sound as sound;
 ghost use Rattle.mm_frame.specs.Code.LastItems as numbered;
 ghost use Rattle.mm_frame.specs.Language.Names.{AreDistinct};
+ghost use Rattle.mm_frame.specs.Code.KeptScope.{uses_numbers};
 ghost use Rattle.mm_frame.specs.Code.Numbers.{IsNameNumber, AreNameNumbers};
 
 use crate::label_numbers::LabelNumbers;
@@ -231,7 +232,8 @@ impl Tables {
         number: usize,
     ) -> Result<(), AllocError>
         ensures { OnOk result ((all : List (List ℕ)) (before : List meant.Item) → sound.AreSound (before ++ statement.now ∷ []) → length before ≡ number
-            → AreNameNumbers all numbers.now statement.now.symbols → Knows all before self.old → Knows all (before ++ statement.now ∷ []) self.new) }
+            → (uses_numbers statement.now.kind ≡ true → AreNameNumbers all numbers.now statement.now.symbols)
+            → Knows all before self.old → Knows all (before ++ statement.now ∷ []) self.new) }
     {
         match statement.kind() {
             ItemKind::Constants => self.take_constants(numbers),

@@ -1,7 +1,7 @@
 -- What a reader keeps of the items so far to judge the next one: their declarations, their blocks, and the typecode of each `$f`.
-use Rattle.std.specs.Prelude.{◌≡◌, ℕ, Bool, true, if◌then◌else◌, List, [], ◌∷◌, ◌++◌, map}
+use Rattle.std.specs.Prelude.{◌≡◌, ◌||◌, ℕ, Bool, true, if◌then◌else◌, List, [], ◌∷◌, ◌++◌, map}
 use Rattle.mm_frame.specs.declared.scope.Scope.{Scope}
-use Rattle.mm_frame.specs.Language.Item.{Item, passed, is_floating, typecode_of}
+use Rattle.mm_frame.specs.Language.Item.{Item, Kind, passed, is_declaring, is_disjoint, is_floating, typecode_of}
 use Rattle.mm_frame.specs.Code.BlockMarks.{block_marks}
 use Rattle.mm_frame.specs.Language.Sound.{IsSound, AreSound}
 use Rattle.mm_frame.specs.Code.Numbers.{AreNameNumbers}
@@ -25,7 +25,11 @@ pub record ScopeHolds (all : List (List ℕ)) (before : List Item) (scope : Scop
 abbrev pub taken : Bool → Item → Item
 taken sound item = if sound then item else passed
 
+-- the numbers of the symbols of a statement of this kind are needed: of a `$c`, `$v`, `$d` or `$f`
+abbrev pub uses_numbers : Kind → Bool
+uses_numbers kind = is_declaring kind || is_floating kind || is_disjoint kind
+
 -- the scope takes one more item, whose symbols have these numbers, and which is sound if the flag says it is
 abbrev pub ScopeTakes : List ℕ → Scope → Item → Bool → Scope → Type 0
 ScopeTakes numbers old item sound new = (all : List (List ℕ)) (before : List Item) → AreSound before → ScopeHolds all before old
-    → (sound ≡ true → IsSound before item) → AreNameNumbers all numbers item.symbols → ScopeHolds all (before ++ taken sound item ∷ []) new
+    → (sound ≡ true → IsSound before item) → (uses_numbers item.kind ≡ true → AreNameNumbers all numbers item.symbols) → ScopeHolds all (before ++ taken sound item ∷ []) new

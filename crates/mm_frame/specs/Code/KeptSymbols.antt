@@ -1,5 +1,5 @@
 -- Symbols and expressions as the code keeps them.
-use Rattle.std.specs.Prelude.{◌≡◌, ℕ, true, not, length, if◌then◌else◌, Option, Some, None, List, [], All, take, slice_get, option_to_list}
+use Rattle.std.specs.Prelude.{◌≡◌, ℕ, Bool, true, not, length, if◌then◌else◌, Option, Some, None, List, [], All, take, slice_get, option_to_list}
 use Rattle.std.specs.List.{flat_map}
 use Rattle.mm_frame.specs.declared.symbol.NumberedSymbol.{NumberedSymbol}
 use Rattle.mm_frame.specs.declared.tables.Tables.{Tables}
@@ -46,6 +46,11 @@ pub record AreSymbols (all : List (List ℕ)) (before : List Item) (expressions 
   pub numbered : AreNumbered all expressions
   pub each : (n : ℕ) (item : Item) → slice_get before n ≡ Some item → is_read item.kind ≡ true
       → symbols_of all (expression_kept expressions n) ≡ expression (take n before) item
+
+-- the symbols that are kept of an item are its expression or its variables, if the flag says that it is sound
+pub record AreSymbolsOf (all : List (List ℕ)) (before : List Item) (item : Item) (sound : Bool) (symbols : List NumberedSymbol) : Type 0 where
+  pub numbered : All (IsNumbered all) symbols
+  pub read : sound ≡ true → is_read item.kind ≡ true → symbols_of all symbols ≡ expression before item
 
 -- the number of the `$f` of a symbol that is a variable
 abbrev pub float_number : Tables → NumberedSymbol → List ℕ

@@ -1,5 +1,5 @@
 -- What the code that looks for a fault rests on.
-use Rattle.std.proofs.Common.{◌≡◌, ℕ, zero, nat_eq, slice_get, suc, ◌+◌, ◌<◌, ◌≤◌, Bool, true, false, not, cond, ◌==◌, ◌&&◌, ◌||◌, Option, Some, None, List, [], ◌∷◌, ◌++◌, length, take, drop, get_or, bytes_eq, refl, sym, ◌∙◌, ap, subst, arith}
+use Rattle.std.proofs.Common.{◌≡◌, ℕ, zero, nat_eq, slice_get, suc, ◌+◌, ◌<◌, ◌≤◌, Bool, true, false, not, cond, ◌==◌, ◌&&◌, ◌||◌, Option, Some, None, is_some, List, [], ◌∷◌, ◌++◌, length, take, drop, get_or, bytes_eq, refl, sym, ◌∙◌, ap, subst, arith}
 use Rattle.std.specs.Prelude.{is_none}
 use Rattle.std.specs.Option.{option_or}
 use Rattle.std.specs.HashSet.{HashSet, Updates}
@@ -12,7 +12,7 @@ use Rattle.std.proofs.lemmas.List.{drop_all}
 use Rattle.std.proofs.lemmas.List.Folds.{list_any-append}
 use Rattle.mm_frame.specs.Language.Item.{Kind, Essential, Axiom, Theorem, Item, has, is_expression}
 use Rattle.mm_frame.specs.Language.Scope.{constants, active_variables, typed}
-use Rattle.mm_frame.specs.Language.Sound.{first_symbol, closing_word, fault_or, fault, AreSound}
+use Rattle.mm_frame.specs.Language.Sound.{first_symbol, closing_word, fault_or, fault, AreSound, is_short}
 use Rattle.mm_frame.specs.Code.Numbers.{IsNameNumber, AreNameNumbers}
 use Rattle.mm_frame.specs.Language.Names.{AreDistinct}
 use Rattle.mm_frame.specs.Code.KeptScope.{ScopeHolds}
@@ -22,7 +22,7 @@ use Rattle.mm_frame.specs.declared.tables.Declared.TheVariants.{Constant, Variab
 use Rattle.mm_frame.specs.Code.KeptTables.{declared_in, variable_at}
 use Rattle.mm_frame.specs.Code.LastItems.{last_where, declares_variable, types, is_active_last}
 use Rattle.mm_frame.specs.declared.FrameNumber.{FrameNumber}
-use Rattle.mm_frame.specs.declared.FrameNumber.TheVariants.{F10, F11}
+use Rattle.mm_frame.specs.declared.FrameNumber.TheVariants.{F01, F10, F11}
 use Rattle.mm_frame.specs.Code.FaultInOrder.{front_fault, end_fault, first_fault, symbol_fault_of, symbol_fault, symbols_fault, typecode_fault, expression_fault, later_fault}
 use Rattle.mm_frame.specs.Code.SeenNumbers.{HasSeen, has_number}
 use Rattle.mm_frame.proofs.lemmas.faults.FaultReading.{first_fault_at, fault_is}
@@ -174,6 +174,20 @@ expression_is Essential e before item n name = refl
 expression_is Axiom e before item n name = refl
 expression_is Theorem e before item n name = refl
 expression_is _ e before item n name = absurd (false≢true e)
+
+pub none_there : {X : Type 0} (found : Option X) → is_some found ≡ false → None ≡ found
+none_there None e = refl
+none_there (Some x) e = absurd (false≢true (sym e))
+
+-- a `$e`, `$a` or `$p` with a symbol has enough of them
+pub enough_symbols : (item : Item) → is_expression item.kind ≡ true → (length item.symbols == 0) ≡ false → None ≡ fault_or (closing_word item) (end_fault item) None
+enough_symbols item e l = ap (λ b. fault_or (closing_word item) (cond b (Some F01) None) None) (sym (short_if item.kind e ∙ l))
+  where
+    short_if : (kind : Kind) → is_expression kind ≡ true → is_short kind (length item.symbols) ≡ (length item.symbols == 0)
+    short_if Essential e = refl
+    short_if Axiom e = refl
+    short_if Theorem e = refl
+    short_if _ e = absurd (false≢true e)
 
 -- the fault of a statement, found at the first word, among the symbols, or at neither
 pub at_front : (before : List Item) (item : Item) (number : FrameNumber) → Some number ≡ front_fault before item → ◌≡◌ {A = Option (ℕ × FrameNumber)} (Some (0, number)) (fault before item)

@@ -1,7 +1,8 @@
-use Rattle.std.proofs.Common.{[], refl}
+use Rattle.std.proofs.Common.{[], refl, ap, sym}
 use Rattle.std.proofs.lemmas.Result.{on_ok_weaker}
 use Rattle.mm_frame.specs.Language.Item.{Constants, Variables, Floating}
 use Rattle.mm_frame.specs.Language.Statement.{kind_of}
+use Rattle.mm_frame.specs.Code.KeptScope.{uses_numbers}
 use Rattle.mm_frame.proofs.lemmas.scope.KnownLemmas.{knows_next, takes_constants, takes_variables, takes_sound_float, takes_label, takes_nothing}
 use Rattle.mm_frame.proofs.tables.Tables.take.Goals as goal
 
@@ -10,7 +11,7 @@ returns-in-Constants c =
     let item = c.args.statement.now in
     on_ok_weaker c.take_constants.result
     (λ d all before h l a k. knows_next all before item Constants c.args.number c.args.self.now c.take_constants.new.self c.in-Constants.ensures.kind h l k
-    (takes_constants all item c.args.number c.args.self.now c.take_constants.new.self (d all item.symbols k.distinct a)))
+    (takes_constants all item c.args.number c.args.self.now c.take_constants.new.self (d all item.symbols k.distinct (a (ap uses_numbers (sym c.in-Constants.ensures.kind))))))
     c.take_constants.ensures
 
 pub returns-in-Variables : goal.returns-in-Variables
@@ -18,7 +19,7 @@ returns-in-Variables c =
     let item = c.args.statement.now in
     on_ok_weaker c.take_variables.result
     (λ d all before h l a k. knows_next all before item Variables c.args.number c.args.self.now c.take_variables.new.self c.in-Variables.ensures.kind h l k
-    (takes_variables all item c.args.number c.args.self.now c.take_variables.new.self (d all item.symbols k.distinct a)))
+    (takes_variables all item c.args.number c.args.self.now c.take_variables.new.self (d all item.symbols k.distinct (a (ap uses_numbers (sym c.in-Variables.ensures.kind))))))
     c.take_variables.ensures
 
 pub returns-in-Floating : goal.returns-in-Floating
@@ -26,7 +27,7 @@ returns-in-Floating c =
     let item = c.args.statement.now in
     on_ok_weaker c.take_label.result
     (λ d all before h l a k. knows_next all before item Floating c.args.number c.args.self.now c.take_label.new.self c.in-Floating.ensures.kind h l k
-    (takes_sound_float all before item c.args.number c.args.self.now c.take_float.new.self c.take_label.new.self (h before item [] refl) c.in-Floating.ensures.kind (c.take_float.ensures all item.symbols k.distinct a) (d all)))
+    (takes_sound_float all before item c.args.number c.args.self.now c.take_float.new.self c.take_label.new.self (h before item [] refl) c.in-Floating.ensures.kind (c.take_float.ensures all item.symbols k.distinct (a (ap uses_numbers (sym c.in-Floating.ensures.kind)))) (d all)))
     c.take_label.ensures
 
 pub returns-in-Essential : goal.returns-in-Essential

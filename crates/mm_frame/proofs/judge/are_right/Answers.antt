@@ -1,0 +1,32 @@
+use Rattle.std.proofs.Common.{rules, ◌≡◌, ◌<◌, ◌≤◌, ◌+◌, length, map, take_all, get_or, refl, [], sym, ◌∙◌, subst, arith}
+use Rattle.mm_frame.specs.Code.KeptSymbols.{symbol_by}
+use Rattle.mm_frame.specs.Code.KnownItem.{numbers_of}
+use Rattle.mm_frame.proofs.lemmas.faults.FaultLemmas.{none_left, passes_more, expression_is}
+use Rattle.mm_frame.proofs.lemmas.names.KnownSymbols.{named_number, sorts_more}
+use Rattle.mm_frame.proofs.judge.are_right.Goals as goal
+
+pub loop-n-init : goal.loop-n-init
+loop-n-init c = (search rules, refl)
+
+pub loop-n-preserved : goal.loop-n-preserved
+loop-n-preserved c =
+    let item = c.args.statement.now in
+    let symbols = c.args.symbols.now in
+    let n = c.loop-n.n in
+    let within : n < length symbols = omega (arith, c.loop-n-test.true) in
+    let right = c.if-not-is_right.false in (
+      passes_more item (numbers_of symbols) n (n + 1) (omega arith) (omega (arith, within, c.requires.count)) c.loop-n.invariant.0
+          (λ all before h k a. c.is_right.ensures.fault right all before (get_or item.symbols n []) h k (named_number all symbols item.symbols n _ within a) ∙ expression_is item.kind c.requires.expression before item n (get_or item.symbols n [])),
+      sorts_more (symbol_by c.args.scope.now.tables) symbols n (n + 1) _ (omega arith) within (sym (c.is_right.ensures.sort right)) c.loop-n.invariant.1,
+    )
+
+pub returns-clause-faults : goal.returns-clause-faults
+returns-clause-faults c t =
+    let symbols = c.args.symbols.now in
+    let past : length c.args.statement.now.symbols ≤ c.loop-n.n = omega (arith, c.loop-n-test.false, c.requires.count) in
+    none_left c.args.statement.now (numbers_of symbols) c.loop-n.n past c.loop-n.invariant.0
+
+pub returns-clause-sorts : goal.returns-clause-sorts
+returns-clause-sorts c t =
+    let symbols = c.args.symbols.now in
+    subst (λ w. map (symbol_by c.args.scope.now.tables) (numbers_of w) ≡ w) (take_all c.loop-n.n symbols c.loop-n-test.false) c.loop-n.invariant.1

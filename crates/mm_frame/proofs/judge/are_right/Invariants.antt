@@ -1,0 +1,10 @@
+use Rattle.std.proofs.Common.{◌≡◌, map, take}
+use Rattle.mm_frame.specs.Code.KeptSymbols.{symbol_by}
+use Rattle.mm_frame.specs.Code.KnownItem.{numbers_of}
+use Rattle.mm_frame.proofs.lemmas.faults.FaultLemmas.{Passes}
+use Rattle.mm_frame.proofs.judge.are_right.Given as goal
+
+abbrev pub invariant-loop-n : goal.invariant-loop-n
+invariant-loop-n l =
+    Passes l.scope l.statement (numbers_of l.symbols) l.n
+    × (map (symbol_by l.scope.tables) (numbers_of (take l.n l.symbols)) ≡ take l.n l.symbols)
