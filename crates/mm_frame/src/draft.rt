@@ -7,9 +7,9 @@ ghost use Rattle.mm_store.specs.Language.FileFacts.{CanBeRead};
 ghost use Rattle.mm_frame.specs.Language.Item as meant;
 ghost use Rattle.mm_frame.specs.Language.Item.{is_read};
 ghost use Rattle.mm_frame.specs.Language.Statement.{Says, kind_of};
-ghost use Rattle.mm_frame.specs.Language.Sound.{AreSound, IsSound};
+ghost use Rattle.mm_frame.specs.Language.Sound.{AreSound, IsSound, sound_items};
 ghost use Rattle.mm_frame.specs.Language.Framing.{expression};
-ghost use Rattle.mm_frame.specs.Language.Base.{fault_by};
+ghost use Rattle.mm_frame.specs.Language.Base.{BaseView, fault_by, is_sound_at};
 ghost use Rattle.mm_frame.specs.Language.Names.{AreDistinct, Begins};
 ghost use Rattle.mm_frame.specs.Language.NumberedSymbols.{symbols_of, IsNumbered};
 ghost use Rattle.mm_frame.specs.Code.BlockMarks.{block_marks};
@@ -19,11 +19,14 @@ ghost use Rattle.mm_frame.specs.Code.KeptPairTable.{KnowsPairs};
 ghost use Rattle.mm_frame.specs.Code.KeptScope.{ScopeHolds, taken};
 ghost use Rattle.mm_frame.specs.Code.KeptSymbols.{AreSymbols};
 ghost use Rattle.mm_frame.specs.Code.KeptTables.{Knows};
+ghost use Rattle.mm_frame.specs.Code.KeptRows.{rows_of};
 ghost use Rattle.mm_frame.specs.Code.Numbers.{AreNameNumbers};
+ghost use Rattle.mm_frame.specs.Code.TakenOver.{IsNextOf};
 
 use crate::FrameNumber;
 use crate::active_items::{ActiveItems, TakenItem, is_disjoint};
 use crate::assertions::Assertions;
+use crate::base::Base;
 use crate::blocks::Blocks;
 use crate::expressions::Expressions;
 use crate::guesses::ListGuesses;
@@ -38,6 +41,7 @@ use crate::sparse::Sparse;
 use crate::statement::Statement;
 use crate::symbol::{NumberedSymbol, put_symbols, put_variables};
 use crate::tables::Tables;
+use crate::take_over::{ActiveDisjoints, OldItem};
 use mm_store::{Files, Item, ItemKind};
 use std::alloc::{AllocError, Global};
 
@@ -253,6 +257,53 @@ impl<'a> Draft<'a> {
         self.expressions.add(&mut self.guesses, &self.symbols)?;
         self.rows.add(statement.label(), told_fault(kind, fault))?;
         self.scope.next(alloc, statement, &self.numbers, sound)?;
+        let blocks = self.scope.blocks();
+        self.active.follow(blocks, &self.expressions, item)?;
+        Ok(())
+    }
+
+    /// How many items are taken.
+    pub fn count(&self) -> usize
+        ensures { result ≡ length (rows_of self.now.rows) }
+    {
+        self.rows.count()
+    }
+
+    /// Takes one more statement as an older base has it, in which it is sound and has these symbols; their numbers are kept.
+    /// All items before it are those of the older base. Out of memory leaves the draft as good for nothing.
+    pub fn take_over(
+        &mut self,
+        alloc: Global,
+        statement: &Statement<'a>,
+        symbols: &[NumberedSymbol],
+        old: &Base,
+    ) -> Result<(), AllocError>
+        ensures { OnOk result ((all : List (List ℕ)) (base : BaseView) (said : List meant.Item) → IsNextOf all old.now base said statement.now
+            → is_sound_at base (length said) ≡ true → is_read statement.now.kind ≡ true
+            → symbols_of all symbols.now ≡ expression (sound_items said) statement.now → All (IsNumbered all) symbols.now
+            → AreNameNumbers all self.old.numbers.items statement.now.symbols → IsDraft all said self.old
+            → IsDraft all (said ++ statement.now ∷ []) self.new) }
+    {
+        let item = TakenItem {
+            kind: statement.kind(),
+            number: self.rows.count(),
+            sound: true,
+        };
+        let (blocks, numbers) = (self.scope.blocks(), self.active.disjoints());
+        let expressions = &self.expressions;
+        let active = ActiveDisjoints {
+            numbers,
+            expressions,
+        };
+        let from = OldItem {
+            base: old,
+            number: item.number,
+        };
+        self.assertions.take_over(alloc, active, from)?;
+        follow_pairs(alloc, &mut self.pair_table, blocks, &self.numbers, item)?;
+        self.expressions.add(&mut self.guesses, symbols)?;
+        self.rows.add(statement.label(), None)?;
+        self.scope.next(alloc, statement, &self.numbers, true)?;
         let blocks = self.scope.blocks();
         self.active.follow(blocks, &self.expressions, item)?;
         Ok(())
