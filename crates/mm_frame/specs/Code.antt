@@ -11,6 +11,7 @@ pub mod KeptTables
 pub mod PlainWords
 pub mod KeptStatement
 pub mod SpokenProof
+pub mod TakenOver
 pub mod KeptScope
 pub mod SeenNumbers
 pub mod KeptSymbols

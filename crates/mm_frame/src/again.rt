@@ -12,8 +12,10 @@ ghost use Rattle.mm_frame.specs.Language.Names.{Begins};
 ghost use Rattle.mm_frame.specs.Language.Answering.{IsBase, IsBaseBy};
 ghost use Rattle.mm_frame.specs.Language.Older.{HasOlder};
 ghost use Rattle.mm_frame.specs.Code.Numbers.{AreNameNumbers};
-ghost use Rattle.mm_frame.specs.Code.KeptBase.{IsDraftLater};
-ghost use Rattle.mm_frame.specs.Code.KnownItem.{IsAgain, IsKnownItem, numbers_of};
+ghost use Rattle.mm_frame.specs.Code.KeptBase.{IsDraft, IsDraftLater};
+ghost use Rattle.mm_frame.specs.Code.KeptScope.{uses_numbers};
+ghost use Rattle.mm_frame.specs.Code.KnownItem.{IsAgain, IsKnownItem, IsSoundAgain, numbers_of};
+ghost use Rattle.mm_frame.specs.Code.TakenOver.{AreFirst, AreFirstIf};
 
 use crate::base::Base;
 use crate::draft::{Draft, number_all};
@@ -55,8 +57,9 @@ fn needs_no_names(kind: ItemKind) -> bool
 /// What the item with this number in an older base knows of an item, if the two are the same.
 fn known_of<'a>(old: &'a Base, i: usize, item: &Item) -> Option<Known<'a>>
     requires { (base : BaseView) × IsBase base old.now }
-    ensures { (names : List (List ℕ)) (files : FilesView) (base : BaseView) → IsBaseBy names base old.now → AllZip (Says files) base.found base.said
+    ensures known { (names : List (List ℕ)) (files : FilesView) (base : BaseView) → IsBaseBy names base old.now → AllZip (Says files) base.found base.said
         → IfSome result (IsKnownItem names files item.now) }
+    ensures sound { (names : List (List ℕ)) (base : BaseView) → IsBaseBy names base old.now → IfSome result (IsSoundAgain names base i item.now) }
 {
     if !needs_no_names(item.kind) || !is_again(old, i, item) {
         return None;
@@ -198,6 +201,114 @@ fn read_again<'a>(
     Ok(next)
 }
 
+/// Puts the numbers of the names of the symbols of an item of this kind, where they are needed.
+fn put_needed(
+    kind: ItemKind,
+    symbols: &[NumberedSymbol],
+    numbers: &mut Vec<usize>,
+) -> Result<(), AllocError>
+    ensures { OnOk result (uses_numbers (kind_of kind) ≡ true → numbers.new.items ≡ numbers_of symbols.now) }
+{
+    if matches!(
+        kind,
+        ItemKind::Essential | ItemKind::Axiom | ItemKind::Theorem
+    ) {
+        return Ok(());
+    }
+    put_numbers(symbols, numbers)
+}
+
+/// An older base, and what it knows of an item.
+#[derive(Clone, Copy)]
+struct KnownBy<'a> {
+    base: &'a Base,
+    known: Known<'a>,
+}
+
+/// Takes one more item over from an older base, which knows it. All items before it are the first ones of the older base.
+/// After out of memory the draft must not be used.
+fn take_over_known<'a>(
+    draft: &mut Draft<'a>,
+    alloc: Global,
+    files: &'a Files,
+    item: &Item,
+    by: KnownBy<'a>,
+) -> Result<(), AllocError>
+    requires read { CanBeRead files.now item.now }
+    requires known { (names : List (List ℕ)) × IsKnownItem names files.now item.now by.known }
+    ensures read { OnOk result ((one : meant.Item) × Says files.now item.now one
+        × ((all : List (List ℕ)) (base : BaseView) (said : List meant.Item) → IsBaseBy all base by.entry.base.now → AllZip (Says files.now) base.found base.said
+        → AreFirst base said → IsKnownItem all files.now item.now by.entry.known → IsSoundAgain all base (length said) item.now by.entry.known
+        → IsDraft all said draft.old → IsDraft all (said ++ one ∷ []) draft.new)) }
+{
+    let KnownBy { base, known } = by;
+    put_needed(item.kind, known.symbols, &mut draft.numbers)?;
+    let statement = Statement::known(alloc, files, item, known.label, known.symbols.len());
+    // A law: the same bytes have one reading.
+    mm_store::one_meaning();
+    draft.take_over(alloc, &statement, known.symbols, base)
+}
+
+/// An older base, the number of the item of it that may be the next one, and whether all items so far are its first ones.
+#[derive(Clone, Copy)]
+struct BesideFrom<'a> {
+    base: &'a Base,
+    next: usize,
+    same: bool,
+}
+
+/// The number of the item of an older base that may be the next one, and whether all items so far are its first ones.
+#[derive(Clone, Copy)]
+struct Reached {
+    next: usize,
+    same: bool,
+}
+
+/// Whether the item with this number is the same in an older base, as all items before it are.
+fn is_same_again(beside: BesideFrom, i: usize, item: &Item) -> bool
+    requires { (base : BaseView) × IsBase base beside.base.now }
+    ensures same { IsTrue result → beside.entry.same ≡ true }
+    ensures again { IsTrue result → (base : BaseView) → IsBase base beside.entry.base.now → IsAgain base.found i item.now }
+{
+    beside.same && is_again(beside.base, i, item)
+}
+
+/// Reads one more item of the files: takes it over from an older base, if all items before it are the first ones there.
+/// After out of memory the draft must not be used, and there may be more names.
+fn read_next<'a>(
+    draft: &mut Draft<'a>,
+    alloc: Global,
+    names: &mut Names,
+    files: &'a Files,
+    item: &Item,
+    beside: BesideFrom<'a>,
+) -> Result<Reached, AllocError>
+    requires read { CanBeRead files.now item.now }
+    requires older { HasOlder names.old files.now beside.base.now }
+    ensures grows { Begins names.old names.new }
+    ensures read { IfOk result (λ reached. (one : meant.Item) × Says files.now item.now one
+        × ((said : List meant.Item) → IsDraftLater names.old said draft.old → AreFirstIf beside.entry.same files.now beside.entry.base.now said
+        → IsDraftLater names.new (said ++ one ∷ []) draft.new × AreFirstIf reached.same files.now beside.entry.base.now (said ++ one ∷ []))) }
+{
+    names.distinct();
+    // A law: the same bytes have one reading.
+    mm_store::one_meaning();
+    let BesideFrom { base, next, .. } = beside;
+    let i = draft.count();
+    let same = is_same_again(beside, i, item);
+    if same {
+        if let Some(known) = known_of(base, i, item) {
+            take_over_known(draft, alloc, files, item, KnownBy { base, known })?;
+            return Ok(Reached {
+                next: i.saturating_add(1),
+                same,
+            });
+        }
+    }
+    let next = read_again(draft, alloc, names, files, item, Beside { base, next })?;
+    Ok(Reached { next, same })
+}
+
 /// Reads items of the files, from the first one on, with the help of an older base.
 pub fn read_all_again<'a>(
     alloc: Global,
@@ -212,10 +323,18 @@ pub fn read_all_again<'a>(
     ensures read { IfOk result (λ draft. (said : List meant.Item) × AllZip (Says files.now) items.now said × IsDraftLater names.new said draft) }
 {
     let mut draft = Draft::with_room(alloc, items.len())?;
-    let mut next = 0;
+    let mut reached = Reached {
+        next: 0,
+        same: true,
+    };
     for item in items {
-        let beside = Beside { base: old, next };
-        next = read_again(&mut draft, alloc, names, files, item, beside)?;
+        let Reached { next, same } = reached;
+        let beside = BesideFrom {
+            base: old,
+            next,
+            same,
+        };
+        reached = read_next(&mut draft, alloc, names, files, item, beside)?;
     }
     Ok(draft)
 }

@@ -14,6 +14,7 @@ ghost use Rattle.mm_frame.specs.Code.KeptAssertions.{TellsFrame, TellsPairs, is_
 ghost use Rattle.mm_frame.specs.Code.LastItems.{is_disjoint_item};
 
 use crate::active_items::TakenItem;
+use crate::copied_lists::CopiedLists;
 use crate::draft::Frame;
 use crate::expressions::Expressions;
 use crate::mandatory::{Earlier, FrameRoom, hypotheses, mandatory_pairs};
@@ -34,6 +35,8 @@ pub struct Assertions {
     pub pair_numbers: Sparse<usize>,
     /// What the frames are made with.
     pub room: FrameRoom,
+    /// Which lists of an older base are taken over.
+    pub copied: CopiedLists,
 }
 
 /// Whether such an item has a frame.
@@ -115,6 +118,7 @@ impl Assertions {
             pair_lists: PairLists::new(alloc),
             pair_numbers,
             room: FrameRoom::new(alloc),
+            copied: CopiedLists::new(alloc),
         })
     }
 

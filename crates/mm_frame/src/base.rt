@@ -17,7 +17,6 @@ ghost use Rattle.mm_frame.specs.Language.Older.{HasOlder};
 ghost use Rattle.mm_frame.specs.Code.KeptSymbols.{expression_kept};
 ghost use Rattle.mm_frame.specs.Language.Answering.{IsBase, IsBaseBy, StandsLater, pairs_in_order};
 ghost use Rattle.mm_frame.specs.Code.KeptBase.{is_float_item, hypotheses_at};
-ghost use Rattle.mm_frame.specs.Code.KeptSparse.{value_kept};
 ghost use Rattle.mm_frame.specs.Language.Item as meant;
 ghost use Rattle.mm_frame.specs.Language.Statement.{kind_of};
 ghost use Rattle.mm_frame.specs.Language.Resolving.{IsCarrier, IsMeaning, IsUpTo, Resolves};
@@ -27,7 +26,7 @@ use crate::again::read_all_again;
 use crate::draft::{Draft, Frame, Parts};
 use crate::judge::FrameFault;
 use crate::names::Names;
-use crate::sparse::{Sparse, element_at};
+use crate::sparse::{element_at, number_at};
 use crate::symbol::NumberedSymbol;
 use mm_store::{Files, Item, ItemKind, StoreError};
 use std::alloc::{AllocError, Global};
@@ -68,13 +67,6 @@ pub enum Resolved {
     Inactive,
     /// No label of a sound statement before it.
     Unknown,
-}
-
-/// The number that is kept of an item, if one is.
-fn number_at(numbers: &Sparse<usize>, i: usize) -> Option<usize>
-    ensures { result ≡ value_kept numbers.now i }
-{
-    numbers.at(i).copied()
 }
 
 fn is_floating(kind: ItemKind) -> bool
@@ -223,6 +215,7 @@ impl Base {
 
     /// The symbols that are kept of the item with this number, if it has no fault: those of a `$f`, `$e`, `$a`, `$p` or `$d`.
     pub(crate) fn sound_symbols(&self, i: usize) -> Option<&[NumberedSymbol]>
+        ensures sound { (base : BaseView) → IsBase base self.now → is_some result ≡ is_sound_at base i }
         ensures symbols { (names : List (List ℕ)) (base : BaseView) → IsBaseBy names base self.now → meant.is_read (said_at base i).kind ≡ true
             → IfSome result (λ e. symbols_of names e.now ≡ expression (before base i) (said_at base i)) }
         ensures numbered { (names : List (List ℕ)) (base : BaseView) → IsBaseBy names base self.now
@@ -287,6 +280,12 @@ impl Base {
             Some(k) => Some(self.parts.pair_lists.list(k)),
             None => None,
         }
+    }
+
+    /// A number that sound `$p` have in common if they share their list of active pairs. Any number will do: whether they
+    /// share it is asked for.
+    pub(crate) fn list_guess(&self, i: usize) -> usize {
+        number_at(&self.parts.pair_numbers, i).unwrap_or(0)
     }
 
     /// Whether two sound `$p` share their list of active pairs, as neighbours often do. Where they do not, they may still

@@ -10,7 +10,7 @@ ghost use Rattle.mm_frame.specs.Language.Statement.{Says, kind_of};
 ghost use Rattle.mm_frame.specs.Language.Sound as meaning;
 ghost use Rattle.mm_frame.specs.Language.Sound.{AreSound, IsSound, sound_items};
 ghost use Rattle.mm_frame.specs.Language.Framing.{expression};
-ghost use Rattle.mm_frame.specs.Language.Base.{fault_by};
+ghost use Rattle.mm_frame.specs.Language.Base.{BaseView, fault_by, is_sound_at};
 ghost use Rattle.mm_frame.specs.Language.Names.{AreDistinct, Begins};
 ghost use Rattle.mm_frame.specs.Language.NumberedSymbols.{symbols_of, IsNumbered};
 ghost use Rattle.mm_frame.specs.Code.BlockMarks.{block_marks};
@@ -21,11 +21,14 @@ ghost use Rattle.mm_frame.specs.Code.KeptScope.{ScopeHolds, taken, uses_numbers}
 ghost use Rattle.mm_frame.specs.Code.KeptSymbols.{AreSymbols, AreSymbolsOf};
 ghost use Rattle.mm_frame.specs.Code.KnownItem.{numbers_of};
 ghost use Rattle.mm_frame.specs.Code.KeptTables.{Knows};
+ghost use Rattle.mm_frame.specs.Code.KeptRows.{rows_of};
 ghost use Rattle.mm_frame.specs.Code.Numbers.{AreNameNumbers};
+ghost use Rattle.mm_frame.specs.Code.TakenOver.{IsNextOf};
 
 use crate::FrameNumber;
 use crate::active_items::{ActiveItems, TakenItem, is_disjoint};
 use crate::assertions::Assertions;
+use crate::base::Base;
 use crate::blocks::Blocks;
 use crate::expressions::Expressions;
 use crate::guesses::ListGuesses;
@@ -40,6 +43,7 @@ use crate::sparse::Sparse;
 use crate::statement::Statement;
 use crate::symbol::{NumberedSymbol, put_symbols, put_variables};
 use crate::tables::Tables;
+use crate::take_over::{ActiveDisjoints, OldItem};
 use mm_store::{Files, Item, ItemKind};
 use std::alloc::{AllocError, Global};
 
@@ -305,6 +309,54 @@ impl<'a> Draft<'a> {
         self.symbols.extend_from_slice(symbols)?;
         self.add(alloc, statement, None, expected)?;
         Ok(true)
+    }
+
+    /// How many items are taken.
+    pub fn count(&self) -> usize
+        ensures { result ≡ length (rows_of self.now.rows) }
+    {
+        self.rows.count()
+    }
+
+    /// Takes one more statement as an older base has it, in which it is sound and has these symbols; their numbers are kept
+    /// where they are needed. All items before it are those of the older base. Out of memory leaves the draft as good for nothing.
+    pub fn take_over(
+        &mut self,
+        alloc: Global,
+        statement: &Statement<'a>,
+        symbols: &[NumberedSymbol],
+        old: &Base,
+    ) -> Result<(), AllocError>
+        ensures { OnOk result ((all : List (List ℕ)) (base : BaseView) (said : List meant.Item) → IsNextOf all old.now base said statement.now
+            → is_sound_at base (length said) ≡ true → is_read statement.now.kind ≡ true
+            → symbols_of all symbols.now ≡ expression (sound_items said) statement.now → All (IsNumbered all) symbols.now
+            → (uses_numbers statement.now.kind ≡ true → AreNameNumbers all self.old.numbers.items statement.now.symbols) → IsDraft all said self.old
+            → IsDraft all (said ++ statement.now ∷ []) self.new) }
+    {
+        let item = TakenItem {
+            kind: statement.kind(),
+            number: self.rows.count(),
+            sound: true,
+        };
+        let (blocks, numbers) = (self.scope.blocks(), self.active.disjoints());
+        let expressions = &self.expressions;
+        let active = ActiveDisjoints {
+            numbers,
+            expressions,
+        };
+        let from = OldItem {
+            base: old,
+            number: item.number,
+        };
+        self.assertions.take_over(alloc, active, from)?;
+        follow_pairs(alloc, &mut self.pair_table, blocks, &self.numbers, item)?;
+        let expected = old.list_number(item.number);
+        self.expressions.add(&mut self.guesses, symbols, expected)?;
+        self.rows.add(statement.label(), None)?;
+        self.scope.next(alloc, statement, &self.numbers, true)?;
+        let blocks = self.scope.blocks();
+        self.active.follow(blocks, &self.expressions, item)?;
+        Ok(())
     }
 
     /// Reads one more item of the files. After out of memory the draft must not be used, and there may be more names.

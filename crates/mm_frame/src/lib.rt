@@ -8,6 +8,7 @@ mod asked;
 mod assertions;
 mod base;
 mod blocks;
+mod copied_lists;
 mod counts;
 mod draft;
 mod essential;
@@ -32,6 +33,7 @@ mod statement;
 mod symbol;
 mod symbol_lists;
 mod tables;
+mod take_over;
 
 pub use base::{Base, Resolved};
 pub use draft::Frame;

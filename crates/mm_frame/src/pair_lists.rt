@@ -1,6 +1,6 @@
 //! The lists of active pairs, which neighbours share.
 
-ghost use Rattle.std.specs.Prelude.{◌≡◌, ◌<◌, ◌≤◌, ◌+◌, ◌-◌, ◌++◌, ℕ, List, [], OnOk, IfOk, IsTrue, All, Contains, length, map, take};
+ghost use Rattle.std.specs.Prelude.{◌≡◌, ◌<◌, ◌≤◌, ◌+◌, ◌-◌, ◌++◌, ℕ, List, [], OnOk, IfOk, IfSome, IsTrue, All, Contains, length, map, take};
 ghost use Rattle.std.specs.List.{flat_map};
 ghost use Rattle.mm_frame.specs.Language.Item as meant;
 ghost use Rattle.mm_frame.specs.Language.Sound.{AreSound};
@@ -204,7 +204,7 @@ impl PairLists {
     }
 
     /// Keeps a list, unless the last one is the same, and answers its number.
-    fn keep(&mut self, list: Vec<(NumberedSymbol, NumberedSymbol)>) -> Result<usize, AllocError>
+    pub fn keep(&mut self, list: Vec<(NumberedSymbol, NumberedSymbol)>) -> Result<usize, AllocError>
         ensures there { IfOk result (λ k. IsThere self.new k list.items) }
         ensures kept { OnOk result (KeepsLists self.old self.new) }
         ensures made { OnOk result (self.new.made ≡ self.old.made) }
@@ -331,6 +331,32 @@ impl PairLists {
         self.made.insert(count, k)?;
         self.reach = count;
         Ok(k)
+    }
+
+    /// The number of the list that is made for the active `$d` with these numbers, if one is made.
+    pub fn made_list(&self, disjoints: &[usize], expressions: &Expressions) -> Option<usize>
+        ensures { IfSome result (λ k. (all : List (List ℕ)) (before : List meant.Item) → AreSound before → AreSymbols all before expressions.now
+            → disjoints.now ≡ active_numbers is_disjoint_item before → AreMade all before self.now → IsList all self.now k (active_pairs before)) }
+    {
+        self.made_for(count_to_last(disjoints, expressions))
+    }
+
+    /// Takes this list as the one that is made for the active `$d` with these numbers.
+    pub fn keep_made(
+        &mut self,
+        disjoints: &[usize],
+        expressions: &Expressions,
+        k: usize,
+    ) -> Result<(), AllocError>
+        ensures made { OnOk result ((all : List (List ℕ)) (before : List meant.Item) → AreSound before → AreSymbols all before expressions.now
+            → disjoints.now ≡ active_numbers is_disjoint_item before → IsList all self.old k (active_pairs before) → AreMade all before self.old
+            → AreMade all before self.new) }
+        ensures lists { OnOk result (self.new.lists ≡ self.old.lists) }
+    {
+        let count = count_to_last(disjoints, expressions);
+        self.made.insert(count, k)?;
+        self.reach = count;
+        Ok(())
     }
 
     /// The list with this number: empty if there is no such list.

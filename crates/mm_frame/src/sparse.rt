@@ -41,6 +41,13 @@ pub fn element_at<T>(list: &[T], i: usize) -> Option<&T>
     list.get(i)
 }
 
+/// The number that is kept of an item, if one is.
+pub fn number_at(numbers: &Sparse<usize>, i: usize) -> Option<usize>
+    ensures { result ≡ value_kept numbers.now i }
+{
+    numbers.at(i).copied()
+}
+
 impl<T: Drop> Sparse<T> {
     /// No items, with room for this many, of which some have a value.
     pub fn with_room(alloc: Global, count: usize) -> Result<Sparse<T>, AllocError>

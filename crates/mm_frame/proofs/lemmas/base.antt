@@ -8,3 +8,4 @@ pub mod ResolvingLemmas
 pub mod RowLemmas
 pub mod SaidLabels
 pub mod NumbersAside
+pub mod TakenOverLemmas

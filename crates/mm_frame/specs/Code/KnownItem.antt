@@ -1,11 +1,14 @@
 -- What an older base knows of an item of the files.
-use Rattle.std.specs.Prelude.{◌≡◌, ℕ, Some, List, map, slice_get}
+use Rattle.std.specs.Prelude.{◌≡◌, ℕ, true, Some, List, map, slice_get, All}
 use Rattle.std.specs.Option.{option_map}
 use Rattle.mm_store.specs.declared.item.Item as store
 use Rattle.mm_store.specs.Language.FilesView.{FilesView}
 use Rattle.mm_frame.specs.declared.again.Known.{Known}
 use Rattle.mm_frame.specs.declared.symbol.NumberedSymbol.{NumberedSymbol}
-use Rattle.mm_frame.specs.Language.Item.{Item}
+use Rattle.mm_frame.specs.Language.Item.{Item, is_read}
+use Rattle.mm_frame.specs.Language.Base.{BaseView, before, said_at, is_sound_at}
+use Rattle.mm_frame.specs.Language.Framing.{expression}
+use Rattle.mm_frame.specs.Language.NumberedSymbols.{symbols_of, IsNumbered}
 use Rattle.mm_frame.specs.Language.Statement.{Says}
 use Rattle.mm_frame.specs.Code.Numbers.{AreNameNumbers}
 
@@ -26,3 +29,11 @@ pub record IsAgain (found : List store.Item) (i : ℕ) (item : store.Item) : Typ
 pub record IsKnownItem (names : List (List ℕ)) (files : FilesView) (item : store.Item) (known : Known) : Type 0 where
   pub label : (said : Item) → Says files item said → option_map (λ label. label.now) known.label ≡ said.label
   pub symbols : (said : Item) → Says files item said → AreNameNumbers names (numbers_of known.symbols.now) said.symbols
+
+-- the item with this number in a base is the same bytes and sound, and what is known of it are the symbols that are kept there
+pub record IsSoundAgain (names : List (List ℕ)) (base : BaseView) (i : ℕ) (item : store.Item) (known : Known) : Type 0 where
+  pub again : IsAgain base.found i item
+  pub sound : is_sound_at base i ≡ true
+  pub read : is_read (said_at base i).kind ≡ true
+  pub symbols : symbols_of names known.symbols.now ≡ expression (before base i) (said_at base i)
+  pub numbered : All (IsNumbered names) known.symbols.now

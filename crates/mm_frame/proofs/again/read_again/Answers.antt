@@ -11,21 +11,21 @@ pub statement_of-requires-clause-known : goal.statement_of-requires-clause-known
 statement_of-requires-clause-known c =
     let names = c.args.names.now in
     let older = c.requires.older in
-    (names, c.known_of-known.ensures names c.args.files.now older.0 (older.1.later names c.distinct.ensures (λ n name there. there)) older.1.each)
+    (names, c.known_of-known.ensures.known names c.args.files.now older.0 (older.1.later names c.distinct.ensures (λ n name there. there)) older.1.each)
 
 pub take_known-requires : goal.take_known-requires
 take_known-requires c =
     let names = c.args.names.now in
     let older = c.requires.older in
     known_numbers names c.args.files.now c.args.item.now c.in_ok-statement.statement c.known_of-known.result c.in_ok-statement.ensures.says
-    (c.known_of-known.ensures names c.args.files.now older.0 (older.1.later names c.distinct.ensures (λ n name there. there)) older.1.each)
+    (c.known_of-known.ensures.known names c.args.files.now older.0 (older.1.later names c.distinct.ensures (λ n name there. there)) older.1.each)
 
 pub number_by-requires : goal.number_by-requires
 number_by-requires c =
     let names = c.args.names.now in
     let older = c.requires.older in
     known_numbers names c.args.files.now c.args.item.now c.in_ok-statement.statement c.known_of-known.result c.in_ok-statement.ensures.says
-    (c.known_of-known.ensures names c.args.files.now older.0 (older.1.later names c.distinct.ensures (λ n name there. there)) older.1.each)
+    (c.known_of-known.ensures.known names c.args.files.now older.0 (older.1.later names c.distinct.ensures (λ n name there. there)) older.1.each)
 
 pub returns-clause-read : goal.returns-clause-read
 returns-clause-read c =

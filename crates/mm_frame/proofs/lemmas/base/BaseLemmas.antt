@@ -114,6 +114,10 @@ pub none_is_told : {X Y : Type 0} (told : X → Y) (found : Option X) (other : O
 none_is_told told None other e n = ap is_none (sym e)
 none_is_told told (Some x) other e n = absurd (false≢true (sym n))
 
+pub some_is_told : {X Y : Type 0} (told : X → Y) (found : Option X) (other : Option Y) → option_map told found ≡ other → is_some found ≡ true → is_none other ≡ false
+some_is_told told None other e n = absurd (false≢true n)
+some_is_told told (Some x) other e n = ap is_none (sym e)
+
 -- one more item, with the symbols that are kept for it
 pub symbols_more : (all : List (List ℕ)) (before : List Item) (item : Item) (expressions : List (List NumberedSymbol)) (symbols : List NumberedSymbol) → AreSymbols all before expressions → All (IsNumbered all) symbols
     → (is_read item.kind ≡ true → symbols_of all symbols ≡ expression before item) → AreSymbols all (before ++ item ∷ []) (expressions ++ symbols ∷ [])

@@ -5,7 +5,7 @@ use Rattle.mm_frame.specs.Language.Base.{said_at, is_sound_at}
 use Rattle.mm_frame.specs.Language.Item.{is_read}
 use Rattle.mm_frame.specs.Language.NumberedSymbols.{symbols_of, IsNumbered}
 use Rattle.mm_frame.proofs.lemmas.base.AnswerLemmas.{expression_read, expression_numbered}
-use Rattle.mm_frame.proofs.lemmas.base.BaseLemmas.{none_is_told}
+use Rattle.mm_frame.proofs.lemmas.base.BaseLemmas.{none_is_told, some_is_told}
 use Rattle.mm_frame.proofs.base.Base.sound_symbols.Goals as goal
 
 pub returns-clause-symbols : goal.returns-clause-symbols
@@ -17,3 +17,9 @@ returns-clause-symbols c names base is read =
 pub returns-clause-numbered : goal.returns-clause-numbered
 returns-clause-numbered c names base is =
     subst (All (IsNumbered names)) (sym c.symbols-symbols.ensures) (expression_numbered names base.said c.args.self.now.expressions c.args.i is.expressions)
+
+pub returns-clause-sound : goal.returns-clause-sound
+returns-clause-sound c base is = sym (none_is_told (λ f. (f.word, f.number)) c.fault.result _ (c.fault.ensures base is) (sym c.is_some.ensures ∙ c.if-is_some.false))
+
+pub returns-then-is_some-clause-sound : goal.returns-then-is_some-clause-sound
+returns-then-is_some-clause-sound c base is = sym (some_is_told (λ f. (f.word, f.number)) c.fault.result _ (c.fault.ensures base is) (sym c.is_some.ensures ∙ c.if-is_some.true))

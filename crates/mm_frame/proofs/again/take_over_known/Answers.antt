@@ -1,0 +1,29 @@
+use Rattle.std.proofs.Common.{◌≡◌, true, ℕ, List, ◌∙◌, ap, sym, subst}
+use Rattle.std.proofs.lemmas.Result.{on_ok_weaker}
+use Rattle.mm_frame.specs.Language.Item.{Item, is_read}
+use Rattle.mm_frame.specs.Language.Sound.{sound_items}
+use Rattle.mm_frame.specs.Language.Framing.{expression}
+use Rattle.mm_frame.specs.Code.KeptScope.{uses_numbers}
+use Rattle.mm_frame.specs.Code.Numbers.{AreNameNumbers}
+use Rattle.mm_frame.proofs.lemmas.base.NumbersAside.{numbers_aside}
+use Rattle.mm_frame.proofs.lemmas.reading.KnownItems.{same_again}
+use Rattle.mm_frame.proofs.again.take_over_known.Goals as goal
+
+pub returns : goal.returns
+returns c =
+    let statement = c.known-statement.result in
+    let says = c.known-statement.ensures.says in
+    record {
+      read = on_ok_weaker c.take_over.result
+          (λ takes. (
+            statement,
+            says,
+            λ all base said by each front known again d.
+                let here = same_again c.args.files.now base.found base.said _ c.args.item.now c.one_meaning.ensures.words each again.again statement says in
+                let read = sym (ap (λ (x : Item). is_read x.kind) here) ∙ again.read in
+                let numbers = λ (u : uses_numbers statement.kind ≡ true). subst (λ (n : List ℕ). AreNameNumbers all n statement.symbols) (sym (c.in_ok-put_needed.ensures (ap (λ (x : Item). uses_numbers x.kind) (sym says.is) ∙ u))) (known.symbols statement says) in
+                takes all base said (record { by = by; front = front; here = here }) again.sound read (again.symbols ∙ (λ i. expression (sound_items (front i)) (here i))) again.numbered numbers
+                (numbers_aside all said c.args.draft.now c.put_needed.new.numbers d),
+          ))
+          c.take_over.ensures;
+    }

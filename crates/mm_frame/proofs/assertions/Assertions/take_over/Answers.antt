@@ -1,0 +1,28 @@
+use Rattle.std.proofs.Common.{IfSome, ◌∙◌, ap, sym, subst}
+use Rattle.mm_frame.specs.Language.Sound.{fault, sound_items, judged}
+use Rattle.mm_frame.specs.Language.Framing.{frame}
+use Rattle.mm_frame.specs.Language.Base.{frame_at}
+use Rattle.mm_frame.specs.Language.NumberedSymbols.{ArePairsRead}
+use Rattle.mm_frame.specs.Language.Answering.{pairs_in_order, told_numbers}
+use Rattle.mm_frame.specs.Code.KeptAsked.{KnowsAsked}
+use Rattle.mm_frame.specs.Code.KeptBase.{hypotheses_at}
+use Rattle.mm_frame.specs.Code.KeptPairLists.{AreMade}
+use Rattle.mm_frame.proofs.lemmas.faults.FoundFaults.{kept_next}
+use Rattle.mm_frame.proofs.lemmas.pairs.AskedLemmas.{asked_more}
+use Rattle.mm_frame.proofs.lemmas.pairs.PairListLemmas.{made_more}
+use Rattle.mm_frame.proofs.assertions.Assertions.take_over.Goals as goal
+
+pub returns : goal.returns
+returns c all base said one next number symbols disjoints a =
+    let before = sound_items said in
+    let more = sym (kept_next said one) in
+    let numbers = c.kept_frame.ensures.numbers base (all, next.by) ∙ ap (hypotheses_at base) number ∙ (λ i. told_numbers (sound_items (next.front i)) (next.here i)) in
+    let framed = ap (frame_at base) number ∙ (λ i. frame (sound_items (next.front i)) (next.here i)) in
+    let pairs = subst (λ f. IfSome c.kept_frame.result (λ kept. ArePairsRead all (pairs_in_order f) kept.now.pairs.items)) framed (c.kept_frame.ensures.order all base next.by) in
+    let made = c.in_ok-copy_pairs.ensures.made all base said one next number symbols disjoints a.pair_numbers a.made in
+    record {
+      frames = c.in_ok-copy_frame.ensures all said one numbers pairs a.frames;
+      made = subst (λ w. AreMade all w c.copy_pairs.new.lists) more (made_more all before _ c.copy_pairs.new.lists made);
+      pair_numbers = c.in_ok-copy_pairs.ensures.pairs all base said one next number symbols disjoints a.made a.pair_numbers;
+      room = subst (λ w. KnowsAsked all w c.args.self.now.room.asked) more (asked_more all before (judged one (fault before one)) c.args.self.now.room.asked a.room);
+    }

@@ -1,0 +1,121 @@
+-- The items so far are the first ones of an older base: what it says of its next item is right of the next item.
+use Rattle.std.proofs.Common.{◌≡◌, ℕ, zero, suc, ◌<◌, Bool, true, Option, Some, None, List, [], ◌∷◌, ◌++◌, length, take, drop, slice_get, nat_eq, is_none, is_some, refl, sym, ◌∙◌, ap, subst, arith, take-suc, take-append-drop}
+use Rattle.std.specs.HashMap.{get}
+use Rattle.std.specs.List.{AllZip}
+use Rattle.std.proofs.lemmas.Bool.{false≢true}
+use Rattle.std.proofs.lemmas.List.{length_push, take-append-le}
+use Rattle.std.proofs.lemmas.Option.{slice_get_within, get_or_from_slice_get}
+use Rattle.mm_store.specs.declared.item.Item as store
+use Rattle.mm_store.specs.Language.FilesView.{FilesView}
+use Rattle.mm_frame.specs.declared.pair_lists.PairLists.{PairLists}
+use Rattle.mm_frame.specs.Language.Frame.{Symbol, AreSamePairs}
+use Rattle.mm_frame.specs.Language.Item.{Item, item_at}
+use Rattle.mm_frame.specs.Language.Sound.{sound_items}
+use Rattle.mm_frame.specs.Language.Framing.{active_pairs}
+use Rattle.mm_frame.specs.Language.Statement.{Says}
+use Rattle.mm_frame.specs.Language.Base.{BaseView, before, said_at, is_proof_at}
+use Rattle.mm_frame.specs.Language.NumberedSymbols.{kept_pairs}
+use Rattle.mm_frame.specs.Language.Answering.{AreRows, BaseAnswers, is_told_proof}
+use Rattle.mm_frame.specs.Code.KeptAssertions.{TellsPairs}
+use Rattle.mm_frame.specs.Code.KeptPairLists.{AreMade, IsList, KeepsLists}
+use Rattle.mm_frame.specs.Code.KeptSparse.{value_kept, value_or_none}
+use Rattle.mm_frame.specs.Code.KnownItem.{IsAgain}
+use Rattle.mm_frame.specs.Code.TakenOver.{AreFirst, AreFirstIf, IsNextOf}
+use Rattle.mm_frame.proofs.lemmas.pairs.PairListLemmas.{list_stays}
+use Rattle.mm_frame.proofs.lemmas.pairs.SharedPairs.{same_joined}
+use Rattle.mm_frame.proofs.lemmas.reading.KnownItems.{same_again}
+use Rattle.mm_frame.proofs.lemmas.reading.PieceLemmas.{OneReading}
+
+-- ---- the first items
+
+-- the items before the next one are those so far
+pub before_next : (base : BaseView) (said : List Item) (i : ℕ) → AreFirst base said → i ≡ length said → before base i ≡ sound_items said
+before_next base said i front number = ap (before base) number ∙ ap sound_items front
+
+-- the next one is a sound `$p` exactly if the base says so
+pub proof_next : (all : List (List ℕ)) (answers : BaseAnswers) (base : BaseView) (said : List Item) (item : Item) (i : ℕ) → IsNextOf all answers base said item → i ≡ length said
+    → is_proof_at base i ≡ is_told_proof (sound_items said) item
+proof_next all answers base said item i next number = ap (is_proof_at base) number ∙ (λ j. is_told_proof (sound_items (next.front j)) (next.here j))
+
+-- no fault is reported
+pub none_is : {X : Type 0} (o : Option X) → is_none o ≡ true → None ≡ o
+none_is None e = refl
+none_is (Some x) e = absurd (false≢true e)
+
+-- an earlier item is the same in the base
+item_front : (front rest : List Item) (n : ℕ) → n < length front → item_at (front ++ rest) n ≡ item_at front n
+item_front [] rest n l = absurd (omega arith)
+item_front (x ∷ front) rest zero l = refl
+item_front (x ∷ front) rest (suc n) l = item_front front rest n (omega arith)
+
+first_whole : (base : BaseView) (said : List Item) → AreFirst base said → base.said ≡ said ++ drop (length said) base.said
+first_whole base said front = sym (take-append-drop (length said) base.said) ∙ ap (λ w. w ++ drop (length said) base.said) front
+
+first_take : (base : BaseView) (said : List Item) (j : ℕ) → AreFirst base said → j < length said → take j base.said ≡ take j said
+first_take base said j front l = ap (take j) (first_whole base said front) ∙ take-append-le j said (drop (length said) base.said) (omega arith)
+
+first_item : (base : BaseView) (said : List Item) (j : ℕ) → AreFirst base said → j < length said → said_at base j ≡ item_at said j
+first_item base said j front l = ap (λ w. item_at w j) (first_whole base said front) ∙ item_front said (drop (length said) base.said) j l
+
+-- one more
+first_more : (base : BaseView) (said : List Item) (one : Item) → AreFirst base said → slice_get base.said (length said) ≡ Some one → AreFirst base (said ++ one ∷ [])
+first_more base said one front there =
+    let n = length said in
+    let within = slice_get_within base.said n one there in
+    let count : length (said ++ one ∷ []) ≡ suc n = (let p = length_push said one in omega arith) in
+    ap (λ k. take k base.said) count ∙ take-suc base.said n one within ∙ (λ i. front i ++ get_or_from_slice_get base.said n one one there i ∷ [])
+
+there_at : (files : FilesView) (found : List store.Item) (said : List Item) (i : ℕ) (item : store.Item) → AllZip (Says files) found said → slice_get found i ≡ Some item → slice_get said i ≡ Some (item_at said i)
+there_at files [] said i item h e = cc
+there_at files (x ∷ found) (y ∷ said) zero item h e = refl
+there_at files (x ∷ found) (y ∷ said) (suc i) item h e = there_at files found said i item h.1 e
+there_at files (x ∷ found) [] i item h e = absurd h
+
+pub first_after : (same other : Bool) (files : FilesView) (answers : BaseAnswers) (base : BaseView) (said : List Item) (item : store.Item) (i : ℕ) (one : Item) → OneReading → answers.items ≡ base.found → i ≡ length said
+    → (other ≡ true → IsAgain base.found i item) → (other ≡ true → same ≡ true) → Says files item one → AreFirstIf same files answers said → AreFirstIf other files answers (said ++ one ∷ [])
+first_after same other files answers base said item i one law found number again still says first t b told each =
+    let n = length said in
+    let here = subst (λ w. IsAgain w n item) (sym found ∙ told) (subst (λ k. IsAgain base.found k item) number (again t)) in
+    let there = there_at files b.found b.said n here.was each here.there ∙ ap Some (same_again files b.found b.said n item law each here one says) in
+    first_more b said one (first (still t) b told each) there
+
+-- ---- the lists of active pairs
+
+value_there : {X : Type 0} (kept : List (Option X)) (j : ℕ) (x : X) → Some x ≡ value_kept kept j → slice_get kept j ≡ Some (Some x)
+value_there kept j x e = by (slice_get kept j) refl
+  where
+    by : (o : Option (Option _)) → slice_get kept j ≡ o → slice_get kept j ≡ Some (Some x)
+    by None t = absurd (false≢true (ap is_some (sym (e ∙ ap value_or_none t))))
+    by (Some o) t = t ∙ ap Some (sym (e ∙ ap value_or_none t))
+
+-- a list that is shared
+list_shared : (all : List (List ℕ)) (lists : PairLists) (k : ℕ) (pairs others : List (Symbol × Symbol)) → IsList all lists k pairs → AreSamePairs pairs others → IsList all lists k others
+list_shared all lists k pairs others is same = record {
+  list = is.list;
+  there = is.there;
+  read = record { pairs = same_joined (kept_pairs all is.list.items) pairs others is.read.pairs same; numbered = is.read.numbered };
+  order = is.order;
+}
+
+pub list_here : (all : List (List ℕ)) (lists : PairLists) (base : BaseView) (said : List Item) (numbers : List (Option ℕ)) (j i k : ℕ) → AreFirst base said → i ≡ length said → AreRows (TellsPairs all lists) said numbers
+    → Some k ≡ value_kept numbers j → (is_proof_at base j ≡ true → AreSamePairs (active_pairs (before base j)) (active_pairs (before base i))) → IsList all lists k (active_pairs (sound_items said))
+list_here all lists base said numbers j i k front number rows e shared =
+    let row = value_there numbers j k e in
+    let within = slice_get_within numbers j (Some k) row in
+    let count = rows.count in
+    let earlier : j < length said = omega arith in
+    let told = rows.each j (Some k) row in
+    let same = ap sound_items (first_take base said j front earlier) in
+    let proof : is_proof_at base j ≡ true = (λ n. is_told_proof (same n) (first_item base said j front earlier n)) ∙ sym told.some in
+    list_shared all lists k (active_pairs (sound_items (take j said))) (active_pairs (sound_items said)) (told.list k refl)
+    (subst (λ w. AreSamePairs (active_pairs w) (active_pairs (sound_items said))) same (subst (λ w. AreSamePairs (active_pairs (before base j)) (active_pairs w)) (before_next base said i front number) (shared proof)))
+
+-- more lists, and none is made for other counts
+pub made_stays : (all : List (List ℕ)) (before : List Item) (old new : PairLists) → KeepsLists old new → new.made ≡ old.made → AreMade all before old → AreMade all before new
+made_stays all before old new keeps same made count k e =
+    let made_old = made count k (ap (λ w. get nat_eq w count) (sym same) ∙ e) in
+    record { within = made_old.within; list = list_stays all old new k (active_pairs (take count before)) keeps made_old.list }
+
+-- the same lists
+pub list_kept_on : (all : List (List ℕ)) (old new : PairLists) (k : ℕ) (pairs : List (Symbol × Symbol)) → new.lists ≡ old.lists → IsList all old k pairs → IsList all new k pairs
+list_kept_on all old new k pairs same is = record { list = is.list; there = ap (λ w. slice_get w.items k) same ∙ is.there; read = is.read; order = is.order }

@@ -1,0 +1,21 @@
+use Rattle.std.proofs.Common.{◌≡◌, ℕ, Option, Some, None, List, [], IfSome, append-nil, sym, subst, ◌∙◌}
+use Rattle.mm_frame.specs.Language.Item.{Item}
+use Rattle.mm_frame.specs.Language.Sound.{AreSound}
+use Rattle.mm_frame.specs.Language.Scope.{active_numbers}
+use Rattle.mm_frame.specs.Language.Framing.{active_pairs}
+use Rattle.mm_frame.specs.Code.LastItems.{is_disjoint_item}
+use Rattle.mm_frame.specs.Code.KeptPairLists.{AreMade, IsList, list_made}
+use Rattle.mm_frame.specs.Code.KeptSymbols.{AreSymbols}
+use Rattle.mm_frame.proofs.lemmas.pairs.PairListLemmas.{whole_front}
+use Rattle.mm_frame.proofs.pair_lists.PairLists.made_list.Goals as goal
+
+pub returns : goal.returns
+returns c = by c.made_for.result c.made_for.ensures
+  where
+    by : (found : Option ℕ) → found ≡ list_made c.args.self.now c.count_to_last.result
+        → IfSome found (λ k. (all : List (List ℕ)) (before : List Item) → AreSound before → AreSymbols all before c.args.expressions.now
+        → c.args.disjoints.now ≡ active_numbers is_disjoint_item before → AreMade all before c.args.self.now → IsList all c.args.self.now k (active_pairs before))
+    by None e = tt
+    by (Some k) e = λ all before h a d m.
+        let front = c.count_to_last.ensures all before [] a (append-nil c.args.disjoints.now ∙ d) in
+        subst (IsList all c.args.self.now k) (whole_front before c.args.disjoints.now c.count_to_last.result h d front) (m c.count_to_last.result k (sym e)).list

@@ -1,0 +1,25 @@
+use Rattle.std.proofs.Common.{Some, None, IfSome, ◌++◌, ◌∷◌, [], ◌∙◌, ap, sym, subst}
+use Rattle.std.specs.Option.{option_map}
+use Rattle.mm_frame.specs.Language.Sound.{sound_items}
+use Rattle.mm_frame.specs.Language.Framing.{frame}
+use Rattle.mm_frame.specs.Language.NumberedSymbols.{ArePairsRead}
+use Rattle.mm_frame.specs.Language.Answering.{AreRows, pairs_in_order}
+use Rattle.mm_frame.specs.Code.KeptAssertions.{TellsFrame}
+use Rattle.mm_frame.proofs.lemmas.base.BaseLemmas.{rows_more}
+use Rattle.mm_frame.proofs.take_over.copy_frame.Goals as goal
+
+pub returns-in_default : goal.returns-in_default
+returns-in_default c all said item numbers pairs rows =
+    subst (λ w. AreRows (TellsFrame all) (said ++ item ∷ []) w) (sym c.in_ok-pass.ensures)
+    (rows_more (TellsFrame all) said item c.args.frames.now None rows (record { hypotheses = sym (ap (option_map (λ frame. frame.now.hypotheses.items)) c.in_default.is) ∙ numbers; pairs = tt }))
+
+pub returns : goal.returns
+returns c all said item numbers pairs rows =
+    let kept = c.in-Some.kept in
+    let read = subst (λ o. IfSome o (λ kept. ArePairsRead all (pairs_in_order (frame (sound_items said) item)) kept.now.pairs.items)) c.in-Some.is pairs in
+    let same = ap Some (c.in_ok-hypotheses.ensures.items ∙ c.deref.ensures.value) in
+    subst (λ w. AreRows (TellsFrame all) (said ++ item ∷ []) w) (sym c.in_ok-add.ensures)
+    (rows_more (TellsFrame all) said item c.args.frames.now (Some (record { hypotheses = c.in_ok-hypotheses.hypotheses; pairs = c.in_ok-pairs.pairs })) rows (record {
+      hypotheses = same ∙ sym (ap (option_map (λ frame. frame.now.hypotheses.items)) c.in-Some.is) ∙ numbers;
+      pairs = subst (ArePairsRead all (pairs_in_order (frame (sound_items said) item))) (sym (c.in_ok-pairs.ensures.items ∙ c.deref-2.ensures.value)) read;
+    }))

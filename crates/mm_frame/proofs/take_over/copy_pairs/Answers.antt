@@ -1,0 +1,35 @@
+use Rattle.std.proofs.Common.{Some, None, ◌++◌, ◌∷◌, [], ◌∙◌, sym, subst}
+use Rattle.mm_frame.specs.Language.Sound.{sound_items}
+use Rattle.mm_frame.specs.Language.Frame.{AreSamePairs}
+use Rattle.mm_frame.specs.Language.Framing.{active_pairs}
+use Rattle.mm_frame.specs.Language.NumberedSymbols.{AreSamePairsRead, kept_pairs}
+use Rattle.mm_frame.specs.Language.Answering.{AreRows}
+use Rattle.mm_frame.specs.Code.KeptAssertions.{TellsPairs}
+use Rattle.mm_frame.proofs.lemmas.base.TakenOverLemmas.{before_next, proof_next}
+use Rattle.mm_frame.proofs.lemmas.pairs.PairListLemmas.{pairs_more, keeps_all, no_number, some_number}
+use Rattle.mm_frame.proofs.take_over.copy_pairs.Goals as goal
+
+pub returns-in_default-clause-pairs : goal.returns-in_default-clause-pairs
+returns-in_default-clause-pairs c all base said item next number symbols disjoints made rows =
+    let lists = c.args.lists.now in
+    let none = c.in_default.ensures.some base (all, next.by) ∙ proof_next all c.args.old.base.now base said item c.args.old.number next number in
+    subst (λ w. AreRows (TellsPairs all lists) (said ++ item ∷ []) w) (sym c.in_ok-pass.ensures)
+    (pairs_more all said item lists lists c.args.numbers.now None (keeps_all lists) rows (no_number all lists (sound_items said) item none))
+
+pub returns-clause-made : goal.returns-clause-made
+returns-clause-made c all base said item next number symbols disjoints rows made =
+    let some = c.in-Some.ensures.some base (all, next.by) in
+    let pairs = subst (λ w. AreSamePairs (kept_pairs all c.in-Some.pairs.now) (active_pairs w)) (before_next base said c.args.old.number next.front number) (c.in-Some.ensures.pairs all base next.by) in
+    let read : AreSamePairsRead all (active_pairs (sound_items said)) c.in-Some.pairs.now = record { pairs = pairs; numbered = c.in-Some.ensures.numbered all base next.by } in
+    c.in_ok-k.ensures.made all base said next.by next.front number (sym some) read (c.in-Some.ensures.order base (all, next.by)) symbols disjoints rows made
+
+pub returns-clause-pairs : goal.returns-clause-pairs
+returns-clause-pairs c all base said item next number symbols disjoints made rows =
+    let new = c.list_again.new.lists in
+    let some = c.in-Some.ensures.some base (all, next.by) in
+    let pairs = subst (λ w. AreSamePairs (kept_pairs all c.in-Some.pairs.now) (active_pairs w)) (before_next base said c.args.old.number next.front number) (c.in-Some.ensures.pairs all base next.by) in
+    let read : AreSamePairsRead all (active_pairs (sound_items said)) c.in-Some.pairs.now = record { pairs = pairs; numbered = c.in-Some.ensures.numbered all base next.by } in
+    let list = c.in_ok-k.ensures.list all base said next.by next.front number (sym some) read (c.in-Some.ensures.order base (all, next.by)) symbols disjoints made rows in
+    subst (λ w. AreRows (TellsPairs all new) (said ++ item ∷ []) w) (sym c.in_ok-add.ensures)
+    (pairs_more all said item c.args.lists.now new c.args.numbers.now (Some c.in_ok-k.k) c.in_ok-k.ensures.kept rows
+    (some_number all new (sound_items said) item c.in_ok-k.k (some ∙ proof_next all c.args.old.base.now base said item c.args.old.number next number) list))

@@ -1,0 +1,200 @@
+//! What is kept of the assertions of an older base is taken over, as long as the items so far are its first ones.
+
+ghost use Rattle.std.specs.Prelude.{◌≡◌, ◌∷◌, ◌++◌, ℕ, List, [], true, IfOk, IfSome, OnOk, length};
+ghost use Rattle.std.specs.Option.{option_map};
+ghost use Rattle.mm_frame.specs.Language.Item as meant;
+ghost use Rattle.mm_frame.specs.Language.Scope.{active_numbers};
+ghost use Rattle.mm_frame.specs.Language.Sound.{sound_items};
+ghost use Rattle.mm_frame.specs.Language.Framing.{active_pairs, frame};
+ghost use Rattle.mm_frame.specs.Language.Base.{BaseView, is_proof_at};
+ghost use Rattle.mm_frame.specs.Language.NumberedSymbols.{AreInOrder, ArePairsRead, AreSamePairsRead};
+ghost use Rattle.mm_frame.specs.Language.Answering.{AreRows, IsBaseBy, pairs_in_order, told_numbers};
+ghost use Rattle.mm_frame.specs.Code.KeptAssertions.{AreAssertions, TellsFrame, TellsPairs};
+ghost use Rattle.mm_frame.specs.Code.KeptPairLists.{AreMade, IsList, KeepsLists};
+ghost use Rattle.mm_frame.specs.Code.KeptSymbols.{AreSymbols};
+ghost use Rattle.mm_frame.specs.Code.LastItems.{is_disjoint_item};
+ghost use Rattle.mm_frame.specs.Code.TakenOver.{AreFirst, IsNextOf};
+
+use crate::assertions::Assertions;
+use crate::base::Base;
+use crate::copied_lists::CopiedLists;
+use crate::draft::Frame;
+use crate::expressions::Expressions;
+use crate::pair_lists::PairLists;
+use crate::sparse::{Sparse, number_at};
+use crate::symbol::NumberedSymbol;
+use std::alloc::{AllocError, Global};
+
+/// An older base, and the number of an item of it.
+#[derive(Clone, Copy)]
+pub struct OldItem<'a> {
+    pub base: &'a Base,
+    pub number: usize,
+}
+
+/// The numbers of the active `$d`, and the symbols of all items.
+#[derive(Clone, Copy)]
+pub struct ActiveDisjoints<'a> {
+    pub numbers: &'a [usize],
+    pub expressions: &'a Expressions,
+}
+
+/// Adds the frame of one more item, a copy of the one that is kept, if one is.
+fn copy_frame(
+    alloc: Global,
+    frames: &mut Sparse<Frame>,
+    kept: Option<&Frame>,
+) -> Result<(), AllocError>
+    ensures { OnOk result ((all : List (List ℕ)) (said : List meant.Item) (item : meant.Item)
+        → option_map (λ frame. frame.now.hypotheses.items) kept.entry ≡ told_numbers (sound_items said) item
+        → IfSome kept.entry (λ kept. ArePairsRead all (pairs_in_order (frame (sound_items said) item)) kept.now.pairs.items)
+        → AreRows (TellsFrame all) said frames.old → AreRows (TellsFrame all) (said ++ item ∷ []) frames.new) }
+{
+    let Some(kept) = kept else {
+        frames.pass()?;
+        return Ok(());
+    };
+    let hypotheses = Vec::from_slice(alloc, &kept.hypotheses)?;
+    let pairs = Vec::from_slice(alloc, &kept.pairs)?;
+    frames.add(Frame { hypotheses, pairs })?;
+    Ok(())
+}
+
+/// A sound `$p` of an older base by its number, and the pairs that are active at it.
+#[derive(Clone, Copy)]
+struct OldProof<'a> {
+    base: &'a Base,
+    number: usize,
+    pairs: &'a [(NumberedSymbol, NumberedSymbol)],
+}
+
+/// The number of the list of an earlier `$p`, if it shares its list with the `$p` of the older base.
+fn shared_list(numbers: &Sparse<usize>, proof: OldProof, earlier: usize) -> Option<usize>
+    ensures { IfSome result (λ k. (all : List (List ℕ)) (lists : PairLists) (base : BaseView) (said : List meant.Item) → IsBaseBy all base proof.entry.base.now
+        → AreFirst base said → proof.entry.number ≡ length said → is_proof_at base proof.entry.number ≡ true → AreRows (TellsPairs all lists) said numbers.now
+        → IsList all lists k (active_pairs (sound_items said))) }
+{
+    let k = number_at(numbers, earlier)?;
+    if proof.base.shares_pairs(earlier, proof.number) {
+        Some(k)
+    } else {
+        None
+    }
+}
+
+/// The number of the list of the `$p` of the older base: that of an earlier `$p` which shares it, or else of a copy.
+fn copied_list(
+    alloc: Global,
+    lists: &mut PairLists,
+    copied: &mut CopiedLists,
+    numbers: &Sparse<usize>,
+    proof: OldProof,
+) -> Result<usize, AllocError>
+    ensures list { IfOk result (λ k. (all : List (List ℕ)) (base : BaseView) (said : List meant.Item) → IsBaseBy all base proof.entry.base.now
+        → AreFirst base said → proof.entry.number ≡ length said → is_proof_at base proof.entry.number ≡ true
+        → AreSamePairsRead all (active_pairs (sound_items said)) proof.entry.pairs.now → AreInOrder proof.entry.pairs.now
+        → AreRows (TellsPairs all lists.old) said numbers.now → IsList all lists.new k (active_pairs (sound_items said))) }
+    ensures kept { OnOk result (KeepsLists lists.old lists.new) }
+    ensures made { OnOk result (lists.new.made ≡ lists.old.made) }
+{
+    let list = proof.base.list_guess(proof.number);
+    if let Some(k) = shared_list(numbers, proof, copied.guess(list)) {
+        return Ok(k);
+    }
+    let k = lists.keep(Vec::from_slice(alloc, proof.pairs)?)?;
+    copied.keep(list, proof.number)?;
+    Ok(k)
+}
+
+/// The number of the list of the `$p` of the older base: the one that is made for the active `$d`, or else one that is made
+/// for them from then on.
+fn list_again(
+    alloc: Global,
+    lists: &mut PairLists,
+    copied: &mut CopiedLists,
+    numbers: &Sparse<usize>,
+    active: ActiveDisjoints,
+    proof: OldProof,
+) -> Result<usize, AllocError>
+    ensures list { IfOk result (λ k. (all : List (List ℕ)) (base : BaseView) (said : List meant.Item) → IsBaseBy all base proof.entry.base.now
+        → AreFirst base said → proof.entry.number ≡ length said → is_proof_at base proof.entry.number ≡ true
+        → AreSamePairsRead all (active_pairs (sound_items said)) proof.entry.pairs.now → AreInOrder proof.entry.pairs.now
+        → AreSymbols all (sound_items said) active.entry.expressions.now → active.entry.numbers.now ≡ active_numbers is_disjoint_item (sound_items said)
+        → AreMade all (sound_items said) lists.old → AreRows (TellsPairs all lists.old) said numbers.now
+        → IsList all lists.new k (active_pairs (sound_items said))) }
+    ensures made { OnOk result ((all : List (List ℕ)) (base : BaseView) (said : List meant.Item) → IsBaseBy all base proof.entry.base.now
+        → AreFirst base said → proof.entry.number ≡ length said → is_proof_at base proof.entry.number ≡ true
+        → AreSamePairsRead all (active_pairs (sound_items said)) proof.entry.pairs.now → AreInOrder proof.entry.pairs.now
+        → AreSymbols all (sound_items said) active.entry.expressions.now → active.entry.numbers.now ≡ active_numbers is_disjoint_item (sound_items said)
+        → AreRows (TellsPairs all lists.old) said numbers.now
+        → AreMade all (sound_items said) lists.old → AreMade all (sound_items said) lists.new) }
+    ensures kept { OnOk result (KeepsLists lists.old lists.new) }
+{
+    if let Some(k) = lists.made_list(active.numbers, active.expressions) {
+        return Ok(k);
+    }
+    let k = copied_list(alloc, lists, copied, numbers, proof)?;
+    lists.keep_made(active.numbers, active.expressions, k)?;
+    Ok(k)
+}
+
+/// Adds the number of the list of active pairs of one more item, the one with this number in the older base, if it has one.
+fn copy_pairs(
+    alloc: Global,
+    lists: &mut PairLists,
+    copied: &mut CopiedLists,
+    numbers: &mut Sparse<usize>,
+    active: ActiveDisjoints,
+    old: OldItem,
+) -> Result<(), AllocError>
+    ensures made { OnOk result ((all : List (List ℕ)) (base : BaseView) (said : List meant.Item) (item : meant.Item)
+        → IsNextOf all old.entry.base.now base said item → old.entry.number ≡ length said
+        → AreSymbols all (sound_items said) active.entry.expressions.now → active.entry.numbers.now ≡ active_numbers is_disjoint_item (sound_items said)
+        → AreRows (TellsPairs all lists.old) said numbers.old
+        → AreMade all (sound_items said) lists.old → AreMade all (sound_items said) lists.new) }
+    ensures pairs { OnOk result ((all : List (List ℕ)) (base : BaseView) (said : List meant.Item) (item : meant.Item)
+        → IsNextOf all old.entry.base.now base said item → old.entry.number ≡ length said
+        → AreSymbols all (sound_items said) active.entry.expressions.now → active.entry.numbers.now ≡ active_numbers is_disjoint_item (sound_items said)
+        → AreMade all (sound_items said) lists.old → AreRows (TellsPairs all lists.old) said numbers.old
+        → AreRows (TellsPairs all lists.new) (said ++ item ∷ []) numbers.new) }
+{
+    let Some(pairs) = old.base.pairs(old.number) else {
+        numbers.pass()?;
+        return Ok(());
+    };
+    let proof = OldProof {
+        base: old.base,
+        number: old.number,
+        pairs,
+    };
+    let k = list_again(alloc, lists, copied, numbers, active, proof)?;
+    numbers.add(k)?;
+    Ok(())
+}
+
+impl Assertions {
+    /// Keeps what citing one more item needs, and the list of the pairs that are active there, as the older base has it. After
+    /// out of memory the assertions must not be used.
+    pub fn take_over(
+        &mut self,
+        alloc: Global,
+        active: ActiveDisjoints,
+        old: OldItem,
+    ) -> Result<(), AllocError>
+        ensures { OnOk result ((all : List (List ℕ)) (base : BaseView) (said : List meant.Item) (one : meant.Item)
+            → IsNextOf all old.entry.base.now base said one → old.entry.number ≡ length said
+            → AreSymbols all (sound_items said) active.entry.expressions.now → active.entry.numbers.now ≡ active_numbers is_disjoint_item (sound_items said)
+            → AreAssertions all said self.old → AreAssertions all (said ++ one ∷ []) self.new) }
+    {
+        copy_frame(alloc, &mut self.frames, old.base.kept_frame(old.number))?;
+        copy_pairs(
+            alloc,
+            &mut self.pair_lists,
+            &mut self.copied,
+            &mut self.pair_numbers,
+            active,
+            old,
+        )?;
+        Ok(())
+    }
+}
