@@ -7,7 +7,8 @@ ghost use Rattle.mm_frame.specs.Language.Base.{BaseView, is_framed_at, is_proof_
 ghost use Rattle.mm_frame.specs.Language.Item as meant;
 ghost use Rattle.mm_frame.specs.Language.Statement.{Says};
 ghost use Rattle.mm_frame.specs.Language.Resolving.{IsCarrier, Resolves};
-ghost use Rattle.mm_frame.specs.Language.Answering.{IsBase, IsBaseBy};
+ghost use Rattle.mm_frame.specs.Language.Answering.{IsBase};
+ghost use Rattle.mm_frame.specs.mm_store.Language.FilesView.{FilesView};
 ghost use Rattle.mm_proof.specs.Code.KeptMarks.{AreTheorems, IsOneCarrier, IsShownItem, SharePairs, ShareHypotheses, ShareProof, is_label_word, stands_for};
 ghost use Rattle.mm_proof.specs.Code.TwoTheorems.{AreMarked, AreUnnamed, CanBeCompared, IsUnnamed, OfTwo, OfTwoIn, MeansSame, TellsLabels, TellsShared};
 ghost use Rattle.mm_proof.specs.Language.ReadIn.{IsReadIn, HasTheorem};
@@ -314,7 +315,8 @@ pub fn same_view_by(
 ) -> bool
     requires one { HasTheorem names.now files.now old.now i }
     requires other { HasTheorem names.now files.now new.now j }
-    requires marks { (base copy : BaseView) → IsBaseBy names.now base old.now → IsBaseBy names.now copy new.now → AreMarks base copy marks.now }
+    requires marks { (files : FilesView) (base copy : BaseView) → IsReadIn names.now files old.now base → IsReadIn names.now files new.now copy
+        → AreMarks base copy marks.now }
     ensures { (base copy : BaseView) → IsReadIn names.now files.now old.now base → IsReadIn names.now files.now new.now copy
         → is_proof_at base i ≡ true → is_proof_at copy j ≡ true → IsTrue result ↔ AreSameViews (view_at base i) (view_at copy j) }
 {

@@ -1,0 +1,91 @@
+-- What stays of an item that says the same in both bases, after the same sound items.
+use Rattle.std.proofs.Common.{◌≡◌, ◌<◌, ℕ, Bool, true, false, not, ◌&&◌, Some, List, take, refl, sym, ◌∙◌, ap, subst, arith}
+use Rattle.std.specs.Prelude.{◌↔◌, is_none}
+use Rattle.std.proofs.lemmas.Bool.{false≢true}
+use Rattle.std.proofs.lemmas.List.{get_or-take, take-take}
+use Rattle.std.proofs.lemmas.Option.{same_Some}
+use Rattle.mm_frame.specs.Language.Base.{BaseView, before, said_at, told_fault, is_sound_at, is_shown_at, is_framed_at, is_proof_at, frame_at, hypothesis_at}
+use Rattle.mm_frame.specs.Language.Frame.{Frame, Symbol, AreSameFrame, AreSamePairs}
+use Rattle.mm_frame.specs.Language.Framing.{active_pairs, frame, hypothesis}
+use Rattle.mm_frame.specs.Language.Item.{Item, item_at, passed, is_labelled, is_assertion, is_theorem}
+use Rattle.mm_frame.specs.Language.Laws as laws
+use Rattle.mm_frame.specs.Language.Sound.{sound_items}
+use Rattle.mm_frame.specs.Language.Answering.{IsBaseBy}
+use Rattle.mm_frame.specs.declared.base.Base.{Base}
+use Rattle.mm_proof.specs.Language.BaseMarks.{HaveOneLabel, IsMark, no_mark}
+use Rattle.mm_proof.specs.Code.KeptMarks.{AreTheorems, IsOneHypothesis, SaysAgain, ShareFrame, SharePairs}
+use Rattle.mm_proof.proofs.lemmas.views.KeptMarkLemmas.{nothing_kept, one_label, shown_label, shown_within, some_kept}
+
+-- each of the items that say the same from the first on
+pub says_again : (base copy : BaseView) (n j : ℕ) → take n base.said ≡ take n copy.said → j < n → SaysAgain base copy j
+says_again base copy n j e l = record {
+  before_is = ap sound_items (sym (take-take j n base.said (omega (arith, l))) ∙ ap (take j) e ∙ take-take j n copy.said (omega (arith, l)));
+  said_is = sym (get_or-take n base.said j passed l) ∙ ap (λ items. item_at items j) e ∙ get_or-take n copy.said j passed l;
+}
+
+pub is_false : (b : Bool) → not b ≡ true → b ≡ false
+is_false true e = absurd (false≢true e)
+is_false false e = refl
+
+own_pairs : (pairs : List (Symbol × Symbol)) → AreSamePairs pairs pairs
+own_pairs pairs x y = (λ p. p, λ p. p)
+
+module _ (base copy : BaseView) (j : ℕ) (again : SaysAgain base copy j) where
+  sound_is : is_sound_at base j ≡ is_sound_at copy j
+  sound_is = λ i. is_none (told_fault (again.before_is i) (again.said_is i))
+
+  shown_is : is_shown_at base j ≡ is_shown_at copy j
+  shown_is = λ i. sound_is i && is_labelled (again.said_is i).kind
+
+  framed_is : is_framed_at base j ≡ is_framed_at copy j
+  framed_is = λ i. sound_is i && is_assertion (again.said_is i).kind
+
+  proof_is : is_proof_at base j ≡ is_proof_at copy j
+  proof_is = λ i. sound_is i && is_theorem (again.said_is i).kind
+
+  frame_is : frame_at base j ≡ frame_at copy j
+  frame_is = λ i. frame (again.before_is i) (again.said_is i)
+
+  shares_frame : (framed : Bool) → framed ≡ is_framed_at copy j → (framed ≡ true) ↔ ShareFrame base copy j j
+  shares_frame framed e = (
+    λ t. (let is = sym e ∙ t in record {
+      was = framed_is ∙ is;
+      is = is;
+      same = record {
+        expression = ap (λ (f : Frame). f.expression) frame_is;
+        hypotheses = ap (λ (f : Frame). f.hypotheses) frame_is;
+        pairs = subst (λ (f : Frame). AreSamePairs (frame_at base j).pairs f.pairs) frame_is (own_pairs (frame_at base j).pairs);
+      };
+    }),
+    λ s. e ∙ s.is,
+  )
+
+  shares_pairs : (proof : Bool) → proof ≡ is_proof_at copy j → (proof ≡ true) ↔ (AreTheorems base copy j j × SharePairs base copy j j)
+  shares_pairs proof e = (
+    λ t. (let is = sym e ∙ t in
+        (record { was = proof_is ∙ is; is = is }, subst (λ (items : List Item). AreSamePairs (active_pairs (before base j)) (active_pairs items)) again.before_is (own_pairs (active_pairs (before base j))))),
+    λ s. e ∙ s.0.is,
+  )
+
+  -- it is the item that has its label
+  is_itself : (names : List (List ℕ)) (new : Base) → IsBaseBy names copy new → laws.HasOwnLabels → is_shown_at copy j ≡ true → (k : ℕ) → (Some j ≡ Some k) ↔ HaveOneLabel base copy k j
+  is_itself names new g law shown k =
+      let was = shown_is ∙ shown in
+      let here : HaveOneLabel base copy j j = record { within = shown_within base j was; was = was; is = shown; label = ap (λ (x : Item). x.label) again.said_is } in
+      let label = shown_label names copy new j g shown in (
+        λ e. subst (λ n. HaveOneLabel base copy n j) (same_Some j k e) here,
+        λ h. ap Some (law base j k label.0 ((one_label base copy j j label.0 shown label.1).1 here) ((one_label base copy k j label.0 shown label.1).1 h)),
+      )
+
+  pub again_kept : (names : List (List ℕ)) (new : Base) → IsBaseBy names copy new → laws.HasOwnLabels → (framed proof : Bool) → is_shown_at copy j ≡ true
+      → framed ≡ is_framed_at copy j → proof ≡ is_proof_at copy j → IsMark base copy j (record { old = Some j; frame = framed; pairs = proof; in_step = false })
+  again_kept names new g law framed proof shown f p =
+      some_kept base copy j j framed proof (is_itself names new g law shown) (shares_frame framed f) (shares_pairs proof p)
+
+  -- without a label nothing stays
+  pub nothing_again : is_shown_at copy j ≡ false → IsMark base copy j no_mark
+  nothing_again hidden = nothing_kept base copy j (λ i h. false≢true (sym hidden ∙ h.is))
+
+  -- what is no assertion stays the hypothesis that it is
+  pub again_hypothesis : is_framed_at copy j ≡ false → IsOneHypothesis base copy j j
+  again_hypothesis e = record { was = framed_is ∙ e; is = e; same = λ i. hypothesis (again.before_is i) (again.said_is i) }
