@@ -46,6 +46,8 @@ pub struct Marks {
     marks: Vec<Mark>,
     /// The items of the new base whose labels are listed as changed.
     changed: Vec<usize>,
+    /// How many items, from the first on, are the same in both bases.
+    unchanged: usize,
 }
 
 /// With more changed labels two bases are out of step.
@@ -249,8 +251,8 @@ fn next_expected(base: &Base, found: Option<usize>, expected: usize) -> usize {
     let Some(i) = found else {
         return expected;
     };
-    for n in i..base.count() {
-        if n > i && is_labelled(base, n) {
+    for n in i.saturating_add(1)..base.count() {
+        if is_labelled(base, n) {
             return n;
         }
     }
@@ -400,11 +402,12 @@ impl Marks {
         let ordinals = Ordinals::build(alloc, old, new)?;
         let mut marks = Vec::with_capacity(alloc, new.count())?;
         let mut changed = Vec::new(alloc);
+        let unchanged = same_items(old, new);
         let bases = TwoBases {
             old,
             new,
             ordinals: &ordinals,
-            same: same_items(old, new),
+            same: unchanged,
         };
         let mut step = FIRST_STEP;
         for j in 0..new.count() {
@@ -415,7 +418,11 @@ impl Marks {
             }
             step = next;
         }
-        Ok(Marks { marks, changed })
+        Ok(Marks {
+            marks,
+            changed,
+            unchanged,
+        })
     }
 
     /// The number of the sound item of the old base that has the label of the item `j` of the new one, if both are sound.
@@ -478,5 +485,12 @@ impl Marks {
         ensures { result.now ≡ self.now.changed }
     {
         &self.changed
+    }
+
+    /// How many items, from the first on, are known to say the same in both bases.
+    pub(crate) fn unchanged(&self) -> usize
+        ensures { result ≡ self.now.unchanged }
+    {
+        self.unchanged
     }
 }

@@ -1,5 +1,5 @@
 -- What is kept of what stays of an old base in a new one.
-use Rattle.std.specs.Prelude.{◌≡◌, ◌↔◌, ◌<◌, ℕ, Bool, true, false, not, Option, Some, None, List, length, map, slice_get, take, bytes_eq, codes}
+use Rattle.std.specs.Prelude.{◌≡◌, ◌↔◌, ◌<◌, ℕ, Bool, true, false, not, Option, Some, None, List, length, map, slice_get, slice_index_or, take, bytes_eq, codes}
 use Rattle.std.specs.List.{AllByRecursion}
 use Rattle.mm_frame.specs.Language.Base.{BaseView, before, said_at, is_shown_at, is_framed_at, is_proof_at, frame_at, hypothesis_at}
 use Rattle.mm_frame.specs.Language.Frame.{Resolved, Hypothesis, Assertion, Inactive, Unknown, AreSameFrame, AreSamePairs}
@@ -10,7 +10,7 @@ use Rattle.mm_frame.specs.declared.base.Base.{Base}
 use Rattle.mm_frame.specs.declared.base.Resolved as answer
 use Rattle.mm_frame.specs.declared.base.Resolved.TheVariants as answers
 use Rattle.mm_proof.specs.Language.BaseLabels.{setting_at}
-use Rattle.mm_proof.specs.Language.BaseMarks.{ItemMark, MarksView, AreMarks, IsMark, KeepsLabels, mark_at}
+use Rattle.mm_proof.specs.Language.BaseMarks.{ItemMark, MarksView, AreMarks, IsMark, KeepsLabels, no_mark}
 use Rattle.mm_proof.specs.Language.ReadIn.{IsReadIn}
 use Rattle.mm_proof.specs.Language.SameProof.{IsSameLabel, labels_named}
 use Rattle.mm_proof.specs.declared.marks.Compared.{Compared}
@@ -25,7 +25,7 @@ abbrev pub kept_marks : List code.Mark → List ItemMark
 kept_marks marks = map kept_mark marks
 
 abbrev pub marks_of : Inside → MarksView
-marks_of inside = record { items = kept_marks inside.marks.items; changed = inside.changed.items }
+marks_of inside = record { items = kept_marks inside.marks.items; changed = inside.changed.items; unchanged = inside.unchanged }
 
 -- this holds of what an old base and a new one answer, both by these names, where their items can be read in the same files
 abbrev pub OfBasesBy : List (List ℕ) → Base → Base → (BaseView → BaseView → Type 0) → Type 0
@@ -94,11 +94,15 @@ IsHypothesisMark old new j mark = mark.hypothesis ≡ true → (i : ℕ) → mar
 abbrev pub AreHypothesisMarks : Base → Base → List code.Mark → Type 0
 AreHypothesisMarks old new marks = (m : ℕ) (mark : code.Mark) → slice_get marks m ≡ Some mark → IsHypothesisMark old new m mark
 
--- the marks of this many items are kept
-pub record AreItemMarks (base copy : BaseView) (count : ℕ) (marks : MarksView) : Type 0 where
-  pub count_is : length marks.items ≡ count
-  pub each : (j : ℕ) → j < count → IsMark base copy j (mark_at marks j)
-  pub in_step : (j : ℕ) → j < count → (mark_at marks j).in_step ≡ true → KeepsLabels base copy marks.changed j
+-- the mark of item j among these; if there is none, nothing stays
+abbrev pub item_mark : List ItemMark → ℕ → ItemMark
+item_mark marks j = slice_index_or marks j no_mark
+
+-- the marks of this many items are kept, with those whose labels are listed as changed
+pub record AreItemMarks (base copy : BaseView) (count : ℕ) (marks : List ItemMark) (changed : List ℕ) : Type 0 where
+  pub count_is : length marks ≡ count
+  pub each : (j : ℕ) → j < count → IsMark base copy j (item_mark marks j)
+  pub in_step : (j : ℕ) → j < count → (item_mark marks j).in_step ≡ true → KeepsLabels base copy changed j
 
 -- the item that an answer names has an expression, or a frame
 abbrev pub IsShownItem : BaseView → answer.Resolved → Type 0

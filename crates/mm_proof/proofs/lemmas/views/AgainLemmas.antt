@@ -1,18 +1,21 @@
 -- What stays of an item that says the same in both bases, after the same sound items.
-use Rattle.std.proofs.Common.{◌≡◌, ◌<◌, ℕ, Bool, true, false, not, ◌&&◌, Some, List, take, refl, sym, ◌∙◌, ap, subst, arith}
+use Rattle.std.proofs.Common.{◌≡◌, ◌<◌, ℕ, Bool, true, false, not, ◌&&◌, Some, List, [], ◌∷◌, map, take, refl, sym, ◌∙◌, ap, subst, arith}
 use Rattle.std.specs.Prelude.{◌↔◌, is_none}
+use Rattle.std.specs.List.{AllZip}
 use Rattle.std.proofs.lemmas.Bool.{false≢true}
 use Rattle.std.proofs.lemmas.List.{get_or-take, take-take}
 use Rattle.std.proofs.lemmas.Option.{same_Some}
 use Rattle.mm_frame.specs.Language.Base.{BaseView, before, said_at, told_fault, is_sound_at, is_shown_at, is_framed_at, is_proof_at, frame_at, hypothesis_at}
-use Rattle.mm_frame.specs.Language.Frame.{Frame, Symbol, AreSameFrame, AreSamePairs}
-use Rattle.mm_frame.specs.Language.Framing.{active_pairs, frame, hypothesis}
+use Rattle.mm_frame.specs.Language.Frame.{Frame, Symbol, Resolved, Hypothesis, Assertion, Inactive, Unknown, AreSameFrame, AreSamePairs}
+use Rattle.mm_frame.specs.Language.Framing.{active_pairs, expression, frame, hypothesis, resolve}
 use Rattle.mm_frame.specs.Language.Item.{Item, item_at, passed, is_labelled, is_assertion, is_theorem}
 use Rattle.mm_frame.specs.Language.Laws as laws
 use Rattle.mm_frame.specs.Language.Sound.{sound_items}
 use Rattle.mm_frame.specs.Language.Answering.{IsBaseBy}
 use Rattle.mm_frame.specs.declared.base.Base.{Base}
 use Rattle.mm_proof.specs.Language.BaseMarks.{HaveOneLabel, IsMark, no_mark}
+use Rattle.mm_proof.specs.Language.SameProof.{AreSameMeaning, labels_named}
+use Rattle.mm_proof.specs.Language.View.{View, view_at, AreSameViews}
 use Rattle.mm_proof.specs.Code.KeptMarks.{AreTheorems, IsOneHypothesis, SaysAgain, ShareFrame, SharePairs}
 use Rattle.mm_proof.proofs.lemmas.views.KeptMarkLemmas.{nothing_kept, one_label, shown_label, shown_within, some_kept}
 
@@ -29,6 +32,22 @@ is_false false e = refl
 
 own_pairs : (pairs : List (Symbol × Symbol)) → AreSamePairs pairs pairs
 own_pairs pairs x y = (λ p. p, λ p. p)
+
+own_frame : (f : Frame) → AreSameFrame f f
+own_frame f = record { expression = refl; hypotheses = refl; pairs = own_pairs f.pairs }
+
+own_meaning : (r : Resolved) → AreSameMeaning r r
+own_meaning (Hypothesis e) = refl
+own_meaning (Assertion f) = own_frame f
+own_meaning Inactive = tt
+own_meaning Unknown = tt
+
+own_meanings : (rs : List Resolved) → AllZip AreSameMeaning rs rs
+own_meanings [] = tt
+own_meanings (r ∷ rs) = (own_meaning r, own_meanings rs)
+
+own_view : (v : View) → AreSameViews v v
+own_view v = record { proof = refl; expression = refl; hypotheses = refl; active = own_pairs v.active; meanings = own_meanings v.meanings }
 
 module _ (base copy : BaseView) (j : ℕ) (again : SaysAgain base copy j) where
   sound_is : is_sound_at base j ≡ is_sound_at copy j
@@ -48,15 +67,7 @@ module _ (base copy : BaseView) (j : ℕ) (again : SaysAgain base copy j) where
 
   shares_frame : (framed : Bool) → framed ≡ is_framed_at copy j → (framed ≡ true) ↔ ShareFrame base copy j j
   shares_frame framed e = (
-    λ t. (let is = sym e ∙ t in record {
-      was = framed_is ∙ is;
-      is = is;
-      same = record {
-        expression = ap (λ (f : Frame). f.expression) frame_is;
-        hypotheses = ap (λ (f : Frame). f.hypotheses) frame_is;
-        pairs = subst (λ (f : Frame). AreSamePairs (frame_at base j).pairs f.pairs) frame_is (own_pairs (frame_at base j).pairs);
-      };
-    }),
+    λ t. (let is = sym e ∙ t in record { was = framed_is ∙ is; is = is; same = subst (λ (f : Frame). AreSameFrame (frame_at base j) f) frame_is (own_frame (frame_at base j)) }),
     λ s. e ∙ s.is,
   )
 
@@ -89,3 +100,16 @@ module _ (base copy : BaseView) (j : ℕ) (again : SaysAgain base copy j) where
   -- what is no assertion stays the hypothesis that it is
   pub again_hypothesis : is_framed_at copy j ≡ false → IsOneHypothesis base copy j j
   again_hypothesis e = record { was = framed_is ∙ e; is = e; same = λ i. hypothesis (again.before_is i) (again.said_is i) }
+
+  -- and a theorem keeps its view
+  view_is : view_at base j ≡ view_at copy j
+  view_is = λ i. record {
+    proof = (again.said_is i).proof;
+    expression = expression (again.before_is i) (again.said_is i);
+    hypotheses = (frame_is i).hypotheses;
+    active = active_pairs (again.before_is i);
+    meanings = map (resolve (again.before_is i)) (labels_named (again.said_is i).proof);
+  }
+
+  pub same_views : AreSameViews (view_at base j) (view_at copy j)
+  same_views = subst (λ (v : View). AreSameViews (view_at base j) v) view_is (own_view (view_at base j))
