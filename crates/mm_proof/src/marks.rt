@@ -6,7 +6,8 @@ ghost use Rattle.mm_frame.specs.Language.Answering.{BaseAnswers, IsBase};
 ghost use Rattle.mm_frame.specs.mm_store.Language.FilesView.{FilesView};
 ghost use Rattle.mm_frame.specs.Language.Resolving.{IsCarrier};
 ghost use Rattle.mm_proof.specs.Code.InStep.{AreOrdinalsOf, HasLevel, IsStepAt, MeanOne, changed_behind};
-ghost use Rattle.mm_proof.specs.Code.KeptMarks.{OfBases, AreTheorems, SharePairs, ShareFrame, IsCompared, IsComparedOf, IsHypothesisMark, IsHypothesisMarkAt, IsOneHypothesis, AreHypothesisMarks, SaySame, SaysAgain, kept_mark};
+ghost use Rattle.mm_proof.specs.Code.KeptMarks.{OfBases, AreTheorems, SharePairs, ShareFrame, IsCompared, IsComparedOf, IsOneHypothesis};
+ghost use Rattle.mm_proof.specs.Code.KeptMarks.{IsHypothesisMark, IsHypothesisMarkAt, AreHypothesisMarks, SaySame, SaysAgain, kept_mark};
 ghost use Rattle.mm_proof.specs.Language.ReadIn.{IsReadIn};
 ghost use Rattle.mm_proof.specs.Language.BaseMarks.{AreMarks, HaveOneLabel, IsMark, KeepsLabels, mark_at};
 

@@ -9,7 +9,8 @@ ghost use Rattle.mm_frame.specs.Language.Statement.{Says};
 ghost use Rattle.mm_frame.specs.Language.Resolving.{IsCarrier, Resolves};
 ghost use Rattle.mm_frame.specs.Language.Answering.{IsBase};
 ghost use Rattle.mm_frame.specs.mm_store.Language.FilesView.{FilesView};
-ghost use Rattle.mm_proof.specs.Code.KeptMarks.{AreTheorems, IsOneCarrier, IsShownItem, SaysAgain, SharePairs, ShareHypotheses, ShareProof, is_label_word, stands_for};
+ghost use Rattle.mm_proof.specs.Code.KeptMarks.{AreTheorems, IsOneCarrier, IsShownItem, SaysAgain, SharePairs, ShareHypotheses, ShareProof};
+ghost use Rattle.mm_proof.specs.Code.KeptMarks.{is_label_word, stands_for};
 ghost use Rattle.mm_proof.specs.Code.TwoTheorems.{AreMarked, AreUnnamed, CanBeCompared, IsUnnamed, OfTwo, OfTwoIn, MeansSame, TellsLabels, TellsShared};
 ghost use Rattle.mm_proof.specs.Language.ReadIn.{IsReadIn, HasTheorem};
 ghost use Rattle.mm_proof.specs.Language.BaseMarks.{AreMarks, mark_at};
@@ -316,8 +317,9 @@ pub fn same_view(names: &Names, files: &Files, one: &Base, i: usize, other: &Bas
 }
 
 /// Answers what [`same_view`] does, by the marks of the two bases: no frame is compared, and each label that the proof
-/// names is looked up once. Nothing is compared of an item that is the same in both, as all items before it are. No label is looked up if the bases are in step up to the two, except for a few changed labels, and none of
-/// these labels is among the bytes of the theorem. It takes no memory.
+/// names is looked up once. None is if the bases are in step up to the two, except for a few changed labels, and none of
+/// these labels is among the bytes of the theorem. Nothing is looked at if all items up to the two are the same in both
+/// bases. It takes no memory.
 pub fn same_view_by(
     names: &Names,
     files: &Files,

@@ -48,7 +48,8 @@ pub record AreBothRead (names : List (List ℕ)) (files : FilesView) (old new : 
 
 -- the marks of these two bases say what stays of the old one, where the items of both can be read in the same files
 abbrev pub AreMarksBy : List (List ℕ) → Base → Base → MarksView → Type 0
-AreMarksBy names old new marks = (files : FilesView) (base copy : BaseView) → IsReadIn names files old base → IsReadIn names files new copy → AreMarks base copy marks
+AreMarksBy names old new marks = (files : FilesView) (base copy : BaseView) → IsReadIn names files old base → IsReadIn names files new copy
+    → AreMarks base copy marks
 
 -- there are two such bases, and the new one has an item with this number
 abbrev pub HasItemBothRead : List (List ℕ) → FilesView → Base → Base → ℕ → Type 0

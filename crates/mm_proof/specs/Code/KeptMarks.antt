@@ -87,6 +87,7 @@ pub record IsOneHypothesis (base copy : BaseView) (i j : ℕ) : Type 0 where
 abbrev pub IsHypothesisMarkAt : BaseView → BaseView → ℕ → code.Mark → Type 0
 IsHypothesisMarkAt base copy j mark = mark.hypothesis ≡ true → (i : ℕ) → mark.old ≡ Some i → IsOneHypothesis base copy i j
 
+-- and this of what the two bases answer
 abbrev pub IsHypothesisMark : Base → Base → ℕ → code.Mark → Type 0
 IsHypothesisMark old new j mark = mark.hypothesis ≡ true → (i : ℕ) → mark.old ≡ Some i → OfBases old new (λ base copy. IsOneHypothesis base copy i j)
 

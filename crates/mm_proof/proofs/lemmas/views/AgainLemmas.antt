@@ -13,11 +13,11 @@ use Rattle.mm_frame.specs.Language.Laws as laws
 use Rattle.mm_frame.specs.Language.Sound.{sound_items}
 use Rattle.mm_frame.specs.Language.Answering.{IsBaseBy}
 use Rattle.mm_frame.specs.declared.base.Base.{Base}
-use Rattle.mm_proof.specs.Language.BaseMarks.{HaveOneLabel, IsMark, no_mark}
+use Rattle.mm_proof.specs.Language.BaseMarks.{HaveOneLabel, IsMark}
 use Rattle.mm_proof.specs.Language.SameProof.{AreSameMeaning, labels_named}
 use Rattle.mm_proof.specs.Language.View.{View, view_at, AreSameViews}
 use Rattle.mm_proof.specs.Code.KeptMarks.{AreTheorems, IsOneHypothesis, SaysAgain, ShareFrame, SharePairs}
-use Rattle.mm_proof.proofs.lemmas.views.KeptMarkLemmas.{nothing_kept, one_label, shown_label, shown_within, some_kept}
+use Rattle.mm_proof.proofs.lemmas.views.KeptMarkLemmas.{one_label, shown_label, shown_within, some_kept}
 
 -- each of the items that say the same from the first on
 pub says_again : (base copy : BaseView) (n j : ℕ) → take n base.said ≡ take n copy.said → j < n → SaysAgain base copy j
@@ -26,10 +26,12 @@ says_again base copy n j e l = record {
   said_is = sym (get_or-take n base.said j passed l) ∙ ap (λ items. item_at items j) e ∙ get_or-take n copy.said j passed l;
 }
 
+-- what is not true is false
 pub is_false : (b : Bool) → not b ≡ true → b ≡ false
 is_false true e = absurd (false≢true e)
 is_false false e = refl
 
+-- each thing is the same as itself
 own_pairs : (pairs : List (Symbol × Symbol)) → AreSamePairs pairs pairs
 own_pairs pairs x y = (λ p. p, λ p. p)
 
@@ -92,10 +94,6 @@ module _ (base copy : BaseView) (j : ℕ) (again : SaysAgain base copy j) where
       → framed ≡ is_framed_at copy j → proof ≡ is_proof_at copy j → IsMark base copy j (record { old = Some j; frame = framed; pairs = proof; in_step = false })
   again_kept names new g law framed proof shown f p =
       some_kept base copy j j framed proof (is_itself names new g law shown) (shares_frame framed f) (shares_pairs proof p)
-
-  -- without a label nothing stays
-  pub nothing_again : is_shown_at copy j ≡ false → IsMark base copy j no_mark
-  nothing_again hidden = nothing_kept base copy j (λ i h. false≢true (sym hidden ∙ h.is))
 
   -- what is no assertion stays the hypothesis that it is
   pub again_hypothesis : is_framed_at copy j ≡ false → IsOneHypothesis base copy j j
