@@ -1,5 +1,6 @@
 -- Views: what verdicts depend on, and when two theorems have the same.
 
+pub mod AgainLemmas
 pub mod InStepLemmas
 pub mod KeptMarkLemmas
 pub mod MeaningLemmas
