@@ -173,6 +173,7 @@ fn earlier<'b>(
 }
 
 /// Goes on with the pairs past one more item, whose symbols have these numbers.
+#[inline(always)]
 fn follow_pairs(
     alloc: Global,
     pairs: &mut PairTable,

@@ -35,6 +35,7 @@ impl Model for Expressions {
 }
 
 /// The number of a list with these symbols. It is added, if none is found by a guess.
+#[inline(always)]
 fn number_of(
     lists: &mut SymbolLists,
     guesses: &mut ListGuesses,
@@ -82,6 +83,7 @@ impl Expressions {
     }
 
     /// Adds the symbols of one more item, for which there may be a guess. Out of memory changes nothing.
+    #[inline(always)]
     pub fn add(
         &mut self,
         guesses: &mut ListGuesses,
