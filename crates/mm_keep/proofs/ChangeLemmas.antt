@@ -1,5 +1,5 @@
 -- How a session goes on with edited files.
-use Rattle.std.proofs.Common.{◌≡◌, ℕ, Option, List, length, refl, sym, ap, ◌∙◌, subst, subst₂}
+use Rattle.std.proofs.Common.{◌≡◌, ℕ, Option, List, refl, sym, ◌∙◌, subst}
 use Rattle.mm_proof.specs.mm_store.Language.Undoing.{UndoView}
 use Rattle.mm_proof.specs.mm_store.Language.Batches.{IsBatchOf, IsSpendable, KeepsReading, KeepsStanding}
 use Rattle.mm_proof.specs.mm_store.Language.Edits.{Asked}
@@ -14,7 +14,7 @@ use Rattle.mm_keep.specs.Code.Changing.{CanTake, HasKept, WereKept, session_of}
 use Rattle.mm_keep.specs.Code.KeptSession.{AreChecked}
 use Rattle.mm_proof.specs.mm_frame.Language.Older.{IsOlder}
 use Rattle.mm_keep.specs.Code.Next.{IsBuilt, IsNextBase}
-use Rattle.mm_keep.specs.Code.Planned.{ArePlanned, AreRunBy, CanCarry}
+use Rattle.mm_keep.specs.Code.Planned.{CanCarry}
 use Rattle.mm_keep.specs.Language.Sessions.{IsChanged}
 use Rattle.mm_keep.proofs.KeepLemmas.{ItemsStand, KeepsNumbers, batch_top, expansion_top, base_settled, says_edited}
 use Rattle.mm_keep.proofs.NextLemmas.{begins_trans}

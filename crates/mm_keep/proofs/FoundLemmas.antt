@@ -10,7 +10,6 @@ use Rattle.mm_proof.specs.mm_frame.declared.FrameNumber.{FrameNumber}
 use Rattle.mm_proof.specs.mm_frame.declared.judge.FrameFault.{FrameFault}
 use Rattle.mm_proof.specs.mm_frame.Language.Laws.{FilesHaveOneBase}
 use Rattle.mm_proof.specs.mm_frame.Language.Base.{BaseView, IsOfFiles}
-use Rattle.mm_proof.specs.Language.Work.{Judgement}
 use Rattle.mm_keep.specs.Code.KeptSession.{AreChecked, IsSessionKept, session_view}
 use Rattle.mm_keep.specs.Code.OfFiles.{IsOf}
 use Rattle.mm_keep.specs.Language.Sessions.{OfItems, SessionView}

@@ -1,5 +1,5 @@
 -- What a session goes on with after a change of its files.
-use Rattle.std.specs.Prelude.{◌≡◌, ◌≢◌, ℕ, true, Option, None, Some, List, length, slice_get}
+use Rattle.std.specs.Prelude.{◌≡◌, ◌≢◌, ℕ, true, None, List, length}
 use Rattle.mm_proof.specs.mm_store.Language.FilesView.{FilesView, files_in, number_of}
 use Rattle.mm_proof.specs.mm_frame.Language.Base.{BaseView, IsOfFiles, is_proof_at}
 use Rattle.mm_proof.specs.mm_frame.Language.Answering.{IsBaseBy, StandsLater}

@@ -36,4 +36,5 @@ loop-j-preserved c =
 pub returns : goal.returns
 returns c base copy can =
     let e : c.loop-j.j ≡ length c.args.plan.now = omega (arith, can.count) in
-    carried_all base copy c.args.old.now c.args.plan.now c.args.new.now can c.loop-j.old c.loop-j.new (subst (λ n. AreCarried base copy c.args.plan.now n c.loop-j.old c.loop-j.new) e (c.loop-j.invariant.carried base copy can)) (omega (arith, c.loop-j.invariant.long))
+    let carried = subst (λ n. AreCarried base copy c.args.plan.now n c.loop-j.old c.loop-j.new) e (c.loop-j.invariant.carried base copy can) in
+    carried_all base copy c.args.old.now c.args.plan.now c.args.new.now can c.loop-j.old c.loop-j.new carried (omega (arith, c.loop-j.invariant.long))

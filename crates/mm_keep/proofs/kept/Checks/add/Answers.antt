@@ -1,4 +1,4 @@
-use Rattle.std.proofs.Common.{◌≡◌, ◌∷◌, [], ◌++◌, ◌+◌, Some, length, map, ap, ◌∙◌, arith}
+use Rattle.std.proofs.Common.{◌∷◌, [], ◌++◌, ◌+◌, Some, length, map, ap, ◌∙◌, arith}
 use Rattle.mm_keep.specs.Code.KeptCheck.{judgement_at}
 use Rattle.mm_keep.proofs.CheckLemmas.{added, pushed}
 use Rattle.mm_keep.proofs.kept.Checks.add.Goals as goal
