@@ -11,6 +11,10 @@ use std::marker::Model;
 /// For how many symbols of each list there is room at the beginning: about as many as databases have.
 const FEW_SYMBOLS: usize = 8;
 
+/// There is room for more lists: for a multiple of 4,096, less one. So the room of a base that was dropped fits one with a few
+/// more items, which memory of this size would otherwise be taken anew for.
+const ROUND: usize = 4095;
+
 /// Lists of symbols, numbered from 0. Their symbols lie in one list.
 ///
 /// To add a list takes time linear in it on the average; to find one takes constant time.
@@ -49,7 +53,8 @@ impl SymbolLists {
         ensures { IfOk result (λ lists. lists ≡ []) }
     {
         let ends = Counts::with_room(alloc, count)?;
-        let symbols = Vec::with_capacity(alloc, count.saturating_mul(FEW_SYMBOLS))?;
+        let some = (count | ROUND).saturating_mul(FEW_SYMBOLS);
+        let symbols = Vec::with_capacity(alloc, some)?;
         Ok(SymbolLists { symbols, ends })
     }
 

@@ -1,8 +1,9 @@
 -- What is carried so far.
-use Rattle.std.proofs.Common.{◌≡◌, ◌≢◌, ℕ, ◌<◌, ◌≤◌, ◌+◌, Option, Some, None, List, length, get_or, set, refl, sym, ◌∙◌, ap, subst, arith, length-set, get_or-set_other, get_or-set_same, slice_get}
+use Rattle.std.proofs.Common.{◌≡◌, ◌≢◌, ℕ, true, is_some, ◌<◌, ◌≤◌, ◌+◌, Option, Some, None, List, length, get_or, set, refl, sym, ◌∙◌, ap, subst, arith, length-set, get_or-set_other, get_or-set_same, slice_get}
 use native.Mathlib.Decide.{dec_lt}
+use Rattle.std.proofs.lemmas.Bool.{false≢true}
 use Rattle.std.proofs.lemmas.Option.{get_or_from_slice_get, slice_get-get_or, slice_get_within}
-use Rattle.mm_proof.specs.mm_frame.Language.Base.{BaseView}
+use Rattle.mm_proof.specs.mm_frame.Language.Base.{BaseView, is_proof_at}
 use Rattle.mm_proof.specs.Language.DecodingLaws.{LabelsAreOwn}
 use Rattle.mm_proof.specs.Language.ViewLaws.{SameViewSameVerdict, SameViewSameCites}
 use Rattle.mm_proof.specs.Language.Work.{Judgement}
@@ -69,6 +70,23 @@ carried_kept own verdicts cites base copy checked plan ran can j i old new are t
           are.left k h one (omega arith) e (get_set_other old i h one (get_or new j None) ne f);
     }
 
+-- what is kept was checked, and there is something in its place
+pub old_some : (base copy : BaseView) (checked : List (Option Judgement)) (plan : List (Option ℕ)) (ran : List (Option Judgement)) → CanCarry base copy checked plan ran
+    → (j i : ℕ) (old new : List (Option Judgement)) → AreCarried base copy plan j old new → slice_get plan j ≡ Some (Some i) → length old ≡ length checked
+    → is_some (get_or old i None) ≡ true
+old_some base copy checked plan ran can j i old new are there long =
+    let kept : HasSameView base copy i j = can.planned.each j (Some i) there in
+    let l : i < length old = omega (arith, kept.within, can.was.count) in
+    checked_some base i (get_or old i None) kept.was (are.left j i (get_or old i None) (omega arith) there (slice_get-get_or old i None l))
+  where
+    checked_some : (base : BaseView) (i : ℕ) (one : Option Judgement) → is_proof_at base i ≡ true → IsCheckedAt base i one → is_some one ≡ true
+    checked_some base i None was is = absurd (false≢true (sym is ∙ was))
+    checked_some base i (Some one) was is = refl
+
+pub new_some : (base copy : BaseView) (plan : List (Option ℕ)) (j i : ℕ) (old new : List (Option Judgement)) → AreCarried base copy plan j old new → slice_get plan j ≡ Some (Some i)
+    → j < length new → is_some (get_or new j None) ≡ true
+new_some base copy plan j i old new are there l = are.rest j (Some i) (get_or new j None) (omega arith) there (slice_get-get_or new j None l)
+
 -- one item more is carried, if it keeps something
 pub carried_one : LabelsAreOwn → SameViewSameVerdict → SameViewSameCites → (base copy : BaseView) (checked : List (Option Judgement)) (plan : List (Option ℕ)) (ran : List (Option Judgement)) → CanCarry base copy checked plan ran
     → (j : ℕ) (old new spent given : List (Option Judgement)) → AreCarried base copy plan j old new → j < length plan → j < length new
@@ -84,3 +102,12 @@ carried_one own verdicts cites base copy checked plan ran can j old new spent gi
     let e = moved i refl in
     subst (λ (xs : List (Option Judgement)). AreCarried base copy plan (j + 1) spent xs) (sym e.1) (subst (λ (xs : List (Option Judgement)). AreCarried base copy plan (j + 1) xs (set new j (get_or old i None))) (sym e.0)
     (carried_kept own verdicts cites base copy checked plan ran can j i old new are (slice_get-get_or plan j None l ∙ ap Some is) (bound i refl) m))
+
+-- as many items as before
+pub carried_lengths : (from : Option ℕ) (j : ℕ) (old new spent given : List (Option Judgement)) → (from ≡ None → (spent ≡ old) × (given ≡ new))
+    → ((i : ℕ) → from ≡ Some i → (spent ≡ set old i (get_or new j None)) × (given ≡ set new j (get_or old i None)))
+    → (length spent ≡ length old) × (length given ≡ length new)
+carried_lengths None j old new spent given nothing moved = let e = nothing refl in (ap length e.0, ap length e.1)
+carried_lengths (Some i) j old new spent given nothing moved =
+    let e = moved i refl in
+    (ap length e.0 ∙ length-set old i (get_or new j None), ap length e.1 ∙ length-set new j (get_or old i None))

@@ -1,5 +1,5 @@
 -- How a session goes on with edited files.
-use Rattle.std.proofs.Common.{◌≡◌, ℕ, Option, List, length, refl, sym, ap, ◌∙◌, subst, subst₂}
+use Rattle.std.proofs.Common.{◌≡◌, ℕ, Option, List, refl, sym, ◌∙◌, subst}
 use Rattle.mm_proof.specs.mm_store.Language.Undoing.{UndoView}
 use Rattle.mm_proof.specs.mm_store.Language.Batches.{IsBatchOf, IsSpendable, KeepsReading, KeepsStanding}
 use Rattle.mm_proof.specs.mm_store.Language.Edits.{Asked}
@@ -14,21 +14,21 @@ use Rattle.mm_keep.specs.Code.Changing.{CanTake, HasKept, WereKept, session_of}
 use Rattle.mm_keep.specs.Code.KeptSession.{AreChecked}
 use Rattle.mm_proof.specs.mm_frame.Language.Older.{IsOlder}
 use Rattle.mm_keep.specs.Code.Next.{IsBuilt, IsNextBase}
-use Rattle.mm_keep.specs.Code.Planned.{ArePlanned, AreRunBy, CanCarry}
+use Rattle.mm_keep.specs.Code.Planned.{CanCarry}
 use Rattle.mm_keep.specs.Language.Sessions.{IsChanged}
 use Rattle.mm_keep.proofs.KeepLemmas.{ItemsStand, KeepsNumbers, batch_top, expansion_top, base_settled, says_edited}
 use Rattle.mm_keep.proofs.NextLemmas.{begins_trans}
 
--- what is checked can be carried, by lists that are equal to those of the session
-pub can_carry_by : (before after : FilesView) (undos : List UndoView) (top : List ℕ) (names : List (List ℕ)) (checked : List (Option Judgement)) (next : Next) → (can : CanTake before after undos top names checked next)
-    → (was : List (Option Judgement)) (plan : List (Option ℕ)) (ran : List (Option Judgement)) → was ≡ checked → plan ≡ next.ran.plan.items → ran ≡ next.ran.checked.items → CanCarry can.old can.base was plan ran
-can_carry_by before after undos top names checked next can was plan ran a b d = record {
+-- what is checked can be carried
+pub can_carry : (before after : FilesView) (undos : List UndoView) (top : List ℕ) (names : List (List ℕ)) (checked : List (Option Judgement)) (next : Next) → (can : CanTake before after undos top names checked next)
+    → CanCarry can.old can.base checked next.ran.plan next.ran.checked
+can_carry before after undos top names checked next can = record {
   old_said = (before, can.old_is.each);
   new_said = (after, can.built.of_files.each);
-  planned = subst (ArePlanned can.old can.base) (sym b) can.goes_on.planned;
-  was = subst (AreChecked can.old) (sym a) can.old_checked;
-  ran_is = subst₂ (λ (p : List (Option ℕ)) (r : List (Option Judgement)). AreRunBy can.base p r) (sym b) (sym d) can.goes_on.ran;
-  count = ap length d ∙ can.goes_on.count ∙ sym (ap length b);
+  planned = can.goes_on.planned;
+  was = can.old_checked;
+  ran_is = can.goes_on.ran;
+  count = can.goes_on.count;
 }
 
 -- what is kept once the edits are settled

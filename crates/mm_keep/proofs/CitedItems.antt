@@ -1,8 +1,8 @@
 -- The items that a theorem cites are those whose labels are words that cite.
-use Rattle.std.proofs.Common.{◌≡◌, ◌<◌, ◌⊎◌, ℕ, Bool, true, false, Option, Some, List, length, get_or, slice_get, refl, sym, ap, ◌∙◌, subst, inl, inr, arith, ◌↔◌, Contains, slice_index}
+use Rattle.std.proofs.Common.{◌≡◌, ◌<◌, ◌⊎◌, ℕ, Bool, true, false, Option, Some, None, List, length, get_or, slice_get, refl, sym, ap, ◌∙◌, subst, inl, inr, arith, ◌↔◌, Contains, slice_index}
 use Rattle.std.proofs.lemmas.Bool.{and_parts, and_from, false≢true}
 use Rattle.std.proofs.lemmas.List.{get_or_default}
-use Rattle.std.proofs.lemmas.Option.{same_Some}
+use Rattle.std.proofs.lemmas.Option.{same_Some, slice_get-get_or}
 use Rattle.mm_proof.specs.mm_frame.Language.Base.{BaseView, AreSaid, said_at, is_proof_at, is_sound_at}
 use Rattle.mm_proof.specs.mm_frame.Language.Item.{Kind, Axiom, Theorem, is_assertion, is_labelled}
 use Rattle.mm_proof.specs.mm_frame.Language.Laws.{HasOwnLabels}
@@ -17,7 +17,6 @@ use Rattle.mm_keep.specs.Language.Sessions.{IsAssertion}
 use Rattle.mm_keep.specs.Code.Cited.{AreRising, HasLabelAmong, IsAmongCited, MarksMore, IsMarked}
 use Rattle.mm_keep.specs.Code.KeptSession.{AreChecked, IsCheckedAt}
 use Rattle.mm_keep.proofs.CitedWords.{rise_pairs}
-use Rattle.mm_keep.proofs.FoundLemmas.{at_index}
 
 -- ---- assertions have labels
 
@@ -96,12 +95,10 @@ none_cited view j k none c = false≢true (sym none ∙ c.theorem)
 
 -- ---- what a check of an item says, as it is kept
 
-pub checked_at :
-    (view : BaseView) (checked : List (Option Judgement)) (j : ℕ) (found one : Option Judgement) → AreChecked view checked → j < length view.said →
-    found ≡ get_or checked j found → found ≡ one → IsCheckedAt view j one
-checked_at view checked j found one are within is e =
+pub checked_at : (view : BaseView) (checked : List (Option Judgement)) (j : ℕ) (one : Option Judgement) → AreChecked view checked → j < length view.said → get_or checked j None ≡ one → IsCheckedAt view j one
+checked_at view checked j one are within e =
     let count = are.count in
-    are.each j one (at_index checked j found (omega (arith, within, count)) is ∙ ap Some e)
+    are.each j one (slice_get-get_or checked j None (omega (arith, within, count)) ∙ ap Some e)
 
 -- the numbers of its words rise
 pub cites_rising : CitesRise → (view : BaseView) (j : ℕ) (cites : List ℕ) → cites ≡ cites_at view j → AreRising cites

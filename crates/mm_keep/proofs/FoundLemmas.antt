@@ -10,7 +10,6 @@ use Rattle.mm_proof.specs.mm_frame.declared.FrameNumber.{FrameNumber}
 use Rattle.mm_proof.specs.mm_frame.declared.judge.FrameFault.{FrameFault}
 use Rattle.mm_proof.specs.mm_frame.Language.Laws.{FilesHaveOneBase}
 use Rattle.mm_proof.specs.mm_frame.Language.Base.{BaseView, IsOfFiles}
-use Rattle.mm_proof.specs.Language.Work.{Judgement}
 use Rattle.mm_keep.specs.Code.KeptSession.{AreChecked, IsSessionKept, session_view}
 use Rattle.mm_keep.specs.Code.OfFiles.{IsOf}
 use Rattle.mm_keep.specs.Language.Sessions.{OfItems, SessionView}
@@ -50,19 +49,18 @@ pub kept_items : FilesHaveOneBase → (inside : Inside) → (k : IsSessionKept i
 kept_items one inside k P has = subst P (one inside.files inside.top.items has.0 k.base has.1 k.of_files) has.2
 
 -- the parts of what is kept, with what holds of its items
-pub record Parts (inside : Inside) (checked : List (Option Judgement)) (P : BaseView → Type 0) : Type 0 where
+pub record Parts (inside : Inside) (P : BaseView → Type 0) : Type 0 where
   pub base : BaseView
   pub of_files : IsOfFiles inside.files inside.top.items base
   pub is : IsOf inside.names inside.files inside.base base
-  pub are : AreChecked base checked
+  pub are : AreChecked base inside.checked
   pub holds : P base
 
-pub parts : FilesHaveOneBase → ItemsStand → (inside : Inside) → IsSessionKept inside → (checked : List (Option Judgement)) → checked ≡ inside.checked.items
-    → (session : SessionView) → session_view inside ≡ session → (P : BaseView → Type 0) → OfItems session P → Parts inside checked P
-parts one stand inside k checked same session is P has = record {
+pub parts : FilesHaveOneBase → ItemsStand → (inside : Inside) → IsSessionKept inside → (session : SessionView) → session_view inside ≡ session → (P : BaseView → Type 0) → OfItems session P → Parts inside P
+parts one stand inside k session is P has = record {
   base = k.base;
   of_files = k.of_files;
   is = kept_of stand inside k;
-  are = subst (AreChecked k.base) (sym same) k.checked;
+  are = k.checked;
   holds = kept_items one inside k P (subst (λ (s : SessionView). OfItems s P) (sym is) has);
 }

@@ -1,5 +1,6 @@
 pub mod RunLemmas
 pub mod PlanLemmas
+pub mod CheckLemmas
 pub mod CarryLemmas
 pub mod NextLemmas
 pub mod KeepLemmas

@@ -1,9 +1,9 @@
 -- Runs by a plan: one item more.
-use Rattle.std.proofs.Common.{◌≡◌, ℕ, ◌<◌, ◌≤◌, ◌+◌, ◌↔◌, ◌⊎◌, true, Option, Some, None, List, [], ◌∷◌, ◌++◌, length, get_or, refl, sym, ◌∙◌, ap, subst, arith, inl, inr, slice_get, Contains}
+use Rattle.std.proofs.Common.{◌≡◌, ℕ, ◌<◌, ◌≤◌, ◌+◌, ◌↔◌, ◌⊎◌, true, Option, Some, None, List, [], ◌∷◌, ◌++◌, length, get_or, replicate, refl, sym, ◌∙◌, ap, subst, arith, inl, inr, slice_get, Contains}
 use Rattle.std.specs.List.{AllZip}
 use native.Mathlib.Decide.{dec_lt}
 use Rattle.std.proofs.lemmas.Bool.{false≢true}
-use Rattle.std.proofs.lemmas.List.{length_push, get_or_append_left}
+use Rattle.std.proofs.lemmas.List.{length-replicate, length_push, get_or_append_left, get_or-replicate}
 use Rattle.std.proofs.Math.Seq.{get_or-append_seam}
 use Rattle.std.proofs.lemmas.List.Elements.{Contains-get_or, Contains-append_left, Contains-push, Contains-push_cases}
 use Rattle.std.proofs.lemmas.List.Quantifiers.{all_pairs_push}
@@ -134,6 +134,14 @@ takes new None j before after (inr p) = let s = ap (λ (w : Recorded). w.steps) 
 -- what holds of the same numbers below the count
 those_same : (P Q : ℕ → Type 0) (n : ℕ) (numbers : List ℕ) → AreThose P n numbers → ((k : ℕ) → k < n → P k ↔ Q k) → AreThose Q n numbers
 those_same P Q n numbers those same = those_moved P Q n n numbers those (λ k l p. (l, (same k l).0 p)) (λ k l q. (l, (same k l).1 q))
+
+-- an item keeps nothing by a plan that keeps nothing
+pub keeps_nothing : (plan : List (Option ℕ)) (count : ℕ) → plan ≡ replicate count None → (k : ℕ) (from : Option ℕ) → slice_get plan k ≡ Some from → from ≡ None
+keeps_nothing plan count e k from is =
+    let there : slice_get (replicate count None) k ≡ Some from = ap (λ (xs : List (Option ℕ)). slice_get xs k) (sym e) ∙ is in
+    let long : length plan ≡ count = ap length e ∙ length-replicate count None in
+    let within : k < count = let w = slice_get_within plan k from is in omega arith in
+    sym (get_or_from_slice_get (replicate count None) k from None there) ∙ get_or-replicate count k None None within
 
 -- what runs by a plan that keeps nothing is each theorem
 pub begun_runs : (base : BaseView) (plan : List (Option ℕ)) (runs : List ℕ) → length plan ≡ length base.said → ((k : ℕ) (from : Option ℕ) → slice_get plan k ≡ Some from → from ≡ None) → AreThose (RunsBy base plan) (length plan) runs

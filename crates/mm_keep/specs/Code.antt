@@ -1,5 +1,6 @@
 -- What the code keeps: private contracts and loop invariants cite it.
 pub mod KeptCheck
+pub mod KeptPlan
 pub mod OfFiles
 pub mod FoundKinds
 pub mod KeptSession

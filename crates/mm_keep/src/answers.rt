@@ -17,7 +17,7 @@ ghost use Rattle.mm_keep.specs.Language.Sessions.{HasAssertion, HasItem, IsAsser
 ghost use Rattle.mm_keep.specs.Language.Told.{Told, IsRightlyTold, AreRightlyTold, TellsFaultAt, counts};
 
 use crate::finding::{Finding, FindingKind};
-use crate::kept::Kept;
+use crate::kept::Checks;
 use crate::seen::{place_of_spot, seen_at};
 use crate::session::Session;
 use crate::tally::Tally;
@@ -86,7 +86,7 @@ fn unproved<'a>(kind: ItemKind) -> Finding<'a>
 }
 
 /// What is found of the item with this number.
-fn finding_of<'a>(files: &'a Files, base: &Base, checked: &[Kept], i: usize) -> Finding<'a>
+fn finding_of<'a>(files: &'a Files, base: &Base, checked: &Checks, i: usize) -> Finding<'a>
     requires { HasCheckedItem files.now base.now checked.now i }
     ensures { (names : List (List ℕ)) (view : BaseView) → IsOf names files.now base.now view → AreChecked view checked.now
         → IsRightlyTold files.now view i (told result) }
@@ -95,14 +95,14 @@ fn finding_of<'a>(files: &'a Files, base: &Base, checked: &[Kept], i: usize) -> 
     if let Some(fault) = base.fault(i) {
         return at_fault(files, item, fault);
     }
-    match checked[i].get() {
+    match checked.get(i) {
         Some(check) => judged(files, base, i, check.verdict()),
         None => unproved(item.kind),
     }
 }
 
 /// What is found of the item with this number, without its place and word, which are not looked for.
-fn kind_of(base: &Base, checked: &[Kept], i: usize) -> FindingKind
+fn kind_of(base: &Base, checked: &Checks, i: usize) -> FindingKind
     requires { (files : FilesView) × HasCheckedItem files base.now checked.now i }
     ensures { (names : List (List ℕ)) (files : FilesView) (view : BaseView) → IsOf names files base.now view → AreChecked view checked.now
         → i < length view.said → IsFoundAs files view i result }
@@ -111,14 +111,14 @@ fn kind_of(base: &Base, checked: &[Kept], i: usize) -> FindingKind
     if let Some(_fault) = base.fault(i) {
         return FindingKind::Fault;
     }
-    match checked[i].get() {
+    match checked.get(i) {
         Some(check) => FindingKind::of_verdict(check.verdict()),
         None => unproved(base.item(i).kind).kind(),
     }
 }
 
 /// How many items there are of each kind that a summary counts.
-fn tally_of(base: &Base, checked: &[Kept]) -> Tally
+fn tally_of(base: &Base, checked: &Checks) -> Tally
     requires { (files : FilesView) × HasChecked files base.now checked.now }
     ensures { (names : List (List ℕ)) (files : FilesView) (view : BaseView) → IsOf names files base.now view → AreChecked view checked.now
         → (all : List Told) × AreRightlyTold files view all × (counted result ≡ counts all) }

@@ -9,7 +9,7 @@ ghost use Rattle.mm_keep.specs.Language.Citations.{CitesItem};
 ghost use Rattle.mm_keep.specs.Language.Sessions.{IsAssertion};
 ghost use Rattle.mm_keep.specs.Code.Cited.{AreRising, HasChecks, HasLabelAmong, HasPlaceFor, HasPlaces, IsAmongCited, MarksMore, OfChecks, passed_words};
 
-use crate::kept::{Kept, KeptCheck};
+use crate::kept::{Checks, KeptCheck};
 use mm_proof::{Base, Files, ProofWords, cites_rise, cites_tell, has_own_labels, words_of_proof};
 
 /// The word after this many others, if there is one. It is passed, and so are those before it.
@@ -89,7 +89,7 @@ fn has_label(words: ProofWords, check: &KeptCheck, label: &[u8]) -> bool
 }
 
 /// Marks what the item with this number cites. The words of its proof are read up to the last one that cites.
-pub fn mark_cites(files: &Files, base: &Base, checked: &[Kept], j: usize, marks: &mut [bool])
+pub fn mark_cites(files: &Files, base: &Base, checked: &Checks, j: usize, marks: &mut [bool])
     requires item { HasChecks files.now base.now checked.now (λ view. j < length view.said) }
     requires places { j ≤ length marks.old }
     ensures { OfChecks files.now base.now checked.now (λ view. MarksMore (CitesItem view j) marks.old marks.new) }
@@ -97,21 +97,21 @@ pub fn mark_cites(files: &Files, base: &Base, checked: &[Kept], j: usize, marks:
     cites_rise();
     cites_tell();
     has_own_labels();
-    if let Some(check) = checked[j].get() {
+    if let Some(check) = checked.get(j) {
         let words = words_of_proof(files, base.item(j));
         mark_words(base, words, check, marks);
     }
 }
 
 /// Whether the item with this number cites the one with this label.
-pub fn cites_label(files: &Files, base: &Base, checked: &[Kept], j: usize, label: &[u8]) -> bool
+pub fn cites_label(files: &Files, base: &Base, checked: &Checks, j: usize, label: &[u8]) -> bool
     requires { HasChecks files.now base.now checked.now (λ view. j < length view.said) }
     ensures { OfChecks files.now base.now checked.now (λ view. (i : ℕ) → IsAssertion view label.now i → IsTrue result ↔ CitesItem view j i) }
 {
     cites_rise();
     cites_tell();
     has_own_labels();
-    match checked[j].get() {
+    match checked.get(j) {
         Some(check) => {
             let words = words_of_proof(files, base.item(j));
             has_label(words, check, label)

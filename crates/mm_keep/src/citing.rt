@@ -12,7 +12,7 @@ ghost use Rattle.mm_keep.specs.Code.Cited.{HasChecks, IsMarked, MarksBehind, OfC
 
 use crate::answers::KeepError;
 use crate::cited::{cites_label, mark_cites};
-use crate::kept::Kept;
+use crate::kept::Checks;
 use crate::session::Session;
 use mm_proof::{Base, Files, ItemKind, files_have_one_base};
 use std::alloc::{AllocError, Global};
@@ -43,7 +43,7 @@ fn cites_of(
     alloc: Global,
     files: &Files,
     base: &Base,
-    checked: &[Kept],
+    checked: &Checks,
     i: usize,
 ) -> Result<Vec<usize>, AllocError>
     requires { HasChecks files.now base.now checked.now (λ view. i < length view.said) }
@@ -61,7 +61,7 @@ fn users_of(
     alloc: Global,
     files: &Files,
     base: &Base,
-    checked: &[Kept],
+    checked: &Checks,
     i: usize,
     label: &[u8],
 ) -> Result<Vec<usize>, AllocError>
@@ -80,7 +80,7 @@ fn users_of(
 
 /// Marks that to which chains of citations lead from the marked items, the last of these first: citations lead to earlier
 /// items.
-fn mark_behind(files: &Files, base: &Base, checked: &[Kept], marks: &mut [bool])
+fn mark_behind(files: &Files, base: &Base, checked: &Checks, marks: &mut [bool])
     requires { HasChecks files.now base.now checked.now (λ view. length marks.old ≤ length view.said) }
     ensures { OfChecks files.now base.now checked.now (λ view. MarksBehind view marks.old marks.new) }
 {
@@ -120,7 +120,7 @@ fn axioms_of(
     alloc: Global,
     files: &Files,
     base: &Base,
-    checked: &[Kept],
+    checked: &Checks,
     i: usize,
 ) -> Result<Vec<usize>, AllocError>
     requires { HasChecks files.now base.now checked.now (λ view. i < length view.said) }

@@ -1,6 +1,6 @@
 //! What a session goes on with: the base of its files as they are, and what is checked of it.
 
-ghost use Rattle.std.specs.Prelude.{◌≡◌, ◌↔◌, None, Ok, IfOk, IfErr, IsErrOf, length};
+ghost use Rattle.std.specs.Prelude.{◌≡◌, ◌↔◌, None, Ok, IfOk, IfErr, IsErrOf};
 ghost use Rattle.mm_proof.specs.mm_store.declared.error.StoreError.TheVariants.{Memory, NoTop};
 ghost use Rattle.mm_proof.specs.mm_store.Language.Answers.{IsExpansionError};
 ghost use Rattle.mm_proof.specs.mm_store.Language.FilesView.{files_in, number_of};
@@ -8,10 +8,11 @@ ghost use Rattle.mm_proof.specs.mm_frame.Language.Base.{BaseView};
 ghost use Rattle.mm_proof.specs.mm_frame.Language.Names.{AreDistinct, Begins};
 ghost use Rattle.mm_proof.specs.Language.ReadIn.{IsReadIn};
 ghost use Rattle.mm_proof.specs.mm_frame.Language.Older.{HasOlder, IsOlder};
-ghost use Rattle.mm_keep.specs.Code.Next.{KeepsOrRuns, HasTop, IsBuilt, IsFirst, IsNextBase, KeepsNothing, RunsAll};
+ghost use Rattle.mm_keep.specs.Code.Next.{KeepsOrRuns, HasTop, IsBuilt, IsFirst, IsNextBase, RunsAll};
 ghost use Rattle.mm_keep.specs.Code.Planned.{AreBothRead};
 
-use crate::kept::Kept;
+use crate::kept::Checks;
+use crate::plan::Plan;
 use crate::planning::{planned, run_rest};
 use mm_proof::{Base, Files, Names, StoreError, Work};
 use std::alloc::{AllocError, Global};
@@ -19,8 +20,8 @@ use std::alloc::{AllocError, Global};
 /// What each item of a base keeps of what was checked before, what is checked of the others, and the record of these runs.
 #[derive(Drop)]
 pub struct Ran {
-    pub plan: Vec<Option<u32>>,
-    pub checked: Vec<Kept>,
+    pub plan: Plan,
+    pub checked: Checks,
     pub work: Work,
 }
 
@@ -112,24 +113,12 @@ pub fn next_of(
     with_runs(base, ran)
 }
 
-/// A plan for this many items that keeps nothing.
-fn nothing_kept(alloc: Global, count: usize) -> Result<Vec<Option<u32>>, AllocError>
-    ensures count { IfOk result (λ plan. length plan.items ≡ count) }
-    ensures nothing { IfOk result (λ plan. KeepsNothing plan.items) }
-{
-    let mut plan = Vec::with_capacity(alloc, count)?;
-    for _i in 0..count {
-        plan.push(None)?;
-    }
-    Ok(plan)
-}
-
 /// The runs of all theorems of a first base.
 fn run_all(alloc: Global, names: &Names, files: &Files, base: &Base) -> Result<Ran, AllocError>
     requires { (view : BaseView) × IsReadIn names.now files.now base.now view }
     ensures { IfOk result (λ ran. (view : BaseView) → IsReadIn names.now files.now base.now view → RunsAll view ran) }
 {
-    let plan = nothing_kept(alloc, base.count())?;
+    let plan = Plan::nothing(alloc, base.count());
     let (checked, work) = run_rest(alloc, names, files, base, &plan)?;
     Ok(Ran {
         plan,

@@ -1,12 +1,14 @@
-//! What is kept of the check of one item.
+//! What is kept of the checks of proofs.
 
-ghost use Rattle.std.specs.Prelude.{◌≡◌, ◌<◌, None, Some, IfOk, IfSome, length, slice_index};
+ghost use Rattle.std.specs.Prelude.{◌≡◌, ◌<◌, ◌++◌, ◌∷◌, [], true, None, Some, IfOk, IfSome, OnOk, is_some, length};
+ghost use Rattle.std.specs.Prelude.{slice_index, slice_index_or, slice_set};
 ghost use Rattle.std.specs.Option.{option_map};
 ghost use Rattle.mm_keep.specs.Code.KeptCheck.{numbers_in};
 
 use mm_proof::{Checked, Verdict};
 use std::alloc::{AllocError, Global};
 use std::marker::Model;
+use std::mem;
 
 /// Numbers of words, in half the room if each fits there, as nearly always.
 #[derive(Drop)]
@@ -80,8 +82,16 @@ impl Model for KeptCheck {
 }
 
 impl KeptCheck {
+    /// What a check says that finds no fault and nothing that is cited. It takes no memory.
+    pub fn plain(alloc: Global) -> KeptCheck {
+        KeptCheck {
+            verdict: Verdict::Proved,
+            cites: WordNumbers::Short(Vec::new(alloc)),
+        }
+    }
+
     /// What this check said.
-    fn of(alloc: Global, checked: &Checked) -> Result<KeptCheck, AllocError>
+    pub fn of(alloc: Global, checked: &Checked) -> Result<KeptCheck, AllocError>
         ensures { IfOk result (λ check. check ≡ checked.now) }
     {
         Ok(KeptCheck {
@@ -113,49 +123,102 @@ impl KeptCheck {
     }
 }
 
-/// What the check of the proof of an item said; nothing if the item is no sound `$p`, as most are not. It takes the room
-/// of an address, and that of what was said, at the address.
+/// What the checks of the proofs of items said, by the numbers of all items from 0; nothing if an item is no sound `$p`, as
+/// most are not. What was said is in one list, and for each item there is a number of four bytes.
 #[derive(Drop)]
-pub struct Kept {
-    check: Option<Box<KeptCheck>>,
+pub struct Checks {
+    /// What was said.
+    checks: Vec<KeptCheck>,
+    /// For each item, 0 if there was no check; else where in the list what was said of it is, counted from 1.
+    places: Vec<u32>,
 }
 
-impl Model for Kept {
-    ghost use Rattle.std.specs.Prelude.{Option};
+impl Model for Checks {
+    ghost use Rattle.std.specs.Prelude.{List, Option};
     ghost use Rattle.mm_proof.specs.Language.Work.{Judgement};
 
-    ghost Value = { Option Judgement };
+    ghost Value = { List (Option Judgement) };
 
-    ghost use Rattle.mm_keep.specs.Code.KeptCheck.{judgement_in};
+    ghost use Rattle.mm_keep.specs.Code.KeptCheck.{judgements_in, ArePlaces};
 
-    ghost view = { judgement_in };
+    ghost view = { judgements_in };
+
+    ghost invariant = { ArePlaces };
 }
 
-impl Kept {
-    /// There was no check.
-    pub fn nothing() -> Kept
-        ensures { result ≡ None }
+impl Checks {
+    /// No items, with room for this many, of which this many have a check.
+    pub fn with_room(alloc: Global, items: usize, checks: usize) -> Result<Checks, AllocError>
+        ensures { IfOk result (λ made. made ≡ []) }
     {
-        Kept { check: None }
-    }
-
-    /// What this check said.
-    pub fn of(alloc: Global, checked: &Checked) -> Result<Kept, AllocError>
-        ensures { IfOk result (λ kept. kept ≡ Some checked.now) }
-    {
-        let check = KeptCheck::of(alloc, checked)?;
-        Ok(Kept {
-            check: Some(Box::new(alloc, check)?),
+        Ok(Checks {
+            checks: Vec::with_capacity(alloc, checks)?,
+            places: Vec::with_capacity(alloc, items)?,
         })
     }
 
-    /// What the check said, if there was one.
-    pub fn get(&self) -> Option<&KeptCheck>
-        ensures { option_map (λ check. check.now) result ≡ self.now }
+    /// The allocator that the lists are made on.
+    pub fn allocator(&self) -> Global {
+        *self.places.allocator()
+    }
+
+    /// How many items there are.
+    pub fn count(&self) -> usize
+        ensures { result ≡ length self.now }
     {
-        match &self.check {
-            Some(check) => Some(&**check),
-            None => None,
+        self.places.len()
+    }
+
+    /// What the check of the proof of an item said, if there was one.
+    pub fn get(&self, i: usize) -> Option<&KeptCheck>
+        requires { i < length self.now }
+        ensures { option_map (λ check. check.now) result ≡ slice_index_or self.now i None }
+    {
+        match self.places[i] {
+            0 => None,
+            place => self.checks.get(place as usize - 1),
         }
+    }
+
+    /// Adds one more item, with what its check said, if there was one. Out of memory changes nothing.
+    pub fn push(&mut self, check: Option<KeptCheck>) -> Result<(), AllocError>
+        requires { length self.old < 4294967295 }
+        ensures { OnOk result (self.new ≡ self.old ++ check ∷ []) }
+    {
+        match check {
+            Some(check) => self.add(check),
+            None => self.pass(),
+        }
+    }
+
+    /// Adds one more item, whose check said this. Out of memory changes nothing.
+    fn add(&mut self, check: KeptCheck) -> Result<(), AllocError>
+        requires { length self.old < 4294967295 }
+        ensures { OnOk result (self.new ≡ self.old ++ Some check ∷ []) }
+    {
+        self.checks.reserve(1)?;
+        self.places.push(self.checks.len() as u32 + 1)?;
+        self.checks.push(check).unwrap();
+        Ok(())
+    }
+
+    /// Adds one more item, which has no check. Out of memory changes nothing.
+    fn pass(&mut self) -> Result<(), AllocError>
+        ensures { OnOk result (self.new ≡ self.old ++ None ∷ []) }
+    {
+        self.places.push(0)?;
+        Ok(())
+    }
+
+    /// Exchanges what the check of an item said for what the check of an item of others said.
+    pub fn exchange(&mut self, i: usize, others: &mut Checks, j: usize)
+        requires own { is_some (slice_index_or self.old i None) ≡ true }
+        requires other { is_some (slice_index_or others.old j None) ≡ true }
+        ensures own { self.new ≡ slice_set self.old i (slice_index_or others.old j None) }
+        ensures other { others.new ≡ slice_set others.old j (slice_index_or self.old i None) }
+    {
+        let own = self.places[i] as usize - 1;
+        let other = others.places[j] as usize - 1;
+        mem::swap(&mut self.checks[own], &mut others.checks[other]);
     }
 }

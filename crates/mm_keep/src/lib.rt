@@ -9,6 +9,7 @@ mod finding;
 mod keeping;
 mod kept;
 mod laws;
+mod plan;
 mod planning;
 mod seen;
 mod session;

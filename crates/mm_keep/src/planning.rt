@@ -1,20 +1,21 @@
 //! Which theorems keep what was checked before, and the runs of the others.
 
-ghost use Rattle.std.specs.Prelude.{◌≡◌, ◌<◌, ◌+◌, ◌^◌, ℕ, Some, None, IfOk, OnOk, length, slice_index_or, slice_set};
+ghost use Rattle.std.specs.Prelude.{◌≡◌, ◌<◌, ◌+◌, ◌^◌, ℕ, true, Some, None, IfOk, OnOk, is_some, length, slice_index_or, slice_set};
 ghost use Rattle.mm_proof.specs.mm_frame.Language.Base.{BaseView};
 ghost use Rattle.mm_proof.specs.mm_frame.Language.Answering.{IsBase};
 ghost use Rattle.mm_proof.specs.Language.ReadIn.{IsReadIn};
+ghost use Rattle.mm_keep.specs.Code.KeptPlan.{number_planned};
 ghost use Rattle.mm_keep.specs.Code.KeptSession.{AreChecked, IsCheckedAt};
 ghost use Rattle.mm_keep.specs.Code.Planned.{AreBothRead, AreMarksBy, ArePlanned, AreRecorded, AreRunBy, CanBeCarried, CanCarry};
 ghost use Rattle.mm_keep.specs.Code.Planned.{HasItemBothRead, HasItemRead, IsPlanned, IsRunBy, RecordsIf};
 
-use crate::kept::Kept;
+use crate::kept::{Checks, KeptCheck};
+use crate::plan::Plan;
 use mm_proof::{
     Base, Files, Marks, Names, Work, check, labels_are_own, same_view_by, same_view_same_cites,
     same_view_same_verdict,
 };
 use std::alloc::{AllocError, Global};
-use std::mem;
 
 /// The sound `$p` of the old base of which item `j` of the new one keeps what was checked: the one with its label and an
 /// equal view, if both are sound `$p`.
@@ -40,14 +41,14 @@ fn kept_of(
     }
 }
 
-/// The same number of an item in half the room, if there is one. No base has more items than there are such numbers.
-fn narrow(base: &Base, number: Option<usize>) -> Option<u32>
-    ensures { (view : BaseView) → IsBase view base.now → ((i : ℕ) → number ≡ Some i → i < length view.said) → result ≡ number }
+/// The number of an item as a plan keeps it. No base has more items than there are such numbers.
+fn entry(base: &Base, number: Option<usize>) -> u32
+    ensures { (view : BaseView) → IsBase view base.now → ((i : ℕ) → number ≡ Some i → i < length view.said) → number_planned result ≡ number }
 {
     let _count = base.count();
     match number {
-        Some(i) if i <= 4294967295 => Some(i as u32),
-        _ => None,
+        Some(i) if i < 4294967295 => i as u32 + 1,
+        _ => 0,
     }
 }
 
@@ -58,18 +59,18 @@ pub fn planned(
     files: &Files,
     old: &Base,
     new: &Base,
-) -> Result<Vec<Option<u32>>, AllocError>
+) -> Result<Plan, AllocError>
     requires { (base : BaseView) × (copy : BaseView) × AreBothRead names.now files.now old.now new.now base copy }
-    ensures { IfOk result (λ plan. (base copy : BaseView) → AreBothRead names.now files.now old.now new.now base copy → ArePlanned base copy plan.items) }
+    ensures { IfOk result (λ plan. (base copy : BaseView) → AreBothRead names.now files.now old.now new.now base copy → ArePlanned base copy plan) }
 {
     let marks = Marks::build(alloc, names, old, new)?;
     let count = new.count();
-    let mut plan = Vec::with_capacity(alloc, count)?;
+    let mut entries = Vec::with_capacity(alloc, count)?;
     for j in 0..count {
         let from = kept_of(names, files, old, new, &marks, j);
-        plan.push(narrow(old, from))?;
+        entries.push(entry(old, from))?;
     }
-    Ok(plan)
+    Ok(Plan::of(entries))
 }
 
 /// What checks read: a base, the files that its items are in, and the names of its symbols.
@@ -81,7 +82,12 @@ struct Source<'a> {
 }
 
 /// What a check of the item with this number says, if it is a sound `$p`.
-fn run_one(alloc: Global, source: Source<'_>, j: usize, work: &mut Work) -> Result<Kept, AllocError>
+fn run_one(
+    alloc: Global,
+    source: Source<'_>,
+    j: usize,
+    work: &mut Work,
+) -> Result<Option<KeptCheck>, AllocError>
     requires item { HasItemRead source.names.now source.files.now source.base.now j }
     requires room { 0 < work.old.room }
     requires steps { work.old.steps + 4294967295 < 2 ^ 64 }
@@ -91,22 +97,23 @@ fn run_one(alloc: Global, source: Source<'_>, j: usize, work: &mut Work) -> Resu
         → RecordsIf view None j work.old work.new) }
 {
     match source.base.pairs(j) {
-        None => Ok(Kept::nothing()),
+        None => Ok(None),
         Some(_) => {
             let checked = check(alloc, source.names, source.files, source.base, j, work)?;
-            Ok(Kept::of(alloc, &checked)?)
+            Ok(Some(KeptCheck::of(alloc, &checked)?))
         }
     }
 }
 
-/// What a check of the item with this number says, if it is a sound `$p` that keeps nothing.
+/// What a check of the item with this number says, if it is a sound `$p` that keeps nothing. If it keeps something, this
+/// only holds the place for that.
 fn run_of(
     alloc: Global,
     source: Source<'_>,
     j: usize,
-    from: Option<u32>,
+    from: Option<usize>,
     work: &mut Work,
-) -> Result<Kept, AllocError>
+) -> Result<Option<KeptCheck>, AllocError>
     requires item { HasItemRead source.names.now source.files.now source.base.now j }
     requires room { 0 < work.old.room }
     requires steps { work.old.steps + 4294967295 < 2 ^ 64 }
@@ -116,9 +123,20 @@ fn run_of(
         → RecordsIf view from j work.old work.new) }
 {
     match from {
-        Some(_) => Ok(Kept::nothing()),
+        Some(_) => Ok(Some(KeptCheck::plain(alloc))),
         None => run_one(alloc, source, j, work),
     }
+}
+
+/// How many sound `$p` there are among the first items.
+fn proof_count(base: &Base, count: usize) -> usize {
+    let mut proofs = 0;
+    for j in 0..count {
+        if base.pairs(j).is_some() {
+            proofs += 1;
+        }
+    }
+    proofs
 }
 
 /// Runs the proof of each sound `$p` that keeps nothing, by the plan, in order.
@@ -127,44 +145,45 @@ pub fn run_rest(
     names: &Names,
     files: &Files,
     base: &Base,
-    plan: &[Option<u32>],
-) -> Result<(Vec<Kept>, Work), AllocError>
+    plan: &Plan,
+) -> Result<(Checks, Work), AllocError>
     requires read { (view : BaseView) × IsReadIn names.now files.now base.now view × (length plan.now ≡ length view.said) }
     ensures checked { IfOk result (λ run. (view : BaseView) → IsReadIn names.now files.now base.now view
-        → AreRunBy view plan.now run.0.items × (length run.0.items ≡ length plan.now)) }
+        → AreRunBy view plan.now run.0 × (length run.0 ≡ length plan.now)) }
     ensures work { IfOk result (λ run. (view : BaseView) → IsReadIn names.now files.now base.now view → AreRecorded view plan.now (length plan.now) run.1) }
 {
     let source = Source { names, files, base };
-    let mut work = Work::new(alloc, plan.len())?;
-    let mut checked = Vec::with_capacity(alloc, plan.len())?;
-    for j in 0..plan.len() {
-        checked.push(run_of(alloc, source, j, plan[j], &mut work)?)?;
+    let count = base.count();
+    let mut checked = Checks::with_room(alloc, count, proof_count(base, count))?;
+    let mut work = Work::new(alloc, count)?;
+    for j in 0..count {
+        checked.push(run_of(alloc, source, j, plan.at(j), &mut work)?)?;
     }
     Ok((checked, work))
 }
 
 /// Moves what was checked before to the item that keeps it.
-fn carry_one(old: &mut [Kept], from: Option<u32>, new: &mut [Kept], j: usize)
-    requires from { (i : ℕ) → from ≡ Some i → i < length old.old }
-    requires item { j < length new.old }
+fn carry_one(old: &mut Checks, from: Option<usize>, new: &mut Checks, j: usize)
+    requires from { (i : ℕ) → from ≡ Some i → is_some (slice_index_or old.old i None) ≡ true }
+    requires item { (i : ℕ) → from ≡ Some i → is_some (slice_index_or new.old j None) ≡ true }
     ensures nothing { from ≡ None → (old.new ≡ old.old) × (new.new ≡ new.old) }
     ensures moved { (i : ℕ) → from ≡ Some i → (old.new ≡ slice_set old.old i (slice_index_or new.old j None))
         × (new.new ≡ slice_set new.old j (slice_index_or old.old i None)) }
 {
     if let Some(i) = from {
-        mem::swap(&mut old[i as usize], &mut new[j]);
+        new.exchange(j, old, i);
     }
 }
 
 /// Moves what was checked before to the items that keep it, by the plan. Nothing can fail.
-pub fn carry(old: &mut [Kept], plan: &[Option<u32>], new: &mut [Kept])
+pub fn carry(old: &mut Checks, plan: &Plan, new: &mut Checks)
     requires { CanBeCarried old.old plan.now new.old }
     ensures { (base copy : BaseView) → CanCarry base copy old.old plan.now new.old → AreChecked copy new.new }
 {
     labels_are_own();
     same_view_same_verdict();
     same_view_same_cites();
-    for j in 0..plan.len() {
-        carry_one(&mut *old, plan[j], &mut *new, j);
+    for j in 0..new.count() {
+        carry_one(&mut *old, plan.at(j), &mut *new, j);
     }
 }

@@ -17,7 +17,7 @@ ghost use Rattle.mm_keep.specs.Language.Refusals.{IsRefusal, IsBatchRefusal};
 ghost use Rattle.mm_keep.specs.Language.Sessions.{IsBegun, IsChanged, IsCount, IsLabelOfItem};
 
 use crate::keeping::{Next, Ran, first_of, next_of};
-use crate::kept::Kept;
+use crate::kept::Checks;
 use crate::planning::carry;
 use crate::unbegun::Unbegun;
 use mm_proof::{Base, BatchError, Edit, EditError, Files, Names, StoreError, Undos, Work};
@@ -38,7 +38,7 @@ pub struct Session {
     pub(crate) names: Names,
     pub(crate) base: Base,
     /// For the number of each item what the check of its proof said; nothing if it is no sound `$p`.
-    pub(crate) checked: Vec<Kept>,
+    pub(crate) checked: Checks,
 }
 
 impl Model for Session {
@@ -89,14 +89,14 @@ fn first_with_top(
 fn take_next(
     files: &mut Files,
     base: &mut Base,
-    checked: &mut Vec<Kept>,
+    checked: &mut Checks,
     next: Next,
     undos: Undos,
 ) -> Work
-    requires { HasTaking files.old undos checked.old.items next }
-    ensures kept { (before : FilesView) (top : List ℕ) (names : List (List ℕ)) → CanTake before files.old undos top names checked.old.items next
-        → HasKept files.new top names base.new checked.new.items }
-    ensures runs { (before : FilesView) (top : List ℕ) (names : List (List ℕ)) → CanTake before files.old undos top names checked.old.items next
+    requires { HasTaking files.old undos checked.old next }
+    ensures kept { (before : FilesView) (top : List ℕ) (names : List (List ℕ)) → CanTake before files.old undos top names checked.old next
+        → HasKept files.new top names base.new checked.new }
+    ensures runs { (before : FilesView) (top : List ℕ) (names : List (List ℕ)) → CanTake before files.old undos top names checked.old next
         → IsChanged (session_of before top) (session_of files.new top) result }
     ensures plain { plain files.new ≡ plain files.old }
 {
@@ -120,18 +120,18 @@ fn go_on(
     names: &mut Names,
     top: &[u8],
     base: &mut Base,
-    checked: &mut Vec<Kept>,
+    checked: &mut Checks,
     undos: Undos,
 ) -> Result<Work, AllocError>
-    requires { (before : FilesView) × WereKept before files.old undos top.now names.old base.old checked.old.items }
-    ensures kept { (before : FilesView) → WereKept before files.old undos top.now names.old base.old checked.old.items
-        → HasKept files.new top.now names.new base.new checked.new.items }
-    ensures runs { IfOk result (λ work. (before : FilesView) → WereKept before files.old undos top.now names.old base.old checked.old.items
+    requires { (before : FilesView) × WereKept before files.old undos top.now names.old base.old checked.old }
+    ensures kept { (before : FilesView) → WereKept before files.old undos top.now names.old base.old checked.old
+        → HasKept files.new top.now names.new base.new checked.new }
+    ensures runs { IfOk result (λ work. (before : FilesView) → WereKept before files.old undos top.now names.old base.old checked.old
         → IsChanged (session_of before top.now) (session_of files.new top.now) work) }
     ensures plain { OnOk result (plain files.new ≡ plain files.old) }
-    ensures undone { OnErr result ((before : FilesView) → WereKept before files.old undos top.now names.old base.old checked.old.items → files.new ≡ before) }
+    ensures undone { OnErr result ((before : FilesView) → WereKept before files.old undos top.now names.old base.old checked.old → files.new ≡ before) }
 {
-    let alloc = *checked.allocator();
+    let alloc = checked.allocator();
     match next_of(alloc, names, files, top, base) {
         Ok(next) => Ok(take_next(files, base, checked, next, undos)),
         Err(error) => {
@@ -147,11 +147,11 @@ fn change(
     names: &mut Names,
     top: &[u8],
     base: &mut Base,
-    checked: &mut Vec<Kept>,
+    checked: &mut Checks,
     edits: &[Edit<'_>],
 ) -> Result<Work, BatchError>
-    requires { HasKept files.old top.now names.old base.old checked.old.items }
-    ensures kept { HasKept files.new top.now names.new base.new checked.new.items }
+    requires { HasKept files.old top.now names.old base.old checked.old }
+    ensures kept { HasKept files.new top.now names.new base.new checked.new }
     ensures files { OnOk result (IsBatchOf (map asked edits.now) (plain files.old) (plain files.new)) }
     ensures runs { IfOk result (IsChanged (session_of files.old top.now) (session_of files.new top.now)) }
     ensures refused { IfErr result (IsChangeError (map asked edits.now) (plain files.old)) }

@@ -43,8 +43,6 @@ pub struct Named<'a, S> {
 #[derive(Drop)]
 pub struct Numbers {
     pub items: Vec<usize>,
-    /// For the number of an item, where it may be. What is found by it is compared, so that no answer depends on it.
-    places: Vec<u32>,
 }
 
 impl Numbers {
@@ -54,31 +52,27 @@ impl Numbers {
     {
         Numbers {
             items: Vec::new(alloc),
-            places: Vec::new(alloc),
         }
     }
 
-    /// None, with the room that these have, and a place for each of this many items.
-    fn emptied(self, count: usize) -> Result<Numbers, AllocError>
-        ensures { IfOk result (λ numbers. numbers.items.items ≡ []) }
+    /// None, with the room that these have.
+    fn emptied(self) -> Numbers
+        ensures { result.items.items ≡ [] }
     {
         let mut items = self.items;
         items.clear();
-        let mut places = self.places;
-        if places.len() < count {
-            places.resize(count, 0)?;
-        }
-        Ok(Numbers { items, places })
+        Numbers { items }
     }
 
-    /// Where a number is, if it is there.
-    fn find(&self, number: usize) -> Option<usize>
+    /// Where a number is, if it is there, by a table that has for the number of an item where it may be. What is found by the
+    /// table is compared, so that no answer depends on it.
+    fn find(&self, places: &[u32], number: usize) -> Option<usize>
         ensures { IfSome result (λ n. slice_get self.now.items.items n ≡ Some number) }
     {
-        if number >= self.places.len() {
+        if number >= places.len() {
             return None;
         }
-        let place = self.places[number] as usize;
+        let place = places[number] as usize;
         if place >= self.items.len() {
             return None;
         }
@@ -88,15 +82,15 @@ impl Numbers {
         Some(place)
     }
 
-    /// Adds a number after the others, and answers where it is.
-    fn add(&mut self, number: usize) -> Result<usize, AllocError>
+    /// Adds a number after the others, also to the table, and answers where it is.
+    fn add(&mut self, places: &mut [u32], number: usize) -> Result<usize, AllocError>
         ensures items { OnOk result (self.new.items.items ≡ self.old.items.items ++ number ∷ []) }
         ensures place { IfOk result (λ n. n ≡ length self.old.items.items) }
     {
         let place = self.items.len();
         self.items.push(number)?;
-        if number < self.places.len() && place <= 4294967295 {
-            self.places[number] = place as u32;
+        if number < places.len() && place <= 4294967295 {
+            places[number] = place as u32;
         }
         Ok(place)
     }
@@ -107,6 +101,8 @@ impl Numbers {
 pub struct NamingRoom {
     pub hypotheses: Numbers,
     pub assertions: Numbers,
+    /// For the number of an item, where among the one or the other it may be.
+    pub places: Vec<u32>,
 }
 
 impl NamingRoom {
@@ -115,8 +111,18 @@ impl NamingRoom {
         NamingRoom {
             hypotheses: Numbers::new(alloc),
             assertions: Numbers::new(alloc),
+            places: Vec::new(alloc),
         }
     }
+}
+
+/// A table with a place for each of this many items at least.
+fn widened(places: Vec<u32>, count: usize) -> Result<Vec<u32>, AllocError> {
+    let mut places = places;
+    if places.len() < count {
+        places.resize(count, 0)?;
+    }
+    Ok(places)
 }
 
 /// What was named so far, with the numbers of the items.
@@ -125,6 +131,8 @@ pub struct Naming<'a> {
     pub hypotheses: Vec<&'a [NumberedSymbol]>,
     pub hypothesis_numbers: Numbers,
     pub assertion_numbers: Numbers,
+    /// For the number of an item, where among the one or the other numbers it may be.
+    pub places: Vec<u32>,
 }
 
 impl<'a> Naming<'a> {
@@ -138,12 +146,12 @@ impl<'a> Naming<'a> {
         ensures { IfOk result (AreNamed base.now) }
     {
         let some = labels.min(FIRST_LABELS);
-        let hypothesis_numbers = room.hypotheses.emptied(base.count())?;
-        let assertion_numbers = room.assertions.emptied(base.count())?;
+        let places = widened(room.places, base.count())?;
         Ok(Naming {
             hypotheses: Vec::with_capacity(alloc, some)?,
-            hypothesis_numbers,
-            assertion_numbers,
+            hypothesis_numbers: room.hypotheses.emptied(),
+            assertion_numbers: room.assertions.emptied(),
+            places,
         })
     }
 
@@ -154,11 +162,12 @@ impl<'a> Naming<'a> {
         ensures grows { OnOk result (NamingGrows self.old self.new) }
         ensures stands { IfOk result (λ used. IsUseOf self.new used (answers.Hypothesis number)) }
     {
-        if let Some(place) = self.hypothesis_numbers.find(number) {
+        if let Some(place) = self.hypothesis_numbers.find(&self.places, number) {
             return Ok(Use::Hypothesis(place));
         }
         self.hypotheses.push(expression(base, number))?;
-        Ok(Use::Hypothesis(self.hypothesis_numbers.add(number)?))
+        let place = self.hypothesis_numbers.add(&mut self.places, number)?;
+        Ok(Use::Hypothesis(place))
     }
 
     /// The assertion with this number is named.
@@ -169,10 +178,11 @@ impl<'a> Naming<'a> {
         ensures grows { OnOk result (NamingGrows self.old self.new) }
         ensures stands { IfOk result (λ used. IsUseOf self.new used (answers.Assertion number)) }
     {
-        if let Some(place) = self.assertion_numbers.find(number) {
+        if let Some(place) = self.assertion_numbers.find(&self.places, number) {
             return Ok(Use::Assertion(place));
         }
-        Ok(Use::Assertion(self.assertion_numbers.add(number)?))
+        let place = self.assertion_numbers.add(&mut self.places, number)?;
+        Ok(Use::Assertion(place))
     }
 
     /// What an entry of a table names.
@@ -219,6 +229,7 @@ pub fn name_all<'a>(
     let room = NamingRoom {
         hypotheses: naming.hypothesis_numbers,
         assertions: naming.assertion_numbers,
+        places: naming.places,
     };
     Ok((named, room))
 }

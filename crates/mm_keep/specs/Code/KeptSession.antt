@@ -26,5 +26,5 @@ pub record IsSessionKept (inside : Inside) : Type 0 where
   pub of_files : IsOfFiles inside.files inside.top.items base
   pub by_names : IsBaseBy inside.names base inside.base
   pub later : StandsLater inside.names base inside.base
-  pub checked : AreChecked base inside.checked.items
+  pub checked : AreChecked base inside.checked
   pub parked : parked_in inside.files ≡ 0

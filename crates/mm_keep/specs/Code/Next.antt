@@ -1,5 +1,5 @@
 -- What a session goes on with after a change of its files.
-use Rattle.std.specs.Prelude.{◌≡◌, ◌≢◌, ℕ, true, Option, None, Some, List, length, slice_get}
+use Rattle.std.specs.Prelude.{◌≡◌, ◌≢◌, ℕ, true, None, List, length}
 use Rattle.mm_proof.specs.mm_store.Language.FilesView.{FilesView, files_in, number_of}
 use Rattle.mm_proof.specs.mm_frame.Language.Base.{BaseView, IsOfFiles, is_proof_at}
 use Rattle.mm_proof.specs.mm_frame.Language.Answering.{IsBaseBy, StandsLater}
@@ -14,10 +14,6 @@ use Rattle.mm_keep.specs.declared.keeping.Ran.{Ran}
 abbrev pub HasTop : FilesView → List ℕ → Type 0
 HasTop files top = number_of (files_in files) top ≢ None
 
--- the plan keeps nothing
-abbrev pub KeepsNothing : List (Option ℕ) → Type 0
-KeepsNothing plan = (k : ℕ) (from : Option ℕ) → slice_get plan k ≡ Some from → from ≡ None
-
 -- the code's base is that of these files, by these names and by any that begin with them
 pub record IsBuilt (names : List (List ℕ)) (files : FilesView) (top : List ℕ) (code : Base) (base : BaseView) : Type 0 where
   pub of_files : IsOfFiles files top base
@@ -26,15 +22,15 @@ pub record IsBuilt (names : List (List ℕ)) (files : FilesView) (top : List ℕ
 
 -- each theorem of the new base keeps what was checked before, or is run
 pub record KeepsOrRuns (old base : BaseView) (run : Ran) : Type 0 where
-  pub planned : ArePlanned old base run.plan.items
-  pub ran : AreRunBy base run.plan.items run.checked.items
-  pub count : length run.checked.items ≡ length run.plan.items
+  pub planned : ArePlanned old base run.plan
+  pub ran : AreRunBy base run.plan run.checked
+  pub count : length run.checked ≡ length run.plan
   pub runs : AreRuns old base run.work.runs
   pub steps : AreStepsOf base run.work.runs run.work.steps
 
 -- each theorem of the first base is run
 pub record RunsAll (base : BaseView) (run : Ran) : Type 0 where
-  pub checked : AreChecked base run.checked.items
+  pub checked : AreChecked base run.checked
   pub runs : AreThose (λ i. is_proof_at base i ≡ true) (length base.said) run.work.runs
   pub steps : AreStepsOf base run.work.runs run.work.steps
 

@@ -1,5 +1,5 @@
 -- Which theorems of a new base keep what was checked in an old one, and what the runs of the others come to.
-use Rattle.std.specs.Prelude.{◌≡◌, ◌≤◌, ◌<◌, ◌+◌, ◌⊎◌, ℕ, true, false, Option, Some, None, List, [], ◌∷◌, ◌++◌, length, slice_get}
+use Rattle.std.specs.Prelude.{◌≡◌, ◌≤◌, ◌<◌, ◌+◌, ◌⊎◌, ℕ, true, false, Option, Some, None, List, [], ◌∷◌, ◌++◌, is_some, length, slice_get}
 use Rattle.mm_proof.specs.mm_store.Language.FilesView.{FilesView}
 use Rattle.mm_proof.specs.mm_frame.Language.Base.{BaseView, AreSaid, is_proof_at}
 use Rattle.mm_proof.specs.mm_frame.declared.base.Base.{Base}
@@ -21,9 +21,9 @@ pub record ArePlanned (old new : BaseView) (plan : List (Option ℕ)) : Type 0 w
   pub count : length plan ≡ length new.said
   pub each : (j : ℕ) (from : Option ℕ) → slice_get plan j ≡ Some from → IsPlanned old new j from
 
--- what the run of item j gives, by the plan: nothing if it keeps what was checked before or is no sound theorem
+-- what the run of item j gives, by the plan: if it keeps what was checked before, something in whose place that is put
 abbrev pub IsRunBy : BaseView → Option ℕ → ℕ → Option Judgement → Type 0
-IsRunBy new (Some i) j one = one ≡ None
+IsRunBy new (Some i) j one = is_some one ≡ true
 IsRunBy new None j one = IsCheckedAt new j one
 
 -- the first items have such results

@@ -17,19 +17,19 @@ at_fault-requires-clause-stands c = let r = c.requires in stands_at r.0 c.args.f
 pub judged-requires : goal.judged-requires
 judged-requires c =
     let r = c.requires in
-    let k = checked_at r.1 c.args.checked.now c.args.i c.index-checked-i.result (Some c.in-Some-get.check.now) r.3 r.4 c.index-checked-i.is (sym c.get.ensures ∙ ap (option_map (λ one. one.now)) c.in-Some-get.is) in
+    let k = checked_at r.1 c.args.checked.now c.args.i (Some c.in-Some-get.check.now) r.3 r.4 (sym c.get.ensures ∙ ap (option_map (λ one. one.now)) c.in-Some-get.is) in
     (r.0, r.1, r.2, r.4, k.0, subst (IsVerdictAt r.1 c.args.i) (sym c.verdict.ensures) k.1)
 
 pub returns-in-Some-get : goal.returns-in-Some-get
 returns-in-Some-get c names view is checked =
     let within : c.args.i < length view.said = omega (arith, c.requires.4, c.requires.3.count, checked.count) in
-    let k = checked_at view c.args.checked.now c.args.i c.index-checked-i.result (Some c.in-Some-get.check.now) checked within c.index-checked-i.is (sym c.get.ensures ∙ ap (option_map (λ one. one.now)) c.in-Some-get.is) in
+    let k = checked_at view c.args.checked.now c.args.i (Some c.in-Some-get.check.now) checked within (sym c.get.ensures ∙ ap (option_map (λ one. one.now)) c.in-Some-get.is) in
     c.judged.ensures names view is k.0 (subst (IsVerdictAt view c.args.i) (sym c.verdict.ensures) k.1)
 
 pub returns-in-None : goal.returns-in-None
 returns-in-None c names view is checked =
     let within : c.args.i < length view.said = omega (arith, c.requires.4, c.requires.3.count, checked.count) in
-    let none = checked_at view c.args.checked.now c.args.i c.index-checked-i.result None checked within c.index-checked-i.is (sym c.get.ensures ∙ ap (option_map (λ one. one.now)) c.in-None.is) in
+    let none = checked_at view c.args.checked.now c.args.i None checked within (sym c.get.ensures ∙ ap (option_map (λ one. one.now)) c.in-None.is) in
     let sound = sound_none c.fault.result (fault_at view c.args.i) (c.fault.ensures view (names, is.read_in.base)) (cc) in
     let kind = c.item-item.ensures.kind view (names, is.read_in.base) in
     let other = no_theorem (is_sound_at view c.args.i) (is_theorem (said_at view c.args.i).kind) sound none in

@@ -19,13 +19,13 @@ returns-in-Some c names files view is checked less =
 pub returns-in-Some-get : goal.returns-in-Some-get
 returns-in-Some-get c names files view is checked less =
     let t = item_at files view c.args.i is.read_in.each is.stand less in
-    let k = checked_at view c.args.checked.now c.args.i c.index-checked-i.result (Some c.in-Some-get.check.now) checked less c.index-checked-i.is (sym c.get.ensures ∙ ap (option_map (λ one. one.now)) c.in-Some-get.is) in
+    let k = checked_at view c.args.checked.now c.args.i (Some c.in-Some-get.check.now) checked less (sym c.get.ensures ∙ ap (option_map (λ one. one.now)) c.in-Some-get.is) in
     let verdict = subst (IsVerdictAt view c.args.i) (sym c.verdict.ensures) k.1 in
     subst (IsFoundAs files view c.args.i) (sym c.of_verdict.ensures) (verdict_told files view c.args.i t.0 t.1 t.2 t.3 k.0 c.verdict.result verdict (c.spots_are_in.ensures view c.args.i c.verdict.result verdict))
 
 pub returns-in-None : goal.returns-in-None
 returns-in-None c names files view is checked less =
-    let none = checked_at view c.args.checked.now c.args.i c.index-checked-i.result None checked less c.index-checked-i.is (sym c.get.ensures ∙ ap (option_map (λ one. one.now)) c.in-None.is) in
+    let none = checked_at view c.args.checked.now c.args.i None checked less (sym c.get.ensures ∙ ap (option_map (λ one. one.now)) c.in-None.is) in
     let sound = sound_none c.fault.result (fault_at view c.args.i) (c.fault.ensures view (names, is.read_in.base)) (cc) in
     let kind = c.item.ensures.kind view (names, is.read_in.base) in
     let other = no_theorem (is_sound_at view c.args.i) (is_theorem (said_at view c.args.i).kind) sound none in

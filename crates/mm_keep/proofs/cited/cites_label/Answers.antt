@@ -16,7 +16,7 @@ words_of_proof-words-requires c =
 pub has_label-requires : goal.has_label-requires
 has_label-requires c =
     let r = c.requires in
-    let k = checked_at r.1 c.args.checked.now c.args.j c.index-checked-j.result (Some c.in-Some.check.now) r.3 r.4 c.index-checked-j.is (sym c.get.ensures ∙ ap (option_map (λ one. one.now)) c.in-Some.is) in
+    let k = checked_at r.1 c.args.checked.now c.args.j (Some c.in-Some.check.now) r.3 r.4 (sym c.get.ensures ∙ ap (option_map (λ one. one.now)) c.in-Some.is) in
     cites_rising c.cites_rise.ensures r.1 c.args.j c.in-Some.check.now.cites k.2
 
 pub returns-in-Some : goal.returns-in-Some
@@ -24,7 +24,7 @@ returns-in-Some c names view is are i label =
     let r = c.requires in
     let j = c.args.j in
     let within : j < length view.said = omega (arith, r.4, r.3.count, are.count) in
-    let k = checked_at view c.args.checked.now j c.index-checked-j.result (Some c.in-Some.check.now) are within c.index-checked-j.is (sym c.get.ensures ∙ ap (option_map (λ one. one.now)) c.in-Some.is) in
+    let k = checked_at view c.args.checked.now j (Some c.in-Some.check.now) are within (sym c.get.ensures ∙ ap (option_map (λ one. one.now)) c.in-Some.is) in
     let cites : c.in-Some.check.now.cites ≡ cites_at view j = k.2 in
     let says = says_at names c.args.files.now c.args.base.now view j c.item.result.now is (c.item.ensures.found view (names, is.read_in.base)) in
     let words = c.words_of_proof-words.ensures.words (said_at view j) says in
@@ -37,5 +37,5 @@ returns-in-None c names view is are i label =
     let r = c.requires in
     let j = c.args.j in
     let within : j < length view.said = omega (arith, r.4, r.3.count, are.count) in
-    let none = checked_at view c.args.checked.now j c.index-checked-j.result None are within c.index-checked-j.is (sym c.get.ensures ∙ ap (option_map (λ one. one.now)) c.in-None.is) in
+    let none = checked_at view c.args.checked.now j None are within (sym c.get.ensures ∙ ap (option_map (λ one. one.now)) c.in-None.is) in
     (λ t. absurd (false≢true t), λ one. absurd (none_cited view j i none one))

@@ -17,7 +17,7 @@ words_of_proof-words-requires c =
 pub mark_words-requires-clause-rise : goal.mark_words-requires-clause-rise
 mark_words-requires-clause-rise c =
     let r = c.requires.item in
-    let k = checked_at r.1 c.args.checked.now c.args.j c.index-checked-j.result (Some c.in-Some.check.now) r.3 r.4 c.index-checked-j.is (sym c.get.ensures ∙ ap (option_map (λ one. one.now)) c.in-Some.is) in
+    let k = checked_at r.1 c.args.checked.now c.args.j (Some c.in-Some.check.now) r.3 r.4 (sym c.get.ensures ∙ ap (option_map (λ one. one.now)) c.in-Some.is) in
     cites_rising c.cites_rise.ensures r.1 c.args.j c.in-Some.check.now.cites k.2
 
 pub mark_words-requires-clause-places : goal.mark_words-requires-clause-places
@@ -25,7 +25,7 @@ mark_words-requires-clause-places c =
     let r = c.requires.item in
     let view = r.1 in
     let j = c.args.j in
-    let k = checked_at view c.args.checked.now j c.index-checked-j.result (Some c.in-Some.check.now) r.3 r.4 c.index-checked-j.is (sym c.get.ensures ∙ ap (option_map (λ one. one.now)) c.in-Some.is) in
+    let k = checked_at view c.args.checked.now j (Some c.in-Some.check.now) r.3 r.4 (sym c.get.ensures ∙ ap (option_map (λ one. one.now)) c.in-Some.is) in
     let cites : c.in-Some.check.now.cites ≡ cites_at view j = k.2 in
     let says = says_at r.0 c.args.files.now c.args.base.now view j c.item.result.now r.2 (c.item.ensures.found view (r.0, r.2.read_in.base)) in
     let words = c.words_of_proof-words.ensures.words (said_at view j) says in
@@ -42,7 +42,7 @@ pub returns-in-Some : goal.returns-in-Some
 returns-in-Some c names view is are =
     let j = c.args.j in
     let within : j < length view.said = omega (arith, c.requires.item.4, c.requires.item.3.count, are.count) in
-    let k = checked_at view c.args.checked.now j c.index-checked-j.result (Some c.in-Some.check.now) are within c.index-checked-j.is (sym c.get.ensures ∙ ap (option_map (λ one. one.now)) c.in-Some.is) in
+    let k = checked_at view c.args.checked.now j (Some c.in-Some.check.now) are within (sym c.get.ensures ∙ ap (option_map (λ one. one.now)) c.in-Some.is) in
     let cites : c.in-Some.check.now.cites ≡ cites_at view j = k.2 in
     let says = says_at names c.args.files.now c.args.base.now view j c.item.result.now is (c.item.ensures.found view (names, is.read_in.base)) in
     let words = c.words_of_proof-words.ensures.words (said_at view j) says in
@@ -53,5 +53,5 @@ pub returns-in_default : goal.returns-in_default
 returns-in_default c names view is are =
     let j = c.args.j in
     let within : j < length view.said = omega (arith, c.requires.item.4, c.requires.item.3.count, are.count) in
-    let none = checked_at view c.args.checked.now j c.index-checked-j.result None are within c.index-checked-j.is (sym c.get.ensures ∙ ap (option_map (λ one. one.now)) c.in_default.is) in
+    let none = checked_at view c.args.checked.now j None are within (sym c.get.ensures ∙ ap (option_map (λ one. one.now)) c.in_default.is) in
     marks_same (CitesItem view j) c.args.marks.now (λ k. none_cited view j k none)

@@ -1,8 +1,9 @@
-use Rattle.std.proofs.Common.{◌≡◌, ◌<◌, ◌+◌, ℕ, Option, Some, None, length, sym, ◌∙◌, ap, subst, subst₂, arith}
+use Rattle.std.proofs.Common.{◌≡◌, ◌<◌, ◌+◌, ◌∷◌, [], ℕ, Option, Some, None, length, map, sym, ◌∙◌, ap, subst, subst₂, arith}
 use Rattle.std.proofs.lemmas.Option.{none-some, same_Some}
 use Rattle.mm_proof.specs.mm_frame.Language.Base.{BaseView}
-use Rattle.std.proofs.lemmas.List.{length_push}
-use Rattle.mm_keep.specs.Code.Planned.{IsPlanned}
+use Rattle.std.proofs.lemmas.List.{length-map, length_push, map-append}
+use Rattle.mm_keep.specs.Code.KeptPlan.{number_planned}
+use Rattle.mm_keep.specs.Code.Planned.{ArePlanned, IsPlanned}
 use Rattle.mm_keep.proofs.PlanLemmas.{each_more}
 use Rattle.mm_keep.proofs.planning.planned.Goals as goal
 
@@ -17,17 +18,23 @@ kept_of-from-requires-clause-item c =
     (has.0, has.1, has.2, omega (arith, c.count-count.ensures.count has.1 (c.args.names.now, has.2.new_is.base)))
 
 pub loop-j-preserved : goal.loop-j-preserved
-loop-j-preserved c = record {
-  count = ap length c.in_ok-push.ensures.items ∙ length_push c.loop-j.plan.items c.narrow.result ∙ ap (λ n. n + 1) c.loop-j.invariant.count;
-  each = λ base copy both.
-      let kept = c.kept_of-from.ensures base copy both in
-      let same = c.narrow.ensures base (c.args.names.now, both.old_is.base) (λ i e. planned_within base copy c.loop-j.j i c.kept_of-from.result e kept) in
-      each_more (IsPlanned base copy) c.loop-j.plan.items _ c.narrow.result c.in_ok-push.ensures.items (c.loop-j.invariant.each base copy both)
-      (subst₂ (λ i from. IsPlanned base copy i from) (sym c.loop-j.invariant.count) (sym same) kept);
-}
+loop-j-preserved c =
+    let entries = c.loop-j.entries.items in
+    let one = c.entry.result in
+    record {
+      count = ap length c.in_ok-push.ensures.items ∙ length_push entries one ∙ ap (λ n. n + 1) c.loop-j.invariant.count;
+      each = λ base copy both.
+          let kept = c.kept_of-from.ensures base copy both in
+          let same = c.entry.ensures base (c.args.names.now, both.old_is.base) (λ i e. planned_within base copy c.loop-j.j i c.kept_of-from.result e kept) in
+          let count = length-map entries number_planned ∙ c.loop-j.invariant.count in
+          each_more (IsPlanned base copy) (map number_planned entries) _ (number_planned one) (ap (map number_planned) c.in_ok-push.ensures.items ∙ map-append number_planned entries (one ∷ [])) (c.loop-j.invariant.each base copy both)
+          (subst₂ (λ i from. IsPlanned base copy i from) (sym count) (sym same) kept);
+    }
 
 pub returns : goal.returns
-returns c base copy both = record {
-  count = let n = c.count-count.ensures.count copy (c.args.names.now, both.new_is.base) in omega (arith, n, c.loop-j.invariant.count);
-  each = c.loop-j.invariant.each base copy both;
-}
+returns c base copy both =
+    let made = c.of.ensures in
+    subst (ArePlanned base copy) (sym made) (record {
+      count = let n = c.count-count.ensures.count copy (c.args.names.now, both.new_is.base) in let m = length-map c.loop-j.entries.items number_planned in omega (arith, n, m, c.loop-j.invariant.count);
+      each = c.loop-j.invariant.each base copy both;
+    })

@@ -6,9 +6,9 @@ use Rattle.mm_keep.proofs.planning.run_rest.Given as goal
 
 abbrev pub invariant-loop-j : goal.invariant-loop-j
 invariant-loop-j l = record {
-  count : length l.checked.items ≡ l.j;
-  room : length l.plan ≤ l.work.room + l.j;
+  count : length l.checked ≡ l.j;
+  room : l.count ≤ l.work.room + l.j;
   steps : l.work.steps ≤ 4294967295 * l.j;
-  checked : (view : BaseView) → IsReadIn l.names l.files l.base view → AreRunBy view l.plan l.checked.items;
+  checked : (view : BaseView) → IsReadIn l.names l.files l.base view → AreRunBy view l.plan l.checked;
   recorded : (view : BaseView) → IsReadIn l.names l.files l.base view → AreRecorded view l.plan l.j l.work;
 }

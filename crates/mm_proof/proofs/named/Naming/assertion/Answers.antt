@@ -12,7 +12,7 @@ returns c =
     let numbers = c.args.self.now.assertion_numbers.items.items in
     let all = All-append P numbers (c.args.number ∷ []) is.assertions (All-cons P c.args.number [] c.requires.entry (All-nil P)) in
     record {
-      named = record { count = is.count; hypotheses = is.hypotheses; assertions = subst (All P) (sym c.in_ok-add.ensures.items) all };
-      grows = record { hypotheses = λ n j at. at; assertions = stays_more c.args.self.now.assertion_numbers.items.items c.add.new.self.items.items c.args.number c.in_ok-add.ensures.items };
-      stands = stands_last c.args.self.now.assertion_numbers.items.items c.add.new.self.items.items c.in_ok-add.field-0 c.args.number c.in_ok-add.ensures.items c.in_ok-add.ensures.place;
+      named = record { count = is.count; hypotheses = is.hypotheses; assertions = subst (All P) (sym c.in_ok-place.ensures.items) all };
+      grows = record { hypotheses = λ n j at. at; assertions = stays_more c.args.self.now.assertion_numbers.items.items c.add.new.self.items.items c.args.number c.in_ok-place.ensures.items };
+      stands = stands_last c.args.self.now.assertion_numbers.items.items c.add.new.self.items.items c.in_ok-place.place c.args.number c.in_ok-place.ensures.items c.in_ok-place.ensures.place;
     }

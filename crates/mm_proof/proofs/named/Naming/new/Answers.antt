@@ -4,10 +4,10 @@ use Rattle.mm_proof.proofs.named.Naming.new.Goals as goal
 
 pub returns : goal.returns
 returns c =
-    let hypotheses = ap length c.in_ok-hypothesis_numbers.ensures in
-    let assertions = ap length c.in_ok-assertion_numbers.ensures in
+    let hypotheses = ap length c.emptied.ensures in
+    let assertions = ap length c.emptied-2.ensures in
     record {
       count = ap length c.in_ok-with_capacity.ensures.items ∙ sym hypotheses;
-      hypotheses = λ names view base n j at shown. let within = slice_get_within c.in_ok-hypothesis_numbers.hypothesis_numbers.items.items n j at in absurd (omega arith);
+      hypotheses = λ names view base n j at shown. let within = slice_get_within c.emptied.result.items.items n j at in absurd (omega arith);
       assertions = λ k d l. absurd (omega arith);
     }
