@@ -1,5 +1,4 @@
-//! What calls answer of small databases: the verdict of a check, the words that cite, the run and its steps; whether two
-//! views are the same.
+//! What calls answer of small databases: the verdict of a check, the words that cite, the run and its steps.
 
 ghost use Rattle.std.specs.Prelude.{◌≡◌, ◌<◌, true, IfSome, length};
 ghost use Rattle.mm_frame.specs.Language.Base.{BaseView, is_proof_at};
@@ -342,7 +341,7 @@ x101 x102 x103 x104 x105 x106 x107 x108 x109 x110 x111 x112 x113 x114 x115 x116 
 ];
 
 /// The number of the theorem with a label.
-pub fn theorem(base: &Base, label: &[u8]) -> Option<usize>
+fn theorem(base: &Base, label: &[u8]) -> Option<usize>
     ensures { IfSome result (λ i. (view : BaseView) → IsBase view base.now → (i < length view.said) × (is_proof_at view i ≡ true)) }
 {
     let i = base.find(label)?;

@@ -44,6 +44,3 @@ pub use placing::place;
 pub use spelling::could_label;
 pub use whole_text::{nth_word, words};
 pub use word::{Keyword, Word, WordKind};
-
-#[cfg(test)]
-mod tests;

@@ -21,15 +21,6 @@ pub use performing::{judge, perform};
 pub use source::{Source, SystemFiles};
 use std::process::ExitCode;
 
-#[cfg(test)]
-mod base_tests;
-#[cfg(test)]
-mod edit_tests;
-#[cfg(test)]
-mod store_tests;
-#[cfg(test)]
-mod stream_tests;
-
 fn main(rt: HostRuntime) -> ExitCode {
     ExitCode::from(status(&program::run(&rt)))
 }

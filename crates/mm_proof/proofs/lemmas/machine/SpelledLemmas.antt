@@ -1,5 +1,5 @@
--- What is kept in another way: frames and orders that are the same, for the tests of the machine and of views.
-use Rattle.std.proofs.Common.{◌≡◌, ℕ, Result, Ok, List, get_or, length, map, sym, ◌∙◌, ap, subst, arith, All, IfOk}
+-- What is kept in another way: frames and orders that are the same, for the tests of the machine.
+use Rattle.std.proofs.Common.{◌≡◌, ℕ, List, get_or, length, map, sym, ◌∙◌, ap, subst, arith, All}
 use Rattle.std.proofs.lemmas.List.{length-map, get_or-map}
 use Rattle.std.proofs.lemmas.List.Elements.{All-map}
 use Rattle.std.proofs.lemmas.Option.{get_or_from_slice_get, slice_get_within}
@@ -59,7 +59,3 @@ order_by_name pairs one order i j p q l at there =
     let here = subst (λ (x : Symbol × Symbol). HasOneKey x.0 × HasOneKey x.1) (get_or_from_slice_get meant i p p at) (all i p (slice_get_within meant i p at)) in
     let on = subst (λ (x : Symbol × Symbol). HasOneKey x.0 × HasOneKey x.1) (get_or_from_slice_get meant j q q there) (all j q (slice_get_within meant j q there)) in
     rw (here.0, here.1, on.0, on.1) (order i j p q l at there)
-
--- what holds of a result that is this
-pub from_ok : {A E : Type 0} (P : A → Type 0) (r : Result A E) (x : A) → r ≡ Ok x → IfOk r P → P x
-from_ok {A} {E} P r x same holds = subst (λ (o : Result A E). IfOk o P) same holds

@@ -2,7 +2,7 @@
 
 ghost use Rattle.std.specs.Prelude.{◌≡◌};
 
-use crate::store_tests::has_text;
+use crate::files::has_text;
 use mm_report::{Edit, EditError, Files, TextFault, TextNumber};
 use std::mem;
 

@@ -4,7 +4,7 @@ use Rattle.std.proofs.lemmas.Option.{slice_get-map}
 use Rattle.mm_report.specs.mm_store.Language.FileFacts.{piece_offset}
 use Rattle.mm_report.specs.mm_store.Language.FilesView.{plain_file, text_of}
 use Rattle.mm_report.specs.mm_store.Language.Pieces.{text_in, text_under}
-use Rattle.mmkeep.proofs.base_tests.offset_of.Goals as goal
+use Rattle.mmtests.proofs.bases.offset_of.Goals as goal
 
 pub offset-requires : goal.offset-requires
 offset-requires c =

@@ -1,5 +1,9 @@
-use Rattle.mm_proof.proofs.lemmas.machine.SpelledLemmas.{from_ok}
-use Rattle.mm_proof.proofs.view_tests.holds.Goals as goal
+use Rattle.std.proofs.Common.{Ok, Result, subst, ◌≡◌}
+use Rattle.std.specs.Prelude.{IfOk}
+use Rattle.mmtests.proofs.views.holds.Goals as goal
+
+from_ok : {A E : Type 0} (P : A → Type 0) (r : Result A E) (x : A) → r ≡ Ok x → IfOk r P → P x
+from_ok {A} {E} P r x same holds = subst (λ (o : Result A E). IfOk o P) same holds
 
 pub is_compared-holds-requires-clause-one : goal.is_compared-holds-requires-clause-one
 is_compared-holds-requires-clause-one c =

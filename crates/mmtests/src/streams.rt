@@ -1,7 +1,6 @@
 //! What the program cannot show of streams that fail: a reader with a limited number of calls, and the session after a script
 //! that was not answered to its end.
 
-use crate::adding::{FileError, read_all};
 use mm_report::{
     Files, Reading, ScriptError, Session, StoreError, Writing, run_script, write_report,
 };
@@ -154,13 +153,26 @@ fn a_script_is_read_as_often_as_it_may(rt: HostRuntime) -> Result<(), Fail> {
     Ok(())
 }
 
+/// How many bytes four calls give, and which of them fail.
+fn counts(reading: &mut Reading<Given>) -> [Option<usize>; 4] {
+    let mut chunk = [0; 16];
+    [
+        reading.read(&mut chunk).ok(),
+        reading.read(&mut chunk).ok(),
+        reading.read(&mut chunk).ok(),
+        reading.read(&mut chunk).ok(),
+    ]
+}
+
+/// A text of eight bytes, three a call: the fourth call gives its end, if there is one.
 #[test]
-fn a_file_is_read_as_often_as_it_may(rt: HostRuntime) {
-    let text: &[u8] = b"$c k $.\n";
-    let whole = read_all(rt.alloc(), &mut Reading::within(reader_of(text, 3), 4));
-    assert!(rt; whole.is_ok_and(|whole| whole.as_slice() == text));
-    let cut = read_all(rt.alloc(), &mut Reading::within(reader_of(text, 3), 3));
-    assert!(rt; cut.err() == Some(FileError::Read));
+fn a_text_is_read_as_often_as_it_may(rt: HostRuntime) {
+    let rows = [(4, Some(0)), (3, None)];
+    for (calls, end) in rows {
+        let mut reading = Reading::within(reader_of(b"$c k $.\n", 3), calls);
+        let read = counts(&mut reading);
+        assert!(rt; read == [Some(3), Some(3), Some(2), end], "{calls} calls");
+    }
 }
 
 /// A reading of which one call may be made fails with the second, and the reader within is not called for it.

@@ -5,12 +5,10 @@ ghost use Rattle.std.specs.Prelude.{List};
 ghost use Rattle.mm_text.specs.Language.Reading.{HasWords};
 ghost use Rattle.mm_text.specs.declared.word.Word.{Word as Found};
 
-use crate::cursor::WordCursor;
-use crate::cutting::{cut, divided_cut};
-use crate::fault::{TextError, TextFault, TextNumber};
-use crate::part::{Part, PartKind};
-use crate::whole_text::{nth_word, words};
-use crate::word::{Keyword, Word, WordKind};
+use mm_text::{
+    Keyword, Part, PartKind, TextError, TextFault, TextNumber, Word, WordCursor, WordKind, cut,
+    divided_cut, nth_word, words,
+};
 use std::test::Fail;
 
 fn plain(start: usize, end: usize) -> Word {

@@ -1,0 +1,15 @@
+//! Tests of public calls of the other crates: what no clause says, and the program does not show.
+#![tactic(auto)]
+
+#[cfg(test)]
+mod bases;
+#[cfg(test)]
+mod edits;
+#[cfg(test)]
+mod files;
+#[cfg(test)]
+mod streams;
+#[cfg(test)]
+mod texts;
+#[cfg(test)]
+mod views;
