@@ -46,6 +46,7 @@ use crate::tables::Tables;
 use crate::take_over::{ActiveDisjoints, OldItem};
 use mm_store::{Files, Item, ItemKind};
 use std::alloc::{AllocError, Global};
+use std::mem;
 
 /// What citing an assertion needs.
 #[derive(Drop)]
@@ -199,7 +200,7 @@ fn follow_pairs(
 }
 
 impl<'a> Draft<'a> {
-    ghost use Rattle.mm_frame.specs.Code.KeptBase.{IsDraft, IsDraftLater, AreParts};
+    ghost use Rattle.mm_frame.specs.Code.KeptBase.{IsDraft, IsDraftApart, IsDraftLater, AreParts};
 
     /// No items, with room for this many.
     pub fn with_room(alloc: Global, count: usize) -> Result<Self, AllocError>
@@ -223,29 +224,63 @@ impl<'a> Draft<'a> {
         })
     }
 
-    /// Adds one more statement, which has this fault or none. Its symbols are kept, and, where they are needed, their numbers; the list
-    /// with the expected number may have these symbols. After out of memory the draft must not be used.
+    /// Goes on past one more statement, which has these symbols, and this fault or none, and of which the assertions are told
+    /// already. Where they are needed, the numbers of its symbols are kept; the list with the expected number may have the symbols.
+    /// After out of memory the draft must not be used.
+    fn follow(
+        &mut self,
+        alloc: Global,
+        statement: &Statement<'a>,
+        symbols: &[NumberedSymbol],
+        fault: Option<FrameFault>,
+        expected: Option<usize>,
+    ) -> Result<(), AllocError>
+        ensures follows { OnOk result ((all : List (List ℕ)) (said : List meant.Item) → IsDraftApart all said self.old
+            → option_map (λ f. (f.word, f.number)) fault ≡ meaning.fault (sound_items said) statement.now
+            → (uses_numbers statement.now.kind ≡ true → AreNameNumbers all self.old.numbers.items statement.now.symbols)
+            → AreSymbolsOf all (sound_items said) statement.now (is_none fault) symbols.now
+            → IsDraftApart all (said ++ statement.now ∷ []) self.new) }
+        ensures assertions { OnOk result (self.new.assertions ≡ self.old.assertions) }
+    {
+        let item = TakenItem {
+            kind: statement.kind(),
+            number: self.rows.count(),
+            sound: fault.is_none(),
+        };
+        let blocks = self.scope.blocks();
+        follow_pairs(alloc, &mut self.pair_table, blocks, &self.numbers, item)?;
+        self.expressions.add(&mut self.guesses, symbols, expected)?;
+        self.rows
+            .add(statement.label(), told_fault(item.kind, fault))?;
+        self.scope
+            .next(alloc, statement, &self.numbers, item.sound)?;
+        let blocks = self.scope.blocks();
+        self.active.follow(blocks, &self.expressions, item)?;
+        Ok(())
+    }
+
+    /// Adds one more statement, which has these symbols, and this fault or none. Where they are needed, the numbers of its symbols
+    /// are kept; the list with the expected number may have the symbols. After out of memory the draft must not be used.
     fn add(
         &mut self,
         alloc: Global,
         statement: &Statement<'a>,
+        symbols: &[NumberedSymbol],
         fault: Option<FrameFault>,
         expected: Option<usize>,
     ) -> Result<(), AllocError>
         ensures { OnOk result ((all : List (List ℕ)) (said : List meant.Item) → IsDraft all said self.old
             → option_map (λ f. (f.word, f.number)) fault ≡ meaning.fault (sound_items said) statement.now
             → (uses_numbers statement.now.kind ≡ true → AreNameNumbers all self.old.numbers.items statement.now.symbols)
-            → AreSymbolsOf all (sound_items said) statement.now (is_none fault) self.old.symbols.items
+            → AreSymbolsOf all (sound_items said) statement.now (is_none fault) symbols.now
             → IsDraft all (said ++ statement.now ∷ []) self.new) }
     {
-        let sound = fault.is_none();
-        let (kind, number) = (statement.kind(), self.rows.count());
         let item = TakenItem {
-            kind,
-            number,
-            sound,
+            kind: statement.kind(),
+            number: self.rows.count(),
+            sound: fault.is_none(),
         };
-        let (blocks, disjoints) = (self.scope.blocks(), self.active.disjoints());
+        let disjoints = self.active.disjoints();
         let earlier = earlier(
             &self.scope,
             &self.pair_table,
@@ -253,15 +288,8 @@ impl<'a> Draft<'a> {
             &self.expressions,
         );
         self.assertions
-            .keep(alloc, &earlier, disjoints, &self.symbols, item)?;
-        follow_pairs(alloc, &mut self.pair_table, blocks, &self.numbers, item)?;
-        self.expressions
-            .add(&mut self.guesses, &self.symbols, expected)?;
-        self.rows.add(statement.label(), told_fault(kind, fault))?;
-        self.scope.next(alloc, statement, &self.numbers, sound)?;
-        let blocks = self.scope.blocks();
-        self.active.follow(blocks, &self.expressions, item)?;
-        Ok(())
+            .keep(alloc, &earlier, disjoints, symbols, item)?;
+        self.follow(alloc, statement, symbols, fault, expected)
     }
 
     /// Takes one more statement, whose symbols have the numbers that are kept; the list with the expected number may have what is
@@ -281,8 +309,11 @@ impl<'a> Draft<'a> {
         let fault = fault_of(alloc, names, &self.scope, statement, &self.numbers)?;
         let tables = self.scope.tables();
         let sound = fault.is_none();
-        keep_symbols(tables, statement, &self.numbers, sound, &mut self.symbols)?;
-        self.add(alloc, statement, fault, expected)
+        let mut symbols = mem::replace(&mut self.symbols, Vec::new(alloc));
+        keep_symbols(tables, statement, &self.numbers, sound, &mut symbols)?;
+        self.add(alloc, statement, &symbols, fault, expected)?;
+        self.symbols = symbols;
+        Ok(())
     }
 
     /// Takes one more statement, whose symbols are known, if it is a `$e`, `$a` or `$p` that is sound with them as they are; else nothing
@@ -305,9 +336,7 @@ impl<'a> Draft<'a> {
         if !is_sound_as_known(names, &self.scope, statement, symbols) {
             return Ok(false);
         }
-        self.symbols.clear();
-        self.symbols.extend_from_slice(symbols)?;
-        self.add(alloc, statement, None, expected)?;
+        self.add(alloc, statement, symbols, None, expected)?;
         Ok(true)
     }
 
@@ -333,30 +362,14 @@ impl<'a> Draft<'a> {
             → (uses_numbers statement.now.kind ≡ true → AreNameNumbers all self.old.numbers.items statement.now.symbols) → IsDraft all said self.old
             → IsDraft all (said ++ statement.now ∷ []) self.new) }
     {
-        let item = TakenItem {
-            kind: statement.kind(),
-            number: self.rows.count(),
-            sound: true,
-        };
-        let (blocks, numbers) = (self.scope.blocks(), self.active.disjoints());
-        let expressions = &self.expressions;
+        let number = self.rows.count();
         let active = ActiveDisjoints {
-            numbers,
-            expressions,
+            numbers: self.active.disjoints(),
+            expressions: &self.expressions,
         };
-        let from = OldItem {
-            base: old,
-            number: item.number,
-        };
+        let from = OldItem { base: old, number };
         self.assertions.take_over(alloc, active, from)?;
-        follow_pairs(alloc, &mut self.pair_table, blocks, &self.numbers, item)?;
-        let expected = old.list_number(item.number);
-        self.expressions.add(&mut self.guesses, symbols, expected)?;
-        self.rows.add(statement.label(), None)?;
-        self.scope.next(alloc, statement, &self.numbers, true)?;
-        let blocks = self.scope.blocks();
-        self.active.follow(blocks, &self.expressions, item)?;
-        Ok(())
+        self.follow(alloc, statement, symbols, None, old.list_number(number))
     }
 
     /// Reads one more item of the files. After out of memory the draft must not be used, and there may be more names.

@@ -43,6 +43,15 @@ pub record IsDraft (all : List (List ℕ)) (said : List Item) (draft : Draft) : 
   pub active : AreActiveKept (sound_items said) draft.expressions draft.active
   pub pair_table : KnowsPairs all (sound_items said) draft.pair_table
 
+-- the draft is that after these items, apart from what is kept of the assertions
+pub record IsDraftApart (all : List (List ℕ)) (said : List Item) (draft : Draft) : Type 0 where
+  pub scope : ScopeHolds all (sound_items said) draft.scope
+  pub kept : AreRowsKept draft.rows
+  pub rows : AreRows IsLabelTold said (rows_of draft.rows)
+  pub symbols : AreSymbols all (sound_items said) draft.expressions
+  pub active : AreActiveKept (sound_items said) draft.expressions draft.active
+  pub pair_table : KnowsPairs all (sound_items said) draft.pair_table
+
 -- the draft is right by each list of names that begins with these
 abbrev pub IsDraftLater : List (List ℕ) → List Item → Draft → Type 0
 IsDraftLater names said draft = (all : List (List ℕ)) → AreDistinct all → Begins names all → IsDraft all said draft

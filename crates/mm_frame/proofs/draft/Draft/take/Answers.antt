@@ -1,6 +1,6 @@
-use Rattle.std.proofs.Common.{◌∙◌, sym, subst}
-use Rattle.std.proofs.lemmas.Result.{on_ok_weaker}
+use Rattle.std.proofs.Common.{◌++◌, ◌∷◌, [], ◌∙◌, is_none, sym, subst}
 use Rattle.mm_frame.specs.Language.Sound.{sound_items}
+use Rattle.mm_frame.specs.Code.KeptSymbols.{AreSymbolsOf}
 use Rattle.mm_frame.specs.Code.KeptTables.{Knows}
 use Rattle.mm_frame.specs.Code.Numbers.{AreNameNumbers}
 use Rattle.mm_frame.proofs.lemmas.base.BaseLemmas.{kept_are_sound, sound_found_none, none_found}
@@ -8,7 +8,7 @@ use Rattle.mm_frame.proofs.lemmas.base.NumbersAside.{symbols_aside}
 use Rattle.mm_frame.proofs.draft.Draft.take.Goals as goal
 
 pub returns : goal.returns
-returns c = on_ok_weaker c.add.result (λ adds all said first d numbers_first numbers.
+returns c all said first d numbers_first numbers =
     let item = c.args.statement.now in
     let before = sound_items said in
     let found = c.in_ok-fault.fault in
@@ -17,7 +17,8 @@ returns c = on_ok_weaker c.add.result (λ adds all said first d numbers_first nu
     let none = none_found found c.is_none-sound.result c.is_none-sound.ensures in
     let knows = subst (λ w. Knows all before w) (sym c.tables-tables.ensures) d.scope.knows in
     let kept_numbers = subst (λ w. AreNameNumbers all w item.symbols) (sym c.deref-2.ensures.value) numbers in
-    adds all said (symbols_aside all said c.args.self.now c.keep_symbols.new.symbols d) told (λ t. numbers) (record {
+    symbols_aside all (said ++ item ∷ []) c.add.new.self _
+    (c.in_ok-add.ensures all said (symbols_aside all said c.args.self.now _ d) told (λ t. numbers) (subst (AreSymbolsOf all before item (is_none found)) (sym c.deref-3.ensures.value) (record {
       numbered = c.in_ok-keep_symbols.ensures.numbered all kept_numbers;
       read = λ t r. c.in_ok-keep_symbols.ensures.read all before are_sound knows kept_numbers (sym none ∙ t) (sound_found_none (λ f. (f.word, f.number)) before item found told t) r;
-    })) c.add.ensures
+    })))

@@ -1,9 +1,7 @@
-use Rattle.std.proofs.Common.{true, ◌++◌, ◌∙◌, sym, ap, subst}
+use Rattle.std.proofs.Common.{sym}
 use Rattle.mm_frame.specs.Language.Sound.{sound_items}
-use Rattle.mm_frame.specs.Code.KeptSymbols.{AreSymbolsOf}
 use Rattle.mm_frame.proofs.lemmas.base.BaseLemmas.{kept_are_sound}
 use Rattle.mm_frame.proofs.lemmas.faults.FoundFaults.{no_fault_sound}
-use Rattle.mm_frame.proofs.lemmas.base.NumbersAside.{symbols_aside}
 use Rattle.mm_frame.proofs.lemmas.names.KnownSymbols.{known_symbols, expression_uses}
 use Rattle.mm_frame.proofs.draft.Draft.take_known.Goals as goal
 
@@ -16,6 +14,4 @@ returns c all said first d numbers_first numbers =
     let fault = c.is_sound_as_known.ensures.fault right before (kept_are_sound said) first.scope numbers_first in
     let sound = no_fault_sound before item (sym fault) in
     let known = known_symbols all c.args.self.now.scope.tables before item c.args.symbols.now (kept_are_sound said) d.scope.knows numbers sound expression (c.is_sound_as_known.ensures.sorts right) in
-    let copied = c.in_ok-extend_from_slice.ensures.items ∙ ap (λ w. w ++ c.args.symbols.now) c.clear.ensures.items in
-    c.in_ok-add.ensures all said (symbols_aside all said c.args.self.now _ d) fault (λ u. absurd (expression_uses item.kind expression u))
-    (subst (AreSymbolsOf all before item true) (sym copied) known)
+    c.in_ok-add.ensures all said d fault (λ u. absurd (expression_uses item.kind expression u)) known

@@ -1,0 +1,49 @@
+use Rattle.std.proofs.Common.{◌≡◌, true, length, ◌∷◌, ◌++◌, [], ◌∙◌, ap, sym, subst, arith}
+use Rattle.std.specs.Option.{option_map}
+use Rattle.mm_frame.specs.Language.Base.{fault_by}
+use Rattle.mm_frame.specs.Language.Sound.{sound_items}
+use Rattle.mm_frame.specs.Language.Answering.{AreRows, IsLabelTold}
+use Rattle.mm_frame.specs.Code.KeptActiveItems.{AreActiveKept}
+use Rattle.mm_frame.specs.Code.KeptPairTable.{KnowsPairs}
+use Rattle.mm_frame.specs.Code.KeptRows.{rows_of, fault_told}
+use Rattle.mm_frame.specs.Code.KeptScope.{ScopeHolds, taken}
+use Rattle.mm_frame.specs.Code.KeptSymbols.{AreSymbols}
+use Rattle.mm_frame.specs.Code.Numbers.{AreNameNumbers}
+use Rattle.mm_frame.proofs.lemmas.base.BaseLemmas.{rows_more, kept_are_sound, kept_taken, kept_count, sound_found_none, none_found, symbols_more, symbols_taken}
+use Rattle.mm_frame.proofs.lemmas.names.KnownSymbols.{disjoint_uses}
+use Rattle.mm_frame.proofs.lemmas.base.RowLemmas.{some_lent}
+use Rattle.mm_frame.proofs.draft.Draft.follow.Goals as goal
+
+pub returns-clause-follows : goal.returns-clause-follows
+returns-clause-follows c all said d told numbers kept =
+    let item = c.args.statement.now in
+    let before = sound_items said in
+    let found = c.args.fault in
+    let flag = c.is_none.result in
+    let are_sound = kept_are_sound said in
+    let none = none_found found flag c.is_none.ensures in
+    let is_sound = λ (t : flag ≡ true). sound_found_none (λ f. (f.word, f.number)) before item found told (none ∙ t) in
+    let more = ap (λ b. before ++ taken b item ∷ []) (sym none) ∙ kept_taken (λ f. (f.word, f.number)) said item found told in
+    let symbols = c.args.symbols.now in
+    let own = λ (t : flag ≡ true). kept.read (none ∙ t) in
+    let kind = c.kind.ensures.kind in
+    let holds = c.in_ok-next.ensures all before are_sound d.scope is_sound (λ t. subst (λ w. AreNameNumbers all w item.symbols) (sym c.deref-2.ensures.value) (numbers t)) in
+    let number : c.count.result ≡ length before = omega (arith, c.count.ensures, kept_count said, d.rows.count) in
+    let pairs = c.in_ok-follow_pairs.ensures all before item d.scope.knows.distinct are_sound kind number (c.blocks-blocks.ensures ∙ d.scope.marks)
+    (λ t. subst (λ w. AreNameNumbers all w item.symbols) (sym c.deref.ensures.value) (numbers (disjoint_uses item.kind t))) is_sound d.pair_table in
+    let added = c.in_ok-add.ensures in
+    let active = c.in_ok-follow.ensures before item c.args.self.now.expressions symbols kind number (c.blocks-blocks-2.ensures ∙ holds.marks) d.symbols.count added d.active in
+    record {
+      scope = subst (λ w. ScopeHolds all w c.next.new.self) more holds;
+      kept = c.in_ok-add-2.ensures.kept d.kept;
+      rows = subst (AreRows IsLabelTold (said ++ item ∷ [])) (sym (c.in_ok-add-2.ensures.more d.kept))
+          (rows_more IsLabelTold said item (rows_of c.args.self.now.rows) (option_map (λ label. label.now) c.label.result, fault_told c.told_fault.result) d.rows (record {
+            label = c.label.ensures.label;
+            labelled = some_lent (λ label. label.now) c.label.result ∙ c.label.ensures.some;
+            fault = c.told_fault.ensures ∙ ap (λ k. fault_by k (option_map (λ f. (f.word, f.number)) found)) kind ∙ ap (fault_by item.kind) told;
+          }));
+      symbols = subst (λ w. AreSymbols all w c.add.new.self) more
+          (subst (λ w. AreSymbols all (before ++ taken flag item ∷ []) w) (sym added) (symbols_more all before (taken flag item) c.args.self.now.expressions symbols d.symbols kept.numbered (symbols_taken all before item symbols flag own)));
+      active = subst (λ w. AreActiveKept w c.add.new.self c.follow.new.self) more active;
+      pair_table = subst (λ w. KnowsPairs all w c.follow_pairs.new.pairs) more pairs;
+    }
