@@ -55,6 +55,7 @@ fn needs_no_names(kind: ItemKind) -> bool
 }
 
 /// What the item with this number in an older base knows of an item, if the two are the same.
+#[inline(always)]
 fn known_of<'a>(old: &'a Base, i: usize, item: &Item) -> Option<Known<'a>>
     requires { (base : BaseView) × IsBase base old.now }
     ensures known { (names : List (List ℕ)) (files : FilesView) (base : BaseView) → IsBaseBy names base old.now → AllZip (Says files) base.found base.said

@@ -71,6 +71,7 @@ impl<T: Drop> Sparse<T> {
     }
 
     /// Adds one more item, which has this value. Out of memory changes nothing.
+    #[inline(always)]
     pub fn add(&mut self, value: T) -> Result<(), AllocError>
         ensures { OnOk result (self.new ≡ self.old ++ Some value ∷ []) }
     {
@@ -81,6 +82,7 @@ impl<T: Drop> Sparse<T> {
     }
 
     /// Adds one more item, which has no value. Out of memory changes nothing.
+    #[inline(always)]
     pub fn pass(&mut self) -> Result<(), AllocError>
         ensures { OnOk result (self.new ≡ self.old ++ None ∷ []) }
     {

@@ -1,4 +1,4 @@
-use Rattle.std.proofs.Common.{◌≡◌, ◌++◌, ◌∷◌, [], true, is_none, length, ap, sym, ◌∙◌, subst}
+use Rattle.std.proofs.Common.{◌≡◌, ◌++◌, ◌∷◌, [], true, is_none, length, sym, ◌∙◌, subst}
 use Rattle.mm_frame.specs.Language.Base.{told_fault}
 use Rattle.mm_frame.specs.Language.Sound.{fault, sound_items}
 use Rattle.mm_frame.specs.Code.KeptAssertions.{AreAssertions}
