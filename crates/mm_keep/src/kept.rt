@@ -147,14 +147,24 @@ impl Model for Checks {
 }
 
 impl Checks {
+    /// No items, which takes no memory.
+    pub fn new(alloc: Global) -> Checks
+        ensures { result ≡ [] }
+    {
+        Checks {
+            checks: Vec::new(alloc),
+            places: Vec::new(alloc),
+        }
+    }
+
     /// No items, with room for this many, of which this many have a check.
     pub fn with_room(alloc: Global, items: usize, checks: usize) -> Result<Checks, AllocError>
         ensures { IfOk result (λ made. made ≡ []) }
     {
-        Ok(Checks {
-            checks: Vec::with_capacity(alloc, checks)?,
-            places: Vec::with_capacity(alloc, items)?,
-        })
+        let mut made = Checks::new(alloc);
+        made.checks.reserve(checks)?;
+        made.places.reserve(items)?;
+        Ok(made)
     }
 
     /// The allocator that the lists are made on.
