@@ -176,13 +176,6 @@ impl Base {
         self.parts.rows.count()
     }
 
-    /// All items of the files, in order.
-    pub(crate) fn items(&self) -> &[Item]
-        ensures { result.now ≡ self.now.items }
-    {
-        &self.items
-    }
-
     /// The item of the files with this number.
     pub fn item(&self, i: usize) -> &Item
         requires { (base : BaseView) × IsBase base self.now × (i < length base.said) }

@@ -54,7 +54,7 @@ pub use mm_store::{
 pub use names::Names;
 pub use proof_words::ProofWords;
 pub use same::{
-    same_active_pairs, same_but_hypotheses, same_but_pairs, same_expression, same_frame, same_items,
+    same_active_pairs, same_but_hypotheses, same_but_pairs, same_expression, same_frame,
 };
 pub use statement::{Statement, has_bytes, nth_of_proof, same_proof, words_of_proof};
 pub use symbol::{NamedSymbol, NumberedSymbol, Symbol};

@@ -1,46 +1,14 @@
 //! Whether what two bases keep is the same.
 
-ghost use Rattle.std.specs.Prelude.{◌≡◌, ◌≤◌, ◌↔◌, ◌⊎◌, ℕ, List, IsTrue, true, All, Contains, length, map, take};
-ghost use Rattle.std.specs.List.{AllZip};
-ghost use Rattle.mm_store.specs.Language.FilesView.{FilesView};
-ghost use Rattle.mm_frame.specs.Language.Statement.{Says};
+ghost use Rattle.std.specs.Prelude.{◌≡◌, ◌↔◌, ◌⊎◌, ℕ, List, IsTrue, true, All, Contains, map};
 ghost use Rattle.mm_frame.specs.Language.Base.{BaseView, before, said_at, is_shown_at, is_framed_at, is_proof_at, hypothesis_at, frame_at};
 ghost use Rattle.mm_frame.specs.Language.Framing.{active_pairs, expression};
-ghost use Rattle.mm_frame.specs.Language.Answering.{IsBase, IsBaseBy};
+ghost use Rattle.mm_frame.specs.Language.Answering.{IsBaseBy};
 ghost use Rattle.mm_frame.specs.Language.Frame.{AreSameFrame, AreSamePairs};
 
 use crate::base::Base;
 use crate::names::Names;
 use crate::symbol::{NumberedSymbol, same_symbols};
-use mm_store::Item;
-
-/// Whether two items of the files are the same.
-fn is_same_item(one: &Item, other: &Item) -> bool
-    ensures { IsTrue result ↔ (one.now ≡ other.now) }
-{
-    one == other
-}
-
-/// How many items of the files are the same in two bases, one by one, from the first on up to the first that differs. Such
-/// items say the same where both can be read. No text is looked at. It takes no memory, and time linear in these items.
-pub fn same_items(one: &Base, other: &Base) -> usize
-    ensures same { take result one.now.items ≡ take result other.now.items }
-    ensures within { result ≤ length one.now.items }
-    ensures most { (n : ℕ) → n ≤ length one.now.items → take n one.now.items ≡ take n other.now.items → n ≤ result }
-    ensures said { (files : FilesView) (base copy : BaseView) → IsBase base one.now → IsBase copy other.now
-        → AllZip (Says files) base.found base.said → AllZip (Says files) copy.found copy.said → take result base.said ≡ take result copy.said }
-{
-    // A law: the same bytes have one reading.
-    mm_store::one_meaning();
-    let (mine, yours) = (one.items(), other.items());
-    let count = mine.len().min(yours.len());
-    for k in 0..count {
-        if !is_same_item(&mine[k], &yours[k]) {
-            return k;
-        }
-    }
-    count
-}
 
 /// Whether two lists of pairs are the same, one by one.
 pub fn same_pairs(

@@ -70,7 +70,7 @@ kept_by_one own base copy checked plan ran can i j k a b =
 pub mark_here : (names : List (List ℕ)) (files : FilesView) (old new : Base) (marks : MarksView) (j : ℕ) → HasItemBothRead names files old new j → AreMarksBy names old new marks → (base copy : BaseView) → AreBothRead names files old new base copy
     → IsMark base copy j (mark_at marks j)
 mark_here names files old new marks j has are base copy both =
-    (are files base copy both.old_is both.new_is).each j (subst (λ n. j < n) (one_count names names has.1 copy new has.2.new_is.base both.new_is.base) has.3)
+    (are base copy both.old_is.base both.new_is.base).each j (subst (λ n. j < n) (one_count names names has.1 copy new has.2.new_is.base both.new_is.base) has.3)
 
 -- what holds of each element, and of one more
 pub each_more : {X : Type 0} (P : ℕ → X → Type 0) (xs ys : List X) (y : X) → ys ≡ xs ++ y ∷ [] → ((k : ℕ) (x : X) → slice_get xs k ≡ Some x → P k x) → P (length xs) y → (k : ℕ) (x : X) → slice_get ys k ≡ Some x → P k x

@@ -2,19 +2,16 @@
 
 ghost use Rattle.std.specs.Prelude.{◌≡◌, ◌↔◌, ◌+◌, ◌<◌, ℕ, true, Some, IfOk, IsTrue, map};
 ghost use Rattle.mm_frame.specs.Language.Base.{BaseView, hypothesis_at, is_shown_at};
-ghost use Rattle.mm_frame.specs.Language.Answering.{BaseAnswers, IsBase};
-ghost use Rattle.mm_frame.specs.mm_store.Language.FilesView.{FilesView};
+ghost use Rattle.mm_frame.specs.Language.Answering.{BaseAnswers, IsBase, IsBaseBy};
 ghost use Rattle.mm_frame.specs.Language.Resolving.{IsCarrier};
 ghost use Rattle.mm_proof.specs.Code.InStep.{AreOrdinalsOf, HasLevel, IsStepAt, MeanOne, changed_behind};
-ghost use Rattle.mm_proof.specs.Code.KeptMarks.{OfBases, AreTheorems, SharePairs, ShareFrame, IsCompared, IsComparedOf, IsOneHypothesis};
-ghost use Rattle.mm_proof.specs.Code.KeptMarks.{IsHypothesisMark, IsHypothesisMarkAt, AreHypothesisMarks, SaySame, SaysAgain, kept_mark};
-ghost use Rattle.mm_proof.specs.Language.ReadIn.{IsReadIn};
+ghost use Rattle.mm_proof.specs.Code.KeptMarks.{OfBases, AreTheorems, SharePairs, ShareFrame, IsCompared, IsComparedOf, IsHypothesisMark, IsOneHypothesis, AreHypothesisMarks, kept_mark};
 ghost use Rattle.mm_proof.specs.Language.BaseMarks.{AreMarks, HaveOneLabel, IsMark, KeepsLabels, mark_at};
 
 use crate::ordinals::{Ordinals, end_alike, is_labelled, small, wide};
 use mm_frame::{
     Base, Names, has_own_labels, labels_mean, same_active_pairs, same_but_hypotheses,
-    same_but_pairs, same_expression, same_items,
+    same_but_pairs, same_expression,
 };
 use std::alloc::{AllocError, Global};
 use std::marker::Model;
@@ -47,8 +44,6 @@ pub struct Marks {
     marks: Vec<Mark>,
     /// The items of the new base whose labels are listed as changed.
     changed: Vec<usize>,
-    /// How many items, from the first on, are the same in both bases.
-    unchanged: usize,
 }
 
 /// With more changed labels two bases are out of step.
@@ -252,31 +247,20 @@ fn next_expected(base: &Base, found: Option<usize>, expected: usize) -> usize {
     let Some(i) = found else {
         return expected;
     };
-    for n in i.saturating_add(1)..base.count() {
-        if is_labelled(base, n) {
+    for n in i..base.count() {
+        if n > i && is_labelled(base, n) {
             return n;
         }
     }
     base.count()
 }
 
-/// Two bases, the ordinals of their items, and how many items are the same in both, from the first on.
+/// Two bases, and the ordinals of their items.
 #[derive(Clone, Copy)]
 struct TwoBases<'a> {
     old: &'a Base,
     new: &'a Base,
     ordinals: &'a Ordinals,
-    same: usize,
-}
-
-/// The item of the old base that is tried first after the item `j` of the new one: the next one if this item is the same in
-/// both; else the first labelled one after the one that was found, or the one that was expected.
-fn expected_after(bases: TwoBases<'_>, j: usize, found: Option<usize>, expected: usize) -> usize {
-    if j < bases.same {
-        j + 1
-    } else {
-        next_expected(bases.old, found, expected)
-    }
 }
 
 /// What is known before an item of the new base is marked.
@@ -301,44 +285,6 @@ const FIRST_STEP: Step = Step {
     expected: 0,
 };
 
-/// What stays of an item that says the same in both bases, as all items before it do: it stays the item that it is. Nothing
-/// is compared.
-fn same_mark(new: &Base, j: usize) -> Mark
-    ensures mark { (old : BaseAnswers) → OfBases old new.now (λ base copy. SaysAgain base copy j → IsMark base copy j (kept_mark result)) }
-    ensures kept { (old : BaseAnswers) → OfBases old new.now (λ base copy. SaysAgain base copy j → IsHypothesisMarkAt base copy j result) }
-{
-    has_own_labels();
-    if !is_labelled(new, j) {
-        return NO_MARK;
-    }
-    let frame = new.frame(j).is_some();
-    Mark {
-        old: Some(small(new, j)),
-        frame,
-        hypothesis: !frame,
-        pairs: new.pairs(j).is_some(),
-        in_step: false,
-    }
-}
-
-/// What stays of the item with this number, by the marks of those before it; and the two theorems that were compared
-/// last. An item that is the same in both bases, as all items before it are, is not compared.
-fn mark_by(bases: TwoBases<'_>, j: usize, step: Step, marks: &[Mark]) -> (Mark, Option<Compared>)
-    requires same { SaySame bases.same bases.old.now bases.new.now }
-    requires last { IsCompared bases.old.now bases.new.now step.last }
-    requires marks { AreHypothesisMarks bases.old.now bases.new.now marks.now }
-    ensures mark { OfBases bases.entry.old.now bases.entry.new.now (λ base copy. IsMark base copy j (kept_mark result.0)) }
-    ensures kept { IsHypothesisMark bases.entry.old.now bases.entry.new.now j result.0 }
-    ensures last { IsCompared bases.entry.old.now bases.entry.new.now result.1 }
-{
-    let TwoBases { old, new, same, .. } = bases;
-    if j < same {
-        (same_mark(new, j), step.last)
-    } else {
-        mark_of(old, new, j, step.last, step.expected, marks)
-    }
-}
-
 /// The mark of an item, by those of the items before it, of which these are listed as changed; and what is known before
 /// the next one is marked.
 fn marked(
@@ -348,7 +294,6 @@ fn marked(
     marks: &[Mark],
     changed: &[usize],
 ) -> (Mark, Step)
-    requires same { SaySame bases.same bases.old.now bases.new.now }
     requires ordinals { AreOrdinalsOf bases.old.now bases.new.now bases.ordinals.now }
     requires step { IsStepAt bases.old.now bases.new.now changed.now j step }
     requires marks { AreHypothesisMarks bases.old.now bases.new.now marks.now }
@@ -359,13 +304,8 @@ fn marked(
     ensures step { IsStepAt bases.entry.old.now bases.entry.new.now (changed_behind changed.now j result.1.changed) (j + 1) result.1 }
 {
     labels_mean();
-    let TwoBases {
-        old,
-        new,
-        ordinals,
-        ..
-    } = bases;
-    let (mark, last) = mark_by(bases, j, step, marks);
+    let TwoBases { old, new, ordinals } = bases;
+    let (mark, last) = mark_of(old, new, j, step.last, step.expected, marks);
     let placed = step.in_step && keeps_place(new, j, ordinals, mark);
     let alike = placed && is_alike(old, new, j, ordinals, mark);
     let here = placed && !alike && changed.len() < MOST_CHANGED;
@@ -373,7 +313,7 @@ fn marked(
         last,
         in_step: alike || here,
         changed: here,
-        expected: expected_after(bases, j, wide(mark.old), step.expected),
+        expected: next_expected(old, wide(mark.old), step.expected),
     };
     let mark = Mark {
         in_step: placed,
@@ -393,22 +333,19 @@ fn is_below(number: Option<u32>, i: usize) -> bool
 }
 
 impl Marks {
-    /// Compares an old base with a new one, both over the same names, and with items that can be read in the same files. It
-    /// takes time near linear in the items, the frames and the lists of active pairs of the two, and memory for each item of
-    /// both. Of the items up to the first that is not the same in both, no frame and no list is compared.
+    /// Compares an old base with a new one, both over the same names. It takes time near linear in the items, the frames
+    /// and the lists of active pairs of the two, and memory for each item of both.
     pub fn build(alloc: Global, names: &Names, old: &Base, new: &Base) -> Result<Marks, AllocError>
-        ensures { IfOk result (λ marks. (files : FilesView) (base copy : BaseView) → IsReadIn names.now files old.now base
-            → IsReadIn names.now files new.now copy → AreMarks base copy marks) }
+        ensures { IfOk result (λ marks. (base copy : BaseView) → IsBaseBy names.now base old.now → IsBaseBy names.now copy new.now
+            → AreMarks base copy marks) }
     {
         let ordinals = Ordinals::build(alloc, old, new)?;
         let mut marks = Vec::with_capacity(alloc, new.count())?;
         let mut changed = Vec::new(alloc);
-        let unchanged = same_items(old, new);
         let bases = TwoBases {
             old,
             new,
             ordinals: &ordinals,
-            same: unchanged,
         };
         let mut step = FIRST_STEP;
         for j in 0..new.count() {
@@ -419,11 +356,7 @@ impl Marks {
             }
             step = next;
         }
-        Ok(Marks {
-            marks,
-            changed,
-            unchanged,
-        })
+        Ok(Marks { marks, changed })
     }
 
     /// The number of the sound item of the old base that has the label of the item `j` of the new one, if both are sound.
@@ -486,12 +419,5 @@ impl Marks {
         ensures { result.now ≡ self.now.changed }
     {
         &self.changed
-    }
-
-    /// How many items, from the first on, are known to say the same in both bases.
-    pub(crate) fn unchanged(&self) -> usize
-        ensures { result ≡ self.now.unchanged }
-    {
-        self.unchanged
     }
 }

@@ -7,10 +7,8 @@ ghost use Rattle.mm_frame.specs.Language.Base.{BaseView, is_framed_at, is_proof_
 ghost use Rattle.mm_frame.specs.Language.Item as meant;
 ghost use Rattle.mm_frame.specs.Language.Statement.{Says};
 ghost use Rattle.mm_frame.specs.Language.Resolving.{IsCarrier, Resolves};
-ghost use Rattle.mm_frame.specs.Language.Answering.{IsBase};
-ghost use Rattle.mm_frame.specs.mm_store.Language.FilesView.{FilesView};
-ghost use Rattle.mm_proof.specs.Code.KeptMarks.{AreTheorems, IsOneCarrier, IsShownItem, SaysAgain, SharePairs, ShareHypotheses, ShareProof};
-ghost use Rattle.mm_proof.specs.Code.KeptMarks.{is_label_word, stands_for};
+ghost use Rattle.mm_frame.specs.Language.Answering.{IsBase, IsBaseBy};
+ghost use Rattle.mm_proof.specs.Code.KeptMarks.{AreTheorems, IsOneCarrier, IsShownItem, SharePairs, ShareHypotheses, ShareProof, is_label_word, stands_for};
 ghost use Rattle.mm_proof.specs.Code.TwoTheorems.{AreMarked, AreUnnamed, CanBeCompared, IsUnnamed, OfTwo, OfTwoIn, MeansSame, TellsLabels, TellsShared};
 ghost use Rattle.mm_proof.specs.Language.ReadIn.{IsReadIn, HasTheorem};
 ghost use Rattle.mm_proof.specs.Language.BaseMarks.{AreMarks, mark_at};
@@ -271,26 +269,12 @@ fn same_written(two: TwoTheorems, files: &Files) -> bool
     same_proof(files, mine, yours) && same_labels(two, files, yours)
 }
 
-/// Whether the marks say that the items are the same one in both bases, as all items before it are.
-fn is_unchanged(two: TwoTheorems) -> bool
-    requires { AreMarked two }
-    ensures { IsTrue result → (two.entry.i ≡ two.entry.j) × OfTwo two.entry (λ base copy. SaysAgain base copy two.entry.j) }
-{
-    match two.marks {
-        Some(marks) => two.i == two.j && two.j < marks.unchanged(),
-        None => false,
-    }
-}
-
 /// Whether two sound `$p` have equal views.
 fn have_same_view(two: TwoTheorems, files: &Files) -> bool
     requires { CanBeCompared two files.now }
     ensures { OfTwoIn two.entry files.now (λ base copy. AreTheorems base copy two.entry.i two.entry.j
         → IsTrue result ↔ AreSameViews (view_at base two.entry.i) (view_at copy two.entry.j)) }
 {
-    if is_unchanged(two) {
-        return true;
-    }
     if !same_but_active(two) {
         return false;
     }
@@ -318,8 +302,7 @@ pub fn same_view(names: &Names, files: &Files, one: &Base, i: usize, other: &Bas
 
 /// Answers what [`same_view`] does, by the marks of the two bases: no frame is compared, and each label that the proof
 /// names is looked up once. None is if the bases are in step up to the two, except for a few changed labels, and none of
-/// these labels is among the bytes of the theorem. Nothing is looked at if all items up to the two are the same in both
-/// bases. It takes no memory.
+/// these labels is among the bytes of the theorem. It takes no memory.
 pub fn same_view_by(
     names: &Names,
     files: &Files,
@@ -331,8 +314,7 @@ pub fn same_view_by(
 ) -> bool
     requires one { HasTheorem names.now files.now old.now i }
     requires other { HasTheorem names.now files.now new.now j }
-    requires marks { (files : FilesView) (base copy : BaseView) → IsReadIn names.now files old.now base → IsReadIn names.now files new.now copy
-        → AreMarks base copy marks.now }
+    requires marks { (base copy : BaseView) → IsBaseBy names.now base old.now → IsBaseBy names.now copy new.now → AreMarks base copy marks.now }
     ensures { (base copy : BaseView) → IsReadIn names.now files.now old.now base → IsReadIn names.now files.now new.now copy
         → is_proof_at base i ≡ true → is_proof_at copy j ≡ true → IsTrue result ↔ AreSameViews (view_at base i) (view_at copy j) }
 {

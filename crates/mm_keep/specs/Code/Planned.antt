@@ -3,6 +3,7 @@ use Rattle.std.specs.Prelude.{◌≡◌, ◌≤◌, ◌<◌, ◌+◌, ◌⊎◌,
 use Rattle.mm_proof.specs.mm_store.Language.FilesView.{FilesView}
 use Rattle.mm_proof.specs.mm_frame.Language.Base.{BaseView, AreSaid, is_proof_at}
 use Rattle.mm_proof.specs.mm_frame.declared.base.Base.{Base}
+use Rattle.mm_proof.specs.mm_frame.Language.Answering.{IsBaseBy}
 use Rattle.mm_proof.specs.Language.BaseMarks.{MarksView, AreMarks}
 use Rattle.mm_proof.specs.Language.VerdictAt.{AreDoneAt}
 use Rattle.mm_proof.specs.Language.ReadIn.{IsReadIn}
@@ -46,10 +47,9 @@ pub record AreBothRead (names : List (List ℕ)) (files : FilesView) (old new : 
   pub old_is : IsReadIn names files old base
   pub new_is : IsReadIn names files new copy
 
--- the marks of these two bases say what stays of the old one, where the items of both can be read in the same files
+-- the marks of these two bases say what stays of the old one
 abbrev pub AreMarksBy : List (List ℕ) → Base → Base → MarksView → Type 0
-AreMarksBy names old new marks = (files : FilesView) (base copy : BaseView) → IsReadIn names files old base → IsReadIn names files new copy
-    → AreMarks base copy marks
+AreMarksBy names old new marks = (base copy : BaseView) → IsBaseBy names base old → IsBaseBy names copy new → AreMarks base copy marks
 
 -- there are two such bases, and the new one has an item with this number
 abbrev pub HasItemBothRead : List (List ℕ) → FilesView → Base → Base → ℕ → Type 0

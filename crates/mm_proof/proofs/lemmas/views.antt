@@ -1,6 +1,5 @@
 -- Views: what verdicts depend on, and when two theorems have the same.
 
-pub mod AgainLemmas
 pub mod InStepLemmas
 pub mod KeptMarkLemmas
 pub mod MeaningLemmas

@@ -1,17 +1,16 @@
 -- What is kept of what stays of an old base in a new one.
-use Rattle.std.specs.Prelude.{◌≡◌, ◌↔◌, ◌<◌, ℕ, Bool, true, false, not, Option, Some, None, List, length, map, slice_get, slice_index_or, take, bytes_eq, codes}
+use Rattle.std.specs.Prelude.{◌≡◌, ◌↔◌, ◌<◌, ℕ, Bool, true, false, not, Option, Some, None, List, length, map, slice_get, bytes_eq, codes}
 use Rattle.std.specs.List.{AllByRecursion}
 use Rattle.mm_frame.specs.Language.Base.{BaseView, before, said_at, is_shown_at, is_framed_at, is_proof_at, frame_at, hypothesis_at}
 use Rattle.mm_frame.specs.Language.Frame.{Resolved, Hypothesis, Assertion, Inactive, Unknown, AreSameFrame, AreSamePairs}
 use Rattle.mm_frame.specs.Language.Framing.{active_pairs, expression}
 use Rattle.mm_frame.specs.Language.Resolving.{IsCarrier}
-use Rattle.mm_frame.specs.mm_store.Language.FilesView.{FilesView}
+use Rattle.mm_frame.specs.Language.Answering.{IsBaseBy}
 use Rattle.mm_frame.specs.declared.base.Base.{Base}
 use Rattle.mm_frame.specs.declared.base.Resolved as answer
 use Rattle.mm_frame.specs.declared.base.Resolved.TheVariants as answers
 use Rattle.mm_proof.specs.Language.BaseLabels.{setting_at}
-use Rattle.mm_proof.specs.Language.BaseMarks.{ItemMark, MarksView, AreMarks, IsMark, KeepsLabels, no_mark}
-use Rattle.mm_proof.specs.Language.ReadIn.{IsReadIn}
+use Rattle.mm_proof.specs.Language.BaseMarks.{ItemMark, MarksView, AreMarks, IsMark, KeepsLabels, mark_at}
 use Rattle.mm_proof.specs.Language.SameProof.{IsSameLabel, labels_named}
 use Rattle.mm_proof.specs.declared.marks.Compared.{Compared}
 use Rattle.mm_proof.specs.declared.marks.Mark as code
@@ -25,24 +24,15 @@ abbrev pub kept_marks : List code.Mark → List ItemMark
 kept_marks marks = map kept_mark marks
 
 abbrev pub marks_of : Inside → MarksView
-marks_of inside = record { items = kept_marks inside.marks.items; changed = inside.changed.items; unchanged = inside.unchanged }
+marks_of inside = record { items = kept_marks inside.marks.items; changed = inside.changed.items }
 
--- this holds of what an old base and a new one answer, both by these names, where their items can be read in the same files
-abbrev pub OfBasesBy : List (List ℕ) → Base → Base → (BaseView → BaseView → Type 0) → Type 0
-OfBasesBy names old new holds = (files : FilesView) (base copy : BaseView) → IsReadIn names files old base → IsReadIn names files new copy → holds base copy
-
--- this holds of what they answer by any names
+-- this holds of what an old base and a new one answer, both by the same names
 abbrev pub OfBases : Base → Base → (BaseView → BaseView → Type 0) → Type 0
-OfBases old new holds = (names : List (List ℕ)) → OfBasesBy names old new holds
+OfBases old new holds = (names : List (List ℕ)) (base copy : BaseView) → IsBaseBy names base old → IsBaseBy names copy new → holds base copy
 
--- so many items, from the first on, say the same in both bases
-abbrev pub SaySame : ℕ → Base → Base → Type 0
-SaySame same old new = OfBases old new (λ base copy. take same base.said ≡ take same copy.said)
-
--- an item says the same in both bases, and comes after the same sound items
-pub record SaysAgain (base copy : BaseView) (j : ℕ) : Type 0 where
-  pub before_is : before base j ≡ before copy j
-  pub said_is : said_at base j ≡ said_at copy j
+-- this holds of what an old base and a new one answer, both by these names
+abbrev pub OfBasesBy : List (List ℕ) → Base → Base → (BaseView → BaseView → Type 0) → Type 0
+OfBasesBy names old new holds = (base copy : BaseView) → IsBaseBy names base old → IsBaseBy names copy new → holds base copy
 
 -- what is reported of them is what stays of the old base in the new one
 abbrev pub AreMarksOf : List (List ℕ) → Base → Base → MarksView → Type 0
@@ -84,10 +74,6 @@ pub record IsOneHypothesis (base copy : BaseView) (i j : ℕ) : Type 0 where
   pub same : hypothesis_at base i ≡ hypothesis_at copy j
 
 -- if a mark says that item j is the same hypothesis as the old item that it names, this is true
-abbrev pub IsHypothesisMarkAt : BaseView → BaseView → ℕ → code.Mark → Type 0
-IsHypothesisMarkAt base copy j mark = mark.hypothesis ≡ true → (i : ℕ) → mark.old ≡ Some i → IsOneHypothesis base copy i j
-
--- and this of what the two bases answer
 abbrev pub IsHypothesisMark : Base → Base → ℕ → code.Mark → Type 0
 IsHypothesisMark old new j mark = mark.hypothesis ≡ true → (i : ℕ) → mark.old ≡ Some i → OfBases old new (λ base copy. IsOneHypothesis base copy i j)
 
@@ -95,15 +81,11 @@ IsHypothesisMark old new j mark = mark.hypothesis ≡ true → (i : ℕ) → mar
 abbrev pub AreHypothesisMarks : Base → Base → List code.Mark → Type 0
 AreHypothesisMarks old new marks = (m : ℕ) (mark : code.Mark) → slice_get marks m ≡ Some mark → IsHypothesisMark old new m mark
 
--- the mark of item j among these; if there is none, nothing stays
-abbrev pub item_mark : List ItemMark → ℕ → ItemMark
-item_mark marks j = slice_index_or marks j no_mark
-
--- the marks of this many items are kept, with those whose labels are listed as changed
-pub record AreItemMarks (base copy : BaseView) (count : ℕ) (marks : List ItemMark) (changed : List ℕ) : Type 0 where
-  pub count_is : length marks ≡ count
-  pub each : (j : ℕ) → j < count → IsMark base copy j (item_mark marks j)
-  pub in_step : (j : ℕ) → j < count → (item_mark marks j).in_step ≡ true → KeepsLabels base copy changed j
+-- the marks of this many items are kept
+pub record AreItemMarks (base copy : BaseView) (count : ℕ) (marks : MarksView) : Type 0 where
+  pub count_is : length marks.items ≡ count
+  pub each : (j : ℕ) → j < count → IsMark base copy j (mark_at marks j)
+  pub in_step : (j : ℕ) → j < count → (mark_at marks j).in_step ≡ true → KeepsLabels base copy marks.changed j
 
 -- the item that an answer names has an expression, or a frame
 abbrev pub IsShownItem : BaseView → answer.Resolved → Type 0

@@ -10,7 +10,7 @@ use Rattle.mm_proof.specs.Language.SameProof.{IsSameLabel}
 use Rattle.mm_proof.specs.Code.KeptMarks.{OfBasesBy, AreMarksOf, AreTheorems}
 use Rattle.mm_proof.specs.declared.view.TwoTheorems.{TwoTheorems}
 
--- this holds of what the two bases answer, both by the names, where their items can be read in the same files
+-- this holds of what the two bases answer, both by the names
 abbrev pub OfTwo : TwoTheorems → (BaseView → BaseView → Type 0) → Type 0
 OfTwo two holds = OfBasesBy two.names.now two.old.now two.new.now holds
 

@@ -1,5 +1,5 @@
 -- What stays of an old base in a new one, for each item of the new one.
-use Rattle.std.specs.Prelude.{◌≡◌, ◌↔◌, ℕ, ◌<◌, Bool, true, false, Option, Some, None, List, length, slice_get, slice_index_or, take}
+use Rattle.std.specs.Prelude.{◌≡◌, ◌↔◌, ℕ, ◌<◌, Bool, true, false, Option, Some, None, List, length, slice_get, slice_index_or}
 use Rattle.mm_frame.specs.Language.Base.{BaseView, before, said_at, is_framed_at, is_proof_at, is_shown_at, frame_at}
 use Rattle.mm_frame.specs.Language.Frame.{AreSameFrame, AreSamePairs}
 use Rattle.mm_frame.specs.Language.Framing.{active_pairs}
@@ -14,12 +14,10 @@ pub record ItemMark : Type 0 where
   pub pairs : Bool
   pub in_step : Bool
 
--- What is reported of two bases: a mark for each item of the new one; the items of the new one whose labels are listed as changed; and how
--- many items, from the first on, are known to say the same in both.
+-- What is reported of two bases: a mark for each item of the new one; and the items of the new one whose labels are listed as changed.
 pub record MarksView : Type 0 where
   pub items : List ItemMark
   pub changed : List ℕ
-  pub unchanged : ℕ
 
 -- nothing stays
 abbrev pub no_mark : ItemMark
@@ -76,4 +74,3 @@ pub record AreMarks (old new : BaseView) (marks : MarksView) : Type 0 where
   pub count : length marks.items ≡ length new.said
   pub each : (j : ℕ) → j < length new.said → IsMark old new j (mark_at marks j)
   pub in_step : (j : ℕ) → j < length new.said → (mark_at marks j).in_step ≡ true → KeepsLabels old new marks.changed j
-  pub unchanged : take marks.unchanged old.said ≡ take marks.unchanged new.said

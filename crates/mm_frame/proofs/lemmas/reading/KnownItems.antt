@@ -1,12 +1,11 @@
 -- What an older base says of an item that is the same bytes as one of its items.
-use Rattle.std.proofs.Common.{◌≡◌, ℕ, ◌<◌, zero, suc, Bool, true, false, if◌then◌else◌, Some, None, Option, IfSome, IfOk, MatchBool, Result, Ok, Err, List, [], ◌∷◌, map, get_or, length, sym, ◌∙◌, ap, subst, All, drop, refl, take, slice_get}
+use Rattle.std.proofs.Common.{◌≡◌, ℕ, zero, suc, Bool, true, false, if◌then◌else◌, Some, None, Option, IfSome, IfOk, MatchBool, Result, Ok, Err, List, [], ◌∷◌, map, get_or, length, sym, ◌∙◌, ap, subst, All, slice_get}
 use Rattle.std.specs.Option.{option_map}
 use Rattle.std.specs.List.{AllZip}
-use Rattle.std.proofs.lemmas.List.{get_or-take, length-map}
+use Rattle.std.proofs.lemmas.List.{length-map}
 use Rattle.std.proofs.lemmas.List.Elements.{All-get_or}
 use Rattle.std.proofs.lemmas.Option.{same_Some, slice_get_within, slice_get-get_or, slice_get-map, get_or_from_slice_get}
 use Rattle.mm_store.specs.declared.item.Item as store
-use Rattle.mm_store.specs.declared.item.ItemKind.TheVariants as kinds
 use Rattle.mm_store.specs.Language.FilesView.{FilesView}
 use Rattle.mm_frame.specs.declared.symbol.NumberedSymbol.{NumberedSymbol}
 use Rattle.mm_frame.specs.Language.Frame.{Symbol}
@@ -35,37 +34,6 @@ pub same_again : (files : FilesView) (found : List store.Item) (said : List Item
     → Says files item told → item_at said i ≡ told
 same_again files found said i item law h again told says =
     same_said files again.was item (record { kind = again.kind; key = again.key; start = again.start; end = again.end }) law (item_at said i) told (says_at files found said i again.was h again.there) says
-
--- the same items, from the first on, say the same
-heads : {X : Type 0} (x y : X) (xs ys : List X) → x ∷ xs ≡ y ∷ ys → x ≡ y
-heads x y xs ys e = same_Some x y (ap (λ zs. slice_get zs 0) e)
-
-tails : {X : Type 0} (x y : X) (xs ys : List X) → x ∷ xs ≡ y ∷ ys → xs ≡ ys
-tails x y xs ys e = ap (drop 1) e
-
--- what is read where no item is
-abbrev pub no_item : store.Item
-no_item = record { kind = kinds.Constants; file = 0; piece = 0; key = record { at = 0 }; start = 0; end = 0 }
-
--- each of them is the same
-pub same_within : {X : Type 0} (xs ys : List X) (n k : ℕ) (d : X) → k < n → take n xs ≡ take n ys → get_or xs k d ≡ get_or ys k d
-same_within xs ys n k d l e = sym (get_or-take n xs k d l) ∙ ap (λ zs. get_or zs k d) e ∙ get_or-take n ys k d l
-
-pub says_front : (files : FilesView) → OneReading → (n : ℕ) (found others : List store.Item) (said told : List Item) → AllZip (Says files) found said → AllZip (Says files) others told
-    → take n found ≡ take n others → take n said ≡ take n told
-says_front files law zero found others said told f g e = refl
-says_front files law (suc n) (x ∷ found) (y ∷ others) (s ∷ said) (t ∷ told) f g e =
-    let same = heads x y (take n found) (take n others) e in
-    let here = same_said files x y (record { kind = ap (λ (z : store.Item). z.kind) same; key = ap (λ (z : store.Item). z.key) same; start = ap (λ (z : store.Item). z.start) same; end = ap (λ (z : store.Item). z.end) same }) law s t f.0 g.0 in
-    let rest = says_front files law n found others said told f.1 g.1 (tails x y (take n found) (take n others) e) in
-    λ i. here i ∷ rest i
-says_front files law (suc n) [] [] [] [] f g e = refl
-says_front files law (suc n) [] (y ∷ others) said told f g e = cc
-says_front files law (suc n) (x ∷ found) [] said told f g e = cc
-says_front files law (suc n) [] others (s ∷ said) told f g e = absurd f
-says_front files law (suc n) (x ∷ found) others [] told f g e = absurd f
-says_front files law (suc n) found [] said (t ∷ told) f g e = absurd g
-says_front files law (suc n) found (y ∷ others) said [] f g e = absurd g
 
 -- an expression that is reported is that of the item
 pub told_expression : (b : Bool) (one other : List Symbol) → Some one ≡ (if b then Some other else None) → one ≡ other

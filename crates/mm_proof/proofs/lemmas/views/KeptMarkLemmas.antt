@@ -1,5 +1,5 @@
 -- What stays of an item of an old base in a new one.
-use Rattle.std.proofs.Common.{◌≡◌, ◌<◌, ℕ, zero, suc, cond, slice_index_or, ◌+◌, Bool, true, false, ◌&&◌, ◌⊎◌, inl, inr, Option, Some, None, List, [], ◌∷◌, ◌++◌, length, map, slice_get, take, refl, sym, ◌∙◌, ap, subst, arith, length-append}
+use Rattle.std.proofs.Common.{◌≡◌, ◌<◌, ℕ, zero, suc, cond, slice_index_or, ◌+◌, Bool, true, false, ◌&&◌, ◌⊎◌, inl, inr, Option, Some, None, List, [], ◌∷◌, ◌++◌, length, map, slice_get, refl, sym, ◌∙◌, ap, subst, arith, length-append}
 use Rattle.std.specs.Prelude.{◌↔◌, is_some}
 use Rattle.std.proofs.lemmas.Bool.{false≢true, and_parts}
 use Rattle.std.proofs.lemmas.Option.{none-some, same_Some}
@@ -9,9 +9,9 @@ use Rattle.mm_frame.specs.Language.Item.{Item, passed, is_labelled}
 use Rattle.mm_frame.specs.Language.Resolving.{IsCarrier}
 use Rattle.mm_frame.specs.declared.base.Base.{Base}
 use Rattle.mm_frame.specs.Language.Answering.{IsBaseBy}
-use Rattle.mm_proof.specs.Language.BaseMarks.{ItemMark, MarksView, IsMark, HaveOneLabel, KeepsLabels, AreMarks, no_mark}
+use Rattle.mm_proof.specs.Language.BaseMarks.{ItemMark, MarksView, IsMark, HaveOneLabel, KeepsLabels, AreMarks, no_mark, mark_at}
 use Rattle.mm_proof.specs.Code.InStep.{changed_behind}
-use Rattle.mm_proof.specs.Code.KeptMarks.{AreTheorems, ShareFrame, SharePairs, AreItemMarks, IsHypothesisMark, AreHypothesisMarks, item_mark}
+use Rattle.mm_proof.specs.Code.KeptMarks.{AreTheorems, ShareFrame, SharePairs, AreItemMarks, IsHypothesisMark, AreHypothesisMarks}
 use Rattle.mm_proof.specs.declared.marks.Mark as code
 use Rattle.std.proofs.Math.Decide.{ℕ_discrete}
 
@@ -113,25 +113,25 @@ at_end (x ∷ xs) y d = at_end xs y d
 
 -- one more mark
 pub marked_more :
-    (base copy : BaseView) (n : ℕ) (marks : List ItemMark) (changed : List ℕ) (mark : ItemMark) → AreItemMarks base copy n marks changed →
-    IsMark base copy n mark → (mark.in_step ≡ true → KeepsLabels base copy changed n) → AreItemMarks base copy (n + 1) (marks ++ mark ∷ []) changed
+    (base copy : BaseView) (n : ℕ) (marks : List ItemMark) (changed : List ℕ) (mark : ItemMark) → AreItemMarks base copy n (record { items = marks; changed = changed }) →
+    IsMark base copy n mark → (mark.in_step ≡ true → KeepsLabels base copy changed n) → AreItemMarks base copy (n + 1) (record { items = marks ++ mark ∷ []; changed = changed })
 marked_more base copy n marks changed mark are is keeps = record {
   count_is = length-append marks (mark ∷ []) ∙ ap (λ k. k + 1) are.count_is;
   each = λ j l. each_case j l (ℕ_discrete j n);
   in_step = λ j l. step_case j l (ℕ_discrete j n);
 }
   where
-    here : (j : ℕ) → j ≡ n → item_mark (marks ++ mark ∷ []) j ≡ mark
+    here : (j : ℕ) → j ≡ n → mark_at (record { items = marks ++ mark ∷ []; changed = changed }) j ≡ mark
     here j e = subst (λ k. slice_index_or (marks ++ mark ∷ []) k no_mark ≡ mark) (are.count_is ∙ sym e) (at_end marks mark no_mark)
 
-    front : (j : ℕ) → j < n + 1 → (j ≡ n → ⊥) → item_mark (marks ++ mark ∷ []) j ≡ item_mark marks j
+    front : (j : ℕ) → j < n + 1 → (j ≡ n → ⊥) → mark_at (record { items = marks ++ mark ∷ []; changed = changed }) j ≡ mark_at (record { items = marks; changed = changed }) j
     front j l other = at_front marks (mark ∷ []) j no_mark (omega (arith, l, other, are.count_is))
 
-    each_case : (j : ℕ) → j < n + 1 → Dec (j ≡ n) → IsMark base copy j (item_mark (marks ++ mark ∷ []) j)
+    each_case : (j : ℕ) → j < n + 1 → Dec (j ≡ n) → IsMark base copy j (mark_at (record { items = marks ++ mark ∷ []; changed = changed }) j)
     each_case j l (yes e) = subst (λ m. IsMark base copy j m) (sym (here j e)) (subst (λ k. IsMark base copy k mark) (sym e) is)
     each_case j l (no other) = subst (λ m. IsMark base copy j m) (sym (front j l other)) (are.each j (omega (arith, l, other)))
 
-    step_case : (j : ℕ) → j < n + 1 → Dec (j ≡ n) → (item_mark (marks ++ mark ∷ []) j).in_step ≡ true → KeepsLabels base copy changed j
+    step_case : (j : ℕ) → j < n + 1 → Dec (j ≡ n) → (mark_at (record { items = marks ++ mark ∷ []; changed = changed }) j).in_step ≡ true → KeepsLabels base copy changed j
     step_case j l (yes e) t = subst (KeepsLabels base copy changed) (sym e) (keeps (sym (ap (λ (m : ItemMark). m.in_step) (here j e)) ∙ t))
     step_case j l (no other) t = are.in_step j (omega (arith, l, other)) (sym (ap (λ (m : ItemMark). m.in_step) (front j l other)) ∙ t)
 
@@ -147,8 +147,8 @@ keeps_less base copy changed more j keeps i h label unchanged =
     keeps i h label (λ t. unchanged (record { m = t.m; place = t.place; told = got_front changed more t.place t.m t.told; earlier = t.earlier; label_is = t.label_is }))
 
 marked_less :
-    (base copy : BaseView) (n : ℕ) (marks : List ItemMark) (changed more : List ℕ) → AreItemMarks base copy n marks changed →
-    AreItemMarks base copy n marks (changed ++ more)
+    (base copy : BaseView) (n : ℕ) (marks : List ItemMark) (changed more : List ℕ) → AreItemMarks base copy n (record { items = marks; changed = changed }) →
+    AreItemMarks base copy n (record { items = marks; changed = changed ++ more })
 marked_less base copy n marks changed more are = record {
   count_is = are.count_is;
   each = are.each;
@@ -156,19 +156,17 @@ marked_less base copy n marks changed more are = record {
 }
 
 pub marked_behind :
-    (base copy : BaseView) (n : ℕ) (marks : List ItemMark) (changed : List ℕ) (j : ℕ) (here : Bool) → AreItemMarks base copy n marks changed →
-    AreItemMarks base copy n marks (changed_behind changed j here)
+    (base copy : BaseView) (n : ℕ) (marks : List ItemMark) (changed : List ℕ) (j : ℕ) (here : Bool) → AreItemMarks base copy n (record { items = marks; changed = changed }) →
+    AreItemMarks base copy n (record { items = marks; changed = changed_behind changed j here })
 marked_behind base copy n marks changed j true are = marked_less base copy n marks changed (j ∷ []) are
 marked_behind base copy n marks changed j false are = are
 
 -- all are marked
-pub all_marked : (base copy : BaseView) (n : ℕ) (marks : MarksView) → AreItemMarks base copy n marks.items marks.changed → n ≡ length copy.said
-    → take marks.unchanged base.said ≡ take marks.unchanged copy.said → AreMarks base copy marks
-all_marked base copy n marks are e same = record {
+pub all_marked : (base copy : BaseView) (n : ℕ) (marks : MarksView) → AreItemMarks base copy n marks → n ≡ length copy.said → AreMarks base copy marks
+all_marked base copy n marks are e = record {
   count = are.count_is ∙ e;
   each = λ j l. are.each j (omega (arith, l, e));
   in_step = λ j l. are.in_step j (omega (arith, l, e));
-  unchanged = same;
 }
 
 -- marks that say nothing, and one more

@@ -3,9 +3,9 @@ use Rattle.mm_proof.proofs.lemmas.views.InStepLemmas.{same_level}
 use Rattle.mm_proof.proofs.marks.keeps_place.Goals as goal
 
 pub returns-in-Some : goal.returns-in-Some
-returns-in-Some c t old are names files base copy f g is s =
+returns-in-Some c t old are names base copy f g is s =
     let i = c.in-Some.i in
     let j = c.args.j in
     let ordinals = c.args.ordinals.now in
-    let both = are names files base copy f g in
+    let both = are names base copy f g in
     (i, record { one_label = (is.old_is i).0 (sym c.wide.ensures ∙ c.in-Some.is); ordinal_is = same_level base copy ordinals.old.items ordinals.new.items i j both.0 both.1 (c.are_same.ensures t) })

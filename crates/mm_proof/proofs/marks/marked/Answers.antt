@@ -7,26 +7,26 @@ use Rattle.mm_proof.proofs.marks.marked.Goals.{then-step, else-step, then-placed
 use Rattle.mm_proof.proofs.marks.marked.Goals as goal
 
 pub returns-clause-mark : goal.returns-clause-mark
-returns-clause-mark c names files base copy f g =
-    let mark = c.mark_by-last.result.0 in
-    stepped base copy c.args.j mark.old mark.frame mark.pairs mark.in_step c.if-step.placed (c.mark_by-last.ensures.mark names files base copy f g)
+returns-clause-mark c names base copy f g =
+    let mark = c.mark_of-last.result.0 in
+    stepped base copy c.args.j mark.old mark.frame mark.pairs mark.in_step c.if-step.placed (c.mark_of-last.ensures.mark names base copy f g)
 
 pub returns-clause-labels : goal.returns-clause-labels
-returns-clause-labels c t names files base copy f g i h label unchanged = elim c.if-step.branch [
+returns-clause-labels c t names base copy f g i h label unchanged = elim c.if-step.branch [
   | then-step w ↦
       let j = c.args.j in
-      let is = c.mark_by-last.ensures.mark names files base copy f g in
-      let found = w.keeps_place-placed.ensures (sym w.placed-is ∙ t) c.args.bases.old.now c.requires.ordinals names files base copy f g is h.is in
+      let is = c.mark_of-last.ensures.mark names base copy f g in
+      let found = w.keeps_place-placed.ensures (sym w.placed-is ∙ t) c.args.bases.old.now c.requires.ordinals names base copy f g is h.is in
       let both = found.1 in
       let same = same_Some found.0 i (sym ((is.old_is found.0).1 both.one_label) ∙ (is.old_is i).1 h) in
       let level = subst (λ n. ordinal base n ≡ ordinal copy j) same both.ordinal_is in
       let laws = c.labels_mean.ensures in
-      in_step_labels base copy i j h.was h.is level laws.one laws.assertions c.args.changed.now (c.requires.step.in_step w.if-step.true names files base copy f g) label unchanged
+      in_step_labels base copy i j h.was h.is level laws.one laws.assertions c.args.changed.now (c.requires.step.in_step w.if-step.true names base copy f g) label unchanged
   | else-step w ↦ absurd (false≢true (sym (w.placed-is ∙ w.if-step.false) ∙ t))
 ]
 
 -- what is listed as changed has its place, and so has what is alike
-is_placed : (c : goal.After-expected_after) → c.if-not-alike.here ≡ true → c.if-step.placed ≡ true
+is_placed : (c : goal.After-next_expected) → c.if-not-alike.here ≡ true → c.if-step.placed ≡ true
 is_placed c e = elim c.if-not-alike.branch [
   | then-not-alike w ↦ elim c.if-placed-2.branch [
     | then-placed-2 v ↦ v.if-placed-2.true
@@ -35,7 +35,7 @@ is_placed c e = elim c.if-not-alike.branch [
   | else-not-alike w ↦ absurd (false≢true (sym (w.here-is ∙ w.if-not-alike.false) ∙ e))
 ]
 
-alike_placed : (c : goal.After-expected_after) → c.if-placed.alike ≡ true → c.if-step.placed ≡ true
+alike_placed : (c : goal.After-next_expected) → c.if-placed.alike ≡ true → c.if-step.placed ≡ true
 alike_placed c e = elim c.if-placed.branch [
   | then-placed w ↦ w.if-placed.true
   | else-placed w ↦ absurd (false≢true (sym (w.alike-is ∙ w.if-placed.false) ∙ e))
@@ -43,20 +43,20 @@ alike_placed c e = elim c.if-placed.branch [
 
 pub returns-clause-step : goal.returns-clause-step
 returns-clause-step c = record {
-  last = c.mark_by-last.ensures.last;
-  in_step = λ t names files base copy f g. (
-      let is = c.mark_by-last.ensures.mark names files base copy f g in
+  last = c.mark_of-last.ensures.last;
+  in_step = λ t names base copy f g. (
+      let is = c.mark_of-last.ensures.mark names base copy f g in
       in_step_behind base copy c.args.changed.now c.args.j c.if-not-alike.here c.if-step.placed c.if-placed.alike c.if-alike.next (is_placed c) (
       λ e. elim c.if-alike.branch [
         | then-alike w ↦ inr (alike_placed c w.if-alike.true, w.if-alike.true)
         | else-alike w ↦ inl (sym w.next-is ∙ e)
       ]) (
       λ e. elim c.if-step.branch [
-        | then-step w ↦ (c.requires.step.in_step w.if-step.true names files base copy f g, w.keeps_place-placed.ensures (sym w.placed-is ∙ e) c.args.bases.old.now c.requires.ordinals names files base copy f g is)
+        | then-step w ↦ (c.requires.step.in_step w.if-step.true names base copy f g, w.keeps_place-placed.ensures (sym w.placed-is ∙ e) c.args.bases.old.now c.requires.ordinals names base copy f g is)
         | else-step w ↦ absurd (false≢true (sym (w.placed-is ∙ w.if-step.false) ∙ e))
       ]) (
       λ e. elim c.if-placed.branch [
-        | then-placed w ↦ w.is_alike-alike.ensures (sym w.alike-is ∙ e) c.mark_by-last.ensures.kept names files base copy f g is
+        | then-placed w ↦ w.is_alike-alike.ensures (sym w.alike-is ∙ e) c.mark_of-last.ensures.kept names base copy f g is
         | else-placed w ↦ absurd (false≢true (sym (w.alike-is ∙ w.if-placed.false) ∙ e))
       ]) t);
 }

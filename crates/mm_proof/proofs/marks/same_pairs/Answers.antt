@@ -4,11 +4,11 @@ use Rattle.mm_proof.proofs.lemmas.views.KeptMarkLemmas.{told_again}
 use Rattle.mm_proof.proofs.marks.same_pairs.Goals as goal
 
 pub returns-in-Some : goal.returns-in-Some
-returns-in-Some c names files base copy f g these =
+returns-in-Some c names base copy f g these =
     let last = c.in-Some.compared in
-    let told = (rw c.in-Some.is at c.requires) names files base copy f g in
-    let shared = c.shares.ensures names files base copy f g told.0 these c.if-shares.true in
+    let told = (rw c.in-Some.is at c.requires) names base copy f g in
+    let shared = c.shares.ensures names base copy f g told.0 these c.if-shares.true in
     told_again (active_pairs (before base last.i)) (active_pairs (before copy last.j)) (active_pairs (before base c.args.i)) (active_pairs (before copy c.args.j)) last.same told.1 shared.0 shared.1
 
 pub returns-in_default : goal.returns-in_default
-returns-in_default c names files base copy f g these = c.same_active_pairs.ensures names base copy f.base g.base these.was these.is
+returns-in_default c names base copy f g these = c.same_active_pairs.ensures names base copy f g these.was these.is

@@ -8,9 +8,6 @@ use Rattle.mm_proof.proofs.lemmas.views.KeptMarkLemmas.{kept_more, marked_behind
 use Rattle.mm_proof.proofs.marks.Marks.build.Goals.{then-next+in_ok-push-2, else-next}
 use Rattle.mm_proof.proofs.marks.Marks.build.Goals as goal
 
-pub marked-requires-clause-same : goal.marked-requires-clause-same
-marked-requires-clause-same c names files base copy f g = c.same_items-unchanged.ensures.said files base copy (names, f.base) (names, g.base) f.each g.each
-
 pub marked-requires-clause-marks : goal.marked-requires-clause-marks
 marked-requires-clause-marks c = subst (AreHypothesisMarks c.args.old.now c.args.new.now) (sym c.deref.ensures.value) c.loop-j.invariant.kept
 
@@ -28,23 +25,22 @@ loop-j-preserved c = record {
   count = ap length c.in_ok-push.ensures.items ∙ length-append c.loop-j.marks.items (c.marked.result.0 ∷ []) ∙ ap (λ k. k + 1) c.loop-j.invariant.count;
   kept = subst (AreHypothesisMarks c.args.old.now c.args.new.now) (sym c.in_ok-push.ensures.items)
       (kept_more c.args.old.now c.args.new.now c.loop-j.marks.items c.marked.result.0 c.loop-j.j c.loop-j.invariant.count c.loop-j.invariant.kept c.marked.ensures.kept);
-  marks = λ names files base copy f g. (
+  marks = λ names base copy f g. (
       let j = c.loop-j.j in
       let old = c.loop-j.marks.items in
       let before = c.loop-j.changed.items in
       let mark = c.marked.result.0 in
       let here = c.marked.result.1.changed in
-      let more = marked_more base copy j (kept_marks old) before (kept_mark mark) (c.loop-j.invariant.marks names files base copy f g) (c.marked.ensures.mark names files base copy f g) (
-      λ t. subst (λ (changed : List ℕ). KeepsLabels base copy changed j) c.deref-in-loop-j.ensures.value (c.marked.ensures.labels t names files base copy f g)) in
-      let joined = subst (λ (ms : List ItemMark). AreItemMarks base copy (j + 1) ms before) (sym (map-append kept_mark old (mark ∷ []))) more in
-      let pushed = subst (λ (ms : List code.Mark). AreItemMarks base copy (j + 1) (kept_marks ms) before) (sym c.in_ok-push.ensures.items) joined in
-      subst (λ (changed : List ℕ). AreItemMarks base copy (j + 1) (kept_marks c.push.new.self.items) changed) (sym (told_behind c))
+      let more = marked_more base copy j (kept_marks old) before (kept_mark mark) (c.loop-j.invariant.marks names base copy f g) (c.marked.ensures.mark names base copy f g) (
+      λ t. subst (λ (changed : List ℕ). KeepsLabels base copy changed j) c.deref-in-loop-j.ensures.value (c.marked.ensures.labels t names base copy f g)) in
+      let joined = subst (λ (ms : List ItemMark). AreItemMarks base copy (j + 1) (record { items = ms; changed = before })) (sym (map-append kept_mark old (mark ∷ []))) more in
+      let pushed = subst (λ (ms : List code.Mark). AreItemMarks base copy (j + 1) (record { items = kept_marks ms; changed = before })) (sym c.in_ok-push.ensures.items) joined in
+      subst (λ (changed : List ℕ). AreItemMarks base copy (j + 1) (record { items = kept_marks c.push.new.self.items; changed = changed })) (sym (told_behind c))
       (marked_behind base copy (j + 1) (kept_marks c.push.new.self.items) before j here pushed));
 }
 
 pub returns : goal.returns
-returns c files base copy f g =
-    let count = c.count-j-end.ensures.count copy (c.args.names.now, g.base) in
+returns c base copy f g =
+    let count = c.count-j-end.ensures.count copy (c.args.names.now, g) in
     let all : c.loop-j.j ≡ length copy.said = omega (arith, count, c.loop-j.auto.j-end, c.loop-j-test.false) in
-    all_marked base copy c.loop-j.j (record { items = kept_marks c.loop-j.marks.items; changed = c.loop-j.changed.items; unchanged = c.same_items-unchanged.result })
-    (c.loop-j.invariant.marks c.args.names.now files base copy f g) all (c.same_items-unchanged.ensures.said files base copy (c.args.names.now, f.base) (c.args.names.now, g.base) f.each g.each)
+    all_marked base copy c.loop-j.j (record { items = kept_marks c.loop-j.marks.items; changed = c.loop-j.changed.items }) (c.loop-j.invariant.marks c.args.names.now base copy f g) all

@@ -8,5 +8,5 @@ invariant-loop-j l = record {
   step : IsStepAt l.old l.new l.changed.items l.j l.step;
   count : length l.marks.items ≡ l.j;
   kept : AreHypothesisMarks l.old l.new l.marks.items;
-  marks : OfBases l.old l.new (λ base copy. AreItemMarks base copy l.j (kept_marks l.marks.items) l.changed.items);
+  marks : OfBases l.old l.new (λ base copy. AreItemMarks base copy l.j (record { items = kept_marks l.marks.items; changed = l.changed.items }));
 }
