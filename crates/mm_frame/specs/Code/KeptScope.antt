@@ -32,4 +32,5 @@ uses_numbers kind = is_declaring kind || is_floating kind || is_disjoint kind
 -- the scope takes one more item, whose symbols have these numbers, and which is sound if the flag says it is
 abbrev pub ScopeTakes : List ℕ → Scope → Item → Bool → Scope → Type 0
 ScopeTakes numbers old item sound new = (all : List (List ℕ)) (before : List Item) → AreSound before → ScopeHolds all before old
-    → (sound ≡ true → IsSound before item) → (uses_numbers item.kind ≡ true → AreNameNumbers all numbers item.symbols) → ScopeHolds all (before ++ taken sound item ∷ []) new
+    → (sound ≡ true → IsSound before item) → (uses_numbers item.kind ≡ true → AreNameNumbers all numbers item.symbols)
+    → ScopeHolds all (before ++ taken sound item ∷ []) new

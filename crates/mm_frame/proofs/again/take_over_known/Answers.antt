@@ -21,7 +21,8 @@ returns c =
             λ all base said by each front known again d.
                 let here = same_again c.args.files.now base.found base.said _ c.args.item.now c.one_meaning.ensures.words each again.again statement says in
                 let read = sym (ap (λ (x : Item). is_read x.kind) here) ∙ again.read in
-                let numbers = λ (u : uses_numbers statement.kind ≡ true). subst (λ (n : List ℕ). AreNameNumbers all n statement.symbols) (sym (c.in_ok-put_needed.ensures (ap (λ (x : Item). uses_numbers x.kind) (sym says.is) ∙ u))) (known.symbols statement says) in
+                let numbers = λ (u : uses_numbers statement.kind ≡ true). subst (λ (n : List ℕ). AreNameNumbers all n statement.symbols) (sym (c.in_ok-put_needed.ensures (ap (λ (x : Item). uses_numbers x.kind) (sym says.is) ∙ u)))
+                (known.symbols statement says) in
                 takes all base said (record { by = by; front = front; here = here }) again.sound read (again.symbols ∙ (λ i. expression (sound_items (front i)) (here i))) again.numbered numbers
                 (numbers_aside all said c.args.draft.now c.put_needed.new.numbers d),
           ))

@@ -27,7 +27,8 @@ returns-in-Floating c =
     let item = c.args.statement.now in
     on_ok_weaker c.take_label.result
     (λ d all before h l a k. knows_next all before item Floating c.args.number c.args.self.now c.take_label.new.self c.in-Floating.ensures.kind h l k
-    (takes_sound_float all before item c.args.number c.args.self.now c.take_float.new.self c.take_label.new.self (h before item [] refl) c.in-Floating.ensures.kind (c.take_float.ensures all item.symbols k.distinct (a (ap uses_numbers (sym c.in-Floating.ensures.kind)))) (d all)))
+    (takes_sound_float all before item c.args.number c.args.self.now c.take_float.new.self c.take_label.new.self (h before item [] refl) c.in-Floating.ensures.kind
+    (c.take_float.ensures all item.symbols k.distinct (a (ap uses_numbers (sym c.in-Floating.ensures.kind)))) (d all)))
     c.take_label.ensures
 
 pub returns-in-Essential : goal.returns-in-Essential
