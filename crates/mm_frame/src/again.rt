@@ -310,20 +310,22 @@ fn read_next<'a>(
     Ok(Reached { next, same })
 }
 
-/// Reads items of the files, from the first one on, with the help of an older base.
+/// Reads items of the files, from the first one on, with the help of an older base. Their symbols are kept in the room of this list,
+/// if it has as much.
 pub fn read_all_again<'a>(
     alloc: Global,
     names: &mut Names,
     files: &'a Files,
     items: &[Item],
     old: &'a Base,
+    room: Vec<NumberedSymbol>,
 ) -> Result<Draft<'a>, AllocError>
     requires read { All (CanBeRead files.now) items.now }
     requires older { HasOlder names.old files.now old.now }
     ensures grows { Begins names.old names.new }
     ensures read { IfOk result (λ draft. (said : List meant.Item) × AllZip (Says files.now) items.now said × IsDraftLater names.new said draft) }
 {
-    let mut draft = Draft::with_room(alloc, items.len())?;
+    let mut draft = Draft::with_room(alloc, items.len(), room)?;
     let mut reached = Reached {
         next: 0,
         same: true,

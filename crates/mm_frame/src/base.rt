@@ -26,11 +26,13 @@ use crate::again::read_all_again;
 use crate::draft::{Draft, Frame, Parts};
 use crate::judge::FrameFault;
 use crate::names::Names;
+use crate::room::BaseRoom;
 use crate::sparse::{element_at, number_at};
 use crate::symbol::NumberedSymbol;
 use mm_store::{Files, Item, ItemKind, StoreError};
 use std::alloc::{AllocError, Global};
 use std::marker::Model;
+use std::mem;
 
 /// The items of files from a top file on, which of them are sound, and the frames of the assertions.
 ///
@@ -42,6 +44,8 @@ pub struct Base {
     /// For each item whether it is a `$f`.
     floats: Vec<bool>,
     parts: Parts,
+    /// The room of the base that was there before, for the one that is rebuilt next.
+    room: BaseRoom,
 }
 
 impl Model for Base {
@@ -113,35 +117,58 @@ impl Base {
             items,
             floats,
             parts: draft.parts(),
+            room: BaseRoom::none(alloc),
         })
     }
 
     /// Builds the base of the files from a top file on as `build` does, with an older base whose items can still be read: of
     /// a `$d`, `$e`, `$a` or `$p` that is the same bytes as an item of the older one, in the same order, the numbers of the symbols
     /// are taken from there, and no symbol is read. As long as all items are the same ones, what is sound is not judged again.
+    ///
+    /// The lists are made in the room that the older base has from the one before it, if it has any. The older base answers as before.
     pub fn rebuild(
         alloc: Global,
         names: &mut Names,
         files: &Files,
         top: &[u8],
-        old: &Base,
+        old: &mut Base,
     ) -> Result<Base, StoreError>
-        requires older { HasOlder names.old files.now old.now }
+        requires older { HasOlder names.old files.now old.old }
         ensures base { IfOk result (λ built. (base : BaseView) × IsOfFiles files.now top.now base × IsBaseBy names.new base built
             × StandsLater names.new base built) }
         ensures grows { Begins names.old names.new }
+        ensures older { old.new ≡ old.old }
         ensures no_top { IsErrOf result NoTop ↔ (number_of (files_in files.now) top.now ≡ None) }
         ensures err { IfErr result IsExpansionError }
     {
-        let found = files.statements(top)?;
+        let BaseRoom { items, symbols } = mem::replace(&mut old.room, BaseRoom::none(alloc));
+        let found = files.statements_in(top, items)?;
         let floats = floats_among(alloc, &found)?;
-        let draft = read_all_again(alloc, names, files, &found, old)?;
+        let draft = read_all_again(alloc, names, files, &found, old, symbols)?;
         names.distinct();
         Ok(Base {
             items: found,
             floats,
             parts: draft.parts(),
+            room: BaseRoom::none(alloc),
         })
+    }
+
+    /// The room of the largest lists, which nobody asks any more.
+    fn into_room(self) -> BaseRoom {
+        let Base { items, parts, .. } = self;
+        BaseRoom {
+            items,
+            symbols: parts.expressions.into_symbols(),
+        }
+    }
+
+    /// Puts a newer base in the place of this one, which leaves its room to the base that is rebuilt next. It takes no memory.
+    pub fn replace(&mut self, newer: Base)
+        ensures { self.new ≡ newer }
+    {
+        let older = mem::replace(self, newer);
+        self.room = older.into_room();
     }
 
     /// Whether the item with this number is a sound `$f`, `$e`, `$a` or `$p`.

@@ -202,13 +202,17 @@ fn follow_pairs(
 impl<'a> Draft<'a> {
     ghost use Rattle.mm_frame.specs.Code.KeptBase.{IsDraft, IsDraftApart, IsDraftLater, AreParts};
 
-    /// No items, with room for this many.
-    pub fn with_room(alloc: Global, count: usize) -> Result<Self, AllocError>
+    /// No items, with room for this many. The symbols are kept in the room of this list, if it has as much.
+    pub fn with_room(
+        alloc: Global,
+        count: usize,
+        room: Vec<NumberedSymbol>,
+    ) -> Result<Self, AllocError>
         ensures { IfOk result (λ draft. (all : List (List ℕ)) → AreDistinct all → IsDraft all [] draft) }
     {
         let scope = Scope::with_room(alloc, count)?;
         let rows = Rows::with_room(alloc, count)?;
-        let expressions = Expressions::with_room(alloc, count)?;
+        let expressions = Expressions::with_room(alloc, count, room)?;
         let guesses = ListGuesses::with_room(alloc, count)?;
         let assertions = Assertions::with_room(alloc, count)?;
         Ok(Draft {
@@ -402,7 +406,7 @@ impl<'a> Draft<'a> {
         ensures grows { Begins names.old names.new }
         ensures read { IfOk result (λ draft. (said : List meant.Item) × AllZip (Says files.now) items.now said × IsDraftLater names.new said draft) }
     {
-        let mut draft = Draft::with_room(alloc, items.len())?;
+        let mut draft = Draft::with_room(alloc, items.len(), Vec::new(alloc))?;
         for item in items {
             draft.read(alloc, names, files, item)?;
         }

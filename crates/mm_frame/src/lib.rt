@@ -26,6 +26,7 @@ mod paired;
 mod partners;
 mod places;
 mod proof_words;
+mod room;
 mod same;
 mod scope;
 mod sparse;

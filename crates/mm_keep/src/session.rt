@@ -108,7 +108,7 @@ fn take_next(
         work,
     } = ran;
     carry(&mut *checked, &plan, &mut ran);
-    *base = new;
+    base.replace(new);
     *checked = ran;
     files.settle_all(undos);
     work
@@ -132,7 +132,7 @@ fn go_on(
     ensures undone { OnErr result ((before : FilesView) → WereKept before files.old undos top.now names.old base.old checked.old → files.new ≡ before) }
 {
     let alloc = checked.allocator();
-    match next_of(alloc, names, files, top, base) {
+    match next_of(alloc, names, files, top, &mut *base) {
         Ok(next) => Ok(take_next(files, base, checked, next, undos)),
         Err(error) => {
             files.undo_all(undos);

@@ -153,6 +153,20 @@ impl Files {
         ensures no_top { IsErrOf result NoTop ↔ (number_of (files_in self.now) top.now ≡ None) }
         ensures err { IfErr result IsExpansionError }
     {
+        self.statements_in(top, Vec::new(self.allocator()))
+    }
+
+    /// The items as `statements` answers them, in the room of a list. What the list holds is dropped.
+    pub fn statements_in(&self, top: &[u8], room: Vec<Item>) -> Result<Vec<Item>, StoreError>
+        ensures items { IfOk result (λ found. IsExpansion (files_in self.now) top.now found.items) }
+        ensures read { IfOk result (λ found. All (CanBeRead self.now) found.items) }
+        ensures stand { IfOk result (λ found. All (StandsIn self.now) found.items) }
+        ensures missing { IfOk result (λ found. All (NamesNoFile self.now) found.items) }
+        ensures few { IfOk result (λ found. length found.items ≤ bytes_of (plain self.now)) }
+        ensures small { IfOk result (λ found. length found.items ≤ 4294967295) }
+        ensures no_top { IsErrOf result NoTop ↔ (number_of (files_in self.now) top.now ≡ None) }
+        ensures err { IfErr result IsExpansionError }
+    {
         mm_text::one_meaning();
         mm_text::one_division();
         parts_are_texts();
@@ -161,7 +175,8 @@ impl Files {
         self.hold_units();
         let _ = &self.bytes;
         let mut walk = self.walk_from_top(top)?;
-        let mut items = Vec::new(self.allocator());
+        let mut items = room;
+        items.clear();
         push_rest(self, &mut walk, &mut items)?;
         Ok(items)
     }

@@ -7,7 +7,7 @@ use Rattle.mm_store.proofs.lemmas.expansion.WalkStepLemmas.{walk_begins}
 use Rattle.mm_store.proofs.lemmas.expansion.BudgetLemmas.{expansion_few, bytes_few}
 use Rattle.mm_store.proofs.lemmas.expansion.NameLemmas.{expansion_names}
 use Rattle.mm_store.proofs.lemmas.expansion.StandLemmas.{expansion_read, expansion_stands}
-use Rattle.mm_store.proofs.files.Files.statements.Goals as goal
+use Rattle.mm_store.proofs.files.Files.statements_in.Goals as goal
 
 pub returns-clause-items : goal.returns-clause-items
 returns-clause-items c =
@@ -15,7 +15,7 @@ returns-clause-items c =
     let top = c.args.top.now in
     let begun = c.in_ok-walk.ensures.ok in
     let is = walk_begins (files_in view) c.hold_units.ensures top begun.0 (sym (number_plain view top) ∙ begun.1) in
-    let none = sym c.new-items.ensures.items in
+    let none = sym c.clear.ensures.items in
     c.in_ok-push_rest.ensures top (subst (λ (items : List Item). IsWalk (files_in view) top items c.in_ok-walk.walk) none (subst (IsWalk (files_in view) top []) (sym begun.2) is))
 
 pub returns-clause-read : goal.returns-clause-read
