@@ -28,7 +28,7 @@ def open_blocks(n):
 
 
 def blocks(n):
-    """Blocks behind one another, each with a hypothesis and an assertion."""
+    """Blocks one after another, each with a hypothesis and an assertion."""
     return [*FIRST, *("${ " + f"h{k} $e |- p $. a{k} $a |- q $. " + "$}" for k in range(n))]
 
 
@@ -38,32 +38,32 @@ def one_piece(n):
 
 
 def commented(n, symbol):
-    """Statements behind a long comment each: of the larger size some 41 MB."""
+    """Statements, each after a long comment: of the larger size some 41 MB."""
     return (f"$( {'x' * 390} $) a{k} $a |- {symbol} $." for k in range(n))
 
 
 def no_faults(n):
-    """Sound statements behind long comments, to compare the next two with."""
+    """Sound statements after long comments, to compare the next two with."""
     return [*FIRST, *commented(n, "p")]
 
 
 def faults(n):
-    """Statements at fault behind long comments."""
+    """Statements at fault after long comments."""
     return [*FIRST, *commented(n, "r")]
 
 
 def no_faults_in_one(n):
-    """Sound statements behind long comments, in one piece."""
+    """Sound statements after long comments, in one piece."""
     return [*FIRST, "${", *commented(n, "p"), "$}"]
 
 
 def faults_in_one(n):
-    """Statements at fault behind long comments, in one piece."""
+    """Statements at fault after long comments, in one piece."""
     return [*FIRST, "${", *commented(n, "r"), "$}"]
 
 
 def faults_on_one_line(n):
-    """Statements at fault that all stand on one line of one piece."""
+    """Statements at fault on one line of one piece."""
     return [*FIRST, "${ " + " ".join(f"a{k} $a |- r $." for k in range(n)) + " $}"]
 
 
@@ -137,7 +137,7 @@ def rows_apart(n):
 
 
 def rows_apart_in_turn(n):
-    """The same, where each assertion stands behind a `$d` of the one and a `$d` of the other."""
+    """The same, with each assertion after a `$d` of the one and a `$d` of the other."""
     lines = ["$c |- wff $.", "$v x y a b $.", *(f"w{name} $f wff {name} $." for name in "xyab")]
     return [*lines, *(f"$d x a $. $d y b $. k{k} $a |- x y $." for k in range(n))]
 
@@ -149,7 +149,7 @@ def equal_lists(n):
 
 
 def long_outermost_hypothesis(n):
-    """One `$e` of the outermost block with so many symbols, and as many theorems behind it that do not use it."""
+    """One `$e` of the outermost block with so many symbols, and as many theorems after it that do not use it."""
     return [*FIRST, f"h $e |- {'p ' * n}$.", *(f"t{k} $p wff p $= ( ) A $." for k in range(n))]
 
 
@@ -228,7 +228,7 @@ def large_frame_short(n):
 
 
 def outermost_hypotheses(n):
-    """So many `$e` of the outermost block, and as many assertions behind them, each with all of these in its frame."""
+    """So many `$e` of the outermost block, and as many assertions after them, each with all of them in its frame."""
     return [*FIRST, *(f"e{k} $e |- p $." for k in range(n)), *(f"a{k} $a |- p $." for k in range(n))]
 
 
@@ -262,7 +262,7 @@ def chain(n):
 
 
 def many_files(n):
-    """Files behind one another, each with the first one's inclusion once more, one of a missing file, and a statement."""
+    """Files one after another, each with the first one's inclusion once more, one of a missing file, and a statement."""
     files = {f"f{k}.mm": ["$[ f0.mm $]", f"$[ none{k}.mm $]", f"a{k} $a wff $."] for k in range(n)}
     return files | {"input.mm": ["$c wff $.", *(f"$[ f{k}.mm $]" for k in range(n))]}
 
@@ -288,5 +288,5 @@ def deletions(n):
 
 
 def refused_insertions(n):
-    """As many insertions at the front of a file, and behind them an edit that is refused, so that all are undone."""
+    """As many insertions at the front of a file, and after them an edit that is refused, so that all are undone."""
     return edited(n, ["insert input.mm 0 5\n${ $}"] * n + ["delete none.mm 0"])
