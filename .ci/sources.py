@@ -43,7 +43,7 @@ def after_ghost(text, at):
 
 
 def end_of_hidden(text, at):
-    """The place after what is no code and begins at a place, or nothing where code stands there."""
+    """The place after what is no code and begins at a place, or nothing if code begins there."""
     if text.startswith("//", at):
         return text.find("\n", at) if "\n" in text[at:] else len(text)
     if text.startswith("/*", at):

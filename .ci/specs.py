@@ -16,7 +16,7 @@ USE = re.compile(r"(?:pub )?use (\S+?)(?:\.\{(.*)\}|(?: as (\S+)))?$")
 COMMENT = re.compile(r"( *)-- ?(.*)")
 BODY = re.compile(r"^ *\{", re.M)
 
-# A crate names the definitions of lower crates through the one that it stands on, which passes them on under their crate's name.
+# A crate names the definitions of lower crates through the one that it depends on, which passes them on under their crate's name.
 PASSED_ON = re.compile(r"\bRattle\.mm_[a-z]+\.specs\.(mm_[a-z]+)\.")
 
 
@@ -103,7 +103,7 @@ def imports_of(text):
 
 
 class Contract:
-    """A public function: where it stands, what is said of it, its contract, and what its file imports."""
+    """A public function: where it is, what is said of it, its contract, and what its file imports."""
 
     def __init__(self, path, owner, name, found, text):
         self.path, self.crate, self.owner, self.name = path, path.relative_to(CRATES).parts[0], owner, name
@@ -215,7 +215,7 @@ def reached_from(functions):
 
 
 def exported(crate):
-    """What a crate exports, each with the path of modules at which it stands."""
+    """What a crate exports, each with the path of its module."""
     source = CRATES / crate / "src"
     text = next(path for path in (source / "lib.rt", source / "main.rt") if path.exists()).read_text()
     found = set(re.findall(r"^pub (?:struct|enum|type) (\w+)", text, re.M))

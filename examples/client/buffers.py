@@ -103,7 +103,7 @@ class Text:
         return at
 
     def row(self, at):
-        """The number of the line with a byte, from 0, and how many bytes of it stand before that."""
+        """The number of the line with a byte, from 0, and how many bytes of it come before that."""
         number, begin = self.chunk_at(at)
         if not self.chunks:
             return 0, 0
@@ -144,7 +144,7 @@ class Document:
         return begin, end, length
 
     def shift(self, start, end, text):
-        """Moves the marks that stand after a change, and puts those in it at its beginning."""
+        """Moves the marks after a change, and puts those in it at its beginning."""
         lines = text.count("\n")
         last = units(text.rsplit("\n", 1)[-1]) + (0 if lines else start["character"])
         for at, mark in enumerate(self.marks):
@@ -154,7 +154,7 @@ class Document:
 
 
 def behind(place, start, end, lines, last):
-    """Where a place stands after a change of what stands from start to end into some lines, of which the last one is so long."""
+    """Where a place is after a change of what is from start to end into some lines, of which the last one is so long."""
     here = (place["line"], place["character"])
     if here < (end["line"], end["character"]):
         return min(place, start, key=lambda each: (each["line"], each["character"]))
@@ -257,7 +257,7 @@ class Held:
         return min(max(bisect.bisect_right(self.starts, self.before - 1) - 1, 0), len(self.pieces))
 
     def recut(self, far):
-        """What changed: the first piece, the one after the last, what stands there, the tail or None where it stayed.
+        """What changed: the first piece, the one after the last, what is there now, the tail or None if it stayed.
 
         Not `far`, only to some way after what changed: None, where the cut meets no piece there that stayed."""
         first = self.first()
@@ -294,7 +294,7 @@ class Held:
         return None, at, text
 
     def now(self, at):
-        """Where a byte of the session's text stands in the buffer."""
+        """Where a byte of the session's text is in the buffer."""
         length = self.document.text.length
         if at < self.before:
             return min(at, length)

@@ -87,7 +87,7 @@ class Sources:
         return "".join(each if each.isprintable() or each == "\t" else "?" for each in line)
 
     def word(self, place):
-        """The word that stands at a place."""
+        """The word at a place."""
         found = re.compile(rb"[^ \t\n\f\r]+").match(self.text(place.file), self.byte(place))
         return os.fsdecode(found[0]) if found else ""
 
@@ -198,7 +198,7 @@ def replaced(expression, given):
 
 
 class Machine:
-    """The run of a proof, up to the step at which a report tells a fault: what was expected there, and what was found."""
+    """The run of a proof, up to the step at which a report has a fault: what was expected there, and what was found."""
 
     def __init__(self, reading, label):
         self.reading, self.stack, self.saved = reading, [], []

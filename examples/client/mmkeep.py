@@ -1,4 +1,4 @@
-"""A client of the program mmkeep, in the standard library alone. README.md beside this file shows it in use.
+"""A client of the program mmkeep, in the standard library alone. README.md next to this file shows it in use.
 
     Session(top)         holds `mmkeep session`, with a method for each command of docs/SCRIPTS.md
     verify(top)          runs `mmkeep verify`, and answers the report as values
@@ -66,8 +66,8 @@ SENTENCES = {
     "S04": "the text is not one unit",
     "S05": "the files would have more than 4,294,967,295 bytes",
     "K01": "no sound assertion has the label",
-    "C01": "a bad line: it is no command, or a text has another byte than a line feed behind it",
-    "C02": "the script ends inside a text, before the line feed behind a text, or where edits of a batch are missing",
+    "C01": "a bad line: it is no command, or a text has another byte than a line feed after it",
+    "C02": "the script ends inside a text, before the line feed after a text, or with edits of a batch missing",
     "C03": "standard input could not be read",
     "C04": "standard output could not be written",
 }
@@ -263,7 +263,7 @@ def read_report(text):
 
 
 class Refused(Exception):
-    """A command that was refused: its number; where it was a batch, which edit; and what the number tells besides.
+    """A command that was refused: its number; for a batch, which edit; and what else the answer says.
 
     `count` is that of S02 and S04; of S03 `fault` is the number of the text's fault, and `line` and `column` its place.
 
@@ -377,7 +377,7 @@ def kept(old, new):
     for at, text in enumerate(new):
         seen[text] = at
     places = {at: seen[text] for at, text in enumerate(old) if text in seen and count[text] == 2}
-    # Of texts that stand twice somewhere, those at the same place from one that stays.
+    # Of texts that occur twice somewhere, those at the same place from one that stays.
     for at, place in list(places.items()):
         while at + 1 not in places and at + 1 < len(old) and place + 1 < len(new) and old[at + 1] == new[place + 1]:
             at, place = at + 1, place + 1
@@ -585,7 +585,7 @@ class Session:
 
 
 def explain(report, folder=None, top=None):
-    """A report, or a list of findings, as lines for people: see explain.py beside this file."""
+    """A report, or a list of findings, as lines for people: see explain.py next to this file."""
     from explain import explain as explained
 
     return explained(report.findings if isinstance(report, Report) else report, folder, top)

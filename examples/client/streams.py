@@ -9,7 +9,7 @@ import threading
 class Streams:
     """Reads messages from standard input in a thread of its own, and writes messages to standard output.
 
-    A message that asks or tells waits in `incoming`, and None at the end of the input. An answer, and a cancellation, which
+    A request or a notification waits in `incoming`, and None at the end of the input. An answer, and a cancellation, which
     is kept in `cancelled`, are taken at once."""
 
     def __init__(self):

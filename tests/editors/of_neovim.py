@@ -146,7 +146,7 @@ def first_reader(program):
     assert len(lines) == 3 and lines[0].startswith("apt-get install") and "nvim -u examples/editor/nvim/init.lua examples/faults.mm" in lines[2], lines
     assert "PATH" in lines[1], lines
     with tempfile.TemporaryDirectory() as folder:
-        # As it stands there: at the top of the clone, with the program on the path.
+        # As the page says: at the top of the clone, with the program on the path.
         os.symlink(program, pathlib.Path(folder, "mmkeep"))
         settings = {"PATH": f"{folder}:{os.environ['PATH']}", "MMKEEP": ""}
         with Neovim(program, folder, "examples/faults.mm", begin=ROOT, configuration="examples/editor/nvim/init.lua", settings=settings) as editor:

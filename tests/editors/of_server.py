@@ -20,7 +20,7 @@ id $p wff ( ( p -> p ) -> ( p -> p ) ) $= ( wi ) AABZCB $.
 $( The end. $)
 """
 NEW = "t2 $p wff ( q -> p ) $= wq wp wi $.\n"
-# What stands where in a buffer by chance.
+# What is where in a buffer by chance.
 BITS = ["$", "$.", "$(", "$)", "$}", "${", " ", "\n", "\r\n", "\t", "x", "?", "\u00e9", "\U0001d538", "$c k $.\n", "${ $}\n", "$( note $)\n", "$d p q $.", "$[ none.mm $]\n", ""]
 
 
@@ -153,7 +153,7 @@ def tails(program):
 
 
 def many_at_once(program):
-    """Many edits in one notice, moves of pieces, and a change of all places where a word stands."""
+    """Many edits in one notice, moves of pieces, and a change of all places where a word is."""
     with Folder(program) as client:
         client.open("a.mm")
         compare(client, program, "a.mm")

@@ -133,12 +133,12 @@ class Client:
         self.notify("textDocument/didClose", {"textDocument": {"uri": self.uri(name)}})
 
     def save(self, name):
-        """Writes a buffer, and tells that it is saved."""
+        """Writes a buffer, and says that it is saved."""
         (self.folder / name).write_bytes(self.texts[name].encode())
         self.notify("textDocument/didSave", {"textDocument": {"uri": self.uri(name)}})
 
     def change(self, name, *edits):
-        """Changes a buffer: each edit is the first character, the one after the last, and what stands there then."""
+        """Changes a buffer: each edit is the first character, the one after the last, and what is there then."""
         changes = []
         for begin, end, text in edits:
             before = self.texts[name]
@@ -148,7 +148,7 @@ class Client:
         self.notify("textDocument/didChange", {"textDocument": {"uri": self.uri(name), "version": self.versions[name]}, "contentChanges": changes})
 
     def replace(self, name, old, new, count=1):
-        """Changes the one place of a buffer where a text stands."""
+        """Changes the one place of a buffer where a text is."""
         assert self.texts[name].count(old) >= count, old
         at = self.texts[name].index(old)
         self.change(name, (at, at + len(old), new))
@@ -166,12 +166,12 @@ class Client:
         return self.shown[uri]["diagnostics"]
 
     def at(self, method, name, text, offset=0, **more):
-        """Asks at the first place of a buffer where a text stands."""
+        """Asks at the first place of a buffer where a text is."""
         place = position(self.texts[name], self.texts[name].index(text) + offset)
         return self.ask(f"textDocument/{method}", {"textDocument": {"uri": self.uri(name)}, "position": place, **more})
 
     def told(self):
-        """What stands on standard error."""
+        """What is on standard error."""
         self.errors.seek(0)
         return self.errors.read()
 
@@ -252,7 +252,7 @@ def compare(client, program, name, others=None, top=None):
     right = sorted(map(str, (shape(each, texts) for each in findings if each.place.file == name)))
     found, old = shapes(name, shown)
     if fault and found and not right and top:
-        # Another text has a fault: `mmkeep verify` tells that alone, and the server that of each buffer, or what it finds of
+        # Another text has a fault: `mmkeep verify` reports that alone, and the server that of each buffer, or what it finds of
         # a file that was no part of the database when the text was whole.
         alone, _ = wanted(program, {**texts, top: ""}, name)
         right = sorted(map(str, (shape(each, texts) for each in alone if each.place.file == name)))

@@ -1,4 +1,4 @@
-/* Loaded before a program: counts the growths of its heap, refuses some of them, and tells how far it counted. A block that
+/* Loaded before a program: counts the growths of its heap, refuses some of them, and reports how far it counted. A block that
  * is made no larger is no growth.
  *
  * REFUSE_AT=N refuses the N-th growth, counted from 1, and no other; a signal USR1 refuses all from then on.

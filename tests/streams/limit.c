@@ -1,8 +1,8 @@
-/* Loaded before a program: its reads and writes move little, or fail, and each is told.
+/* Loaded before a program: its reads and writes move little, or fail, and each is reported.
  *
  * INPUT, OUTPUT and FILES are for the reads of standard input, the writes to standard output and the reads of other files,
  * each three numbers 'MOST FAILS ALL': a call moves MOST bytes at most, the one with the number FAILS, counted from 1, fails,
- * and behind ALL bytes each moves none. A number below 0 sets no limit.
+ * and after ALL bytes each moves none. A number below 0 sets no limit.
  * CALLS=FILE has a line written to the file for each such call: INPUT, OUTPUT or FILES, and what it answered.
  */
 #define _GNU_SOURCE

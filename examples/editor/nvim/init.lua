@@ -3,7 +3,7 @@
 local here = debug.getinfo(1, 'S').source:match('^@(.*)/[^/]*$') or '.'
 local server = vim.g.mmkeep_lsp or vim.fn.fnamemodify(here .. '/../mmkeep-lsp', ':p')
 
--- `top` and `program` may stand here; a mmkeep.json beside the database does as well.
+-- `top` and `program` may be set here, or in a mmkeep.json next to the database.
 local settings = vim.g.mmkeep or {}
 
 local function attach(event)

@@ -1,0 +1,292 @@
+"""Inputs that would show a body whose work grows faster than its input. Each is a function of a count: it gives the lines of
+a file, or those of some files by their names. A file `script` is read by a session over the others.
+"""
+
+FIRST = ["$c wff |- -> ( ) $.", "$v p q $.", "wp $f wff p $.", "wq $f wff q $.", "wi $a wff ( p -> q ) $."]
+
+
+def variables(count):
+    """Variables with a typecode, and their declarations."""
+    names = [f"x{n}" for n in range(count)]
+    return names, ["$c wff |- $.", f"$v {' '.join(names)} $.", *(f"w{name} $f wff {name} $." for name in names)]
+
+
+def statements(n):
+    """As many short statements, each a piece of its own."""
+    return [*FIRST, *(f"a{k} $a |- ( p -> q ) $." for k in range(n))]
+
+
+def theorems(n):
+    """As many theorems, each citing the one before."""
+    lines = [*FIRST, "t0 $p wff ( p -> q ) $= wp wq wi $."]
+    return lines + [f"t{k} $p wff ( p -> q ) $= wp wq t{k - 1} $." for k in range(1, n)]
+
+
+def open_blocks(n):
+    """Blocks in one another, with a statement in the innermost."""
+    return ["$c wff $.", "${ " * n + "a $a wff $. " + "$} " * n]
+
+
+def blocks(n):
+    """Blocks one after another, each with a hypothesis and an assertion."""
+    return [*FIRST, *("${ " + f"h{k} $e |- p $. a{k} $a |- q $. " + "$}" for k in range(n))]
+
+
+def one_piece(n):
+    """The same inside one block, and so in one piece."""
+    return [*FIRST, "${", *(f"a{k} $a |- ( p -> q ) $." for k in range(n)), "$}"]
+
+
+def commented(n, symbol):
+    """Statements, each after a long comment: of the larger size some 41 MB."""
+    return (f"$( {'x' * 390} $) a{k} $a |- {symbol} $." for k in range(n))
+
+
+def no_faults(n):
+    """Sound statements after long comments, to compare the next two with."""
+    return [*FIRST, *commented(n, "p")]
+
+
+def faults(n):
+    """Statements at fault after long comments."""
+    return [*FIRST, *commented(n, "r")]
+
+
+def no_faults_in_one(n):
+    """Sound statements after long comments, in one piece."""
+    return [*FIRST, "${", *commented(n, "p"), "$}"]
+
+
+def faults_in_one(n):
+    """Statements at fault after long comments, in one piece."""
+    return [*FIRST, "${", *commented(n, "r"), "$}"]
+
+
+def faults_on_one_line(n):
+    """Statements at fault on one line of one piece."""
+    return [*FIRST, "${ " + " ".join(f"a{k} $a |- r $." for k in range(n)) + " $}"]
+
+
+def many_variables(n):
+    """One assertion with as many variables, and no pair."""
+    names, lines = variables(n)
+    return [*lines, f"a $a |- {' '.join(names)} $."]
+
+
+def wide_pairs(n):
+    """One statement of so many disjoint variables."""
+    names, lines = variables(n)
+    return [*lines, f"$d {' '.join(names)} $."]
+
+
+def wide_pairs_and_theorems(n):
+    """So many disjoint variables, and three theorems for each."""
+    names, lines = variables(n)
+    return [*lines, "wy $a wff x0 $.", f"$d {' '.join(names)} $.", *(f"t{k} $p wff x0 $= wx0 wy $." for k in range(3 * n))]
+
+
+def wide_pairs_cited(n):
+    """So many disjoint variables, and three theorems for each that cite an assertion with a pair."""
+    names, lines = variables(n)
+    lines += ["${", "$d x0 x1 $.", "ax $a |- x0 x1 $.", "$}", f"$d {' '.join(names)} $."]
+    return [*lines, *(f"t{k} $p |- x2 x3 $= wx2 wx3 ax $." for k in range(3 * n))]
+
+
+def wide_pairs_missed(n):
+    """So many disjoint variables, and three theorems for each that cite an assertion with a pair that is not active."""
+    names, lines = variables(n)
+    lines += ["$v y $.", "wy $f wff y $.", "${", "$d x0 x1 $.", "ax $a |- x0 x1 $.", "$}", f"$d {' '.join(names)} $."]
+    return [*lines, *(f"t{k} $p |- x2 y $= wx2 wy ax $." for k in range(3 * n))]
+
+
+def pairs_in_blocks(n):
+    """Variables in an outer `$d`, and twice as many blocks with a `$d` and a theorem each."""
+    names, lines = variables(n)
+    inner = ("${ $d x0 x1 $. " + f"t{k} $p wff x0 $= wx0 $. " + "$}" for k in range(2 * n))
+    return [*lines, f"$d {' '.join(names)} $.", *inner]
+
+
+def new_pairs_in_blocks(n):
+    """The same where each block has a pair of its own."""
+    names, lines = variables(n)
+    others = [f"y{k}" for k in range(2 * n)]
+    inner = (f"${{ $d x0 y{k} $. t{k} $p wff x0 $= wx0 $. $}}" for k in range(2 * n))
+    return [*lines, f"$v {' '.join(others)} $.", f"$d {' '.join(names)} $.", *inner]
+
+
+def new_pairs_and_theorems(n):
+    """A `$d` of two new variables and a theorem, in turn, in the outermost block."""
+    names, lines = variables(2 * n)
+    for k in range(0, 2 * n, 2):
+        lines += [f"$d {names[k]} {names[k + 1]} $.", f"t{k} $p wff {names[k]} $= w{names[k]} $."]
+    return lines
+
+
+def pairs_apart(n):
+    """So many variables of one assertion, each in a `$d` with a variable of no assertion."""
+    names, lines = variables(2 * n)
+    lines += [f"$d {names[k]} {names[k + 1]} $." for k in range(0, 2 * n, 2)]
+    return [*lines, f"a $a |- {' '.join(names[::2])} $."]
+
+
+def rows_apart(n):
+    """Two variables in so many `$d` each, none of which has both, and as many assertions of both."""
+    lines = ["$c |- wff $.", "$v x y a b $.", *(f"w{name} $f wff {name} $." for name in "xyab")]
+    lines += ["$d x a $. $d y b $."] * n
+    return [*lines, *(f"k{k} $a |- x y $." for k in range(n))]
+
+
+def rows_apart_in_turn(n):
+    """The same, with each assertion after a `$d` of the one and a `$d` of the other."""
+    lines = ["$c |- wff $.", "$v x y a b $.", *(f"w{name} $f wff {name} $." for name in "xyab")]
+    return [*lines, *(f"$d x a $. $d y b $. k{k} $a |- x y $." for k in range(n))]
+
+
+def equal_lists(n):
+    """A `$d` that says nothing new, and a block with a pair of its own and a theorem, in turn."""
+    lines = ["$c |- wff $.", "$v x y z $.", *(f"w{name} $f wff {name} $." for name in "xyz")]
+    return [*lines, *(f"$d x y $. ${{ $d x z $. t{k} $p |- x $= ? $. $}}" for k in range(n))]
+
+
+def long_outermost_hypothesis(n):
+    """One `$e` of the outermost block with so many symbols, and as many theorems after it that do not use it."""
+    return [*FIRST, f"h $e |- {'p ' * n}$.", *(f"t{k} $p wff p $= ( ) A $." for k in range(n))]
+
+
+def like_hypotheses(n):
+    """A hundred `$e` of the outermost block with the same hundred variables each, and so many theorems."""
+    names, lines = variables(100)
+    lines += [f"h{k} $e |- {' '.join(names)} $." for k in range(100)]
+    return [*lines, *(f"t{k} $p wff x0 $= wx0 $." for k in range(n))]
+
+
+def long_hypothesis(n):
+    """A hypothesis of so many symbols, pushed as many times."""
+    return [*FIRST, f"h $e |- {'p ' * n}$.", f"t $p |- p $= {'h ' * n}$."]
+
+
+def long_apart(n):
+    """Assertions of 60 pairwise disjoint variables, cited with entries of so many symbols."""
+    names, lines = variables(60)
+    others = [f"y{k}" for k in range(60)]
+    lines += [f"$v {' '.join(others)} $.", *(f"w{name} $f wff {name} $." for name in others)]
+    lines += ["wd $a wff x0 x0 $.", "${", f"$d {' '.join(names)} $.", f"ax $a |- {' '.join(names)} $.", "$}"]
+    double = n.bit_length() - 1
+    entries = " ".join(f"w{name} " + "wd " * double for name in others)
+    return [*lines, f"$d {' '.join(others)} $.", f"t $p |- y0 $= {entries} ax $."]
+
+
+def many_apart(n):
+    """An assertion of 100 pairwise disjoint variables, cited ten times with entries of so many symbols, of ten variables each."""
+    names, lines = variables(100)
+    others = [f"y{k}" for k in range(1000)]
+    lines += [f"$v {' '.join(others)} $.", *(f"w{name} $f wff {name} $." for name in others)]
+    lines += [f"wj $a wff {' '.join(names[:10])} $.", f"wr $a wff {'x0 ' * (n // 10)}$."]
+    lines += ["${", f"$d {' '.join(names)} $.", f"ax $a |- {' '.join(names)} $.", "$}", f"$d {' '.join(others)} $."]
+    entries = " ".join(" ".join(f"w{name}" for name in others[k : k + 10]) + " wj wr" for k in range(0, 1000, 10))
+    return [*lines, *(f"t{k} $p |- y0 $= {entries} ax $." for k in range(10))]
+
+
+def number(value):
+    """The letters of a number of a compressed proof."""
+    value, last = divmod(value - 1, 20)
+    letters = chr(ord("A") + last)
+    while value:
+        value, digit = divmod(value - 1, 5)
+        letters = chr(ord("U") + digit) + letters
+    return letters
+
+
+def many_saves(n):
+    """A step that is saved so many times."""
+    return [*FIRST, f"t $p wff p $= ( ) A{'Z' * n} $."]
+
+
+def long_list(n):
+    """A proof that lists so many labels, and uses each."""
+    labels = " ".join(f"x{k}" for k in range(n))
+    letters = "A" + "".join(number(k + 2) for k in range(n))
+    return [*FIRST, *(f"x{k} $a wff p $." for k in range(n)), f"t $p wff p $= ( {labels} ) {letters} $."]
+
+
+def large_frame(n):
+    """A frame of so many variables that is cited ten times."""
+    names, lines = variables(n)
+    return [*lines, f"a $a |- {' '.join(names)} $.", f"t $p |- {' '.join(names)} $= {(' '.join(f'w{name}' for name in names) + ' a ') * 10} $."]
+
+
+def large_frame_listed(n):
+    """A frame of so many variables, and as many theorems that list its assertion and do not cite it."""
+    names, lines = variables(n)
+    return [*lines, f"big $a |- {' '.join(names)} $.", *(f"t{k} $p wff x0 $= ( big ) A $." for k in range(n))]
+
+
+def large_frame_short(n):
+    """A frame of so many variables, and as many theorems that cite its assertion without its entries."""
+    names, lines = variables(n)
+    return [*lines, f"big $a |- {' '.join(names)} $.", *(f"t{k} $p wff x0 $= ( big ) B $." for k in range(n))]
+
+
+def outermost_hypotheses(n):
+    """So many `$e` of the outermost block, and as many assertions after them, each with all of them in its frame."""
+    return [*FIRST, *(f"e{k} $e |- p $." for k in range(n)), *(f"a{k} $a |- p $." for k in range(n))]
+
+
+def endless_number(n):
+    """A number of so many letters."""
+    return [*FIRST, f"t $p wff p $= ( ) {'Y' * n}A $."]
+
+
+def long_label(n):
+    """A label of so many letters, cited once."""
+    return [*FIRST, f"{'l' * n} $a wff p $.", f"t $p wff p $= wp {'l' * n} $."]
+
+
+def longer_labels(n):
+    """So many statements with labels of twelve bytes, half of them theorems that cite one of the others each."""
+    half = n // 2
+    lines = [*FIRST, *(f"axiom{k:07} $a wff ( p -> q ) $." for k in range(half))]
+    return lines + [f"proof{k:07} $p wff ( p -> q ) $= wp wq axiom{k * 7919 % half:07} $." for k in range(half)]
+
+
+def same_labels(n):
+    """Statements with a label that is taken."""
+    return [*FIRST, *("wi $a wff p $." for _ in range(n))]
+
+
+def chain(n):
+    """Files in one another: each includes the next, and has a statement."""
+    files = {f"f{k}.mm": [f"$[ f{k + 1}.mm $]", f"a{k} $a wff $."] for k in range(n - 1)}
+    files[f"f{n - 1}.mm"] = ["$c wff $."]
+    return files | {"input.mm": ["$[ f0.mm $]"]}
+
+
+def many_files(n):
+    """Files one after another, each with the first one's inclusion once more, one of a missing file, and a statement."""
+    files = {f"f{k}.mm": ["$[ f0.mm $]", f"$[ none{k}.mm $]", f"a{k} $a wff $."] for k in range(n)}
+    return files | {"input.mm": ["$c wff $.", *(f"$[ f{k}.mm $]" for k in range(n))]}
+
+
+def edited(n, edits):
+    """A file of so many short statements, and a script with one batch of these edits of it."""
+    return {"input.mm": statements(n), "script": [f"batch {len(edits)}", *edits]}
+
+
+def insertions(n):
+    """As many insertions at the front of a file as it has pieces, in one batch."""
+    return edited(n, ["insert input.mm 0 5\n${ $}"] * n)
+
+
+def moves(n):
+    """As many moves from near the front of a file to its end, in one batch."""
+    return edited(n, [f"move input.mm 5 {n + 4}"] * n)
+
+
+def deletions(n):
+    """As many deletions near the front of a file, in one batch."""
+    return edited(n, ["delete input.mm 5"] * n)
+
+
+def refused_insertions(n):
+    """As many insertions at the front of a file, and after them an edit that is refused, so that all are undone."""
+    return edited(n, ["insert input.mm 0 5\n${ $}"] * n + ["delete none.mm 0"])
