@@ -1,6 +1,6 @@
 //! A base in the making: what the items read so far leave.
 
-ghost use Rattle.std.specs.Prelude.{◌≡◌, ◌∷◌, ◌++◌, ℕ, List, [], true, is_none, IfOk, MatchBool, OnOk, All, length};
+ghost use Rattle.std.specs.Prelude.{◌≡◌, ◌∷◌, ◌++◌, ℕ, List, [], true, is_none, IfOk, MatchBool, OnOk, Ok, All, length};
 ghost use Rattle.std.specs.Option.{option_map};
 ghost use Rattle.std.specs.List.{AllZip};
 ghost use Rattle.mm_store.specs.Language.FileFacts.{CanBeRead};
@@ -199,6 +199,13 @@ fn follow_pairs(
     Ok(())
 }
 
+/// This and one thing more. If there is no memory for that, this is dropped here, and the caller has nothing to drop.
+fn with<A: Drop, B: Drop>(one: A, more: Result<B, AllocError>) -> Result<(A, B), AllocError>
+    ensures { IfOk result (λ both. (both.0 ≡ one) × (more ≡ Ok both.1)) }
+{
+    Ok((one, more?))
+}
+
 impl<'a> Draft<'a> {
     ghost use Rattle.mm_frame.specs.Code.KeptBase.{IsDraft, IsDraftApart, IsDraftLater, AreParts};
 
@@ -210,11 +217,12 @@ impl<'a> Draft<'a> {
     ) -> Result<Self, AllocError>
         ensures { IfOk result (λ draft. (all : List (List ℕ)) → AreDistinct all → IsDraft all [] draft) }
     {
-        let scope = Scope::with_room(alloc, count)?;
-        let rows = Rows::with_room(alloc, count)?;
         let expressions = Expressions::with_room(alloc, count, room)?;
-        let guesses = ListGuesses::with_room(alloc, count)?;
-        let assertions = Assertions::with_room(alloc, count)?;
+        let lists = with(expressions, ListGuesses::with_room(alloc, count))?;
+        let told = with(lists, Rows::with_room(alloc, count))?;
+        let framed = with(told, Assertions::with_room(alloc, count))?;
+        let (kept, scope) = with(framed, Scope::with_room(alloc, count))?;
+        let (((expressions, guesses), rows), assertions) = kept;
         Ok(Draft {
             scope,
             numbers: Vec::new(alloc),
@@ -407,10 +415,32 @@ impl<'a> Draft<'a> {
         ensures read { IfOk result (λ draft. (said : List meant.Item) × AllZip (Says files.now) items.now said × IsDraftLater names.new said draft) }
     {
         let mut draft = Draft::with_room(alloc, items.len(), Vec::new(alloc))?;
-        for item in items {
-            draft.read(alloc, names, files, item)?;
+        match draft.read_each(alloc, names, files, items) {
+            Ok(()) => Ok(draft),
+            Err(error) => {
+                drop(draft);
+                Err(error)
+            }
         }
-        Ok(draft)
+    }
+
+    /// Reads some more items of the files. After out of memory the draft must not be used, and there may be more names.
+    fn read_each(
+        &mut self,
+        alloc: Global,
+        names: &mut Names,
+        files: &'a Files,
+        items: &[Item],
+    ) -> Result<(), AllocError>
+        requires { All (CanBeRead files.now) items.now }
+        ensures grows { Begins names.old names.new }
+        ensures read { OnOk result ((more : List meant.Item) × AllZip (Says files.now) items.now more
+            × ((said : List meant.Item) → IsDraftLater names.old said self.old → IsDraftLater names.new (said ++ more) self.new)) }
+    {
+        for item in items {
+            self.read(alloc, names, files, item)?;
+        }
+        Ok(())
     }
 
     /// What is kept when all items are read.

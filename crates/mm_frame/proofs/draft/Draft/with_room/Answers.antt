@@ -1,18 +1,28 @@
-use Rattle.std.proofs.Common.{List, [], sym, subst}
+use Rattle.std.proofs.Common.{◌≡◌, ℕ, IfOk, List, [], sym, ap, ◌∙◌, subst}
 use Rattle.mm_frame.specs.declared.symbol.NumberedSymbol.{NumberedSymbol}
 use Rattle.mm_frame.specs.Language.Answering.{AreRows, IsLabelTold}
+use Rattle.mm_frame.specs.Language.Names.{AreDistinct}
 use Rattle.mm_frame.specs.Code.KeptActiveItems.{AreActiveKept}
+use Rattle.mm_frame.specs.Code.KeptAssertions.{AreAssertions}
+use Rattle.mm_frame.specs.Code.KeptRows.{AreRowsKept, rows_of}
+use Rattle.mm_frame.specs.Code.KeptScope.{ScopeHolds}
 use Rattle.mm_frame.specs.Code.KeptSymbols.{AreSymbols}
 use Rattle.mm_frame.proofs.lemmas.base.BaseLemmas.{rows_none, symbols_none}
 use Rattle.mm_frame.proofs.draft.Draft.with_room.Goals as goal
 
 pub returns : goal.returns
-returns c = λ all distinct. record {
-  scope = c.in_ok-scope.ensures all distinct;
-  kept = c.in_ok-rows.ensures.kept;
-  rows = subst (AreRows IsLabelTold []) (sym c.in_ok-rows.ensures.none) (rows_none IsLabelTold);
-  symbols = subst (AreSymbols all []) (sym c.in_ok-expressions.ensures) (symbols_none all);
-  assertions = c.in_ok-assertions.ensures all;
-  active = subst (λ (w : List (List NumberedSymbol)). AreActiveKept [] w c.new-3.result) (sym c.in_ok-expressions.ensures) c.new-3.ensures;
-  pair_table = c.new-4.ensures all;
-}
+returns c = λ all distinct.
+    let kept = c.in_ok-kept.ensures in
+    let framed = c.in_ok-framed.ensures in
+    let told = c.in_ok-told.ensures in
+    let rows = ap (λ w. w.0.1) kept.0 ∙ ap (λ w. w.1) framed.0 in
+    let expressions = ap (λ w. w.0.0.0) kept.0 ∙ ap (λ w. w.0.0) framed.0 ∙ ap (λ w. w.0) told.0 ∙ c.in_ok-lists.ensures.0 ∙ c.in_ok-expressions.ensures in
+    record {
+      scope = subst (λ r. IfOk r (λ scope. (all : List (List ℕ)) → AreDistinct all → ScopeHolds all [] scope)) kept.1 c.with_room-5.ensures all distinct;
+      kept = subst AreRowsKept (sym rows) (subst (λ r. IfOk r AreRowsKept) told.1 c.with_room-3.ensures.kept);
+      rows = subst (AreRows IsLabelTold []) (sym (ap rows_of rows ∙ subst (λ r. IfOk r (λ rows. rows_of rows ≡ [])) told.1 c.with_room-3.ensures.none)) (rows_none IsLabelTold);
+      symbols = subst (AreSymbols all []) (sym expressions) (symbols_none all);
+      assertions = subst (λ w. AreAssertions all [] w.1) (sym kept.0) (subst (λ r. IfOk r (λ kept. (all : List (List ℕ)) → AreAssertions all [] kept)) framed.1 c.with_room-4.ensures all);
+      active = subst (λ (w : List (List NumberedSymbol)). AreActiveKept [] w c.new-3.result) (sym expressions) c.new-3.ensures;
+      pair_table = c.new-4.ensures all;
+    }

@@ -1,0 +1,33 @@
+use Rattle.std.proofs.Common.{◌≡◌, ◌∷◌, ◌++◌, [], suc, ◌+◌, take, take_all, sym, subst, arith, append-nil, append_assoc}
+use Rattle.std.specs.List.{AllZip}
+use Rattle.mm_frame.specs.Language.Statement.{Says}
+use Rattle.mm_frame.specs.Code.KeptBase.{IsDraftLater}
+use Rattle.mm_frame.proofs.lemmas.names.NumberLemmas.{begins_on}
+use Rattle.mm_frame.proofs.lemmas.base.BaseLemmas.{zip_more}
+use Rattle.mm_frame.proofs.draft.Draft.read_each.Goals as goal
+
+pub loop-item-init : goal.loop-item-init
+loop-item-init c = (λ n name there. there, [], tt, λ said stands. subst (λ w. IsDraftLater c.args.names.now w c.args.self.now) (sym (append-nil said)) stands)
+
+pub loop-item-preserved : goal.loop-item-preserved
+loop-item-preserved c =
+    let files = c.args.files.now in
+    let items = c.args.items.now in
+    let n = c.loop-item.item-index in
+    let so_far = c.loop-item.invariant in
+    let read = c.in_ok-read.ensures.read in
+    let more = so_far.1 ++ read.0 ∷ [] in
+    let next : suc n ≡ n + 1 = omega arith in (
+      begins_on _ _ _ so_far.0 c.read.ensures.grows,
+      more,
+      subst (λ k. AllZip (Says files) (take k items) more) next (zip_more (Says files) items so_far.1 n _ read.0 c.loop-item-test.true so_far.2 read.1),
+      λ said stands. subst (λ w. IsDraftLater c.read.new.names w c.read.new.self) (append_assoc said so_far.1 (read.0 ∷ [])) (read.2 (said ++ so_far.1) (so_far.3 said stands)),
+    )
+
+pub returns-clause-read : goal.returns-clause-read
+returns-clause-read c =
+    let so_far = c.loop-item.invariant in
+    (so_far.1, subst (λ w. AllZip (Says c.args.files.now) w so_far.1) (take_all c.loop-item.item-index c.args.items.now c.loop-item-test.false) so_far.2, so_far.3)
+
+pub returns-in_err-read-clause-grows : goal.returns-in_err-read-clause-grows
+returns-in_err-read-clause-grows c = begins_on _ _ _ c.loop-item.invariant.0 c.read.ensures.grows
