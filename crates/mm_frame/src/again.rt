@@ -88,69 +88,6 @@ fn put_numbers(symbols: &[NumberedSymbol], numbers: &mut Vec<usize>) -> Result<(
     Ok(())
 }
 
-/// What an item says: by what is known of it, or else by its words.
-fn statement_of<'a>(
-    alloc: Global,
-    files: &'a Files,
-    item: &Item,
-    known: Option<Known<'a>>,
-) -> Result<Statement<'a>, AllocError>
-    requires read { CanBeRead files.now item.now }
-    requires known { (names : List (List ℕ)) × IfSome known (IsKnownItem names files.now item.now) }
-    ensures says { IfOk result (Says files.now item.now) }
-{
-    match known {
-        Some(known) => {
-            let count = known.symbols.len();
-            Ok(Statement::known(alloc, files, item, known.label, count))
-        }
-        None => Statement::read(alloc, files, item),
-    }
-}
-
-/// Puts the numbers of the symbols of a statement, by what is known of it, or else by its words. Out of memory may leave more names.
-fn number_by(
-    alloc: Global,
-    names: &mut Names,
-    statement: &Statement,
-    known: Option<Known>,
-    numbers: &mut Vec<usize>,
-) -> Result<(), AllocError>
-    requires { IfSome known (λ known. AreNameNumbers names.old (numbers_of known.symbols.now) statement.now.symbols) }
-    ensures grows { Begins names.old names.new }
-    ensures count { OnOk result (length numbers.new.items ≡ length statement.now.symbols) }
-    ensures numbers { OnOk result ((all : List (List ℕ)) → Begins names.new all → AreNameNumbers all numbers.new.items statement.now.symbols) }
-{
-    match known {
-        Some(known) => put_numbers(known.symbols, numbers),
-        None => number_all(alloc, names, statement, numbers),
-    }
-}
-
-/// The number of the list of its symbols in the older base, if an item is known.
-fn list_of(known: Option<Known>) -> Option<usize> {
-    known?.list
-}
-
-/// Takes a statement by what is known of it, if it can be so taken.
-fn take_known<'a>(
-    draft: &mut Draft<'a>,
-    alloc: Global,
-    names: &Names,
-    statement: &Statement<'a>,
-    known: Option<Known>,
-) -> Result<bool, AllocError>
-    requires { IfSome known (λ known. AreNameNumbers names.now (numbers_of known.symbols.now) statement.now.symbols) }
-    ensures { IfOk result (λ taken. MatchBool taken ((said : List meant.Item) → IsDraftLater names.now said draft.old
-        → IsDraftLater names.now (said ++ statement.now ∷ []) draft.new) (draft.new ≡ draft.old)) }
-{
-    names.distinct();
-    match known {
-        Some(known) => draft.take_known(alloc, names, statement, known.symbols, known.list),
-        None => Ok(false),
-    }
-}
-
 /// The number of the item of an older base that may be the next after this item. Any number will do: it is compared.
 fn place_behind(old: &Base, i: usize, item: &Item, label: Option<&[u8]>) -> usize
     requires { (base : BaseView) × IsBase base old.now }
@@ -163,6 +100,29 @@ fn place_behind(old: &Base, i: usize, item: &Item, label: Option<&[u8]>) -> usiz
         Some(k) => k.saturating_add(1),
         None => i,
     }
+}
+
+/// Reads one more item of the files, of which this is known. After out of memory the draft must not be used.
+fn read_known<'a>(
+    draft: &mut Draft<'a>,
+    alloc: Global,
+    names: &Names,
+    files: &'a Files,
+    item: &Item,
+    known: Known<'a>,
+) -> Result<(), AllocError>
+    requires read { CanBeRead files.now item.now }
+    requires known { IsKnownItem names.now files.now item.now known }
+    ensures { OnOk result ((one : meant.Item) × Says files.now item.now one
+        × ((said : List meant.Item) → IsDraftLater names.now said draft.old → IsDraftLater names.now (said ++ one ∷ []) draft.new)) }
+{
+    let statement = Statement::known(alloc, files, item, known.label, known.symbols.len());
+    names.distinct();
+    if draft.take_known(alloc, names, &statement, known.symbols, known.list)? {
+        return Ok(());
+    }
+    put_numbers(known.symbols, &mut draft.numbers)?;
+    draft.take(alloc, names, &statement, known.list)
 }
 
 /// An older base, and the number of the item of it that may be the next one.
@@ -190,15 +150,15 @@ fn read_again<'a>(
 {
     let Beside { base: old, next: i } = beside;
     names.distinct();
-    let known = known_of(old, i, item);
-    let statement = statement_of(alloc, files, item, known)?;
-    let next = place_behind(old, i, item, statement.label());
-    if take_known(draft, alloc, names, &statement, known)? {
-        return Ok(next);
+    if let Some(known) = known_of(old, i, item) {
+        read_known(draft, alloc, names, files, item, known)?;
+        return Ok(i.saturating_add(1));
     }
-    number_by(alloc, names, &statement, known, &mut draft.numbers)?;
+    let statement = Statement::read(alloc, files, item)?;
+    let next = place_behind(old, i, item, statement.label());
+    number_all(alloc, names, &statement, &mut draft.numbers)?;
     names.distinct();
-    draft.take(alloc, names, &statement, list_of(known))?;
+    draft.take(alloc, names, &statement, None)?;
     Ok(next)
 }
 

@@ -145,12 +145,12 @@ pub fn hypotheses(
 {
     let (tables, essentials) = (earlier.tables, earlier.essentials);
     numbers.clear();
-    numbers.extend_from_slice(essentials)?;
     add_floats(tables, own, numbers)?;
     add_known_floats(tables, essentials, earlier.variables, numbers)?;
-    // The active `$e` rise, and the same `$f` is often that of many symbols: what is in order is not sorted again.
+    // The active `$e` rise, and most often come after all `$f`.
+    numbers.extend_from_slice(essentials)?;
     numbers.dedup();
-    numbers.sort()?;
+    numbers.sort_unstable();
     numbers.dedup();
     let kept = Vec::from_slice(alloc, numbers)?;
     Ok(kept)

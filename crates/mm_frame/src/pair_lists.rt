@@ -99,14 +99,14 @@ fn pairs_at(
 /// Sorts the pairs, each with the lower number of a name first, and keeps each once.
 fn in_order(
     mut pairs: Vec<(NumberedSymbol, NumberedSymbol)>,
-) -> Result<Vec<(NumberedSymbol, NumberedSymbol)>, AllocError>
-    ensures same { IfOk result (λ sorted. HasSame pairs.items sorted.items) }
-    ensures order { All (λ pair. pair.0.name ≤ pair.1.name) pairs.items → IfOk result (λ sorted. AreInOrder sorted.items) }
+) -> Vec<(NumberedSymbol, NumberedSymbol)>
+    ensures same { HasSame pairs.items result.items }
+    ensures order { All (λ pair. pair.0.name ≤ pair.1.name) pairs.items → AreInOrder result.items }
 {
-    pairs.sort_by_key(|pair| (pair.0.name, pair.1.name))?;
+    pairs.sort_unstable_by_key(|pair| (pair.0.name, pair.1.name));
     pairs.dedup();
     pairs.shrink_to_fit();
-    Ok(pairs)
+    pairs
 }
 
 /// Whether a sorted list has a pair. What is found is compared.
@@ -236,7 +236,7 @@ impl PairLists {
             return Ok(k);
         }
         let pairs = pairs_at(alloc, first, expressions)?;
-        let k = self.keep(in_order(pairs)?)?;
+        let k = self.keep(in_order(pairs))?;
         self.made.insert(count, k)?;
         Ok(k)
     }
@@ -259,7 +259,7 @@ impl PairLists {
             return Ok(base);
         }
         pairs.extend_from_slice(self.list(base))?;
-        let k = self.keep(in_order(pairs)?)?;
+        let k = self.keep(in_order(pairs))?;
         Ok(k)
     }
 

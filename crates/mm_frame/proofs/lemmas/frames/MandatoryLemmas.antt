@@ -156,21 +156,29 @@ collected_to all before item tables expressions own b n (inr p) =
 
 -- the same with the variables that are kept of the `$e`
 abbrev pub collected_known : Tables → List ℕ → List EssentialVariable → List NumberedSymbol → List ℕ
-collected_known tables essentials found own = (essentials ++ float_numbers tables own) ++ flat_map (known_float tables essentials) found
+collected_known tables essentials found own = (float_numbers tables own ++ flat_map (known_float tables essentials) found) ++ essentials
 
 known_collected : (tables : Tables) (expressions : List (List NumberedSymbol)) (essentials : List ℕ) (found : List EssentialVariable) (own : List NumberedSymbol) → AreVariablesOf essentials expressions found → (n : ℕ)
     → In n (collected_known tables essentials found own) → In n (collected tables expressions essentials own)
 known_collected tables expressions essentials found own are n h =
-    let first = essentials ++ float_numbers tables own in
+    let floats = float_numbers tables own in
+    let known = flat_map (known_float tables essentials) found in
+    let first = essentials ++ floats in
     let all = flat_map (λ m. float_numbers tables (expression_kept expressions m)) essentials in
-    elim (in_cases n first (flat_map (known_float tables essentials) found) h) [ inl a ↦ in_left n first all a | inr b ↦ in_right n first all (known_from tables essentials expressions found are n b) ]
+    elim (in_cases n (floats ++ known) essentials h) [
+      | inl a ↦ elim (in_cases n floats known a) [ inl f ↦ in_left n first all (in_right n essentials floats f) | inr b ↦ in_right n first all (known_from tables essentials expressions found are n b) ]
+      | inr e ↦ in_left n first all (in_left n essentials floats e)
+    ]
 
 collected_is_known : (tables : Tables) (expressions : List (List NumberedSymbol)) (essentials : List ℕ) (found : List EssentialVariable) (own : List NumberedSymbol) → AreVariablesOf essentials expressions found → (n : ℕ)
     → In n (collected tables expressions essentials own) → In n (collected_known tables essentials found own)
 collected_is_known tables expressions essentials found own are n h =
-    let first = essentials ++ float_numbers tables own in
+    let floats = float_numbers tables own in
     let known = flat_map (known_float tables essentials) found in
-    elim (in_cases n first (flat_map (λ m. float_numbers tables (expression_kept expressions m)) essentials) h) [ inl a ↦ in_left n first known a | inr b ↦ in_right n first known (known_to tables essentials expressions found are n b) ]
+    elim (in_cases n (essentials ++ floats) (flat_map (λ m. float_numbers tables (expression_kept expressions m)) essentials) h) [
+      | inl a ↦ elim (in_cases n essentials floats a) [ inl e ↦ in_right n (floats ++ known) essentials e | inr f ↦ in_left n (floats ++ known) essentials (in_left n floats known f) ]
+      | inr b ↦ in_left n (floats ++ known) essentials (in_right n floats known (known_to tables essentials expressions found are n b))
+    ]
 
 -- sorted, and each once
 pub hypotheses_sorted : (tables : Tables) (expressions : List (List NumberedSymbol)) (essentials : List ℕ) (found : List EssentialVariable)

@@ -8,10 +8,10 @@ use Rattle.mm_frame.proofs.pair_lists.in_order.Goals as goal
 
 pub returns-clause-same : goal.returns-clause-same
 returns-clause-same c = subst (HasSame c.args.pairs.items) (sym c.shrink_to_fit.ensures.items)
-    (sorted_once c.args.pairs.items c.sort_by_key.new.self.items c.dedup.new.self.items c.in_ok-sort_by_key.ensures.permutation c.dedup.ensures.filtered)
+    (sorted_once c.args.pairs.items c.sort_unstable_by_key.new.self.items c.dedup.new.self.items c.sort_unstable_by_key.ensures.permutation c.dedup.ensures.filtered)
 
 pub returns-clause-order : goal.returns-clause-order
 returns-clause-order c low = subst AreInOrder (sym c.shrink_to_fit.ensures.items)
-    (sorted_in_order is_same_pair c.args.pairs.items c.sort_by_key.new.self.items c.dedup.new.self.items c.in_ok-sort_by_key.ensures.permutation
-    (c.in_ok-sort_by_key.ensures.sorted name_numbers (always_returns_same _ (λ a r. r ≡ name_numbers a.0.now) _ (λ a r q k. search rules)))
+    (sorted_in_order is_same_pair c.args.pairs.items c.sort_unstable_by_key.new.self.items c.dedup.new.self.items c.sort_unstable_by_key.ensures.permutation
+    (c.sort_unstable_by_key.ensures.sorted name_numbers (always_returns_same _ (λ a r. r ≡ name_numbers a.0.now) _ (λ a r q k. search rules)))
     c.dedup.ensures.filtered low)

@@ -17,8 +17,8 @@ pub returns-clause-pairs : goal.returns-clause-pairs
 returns-clause-pairs c all said added is read =
     let own = flat_map (λ n. pairs_among (expression_kept c.args.expressions.now n)) c.args.own.now in
     let base = is.list.items in
-    let kept = c.in_ok-in_order.field-0.items in
+    let kept = c.in_order.result.items in
     let listed = c.in_ok-extend_from_slice.ensures.items ∙ (λ i. c.in_ok-pairs.ensures i ++ (c.list-2.ensures ∙ ap pairs_or_none is.there) i) in
-    let same = subst (λ w. HasSame w kept) listed c.in_ok-in_order.ensures.same in
+    let same = subst (λ w. HasSame w kept) listed c.in_order.ensures.same in
     let low = subst (All IsLowFirst) (sym listed) (All-append IsLowFirst own base (all_low c.args.expressions.now c.args.own.now) is.order.low) in
-    is_list all c.keep.new.self c.in_ok-k.k kept (said ++ added) c.in_ok-k.ensures.there (joined_read all said added base own kept is.read read same) (c.in_ok-in_order.ensures.order low)
+    is_list all c.keep.new.self c.in_ok-k.k kept (said ++ added) c.in_ok-k.ensures.there (joined_read all said added base own kept is.read read same) (c.in_order.ensures.order low)

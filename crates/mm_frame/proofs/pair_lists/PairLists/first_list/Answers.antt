@@ -13,12 +13,12 @@ returns-clause-pairs c all before h a front m =
     let new : PairLists = record { lists = c.keep.new.self.lists; made = c.insert.new.self; reach = c.keep.new.self.reach } in
     let there = c.in_ok-k.ensures.there in
     let listed = flat_map (λ n. pairs_among (expression_kept c.args.expressions.now n)) c.args.first.now in
-    let kept = c.in_ok-in_order.field-0.items in
+    let kept = c.in_order.result.items in
     let pairs = active_pairs (take c.args.count before) in
-    let same = subst (λ w. HasSame w kept) c.in_ok-pairs.ensures c.in_ok-in_order.ensures.same in
+    let same = subst (λ w. HasSame w kept) c.in_ok-pairs.ensures c.in_order.ensures.same in
     let low = subst (All IsLowFirst) (sym c.in_ok-pairs.ensures) (all_low c.args.expressions.now c.args.first.now) in
     is_list all new c.in_ok-k.k kept pairs (record { list = there.list; there = there.there; same = there.same })
-    (same_members all pairs listed kept same (front_read all before c.args.expressions.now c.args.first.now c.args.count h a front)) (c.in_ok-in_order.ensures.order low)
+    (same_members all pairs listed kept same (front_read all before c.args.expressions.now c.args.first.now c.args.count h a front)) (c.in_order.ensures.order low)
 
 pub returns-clause-made : goal.returns-clause-made
 returns-clause-made c all before h a front m =

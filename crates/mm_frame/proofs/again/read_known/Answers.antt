@@ -1,0 +1,42 @@
+use Rattle.std.proofs.Common.{ℕ, List, sym, subst}
+use Rattle.std.proofs.lemmas.Bool.{MatchBool-at_false, MatchBool-at_true}
+use Rattle.std.proofs.lemmas.Result.{on_ok_weaker}
+use Rattle.mm_frame.specs.Language.Item.{Item}
+use Rattle.mm_frame.specs.Code.KeptBase.{IsDraft}
+use Rattle.mm_frame.specs.Code.Numbers.{AreNameNumbers}
+use Rattle.mm_frame.proofs.lemmas.base.NumbersAside.{numbers_aside}
+use Rattle.mm_frame.proofs.lemmas.reading.KnownItems.{numbers_on}
+use Rattle.mm_frame.proofs.again.read_known.Goals as goal
+
+pub returns-then-branch : goal.returns-then-branch
+returns-then-branch c =
+    let names = c.args.names.now in
+    let statement = c.known-statement.result in
+    let says = c.known-statement.ensures.says in
+    let numbers = c.requires.known.symbols statement says in
+    let takes = MatchBool-at_true _ _ c.if-branch.true c.in_ok-take_known.ensures in (
+      statement,
+      says,
+      λ said stands all distinct more.
+          takes all said (stands names c.distinct.ensures (λ n name there. there)) (stands all distinct more) numbers (numbers_on names all _ statement.symbols more numbers),
+    )
+
+pub returns : goal.returns
+returns c =
+    let names = c.args.names.now in
+    let statement = c.known-statement.result in
+    let says = c.known-statement.ensures.says in
+    let numbers = c.requires.known.symbols statement says in
+    let same = MatchBool-at_false _ _ c.if-branch.false c.in_ok-take_known.ensures in
+    let aside = λ (all : List (List ℕ)) (said : List Item) (d : IsDraft all said c.args.draft.now).
+    numbers_aside all said c.take_known.new.self c.put_numbers.new.numbers (subst (IsDraft all said) (sym same) d) in
+    let put = λ (all : List (List ℕ)) (m : AreNameNumbers all _ statement.symbols). subst (λ (n : List ℕ). AreNameNumbers all n statement.symbols) (sym c.in_ok-put_numbers.ensures) m in
+    on_ok_weaker c.take.result
+    (λ takes. (
+      statement,
+      says,
+      λ said stands all distinct more.
+          takes all said (aside names said (stands names c.distinct.ensures (λ n name there. there))) (aside all said (stands all distinct more))
+          (put names numbers) (put all (numbers_on names all _ statement.symbols more numbers)),
+    ))
+    c.take.ensures
