@@ -91,8 +91,11 @@ fn action(labels: usize, saves: usize, digits: usize, byte: u8) -> Result<Action
     ensures says { (names : List Step) (n : ℕ) → length names ≡ labels → digits ≡ min n (2 ^ 64 - 1) →
         meant_or names result ≡ read_behind (nameable names saves) n byte }
 {
+    // Most letters are these, so they are looked for first.
+    if matches!(byte, b'A'..=b'T') {
+        return named(labels, saves, digits, usize::from(byte - b'@'));
+    }
     match byte {
-        b'A'..=b'T' => named(labels, saves, digits, usize::from(byte - b'@')),
         b'Z' => alone(digits, Action::Save),
         b'?' => alone(digits, Action::Unknown),
         _ => Err(ProofNumber::P04),
@@ -126,7 +129,7 @@ pub struct LetterReader {
 impl LetterReader {
     ghost use Rattle.std.specs.Prelude.{[], ◌∷◌, ◌++◌, OnOk};
     ghost use Rattle.mm_proof.specs.Language.Letters.{Letter, letters_in};
-    ghost use Rattle.mm_proof.specs.Code.Reader.{Aim, ReadsLetters};
+    ghost use Rattle.mm_proof.specs.Code.Reader.{Aim, HasRoom, ReadsLetters};
 
     /// A reader before the first letter, where numbers name this many labels. It puts the steps and the marks in place of
     /// what the lists have.
@@ -150,8 +153,21 @@ impl LetterReader {
         })
     }
 
+    /// The reader with room for the steps of so many letters more.
+    fn with_room(self, letters: usize) -> Result<Self, AllocError>
+        ensures labels { IfOk result (λ reader. reader.labels ≡ self.labels) }
+        ensures room { IfOk result (HasRoom letters) }
+        ensures reads { IfOk result (λ reader. (aim : Aim) (ls : List Letter) → ReadsLetters aim self ls → ReadsLetters aim reader ls) }
+    {
+        let mut reader = self;
+        reader.steps.reserve(letters)?;
+        Ok(reader)
+    }
+
     /// Reads one letter.
     fn read(&mut self, byte: u8, spot: Spot) -> Result<(), Undecoded>
+        requires room { HasRoom 1 self.old }
+        ensures room { OnOk result ((n : ℕ) → HasRoom (n + 1) self.old → HasRoom n self.new) }
         ensures labels { OnOk result (self.new.labels ≡ self.old.labels) }
         ensures ok { OnOk result ((aim : Aim) (ls : List Letter)
             → ReadsLetters aim self.old (record { byte = byte; spot = spot } ∷ ls) → ReadsLetters aim self.new ls) }
@@ -164,7 +180,7 @@ impl LetterReader {
         }
         match action(self.labels, self.saves, self.digits, byte) {
             Ok(action) => {
-                self.steps.push(ProofStep { action, spot })?;
+                self.steps.push_reserved(ProofStep { action, spot });
                 mark(&mut self.used, action);
                 self.digits = 0;
                 if byte == b'Z' {
@@ -176,16 +192,17 @@ impl LetterReader {
         }
     }
 
-    /// Reads the letters of the word with this number.
-    fn read_word(&mut self, n: usize, word: &[u8]) -> Result<(), Undecoded>
-        ensures labels { OnOk result (self.new.labels ≡ self.old.labels) }
-        ensures ok { OnOk result ((aim : Aim) (ls : List Letter) → ReadsLetters aim self.old (letters_in (n, word.now) ++ ls) → ReadsLetters aim self.new ls) }
-        ensures err { IfErr result (λ e. (aim : Aim) (ls : List Letter) → ReadsLetters aim self.old (letters_in (n, word.now) ++ ls) → TellsSteps e aim.total) }
+    /// Reads the letters of the word with this number. The reader is moved in and out, so that its counts stay in registers.
+    fn read_word(self, n: usize, word: &[u8]) -> Result<Self, Undecoded>
+        ensures labels { IfOk result (λ reader. reader.labels ≡ self.labels) }
+        ensures ok { IfOk result (λ reader. (aim : Aim) (ls : List Letter) → ReadsLetters aim self (letters_in (n, word.now) ++ ls) → ReadsLetters aim reader ls) }
+        ensures err { IfErr result (λ e. (aim : Aim) (ls : List Letter) → ReadsLetters aim self (letters_in (n, word.now) ++ ls) → TellsSteps e aim.total) }
     {
+        let mut reader = self.with_room(word.len())?;
         for (letter, byte) in word.iter().enumerate() {
-            self.read(*byte, Spot { word: n, letter })?;
+            reader.read(*byte, Spot { word: n, letter })?;
         }
-        Ok(())
+        Ok(reader)
     }
 
     /// The steps, or the fault of digits that no letter follows.
@@ -227,7 +244,7 @@ pub fn read_letters(
     let mut reader = LetterReader::new(room, labels)?;
     let mut n = from;
     while let Some(word) = words.next_word() {
-        reader.read_word(n, word)?;
+        reader = reader.read_word(n, word)?;
         n += 1;
     }
     reader.end(Spot { word: n, letter: 0 })

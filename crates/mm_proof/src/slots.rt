@@ -9,14 +9,28 @@ use crate::assertion::Hypothesis;
 use crate::symbol::Kept;
 use mm_frame::Symbol;
 
-/// Where a key is noted in a table of this many places: at its own place, or at its remainder.
-pub fn home(key: usize, count: usize) -> usize
+/// Where a key is noted that a table of this many places may have no place for. Hardly any key is so high, so the test
+/// of the others is inlined alone.
+#[cold]
+#[inline(never)]
+fn home_beyond(key: usize, count: usize) -> usize
     ensures { result ≡ home_lem key count }
 {
     if key < count || count == 0 {
         key
     } else {
         key % count
+    }
+}
+
+/// Where a key is noted in a table of this many places: at its own place, or at its remainder.
+pub fn home(key: usize, count: usize) -> usize
+    ensures { result ≡ home_lem key count }
+{
+    if key < count {
+        key
+    } else {
+        home_beyond(key, count)
     }
 }
 

@@ -1,5 +1,5 @@
 -- What the code's reader of letters has read, and what the letters that are left make of it.
-use Rattle.std.specs.Prelude.{◌≡◌, ℕ, ◌-◌, ◌^◌, min, List, length}
+use Rattle.std.specs.Prelude.{◌≡◌, ℕ, ◌+◌, ◌-◌, ◌^◌, ◌≤◌, min, List, length, vec_capacity}
 use Rattle.mm_proof.specs.Language.Expansion.{Step}
 use Rattle.mm_proof.specs.Language.Letters.{Letter}
 use Rattle.mm_proof.specs.Language.Decoding.{Steps}
@@ -20,3 +20,7 @@ pub record ReadsLetters (aim : Aim) (reader : LetterReader) (letters : List Lett
   pub labels_are : length aim.names ≡ reader.labels
   pub digits_are : reader.digits ≡ min digits (2 ^ 64 - 1)
   pub rest : with_steps (meant_steps aim.names reader.steps.items) (read_on aim.names aim.close reader.saves digits letters) ≡ aim.total
+
+-- there is room for so many steps more
+abbrev pub HasRoom : ℕ → LetterReader → Type 0
+HasRoom n reader = length reader.steps.items + n ≤ vec_capacity reader.steps
