@@ -15,10 +15,6 @@ use Rattle.mm_keep.specs.Code.OfFiles.{IsOf}
 use Rattle.mm_keep.specs.Language.Sessions.{OfItems, SessionView}
 use Rattle.mm_keep.specs.declared.session.Session.TheInside.{Inside}
 
--- the element at an index
-pub at_index : {X : Type 0} (xs : List X) (i : ℕ) (x : X) → i < length xs → x ≡ get_or xs i x → slice_get xs i ≡ Some x
-at_index xs i x within e = slice_get-get_or xs i x within ∙ ap Some (sym e)
-
 -- no fault is reported of a sound item
 pub sound_none : (fault : Option FrameFault) (t : Option (ℕ × FrameNumber)) → option_map (λ (f : FrameFault). (f.word, f.number)) fault ≡ t → fault ≡ None → is_none t ≡ true
 sound_none None t e n = sym (ap is_none e)

@@ -37,11 +37,6 @@ pub proof_next : (all : List (List ℕ)) (answers : BaseAnswers) (base : BaseVie
     → is_proof_at base i ≡ is_told_proof (sound_items said) item
 proof_next all answers base said item i next number = ap (is_proof_at base) number ∙ (λ j. is_told_proof (sound_items (next.front j)) (next.here j))
 
--- no fault is reported
-pub none_is : {X : Type 0} (o : Option X) → is_none o ≡ true → None ≡ o
-none_is None e = refl
-none_is (Some x) e = absurd (false≢true e)
-
 -- an earlier item is the same in the base
 item_front : (front rest : List Item) (n : ℕ) → n < length front → item_at (front ++ rest) n ≡ item_at front n
 item_front [] rest n l = absurd (omega arith)

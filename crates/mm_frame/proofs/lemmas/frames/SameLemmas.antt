@@ -92,10 +92,3 @@ pub pairs_decide : (a b : NumberedSymbol × NumberedSymbol)
 pairs_decide a b =
     let both = both_decide ((a.0.name == b.0.name) && (beq a.0.variable b.0.variable)) ((a.1.name == b.1.name) && (beq a.1.variable b.1.variable)) (symbols_decide a.0 b.0) (symbols_decide a.1 b.1) in
     (λ t. (let e = both.0 t in λ i. (e.0 i, e.1 i)), λ e. both.1 (ap (λ (w : NumberedSymbol × NumberedSymbol). w.0) e, ap (λ (w : NumberedSymbol × NumberedSymbol). w.1) e))
-
--- the expression of a sound item with a label
-pub expression_shown : (base : BaseView) (i : ℕ) (symbols : List Symbol) → Some symbols ≡ expression_at base i → is_shown_at base i ≡ true → symbols ≡ expression (before base i) (said_at base i)
-expression_shown base i symbols e t = same_Some symbols (expression (before base i) (said_at base i)) (e ∙ ap (λ b. cond b (Some (expression (before base i) (said_at base i))) None) t)
-
-pub expression_there : (base : BaseView) (i : ℕ) → None ≡ expression_at base i → is_shown_at base i ≡ true → ⊥
-expression_there base i e t = none-some (expression (before base i) (said_at base i)) (e ∙ ap (λ b. cond b (Some (expression (before base i) (said_at base i))) None) t)

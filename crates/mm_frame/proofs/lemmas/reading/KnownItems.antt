@@ -35,11 +35,6 @@ pub same_again : (files : FilesView) (found : List store.Item) (said : List Item
 same_again files found said i item law h again told says =
     same_said files again.was item (record { kind = again.kind; key = again.key; start = again.start; end = again.end }) law (item_at said i) told (says_at files found said i again.was h again.there) says
 
--- an expression that is reported is that of the item
-pub told_expression : (b : Bool) (one other : List Symbol) → Some one ≡ (if b then Some other else None) → one ≡ other
-told_expression true one other e = same_Some one other e
-told_expression false one other e = cc
-
 -- the symbols that are kept of an item have the numbers of its symbols
 pub numbers_known : (names : List (List ℕ)) (before : List Item) (symbols : List (List ℕ)) (kept : List NumberedSymbol)
     → symbols_of names kept ≡ map (symbol before) symbols → All (IsNumbered names) kept → AreNameNumbers names (numbers_of kept) symbols

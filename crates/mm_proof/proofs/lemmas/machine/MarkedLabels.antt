@@ -18,15 +18,6 @@ use Rattle.mm_proof.specs.declared.step.ProofStep.{ProofStep}
 pub names_more : (k : ℕ) (steps : List ProofStep) (step : ProofStep) → list_any (names_label k) (steps ++ step ∷ []) ≡ (list_any (names_label k) steps || is_item (label_named step.action) k)
 names_more k steps step = list_any-append (names_label k) steps (step ∷ []) ∙ ap (λ b. list_any (names_label k) steps || b) (or-false (is_item (label_named step.action) k))
 
--- where one step more is marked, the marks are those of the steps with this one
-pub marks_more :
-    (labels : ℕ) (old new : List Bool) (steps more : List ProofStep) (step : ProofStep) → AreMarks labels old steps → length new ≡ length old →
-    ((k : ℕ) → k < labels → marked_at new k ≡ (marked_at old k || is_item (label_named step.action) k)) → more ≡ steps ++ step ∷ [] → AreMarks labels new more
-marks_more labels old new steps more step are count each is = record {
-  count = count ∙ are.count;
-  each = λ k less. rw is (each k less ∙ ap (λ b. b || is_item (label_named step.action) k) (are.each k less) ∙ sym (names_more k steps step));
-}
-
 -- a number without a mark more changes no mark
 no_mark_more : (marks : List Bool) (k : ℕ) → marked_at (marks ++ false ∷ []) k ≡ marked_at marks k
 no_mark_more [] zero = refl

@@ -8,7 +8,6 @@ use Rattle.mm_proof.proofs.marks.is_alike.Goals as goal
 
 pub returns-then-mark : goal.returns-then-mark
 returns-then-mark c t kept names base copy f g is i h =
-    let told = sym c.wide.ensures ∙ c.in-Some.is in
     inl (frame_kept base copy i c.args.j (kept_mark c.args.mark) is ((is.old_is i).1 h) c.if-mark.true)
 
 pub returns-then-mark-2 : goal.returns-then-mark-2
