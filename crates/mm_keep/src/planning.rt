@@ -19,7 +19,7 @@ use std::alloc::{AllocError, Global};
 
 /// The sound `$p` of the old base of which item `j` of the new one keeps what was checked: the one with its label and an
 /// equal view, if both are sound `$p`.
-fn kept_of(
+fn old_with_same_view(
     names: &Names,
     files: &Files,
     old: &Base,
@@ -67,7 +67,7 @@ pub fn planned(
     let count = new.count();
     let mut entries = Vec::with_capacity(alloc, count)?;
     for j in 0..count {
-        let from = kept_of(names, files, old, new, &marks, j);
+        let from = old_with_same_view(names, files, old, new, &marks, j);
         entries.push(entry(old, from))?;
     }
     Ok(Plan::of(entries))

@@ -21,7 +21,7 @@ use Rattle.mm_report.specs.declared.script.ScriptError.{ScriptError}
 use Rattle.mm_report.specs.declared.script.ScriptError.TheVariants as errors
 use Rattle.mm_report.specs.declared.stream.Writing.{Writing}
 use Rattle.mm_report.specs.Code.Answered.{Answers, FailsSo, Finds, Lacks}
-use Rattle.mm_report.specs.Language.Answers.{IsAnswer, IsBatchRefused, IsRan, batch_refusal_line, numbers_listed, unknown_line}
+use Rattle.mm_report.specs.Language.Answers.{IsAnswer, IsBatchRefused, IsRunAnswer, batch_refusal_line, numbers_listed, unknown_line}
 use Rattle.mm_report.specs.Language.Script.{Command, Listed, Batch, Axioms, Cites, Users}
 use Rattle.mm_report.specs.Language.Stream.{written, has_failed, AppendsPart, Stops}
 
@@ -43,7 +43,7 @@ answered_stop contents command old new a b (Err e) answer err is s =
 pub ran_base : (old new : SessionView) (work : Recorded) (changed : IsChanged old new work) → IsOfFiles new.files new.top changed.runs.new
 ran_base old new work changed = subst (λ top. IsOfFiles new.files top changed.runs.new) (sym changed.top) changed.runs.are
 
-pub ran_is : (old new : SessionView) (work : Recorded) (changed : IsChanged old new work) → IsRan old new (numbers_listed (codes "ran") changed.runs.new work.runs)
+pub ran_is : (old new : SessionView) (work : Recorded) (changed : IsChanged old new work) → IsRunAnswer old new (numbers_listed (codes "ran") changed.runs.new work.runs)
 ran_is old new work changed = record { top = changed.top; runs = work.runs; are_runs = changed.runs; answer_is = refl }
 
 -- the refusal of a batch, of which the edit with this number is refused

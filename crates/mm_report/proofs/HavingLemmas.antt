@@ -12,7 +12,7 @@ use Rattle.mm_keep.specs.mm_store.Language.Holding.{HoldOneEach}
 use Rattle.mm_keep.specs.Language.Laws.{FilesGiveItems, HasListOf, HasListOfRuns, HasListEach, ItemsHaveFindings, LabelsAreDecided}
 use Rattle.mm_keep.specs.Language.Sessions.{SessionView, HasAssertion, AreAxiomsOf, AreCitesOf, AreUsersOf}
 use Rattle.mm_keep.specs.Language.Told.{Told, IsRightlyTold}
-use Rattle.mm_report.specs.Language.Answers.{AreAnswers, IsAnswer, IsFound, IsRan, IsUnknown, IsVerdictAnswer}
+use Rattle.mm_report.specs.Language.Answers.{AreAnswers, IsAnswer, IsFound, IsRunAnswer, IsUnknown, IsVerdictAnswer}
 use Rattle.mm_report.specs.Language.Answers.{batch_refusal_line, numbers_listed, refusal_line, told_line, unknown_line}
 use Rattle.mm_report.specs.Language.Report.{names_of, report, IsReport}
 use Rattle.mm_report.specs.Language.Script.{Command, Change, Batch, Report, Verdict, Axioms, Cites, Users, Listed, commands_of}
@@ -69,7 +69,7 @@ module _ (laws : HavingLaws) (session : SessionView) (whole : IsWholeSession ses
     files : plain new.files ≡ after
     new_whole : IsWholeSession new
     answer : List ℕ
-    ran : IsRan session new answer
+    ran : IsRunAnswer session new answer
 
   has_ran : (after : List File) → HoldOneEach after → ((name : List ℕ) → file_number after name ≡ file_number (plain session.files) name) → Ran after
   has_ran after units numbers =

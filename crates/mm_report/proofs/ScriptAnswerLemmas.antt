@@ -16,7 +16,7 @@ use Rattle.mm_keep.specs.Language.Laws.{IsOneList, OneListEach, OneListOfRuns}
 use Rattle.mm_keep.specs.Language.Runs.{AreRunsOf}
 use Rattle.mm_keep.specs.Language.Sessions.{SessionView, AreNumbersOf, HasAssertion}
 use Rattle.mm_keep.specs.Language.Told.{IsRightlyTold}
-use Rattle.mm_report.specs.Language.Answers.{AreAnswers, IsAnswer, IsBatchAnswer, IsEditAnswer, IsFound, IsRan, IsUnknown, IsVerdictAnswer}
+use Rattle.mm_report.specs.Language.Answers.{AreAnswers, IsAnswer, IsBatchAnswer, IsEditAnswer, IsFound, IsRunAnswer, IsUnknown, IsVerdictAnswer}
 use Rattle.mm_report.specs.Language.Answers.{batch_refusal_line, numbers_listed, refusal_line, told_line}
 use Rattle.mm_report.specs.Language.Report.{names_of}
 use Rattle.mm_report.specs.Language.Script.{Command, Change, Batch, Report, Verdict, Axioms, Cites as CitesOf, Users, EndsSo, Entry, command_of, commands_of, entries_bytes, HasEntries}
@@ -64,7 +64,7 @@ same_listed word base other xs ys e f = λ i. numbers_listed word (saying (e i))
 unchanged : (s t new copy : SessionView) → AreAlike s t → new ≡ s → copy ≡ t → AreAlike new copy
 unchanged s t new copy a e f = subst (λ (x : SessionView). AreAlike x copy) (sym e) (subst (λ (x : SessionView). AreAlike s x) (sym f) a)
 
-same_ran : AnswerLaws → (s t new copy : SessionView) (x y : List ℕ) → AreAlike s t → plain new.files ≡ plain copy.files → IsRan s new x → IsRan t copy y → (x ≡ y) × AreAlike new copy
+same_ran : AnswerLaws → (s t new copy : SessionView) (x y : List ℕ) → AreAlike s t → plain new.files ≡ plain copy.files → IsRunAnswer s new x → IsRunAnswer t copy y → (x ≡ y) × AreAlike new copy
 same_ran laws s t new copy x y a files f g =
     let runs : f.runs ≡ g.runs = laws.runs s.files new.files t.files copy.files t.top f.runs g.runs a.files files (subst (λ (name : List ℕ). AreRunsOf s.files new.files name f.runs) a.top f.are_runs) g.are_runs in
     let said : f.are_runs.new.said ≡ g.are_runs.new.said =

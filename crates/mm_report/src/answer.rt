@@ -271,7 +271,7 @@ fn write_verdict<W: Write>(
 }
 
 /// Writes why an edit is refused; if memory ran out, nothing.
-fn tell_refused<W: Write>(
+fn write_refusal<W: Write>(
     edit: &Edit<'_>,
     error: EditError,
     to: &mut Writing<W>,
@@ -288,7 +288,7 @@ fn tell_refused<W: Write>(
 }
 
 /// Writes why edits that were to be done together are refused; if memory ran out, nothing.
-fn tell_batch_refused<W: Write>(
+fn write_batch_refusal<W: Write>(
     edits: &[Edit<'_>],
     error: BatchError,
     to: &mut Writing<W>,
@@ -317,7 +317,7 @@ fn answer_edit<W: Write>(
 {
     match session.edit(edit) {
         Ok(work) => Ok(write_labels(session, b"ran", work.runs(), to)?),
-        Err(error) => tell_refused(edit, error, to),
+        Err(error) => write_refusal(edit, error, to),
     }
 }
 
@@ -352,7 +352,7 @@ fn answer_batch<W: Write>(
     let edits = edits_of(alloc, bytes, found)?;
     match session.edit_all(&edits) {
         Ok(work) => Ok(write_labels(session, b"ran", work.runs(), to)?),
-        Err(error) => tell_batch_refused(&edits, error, to),
+        Err(error) => write_batch_refusal(&edits, error, to),
     }
 }
 

@@ -160,7 +160,7 @@ impl Walk {
     }
 
     /// Goes past the next piece of the innermost file, and takes the name that it includes.
-    fn pass_told(&mut self, name: &[u8]) -> Result<(), AllocError>
+    fn pass_inclusion(&mut self, name: &[u8]) -> Result<(), AllocError>
         requires last { (front : List Level) × (level : Level) × (self.old.levels ≡ front ++ level ∷ []) × (level.piece < 18446744073709551615) }
         requires fresh { ¬ Contains self.old.names name.now }
         ensures ok { OnOk result ((front : List Level) (level : Level) → self.old.levels ≡ front ++ level ∷ []
@@ -193,7 +193,7 @@ impl Walk {
     }
 
     /// A reference to a missing file: it is reported, or gone past if it was reported.
-    fn miss(&mut self, spot: Spot, name: &[u8]) -> Result<Step, AllocError>
+    fn report_missing(&mut self, spot: Spot, name: &[u8]) -> Result<Step, AllocError>
         requires last { (front : List Level) × (level : Level) × (self.old.levels ≡ front ++ level ∷ []) × (level.piece < 18446744073709551615) }
         requires fresh { ¬ Contains self.old.names name.now }
         ensures ok { IfOk result (λ step. (files : List FileView) → IsReference files self.old.levels spot name.now → number_of files name.now ≡ None
@@ -201,7 +201,7 @@ impl Walk {
         ensures err { OnErr result (self.new ≡ self.old) }
     {
         if self.told {
-            self.pass_told(name)?;
+            self.pass_inclusion(name)?;
             return Ok(Step::Items(spot));
         }
         let name = Vec::from_slice(*self.names.allocator(), name)?;
@@ -220,7 +220,7 @@ impl Walk {
             return Ok(Step::Nothing);
         }
         match files.number_of(name) {
-            None => self.miss(spot, name),
+            None => self.report_missing(spot, name),
             Some(number) => {
                 self.enter(name, number)?;
                 Ok(Step::Nothing)

@@ -19,7 +19,7 @@ pub(crate) fn refuse_arguments(rt: &impl Eprint) -> Outcome
 }
 
 /// Memory ran out.
-pub(crate) fn lack_memory(rt: &impl Eprint) -> Outcome
+pub(crate) fn report_out_of_memory(rt: &impl Eprint) -> Outcome
     ensures { result ≡ Memory }
 {
     let _ = eprintln!(rt; "mmkeep: out of memory");
@@ -27,12 +27,12 @@ pub(crate) fn lack_memory(rt: &impl Eprint) -> Outcome
 }
 
 /// Files that have the top file are not gone through: no reason is left but memory.
-pub(crate) fn lack(rt: &impl Eprint, error: StoreError) -> Outcome
+pub(crate) fn report_unbegun(rt: &impl Eprint, error: StoreError) -> Outcome
     requires { error ≡ Lacking }
     ensures { result ≡ Memory }
 {
     match error {
-        StoreError::Memory => lack_memory(rt),
+        StoreError::Memory => report_out_of_memory(rt),
         _ => unreachable!(),
     }
 }
@@ -78,7 +78,7 @@ pub(crate) fn refuse_file(rt: &impl Eprint, name: &[u8], error: FileError) -> Ou
         FileError::Read => refuse_reading(rt, name),
         FileError::Text(place, number) => refuse_text(rt, name, place, number),
         FileError::TooMany => refuse_size(rt),
-        FileError::Memory => lack_memory(rt),
+        FileError::Memory => report_out_of_memory(rt),
     }
 }
 

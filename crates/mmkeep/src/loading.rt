@@ -9,7 +9,9 @@ ghost use Rattle.mmkeep.specs.Code.Loaded.{AddsIfOpened, AddsOpened, HasFile, Ha
 ghost use Rattle.mmkeep.specs.Language.Loading.{AddsFile, AreLoaded, IsNew, Loads, TakesFile, TakesTop};
 
 use crate::adding::add_file;
-use crate::complaints::{lack, lack_memory, refuse_file, refuse_reading, refuse_size};
+use crate::complaints::{
+    refuse_file, refuse_reading, refuse_size, report_out_of_memory, report_unbegun,
+};
 use crate::outcome::Outcome;
 use crate::source::Source;
 use mm_report::{Files as Database, Session, Walk, walks_go_on};
@@ -43,7 +45,7 @@ fn begin_session(
 {
     match Session::begin(rt.alloc(), files, top) {
         Ok((session, _)) => Ok(session),
-        Err(unbegun) => Err(lack(rt, unbegun.fault)),
+        Err(unbegun) => Err(report_unbegun(rt, unbegun.fault)),
     }
 }
 
@@ -80,7 +82,7 @@ fn add_all<S: Source>(
     take_top(rt, source, files, top)?;
     match files.walk(top) {
         Ok(mut walk) => add_missing(rt, source, files, &mut walk),
-        Err(error) => Err(lack(rt, error)),
+        Err(error) => Err(report_unbegun(rt, error)),
     }
 }
 
@@ -116,7 +118,7 @@ fn add_top<R: Read + Drop>(
     match opened {
         Ok(file) => add_opened(rt, files, top, file),
         Err(error) => match error.kind() {
-            ErrorKind::OutOfMemory => Err(lack_memory(rt)),
+            ErrorKind::OutOfMemory => Err(report_out_of_memory(rt)),
             _ => Err(refuse_reading(rt, top)),
         },
     }
@@ -139,7 +141,7 @@ fn add_missing<S: Source>(
         match walk.next_missing(files) {
             Ok(Some(name)) => take_included(rt, source, files, &name)?,
             Ok(None) => return Ok(()),
-            Err(_) => return Err(lack_memory(rt)),
+            Err(_) => return Err(report_out_of_memory(rt)),
         }
     }
     // Texts that may be added have fewer inclusions than that.
@@ -176,7 +178,7 @@ fn add_included<R: Read + Drop>(
     match opened {
         Ok(file) => add_opened(rt, files, name, file),
         Err(error) => match error.kind() {
-            ErrorKind::OutOfMemory => Err(lack_memory(rt)),
+            ErrorKind::OutOfMemory => Err(report_out_of_memory(rt)),
             _ => Ok(()),
         },
     }

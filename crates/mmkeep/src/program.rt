@@ -2,7 +2,7 @@
 
 use crate::arguments::Command;
 use crate::asking::{command_of, top_of};
-use crate::complaints::{lack_memory, refuse_arguments, stop};
+use crate::complaints::{refuse_arguments, report_out_of_memory, stop};
 use crate::loading::load_session;
 use crate::outcome::Outcome;
 use crate::performing::perform;
@@ -16,7 +16,7 @@ use std::{env, io, mem};
 pub fn run(rt: &(impl Env + Files + Input + Print + Eprint + AllocGlobal)) -> Outcome {
     match arguments_of(rt) {
         Ok(arguments) => run_arguments(rt, &arguments),
-        Err(error) if error.kind() == ErrorKind::OutOfMemory => lack_memory(rt),
+        Err(error) if error.kind() == ErrorKind::OutOfMemory => report_out_of_memory(rt),
         // Some word is no text.
         Err(_) => refuse_arguments(rt),
     }
@@ -33,7 +33,7 @@ fn run_arguments(
     arguments: &[String],
 ) -> Outcome {
     match command_of(rt.alloc(), arguments) {
-        Err(_) => lack_memory(rt),
+        Err(_) => report_out_of_memory(rt),
         Ok(None) => refuse_arguments(rt),
         Ok(Some(command)) => run_command(rt, &command),
     }
@@ -62,7 +62,7 @@ fn answer_on_streams(
     command: &Command<'_>,
 ) -> Outcome {
     let Ok(out) = BufWriter::new(rt.alloc(), io::writer(rt)) else {
-        return lack_memory(rt);
+        return report_out_of_memory(rt);
     };
     let mut reading = Reading::new(rt.reader());
     let (ended, _) = perform(rt.alloc(), session, command, &mut reading, out);

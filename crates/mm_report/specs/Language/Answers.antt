@@ -76,7 +76,7 @@ told_line names label _ = []
 
 -- the answer if edits are done: the word `ran`, with the labels of the theorems whose proofs are run, which are those whose views the
 -- edits change; the top file stays
-pub record IsRan (old new : SessionView) (answer : List ℕ) : Type 0 where
+pub record IsRunAnswer (old new : SessionView) (answer : List ℕ) : Type 0 where
   pub top : new.top ≡ old.top
   pub runs : List ℕ
   pub are_runs : AreRunsOf old.files new.files old.top runs
@@ -101,12 +101,12 @@ pub record IsBatchRefused (old new : SessionView) (edits : List Asked) (answer :
 -- the answer to an edit, done or refused, and the session after it
 abbrev pub IsEditAnswer : SessionView → Asked → List ℕ → SessionView → Type 0
 IsEditAnswer old edit answer new =
-    (IsEditOf edit (plain old.files) (plain new.files) × IsRan old new answer) ⊎ IsRefused old new edit answer
+    (IsEditOf edit (plain old.files) (plain new.files) × IsRunAnswer old new answer) ⊎ IsRefused old new edit answer
 
 -- the answer to several edits at once, done or refused, and the session after them
 abbrev pub IsBatchAnswer : SessionView → List Asked → List ℕ → SessionView → Type 0
 IsBatchAnswer old edits answer new =
-    (IsBatchOf edits (plain old.files) (plain new.files) × IsRan old new answer) ⊎ IsBatchRefused old new edits answer
+    (IsBatchOf edits (plain old.files) (plain new.files) × IsRunAnswer old new answer) ⊎ IsBatchRefused old new edits answer
 
 -- no assertion has the label, and the answer says so
 pub record IsUnknown (session : SessionView) (label answer : List ℕ) : Type 0 where

@@ -1,5 +1,5 @@
 -- The items so far are the first ones of an older base: what it says of its next item is right of the next item.
-use Rattle.std.proofs.Common.{◌≡◌, ℕ, zero, suc, ◌<◌, Bool, true, Option, Some, None, List, [], ◌∷◌, ◌++◌, length, take, drop, slice_get, nat_eq, is_none, is_some, refl, sym, ◌∙◌, ap, subst, arith, take-suc, take-append-drop}
+use Rattle.std.proofs.Common.{◌≡◌, ℕ, zero, suc, ◌<◌, Bool, true, Option, Some, None, List, [], ◌∷◌, ◌++◌, length, take, drop, slice_get, nat_eq, is_some, refl, sym, ◌∙◌, ap, subst, arith, take-suc, take-append-drop}
 use Rattle.std.specs.HashMap.{get}
 use Rattle.std.specs.List.{AllZip}
 use Rattle.std.proofs.lemmas.Bool.{false≢true}

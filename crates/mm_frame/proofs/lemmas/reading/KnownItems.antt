@@ -1,5 +1,5 @@
 -- What an older base says of an item that is the same bytes as one of its items.
-use Rattle.std.proofs.Common.{◌≡◌, ℕ, zero, suc, Bool, true, false, if◌then◌else◌, Some, None, Option, IfSome, IfOk, MatchBool, Result, Ok, Err, List, [], ◌∷◌, map, get_or, length, sym, ◌∙◌, ap, subst, All, slice_get}
+use Rattle.std.proofs.Common.{◌≡◌, ℕ, zero, suc, Bool, true, false, Some, None, Option, IfSome, IfOk, MatchBool, Result, Ok, Err, List, [], ◌∷◌, map, get_or, length, sym, ◌∙◌, ap, subst, All, slice_get}
 use Rattle.std.specs.Option.{option_map}
 use Rattle.std.specs.List.{AllZip}
 use Rattle.std.proofs.lemmas.List.{length-map}

@@ -12,8 +12,8 @@ planned_within : (base copy : BaseView) (j i : ℕ) (from : Option ℕ) → from
 planned_within base copy j i (Some k) e kept = subst (λ n. n < length base.said) (same_Some k i e) kept.within
 planned_within base copy j i None e kept = absurd (none-some i e)
 
-pub kept_of-from-requires-clause-item : goal.kept_of-from-requires-clause-item
-kept_of-from-requires-clause-item c =
+pub old_with_same_view-from-requires-clause-item : goal.old_with_same_view-from-requires-clause-item
+old_with_same_view-from-requires-clause-item c =
     let has = c.requires in
     (has.0, has.1, has.2, omega (arith, c.count-count.ensures.count has.1 (c.args.names.now, has.2.new_is.base)))
 
@@ -24,8 +24,8 @@ loop-j-preserved c =
     record {
       count = ap length c.in_ok-push.ensures.items ∙ length_push entries one ∙ ap (λ n. n + 1) c.loop-j.invariant.count;
       each = λ base copy both.
-          let kept = c.kept_of-from.ensures base copy both in
-          let same = c.entry.ensures base (c.args.names.now, both.old_is.base) (λ i e. planned_within base copy c.loop-j.j i c.kept_of-from.result e kept) in
+          let kept = c.old_with_same_view-from.ensures base copy both in
+          let same = c.entry.ensures base (c.args.names.now, both.old_is.base) (λ i e. planned_within base copy c.loop-j.j i c.old_with_same_view-from.result e kept) in
           let count = length-map entries number_planned ∙ c.loop-j.invariant.count in
           each_more (IsPlanned base copy) (map number_planned entries) _ (number_planned one) (ap (map number_planned) c.in_ok-push.ensures.items ∙ map-append number_planned entries (one ∷ [])) (c.loop-j.invariant.each base copy both)
           (subst₂ (λ i from. IsPlanned base copy i from) (sym count) (sym same) kept);

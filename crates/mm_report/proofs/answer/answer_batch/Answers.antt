@@ -32,8 +32,8 @@ returns-in-Ok g c listed same =
     let out = rw c.runs.ensures at (c.in_ok-write_labels-in-Ok.ensures changed.runs.new base).ok in
     answered_ok g.W.Write.contents (Batch listed) old new c.args.to.now c.write_labels.new.to _ _ (inl (files, ran_is old new c.in-Ok.work changed)) out
 
-pub tell_batch_refused-requires : goal.tell_batch_refused-requires
-tell_batch_refused-requires g c =
+pub write_batch_refusal-requires : goal.write_batch_refusal-requires
+write_batch_refusal-requires g c =
     let files = plain c.args.session.now.files in
     let same : map asked c.deref.result.now ≡ map asked c.deref-in-Err.result.now = ap (map asked) (c.deref.ensures.value ∙ sym c.deref-in-Err.ensures.value) in
     (files, subst (λ (all : List Asked). IsBatchRefusal all files c.in-Err.error) same c.in-Err.ensures.refused)
@@ -44,6 +44,6 @@ returns g c listed same =
     let files = plain old.files in
     let same_edits : map asked c.deref.result.now ≡ map asked c.deref-in-Err.result.now = ap (map asked) (c.deref.ensures.value ∙ sym c.deref-in-Err.ensures.value) in
     let edits : map (λ (one : Listed). one.edit) listed ≡ map asked c.deref-in-Err.result.now = same ∙ sym c.in_ok-edits.ensures ∙ ap (map asked) (sym c.deref-in-Err.ensures.value) in
-    subst (λ (new : SessionView). Answers g.W.Write.contents (Batch listed) old new c.args.to.now c.tell_batch_refused.new.to c.tell_batch_refused.result)
+    subst (λ (new : SessionView). Answers g.W.Write.contents (Batch listed) old new c.args.to.now c.write_batch_refusal.new.to c.write_batch_refusal.result)
     (sym c.in-Err.ensures.unchanged)
-    (c.tell_batch_refused.ensures old listed edits (subst (λ (all : List Asked). IsBatchRefusal all files c.in-Err.error) same_edits c.in-Err.ensures.refused))
+    (c.write_batch_refusal.ensures old listed edits (subst (λ (all : List Asked). IsBatchRefusal all files c.in-Err.error) same_edits c.in-Err.ensures.refused))

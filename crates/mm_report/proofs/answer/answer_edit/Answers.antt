@@ -28,5 +28,5 @@ returns-in_ok-write_labels-in-Ok g c =
 
 pub returns-in-Err : goal.returns-in-Err
 returns-in-Err g c =
-    subst (λ (new : SessionView). Answers g.W.Write.contents (Change (asked c.args.edit.now)) c.args.session.now new c.args.to.now c.tell_refused.new.to c.tell_refused.result)
-    (sym c.in-Err.ensures.unchanged) (c.tell_refused.ensures c.args.session.now c.in-Err.ensures.refused)
+    subst (λ (new : SessionView). Answers g.W.Write.contents (Change (asked c.args.edit.now)) c.args.session.now new c.args.to.now c.write_refusal.new.to c.write_refusal.result)
+    (sym c.in-Err.ensures.unchanged) (c.write_refusal.ensures c.args.session.now c.in-Err.ensures.refused)

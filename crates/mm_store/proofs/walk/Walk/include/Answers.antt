@@ -7,7 +7,7 @@ use Rattle.mm_store.proofs.walk.Walk.include.Goals as goal
 
 pub returns-in-None-clause-ok : goal.returns-in-None-clause-ok
 returns-in-None-clause-ok c =
-    IfOk-weaker c.miss.result _ _ (λ step h. h (files_in c.args.files.now) c.requires (sym (number_plain c.args.files.now c.args.name.now) ∙ sym c.in-None.ensures.number)) c.miss.ensures.ok
+    IfOk-weaker c.report_missing.result _ _ (λ step h. h (files_in c.args.files.now) c.requires (sym (number_plain c.args.files.now c.args.name.now) ∙ sym c.in-None.ensures.number)) c.report_missing.ensures.ok
 
 pub returns-in_ok-enter-in-Some-clause-ok : goal.returns-in_ok-enter-in-Some-clause-ok
 returns-in_ok-enter-in-Some-clause-ok c =

@@ -3,7 +3,7 @@ use Rattle.mm_keep.specs.mm_store.declared.edit.Edit.{Edit}
 use Rattle.mm_keep.specs.mm_store.declared.edit.Edit.TheVariants as code
 use Rattle.mm_report.specs.Language.Script.{Batch}
 use Rattle.mm_report.proofs.AskedLemmas.{answered_ok, answered_stop, batch_refused_is}
-use Rattle.mm_report.proofs.answer.tell_batch_refused.Goals as goal
+use Rattle.mm_report.proofs.answer.write_batch_refusal.Goals as goal
 
 none : Edit
 none = code.Insert (record { ref_ptr = (0, 0); now = [] }) 0 (record { ref_ptr = (0, 0); now = [] })

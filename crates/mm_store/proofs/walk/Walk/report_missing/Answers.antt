@@ -2,7 +2,7 @@ use Rattle.std.proofs.Common.{ℕ, List, None, Contains, sym, ap, ◌∙◌, ◌
 use Rattle.mm_store.specs.Language.FilesView.{number_of}
 use Rattle.mm_store.specs.Language.Walking.{WalkView}
 use Rattle.mm_store.specs.Code.Steps.{Includes}
-use Rattle.mm_store.proofs.walk.Walk.miss.Goals as goal
+use Rattle.mm_store.proofs.walk.Walk.report_missing.Goals as goal
 
 pub returns-then-self-clause-ok : goal.returns-then-self-clause-ok
 returns-then-self-clause-ok c = λ files r none. inr (record {
@@ -16,7 +16,7 @@ returns-then-self-clause-ok c = λ files r none. inr (record {
   fresh = c.requires.fresh;
   none = none;
   told = sym (ap (λ (walk : WalkView). walk.told) c.self.view_is) ∙ c.if-self.true;
-  after = c.in_ok-pass_told.ensures.ok r.front r.level r.is_here.last;
+  after = c.in_ok-pass_inclusion.ensures.ok r.front r.level r.is_here.last;
 })
 
 pub returns-clause-ok : goal.returns-clause-ok

@@ -3,7 +3,7 @@ use Rattle.std.proofs.lemmas.Bool.{false≢true}
 use Rattle.mm_proof.specs.Language.BaseMarks.{mark_at}
 use Rattle.mm_keep.specs.Code.Planned.{IsPlanned}
 use Rattle.mm_keep.proofs.PlanLemmas.{mark_here, plans_unmarked, plans_no_theorem, plans_kept, plans_changed}
-use Rattle.mm_keep.proofs.planning.kept_of.Goals as goal
+use Rattle.mm_keep.proofs.planning.old_with_same_view.Goals as goal
 
 pub returns-in_err-i : goal.returns-in_err-i
 returns-in_err-i c base copy both =
