@@ -362,12 +362,12 @@ fn is_right(scope: &Scope, n: usize, symbol: NumberedSymbol) -> bool
         → IsNameNumber all symbol.name name → None ≡ judging.expression_fault before n name }
     ensures sort { IsTrue result → symbol ≡ symbol_by scope.now.tables symbol.name }
 {
+    if n > 0 {
+        return scope.may_follow_as(symbol);
+    }
     let constant = scope.tables().is_constant(symbol.name);
     if symbol.variable == constant {
         return false;
-    }
-    if n > 0 && scope.may_follow(symbol.name) {
-        return true;
     }
     expression_fault(scope, n, symbol.name).is_none()
 }

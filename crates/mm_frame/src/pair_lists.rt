@@ -81,6 +81,17 @@ fn add_pairs_at(
     add_pairs_of(expressions.at(number), pairs)
 }
 
+/// How many pairs the `$d` with these numbers have, if there are not too many.
+fn pair_count(disjoints: &[usize], expressions: &Expressions) -> usize {
+    let mut count: usize = 0;
+    for number in disjoints {
+        let symbols = expressions.at(*number).len();
+        let doubled = symbols.saturating_mul(symbols.saturating_sub(1));
+        count = count.saturating_add(doubled / 2);
+    }
+    count
+}
+
 /// The pairs of the `$d` with these numbers.
 fn pairs_at(
     alloc: Global,
@@ -89,7 +100,7 @@ fn pairs_at(
 ) -> Result<Vec<(NumberedSymbol, NumberedSymbol)>, AllocError>
     ensures { IfOk result (λ pairs. pairs.items ≡ flat_map (λ n. pairs_among (expression_kept expressions.now n)) disjoints.now) }
 {
-    let mut pairs = Vec::new(alloc);
+    let mut pairs = Vec::with_capacity(alloc, pair_count(disjoints, expressions))?;
     for number in disjoints {
         add_pairs_at(expressions, *number, &mut pairs)?;
     }

@@ -1,6 +1,6 @@
 //! What the sound items so far declare, and which of it is active.
 
-ghost use Rattle.std.specs.Prelude.{◌≡◌, ℕ, is_none, true, List, [], ◌∷◌, ◌++◌, OnOk, IfOk, slice_index_or};
+ghost use Rattle.std.specs.Prelude.{◌≡◌, ℕ, is_none, true, List, [], ◌∷◌, ◌++◌, OnOk, IfOk, IsTrue, slice_index_or};
 ghost use Rattle.mm_frame.specs.Language.Item as meant;
 ghost use Rattle.mm_frame.specs.Language.Scope as scopes;
 ghost use Rattle.mm_frame.specs.Language.Scope.{mark_of};
@@ -12,12 +12,14 @@ ghost use Rattle.mm_frame.specs.Code.LastItems as numbered;
 ghost use Rattle.mm_frame.specs.Code.BlockMarks.{block_marks};
 ghost use Rattle.mm_frame.specs.Code.KeptTables.{Knows};
 ghost use Rattle.mm_frame.specs.Code.KeptScope.{float_typecode};
+ghost use Rattle.mm_frame.specs.Code.KeptSymbols.{symbol_by};
 ghost use Rattle.mm_frame.specs.Language.Names.{AreDistinct};
 ghost use Rattle.mm_frame.specs.Code.Numbers.{IsNameNumber};
 
 use crate::blocks::Blocks;
 use crate::names::Names;
 use crate::statement::Statement;
+use crate::symbol::NumberedSymbol;
 use crate::tables::{Declared, Tables};
 use mm_store::ItemKind;
 use std::alloc::{AllocError, Global};
@@ -143,6 +145,21 @@ impl<'a> Scope<'a> {
         match self.tables.name(number) {
             Some(Declared::Constant) => true,
             Some(Declared::Variable { float, .. }) => self.is_active_number(float),
+            None => false,
+        }
+    }
+
+    /// Whether this symbol may come after a typecode, and is a constant or a variable as its name is.
+    pub fn may_follow_as(&self, symbol: NumberedSymbol) -> bool
+        ensures follows { IsTrue result → (all : List (List ℕ)) (before : List meant.Item) (name : List ℕ) → AreSound before
+            → ScopeHolds all before self.now → IsNameNumber all symbol.name name → is_none (judging.later_fault before name) ≡ true }
+        ensures sort { IsTrue result → symbol ≡ symbol_by self.now.tables symbol.name }
+    {
+        match self.tables.name(symbol.name) {
+            Some(Declared::Constant) => !symbol.variable,
+            Some(Declared::Variable { float, .. }) => {
+                symbol.variable && self.is_active_number(float)
+            }
             None => false,
         }
     }

@@ -65,6 +65,15 @@ fn is_labelled(kind: ItemKind) -> bool
     )
 }
 
+/// Whether an item is the beginning or the end of a block, and has too few bytes for more than one word: so it has no symbol.
+fn is_short_mark(item: &Item) -> bool
+    ensures unlabelled { IsTrue result → meant.is_labelled (spoken.kind_of item.now.kind) ≡ false }
+    ensures short { IsTrue result → item.now.end ≤ item.now.start + 2 }
+{
+    matches!(item.kind, ItemKind::BlockStart | ItemKind::BlockEnd)
+        && item.end.saturating_sub(item.start) <= 2
+}
+
 /// The place of the first symbol among the words.
 fn symbols_from(kind: ItemKind) -> usize
     ensures { result ≡ spoken.symbols_from (spoken.kind_of kind) }
@@ -146,12 +155,15 @@ fn read_symbols(alloc: Global, words: &mut WordCursor, room: usize) -> Result<Ve
 }
 
 impl<'a> Statement<'a> {
-    /// What an item of the files says. The item's bytes are read up to its proof.
+    /// What an item of the files says. The item's bytes are read up to its proof; those of a lone `${` or `$}` are not looked at.
     pub fn read(alloc: Global, files: &'a Files, item: &Item) -> Result<Self, AllocError>
         requires { CanBeRead files.now item.now }
         ensures says { IfOk result (Says files.now item.now) }
         ensures only { IfOk result (λ read. (said : meant.Item) → Says files.now item.now said → read ≡ said) }
     {
+        if is_short_mark(item) {
+            return Ok(Statement::known(alloc, files, item, None, 0));
+        }
         let (text, words) = words_of(files, item);
         Ok(Statement::new(alloc, item.kind, text, words)?)
     }
@@ -193,6 +205,7 @@ impl<'a> Statement<'a> {
         requires label { (said : meant.Item) → Says files.now item.now said → option_map (λ label. label.now) label ≡ said.label }
         requires count { (said : meant.Item) → Says files.now item.now said → count ≡ length said.symbols }
         ensures says { Says files.now item.now result }
+        ensures only { (said : meant.Item) → Says files.now item.now said → result ≡ said }
     {
         let (text, words) = words_of(files, item);
         Statement {

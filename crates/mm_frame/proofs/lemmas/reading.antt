@@ -6,3 +6,4 @@ pub mod PieceLemmas
 pub mod SpokenLemmas
 pub mod WordNumbers
 pub mod KnownItems
+pub mod ShortItems

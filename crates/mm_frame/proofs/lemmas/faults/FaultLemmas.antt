@@ -19,7 +19,7 @@ use Rattle.mm_frame.specs.Code.KeptScope.{ScopeHolds}
 use Rattle.mm_frame.specs.declared.scope.Scope.{Scope}
 use Rattle.mm_frame.specs.declared.tables.Declared.{Declared}
 use Rattle.mm_frame.specs.declared.tables.Declared.TheVariants.{Constant, Variable}
-use Rattle.mm_frame.specs.Code.KeptTables.{declared_in, variable_at}
+use Rattle.mm_frame.specs.Code.KeptTables.{declared_at, declared_in, variable_at}
 use Rattle.mm_frame.specs.Code.LastItems.{last_where, declares_variable, types, is_active_last}
 use Rattle.mm_frame.specs.declared.FrameNumber.{FrameNumber}
 use Rattle.mm_frame.specs.declared.FrameNumber.TheVariants.{F01, F10, F11}
@@ -29,7 +29,7 @@ use Rattle.mm_frame.proofs.lemmas.faults.FaultReading.{first_fault_at, fault_is}
 use Rattle.mm_frame.proofs.lemmas.frames.Frames.{from_typed, float_of}
 use Rattle.mm_frame.proofs.lemmas.lists.Members.{has_in}
 use Rattle.mm_frame.proofs.lemmas.scope.SoundItems.{sound_kept}
-use Rattle.mm_frame.proofs.lemmas.scope.KnownLemmas.{constant_no_variable}
+use Rattle.mm_frame.proofs.lemmas.scope.KnownLemmas.{constant_no_variable, known_at}
 use Rattle.mm_frame.proofs.lemmas.scope.TableLemmas.{active_variable_last, typed_last}
 
 -- whether a name with this declaration may come after a typecode
@@ -65,6 +65,11 @@ follows_later before h name =
     by_test true v t active typed a b n e = let inactive : active ≡ false = a ∙ ap (is_active_last before) (n refl) in rw inactive refl
     by_test false None t active typed a b n e = rw a refl
     by_test false (Some d) t active typed a b n e = rw (← b) (both active typed e)
+
+-- the same by what the tables of a scope say of the name
+pub follows_told : (scope : Scope) (n : ℕ) (found given : Option Declared) (all : List (List ℕ)) (before : List Item) (name : List ℕ) → AreSound before → ScopeHolds all before scope → IsNameNumber all n name → found ≡ declared_at scope.tables n → found ≡ given
+    → may_follow_as before given ≡ is_none (later_fault before name)
+follows_told scope n found given all before name h k t is e = ap (may_follow_as before) (sym e ∙ is ∙ known_at all before scope.tables n name k.knows t) ∙ follows_later before h name
 
 -- two tests are the same if each implies the other
 same_test : (b c : Bool) → (b ≡ true → c ≡ true) → (c ≡ true → b ≡ true) → b ≡ c
