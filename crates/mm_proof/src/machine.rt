@@ -232,6 +232,7 @@ impl<S: Kept> Machine<S> {
             return Ok(Some(number));
         }
         self.result.clear();
+        self.result.reserve(expression.len())?;
         let others = mem::replace(&mut self.result, Vec::new(alloc));
         self.result = substitute(alloc, &taken, expression, others)?;
         self.replace(below)?;

@@ -1,6 +1,6 @@
 //! Expressions of an assertion under the substitution that entries give.
 
-ghost use Rattle.std.specs.Prelude.{◌≡◌, ◌↔◌, ◌++◌, ◌<◌, ◌≤◌, ◌+◌, List, IsTrue, IfOk, OnOk, All, MatchBool, Some, drop, length, map, slice_get};
+ghost use Rattle.std.specs.Prelude.{◌≡◌, ◌↔◌, ◌++◌, ◌<◌, ◌≤◌, ◌+◌, List, IsTrue, IfOk, OnOk, All, MatchBool, Some, drop, length, map, slice_get, vec_len, vec_capacity};
 ghost use Rattle.mm_frame.specs.Language.Frame.{Symbol as Meaning};
 ghost use Rattle.mm_proof.specs.Language.Substitution.{replacement, substituted};
 ghost use Rattle.mm_proof.specs.Code.Flat.{IsEntryWithin};
@@ -77,15 +77,17 @@ impl<'s, 'a, S: Kept> Replacement<'s, 'a, S> {
         }
     }
 
-    /// Adds its symbols after others.
-    fn put(&self, alloc: Global, to: &mut Vec<S>) -> Result<(), AllocError>
-        ensures { OnOk result (map S.means to.new.items ≡ map S.means to.old.items ++ replaced_by S.means self.now) }
+    /// The symbols with its own after them. They have room for one, and then for so many more; after it they have room for
+    /// so many more still.
+    fn put(&self, alloc: Global, to: Vec<S>, more: usize) -> Result<Vec<S>, AllocError>
+        requires { vec_len to + (more + 1) ≤ vec_capacity to }
+        ensures symbols { IfOk result (λ all. map S.means all.items ≡ map S.means to.items ++ replaced_by S.means self.now) }
+        ensures room { IfOk result (λ all. vec_len all + more ≤ vec_capacity all) }
     {
         if self.symbol.is_variable() {
-            S::append(alloc, to, self.given)
+            S::and_all(alloc, to, self.given, more)
         } else {
-            to.push(self.symbol.copy(alloc)?)?;
-            Ok(())
+            S::and_one(alloc, to, self.symbol)
         }
     }
 
@@ -104,6 +106,7 @@ impl<'s, 'a, S: Kept> Replacement<'s, 'a, S> {
 }
 
 /// What takes the place of the symbol at a place of an expression.
+#[inline(always)]
 fn replacement_of<'s, 'a, S: Kept>(
     taken: &Taken<'s, 'a, S>,
     expression: &'a [S],
@@ -130,8 +133,8 @@ fn replacement_of<'s, 'a, S: Kept>(
     }
 }
 
-/// Puts an expression under the substitution after other symbols, and returns them. They are moved in and out, so
-/// that their length and address stay in registers.
+/// Puts an expression under the substitution after other symbols, and returns them. They have room for one symbol in
+/// place of each of the expression. They are moved in and out, so that their length and address stay in registers.
 pub fn substitute<'s, 'a, S: Kept>(
     alloc: Global,
     taken: &Taken<'s, 'a, S>,
@@ -139,6 +142,7 @@ pub fn substitute<'s, 'a, S: Kept>(
     others: Vec<S>,
 ) -> Result<Vec<S>, AllocError>
     requires within { All (IsEntryWithin (length taken.now.symbols.now)) taken.now.entries.now }
+    requires room { vec_len others + length expression.now ≤ vec_capacity others }
     ensures { IfOk result (λ all. (given : Meaning → List Meaning)
         → GivesVariables given (hypotheses_of S.means taken.now.hypotheses.now) (entries_of S.means taken.now)
         (map S.means expression.now)
@@ -146,7 +150,8 @@ pub fn substitute<'s, 'a, S: Kept>(
 {
     let mut to = others;
     for place in 0..expression.len() {
-        replacement_of(&*taken, expression, place).put(alloc, &mut to)?;
+        let more = expression.len() - place - 1;
+        to = replacement_of(&*taken, expression, place).put(alloc, to, more)?;
     }
     Ok(to)
 }
@@ -159,7 +164,10 @@ pub fn is_short<'s, 'a, S: Kept>(taken: &Taken<'s, 'a, S>, expression: &'a [S]) 
         → MatchBool result (length (substituted given (map S.means expression.now)) ≤ 1000000) (1000000 < length (substituted given
         (map S.means expression.now))) }
 {
-    // No entry is longer than the list, so most results need no count.
+    // No entry is longer than the list, so most results need no count, and most of them no product.
+    if expression.len() <= 100 && taken.symbols.len() < 10_000 {
+        return true;
+    }
     let half = LONGEST_RESULT / 2;
     if expression.len() <= half && expression.len().saturating_mul(taken.symbols.len()) <= half {
         return true;

@@ -1,5 +1,6 @@
-use Rattle.std.proofs.Common.{◌+◌, ◌++◌, [], false, map, take, drop, length, get_or, ◌∙◌, ap, arith, length-append}
+use Rattle.std.proofs.Common.{◌≤◌, ◌+◌, ◌++◌, [], false, map, take, drop, length, get_or, ◌∙◌, ap, arith, length-append}
 use Rattle.std.proofs.lemmas.List.{length-map, take_all}
+use Rattle.std.proofs.lemmas.Nat.{mul-le}
 use Rattle.std.proofs.lemmas.Option.{slice_get-get_or}
 use Rattle.mm_frame.specs.Language.Frame.{Symbol}
 use Rattle.mm_proof.specs.Language.Substitution.{substituted, replacement}
@@ -7,6 +8,17 @@ use Rattle.mm_proof.specs.Code.Citation.{hypotheses_of}
 use Rattle.mm_proof.proofs.lemmas.machine.BoundLemmas.{short_by, given_short}
 use Rattle.mm_proof.proofs.lemmas.machine.FlatLemmas.{put_more, put_rest}
 use Rattle.mm_proof.proofs.pattern.is_short.Goals as goal
+
+pub returns-then-taken-lt10000 : goal.returns-then-taken-lt10000
+returns-then-taken-lt10000 g c given slots =
+    let m = g.S.Symbol.means in
+    let symbols = c.args.taken.now.symbols.now in
+    let expression = map m c.args.expression.now in
+    let n = length (map m symbols) + 1 in
+    let short = short_by given n expression (given_short given (hypotheses_of m c.args.taken.now.hypotheses.now) (map m symbols) c.args.taken.now.entries.now expression slots) in
+    let low : length expression ≤ 100 = omega (arith, length-map c.args.expression.now m, c.if-expression-le100.true) in
+    let few : n ≤ 10000 = omega (arith, length-map symbols m, c.if-taken-lt10000.true) in
+    omega (arith, short, mul-le (length expression) n 100 10000 low few)
 
 pub returns-then-saturating_mul-half : goal.returns-then-saturating_mul-half
 returns-then-saturating_mul-half g c given slots =

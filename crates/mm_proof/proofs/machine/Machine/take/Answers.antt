@@ -55,7 +55,7 @@ returns g c =
           says result
           (λ given gives. c.in_ok-self.ensures given (gives_all frame.hypotheses given (read_all (map m c.deref-symbols.result.now) entries) frame.expression
           (hypotheses_known frame c.requires.frame) gives c.requires.frame.expression_typed) ∙ ap (λ w. map m w ++ substituted given
-          (map m c.args.expression.now)) (ap (λ (w : _). w.items) c.replace-others.ensures.value ∙ c.clear.ensures.items)) in
+          (map m c.args.expression.now)) (ap (λ (w : _). w.items) c.replace-others.ensures.value ∙ c.reserve.ensures.items ∙ c.clear.ensures.items)) in
           subst (λ w. Cites active frame stack w) (ap (λ k. take k stack ++ result ∷ []) here ∙ sym c.in_ok-replace.ensures.stack) whole;
       whole = c.in_ok-replace.ensures.whole;
       saved = c.in_ok-replace.ensures.saved;
@@ -89,7 +89,10 @@ citing_fault-requires g c =
 pub substitute-requires : goal.substitute-requires
 substitute-requires g c =
     let below = c.len-2.result - length c.args.hypotheses.now in
-    record { within = all_taken c.args.self.now.symbols.items c.deref-symbols.result.now c.args.self.now.stack.items c.deref.result.now below c.deref-symbols.ensures.value c.deref.ensures.value c.requires.whole.within }
+    record {
+      within = all_taken c.args.self.now.symbols.items c.deref-symbols.result.now c.args.self.now.stack.items c.deref.result.now below c.deref-symbols.ensures.value c.deref.ensures.value c.requires.whole.within;
+      room = rw c.replace-others.ensures.value c.in_ok-reserve.ensures.ok;
+    }
 
 pub replace-requires-clause-whole : goal.replace-requires-clause-whole
 replace-requires-clause-whole g c = c.requires.whole
