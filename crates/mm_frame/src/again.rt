@@ -270,6 +270,38 @@ fn read_next<'a>(
     Ok(Reached { next, same })
 }
 
+/// Reads some more items of the files, the first ones, with the help of an older base. After out of memory the draft must not be
+/// used, and there may be more names.
+fn read_each_again<'a>(
+    draft: &mut Draft<'a>,
+    alloc: Global,
+    names: &mut Names,
+    files: &'a Files,
+    items: &[Item],
+    old: &'a Base,
+) -> Result<(), AllocError>
+    requires read { All (CanBeRead files.now) items.now }
+    requires older { HasOlder names.old files.now old.now }
+    ensures grows { Begins names.old names.new }
+    ensures read { OnOk result (IsDraftLater names.old [] draft.old
+        → (said : List meant.Item) × AllZip (Says files.now) items.now said × IsDraftLater names.new said draft.new) }
+{
+    let mut reached = Reached {
+        next: 0,
+        same: true,
+    };
+    for item in items {
+        let Reached { next, same } = reached;
+        let beside = BesideFrom {
+            base: old,
+            next,
+            same,
+        };
+        reached = read_next(draft, alloc, names, files, item, beside)?;
+    }
+    Ok(())
+}
+
 /// Reads items of the files, from the first one on, with the help of an older base. Their symbols are kept in the room of this list,
 /// if it has as much.
 pub fn read_all_again<'a>(
@@ -286,18 +318,11 @@ pub fn read_all_again<'a>(
     ensures read { IfOk result (λ draft. (said : List meant.Item) × AllZip (Says files.now) items.now said × IsDraftLater names.new said draft) }
 {
     let mut draft = Draft::with_room(alloc, items.len(), room)?;
-    let mut reached = Reached {
-        next: 0,
-        same: true,
-    };
-    for item in items {
-        let Reached { next, same } = reached;
-        let beside = BesideFrom {
-            base: old,
-            next,
-            same,
-        };
-        reached = read_next(&mut draft, alloc, names, files, item, beside)?;
+    match read_each_again(&mut draft, alloc, names, files, items, old) {
+        Ok(()) => Ok(draft),
+        Err(error) => {
+            drop(draft);
+            Err(error)
+        }
     }
-    Ok(draft)
 }

@@ -1,40 +1,4 @@
-use Rattle.std.proofs.Common.{◌≡◌, ◌∷◌, ◌++◌, [], suc, ◌+◌, take, take_all, refl, subst, arith}
-use Rattle.std.specs.List.{AllZip}
-use Rattle.mm_frame.specs.Language.Statement.{Says}
-use Rattle.mm_frame.proofs.lemmas.names.NumberLemmas.{begins_on}
-use Rattle.mm_frame.proofs.lemmas.base.BaseLemmas.{zip_more}
-use Rattle.mm_frame.proofs.lemmas.reading.KnownItems.{older_on}
 use Rattle.mm_frame.proofs.again.read_all_again.Goals as goal
 
-pub loop-item-init : goal.loop-item-init
-loop-item-init c = (λ n name there. there, [], tt, λ all distinct more. c.in_ok-draft.ensures all distinct, λ same base found each. refl)
-
-pub loop-item-preserved : goal.loop-item-preserved
-loop-item-preserved c =
-    let files = c.args.files.now in
-    let items = c.args.items.now in
-    let n = c.loop-item.item-index in
-    let so_far = c.loop-item.invariant in
-    let read = c.in_ok-reached.ensures.read in
-    let said = so_far.1 ++ read.0 ∷ [] in
-    let after = read.2 so_far.1 so_far.3 so_far.4 in
-    let next : suc n ≡ n + 1 = omega arith in (
-      begins_on _ _ _ so_far.0 c.read_next.ensures.grows,
-      said,
-      subst (λ k. AllZip (Says files) (take k items) said) next (zip_more (Says files) items so_far.1 n _ read.0 c.loop-item-test.true so_far.2 read.1),
-      after.0,
-      after.1,
-    )
-
-pub returns-clause-read : goal.returns-clause-read
-returns-clause-read c =
-    let files = c.args.files.now in
-    let items = c.args.items.now in
-    let so_far = c.loop-item.invariant in
-    (so_far.1, subst (λ w. AllZip (Says files) w so_far.1) (take_all c.loop-item.item-index items c.loop-item-test.false) so_far.2, so_far.3)
-
-pub returns-in_err-reached-clause-grows : goal.returns-in_err-reached-clause-grows
-returns-in_err-reached-clause-grows c = begins_on _ _ _ c.loop-item.invariant.0 c.read_next.ensures.grows
-
-pub read_next-requires-clause-older : goal.read_next-requires-clause-older
-read_next-requires-clause-older c = older_on _ _ c.args.files.now c.args.old.now c.loop-item.invariant.0 c.requires.older
+pub returns-in-Ok-clause-read : goal.returns-in-Ok-clause-read
+returns-in-Ok-clause-read c = c.in-Ok.ensures.read (λ all distinct more. c.in_ok-draft.ensures all distinct)

@@ -1,0 +1,12 @@
+use Rattle.std.proofs.Common.{List, [], take}
+use Rattle.std.specs.List.{AllZip}
+use Rattle.mm_frame.specs.Language.Item as meant
+use Rattle.mm_frame.specs.Language.Names.{Begins}
+use Rattle.mm_frame.specs.Language.Statement.{Says}
+use Rattle.mm_frame.specs.Code.KeptBase.{IsDraftLater}
+use Rattle.mm_frame.specs.Code.TakenOver.{AreFirstIf}
+use Rattle.mm_frame.proofs.again.read_each_again.Given as goal
+
+abbrev pub invariant-loop-item : goal.invariant-loop-item
+invariant-loop-item l = Begins l.initial.names l.names × (said : List meant.Item) × AllZip (Says l.files) (take l.item-index l.items) said
+    × (IsDraftLater l.initial.names [] l.initial.draft → IsDraftLater l.names said l.draft × AreFirstIf l.reached.same l.files l.old said)
