@@ -15,6 +15,9 @@ use std::alloc::{AllocError, Global};
 /// At first there is room for this many labels at most.
 const FIRST_LABELS: usize = 64;
 
+/// So many assertions are named without a search for those that were named before.
+const FEW_ASSERTIONS: usize = 1024;
+
 /// What a label is used for.
 #[derive(Clone, Copy)]
 pub enum Use {
@@ -35,7 +38,7 @@ pub struct Named<'a, S> {
     pub hypotheses: Vec<&'a [S]>,
     /// The mandatory hypotheses of the assertions that are named.
     pub mandatory: Vec<Hypothesis<'a, S>>,
-    /// The assertions that are named, each once.
+    /// The assertions that are named, in order; some may be there more than once.
     pub assertions: Vec<Cited<'a, S>>,
 }
 
@@ -80,6 +83,16 @@ impl Numbers {
             return None;
         }
         Some(place)
+    }
+
+    /// Adds a number after the others, and answers where it is.
+    fn put(&mut self, number: usize) -> Result<usize, AllocError>
+        ensures items { OnOk result (self.new.items.items ≡ self.old.items.items ++ number ∷ []) }
+        ensures place { IfOk result (λ n. n ≡ length self.old.items.items) }
+    {
+        let place = self.items.len();
+        self.items.push(number)?;
+        Ok(place)
     }
 
     /// Adds a number after the others, also to the table, and answers where it is.
@@ -178,6 +191,12 @@ impl<'a> Naming<'a> {
         ensures grows { OnOk result (NamingGrows self.old self.new) }
         ensures stands { IfOk result (λ used. IsUseOf self.new used (answers.Assertion number)) }
     {
+        // The list of labels of a compressed proof has each once, most often. A normal proof has some again and again, so in
+        // a long table they are looked for.
+        if self.assertion_numbers.items.len() < FEW_ASSERTIONS {
+            let place = self.assertion_numbers.put(number)?;
+            return Ok(Use::Assertion(place));
+        }
         if let Some(place) = self.assertion_numbers.find(&self.places, number) {
             return Ok(Use::Assertion(place));
         }

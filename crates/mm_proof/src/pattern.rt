@@ -1,6 +1,6 @@
 //! Expressions of an assertion under the substitution that entries give.
 
-ghost use Rattle.std.specs.Prelude.{◌≡◌, ◌↔◌, ◌++◌, ◌<◌, ◌≤◌, ◌+◌, List, IsTrue, IfOk, OnOk, All, MatchBool, Some, drop, length, map, slice_get, vec_len, vec_capacity};
+ghost use Rattle.std.specs.Prelude.{◌≡◌, ◌↔◌, ◌++◌, ◌<◌, ◌≤◌, ◌+◌, List, IsTrue, IfOk, OnOk, All, MatchBool, Some, false, drop, take, length, map, slice_get, vec_len, vec_capacity};
 ghost use Rattle.mm_frame.specs.Language.Frame.{Symbol as Meaning};
 ghost use Rattle.mm_proof.specs.Language.Substitution.{replacement, substituted};
 ghost use Rattle.mm_proof.specs.Code.Flat.{IsEntryWithin};
@@ -183,17 +183,56 @@ pub fn is_short<'s, 'a, S: Kept>(taken: &Taken<'s, 'a, S>, expression: &'a [S]) 
     true
 }
 
-/// Whether two lists have the same symbols.
+/// Whether two lists have the same symbol at a place.
+fn agree_at<S: Kept>(a: &[S], b: &[S], i: usize) -> bool
+    requires within_a { i < length a.now }
+    requires within_b { i < length b.now }
+    ensures same { IsTrue result → map S.means (take i a.now) ≡ map S.means (take i b.now)
+        → map S.means (take (i + 1) a.now) ≡ map S.means (take (i + 1) b.now) }
+    ensures other { result ≡ false → map S.means a.now ≡ map S.means b.now → ⊥ }
+{
+    a[i].same(&b[i])
+}
+
+/// Whether two lists have the same four symbols from a place on.
+fn agree_on_four<S: Kept>(a: &[S], b: &[S], i: usize) -> bool
+    requires within_a { i + 4 ≤ length a.now }
+    requires within_b { i + 4 ≤ length b.now }
+    ensures same { IsTrue result → map S.means (take i a.now) ≡ map S.means (take i b.now)
+        → map S.means (take (i + 4) a.now) ≡ map S.means (take (i + 4) b.now) }
+    ensures other { result ≡ false → map S.means a.now ≡ map S.means b.now → ⊥ }
+{
+    if !agree_at(a, b, i) {
+        return false;
+    }
+    if !agree_at(a, b, i + 1) {
+        return false;
+    }
+    if !agree_at(a, b, i + 2) {
+        return false;
+    }
+    agree_at(a, b, i + 3)
+}
+
+/// Whether two lists have the same symbols. Four are compared for each test of the end.
 pub fn are_same<S: Kept>(a: &[S], b: &[S]) -> bool
     ensures { IsTrue result ↔ (map S.means a.now ≡ map S.means b.now) }
 {
     if a.len() != b.len() {
         return false;
     }
-    for i in 0..a.len() {
-        if !a[i].same(&b[i]) {
+    let mut i = 0;
+    while a.len() - i >= 4 {
+        if !agree_on_four(a, b, i) {
             return false;
         }
+        i += 4;
+    }
+    while i < a.len() {
+        if !agree_at(a, b, i) {
+            return false;
+        }
+        i += 1;
     }
     true
 }

@@ -9,11 +9,8 @@ use crate::assertion::Hypothesis;
 use crate::symbol::Kept;
 use mm_frame::Symbol;
 
-/// Where a key is noted that a table of this many places may have no place for. Hardly any key is so high, so the test
-/// of the others is inlined alone.
-#[cold]
-#[inline(never)]
-fn home_beyond(key: usize, count: usize) -> usize
+/// Where a key is noted in a table of this many places: at its own place, or at its remainder.
+pub fn home(key: usize, count: usize) -> usize
     ensures { result ≡ home_lem key count }
 {
     if key < count || count == 0 {
@@ -23,15 +20,15 @@ fn home_beyond(key: usize, count: usize) -> usize
     }
 }
 
-/// Where a key is noted in a table of this many places: at its own place, or at its remainder.
-pub fn home(key: usize, count: usize) -> usize
-    ensures { result ≡ home_lem key count }
-{
-    if key < count {
-        key
-    } else {
-        home_beyond(key, count)
+/// What is noted for a key; 0 if the table has no places. Nearly all keys are in the table, and take one comparison.
+fn noted(places: &[usize], key: usize) -> usize {
+    if key < places.len() {
+        return places[key];
     }
+    if places.is_empty() {
+        return 0;
+    }
+    places[key % places.len()]
 }
 
 /// Whether a hypothesis is the `$f` of a variable.
@@ -50,8 +47,11 @@ fn is_float_of<'a, S: Kept>(hypothesis: &Hypothesis<'a, S>, variable: &S) -> boo
 /// Notes for the variable of a `$f` where it is. What is found by it is compared, so no answer depends on it.
 pub fn note_place<S: Kept>(typing: &[S], place: usize, places: &mut [usize]) {
     if typing.len() > 1 {
-        let at = home(typing[1].key(), places.len());
-        if at < places.len() {
+        let key = typing[1].key();
+        if key < places.len() {
+            places[key] = place;
+        } else if !places.is_empty() {
+            let at = key % places.len();
             places[at] = place;
         }
     }
@@ -66,13 +66,10 @@ pub fn slot_of<'a, S: Kept>(
     ensures { IsTyped (hypotheses_of S.means hypotheses.now) (S.means variable.now)
         → IsSlot (hypotheses_of S.means hypotheses.now) result (S.means variable.now) }
 {
-    let at = home(variable.key(), places.len());
-    if at < places.len() {
-        let guess = places[at];
-        if guess < hypotheses.len() {
-            if is_float_of(&hypotheses[guess], &*variable) {
-                return guess;
-            }
+    let guess = noted(places, variable.key());
+    if guess < hypotheses.len() {
+        if is_float_of(&hypotheses[guess], &*variable) {
+            return guess;
         }
     }
     for place in 0..hypotheses.len() {

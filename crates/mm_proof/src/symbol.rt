@@ -67,6 +67,24 @@ fn extended(
     Ok(to)
 }
 
+/// The symbols with others after them, most often in the room that they have.
+#[inline(always)]
+fn and_block(
+    to: Vec<NumberedSymbol>,
+    from: &[NumberedSymbol],
+    more: usize,
+) -> Result<Vec<NumberedSymbol>, AllocError>
+    ensures symbols { IfOk result (λ all. all.items ≡ to.items ++ from.now) }
+    ensures room { IfOk result (λ all. vec_len all + more ≤ vec_capacity all) }
+{
+    if !have_room(&to, from.len(), more) {
+        return extended(to, from, more);
+    }
+    let mut to = to;
+    to.extend_from_slice(from)?;
+    Ok(to)
+}
+
 /// The next number after some bytes of a name.
 fn key_behind(key: usize, byte: u8) -> usize
     requires { key < 2 ^ 32 }
@@ -154,16 +172,12 @@ impl Kept for NumberedSymbol {
         ensures symbols { IfOk result (λ all. map by_number all.items ≡ map by_number to.items ++ map by_number from.now) }
         ensures room { IfOk result (λ all. vec_len all + more ≤ vec_capacity all) }
     {
-        let mut to = to;
         // Most often it is one, and that takes less than a block of one.
         if from.len() == 1 {
+            let mut to = to;
             to.push_reserved(from[0]);
             return Ok(to);
         }
-        if !have_room(&to, from.len(), more) {
-            return extended(to, from, more);
-        }
-        to.extend_from_slice(from)?;
-        Ok(to)
+        and_block(to, from, more)
     }
 }

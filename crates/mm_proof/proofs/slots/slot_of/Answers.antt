@@ -1,4 +1,4 @@
-use Rattle.std.proofs.Common.{get_or, sym, ◌∙◌, arith}
+use Rattle.std.proofs.Common.{sym, ◌∙◌, arith}
 use Rattle.std.proofs.lemmas.Bool.{false≢true}
 use Rattle.std.proofs.lemmas.List.{length-map}
 use Rattle.mm_proof.specs.Code.Citation.{mandatory_of, hypotheses_of, IsTypingOf}
@@ -12,7 +12,7 @@ returns-then-is_float_of g c typed =
     let m = g.S.Symbol.means in
     let h = c.index-hypotheses-guess.result in
     let t = c.is_float_of.ensures.0 c.if-is_float_of.true in
-    (mandatory_of m h, mapped_get (mandatory_of m) c.args.hypotheses.now (get_or c.args.places.now c.home-at.result 0) h c.if-guess-hypotheses.true c.index-hypotheses-guess.is, t.0, t.1)
+    (mandatory_of m h, mapped_get (mandatory_of m) c.args.hypotheses.now c.noted-guess.result h c.if-guess-hypotheses.true c.index-hypotheses-guess.is, t.0, t.1)
 
 pub returns-then-is_float_of-2 : goal.returns-then-is_float_of-2
 returns-then-is_float_of-2 g c typed =
