@@ -195,7 +195,8 @@ impl LetterReader {
     /// Reads the letters of the word with this number. The reader is moved in and out, so that its counts stay in registers.
     fn read_word(self, n: usize, word: &[u8]) -> Result<Self, Undecoded>
         ensures labels { IfOk result (λ reader. reader.labels ≡ self.labels) }
-        ensures ok { IfOk result (λ reader. (aim : Aim) (ls : List Letter) → ReadsLetters aim self (letters_in (n, word.now) ++ ls) → ReadsLetters aim reader ls) }
+        ensures ok { IfOk result (λ reader. (aim : Aim) (ls : List Letter)
+            → ReadsLetters aim self (letters_in (n, word.now) ++ ls) → ReadsLetters aim reader ls) }
         ensures err { IfErr result (λ e. (aim : Aim) (ls : List Letter) → ReadsLetters aim self (letters_in (n, word.now) ++ ls) → TellsSteps e aim.total) }
     {
         let mut reader = self.with_room(word.len())?;

@@ -1,6 +1,7 @@
 //! Expressions of an assertion under the substitution that entries give.
 
-ghost use Rattle.std.specs.Prelude.{◌≡◌, ◌↔◌, ◌++◌, ◌<◌, ◌≤◌, ◌+◌, List, IsTrue, IfOk, OnOk, All, MatchBool, Some, false, drop, take, length, map, slice_get, vec_len, vec_capacity};
+ghost use Rattle.std.specs.Prelude.{◌≡◌, ◌↔◌, ◌++◌, ◌<◌, ◌≤◌, ◌+◌, List, IsTrue, IfOk, OnOk, All, MatchBool, Some, false, drop, take, length, map};
+ghost use Rattle.std.specs.Prelude.{slice_get, vec_len, vec_capacity};
 ghost use Rattle.mm_frame.specs.Language.Frame.{Symbol as Meaning};
 ghost use Rattle.mm_proof.specs.Language.Substitution.{replacement, substituted};
 ghost use Rattle.mm_proof.specs.Code.Flat.{IsEntryWithin};
