@@ -9,9 +9,12 @@ use Rattle.mm_keep.proofs.keeping.next_of.Goals as goal
 pub keep_and_run-ran-requires : goal.keep_and_run-ran-requires
 keep_and_run-ran-requires c =
     let has = c.requires.old in
-    let built = c.in_ok-base.ensures.base in
-    (has.0, built.0, subst (λ (old : Base). AreBothRead c.base_of-built.new.names c.args.files.now old c.in_ok-base.base has.0 built.0) (sym c.base_of-built.ensures.old)
-    (both_read c.args.names.now c.base_of-built.new.names c.args.files.now c.args.top.now c.args.old.now c.in_ok-base.base has.0 built.0 c.count-count.ensures.distinct c.in_ok-base.ensures.grows has.1 built.1))
+    let built = c.in_ok-base.ensures.base in (
+      has.0,
+      built.0,
+      subst (λ (old : Base). AreBothRead c.base_of-built.new.names c.args.files.now old c.in_ok-base.base has.0 built.0) (sym c.base_of-built.ensures.old)
+          (both_read c.args.names.now c.base_of-built.new.names c.args.files.now c.args.top.now c.args.old.now c.in_ok-base.base has.0 built.0 c.count-count.ensures.distinct c.in_ok-base.ensures.grows has.1 built.1),
+    )
 
 pub returns-clause-next : goal.returns-clause-next
 returns-clause-next c =
@@ -23,5 +26,5 @@ returns-clause-next c =
       base = built.0;
       built = subst (λ (code : Base). IsBuilt c.base_of-built.new.names c.args.files.now c.args.top.now code built.0) (sym same.0) built.1;
       goes_on = goes view built.0 (subst (λ (old : Base). AreBothRead c.base_of-built.new.names c.args.files.now old c.in_ok-base.base view built.0) (sym c.base_of-built.ensures.old)
-      (both_read c.args.names.now c.base_of-built.new.names c.args.files.now c.args.top.now c.args.old.now c.in_ok-base.base view built.0 c.count-count.ensures.distinct c.in_ok-base.ensures.grows is built.1));
+          (both_read c.args.names.now c.base_of-built.new.names c.args.files.now c.args.top.now c.args.old.now c.in_ok-base.base view built.0 c.count-count.ensures.distinct c.in_ok-base.ensures.grows is built.1));
     }) c.with_runs.ensures
