@@ -202,6 +202,11 @@ def many_saves(n):
     return [*FIRST, f"t $p wff p $= ( ) A{'Z' * n} $."]
 
 
+def short_words(n):
+    """As many saves, each a word of its own."""
+    return [*FIRST, f"t $p wff p $= ( ) A{' Z' * n} $."]
+
+
 def long_list(n):
     """A proof that lists so many labels, and uses each."""
     labels = " ".join(f"x{k}" for k in range(n))
@@ -225,6 +230,13 @@ def large_frame_short(n):
     """A frame of so many variables, and as many theorems that cite its assertion without its entries."""
     names, lines = variables(n)
     return [*lines, f"big $a |- {' '.join(names)} $.", *(f"t{k} $p wff x0 $= ( big ) B $." for k in range(n))]
+
+
+def frame_listed_again(n):
+    """A frame of a thousand `$e`, whose assertion is listed so many times, and cited by each. Nothing else takes the results."""
+    lines = [*FIRST, "x $a |- p $.", "${", *(f"e{k} $e |- p $." for k in range(1000)), "big $a |- p $.", "$}"]
+    letters = "".join(f"A{'AB' * 1000}{number(k + 3)}" for k in range(n))
+    return [*lines, f"t $p |- p $= ( x {' '.join(['big'] * n)} ) {letters} $."]
 
 
 def outermost_hypotheses(n):
