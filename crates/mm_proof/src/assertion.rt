@@ -14,9 +14,6 @@ ghost use Rattle.mm_proof.specs.Code.NumberedBase.{ByNames, all_by_number, numbe
 use mm_frame::{Base, NumberedSymbol, places_have_frames};
 use std::alloc::{AllocError, Global};
 
-/// At first there is room for the mandatory hypotheses of so many assertions at most.
-const FIRST_ASSERTIONS: usize = 64;
-
 /// A mandatory hypothesis of an assertion.
 #[derive(Drop)]
 pub struct Hypothesis<'a, S> {
@@ -104,6 +101,20 @@ fn assertion_of<'a>(
     })
 }
 
+/// The numbers of the mandatory hypotheses of the assertions with these numbers, one after another.
+///
+/// The frames of assertions are all over the memory. This loop does nothing but read them, so the processor waits for many of
+/// them at once; a loop that does more with each frame waits for one after another.
+fn read_mandatory(alloc: Global, base: &Base, numbers: &[usize]) -> Result<Vec<usize>, AllocError> {
+    let mut mandatory = Vec::with_capacity(alloc, numbers.len())?;
+    for number in numbers {
+        if let Some(frame) = base.frame(*number) {
+            mandatory.extend_from_slice(&frame.hypotheses)?;
+        }
+    }
+    Ok(mandatory)
+}
+
 /// The assertions with these numbers, and before them a list of their mandatory hypotheses.
 pub fn assertions_of<'a>(
     alloc: Global,
@@ -120,9 +131,9 @@ pub fn assertions_of<'a>(
     ensures { IfOk result (λ r. AreCited base.now numbers.now r.0.items r.1.items) }
 {
     places_have_frames();
-    let some = numbers.len().min(FIRST_ASSERTIONS);
-    // Most assertions have four mandatory hypotheses at most.
-    let mut mandatory = Vec::with_capacity(alloc, some * 4)?;
+    // Their frames are read twice, the second time from the cache.
+    let count = read_mandatory(alloc, base, numbers)?.len();
+    let mut mandatory = Vec::with_capacity(alloc, count)?;
     let mut assertions = Vec::with_capacity(alloc, numbers.len())?;
     for number in numbers {
         assertions.push(assertion_of(base, *number, &mut mandatory)?)?;
