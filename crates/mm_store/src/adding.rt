@@ -17,6 +17,7 @@ use crate::file_text::{FileText, starts};
 use crate::files::Files;
 use crate::piece_text::kept_pieces;
 use crate::room::{ended_len, fits};
+use bytes::Bytes;
 use mm_text::{DividedCut, divided_cut};
 use std::alloc::AllocError;
 use std::collections::VecDeque;
@@ -39,11 +40,30 @@ impl Files {
         ensures fault_within { IfErr result (IsAddErrorIn text.now) }
         ensures unchanged { OnErr result (self.new ≡ self.old) }
     {
+        let None = self.number_of(name) else {
+            return Err(StoreError::Known);
+        };
+        let text = Bytes::copy_from_slice(self.allocator(), text)?;
+        self.add_bytes(name, &text)
+    }
+
+    /// Adds a file as `add` does. Its pieces share the memory of the text, so that none of it is copied but a last piece or a
+    /// tail that gets a line feed, and the tail.
+    pub fn add_bytes(&mut self, name: &[u8], text: &Bytes) -> Result<(), StoreError>
+        ensures ok { OnOk result (IsAdded (plain self.old) (plain self.new) name.now text.now) }
+        ensures keeps { OnOk result (KeepsPieces self.old self.new) }
+        ensures parked { OnOk result (parked_in self.new ≡ parked_in self.old) }
+        ensures within { OnOk result (bytes_of (plain self.new) ≤ 4294967295) }
+        ensures known { IsErrOf result Known ↔ (file_number (plain self.old) name.now ≢ None) }
+        ensures err { IfErr result (IsAddError (plain self.old) name.now text.now) }
+        ensures fault_within { IfErr result (IsAddErrorIn text.now) }
+        ensures unchanged { OnErr result (self.new ≡ self.old) }
+    {
         if self.number_of(name).is_some() {
             return Err(StoreError::Known);
         }
         let cut = divided_cut(self.allocator(), text)?;
-        let more = ended_len(text) as u64;
+        let more = ended_len(text.as_slice()) as u64;
         if !fits(self.bytes, more) {
             return Err(StoreError::TooMany);
         }
@@ -54,12 +74,12 @@ impl Files {
     /// Puts a file after the others. After out of memory the files are as before.
     fn put_last(&mut self, name: &[u8], bytes: u64, cut: DividedCut) -> Result<(), AllocError>
         requires missing { file_number (plain self.old) name.now ≡ None }
-        requires counted { bytes ≡ length (concat (map (λ piece. piece.text.items) cut.pieces.items) ++ cut.tail.items) }
+        requires counted { bytes ≡ length (concat (map (λ piece. piece.text) cut.pieces.items) ++ cut.tail.items) }
         requires fits { bytes_of (plain self.old) + bytes ≤ 4294967295 }
-        requires pieces { ArePieces (map (λ piece. piece.text.items) cut.pieces.items) cut.tail.items }
+        requires pieces { ArePieces (map (λ piece. piece.text) cut.pieces.items) cut.tail.items }
         requires parts { All HasOwnParts cut.pieces.items }
         ensures ok { OnOk result
-            (plain self.new ≡ with_file (plain self.old) name.now (map (λ piece. piece.text.items) cut.pieces.items) cut.tail.items) }
+            (plain self.new ≡ with_file (plain self.old) name.now (map (λ piece. piece.text) cut.pieces.items) cut.tail.items) }
         ensures keeps { OnOk result (KeepsPieces self.old self.new) }
         ensures parked { OnOk result (parked_in self.new ≡ parked_in self.old) }
         ensures err { OnErr result (self.new ≡ self.old) }

@@ -35,8 +35,8 @@ impl Files {
     ) -> Result<Undo, AllocError>
         requires there { at < length (keys_in self.old.keyed number) }
         requires kept { IsPieceKept kept }
-        requires within { bytes_of (with_pieces (plain self.old) number (slice_set (pieces_in (plain self.old) number) at kept.text.items)) ≤ 4294967295 }
-        ensures ok { IfOk result (λ undo. IsReplaced self.old self.new number at kept.text.items undo) }
+        requires within { bytes_of (with_pieces (plain self.old) number (slice_set (pieces_in (plain self.old) number) at kept.text)) ≤ 4294967295 }
+        ensures ok { IfOk result (λ undo. IsReplaced self.old self.new number at kept.text undo) }
         ensures err { OnErr result (self.new ≡ self.old) }
     {
         let more = kept.text.len() as u64;
@@ -63,8 +63,8 @@ impl Files {
         requires file { number < length self.old.keyed }
         requires there { at ≤ length (keys_in self.old.keyed number) }
         requires kept { IsPieceKept kept }
-        requires within { bytes_of (with_pieces (plain self.old) number (insert (pieces_in (plain self.old) number) at kept.text.items)) ≤ 4294967295 }
-        ensures ok { IfOk result (λ undo. IsInserted self.old self.new number at kept.text.items undo) }
+        requires within { bytes_of (with_pieces (plain self.old) number (insert (pieces_in (plain self.old) number) at kept.text)) ≤ 4294967295 }
+        ensures ok { IfOk result (λ undo. IsInserted self.old self.new number at kept.text undo) }
         ensures err { OnErr result (self.new ≡ self.old) }
     {
         let more = kept.text.len() as u64;

@@ -30,8 +30,8 @@ pub struct FileText {
 /// Where each of these pieces begins in a file of them, and where its tail does.
 pub(crate) fn starts(alloc: Global, pieces: &[PieceText]) -> Result<Vec<Start>, AllocError>
     requires kept { All IsPieceKept pieces.now }
-    requires small { length (concat (map (λ piece. piece.text.items) pieces.now)) ≤ 4294967295 }
-    ensures starts { IfOk result (λ starts. AreStarts (map (λ piece. piece.text.items) pieces.now) starts.items) }
+    requires small { length (concat (map (λ piece. piece.text) pieces.now)) ≤ 4294967295 }
+    ensures starts { IfOk result (λ starts. AreStarts (map (λ piece. piece.text) pieces.now) starts.items) }
     ensures many { IfOk result (λ starts. length starts.items ≡ length pieces.now + 1) }
 {
     let mut starts = Vec::with_capacity(alloc, pieces.len())?;

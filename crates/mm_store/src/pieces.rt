@@ -91,7 +91,7 @@ impl PieceStore {
     pub(crate) fn put(&mut self, kept: PieceText) -> Result<usize, AllocError>
         requires { IsPieceKept kept }
         ensures fresh { IfOk result (λ key. finite.get self.old key ≡ None) }
-        ensures ok { IfOk result (λ key. self.new ≡ finite.insert self.old key (standing_piece kept.text.items)) }
+        ensures ok { IfOk result (λ key. self.new ≡ finite.insert self.old key (standing_piece kept.text)) }
         ensures err { OnErr result (self.new ≡ self.old) }
     {
         let piece = Piece {
@@ -108,7 +108,7 @@ impl PieceStore {
         pieces: Vec<PieceText>,
     ) -> Result<Vec<usize>, AllocError>
         requires { All IsPieceKept pieces.items }
-        ensures ok { IfOk result (λ keys. ArePut self.old (map (λ piece. piece.text.items) pieces.items) keys.items self.new) }
+        ensures ok { IfOk result (λ keys. ArePut self.old (map (λ piece. piece.text) pieces.items) keys.items self.new) }
         ensures err { OnErr result (self.new ≡ self.old) }
     {
         let mut keys = Vec::with_capacity(alloc, pieces.len())?;
@@ -173,7 +173,7 @@ impl PieceStore {
         ensures small { length result.now ≤ 4294967295 }
     {
         let piece = self.slab.get(key).unwrap();
-        &piece.kept.text
+        piece.kept.text.as_slice()
     }
 
     /// The parts of the piece under a key.
@@ -200,7 +200,7 @@ impl PieceStore {
     {
         match self.slab.get(key) {
             None => Lines::none(),
-            Some(piece) => lines_before(&piece.kept.text, &piece.kept.marks, at),
+            Some(piece) => lines_before(piece.kept.text.as_slice(), &piece.kept.marks, at),
         }
     }
 

@@ -28,8 +28,8 @@ impl Start {
     /// Where the piece after this one begins, if this one begins here.
     pub(crate) fn behind(self, piece: &PieceText) -> Start
         requires kept { IsPieceKept piece.now }
-        requires small { StaysSmall self piece.now.text.items }
-        ensures { (before : List ℕ) → IsStart before self → IsStart (before ++ piece.now.text.items) result }
+        requires small { StaysSmall self piece.now.text }
+        ensures { (before : List ℕ) → IsStart before self → IsStart (before ++ piece.now.text) result }
     {
         Start {
             bytes: self.bytes + piece.text.len() as u32,

@@ -1,6 +1,7 @@
 //! The pieces of a text.
 
 use crate::part::Part;
+use bytes::Bytes;
 
 /// The pieces of a text, each with one unit, and what follows them.
 #[derive(Debug, Drop)]
@@ -14,8 +15,8 @@ pub struct Cut {
 /// A piece with its parts.
 #[derive(Debug, Drop)]
 pub struct DividedPiece {
-    /// The text of the piece. It ends in white space.
-    pub text: Vec<u8>,
+    /// The text of the piece. It ends in white space. Pieces share the memory of the text that was cut.
+    pub text: Bytes,
     /// Its statements and inclusions, each `${` and each `$}`, in order, with their bytes in the piece.
     pub parts: Vec<Part>,
 }

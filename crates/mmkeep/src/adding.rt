@@ -9,6 +9,7 @@ ghost use Rattle.mmkeep.specs.declared.adding.FileError.TheVariants as errors;
 ghost use Rattle.mmkeep.specs.Code.Loaded.{IsNewNameError};
 ghost use Rattle.mmkeep.specs.Language.Loading.{AddsFile, IsFileError, IsNew, IsTextError};
 
+use bytes::Bytes;
 use mm_report::{Files, Place, ReadFailed, Reading, StoreError, TextNumber, place};
 use std::alloc::{AllocError, Global};
 use std::io::Read;
@@ -81,22 +82,29 @@ pub fn add_file<R: Read + Drop>(
 {
     let mut reading = Reading::new(file);
     match read_all(alloc, &mut reading) {
-        Ok(text) => add_text(files, name, &text),
+        Ok(text) => add_text(files, name, shared(text)?),
         Err(error) => Err(error),
     }
 }
 
+/// These bytes, so that pieces can share their memory.
+fn shared(bytes: Vec<u8>) -> Result<Bytes, AllocError>
+    ensures { IfOk result (λ all. all ≡ bytes.items) }
+{
+    Ok(Bytes::from_vec(bytes)?)
+}
+
 /// Adds a text under a name that no file has.
-fn add_text(files: &mut Files, name: &[u8], text: &[u8]) -> Result<(), FileError>
+fn add_text(files: &mut Files, name: &[u8], text: Bytes) -> Result<(), FileError>
     requires { IsNew files.old name.now }
-    ensures added { OnOk result (IsAdded (plain files.old) (plain files.new) name.now text.now) }
+    ensures added { OnOk result (IsAdded (plain files.old) (plain files.new) name.now text) }
     ensures parked { OnOk result (parked_in files.new ≡ parked_in files.old) }
-    ensures refused { IfErr result (IsTextError (plain files.old) text.now) }
+    ensures refused { IfErr result (IsTextError (plain files.old) text) }
     ensures unchanged { OnErr result (files.new ≡ files.old) }
 {
-    match files.add(name, text) {
+    match files.add_bytes(name, &text) {
         Ok(()) => Ok(()),
-        Err(error) => Err(reason(text, error)),
+        Err(error) => Err(reason(text.as_slice(), error)),
     }
 }
 

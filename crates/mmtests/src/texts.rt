@@ -5,6 +5,7 @@ ghost use Rattle.std.specs.Prelude.{List};
 ghost use Rattle.mm_text.specs.Language.Reading.{HasWords};
 ghost use Rattle.mm_text.specs.declared.word.Word.{Word as Found};
 
+use bytes::Bytes;
 use mm_text::{
     Keyword, Part, PartKind, TextError, TextFault, TextNumber, Word, WordCursor, WordKind, cut,
     divided_cut, nth_word, words,
@@ -88,7 +89,7 @@ fn cuts_into_pieces_and_parts(rt: HostRuntime) -> Result<(), Fail> {
     ];
     let parts: [&[Part]; 2] = [&first, &second];
     let plain = cut(rt.alloc(), text)?;
-    let divided = divided_cut(rt.alloc(), text)?;
+    let divided = divided_cut(rt.alloc(), &Bytes::from_static(text))?;
     assert!(rt; plain.pieces.len() == 2 && plain.tail.as_slice() == b"$( y $)\n".as_slice());
     assert!(rt; divided.pieces.len() == 2 && divided.tail.as_slice() == b"$( y $)\n".as_slice());
     for (piece, wanted) in plain.pieces.iter().zip(texts) {

@@ -14,10 +14,10 @@ pub record CanBeKept (text : List ℕ) : Type 0 where
 
 -- the text of a piece is kept with its parts, its marks and its lines
 pub record IsPieceKept (piece : PieceText) : Type 0 where
-  pub text : CanBeKept piece.text.items
-  pub divided : HasParts piece.text.items piece.parts.items
-  pub marked : AreLineMarks piece.text.items piece.marks.items
-  pub lined : AreLines piece.text.items piece.lines
+  pub text : CanBeKept piece.text
+  pub divided : HasParts piece.text piece.parts.items
+  pub marked : AreLineMarks piece.text piece.marks.items
+  pub lined : AreLines piece.text piece.lines
 
 -- pieces of files, with these texts, were put in one after another, each under a key that no piece had
 abbrev pub ArePut : Pieces → List (List ℕ) → List ℕ → Pieces → Type 0

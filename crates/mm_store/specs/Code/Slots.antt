@@ -11,7 +11,7 @@ use Rattle.mm_store.specs.Code.Inside.{IsPieceKept}
 use Rattle.mm_store.specs.Code.States.{piece_state}
 
 abbrev pub held : Piece → HeldPiece
-held piece = record { text = piece.kept.text.items; state = piece_state piece.state }
+held piece = record { text = piece.kept.text; state = piece_state piece.state }
 
 abbrev pub entry_view : ℕ × Piece → ℕ × HeldPiece
 entry_view entry = (entry.0, held entry.1)

@@ -67,7 +67,7 @@ HasParts text parts = (units : Units) → HasUnits text units → parts ≡ part
 
 -- the parts of the piece are those of its text
 abbrev pub HasOwnParts : DividedPiece → Type 0
-HasOwnParts piece = HasParts piece.text.items piece.parts.items
+HasOwnParts piece = HasParts piece.text piece.parts.items
 
 -- the bytes of a part of a text
 abbrev pub part_bytes : List ℕ → Part → List ℕ

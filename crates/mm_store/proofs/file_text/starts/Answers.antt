@@ -8,10 +8,10 @@ use Rattle.mm_store.proofs.lemmas.places.PlaceLemmas.{each_more, concat_one, pie
 use Rattle.mm_store.proofs.file_text.starts.Goals as goal
 
 abbrev text_of_piece : PieceText → List ℕ
-text_of_piece piece = piece.text.items
+text_of_piece piece = piece.text
 
 -- the text of the piece that is come to
-text_here : (pieces : List PieceText) (n : ℕ) (piece : PieceText) → n < length pieces → piece ≡ get_or pieces n piece → get_or (map text_of_piece pieces) n [] ≡ piece.text.items
+text_here : (pieces : List PieceText) (n : ℕ) (piece : PieceText) → n < length pieces → piece ≡ get_or pieces n piece → get_or (map text_of_piece pieces) n [] ≡ piece.text
 text_here pieces n piece h is = get_or-map text_of_piece pieces n piece [] h ∙ ap text_of_piece (sym is)
 
 pub behind-start-requires-clause-small : goal.behind-start-requires-clause-small

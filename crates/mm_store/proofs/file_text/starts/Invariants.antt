@@ -6,7 +6,7 @@ use Rattle.mm_store.proofs.file_text.starts.Given as goal
 
 abbrev pub invariant-loop-piece : goal.invariant-loop-piece
 invariant-loop-piece l = record {
-  start : IsStart (concat (take l.piece-index (map (λ piece. piece.text.items) l.pieces))) l.start;
+  start : IsStart (concat (take l.piece-index (map (λ piece. piece.text) l.pieces))) l.start;
   many : length l.starts.items ≡ l.piece-index;
-  each : (k : ℕ) (d : Start) → k < l.piece-index → IsStart (concat (take k (map (λ piece. piece.text.items) l.pieces))) (get_or l.starts.items k d);
+  each : (k : ℕ) (d : Start) → k < l.piece-index → IsStart (concat (take k (map (λ piece. piece.text) l.pieces))) (get_or l.starts.items k d);
 }

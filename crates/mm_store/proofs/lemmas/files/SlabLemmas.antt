@@ -67,5 +67,5 @@ some_slot slab key m is there = some_mapped (get slab key) (ap is_some (sym (get
     some_mapped None e = e
     some_mapped (Some x) e = refl
 
-pub text_is : (slab : Slab Piece) (key : ℕ) (m : Pieces) (piece : Piece) → pieces_of slab ≡ m → get slab key ≡ Some piece → text_under m key ≡ piece.kept.text.items
+pub text_is : (slab : Slab Piece) (key : ℕ) (m : Pieces) (piece : Piece) → pieces_of slab ≡ m → get slab key ≡ Some piece → text_under m key ≡ piece.kept.text
 text_is slab key m piece is there = ap text_in (ap (λ m. finite.get m key) (sym is) ∙ get_is slab key ∙ ap (option_map held) there)

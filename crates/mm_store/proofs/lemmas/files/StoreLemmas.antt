@@ -123,14 +123,14 @@ put_more old mid new [] keys kept key put fresh updates =
 put_more old mid new (first ∷ pieces) keys kept key put fresh updates =
     (put.0, put.1 ++ key ∷ [], put.2, ap (λ ks. ks ++ key ∷ []) put.3, put.4, put.5, put_more put.2 mid new pieces put.1 kept key put.6 fresh updates)
 
-pub are_put : (old new : Slab Piece) (pieces : List PieceText) (keys : List ℕ) → ArePutIn old pieces keys new → ArePut (pieces_of old) (map (λ piece. piece.text.items) pieces) keys (pieces_of new)
+pub are_put : (old new : Slab Piece) (pieces : List PieceText) (keys : List ℕ) → ArePutIn old pieces keys new → ArePut (pieces_of old) (map (λ piece. piece.text) pieces) keys (pieces_of new)
 are_put old new [] keys put = (put.0, ap pieces_of put.1)
 are_put old new (first ∷ pieces) keys put = (
   put.0,
   put.1,
   put.3,
   get_is old put.0 ∙ ap (option_map held) put.4,
-  subst (λ m. ArePut m (map (λ (piece : PieceText). piece.text.items) pieces) put.1 (pieces_of new)) (put_is old put.2 put.0 (record { kept = first; state = code.Standing }) put.5) (are_put put.2 new pieces put.1 put.6),
+  subst (λ m. ArePut m (map (λ (piece : PieceText). piece.text) pieces) put.1 (pieces_of new)) (put_is old put.2 put.0 (record { kept = first; state = code.Standing }) put.5) (are_put put.2 new pieces put.1 put.6),
 )
 
 pub kept_all : (old new : Slab Piece) (pieces : List PieceText) (keys : List ℕ) → ArePutIn old pieces keys new → All IsPieceKept pieces → AreKeptIn old → AreKeptIn new

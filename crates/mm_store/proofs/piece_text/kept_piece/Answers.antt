@@ -14,8 +14,8 @@ parts_lie text parts can has law =
 
 pub kept_parts-requires-clause-starts : goal.kept_parts-requires-clause-starts
 kept_parts-requires-clause-starts c = rw c.deref.ensures.value (λ k d lt.
-    (let lies = parts_lie c.args.piece.text.items c.args.piece.parts.items c.requires.text c.requires.parts c.parts_are_texts.ensures k d lt in omega (arith, lies.some, lies.within, c.requires.text.small)))
+    (let lies = parts_lie c.args.piece.text c.args.piece.parts.items c.requires.text c.requires.parts c.parts_are_texts.ensures k d lt in omega (arith, lies.some, lies.within, c.requires.text.small)))
 
 pub kept_parts-requires-clause-ends : goal.kept_parts-requires-clause-ends
 kept_parts-requires-clause-ends c = rw c.deref.ensures.value (λ k d lt.
-    (let lies = parts_lie c.args.piece.text.items c.args.piece.parts.items c.requires.text c.requires.parts c.parts_are_texts.ensures k d lt in omega (arith, lies.within, c.requires.text.small)))
+    (let lies = parts_lie c.args.piece.text c.args.piece.parts.items c.requires.text c.requires.parts c.parts_are_texts.ensures k d lt in omega (arith, lies.within, c.requires.text.small)))

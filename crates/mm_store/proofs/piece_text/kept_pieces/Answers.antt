@@ -30,7 +30,7 @@ loop-piece-preserved c =
       rest = append_assoc at.yielded (piece ∷ []) _ ∙ rw (← steps) at.invariant.rest;
       many = (let was = at.invariant.many in
           omega arith);
-      texts = ap (map (λ piece. piece.text.items)) pushed ∙ map-append (λ piece. piece.text.items) at.kept.items (kept ∷ []) ∙ ap (λ ts. ts ++ kept.text.items ∷ []) at.invariant.texts
-          ∙ ap (λ t. map (λ piece. piece.text.items) at.yielded ++ t ∷ []) c.in_ok-kept_piece.ensures.text ∙ sym (map-append (λ piece. piece.text.items) at.yielded (piece ∷ []));
+      texts = ap (map (λ piece. piece.text)) pushed ∙ map-append (λ piece. piece.text) at.kept.items (kept ∷ []) ∙ ap (λ ts. ts ++ kept.text ∷ []) at.invariant.texts
+          ∙ ap (λ t. map (λ piece. piece.text) at.yielded ++ t ∷ []) c.in_ok-kept_piece.ensures.text ∙ sym (map-append (λ piece. piece.text) at.yielded (piece ∷ []));
       each = subst (All IsPieceKept) (sym pushed) (All-append IsPieceKept at.kept.items (kept ∷ []) at.invariant.each (All-cons IsPieceKept kept [] c.in_ok-kept_piece.ensures.kept (All-nil IsPieceKept)));
     }

@@ -7,6 +7,6 @@ abbrev pub invariant-loop-piece : goal.invariant-loop-piece
 invariant-loop-piece l = record {
   rest : l.yielded ++ into_iter_items l.piece-iterator ≡ l.fn.pieces.items;
   many : into_iter_len l.piece-iterator ≡ length (into_iter_items l.piece-iterator);
-  texts : map (λ piece. piece.text.items) l.kept.items ≡ map (λ piece. piece.text.items) l.yielded;
+  texts : map (λ piece. piece.text) l.kept.items ≡ map (λ piece. piece.text) l.yielded;
   each : All IsPieceKept l.kept.items;
 }

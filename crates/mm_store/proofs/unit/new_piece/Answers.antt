@@ -20,11 +20,11 @@ returns-in_err-unit-clause-err c =
 pub returns-then-not-fits-clause-err : goal.returns-then-not-fits-clause-err
 returns-then-not-fits-clause-err c = (
   c.in_ok-unit.ensures.ok.one,
-  grind (arith, c.fits.ensures.0, c.fits.ensures.1, c.in_ok-unit.unit.text.ok.0, ap length c.in_ok-unit.ensures.ok.whole, c.len.ensures),
+  grind (arith, c.fits.ensures.0, c.fits.ensures.1, ap length c.in_ok-unit.ensures.ok.whole, c.len.ensures.value),
 )
 
 pub kept_piece-requires-clause-text : goal.kept_piece-requires-clause-text
-kept_piece-requires-clause-text c = record { unit = c.in_ok-unit.ensures.ok.holds; small = grind (arith, c.fits.ensures.0, c.fits.ensures.1, c.in_ok-unit.unit.text.ok.0, c.len.ensures) }
+kept_piece-requires-clause-text c = record { unit = c.in_ok-unit.ensures.ok.holds; small = grind (arith, c.fits.ensures.0, c.fits.ensures.1, c.len.ensures.value) }
 
 pub returns-in_err-kept_piece-clause-err : goal.returns-in_err-kept_piece-clause-err
 returns-in_err-kept_piece-clause-err c =
@@ -34,4 +34,4 @@ pub returns-clause-unit : goal.returns-clause-unit
 returns-clause-unit c = subst (IsUnit c.args.text.now) (sym c.in_ok-kept_piece.ensures.text) c.in_ok-unit.ensures.ok
 
 pub returns-clause-fits : goal.returns-clause-fits
-returns-clause-fits c = grind (arith, c.fits.ensures.0, c.fits.ensures.1, c.in_ok-unit.unit.text.ok.0, ap length c.in_ok-kept_piece.ensures.text, c.len.ensures)
+returns-clause-fits c = grind (arith, c.fits.ensures.0, c.fits.ensures.1, ap length c.in_ok-kept_piece.ensures.text, c.len.ensures.value)

@@ -18,7 +18,8 @@ not_cut text Memory is = tt
 
 pub returns-in_err-pieces-clause-err : goal.returns-in_err-pieces-clause-err
 returns-in_err-pieces-clause-err c =
-    if_err c.from_residual.result _ _ c.from_residual.ensures.1 (λ e is. subst (IsUnitError c.args.text.now) (sym is) (not_cut c.args.text.now c.in_err-pieces.field-0.0 c.in_err-pieces.ensures.fault))
+    if_err c.from_residual-in_err-pieces.result _ _ c.from_residual-in_err-pieces.ensures.1
+    (λ e is. subst (IsUnitError c.args.text.now) (sym is) (not_cut c.args.text.now c.in_err-pieces.field-0.0 (rw c.in_ok-whole.ensures at c.in_err-pieces.ensures.fault)))
 
 one_only : {X : Type 0} (all rest : List X) (last : Option X) (x : X) → length all ≡ 1 → all ≡ rest ++ option_to_list last → last ≡ Some x → all ≡ x ∷ []
 one_only all [] last x one e is = e ∙ ap option_to_list is
@@ -31,8 +32,8 @@ returns-clause-parts c = λ units has.
     let unit : DividedPiece = c.unwrap-unit.result in
     let found = c.in_ok-pieces.field-0 in
     let one : found.pieces.items ≡ unit ∷ [] = one_only found.pieces.items c.pop.new.self.items c.pop.result unit (omega (arith, found.pieces.ok.0, c.len.ensures, c.if-len-ne1.false)) c.pop.ensures.items c.unwrap-unit.ensures in
-    let cut : IsCut text (unit.text.items ∷ []) found.tail.items = subst (λ (ps : List DividedPiece). IsCut text (map (λ piece. piece.text.items) ps) found.tail.items) one c.in_ok-pieces.ensures.cut in
+    let cut : IsCut text (unit.text ∷ []) found.tail.items = subst (λ (ps : List DividedPiece). IsCut text (map (λ piece. piece.text) ps) found.tail.items) one (rw c.in_ok-whole.ensures at c.in_ok-pieces.ensures.cut) in
     let parts : All HasOwnParts (unit ∷ []) = subst (All HasOwnParts) one c.in_ok-pieces.ensures.parts in
-    let whole : c.extend_from_slice.new.self.items ≡ ended text = c.in_ok-extend_from_slice.ensures.items ∙ ap (λ (bs : List ℕ). unit.text.items ++ bs) c.deref.ensures.value
-    ∙ ap (λ (bs : List ℕ). bs ++ found.tail.items) (sym (append-nil unit.text.items)) ∙ cut.joined in
-    parts 0 unit (omega arith) units (c.one_unit_of_cut.ensures.same text unit.text.items found.tail.items units cut (rw whole at has)))
+    let all : c.in_ok-text.text ≡ ended text = c.in_ok-text.ensures ∙ ap (λ (bs : List ℕ). bs ++ c.deref.result.now) c.as_slice.ensures ∙ ap (λ (bs : List ℕ). unit.text ++ bs) c.deref.ensures.value
+    ∙ ap (λ (bs : List ℕ). bs ++ found.tail.items) (sym (append-nil unit.text)) ∙ cut.joined in
+    parts 0 unit (omega arith) units (c.one_unit_of_cut.ensures.same text unit.text found.tail.items units cut (rw all at has)))

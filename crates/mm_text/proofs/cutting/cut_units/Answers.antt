@@ -30,11 +30,8 @@ returns-in_err-take-clause-fault c =
     let p = err_from_is_err_and c.from_residual-in_err-take.result c.from_residual-in_err-take.ensures.1 in
     rw (p.1, p.2) (refused _ _ _ _ c.loop-parts.grammar c.loop-parts.invariant.progress _ _ (rw (c.in-Some.is, c.loop-parts.invariant.text) at c.in_ok-word.ensures.word) _ c.take.new.self refl _ c.requires.allowed c.in_err-take.ensures)
 
-pub slice_bounds-push_piece-count : goal.slice_bounds-push_piece-count
-slice_bounds-push_piece-count c = from_before _ _ _ _ c.loop-parts.grammar c.loop-parts.invariant.progress _ _ (rw (c.in-Some.is, c.loop-parts.invariant.text) at c.in_ok-word.ensures.word) c.white_len.result
-
-pub slice_bounds-push_piece-start : goal.slice_bounds-push_piece-start
-slice_bounds-push_piece-start c = let le : c.loop-parts.from ≤ c.in-Some.word.end + c.white_len.result = slice_bounds-push_piece-count c in search rules
+pub push_piece-requires-clause-start : goal.push_piece-requires-clause-start
+push_piece-requires-clause-start c = from_before _ _ _ _ c.loop-parts.grammar c.loop-parts.invariant.progress _ _ (rw (c.in-Some.is, c.loop-parts.invariant.text) at c.in_ok-word.ensures.word) c.white_len.result
 
 pub loop-parts-preserved-then-is_whole : goal.loop-parts-preserved-then-is_whole
 loop-parts-preserved-then-is_whole c =
@@ -46,10 +43,10 @@ loop-parts-preserved-then-is_whole c =
       text = c.in_ok-word.ensures.text ∙ c.loop-parts.invariant.text;
       read = parts_next _ _ _ c.loop-parts.parts c.loop-parts.invariant.read c.in-Some.word _ taken place c.take-in-Some.new.self c.in_ok-take-2.ensures c.requires.allowed
           (rw same at most) c.white_len.result c.white_len.ensures.value c.push_piece.new.parts c.push_piece.ensures.nothing c.push_piece.ensures.first;
-      divided = c.in_ok-push_piece.ensures.parts c.loop-parts.invariant.divided (parts_end _ _ _ c.loop-parts.parts c.loop-parts.invariant.read c.in-Some.word _ taken place c.take-in-Some.new.self c.in_ok-take-2.ensures c.requires.allowed
+      divided = (rw c.requires.same at c.in_ok-push_piece.ensures.parts) c.loop-parts.invariant.divided (parts_end _ _ _ c.loop-parts.parts c.loop-parts.invariant.read c.in-Some.word _ taken place c.take-in-Some.new.self c.in_ok-take-2.ensures c.requires.allowed
           (rw same at most) c.white_len.result c.white_len.ensures.value);
       progress = keeps_piece _ _ _ _ c.loop-parts.grammar c.loop-parts.invariant.progress _ _ taken _ c.take.new.self refl c.in_ok-take.ensures c.requires.allowed (rw same at most) (c.is_whole.ensures.0 c.if-is_whole.true)
-          c.white_len.result c.white_len.ensures.value _ c.in_ok-push_piece.ensures.texts;
+          c.white_len.result c.white_len.ensures.value _ (rw c.requires.same at c.in_ok-push_piece.ensures.texts);
     }
 
 pub loop-parts-preserved : goal.loop-parts-preserved

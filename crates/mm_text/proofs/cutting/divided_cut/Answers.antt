@@ -11,18 +11,20 @@ use Rattle.mm_text.proofs.cutting.divided_cut.Goals as goal
 
 -- the bytes of a piece
 abbrev bytes_of : DividedPiece → List ℕ
-bytes_of piece = piece.text.items
+bytes_of piece = piece.text
 
 pub returns-in_err-from-clause-fault : goal.returns-in_err-from-clause-fault
-returns-in_err-from-clause-fault c = let p = err_from_is_err_and c.from_residual.result c.from_residual.ensures.1 in rw (p.1, p.2) c.in_err-from.ensures.fault
+returns-in_err-from-clause-fault c = let p = err_from_is_err_and c.from_residual.result c.from_residual.ensures.1 in rw (p.1, p.2) (rw c.as_slice-bytes.ensures at c.in_err-from.ensures.fault)
 
 pub returns-in_err-from-clause-fault_within : goal.returns-in_err-from-clause-fault_within
 returns-in_err-from-clause-fault_within c = cut_error_lies c.args.text.now c.from_residual.result (returns-in_err-from-clause-fault c)
 
 pub returns-clause-cut : goal.returns-clause-cut
 returns-clause-cut c =
-    let text = c.args.text.now in
-    rw c.in_ok-tail.ensures (subst (λ (bytes : List ℕ). IsCut text (map bytes_of c.cut_units.new.pieces.items) (ended bytes)) (sym (take_rest text c.in_ok-from.from)) c.in_ok-from.ensures.cut)
+    let bytes = c.as_slice-bytes.result.now in
+    let pieces = map bytes_of c.cut_units.new.pieces.items in
+    let rest = subst (λ (tail : List ℕ). IsCut bytes pieces (ended tail)) (sym (take_rest bytes c.in_ok-from.from)) c.in_ok-from.ensures.cut in
+    subst (λ (text : List ℕ). IsCut text pieces c.in_ok-tail.tail.items) c.as_slice-bytes.ensures (subst (λ (tail : List ℕ). IsCut bytes pieces tail) (sym c.in_ok-tail.ensures) rest)
 
 pub returns-clause-units : goal.returns-clause-units
 returns-clause-units c = each_units bytes_of c.cut_units.new.pieces.items c.in_ok-tail.tail.items (returns-clause-cut c).are_pieces

@@ -28,7 +28,7 @@ insert_piece-requires-clause-within c =
     let n = c.in_ok-number.number in
     let had = subst (λ (e : Edit). NamesPlace (asked e) view n) c.in-Insert.is c.in_ok-number.ensures.ok in
     let long : n < length (plain view) = omega (arith, had.there, length-map view.keyed (plain_file view.pieces)) in
-    omega (arith, bytes_more (plain view) n c.in-Insert.at c.in_ok-kept-in-Insert.kept.text.items long, c.bytes_held.ensures, c.in_ok-kept-in-Insert.ensures.fits)
+    omega (arith, bytes_more (plain view) n c.in-Insert.at c.in_ok-kept-in-Insert.kept.text long, c.bytes_held.ensures, c.in_ok-kept-in-Insert.ensures.fits)
 
 pub returns-in_err-insert_piece-in-Insert-clause-err : goal.returns-in_err-insert_piece-in-Insert-clause-err
 returns-in_err-insert_piece-in-Insert-clause-err c =
@@ -41,7 +41,7 @@ returns-in_ok-insert_piece-in-Insert-clause-ok c =
     let n = c.in_ok-number.number in
     let had = subst (λ (e : Edit). NamesPlace (asked e) view n) c.in-Insert.is c.in_ok-number.ensures.ok in
     let long : n < length (plain view) = omega (arith, had.there, length-map view.keyed (plain_file view.pieces)) in
-    let bytes = bytes_more (plain view) n c.in-Insert.at c.in_ok-kept-in-Insert.kept.text.items long in
+    let bytes = bytes_more (plain view) n c.in-Insert.at c.in_ok-kept-in-Insert.kept.text long in
     let done = c.in_ok-insert_piece-in-Insert.ensures.ok.done.means in
     let means = done ∙ ap (λ (t : List ℕ). with_pieces (plain view) n (insert (pieces_in (plain view) n) c.in-Insert.at t)) c.in_ok-kept-in-Insert.ensures.unit.whole in
     subst (λ (edit : Edit). IsEditOf (asked edit) (plain view) (plain c.insert_piece.new.self)) (sym c.in-Insert.is)
@@ -66,7 +66,7 @@ replace_piece-requires-clause-within c =
     let had = subst (λ (e : Edit). NamesPlace (asked e) view n) c.in-Replace.is c.in_ok-number.ensures.ok in
     let long : n < length (plain view) = omega (arith, had.there, length-map view.keyed (plain_file view.pieces)) in
     let within : c.in-Replace.at < length (pieces_in (plain view) n) = omega (arith, had.among, count_members view.pieces view.keyed n) in
-    omega (arith, bytes_other (plain view) n c.in-Replace.at c.in_ok-kept-in-Replace.kept.text.items long within, c.bytes_without.ensures, c.in_ok-kept-in-Replace.ensures.fits)
+    omega (arith, bytes_other (plain view) n c.in-Replace.at c.in_ok-kept-in-Replace.kept.text long within, c.bytes_without.ensures, c.in_ok-kept-in-Replace.ensures.fits)
 
 pub returns-in_err-replace_piece-in-Replace-clause-err : goal.returns-in_err-replace_piece-in-Replace-clause-err
 returns-in_err-replace_piece-in-Replace-clause-err c =
@@ -80,7 +80,7 @@ returns-in_ok-replace_piece-in-Replace-clause-ok c =
     let had = subst (λ (e : Edit). NamesPlace (asked e) view n) c.in-Replace.is c.in_ok-number.ensures.ok in
     let long : n < length (plain view) = omega (arith, had.there, length-map view.keyed (plain_file view.pieces)) in
     let within : c.in-Replace.at < length (pieces_in (plain view) n) = omega (arith, had.among, count_members view.pieces view.keyed n) in
-    let bytes = bytes_other (plain view) n c.in-Replace.at c.in_ok-kept-in-Replace.kept.text.items long within in
+    let bytes = bytes_other (plain view) n c.in-Replace.at c.in_ok-kept-in-Replace.kept.text long within in
     let done = c.in_ok-replace_piece-in-Replace.ensures.ok.done.means in
     let means = done ∙ ap (λ (t : List ℕ). with_pieces (plain view) n (set (pieces_in (plain view) n) c.in-Replace.at t)) c.in_ok-kept-in-Replace.ensures.unit.whole in
     subst (λ (edit : Edit). IsEditOf (asked edit) (plain view) (plain c.replace_piece.new.self)) (sym c.in-Replace.is)

@@ -84,7 +84,7 @@ invariant_of-self-2 c =
     let n = c.args.number in
     let at = c.args.at in
     let k = c.in_ok-key.key in
-    let t = c.args.kept.text.items in
+    let t = c.args.kept.text in
     let inside : Inside = record { files = with_value_at c.self.inside.files n c.reserve_one.new.self; pieces = c.self.inside.pieces; bytes = c.self.inside.bytes } in
     let fs : List KeyedFile = map keyed_file inside.files.entries in
     let p = inside.pieces in
@@ -99,7 +99,7 @@ invariant_of-self-2 c =
     let now = c.put_key.ensures in
     kept_edited inside n c.unwrap-file_again.result.now c.put_key.new.self again.here now.tail (insert (keys_in fs n) at k) (now.items ∙ ap (λ ks. insert ks at k) (sym again.keys))
     c.put.new.self (finite.insert p k (standing_piece t)) put _ made.0 (lemmas.once_inserted fs p n at once k t there fresh) (λ m d. same m) (now.deleted ∙ again.has.parked ∙ sym (same n)) now.room
-    (omega (arith, bytes, made.0.counted, c.len-more.ensures, c.args.kept.text.ok.0)) (omega (arith, bytes, made.0.counted, c.len-more.ensures, c.args.kept.text.ok.0, allowed, ap bytes_of means))
+    (omega (arith, bytes, made.0.counted, c.len-more.ensures.value)) (omega (arith, bytes, made.0.counted, c.len-more.ensures.value, allowed, ap bytes_of means))
     (insert (pieces_in (map (plain_file p) fs) n) at t) means (finite.insert p k (standing_piece t)) refl there (subst (λ m. KnowsStarts m c.put_key.new.self) put (now.starts c.put.new.self
     (starts_here p c.put.new.self inside.files.entries n c.unwrap-file_again.result.now made.0.starts again.here (ap (λ m. map (text_under m) (keys_in fs n)) put ∙ lemmas.texts_left fs p n at once k t there fresh))))
 
@@ -112,7 +112,7 @@ returns-clause-ok c =
     let n = c.args.number in
     let at = c.args.at in
     let k = c.in_ok-key.key in
-    let t = c.args.kept.text.items in
+    let t = c.args.kept.text in
     let inside : Inside = record { files = with_value_at c.self.inside.files n c.reserve_one.new.self; pieces = c.self.inside.pieces; bytes = c.self.inside.bytes } in
     let fs : List KeyedFile = map keyed_file inside.files.entries in
     let now = c.put_key.ensures in

@@ -22,7 +22,7 @@ use Rattle.mm_store.proofs.files.Files.put_last.Goals as goal
 
 -- the bytes of a piece
 abbrev bytes_of_piece : DividedPiece → List ℕ
-bytes_of_piece piece = piece.text.items
+bytes_of_piece piece = piece.text
 
 pub kept_pieces-requires-clause-texts : goal.kept_pieces-requires-clause-texts
 kept_pieces-requires-clause-texts c =
@@ -34,8 +34,8 @@ kept_pieces-requires-clause-texts c =
 pub invariant_of-self-2 : goal.invariant_of-self-2
 invariant_of-self-2 c =
     let inside = c.self.inside in
-    let texts = map (λ (piece : PieceText). piece.text.items) c.in_ok-kept.kept.items in
-    let cut = map (λ (piece : DividedPiece). piece.text.items) c.args.cut.pieces.items in
+    let texts = map (λ (piece : PieceText). piece.text) c.in_ok-kept.kept.items in
+    let cut = map (λ (piece : DividedPiece). piece.text) c.args.cut.pieces.items in
     let keys = c.from_vec.result in
     let put : ArePut inside.pieces texts keys.items c.put_all.new.self = subst (λ ks. ArePut inside.pieces texts ks c.put_all.new.self) (sym c.from_vec.ensures.items) c.in_ok-keys.ensures.ok in
     let missing : position (λ key. bytes_eq c.args.name.now key.items) (keys_of inside.files.entries) ≡ None =
@@ -51,8 +51,8 @@ invariant_of-self-2 c =
     let e : Vec ℕ Global × FileText = (c.in_ok-name.name, value) in
     let after : Inside = record { files = c.insert.new.self; pieces = c.put_all.new.self; bytes = inside.bytes + c.args.bytes } in
     let held : bytes_of (plain c.args.self.now) ≡ inside.bytes = ap (λ (v : FilesView). bytes_of (plain v)) (sym c.self.view_is) ∙ sym c.self.invariant.counted in
-    let starts : AreStarts texts c.in_ok-starts.starts.items = subst (λ (ps : List PieceText). AreStarts (map (λ (piece : PieceText). piece.text.items) ps) c.in_ok-starts.starts.items) c.deref.ensures.value c.in_ok-starts.ensures.starts in
-    let count = length-map c.in_ok-kept.kept.items (λ (piece : PieceText). piece.text.items) in
+    let starts : AreStarts texts c.in_ok-starts.starts.items = subst (λ (ps : List PieceText). AreStarts (map (λ (piece : PieceText). piece.text) ps) c.in_ok-starts.starts.items) c.deref.ensures.value c.in_ok-starts.ensures.starts in
+    let count = length-map c.in_ok-kept.kept.items (λ (piece : PieceText). piece.text) in
     let has : HasStarts texts value = record {
       known = omega (arith, c.len-known.ensures, c.in_ok-kept.kept.ok.0, count);
       starts = λ number default le. starts number default (omega (arith, le, c.len-known.ensures, c.in_ok-kept.kept.ok.0, count));
@@ -61,7 +61,7 @@ invariant_of-self-2 c =
     kept_added inside c.self.invariant e texts c.put_all.new.self put after entries refl refl
     (record {
       keys = omega (arith, c.from_vec.ensures.len, c.from_vec.ensures.capacity, c.in_ok-keys.keys.ok.1);
-      starts = omega (arith, keys.ok.0, many, length-map c.in_ok-kept.kept.items (λ (piece : PieceText). piece.text.items), c.in_ok-starts.ensures.many, ap length c.deref.ensures.value);
+      starts = omega (arith, keys.ok.0, many, length-map c.in_ok-kept.kept.items (λ (piece : PieceText). piece.text), c.in_ok-starts.ensures.many, ap length c.deref.ensures.value);
     })
     has (tail_of cut c.args.cut.tail.items c.requires.pieces)
     (omega (arith, c.requires.counted, ap (λ (ts : List (List ℕ)). length (concat ts ++ c.args.cut.tail.items)) c.in_ok-kept.ensures.texts)) (omega (arith, held, c.requires.fits))
@@ -69,7 +69,7 @@ invariant_of-self-2 c =
 pub returns-clause-ok : goal.returns-clause-ok
 returns-clause-ok c =
     let inside = c.self.inside in
-    let texts = map (λ (piece : PieceText). piece.text.items) c.in_ok-kept.kept.items in
+    let texts = map (λ (piece : PieceText). piece.text) c.in_ok-kept.kept.items in
     let keys = c.from_vec.result in
     let put : ArePut inside.pieces texts keys.items c.put_all.new.self = subst (λ ks. ArePut inside.pieces texts ks c.put_all.new.self) (sym c.from_vec.ensures.items) c.in_ok-keys.ensures.ok in
     let missing : position (λ key. bytes_eq c.args.name.now key.items) (keys_of inside.files.entries) ≡ None =
@@ -91,12 +91,12 @@ returns-clause-ok c =
 
 pub returns-clause-keeps : goal.returns-clause-keeps
 returns-clause-keeps c =
-    let texts = map (λ (piece : PieceText). piece.text.items) c.in_ok-kept.kept.items in
+    let texts = map (λ (piece : PieceText). piece.text) c.in_ok-kept.kept.items in
     let old : c.self.inside.pieces ≡ c.args.self.now.pieces = ap (λ (v : FilesView). v.pieces) c.self.view_is in
     let put : ArePut c.args.self.now.pieces texts c.in_ok-keys.keys.items c.put_all.new.self = subst (λ p. ArePut p texts c.in_ok-keys.keys.items c.put_all.new.self) old c.in_ok-keys.ensures.ok in
     put_keeps c.args.self.now.pieces c.put_all.new.self texts c.in_ok-keys.keys.items put
 
 pub returns-clause-parked : goal.returns-clause-parked
 returns-clause-parked c =
-    let texts = map (λ (piece : PieceText). piece.text.items) c.in_ok-kept.kept.items in
+    let texts = map (λ (piece : PieceText). piece.text) c.in_ok-kept.kept.items in
     parked_all c.self.inside.pieces c.put_all.new.self texts c.in_ok-keys.keys.items c.in_ok-keys.ensures.ok ∙ ap (λ (v : FilesView). parked_pieces v.pieces) c.self.view_is

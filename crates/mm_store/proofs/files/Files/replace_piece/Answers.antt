@@ -34,7 +34,7 @@ set_state-less-requires c =
     let piece = piece_is c.self.inside c.args.number c.args.at c.self.invariant c.self.view_is c.requires.there in
     let file = lent inside n c.self.invariant c.get_index_mut.ensures.value c.unwrap-file.ensures in
     ap is_some (ap (finite.get c.put.new.self) (old_key file at c.replace_key-old.ensures.value) ∙ ap (λ p. finite.get p (get_or (keys_in fs n) at 0)) c.in_ok-key.ensures.ok)
-    ∙ lemmas.old_is_some fs inside.pieces n at c.in_ok-key.key c.args.kept.text.items c.self.invariant.once piece.there c.in_ok-key.ensures.fresh
+    ∙ lemmas.old_is_some fs inside.pieces n at c.in_ok-key.key c.args.kept.text c.self.invariant.once piece.there c.in_ok-key.ensures.fresh
 
 pub overflow_sub-self : goal.overflow_sub-self
 overflow_sub-self c =
@@ -44,7 +44,7 @@ overflow_sub-self c =
     let fs : List KeyedFile = map keyed_file inside.files.entries in
     let piece = piece_is c.self.inside c.args.number c.args.at c.self.invariant c.self.view_is c.requires.there in
     let file = lent inside n c.self.invariant c.get_index_mut.ensures.value c.unwrap-file.ensures in
-    let same = lemmas.old_text fs inside.pieces n at c.in_ok-key.key c.args.kept.text.items c.self.invariant.once piece.there c.in_ok-key.ensures.fresh in
+    let same = lemmas.old_text fs inside.pieces n at c.in_ok-key.key c.args.kept.text c.self.invariant.once piece.there c.in_ok-key.ensures.fresh in
     let text = ap (text_under c.put.new.self) (old_key file at c.replace_key-old.ensures.value) ∙ ap (λ p. text_under p (get_or (keys_in fs n) at 0)) c.in_ok-key.ensures.ok ∙ same in
     omega (arith, c.set_state-less.ensures.len, ap length text, piece.within)
 
@@ -55,7 +55,7 @@ invariant_of-self-2 c =
     let inside = c.self.inside in
     let fs : List KeyedFile = map keyed_file inside.files.entries in
     let k = c.in_ok-key.key in
-    let t = c.args.kept.text.items in
+    let t = c.args.kept.text in
     let p = inside.pieces in
     let once = c.self.invariant.once in
     let fresh = c.in_ok-key.ensures.fresh in
@@ -78,8 +78,8 @@ invariant_of-self-2 c =
     kept_edited inside n c.unwrap-file.result.now c.replace_key-old.new.self file.here done.tail newkeys (done.items ∙ ap (λ ks. set ks at k) (sym file.keys)) c.set_state-less.new.self p2 now _ c.self.invariant
     (lemmas.once_replaced fs p n at k t once there fresh) (λ m d. lemmas.deletions_replaced fs p n at k t once there fresh m)
     (done.deleted ∙ file.has.parked ∙ sym (lemmas.deletions_replaced fs p n at k t once there fresh n)) done.room
-    (omega (arith, bytes, c.self.invariant.counted, text, c.set_state-less.ensures.len, c.len-more.ensures, c.args.kept.text.ok.0, piece.within))
-    (omega (arith, bytes, c.self.invariant.counted, text, c.set_state-less.ensures.len, c.len-more.ensures, c.args.kept.text.ok.0, piece.within, allowed, ap bytes_of means))
+    (omega (arith, bytes, c.self.invariant.counted, text, c.set_state-less.ensures.len, c.len-more.ensures.value, piece.within))
+    (omega (arith, bytes, c.self.invariant.counted, text, c.set_state-less.ensures.len, c.len-more.ensures.value, piece.within, allowed, ap bytes_of means))
     members means p1 (lemmas.texts_replaced fs p n at k t once there fresh) piece.file (subst (λ m. KnowsStarts m c.replace_key-old.new.self) put (done.starts c.put.new.self
     (starts_here p c.put.new.self inside.files.entries n c.unwrap-file.result.now c.self.invariant.starts file.here (ap (λ m. map (text_under m) (keys_in fs n)) put ∙ lemmas.texts_left fs p n at k t once there fresh))))
 
@@ -90,7 +90,7 @@ returns-clause-ok c =
     let inside = c.self.inside in
     let fs : List KeyedFile = map keyed_file inside.files.entries in
     let k = c.in_ok-key.key in
-    let t = c.args.kept.text.items in
+    let t = c.args.kept.text in
     let file = lent inside n c.self.invariant c.get_index_mut.ensures.value c.unwrap-file.ensures in
     let done = c.replace_key-old.ensures in
     let old : c.replace_key-old.result ≡ get_or (keys_in fs n) at 0 = old_key file at done.value in

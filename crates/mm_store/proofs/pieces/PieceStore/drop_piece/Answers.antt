@@ -35,4 +35,4 @@ returns-in-Some-clause-pieces c = drop_is c.self.inside.slab c.try_remove.new.se
 pub returns-in-Some-clause-len : goal.returns-in-Some-clause-len
 returns-in-Some-clause-len c =
     let text = text_is c.self.inside.slab c.args.key c.args.self.now c.in-Some.piece c.self.view_is (sym c.in-Some.ensures.value) in
-    omega (arith, c.len.ensures, c.in-Some.piece.kept.text.ok.0, ap length text)
+    omega (arith, c.len.ensures.value, ap length text)

@@ -10,9 +10,9 @@ lines_before-requires c =
     let kept = c.self.invariant.kept c.args.key c.in-Some.piece.now (sym c.in-Some.ensures) in
     let text = text_is c.self.inside.slab c.args.key c.args.self.now c.in-Some.piece.now c.self.view_is (sym c.in-Some.ensures) in
     record {
-      marked = rw (c.deref.ensures.value, c.deref-in-Some.ensures.value) kept.marked;
-      small = rw c.deref.ensures.value kept.text.small;
-      within = omega (arith, ap length text, ap length c.deref.ensures.value, c.requires);
+      marked = rw (c.as_slice.ensures, c.deref.ensures.value) kept.marked;
+      small = rw c.as_slice.ensures kept.text.small;
+      within = omega (arith, ap length text, ap length c.as_slice.ensures, c.requires);
     }
 
 pub returns-in-None : goal.returns-in-None
@@ -24,4 +24,4 @@ returns-in-None c =
 pub returns-in-Some : goal.returns-in-Some
 returns-in-Some c =
     let text = text_is c.self.inside.slab c.args.key c.args.self.now c.in-Some.piece.now c.self.view_is (sym c.in-Some.ensures) in
-    subst (λ t. AreLines (take c.args.at t) c.lines_before.result) (c.deref.ensures.value ∙ sym text) c.lines_before.ensures
+    subst (λ t. AreLines (take c.args.at t) c.lines_before.result) (c.as_slice.ensures ∙ sym text) c.lines_before.ensures

@@ -15,7 +15,7 @@ returns-clause-fresh c = ap (λ m. finite.get m c.in_ok-insert.field-0) (sym c.s
 
 pub returns-clause-ok : goal.returns-clause-ok
 returns-clause-ok c = put_is c.self.inside.slab c.insert.new.self c.in_ok-insert.field-0 (record { kept = c.args.kept; state = Standing })
-    c.in_ok-insert.ensures.updates ∙ ap (λ m. finite.insert m c.in_ok-insert.field-0 (standing_piece c.args.kept.text.items)) c.self.view_is
+    c.in_ok-insert.ensures.updates ∙ ap (λ m. finite.insert m c.in_ok-insert.field-0 (standing_piece c.args.kept.text)) c.self.view_is
 
 pub invariant_of-self : goal.invariant_of-self
 invariant_of-self c = record {
@@ -31,5 +31,5 @@ invariant_of-self-2 c =
     let fresh : finite.get (pieces_of slab) key ≡ None = get_is slab key ∙ ap (option_map held) c.in_ok-insert.ensures.was_vacant in
     record {
       kept = kept_put slab c.insert.new.self key piece c.in_ok-insert.ensures.updates c.requires c.self.invariant.kept;
-      counted = c.self.invariant.counted ∙ sym (parked_put (pieces_of slab) key c.args.kept.text.items fresh) ∙ ap parked_pieces (sym (put_is slab c.insert.new.self key piece c.in_ok-insert.ensures.updates));
+      counted = c.self.invariant.counted ∙ sym (parked_put (pieces_of slab) key c.args.kept.text fresh) ∙ ap parked_pieces (sym (put_is slab c.insert.new.self key piece c.in_ok-insert.ensures.updates));
     }

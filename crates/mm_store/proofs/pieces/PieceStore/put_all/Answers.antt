@@ -16,7 +16,7 @@ pub invariant_of-self-2 : goal.invariant_of-self-2
 invariant_of-self-2 c =
     let put = c.put_each.ensures in
     let before : AreKeptIn c.reserve.new.self = subst AreKeptIn (sym c.reserve.ensures.rest_kept) c.self.invariant.kept in
-    let texts = map (λ (piece : PieceText). piece.text.items) c.args.pieces.items in
+    let texts = map (λ (piece : PieceText). piece.text) c.args.pieces.items in
     record {
       kept = kept_all c.reserve.new.self c.put_each.new.slab c.args.pieces.items put.0 put.2 c.requires before;
       counted = c.self.invariant.counted ∙ ap (λ s. parked_pieces (pieces_of s)) (sym c.reserve.ensures.rest_kept)
@@ -26,7 +26,7 @@ invariant_of-self-2 c =
 pub returns-clause-ok : goal.returns-clause-ok
 returns-clause-ok c =
     let put = c.put_each.ensures in
-    let texts = map (λ (piece : PieceText). piece.text.items) c.args.pieces.items in
+    let texts = map (λ (piece : PieceText). piece.text) c.args.pieces.items in
     let keys : put.0 ≡ c.put_each.new.keys.items = sym (put.1 ∙ ap (λ ks. ks ++ put.0) c.in_ok-keys.ensures.items) in
     let old : pieces_of c.reserve.new.self ≡ c.args.self.now = ap pieces_of c.reserve.ensures.rest_kept ∙ c.self.view_is in
     let are = are_put c.reserve.new.self c.put_each.new.slab c.args.pieces.items put.0 put.2 in

@@ -65,5 +65,5 @@ returns-in-Some c =
     let text = text_is c.self.inside.slab c.args.key c.args.self.now c.in-Some.piece.now c.self.view_is (sym c.in-Some.ensures.value) in
     record {
       pieces = state_is c.self.inside.slab c.args.key c.in-Some.piece.now c.args.state (sym c.in-Some.ensures.value) ∙ ap (λ m. with_state m c.args.key (piece_state c.args.state)) c.self.view_is;
-      len = omega (arith, c.len-in-Some.ensures, c.in-Some.piece.now.kept.text.ok.0, ap length text);
+      len = omega (arith, c.len-in-Some.ensures.value, ap length text);
     }

@@ -19,6 +19,6 @@ returns c =
     let text = text_is c.self.inside.slab c.args.key c.args.self.now c.unwrap-piece.result.now c.self.view_is there in
     let kept = c.self.invariant.kept c.args.key c.unwrap-piece.result.now there in
     record {
-      text = c.deref.ensures.value ∙ sym text;
-      small = rw c.deref.ensures.value kept.text.small;
+      text = c.as_slice.ensures ∙ sym text;
+      small = rw c.as_slice.ensures kept.text.small;
     }

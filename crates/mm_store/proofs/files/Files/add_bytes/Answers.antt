@@ -9,7 +9,7 @@ use Rattle.mm_store.specs.Language.FilesView.{File, FilesView, plain, file_numbe
 use Rattle.mm_store.specs.Language.Answers.{store_error_of, IsAddError, IsAddErrorIn}
 use Rattle.mm_store.proofs.lemmas.files.AddLemmas.{bytes_more}
 use Rattle.mm_store.proofs.lemmas.edits.EditLemmas.{if_err}
-use Rattle.mm_store.proofs.files.Files.add.Goals as goal
+use Rattle.mm_store.proofs.files.Files.add_bytes.Goals as goal
 
 no_number : (number : Option ℕ) → is_some number ≡ false → number ≡ None
 no_number None none = refl
@@ -25,7 +25,7 @@ fault_lies text (Fault fault) within = within
 fault_lies text Memory within = tt
 
 pub put_last-requires-clause-counted : goal.put_last-requires-clause-counted
-put_last-requires-clause-counted c = c.ended_len-more.ensures ∙ sym (ap length c.in_ok-cut.ensures.cut.joined)
+put_last-requires-clause-counted c = (rw c.as_slice.ensures at c.ended_len-more.ensures) ∙ sym (ap length c.in_ok-cut.ensures.cut.joined)
 
 pub put_last-requires-clause-fits : goal.put_last-requires-clause-fits
 put_last-requires-clause-fits c =
@@ -38,10 +38,10 @@ returns-then-not-fits-clause-err c =
     let missing : file_number (plain c.args.self.now) c.args.name.now ≡ None = sym c.number_of.ensures.number ∙ no_number c.number_of.result (sym c.is_some.ensures ∙ c.if-is_some.false) in (
       missing,
       record {
-        pieces = map (λ (piece : DividedPiece). piece.text.items) c.in_ok-cut.cut.pieces.items;
+        pieces = map (λ (piece : DividedPiece). piece.text) c.in_ok-cut.cut.pieces.items;
         tail = c.in_ok-cut.cut.tail.items;
         is_cut = c.in_ok-cut.ensures.cut;
-        too_many = grind (arith, held, c.ended_len-more.ensures, c.fits.ensures.0, c.fits.ensures.1);
+        too_many = grind (arith, held, (rw c.as_slice.ensures at c.ended_len-more.ensures), c.fits.ensures.0, c.fits.ensures.1);
       },
     )
 
@@ -61,7 +61,7 @@ returns-in_err-cut-clause-fault_within c =
 pub returns-clause-within : goal.returns-clause-within
 returns-clause-within c =
     let held : bytes_of (plain c.args.self.now) ≡ c.self.inside.bytes = ap (λ (v : FilesView). bytes_of (plain v)) (sym c.self.view_is) ∙ sym c.self.invariant.counted in
-    let file : File = record { name = c.args.name.now; pieces = map (λ (piece : DividedPiece). piece.text.items) c.in_ok-cut.cut.pieces.items; tail = c.in_ok-cut.cut.tail.items } in
+    let file : File = record { name = c.args.name.now; pieces = map (λ (piece : DividedPiece). piece.text) c.in_ok-cut.cut.pieces.items; tail = c.in_ok-cut.cut.tail.items } in
     let joined = ap length c.in_ok-cut.ensures.cut.joined in
     let more = bytes_more (plain c.args.self.now) file in
-    grind (arith, ap bytes_of c.in_ok-put_last.ensures.ok, more, joined, held, c.ended_len-more.ensures, c.fits.ensures.0, c.fits.ensures.1)
+    grind (arith, ap bytes_of c.in_ok-put_last.ensures.ok, more, joined, held, (rw c.as_slice.ensures at c.ended_len-more.ensures), c.fits.ensures.0, c.fits.ensures.1)
