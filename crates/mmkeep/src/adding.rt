@@ -82,7 +82,7 @@ pub fn add_file<R: Read + Drop>(
 {
     let mut reading = Reading::new(file);
     match read_all(alloc, &mut reading) {
-        Ok(text) => add_text(files, name, shared(text)?),
+        Ok(text) => add_text(files, name, &shared(text)?),
         Err(error) => Err(error),
     }
 }
@@ -95,14 +95,14 @@ fn shared(bytes: Vec<u8>) -> Result<Bytes, AllocError>
 }
 
 /// Adds a text under a name that no file has.
-fn add_text(files: &mut Files, name: &[u8], text: Bytes) -> Result<(), FileError>
+fn add_text(files: &mut Files, name: &[u8], text: &Bytes) -> Result<(), FileError>
     requires { IsNew files.old name.now }
-    ensures added { OnOk result (IsAdded (plain files.old) (plain files.new) name.now text) }
+    ensures added { OnOk result (IsAdded (plain files.old) (plain files.new) name.now text.now) }
     ensures parked { OnOk result (parked_in files.new ≡ parked_in files.old) }
-    ensures refused { IfErr result (IsTextError (plain files.old) text) }
+    ensures refused { IfErr result (IsTextError (plain files.old) text.now) }
     ensures unchanged { OnErr result (files.new ≡ files.old) }
 {
-    match files.add_bytes(name, &text) {
+    match files.add_bytes(name, text) {
         Ok(()) => Ok(()),
         Err(error) => Err(reason(text.as_slice(), error)),
     }
