@@ -14,7 +14,7 @@ ghost use Rattle.mm_proof.specs.Code.DecodedProof.{IsDecoded, IsJudgedProof, OfD
 ghost use Rattle.mm_proof.specs.Code.Judged.{HasProof, IsOutcomeWithin, OfProof, done_by};
 ghost use Rattle.mm_proof.specs.Language.ReadIn.{HasTheorem, OfTheorem};
 ghost use Rattle.mm_proof.specs.Code.Tasks.{RunSays, StopsAt};
-ghost use Rattle.mm_proof.specs.Code.UsedLabels.{AreMarks, AreUsed};
+ghost use Rattle.mm_proof.specs.Code.UsedLabels.{AreUseMarks, AreUsed};
 ghost use Rattle.mm_proof.specs.declared.step.Undecoded.TheVariants as errors;
 
 use crate::active::Active;
@@ -201,7 +201,7 @@ fn judge_steps(
     proof: DecodedProof,
 ) -> Result<(Checked, u64), AllocError>
     requires decoded { IsDecoded proof }
-    requires marks { AreMarks (length proof.decoding.now.labels.items) marks.now proof.decoding.now.steps.items }
+    requires marks { AreUseMarks (length proof.decoding.now.labels.items) marks.now proof.decoding.now.steps.items }
     ensures says { IfOk result (λ judged. OfDecoded proof.entry (λ view. IsJudgedProof view proof.entry.i judged)) }
     ensures few { IfOk result (λ judged. judged.1 ≤ 4294967295) }
 {
@@ -295,7 +295,7 @@ pub fn check(
     let mut scratch = work.lend(alloc);
     scratch.widen(base.count(), names.count())?;
     let (checked, done) = judge(alloc, &mut scratch, base, i, &proof)?;
-    work.keep(scratch)?;
+    work.take_back(scratch)?;
     work.record(i, done)?;
     Ok(checked)
 }

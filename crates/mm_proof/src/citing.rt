@@ -16,7 +16,7 @@ use mm_frame::{ProofWords, Resolved};
 use std::alloc::{AllocError, Global};
 
 /// Marks a number.
-fn put(marks: &mut Vec<bool>, j: usize) -> Result<(), AllocError>
+fn mark(marks: &mut Vec<bool>, j: usize) -> Result<(), AllocError>
     ensures { OnOk result ((i : ℕ) → marked_at marks.new.items i ≡ (marked_at marks.old.items i || nat_eq j i)) }
 {
     if j < marks.len() {
@@ -29,7 +29,7 @@ fn put(marks: &mut Vec<bool>, j: usize) -> Result<(), AllocError>
 }
 
 /// Takes the mark from a number. Answers whether it was there.
-fn take(marks: &mut Vec<bool>, j: usize) -> bool
+fn unmark(marks: &mut Vec<bool>, j: usize) -> bool
     ensures was { result ≡ marked_at marks.old.items j }
     ensures left { (i : ℕ) → marked_at marks.new.items i ≡ without (marked_at marks.old.items) j i }
 {
@@ -47,7 +47,7 @@ fn forget(marks: &mut Vec<bool>, labels: &[Resolved])
 {
     for label in labels {
         if let Resolved::Assertion(j) = *label {
-            take(&mut *marks, j);
+            unmark(&mut *marks, j);
         }
     }
 }
@@ -59,7 +59,7 @@ fn named(marks: &mut Vec<bool>, labels: &[Resolved], used: &[Resolved]) -> Resul
     forget(&mut *marks, labels);
     for label in used {
         if let Resolved::Assertion(j) = *label {
-            put(&mut *marks, j)?;
+            mark(&mut *marks, j)?;
         }
     }
     Ok(())
@@ -77,7 +77,7 @@ fn cite(
         ≡ words.old.items ++ item_cites (marked_at left.old.items) word (label ∷ labels)) }
 {
     if let Resolved::Assertion(j) = label {
-        if take(&mut *left, j) {
+        if unmark(&mut *left, j) {
             words.push(word)?;
         }
     }

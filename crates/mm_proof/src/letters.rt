@@ -7,7 +7,7 @@ ghost use Rattle.mm_proof.specs.Language.Decoding.{nameable, named as named_lem}
 ghost use Rattle.mm_proof.specs.Code.LeftToRight.{read_behind, alone_behind, read_on};
 ghost use Rattle.mm_proof.specs.Language.DecodedSteps.{meant};
 ghost use Rattle.mm_proof.specs.Code.Coded.{TellsSteps, meant_or, meant_steps, LettersGive};
-ghost use Rattle.mm_proof.specs.Code.UsedLabels.{AreMarks, IsLabelWithin};
+ghost use Rattle.mm_proof.specs.Code.UsedLabels.{AreUseMarks, IsLabelWithin};
 
 use crate::step::{Action, ProofFault, ProofStep, Undecoded};
 use crate::used::mark;
@@ -123,7 +123,7 @@ pub struct LetterReader {
     used: Vec<bool>,
     ghost few_labels: { labels < 2 ^ 63 },
     ghost few_saves: { saves ≤ length steps.items },
-    ghost marked: { AreMarks labels used.items steps.items },
+    ghost marked: { AreUseMarks labels used.items steps.items },
 }
 
 impl LetterReader {
@@ -208,7 +208,7 @@ impl LetterReader {
 
     /// The steps, or the fault of digits that no letter follows.
     fn end(self, close: Spot) -> Result<MarkedSteps, Undecoded>
-        ensures marks { IfOk result (λ read. AreMarks self.labels read.used.items read.steps.items) }
+        ensures marks { IfOk result (λ read. AreUseMarks self.labels read.used.items read.steps.items) }
         ensures ok { IfOk result (λ read. (aim : Aim) → aim.close ≡ close → ReadsLetters aim self []
             → aim.total ≡ Ok (meant_steps aim.names read.steps.items)) }
         ensures err { IfErr result (λ e. (aim : Aim) → aim.close ≡ close → ReadsLetters aim self [] → TellsSteps e aim.total) }
@@ -238,7 +238,7 @@ pub fn read_letters(
 ) -> Result<MarkedSteps, Undecoded>
     requires few { from + length words.old < 2 ^ 64 }
     requires labels { labels < 2 ^ 63 }
-    ensures marks { IfOk result (λ read. AreMarks labels read.used.items read.steps.items) }
+    ensures marks { IfOk result (λ read. AreUseMarks labels read.used.items read.steps.items) }
     ensures ok { IfOk result (λ read. LettersGive labels words.old from (λ names given. given ≡ Ok (meant_steps names read.steps.items))) }
     ensures err { IfErr result (λ e. LettersGive labels words.old from (λ names given. TellsSteps e given)) }
 {

@@ -186,7 +186,7 @@ impl<S: Kept> Machine<S> {
 
     /// Takes the entries of mandatory hypotheses and puts the expression under the substitution there. Answers the lowest
     /// number of what is wrong, if anything is.
-    fn take<'a>(
+    fn cite_frame<'a>(
         &mut self,
         alloc: Global,
         expression: &'a [S],
@@ -257,7 +257,7 @@ impl<S: Kept> Machine<S> {
             (state_of S.means self.old).stack)) }
         ensures saved { OnOk result ((state_of S.means self.new).saved ≡ (state_of S.means self.old).saved) }
     {
-        self.take(
+        self.cite_frame(
             alloc,
             cited.expression,
             &mandatory[cited.first..cited.last],

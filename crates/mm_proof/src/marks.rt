@@ -8,7 +8,7 @@ ghost use Rattle.mm_proof.specs.Code.InStep.{AreOrdinalsOf, HasLevel, IsStepAt, 
 ghost use Rattle.mm_proof.specs.Code.KeptMarks.{OfBases, AreTheorems, SharePairs, ShareFrame, IsCompared, IsComparedOf, IsHypothesisMark, IsOneHypothesis, AreHypothesisMarks, kept_mark};
 ghost use Rattle.mm_proof.specs.Language.BaseMarks.{AreMarks, HaveOneLabel, IsMark, KeepsLabels, mark_at};
 
-use crate::ordinals::{Ordinals, end_alike, is_labelled, small, wide};
+use crate::ordinals::{Ordinals, end_alike, in_full_width, is_labelled, narrowed};
 use mm_frame::{
     Base, Names, has_own_labels, labels_mean, same_active_pairs, same_but_hypotheses,
     same_but_pairs, same_expression,
@@ -205,7 +205,7 @@ fn mark_of(
         return (NO_MARK, last);
     };
     let mark = Mark {
-        old: Some(small(old, i)),
+        old: Some(narrowed(old, i)),
         frame: same_frames(old, i, new, j, marks),
         hypothesis: same_hypothesis(old, i, new, j),
         ..NO_MARK
@@ -224,7 +224,7 @@ fn keeps_place(new: &Base, j: usize, ordinals: &Ordinals, mark: Mark) -> bool
     ensures { IsTrue result → (old : BaseAnswers) → AreOrdinalsOf old new.now ordinals.now
         → OfBases old new.now (λ base copy. IsMark base copy j (kept_mark mark) → HasLevel base copy j) }
 {
-    match wide(mark.old) {
+    match in_full_width(mark.old) {
         Some(i) => ordinals.are_same(i, j),
         None => !is_labelled(new, j),
     }
@@ -236,7 +236,7 @@ fn is_alike(old: &Base, new: &Base, j: usize, ordinals: &Ordinals, mark: Mark) -
     ensures { IsTrue result → IsHypothesisMark old.now new.now j mark
         → OfBases old.now new.now (λ base copy. IsMark base copy j (kept_mark mark) → (i : ℕ) → HaveOneLabel base copy i j → MeanOne base copy i j) }
 {
-    match wide(mark.old) {
+    match in_full_width(mark.old) {
         Some(i) => mark.frame || mark.hypothesis && end_alike(old, i, new, j, ordinals),
         None => true,
     }
@@ -313,7 +313,7 @@ fn marked(
         last,
         in_step: alike || here,
         changed: here,
-        expected: next_expected(old, wide(mark.old), step.expected),
+        expected: next_expected(old, in_full_width(mark.old), step.expected),
     };
     let mark = Mark {
         in_step: placed,
@@ -365,7 +365,7 @@ impl Marks {
         ensures { result ≡ (mark_at self.now j).old }
     {
         match self.marks.get(j) {
-            Some(mark) => wide(mark.old),
+            Some(mark) => in_full_width(mark.old),
             None => None,
         }
     }

@@ -18,7 +18,7 @@ pub struct Ordinals {
 }
 
 /// The same number in half the room. No base has more items than there are such numbers.
-pub fn small(base: &Base, n: usize) -> u32
+pub fn narrowed(base: &Base, n: usize) -> u32
     ensures { (view : BaseView) → IsBase view base.now → n ≤ length view.said → result ≡ n }
 {
     let _count = base.count();
@@ -26,7 +26,7 @@ pub fn small(base: &Base, n: usize) -> u32
 }
 
 /// The same number in its full width, if there is one.
-pub fn wide(number: Option<u32>) -> Option<usize>
+pub fn in_full_width(number: Option<u32>) -> Option<usize>
     ensures { result ≡ number }
 {
     match number {
@@ -50,12 +50,12 @@ fn ordinals_of(alloc: Global, base: &Base) -> Result<Vec<u32>, AllocError>
     let mut numbers = Vec::with_capacity(alloc, count.saturating_add(1))?;
     let mut ordinal = 0;
     for n in 0..count {
-        numbers.push(small(base, ordinal))?;
+        numbers.push(narrowed(base, ordinal))?;
         if is_labelled(base, n) {
             ordinal += 1;
         }
     }
-    numbers.push(small(base, ordinal))?;
+    numbers.push(narrowed(base, ordinal))?;
     Ok(numbers)
 }
 

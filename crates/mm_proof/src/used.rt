@@ -4,7 +4,7 @@ ghost use Rattle.std.specs.Prelude.{◌≡◌, ◌<◌, ◌||◌, ℕ, List, IfO
 ghost use Rattle.mm_frame.specs.declared.base.Resolved.TheVariants as answers;
 ghost use Rattle.mm_proof.specs.declared.step.ProofStep.{ProofStep};
 ghost use Rattle.mm_proof.specs.Code.Cited.{is_item, marked_at};
-ghost use Rattle.mm_proof.specs.Code.UsedLabels.{AreMarks, AreUsed, IsLabelWithin, label_named};
+ghost use Rattle.mm_proof.specs.Code.UsedLabels.{AreUseMarks, AreUsed, IsLabelWithin, label_named};
 
 use crate::step::{Action, ProofStep};
 use mm_frame::Resolved;
@@ -35,7 +35,7 @@ fn mark_known(marks: &mut Vec<bool>, action: Action)
 
 /// Of so many labels the marks of those that some step names.
 fn marks_of(alloc: Global, labels: usize, steps: &[ProofStep]) -> Result<Vec<bool>, AllocError>
-    ensures { IfOk result (λ marks. AreMarks labels marks.items steps.now) }
+    ensures { IfOk result (λ marks. AreUseMarks labels marks.items steps.now) }
 {
     let mut marks = Vec::new(alloc);
     marks.resize(labels, false)?;
@@ -63,7 +63,7 @@ pub fn labels_marked(
     marks: &[bool],
 ) -> Result<Vec<Resolved>, AllocError>
     requires { length marks.now ≡ length labels.now }
-    ensures { IfOk result (λ used. (steps : List ProofStep) → AreMarks (length labels.now) marks.now steps → AreUsed labels.now used.items steps) }
+    ensures { IfOk result (λ used. (steps : List ProofStep) → AreUseMarks (length labels.now) marks.now steps → AreUsed labels.now used.items steps) }
 {
     let mut used = room;
     used.clear();

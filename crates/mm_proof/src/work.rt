@@ -88,7 +88,7 @@ impl Work {
     }
 
     /// Takes it back for the next check.
-    pub(crate) fn keep(&mut self, scratch: Scratch) -> Result<(), AllocError>
+    pub(crate) fn take_back(&mut self, scratch: Scratch) -> Result<(), AllocError>
         ensures { self.new ≡ self.old }
     {
         self.scratch.push(scratch)?;

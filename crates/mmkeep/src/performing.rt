@@ -37,7 +37,7 @@ pub fn perform<R: Read, W: Write + Drop>(
 {
     let mut writing = Writing::new(out);
     let ended = answer(alloc, session, command, reading, &mut writing);
-    let (is_out, writer) = hand_on(writing);
+    let (is_out, writer) = flushed(writing);
     match ended {
         Ok(_) if !is_out => (Err(ScriptError::Write), writer),
         ended => (ended, writer),
@@ -45,7 +45,7 @@ pub fn perform<R: Read, W: Write + Drop>(
 }
 
 /// Passes on what is buffered, if nothing has failed yet: whether all has gone out, and the writer.
-fn hand_on<W: Write + Drop>(writing: Writing<BufWriter<W>>) -> (bool, W)
+fn flushed<W: Write + Drop>(writing: Writing<BufWriter<W>>) -> (bool, W)
     ensures all { IsTrue result.0 → Keeps (written (writer_contents W.contents) writing) (W.contents result.1) }
     ensures part { GoesOut (written (writer_contents W.contents) writing) (W.contents result.1) }
 {

@@ -25,7 +25,7 @@ IsLabelWithin labels (actions.Label k) = k < labels
 IsLabelWithin labels _ = Unit {0}
 
 -- of so many labels those are marked that some step names
-pub record AreMarks (labels : ℕ) (marks : List Bool) (steps : List ProofStep) : Type 0 where
+pub record AreUseMarks (labels : ℕ) (marks : List Bool) (steps : List ProofStep) : Type 0 where
   pub count : length marks ≡ labels
   pub each : (k : ℕ) → k < labels → marked_at marks k ≡ list_any (names_label k) steps
 

@@ -23,11 +23,11 @@ returns-clause-done c view is proof = (
   c.in_ok-checked.done,
   (c.in_ok-checked.ensures.says view (theorem_at _ _ _ _ c.item.result.now _ view is proof (c.item.ensures.found view (c.args.names.now, is.base)) c.words_of_proof-proof.ensures.words)).done,
   c.in_ok-checked.ensures.few,
-  c.in_ok-record.ensures.steps ∙ ap (λ w. w.steps + c.in_ok-checked.done) (c.keep.ensures ∙ c.lend-scratch.ensures),
+  c.in_ok-record.ensures.steps ∙ ap (λ w. w.steps + c.in_ok-checked.done) (c.take_back.ensures ∙ c.lend-scratch.ensures),
 )
 
 pub record-requires-clause-room : goal.record-requires-clause-room
-record-requires-clause-room c = omega (arith, ap (λ w. w.room) (c.keep.ensures ∙ c.lend-scratch.ensures), c.requires.room)
+record-requires-clause-room c = omega (arith, ap (λ w. w.room) (c.take_back.ensures ∙ c.lend-scratch.ensures), c.requires.room)
 
 pub item-requires : goal.item-requires
 item-requires c = let has = c.requires.theorem in (has.0, (_, has.1.base), has.2)

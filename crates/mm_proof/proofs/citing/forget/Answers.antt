@@ -17,7 +17,7 @@ loop-label-preserved c j e =
     let left = marked_at c.loop-label.marks.items in
     let listed = listed_next labels n j (answers.Hypothesis 0) c.loop-label-test.true e in
     elim c.match-label.branch [
-      | in-Assertion w ↦ ap (λ v. marked_at v.items j) w.marks-is ∙ w.take.ensures.left j ∙ elim listed [
+      | in-Assertion w ↦ ap (λ v. marked_at v.items j) w.marks-is ∙ w.unmark.ensures.left j ∙ elim listed [
         | inl before ↦ still_off left w.in-Assertion.j j (c.loop-label.invariant j before)
         | inr here ↦ taken_off left w.in-Assertion.j j (ap (λ (l : Resolved). is_item (cited_item (Some l)) j) (sym w.in-Assertion.is) ∙ here)
       ]

@@ -9,7 +9,7 @@ use Rattle.std.proofs.lemmas.Option.{same_Some, slice_get_cases, slice_get_past,
 use Rattle.mm_frame.specs.declared.base.Resolved.{Resolved}
 use Rattle.mm_frame.specs.declared.base.Resolved.TheVariants as answers
 use Rattle.mm_proof.specs.Code.Cited.{cited_item, is_item, is_listed, item_named, marked_at, names_item}
-use Rattle.mm_proof.specs.Code.UsedLabels.{AreMarks, AreUsed, KeepsNamed, KeepsUsed, label_named, names_label}
+use Rattle.mm_proof.specs.Code.UsedLabels.{AreUseMarks, AreUsed, KeepsNamed, KeepsUsed, label_named, names_label}
 use Rattle.mm_proof.specs.declared.step.Action.{Action}
 use Rattle.mm_proof.specs.declared.step.Action.TheVariants as actions
 use Rattle.mm_proof.specs.declared.step.ProofStep.{ProofStep}
@@ -73,7 +73,7 @@ listed_by labels used j actions.Unknown keeps e = absurd (false≢true e)
 
 -- the marked labels are those that the steps name
 pub marked_used :
-    (labels used : List Resolved) (marks : List Bool) (steps : List ProofStep) → length used ≡ length labels → AreMarks (length labels) marks steps →
+    (labels used : List Resolved) (marks : List Bool) (steps : List ProofStep) → length used ≡ length labels → AreUseMarks (length labels) marks steps →
     ((n : ℕ) → marked_at marks n ≡ true → slice_get used n ≡ slice_get labels n) →
     ((n : ℕ) → n < length labels → marked_at marks n ≡ false → slice_get used n ≡ Some answers.Unknown) → AreUsed labels used steps
 marked_used labels used marks steps count are marked out = record {

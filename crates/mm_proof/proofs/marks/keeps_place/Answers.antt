@@ -8,4 +8,4 @@ returns-in-Some c t old are names base copy f g is s =
     let j = c.args.j in
     let ordinals = c.args.ordinals.now in
     let both = are names base copy f g in
-    (i, record { one_label = (is.old_is i).0 (sym c.wide.ensures ∙ c.in-Some.is); ordinal_is = same_level base copy ordinals.old.items ordinals.new.items i j both.0 both.1 (c.are_same.ensures t) })
+    (i, record { one_label = (is.old_is i).0 (sym c.in_full_width.ensures ∙ c.in-Some.is); ordinal_is = same_level base copy ordinals.old.items ordinals.new.items i j both.0 both.1 (c.are_same.ensures t) })

@@ -15,25 +15,25 @@ returns-in-Some-compare-clause-mark c names base copy f g =
     let is = some_kept base copy c.in-Some.i c.args.j c.same_frames.result c.in-Some-compare.compared.same (λ k. c.in-Some.ensures names base copy f g k) (c.same_frames.ensures names base copy f g)
     (λ e. (told.0, told.1.0 e), λ s. told.1.1 s.1) in
     let within = ((c.in-Some.ensures names base copy f g c.in-Some.i).0 refl).within in
-    let small = c.small.ensures base (names, f) (omega (arith, within)) in
+    let small = c.narrowed.ensures base (names, f) (omega (arith, within)) in
     subst (λ n. IsMark base copy c.args.j (record { old = Some n; frame = c.same_frames.result; pairs = c.in-Some-compare.compared.same; in_step = false })) (sym small) is
 
 pub returns-in-Some-compare-clause-kept : goal.returns-in-Some-compare-clause-kept
 returns-in-Some-compare-clause-kept c e i is names base copy f g =
     let shown = (c.in-Some.ensures names base copy f g c.in-Some.i).0 refl in
-    let small = c.small.ensures base (names, f) (let l = shown.within in omega (arith, l)) in
-    subst (λ n. IsOneHypothesis base copy n c.args.j) (sym small ∙ same_Some c.small.result i is) (c.same_hypothesis.ensures e names base copy f g shown.was shown.is)
+    let small = c.narrowed.ensures base (names, f) (let l = shown.within in omega (arith, l)) in
+    subst (λ n. IsOneHypothesis base copy n c.args.j) (sym small ∙ same_Some c.narrowed.result i is) (c.same_hypothesis.ensures e names base copy f g shown.was shown.is)
 
 pub returns-in-None-clause-mark : goal.returns-in-None-clause-mark
 returns-in-None-clause-mark c names base copy f g =
     let is = some_kept base copy c.in-Some.i c.args.j c.same_frames.result false (λ k. c.in-Some.ensures names base copy f g k) (c.same_frames.ensures names base copy f g)
     (λ e. absurd (false≢true e), λ s. absurd (c.in-None.ensures.these names base copy f g s.0)) in
     let within = ((c.in-Some.ensures names base copy f g c.in-Some.i).0 refl).within in
-    let small = c.small.ensures base (names, f) (omega (arith, within)) in
+    let small = c.narrowed.ensures base (names, f) (omega (arith, within)) in
     subst (λ n. IsMark base copy c.args.j (record { old = Some n; frame = c.same_frames.result; pairs = false; in_step = false })) (sym small) is
 
 pub returns-in-None-clause-kept : goal.returns-in-None-clause-kept
 returns-in-None-clause-kept c e i is names base copy f g =
     let shown = (c.in-Some.ensures names base copy f g c.in-Some.i).0 refl in
-    let small = c.small.ensures base (names, f) (let l = shown.within in omega (arith, l)) in
-    subst (λ n. IsOneHypothesis base copy n c.args.j) (sym small ∙ same_Some c.small.result i is) (c.same_hypothesis.ensures e names base copy f g shown.was shown.is)
+    let small = c.narrowed.ensures base (names, f) (let l = shown.within in omega (arith, l)) in
+    subst (λ n. IsOneHypothesis base copy n c.args.j) (sym small ∙ same_Some c.narrowed.result i is) (c.same_hypothesis.ensures e names base copy f g shown.was shown.is)

@@ -9,7 +9,7 @@ use Rattle.mm_proof.specs.Code.Citation.{meant_pairs}
 use Rattle.mm_proof.proofs.lemmas.machine.EntryFaults.{gives_all, hypotheses_known}
 use Rattle.mm_proof.proofs.lemmas.machine.CitingFaults.{cited_by, says07, says08}
 use Rattle.mm_proof.proofs.lemmas.machine.StackLemmas.{entries_taken, slice_taken, all_taken}
-use Rattle.mm_proof.proofs.machine.Machine.take.Goals as goal
+use Rattle.mm_proof.proofs.machine.Machine.cite_frame.Goals as goal
 
 pub returns-in-Some-2 : goal.returns-in-Some-2
 returns-in-Some-2 g c =
