@@ -95,15 +95,21 @@ pub struct Parts {
 }
 
 /// The fault that is reported of an item of this kind, if its statement has this fault.
-fn told_fault(kind: ItemKind, fault: Option<FrameFault>) -> Option<FrameFault>
-    ensures { option_map (λ f. (f.word, f.number)) result ≡ fault_by (kind_of kind) (option_map (λ f. (f.word, f.number)) fault) }
+fn told_fault(kind: ItemKind, fault: &Option<FrameFault>) -> Option<FrameFault>
+    ensures { option_map (λ f. (f.word, f.number)) result ≡ fault_by (kind_of kind) (option_map (λ f. (f.word, f.number)) fault.now) }
 {
     match kind {
         ItemKind::Missing => Some(FrameFault {
             number: FrameNumber::F14,
             word: 1,
         }),
-        _ => fault,
+        _ => match fault {
+            Some(FrameFault { number, word }) => Some(FrameFault {
+                number: *number,
+                word: *word,
+            }),
+            None => None,
+        },
     }
 }
 
@@ -244,13 +250,13 @@ impl<'a> Draft<'a> {
         alloc: Global,
         statement: &Statement<'a>,
         symbols: &[NumberedSymbol],
-        fault: Option<FrameFault>,
+        fault: &Option<FrameFault>,
         expected: Option<usize>,
     ) -> Result<(), AllocError>
         ensures follows { OnOk result ((all : List (List ℕ)) (said : List meant.Item) → IsDraftApart all said self.old
-            → option_map (λ f. (f.word, f.number)) fault ≡ meaning.fault (sound_items said) statement.now
+            → option_map (λ f. (f.word, f.number)) fault.now ≡ meaning.fault (sound_items said) statement.now
             → (uses_numbers statement.now.kind ≡ true → AreNameNumbers all self.old.numbers.items statement.now.symbols)
-            → AreSymbolsOf all (sound_items said) statement.now (is_none fault) symbols.now
+            → AreSymbolsOf all (sound_items said) statement.now (is_none fault.now) symbols.now
             → IsDraftApart all (said ++ statement.now ∷ []) self.new) }
         ensures assertions { OnOk result (self.new.assertions ≡ self.old.assertions) }
     {
@@ -278,13 +284,13 @@ impl<'a> Draft<'a> {
         alloc: Global,
         statement: &Statement<'a>,
         symbols: &[NumberedSymbol],
-        fault: Option<FrameFault>,
+        fault: &Option<FrameFault>,
         expected: Option<usize>,
     ) -> Result<(), AllocError>
         ensures { OnOk result ((all : List (List ℕ)) (said : List meant.Item) → IsDraft all said self.old
-            → option_map (λ f. (f.word, f.number)) fault ≡ meaning.fault (sound_items said) statement.now
+            → option_map (λ f. (f.word, f.number)) fault.now ≡ meaning.fault (sound_items said) statement.now
             → (uses_numbers statement.now.kind ≡ true → AreNameNumbers all self.old.numbers.items statement.now.symbols)
-            → AreSymbolsOf all (sound_items said) statement.now (is_none fault) symbols.now
+            → AreSymbolsOf all (sound_items said) statement.now (is_none fault.now) symbols.now
             → IsDraft all (said ++ statement.now ∷ []) self.new) }
     {
         let item = TakenItem {
@@ -323,7 +329,7 @@ impl<'a> Draft<'a> {
         let sound = fault.is_none();
         let mut symbols = mem::replace(&mut self.symbols, Vec::new(alloc));
         keep_symbols(tables, statement, &self.numbers, sound, &mut symbols)?;
-        self.add(alloc, statement, &symbols, fault, expected)?;
+        self.add(alloc, statement, &symbols, &fault, expected)?;
         self.symbols = symbols;
         Ok(())
     }
@@ -348,7 +354,7 @@ impl<'a> Draft<'a> {
         if !is_sound_as_known(names, &self.scope, statement, symbols) {
             return Ok(false);
         }
-        self.add(alloc, statement, symbols, None, expected)?;
+        self.add(alloc, statement, symbols, &None, expected)?;
         Ok(true)
     }
 
@@ -381,7 +387,7 @@ impl<'a> Draft<'a> {
         };
         let from = OldItem { base: old, number };
         self.assertions.take_over(alloc, active, from)?;
-        self.follow(alloc, statement, symbols, None, old.list_number(number))
+        self.follow(alloc, statement, symbols, &None, old.list_number(number))
     }
 
     /// Reads one more item of the files. After out of memory the draft must not be used, and there may be more names.
