@@ -38,6 +38,7 @@ use crate::mandatory::Earlier;
 use crate::names::Names;
 use crate::pair_lists::PairLists;
 use crate::paired::PairTable;
+use crate::room::DraftRoom;
 use crate::scope::Scope;
 use crate::sparse::Sparse;
 use crate::statement::Statement;
@@ -215,18 +216,19 @@ fn with<A: Drop, B: Drop>(one: A, more: Result<B, AllocError>) -> Result<(A, B),
 impl<'a> Draft<'a> {
     ghost use Rattle.mm_frame.specs.Code.KeptBase.{IsDraft, IsDraftApart, IsDraftLater, AreParts};
 
-    /// No items, with room for this many. The symbols are kept in the room of this list, if it has as much.
-    pub fn with_room(
-        alloc: Global,
-        count: usize,
-        room: Vec<NumberedSymbol>,
-    ) -> Result<Self, AllocError>
+    /// No items, with room for this many. What is kept of them lies in the lists of this room, as far as they fit.
+    pub fn with_room(alloc: Global, count: usize, room: DraftRoom) -> Result<Self, AllocError>
         ensures { IfOk result (λ draft. (all : List (List ℕ)) → AreDistinct all → IsDraft all [] draft) }
     {
-        let expressions = Expressions::with_room(alloc, count, room)?;
+        let DraftRoom {
+            symbols,
+            frames,
+            lists: gone,
+        } = room;
+        let expressions = Expressions::with_room(alloc, count, symbols)?;
         let lists = with(expressions, ListGuesses::with_room(alloc, count))?;
         let told = with(lists, Rows::with_room(alloc, count))?;
-        let framed = with(told, Assertions::with_room(alloc, count))?;
+        let framed = with(told, Assertions::with_room(alloc, count, frames, gone))?;
         let (kept, scope) = with(framed, Scope::with_room(alloc, count))?;
         let (((expressions, guesses), rows), assertions) = kept;
         Ok(Draft {
@@ -420,7 +422,7 @@ impl<'a> Draft<'a> {
         ensures grows { Begins names.old names.new }
         ensures read { IfOk result (λ draft. (said : List meant.Item) × AllZip (Says files.now) items.now said × IsDraftLater names.new said draft) }
     {
-        let mut draft = Draft::with_room(alloc, items.len(), Vec::new(alloc))?;
+        let mut draft = Draft::with_room(alloc, items.len(), DraftRoom::none(alloc))?;
         match draft.read_each(alloc, names, files, items) {
             Ok(()) => Ok(draft),
             Err(error) => {

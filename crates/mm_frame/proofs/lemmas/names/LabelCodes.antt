@@ -106,9 +106,9 @@ unfolding label_number
 short_put old new label other number s middle long put =
     put_first is_coded (λ l. get_by (nat_eq (label_code l)) old.short) (λ l. get_by (nat_eq (label_code l)) new.short) (later_number old) (later_number new) label other number s
     (λ l t. put (label_code l) ∙ ap (λ b. cond b (Some number) (get_by (nat_eq (label_code l)) old.short))
-      (same_code label l (and_parts (nat_le (length label) 9) (are_ascii label) s).1 (and_parts (nat_le (length l) 9) (are_ascii l) t).1))
+    (same_code label l (and_parts (nat_le (length label) 9) (are_ascii label) s).1 (and_parts (nat_le (length l) 9) (are_ascii l) t).1))
     (λ l. ap (λ m. cond (is_wide_coded l) (get_by (nat_eq (label_code l)) m) (get_by (λ key. bytes_eq l key.items) new.long)) middle
-      ∙ ap (λ m. cond (is_wide_coded l) (get_by (nat_eq (label_code l)) old.middle) (get_by (λ key. bytes_eq l key.items) m)) long)
+    ∙ ap (λ m. cond (is_wide_coded l) (get_by (nat_eq (label_code l)) old.middle) (get_by (λ key. bytes_eq l key.items) m)) long)
 
 -- what is kept after one more label of middle length
 pub middle_put : (old new : LabelNumbers) (label other : List ℕ) (number : ℕ) → is_coded label ≡ false → is_wide_coded label ≡ true
@@ -120,10 +120,10 @@ middle_put old new label other number n s short long put =
     put_later is_coded (λ l. get_by (nat_eq (label_code l)) old.short) (λ l. get_by (nat_eq (label_code l)) new.short) (later_number old) (later_number new) label other number n
     (λ l. ap (λ m. get_by (nat_eq (label_code l)) m) short)
     (λ k. put_first is_wide_coded (λ l. get_by (nat_eq (label_code l)) old.middle) (λ l. get_by (nat_eq (label_code l)) new.middle)
-      (λ l. get_by (λ key. bytes_eq l key.items) old.long) (λ l. get_by (λ key. bytes_eq l key.items) new.long) label k number s
-      (λ l t. put (label_code l) ∙ ap (λ b. cond b (Some number) (get_by (nat_eq (label_code l)) old.middle))
-        (same_code label l (and_parts (nat_le (length label) 18) (are_ascii label) s).1 (and_parts (nat_le (length l) 18) (are_ascii l) t).1))
-      (λ l. ap (λ m. get_by (λ key. bytes_eq l key.items) m) long))
+    (λ l. get_by (λ key. bytes_eq l key.items) old.long) (λ l. get_by (λ key. bytes_eq l key.items) new.long) label k number s
+    (λ l t. put (label_code l) ∙ ap (λ b. cond b (Some number) (get_by (nat_eq (label_code l)) old.middle))
+    (same_code label l (and_parts (nat_le (length label) 18) (are_ascii label) s).1 (and_parts (nat_le (length l) 18) (are_ascii l) t).1))
+    (λ l. ap (λ m. get_by (λ key. bytes_eq l key.items) m) long))
 
 -- what is kept after one more long label
 pub long_put : (old new : LabelNumbers) (label other : List ℕ) (number : ℕ) → is_coded label ≡ false → is_wide_coded label ≡ false
@@ -135,8 +135,8 @@ long_put old new label other number n s short middle put =
     put_later is_coded (λ l. get_by (nat_eq (label_code l)) old.short) (λ l. get_by (nat_eq (label_code l)) new.short) (later_number old) (later_number new) label other number n
     (λ l. ap (λ m. get_by (nat_eq (label_code l)) m) short)
     (λ k. put_later is_wide_coded (λ l. get_by (nat_eq (label_code l)) old.middle) (λ l. get_by (nat_eq (label_code l)) new.middle)
-      (λ l. get_by (λ key. bytes_eq l key.items) old.long) (λ l. get_by (λ key. bytes_eq l key.items) new.long) label k number s
-      (λ l. ap (λ m. get_by (nat_eq (label_code l)) m) middle) put)
+    (λ l. get_by (λ key. bytes_eq l key.items) old.long) (λ l. get_by (λ key. bytes_eq l key.items) new.long) label k number s
+    (λ l. ap (λ m. get_by (nat_eq (label_code l)) m) middle) put)
 
 and_false : (a b : Bool) → b ≡ false → a && b ≡ false
 and_false true b e = e

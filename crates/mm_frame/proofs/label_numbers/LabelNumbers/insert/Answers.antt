@@ -22,7 +22,7 @@ returns-in_ok-insert-in-Some-wide_code_of c other =
     let middle : is_wide_coded label ≡ true = c.in-Some-wide_code_of.ensures.0 in
     middle_put old (record { short = old.short; middle = c.insert-in-Some-wide_code_of.new.self; long = old.long }) label other number longer middle refl refl
     (λ d. c.in_ok-insert-in-Some-wide_code_of.ensures.updates.0 d
-      ∙ ap (λ k. cond (nat_eq k d) (Some number) (get_by (nat_eq d) old.middle)) c.in-Some-wide_code_of.ensures.1)
+    ∙ ap (λ k. cond (nat_eq k d) (Some number) (get_by (nat_eq d) old.middle)) c.in-Some-wide_code_of.ensures.1)
 
 pub returns-in_ok-insert-in-None : goal.returns-in_ok-insert-in-None
 returns-in_ok-insert-in-None c other =
