@@ -20,6 +20,7 @@ ghost use Rattle.mm_frame.specs.Code.TakenOver.{AreFirst, AreFirstIf};
 use crate::base::Base;
 use crate::draft::{Draft, number_all};
 use crate::names::Names;
+use crate::room::DraftRoom;
 use crate::statement::{Statement, is_same_range};
 use crate::symbol::NumberedSymbol;
 use mm_store::{Files, Item, ItemKind};
@@ -302,15 +303,15 @@ fn read_each_again<'a>(
     Ok(())
 }
 
-/// Reads items of the files, from the first one on, with the help of an older base. Their symbols are kept in the room of this list,
-/// if it has as much.
+/// Reads items of the files, from the first one on, with the help of an older base. What is kept of them lies in the lists of this
+/// room, as far as they fit.
 pub fn read_all_again<'a>(
     alloc: Global,
     names: &mut Names,
     files: &'a Files,
     items: &[Item],
     old: &'a Base,
-    room: Vec<NumberedSymbol>,
+    room: DraftRoom,
 ) -> Result<Draft<'a>, AllocError>
     requires read { All (CanBeRead files.now) items.now }
     requires older { HasOlder names.old files.now old.now }

@@ -19,6 +19,7 @@ use crate::draft::Frame;
 use crate::expressions::Expressions;
 use crate::mandatory::{Earlier, FrameRoom, hypotheses, mandatory_pairs};
 use crate::pair_lists::PairLists;
+use crate::room::next_frame;
 use crate::sparse::Sparse;
 use crate::symbol::NumberedSymbol;
 use mm_store::ItemKind;
@@ -73,8 +74,9 @@ fn keep_frame(
         frames.pass()?;
         return Ok(());
     }
-    let hypotheses = hypotheses(alloc, earlier, own, &mut room.numbers)?;
-    let pairs = mandatory_pairs(alloc, earlier, room, &hypotheses)?;
+    let gone = next_frame(alloc, &mut room.gone);
+    let hypotheses = hypotheses(alloc, earlier, own, &mut room.numbers, gone.hypotheses)?;
+    let pairs = mandatory_pairs(alloc, earlier, room, &hypotheses, gone.pairs)?;
     frames.add(Frame { hypotheses, pairs })?;
     Ok(())
 }
@@ -107,17 +109,22 @@ fn keep_pairs(
 impl Assertions {
     ghost use Rattle.mm_frame.specs.Code.KeptAssertions.{AreAssertions};
 
-    /// No items, with room for this many.
-    pub fn with_room(alloc: Global, count: usize) -> Result<Assertions, AllocError>
+    /// No items, with room for this many. Frames and lists of active pairs are kept in the lists of this room, as far as they fit.
+    pub fn with_room(
+        alloc: Global,
+        count: usize,
+        gone: Vec<Frame>,
+        lists: Vec<Vec<(NumberedSymbol, NumberedSymbol)>>,
+    ) -> Result<Assertions, AllocError>
         ensures { IfOk result (λ assertions. (all : List (List ℕ)) → AreAssertions all [] assertions) }
     {
         let frames = Sparse::with_room(alloc, count)?;
         let pair_numbers = Sparse::with_room(alloc, count)?;
         Ok(Assertions {
             frames,
-            pair_lists: PairLists::new(alloc),
+            pair_lists: PairLists::with_lists(alloc, lists),
             pair_numbers,
-            room: FrameRoom::new(alloc),
+            room: FrameRoom::with_lists(alloc, gone),
             copied: CopiedLists::new(alloc),
         })
     }

@@ -26,7 +26,7 @@ use crate::again::read_all_again;
 use crate::draft::{Draft, Frame, Parts};
 use crate::judge::FrameFault;
 use crate::names::Names;
-use crate::room::BaseRoom;
+use crate::room::{BaseRoom, DraftRoom};
 use crate::sparse::{element_at, number_at};
 use crate::symbol::NumberedSymbol;
 use mm_store::{Files, Item, ItemKind, StoreError};
@@ -141,10 +141,10 @@ impl Base {
         ensures no_top { IsErrOf result NoTop ↔ (number_of (files_in files.now) top.now ≡ None) }
         ensures err { IfErr result IsExpansionError }
     {
-        let BaseRoom { items, symbols } = mem::replace(&mut old.room, BaseRoom::none(alloc));
+        let BaseRoom { items, draft: room } = mem::replace(&mut old.room, BaseRoom::none(alloc));
         let found = files.statements_in(top, items)?;
         let floats = floats_among(alloc, &found)?;
-        let draft = read_all_again(alloc, names, files, &found, old, symbols)?;
+        let draft = read_all_again(alloc, names, files, &found, old, room)?;
         names.distinct();
         Ok(Base {
             items: found,
@@ -154,12 +154,16 @@ impl Base {
         })
     }
 
-    /// The room of the largest lists, which nobody asks any more.
+    /// The room of lists that nobody asks any more.
     fn into_room(self) -> BaseRoom {
         let Base { items, parts, .. } = self;
         BaseRoom {
             items,
-            symbols: parts.expressions.into_symbols(),
+            draft: DraftRoom {
+                symbols: parts.expressions.into_symbols(),
+                frames: parts.frames.into_values(),
+                lists: parts.pair_lists.into_lists(),
+            },
         }
     }
 

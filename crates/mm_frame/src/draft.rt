@@ -38,6 +38,7 @@ use crate::mandatory::Earlier;
 use crate::names::Names;
 use crate::pair_lists::PairLists;
 use crate::paired::PairTable;
+use crate::room::DraftRoom;
 use crate::scope::Scope;
 use crate::sparse::Sparse;
 use crate::statement::Statement;
@@ -95,15 +96,21 @@ pub struct Parts {
 }
 
 /// The fault that is reported of an item of this kind, if its statement has this fault.
-fn told_fault(kind: ItemKind, fault: Option<FrameFault>) -> Option<FrameFault>
-    ensures { option_map (λ f. (f.word, f.number)) result ≡ fault_by (kind_of kind) (option_map (λ f. (f.word, f.number)) fault) }
+fn told_fault(kind: ItemKind, fault: &Option<FrameFault>) -> Option<FrameFault>
+    ensures { option_map (λ f. (f.word, f.number)) result ≡ fault_by (kind_of kind) (option_map (λ f. (f.word, f.number)) fault.now) }
 {
     match kind {
         ItemKind::Missing => Some(FrameFault {
             number: FrameNumber::F14,
             word: 1,
         }),
-        _ => fault,
+        _ => match fault {
+            Some(FrameFault { number, word }) => Some(FrameFault {
+                number: *number,
+                word: *word,
+            }),
+            None => None,
+        },
     }
 }
 
@@ -209,18 +216,19 @@ fn with<A: Drop, B: Drop>(one: A, more: Result<B, AllocError>) -> Result<(A, B),
 impl<'a> Draft<'a> {
     ghost use Rattle.mm_frame.specs.Code.KeptBase.{IsDraft, IsDraftApart, IsDraftLater, AreParts};
 
-    /// No items, with room for this many. The symbols are kept in the room of this list, if it has as much.
-    pub fn with_room(
-        alloc: Global,
-        count: usize,
-        room: Vec<NumberedSymbol>,
-    ) -> Result<Self, AllocError>
+    /// No items, with room for this many. What is kept of them lies in the lists of this room, as far as they fit.
+    pub fn with_room(alloc: Global, count: usize, room: DraftRoom) -> Result<Self, AllocError>
         ensures { IfOk result (λ draft. (all : List (List ℕ)) → AreDistinct all → IsDraft all [] draft) }
     {
-        let expressions = Expressions::with_room(alloc, count, room)?;
+        let DraftRoom {
+            symbols,
+            frames,
+            lists: gone,
+        } = room;
+        let expressions = Expressions::with_room(alloc, count, symbols)?;
         let lists = with(expressions, ListGuesses::with_room(alloc, count))?;
         let told = with(lists, Rows::with_room(alloc, count))?;
-        let framed = with(told, Assertions::with_room(alloc, count))?;
+        let framed = with(told, Assertions::with_room(alloc, count, frames, gone))?;
         let (kept, scope) = with(framed, Scope::with_room(alloc, count))?;
         let (((expressions, guesses), rows), assertions) = kept;
         Ok(Draft {
@@ -244,13 +252,13 @@ impl<'a> Draft<'a> {
         alloc: Global,
         statement: &Statement<'a>,
         symbols: &[NumberedSymbol],
-        fault: Option<FrameFault>,
+        fault: &Option<FrameFault>,
         expected: Option<usize>,
     ) -> Result<(), AllocError>
         ensures follows { OnOk result ((all : List (List ℕ)) (said : List meant.Item) → IsDraftApart all said self.old
-            → option_map (λ f. (f.word, f.number)) fault ≡ meaning.fault (sound_items said) statement.now
+            → option_map (λ f. (f.word, f.number)) fault.now ≡ meaning.fault (sound_items said) statement.now
             → (uses_numbers statement.now.kind ≡ true → AreNameNumbers all self.old.numbers.items statement.now.symbols)
-            → AreSymbolsOf all (sound_items said) statement.now (is_none fault) symbols.now
+            → AreSymbolsOf all (sound_items said) statement.now (is_none fault.now) symbols.now
             → IsDraftApart all (said ++ statement.now ∷ []) self.new) }
         ensures assertions { OnOk result (self.new.assertions ≡ self.old.assertions) }
     {
@@ -278,13 +286,13 @@ impl<'a> Draft<'a> {
         alloc: Global,
         statement: &Statement<'a>,
         symbols: &[NumberedSymbol],
-        fault: Option<FrameFault>,
+        fault: &Option<FrameFault>,
         expected: Option<usize>,
     ) -> Result<(), AllocError>
         ensures { OnOk result ((all : List (List ℕ)) (said : List meant.Item) → IsDraft all said self.old
-            → option_map (λ f. (f.word, f.number)) fault ≡ meaning.fault (sound_items said) statement.now
+            → option_map (λ f. (f.word, f.number)) fault.now ≡ meaning.fault (sound_items said) statement.now
             → (uses_numbers statement.now.kind ≡ true → AreNameNumbers all self.old.numbers.items statement.now.symbols)
-            → AreSymbolsOf all (sound_items said) statement.now (is_none fault) symbols.now
+            → AreSymbolsOf all (sound_items said) statement.now (is_none fault.now) symbols.now
             → IsDraft all (said ++ statement.now ∷ []) self.new) }
     {
         let item = TakenItem {
@@ -323,7 +331,7 @@ impl<'a> Draft<'a> {
         let sound = fault.is_none();
         let mut symbols = mem::replace(&mut self.symbols, Vec::new(alloc));
         keep_symbols(tables, statement, &self.numbers, sound, &mut symbols)?;
-        self.add(alloc, statement, &symbols, fault, expected)?;
+        self.add(alloc, statement, &symbols, &fault, expected)?;
         self.symbols = symbols;
         Ok(())
     }
@@ -348,7 +356,7 @@ impl<'a> Draft<'a> {
         if !is_sound_as_known(names, &self.scope, statement, symbols) {
             return Ok(false);
         }
-        self.add(alloc, statement, symbols, None, expected)?;
+        self.add(alloc, statement, symbols, &None, expected)?;
         Ok(true)
     }
 
@@ -381,7 +389,7 @@ impl<'a> Draft<'a> {
         };
         let from = OldItem { base: old, number };
         self.assertions.take_over(alloc, active, from)?;
-        self.follow(alloc, statement, symbols, None, old.list_number(number))
+        self.follow(alloc, statement, symbols, &None, old.list_number(number))
     }
 
     /// Reads one more item of the files. After out of memory the draft must not be used, and there may be more names.
@@ -414,7 +422,7 @@ impl<'a> Draft<'a> {
         ensures grows { Begins names.old names.new }
         ensures read { IfOk result (λ draft. (said : List meant.Item) × AllZip (Says files.now) items.now said × IsDraftLater names.new said draft) }
     {
-        let mut draft = Draft::with_room(alloc, items.len(), Vec::new(alloc))?;
+        let mut draft = Draft::with_room(alloc, items.len(), DraftRoom::none(alloc))?;
         match draft.read_each(alloc, names, files, items) {
             Ok(()) => Ok(draft),
             Err(error) => {

@@ -19,13 +19,16 @@ ghost use Rattle.mm_frame.specs.Code.KeptAsked.{KnowsAsked, AsksOn};
 
 use crate::asked::AskedPairs;
 use crate::blocks::Blocks;
+use crate::draft::Frame;
 use crate::essential::EssentialVariable;
 use crate::expressions::Expressions;
 use crate::paired::PairTable;
 use crate::partners::{PlacedVariables, add_partners, are_short, places_if_many};
+use crate::room::copy_in;
 use crate::symbol::NumberedSymbol;
 use crate::tables::Tables;
 use std::alloc::{AllocError, Global};
+use std::vec::IntoIter;
 
 /// What frames are made with, one after another: the lists are used again, and take memory only when they grow.
 #[derive(Drop)]
@@ -38,11 +41,13 @@ pub struct FrameRoom {
     pub variables: Vec<NumberedSymbol>,
     /// Its pairs.
     pub pairs: Vec<(NumberedSymbol, NumberedSymbol)>,
+    /// Frames that nobody asks any more, in whose lists the next ones are kept.
+    pub gone: IntoIter<Frame>,
 }
 
 impl FrameRoom {
-    /// No frame is made yet. Takes no memory.
-    pub fn new(alloc: Global) -> FrameRoom
+    /// No frame is made yet; the first ones are kept in the lists of these, which nobody asks any more. It takes no memory.
+    pub fn with_lists(alloc: Global, gone: Vec<Frame>) -> FrameRoom
         ensures { (all : List (List ℕ)) → KnowsAsked all [] result.asked }
     {
         FrameRoom {
@@ -50,6 +55,7 @@ impl FrameRoom {
             numbers: Vec::new(alloc),
             variables: Vec::new(alloc),
             pairs: Vec::new(alloc),
+            gone: gone.into_iter(),
         }
     }
 }
@@ -133,12 +139,14 @@ fn add_known_floats(
 }
 
 /// The numbers of the mandatory hypotheses of a sound assertion with these symbols, rising: of the active `$e`, and of
-/// the `$f` of the variables of these and of the assertion. They are collected in `numbers`.
+/// the `$f` of the variables of these and of the assertion. They are collected in `numbers`, and kept in the room of `list`,
+/// if it fits.
 pub fn hypotheses(
     alloc: Global,
     earlier: &Earlier,
     own: &[NumberedSymbol],
     numbers: &mut Vec<usize>,
+    list: Vec<usize>,
 ) -> Result<Vec<usize>, AllocError>
     ensures { IfOk result (λ numbers. (all : List (List ℕ)) (before : List meant.Item) (item : meant.Item) → KnowsEarlier all before earlier.now
         → IsFramed all before item own.now → numbers.items ≡ mandatory_numbers before item) }
@@ -152,7 +160,7 @@ pub fn hypotheses(
     numbers.dedup();
     numbers.sort_unstable();
     numbers.dedup();
-    let kept = Vec::from_slice(alloc, numbers)?;
+    let kept = copy_in(alloc, list, numbers)?;
     Ok(kept)
 }
 
@@ -288,13 +296,15 @@ fn add_pairs_with_later(
     add_active_with(table, asked, earlier.blocks, first, later, pairs)
 }
 
-/// The pairs of each variable with each later one that an active `$d` has. They are collected in `pairs`.
+/// The pairs of each variable with each later one that an active `$d` has. They are collected in `pairs`, and kept in the room of `list`,
+/// if it fits.
 fn active_among(
     alloc: Global,
     earlier: &Earlier,
     asked: &mut AskedPairs,
     variables: &[NumberedSymbol],
     pairs: &mut Vec<(NumberedSymbol, NumberedSymbol)>,
+    list: Vec<(NumberedSymbol, NumberedSymbol)>,
 ) -> Result<Vec<(NumberedSymbol, NumberedSymbol)>, AllocError>
     ensures pairs { IfOk result (λ pairs. (all : List (List ℕ)) (before : List meant.Item) → KnowsEarlier all before earlier.now
         → KnowsAsked all before asked.old → All (IsNumbered all) variables.now
@@ -308,17 +318,19 @@ fn active_among(
     for n in 0..variables.len() {
         add_pairs_with_later(alloc, earlier, asked, &placed, n, pairs)?;
     }
-    let kept = Vec::from_slice(alloc, pairs)?;
+    let kept = copy_in(alloc, list, pairs)?;
     Ok(kept)
 }
 
 /// The pairs of a sound assertion with these mandatory hypotheses: of the variables of its mandatory `$f`, in their
-/// order, those that an active `$d` has. After an allocation failure what was looked up must not be used.
+/// order, those that an active `$d` has. They are kept in the room of `list`, if it fits. After an allocation failure what was looked
+/// up must not be used.
 pub fn mandatory_pairs(
     alloc: Global,
     earlier: &Earlier,
     room: &mut FrameRoom,
     hypotheses: &[usize],
+    list: Vec<(NumberedSymbol, NumberedSymbol)>,
 ) -> Result<Vec<(NumberedSymbol, NumberedSymbol)>, AllocError>
     ensures asked { OnOk result ((all : List (List ℕ)) (before : List meant.Item) → KnowsEarlier all before earlier.now → KnowsAsked all before room.old.asked
         → KnowsAsked all before room.new.asked) }
@@ -338,5 +350,5 @@ pub fn mandatory_pairs(
         hypotheses,
         variables,
     )?;
-    active_among(alloc, earlier, asked, variables, pairs)
+    active_among(alloc, earlier, asked, variables, pairs, list)
 }

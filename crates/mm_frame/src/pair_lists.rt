@@ -13,9 +13,12 @@ ghost use Rattle.mm_frame.specs.Language.NumberedSymbols.{AreInOrder, AreSamePai
 ghost use Rattle.mm_frame.specs.Code.KeptPairLists.{AreFrontNumbers, HasSame, HasEach, pairs_among, with_low_first};
 
 use crate::expressions::Expressions;
+use crate::room::{copy_in, move_in, next_list};
+use crate::same::same_pairs;
 use crate::symbol::NumberedSymbol;
 use std::alloc::{AllocError, Global};
 use std::collections::HashMap;
+use std::vec::IntoIter;
 
 /// The lists of active pairs, each made once.
 ///
@@ -32,6 +35,8 @@ pub struct PairLists {
     made: HashMap<usize, usize>,
     /// The count of items up to the last `$d` of the last list that was made.
     reach: usize,
+    /// Lists that nobody asks any more, in whose room the next ones are kept.
+    gone: IntoIter<Vec<(NumberedSymbol, NumberedSymbol)>>,
 }
 
 /// The two symbols, the one with the lower number of its name first.
@@ -180,14 +185,15 @@ fn count_to_last(disjoints: &[usize], expressions: &Expressions) -> usize
 impl PairLists {
     ghost use Rattle.mm_frame.specs.Code.KeptPairLists.{AreMade, IsList, KeepsLists, IsThere, list_kept, list_made};
 
-    /// No lists. It takes no memory.
-    pub fn new(alloc: Global) -> Self
+    /// No lists; the first ones are kept in the room of these, which nobody asks any more. It takes no memory.
+    pub fn with_lists(alloc: Global, gone: Vec<Vec<(NumberedSymbol, NumberedSymbol)>>) -> Self
         ensures { (all : List (List ℕ)) → AreMade all [] result }
     {
         PairLists {
             lists: Vec::new(alloc),
             made: HashMap::new(alloc),
             reach: 0,
+            gone: gone.into_iter(),
         }
     }
 
@@ -205,17 +211,21 @@ impl PairLists {
     }
 
     /// Whether the last list is this one.
-    fn is_last(&self, list: &Vec<(NumberedSymbol, NumberedSymbol)>) -> bool
-        ensures { IsTrue result → IsThere self.now (length self.now.lists.items - 1) list.now.items }
+    fn is_last(&self, list: &[(NumberedSymbol, NumberedSymbol)]) -> bool
+        ensures { IsTrue result → IsThere self.now (length self.now.lists.items - 1) list.now }
     {
         match self.lists.last() {
-            Some(last) => *last == *list,
+            Some(last) => same_pairs(last, list),
             None => false,
         }
     }
 
     /// Keeps a list, unless the last one is the same, and answers its number.
-    pub fn keep(&mut self, list: Vec<(NumberedSymbol, NumberedSymbol)>) -> Result<usize, AllocError>
+    fn keep(
+        &mut self,
+        alloc: Global,
+        list: Vec<(NumberedSymbol, NumberedSymbol)>,
+    ) -> Result<usize, AllocError>
         ensures there { IfOk result (λ k. IsThere self.new k list.items) }
         ensures kept { OnOk result (KeepsLists self.old self.new) }
         ensures made { OnOk result (self.new.made ≡ self.old.made) }
@@ -224,8 +234,34 @@ impl PairLists {
         if self.is_last(&list) {
             return Ok(count - 1);
         }
-        self.lists.push(list)?;
+        let room = next_list(alloc, &mut self.gone);
+        self.lists.push(move_in(room, list))?;
         Ok(count)
+    }
+
+    /// Keeps a copy of a list, unless the last one is the same, and answers its number.
+    pub fn keep_copy(
+        &mut self,
+        alloc: Global,
+        list: &[(NumberedSymbol, NumberedSymbol)],
+    ) -> Result<usize, AllocError>
+        ensures there { IfOk result (λ k. IsThere self.new k list.now) }
+        ensures kept { OnOk result (KeepsLists self.old self.new) }
+        ensures made { OnOk result (self.new.made ≡ self.old.made) }
+    {
+        let count = self.lists.len();
+        if self.is_last(list) {
+            return Ok(count - 1);
+        }
+        let room = next_list(alloc, &mut self.gone);
+        let copy = copy_in(alloc, room, list)?;
+        self.lists.push(copy)?;
+        Ok(count)
+    }
+
+    /// The lists, for their room.
+    pub fn into_lists(self) -> Vec<Vec<(NumberedSymbol, NumberedSymbol)>> {
+        self.lists
     }
 
     /// The number of the list of the first active `$d`, which is made now, of all their pairs, if there is none yet: `count`
@@ -247,7 +283,7 @@ impl PairLists {
             return Ok(k);
         }
         let pairs = pairs_at(alloc, first, expressions)?;
-        let k = self.keep(in_order(pairs))?;
+        let k = self.keep(alloc, in_order(pairs))?;
         self.made.insert(count, k)?;
         Ok(k)
     }
@@ -270,7 +306,7 @@ impl PairLists {
             return Ok(base);
         }
         pairs.extend_from_slice(self.list(base))?;
-        let k = self.keep(in_order(pairs))?;
+        let k = self.keep(alloc, in_order(pairs))?;
         Ok(k)
     }
 

@@ -58,6 +58,11 @@ impl<T: Drop> Sparse<T> {
         Ok(Sparse { values, ends })
     }
 
+    /// The list of the values, for its room and theirs.
+    pub fn into_values(self) -> Vec<T> {
+        self.values
+    }
+
     /// The value of the item with this number, if it has one.
     pub fn at(&self, number: usize) -> Option<&T>
         ensures { option_map (λ value. value.now) result ≡ value_kept self.now number }

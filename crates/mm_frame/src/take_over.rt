@@ -21,9 +21,11 @@ use crate::copied_lists::CopiedLists;
 use crate::draft::Frame;
 use crate::expressions::Expressions;
 use crate::pair_lists::PairLists;
+use crate::room::{copy_in, next_frame};
 use crate::sparse::{Sparse, number_at};
 use crate::symbol::NumberedSymbol;
 use std::alloc::{AllocError, Global};
+use std::vec::IntoIter;
 
 /// An older base, and the number of an item of it.
 #[derive(Clone, Copy)]
@@ -39,10 +41,12 @@ pub struct ActiveDisjoints<'a> {
     pub expressions: &'a Expressions,
 }
 
-/// Adds the frame of one more item, a copy of the one that is kept, if one is.
+/// Adds the frame of one more item, a copy of the one that is kept, if one is: in the lists of the next of these that nobody asks
+/// any more, if they fit.
 fn copy_frame(
     alloc: Global,
     frames: &mut Sparse<Frame>,
+    gone: &mut IntoIter<Frame>,
     kept: Option<&Frame>,
 ) -> Result<(), AllocError>
     ensures { OnOk result ((all : List (List ℕ)) (said : List meant.Item) (item : meant.Item)
@@ -54,8 +58,9 @@ fn copy_frame(
         frames.pass()?;
         return Ok(());
     };
-    let hypotheses = Vec::from_slice(alloc, &kept.hypotheses)?;
-    let pairs = Vec::from_slice(alloc, &kept.pairs)?;
+    let room = next_frame(alloc, gone);
+    let hypotheses = copy_in(alloc, room.hypotheses, &kept.hypotheses)?;
+    let pairs = copy_in(alloc, room.pairs, &kept.pairs)?;
     frames.add(Frame { hypotheses, pairs })?;
     Ok(())
 }
@@ -101,7 +106,7 @@ fn copied_list(
     if let Some(k) = shared_list(numbers, proof, copied.guess(list)) {
         return Ok(k);
     }
-    let k = lists.keep(Vec::from_slice(alloc, proof.pairs)?)?;
+    let k = lists.keep_copy(alloc, proof.pairs)?;
     copied.keep(list, proof.number)?;
     Ok(k)
 }
@@ -186,7 +191,12 @@ impl Assertions {
             → AreSymbols all (sound_items said) active.entry.expressions.now → active.entry.numbers.now ≡ active_numbers is_disjoint_item (sound_items said)
             → AreAssertions all said self.old → AreAssertions all (said ++ one ∷ []) self.new) }
     {
-        copy_frame(alloc, &mut self.frames, old.base.kept_frame(old.number))?;
+        copy_frame(
+            alloc,
+            &mut self.frames,
+            &mut self.room.gone,
+            old.base.kept_frame(old.number),
+        )?;
         copy_pairs(
             alloc,
             &mut self.pair_lists,

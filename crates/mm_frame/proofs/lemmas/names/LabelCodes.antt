@@ -1,5 +1,5 @@
--- Short labels have codes of their own, which fit into 64 bits; what is kept of labels after one more.
-use Rattle.std.proofs.Common.{◌≡◌, ℕ, zero, suc, ◌*◌, ◌-◌, ◌^◌, ◌<◌, ◌≤◌, Bool, true, false, cond, not, Some, List, [], ◌∷◌, length, drop, length-drop, nat_eq, bytes_eq, Vec, inl, inr, refl, sym, ◌∙◌, ap, subst, arith, Global, nat_le, nat_lt}
+-- Short labels have codes of their own, which fit into 64 bits, and middle ones into 128; what is kept of labels after one more.
+use Rattle.std.proofs.Common.{◌≡◌, ℕ, zero, suc, ◌*◌, ◌-◌, ◌^◌, ◌<◌, ◌≤◌, Bool, true, false, cond, not, Option, Some, List, [], ◌∷◌, length, drop, length-drop, slice_index_or, ◌&&◌, nat_eq, bytes_eq, Vec, inl, inr, refl, sym, ◌∙◌, ap, subst, arith, Global, nat_le, nat_lt}
 use Rattle.std.specs.HashMap.{HashMap, UpdatesBy, get_by}
 use Rattle.std.specs.Map.{KeepsOthers, IsKeyTest, AreApart, lookup}
 use Rattle.std.specs.Cmp.Lexicographic.{nat_list_eq_equiv}
@@ -7,7 +7,7 @@ use Rattle.std.proofs.lemmas.Bool.{false≢true, cases_Bool, cond-true, cond-fal
 use Rattle.std.proofs.lemmas.Bool.Decides.{Decides-eqb}
 use Rattle.std.proofs.lemmas.Slice.Eq.{bytes_eq-Decides}
 use Rattle.mm_frame.specs.declared.label_numbers.LabelNumbers.{LabelNumbers}
-use Rattle.mm_frame.specs.Code.KeptLabels.{are_ascii, label_code, is_coded, label_number}
+use Rattle.mm_frame.specs.Code.KeptLabels.{are_ascii, label_code, is_coded, is_wide_coded, later_number, label_number}
 
 code_positive : (bs : List ℕ) → 1 ≤ label_code bs
 code_positive [] = omega arith
@@ -45,9 +45,9 @@ same_code xs ys s t = elim (cases_Bool (bytes_eq xs ys)) [
   | inr n ↦ false_from_ne_true (nat_eq (label_code xs) (label_code ys)) (λ e. false≢true (sym n ∙ (bytes_eq-Decides xs ys).1 (one_code xs ys s t ((Decides-eqb (label_code xs) (label_code ys)).0 e)))) ∙ sym n
 ]
 
--- a label that is short is no other than one that is
-other_length : (xs ys : List ℕ) (b : Bool) → is_coded xs ≡ b → is_coded ys ≡ not b → bytes_eq xs ys ≡ false
-other_length xs ys b s t = false_from_ne_true (bytes_eq xs ys) (λ e. apart b (sym s ∙ ap is_coded ((bytes_eq-Decides xs ys).0 e) ∙ t))
+-- a label that a test tells from another is not that one
+other_test : (test : List ℕ → Bool) (xs ys : List ℕ) (b : Bool) → test xs ≡ b → test ys ≡ not b → bytes_eq xs ys ≡ false
+other_test test xs ys b s t = false_from_ne_true (bytes_eq xs ys) (λ e. apart b (sym s ∙ ap test ((bytes_eq-Decides xs ys).0 e) ∙ t))
   where
     apart : (b : Bool) → b ≡ not b → ⊥
     apart true e = false≢true (sym e)
@@ -76,41 +76,85 @@ pub inserted : {X S : Type 0} (ks bs : List ℕ) (m n : HashMap (Vec ℕ Global)
 inserted ks bs m n x e h cs =
     written ks m n x h cs ∙ ap (λ l. cond (bytes_eq l cs) (Some x) (get_by (λ k. bytes_eq cs k.items) m)) e
 
+-- the look-ups of two sorts of labels after one more of the first sort
+put_first : (test : List ℕ → Bool) (old new old_rest new_rest : List ℕ → Option ℕ) (label other : List ℕ) (number : ℕ) → test label ≡ true
+    → ((l : List ℕ) → test l ≡ true → new l ≡ cond (bytes_eq label l) (Some number) (old l)) → ((l : List ℕ) → new_rest l ≡ old_rest l)
+    → cond (test other) (new other) (new_rest other) ≡ cond (bytes_eq label other) (Some number) (cond (test other) (old other) (old_rest other))
+put_first test old new old_rest new_rest label other number s put same = by_test (test other) refl
+  where
+    by_test : (b : Bool) → test other ≡ b
+        → cond b (new other) (new_rest other) ≡ cond (bytes_eq label other) (Some number) (cond b (old other) (old_rest other))
+    by_test true t = put other t
+    by_test false t = same other ∙ ap (λ b. cond b (Some number) (old_rest other)) (sym (other_test test label other true s t))
+
+-- and after one more of the second sort
+put_later : (test : List ℕ → Bool) (old new old_rest new_rest : List ℕ → Option ℕ) (label other : List ℕ) (number : ℕ) → test label ≡ false
+    → ((l : List ℕ) → new l ≡ old l) → ((l : List ℕ) → new_rest l ≡ cond (bytes_eq label l) (Some number) (old_rest l))
+    → cond (test other) (new other) (new_rest other) ≡ cond (bytes_eq label other) (Some number) (cond (test other) (old other) (old_rest other))
+put_later test old new old_rest new_rest label other number s same put = by_test (test other) refl
+  where
+    by_test : (b : Bool) → test other ≡ b
+        → cond b (new other) (new_rest other) ≡ cond (bytes_eq label other) (Some number) (cond b (old other) (old_rest other))
+    by_test true t = same other ∙ ap (λ b. cond b (Some number) (old other)) (sym (other_test test label other false s t))
+    by_test false t = put other
+
 -- what is kept after one more short label
-pub short_put : (old new : LabelNumbers) (label other : List ℕ) (number : ℕ) → is_coded label ≡ true → new.long ≡ old.long
+pub short_put : (old new : LabelNumbers) (label other : List ℕ) (number : ℕ) → is_coded label ≡ true → new.middle ≡ old.middle → new.long ≡ old.long
     → ((d : ℕ) → get_by (nat_eq d) new.short ≡ cond (nat_eq (label_code label) d) (Some number) (get_by (nat_eq d) old.short))
     → label_number new other ≡ cond (bytes_eq label other) (Some number) (label_number old other)
 unfolding label_number
-short_put old new label other number s long put = by_length (is_coded other) refl
-  where
-    by_length : (b : Bool) → is_coded other ≡ b
-        → cond b (get_by (nat_eq (label_code other)) new.short) (get_by (λ key. bytes_eq other key.items) new.long)
-        ≡ cond (bytes_eq label other) (Some number) (cond b (get_by (nat_eq (label_code other)) old.short) (get_by (λ key. bytes_eq other key.items) old.long))
-    by_length true t =
-        let test = same_code label other (and_parts (nat_le (length label) 9) (are_ascii label) s).1 (and_parts (nat_le (length other) 9) (are_ascii other) t).1 in
-        put (label_code other) ∙ ap (λ b. cond b (Some number) (get_by (nat_eq (label_code other)) old.short)) test
-    by_length false t =
-        ap (λ m. get_by (λ key. bytes_eq other key.items) m) long
-        ∙ ap (λ b. cond b (Some number) (get_by (λ key. bytes_eq other key.items) old.long)) (sym (other_length label other true s t))
+short_put old new label other number s middle long put =
+    put_first is_coded (λ l. get_by (nat_eq (label_code l)) old.short) (λ l. get_by (nat_eq (label_code l)) new.short) (later_number old) (later_number new) label other number s
+    (λ l t. put (label_code l) ∙ ap (λ b. cond b (Some number) (get_by (nat_eq (label_code l)) old.short))
+    (same_code label l (and_parts (nat_le (length label) 9) (are_ascii label) s).1 (and_parts (nat_le (length l) 9) (are_ascii l) t).1))
+    (λ l. ap (λ m. cond (is_wide_coded l) (get_by (nat_eq (label_code l)) m) (get_by (λ key. bytes_eq l key.items) new.long)) middle
+    ∙ ap (λ m. cond (is_wide_coded l) (get_by (nat_eq (label_code l)) old.middle) (get_by (λ key. bytes_eq l key.items) m)) long)
+
+-- what is kept after one more label of middle length
+pub middle_put : (old new : LabelNumbers) (label other : List ℕ) (number : ℕ) → is_coded label ≡ false → is_wide_coded label ≡ true
+    → new.short ≡ old.short → new.long ≡ old.long
+    → ((d : ℕ) → get_by (nat_eq d) new.middle ≡ cond (nat_eq (label_code label) d) (Some number) (get_by (nat_eq d) old.middle))
+    → label_number new other ≡ cond (bytes_eq label other) (Some number) (label_number old other)
+unfolding label_number
+middle_put old new label other number n s short long put =
+    put_later is_coded (λ l. get_by (nat_eq (label_code l)) old.short) (λ l. get_by (nat_eq (label_code l)) new.short) (later_number old) (later_number new) label other number n
+    (λ l. ap (λ m. get_by (nat_eq (label_code l)) m) short)
+    (λ k. put_first is_wide_coded (λ l. get_by (nat_eq (label_code l)) old.middle) (λ l. get_by (nat_eq (label_code l)) new.middle)
+    (λ l. get_by (λ key. bytes_eq l key.items) old.long) (λ l. get_by (λ key. bytes_eq l key.items) new.long) label k number s
+    (λ l t. put (label_code l) ∙ ap (λ b. cond b (Some number) (get_by (nat_eq (label_code l)) old.middle))
+    (same_code label l (and_parts (nat_le (length label) 18) (are_ascii label) s).1 (and_parts (nat_le (length l) 18) (are_ascii l) t).1))
+    (λ l. ap (λ m. get_by (λ key. bytes_eq l key.items) m) long))
 
 -- what is kept after one more long label
-pub long_put : (old new : LabelNumbers) (label other : List ℕ) (number : ℕ) → is_coded label ≡ false → new.short ≡ old.short
+pub long_put : (old new : LabelNumbers) (label other : List ℕ) (number : ℕ) → is_coded label ≡ false → is_wide_coded label ≡ false
+    → new.short ≡ old.short → new.middle ≡ old.middle
     → ((cs : List ℕ) → get_by (λ key. bytes_eq cs key.items) new.long ≡ cond (bytes_eq label cs) (Some number) (get_by (λ key. bytes_eq cs key.items) old.long))
     → label_number new other ≡ cond (bytes_eq label other) (Some number) (label_number old other)
 unfolding label_number
-long_put old new label other number s short put = by_length (is_coded other) refl
-  where
-    by_length : (b : Bool) → is_coded other ≡ b
-        → cond b (get_by (nat_eq (label_code other)) new.short) (get_by (λ key. bytes_eq other key.items) new.long)
-        ≡ cond (bytes_eq label other) (Some number) (cond b (get_by (nat_eq (label_code other)) old.short) (get_by (λ key. bytes_eq other key.items) old.long))
-    by_length true t =
-        ap (λ m. get_by (nat_eq (label_code other)) m) short
-        ∙ ap (λ b. cond b (Some number) (get_by (nat_eq (label_code other)) old.short)) (sym (other_length label other false s t))
-    by_length false t = put other
+long_put old new label other number n s short middle put =
+    put_later is_coded (λ l. get_by (nat_eq (label_code l)) old.short) (λ l. get_by (nat_eq (label_code l)) new.short) (later_number old) (later_number new) label other number n
+    (λ l. ap (λ m. get_by (nat_eq (label_code l)) m) short)
+    (λ k. put_later is_wide_coded (λ l. get_by (nat_eq (label_code l)) old.middle) (λ l. get_by (nat_eq (label_code l)) new.middle)
+    (λ l. get_by (λ key. bytes_eq l key.items) old.long) (λ l. get_by (λ key. bytes_eq l key.items) new.long) label k number s
+    (λ l. ap (λ m. get_by (nat_eq (label_code l)) m) middle) put)
 
--- there is room for one more
-pub code_fits : (left : ℕ) (bs : List ℕ) → 0 < left → left ≤ length bs → length bs ≤ 9 → are_ascii (drop left bs) ≡ true → label_code (drop left bs) < 2 ^ 57
-code_fits left bs k h m f = code_below 8 (drop left bs) (short (length-drop left bs)) f
+and_false : (a b : Bool) → b ≡ false → a && b ≡ false
+and_false true b e = e
+and_false false b e = refl
+
+not_ascii : (n : ℕ) (bs : List ℕ) → n < length bs → nat_lt (slice_index_or bs n 0) 128 ≡ false → are_ascii bs ≡ false
+not_ascii n [] k e = absurd (omega arith)
+not_ascii zero (b ∷ bs) k e = ap (λ t. t && are_ascii bs) e
+not_ascii (suc n) (b ∷ bs) k e = and_false (nat_lt b 128) (are_ascii bs) (not_ascii n bs (omega arith) e)
+
+-- a label with a byte that is no ASCII has no code
+pub no_code : (most n : ℕ) (bs : List ℕ) → n < length bs → nat_lt (slice_index_or bs n 0) 128 ≡ false → nat_le (length bs) most && are_ascii bs ≡ false
+no_code most n bs k e = and_false (nat_le (length bs) most) (are_ascii bs) (not_ascii n bs k e)
+
+-- there is room for one more, in a code of so many digits and one more
+pub code_fits : (most left : ℕ) (bs : List ℕ) → 0 < left → left ≤ length bs → length bs ≤ suc most → are_ascii (drop left bs) ≡ true
+    → label_code (drop left bs) < 2 * 128 ^ most
+code_fits most left bs k h m f = code_below most (drop left bs) (short (length-drop left bs)) f
   where
-    short : length (drop left bs) ≡ length bs - left → length (drop left bs) ≤ 8
+    short : length (drop left bs) ≡ length bs - left → length (drop left bs) ≤ most
     short e = omega arith

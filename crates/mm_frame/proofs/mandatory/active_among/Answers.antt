@@ -32,4 +32,4 @@ pub returns-clause-pairs : goal.returns-clause-pairs
 returns-clause-pairs c all before reads m numbered =
     let so_far = c.loop-n.invariant.pairs all before reads m numbered in
     let whole = sym (append-nil so_far.0) ∙ ap (λ w. so_far.0 ++ filter (are_paired (active_pairs before)) (pairs_of (symbols_of all w))) (sym (drop_all c.loop-n.n c.args.variables.now c.loop-n-test.false)) ∙ so_far.1 in
-    subst (λ w. ArePairsRead all w c.in_ok-kept.kept.items) whole (subst (ArePairsRead all so_far.0) (sym (c.in_ok-kept.ensures.items ∙ c.deref.ensures.value)) so_far.2)
+    subst (λ w. ArePairsRead all w c.in_ok-kept.kept.items) whole (subst (ArePairsRead all so_far.0) (sym (c.in_ok-kept.ensures ∙ c.deref.ensures.value)) so_far.2)

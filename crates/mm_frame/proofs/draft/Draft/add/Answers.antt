@@ -10,7 +10,7 @@ pub returns : goal.returns
 returns c = on_ok_both c.follow.result (λ follows same all said d told numbers kept.
     let item = c.args.statement.now in
     let before = sound_items said in
-    let found = c.args.fault in
+    let found = c.args.fault.now in
     let flag = c.is_none.result in
     let are_sound = kept_are_sound said in
     let none = none_found found flag c.is_none.ensures in

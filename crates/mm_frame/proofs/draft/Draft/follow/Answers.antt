@@ -18,7 +18,7 @@ pub returns-clause-follows : goal.returns-clause-follows
 returns-clause-follows c all said d told numbers kept =
     let item = c.args.statement.now in
     let before = sound_items said in
-    let found = c.args.fault in
+    let found = c.args.fault.now in
     let flag = c.is_none.result in
     let are_sound = kept_are_sound said in
     let none = none_found found flag c.is_none.ensures in

@@ -10,7 +10,7 @@ use Rattle.mm_frame.proofs.pair_lists.PairLists.first_list.Goals as goal
 
 pub returns-clause-pairs : goal.returns-clause-pairs
 returns-clause-pairs c all before h a front m =
-    let new : PairLists = record { lists = c.keep.new.self.lists; made = c.insert.new.self; reach = c.keep.new.self.reach } in
+    let new : PairLists = record { lists = c.keep.new.self.lists; made = c.insert.new.self; reach = c.keep.new.self.reach; gone = c.keep.new.self.gone } in
     let there = c.in_ok-k.ensures.there in
     let listed = flat_map (λ n. pairs_among (expression_kept c.args.expressions.now n)) c.args.first.now in
     let kept = c.in_order.result.items in
@@ -23,7 +23,7 @@ returns-clause-pairs c all before h a front m =
 pub returns-clause-made : goal.returns-clause-made
 returns-clause-made c all before h a front m =
     let old = c.args.self.now in
-    let new : PairLists = record { lists = c.keep.new.self.lists; made = c.insert.new.self; reach = c.keep.new.self.reach } in
+    let new : PairLists = record { lists = c.keep.new.self.lists; made = c.insert.new.self; reach = c.keep.new.self.reach; gone = c.keep.new.self.gone } in
     let kept = c.in_ok-k.ensures.kept in
     let keeps : KeepsLists old new = record { more = kept.more; whole = kept.whole } in
     let count = c.args.count in

@@ -7,10 +7,10 @@ pub returns-then-is_last-clause-there : goal.returns-then-is_last-clause-there
 returns-then-is_last-clause-there c =
     let lists = c.args.self.now.lists in
     let number : length lists.items - 1 ≡ c.len-count.result - 1 = omega (arith, c.len-count.ensures, lists.ok.0) in
-    subst (λ k. IsThere c.args.self.now k c.args.list.items) number (c.if-is_last.ensures refl)
+    subst (λ k. IsThere c.args.self.now k c.args.list.items) number (subst (IsThere c.args.self.now (length lists.items - 1)) c.deref.ensures.value (c.if-is_last.ensures refl))
 
 pub returns-clause-there : goal.returns-clause-there
 returns-clause-there c =
     let lists = c.args.self.now.lists in
     let number : c.len-count.result ≡ length lists.items = omega (arith, c.len-count.ensures, lists.ok.0) in
-    record { list = c.args.list; there = ap (λ w. slice_get w c.len-count.result) c.in_ok-push.ensures.items ∙ get_last lists.items c.args.list c.len-count.result number; same = refl }
+    record { list = c.move_in.result; there = ap (λ w. slice_get w c.len-count.result) c.in_ok-push.ensures.items ∙ get_last lists.items c.move_in.result c.len-count.result number; same = c.move_in.ensures }

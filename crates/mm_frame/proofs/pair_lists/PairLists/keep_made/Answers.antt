@@ -9,7 +9,7 @@ returns-clause-made c all before h a e is m =
     let old = c.args.self.now in
     let disjoints = c.args.disjoints.now in
     let count = c.count_to_last-count.result in
-    let new : PairLists = record { lists = old.lists; made = c.insert.new.self; reach = count } in
+    let new : PairLists = record { lists = old.lists; made = c.insert.new.self; reach = count; gone = old.gone } in
     let whole = c.count_to_last-count.ensures all before [] a (append-nil disjoints ∙ e) in
     let keeps : KeepsLists old new = record { more = []; whole = sym (append-nil old.lists.items) } in
     made_one_more all before old new count c.args.k keeps m whole.within
