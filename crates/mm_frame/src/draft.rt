@@ -206,7 +206,8 @@ fn follow_pairs(
     Ok(())
 }
 
-/// This and one thing more. If there is no memory for that, this is dropped here, and the caller has nothing to drop.
+/// This and one thing more. If there is no memory for that, this is dropped here, and the caller has nothing to drop. It is here
+/// for the time of the check alone, which looks at each drop on each way out of a function.
 fn with<A: Drop, B: Drop>(one: A, more: Result<B, AllocError>) -> Result<(A, B), AllocError>
     ensures { IfOk result (λ both. (both.0 ≡ one) × (more ≡ Ok both.1)) }
 {
