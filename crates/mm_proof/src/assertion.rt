@@ -1,19 +1,21 @@
 //! What citing an assertion needs.
 
-ghost use Rattle.std.specs.Prelude.{◌≡◌, ◌<◌, ◌+◌, ◌^◌, true, All, IfOk, length, map};
+ghost use Rattle.std.specs.Prelude.{◌≡◌, ◌++◌, ◌<◌, ◌≤◌, true, List, All, IfOk, OnOk, length, map};
 ghost use Rattle.mm_frame.specs.Language.Base.{BaseView, is_shown_at, is_framed_at, is_proof_at};
 ghost use Rattle.mm_frame.specs.Language.Answering.{IsBase};
-ghost use Rattle.mm_frame.specs.Language.Frame.{AreSamePairs};
-ghost use Rattle.mm_proof.specs.Code.Citation.{mandatory_of, hypotheses_of, meant_pairs};
+ghost use Rattle.mm_frame.specs.Language.Frame.{Mandatory, AreSameFrame, AreSamePairs};
+ghost use Rattle.mm_proof.specs.Code.Citation.{mandatory_of, hypotheses_of, frame_of, meant_pairs};
 ghost use Rattle.mm_proof.specs.Code.Keys.{AreInKeyOrder, key_by_number};
 ghost use Rattle.mm_frame.specs.Language.NumberedSymbols.{by_number};
 ghost use Rattle.mm_frame.specs.declared.base.Resolved.TheVariants as answers;
-ghost use Rattle.mm_proof.specs.Code.Decoded.{InViews};
-ghost use Rattle.mm_proof.specs.Code.NamedItems.{AreCited, IsAssertionAt, IsNamedBy, all_mandatory, mandatory_at};
-ghost use Rattle.mm_proof.specs.Code.NumberedBase.{ByNames, all_by_number, numbered_hypothesis, numbered_setting};
+ghost use Rattle.mm_proof.specs.Code.NamedItems.{AreCited, IsNamedBy};
+ghost use Rattle.mm_proof.specs.Code.NumberedBase.{ByNames, all_by_number, numbered_hypothesis, numbered_frame, numbered_setting};
 
 use mm_frame::{Base, NumberedSymbol, places_have_frames};
 use std::alloc::{AllocError, Global};
+
+/// At first there is room for the mandatory hypotheses of so many assertions at most.
+const FIRST_ASSERTIONS: usize = 64;
 
 /// A mandatory hypothesis of an assertion.
 #[derive(Drop)]
@@ -63,55 +65,43 @@ fn hypothesis_of(base: &Base, number: usize) -> Hypothesis<'_, NumberedSymbol>
     }
 }
 
-/// The hypotheses with these numbers.
-fn hypotheses_at<'a>(
-    alloc: Global,
+/// Adds the hypotheses with these numbers after others.
+fn add_hypotheses<'a>(
     base: &'a Base,
     numbers: &[usize],
-) -> Result<Vec<Hypothesis<'a, NumberedSymbol>>, AllocError>
-    ensures { IfOk result (λ all. ByNames base.now (λ names view. All (λ n. is_shown_at view n ≡ true) numbers.now →
-        hypotheses_of by_number all.items ≡ map (numbered_hypothesis names view) numbers.now)) }
+    to: &mut Vec<Hypothesis<'a, NumberedSymbol>>,
+) -> Result<(), AllocError>
+    ensures { OnOk result (ByNames base.now (λ names view. All (λ n. is_shown_at view n ≡ true) numbers.now →
+        hypotheses_of by_number to.new.items ≡ hypotheses_of by_number to.old.items ++ map (numbered_hypothesis names view) numbers.now)) }
 {
-    let mut all = Vec::with_capacity(alloc, numbers.len())?;
     for number in numbers {
-        all.push(hypothesis_of(base, *number))?;
+        to.push(hypothesis_of(base, *number))?;
     }
-    Ok(all)
+    Ok(())
 }
 
-/// The numbers of the mandatory hypotheses of the assertions with these numbers, one after another.
-///
-/// Frames are all over the memory. This loop does nothing but read them, so that the processor waits for many of them at once.
-fn mandatory_of_all(alloc: Global, base: &Base, numbers: &[usize]) -> Result<Vec<usize>, AllocError>
-    requires { All (λ j. IsNamedBy base.now (answers.Assertion j)) numbers.now }
-    ensures numbers { IfOk result (λ all. InViews base.now (λ view. all.items ≡ all_mandatory view numbers.now)) }
-    ensures shown { IfOk result (λ all. InViews base.now (λ view. All (λ n. is_shown_at view n ≡ true) all.items)) }
-{
-    // Most assertions have four mandatory hypotheses at most.
-    let mut all = Vec::with_capacity(alloc, numbers.len().saturating_mul(4))?;
-    for number in numbers {
-        let frame = base.frame(*number).unwrap();
-        all.extend_from_slice(&frame.hypotheses)?;
-    }
-    Ok(all)
-}
-
-/// The assertion with this number, whose mandatory hypotheses begin at this place of a list.
-fn assertion_of(base: &Base, number: usize, first: usize) -> Cited<'_, NumberedSymbol>
-    requires framed { (view : BaseView) × IsBase view base.now × (is_framed_at view number ≡ true) }
-    requires fits { InViews base.now (λ view. first + length (mandatory_at view number) < 2 ^ 64) }
-    ensures first { result.first ≡ first }
-    ensures last { InViews base.now (λ view. result.last ≡ first + length (mandatory_at view number)) }
-    ensures frame { ByNames base.now (λ names view. is_framed_at view number ≡ true →
-        IsAssertionAt names view number result) }
+/// The assertion with this number. Its mandatory hypotheses are added after others.
+fn assertion_of<'a>(
+    base: &'a Base,
+    number: usize,
+    mandatory: &mut Vec<Hypothesis<'a, NumberedSymbol>>,
+) -> Result<Cited<'a, NumberedSymbol>, AllocError>
+    requires { (view : BaseView) × IsBase view base.now × (is_framed_at view number ≡ true) × (number < length view.said) }
+    ensures grows { OnOk result ((more : List Mandatory)
+        × (hypotheses_of by_number mandatory.new.items ≡ hypotheses_of by_number mandatory.old.items ++ more)) }
+    ensures within { IfOk result (λ cited. (cited.first ≤ cited.last) × (cited.last ≡ length mandatory.new.items)) }
+    ensures frame { IfOk result (λ cited. ByNames base.now (λ names view. is_framed_at view number ≡ true →
+        AreSameFrame (frame_of by_number (hypotheses_of by_number mandatory.new.items) cited) (numbered_frame names view number))) }
 {
     let frame = base.frame(number).unwrap();
-    Cited {
+    let first = mandatory.len();
+    add_hypotheses(base, &frame.hypotheses, &mut *mandatory)?;
+    Ok(Cited {
         expression: expression(base, number),
         first,
-        last: first + frame.hypotheses.len(),
+        last: mandatory.len(),
         pairs: &frame.pairs,
-    }
+    })
 }
 
 /// The assertions with these numbers, and before them a list of their mandatory hypotheses.
@@ -130,14 +120,12 @@ pub fn assertions_of<'a>(
     ensures { IfOk result (λ r. AreCited base.now numbers.now r.0.items r.1.items) }
 {
     places_have_frames();
-    let all = mandatory_of_all(alloc, base, numbers)?;
-    let mandatory = hypotheses_at(alloc, base, &all)?;
+    let some = numbers.len().min(FIRST_ASSERTIONS);
+    // Most assertions have four mandatory hypotheses at most.
+    let mut mandatory = Vec::with_capacity(alloc, some * 4)?;
     let mut assertions = Vec::with_capacity(alloc, numbers.len())?;
-    let mut first = 0;
     for number in numbers {
-        let cited = assertion_of(base, *number, first);
-        first = cited.last;
-        assertions.push(cited)?;
+        assertions.push(assertion_of(base, *number, &mut mandatory)?)?;
     }
     Ok((mandatory, assertions))
 }

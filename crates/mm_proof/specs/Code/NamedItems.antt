@@ -4,12 +4,10 @@ use Rattle.mm_frame.specs.declared.base.Base.{Base}
 use Rattle.mm_frame.specs.declared.base.Resolved.{Resolved}
 use Rattle.mm_frame.specs.declared.base.Resolved.TheVariants as answers
 use Rattle.mm_frame.specs.declared.symbol.NumberedSymbol.{NumberedSymbol}
-use Rattle.std.specs.List.{concat}
-use Rattle.mm_frame.specs.Language.Base.{BaseView, before, said_at, is_shown_at, is_framed_at}
-use Rattle.mm_frame.specs.Language.Framing.{mandatory_numbers}
-use Rattle.mm_frame.specs.Language.Frame.{Symbol, Frame, AreSameFrame, AreSamePairs}
+use Rattle.mm_frame.specs.Language.Base.{BaseView, is_shown_at, is_framed_at}
+use Rattle.mm_frame.specs.Language.Frame.{Symbol, Frame, AreSameFrame}
 use Rattle.mm_frame.specs.Language.Answering.{IsBase}
-use Rattle.mm_proof.specs.Code.Citation.{IsCitable, frame_of, hypotheses_of, meant_pairs}
+use Rattle.mm_proof.specs.Code.Citation.{IsCitable, frame_of, hypotheses_of}
 use Rattle.mm_proof.specs.Language.DecodedSteps.{IsEntry}
 use Rattle.mm_frame.specs.Language.NumberedSymbols.{by_number}
 use Rattle.mm_proof.specs.Code.NumberedBase.{ByNames, all_by_number, numbered_hypothesis, numbered_frame}
@@ -50,20 +48,6 @@ frames_cited mandatory assertions = map (frame_of by_number (hypotheses_of by_nu
 -- this place has the frame of the assertion with a number
 abbrev pub HasFrame : List (List ℕ) → BaseView → List Frame → ℕ → ℕ → Type 0
 HasFrame names view frames n j = (kept : Frame) × (slice_get frames n ≡ Some kept) × AreSameFrame kept (numbered_frame names view j)
-
--- the numbers of the mandatory hypotheses of an assertion
-abbrev pub mandatory_at : BaseView → ℕ → List ℕ
-mandatory_at view j = mandatory_numbers (before view j) (said_at view j)
-
--- those of assertions, one after another
-abbrev pub all_mandatory : BaseView → List ℕ → List ℕ
-all_mandatory view numbers = concat (map (mandatory_at view) numbers)
-
--- the assertion is the one that the base has under this number, wherever its mandatory hypotheses are
-pub record IsAssertionAt (names : List (List ℕ)) (view : BaseView) (j : ℕ) (cited : Cited NumberedSymbol) : Type 0 where
-  pub expression : all_by_number cited.expression.now ≡ (numbered_frame names view j).expression
-  pub hypotheses : map (numbered_hypothesis names view) (mandatory_at view j) ≡ (numbered_frame names view j).hypotheses
-  pub pairs : AreSamePairs (meant_pairs by_number cited.pairs.now) (numbered_frame names view j).pairs
 
 -- the assertions are those that the base has under these numbers
 pub record AreCited (code : Base) (numbers : List ℕ) (mandatory : List (Hypothesis NumberedSymbol)) (assertions : List (Cited NumberedSymbol)) : Type 0 where
