@@ -1,11 +1,17 @@
 //! What the program does not call of files: the text of one.
 
+ghost use Rattle.std.specs.Prelude.{◌≡◌, ◌↔◌, IfOk, IsTrue, Some};
+ghost use Rattle.std.specs.Option.{option_map};
+ghost use Rattle.mm_report.specs.mm_store.Language.FilesView.{find_file, plain, text_of};
+
 use mm_report::{Files, StoreError};
 use std::alloc::AllocError;
 use std::mem;
 
-/// Whether there is a file of this name with this text.
-pub fn has_text(files: &Files, name: &[u8], wanted: &[u8]) -> Result<bool, AllocError> {
+/// Whether there is a file of this name with this text. Tests rest on it, so it is proved, and not only run.
+pub fn has_text(files: &Files, name: &[u8], wanted: &[u8]) -> Result<bool, AllocError>
+    ensures { IfOk result (λ has. IsTrue has ↔ (option_map text_of (find_file (plain files.now) name.now) ≡ Some wanted.now)) }
+{
     match files.text(name)? {
         Some(text) => Ok(text.as_slice() == wanted),
         None => Ok(false),

@@ -5,7 +5,6 @@
 mod bases;
 #[cfg(test)]
 mod edits;
-#[cfg(test)]
 mod files;
 #[cfg(test)]
 mod streams;
