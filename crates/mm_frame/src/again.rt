@@ -271,8 +271,8 @@ fn read_next<'a>(
     Ok(Reached { next, same })
 }
 
-/// Reads some more items of the files, the first ones, with the help of an older base. After out of memory the draft must not be
-/// used, and there may be more names.
+/// Reads some more items of the files, the first ones, with the help of an older base. After out of memory the draft must not
+/// be used, and there may be more names.
 fn read_each_again<'a>(
     draft: &mut Draft<'a>,
     alloc: Global,
@@ -303,8 +303,8 @@ fn read_each_again<'a>(
     Ok(())
 }
 
-/// Reads items of the files, from the first one on, with the help of an older base. What is kept of them lies in the lists of this
-/// room, as far as they fit.
+/// Reads items of the files, from the first one on, with the help of an older base. What is kept of them lies in the lists of
+/// this room, as far as they fit.
 pub fn read_all_again<'a>(
     alloc: Global,
     names: &mut Names,

@@ -109,7 +109,8 @@ fn keep_pairs(
 impl Assertions {
     ghost use Rattle.mm_frame.specs.Code.KeptAssertions.{AreAssertions};
 
-    /// No items, with room for this many. Frames and lists of active pairs are kept in the lists of this room, as far as they fit.
+    /// No items, with room for this many. Frames and lists of active pairs are kept in the lists of this room, as far as they
+    /// fit.
     pub fn with_room(
         alloc: Global,
         count: usize,

@@ -121,11 +121,13 @@ impl Base {
         })
     }
 
-    /// Builds the base of the files from a top file on as `build` does, with an older base whose items can still be read: of
-    /// a `$d`, `$e`, `$a` or `$p` that is the same bytes as an item of the older one, in the same order, the numbers of the symbols
-    /// are taken from there, and no symbol is read. As long as all items are the same ones, what is sound is not judged again.
+    /// Builds the base of the files from a top file on as `build` does, with an older base whose items can still be read: of a
+    /// `$d`, `$e`, `$a` or `$p` that is the same bytes as an item of the older one, in the same order, the numbers of the
+    /// symbols are taken from there, and no symbol is read. As long as all items are the same ones, what is sound is not judged
+    /// again.
     ///
-    /// The lists are made in the room that the older base has from the one before it, if it has any. The older base answers as before.
+    /// The lists are made in the room that the older base has from the one before it, if it has any. The older base answers as
+    /// before.
     pub fn rebuild(
         alloc: Global,
         names: &mut Names,

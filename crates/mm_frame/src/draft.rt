@@ -95,7 +95,8 @@ pub struct Parts {
     pub pair_numbers: Sparse<usize>,
 }
 
-/// The fault that is reported of an item of this kind, if its statement has this fault.
+/// The fault that is reported of an item of this kind, if its statement has this fault. Most often there is none, so nothing of
+/// it is copied before that is known.
 fn told_fault(kind: ItemKind, fault: &Option<FrameFault>) -> Option<FrameFault>
     ensures { option_map (λ f. (f.word, f.number)) result ≡ fault_by (kind_of kind) (option_map (λ f. (f.word, f.number)) fault.now) }
 {
@@ -206,8 +207,8 @@ fn follow_pairs(
     Ok(())
 }
 
-/// This and one thing more. If there is no memory for that, this is dropped here, and the caller has nothing to drop. It is here
-/// for the time of the check alone, which looks at each drop on each way out of a function.
+/// This and one thing more. If there is no memory for that, this is dropped here, and the caller has nothing to drop. It is
+/// here for the time of the check alone, which looks at each drop on each way out of a function.
 fn with<A: Drop, B: Drop>(one: A, more: Result<B, AllocError>) -> Result<(A, B), AllocError>
     ensures { IfOk result (λ both. (both.0 ≡ one) × (more ≡ Ok both.1)) }
 {
@@ -246,8 +247,8 @@ impl<'a> Draft<'a> {
     }
 
     /// Goes on past one more statement, which has these symbols, and this fault or none, and of which the assertions are told
-    /// already. Where they are needed, the numbers of its symbols are kept; the list with the expected number may have the symbols.
-    /// After out of memory the draft must not be used.
+    /// already. Where they are needed, the numbers of its symbols are kept; the list with the expected number may have the
+    /// symbols. After out of memory the draft must not be used.
     fn follow(
         &mut self,
         alloc: Global,
@@ -280,8 +281,9 @@ impl<'a> Draft<'a> {
         Ok(())
     }
 
-    /// Adds one more statement, which has these symbols, and this fault or none. Where they are needed, the numbers of its symbols
-    /// are kept; the list with the expected number may have the symbols. After out of memory the draft must not be used.
+    /// Adds one more statement, which has these symbols, and this fault or none. Where they are needed, the numbers of its
+    /// symbols are kept; the list with the expected number may have the symbols. After out of memory the draft must not be
+    /// used.
     fn add(
         &mut self,
         alloc: Global,
@@ -313,8 +315,8 @@ impl<'a> Draft<'a> {
         self.follow(alloc, statement, symbols, fault, expected)
     }
 
-    /// Takes one more statement, whose symbols have the numbers that are kept; the list with the expected number may have what is
-    /// kept of them. After out of memory the draft must not be used.
+    /// Takes one more statement, whose symbols have the numbers that are kept; the list with the expected number may have what
+    /// is kept of them. After out of memory the draft must not be used.
     pub fn take(
         &mut self,
         alloc: Global,
@@ -337,9 +339,9 @@ impl<'a> Draft<'a> {
         Ok(())
     }
 
-    /// Takes one more statement, whose symbols are known, if it is a `$e`, `$a` or `$p` that is sound with them as they are; else nothing
-    /// changes, and the answer is `false`. The list with the expected number may have these symbols. After out of memory the
-    /// draft must not be used.
+    /// Takes one more statement, whose symbols are known, if it is a `$e`, `$a` or `$p` that is sound with them as they are;
+    /// else nothing changes, and the answer is `false`. The list with the expected number may have these symbols. After out
+    /// of memory the draft must not be used.
     pub fn take_known(
         &mut self,
         alloc: Global,
@@ -369,7 +371,8 @@ impl<'a> Draft<'a> {
     }
 
     /// Takes one more statement as an older base has it, in which it is sound and has these symbols; their numbers are kept
-    /// where they are needed. All items before it are those of the older base. Out of memory leaves the draft as good for nothing.
+    /// where they are needed. All items before it are those of the older base. Out of memory leaves the draft as good for
+    /// nothing.
     pub fn take_over(
         &mut self,
         alloc: Global,
@@ -476,7 +479,7 @@ impl<'a> Draft<'a> {
             rows,
             expressions,
             frames,
-            pair_lists,
+            pair_lists: pair_lists.without_room(),
             pair_numbers,
         }
     }

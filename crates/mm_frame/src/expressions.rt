@@ -54,8 +54,8 @@ fn number_guessed(
     Ok(number)
 }
 
-/// The number of a list with these symbols: the number that is expected, if that list has them or is the next one; else one that
-/// is found by a guess.
+/// The number of a list with these symbols: the number that is expected, if that list has them or is the next one; else one
+/// that is found by a guess.
 fn number_of(
     lists: &mut SymbolLists,
     guesses: &mut ListGuesses,

@@ -356,7 +356,8 @@ pub fn fault_of(
     Ok(end_fault(statement))
 }
 
-/// Whether the n-th symbol of a `$e`, `$a` or `$p`, counted from 0, has no fault, and is a constant or a variable as its name is.
+/// Whether the n-th symbol of a `$e`, `$a` or `$p`, counted from 0, has no fault, and is a constant or a variable as its name
+/// is.
 fn is_right(scope: &Scope, n: usize, symbol: NumberedSymbol) -> bool
     ensures fault { IsTrue result → (all : List (List ℕ)) (before : List Item) (name : List ℕ) → AreSound before → ScopeHolds all before scope.now
         → IsNameNumber all symbol.name name → None ≡ judging.expression_fault before n name }
@@ -388,8 +389,8 @@ fn are_right(scope: &Scope, statement: &Statement, symbols: &[NumberedSymbol]) -
     true
 }
 
-/// Whether a statement is a `$e`, `$a` or `$p` that has no fault after the sound items of a scope, and each of its symbols, which are
-/// known, is a constant or a variable as its name is.
+/// Whether a statement is a `$e`, `$a` or `$p` that has no fault after the sound items of a scope, and each of its symbols,
+/// which are known, is a constant or a variable as its name is.
 ///
 /// It takes no memory, and time near linear in the symbols; no word is read.
 pub fn is_sound_as_known(

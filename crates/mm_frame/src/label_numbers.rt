@@ -14,9 +14,9 @@ const MOST_MIDDLE: usize = 18;
 
 /// Labels, each with the number of an item.
 ///
-/// Nearly all labels that proofs name have few bytes. A short label is kept as the number that its bytes make, so a
-/// look-up reads little memory. So is one of middle length, apart from these, since its number is larger. A longer one is kept by
-/// its bytes.
+/// Nearly all labels that proofs name have few bytes. A short label is kept as the number that its bytes make, so a look-up
+/// reads little memory. So is one of middle length, apart from these, since its number is larger. A longer one is kept by its
+/// bytes.
 #[derive(Drop)]
 pub struct LabelNumbers {
     short: HashMap<u64, usize>,

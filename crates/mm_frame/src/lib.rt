@@ -1,4 +1,5 @@
-//! Scopes, soundness and frames: what is declared and active after a list of items, which statements are sound, and what labels mean.
+//! Scopes, soundness and frames: what is declared and active after a list of items, which statements are sound, and what labels
+//! mean.
 #![tactic(auto)]
 
 mod active;

@@ -296,8 +296,8 @@ fn add_pairs_with_later(
     add_active_with(table, asked, earlier.blocks, first, later, pairs)
 }
 
-/// The pairs of each variable with each later one that an active `$d` has. They are collected in `pairs`, and kept in the room of `list`,
-/// if it fits.
+/// The pairs of each variable with each later one that an active `$d` has. They are collected in `pairs`, and kept in the room
+/// of `list`, if it fits.
 fn active_among(
     alloc: Global,
     earlier: &Earlier,
@@ -322,8 +322,8 @@ fn active_among(
     Ok(kept)
 }
 
-/// The pairs of a sound assertion with these mandatory hypotheses: of the variables of its mandatory `$f`, in their
-/// order, those that an active `$d` has. They are kept in the room of `list`, if it fits. After an allocation failure what was looked
+/// The pairs of a sound assertion with these mandatory hypotheses: of the variables of its mandatory `$f`, in their order,
+/// those that an active `$d` has. They are kept in the room of `list`, if it fits. After an allocation failure what was looked
 /// up must not be used.
 pub fn mandatory_pairs(
     alloc: Global,

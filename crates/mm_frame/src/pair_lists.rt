@@ -259,6 +259,25 @@ impl PairLists {
         Ok(count)
     }
 
+    /// The same lists, without the room that is left.
+    pub fn without_room(self) -> PairLists
+        ensures { KeepsLists self result }
+    {
+        let PairLists {
+            lists,
+            made,
+            reach,
+            ..
+        } = self;
+        let none = Vec::new(*lists.allocator());
+        PairLists {
+            lists,
+            made,
+            reach,
+            gone: none.into_iter(),
+        }
+    }
+
     /// The lists, for their room.
     pub fn into_lists(self) -> Vec<Vec<(NumberedSymbol, NumberedSymbol)>> {
         self.lists

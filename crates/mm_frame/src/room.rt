@@ -8,7 +8,7 @@ use mm_store::Item;
 use std::alloc::{AllocError, Global};
 use std::vec::IntoIter;
 
-/// How many elements more than twice its own a list may have room for.
+/// A list with this many elements more than twice those that are put into it still fits.
 const FEW: usize = 4;
 
 /// Lists of a base that is gone. Only their room is of use: what they hold is not looked at.
@@ -74,7 +74,7 @@ pub fn next_list(
 /// Whether a list with room for `capacity` elements is as good for `count` of them as a new one: there is as much room, and not
 /// much more.
 fn fits(capacity: usize, count: usize) -> bool {
-    capacity >= count && capacity / 2 <= count.saturating_add(FEW)
+    capacity >= count && capacity - count <= count.saturating_add(FEW)
 }
 
 /// A copy of a list: in the room of this one, if it fits.

@@ -155,7 +155,8 @@ fn read_symbols(alloc: Global, words: &mut WordCursor, room: usize) -> Result<Ve
 }
 
 impl<'a> Statement<'a> {
-    /// What an item of the files says. The item's bytes are read up to its proof; those of a lone `${` or `$}` are not looked at.
+    /// What an item of the files says. The item's bytes are read up to its proof; those of a lone `${` or `$}` are not looked
+    /// at.
     pub fn read(alloc: Global, files: &'a Files, item: &Item) -> Result<Self, AllocError>
         requires { CanBeRead files.now item.now }
         ensures says { IfOk result (Says files.now item.now) }

@@ -41,8 +41,8 @@ pub struct ActiveDisjoints<'a> {
     pub expressions: &'a Expressions,
 }
 
-/// Adds the frame of one more item, a copy of the one that is kept, if one is: in the lists of the next of these that nobody asks
-/// any more, if they fit.
+/// Adds the frame of one more item, a copy of the one that is kept, if one is: in the lists of the next of these that nobody
+/// asks any more, if they fit.
 fn copy_frame(
     alloc: Global,
     frames: &mut Sparse<Frame>,

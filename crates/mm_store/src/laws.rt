@@ -30,7 +30,8 @@ pub fn has_expansion()
         → (items : List Item) × IsExpansion (files_in files) top items }
 {}
 
-/// If each piece of files holds one unit, the same is true after an edit; and there are files with keys that mean what these mean.
+/// If each piece of files holds one unit, the same is true after an edit; and there are files with keys that mean what these
+/// mean.
 pub fn edits_keep_units()
     ensures units { (edit : Asked) (files after : List File) → HoldOneEach files → IsEditOf edit files after → HoldOneEach after }
     ensures keys { (files : List File) → (view : FilesView) × HoldsPieces view × (plain view ≡ files) }

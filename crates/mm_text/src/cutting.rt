@@ -17,7 +17,8 @@ use crate::whole_text::first_bad_byte;
 use bytes::Bytes;
 use std::alloc::{AllocError, Global};
 
-/// Whether a text ends in white space, so that `cut` adds no line feed; the empty text counts as one that does. It takes no memory.
+/// Whether a text ends in white space, so that `cut` adds no line feed; the empty text counts as one that does. It takes no
+/// memory.
 pub fn ends_white(bytes: &[u8]) -> bool
     ensures { result ≡ pieces.ends_white bytes.now }
 {

@@ -32,8 +32,8 @@ fn part(kind: PartKind, start: usize, end: usize) -> Part {
     Part { kind, start, end }
 }
 
-/// The words that a cursor gives, and what it gives after the last; and the first that a cursor gives that began again after the
-/// first word.
+/// The words that a cursor gives, and what it gives after the last; and the first that a cursor gives that began again after
+/// the first word.
 fn told(text: &[u8]) -> ([Option<Word>; 4], Option<Word>)
     requires { (words : List Found) × HasWords text.now words }
 {

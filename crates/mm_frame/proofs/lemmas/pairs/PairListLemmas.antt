@@ -466,7 +466,7 @@ pub is_list : (all : List (List ℕ)) (lists : PairLists) (k : ℕ) (kept : List
 is_list all lists k kept pairs there read order = record { list = there.list; there = there.there; read = subst (AreSamePairsRead all pairs) (sym there.same) read; order = subst AreInOrder (sym there.same) order }
 
 -- the rows of numbers of lists stay right with more lists
-pairs_stay : (all : List (List ℕ)) (said : List Item) (old new : PairLists) (numbers : List (Option ℕ)) → KeepsLists old new → AreRows (TellsPairs all old) said numbers → AreRows (TellsPairs all new) said numbers
+pub pairs_stay : (all : List (List ℕ)) (said : List Item) (old new : PairLists) (numbers : List (Option ℕ)) → KeepsLists old new → AreRows (TellsPairs all old) said numbers → AreRows (TellsPairs all new) said numbers
 pairs_stay all said old new numbers keeps rows = record {
   count = rows.count;
   each = λ n row e. let told = rows.each n row e in record { some = told.some; list = λ k q. list_stays all old new k (active_pairs (sound_items (take n said))) keeps (told.list k q) };

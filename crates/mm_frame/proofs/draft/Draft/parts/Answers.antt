@@ -1,4 +1,5 @@
 use Rattle.mm_frame.specs.Language.Sound.{sound_items}
+use Rattle.mm_frame.proofs.lemmas.pairs.PairListLemmas.{pairs_stay}
 use Rattle.mm_frame.proofs.draft.Draft.parts.Goals as goal
 
 pub returns : goal.returns
@@ -11,5 +12,5 @@ returns c = λ all said d.
       frames = d.assertions.frames;
       labels = kept.0.labels;
       marks = kept.1;
-      pair_numbers = d.assertions.pair_numbers;
+      pair_numbers = pairs_stay all said _ _ _ c.without_room.ensures d.assertions.pair_numbers;
     }
