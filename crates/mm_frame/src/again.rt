@@ -123,7 +123,7 @@ fn read_known<'a>(
         return Ok(());
     }
     put_numbers(known.symbols, &mut draft.numbers)?;
-    draft.take(alloc, names, &statement, known.list)
+    draft.add_numbered(alloc, names, &statement, known.list)
 }
 
 /// An older base, and the number of the item of it that may be the next one.
@@ -159,7 +159,7 @@ fn read_again<'a>(
     let next = place_behind(old, i, item, statement.label());
     number_all(alloc, names, &statement, &mut draft.numbers)?;
     names.distinct();
-    draft.take(alloc, names, &statement, None)?;
+    draft.add_numbered(alloc, names, &statement, None)?;
     Ok(next)
 }
 

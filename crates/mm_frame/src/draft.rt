@@ -129,7 +129,7 @@ pub fn number_all(
 {
     numbers.clear();
     for n in 0..statement.symbol_count() {
-        let number = names.take(alloc, statement.symbol(n))?;
+        let number = names.intern(alloc, statement.symbol(n))?;
         numbers.push(number)?;
     }
     Ok(())
@@ -202,7 +202,7 @@ fn follow_pairs(
         sound,
     } = item;
     if sound && is_disjoint(kind) {
-        pairs.take(alloc, blocks, numbers, number)?;
+        pairs.add(alloc, blocks, numbers, number)?;
     }
     Ok(())
 }
@@ -315,9 +315,9 @@ impl<'a> Draft<'a> {
         self.follow(alloc, statement, symbols, fault, expected)
     }
 
-    /// Takes one more statement, whose symbols have the numbers that are kept; the list with the expected number may have what
+    /// Adds one more statement, whose symbols have the numbers that are kept; the list with the expected number may have what
     /// is kept of them. After out of memory the draft must not be used.
-    pub fn take(
+    pub fn add_numbered(
         &mut self,
         alloc: Global,
         names: &Names,
@@ -412,7 +412,7 @@ impl<'a> Draft<'a> {
         let statement = Statement::read(alloc, files, item)?;
         number_all(alloc, names, &statement, &mut self.numbers)?;
         names.distinct();
-        self.take(alloc, names, &statement, None)
+        self.add_numbered(alloc, names, &statement, None)
     }
 
     /// Reads items of the files, from the first one on.

@@ -2,7 +2,7 @@
 
 ghost use Rattle.std.specs.Prelude.{◌≡◌, List, [], ◌∷◌, ◌++◌, IfOk, OnOk, Some, length, slice_get};
 ghost use Rattle.mm_frame.specs.Code.KeptSymbols.{expression_kept};
-ghost use Rattle.mm_frame.specs.Code.KeptExpressions.{KeepsLists};
+ghost use Rattle.mm_frame.specs.Code.KeptExpressions.{KeepsExpressions};
 
 use crate::counts::Counts;
 use crate::guesses::ListGuesses;
@@ -40,7 +40,7 @@ fn number_guessed(
     guesses: &mut ListGuesses,
     symbols: &[NumberedSymbol],
 ) -> Result<usize, AllocError>
-    ensures keeps { KeepsLists lists.old lists.new }
+    ensures keeps { KeepsExpressions lists.old lists.new }
     ensures there { IfOk result (λ number. slice_get lists.new number ≡ Some symbols.now) }
 {
     let place = guesses.place_of(symbols);
@@ -62,7 +62,7 @@ fn number_of(
     symbols: &[NumberedSymbol],
     expected: Option<usize>,
 ) -> Result<usize, AllocError>
-    ensures keeps { KeepsLists lists.old lists.new }
+    ensures keeps { KeepsExpressions lists.old lists.new }
     ensures there { IfOk result (λ number. slice_get lists.new number ≡ Some symbols.now) }
 {
     if let Some(number) = expected {

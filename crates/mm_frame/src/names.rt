@@ -121,7 +121,7 @@ impl Names {
 
     /// The number of a name, which it gets if it has none yet. Out of memory leaves the names as they were.
     #[inline(always)]
-    pub(crate) fn take(&mut self, alloc: Global, name: &[u8]) -> Result<usize, AllocError>
+    pub(crate) fn intern(&mut self, alloc: Global, name: &[u8]) -> Result<usize, AllocError>
         ensures named { IfOk result (λ n. slice_get self.new n ≡ Some name.now) }
         ensures grows { Begins self.old self.new }
     {

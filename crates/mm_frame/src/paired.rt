@@ -227,9 +227,9 @@ impl PairTable {
         Ok(())
     }
 
-    /// Takes one more sound `$d`, with the numbers of its variables, its own number, and the blocks of the items before
+    /// Adds one more sound `$d`, with the numbers of its variables, its own number, and the blocks of the items before
     /// it. After out of memory the table must not be used.
-    pub fn take(
+    pub fn add(
         &mut self,
         alloc: Global,
         blocks: &Blocks,

@@ -208,8 +208,8 @@ impl<'a> Scope<'a> {
         self.tables.is_symbol(names, name)
     }
 
-    /// Takes a sound item, with the numbers of its symbols.
-    fn take(
+    /// Adds a sound item, with the numbers of its symbols.
+    fn add(
         &mut self,
         alloc: Global,
         statement: &Statement<'a>,
@@ -218,7 +218,7 @@ impl<'a> Scope<'a> {
         ensures { OnOk result (ScopeTakes numbers.now self.old statement.now true self.new) }
     {
         self.tables
-            .take(alloc, statement, numbers, self.typecodes.len())?;
+            .add(alloc, statement, numbers, self.typecodes.len())?;
         mark(&mut self.blocks, statement.kind())?;
         self.typecodes.push(float_typecode(statement))?;
         Ok(())
@@ -236,7 +236,7 @@ impl<'a> Scope<'a> {
         ensures { OnOk result (ScopeTakes numbers.now self.old statement.now sound self.new) }
     {
         if sound {
-            return self.take(alloc, statement, numbers);
+            return self.add(alloc, statement, numbers);
         }
         self.blocks.pass()?;
         self.typecodes.push(b"")?;

@@ -222,9 +222,9 @@ impl Tables {
         Ok(())
     }
 
-    /// Takes one more item, with its number and the numbers of its symbols. After out of memory the tables must not be
+    /// Adds one more item, with its number and the numbers of its symbols. After out of memory the tables must not be
     /// used.
-    pub fn take(
+    pub fn add(
         &mut self,
         alloc: Global,
         statement: &Statement,

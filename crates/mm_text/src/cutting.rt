@@ -100,8 +100,8 @@ fn cut_units(
     let mut reader = Reader::new(text);
     let mut from = 0;
     while let Some(word) = reader.next_word()? {
-        grammar.take(&word, &text[word.start..word.end])?;
-        parts.take(from, &word)?;
+        grammar.read(&word, &text[word.start..word.end])?;
+        parts.add(from, &word)?;
         if grammar.is_whole() {
             let end = word.end + white_len(&text[word.end..]);
             push_piece(alloc, memory, from, end, &mut parts, pieces)?;

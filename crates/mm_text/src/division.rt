@@ -67,8 +67,8 @@ impl PartReading {
         }
     }
 
-    /// Reads one more word of the piece that begins at the byte `from` of the text of the word.
-    pub fn take(&mut self, from: usize, word: &Word) -> Result<(), AllocError>
+    /// Adds one more word of the piece that begins at the byte `from` of the text of the word.
+    pub fn add(&mut self, from: usize, word: &Word) -> Result<(), AllocError>
         requires behind { from ≤ word.now.start }
         requires some { word.now.start ≤ word.now.end }
         ensures { OnOk result (TakesPartWord self.old from word.now self.new) }

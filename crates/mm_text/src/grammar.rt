@@ -68,7 +68,7 @@ impl Grammar {
     }
 
     /// Reads one more word, with this spelling, or says why no unit has it at this place.
-    pub fn take(&mut self, word: &Word, spelling: &[u8]) -> Result<(), TextError>
+    pub fn read(&mut self, word: &Word, spelling: &[u8]) -> Result<(), TextError>
         ensures { GrammarTakes self.old word.now (list_all is_label_byte spelling.now) result self.new }
     {
         let outside = self.blocks.is_empty();

@@ -13,5 +13,5 @@ abbrev pub HaveLists : Inside → Type 0
 HaveLists inside = All (λ n. n < length inside.lists) inside.numbers
 
 -- each of the first lists is among the second ones, with the same number
-abbrev pub KeepsLists : List (List NumberedSymbol) → List (List NumberedSymbol) → Type 0
-KeepsLists old new = (n : ℕ) → n < length old → (n < length new) × (expression_kept new n ≡ expression_kept old n)
+abbrev pub KeepsExpressions : List (List NumberedSymbol) → List (List NumberedSymbol) → Type 0
+KeepsExpressions old new = (n : ℕ) → n < length old → (n < length new) × (expression_kept new n ≡ expression_kept old n)

@@ -26,5 +26,5 @@ returns-clause-read c =
       c.in_ok-statement.statement,
       c.in_ok-statement.ensures.says,
       λ said stands all distinct more.
-          c.in_ok-take.ensures all said (aside names said (stands names c.distinct-2.ensures grows)) (aside all said (stands all distinct (begins_on _ _ _ grows more))) (numbers names (λ n name there. there)) (numbers all more),
+          c.in_ok-add_numbered.ensures all said (aside names said (stands names c.distinct-2.ensures grows)) (aside all said (stands all distinct (begins_on _ _ _ grows more))) (numbers names (λ n name there. there)) (numbers all more),
     )

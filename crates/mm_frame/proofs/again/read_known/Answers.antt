@@ -31,7 +31,7 @@ returns c =
     let aside = λ (all : List (List ℕ)) (said : List Item) (d : IsDraft all said c.args.draft.now).
     numbers_aside all said c.take_known.new.self c.put_numbers.new.numbers (subst (IsDraft all said) (sym same) d) in
     let put = λ (all : List (List ℕ)) (m : AreNameNumbers all _ statement.symbols). subst (λ (n : List ℕ). AreNameNumbers all n statement.symbols) (sym c.in_ok-put_numbers.ensures) m in
-    on_ok_weaker c.take.result
+    on_ok_weaker c.add_numbered.result
     (λ takes. (
       statement,
       says,
@@ -39,4 +39,4 @@ returns c =
           takes all said (aside names said (stands names c.distinct.ensures (λ n name there. there))) (aside all said (stands all distinct more))
           (put names numbers) (put all (numbers_on names all _ statement.symbols more numbers)),
     ))
-    c.take.ensures
+    c.add_numbered.ensures

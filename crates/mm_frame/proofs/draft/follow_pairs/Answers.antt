@@ -13,8 +13,8 @@ returns-else-sound c all before said distinct sounds kind number marks numbers s
   | else-sound-via-else-sound w ↦ λ t. absurd (false≢true (sym w.if-sound.false ∙ t))
 ]) known
 
-pub returns-in_ok-take : goal.returns-in_ok-take
-returns-in_ok-take c all before said distinct sounds kind number marks numbers sound known =
+pub returns-in_ok-add : goal.returns-in_ok-add
+returns-in_ok-add c all before said distinct sounds kind number marks numbers sound known =
     let disjoint = sym (ap is_disjoint kind) ∙ sym c.is_disjoint.ensures ∙ c.if-is_disjoint.true in
-    subst (λ b. KnowsPairs all (before ++ taken b said ∷ []) c.take.new.self) (sym c.if-sound.true)
-    (pairs_taken all before said c.args.numbers.now c.args.pairs.now c.take.new.self c.args.blocks.now c.args.item.number distinct (sound c.if-sound.true) disjoint (numbers disjoint) (sym number) marks known c.in_ok-take.ensures)
+    subst (λ b. KnowsPairs all (before ++ taken b said ∷ []) c.add.new.self) (sym c.if-sound.true)
+    (pairs_taken all before said c.args.numbers.now c.args.pairs.now c.add.new.self c.args.blocks.now c.args.item.number distinct (sound c.if-sound.true) disjoint (numbers disjoint) (sym number) marks known c.in_ok-add.ensures)

@@ -16,10 +16,10 @@ loop-n-preserved c =
     let long = length_push items c.in_ok-number.number in
     let count = inv.1 in
     rw (c.in_ok-push.ensures.items) (
-      begins_on _ _ _ inv.0 c.take.ensures.grows,
+      begins_on _ _ _ inv.0 c.intern.ensures.grows,
       omega arith,
       λ all more. numbers_more all items symbols c.loop-n.n (c.loop-n.n + 1) c.in_ok-number.number c.symbol.result.now (omega arith) (omega arith) c.symbol.ensures
-          (inv.2 all (begins_on _ _ _ c.take.ensures.grows more)) (more c.in_ok-number.number c.symbol.result.now c.in_ok-number.ensures.named),
+          (inv.2 all (begins_on _ _ _ c.intern.ensures.grows more)) (more c.in_ok-number.number c.symbol.result.now c.in_ok-number.ensures.named),
     )
 
 pub returns : goal.returns
@@ -30,10 +30,10 @@ returns c = record {
 }
 
 pub returns-in_err-number-clause-grows : goal.returns-in_err-number-clause-grows
-returns-in_err-number-clause-grows c = begins_on _ _ _ c.loop-n.invariant.0 c.take.ensures.grows
+returns-in_err-number-clause-grows c = begins_on _ _ _ c.loop-n.invariant.0 c.intern.ensures.grows
 
 pub returns-in_err-push-clause-grows : goal.returns-in_err-push-clause-grows
-returns-in_err-push-clause-grows c = begins_on _ _ _ c.loop-n.invariant.0 c.take.ensures.grows
+returns-in_err-push-clause-grows c = begins_on _ _ _ c.loop-n.invariant.0 c.intern.ensures.grows
 
 pub symbol-requires : goal.symbol-requires
 symbol-requires c = omega (arith, c.symbol_count-n-end.ensures)

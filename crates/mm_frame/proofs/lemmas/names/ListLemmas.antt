@@ -7,7 +7,7 @@ use Rattle.std.proofs.lemmas.List.Elements.{All-head, All-tail}
 use Rattle.std.proofs.lemmas.List.{map-append}
 use Rattle.mm_frame.specs.declared.symbol.NumberedSymbol.{NumberedSymbol}
 use Rattle.mm_frame.specs.Code.KeptSymbols.{kept_or_none, expression_kept}
-use Rattle.mm_frame.specs.Code.KeptExpressions.{KeepsLists}
+use Rattle.mm_frame.specs.Code.KeptExpressions.{KeepsExpressions}
 use Rattle.mm_frame.specs.Code.KeptParts.{cut_from, start_at}
 use Rattle.mm_frame.proofs.lemmas.names.ExpressionLemmas.{cut_length, cut_there, end_there}
 
@@ -33,13 +33,13 @@ pub list_there : (lists : List (List NumberedSymbol)) (n : ℕ) (symbols : List 
 list_there lists n symbols l e = there lists n l ∙ ap Some e
 
 -- the numbers give the same symbols
-still_told : (old new : List (List NumberedSymbol)) (numbers : List ℕ) → KeepsLists old new → All (λ n. n < length old) numbers → map (expression_kept new) numbers ≡ map (expression_kept old) numbers
+still_told : (old new : List (List NumberedSymbol)) (numbers : List ℕ) → KeepsExpressions old new → All (λ n. n < length old) numbers → map (expression_kept new) numbers ≡ map (expression_kept old) numbers
 still_told old new [] k a = refl
 still_told old new (n ∷ numbers) k a =
     (λ i. (k n (All-head (λ n. n < length old) n numbers a)).1 i ∷ still_told old new numbers k (All-tail (λ n. n < length old) n numbers a) i)
 
 -- one more number
-pub told_more : (old new : List (List NumberedSymbol)) (numbers all : List ℕ) (n : ℕ) (symbols : List NumberedSymbol) → KeepsLists old new → All (λ n. n < length old) numbers
+pub told_more : (old new : List (List NumberedSymbol)) (numbers all : List ℕ) (n : ℕ) (symbols : List NumberedSymbol) → KeepsExpressions old new → All (λ n. n < length old) numbers
     → slice_get new n ≡ Some symbols → all ≡ numbers ++ n ∷ [] → map (expression_kept new) all ≡ map (expression_kept old) numbers ++ symbols ∷ []
 told_more old new numbers all n symbols k a t e =
     ap (map (expression_kept new)) e ∙ map-append (expression_kept new) numbers (n ∷ []) ∙ (λ i. still_told old new numbers k a i ++ kept_or_none (t i) ∷ [])

@@ -17,18 +17,18 @@ loop-parts-init c = record {
   divided = rw c.requires.empty (All-nil HasOwnParts);
 }
 
-pub take-requires-in-Some-clause-behind : goal.take-requires-in-Some-clause-behind
-take-requires-in-Some-clause-behind c = (lies _ _ _ _ c.loop-parts.grammar c.loop-parts.invariant.progress _ _ (rw (c.in-Some.is, c.loop-parts.invariant.text) at c.in_ok-word.ensures.word)).0
+pub add-requires-clause-behind : goal.add-requires-clause-behind
+add-requires-clause-behind c = (lies _ _ _ _ c.loop-parts.grammar c.loop-parts.invariant.progress _ _ (rw (c.in-Some.is, c.loop-parts.invariant.text) at c.in_ok-word.ensures.word)).0
 
 pub returns-in_err-word-clause-fault : goal.returns-in_err-word-clause-fault
 returns-in_err-word-clause-fault c =
     let p = err_from_is_err_and c.from_residual.result c.from_residual.ensures.1 in
     rw (p.1, p.2) (words_fault _ _ _ _ _ _ _ c.loop-parts.invariant.progress _ _ c.requires.allowed (rw c.loop-parts.invariant.text at c.in_err-word.ensures.word))
 
-pub returns-in_err-take-clause-fault : goal.returns-in_err-take-clause-fault
-returns-in_err-take-clause-fault c =
-    let p = err_from_is_err_and c.from_residual-in_err-take.result c.from_residual-in_err-take.ensures.1 in
-    rw (p.1, p.2) (refused _ _ _ _ c.loop-parts.grammar c.loop-parts.invariant.progress _ _ (rw (c.in-Some.is, c.loop-parts.invariant.text) at c.in_ok-word.ensures.word) _ c.take.new.self refl _ c.requires.allowed c.in_err-take.ensures)
+pub returns-in_err-read-clause-fault : goal.returns-in_err-read-clause-fault
+returns-in_err-read-clause-fault c =
+    let p = err_from_is_err_and c.from_residual-in_err-read.result c.from_residual-in_err-read.ensures.1 in
+    rw (p.1, p.2) (refused _ _ _ _ c.loop-parts.grammar c.loop-parts.invariant.progress _ _ (rw (c.in-Some.is, c.loop-parts.invariant.text) at c.in_ok-word.ensures.word) _ c.read.new.self refl _ c.requires.allowed c.in_err-read.ensures)
 
 pub push_piece-requires-clause-start : goal.push_piece-requires-clause-start
 push_piece-requires-clause-start c = from_before _ _ _ _ c.loop-parts.grammar c.loop-parts.invariant.progress _ _ (rw (c.in-Some.is, c.loop-parts.invariant.text) at c.in_ok-word.ensures.word) c.white_len.result
@@ -41,11 +41,11 @@ loop-parts-preserved-then-is_whole c =
     let most : c.next_word.new.self.from ≤ length c.next_word.new.self.text.now = c.next_word.new.self.in_text in
     record {
       text = c.in_ok-word.ensures.text ∙ c.loop-parts.invariant.text;
-      read = parts_next _ _ _ c.loop-parts.parts c.loop-parts.invariant.read c.in-Some.word _ taken place c.take-in-Some.new.self c.in_ok-take-2.ensures c.requires.allowed
+      read = parts_next _ _ _ c.loop-parts.parts c.loop-parts.invariant.read c.in-Some.word _ taken place c.add.new.self c.in_ok-add.ensures c.requires.allowed
           (rw same at most) c.white_len.result c.white_len.ensures.value c.push_piece.new.parts c.push_piece.ensures.nothing c.push_piece.ensures.first;
-      divided = (rw c.requires.same at c.in_ok-push_piece.ensures.parts) c.loop-parts.invariant.divided (parts_end _ _ _ c.loop-parts.parts c.loop-parts.invariant.read c.in-Some.word _ taken place c.take-in-Some.new.self c.in_ok-take-2.ensures c.requires.allowed
+      divided = (rw c.requires.same at c.in_ok-push_piece.ensures.parts) c.loop-parts.invariant.divided (parts_end _ _ _ c.loop-parts.parts c.loop-parts.invariant.read c.in-Some.word _ taken place c.add.new.self c.in_ok-add.ensures c.requires.allowed
           (rw same at most) c.white_len.result c.white_len.ensures.value);
-      progress = keeps_piece _ _ _ _ c.loop-parts.grammar c.loop-parts.invariant.progress _ _ taken _ c.take.new.self refl c.in_ok-take.ensures c.requires.allowed (rw same at most) (c.is_whole.ensures.0 c.if-is_whole.true)
+      progress = keeps_piece _ _ _ _ c.loop-parts.grammar c.loop-parts.invariant.progress _ _ taken _ c.read.new.self refl c.in_ok-read.ensures c.requires.allowed (rw same at most) (c.is_whole.ensures.0 c.if-is_whole.true)
           c.white_len.result c.white_len.ensures.value _ (rw c.requires.same at c.in_ok-push_piece.ensures.texts);
     }
 
@@ -55,9 +55,9 @@ loop-parts-preserved c =
     let place = lies _ _ _ _ c.loop-parts.grammar c.loop-parts.invariant.progress _ _ taken in
     record {
       text = c.in_ok-word.ensures.text ∙ c.loop-parts.invariant.text;
-      read = parts_more _ _ _ c.loop-parts.parts c.loop-parts.invariant.read c.in-Some.word _ taken place c.take-in-Some.new.self c.in_ok-take-2.ensures;
+      read = parts_more _ _ _ c.loop-parts.parts c.loop-parts.invariant.read c.in-Some.word _ taken place c.add.new.self c.in_ok-add.ensures;
       divided = c.loop-parts.invariant.divided;
-      progress = keeps_more _ _ _ _ c.loop-parts.grammar c.loop-parts.invariant.progress _ _ taken _ c.take.new.self refl c.in_ok-take.ensures (λ whole. false≢true (sym c.if-is_whole.false ∙ c.is_whole.ensures.1 whole));
+      progress = keeps_more _ _ _ _ c.loop-parts.grammar c.loop-parts.invariant.progress _ _ taken _ c.read.new.self refl c.in_ok-read.ensures (λ whole. false≢true (sym c.if-is_whole.false ∙ c.is_whole.ensures.1 whole));
     }
 
 pub loop-parts-preserved-then-is_within : goal.loop-parts-preserved-then-is_within
@@ -65,12 +65,12 @@ loop-parts-preserved-then-is_within c =
     let taken = rw (c.in-Some.is, c.loop-parts.invariant.text) at c.in_ok-word.ensures.word in
     let place = lies _ _ _ _ c.loop-parts.grammar c.loop-parts.invariant.progress _ _ taken in
     let same = c.in_ok-word.ensures.text ∙ c.loop-parts.invariant.text in
-    let more = keeps_more _ _ _ _ c.loop-parts.grammar c.loop-parts.invariant.progress _ _ taken _ c.take.new.self refl c.in_ok-take.ensures (λ whole. false≢true (sym c.if-is_whole.false ∙ c.is_whole.ensures.1 whole)) in
+    let more = keeps_more _ _ _ _ c.loop-parts.grammar c.loop-parts.invariant.progress _ _ taken _ c.read.new.self refl c.in_ok-read.ensures (λ whole. false≢true (sym c.if-is_whole.false ∙ c.is_whole.ensures.1 whole)) in
     let skips : SkipsPlain c.next_word.new.self.text.now c.next_word.new.self.from c.skip_plain.new.self.from = c.skip_plain.ensures.skips in
     record {
       text = c.skip_plain.ensures.text ∙ same;
-      read = parts_skip _ _ _ c.loop-parts.parts c.loop-parts.invariant.read c.in-Some.word _ taken place c.take-in-Some.new.self c.in_ok-take-2.ensures _
-          (no_end _ _ _ _ _ c.in_ok-take.ensures.phase (sym c.is_within.ensures ∙ c.if-is_within.true)) (rw same at skips);
+      read = parts_skip _ _ _ c.loop-parts.parts c.loop-parts.invariant.read c.in-Some.word _ taken place c.add.new.self c.in_ok-add.ensures _
+          (no_end _ _ _ _ _ c.in_ok-read.ensures.phase (sym c.is_within.ensures ∙ c.if-is_within.true)) (rw same at skips);
       divided = c.loop-parts.invariant.divided;
       progress = progress_skip _ _ _ _ _ _ _ more _ (rw same at skips) (sym c.is_within.ensures ∙ c.if-is_within.true);
     }

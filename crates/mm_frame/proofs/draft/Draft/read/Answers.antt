@@ -12,11 +12,11 @@ returns-clause-read c =
     let grows = c.number_all.ensures.grows in
     let numbers = c.in_ok-number_all.ensures.numbers in
     let aside = λ (all : List (List ℕ)) (said : List Item) (d : IsDraft all said c.args.self.now). numbers_aside all said c.args.self.now c.number_all.new.numbers d in
-    on_ok_weaker c.take.result
+    on_ok_weaker c.add_numbered.result
     (λ takes. (
       c.in_ok-statement.statement,
       c.in_ok-statement.ensures.says,
       λ said stands all distinct more.
           takes all said (aside names said (stands names c.distinct.ensures grows)) (aside all said (stands all distinct (begins_on _ _ _ grows more))) (numbers names (λ n name there. there)) (numbers all more),
     ))
-    c.take.ensures
+    c.add_numbered.ensures

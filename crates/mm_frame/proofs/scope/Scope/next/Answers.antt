@@ -6,7 +6,7 @@ use Rattle.mm_frame.proofs.lemmas.scope.KeptScopeLemmas.{passed_over, marks_more
 use Rattle.mm_frame.proofs.scope.Scope.next.Goals as goal
 
 pub returns-then-sound : goal.returns-then-sound
-returns-then-sound c = subst (λ b. OnOk c.take.result (ScopeTakes c.args.numbers.now c.args.self.now c.args.statement.now b c.take.new.self)) (sym c.if-sound.true) c.take.ensures
+returns-then-sound c = subst (λ b. OnOk c.add.result (ScopeTakes c.args.numbers.now c.args.self.now c.args.statement.now b c.add.new.self)) (sym c.if-sound.true) c.add.ensures
 
 pub returns : goal.returns
 returns c all before h k s a =

@@ -4,7 +4,7 @@ use Rattle.mm_frame.specs.Language.Item.{Constants, Variables, Floating}
 use Rattle.mm_frame.specs.Language.Statement.{kind_of}
 use Rattle.mm_frame.specs.Code.KeptScope.{uses_numbers}
 use Rattle.mm_frame.proofs.lemmas.scope.KnownLemmas.{knows_next, takes_constants, takes_variables, takes_sound_float, takes_label, takes_nothing}
-use Rattle.mm_frame.proofs.tables.Tables.take.Goals as goal
+use Rattle.mm_frame.proofs.tables.Tables.add.Goals as goal
 
 pub returns-in-Constants : goal.returns-in-Constants
 returns-in-Constants c =

@@ -2,7 +2,7 @@ use Rattle.std.proofs.Common.{◌≡◌, ℕ, zero, suc, Bool, false, sym, ap, r
 use Rattle.mm_text.specs.declared.word.WordKind.{WordKind}
 use Rattle.mm_text.specs.Code.UnitReading.{Phase, next}
 use Rattle.mm_text.specs.Code.Grammar.{phase_of, level}
-use Rattle.mm_text.proofs.grammar.Grammar.take.Goals as goal
+use Rattle.mm_text.proofs.grammar.Grammar.read.Goals as goal
 
 one_or_more : (phase : Phase) (n : ℕ) (kind : WordKind) (could_label : Bool) → phase_of (next phase 1 kind could_label) ≡ phase_of (next phase (suc n) kind could_label)
 one_or_more phase n kind could_label = search rules

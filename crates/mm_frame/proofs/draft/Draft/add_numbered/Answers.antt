@@ -5,7 +5,7 @@ use Rattle.mm_frame.specs.Code.KeptTables.{Knows}
 use Rattle.mm_frame.specs.Code.Numbers.{AreNameNumbers}
 use Rattle.mm_frame.proofs.lemmas.base.BaseLemmas.{kept_are_sound, sound_found_none, none_found}
 use Rattle.mm_frame.proofs.lemmas.base.NumbersAside.{symbols_aside}
-use Rattle.mm_frame.proofs.draft.Draft.take.Goals as goal
+use Rattle.mm_frame.proofs.draft.Draft.add_numbered.Goals as goal
 
 pub returns : goal.returns
 returns c all said first d numbers_first numbers =

@@ -2,7 +2,7 @@ use Rattle.std.proofs.Common.{refl, arith}
 use Rattle.mm_frame.specs.Language.Statement.{kind_of}
 use Rattle.mm_frame.proofs.lemmas.scope.SoundItems.{sound_more}
 use Rattle.mm_frame.proofs.lemmas.scope.KeptScopeLemmas.{typecodes_count, marks_more, types_more}
-use Rattle.mm_frame.proofs.scope.Scope.take.Goals as goal
+use Rattle.mm_frame.proofs.scope.Scope.add.Goals as goal
 
 pub returns : goal.returns
 returns c all before h k s a =
@@ -10,7 +10,7 @@ returns c all before h k s a =
     let typecodes = c.args.self.now.typecodes in
     let count = typecodes_count (λ typecode. typecode.now) before typecodes.items k.types in
     record {
-      knows = c.in_ok-take.ensures all before (sound_more before item h (s refl)) (omega (arith, c.len.ensures, count, typecodes.ok.0)) a k.knows;
+      knows = c.in_ok-add.ensures all before (sound_more before item h (s refl)) (omega (arith, c.len.ensures, count, typecodes.ok.0)) a k.knows;
       marks = marks_more before item (kind_of c.kind.result) _ _ c.kind.ensures.kind k.marks c.in_ok-mark.ensures;
       types = types_more (λ typecode. typecode.now) before item typecodes.items c.push.new.self.items c.float_typecode.result k.types c.float_typecode.ensures c.in_ok-push.ensures.items;
     }
