@@ -479,7 +479,7 @@ impl<'a> Draft<'a> {
             rows,
             expressions,
             frames,
-            pair_lists: pair_lists.without_room(),
+            pair_lists: pair_lists.finished(),
             pair_numbers,
         }
     }

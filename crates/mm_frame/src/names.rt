@@ -124,6 +124,7 @@ impl Names {
     pub(crate) fn intern(&mut self, alloc: Global, name: &[u8]) -> Result<usize, AllocError>
         ensures named { IfOk result (λ n. slice_get self.new n ≡ Some name.now) }
         ensures grows { Begins self.old self.new }
+        ensures err { OnErr result (self.new ≡ self.old) }
     {
         let place = place_of_guess(name);
         let guess = self.guess(place);
@@ -139,6 +140,7 @@ impl Names {
     fn find_or_add(&mut self, alloc: Global, name: &[u8]) -> Result<usize, AllocError>
         ensures named { IfOk result (λ n. slice_get self.new n ≡ Some name.now) }
         ensures grows { Begins self.old self.new }
+        ensures err { OnErr result (self.new ≡ self.old) }
     {
         match self.names.get_index_of(name) {
             Some(number) => Ok(number),

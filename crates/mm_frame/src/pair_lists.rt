@@ -259,22 +259,17 @@ impl PairLists {
         Ok(count)
     }
 
-    /// The same lists, without the room that is left.
-    pub fn without_room(self) -> PairLists
+    /// The same lists alone: what is of use only while lists are made is dropped, and the room that is left.
+    pub fn finished(self) -> PairLists
         ensures { KeepsLists self result }
     {
-        let PairLists {
-            lists,
-            made,
-            reach,
-            ..
-        } = self;
-        let none = Vec::new(*lists.allocator());
+        let PairLists { lists, .. } = self;
+        let alloc = *lists.allocator();
         PairLists {
             lists,
-            made,
-            reach,
-            gone: none.into_iter(),
+            made: HashMap::new(alloc),
+            reach: 0,
+            gone: Vec::new(alloc).into_iter(),
         }
     }
 

@@ -1,5 +1,5 @@
 -- What an older base says of an item that is the same bytes as one of its items.
-use Rattle.std.proofs.Common.{◌≡◌, ℕ, zero, suc, Bool, true, false, Some, None, Option, IfSome, IfOk, MatchBool, Result, Ok, Err, List, [], ◌∷◌, map, get_or, length, sym, ◌∙◌, ap, subst, All, slice_get}
+use Rattle.std.proofs.Common.{◌≡◌, ℕ, zero, suc, Some, List, [], ◌∷◌, map, get_or, length, sym, ◌∙◌, ap, subst, All, slice_get}
 use Rattle.std.specs.Option.{option_map}
 use Rattle.std.specs.List.{AllZip}
 use Rattle.std.proofs.lemmas.List.{length-map}
@@ -16,8 +16,7 @@ use Rattle.mm_frame.specs.Language.Names.{Begins, name_at}
 use Rattle.mm_frame.specs.Language.Older.{HasOlder}
 use Rattle.mm_frame.specs.Language.NumberedSymbols.{symbol_of, symbols_of, IsNumbered}
 use Rattle.mm_frame.specs.Language.Statement.{Says}
-use Rattle.mm_frame.specs.declared.again.Known.{Known}
-use Rattle.mm_frame.specs.Code.KnownItem.{IsAgain, IsKnownItem, numbers_of}
+use Rattle.mm_frame.specs.Code.KnownItem.{IsAgain, numbers_of}
 use Rattle.mm_frame.specs.Code.Numbers.{AreNameNumbers}
 use Rattle.mm_frame.proofs.lemmas.names.NumberLemmas.{begins_on, there_from_map}
 use Rattle.mm_frame.proofs.lemmas.reading.PieceLemmas.{OneReading, same_said}
@@ -56,18 +55,3 @@ numbers_on one two numbers symbols more h = record { count = h.count; each = λ 
 pub older_on : (one two : List (List ℕ)) (files : FilesView) (answers : BaseAnswers) → Begins one two → HasOlder one files answers → HasOlder two files answers
 older_on one two files answers more older =
     (older.0, record { later = λ all distinct on. older.1.later all distinct (begins_on one two all more on); each = older.1.each })
-
--- if an item is known, the numbers of its symbols are
-pub known_numbers : (names : List (List ℕ)) (files : FilesView) (item : store.Item) (said : Item) (known : Option Known) → Says files item said → IfSome known (IsKnownItem names files item)
-    → IfSome known (λ k. AreNameNumbers names (numbers_of k.symbols.now) said.symbols)
-known_numbers names files item said None says h = tt
-known_numbers names files item said (Some k) says h = h.symbols said says
-
--- what an answer gives of a value that is there, and of one of two cases
-pub if_ok_more : {X Y : Type 0} {P Q : X → Type 0} (r : Result X Y) → ((x : X) → P x → Q x) → IfOk r P → IfOk r Q
-if_ok_more (Ok x) f h = f x h
-if_ok_more (Err y) f h = h
-
-pub match_more : (P Q R : Type 0) (b : Bool) → (P → Q) → MatchBool b P R → MatchBool b Q R
-match_more P Q R true f h = f h
-match_more P Q R false f h = h

@@ -1,10 +1,10 @@
 -- What stays of an item of an old base in a new one.
-use Rattle.std.proofs.Common.{◌≡◌, ◌<◌, ℕ, zero, suc, cond, slice_index_or, ◌+◌, Bool, true, false, ◌&&◌, ◌⊎◌, inl, inr, Option, Some, None, List, [], ◌∷◌, ◌++◌, length, map, slice_get, refl, sym, ◌∙◌, ap, subst, arith, length-append}
+use Rattle.std.proofs.Common.{◌≡◌, ◌<◌, ℕ, zero, suc, cond, slice_index_or, ◌+◌, Bool, true, false, ◌⊎◌, inl, inr, Option, Some, None, List, [], ◌∷◌, ◌++◌, length, map, slice_get, refl, sym, ◌∙◌, ap, subst, arith, length-append}
 use Rattle.std.specs.Prelude.{◌↔◌, is_some}
 use Rattle.std.proofs.lemmas.Bool.{false≢true, and_parts}
 use Rattle.std.proofs.lemmas.Option.{none-some, same_Some}
-use Rattle.mm_frame.specs.Language.Base.{BaseView, said_at, is_shown_at, is_sound_at, is_framed_at, frame_at}
-use Rattle.mm_frame.specs.Language.Frame.{Symbol, AreSameFrame, AreSamePairs}
+use Rattle.mm_frame.specs.Language.Base.{BaseView, said_at, is_shown_at, is_sound_at}
+use Rattle.mm_frame.specs.Language.Frame.{Symbol, AreSamePairs}
 use Rattle.mm_frame.specs.Language.Item.{Item, passed, is_labelled}
 use Rattle.mm_frame.specs.Language.Resolving.{IsCarrier}
 use Rattle.mm_frame.specs.declared.base.Base.{Base}
@@ -184,17 +184,6 @@ kept_more old new marks mark n count are is m other e = elim (got_last marks mar
   | inl g ↦ are m other g
   | inr p ↦ subst (λ (w : code.Mark). IsHypothesisMark old new m w) p.1 (subst (λ k. IsHypothesisMark old new k mark) (sym (p.0 ∙ count)) is)
 ]
-
--- the frames of two assertions are the same if their hypotheses are, and the rest is
-pub frames_by : (base copy : BaseView) (i j : ℕ) (told rest : Bool) → is_framed_at base i ≡ true → is_framed_at copy j ≡ true →
-    (told ≡ true → (frame_at base i).hypotheses ≡ (frame_at copy j).hypotheses) → (AreSameFrame (frame_at base i) (frame_at copy j) → told ≡ true) →
-    ((frame_at base i).hypotheses ≡ (frame_at copy j).hypotheses → (rest ≡ true) ↔ AreSameFrame (frame_at base i) (frame_at copy j)) →
-    ((told && rest) ≡ true) ↔ ShareFrame base copy i j
-frames_by base copy i j true rest was is h g r = (
-  λ e. record { was = was; is = is; same = (r (h refl)).0 e },
-  λ s. (r (h refl)).1 s.same,
-)
-frames_by base copy i j false rest was is h g r = (λ e. absurd (false≢true e), λ s. absurd (false≢true (g s.same)))
 
 -- two lists agree in this many elements, by these functions
 abbrev pub AreSameTo : {X : Type 0} → (ℕ → X) → (ℕ → X) → List ℕ → List ℕ → ℕ → Type 0

@@ -12,5 +12,5 @@ returns c = λ all said d.
       frames = d.assertions.frames;
       labels = kept.0.labels;
       marks = kept.1;
-      pair_numbers = pairs_stay all said _ _ _ c.without_room.ensures d.assertions.pair_numbers;
+      pair_numbers = pairs_stay all said _ _ _ c.finished.ensures d.assertions.pair_numbers;
     }
