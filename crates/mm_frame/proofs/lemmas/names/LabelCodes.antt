@@ -1,5 +1,6 @@
 -- Short labels have codes of their own, which fit into 64 bits, and middle ones into 128; what is kept of labels after one more.
-use Rattle.std.proofs.Common.{◌≡◌, ℕ, zero, suc, ◌*◌, ◌-◌, ◌^◌, ◌<◌, ◌≤◌, Bool, true, false, cond, not, Option, Some, List, [], ◌∷◌, length, drop, length-drop, slice_index_or, ◌&&◌, nat_eq, bytes_eq, Vec, inl, inr, refl, sym, ◌∙◌, ap, subst, arith, Global, nat_le, nat_lt}
+use Rattle.std.proofs.Common.{◌≡◌, ℕ, zero, suc, ◌*◌, ◌-◌, ◌^◌, ◌<◌, ◌≤◌, Bool, true, false, cond, not, Option, Some, List, [], ◌∷◌}
+use Rattle.std.proofs.Common.{length, drop, length-drop, slice_index_or, ◌&&◌, nat_eq, nat_le, nat_lt, bytes_eq, Vec, Global, inl, inr, refl, sym, ◌∙◌, ap, subst, arith}
 use Rattle.std.specs.HashMap.{HashMap, UpdatesBy, get_by}
 use Rattle.std.specs.Map.{KeepsOthers, IsKeyTest, AreApart, lookup}
 use Rattle.std.specs.Cmp.Lexicographic.{nat_list_eq_equiv}
