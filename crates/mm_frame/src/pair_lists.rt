@@ -261,7 +261,7 @@ impl PairLists {
 
     /// The same lists alone: what is of use only while lists are made is dropped, and the room that is left.
     pub fn finished(self) -> PairLists
-        ensures { KeepsLists self result }
+        ensures { result.lists ≡ self.lists }
     {
         let PairLists { lists, .. } = self;
         let alloc = *lists.allocator();

@@ -1,3 +1,4 @@
+use Rattle.std.proofs.Common.{[], append-nil, sym, ap, ◌∙◌}
 use Rattle.mm_frame.specs.Language.Sound.{sound_items}
 use Rattle.mm_frame.proofs.lemmas.pairs.PairListLemmas.{pairs_stay}
 use Rattle.mm_frame.proofs.draft.Draft.parts.Goals as goal
@@ -12,5 +13,6 @@ returns c = λ all said d.
       frames = d.assertions.frames;
       labels = kept.0.labels;
       marks = kept.1;
-      pair_numbers = pairs_stay all said _ _ _ c.finished.ensures d.assertions.pair_numbers;
+      pair_numbers = pairs_stay all said _ _ _
+        (record { more = []; whole = ap (λ lists. lists.items) c.finished.ensures ∙ sym (append-nil _) }) d.assertions.pair_numbers;
     }
