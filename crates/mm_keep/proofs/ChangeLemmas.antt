@@ -6,7 +6,6 @@ use Rattle.mm_proof.specs.mm_store.Language.Edits.{Asked}
 use Rattle.mm_proof.specs.mm_store.Language.FileFacts.{parked_in}
 use Rattle.mm_proof.specs.mm_store.Language.FilesView.{FilesView, files_in, plain}
 use Rattle.mm_proof.specs.mm_frame.Language.Base.{BaseView}
-use Rattle.mm_proof.specs.mm_frame.Language.Names.{AreDistinct, Begins}
 use Rattle.mm_proof.specs.mm_frame.declared.base.Base.{Base}
 use Rattle.mm_proof.specs.Language.Work.{Judgement, Recorded}
 use Rattle.mm_keep.specs.declared.keeping.Next.{Next}
@@ -17,7 +16,6 @@ use Rattle.mm_keep.specs.Code.Next.{IsBuilt, IsNextBase}
 use Rattle.mm_keep.specs.Code.Planned.{CanCarry}
 use Rattle.mm_keep.specs.Language.Sessions.{IsChanged}
 use Rattle.mm_keep.proofs.KeepLemmas.{ItemsStand, KeepsNumbers, batch_top, expansion_top, base_settled, says_edited}
-use Rattle.mm_keep.proofs.NextLemmas.{begins_trans}
 
 -- what is checked can be carried
 pub can_carry : (before after : FilesView) (undos : List UndoView) (top : List ℕ) (names : List (List ℕ)) (checked : List (Option Judgement)) (next : Next) → (can : CanTake before after undos top names checked next)
@@ -72,20 +70,6 @@ can_take before after undos top names all code checked next were goes =
       built = is.built;
       goes_on = is.goes_on;
     }
-
--- what is kept once the edits are undone
-pub kept_undone : (before after files : FilesView) (undos : List UndoView) (top : List ℕ) (names all : List (List ℕ)) (code : Base)
-    (checked : List (Option Judgement)) → WereKept before after undos top names code checked → files ≡ before → Begins names all → AreDistinct all
-    → HasKept files top all code checked
-kept_undone before after files undos top names all code checked were is grows distinct =
-    subst (λ (fs : FilesView). HasKept fs top all code checked) (sym is) (
-      were.base,
-      record {
-        built = record { of_files = were.kept.built.of_files; by_names = were.kept.built.later all distinct grows; later = λ more apart begins. were.kept.built.later more apart (begins_trans names all more grows begins) };
-        checked_is = were.kept.checked_is;
-        parked = were.kept.parked;
-      },
-    )
 
 -- files that are edited, with what was kept of them before
 pub were_kept : KeepsNumbers → (before after : FilesView) (undos : List UndoView) (top : List ℕ) (names : List (List ℕ)) (code : Base) (checked : List (Option Judgement)) → HasKept before top names code checked

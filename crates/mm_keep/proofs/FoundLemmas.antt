@@ -1,7 +1,6 @@
 -- From what a session keeps to what it answers.
-use Rattle.std.proofs.Common.{◌≡◌, ℕ, ◌<◌, Bool, true, false, ◌&&◌, Option, Some, None, is_none, List, length, get_or, slice_get, sym, ap, ◌∙◌, subst, All, IfSome}
+use Rattle.std.proofs.Common.{◌≡◌, ℕ, Bool, true, false, ◌&&◌, Option, Some, None, is_none, List, sym, ap, subst, All, IfSome}
 use Rattle.std.specs.Option.{option_map}
-use Rattle.std.proofs.lemmas.Option.{slice_get-get_or}
 use Rattle.mm_proof.specs.mm_store.declared.item.Item as store
 use Rattle.mm_proof.specs.mm_store.Language.FilesView.{FilesView, files_in}
 use Rattle.mm_proof.specs.mm_store.Language.FileFacts.{StandsIn}

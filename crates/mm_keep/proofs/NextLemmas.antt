@@ -19,6 +19,3 @@ both_read names all files top old new view copy distinct grows is built = record
   old_is = record { base = is.later all distinct grows; each = is.each };
   new_is = built_read all files top new copy built;
 }
-
-pub begins_trans : (a b c : List (List ℕ)) → Begins a b → Begins b c → Begins a c
-begins_trans a b c f g n name e = g n name (f n name e)

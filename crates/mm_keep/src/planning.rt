@@ -12,7 +12,7 @@ ghost use Rattle.mm_keep.specs.Code.Planned.{HasItemBothRead, HasItemRead, IsPla
 use crate::kept::{Checks, KeptCheck};
 use crate::plan::Plan;
 use mm_proof::{
-    Base, Files, Marks, Names, Work, check, labels_are_own, same_view_by, same_view_same_cites,
+    Base, Checker, Files, Marks, Names, Work, labels_are_own, same_view_by, same_view_same_cites,
     same_view_same_verdict,
 };
 use std::alloc::{AllocError, Global};
@@ -85,21 +85,24 @@ struct Source<'a> {
 fn run_one(
     alloc: Global,
     source: Source<'_>,
+    checker: &mut Checker<'_>,
     j: usize,
     work: &mut Work,
 ) -> Result<Option<KeptCheck>, AllocError>
     requires item { HasItemRead source.names.now source.files.now source.base.now j }
+    requires base { checker.old ≡ source.base.now }
     requires room { 0 < work.old.room }
     requires steps { work.old.steps + 4294967295 < 2 ^ 64 }
     ensures one { IfOk result (λ one. (view : BaseView) → IsReadIn source.entry.names.now source.entry.files.now source.entry.base.now view
         → IsCheckedAt view j one) }
     ensures work { OnOk result ((view : BaseView) → IsReadIn source.entry.names.now source.entry.files.now source.entry.base.now view
         → RecordsIf view None j work.old work.new) }
+    ensures base { checker.new ≡ checker.old }
 {
     match source.base.pairs(j) {
         None => Ok(None),
         Some(_) => {
-            let checked = check(alloc, source.names, source.files, source.base, j, work)?;
+            let checked = checker.check(alloc, source.names, source.files, j, work)?;
             Ok(Some(KeptCheck::of(alloc, &checked)?))
         }
     }
@@ -110,21 +113,24 @@ fn run_one(
 fn run_of(
     alloc: Global,
     source: Source<'_>,
+    checker: &mut Checker<'_>,
     j: usize,
     from: Option<usize>,
     work: &mut Work,
 ) -> Result<Option<KeptCheck>, AllocError>
     requires item { HasItemRead source.names.now source.files.now source.base.now j }
+    requires base { checker.old ≡ source.base.now }
     requires room { 0 < work.old.room }
     requires steps { work.old.steps + 4294967295 < 2 ^ 64 }
     ensures one { IfOk result (λ one. (view : BaseView) → IsReadIn source.entry.names.now source.entry.files.now source.entry.base.now view
         → IsRunBy view from j one) }
     ensures work { OnOk result ((view : BaseView) → IsReadIn source.entry.names.now source.entry.files.now source.entry.base.now view
         → RecordsIf view from j work.old work.new) }
+    ensures base { checker.new ≡ checker.old }
 {
     match from {
         Some(_) => Ok(Some(KeptCheck::plain(alloc))),
-        None => run_one(alloc, source, j, work),
+        None => run_one(alloc, source, checker, j, work),
     }
 }
 
@@ -156,8 +162,9 @@ pub fn run_rest(
     let count = base.count();
     let mut checked = Checks::with_room(alloc, count, proof_count(base, count))?;
     let mut work = Work::new(alloc, count)?;
+    let mut checker = Checker::new(alloc, base);
     for j in 0..count {
-        checked.push(run_of(alloc, source, j, plan.at(j), &mut work)?)?;
+        checked.push(run_of(alloc, source, &mut checker, j, plan.at(j), &mut work)?)?;
     }
     Ok((checked, work))
 }

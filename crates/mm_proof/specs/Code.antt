@@ -14,6 +14,7 @@ pub mod PairClause
 pub mod Ranges
 pub mod MachineState
 pub mod NamedItems
+pub mod KeptChecker
 pub mod Tasks
 pub mod UsedLabels
 pub mod MarkedLabels

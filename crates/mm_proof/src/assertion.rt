@@ -1,6 +1,6 @@
 //! What citing an assertion needs.
 
-ghost use Rattle.std.specs.Prelude.{◌≡◌, ◌++◌, ◌<◌, ◌≤◌, true, List, All, IfOk, OnOk, length, map};
+ghost use Rattle.std.specs.Prelude.{◌≡◌, ◌++◌, ◌<◌, ◌≤◌, true, List, All, IfOk, OnOk, length, map, take};
 ghost use Rattle.mm_frame.specs.Language.Base.{BaseView, is_shown_at, is_framed_at, is_proof_at};
 ghost use Rattle.mm_frame.specs.Language.Answering.{IsBase};
 ghost use Rattle.mm_frame.specs.Language.Frame.{Mandatory, AreSameFrame, AreSamePairs};
@@ -13,9 +13,6 @@ ghost use Rattle.mm_proof.specs.Code.NumberedBase.{ByNames, all_by_number, numbe
 
 use mm_frame::{Base, NumberedSymbol, places_have_frames};
 use std::alloc::{AllocError, Global};
-
-/// At first there is room for the mandatory hypotheses of so many assertions at most.
-const FIRST_ASSERTIONS: usize = 64;
 
 /// A mandatory hypothesis of an assertion.
 #[derive(Drop)]
@@ -104,11 +101,13 @@ fn assertion_of<'a>(
     })
 }
 
-/// The assertions with these numbers, and before them a list of their mandatory hypotheses.
-pub fn assertions_of<'a>(
-    alloc: Global,
+/// The assertions with these numbers, and before them a list of their mandatory hypotheses. The lists that are passed have
+/// those of the first numbers; the others are added.
+pub fn with_assertions<'a>(
     base: &'a Base,
     numbers: &[usize],
+    mandatory: Vec<Hypothesis<'a, NumberedSymbol>>,
+    assertions: Vec<Cited<'a, NumberedSymbol>>,
 ) -> Result<
     (
         Vec<Hypothesis<'a, NumberedSymbol>>,
@@ -116,16 +115,15 @@ pub fn assertions_of<'a>(
     ),
     AllocError,
 >
-    requires { All (λ j. IsNamedBy base.now (answers.Assertion j)) numbers.now }
+    requires named { All (λ j. IsNamedBy base.now (answers.Assertion j)) numbers.now }
+    requires there { AreCited base.now (take (length assertions.items) numbers.now) mandatory.items assertions.items }
     ensures { IfOk result (λ r. AreCited base.now numbers.now r.0.items r.1.items) }
 {
     places_have_frames();
-    let some = numbers.len().min(FIRST_ASSERTIONS);
-    // Most assertions have four mandatory hypotheses at most.
-    let mut mandatory = Vec::with_capacity(alloc, some * 4)?;
-    let mut assertions = Vec::with_capacity(alloc, numbers.len())?;
-    for number in numbers {
-        assertions.push(assertion_of(base, *number, &mut mandatory)?)?;
+    let mut mandatory = mandatory;
+    let mut assertions = assertions;
+    for place in assertions.len()..numbers.len() {
+        assertions.push(assertion_of(base, numbers[place], &mut mandatory)?)?;
     }
     Ok((mandatory, assertions))
 }

@@ -12,6 +12,7 @@ ghost use Rattle.mm_frame.specs.Language.Frame.{Symbol, Setting};
 ghost use Rattle.mm_proof.specs.Language.DecodedSteps.{decoded_steps};
 ghost use Rattle.mm_proof.specs.Code.DecodedProof.{IsDecoded, IsJudgedProof, OfDecoded, steps_of};
 ghost use Rattle.mm_proof.specs.Code.Judged.{HasProof, IsOutcomeWithin, OfProof, done_by};
+ghost use Rattle.mm_proof.specs.Code.NamedItems.{AreKnownOf};
 ghost use Rattle.mm_proof.specs.Language.ReadIn.{HasTheorem, OfTheorem};
 ghost use Rattle.mm_proof.specs.Code.Tasks.{RunSays, StopsAt};
 ghost use Rattle.mm_proof.specs.Code.UsedLabels.{AreUseMarks, AreUsed};
@@ -19,8 +20,10 @@ ghost use Rattle.mm_proof.specs.declared.step.Undecoded.TheVariants as errors;
 
 use crate::active::Active;
 use crate::assertion::{active, expression};
+use crate::checker::Checker;
 use crate::citing::cites_used;
 use crate::decoding_laws::{decodes_short, decodes_surely, labels_are_own, mandatory_are_active};
+use crate::known::{Known, known_after};
 use crate::named::{NamingRoom, name_all};
 use crate::reading::{Decoding, MarkedDecoding, decode_marked};
 use crate::short::{steps_before, take_more, takes_more};
@@ -99,8 +102,8 @@ fn steps_done(outcome: Outcome, steps: usize) -> usize
 
 /// The proof of the item `i` of a base, and what it decodes to.
 #[derive(Clone, Copy)]
-pub struct DecodedProof<'a> {
-    pub base: &'a Base,
+pub struct DecodedProof<'b, 'a> {
+    pub base: &'b Base,
     pub i: usize,
     pub words: &'a ProofWords<'a>,
     pub decoding: &'a Decoding,
@@ -108,15 +111,18 @@ pub struct DecodedProof<'a> {
 
 /// Runs the steps of a proof before the first with too few entries, by the count of entries alone, and looks at that one. It
 /// loads no assertion for a step with too few entries. If that does not say what the steps come to, it answers `None`.
-fn run_front(
+fn run_front<'b>(
     alloc: Global,
     scratch: &mut Scratch,
-    proof: DecodedProof,
+    known: &mut Known<'b>,
+    proof: DecodedProof<'b, '_>,
 ) -> Result<Option<Outcome>, AllocError>
-    requires { IsDecoded proof }
+    requires decoded { IsDecoded proof }
+    requires known { AreKnownOf proof.base.now known.old }
     ensures within { IfOk result (λ found. IfSome found (IsOutcomeWithin (length proof.entry.decoding.now.steps.items))) }
     ensures says { IfOk result (λ found. IfSome found (λ outcome. OfDecoded proof.entry (λ view.
         StopsAt (setting_at view proof.entry.i) (steps_of proof.entry view) outcome))) }
+    ensures known { OnOk result (AreKnownOf proof.entry.base.now known.new) }
 {
     places_have_frames();
     decodes_surely();
@@ -126,11 +132,14 @@ fn run_front(
     let count = steps_before(proof.base, labels, steps);
     let front = &steps[..count];
     let room = mem::replace(&mut scratch.naming, NamingRoom::new(alloc));
+    let before = mem::replace(known, Known::new(alloc));
     let used = labels_used(alloc, labels, front)?;
-    let (named, room) = name_all(alloc, proof.base, &used, room)?;
+    let (named, room, numbers) = name_all(proof.base, &used, room, before)?;
     scratch.naming = room;
     let active = Active::new(active(proof.base, proof.i));
-    if let Some(outcome) = run_through(alloc, &mut scratch.machine, &named, &active, front)? {
+    let found = run_through(alloc, &mut scratch.machine, &named, &active, front)?;
+    *known = known_after(named, numbers);
+    if let Some(outcome) = found {
         return Ok(Some(outcome));
     }
     let entries = scratch.machine.stack.len();
@@ -141,69 +150,81 @@ fn run_front(
 }
 
 /// Runs all steps of a proof, which name these labels.
-fn run_all(
+fn run_all<'b>(
     alloc: Global,
     scratch: &mut Scratch,
+    known: &mut Known<'b>,
     used: &[Resolved],
-    proof: DecodedProof,
+    proof: DecodedProof<'b, '_>,
 ) -> Result<Outcome, AllocError>
     requires decoded { IsDecoded proof }
     requires used { AreUsed proof.decoding.now.labels.items used.now proof.decoding.now.steps.items }
+    requires known { AreKnownOf proof.base.now known.old }
     ensures within { IfOk result (IsOutcomeWithin (length proof.entry.decoding.now.steps.items)) }
     ensures says { IfOk result (λ outcome. OfDecoded proof.entry (λ view.
         RunSays (setting_at view proof.entry.i) (steps_of proof.entry view) (statement_at view proof.entry.i) outcome)) }
+    ensures known { OnOk result (AreKnownOf proof.entry.base.now known.new) }
 {
     places_have_frames();
     decodes_surely();
     mandatory_are_active();
     let steps: &[ProofStep] = &proof.decoding.steps;
     let room = mem::replace(&mut scratch.naming, NamingRoom::new(alloc));
-    let (named, room) = name_all(alloc, proof.base, used, room)?;
+    let before = mem::replace(known, Known::new(alloc));
+    let (named, room, numbers) = name_all(proof.base, used, room, before)?;
     scratch.naming = room;
     let active = Active::new(active(proof.base, proof.i));
-    run(
+    let outcome = run(
         alloc,
         &mut scratch.machine,
         &named,
         &active,
         steps,
         expression(proof.base, proof.i),
-    )
+    )?;
+    *known = known_after(named, numbers);
+    Ok(outcome)
 }
 
 /// Runs the steps of a proof, which name these labels.
-fn run_steps(
+fn run_steps<'b>(
     alloc: Global,
     scratch: &mut Scratch,
+    known: &mut Known<'b>,
     used: &[Resolved],
-    proof: DecodedProof,
+    proof: DecodedProof<'b, '_>,
 ) -> Result<Outcome, AllocError>
     requires decoded { IsDecoded proof }
     requires used { AreUsed proof.decoding.now.labels.items used.now proof.decoding.now.steps.items }
+    requires known { AreKnownOf proof.base.now known.old }
     ensures within { IfOk result (IsOutcomeWithin (length proof.entry.decoding.now.steps.items)) }
     ensures says { IfOk result (λ outcome. OfDecoded proof.entry (λ view.
         RunSays (setting_at view proof.entry.i) (steps_of proof.entry view) (statement_at view proof.entry.i) outcome)) }
+    ensures known { OnOk result (AreKnownOf proof.entry.base.now known.new) }
 {
     let decoding = proof.decoding;
     if take_more(proof.base, &decoding.labels, decoding.steps.len()) {
-        if let Some(outcome) = run_front(alloc, &mut *scratch, proof)? {
+        if let Some(outcome) = run_front(alloc, &mut *scratch, &mut *known, proof)? {
             return Ok(outcome);
         }
     }
-    run_all(alloc, &mut *scratch, used, proof)
+    run_all(alloc, &mut *scratch, &mut *known, used, proof)
 }
 
 /// What a check says of a proof that decodes, and how many steps are done. Marks say which labels its steps name.
-fn judge_steps(
+fn judge_steps<'b>(
     alloc: Global,
     scratch: &mut Scratch,
+    known: &mut Known<'b>,
     marks: &[bool],
-    proof: DecodedProof,
+    proof: DecodedProof<'b, '_>,
 ) -> Result<(Checked, u64), AllocError>
     requires decoded { IsDecoded proof }
     requires marks { AreUseMarks (length proof.decoding.now.labels.items) marks.now proof.decoding.now.steps.items }
+    requires known { AreKnownOf proof.base.now known.old }
     ensures says { IfOk result (λ judged. OfDecoded proof.entry (λ view. IsJudgedProof view proof.entry.i judged)) }
     ensures few { IfOk result (λ judged. judged.1 ≤ 4294967295) }
+    ensures known { OnOk result (AreKnownOf proof.entry.base.now known.new) }
 {
     decodes_short();
     labels_are_own();
@@ -218,7 +239,7 @@ fn judge_steps(
         hypotheses,
         proof.words,
     )?;
-    let outcome = run_steps(alloc, &mut *scratch, &used, proof)?;
+    let outcome = run_steps(alloc, &mut *scratch, &mut *known, &used, proof)?;
     scratch.used = used;
     let done = steps_done(outcome, proof.decoding.steps.len());
     let verdict = verdict(outcome, proof.decoding, proof.words.again());
@@ -226,16 +247,19 @@ fn judge_steps(
 }
 
 /// What a check says of a proof, and how many steps are done.
-fn judge<'a>(
+fn judge<'b, 'a>(
     alloc: Global,
     scratch: &mut Scratch,
-    base: &'a Base,
+    known: &mut Known<'b>,
+    base: &'b Base,
     i: usize,
     proof: &'a ProofWords<'a>,
 ) -> Result<(Checked, u64), AllocError>
-    requires { HasProof base.now i proof.now }
+    requires proof { HasProof base.now i proof.now }
+    requires known { AreKnownOf base.now known.old }
     ensures says { IfOk result (λ judged. OfProof base.now i proof.now (λ view. IsJudgedProof view i judged)) }
     ensures few { IfOk result (λ judged. judged.1 ≤ 4294967295) }
+    ensures known { OnOk result (AreKnownOf base.now known.new) }
 {
     mandatory_are_active();
     let mandatory = mandatory(base, i);
@@ -248,7 +272,7 @@ fn judge<'a>(
                 words: proof,
                 decoding: &marked.decoding,
             };
-            let judged = judge_steps(alloc, &mut *scratch, &marked.used, decoded)?;
+            let judged = judge_steps(alloc, &mut *scratch, &mut *known, &marked.used, decoded)?;
             scratch.decoding = marked;
             Ok(judged)
         }
@@ -291,11 +315,45 @@ pub fn check(
 
     ensures memory { OnErr result (work.new ≡ work.old) }
 {
-    let proof = words_of_proof(files, base.item(i));
-    let mut scratch = work.lend(alloc);
-    scratch.widen(base.count(), names.count())?;
-    let (checked, done) = judge(alloc, &mut scratch, base, i, &proof)?;
-    work.take_back(scratch)?;
-    work.record(i, done)?;
-    Ok(checked)
+    let mut checker = Checker::new(alloc, base);
+    checker.check(alloc, names, files, i, work)
+}
+
+impl Checker<'_> {
+    /// Checks the proof of an item of the base, as the function `check` does. The assertions that it looks up are known to the
+    /// next check, unless they are too many. After out of memory none is known.
+    pub fn check(
+        &mut self,
+        alloc: Global,
+        names: &Names,
+        files: &Files,
+        i: usize,
+        work: &mut Work,
+    ) -> Result<Checked, AllocError>
+        requires theorem { HasTheorem names.now files.now self.old i }
+        requires room { 0 < work.old.room }
+        requires steps { work.old.steps + 4294967295 < 2 ^ 64 }
+
+        ensures verdict { IfOk result (λ checked. OfTheorem names.now files.now self.old i (λ view. IsVerdictAt view i checked.verdict)) }
+        ensures cites { IfOk result (λ checked. OfTheorem names.now files.now self.old i (λ view. checked.cites ≡ cites_at view i)) }
+
+        ensures run { OnOk result (work.new.runs ≡ work.old.runs ++ i ∷ []) }
+        ensures room { OnOk result (work.new.room + 1 ≡ work.old.room) }
+        ensures done { OnOk result (OfTheorem names.now files.now self.old i (λ view.
+            (n : ℕ) × AreDoneAt view i n × (n ≤ 4294967295) × (work.new.steps ≡ work.old.steps + n))) }
+
+        ensures base { self.new ≡ self.old }
+        ensures memory { OnErr result (work.new ≡ work.old) }
+    {
+        let base = self.base();
+        let proof = words_of_proof(files, base.item(i));
+        let mut scratch = work.lend(alloc);
+        scratch.widen(base.count(), names.count())?;
+        let mut known = self.lend(alloc);
+        let (checked, done) = judge(alloc, &mut scratch, &mut known, base, i, &proof)?;
+        self.take_back(known);
+        work.take_back(scratch)?;
+        work.record(i, done)?;
+        Ok(checked)
+    }
 }

@@ -3,20 +3,15 @@
 ghost use Rattle.std.specs.Prelude.{◌≡◌, ◌++◌, ◌∷◌, ◌<◌, [], ℕ, Some, All, IfOk, IfSome, OnOk, length, slice_get};
 ghost use Rattle.mm_frame.specs.declared.base.Resolved.TheVariants as answers;
 ghost use Rattle.mm_proof.specs.Language.DecodedSteps.{AreEntries, entry_steps};
-ghost use Rattle.mm_proof.specs.Code.NamedItems.{AreNamed, NamingGrows, IsNamedBy, IsUseOf};
+ghost use Rattle.mm_proof.specs.Code.NamedItems.{AreKnown, AreKnownOf, AreNamed, IsNamedBy, IsUseOf, NamingGrows};
 ghost use Rattle.mm_frame.specs.Language.NumberedSymbols.{by_number};
 ghost use Rattle.mm_proof.specs.Code.NumberedBase.{ByNames, numbered_setting};
 ghost use Rattle.mm_proof.specs.Code.Tasks.{AreCitable, AreUses, AreUsesWithin};
 
-use crate::assertion::{Cited, Hypothesis, assertions_of, expression};
+use crate::assertion::{Cited, Hypothesis, expression, with_assertions};
+use crate::known::Known;
 use mm_frame::{Base, NumberedSymbol, Resolved};
 use std::alloc::{AllocError, Global};
-
-/// At first there is room for this many labels at most.
-const FIRST_LABELS: usize = 64;
-
-/// So many assertions are named without a search for those that were named before.
-const FEW_ASSERTIONS: usize = 1024;
 
 /// What a label is used for.
 #[derive(Clone, Copy)]
@@ -36,9 +31,9 @@ pub struct Named<'a, S> {
     pub uses: Vec<Use>,
     /// The expressions of the hypotheses that are named, each once.
     pub hypotheses: Vec<&'a [S]>,
-    /// The mandatory hypotheses of the assertions that are named.
+    /// The mandatory hypotheses of all these assertions.
     pub mandatory: Vec<Hypothesis<'a, S>>,
-    /// The assertions that are named, in order; some may be there more than once.
+    /// The assertions that are named, and others that were named before.
     pub assertions: Vec<Cited<'a, S>>,
 }
 
@@ -59,7 +54,7 @@ impl Numbers {
     }
 
     /// None, with the room that these have.
-    fn emptied(self) -> Numbers
+    pub fn emptied(self) -> Numbers
         ensures { result.items.items ≡ [] }
     {
         let mut items = self.items;
@@ -85,16 +80,6 @@ impl Numbers {
         Some(place)
     }
 
-    /// Adds a number after the others, and answers where it is.
-    fn put(&mut self, number: usize) -> Result<usize, AllocError>
-        ensures items { OnOk result (self.new.items.items ≡ self.old.items.items ++ number ∷ []) }
-        ensures place { IfOk result (λ n. n ≡ length self.old.items.items) }
-    {
-        let place = self.items.len();
-        self.items.push(number)?;
-        Ok(place)
-    }
-
     /// Adds a number after the others, also to the table, and answers where it is.
     fn add(&mut self, places: &mut [u32], number: usize) -> Result<usize, AllocError>
         ensures items { OnOk result (self.new.items.items ≡ self.old.items.items ++ number ∷ []) }
@@ -109,12 +94,12 @@ impl Numbers {
     }
 }
 
-/// What naming uses over again, so that it takes no memory anew.
+/// What naming uses over again, so that it takes no memory anew. By the places, known assertions are found again; no answer
+/// depends on them.
 #[derive(Drop)]
 pub struct NamingRoom {
     pub hypotheses: Numbers,
-    pub assertions: Numbers,
-    /// For the number of an item, where among the one or the other it may be.
+    /// For the number of an item, where among the numbers of hypotheses or of known assertions it may be.
     pub places: Vec<u32>,
 }
 
@@ -123,7 +108,6 @@ impl NamingRoom {
     pub fn new(alloc: Global) -> NamingRoom {
         NamingRoom {
             hypotheses: Numbers::new(alloc),
-            assertions: Numbers::new(alloc),
             places: Vec::new(alloc),
         }
     }
@@ -149,21 +133,24 @@ pub struct Naming<'a> {
 }
 
 impl<'a> Naming<'a> {
-    /// Nothing was named. There will be this many labels.
+    /// These assertions are known, and no hypothesis is named yet. The last list is room for hypotheses.
     fn new(
-        alloc: Global,
         base: &'a Base,
-        labels: usize,
         room: NamingRoom,
+        assertions: Numbers,
+        hypotheses: Vec<&'a [NumberedSymbol]>,
     ) -> Result<Naming<'a>, AllocError>
-        ensures { IfOk result (AreNamed base.now) }
+        requires { All (λ j. IsNamedBy base.now (answers.Assertion j)) assertions.items.items }
+        ensures named { IfOk result (AreNamed base.now) }
+        ensures known { IfOk result (λ naming. naming.assertion_numbers ≡ assertions) }
     {
-        let some = labels.min(FIRST_LABELS);
         let places = widened(room.places, base.count())?;
+        let mut hypotheses = hypotheses;
+        hypotheses.clear();
         Ok(Naming {
-            hypotheses: Vec::with_capacity(alloc, some)?,
+            hypotheses,
             hypothesis_numbers: room.hypotheses.emptied(),
-            assertion_numbers: room.assertions.emptied(),
+            assertion_numbers: assertions,
             places,
         })
     }
@@ -191,12 +178,6 @@ impl<'a> Naming<'a> {
         ensures grows { OnOk result (NamingGrows self.old self.new) }
         ensures stands { IfOk result (λ used. IsUseOf self.new used (answers.Assertion number)) }
     {
-        // The list of labels of a compressed proof has each once, most often. A normal proof has some again and again, so in
-        // a long table they are looked for.
-        if self.assertion_numbers.items.len() < FEW_ASSERTIONS {
-            let place = self.assertion_numbers.put(number)?;
-            return Ok(Use::Assertion(place));
-        }
         if let Some(place) = self.assertion_numbers.find(&self.places, number) {
             return Ok(Use::Assertion(place));
         }
@@ -220,25 +201,35 @@ impl<'a> Naming<'a> {
     }
 }
 
-/// What the labels of a proof's table name, in a base; and what naming uses over again.
+/// What the labels of a proof's table name, in a base of which these assertions are known; what naming uses over again; and
+/// the numbers of the assertions that are known now.
 pub fn name_all<'a>(
-    alloc: Global,
     base: &'a Base,
     labels: &[Resolved],
     room: NamingRoom,
-) -> Result<(Named<'a, NumberedSymbol>, NamingRoom), AllocError>
-    requires { All (IsNamedBy base.now) labels.now }
+    known: Known<'a>,
+) -> Result<(Named<'a, NumberedSymbol>, NamingRoom, Numbers), AllocError>
+    requires labels { All (IsNamedBy base.now) labels.now }
+    requires known { AreKnownOf base.now known }
     ensures within { IfOk result (λ r. AreUsesWithin r.0) }
     ensures frames { IfOk result (λ r. AreCitable by_number r.0) }
     ensures means { IfOk result (λ r. ByNames base.now (λ names view. (i : ℕ) → AreEntries view i labels.now
         → AreUses by_number r.0 (numbered_setting names view i) (entry_steps view labels.now))) }
+    ensures known { IfOk result (λ r. AreKnown base.now r.2.items.items r.0.mandatory.items r.0.assertions.items) }
 {
-    let mut naming = Naming::new(alloc, base, labels.len(), room)?;
-    let mut uses = Vec::with_capacity(alloc, labels.len())?;
+    let mut naming = Naming::new(base, room, known.numbers, known.hypotheses)?;
+    let mut uses = known.uses;
+    uses.clear();
+    uses.reserve(labels.len())?;
     for label in labels {
         uses.push(naming.name(base, *label)?)?;
     }
-    let (mandatory, assertions) = assertions_of(alloc, base, &naming.assertion_numbers.items)?;
+    let (mandatory, assertions) = with_assertions(
+        base,
+        &naming.assertion_numbers.items,
+        known.mandatory,
+        known.assertions,
+    )?;
     let named = Named {
         uses,
         hypotheses: naming.hypotheses,
@@ -247,8 +238,7 @@ pub fn name_all<'a>(
     };
     let room = NamingRoom {
         hypotheses: naming.hypothesis_numbers,
-        assertions: naming.assertion_numbers,
         places: naming.places,
     };
-    Ok((named, room))
+    Ok((named, room, naming.assertion_numbers))
 }

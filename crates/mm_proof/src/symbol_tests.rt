@@ -17,6 +17,7 @@ use crate::assertion::{Cited, Hypothesis, active, expression};
 use crate::checking::{decoding_fault, mandatory, verdict};
 use crate::citing::cites;
 use crate::decoding_laws::{decodes_surely, mandatory_are_active};
+use crate::known::Known;
 use crate::machine::Machine;
 use crate::named::{Named, NamingRoom, Use, name_all};
 use crate::reading::{Decoding, decode};
@@ -303,7 +304,12 @@ fn verdict_by_names(
 {
     decodes_surely();
     mandatory_are_active();
-    let (named, _) = name_all(alloc, base, &decoding.labels, NamingRoom::new(alloc))?;
+    let (named, _, _) = name_all(
+        base,
+        &decoding.labels,
+        NamingRoom::new(alloc),
+        Known::new(alloc),
+    )?;
     let outcome = run_by_names(
         alloc,
         &named,

@@ -10,7 +10,7 @@ use mm_frame::{NumberedSymbol, Resolved};
 use std::alloc::{AllocError, Global};
 use std::marker::Model;
 
-/// What checks use over again, so that none takes its memory anew. What one leaves there does not count in the next.
+/// What checks use over again, so that none takes its memory anew. No answer depends on what one leaves there.
 #[derive(Drop)]
 pub struct Scratch {
     pub decoding: MarkedDecoding,

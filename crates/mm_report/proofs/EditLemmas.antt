@@ -1,5 +1,5 @@
 -- Edits that are in the bytes of a script: their lines, and their texts.
-use Rattle.std.proofs.Common.{◌<◌, ◌≡◌, ℕ, ◌+◌, ◌-◌, ◌≤◌, Bool, true, false, List, [], ◌∷◌, ◌++◌, append_assoc, length, take, drop, replicate, refl, sym, ap, ◌∙◌, subst, arith, Option, Some, None, codes, decimal, slice_range}
+use Rattle.std.proofs.Common.{◌≡◌, ℕ, ◌+◌, ◌-◌, ◌≤◌, Bool, true, false, List, [], ◌∷◌, ◌++◌, append_assoc, length, take, drop, replicate, refl, sym, ap, ◌∙◌, subst, arith, Option, Some, None, codes, decimal, slice_range}
 use Rattle.std.specs.List.{join_with_byte}
 use Rattle.std.proofs.lemmas.List.{append-nil, length-drop, length-take, length-replicate, drop-drop, drop-take, take-take, drop_all}
 use Rattle.std.proofs.lemmas.List.Folds.{drop_split}
@@ -129,12 +129,6 @@ shifted_within bytes left line part shifted is within at =
       ordered = omega (arith, within.ordered, at.start, at.end);
       within = omega (arith, within.within, at.end, is.ordered, is.within, long, rest);
     }
-
-pub shifted_few : (bytes : List ℕ) (left : Option (List ℕ)) (line : LineAt) (part : Part) → IsLineAt bytes left line → IsPartWithin (line_bytes bytes line) part → length bytes < 9223372036854775808
-    → (part.end + line.start < 18446744073709551616) × (part.start ≤ part.end)
-shifted_few bytes left line part is within few =
-    let long = length-take (line.end - line.start) (drop line.start bytes) in
-    (omega (arith, within.within, is.ordered, is.within, long, few), within.ordered)
 
 pub within_grown : (a b : Input) (u v : Option (List ℕ)) (part : Part) → InputGrows a b u v → IsPartWithin (pending a) part → IsPartWithin (pending b) part
 within_grown a b u v part grows within = record { ordered = within.ordered; within = omega (arith, within.within, grown_long a b u v grows) }

@@ -63,9 +63,6 @@ none_found xs zero h = tt
 none_found [] (suc n) h = tt
 none_found (x ∷ xs) (suc n) h = (λ (e : x ≡ 10). h 0 (omega arith) (eq-eqb x 10 e), none_found xs n (λ (k : ℕ) (low : k < n) (e : (slice_index xs k == 10) ≡ true). h (suc k) (omega arith) e))
 
-pub nothing_between : (bytes : List ℕ) (i : ℕ) → IsOneLine (slice_range bytes i i)
-nothing_between bytes i = let none : i - i ≡ 0 = omega arith in subst (λ (n : ℕ). IsOneLine (take n (drop i bytes))) (sym none) tt
-
 pub rest_of : (seen bytes : List ℕ) (from : ℕ) → seen ≡ bytes → slice_range seen from (length seen) ≡ drop from bytes
 rest_of seen bytes from same = take_rest seen from ∙ ap (drop from) same
 

@@ -13,6 +13,7 @@ use Rattle.mm_frame.specs.Language.NumberedSymbols.{by_number}
 use Rattle.mm_proof.specs.Code.NumberedBase.{ByNames, all_by_number, numbered_hypothesis, numbered_frame}
 use Rattle.mm_proof.specs.declared.assertion.Cited.{Cited}
 use Rattle.mm_proof.specs.declared.assertion.Hypothesis.{Hypothesis}
+use Rattle.mm_proof.specs.declared.known.Known.{Known}
 use Rattle.mm_proof.specs.declared.named.Naming.{Naming}
 use Rattle.mm_proof.specs.declared.named.Use.{Use}
 use Rattle.mm_proof.specs.declared.named.Use.TheVariants as uses
@@ -55,6 +56,15 @@ pub record AreCited (code : Base) (numbers : List ℕ) (mandatory : List (Hypoth
   pub frames : ByNames code (λ names view. (n j : ℕ) → slice_get numbers n ≡ Some j → is_framed_at view j ≡ true
       → HasFrame names view (frames_cited mandatory assertions) n j)
   pub citable : All (IsCitable by_number (hypotheses_of by_number mandatory)) assertions
+
+-- assertions that a base has under these numbers, each an entry of a table
+pub record AreKnown (code : Base) (numbers : List ℕ) (mandatory : List (Hypothesis NumberedSymbol)) (assertions : List (Cited NumberedSymbol)) : Type 0 where
+  pub named : All (λ j. IsNamedBy code (answers.Assertion j)) numbers
+  pub cited : AreCited code numbers mandatory assertions
+
+-- the assertions that are kept are those of this base
+abbrev pub AreKnownOf : Base → Known → Type 0
+AreKnownOf code known = AreKnown code known.numbers.items.items known.mandatory.items known.assertions.items
 
 -- what was in the list is at the same place in it still
 abbrev pub Stays : List ℕ → List ℕ → Type 0

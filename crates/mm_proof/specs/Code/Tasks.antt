@@ -26,11 +26,11 @@ use Rattle.mm_proof.specs.Code.MachineState.{state_of}
 abbrev pub named_expressions : {S : Type 0} → (S → Symbol) → Listed S → List (List Symbol)
 named_expressions means named = map (λ e. map means e.now) named.hypotheses.items
 
--- the frames of the assertions that are named
+-- the frames of its assertions
 abbrev pub named_frames : {S : Type 0} → (S → Symbol) → Listed S → List Frame
 named_frames means named = map (frame_of means (hypotheses_of means named.mandatory.items)) named.assertions.items
 
--- each assertion that is named can be cited
+-- each of its assertions can be cited
 abbrev pub AreCitable : {S : Type 0} → (S → Symbol) → Listed S → Type 0
 AreCitable means named = All (IsCitable means (hypotheses_of means named.mandatory.items)) named.assertions.items
 

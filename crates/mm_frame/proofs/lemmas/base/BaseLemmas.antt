@@ -18,7 +18,7 @@ use Rattle.mm_frame.specs.Language.Framing.{expression}
 use Rattle.mm_frame.specs.Language.Scope.{Mark, Closes, mark_of, closes, active_numbers}
 use Rattle.mm_frame.specs.Code.Numbers.{IsNameNumber, AreNameNumbers}
 use Rattle.mm_frame.specs.Language.NumberedSymbols.{symbols_of, kept_pairs, IsNumbered, IsPairNumbered, ArePairsRead}
-use Rattle.mm_frame.specs.Code.KeptSymbols.{expression_kept, kept_or_none, AreSymbols, AreExpressions}
+use Rattle.mm_frame.specs.Code.KeptSymbols.{expression_kept, kept_or_none, AreSymbols}
 use Rattle.mm_frame.specs.Code.LastItems.{IsSort}
 use Rattle.mm_frame.specs.Code.KeptScope.{taken}
 use Rattle.mm_frame.specs.Language.Base.{BaseView, before, said_at, fault_by, told_fault, is_sound_at, expression_at, is_framed_at, frame_at}
@@ -231,10 +231,6 @@ symbols_there all base i expressions a e =
 -- what is shown is read
 pub shown_read : (sound : Bool) (kind : Kind) → (sound && is_labelled kind) ≡ true → (sound && is_read kind) ≡ true
 shown_read sound kind t = let parts = and_parts sound (is_labelled kind) t in and_from sound (is_read kind) parts.0 (ap (λ b. b || is_disjoint kind) parts.1)
-
--- what is read of a `$f`, `$e`, `$a` or `$p` is its expression
-pub are_expressions : (all : List (List ℕ)) (before : List Item) (expressions : List (List NumberedSymbol)) → AreSymbols all before expressions → AreExpressions all before expressions
-are_expressions all before expressions a n item e t = a.each n item e (ap (λ b. b || is_disjoint item.kind) t)
 
 -- an item that is not of the sort and is no `$}` leaves the active items of the sort as they are
 not_closes : (m : Mark) → closes m ≡ false → m ≡ Closes → ⊥

@@ -21,6 +21,7 @@ loop-j-preserved c =
     let count = c.count-count.ensures.count has.0 (c.args.names.now, has.1.base) in
     let there = slice_get-get_or plan j None (omega (arith, count, has.2, c.loop-j-test.true)) ∙ ap Some (sym c.at.ensures) in
     record {
+      base = c.in_ok-run_of.ensures.base ∙ c.loop-j.invariant.base;
       count = ap length c.in_ok-push.ensures ∙ length_push c.loop-j.checked one ∙ ap (λ n. n + 1) same;
       room = omega (arith, taken.1, c.loop-j.invariant.room);
       steps = omega (arith, taken.0, c.loop-j.invariant.steps);

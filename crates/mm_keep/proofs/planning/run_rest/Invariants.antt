@@ -6,6 +6,7 @@ use Rattle.mm_keep.proofs.planning.run_rest.Given as goal
 
 abbrev pub invariant-loop-j : goal.invariant-loop-j
 invariant-loop-j l = record {
+  base : l.checker ≡ l.base;
   count : length l.checked ≡ l.j;
   room : l.count ≤ l.work.room + l.j;
   steps : l.work.steps ≤ 4294967295 * l.j;

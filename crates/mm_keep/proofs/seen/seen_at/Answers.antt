@@ -1,6 +1,6 @@
 use Rattle.std.proofs.Common.{◌≡◌, ◌+◌, ◌∙◌, ap, slice_get, slice_range, arith}
 use Rattle.mm_keep.specs.Language.WordPlaces.{start_of, spelled}
-use Rattle.mm_keep.proofs.SpotLemmas.{item_text, item_within, item_words, letter_within}
+use Rattle.mm_keep.proofs.SpotLemmas.{item_text, item_within, item_words}
 use Rattle.mm_keep.proofs.seen.seen_at.Goals as goal
 
 pub slice_bounds-text-end : goal.slice_bounds-text-end
@@ -12,14 +12,6 @@ pub nth_word-found-requires : goal.nth_word-found-requires
 nth_word-found-requires c =
     let read = c.requires.read in
     (read.words, item_words c.args.files.now c.args.item.now read c.piece.result.now c.piece.ensures.text)
-
-pub place_in-requires-clause-within : goal.place_in-requires-clause-within
-place_in-requires-clause-within c =
-    let read = c.requires.read in
-    let word = c.nth_word-found.ensures.nth read.words (item_words c.args.files.now c.args.item.now read c.piece.result.now c.piece.ensures.text) in
-    let less = letter_within c.args.files.now c.args.item.now read c.args.word 0 (omega arith) in
-    let start = c.start_of.ensures ∙ ap start_of word in
-    omega (arith, less, start)
 
 pub returns : goal.returns
 returns c =

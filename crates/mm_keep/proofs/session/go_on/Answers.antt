@@ -1,7 +1,4 @@
-use Rattle.std.proofs.Common.{sym, subst}
-use Rattle.mm_proof.specs.mm_frame.declared.base.Base.{Base}
-use Rattle.mm_keep.specs.Code.Changing.{HasKept}
-use Rattle.mm_keep.proofs.ChangeLemmas.{can_take, kept_undone, old_in}
+use Rattle.mm_keep.proofs.ChangeLemmas.{can_take, old_in}
 use Rattle.mm_keep.proofs.session.go_on.Goals as goal
 
 pub next_of-requires-clause-top : goal.next_of-requires-clause-top
@@ -25,12 +22,6 @@ returns-in-Ok-clause-runs c before were =
 
 pub undo_all-requires : goal.undo_all-requires
 undo_all-requires c = (c.requires.0, c.requires.1.spendable)
-
-pub returns-in-Err-clause-kept : goal.returns-in-Err-clause-kept
-returns-in-Err-clause-kept c before were =
-    subst (λ (base : Base). HasKept c.undo_all.new.self c.args.top.now c.next_of.new.names base c.args.checked.now) (sym c.next_of.ensures.old)
-    (kept_undone before c.args.files.now c.undo_all.new.self c.args.undos c.args.top.now c.args.names.now c.next_of.new.names c.args.base.now _ were
-    (c.undo_all.ensures before were.spendable) c.next_of.ensures.grows c.next_of.ensures.distinct)
 
 pub returns-in-Err-clause-undone : goal.returns-in-Err-clause-undone
 returns-in-Err-clause-undone c before were = c.undo_all.ensures before were.spendable

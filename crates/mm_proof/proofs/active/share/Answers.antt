@@ -2,7 +2,7 @@ use Rattle.std.proofs.Common.{map, sym, ◌∙◌, arith, length, subst, Contain
 use Rattle.std.proofs.lemmas.Bool.{false≢true}
 use Rattle.std.proofs.lemmas.List.{length-map}
 use Rattle.mm_proof.proofs.lemmas.machine.FlatLemmas.{mapped_get}
-use Rattle.mm_proof.proofs.lemmas.machine.ApartLemmas.{each_more, each_all, contains_at}
+use Rattle.mm_proof.proofs.lemmas.machine.ApartLemmas.{each_more, each_all}
 use Rattle.mm_proof.specs.Code.Keys.{home_at}
 use Rattle.mm_proof.specs.Code.PairClause.{AreKeyPlaces}
 use Rattle.mm_proof.proofs.active.share.Goals as goal
@@ -23,9 +23,3 @@ pub is_marked-requires : goal.is_marked-requires
 is_marked-requires g c =
     let xs = c.args.xs.now in
     subst (λ n. AreKeyPlaces (home_at g.S.Kept.key_of n) (map g.S.Symbol.means xs) c.mark.new.places (length xs)) (sym c.mark.ensures.count) c.mark.ensures.marks
-
-pub returns-then-is_marked : goal.returns-then-is_marked
-returns-then-is_marked g c =
-    let m = g.S.Symbol.means in
-    let y = m c.index-ys-i.result in
-    (y, c.is_marked.ensures.0 c.if-is_marked.true, contains_at (map m c.args.ys.now) c.loop-i.i y (mapped_get m c.args.ys.now c.loop-i.i c.index-ys-i.result c.loop-i-test.true c.index-ys-i.is))

@@ -1,8 +1,8 @@
-use Rattle.std.proofs.Common.{◌≢◌, map, sym, ◌∙◌, arith, refl, Some, ap}
+use Rattle.std.proofs.Common.{◌≢◌, map, sym, ◌∙◌, arith, refl}
 use Rattle.std.proofs.lemmas.Bool.{false≢true}
 use Rattle.std.proofs.lemmas.List.{length-map}
 use Rattle.mm_proof.proofs.lemmas.machine.FlatLemmas.{mapped_get}
-use Rattle.mm_proof.proofs.lemmas.machine.ApartLemmas.{each_more, each_all, contains_at}
+use Rattle.mm_proof.proofs.lemmas.machine.ApartLemmas.{each_more, each_all}
 use Rattle.mm_proof.proofs.active.stands_in.Goals as goal
 
 pub loop-i-preserved : goal.loop-i-preserved
@@ -18,9 +18,3 @@ returns g c =
       λ t. absurd (false≢true t),
       λ s. absurd (each_all (λ y. y ≢ m c.args.x.now) (map m c.args.ys.now) c.loop-i.i (omega (arith, length-map c.args.ys.now m, c.loop-i-test.false)) c.loop-i.invariant (m c.args.x.now) s refl),
     )
-
-pub returns-then-same : goal.returns-then-same
-returns-then-same g c =
-    let m = g.S.Symbol.means in
-    let at = mapped_get m c.args.ys.now c.loop-i.i c.index-ys-i.result c.loop-i-test.true c.index-ys-i.is in
-    (λ t. contains_at (map m c.args.ys.now) c.loop-i.i (m c.args.x.now) (at ∙ ap Some (c.same.ensures.0 c.if-same.true)), λ _. refl)

@@ -4,7 +4,7 @@ use Rattle.mm_proof.proofs.checking.judge.Goals as goal
 
 pub judge_steps-requires-clause-decoded : goal.judge_steps-requires-clause-decoded
 judge_steps-requires-clause-decoded c =
-    let has = c.requires in (
+    let has = c.requires.proof in (
       has.0,
       decoded c.args.base.now c.args.i c.args.proof.now c.in-Ok.marked.decoding c.mandatory-mandatory.result.now has.0 has.1 c.mandatory-mandatory.ensures (c.mandatory_are_active.ensures has.0 c.args.i has.1.said)
           c.in-Ok.ensures.ok c.in-Ok.ensures.entries c.in-Ok.ensures.table,
@@ -18,7 +18,7 @@ returns-in_ok-judged-in-Ok-clause-says c view theorem =
     c.in-Ok.ensures.ok c.in-Ok.ensures.entries c.in-Ok.ensures.table)
 
 pub mandatory-mandatory-requires : goal.mandatory-mandatory-requires
-mandatory-mandatory-requires c = let has = c.requires in (has.0, has.1.base, framed_proof has.0 c.args.i has.1.is_sound)
+mandatory-mandatory-requires c = let has = c.requires.proof in (has.0, has.1.base, framed_proof has.0 c.args.i has.1.is_sound)
 
 pub returns-in_ok-judged-in-Ok-clause-few : goal.returns-in_ok-judged-in-Ok-clause-few
 returns-in_ok-judged-in-Ok-clause-few c = c.in_ok-judged-in-Ok.ensures.few

@@ -45,6 +45,7 @@ returns c =
             cites = ap (λ j. j.cites) c.new-2.ensures ∙ told ∙ sym (ap (λ (o : Result Decoded ProofFault). cites place (said_at view i).proof o) is.decodes ∙ ap (λ (words : List (List ℕ)). cited_words place words steps) is.theorem.says);
             done = rw is.decodes (rw done at (done_says place (statement_at view i) steps c.in_ok-outcome.outcome says));
           };
+      known = c.in_ok-outcome.ensures.known;
       few = omega (arith, c.steps_done-done.ensures.within, c.len.ensures, d.steps.ok, length-map d.steps.items (λ (step : ProofStep). meant names step.action));
     }
 
@@ -53,6 +54,7 @@ mandatory-hypotheses-requires c = let has = c.requires.decoded in (has.0, has.1.
 
 pub run_steps-requires : goal.run_steps-requires
 run_steps-requires c = record {
+  known = c.requires.known;
   decoded = c.requires.decoded;
   used = rw c.deref-3.ensures.value ((rw c.deref.ensures.value at c.in_ok-used.ensures) c.args.proof.decoding.now.steps.items c.requires.marks);
 }

@@ -6,14 +6,6 @@ use Rattle.mm_proof.proofs.lemmas.machine.EntryFaults.{gives_all, hypotheses_kno
 use Rattle.mm_proof.proofs.lemmas.machine.CitingFaults.{says09, says_pairs, says12}
 use Rattle.mm_proof.proofs.citation.citing_fault.Goals as goal
 
-pub essentials_fit-requires : goal.essentials_fit-requires
-essentials_fit-requires g c = record {
-  typed = hypotheses_known (frame_from g.S.Symbol.means c.args.taken.now.hypotheses.now c.args.expression.now c.args.pairs.now) c.requires.frame;
-  within = c.requires.within;
-  count = c.requires.count;
-  before = c.requires.before;
-}
-
 pub pairs_fault-requires : goal.pairs_fault-requires
 pairs_fault-requires g c = record {
   hypotheses = hypotheses_known (frame_from g.S.Symbol.means c.args.taken.now.hypotheses.now c.args.expression.now c.args.pairs.now) c.requires.frame;

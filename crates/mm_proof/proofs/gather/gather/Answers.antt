@@ -1,7 +1,7 @@
-use Rattle.std.proofs.Common.{map, ℕ, subst, arith, length, ◌≡◌}
-use Rattle.mm_proof.specs.Code.PairClause.{GathersOne, GatheredUpTo}
+use Rattle.std.proofs.Common.{map, ℕ, subst, arith}
+use Rattle.mm_proof.specs.Code.PairClause.{GathersOne}
 use Rattle.mm_proof.proofs.lemmas.machine.FlatLemmas.{mapped_get}
-use Rattle.mm_proof.proofs.lemmas.machine.ApartLemmas.{gathered_more, gathered_none}
+use Rattle.mm_proof.proofs.lemmas.machine.ApartLemmas.{gathered_more}
 use Rattle.std.proofs.lemmas.List.{length-map}
 use Rattle.mm_proof.proofs.gather.gather.Goals as goal
 
@@ -17,21 +17,6 @@ loop-i-preserved g c =
           (subst (λ (k : ℕ). GathersOne k (m c.index-symbols-i.result) before after) c.loop-i.invariant.begin c.in_ok-gather_one.ensures) c.loop-i.invariant.so_far;
     }
 
-pub loop-i-init : goal.loop-i-init
-loop-i-init g c =
-    let m = g.S.Symbol.means in
-    let before = c.args.variables.now.items in
-    record {
-      begin = omega (arith, c.len-start.ensures, c.args.variables.now.ok, length-map before m);
-      so_far = gathered_none (map m c.args.symbols.now) (map m before);
-    }
-
 pub gather_one-requires : goal.gather_one-requires
 gather_one-requires g c =
     omega (arith, c.loop-i.invariant.begin, c.loop-i.invariant.so_far.long, length-map c.loop-i.variables.items g.S.Symbol.means)
-
-pub returns : goal.returns
-returns g c =
-    let m = g.S.Symbol.means in
-    let all : c.loop-i.i ≡ length c.args.symbols.now = omega arith in
-    subst (GatheredUpTo (map m c.args.symbols.now) (map m c.args.variables.now.items) (map m c.loop-i.variables.items)) all c.loop-i.invariant.so_far

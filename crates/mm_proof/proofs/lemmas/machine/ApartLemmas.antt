@@ -1,11 +1,10 @@
 -- Elements of lists, one after another, and which of them are apart.
-use Rattle.std.proofs.Common.{◌≡◌, ℕ, zero, suc, ◌+◌, ◌-◌, ◌<◌, ◌≤◌, Bool, true, false, Some, List, [], ◌∷◌, ◌++◌, length, map, take, drop, get_or, refl, sym, ◌∙◌, ap, subst, arith, inl, inr, ◌⊎◌, length-append, slice_get, Contains}
+use Rattle.std.proofs.Common.{◌≡◌, ℕ, zero, suc, ◌+◌, ◌-◌, ◌<◌, ◌≤◌, Bool, true, Some, List, [], ◌∷◌, ◌++◌, length, map, take, drop, get_or, refl, sym, ◌∙◌, ap, subst, arith, inl, inr, ◌⊎◌, length-append, slice_get, Contains}
 use Rattle.std.proofs.Math.Decide.{ℕ_discrete}
 use Rattle.std.proofs.lemmas.Option.{slice_get_within, get_or_from_slice_get, slice_get-get_or, same_Some}
 use Rattle.mm_frame.specs.Language.Frame.{Symbol, ArePair}
-use Rattle.std.proofs.lemmas.List.{length-drop, get_or-drop, get_or_at, take_rest, drop-map, take_all, take_more, drop-append-le, take-append-le, take-append-drop, drop_all}
+use Rattle.std.proofs.lemmas.List.{length-drop, get_or-drop, get_or_at, take_rest, drop-map, take_all, take_more, drop-append-le, take-append-le, take-append-drop}
 use Rattle.std.proofs.lemmas.List.Elements.{Contains-append_left, Contains-append_right, Contains-append_cases}
-use Rattle.std.proofs.lemmas.Bool.{false≢true}
 use Rattle.mm_proof.proofs.lemmas.lists.Members.{contains_cases}
 use Rattle.mm_frame.specs.Language.Frame.{HasVariable}
 use Rattle.mm_proof.specs.declared.pattern.Entry.{Entry}
@@ -87,15 +86,6 @@ gathered_more symbols front before after n s at (inr a) f =
         λ c. (let h = (f.same v).1 c in (subst (λ w. Contains w v) (sym more) (Contains-append_left (take n symbols) (s ∷ []) v h.0), h.1)),
       );
     })
-
-pub gathered_none : (symbols front : List Symbol) → GatheredUpTo symbols front front 0
-gathered_none symbols front =
-    let behind = drop_all (length front) front (omega arith) in
-    record {
-      kept = take_all (length front) front (omega arith);
-      long = omega arith;
-      same = λ v. (λ h. let l = h.0.1 in absurd (omega arith), λ h. let l = (subst (λ w. Contains w v) behind h).1 in absurd (omega arith));
-    }
 
 -- what is at a place of a list that has grown
 pub last_at : {X : Type 0} (xs : List X) (x : X) (k : ℕ) → k ≡ length xs → slice_get (xs ++ x ∷ []) k ≡ Some x
@@ -189,17 +179,4 @@ entry_gathered xs before after e n start end paired spans more is l f a b c = re
     λ h. (f.same v).0 (subst (λ w. HasVariable w v) (sym (take_all n xs l ∙ is)) h),
     λ h. subst (λ w. HasVariable w v) (take_all n xs l ∙ is) ((f.same v).1 h),
   );
-}
-
-pub entry_passed : (before after e : List Symbol) (start end : ℕ) (paired : Bool) (spans more : List Entry) → paired ≡ false → after ≡ before
-    → start ≡ length before → end ≡ length after → more ≡ spans ++ record { start = start; end = end; floor = start } ∷ [] →
-    GathersEntry paired e before after spans more
-entry_passed before after e start end paired spans more off same a b c = record {
-  span = record { start = start; end = end; floor = start };
-  start = a;
-  end = b;
-  added = c;
-  kept = ap (take (length before)) same ∙ take_all (length before) before (omega arith);
-  long = (let l = ap length same in omega arith);
-  same = λ on. absurd (false≢true (sym off ∙ on));
 }

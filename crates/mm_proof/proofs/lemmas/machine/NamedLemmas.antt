@@ -1,5 +1,5 @@
 -- What was named so far, when more is named.
-use Rattle.std.proofs.Common.{◌≡◌, ℕ, zero, suc, Some, List, [], ◌∷◌, ◌++◌, length, refl, sym, ◌∙◌, ap, subst, arith, ◌⊎◌, inl, inr, slice_get, All}
+use Rattle.std.proofs.Common.{◌≡◌, ℕ, zero, suc, Some, List, [], ◌∷◌, ◌++◌, length, take, refl, sym, ◌∙◌, ap, ap₂, subst, arith, ◌⊎◌, inl, inr, slice_get, All}
 use Rattle.std.specs.List.{AllZip}
 use Rattle.std.proofs.lemmas.List.Elements.{All-nil, All-cons}
 use Rattle.std.proofs.lemmas.Option.{slice_get_within, same_Some}
@@ -27,6 +27,19 @@ use Rattle.mm_proof.proofs.lemmas.machine.StepLemmas.{kept_at}
 
 pub stays_more : (old new : List ℕ) (j : ℕ) → new ≡ old ++ j ∷ [] → Stays old new
 stays_more old new j e n k at = ap (λ w. slice_get w n) e ∙ kept_at old (j ∷ []) n k at
+
+-- if no number of a list moved, the new list begins with it
+pub stays_begins : (old new : List ℕ) → Stays old new → take (length old) new ≡ old
+stays_begins [] new s = refl
+stays_begins (x ∷ old) [] s = absurd (omega (arith, slice_get_within [] zero x (s zero x refl)))
+stays_begins (x ∷ old) (y ∷ new) s = ap₂ ◌∷◌ (same_Some y x (s zero x refl)) (stays_begins old new (λ n j at. s (suc n) j at))
+
+-- so the known assertions are those of the new list's first numbers
+pub cited_first :
+    (code : Base) (old new : List ℕ) (mandatory : List (assertion.Hypothesis NumberedSymbol)) (all : List (Cited NumberedSymbol)) →
+    AreCited code old mandatory all → Stays old new → AreCited code (take (length all) new) mandatory all
+cited_first code old new mandatory all are s =
+    subst (λ (ns : List ℕ). AreCited code ns mandatory all) (sym (ap (λ n. take n new) are.count ∙ stays_begins old new s)) are
 
 pub last_there : {X : Type 0} (xs : List X) (x : X) → slice_get (xs ++ x ∷ []) (length xs) ≡ Some x
 last_there [] x = refl

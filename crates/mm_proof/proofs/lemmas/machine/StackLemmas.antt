@@ -34,21 +34,6 @@ wider n m es l all k d i = let w = all k d i in (w.0, omega arith)
 one_more : (P : Entry → Type 0) (es : List Entry) (new : Entry) → All P es → P new → All P (es ++ new ∷ [])
 one_more P es new all p = All-append P es (new ∷ []) all (All-cons P new [] p (λ k d i. absurd (omega arith)))
 
--- the list grows by an expression that is kept
-pub whole_loaded :
-    {S : Type 0} (means : S → Symbol) (before : List S) (expression : List S) (after : List S) (kept end : ℕ) (stack saved next : List Entry) (new : Entry) →
-    AreOrderedRanges (length before) kept stack saved → map means after ≡ map means before ++ map means expression → next ≡ saved ++ new ∷ [] →
-    new.start ≡ length before → new.end ≡ length after → end ≡ length after → AreOrderedRanges (length after) end stack next
-whole_loaded means before expression after kept end stack saved next new whole e s a b l =
-    let grown : length before ≤ length after = let c = ap length e in omega (arith, length-map after means, length-map before means, length-append (map means before) (map means expression)) in
-    record {
-      kept_within = omega arith;
-      within = wider (length before) (length after) stack grown whole.within;
-      floors_within = λ k d i. (let w = whole.floors_within k d i in omega arith);
-      saved_within = subst (λ es. All (IsEntryWithin end) es) (sym s) (one_more (IsEntryWithin end) saved new (wider kept end saved (omega arith) whole.saved_within) (omega arith, omega arith));
-      apart = whole.apart;
-    }
-
 pub pushed_all : (before more after : List Symbol) (n : ℕ) (es next : List Entry) (new : Entry) → after ≡ before ++ more → n ≡ length before
     → All (IsEntryWithin n) es → next ≡ es ++ new ∷ [] → new.start ≡ length before → new.end ≡ length after
     → read_all after next ≡ read_all before es ++ more ∷ []

@@ -10,7 +10,7 @@ use Rattle.mm_frame.specs.Language.Typing.{HasFrames}
 use Rattle.mm_proof.specs.Language.Steps.{Cites, Moves}
 use Rattle.mm_proof.specs.Language.Expansion.{Step, Named, Saved, Save, NotKnown}
 use Rattle.mm_proof.specs.Language.Machine.{State, Turns, AreAllKnown}
-use Rattle.mm_proof.specs.Language.Faults.{LabelFails, IsLowest, SaveFails, row_of}
+use Rattle.mm_proof.specs.Language.Faults.{LabelFails, IsLowest}
 use Rattle.mm_proof.specs.Language.Reaches.{Reaches, IsStepFault}
 use Rattle.mm_proof.specs.Language.Run.{is_unknown, run_part, IsReached}
 use Rattle.mm_proof.specs.Language.Verdict.{IsFirstUnknown}
@@ -33,7 +33,6 @@ use Rattle.mm_proof.specs.Code.Tasks.{HasState, MeansTask, MeansUse, actions_mea
 use Rattle.mm_proof.proofs.lemmas.machine.FlatLemmas.{mapped_or_get}
 use Rattle.std.proofs.lemmas.List.Sums.{sum_by-cons, sum_by-append}
 use Rattle.mm_proof.proofs.lemmas.views.KeptMarkLemmas.{turned}
-use Rattle.mm_proof.specs.declared.ProofNumber.TheVariants.{P13}
 use Rattle.mm_proof.specs.Code.Flat.{read, read_all}
 
 -- ---- one step
@@ -292,17 +291,6 @@ saves_next steps k d l =
     ap saves_in (take_next steps k (get_or steps k d) (slice_get-get_or steps k d l))
     ∙ sum_by-append (λ (step : ProofStep). saves_by step.action) (take k steps) (get_or steps k d ∷ [])
     ∙ ap (λ n. saves_in (take k steps) + n) (sum_by-cons (λ (step : ProofStep). saves_by step.action) (get_or steps k d) [] ∙ add-zero (saves_by (get_or steps k d).action))
-
--- nothing is there to be saved
-save_fails_by : (stack : List (List Symbol)) (other : ProofNumber) → SaveFails stack other → 13 ≤ row_of other
-save_fails_by stack P13 h = omega arith
-save_fails_by stack _ h = absurd h
-
-pub save_fails :
-    {S : Type 0} (means : S → Symbol) (expressions : List (List Symbol)) (place : Setting) (step : Step) (before : State) (old : Machine S) →
-    step ≡ Save → HasState means expressions old before → (state_of means old).stack ≡ [] → IsLowest place step before.stack P13
-save_fails means expressions place step before old is state none =
-    subst (λ (s : Step). IsLowest place s before.stack P13) (sym is) (record { holds = sym state.stack ∙ none; lowest = save_fails_by before.stack })
 
 -- how much was saved
 pub saved_same : {S : Type 0} (means : S → Symbol) (old new : Machine S) → (state_of means new).saved ≡ (state_of means old).saved → length new.saved.items ≡ length old.saved.items

@@ -1,13 +1,13 @@
-use Rattle.std.proofs.Common.{◌+◌, ◌++◌, ◌∷◌, [], ℕ, List, get_or, length, take, sym, ◌∙◌, ap, subst, arith, All, take_all}
+use Rattle.std.proofs.Common.{slice_get, ◌+◌, ◌++◌, ◌∷◌, [], ℕ, List, get_or, length, take, sym, ◌∙◌, ap, subst, arith, All, take_all}
 use Rattle.std.specs.List.{AllZip}
 use Rattle.std.proofs.lemmas.Option.{slice_get-get_or}
 use Rattle.mm_frame.specs.declared.base.Resolved.{Resolved}
 use Rattle.mm_frame.specs.declared.base.Resolved.TheVariants as answers
-use Rattle.mm_proof.specs.Code.NamedItems.{AreCited, IsNamedBy, IsUseOf}
+use Rattle.mm_proof.specs.Code.NamedItems.{AreCited, IsUseOf}
 use Rattle.mm_proof.specs.Code.Tasks.{IsUseWithin}
 use Rattle.mm_proof.specs.declared.named.Use.{Use}
 use Rattle.mm_proof.proofs.lemmas.machine.StepLemmas.{take_next}
-use Rattle.mm_proof.proofs.lemmas.machine.NamedLemmas.{uses_grow, uses_more, uses_within, uses_mean}
+use Rattle.mm_proof.proofs.lemmas.machine.NamedLemmas.{cited_first, uses_grow, uses_more, uses_within, uses_mean}
 use Rattle.mm_proof.proofs.named.name_all.Goals as goal
 
 pub loop-label-preserved : goal.loop-label-preserved
@@ -21,6 +21,7 @@ loop-label-preserved c =
     let more = uses_more new uses (take k labels) c.in_ok-name.field-0 label grown c.in_ok-name.ensures.stands in
     record {
       named = c.in_ok-name.ensures.named;
+      known = λ n j at. c.in_ok-name.ensures.grows.assertions n j (c.loop-label.invariant.known n j at);
       stand = subst (λ (us : List Use). AllZip (IsUseOf new) us (take (k + 1) labels)) (sym c.in_ok-push.ensures.items)
           (subst (λ (ls : List Resolved). AllZip (IsUseOf new) (uses ++ c.in_ok-name.field-0 ∷ []) ls) (sym (take_next labels k label (slice_get-get_or labels k (answers.Hypothesis 0) (omega (arith, c.loop-label-test.true))))) more);
     }
@@ -41,11 +42,24 @@ returns-clause-means c names view base i entries =
     let are = subst (λ (ns : List ℕ). AreCited c.args.base.now ns mandatory assertions) c.deref.ensures.value c.in_ok-mandatory.ensures in
     uses_mean c.args.base.now c.loop-label.naming c.loop-label.invariant.named mandatory assertions are names view i base c.loop-label.uses.items labels all entries
 
+pub returns-clause-known : goal.returns-clause-known
+returns-clause-known c = record {
+  named = c.loop-label.invariant.named.assertions;
+  cited = subst (λ (ns : List ℕ). AreCited c.args.base.now ns c.in_ok-mandatory.mandatory.items c.in_ok-mandatory.assertions.items) c.deref.ensures.value c.in_ok-mandatory.ensures;
+}
+
+pub with_assertions-requires : goal.with_assertions-requires
+with_assertions-requires c = rw c.deref.ensures.value (record {
+  named = c.loop-label.invariant.named.assertions;
+  there = cited_first c.args.base.now _ _ _ _ c.requires.known.cited c.loop-label.invariant.known;
+})
+
 pub name-requires-clause-named : goal.name-requires-clause-named
 name-requires-clause-named c = c.loop-label.invariant.named
 
-pub assertions_of-requires : goal.assertions_of-requires
-assertions_of-requires c = subst (λ (ns : List ℕ). All (λ j. IsNamedBy c.args.base.now (answers.Assertion j)) ns) (sym c.deref.ensures.value) c.loop-label.invariant.named.assertions
-
 pub loop-label-init : goal.loop-label-init
-loop-label-init c = record { named = c.in_ok-naming.ensures; stand = subst (λ w. AllZip (IsUseOf c.in_ok-naming.naming) w []) (sym c.in_ok-uses.ensures.items) tt }
+loop-label-init c = record {
+  named = c.in_ok-naming.ensures.named;
+  known = λ n j at. ap (λ numbers. slice_get numbers.items.items n) c.in_ok-naming.ensures.known ∙ at;
+  stand = subst (λ w. AllZip (IsUseOf c.in_ok-naming.naming) w []) (sym (c.in_ok-reserve.ensures.items ∙ c.clear.ensures.items)) tt;
+}

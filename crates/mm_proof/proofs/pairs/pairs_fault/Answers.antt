@@ -5,13 +5,6 @@ use Rattle.mm_proof.specs.Code.Citation.{meant_pairs}
 use Rattle.mm_proof.proofs.lemmas.machine.PairClauseLemmas.{apart_given, shared_given, none_shared, lack_given}
 use Rattle.mm_proof.proofs.pairs.pairs_fault.Goals as goal
 
-pub all_apart-requires : goal.all_apart-requires
-all_apart-requires g c = record {
-  spans = λ k s at. let w = c.in_ok-gather_all.ensures.within k s at in let l = length-map c.gather_all.new.self.variables.items g.S.Symbol.means in (w.0, omega arith);
-  count = c.in_ok-gather_all.ensures.count;
-  typed = c.requires.typed;
-}
-
 pub any_share-requires : goal.any_share-requires
 any_share-requires g c = record {
   spans = λ k s at. let w = c.in_ok-gather_all.ensures.within k s at in let l = length-map c.gather_all.new.self.variables.items g.S.Symbol.means in (w.0, omega arith);

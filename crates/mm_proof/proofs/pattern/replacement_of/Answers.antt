@@ -1,18 +1,11 @@
-use Rattle.std.proofs.Common.{◌≡◌, ◌∷◌, [], true, map, sym, ◌∙◌, ap, subst}
+use Rattle.std.proofs.Common.{◌≡◌, true, map, sym, ◌∙◌, ap, subst}
 use Rattle.mm_frame.specs.Language.Frame.{Symbol}
 use Rattle.mm_frame.specs.Language.Typing.{IsTyped}
 use Rattle.mm_proof.specs.Code.Citation.{IsSlot, hypotheses_of}
-use Rattle.mm_proof.proofs.lemmas.verdicts.Unique.{replacement-variable, replacement-constant}
+use Rattle.mm_proof.proofs.lemmas.verdicts.Unique.{replacement-variable}
 use Rattle.mm_proof.proofs.lemmas.machine.ApartLemmas.{contains_at}
-use Rattle.mm_proof.proofs.lemmas.machine.FlatLemmas.{mapped_at, of_constant, of_variable}
+use Rattle.mm_proof.proofs.lemmas.machine.FlatLemmas.{mapped_at, of_variable}
 use Rattle.mm_proof.proofs.pattern.replacement_of.Goals as goal
-
-pub returns-then-not-is_variable : goal.returns-then-not-is_variable
-returns-then-not-is_variable g c given s slots is =
-    let m = g.S.Symbol.means in
-    let this = mapped_at m c.args.expression.now c.args.place c.index-expression-place.result s c.requires.in_range c.index-expression-place.is is in
-    let kind = sym c.is_variable.ensures ∙ c.if-not-is_variable.true in
-    of_constant _ _ _ kind ∙ ap (λ w. w ∷ []) (sym this) ∙ sym (replacement-constant given s (ap (λ (w : Symbol). w.variable) this ∙ kind))
 
 pub returns : goal.returns
 returns g c given s slots is =

@@ -1,5 +1,5 @@
 use Rattle.std.proofs.Common.{◌++◌, [], false, map, take, get_or, sym, ◌∙◌, ap, arith, append_assoc}
-use Rattle.std.proofs.lemmas.List.{length-map, take_all}
+use Rattle.std.proofs.lemmas.List.{length-map}
 use Rattle.std.proofs.lemmas.Option.{slice_get-get_or}
 use Rattle.mm_frame.specs.Language.Frame.{Symbol}
 use Rattle.mm_proof.specs.Language.Substitution.{substituted, replacement}
@@ -23,10 +23,3 @@ loop-place-preserved g c = record {
       ∙ append_assoc (map m c.args.others.items) front part
       ∙ ap (λ w. map m c.args.others.items ++ w) (sym (put_more given expression k (get_or expression k d) here));
 }
-
-pub returns : goal.returns
-returns g c given slots =
-    let m = g.S.Symbol.means in
-    let expression = map m c.args.expression.now in
-    c.loop-place.invariant.put given slots
-    ∙ ap (λ w. map m c.args.others.items ++ substituted given w) (take_all c.loop-place.place expression (omega (arith, length-map c.args.expression.now m, c.loop-place-test.false)))

@@ -6,21 +6,13 @@ use Rattle.mm_proof.specs.Language.Faults.{IsLowest}
 use Rattle.mm_proof.specs.Language.Machine.{State}
 use Rattle.mm_proof.specs.declared.pattern.Entry.{Entry}
 use Rattle.mm_proof.specs.declared.stepping.Task.{Task}
-use Rattle.mm_proof.specs.Code.Citation.{IsCitable, frame_of, hypotheses_of, meant_pairs}
+use Rattle.mm_proof.specs.Code.Citation.{frame_of, hypotheses_of, meant_pairs}
 use Rattle.mm_proof.specs.Code.Flat.{read}
 use Rattle.mm_proof.specs.Code.MachineState.{state_of}
 use Rattle.mm_proof.specs.Code.Tasks.{HasState, IsTaskWithin, named_expressions, named_frames, saves_of}
 use Rattle.mm_proof.proofs.lemmas.machine.FlatLemmas.{mapped_or, mapped_or_get}
-use Rattle.mm_proof.proofs.lemmas.machine.StepLemmas.{means_push, means_cite, means_again, means_keep, cite_turns, kept_at, saved_at, TurnsTo, pushed_turns, again_turns, kept_turns, cited_turns, save_fails, saved_same, saved_more, if_none}
+use Rattle.mm_proof.proofs.lemmas.machine.StepLemmas.{means_push, means_cite, means_again, means_keep, cite_turns, kept_at, saved_at, TurnsTo, pushed_turns, again_turns, kept_turns, cited_turns, saved_same, saved_more, if_none}
 use Rattle.mm_proof.proofs.stepping.do_task.Goals as goal
-
-pub cite-requires-clause-frame : goal.cite-requires-clause-frame
-cite-requires-clause-frame g c =
-    let named = c.args.named.now in
-    let within = subst (λ (w : Task). IsTaskWithin (length named.hypotheses.items) (length named.assertions.items) (length c.args.machine.now.saved.items - length named.hypotheses.items) w) c.in-Cite.is c.requires.within in
-    let m = g.S.Symbol.means in
-    subst (λ hs. IsCitable m (hypotheses_of m hs) c.index.result.now) (sym c.deref.ensures.value)
-    (subst (λ a. IsCitable m (hypotheses_of m named.mandatory.items) a) (sym c.index.ensures) (c.requires.frames c.in-Cite.n c.index.result.now within))
 
 pub returns-in_ok-push_saved-in-Push : goal.returns-in_ok-push_saved-in-Push
 returns-in_ok-push_saved-in-Push g c = record {
@@ -93,40 +85,11 @@ returns-then-branch g c =
 pub push_saved-requires-clause-whole : goal.push_saved-requires-clause-whole
 push_saved-requires-clause-whole g c = c.requires.whole
 
-pub push_saved-requires-clause-in_range : goal.push_saved-requires-clause-in_range
-push_saved-requires-clause-in_range g c =
-    let named = c.args.named.now in
-    let within = subst (λ (w : Task). IsTaskWithin (length named.hypotheses.items) (length named.assertions.items) (length c.args.machine.now.saved.items - length named.hypotheses.items) w) c.in-Push.is c.requires.within in
-    omega (arith, within, c.requires.loaded)
-
-pub index-requires : goal.index-requires
-index-requires g c =
-    let named = c.args.named.now in
-    let within = subst (λ (w : Task). IsTaskWithin (length named.hypotheses.items) (length named.assertions.items) (length c.args.machine.now.saved.items - length named.hypotheses.items) w) c.in-Cite.is c.requires.within in
-    omega (arith, within, named.assertions.ok)
-
 pub cite-requires-clause-whole : goal.cite-requires-clause-whole
 cite-requires-clause-whole g c = c.requires.whole
 
 pub push_saved-requires-in-Again-clause-whole : goal.push_saved-requires-in-Again-clause-whole
 push_saved-requires-in-Again-clause-whole g c = c.requires.whole
 
-pub push_saved-requires-in-Again-clause-in_range : goal.push_saved-requires-in-Again-clause-in_range
-push_saved-requires-in-Again-clause-in_range g c =
-    let named = c.args.named.now in
-    let within = subst (λ (w : Task). IsTaskWithin (length named.hypotheses.items) (length named.assertions.items) (length c.args.machine.now.saved.items - length named.hypotheses.items) w) c.in-Again.is c.requires.within in
-    omega (arith, c.len.ensures, named.hypotheses.ok, within, c.requires.loaded)
-
 pub save-requires : goal.save-requires
 save-requires g c = c.requires.whole
-
-pub returns-else-branch : goal.returns-else-branch
-returns-else-branch g c = record {
-  whole = c.in_ok-save-in-Keep.ensures.whole;
-  turns = λ place step before pairs state means. let m = g.S.Symbol.means in
-      let expressions = named_expressions m c.args.named.now in
-      let is = means_keep expressions (named_frames m c.args.named.now) place c.args.task step c.in-Keep.is means in
-      let none = rw c.if-branch.false at c.in_ok-save-in-Keep.ensures.saves in
-      save_fails m expressions place step before c.args.machine.now is state none.0;
-  saves = tt;
-}

@@ -1,5 +1,4 @@
 use Rattle.std.proofs.Common.{◌++◌, ◌∷◌, [], map, sym, ◌∙◌, ap, arith}
-use Rattle.std.proofs.lemmas.List.{append-nil, length-map, take_all}
 use Rattle.mm_proof.specs.Code.Tasks.{named_expressions}
 use Rattle.mm_proof.proofs.lemmas.machine.FlatLemmas.{mapped_get}
 use Rattle.mm_proof.proofs.lemmas.machine.StepLemmas.{take_next}
@@ -17,19 +16,4 @@ loop-n-preserved g c =
           ∙ sym (take_next expressions c.loop-n.n e (mapped_get (λ e. map m e.now) c.args.named.now.hypotheses.items c.loop-n.n
           c.index-expression.result.now (omega (arith, c.loop-n-test.true, c.len-n-end.ensures, c.args.named.now.hypotheses.ok))
           c.index-expression.ensures));
-    }
-
-pub returns-clause-state : goal.returns-clause-state
-returns-clause-state g c =
-    let m = g.S.Symbol.means in
-    let expressions = named_expressions m c.args.named.now in
-    record {
-      stack = c.loop-n.invariant.stack;
-      saved = c.loop-n.invariant.saved ∙ take_all c.loop-n.n expressions (omega (
-        arith,
-        c.loop-n-test.false,
-        c.len-n-end.ensures,
-        c.args.named.now.hypotheses.ok,
-        length-map c.args.named.now.hypotheses.items (λ e. map m e.now),
-      )) ∙ sym (append-nil expressions);
     }

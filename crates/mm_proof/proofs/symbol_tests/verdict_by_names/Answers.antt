@@ -11,8 +11,8 @@ use Rattle.mm_proof.proofs.lemmas.verdicts.ItemLemmas.{active_usable}
 use Rattle.mm_proof.proofs.lemmas.decoding.DecodedProofs.{named_by, saved_before}
 use Rattle.mm_proof.proofs.symbol_tests.verdict_by_names.Goals as goal
 
-pub name_all-requires : goal.name_all-requires
-name_all-requires c =
+pub name_all-requires-clause-labels : goal.name_all-requires-clause-labels
+name_all-requires-clause-labels c =
     let has = c.requires in
     let d = c.args.decoding.now in
     subst (λ (ls : List Resolved). All (IsNamedBy c.args.base.now) ls) (sym c.deref.ensures.value) (named_by c.args.base.now has.0 c.args.i has.1.theorem.base has.2 d.labels.items has.1.entries)
@@ -29,3 +29,6 @@ run_by_names-requires-clause-saved c =
 
 pub active-requires : goal.active-requires
 active-requires c = let has = c.requires in (has.0, has.1.theorem.base, has.1.theorem.is_sound)
+
+pub name_all-requires-clause-known : goal.name_all-requires-clause-known
+name_all-requires-clause-known c = c.new-2.ensures c.args.base.now

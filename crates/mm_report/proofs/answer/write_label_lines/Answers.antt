@@ -1,7 +1,6 @@
 use Rattle.std.proofs.Common.{◌≡◌, ◌<◌, [], get_or, length, arith, unwrap_or}
-use Rattle.std.proofs.KnownBytes.{Appends-trans}
 use Rattle.mm_keep.specs.mm_frame.Language.Base.{said_at}
-use Rattle.mm_report.proofs.LabelLemmas.{lines_around, lines_more}
+use Rattle.mm_report.proofs.LabelLemmas.{lines_around}
 use Rattle.mm_report.proofs.StreamLemmas.{stops_behind, stops_front, writes_stop}
 use Rattle.mm_report.proofs.WrittenLemmas.{label_is}
 use Rattle.mm_report.proofs.answer.write_label_lines.Goals as goal
@@ -16,14 +15,3 @@ returns-in_err-write_part g c base is =
     let line = rw name at c.in_err-write_part.ensures.err in
     rw (lines_around base items k within)
     (writes_stop c.from_residual.ensures.0 (stops_behind g.W.Write.contents c.args.to.now c.loop-i.to c.write_part.new.to _ _ (c.loop-i.invariant base is) (stops_front _ line)))
-
-pub loop-i-preserved : goal.loop-i-preserved
-loop-i-preserved g c base is =
-    let items = c.args.items.now in
-    let k = c.loop-i.i-index in
-    let within : k < length items = omega arith in
-    let labelled = label_is c.args.session.now (get_or items k 0) _ c.files_have_one_base.ensures.base c.label.ensures base is in
-    let name : c.unwrap_or-label.result.now ≡ unwrap_or (said_at base (get_or items k 0)).label [] = grind (arith, labelled, c.unwrap_or-label.ensures) in
-    let line = rw name at c.in_ok-write_part.ensures.ok in
-    rw (lines_more base items k within)
-    (Appends-trans _ _ _ _ _ (c.loop-i.invariant base is) line)

@@ -10,7 +10,7 @@ use Rattle.mm_report.specs.Code.Lines.{SaysEdit}
 use Rattle.mm_report.specs.Code.Pending.{pending, bytes_of_part}
 use Rattle.mm_report.specs.Language.Script.{IsName}
 use Rattle.mm_report.proofs.GrowLemmas.{few_pending, same_error}
-use Rattle.mm_report.proofs.EditLemmas.{AsksText, IsShifted, asks_insert, asks_replace, behind_within, bytes_grown, fed_line, plain_read, shifted_few, shifted_is, shifted_within, text_bad, text_line, text_read, text_short, unfed_line, within_grown}
+use Rattle.mm_report.proofs.EditLemmas.{AsksText, IsShifted, asks_insert, asks_replace, behind_within, bytes_grown, fed_line, plain_read, shifted_is, shifted_within, text_bad, text_line, text_read, text_short, unfed_line, within_grown}
 use Rattle.mm_report.proofs.edits.read_edit.Goals as goal
 
 pub returns-then-not-line-clause-cut : goal.returns-then-not-line-clause-cut
@@ -140,30 +140,6 @@ returns-in-Move-clause-edit g c =
     plain_read bytes _ c.args.line (found.Move file c.in-Move.at c.in-Move.to) c.behind-in-Move.result c.requires.line
     (says.is ∙ ap (λ xs. join_with_byte 32 (codes "move" ∷ xs ∷ decimal c.in-Move.at ∷ decimal c.in-Move.to ∷ [])) (sym name))
     (subst IsName (sym name) says.good.0.name, says.good.1, says.good.2) refl inside c.behind-in-Move.ensures.fed c.behind-in-Move.ensures.unfed long.0 long.1
-
-pub shifted-file-requires : goal.shifted-file-requires
-shifted-file-requires g c =
-    let line = line_bytes (pending c.args.input.now) c.args.line in
-    let says : SaysEdit line (lines.Insert c.in-Insert.file c.in-Insert.at c.in-Insert.count) = subst (SaysEdit line) c.in-Insert.is c.requires.says in
-    shifted_few (pending c.args.input.now) _ c.args.line c.in-Insert.file c.requires.line says.good.0.within (few_pending c.args.input.now)
-
-pub shifted-file-requires-in-Replace : goal.shifted-file-requires-in-Replace
-shifted-file-requires-in-Replace g c =
-    let line = line_bytes (pending c.args.input.now) c.args.line in
-    let says : SaysEdit line (lines.Replace c.in-Replace.file c.in-Replace.at c.in-Replace.count) = subst (SaysEdit line) c.in-Replace.is c.requires.says in
-    shifted_few (pending c.args.input.now) _ c.args.line c.in-Replace.file c.requires.line says.good.0.within (few_pending c.args.input.now)
-
-pub shifted-requires : goal.shifted-requires
-shifted-requires g c =
-    let line = line_bytes (pending c.args.input.now) c.args.line in
-    let says : SaysEdit line (lines.Delete c.in-Delete.file c.in-Delete.at) = subst (SaysEdit line) c.in-Delete.is c.requires.says in
-    shifted_few (pending c.args.input.now) _ c.args.line c.in-Delete.file c.requires.line says.good.0.within (few_pending c.args.input.now)
-
-pub shifted-requires-in-Move : goal.shifted-requires-in-Move
-shifted-requires-in-Move g c =
-    let line = line_bytes (pending c.args.input.now) c.args.line in
-    let says : SaysEdit line (lines.Move c.in-Move.file c.in-Move.at c.in-Move.to) = subst (SaysEdit line) c.in-Move.is c.requires.says in
-    shifted_few (pending c.args.input.now) _ c.args.line c.in-Move.file c.requires.line says.good.0.within (few_pending c.args.input.now)
 
 pub overflow_add-line : goal.overflow_add-line
 overflow_add-line g c = omega (arith, c.requires.line.within, few_pending c.args.input.now)

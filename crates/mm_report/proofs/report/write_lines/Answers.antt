@@ -1,5 +1,4 @@
-use Rattle.std.proofs.Common.{◌≡◌, [], length, subst, arith, unwrap_or}
-use Rattle.mm_report.specs.Code.Written.{AreWritten}
+use Rattle.std.proofs.Common.{◌≡◌, [], arith, unwrap_or}
 use Rattle.mm_keep.specs.mm_frame.Language.Base.{said_at}
 use Rattle.mm_keep.specs.Language.Findings.{counted, told}
 use Rattle.mm_report.specs.Language.Stream.{written}
@@ -36,15 +35,3 @@ loop-i-preserved g c =
     (rw c.files.ensures.files at (c.in_ok-write_line.ensures (said_at base i) name)).ok)
     (λ all so. c.with-tally.ensures all so)
     c.loop-i.invariant
-
-pub with-tally-requires : goal.with-tally-requires
-with-tally-requires g c =
-    let found = c.finding-finding.ensures in
-    let so = c.loop-i.invariant found.0 found.1 in
-    (so.all, so.are_counted, omega (arith, so.are_told.count, c.loop-i-test.true, c.count-i-end.ensures.few))
-
-pub returns-clause-ok : goal.returns-clause-ok
-returns-clause-ok g c =
-    let count = c.count-i-end.ensures.count in
-    let all : c.loop-i.i ≡ length count.0.said = omega (arith, count.2) in
-    (count.0, count.1, subst (λ n. AreWritten c.args.session.now count.0 n (written g.W.Write.contents c.args.to.now) (written g.W.Write.contents c.loop-i.to) (counted c.loop-i.tally)) all (c.loop-i.invariant count.0 count.1))

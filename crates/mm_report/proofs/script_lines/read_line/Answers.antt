@@ -2,7 +2,7 @@ use Rattle.std.proofs.Common.{◌≡◌, ◌∙◌, ap, sym, subst, arith, lengt
 use Rattle.std.proofs.lemmas.List.{take_rest}
 use Rattle.mm_report.specs.Code.Pending.{pending}
 use Rattle.mm_report.specs.Code.Stops.{IsOneLine}
-use Rattle.mm_report.proofs.GrowLemmas.{found_line, no_feed_left, last_line, nothing_between, rest_of, same_error, grows_not, grows_then, grown_long, part_grown}
+use Rattle.mm_report.proofs.GrowLemmas.{found_line, no_feed_left, last_line, rest_of, same_error, grows_then, grown_long, part_grown}
 use Rattle.mm_report.proofs.script_lines.read_line.Goals as goal
 
 pub returns-in-Some-clause-line : goal.returns-in-Some-clause-line
@@ -49,15 +49,6 @@ loop-more-preserved g c =
       none = subst IsOneLine (sym (same ∙ whole)) one;
       fewer = omega (arith, c.in_ok-read_on.ensures.fewer);
     }
-
-pub loop-more-init : goal.loop-more-init
-loop-more-init g c = record {
-  grows = grows_not _ _;
-  ordered = omega arith;
-  within = c.requires;
-  none = nothing_between (pending c.args.input.now) c.args.start;
-  fewer = omega arith;
-}
 
 pub returns-in_err-read_on-clause-grows : goal.returns-in_err-read_on-clause-grows
 returns-in_err-read_on-clause-grows g c = grows_then _ _ _ _ _ _ c.loop-more.invariant.grows c.in_err-read_on.ensures.grows

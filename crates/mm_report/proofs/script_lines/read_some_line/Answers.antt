@@ -1,6 +1,5 @@
-use Rattle.std.proofs.Common.{◌≡◌, ◌≤◌, arith, subst, sym}
+use Rattle.std.proofs.Common.{◌≡◌, ◌≤◌, arith}
 use Rattle.std.proofs.lemmas.Bool.{not-false}
-use Rattle.mm_report.specs.Code.Growing.{HasBlanks}
 use Rattle.mm_report.specs.Code.Pending.{pending}
 use Rattle.mm_report.proofs.GrowLemmas.{blank_line, blank_more, blanks_grown, grows_not, grows_then, no_blanks, same_error}
 use Rattle.mm_report.proofs.script_lines.read_some_line.Goals as goal
@@ -24,25 +23,12 @@ loop-line-init g c = record { grows = grows_not _ _; blanks = no_blanks (pending
 pub returns-in_err-line-clause-grows : goal.returns-in_err-line-clause-grows
 returns-in_err-line-clause-grows g c = grows_then _ _ _ _ _ _ c.loop-line.invariant.grows c.in_err-line.ensures.grows
 
-pub returns-in_err-line-clause-read : goal.returns-in_err-line-clause-read
-returns-in_err-line-clause-read g c = λ read. record {
-  start = c.loop-line.start;
-  blanks = blanks_grown c.loop-line.input c.read_line.new.input _ _ c.args.from c.loop-line.start c.in_err-line.ensures.grows c.loop-line.invariant.blanks;
-  one_line = c.in_err-line.ensures.read (same_error c.from_residual.result c.in_err-line.field-0.0 _ c.from_residual.ensures.1 read);
-}
-
 pub returns-in_err-line-clause-failed : goal.returns-in_err-line-clause-failed
 returns-in_err-line-clause-failed g c = λ read.
     c.in_err-line.ensures.failed (same_error c.from_residual.result c.in_err-line.field-0.0 _ c.from_residual.ensures.1 read)
 
 pub returns-then-line-clause-grows : goal.returns-then-line-clause-grows
 returns-then-line-clause-grows g c = grows_then _ _ _ _ _ _ c.loop-line.invariant.grows c.in_ok-line.ensures.grows
-
-pub returns-then-line-clause-start : goal.returns-then-line-clause-start
-returns-then-line-clause-start g c =
-    let blanks = blanks_grown c.loop-line.input c.read_line.new.input _ _ c.args.from c.loop-line.start c.in_ok-line.ensures.grows c.loop-line.invariant.blanks in
-    let start : c.in_ok-line.line.start ≡ c.loop-line.start = c.in_ok-line.ensures.start in
-    subst (λ n. HasBlanks (pending c.read_line.new.input) c.args.from n) (sym start) blanks
 
 pub returns-then-line-clause-fewer : goal.returns-then-line-clause-fewer
 returns-then-line-clause-fewer g c = omega (arith, c.loop-line.invariant.fewer, c.in_ok-line.ensures.fewer)

@@ -1,8 +1,7 @@
-use Rattle.std.proofs.Common.{◌≡◌, ◌<◌, ◌++◌, [], length, map, take, get_or, sym, ap, ◌∙◌, subst, arith}
+use Rattle.std.proofs.Common.{◌≡◌, ◌<◌, [], length, map, take, get_or, sym, ap, ◌∙◌, arith}
 use Rattle.std.specs.List.{concat}
 use Rattle.std.proofs.lemmas.List.{length-map, length-take, get_or-map}
 use Rattle.mm_store.specs.Language.Pieces.{text_under}
-use Rattle.mm_store.specs.Code.Lines.{AreLines}
 use Rattle.mm_store.proofs.lemmas.places.PlaceLemmas.{piece_within}
 use Rattle.mm_store.proofs.files.lines_at.Goals as goal
 
@@ -21,13 +20,3 @@ then-requires c =
       are_later = c.lines_before-inside.ensures;
       small = omega (arith, piece_within texts c.args.piece within, ap length here, length-take c.args.at (f c.index.result.now), c.requires.small);
     }
-
-pub returns : goal.returns
-returns c =
-    let f = text_under c.args.pieces.now in
-    let keys = c.args.file.now.keys.items in
-    let texts = map f keys in
-    let here : get_or texts c.args.piece [] ≡ f c.index.result.now = get_or-map f keys c.args.piece c.index.result.now [] c.requires.piece_in ∙ ap f (sym c.index.ensures) in
-    let start = c.start.ensures in
-    let before = concat (take c.args.piece texts) in
-    subst (λ bytes. AreLines (before ++ take c.args.at bytes) c.then.result) (sym here) (c.then.ensures before (take c.args.at (f c.index.result.now)) start.lines c.lines_before-inside.ensures)

@@ -41,10 +41,6 @@ pub undone_none : (undos : List UndoView) (view : FilesView) → length undos �
 undone_none [] view none = refl
 undone_none (undo ∷ undos) view none = absurd (omega arith)
 
-pub settled_none : (undos : List UndoView) (view : FilesView) → length undos ≡ 0 → settled_all undos view ≡ view
-settled_none [] view none = refl
-settled_none (undo ∷ undos) view none = absurd (omega arith)
-
 pub settled_last : (front : List UndoView) (undo : UndoView) (view : FilesView) → settled_all (front ++ undo ∷ []) view ≡ settled_all front (settled undo view)
 settled_last [] undo view = refl
 settled_last (first ∷ front) undo view = ap (settled first) (settled_last front undo view)
@@ -182,9 +178,6 @@ parks_alike view n (action.Deleted at old) once fits =
       count = omega (arith, dropped_count p old n _ fits.1, stood_count p old n _ fits.1);
     }
 parks_alike view n (action.Moved at to) once fits = record { keeps = λ key file kind is. is; count = refl }
-
-pub nothing_spendable : (view : FilesView) → IsSpendable view view []
-nothing_spendable view = record { can_undo = tt; back = refl; can_settle = tt; parked = refl }
 
 -- what edits left, and what one edit more leaves
 pub spendable_more : (old between new : FilesView) (undos : List UndoView) (undo : UndoView) → StandOnce new → IsUndoable between new undo → IsSpendable old between undos → IsSpendable old new (undos ++ undo ∷ [])

@@ -14,5 +14,5 @@ returns c = λ all said d.
       labels = kept.0.labels;
       marks = kept.1;
       pair_numbers = pairs_stay all said _ _ _
-        (record { more = []; whole = ap (λ lists. lists.items) c.finished.ensures ∙ sym (append-nil _) }) d.assertions.pair_numbers;
+          (record { more = []; whole = ap (λ lists. lists.items) c.finished.ensures ∙ sym (append-nil _) }) d.assertions.pair_numbers;
     }

@@ -1,4 +1,4 @@
-use Rattle.std.proofs.Common.{ℕ, [], ◌++◌, Some, cond, nat_eq, List, take, drop, take-append-drop, append-nil, append_assoc, flat_map, sym, ap, subst, ◌∙◌}
+use Rattle.std.proofs.Common.{ℕ, [], Some, cond, nat_eq, List, take, drop, take-append-drop, append-nil, flat_map, sym, ap, subst, ◌∙◌}
 use Rattle.std.proofs.lemmas.List.{take_rest}
 use Rattle.std.specs.HashMap.{get}
 use Rattle.mm_frame.specs.Language.Framing.{active_pairs}
@@ -48,9 +48,3 @@ returns-in-Some-clause-pairs c all before h a e m =
 
 pub returns-in-Some-clause-made : goal.returns-in-Some-clause-made
 returns-in-Some-clause-made c all before h a e m = m
-
-pub returns-clause-kept : goal.returns-clause-kept
-returns-clause-kept c =
-    let first = c.in_ok-base.ensures.kept in
-    let second = c.in_ok-k.ensures.kept in
-    record { more = first.more ++ second.more; whole = second.whole ∙ ap (λ w. w ++ second.more) first.whole ∙ append_assoc c.args.self.now.lists.items first.more second.more }

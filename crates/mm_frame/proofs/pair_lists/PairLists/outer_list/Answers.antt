@@ -45,9 +45,3 @@ returns-in-Some-clause-pairs c all before rest h a e f m = (m c.args.count c.in-
 
 pub returns-in-Some-clause-made : goal.returns-in-Some-clause-made
 returns-in-Some-clause-made c all before rest h a e f m = m
-
-pub returns-clause-kept : goal.returns-clause-kept
-returns-clause-kept c =
-    let first = c.in_ok-base.ensures.kept in
-    let second = c.in_ok-k.ensures.kept in
-    record { more = first.more ++ second.more; whole = second.whole ∙ ap (λ w. w ++ second.more) first.whole ∙ append_assoc c.args.self.now.lists.items first.more second.more }

@@ -1,16 +1,7 @@
-use Rattle.std.proofs.Common.{length, map, refl, arith}
+use Rattle.std.proofs.Common.{length, map, arith}
 use Rattle.std.proofs.lemmas.List.{length-map}
-use Rattle.mm_proof.proofs.lemmas.machine.ApartLemmas.{entry_gathered, entry_passed}
+use Rattle.mm_proof.proofs.lemmas.machine.ApartLemmas.{entry_gathered}
 use Rattle.mm_proof.proofs.gather.Gathered.gather_entry.Goals as goal
-
-pub returns-then-not-floating : goal.returns-then-not-floating
-returns-then-not-floating g c e at =
-    let m = g.S.Symbol.means in
-    let before = map m c.args.self.now.variables.items in
-    let n = c.len-start.result in
-    let l = c.args.self.now.variables.ok in
-    entry_passed before before e n n c.args.floating c.args.self.now.spans.items c.push.new.self.items c.if-not-floating.true refl (omega (arith, c.len-start.ensures, l, length-map c.args.self.now.variables.items m)) (omega
-    (arith, c.len-start.ensures, l, length-map c.args.self.now.variables.items m)) c.in_ok-push.ensures.items
 
 pub returns : goal.returns
 returns g c e at =

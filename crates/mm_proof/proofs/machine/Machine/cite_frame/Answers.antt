@@ -7,7 +7,7 @@ use Rattle.mm_proof.specs.Code.Flat.{read, read_all}
 use Rattle.mm_proof.specs.Code.Citation.{frame_from, mandatory_of}
 use Rattle.mm_proof.specs.Code.Citation.{meant_pairs}
 use Rattle.mm_proof.proofs.lemmas.machine.EntryFaults.{gives_all, hypotheses_known}
-use Rattle.mm_proof.proofs.lemmas.machine.CitingFaults.{cited_by, says07, says08}
+use Rattle.mm_proof.proofs.lemmas.machine.CitingFaults.{cited_by, says08}
 use Rattle.mm_proof.proofs.lemmas.machine.StackLemmas.{entries_taken, slice_taken, all_taken}
 use Rattle.mm_proof.proofs.machine.Machine.cite_frame.Goals as goal
 
@@ -61,19 +61,6 @@ returns g c =
       saved = c.in_ok-replace.ensures.saved;
     }
 
-pub returns-then-len-count : goal.returns-then-len-count
-returns-then-len-count g c =
-    let m = g.S.Symbol.means in
-    let symbols = map m c.args.self.now.symbols.items in
-    let es = c.args.self.now.stack.items in
-    let hs = c.args.hypotheses.now in
-    record {
-      whole = c.requires.whole;
-      cites = says07 (meant_pairs m c.args.active.now.pairs.now) (frame_from m hs c.args.expression.now c.args.pairs.now) (read_all symbols es)
-          (omega (arith, c.len.ensures, c.args.self.now.stack.ok, c.if-len-count.true, length-map es (read symbols), length-map hs (mandatory_of m)));
-      saved = refl;
-    }
-
 pub citing_fault-requires : goal.citing_fault-requires
 citing_fault-requires g c =
     let below = c.len-2.result - length c.args.hypotheses.now in
@@ -99,15 +86,6 @@ replace-requires-clause-whole g c = c.requires.whole
 
 pub replace-requires-clause-in_range : goal.replace-requires-clause-in_range
 replace-requires-clause-in_range g c = let k = c.args.self.now.stack.ok in omega (arith, c.len-2.ensures, k)
-
-pub take_floats-requires : goal.take_floats-requires
-take_floats-requires g c =
-    let below = c.len-2.result - length c.args.hypotheses.now in
-    let k = c.args.self.now.stack.ok in
-    record {
-      within = all_taken c.args.self.now.symbols.items c.deref-symbols.result.now c.args.self.now.stack.items c.deref.result.now below c.deref-symbols.ensures.value c.deref.ensures.value c.requires.whole.within;
-      count = omega (arith, length-take {A = Entry}, length-drop {A = Entry}, ap length c.deref.ensures.value, c.len.ensures, c.len-2.ensures, k, c.if-len-count.false);
-    }
 
 pub returns-in_default : goal.returns-in_default
 returns-in_default g c =

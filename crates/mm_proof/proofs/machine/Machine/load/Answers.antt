@@ -1,16 +1,8 @@
 use Rattle.std.proofs.Common.{map, length, sym, arith}
 use Rattle.std.proofs.lemmas.List.{length-map}
 use Rattle.mm_proof.specs.declared.pattern.Entry.{Entry}
-use Rattle.mm_proof.proofs.lemmas.machine.StackLemmas.{pushed_all, grown_all, whole_loaded, wider}
+use Rattle.mm_proof.proofs.lemmas.machine.StackLemmas.{pushed_all, grown_all, wider}
 use Rattle.mm_proof.proofs.machine.Machine.load.Goals as goal
-
-pub returns-clause-whole : goal.returns-clause-whole
-returns-clause-whole g c =
-    let new : Entry = record { start = c.len-start.result; end = c.len-end.result; floor = c.len-start.result } in
-    let l = c.args.self.now.symbols.ok in
-    let k = c.append.new.to.ok in
-    whole_loaded g.S.Symbol.means c.args.self.now.symbols.items c.args.expression.now c.append.new.to.items c.args.self.now.kept c.len-end.result c.args.self.now.stack.items c.args.self.now.saved.items c.push.new.self.items new
-    c.requires c.in_ok-append.ensures c.in_ok-push.ensures.items (omega (arith, c.len-start.ensures, l)) (omega (arith, c.len-end.ensures, k)) (omega (arith, c.len-end.ensures, k))
 
 pub returns-clause-saved : goal.returns-clause-saved
 returns-clause-saved g c =

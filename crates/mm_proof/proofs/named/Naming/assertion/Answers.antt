@@ -5,18 +5,6 @@ use Rattle.mm_proof.specs.Code.NamedItems.{IsNamedBy}
 use Rattle.mm_proof.proofs.lemmas.machine.NamedLemmas.{stays_more, stands_last}
 use Rattle.mm_proof.proofs.named.Naming.assertion.Goals as goal
 
-pub returns-then-len-lt-FEW_ASSERTIONS : goal.returns-then-len-lt-FEW_ASSERTIONS
-returns-then-len-lt-FEW_ASSERTIONS c =
-    let is = c.requires.named in
-    let P : ℕ → Type 0 = λ j. IsNamedBy c.args.base.now (answers.Assertion j) in
-    let numbers = c.args.self.now.assertion_numbers.items.items in
-    let all = All-append P numbers (c.args.number ∷ []) is.assertions (All-cons P c.args.number [] c.requires.entry (All-nil P)) in
-    record {
-      named = record { count = is.count; hypotheses = is.hypotheses; assertions = subst (All P) (sym c.in_ok-place.ensures.items) all };
-      grows = record { hypotheses = λ n j at. at; assertions = stays_more c.args.self.now.assertion_numbers.items.items c.put.new.self.items.items c.args.number c.in_ok-place.ensures.items };
-      stands = stands_last c.args.self.now.assertion_numbers.items.items c.put.new.self.items.items c.in_ok-place.place c.args.number c.in_ok-place.ensures.items c.in_ok-place.ensures.place;
-    }
-
 pub returns : goal.returns
 returns c =
     let is = c.requires.named in
@@ -24,7 +12,7 @@ returns c =
     let numbers = c.args.self.now.assertion_numbers.items.items in
     let all = All-append P numbers (c.args.number ∷ []) is.assertions (All-cons P c.args.number [] c.requires.entry (All-nil P)) in
     record {
-      named = record { count = is.count; hypotheses = is.hypotheses; assertions = subst (All P) (sym c.in_ok-place-2.ensures.items) all };
-      grows = record { hypotheses = λ n j at. at; assertions = stays_more c.args.self.now.assertion_numbers.items.items c.add.new.self.items.items c.args.number c.in_ok-place-2.ensures.items };
-      stands = stands_last c.args.self.now.assertion_numbers.items.items c.add.new.self.items.items c.in_ok-place-2.place c.args.number c.in_ok-place-2.ensures.items c.in_ok-place-2.ensures.place;
+      named = record { count = is.count; hypotheses = is.hypotheses; assertions = subst (All P) (sym c.in_ok-place.ensures.items) all };
+      grows = record { hypotheses = λ n j at. at; assertions = stays_more c.args.self.now.assertion_numbers.items.items c.add.new.self.items.items c.args.number c.in_ok-place.ensures.items };
+      stands = stands_last c.args.self.now.assertion_numbers.items.items c.add.new.self.items.items c.in_ok-place.place c.args.number c.in_ok-place.ensures.items c.in_ok-place.ensures.place;
     }

@@ -1,19 +1,10 @@
-use Rattle.std.proofs.Common.{◌+◌, [], map, refl, sym, subst, arith, take}
+use Rattle.std.proofs.Common.{◌+◌, map, sym, subst, arith, take}
 use Rattle.mm_store.specs.Language.Batches.{IsBatchOf, IsSpendable, KeepsReading}
 use Rattle.mm_store.specs.Language.EditedKeys.{IsBatchByKeys}
 use Rattle.mm_store.specs.Language.Edits.{asked}
 use Rattle.mm_store.specs.Language.FilesView.{plain}
-use Rattle.mm_store.proofs.lemmas.edits.BatchLemmas.{nothing_spendable}
 use Rattle.mm_store.proofs.lemmas.edits.RefusedLemmas.{batch_error, batch_next, by_keys_next, mapped_there, keys_then, reads_alike, take_whole}
 use Rattle.mm_store.proofs.files.Files.edit_all.Goals as goal
-
-pub loop-number-init : goal.loop-number-init
-loop-number-init c = record {
-  by_keys = subst (IsBatchByKeys [] c.args.self.now c.args.self.now) (sym c.new-undos.ensures) refl;
-  done = refl;
-  keys = λ key some. record { there = some; text = refl };
-  spendable = subst (IsSpendable c.args.self.now c.args.self.now) (sym c.new-undos.ensures) (nothing_spendable c.args.self.now);
-}
 
 pub undo_all-requires : goal.undo_all-requires
 undo_all-requires c = (
@@ -47,12 +38,6 @@ pub returns-clause-ok : goal.returns-clause-ok
 returns-clause-ok c =
     subst (λ view. IsBatchOf (map asked c.args.edits.now) (plain c.args.self.now) (plain view)) (sym c.restart_all.ensures)
     (subst (λ edits. IsBatchOf edits (plain c.args.self.now) (plain c.loop-number.self)) (take_whole c.args.edits.now c.loop-number.number (omega (arith, c.loop-number-test.false, c.loop-number.auto.number-end))) c.loop-number.invariant.done)
-
-pub returns-clause-by_keys : goal.returns-clause-by_keys
-returns-clause-by_keys c =
-    subst (λ view. IsBatchByKeys (map asked c.args.edits.now) c.args.self.now view c.loop-number.undos) (sym c.restart_all.ensures)
-    (subst (λ edits. IsBatchByKeys edits c.args.self.now c.loop-number.self c.loop-number.undos) (take_whole c.args.edits.now c.loop-number.number
-    (omega (arith, c.loop-number-test.false, c.loop-number.auto.number-end))) c.loop-number.invariant.by_keys)
 
 pub returns-clause-reading : goal.returns-clause-reading
 returns-clause-reading c = subst (KeepsReading c.args.self.now) (sym c.restart_all.ensures) (reads_alike c.args.self.now c.loop-number.self c.loop-number.invariant.keys)

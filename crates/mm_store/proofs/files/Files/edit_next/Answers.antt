@@ -4,13 +4,6 @@ use Rattle.mm_store.specs.Language.Batches.{IsSpendable}
 use Rattle.mm_store.proofs.lemmas.edits.BatchLemmas.{spendable_more}
 use Rattle.mm_store.proofs.files.Files.edit_next.Goals as goal
 
-pub returns-clause-by_keys : goal.returns-clause-by_keys
-returns-clause-by_keys c =
-    let had = c.reserve.new.self.items in
-    let undos : c.push.new.self.items ≡ c.args.undos.now ++ c.in-Ok.undo ∷ [] =
-    c.push.ensures.items ∙ ap (λ pushed. if is_ok pushed then had ++ c.in-Ok.undo ∷ [] else had) c.unwrap.ensures ∙ ap (λ undos. undos ++ c.in-Ok.undo ∷ []) (c.reserve.ensures.items ∙ c.undos.view_is) in
-    (c.in-Ok.undo, c.in-Ok.ensures.by_keys, undos)
-
 pub returns-clause-spendable : goal.returns-clause-spendable
 returns-clause-spendable c old before =
     let had = c.reserve.new.self.items in

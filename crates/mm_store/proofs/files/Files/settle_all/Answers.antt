@@ -1,7 +1,6 @@
-use Rattle.std.proofs.Common.{sym, ap, ◌∙◌, subst, arith}
+use Rattle.std.proofs.Common.{sym, ap, ◌∙◌, subst}
 use Rattle.mm_store.specs.Language.Batches.{CanSettleAll, settled_all}
-use Rattle.mm_store.specs.Language.FileFacts.{parked_in}
-use Rattle.mm_store.proofs.lemmas.edits.BatchLemmas.{settle_last, settle_others, settled_last, settled_none}
+use Rattle.mm_store.proofs.lemmas.edits.BatchLemmas.{settle_last, settle_others, settled_last}
 use Rattle.mm_store.proofs.lemmas.edits.SettleLemmas.{Stays, spent_stays, stays_same, stays_then}
 use Rattle.mm_store.proofs.files.Files.settle_all.Goals as goal
 
@@ -27,11 +26,3 @@ loop-spent-preserved c =
       stays = stays_then c.args.self.now view c.settle.new.self c.loop-spent.invariant.stays
           (subst (Stays view) (sym c.settle.ensures.settled) (spent_stays view undo.file undo.action c.stand_once.ensures (settle_last others undo view can)));
     }
-
-pub returns : goal.returns
-returns c = record {
-  plain = c.loop-spent.invariant.stays.plain_is;
-  keyed = c.loop-spent.invariant.stays.keyed_is;
-  standing = c.loop-spent.invariant.stays.standing;
-  parked = λ old spendable. ap (λ view. parked_in view) (sym (settled_none c.loop-spent.undos.items c.loop-spent.self (omega (arith, c.loop-spent.undos.ok.0, c.in_default.ensures.cases.0))) ∙ c.loop-spent.invariant.left) ∙ spendable.parked;
-}

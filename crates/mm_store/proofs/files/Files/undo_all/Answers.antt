@@ -3,12 +3,6 @@ use Rattle.mm_store.specs.Language.Batches.{CanUndoAll, undone_all}
 use Rattle.mm_store.proofs.lemmas.edits.BatchLemmas.{undo_last, undo_others, undone_last, undone_none}
 use Rattle.mm_store.proofs.files.Files.undo_all.Goals as goal
 
-pub loop-undo-init : goal.loop-undo-init
-loop-undo-init c = record {
-  can = subst (λ undos. CanUndoAll undos c.args.self.now) (sym c.undos.view_is) c.requires.1.can_undo;
-  back = ap (λ undos. undone_all undos c.args.self.now) c.undos.view_is;
-}
-
 pub take_back-requires : goal.take_back-requires
 take_back-requires c = undo_last c.pop.new.self.items c.in-Some.undo c.loop-undo.self (subst (λ undos. CanUndoAll undos c.loop-undo.self) c.in-Some.ensures.items c.loop-undo.invariant.can)
 

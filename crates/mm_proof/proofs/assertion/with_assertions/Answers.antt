@@ -10,15 +10,15 @@ use Rattle.mm_proof.proofs.lemmas.base.FrameLemmas.{frame_moved}
 use Rattle.mm_proof.proofs.lemmas.machine.RangeLemmas.{cited_more}
 use Rattle.mm_proof.proofs.lemmas.machine.StepLemmas.{take_next}
 use Rattle.mm_proof.proofs.lemmas.renaming.RenamedFrames.{frame_by_number}
-use Rattle.mm_proof.proofs.assertion.assertions_of.Goals as goal
+use Rattle.mm_proof.proofs.assertion.with_assertions.Goals as goal
 
-pub loop-number-preserved : goal.loop-number-preserved
-loop-number-preserved c =
+pub loop-place-preserved : goal.loop-place-preserved
+loop-place-preserved c =
     let numbers = c.args.numbers.now in
-    let k = c.loop-number.number-index in
+    let k = c.loop-place.place in
     let j = get_or numbers k 0 in
-    let within : k < length numbers = omega (arith, c.loop-number-test.true) in
-    let entry = c.requires k 0 within in
+    let within : k < length numbers = omega (arith, c.loop-place-test.true) in
+    let entry = c.requires.named k 0 within in
     let cited = c.in_ok-assertion_of.field-0 in
     let found = c.in_ok-assertion_of.ensures in
     let mandatory = c.assertion_of.new.mandatory.items in
@@ -29,10 +29,10 @@ loop-number-preserved c =
     let one : IsCitable by_number (hypotheses_of by_number mandatory) cited =
     record { in_order = found.within.0; within = omega (arith, found.within.1, length-map mandatory (mandatory_of by_number)); frame = is_frame } in
     subst (λ (ns : List ℕ). AreCited c.args.base.now ns mandatory c.push.new.self.items) (sym (take_next numbers k j (slice_get-get_or numbers k 0 within)))
-    (cited_more c.args.base.now (take k numbers) j c.loop-number.mandatory.items mandatory c.loop-number.assertions.items c.push.new.self.items cited found.grows.0 c.loop-number.invariant
+    (cited_more c.args.base.now (take k numbers) j c.loop-place.mandatory.items mandatory c.loop-place.assertions.items c.push.new.self.items cited found.grows.0 c.loop-place.invariant
     found.grows.1 c.in_ok-push.ensures.items one found.frame)
 
 pub returns : goal.returns
 returns c =
-    subst (λ (ns : List ℕ). AreCited c.args.base.now ns c.loop-number.mandatory.items c.loop-number.assertions.items)
-    (take_all c.loop-number.number-index c.args.numbers.now (omega (arith, c.loop-number-test.false))) c.loop-number.invariant
+    subst (λ (ns : List ℕ). AreCited c.args.base.now ns c.loop-place.mandatory.items c.loop-place.assertions.items)
+    (take_all c.loop-place.place c.args.numbers.now (omega (arith, c.loop-place-test.false))) c.loop-place.invariant
