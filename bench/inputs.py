@@ -239,6 +239,13 @@ def frame_listed_again(n):
     return [*lines, f"t $p |- p $= ( x {' '.join(['big'] * n)} ) {letters} $."]
 
 
+def large_frames_cited(n):
+    """So many axioms with a frame of a thousand `$e`, and as many theorems, each of which cites another axiom."""
+    lines = [*FIRST, *(f"e{k} $e |- p $." for k in range(1000)), *(f"a{k} $a |- p $." for k in range(n))]
+    letters = "".join(number(k) for k in range(1, 1003))
+    return [*lines, *(f"t{k} $p |- p $= ( a{k} ) {letters} $." for k in range(n))]
+
+
 def outermost_hypotheses(n):
     """So many `$e` of the outermost block, and as many assertions after them, each with all of them in its frame."""
     return [*FIRST, *(f"e{k} $e |- p $." for k in range(n)), *(f"a{k} $a |- p $." for k in range(n))]
