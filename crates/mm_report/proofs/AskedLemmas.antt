@@ -17,13 +17,13 @@ use Rattle.mm_keep.specs.mm_store.declared.edit.EditError.{EditError}
 use Rattle.mm_keep.specs.mm_store.Language.Edits.{Asked, asked}
 use Rattle.mm_keep.specs.mm_store.Language.FilesView.{plain}
 use Rattle.mm_keep.specs.Language.Sessions.{SessionView, AreAxiomsOf, IsChanged, HasAssertion}
-use Rattle.mm_report.specs.declared.script.ScriptError.{ScriptError}
-use Rattle.mm_report.specs.declared.script.ScriptError.TheVariants as errors
-use Rattle.mm_report.specs.declared.stream.Writing.{Writing}
+use Rattle.mm_script.specs.declared.error.ScriptError.{ScriptError}
+use Rattle.mm_script.specs.declared.error.ScriptError.TheVariants as errors
+use Rattle.mm_script.specs.declared.stream.Writing.{Writing}
 use Rattle.mm_report.specs.Code.Answered.{Answers, FailsSo, Finds, Lacks}
 use Rattle.mm_report.specs.Language.Answers.{IsAnswer, IsBatchRefused, IsRunAnswer, batch_refusal_line, numbers_listed, unknown_line}
-use Rattle.mm_report.specs.Language.Script.{Command, Listed, Batch, Axioms, Cites, Users}
-use Rattle.mm_report.specs.Language.Stream.{written, has_failed, AppendsPart, Stops}
+use Rattle.mm_script.specs.Language.Script.{Command, Listed, Batch, Axioms, Cites, Users}
+use Rattle.mm_script.specs.Language.Stream.{written, has_failed, AppendsPart, Stops}
 
 -- an answer is written
 pub answered_ok : {W T : Type 0} (contents : W → Option (List ℕ)) (command : Command) (old new : SessionView) (a b : Writing W) (done : T) (answer : List ℕ)

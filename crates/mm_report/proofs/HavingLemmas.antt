@@ -15,8 +15,9 @@ use Rattle.mm_keep.specs.Language.Told.{Told, IsRightlyTold}
 use Rattle.mm_report.specs.Language.Answers.{AreAnswers, IsAnswer, IsFound, IsRunAnswer, IsUnknown, IsVerdictAnswer}
 use Rattle.mm_report.specs.Language.Answers.{batch_refusal_line, numbers_listed, refusal_line, told_line, unknown_line}
 use Rattle.mm_report.specs.Language.Report.{names_of, report, IsReport}
-use Rattle.mm_report.specs.Language.Script.{Command, Change, Batch, Report, Verdict, Axioms, Cites, Users, Listed, commands_of}
-use Rattle.mm_report.specs.Language.ScriptLaws.{HasReading, HasScriptAnswer, IsWholeSession}
+use Rattle.mm_script.specs.Language.Script.{Command, Change, Batch, Report, Verdict, Axioms, Cites, Users, Listed, commands_of}
+use Rattle.mm_report.specs.Language.ScriptLaws.{HasScriptAnswer, IsWholeSession}
+use Rattle.mm_script.specs.Language.ReadingLaws.{HasReading}
 
 -- what is known of all files and sessions
 pub record HavingLaws : Type 0 where

@@ -1,26 +1,23 @@
 -- A script that is answered command by command.
 use Rattle.std.proofs.Common.{◌≡◌, ℕ, zero, suc, true, Option, Some, None, List, [], ◌∷◌, ◌++◌, inl, inr, drop, take, replicate, refl, sym, ap, ◌∙◌, subst, append_assoc, append-nil, ◌≢◌, Result, Ok, Err, IfErr, IfSome, IsErrOf}
 use Rattle.std.specs.Result.{IsErrAnd}
-use Rattle.mm_report.specs.declared.script.ScriptError.{ScriptError}
-use Rattle.mm_report.specs.declared.script.ScriptError.TheVariants as errors
+use Rattle.mm_script.specs.declared.error.ScriptError.{ScriptError}
+use Rattle.mm_script.specs.declared.error.ScriptError.TheVariants as errors
 use Rattle.std.specs.Io.KnownBytes.{Consumes, IsAtEnd}
 use Rattle.std.proofs.KnownBytes.{Appends-nil, Appends-trans, Consumes-nil, Consumes-trans}
-use Rattle.std.proofs.lemmas.Grind.{flat_map-append}
-use Rattle.mm_report.proofs.ScriptLemmas.{good_more}
 use Rattle.mm_keep.specs.Language.Sessions.{SessionView}
-use Rattle.mm_report.specs.declared.input.Input.{Input}
-use Rattle.mm_report.specs.declared.entry.CommandAt.{CommandAt}
-use Rattle.mm_report.specs.declared.entry.Complete.{Complete}
-use Rattle.mm_report.specs.declared.stream.Writing.{Writing}
-use Rattle.mm_report.specs.declared.read_stream.Reading.{Reading}
+use Rattle.mm_script.specs.declared.input.Input.{Input}
+use Rattle.mm_script.specs.declared.entry.CommandAt.{CommandAt}
+use Rattle.mm_script.specs.declared.entry.Complete.{Complete}
+use Rattle.mm_script.specs.declared.stream.Writing.{Writing}
+use Rattle.mm_script.specs.declared.read_stream.Reading.{Reading}
 use Rattle.mm_report.specs.Code.Answered.{IsAnswered, BeginsAnswer, FailsSo, AnswersSoFar, HasAnswered, StopsAnswering}
-use Rattle.mm_report.specs.Code.Pending.{pending, ReadsOn, IsNextCommand, IsWholeCommand, IsLast, IsWholeOrLast}
-use Rattle.mm_report.specs.Code.Stops.{HasNoEntry, StopsSo}
-use Rattle.mm_report.specs.Language.Answers.{AreAnswers}
-use Rattle.mm_report.specs.Language.Script.{Command, End, Done, CutShort, BadLine, Entry, Blank, Given, AreGood, IsGood, AreRead, IsLongestReading, entries_bytes, command_bytes, commands_of, entry_bytes}
+use Rattle.mm_script.specs.Language.Commands.{pending, ReadsOn, IsNextCommand, IsWholeCommand, IsLast, IsWholeOrLast, HasNoEntry, StopsSo}
+use Rattle.mm_report.specs.Language.Answers.{AreAnswers, IsAnswer}
+use Rattle.mm_script.specs.Language.Script.{Command, End, Done, CutShort, BadLine, Entry, Blank, Given, AreGood, IsGood, AreRead, IsLongestReading, LacksFeed, entries_bytes, command_bytes, commands_of}
 use Rattle.mm_report.specs.Language.Scripting.{AnswersScript, AnswersFirst, AnswersRead, AreFirst, BeginsAnswers}
-use Rattle.mm_report.specs.Language.Stream.{cannot_read, unread, written}
-use Rattle.mm_report.proofs.JoinLemmas.{one_more, reading_behind, reading_done, reading_last, so_far_behind}
+use Rattle.mm_script.specs.Language.Stream.{cannot_read, unread, written}
+use Rattle.mm_script.specs.Language.ReadingLaws.{CommandsLeaveNothing, ReadingsJoin}
 
 -- ---- empty lines, and commands, after entries
 
@@ -43,6 +40,16 @@ commands_join (Given command ∷ entries) n = ap (λ commands. command ∷ comma
 
 -- ---- what is answered so far
 
+-- one command more is answered
+pub one_more : (old between new : SessionView) (entries : List Entry) (command : Command) (answers one : List ℕ) → AreAnswers old (commands_of entries) answers between
+    → IsAnswer between command one new → AreAnswers old (commands_of (entries ++ Given command ∷ [])) (answers ++ one) new
+one_more old between new [] command answers one are answer =
+    (one, new, [], subst (λ (s : SessionView). IsAnswer s command one new) are.1 answer, (refl, refl), ap (λ (w : List ℕ). w ++ one) are.0 ∙ sym (append-nil one))
+one_more old between new (Blank ∷ entries) command answers one are answer = one_more old between new entries command answers one are answer
+one_more old between new (Given first ∷ entries) command answers one are answer =
+    let rest = one_more are.1 between new entries command are.2 one are.4 answer in
+    (are.0, are.1, are.2 ++ one, are.3, rest, ap (λ (w : List ℕ). w ++ one) are.5 ∙ append_assoc are.0 are.2 one)
+
 -- nothing yet
 pub none_answered : (session : SessionView) (all before : Option (List ℕ)) → HasAnswered session session all all before before []
 none_answered session all before = record {
@@ -59,24 +66,28 @@ none_answered session all before = record {
   rest = refl;
 }
 
-module _ (old session : SessionView) (all left before after : Option (List ℕ)) where
+module _ (joins : ReadingsJoin) (done : CommandsLeaveNothing) (old session : SessionView) (all left before after : Option (List ℕ)) where
   -- bytes are read on, and empty lines passed
   pub read_more : (pend now part : List ℕ) (blanks : ℕ) (more : Option (List ℕ)) → Consumes left more part → pend ++ part ≡ replicate blanks 10 ++ now
       → HasAnswered old session all left before after pend → HasAnswered old session all more before after now
   read_more pend now part blanks more consumes are so =
       let entries = so.first.entries in
       let passed = replicate blanks Blank in
-      let joined : so.first.bytes ++ part ≡ entries_bytes (entries ++ passed) ++ now =
-      ap (λ bytes. bytes ++ part) so.first.are.joined ∙ append_assoc (entries_bytes entries) so.first.rest part
-      ∙ ap (λ bytes. entries_bytes entries ++ bytes) (ap (λ bytes. bytes ++ part) so.rest ∙ are ∙ ap (λ bytes. bytes ++ now) (sym (blank_bytes blanks)))
-      ∙ sym (append_assoc (entries_bytes entries) (entries_bytes passed) now) ∙ ap (λ bytes. bytes ++ now) (sym (flat_map-append entry_bytes entries passed)) in
+      let grown : AreRead (so.first.bytes ++ part) entries (so.first.rest ++ part) = record {
+        good = so.first.are.good;
+        joined = ap (λ bytes. bytes ++ part) so.first.are.joined ∙ append_assoc (entries_bytes entries) so.first.rest part;
+      } in
+      let blank : AreRead (so.first.rest ++ part) passed now = record {
+        good = blanks_good blanks;
+        joined = ap (λ bytes. bytes ++ part) so.rest ∙ are ∙ ap (λ bytes. bytes ++ now) (sym (blank_bytes blanks));
+      } in
       record {
         first = record {
           bytes = so.first.bytes ++ part;
           consumes = Consumes-trans all left more so.first.bytes part so.first.consumes consumes;
           entries = entries ++ passed;
           rest = now;
-          are = record { good = good_more entries passed so.first.are.good (blanks_good blanks); joined = joined };
+          are = joins.entries (so.first.bytes ++ part) entries passed (so.first.rest ++ part) now grown blank;
           answers = so.first.answers;
           answered = subst (λ commands. AreAnswers old commands so.first.answers session) (sym (commands_join entries blanks)) so.first.answered;
           out = so.first.out;
@@ -91,15 +102,18 @@ module _ (old session : SessionView) (all left before after : Option (List ℕ))
   -- what is read with one command more
   more_read : (pend : List ℕ) (command : Command) (end : ℕ) (so : HasAnswered old session all left before after pend) → IsGood command → IsWholeCommand pend command end
       → AreRead so.first.bytes (so.first.entries ++ Given command ∷ []) (drop end pend)
-  more_read pend command end so good whole =
-      let entries = so.first.entries in
-      record {
-        good = good_more entries (Given command ∷ []) so.first.are.good (good, tt);
-        joined = (read_as pend so).joined ∙ ap (λ rest. entries_bytes entries ++ rest) whole.are
-            ∙ sym (append_assoc (entries_bytes entries) (command_bytes command) (drop end pend))
-            ∙ ap (λ first. (entries_bytes entries ++ first) ++ drop end pend) (sym (append-nil (command_bytes command)))
-            ∙ ap (λ first. first ++ drop end pend) (sym (flat_map-append entry_bytes entries (Given command ∷ [])));
-      }
+  more_read pend command end so good whole = joins.entries so.first.bytes so.first.entries (Given command ∷ []) pend (drop end pend) (read_as pend so) (record {
+    good = (good, tt);
+    joined = whole.are ∙ ap (λ first. first ++ drop end pend) (sym (append-nil (command_bytes command)));
+  })
+
+  -- what is read with a last command, whose line has no line feed
+  last_read : (pend : List ℕ) (command : Command) (so : HasAnswered old session all left before after pend) → IsGood command → IsLast pend left command
+      → IsLongestReading so.first.bytes (so.first.entries ++ Given command ∷ []) []
+  last_read pend command so good last =
+      let feed : LacksFeed pend (Given command ∷ []) = record { front = []; last = command; are = refl; in_line = last.in_line; is = last.are ∙ sym (append-nil (command_bytes command)) } in
+      joins.reading so.first.bytes so.first.entries (Given command ∷ []) pend [] (read_as pend so)
+      (done pend (Given command ∷ []) (record { good = (good, tt); joined = inr (feed, refl) }))
 
   -- one command more is answered
   pub whole_answered : (new : SessionView) (now : Option (List ℕ)) (pend : List ℕ) (command : Command) (end : ℕ) → IsGood command → IsWholeCommand pend command end
@@ -139,7 +153,7 @@ module _ (old session : SessionView) (all left before after : Option (List ℕ))
       by : (whole : Option (List ℕ)) → Consumes whole left so.first.bytes → IfSome whole (λ script. AnswersScript old new script Done before now)
       by None c = tt
       by (Some script) c =
-          let reading = reading_last so.first.bytes so.first.entries pend command (read_as pend so) good last.in_line last.are in
+          let reading = last_read pend command so good last in
           record {
             answers = so.first.answers ++ one.answer;
             is = record {
@@ -165,7 +179,7 @@ module _ (old session : SessionView) (all left before after : Option (List ℕ))
             is = record {
               entries = so.first.entries;
               rest = [];
-              reading = subst (λ bytes. IsLongestReading bytes so.first.entries []) (sym (all_read script so.first.bytes c at_end)) (reading_done so.first.bytes so.first.entries are);
+              reading = subst (λ bytes. IsLongestReading bytes so.first.entries []) (sym (all_read script so.first.bytes c at_end)) (done so.first.bytes so.first.entries (record { good = are.good; joined = inl are.joined }));
               answered = so.first.answered;
               ends = refl;
             };
@@ -183,7 +197,7 @@ module _ (old session : SessionView) (all left before after : Option (List ℕ))
       by (Some script) (Some rest) c s =
           let entries = so.first.entries in
           let joined : script ≡ entries_bytes entries ++ (pend ++ rest) = c ∙ ap (λ bytes. bytes ++ rest) (read_as pend so).joined ∙ append_assoc (entries_bytes entries) pend rest in
-          let reading = reading_behind script entries [] (pend ++ rest) (pend ++ rest) (record { good = so.first.are.good; joined = joined }) s.reading in
+          let reading = joins.reading script entries [] (pend ++ rest) (pend ++ rest) (record { good = so.first.are.good; joined = joined }) s.reading in
           record {
             answers = so.first.answers;
             is = record {
@@ -203,7 +217,7 @@ module _ (old session : SessionView) (all left before after : Option (List ℕ))
     consumes = so.first.consumes;
     entries = so.first.entries;
     rest = pend;
-    reading = so_far_behind so.first.bytes so.first.entries pend (read_as pend so) none;
+    reading = joins.so_far so.first.bytes so.first.entries pend (read_as pend so) none;
     answers = so.first.answers;
     answered = so.first.answered;
     out = so.first.out;
@@ -237,7 +251,7 @@ module _ (old session : SessionView) (all left before after : Option (List ℕ))
   pub last_begun : (new : SessionView) (now : Option (List ℕ)) (pend : List ℕ) (command : Command) → IsGood command → IsLast pend left command
       → BeginsAnswer session new command after now → HasAnswered old session all left before after pend → BeginsAnswers old new all left before now
   last_begun new now pend command good last one so =
-      begun_by new now pend [] command so (inr (last.at_end, (reading_last so.first.bytes so.first.entries pend command (read_as pend so) good last.in_line last.are).divided)) one
+      begun_by new now pend [] command so (inr (last.at_end, (last_read pend command so good last).divided)) one
 
 -- ---- one step of the loop
 
@@ -250,21 +264,22 @@ pub when_err : {T E : Type 0} (r : Result T E) (P : E → Type 0) (x : E) → If
 when_err {T} {E} r P x h e = subst (λ (s : Result T E). IfErr s P) e h
 
 -- bytes are read on, up to a command or the end
-pub reads_on : (old session : SessionView) (all left before after more : Option (List ℕ)) (input now : Input) → ReadsOn input now left more
+pub reads_on : (joins : ReadingsJoin) (done : CommandsLeaveNothing) (old session : SessionView) (all left before after more : Option (List ℕ)) (input now : Input) → ReadsOn input now left more
     → HasAnswered old session all left before after (pending input) → HasAnswered old session all more before after (pending now)
-reads_on old session all left before after more input now reads so =
-    read_more old session all left before after (pending input) (pending now) reads.part reads.blanks more reads.consumes reads.are so
+reads_on joins done old session all left before after more input now reads so =
+    read_more joins done old session all left before after (pending input) (pending now) reads.part reads.blanks more reads.consumes reads.are so
 
-module _ {R W : Type 0} (remaining : R → Option (List ℕ)) (contents : W → Option (List ℕ)) (begun session : SessionView) (all before : Option (List ℕ)) (now : Input) (left : Reading R) (a : Writing W) where
+module _ {R W : Type 0} (joins : ReadingsJoin) (done : CommandsLeaveNothing) (remaining : R → Option (List ℕ)) (contents : W → Option (List ℕ))
+    (begun session : SessionView) (all before : Option (List ℕ)) (now : Input) (left : Reading R) (a : Writing W) where
   -- no command is read
   pub next_stops : {T : Type 0} (r : Result T ScriptError) → HasAnswered begun session all (unread remaining left) before (written contents a) (pending now)
       → (IsErrOf r errors.BadLine → IfSome (unread remaining left) (λ more. StopsSo (pending now ++ more) BadLine))
       → (IsErrOf r errors.Cut → IfSome (unread remaining left) (λ more. StopsSo (pending now ++ more) CutShort))
       → (IsErrOf r errors.Read → HasNoEntry (pending now)) → (IsErrOf r errors.Read → cannot_read left ≡ true) → (r ≢ Err errors.Write)
       → (e : ScriptError) → r ≡ Err e → StopsAnswering remaining contents begun session all left before a e
-  next_stops r so bad cut read failed told errors.BadLine is = stop_answered begun session all (unread remaining left) before (written contents a) (pending now) BadLine (bad is) so
-  next_stops r so bad cut read failed told errors.Cut is = stop_answered begun session all (unread remaining left) before (written contents a) (pending now) CutShort (cut is) so
-  next_stops r so bad cut read failed told errors.Read is = (read_answered begun session all (unread remaining left) before (written contents a) (pending now) (read is) so, failed is)
+  next_stops r so bad cut read failed told errors.BadLine is = stop_answered joins done begun session all (unread remaining left) before (written contents a) (pending now) BadLine (bad is) so
+  next_stops r so bad cut read failed told errors.Cut is = stop_answered joins done begun session all (unread remaining left) before (written contents a) (pending now) CutShort (cut is) so
+  next_stops r so bad cut read failed told errors.Read is = (read_answered joins done begun session all (unread remaining left) before (written contents a) (pending now) (read is) so, failed is)
   next_stops r so bad cut read failed told errors.Write is = absurd (told is)
   next_stops r so bad cut read failed told errors.Memory is = so.first
 
@@ -274,8 +289,8 @@ module _ {R W : Type 0} (remaining : R → Option (List ℕ)) (contents : W → 
       → (e : ScriptError) → FailsSo contents is.command session new a b e → StopsAnswering remaining contents begun new all left before b e
   answer_stops next is new b so errors.Write fails = (
     elim is.whole [
-      | inl h ↦ whole_begun begun session all (unread remaining left) before (written contents a) new (written contents b) (pending now) is.command next.end is.good h.1 fails.1 so
-      | inr h ↦ last_begun begun session all (unread remaining left) before (written contents a) new (written contents b) (pending now) is.command is.good h.1 fails.1 so
+      | inl h ↦ whole_begun joins done begun session all (unread remaining left) before (written contents a) new (written contents b) (pending now) is.command next.end is.good h.1 fails.1 so
+      | inr h ↦ last_begun joins done begun session all (unread remaining left) before (written contents a) new (written contents b) (pending now) is.command is.good h.1 fails.1 so
     ],
     fails.0,
   )
@@ -294,9 +309,9 @@ module _ {R W : Type 0} (remaining : R → Option (List ℕ)) (contents : W → 
     where
       by : IsWholeOrLast (pending now) (unread remaining left) next is.command → AnswersSoFar begun new all (unread remaining left) before (written contents b) (pending input) next.fed
       by (inl h) =
-          let whole = whole_answered begun session all (unread remaining left) before (written contents a) new (written contents b) (pending now) is.command next.end is.good h.1 one so in
+          let whole = whole_answered joins done begun session all (unread remaining left) before (written contents a) new (written contents b) (pending now) is.command next.end is.good h.1 one so in
           let there = subst (λ (bytes : List ℕ). HasAnswered begun new all (unread remaining left) before (written contents b) bytes) (sym (passed h.0)) whole in
           subst (AnswersSoFar begun new all (unread remaining left) before (written contents b) (pending input)) (sym h.0) there
       by (inr h) =
-          let last = last_answered begun session all (unread remaining left) before (written contents a) new (written contents b) (pending now) is.command is.good h.1 one so in
+          let last = last_answered joins done begun session all (unread remaining left) before (written contents a) new (written contents b) (pending now) is.command is.good h.1 one so in
           subst (AnswersSoFar begun new all (unread remaining left) before (written contents b) (pending input)) (sym h.0) last

@@ -19,15 +19,18 @@ use Rattle.mm_keep.specs.Language.Told.{IsRightlyTold}
 use Rattle.mm_report.specs.Language.Answers.{AreAnswers, IsAnswer, IsBatchAnswer, IsEditAnswer, IsFound, IsRunAnswer, IsUnknown, IsVerdictAnswer}
 use Rattle.mm_report.specs.Language.Answers.{batch_refusal_line, numbers_listed, refusal_line, told_line}
 use Rattle.mm_report.specs.Language.Report.{names_of}
-use Rattle.mm_report.specs.Language.Script.{Command, Change, Batch, Report, Verdict, Axioms, Cites as CitesOf, Users, EndsSo, Entry, command_of, commands_of, entries_bytes, HasEntries}
+use Rattle.mm_script.specs.Language.Script.{Command, Change, Batch, Report, Verdict, Axioms, Cites as CitesOf, Users, EndsSo, Entry, command_of, commands_of, entries_bytes, HasEntries}
+use Rattle.mm_script.specs.Language.ReadingLaws.{DivisionsAgree, OneEnd, OneReading}
 use Rattle.mm_report.specs.Language.ScriptLaws.{AnswersBegin, AreAlike, AreTheFirst, HasItems, OneScriptAnswer}
 use Rattle.mm_report.proofs.AnswerLemmas.{same_report, same_told}
 use Rattle.mm_report.proofs.DatabaseLemmas.{Database, Laws, same_items}
 use Rattle.mm_report.proofs.AssertionLemmas.{assertion_by_said, one_assertion, saying}
-use Rattle.mm_report.proofs.ScriptLemmas.{divisions_agree, one_end, one_reading}
 
 -- what is known of all files, their edits, runs and labels
 pub record AnswerLaws : Type 0 where
+  pub reading : OneReading
+  pub ends : OneEnd
+  pub divisions : DivisionsAgree
   pub database : Laws
   pub runs : OneListOfRuns
   pub lists : OneListEach
@@ -199,9 +202,9 @@ same_answers laws s t new copy (command ∷ commands) x y a f g =
 
 pub same_script : AnswerLaws → OneScriptAnswer
 same_script laws s t new copy script x y end ended a f g =
-    let read = one_reading script f.entries g.entries f.rest g.rest f.reading g.reading in
+    let read = laws.reading script f.entries g.entries f.rest g.rest f.reading g.reading in
     let all = same_answers laws s t new copy (commands_of g.entries) x y a (subst (λ (es : List Entry). AreAnswers s (commands_of es) x new) read.0 f.answered) g.answered in
-    record { answers_are = all.0; end_is = one_end g.rest end ended (subst (λ (rest : List ℕ). EndsSo rest end) read.1 f.ends) g.ends; sessions = all.1 }
+    record { answers_are = all.0; end_is = laws.ends g.rest end ended (subst (λ (rest : List ℕ). EndsSo rest end) read.1 f.ends) g.ends; sessions = all.1 }
 
 -- ---- the answers to the first commands
 
@@ -244,4 +247,4 @@ answers_begin laws s t new final bytes more answers all entries rest end a first
         (in_parts t (commands_of entries) (commands_of later) all final (subst (λ (cs : List Command). AreAnswers t cs all final) commands g.answered))
 
     on : (left : List ℕ) × HasEntries (bytes ++ more) entries left → (later : List ℕ) × (all ≡ answers ++ later)
-    on d = let w = divisions_agree (bytes ++ more) entries g.entries d.0 g.rest d.1 g.reading.divided (g.reading.longest entries d.0 d.1) in by w.0 w.1
+    on d = let w = laws.divisions (bytes ++ more) entries g.entries d.0 g.rest d.1 g.reading.divided (g.reading.longest entries d.0 d.1) in by w.0 w.1

@@ -11,10 +11,10 @@ use Rattle.mm_keep.specs.mm_frame.Language.Laws.{FilesHaveOneBase}
 use Rattle.mm_keep.specs.Language.Laws.{ItemsHaveFindings}
 use Rattle.mm_keep.specs.Language.Sessions.{SessionView, IsCount, IsFinding, IsLabelOfItem}
 use Rattle.mm_keep.specs.Language.Told.{Told, IsRightlyTold, Counts, counts}
-use Rattle.mm_report.specs.declared.stream.Writing.{Writing}
+use Rattle.mm_script.specs.declared.stream.Writing.{Writing}
 use Rattle.mm_report.specs.Code.Written.{ToldUpTo, AreWrittenUpTo, AreAllWritten, FailsWithin}
 use Rattle.mm_report.specs.Language.Report.{item_line, lines, names_of, report, summary, IsReport}
-use Rattle.mm_report.specs.Language.Stream.{written, Stops}
+use Rattle.mm_script.specs.Language.Stream.{written, Stops}
 use Rattle.mm_report.proofs.ReportLemmas.{lines_join, lines_push}
 use Rattle.mm_report.proofs.StreamLemmas.{stops_front, stops_behind}
 

@@ -1,9 +1,6 @@
 -- The language: what the contracts of public calls cite, all the way down.
-pub mod Stream
 pub mod Report
-pub mod Script
 pub mod Answers
 pub mod Scripting
 pub mod Laws
 pub mod ScriptLaws
-pub mod ScriptExamples

@@ -1,3 +1,4 @@
+pub use Rattle.mm_script.specs as mm_script
 pub use Rattle.mm_keep.specs as mm_keep
 pub use Rattle.mm_keep.specs.mm_proof
 pub use Rattle.mm_keep.specs.mm_frame

@@ -11,25 +11,23 @@ ghost use Rattle.mm_keep.specs.declared.answers.KeepError.TheVariants as keep;
 ghost use Rattle.mm_keep.specs.Language.Findings.{told};
 ghost use Rattle.mm_keep.specs.Language.Refusals.{IsRefusal, IsBatchRefusal};
 ghost use Rattle.mm_keep.specs.Language.Sessions.{HasAssertion, SessionView};
-ghost use Rattle.mm_report.specs.declared.script.ScriptError.TheVariants as errors;
+ghost use Rattle.mm_script.specs.declared.error.ScriptError.TheVariants as errors;
 ghost use Rattle.mm_report.specs.Code.Answered.{Answers, Finds, IsToldIn, Lacks, WritesAnswer, WritesOf, label_lines, text_brought};
 ghost use Rattle.mm_report.specs.Code.InFiles.{IsInFiles};
-ghost use Rattle.mm_report.specs.Code.Pending.{IsCommandIn, IsEditWithin, edit_in};
+ghost use Rattle.mm_script.specs.Language.Commands.{IsCommandIn, IsEditWithin, edit_in};
 ghost use Rattle.mm_report.specs.Language.Answers.{IsAnswer, batch_refusal_line, numbers_listed, refusal_line, refusal_words, text_code, told_line};
 ghost use Rattle.mm_report.specs.Language.Report.{names_of};
-ghost use Rattle.mm_report.specs.Language.Script.{Command, Listed, Change, Batch, Verdict, Axioms};
-ghost use Rattle.mm_report.specs.Language.Stream.{AppendsPart, written, has_failed, Writes};
+ghost use Rattle.mm_script.specs.Language.Script.{Command, Listed, Change, Batch, Verdict, Axioms};
+ghost use Rattle.mm_script.specs.Language.Stream.{AppendsPart, written, has_failed, Writes};
 
-use crate::entry::{CommandAt, EditAt, bytes_of, edit_of};
 use crate::report::{
     write_count, write_incomplete, write_number, write_part, write_report, write_wrong,
 };
-use crate::script::ScriptError;
-use crate::stream::{WriteFailed, Writing};
 use mm_keep::{
     BatchError, Edit, EditError, Files, Finding, KeepError, Session, TextFault, TextNumber,
     files_have_one_base, place,
 };
+use mm_script::{CommandAt, EditAt, ScriptError, WriteFailed, Writing, bytes_of, edit_of};
 use std::alloc::{AllocError, Global};
 use std::io::Write;
 

@@ -9,14 +9,14 @@ ghost use Rattle.mm_report.specs.Code.InFiles.{IsInFiles};
 ghost use Rattle.mm_report.specs.Code.Written.{AreAllWritten, FailsWithin};
 ghost use Rattle.mm_report.specs.Language.Report.{code_of, proof_code, place_in, fault_line, incomplete_line};
 ghost use Rattle.mm_report.specs.Language.Report.{wrong_line, item_line, names_of, summary, IsReport, BeginsReport};
-ghost use Rattle.mm_report.specs.Language.Stream.{written, has_failed, Writes};
+ghost use Rattle.mm_script.specs.Language.Stream.{written, has_failed, Writes};
 
-use crate::stream::{WriteFailed, Writing};
 use itoa::Buffer;
 use mm_keep::{
     At, Files, Finding, FrameNumber, ProofNumber, Session, Tally, files_have_one_base,
     items_have_findings,
 };
+use mm_script::{WriteFailed, Writing};
 use std::io::Write;
 use thiserror::Error;
 

@@ -3,73 +3,26 @@
 ghost use Rattle.std.specs.Prelude.{◌≡◌, ◌≤◌, ◌+◌, ℕ, List, Option, true, OnOk, IfErr, IfOk, IfSome, IsErrOf};
 ghost use Rattle.mm_keep.specs.Language.Sessions.{SessionView};
 ghost use Rattle.mm_report.specs.Code.Answered.{HasAnswered, AnswersSoFar, StopsAnswering};
-ghost use Rattle.mm_report.specs.Code.Growing.{to_come};
-ghost use Rattle.mm_report.specs.Code.Pending.{pending};
-ghost use Rattle.mm_report.specs.declared.script.ScriptError.TheVariants as errors;
-ghost use Rattle.mm_report.specs.Language.Script.{Done, CutShort, BadLine};
+ghost use Rattle.mm_script.specs.Language.Commands.{to_come, pending};
+ghost use Rattle.mm_script.specs.declared.error.ScriptError.TheVariants as errors;
+ghost use Rattle.mm_script.specs.Language.Script.{Done, CutShort, BadLine};
 ghost use Rattle.mm_report.specs.Language.Scripting.{AnswersScript, AnswersFirst, AnswersRead, BeginsAnswers};
-ghost use Rattle.mm_report.specs.Language.Stream.{cannot_read, has_failed, unread, written};
+ghost use Rattle.mm_script.specs.Language.Stream.{cannot_read, has_failed, unread, written};
 
 use crate::answer::answer;
-use crate::entry::next_command;
-use crate::input::Input;
-use crate::read_stream::Reading;
 use crate::report::ReportError;
-use crate::stream::{WriteFailed, Writing};
 use mm_keep::Session;
-use std::alloc::{AllocError, AllocFailed, Global};
+use mm_script::{
+    Input, Reading, ScriptError, Writing, commands_leave_nothing, next_command, readings_join,
+};
+use std::alloc::Global;
 use std::io::{Read, Write};
-use thiserror::Error;
-
-/// Why a script is not answered to its end.
-#[derive(Clone, Copy, Debug, PartialEq, Eq, Error)]
-pub enum ScriptError {
-    /// A line is that of no command, or a text is not followed by a line feed.
-    #[error("a line is no command")]
-    BadLine,
-    /// The script ends inside a text, before the line feed after it, or with edits of a batch missing.
-    #[error("the script is cut short")]
-    Cut,
-    /// The reading has failed.
-    #[error("a read failed")]
-    Read,
-    /// The writing has failed.
-    #[error("a write failed")]
-    Write,
-    /// There was not enough memory.
-    #[error("out of memory")]
-    Memory,
-}
-
-impl From<AllocError> for ScriptError {
-    ghost from_gives = { λ _ e. e ≡ errors.Memory };
-
-    fn from(_: AllocError) -> Self {
-        ScriptError::Memory
-    }
-}
-
-impl From<WriteFailed> for ScriptError {
-    ghost from_gives = { λ _ e. e ≡ errors.Write };
-
-    fn from(_: WriteFailed) -> Self {
-        ScriptError::Write
-    }
-}
 
 impl From<ReportError> for ScriptError {
     ghost from_gives = { λ _ e. e ≡ errors.Write };
 
     fn from(_: ReportError) -> Self {
         ScriptError::Write
-    }
-}
-
-impl<T: Drop> From<AllocFailed<T>> for ScriptError {
-    ghost from_gives = { λ _ e. e ≡ errors.Memory };
-
-    fn from(_: AllocFailed<T>) -> Self {
-        ScriptError::Memory
     }
 }
 
@@ -89,6 +42,8 @@ fn answer_next<R: Read, W: Write>(
         → IfErr result (StopsAnswering R.remaining W.contents begun session.new all reading.new before writing.new) }
     ensures fewer { IfOk result (λ more. more ≡ true → to_come input.new reading.new + 1 ≤ to_come input.old reading.old) }
 {
+    readings_join();
+    commands_leave_nothing();
     let Some(next) = next_command(alloc, input, reading)? else {
         return Ok(false);
     };

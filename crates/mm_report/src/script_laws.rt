@@ -1,34 +1,9 @@
-//! What holds of all scripts and their answers. Each function does nothing; what it promises is the law.
+//! What holds of the answers of all scripts. Each function does nothing; what it promises is the law.
 
-ghost use Rattle.mm_report.specs.Language.ScriptExamples.{CutsBatch, CutsFeed, CutsLine, CutsText};
-ghost use Rattle.mm_report.specs.Language.ScriptExamples.{EndsAtLine, EndsAtText, EndsInEdit, ReadsBatch, ReadsLastEdit, ReadsText};
-ghost use Rattle.mm_report.specs.Language.ScriptLaws.{AnswersBegin, CommandsLeaveNothing, HasReading, OneScriptAnswer};
-ghost use Rattle.mm_report.specs.Language.ScriptLaws.{HasScriptAnswer, IsWholeSession, OneEnd, OneReading, OneReadSoFar, ReadingGoesOn};
+ghost use Rattle.mm_report.specs.Language.ScriptLaws.{AnswersBegin, OneScriptAnswer};
+ghost use Rattle.mm_report.specs.Language.ScriptLaws.{HasScriptAnswer, IsWholeSession};
 
 use mm_keep::Session;
-
-/// A script is read in one way, and what is left of it ends it in one way at most.
-pub fn one_reading()
-    ensures reading { OneReading }
-    ensures end { OneEnd }
-{}
-
-/// Each script has a reading, and ends in some way: with nothing left, cut short or at a bad line.
-pub fn has_reading()
-    ensures { HasReading }
-{}
-
-/// What is read of some bytes stays, whatever follows them: it is a beginning of the reading of them all. It is one
-/// list.
-pub fn reading_goes_on()
-    ensures on { ReadingGoesOn }
-    ensures one { OneReadSoFar }
-{}
-
-/// Commands and empty lines that leave nothing of a script are its reading.
-pub fn commands_leave_nothing()
-    ensures { CommandsLeaveNothing }
-{}
 
 /// A script has one list of answers and one end, and the files after it are the same but for the keys of their pieces.
 ///
@@ -37,6 +12,8 @@ pub fn commands_leave_nothing()
 pub fn one_script_answer()
     ensures { OneScriptAnswer }
 {
+    mm_script::one_reading();
+    mm_script::divisions_agree();
     mm_keep::one_meaning();
     mm_keep::items_stand();
     mm_keep::one_edit();
@@ -59,7 +36,7 @@ pub fn has_script_answer()
     mm_keep::items_have_findings();
     mm_keep::has_list_of_runs();
     mm_keep::has_list_each();
-    has_reading();
+    mm_script::has_reading();
 }
 
 /// Each session is one of which scripts have answers.
@@ -75,6 +52,8 @@ pub fn sessions_are_whole(session: &Session)
 pub fn answers_begin()
     ensures { AnswersBegin }
 {
+    mm_script::one_reading();
+    mm_script::divisions_agree();
     mm_keep::one_meaning();
     mm_keep::items_stand();
     mm_keep::one_edit();
@@ -84,17 +63,3 @@ pub fn answers_begin()
     mm_keep::one_list_of_runs();
     mm_keep::one_list_each();
 }
-
-/// Some scripts, and how they are read: with texts and batches, cut short, and with bad lines.
-pub fn scripts_are_read_so()
-    ensures text { ReadsText }
-    ensures batch { ReadsBatch }
-    ensures last_edit { ReadsLastEdit }
-    ensures cut_text { CutsText }
-    ensures cut_feed { CutsFeed }
-    ensures cut_line { CutsLine }
-    ensures cut_batch { CutsBatch }
-    ensures bad_edit { EndsInEdit }
-    ensures bad_line { EndsAtLine }
-    ensures bad_text { EndsAtText }
-{}

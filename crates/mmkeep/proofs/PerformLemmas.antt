@@ -3,12 +3,12 @@ use Rattle.std.proofs.Common.{◌≡◌, ◌⊎◌, ℕ, List, Option, Result, O
 use Rattle.std.specs.Io.KnownBytes.{Appends, Keeps}
 use Rattle.std.proofs.KnownBytes.{Keeps-refl}
 use Rattle.mm_report.specs.mm_keep.Language.Sessions.{SessionView, HasAssertion}
-use Rattle.mm_report.specs.declared.script.ScriptError.{ScriptError}
-use Rattle.mm_report.specs.declared.script.ScriptError.TheVariants as errors
-use Rattle.mm_report.specs.declared.stream.Writing.{Writing}
+use Rattle.mm_report.specs.mm_script.declared.error.ScriptError.{ScriptError}
+use Rattle.mm_report.specs.mm_script.declared.error.ScriptError.TheVariants as errors
+use Rattle.mm_report.specs.mm_script.declared.stream.Writing.{Writing}
 use Rattle.mm_report.specs.Language.Answers.{IsAnswer}
-use Rattle.mm_report.specs.Language.Script as script
-use Rattle.mm_report.specs.Language.Stream.{AppendsPart, written}
+use Rattle.mm_report.specs.mm_script.Language.Script as script
+use Rattle.mm_report.specs.mm_script.Language.Stream.{AppendsPart, written}
 use Rattle.mmkeep.specs.declared.outcome.Outcome.TheVariants.{Clean}
 use Rattle.mmkeep.specs.Language.Performing.{ListsAxioms, StopsAxioms}
 

@@ -4,7 +4,7 @@ ghost use Rattle.std.specs.Prelude.{◌≡◌, ◌⊎◌, ◌↔◌, ℕ, List, 
 ghost use Rattle.mm_report.specs.mm_store.Language.Answers.{IsAddError, IsAddErrorIn};
 ghost use Rattle.mm_report.specs.mm_store.Language.FileFacts.{IsAdded, parked_in};
 ghost use Rattle.mm_report.specs.mm_store.Language.FilesView.{File, plain};
-ghost use Rattle.mm_report.specs.Language.Stream.{cannot_read, unread};
+ghost use Rattle.mm_report.specs.mm_script.Language.Stream.{cannot_read, unread};
 ghost use Rattle.mmkeep.specs.declared.adding.FileError.TheVariants as errors;
 ghost use Rattle.mmkeep.specs.Code.Loaded.{IsNewNameError};
 ghost use Rattle.mmkeep.specs.Language.Loading.{AddsFile, IsFileError, IsNew, IsTextError};

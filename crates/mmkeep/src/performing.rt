@@ -7,7 +7,7 @@ ghost use Rattle.mm_report.specs.mm_frame.Language.Item.{Item};
 ghost use Rattle.mm_report.specs.mm_keep.Language.Findings.{counted};
 ghost use Rattle.mm_report.specs.mm_keep.Language.Told.{Told, counts};
 ghost use Rattle.mm_report.specs.Language.Report.{lines};
-ghost use Rattle.mm_report.specs.Language.Stream.{unread, written};
+ghost use Rattle.mm_report.specs.mm_script.Language.Stream.{unread, written};
 ghost use Rattle.mmkeep.specs.Language.Performing.{EndsScript, GoesOut, IsCutOff, IsDone, IsJudged, IsStopped};
 ghost use Rattle.mmkeep.specs.Language.Performing.{ListsAxioms, Reports, StopsAxioms, StopsReport, StopsScript};
 

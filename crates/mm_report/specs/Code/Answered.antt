@@ -8,14 +8,14 @@ use Rattle.mm_keep.specs.mm_store.Language.Edits.{Asked, edited_text}
 use Rattle.mm_keep.specs.mm_frame.Language.Base.{BaseView, IsOfFiles}
 use Rattle.mm_keep.specs.mm_frame.Language.Item.{Item}
 use Rattle.mm_keep.specs.Language.Sessions.{SessionView, HasAssertion, AreAxiomsOf, AreCitesOf, AreUsersOf}
-use Rattle.mm_report.specs.declared.script.ScriptError.{ScriptError}
-use Rattle.mm_report.specs.declared.script.ScriptError.TheVariants as errors
-use Rattle.mm_report.specs.declared.read_stream.Reading.{Reading}
-use Rattle.mm_report.specs.declared.stream.Writing.{Writing}
+use Rattle.mm_script.specs.declared.error.ScriptError.{ScriptError}
+use Rattle.mm_script.specs.declared.error.ScriptError.TheVariants as errors
+use Rattle.mm_script.specs.declared.read_stream.Reading.{Reading}
+use Rattle.mm_script.specs.declared.stream.Writing.{Writing}
 use Rattle.mm_report.specs.Language.Answers.{IsAnswer}
-use Rattle.mm_report.specs.Language.Script.{Command, Axioms, Cites, Users, Done, CutShort, BadLine}
+use Rattle.mm_script.specs.Language.Script.{Command, Axioms, Cites, Users, Done, CutShort, BadLine}
 use Rattle.mm_report.specs.Language.Scripting.{AnswersScript, AnswersRead, AnswersFirst, BeginsAnswers}
-use Rattle.mm_report.specs.Language.Stream.{written, has_failed, unread, cannot_read, AppendsPart, Writes}
+use Rattle.mm_script.specs.Language.Stream.{written, has_failed, unread, cannot_read, AppendsPart, Writes}
 
 -- a fault of a text that is reported is at one of its bytes, or at its end
 abbrev pub IsToldIn : List ℕ → EditError → Type 0

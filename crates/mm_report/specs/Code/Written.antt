@@ -5,9 +5,9 @@ use Rattle.mm_keep.specs.mm_store.Language.FilesView.{FilesView, plain}
 use Rattle.mm_keep.specs.mm_frame.Language.Base.{BaseView, IsOfFiles}
 use Rattle.mm_keep.specs.Language.Sessions.{SessionView}
 use Rattle.mm_keep.specs.Language.Told.{Told, IsRightlyTold, Counts, counts}
-use Rattle.mm_report.specs.declared.stream.Writing.{Writing}
+use Rattle.mm_script.specs.declared.stream.Writing.{Writing}
 use Rattle.mm_report.specs.Language.Report.{lines, names_of, BeginsReport}
-use Rattle.mm_report.specs.Language.Stream.{written, has_failed}
+use Rattle.mm_script.specs.Language.Stream.{written, has_failed}
 
 -- this many items are rightly reported
 pub record ToldUpTo (files : FilesView) (base : BaseView) (n : ℕ) (all : List Told) : Type 0 where

@@ -17,8 +17,8 @@ use Rattle.mm_keep.specs.Language.Runs.{AreRunsOf}
 use Rattle.mm_keep.specs.Language.Sessions.{SessionView, OfItems, HasAssertion, IsVerdictOf, AreAxiomsOf, AreCitesOf, AreUsersOf}
 use Rattle.mm_keep.specs.Language.Told.{Told, AnAxiom, Proved, Incomplete, Wrong}
 use Rattle.mm_report.specs.Language.Report.{names_of, incomplete_line, wrong_line, IsReport}
-use Rattle.mm_report.specs.Language.Script.{Command, Change, Batch, Report, Verdict, Axioms, Cites, Users, Entry, commands_of}
-use Rattle.mm_report.specs.Language.Script.{End, EndsSo, IsLongestReading}
+use Rattle.mm_script.specs.Language.Script.{Command, Change, Batch, Report, Verdict, Axioms, Cites, Users, Entry, commands_of}
+use Rattle.mm_script.specs.Language.Script.{End, EndsSo, IsLongestReading}
 
 -- the number of a fault of a text, as it is written
 abbrev pub text_code : TextNumber → List ℕ

@@ -11,7 +11,7 @@ use Rattle.mm_keep.specs.mm_proof.declared.ProofNumber.TheVariants.{P01, P02, P0
 use Rattle.mm_keep.specs.declared.finding.At.{At}
 use Rattle.mm_keep.specs.Language.Sessions.{SessionView}
 use Rattle.mm_keep.specs.Language.Told.{Told, Incomplete, Wrong, Fault, Shown, Counts, counts, AreRightlyTold}
-use Rattle.mm_report.specs.Language.Stream.{AppendsPart}
+use Rattle.mm_script.specs.Language.Stream.{AppendsPart}
 
 -- the number of a fault of a statement, as it is written
 abbrev pub code_of : FrameNumber → List ℕ

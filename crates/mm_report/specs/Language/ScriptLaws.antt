@@ -1,4 +1,4 @@
--- What is proved of scripts and their answers: each is the contract of a function.
+-- What is proved of the answers of scripts: each is the contract of a function.
 use Rattle.std.specs.Prelude.{◌≡◌, ◌↔◌, ◌⊎◌, ℕ, List, [], ◌++◌}
 use Rattle.mm_keep.specs.mm_store.Language.FileFacts.{HoldsPieces}
 use Rattle.mm_keep.specs.mm_store.Language.FilesView.{plain}
@@ -6,29 +6,7 @@ use Rattle.mm_keep.specs.mm_store.Language.Holding.{HoldOneEach}
 use Rattle.mm_keep.specs.mm_frame.Language.Base.{BaseView, IsOfFiles}
 use Rattle.mm_keep.specs.Language.Sessions.{SessionView}
 use Rattle.mm_report.specs.Language.Answers.{AreAnswers, IsScriptAnswer}
-use Rattle.mm_report.specs.Language.Script.{Entry, End, EndsSo, commands_of, AreRead, HasEntries, IsLongestReading, IsReadSoFar}
-
--- A script is read in one way.
-abbrev pub OneReading : Type 0
-OneReading = (script : List ℕ) (a b : List Entry) (s t : List ℕ) → IsLongestReading script a s → IsLongestReading script b t → (a ≡ b) × (s ≡ t)
-
--- What is left of a script ends it in one way at most.
-abbrev pub OneEnd : Type 0
-OneEnd = (rest : List ℕ) (a b : End) → EndsSo rest a → EndsSo rest b → a ≡ b
-
--- What is read of some bytes stays, whatever follows them: it is a beginning of the reading of them all.
-abbrev pub ReadingGoesOn : Type 0
-ReadingGoesOn = (bytes more : List ℕ) (entries all : List Entry) (rest left : List ℕ)
-    → IsReadSoFar bytes entries rest → IsLongestReading (bytes ++ more) all left
-    → (later : List Entry) × (all ≡ entries ++ later)
-
--- What is read of some bytes is one list.
-abbrev pub OneReadSoFar : Type 0
-OneReadSoFar = (bytes : List ℕ) (a b : List Entry) (s t : List ℕ) → IsReadSoFar bytes a s → IsReadSoFar bytes b t → (a ≡ b) × (s ≡ t)
-
--- Commands and empty lines that leave nothing of a script are its reading.
-abbrev pub CommandsLeaveNothing : Type 0
-CommandsLeaveNothing = (script : List ℕ) (entries : List Entry) → HasEntries script entries [] → IsLongestReading script entries []
+use Rattle.mm_script.specs.Language.Script.{Entry, End, commands_of, AreRead, HasEntries}
 
 -- the files of the session give items
 abbrev pub HasItems : SessionView → Type 0
@@ -61,15 +39,6 @@ abbrev pub AnswersBegin : Type 0
 AnswersBegin = (session other new final : SessionView) (bytes more answers all : List ℕ) (entries : List Entry) (rest : List ℕ) (end : End)
     → AreAlike session other → AreTheFirst bytes more entries rest → AreAnswers session (commands_of entries) answers new
     → IsScriptAnswer other (bytes ++ more) all final end → (later : List ℕ) × (all ≡ answers ++ later)
-
--- the script is read as these entries, with this rest and this end
-pub record IsReadSo (script : List ℕ) (entries : List Entry) (rest : List ℕ) (end : End) : Type 0 where
-  pub reading : IsLongestReading script entries rest
-  pub ends : EndsSo rest end
-
--- Each script has a reading, and ends in some way.
-abbrev pub HasReading : Type 0
-HasReading = (script : List ℕ) → (entries : List Entry) × (rest : List ℕ) × (end : End) × IsReadSo script entries rest end
 
 -- a session as it is: each key in its files has a piece, each piece holds one unit, and the files give items from the top file on
 pub record IsWholeSession (session : SessionView) : Type 0 where

@@ -3,7 +3,7 @@ use Rattle.std.specs.Prelude.{◌⊎◌, ℕ, Option, List, [], ◌∷◌, ◌++
 use Rattle.std.specs.Io.KnownBytes.{Appends, Consumes, IsAtEnd}
 use Rattle.mm_keep.specs.Language.Sessions.{SessionView}
 use Rattle.mm_report.specs.Language.Answers.{AreAnswers, IsAnswer, IsScriptAnswer}
-use Rattle.mm_report.specs.Language.Script.{Command, End, Entry, Given, commands_of, AreRead, HasEntries, IsReadSoFar}
+use Rattle.mm_script.specs.Language.Script.{Command, End, Entry, Given, commands_of, AreRead, HasEntries, IsReadSoFar}
 
 -- the answers of the whole script are written, and nothing else
 pub record AnswersScript (old new : SessionView) (script : List ℕ) (end : End) (before after : Option (List ℕ)) : Type 0 where

@@ -5,13 +5,13 @@ use Rattle.mm_report.specs.mm_store.Language.FilesView.{plain}
 use Rattle.mm_report.specs.mm_frame.Language.Base.{BaseView, IsOfFiles}
 use Rattle.mm_report.specs.mm_keep.Language.Sessions.{SessionView, HasAssertion}
 use Rattle.mm_report.specs.mm_keep.Language.Told.{Told, AreRightlyTold}
-use Rattle.mm_report.specs.declared.script.ScriptError.{ScriptError}
-use Rattle.mm_report.specs.declared.script.ScriptError.TheVariants as errors
+use Rattle.mm_report.specs.mm_script.declared.error.ScriptError.{ScriptError}
+use Rattle.mm_report.specs.mm_script.declared.error.ScriptError.TheVariants as errors
 use Rattle.mm_report.specs.Language.Answers.{IsAnswer}
 use Rattle.mm_report.specs.Language.Report.{IsReport, BeginsReport, lines, names_of}
-use Rattle.mm_report.specs.Language.Script as script
+use Rattle.mm_report.specs.mm_script.Language.Script as script
 use Rattle.mm_report.specs.Language.Scripting.{AnswersScript, AnswersFirst, AnswersRead, BeginsAnswers}
-use Rattle.mm_report.specs.Language.Stream.{AppendsPart}
+use Rattle.mm_report.specs.mm_script.Language.Stream.{AppendsPart}
 use Rattle.mmkeep.specs.declared.arguments.Command.{Command}
 use Rattle.mmkeep.specs.declared.arguments.Command.TheVariants.{Verify, Axioms, Session}
 use Rattle.mmkeep.specs.declared.outcome.Outcome.{Outcome}

@@ -1,7 +1,7 @@
 -- How the program ends, and its exit status.
 use Rattle.std.specs.Prelude.{ℕ}
-use Rattle.mm_report.specs.declared.script.ScriptError.{ScriptError}
-use Rattle.mm_report.specs.declared.script.ScriptError.TheVariants as errors
+use Rattle.mm_report.specs.mm_script.declared.error.ScriptError.{ScriptError}
+use Rattle.mm_report.specs.mm_script.declared.error.ScriptError.TheVariants as errors
 use Rattle.mmkeep.specs.declared.adding.FileError.{FileError}
 use Rattle.mmkeep.specs.declared.adding.FileError.TheVariants as file_errors
 use Rattle.mmkeep.specs.declared.outcome.Outcome.{Outcome}

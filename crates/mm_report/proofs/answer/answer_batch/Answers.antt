@@ -5,7 +5,7 @@ use Rattle.mm_keep.specs.mm_store.Language.Batches.{IsBatchOf}
 use Rattle.mm_keep.specs.mm_store.Language.Edits.{Asked, asked}
 use Rattle.mm_keep.specs.mm_store.Language.FilesView.{plain}
 use Rattle.mm_report.specs.Code.Answered.{Answers}
-use Rattle.mm_report.specs.Language.Script.{Batch, Listed}
+use Rattle.mm_script.specs.Language.Script.{Batch, Listed}
 use Rattle.mm_report.proofs.AskedLemmas.{answered_ok, answered_stop, ran_base, ran_is}
 use Rattle.mm_report.proofs.answer.answer_batch.Goals as goal
 

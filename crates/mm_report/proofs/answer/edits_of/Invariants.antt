@@ -1,6 +1,6 @@
 use Rattle.std.proofs.Common.{◌≡◌, map, take}
 use Rattle.mm_keep.specs.mm_store.Language.Edits.{asked}
-use Rattle.mm_report.specs.Code.Pending.{edit_in}
+use Rattle.mm_script.specs.Language.Commands.{edit_in}
 use Rattle.mm_report.proofs.answer.edits_of.Given as goal
 
 abbrev pub invariant-loop-one : goal.invariant-loop-one

@@ -1,4 +1,4 @@
-use Rattle.mm_report.specs.Language.Script.{Axioms}
+use Rattle.mm_script.specs.Language.Script.{Axioms}
 use Rattle.mm_report.proofs.AskedLemmas.{axioms_there, only_two, when_lacks, when_ok, when_stops}
 use Rattle.mm_report.proofs.answer.write_axioms.Goals as goal
 

@@ -1,7 +1,7 @@
 use Rattle.std.proofs.Common.{take}
 use Rattle.std.specs.Io.KnownBytes.{Appends}
 use Rattle.mm_keep.specs.mm_frame.Language.Base.{BaseView, IsOfFiles}
-use Rattle.mm_report.specs.Language.Stream.{written}
+use Rattle.mm_script.specs.Language.Stream.{written}
 use Rattle.mm_report.proofs.LabelLemmas.{lines_of}
 use Rattle.mm_report.proofs.answer.write_label_lines.Given as goal
 

@@ -4,6 +4,9 @@ use Rattle.mm_report.proofs.script_laws.answers_begin.Goals.{After-one_list_each
 
 laws : After-one_list_each → AnswerLaws
 laws c = record {
+  reading = c.one_reading.ensures.reading;
+  ends = c.one_reading.ensures.end;
+  divisions = c.divisions_agree.ensures;
   database = record {
     words = c.one_meaning.ensures.words;
     said = c.files_have_one_base.ensures.said;

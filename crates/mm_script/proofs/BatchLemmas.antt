@@ -1,0 +1,114 @@
+-- Batches whose edits are not all read, or that stop.
+use Rattle.std.proofs.Common.{◌≡◌, ◌≢◌, ℕ, ◌+◌, ◌-◌, ◌<◌, ◌≤◌, Bool, true, false, List, [], ◌∷◌, ◌++◌, append_assoc, length, take, drop, replicate, refl, sym, ap, ◌∙◌, subst, arith, Option, Some, None, IfSome}
+use Rattle.std.specs.List.{flat_map}
+use Rattle.std.specs.Io.KnownBytes.{IsAtEnd}
+use Rattle.std.proofs.lemmas.List.{append-nil, length-drop, length-take, take-append-drop, take-append-le, drop_all}
+use Rattle.mm_script.specs.declared.input.Input.{Input}
+use Rattle.mm_script.specs.declared.script_lines.LineAt.{LineAt}
+use Rattle.mm_script.specs.Code.Batches.{IsBatchFront}
+use Rattle.mm_script.specs.Code.Growing.{InputGrows, HasBlanks, IsLineAt, IsTextBad, IsTextLine, IsTextShort, line_bytes}
+use Rattle.mm_script.specs.Language.Commands.{pending, StopsSo, HasNoEntry}
+use Rattle.mm_script.specs.Code.Stops.{IsBadEditLine, IsOneLine, batch_bytes, batch_line}
+use Rattle.mm_store.specs.Language.Edits.{Asked, edited_text}
+use Rattle.mm_script.specs.Language.Script.{CutShort, BadLine, IsGoodEdit, Listed, edit_line, listed_bytes}
+use Rattle.mm_script.proofs.EditLemmas.{fed_line, unfed_line}
+use Rattle.mm_script.proofs.GrowLemmas.{grows_not}
+use Rattle.mm_script.proofs.StopLemmas.{batch_no_feed, batch_cut, batch_bad_line, batch_bad_last, batch_text_cut, batch_text_none, batch_text_line_cut, batch_text_bad, batch_edit_cut}
+
+-- if nothing is left
+pub at_end : (P : List ℕ → Type 0) (bytes : List ℕ) (left : Option (List ℕ)) → IsAtEnd left → P bytes → IfSome left (λ more. P (bytes ++ more))
+at_end P bytes None end h = tt
+at_end P bytes (Some more) end h = subst P (sym (ap (λ (xs : List ℕ). bytes ++ xs) end ∙ append-nil bytes)) h
+
+-- whatever is left
+pub always : (P : List ℕ → Type 0) (bytes : List ℕ) (left : Option (List ℕ)) → ((more : List ℕ) → P (bytes ++ more)) → IfSome left (λ more. P (bytes ++ more))
+always P bytes None h = tt
+always P bytes (Some more) h = h more
+
+-- the bytes are those of a batch, with what comes after some of its edits and empty lines
+pub front_bytes : (a b : Input) (u v : Option (List ℕ)) (n : ℕ) (front : List Listed) (from start : ℕ) → IsBatchFront (pending a) n front from → InputGrows a b u v → HasBlanks (pending b) from start
+    → pending b ≡ batch_bytes n front (start - from) (drop start (pending b))
+front_bytes a b u v n front from start f grows blanks =
+    let bytes = pending b in
+    let inner = drop start bytes in
+    let same : take from bytes ≡ batch_line n ++ 10 ∷ flat_map listed_bytes front = ap (take from) grows.are ∙ take-append-le from (pending a) grows.part f.within ∙ f.are in
+    sym (take-append-drop from bytes)
+    ∙ ap (λ (xs : List ℕ). xs ++ drop from bytes) same
+    ∙ ap (λ (xs : List ℕ). (batch_line n ++ 10 ∷ flat_map listed_bytes front) ++ xs) blanks.are
+    ∙ append_assoc (batch_line n) (10 ∷ flat_map listed_bytes front) (replicate (start - from) 10 ++ inner)
+    ∙ ap (λ (xs : List ℕ). batch_line n ++ 10 ∷ xs) refl
+
+-- with more after them
+pub batch_more : (n : ℕ) (front : List Listed) (blanks : ℕ) (bytes inner more : List ℕ) → bytes ≡ batch_bytes n front blanks inner → bytes ++ more ≡ batch_bytes n front blanks (inner ++ more)
+batch_more n front blanks bytes inner more is =
+    let edits = flat_map listed_bytes front in
+    let empty = replicate blanks 10 in
+    ap (λ (xs : List ℕ). xs ++ more) is
+    ∙ append_assoc (batch_line n) (10 ∷ (edits ++ (empty ++ inner))) more
+    ∙ ap (λ (xs : List ℕ). batch_line n ++ 10 ∷ xs) (append_assoc edits (empty ++ inner) more ∙ ap (λ (xs : List ℕ). edits ++ xs) (append_assoc empty inner more))
+
+-- ---- the ends of a batch, from its first edits on
+
+module _ (a b : Input) (u v : Option (List ℕ)) (n : ℕ) (front : List Listed) (from start : ℕ) (f : IsBatchFront (pending a) n front from) (grows : InputGrows a b u v) (blanks : HasBlanks (pending b) from start) where
+  whole : pending b ≡ batch_bytes n front (start - from) (drop start (pending b))
+  whole = front_bytes a b u v n front from start f grows blanks
+
+  inner_is : (inner : List ℕ) → drop start (pending b) ≡ inner → pending b ≡ batch_bytes n front (start - from) inner
+  inner_is inner is = whole ∙ ap (λ (xs : List ℕ). batch_bytes n front (start - from) xs) is
+
+  -- the bytes have this end
+  pub ends_here : (End : List ℕ → Type 0) (inner : List ℕ) → drop start (pending b) ≡ inner → IsAtEnd v → End (batch_bytes n front (start - from) inner) → IfSome v (λ more. End (pending b ++ more))
+  ends_here End inner is end h = at_end End (pending b) v end (subst End (sym (inner_is inner is)) h)
+
+  pub ends_always : (End : List ℕ → Type 0) (inner : List ℕ) → drop start (pending b) ≡ inner → ((more : List ℕ) → End (batch_bytes n front (start - from) (inner ++ more)))
+      → IfSome v (λ more. End (pending b ++ more))
+  ends_always End inner is h = always End (pending b) v (λ (more : List ℕ). subst End (sym (batch_more n front (start - from) (pending b) inner more (inner_is inner is))) (h more))
+
+  pub holds_here : (inner : List ℕ) → drop start (pending b) ≡ inner → HasNoEntry (batch_bytes n front (start - from) inner) → HasNoEntry (pending b)
+  holds_here inner is h = subst HasNoEntry (sym (inner_is inner is)) h
+
+  pub begun_holds : IsOneLine (drop start (pending b)) → HasNoEntry (pending b)
+  begun_holds one = holds_here (drop start (pending b)) refl (batch_no_feed n front (start - from) (drop start (pending b)) f.listed one)
+
+  pub none_left : length (pending b) ≤ start → IsAtEnd v → IfSome v (λ more. StopsSo (pending b ++ more) CutShort)
+  none_left last end = ends_here (λ (xs : List ℕ). StopsSo xs CutShort) [] (drop_all start (pending b) last) end (batch_cut n front (start - from) f.listed)
+
+  pub short_cut : IsTextShort (drop start (pending b)) → IsAtEnd v → IfSome v (λ more. StopsSo (pending b ++ more) CutShort)
+  short_cut t end = ends_here (λ (xs : List ℕ). StopsSo xs CutShort) _ t.are end (batch_text_cut n front (start - from) t.edit t.count t.part f.listed t.has t.short)
+
+  pub short_holds : IsTextShort (drop start (pending b)) → HasNoEntry (pending b)
+  short_holds t = holds_here _ t.are (batch_text_none n front (start - from) t.edit t.count t.part f.listed t.has t.short)
+
+  pub line_cut : IsTextLine (drop start (pending b)) → IsAtEnd v → IfSome v (λ more. StopsSo (pending b ++ more) CutShort)
+  line_cut t end = ends_here (λ (xs : List ℕ). StopsSo xs CutShort) _ t.are end (batch_text_line_cut n front (start - from) t.edit t.count f.listed t.has)
+
+  pub bad_text : IsTextBad (drop start (pending b)) → IfSome v (λ more. StopsSo (pending b ++ more) BadLine)
+  bad_text t = ends_always (λ (xs : List ℕ). StopsSo xs BadLine) _ t.are (λ (more : List ℕ).
+      subst (λ (xs : List ℕ). StopsSo (batch_bytes n front (start - from) xs) BadLine)
+      (sym (append_assoc (edit_line t.edit) (10 ∷ (t.text ++ t.byte ∷ t.more)) more ∙ ap (λ (xs : List ℕ). edit_line t.edit ++ 10 ∷ xs) (append_assoc t.text (t.byte ∷ t.more) more)))
+      (batch_text_bad n front (start - from) t.edit t.count t.text (t.more ++ more) t.byte f.listed t.has t.is t.other))
+
+  pub bad_fed : (line rest : List ℕ) → drop start (pending b) ≡ line ++ 10 ∷ rest → IsBadEditLine line → IfSome v (λ more. StopsSo (pending b ++ more) BadLine)
+  bad_fed line rest is bad = ends_always (λ (xs : List ℕ). StopsSo xs BadLine) _ is (λ (more : List ℕ).
+      subst (λ (xs : List ℕ). StopsSo (batch_bytes n front (start - from) xs) BadLine) (sym (append_assoc line (10 ∷ rest) more)) (batch_bad_line n front (start - from) line (rest ++ more) f.listed bad))
+
+  pub bad_unfed : (line : List ℕ) → drop start (pending b) ≡ line → IsBadEditLine line → IsAtEnd v → IfSome v (λ more. StopsSo (pending b ++ more) BadLine)
+  bad_unfed line is bad end = ends_here (λ (xs : List ℕ). StopsSo xs BadLine) line is end (batch_bad_last n front (start - from) line f.listed bad)
+
+  pub edit_missing : (edit : Asked) → drop start (pending b) ≡ edit_line edit → IsGoodEdit edit → edited_text edit ≡ None → length front + 1 < n → IsAtEnd v → IfSome v (λ more. StopsSo (pending b ++ more) CutShort)
+  edit_missing edit is good none fewer end = ends_here (λ (xs : List ℕ). StopsSo xs CutShort) _ is end (batch_edit_cut n front (start - from) edit f.listed good none fewer)
+
+-- a line that is that of no edit
+pub bad_listed : (a b : Input) (u v : Option (List ℕ)) (n : ℕ) (front : List Listed) (from : ℕ) (line : LineAt) → IsBatchFront (pending a) n front from → InputGrows a b u v → HasBlanks (pending b) from line.start
+    → IsLineAt (pending b) v line → IsBadEditLine (line_bytes (pending b) line) → IfSome v (λ more. StopsSo (pending b ++ more) BadLine)
+bad_listed a b u v n front from line f grows blanks is bad = by line.fed refl
+  where
+    by : (fed : Bool) → line.fed ≡ fed → IfSome v (λ more. StopsSo (pending b ++ more) BadLine)
+    by true e = bad_fed a b u v n front from line.start f grows blanks (line_bytes (pending b) line) (drop (line.end + 1) (pending b)) (fed_line b b v v line is (grows_not b v) e) bad
+    by false e = bad_unfed a b u v n front from line.start f grows blanks (line_bytes (pending b) line) (unfed_line (pending b) v line is e) bad (is.unfed e).1
+
+-- its bytes are some
+pub line_some : (bytes : List ℕ) (left : Option (List ℕ)) (line : LineAt) → IsLineAt bytes left line → line.start < line.end → line_bytes bytes line ≢ []
+line_some bytes left line is some none =
+    let long = ap length none in
+    absurd (omega (arith, long, some, is.within, length-take (line.end - line.start) (drop line.start bytes), length-drop line.start bytes))

@@ -1,0 +1,143 @@
+-- Commands that are read, from their lines on.
+use Rattle.std.proofs.Common.{◌≡◌, ◌⊎◌, ℕ, ◌+◌, Bool, true, false, List, [], ◌∷◌, ◌++◌, append_assoc, length, drop, refl, sym, ap, ◌∙◌, subst, arith, Option, inl, inr, IfSome, length-drop}
+use Rattle.std.specs.List.{flat_map}
+use Rattle.std.specs.Io.KnownBytes.{IsAtEnd}
+use Rattle.std.proofs.lemmas.List.Folds.{drop_split}
+use Rattle.mm_script.specs.declared.entry.EditAt.{EditAt}
+use Rattle.mm_script.specs.declared.entry.CommandAt.{CommandAt}
+use Rattle.mm_script.specs.declared.entry.Complete.{Complete}
+use Rattle.mm_script.specs.declared.entry.Part.{Part}
+use Rattle.mm_script.specs.declared.script_lines.LineAt.{LineAt}
+use Rattle.mm_script.specs.Code.Batches.{IsBatchRead}
+use Rattle.mm_script.specs.Code.Growing.{IsLineAt, IsTextBad, IsTextLine, IsTextShort, line_bytes}
+use Rattle.mm_script.specs.Code.Lines.{SaysLabel}
+use Rattle.mm_script.specs.Language.Commands.{bytes_of_part, AreEditsIn, IsCommandIn, IsNextCommand, IsWholeOrLast, IsPartWithin, StopsSo, HasNoEntry}
+use Rattle.mm_script.specs.Code.Stops.{IsBadLine, batch_line}
+use Rattle.mm_script.specs.Language.Script.{CutShort, BadLine, Command, Batch, IsGood, IsName, EndsInLine, IsNumber, Listed, behind_line, edit_line, line_of, listed_bytes}
+use Rattle.mm_script.proofs.BatchLemmas.{always, at_end}
+use Rattle.mm_script.proofs.BatchReadLemmas.{edits_counted}
+use Rattle.mm_script.proofs.EditLemmas.{IsShifted, shifted_is, shifted_within, unfed_line}
+use Rattle.mm_script.proofs.StopLemmas.{bad_line, bad_last, text_cut, text_none, text_line_cut, text_bad}
+
+fed_bytes : (bytes : List ℕ) (left : Option (List ℕ)) (line : LineAt) → IsLineAt bytes left line → line.fed ≡ true → drop line.start bytes ≡ line_bytes bytes line ++ 10 ∷ drop (line.end + 1) bytes
+fed_bytes bytes left line is e = drop_split bytes line.start line.end is.ordered ∙ ap (λ (xs : List ℕ). line_bytes bytes line ++ xs) (is.fed e)
+
+all_bytes : (bytes : List ℕ) (start : ℕ) → start ≡ 0 → bytes ≡ drop start bytes
+all_bytes bytes start none = sym (ap (λ (n : ℕ). drop n bytes) none)
+
+-- a line that is that of no command
+pub bad_first : (bytes : List ℕ) (left : Option (List ℕ)) (line : LineAt) → IsLineAt bytes left line → line.start ≡ 0 → IsBadLine (line_bytes bytes line) → IfSome left (λ more. StopsSo (bytes ++ more) BadLine)
+bad_first bytes left line is start bad = by line.fed refl
+  where
+    by : (fed : Bool) → line.fed ≡ fed → IfSome left (λ more. StopsSo (bytes ++ more) BadLine)
+    by true e =
+        let whole = all_bytes bytes line.start start ∙ fed_bytes bytes left line is e in
+        always (λ (xs : List ℕ). StopsSo xs BadLine) bytes left (λ (more : List ℕ).
+        subst (λ (xs : List ℕ). StopsSo xs BadLine) (sym (ap (λ (xs : List ℕ). xs ++ more) whole ∙ append_assoc (line_bytes bytes line) (10 ∷ drop (line.end + 1) bytes) more))
+        (bad_line (line_bytes bytes line) (drop (line.end + 1) bytes ++ more) bad))
+    by false e =
+        let whole = all_bytes bytes line.start start ∙ unfed_line bytes left line is e in
+        at_end (λ (xs : List ℕ). StopsSo xs BadLine) bytes left (is.unfed e).1 (subst (λ (xs : List ℕ). StopsSo xs BadLine) (sym whole) (bad_last (line_bytes bytes line) bad))
+
+-- an edit whose text is not all there, or followed by another byte
+pub bad_edit : (bytes : List ℕ) (left : Option (List ℕ)) (start : ℕ) → start ≡ 0 → IsTextBad (drop start bytes) → IfSome left (λ more. StopsSo (bytes ++ more) BadLine)
+bad_edit bytes left start none t =
+    let whole = all_bytes bytes start none ∙ t.are in
+    always (λ (xs : List ℕ). StopsSo xs BadLine) bytes left (λ (more : List ℕ).
+    subst (λ (xs : List ℕ). StopsSo xs BadLine)
+    (sym (ap (λ (xs : List ℕ). xs ++ more) whole ∙ append_assoc (edit_line t.edit) (10 ∷ (t.text ++ t.byte ∷ t.more)) more ∙ ap (λ (xs : List ℕ). edit_line t.edit ++ 10 ∷ xs) (append_assoc t.text (t.byte ∷ t.more) more)))
+    (text_bad t.edit t.count t.text (t.more ++ more) t.byte t.has t.is t.other))
+
+pub cut_edit : (bytes : List ℕ) (left : Option (List ℕ)) (start : ℕ) → start ≡ 0 → IsAtEnd left → IsTextShort (drop start bytes) ⊎ IsTextLine (drop start bytes) → IfSome left (λ more. StopsSo (bytes ++ more) CutShort)
+cut_edit bytes left start none end (inl t) =
+    at_end (λ (xs : List ℕ). StopsSo xs CutShort) bytes left end (subst (λ (xs : List ℕ). StopsSo xs CutShort) (sym (all_bytes bytes start none ∙ t.are)) (text_cut t.edit t.count t.part t.has t.short))
+cut_edit bytes left start none end (inr t) =
+    at_end (λ (xs : List ℕ). StopsSo xs CutShort) bytes left end (subst (λ (xs : List ℕ). StopsSo xs CutShort) (sym (all_bytes bytes start none ∙ t.are)) (text_line_cut t.edit t.count t.has))
+
+pub held_edit : (bytes : List ℕ) (start : ℕ) → start ≡ 0 → IsTextShort (drop start bytes) → HasNoEntry bytes
+held_edit bytes start none t = subst HasNoEntry (sym (all_bytes bytes start none ∙ t.are)) (text_none t.edit t.count t.part t.has t.short)
+
+-- a command that is no more than its line
+pub line_next : (bytes : List ℕ) (left : Option (List ℕ)) (line : LineAt) (command : Command) (next : Complete CommandAt) → IsLineAt bytes left line → line.start ≡ 0
+    → line_bytes bytes line ≡ line_of command → behind_line command ≡ [] → IsGood command → IsCommandIn bytes next.found command → EndsInLine command
+    → next.fed ≡ line.fed → (line.fed ≡ true → next.end ≡ line.end + 1) → IsNextCommand bytes left next
+line_next bytes left line command next is start says none good is_command in_line fed end = record {
+  command = command;
+  good = good;
+  is_command = is_command;
+  whole = by line.fed refl;
+}
+  where
+    by : (b : Bool) → line.fed ≡ b → IsWholeOrLast bytes left next command
+    by true e =
+        let rest = drop next.end bytes in
+        let some : length (drop line.end bytes) ≡ length (drop (line.end + 1) bytes) + 1 = omega (arith, ap length (is.fed e)) in
+        let place = end e in
+        inl (
+          fed ∙ e,
+          record {
+            within = omega (arith, place, some, length-drop line.end bytes, is.within);
+            are = all_bytes bytes line.start start ∙ fed_bytes bytes left line is e
+                ∙ ap (λ (xs : List ℕ). xs ++ 10 ∷ drop (line.end + 1) bytes) says
+                ∙ ap (λ (n : ℕ). line_of command ++ 10 ∷ drop n bytes) (sym place)
+                ∙ ap (λ (xs : List ℕ). line_of command ++ 10 ∷ (xs ++ rest)) (sym none)
+                ∙ sym (append_assoc (line_of command) (10 ∷ behind_line command) rest);
+          },
+        )
+    by false e = inr (
+      fed ∙ e,
+      record {
+        at_end = (is.unfed e).1;
+        in_line = in_line;
+        are = ap (λ (xs : List ℕ). xs ++ 10 ∷ []) (all_bytes bytes line.start start ∙ unfed_line bytes left line is e ∙ says) ∙ ap (λ (xs : List ℕ). line_of command ++ 10 ∷ xs) (sym none);
+      },
+    )
+
+-- one with a label
+pub label_next : (bytes : List ℕ) (left : Option (List ℕ)) (line : LineAt) (label : Part) (word : List ℕ) (make : List ℕ → Command) (next : Complete CommandAt) → IsLineAt bytes left line → line.start ≡ 0
+    → SaysLabel (line_bytes bytes line) word label → ((name : List ℕ) → line_of (make name) ≡ word ++ 32 ∷ name) → ((name : List ℕ) → behind_line (make name) ≡ [])
+    → ((name : List ℕ) → IsName name → IsGood (make name)) → ((name : List ℕ) → EndsInLine (make name))
+    → (IsPartWithin bytes label → IsCommandIn bytes next.found (make (bytes_of_part bytes label)))
+    → next.fed ≡ line.fed → (line.fed ≡ true → next.end ≡ line.end + 1) → IsNextCommand bytes left next
+label_next bytes left line label word make next is start says line_is none good in_line is_command fed end =
+    let at : IsShifted label label line.start = record { start = omega arith; end = omega arith } in
+    let same : bytes_of_part bytes label ≡ bytes_of_part (line_bytes bytes line) label = shifted_is bytes left line label label is says.good.within at in
+    line_next bytes left line (make (bytes_of_part bytes label)) next is start
+    (says.is ∙ ap (λ (xs : List ℕ). word ++ 32 ∷ xs) (sym same) ∙ sym (line_is (bytes_of_part bytes label)))
+    (none (bytes_of_part bytes label)) (good (bytes_of_part bytes label) (subst IsName (sym same) says.good.name))
+    (is_command (shifted_within bytes left line label label is says.good.within at)) (in_line (bytes_of_part bytes label)) fed end
+
+-- a batch
+pub batch_next : (bytes : List ℕ) (left : Option (List ℕ)) (n : ℕ) (next : Complete CommandAt) (found : List EditAt) → IsBatchRead bytes left n found next.end next.fed → length found ≡ n
+    → ((command : Command) → ((listed : List Listed) × AreEditsIn bytes found listed × (command ≡ Batch listed)) → IsCommandIn bytes next.found command) → IsNextCommand bytes left next
+batch_next bytes left n next found b count is_command =
+    let long : n ≡ length b.front = sym count ∙ sym (edits_counted bytes found b.front b.edits) in
+    record {
+      command = Batch b.front;
+      good = (subst IsNumber long b.number, b.good);
+      is_command = is_command (Batch b.front) (b.front, b.edits, refl);
+      whole = by next.fed refl;
+    }
+  where
+    by : (f : Bool) → next.fed ≡ f → IsWholeOrLast bytes left next (Batch b.front)
+    by true e =
+        let long : n ≡ length b.front = sym count ∙ sym (edits_counted bytes found b.front b.edits) in
+        inl (
+          e,
+          record {
+            within = b.within;
+            are = b.fed_so e ∙ ap (λ (k : ℕ). batch_line k ++ 10 ∷ (flat_map listed_bytes b.front ++ drop next.end bytes)) long
+                ∙ sym (append_assoc (batch_line (length b.front)) (10 ∷ flat_map listed_bytes b.front) (drop next.end bytes));
+          },
+        )
+    by false e =
+        let long : n ≡ length b.front = sym count ∙ sym (edits_counted bytes found b.front b.edits) in
+        let last = b.unfed e in
+        inr (
+          e,
+          record {
+            at_end = last.2;
+            in_line = last.1;
+            are = last.0 ∙ ap (λ (k : ℕ). batch_line k ++ 10 ∷ flat_map listed_bytes b.front) long;
+          },
+        )

@@ -1,0 +1,111 @@
+-- Some scripts are read by the definitions.
+use Rattle.std.proofs.Common.{◌≡◌, ◌≢◌, ℕ, ◌<◌, List, [], ◌∷◌, length, refl, ap, arith, codes, slice_index}
+use Rattle.std.specs.Fmt.{digits}
+use Rattle.mm_store.specs.Language.Edits.{Asked, Insert, Replace, Delete}
+use Rattle.mm_script.specs.Code.Stops.{AreListed, HasTextOf}
+use Rattle.mm_script.specs.Language.Commands.{StopsSo}
+use Rattle.mm_script.specs.Language.Script.{Command, Change, Batch, Report, Verdict, Axioms, Users, Blank, Given, End, CutShort, BadLine, IsGood, IsGoodEdit, IsName, edit_line, line_of}
+use Rattle.mm_script.specs.Language.ScriptExamples.{ReadsText, ReadsBatch, ReadsLastEdit, CutsText, CutsFeed, CutsLine, CutsBatch, EndsInEdit, EndsAtLine, EndsAtText}
+use Rattle.mm_script.specs.Language.ReadingLaws.{IsReadSo}
+use Rattle.mm_script.proofs.JoinLemmas.{reading_behind, reading_done, reading_last}
+use Rattle.mm_script.proofs.StopLemmas.{bad_line, batch_bad_last, batch_cut, text_bad, text_cut, text_line_cut}
+
+name_a : IsName (codes "a.mm")
+name_a = record { some = λ (e : codes "a.mm" ≡ []). cc; bytes = refl }
+
+name_d : IsName (codes "d.mm")
+name_d = record { some = λ (e : codes "d.mm" ≡ []). cc; bytes = refl }
+
+name_t : IsName (codes "t")
+name_t = record { some = λ (e : codes "t" ≡ []). cc; bytes = refl }
+
+name_a1 : IsName (codes "a1")
+name_a1 = record { some = λ (e : codes "a1" ≡ []). cc; bytes = refl }
+
+name_th : IsName (codes "th")
+name_th = record { some = λ (e : codes "th" ≡ []). cc; bytes = refl }
+
+-- a script that ends like this, after commands or at once
+stopped : (script : List ℕ) (end : End) → StopsSo script end → IsReadSo script [] script end
+stopped script end s = record { reading = s.reading; ends = s.ends }
+
+pub reads_text : ReadsText
+unfolding digits
+reads_text = record {
+  reading = reading_last _ (Given (Change (Replace (codes "d.mm") 7 (codes "$c a $.\n$c b $."))) ∷ Blank ∷ Given (Verdict (codes "t")) ∷ Given (Users (codes "a1")) ∷ Blank ∷ []) (codes "axioms t") (Axioms (codes "t"))
+      (record { good = ((name_d, omega arith, omega arith), (tt, (name_t, (name_a1, (tt, tt))))); joined = refl }) name_t tt refl;
+  ends = refl;
+}
+
+pub reads_batch : ReadsBatch
+unfolding digits
+reads_batch = record {
+  reading = reading_done _ _ (record { good = ((omega arith, ((name_a, omega arith, omega arith), ((name_a, omega arith, omega arith), tt))), (tt, tt)); joined = refl });
+  ends = refl;
+}
+
+pub reads_last_edit : ReadsLastEdit
+unfolding digits
+reads_last_edit = record {
+  reading = reading_last _ [] (codes "batch 1\ndelete a.mm 0") (Batch (record { blanks = 0; edit = Delete (codes "a.mm") 0 } ∷ [])) (record { good = tt; joined = refl }) (omega arith, ((name_a, omega arith), tt)) refl refl;
+  ends = refl;
+}
+
+has_text : (text : List ℕ) → length text < 10 → HasTextOf (Insert (codes "a.mm") 0 text) (length text)
+has_text text h = record { good = (name_a, omega arith, omega arith); text = text; is_text = refl; count_is = refl }
+
+pub cuts_text : CutsText
+unfolding digits
+cuts_text = stopped (codes "insert a.mm 0 9\nabc") CutShort (text_cut (Insert (codes "a.mm") 0 (codes "abcdefghi")) 9 (codes "abc") (has_text (codes "abcdefghi") (omega arith)) (omega arith))
+
+three : StopsSo (codes "insert a.mm 0 3\nabc") CutShort
+unfolding digits
+three = text_cut (Insert (codes "a.mm") 0 (codes "abc")) 3 (codes "abc") (has_text (codes "abc") (omega arith)) (omega arith)
+
+pub cuts_feed : CutsFeed
+cuts_feed = record {
+  reading = reading_behind (codes "report\ninsert a.mm 0 3\nabc") (Given Report ∷ []) [] (codes "insert a.mm 0 3\nabc") (codes "insert a.mm 0 3\nabc") (record { good = (tt, tt); joined = refl }) three.reading;
+  ends = three.ends;
+}
+
+pub cuts_line : CutsLine
+unfolding digits
+cuts_line = stopped (codes "insert a.mm 0 0") CutShort (text_line_cut (Insert (codes "a.mm") 0 []) 0 (has_text [] (omega arith)))
+
+one_listed : AreListed 2 (record { blanks = 0; edit = Delete (codes "a.mm") 0 } ∷ [])
+one_listed = record { number = omega arith; good = ((name_a, omega arith), tt); fewer = omega arith }
+
+pub cuts_batch : CutsBatch
+unfolding digits
+cuts_batch = stopped (codes "batch 2\ndelete a.mm 0\n\n") CutShort (batch_cut 2 (record { blanks = 0; edit = Delete (codes "a.mm") 0 } ∷ []) 1 one_listed)
+
+no_edit : (e : Asked) → IsGoodEdit e → codes "del" ≢ edit_line e
+no_edit (Delete file at) g e = omega (arith, ap (λ (w : List ℕ). slice_index w 3) e)
+no_edit _ g e = omega (arith, ap (λ (w : List ℕ). slice_index w 0) e)
+
+pub ends_in_edit : EndsInEdit
+unfolding digits
+ends_in_edit = stopped (codes "batch 2\ndelete a.mm 0\ndel") BadLine (batch_bad_last 2 (record { blanks = 0; edit = Delete (codes "a.mm") 0 } ∷ []) 0 (codes "del") one_listed
+    (record { some = λ (e : codes "del" ≡ []). cc; one_line = (λ e. omega arith, (λ e. omega arith, (λ e. omega arith, tt))); no_edit = no_edit }))
+
+no_command : (c : Command) → IsGood c → codes "bogus" ≢ line_of c
+no_command (Change (Insert file at text)) g e = omega (arith, ap (λ (w : List ℕ). slice_index w 0) e)
+no_command (Batch edits) g e = omega (arith, ap (λ (w : List ℕ). slice_index w 1) e)
+no_command _ g e = omega (arith, ap (λ (w : List ℕ). slice_index w 0) e)
+
+bogus : StopsSo (codes "bogus\nreport\n") BadLine
+bogus = bad_line (codes "bogus") (codes "report\n") (record {
+  some = λ (e : codes "bogus" ≡ []). cc;
+  one_line = (λ e. omega arith, (λ e. omega arith, (λ e. omega arith, (λ e. omega arith, (λ e. omega arith, tt)))));
+  no_command = no_command;
+})
+
+pub ends_at_line : EndsAtLine
+ends_at_line = record {
+  reading = reading_behind (codes "verdict th\nbogus\nreport\n") (Given (Verdict (codes "th")) ∷ []) [] (codes "bogus\nreport\n") (codes "bogus\nreport\n") (record { good = (name_th, tt); joined = refl }) bogus.reading;
+  ends = bogus.ends;
+}
+
+pub ends_at_text : EndsAtText
+unfolding digits
+ends_at_text = stopped (codes "insert a.mm 0 3\nabcd\n") BadLine (text_bad (Insert (codes "a.mm") 0 (codes "abc")) 3 (codes "abc") (codes "\n") 100 (has_text (codes "abc") (omega arith)) refl (λ e. omega arith))

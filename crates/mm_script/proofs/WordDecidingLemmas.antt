@@ -1,0 +1,245 @@
+-- Whether bytes are the line of an edit or of a command.
+use Rattle.std.proofs.Common.{◌≡◌, ◌≢◌, ◌⊎◌, ℕ, ◌<◌, ◌≤◌, true, false, List, [], ◌∷◌, length, replicate, refl, sym, ap, ◌∙◌, subst, inl, inr, arith, All, codes, decimal}
+use Rattle.std.specs.List.{AllByRecursion, list_all, join_with_byte, slice_split}
+use Rattle.std.specs.Str.Parse.{digits_value}
+use Rattle.std.proofs.Math.Dec.{eqb}
+use Rattle.std.proofs.Math.Decide.{map_dec, ℕ_discrete}
+use mathlib.Core.List.{List-discrete}
+use Rattle.std.proofs.lemmas.Bool.{cases_lt, ne_eqb}
+use Rattle.std.proofs.Math.Bool.{Bool-discrete}
+use Rattle.std.proofs.lemmas.Fmt.{decimal_is_IsNumeral}
+use Rattle.std.proofs.lemmas.List.{length-replicate}
+use Rattle.std.proofs.lemmas.List.Elements.{All-from_recursion}
+use Rattle.std.proofs.lemmas.List.Splits.{join_with_byte-slice_split, slice_split_none, slice_split_at}
+use Rattle.mm_store.specs.Language.Edits.{Asked, Insert, Replace, Delete, Move}
+use Rattle.mm_script.specs.Language.Script.{Command, Change, Batch, Report, Verdict, Axioms, Cites, Users, edit_line, edit_words, command_words, line_of, is_word_byte, IsName, IsNumber, IsGood, IsGoodEdit}
+use Rattle.mm_script.proofs.SplitLemmas.{Lacks}
+use Rattle.mm_script.proofs.WordLemmas.{words_solid, has_first, small_number, HasFirst, lack_spaces}
+use Rattle.mm_script.proofs.ScriptBatchLemmas.{any_are_good, any_listed}
+
+dec_and : {P Q : Type 0} → Dec P → Dec Q → Dec (P × Q)
+dec_and (yes p) (yes q) = yes (p, q)
+dec_and (no n) _ = no (λ h. n h.0)
+dec_and (yes p) (no n) = no (λ h. n h.1)
+
+same_bytes : (xs ys : List ℕ) → Dec (xs ≡ ys)
+same_bytes = List-discrete ℕ_discrete
+
+name_or_not : (x : List ℕ) → Dec (IsName x)
+name_or_not [] = no (λ (h : IsName []). h.some refl)
+name_or_not (b ∷ x) = map_dec (λ e. record { some = λ (k : b ∷ x ≡ []). cc; bytes = e }) (λ h. h.bytes) (Bool-discrete (list_all is_word_byte (b ∷ x)) true)
+
+-- the word is a number that a line can have
+record Spells (word : List ℕ) : Type 0 where
+  number : ℕ
+  small : IsNumber number
+  is : word ≡ decimal number
+
+number_or_not : (word : List ℕ) → Dec (Spells word)
+number_or_not word = by (cases_lt 4294967295 (digits_value 10 word)) (same_bytes word (decimal (digits_value 10 word)))
+  where
+    value : (s : Spells word) → digits_value 10 word ≡ s.number
+    value s = ap (λ (w : List ℕ). digits_value 10 w) s.is ∙ (decimal_is_IsNumeral s.number (small_number s.number s.small)).1
+
+    by : (4294967295 < digits_value 10 word) ⊎ (digits_value 10 word ≤ 4294967295) → Dec (word ≡ decimal (digits_value 10 word)) → Dec (Spells word)
+    by (inl h) e = no (λ (s : Spells word). omega (arith, value s, s.small))
+    by (inr h) d = map_dec (λ e. record { number = digits_value 10 word; small = h; is = e }) (λ s. s.is ∙ ap decimal (sym (value s))) d
+
+-- ---- the words of lines
+
+record Asks (keyword : List ℕ) (words : List (List ℕ)) : Type 0 where
+  label : List ℕ
+  name : IsName label
+  is : words ≡ keyword ∷ label ∷ []
+
+record Deletes (words : List (List ℕ)) : Type 0 where
+  file : List ℕ
+  name : IsName file
+  at : ℕ
+  small : IsNumber at
+  is : words ≡ codes "delete" ∷ file ∷ decimal at ∷ []
+
+record Counts (keyword : List ℕ) (words : List (List ℕ)) : Type 0 where
+  file : List ℕ
+  name : IsName file
+  at : ℕ
+  small : IsNumber at
+  count : ℕ
+  small_count : IsNumber count
+  is : words ≡ keyword ∷ file ∷ decimal at ∷ decimal count ∷ []
+
+asks_or_not : (keyword : List ℕ) (words : List (List ℕ)) → Dec (Asks keyword words)
+asks_or_not keyword (w ∷ l ∷ []) = map_dec (λ b. record { label = l; name = b.1; is = ap (λ (x : List ℕ). x ∷ l ∷ []) b.0 }) back (dec_and (same_bytes w keyword) (name_or_not l))
+  where
+    back : Asks keyword (w ∷ l ∷ []) → (w ≡ keyword) × IsName l
+    back a = let s : a.label ≡ l = cc in (cc, subst IsName s a.name)
+asks_or_not keyword _ = no (λ a. cc)
+
+deletes_or_not : (words : List (List ℕ)) → Dec (Deletes words)
+deletes_or_not (w ∷ f ∷ n ∷ []) =
+    map_dec (λ b. record { file = f; name = b.1.0; at = b.1.1.number; small = b.1.1.small; is = λ i. b.0 i ∷ f ∷ b.1.1.is i ∷ [] }) back (dec_and (same_bytes w (codes "delete")) (dec_and (name_or_not f) (number_or_not n)))
+  where
+    back : Deletes (w ∷ f ∷ n ∷ []) → (w ≡ codes "delete") × (IsName f × Spells n)
+    back a = let h : a.file ≡ f = cc in (cc, (subst IsName h a.name, record { number = a.at; small = a.small; is = cc }))
+deletes_or_not _ = no (λ a. cc)
+
+counts_or_not : (keyword : List ℕ) (words : List (List ℕ)) → Dec (Counts keyword words)
+counts_or_not keyword (w ∷ f ∷ n ∷ c ∷ []) =
+    map_dec (λ b. record { file = f; name = b.1.0; at = b.1.1.0.number; small = b.1.1.0.small; count = b.1.1.1.number; small_count = b.1.1.1.small; is = λ i. b.0 i ∷ f ∷ b.1.1.0.is i ∷ b.1.1.1.is i ∷ [] }) back
+    (dec_and (same_bytes w keyword) (dec_and (name_or_not f) (dec_and (number_or_not n) (number_or_not c))))
+  where
+    back : Counts keyword (w ∷ f ∷ n ∷ c ∷ []) → (w ≡ keyword) × (IsName f × (Spells n × Spells c))
+    back a = let h : a.file ≡ f = cc in (cc, (subst IsName h a.name, (record { number = a.at; small = a.small; is = cc }, record { number = a.count; small = a.small_count; is = cc })))
+counts_or_not keyword _ = no (λ a. cc)
+
+record Batches (words : List (List ℕ)) : Type 0 where
+  count : ℕ
+  small : IsNumber count
+  is : words ≡ codes "batch" ∷ decimal count ∷ []
+
+batches_or_not : (words : List (List ℕ)) → Dec (Batches words)
+batches_or_not (w ∷ n ∷ []) = map_dec (λ b. record { count = b.1.number; small = b.1.small; is = λ i. b.0 i ∷ b.1.is i ∷ [] }) back (dec_and (same_bytes w (codes "batch")) (number_or_not n))
+  where
+    back : Batches (w ∷ n ∷ []) → (w ≡ codes "batch") × Spells n
+    back b = (cc, record { number = b.count; small = b.small; is = cc })
+batches_or_not _ = no (λ b. cc)
+
+-- ---- a line
+
+-- the line of an edit
+pub record IsEditLine (line : List ℕ) : Type 0 where
+  pub edit : Asked
+  pub good : IsGoodEdit edit
+  pub is : line ≡ edit_line edit
+
+-- the line of a command
+pub record IsCommandLine (line : List ℕ) : Type 0 where
+  pub command : Command
+  pub good : IsGood command
+  pub is : line ≡ line_of command
+
+-- the words of a line, which are joined to it
+words_in : List ℕ → List (List ℕ)
+words_in line = slice_split (λ b. eqb b 32) line
+
+joined : (line : List ℕ) → join_with_byte 32 (words_in line) ≡ line
+unfolding words_in
+joined line = join_with_byte-slice_split 32 line
+
+lacks_test : (xs : List ℕ) → Lacks 32 xs → All (λ x. eqb x 32 ≡ false) xs
+lacks_test xs f = All-from_recursion _ xs (by xs f)
+  where
+    by : (xs : List ℕ) → Lacks 32 xs → AllByRecursion (λ x. eqb x 32 ≡ false) xs
+    by [] f = tt
+    by (x ∷ xs) f = (ne_eqb x 32 f.0, by xs f.1)
+
+split_join : (w : List ℕ) (ws : List (List ℕ)) → AllByRecursion (Lacks 32) (w ∷ ws) → words_in (join_with_byte 32 (w ∷ ws)) ≡ w ∷ ws
+unfolding words_in
+split_join w [] f = slice_split_none (λ b. eqb b 32) w (lacks_test w f.0)
+split_join w (v ∷ ws) f = slice_split_at (λ b. eqb b 32) w 32 (join_with_byte 32 (v ∷ ws)) (lacks_test w f.0) refl ∙ ap (λ (x : List (List ℕ)). w ∷ x) (split_join v ws f.1)
+
+words_are : (c : Command) → IsGood c → (line : List ℕ) → line ≡ line_of c → command_words c ≡ words_in line
+words_are c g line e = by (command_words c) (has_first c) (lack_spaces (command_words c) (words_solid c g)) e
+  where
+    by : (words : List (List ℕ)) → HasFirst words → AllByRecursion (Lacks 32) words → line ≡ join_with_byte 32 words → words ≡ words_in line
+    by words f h k =
+        let h' : AllByRecursion (Lacks 32) (f.0 ∷ f.1) = subst (λ (x : List (List ℕ)). AllByRecursion (Lacks 32) x) f.2 h in
+        let k' : join_with_byte 32 (f.0 ∷ f.1) ≡ line = ap (λ (x : List (List ℕ)). join_with_byte 32 x) (sym f.2) ∙ sym k in
+        f.2 ∙ sym (split_join f.0 f.1 h') ∙ ap words_in k'
+
+-- some text of this many bytes, and this many edits
+abbrev some_text : ℕ → List ℕ
+some_text count = replicate count 0
+
+some_long : (count : ℕ) → length (some_text count) ≡ count
+some_long count = length-replicate count 0
+
+-- ---- the line of an edit
+
+-- nothing that the line of an edit could be
+record IsNoEdit (words : List (List ℕ)) : Type 0 where
+  insert : ¬ Counts (codes "insert") words
+  replace : ¬ Counts (codes "replace") words
+  move : ¬ Counts (codes "move") words
+  delete : ¬ Deletes words
+
+no_edit_is : (words : List (List ℕ)) → IsNoEdit words → (e : Asked) → IsGoodEdit e → edit_words e ≡ words → ⊥
+no_edit_is words n (Insert f at text) g e = n.insert (record { file = f; name = g.0; at = at; small = g.1; count = length text; small_count = g.2; is = sym e })
+no_edit_is words n (Replace f at text) g e = n.replace (record { file = f; name = g.0; at = at; small = g.1; count = length text; small_count = g.2; is = sym e })
+no_edit_is words n (Delete f at) g e = n.delete (record { file = f; name = g.0; at = at; small = g.1; is = sym e })
+no_edit_is words n (Move f at to) g e = n.move (record { file = f; name = g.0; at = at; small = g.1; count = to; small_count = g.2; is = sym e })
+
+edit_by_words : (line : List ℕ) (e : Asked) → IsGoodEdit e → words_in line ≡ edit_words e → IsEditLine line
+edit_by_words line e g k = record { edit = e; good = g; is = sym (joined line) ∙ ap (λ (x : List (List ℕ)). join_with_byte 32 x) k }
+
+data EditWords (line : List ℕ) : Type 0 where
+  an_edit : IsEditLine line → EditWords line
+  no_edit : IsNoEdit (words_in line) → EditWords line
+
+with_count : (keyword : List ℕ) (words : List (List ℕ)) → (c : Counts keyword words) → words ≡ keyword ∷ c.file ∷ decimal c.at ∷ decimal (length (some_text c.count)) ∷ []
+with_count keyword words c = c.is ∙ ap (λ (n : ℕ). keyword ∷ c.file ∷ decimal c.at ∷ decimal n ∷ []) (sym (some_long c.count))
+
+edit_words_are : (line : List ℕ) → EditWords line
+edit_words_are line = by (counts_or_not (codes "insert") ws) (counts_or_not (codes "replace") ws) (counts_or_not (codes "move") ws) (deletes_or_not ws)
+  where
+    ws : List (List ℕ)
+    ws = words_in line
+
+    by : Dec (Counts (codes "insert") ws) → Dec (Counts (codes "replace") ws) → Dec (Counts (codes "move") ws) → Dec (Deletes ws) → EditWords line
+    by (yes c) _ _ _ = an_edit (edit_by_words line (Insert c.file c.at (some_text c.count)) (c.name, c.small, subst IsNumber (sym (some_long c.count)) c.small_count) (with_count (codes "insert") ws c))
+    by (no i) (yes c) _ _ = an_edit (edit_by_words line (Replace c.file c.at (some_text c.count)) (c.name, c.small, subst IsNumber (sym (some_long c.count)) c.small_count) (with_count (codes "replace") ws c))
+    by (no i) (no r) (yes c) _ = an_edit (edit_by_words line (Move c.file c.at c.count) (c.name, c.small, c.small_count) c.is)
+    by (no i) (no r) (no m) (yes d) = an_edit (edit_by_words line (Delete d.file d.at) (d.name, d.small) d.is)
+    by (no i) (no r) (no m) (no d) = no_edit (record { insert = i; replace = r; move = m; delete = d })
+
+pub edit_line_or_not : (line : List ℕ) → Dec (IsEditLine line)
+edit_line_or_not line = by (edit_words_are line)
+  where
+    by : EditWords line → Dec (IsEditLine line)
+    by (an_edit e) = yes e
+    by (no_edit n) = no (λ (e : IsEditLine line). no_edit_is (words_in line) n e.edit e.good (words_are (Change e.edit) e.good line e.is))
+
+-- ---- the line of a command
+
+-- nothing else that the line of a command could be
+record IsNoOther (words : List (List ℕ)) : Type 0 where
+  batch : ¬ Batches words
+  report : words ≢ codes "report" ∷ []
+  verdict : ¬ Asks (codes "verdict") words
+  axioms : ¬ Asks (codes "axioms") words
+  cites : ¬ Asks (codes "cites") words
+  users : ¬ Asks (codes "users") words
+
+no_command_is : (words : List (List ℕ)) → IsNoEdit words → IsNoOther words → (c : Command) → IsGood c → command_words c ≡ words → ⊥
+no_command_is words n o (Change edit) g e = no_edit_is words n edit g e
+no_command_is words n o (Batch edits) g e = o.batch (record { count = length edits; small = g.0; is = sym e })
+no_command_is words n o Report g e = o.report (sym e)
+no_command_is words n o (Verdict l) g e = o.verdict (record { label = l; name = g; is = sym e })
+no_command_is words n o (Axioms l) g e = o.axioms (record { label = l; name = g; is = sym e })
+no_command_is words n o (Cites l) g e = o.cites (record { label = l; name = g; is = sym e })
+no_command_is words n o (Users l) g e = o.users (record { label = l; name = g; is = sym e })
+
+command_by_words : (line : List ℕ) (c : Command) → IsGood c → words_in line ≡ command_words c → IsCommandLine line
+command_by_words line c g k = record { command = c; good = g; is = sym (joined line) ∙ ap (λ (x : List (List ℕ)). join_with_byte 32 x) k }
+
+pub command_line_or_not : (line : List ℕ) → Dec (IsCommandLine line)
+command_line_or_not line = first (edit_words_are line)
+  where
+    ws : List (List ℕ)
+    ws = words_in line
+
+    by : IsNoEdit ws → Dec (Batches ws) → Dec (ws ≡ codes "report" ∷ []) → Dec (Asks (codes "verdict") ws) → Dec (Asks (codes "axioms") ws) → Dec (Asks (codes "cites") ws)
+        → Dec (Asks (codes "users") ws) → Dec (IsCommandLine line)
+    by n (yes b) _ _ _ _ _ = yes (command_by_words line (Batch (replicate b.count any_listed)) (subst IsNumber (sym (length-replicate b.count any_listed)) b.small, any_are_good b.count)
+        (b.is ∙ ap (λ (k : ℕ). codes "batch" ∷ decimal k ∷ []) (sym (length-replicate b.count any_listed))))
+    by n (no b) (yes e) _ _ _ _ = yes (command_by_words line Report tt e)
+    by n (no b) (no r) (yes a) _ _ _ = yes (command_by_words line (Verdict a.label) a.name a.is)
+    by n (no b) (no r) (no v) (yes a) _ _ = yes (command_by_words line (Axioms a.label) a.name a.is)
+    by n (no b) (no r) (no v) (no x) (yes a) _ = yes (command_by_words line (Cites a.label) a.name a.is)
+    by n (no b) (no r) (no v) (no x) (no c) (yes a) = yes (command_by_words line (Users a.label) a.name a.is)
+    by n (no b) (no r) (no v) (no x) (no c) (no u) =
+        no (λ (k : IsCommandLine line). no_command_is ws n (record { batch = b; report = r; verdict = v; axioms = x; cites = c; users = u }) k.command k.good (words_are k.command k.good line k.is))
+
+    first : EditWords line → Dec (IsCommandLine line)
+    first (an_edit e) = yes (record { command = Change e.edit; good = e.good; is = e.is })
+    first (no_edit n) = by n (batches_or_not ws) (List-discrete same_bytes ws (codes "report" ∷ [])) (asks_or_not (codes "verdict") ws) (asks_or_not (codes "axioms") ws) (asks_or_not (codes "cites") ws) (asks_or_not (codes "users") ws)

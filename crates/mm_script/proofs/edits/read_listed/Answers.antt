@@ -1,0 +1,91 @@
+use Rattle.std.proofs.Common.{◌≡◌, ◌<◌, ◌∙◌, ap, arith, false, refl, inl, inr, rules, slice_range}
+use Rattle.std.proofs.lemmas.Bool.{false_from_ne_true, not-true}
+use Rattle.mm_script.specs.declared.error.ScriptError.{ScriptError}
+use Rattle.mm_script.specs.declared.error.ScriptError.TheVariants as errors
+use Rattle.mm_script.specs.Code.Growing.{line_bytes}
+use Rattle.mm_script.specs.Language.Commands.{pending, edit_in}
+use Rattle.mm_script.specs.Code.Stops.{IsBadEditLine}
+use Rattle.mm_script.proofs.GrowLemmas.{blanks_grown, grows_then, other_error, same_error}
+use Rattle.mm_script.proofs.BatchLemmas.{bad_listed, bad_text, begun_holds, edit_missing, line_cut, line_some, none_left, short_cut, short_holds}
+use Rattle.mm_script.proofs.edits.read_listed.Goals as goal
+
+pub returns-in_err-line : goal.returns-in_err-line
+returns-in_err-line g c =
+    let fails = c.in_err-line.ensures in
+    let last = c.from_residual.result in
+    let error = c.in_err-line.field-0.0 in
+    let is = c.from_residual.ensures.1 in
+    let other = λ (e : ScriptError). other_error last _ error errors.Read errors.Memory e is refl fails.told in
+    record {
+      grows = fails.grows;
+      edit = search rules;
+      last = search rules;
+      fewer = search rules;
+      bad = λ bad n front f count. absurd (other _ (λ e. cc) (λ e. cc) bad);
+      cut = λ cut n front f count. absurd (other _ (λ e. cc) (λ e. cc) cut);
+      read = λ read n front f count. let begun = fails.read (same_error last error _ is read) in
+          begun_holds c.args.input.now c.read_some_line.new.input _ _ n front c.args.from begun.start f fails.grows begun.blanks begun.one_line;
+      failed = λ read. fails.failed (same_error last error _ is read);
+      told = λ write. other _ (λ e. cc) (λ e. cc) write;
+    }
+
+pub returns-then-line-clause-cut : goal.returns-then-line-clause-cut
+returns-then-line-clause-cut g c = λ cut n front f count.
+    let line = c.in_ok-line.line in
+    let unfed : line.fed ≡ false = false_from_ne_true line.fed (λ fed. absurd (omega (arith, c.in_ok-line.ensures.some fed))) in
+    let last = c.in_ok-line.ensures.line.unfed unfed in
+    none_left c.args.input.now c.read_some_line.new.input _ _ n front c.args.from line.start f c.in_ok-line.ensures.grows c.in_ok-line.ensures.start (omega (arith, last.0)) last.1
+
+pub returns-in_default-clause-bad : goal.returns-in_default-clause-bad
+returns-in_default-clause-bad g c = λ cut n front f count.
+    let line = c.in_ok-line.line in
+    let is = c.in_ok-line.ensures.line in
+    let some : line.start < line.end = omega (arith, is.ordered) in
+    let bytes = pending c.read_some_line.new.input in
+    let same : slice_range c.pending.result.now line.start line.end ≡ line_bytes bytes line = ap (λ xs. slice_range xs line.start line.end) c.pending.ensures in
+    let bad : IsBadEditLine (line_bytes bytes line) = record {
+      some = line_some bytes _ line is some;
+      one_line = is.one_line;
+      no_edit = λ edit good says. c.in_default.ensures.none refl edit good (same ∙ says);
+    } in
+    bad_listed c.args.input.now c.read_some_line.new.input _ _ n front c.args.from line f c.in_ok-line.ensures.grows c.in_ok-line.ensures.start is bad
+
+pub returns-in_err-read : goal.returns-in_err-read
+returns-in_err-read g c =
+    let line = c.in_ok-line.line in
+    let fails = c.in_err-read.ensures in
+    let blanks = blanks_grown c.read_some_line.new.input c.read_edit.new.input _ _ c.args.from line.start fails.grows c.in_ok-line.ensures.start in
+    let grows = grows_then _ _ _ _ _ _ c.in_ok-line.ensures.grows fails.grows in
+    let last = c.from_residual-in_err-read.result in
+    let error = c.in_err-read.field-0.0 in
+    let is = c.from_residual-in_err-read.ensures.1 in
+    record {
+      grows = grows;
+      edit = search rules;
+      last = search rules;
+      fewer = search rules;
+      bad = λ bad n front f count. bad_text c.args.input.now c.read_edit.new.input _ _ n front c.args.from line.start f grows blanks (fails.bad (same_error last error _ is bad));
+      cut = λ cut n front f count. let ended = fails.cut (same_error last error _ is cut) in elim ended.1 [
+        | inl short ↦ short_cut c.args.input.now c.read_edit.new.input _ _ n front c.args.from line.start f grows blanks short ended.0
+        | inr whole ↦ line_cut c.args.input.now c.read_edit.new.input _ _ n front c.args.from line.start f grows blanks whole ended.0
+      ];
+      read = λ read n front f count. short_holds c.args.input.now c.read_edit.new.input _ _ n front c.args.from line.start f grows blanks (fails.read (same_error last error _ is read));
+      failed = λ read. fails.failed (same_error last error _ is read);
+      told = λ write. fails.told (same_error last error _ is write);
+    }
+
+pub returns-then-missing-gt1-clause-grows : goal.returns-then-missing-gt1-clause-grows
+returns-then-missing-gt1-clause-grows g c = grows_then _ _ _ _ _ _ c.in_ok-line.ensures.grows c.in_ok-read.ensures.grows
+
+pub returns-then-missing-gt1-clause-cut : goal.returns-then-missing-gt1-clause-cut
+returns-then-missing-gt1-clause-cut g c = λ cut n front f count.
+    let line = c.in_ok-line.line in
+    let blanks = blanks_grown c.read_some_line.new.input c.read_edit.new.input _ _ c.args.from line.start c.in_ok-read.ensures.grows c.in_ok-line.ensures.start in
+    let grows = grows_then _ _ _ _ _ _ c.in_ok-line.ensures.grows c.in_ok-read.ensures.grows in
+    let edit = c.in_ok-read.ensures.edit in
+    let last = edit.unfed (not-true _ c.if-not-read.true) in
+    edit_missing c.args.input.now c.read_edit.new.input _ _ n front c.args.from line.start f grows blanks (edit_in (pending c.read_edit.new.input) c.in_ok-read.read.found) last.0 edit.good last.1
+    (omega (arith, count)) last.2
+
+pub returns-clause-grows : goal.returns-clause-grows
+returns-clause-grows g c = grows_then _ _ _ _ _ _ c.in_ok-line.ensures.grows c.in_ok-read.ensures.grows

@@ -1,0 +1,90 @@
+use Rattle.std.proofs.Common.{◌≡◌, ◌<◌, ◌∙◌, ap, sym, subst, arith, refl, List, ℕ, codes, slice_range}
+use Rattle.mm_script.specs.declared.line.CommandLine.{CommandLine}
+use Rattle.mm_script.specs.declared.script_lines.LineAt.{LineAt}
+use Rattle.mm_script.specs.Code.Growing.{line_bytes}
+use Rattle.mm_script.specs.Code.Lines.{SaysLine}
+use Rattle.mm_script.specs.Language.Commands.{pending, bytes_of_part, IsCommandIn}
+use Rattle.mm_script.specs.Code.Stops.{IsBadLine}
+use Rattle.mm_script.specs.Language.Script.{Report, Verdict, Axioms, Cites, Users}
+use Rattle.mm_script.proofs.BatchLemmas.{line_some}
+use Rattle.mm_script.proofs.GrowLemmas.{same_error}
+use Rattle.mm_script.proofs.CommandLemmas.{bad_first, bad_edit, cut_edit, held_edit, batch_next, label_next, line_next}
+use Rattle.mm_script.proofs.entry.read_command.Goals as goal
+
+-- what the bytes of a line say is what was found in them
+said_line : (seen bytes : List ℕ) (line : LineAt) (found is : CommandLine) → seen ≡ bytes → SaysLine (slice_range seen line.start line.end) found → found ≡ is → SaysLine (line_bytes bytes line) is
+said_line seen bytes line found is same says e =
+    subst (λ (xs : List ℕ). SaysLine (slice_range xs line.start line.end) is) same (subst (SaysLine (slice_range seen line.start line.end)) e says)
+
+pub returns-in_default-clause-bad : goal.returns-in_default-clause-bad
+returns-in_default-clause-bad g c = λ cut.
+    let line = c.args.line in
+    let some : line.start < line.end = omega (arith, c.requires.start, c.requires.some) in
+    let bytes = pending c.args.input.now in
+    let same : slice_range c.pending.result.now line.start line.end ≡ line_bytes bytes line = ap (λ xs. slice_range xs line.start line.end) c.pending.ensures in
+    let bad : IsBadLine (line_bytes bytes line) = record {
+      some = line_some bytes _ line c.requires.line some;
+      one_line = c.requires.line.one_line;
+      no_command = λ command good says. c.in_default.ensures.none refl command good (same ∙ says);
+    } in
+    bad_first bytes _ line c.requires.line c.requires.start bad
+
+pub returns-in_err-read-in-Change-clause-bad : goal.returns-in_err-read-in-Change-clause-bad
+returns-in_err-read-in-Change-clause-bad g c = λ bad.
+    bad_edit (pending c.read_edit.new.input) _ c.args.line.start c.requires.start (c.in_err-read-in-Change.ensures.bad (same_error c.from_residual.result c.in_err-read-in-Change.field-0.0 _ c.from_residual.ensures.1 bad))
+
+pub returns-in_err-read-in-Change-clause-cut : goal.returns-in_err-read-in-Change-clause-cut
+returns-in_err-read-in-Change-clause-cut g c = λ cut.
+    let ended = c.in_err-read-in-Change.ensures.cut (same_error c.from_residual.result c.in_err-read-in-Change.field-0.0 _ c.from_residual.ensures.1 cut) in
+    cut_edit (pending c.read_edit.new.input) _ c.args.line.start c.requires.start ended.0 ended.1
+
+pub returns-in_err-read-in-Change-clause-read : goal.returns-in_err-read-in-Change-clause-read
+returns-in_err-read-in-Change-clause-read g c = λ stop.
+    held_edit (pending c.read_edit.new.input) c.args.line.start c.requires.start (c.in_err-read-in-Change.ensures.read (same_error c.from_residual.result c.in_err-read-in-Change.field-0.0 _ c.from_residual.ensures.1 stop))
+
+pub returns-in_ok-read-in-Batch-clause-found : goal.returns-in_ok-read-in-Batch-clause-found
+returns-in_ok-read-in-Batch-clause-found g c =
+    batch_next _ _ c.in-Batch.count _ c.in_ok-read-in-Batch.read.found.items c.in_ok-read-in-Batch.ensures.batch c.in_ok-read-in-Batch.ensures.all (λ command is. is)
+
+pub returns-in-Report-clause-found : goal.returns-in-Report-clause-found
+returns-in-Report-clause-found g c =
+    let bytes = pending c.args.input.now in
+    let says = said_line c.pending.result.now bytes c.args.line _ _ c.pending.ensures c.in-Some.ensures.some c.in-Report.is in
+    line_next bytes _ c.args.line Report c.of_line.result c.requires.line c.requires.start says refl tt
+    (subst (λ k. IsCommandIn bytes k Report) (sym c.of_line.ensures.command) refl) tt c.of_line.ensures.fed c.of_line.ensures.end
+
+pub returns-in-Verdict-clause-found : goal.returns-in-Verdict-clause-found
+returns-in-Verdict-clause-found g c =
+    let bytes = pending c.args.input.now in
+    let says = said_line c.pending.result.now bytes c.args.line _ _ c.pending.ensures c.in-Some.ensures.some c.in-Verdict.is in
+    label_next bytes _ c.args.line c.in-Verdict.label (codes "verdict") Verdict c.of_line-in-Verdict.result c.requires.line c.requires.start
+    says (λ name. refl) (λ name. refl) (λ name good. good) (λ name. tt)
+    (λ within. subst (λ k. IsCommandIn bytes k (Verdict (bytes_of_part bytes c.in-Verdict.label))) (sym c.of_line-in-Verdict.ensures.command) (within, refl))
+    c.of_line-in-Verdict.ensures.fed c.of_line-in-Verdict.ensures.end
+
+pub returns-in-Axioms-clause-found : goal.returns-in-Axioms-clause-found
+returns-in-Axioms-clause-found g c =
+    let bytes = pending c.args.input.now in
+    let says = said_line c.pending.result.now bytes c.args.line _ _ c.pending.ensures c.in-Some.ensures.some c.in-Axioms.is in
+    label_next bytes _ c.args.line c.in-Axioms.label (codes "axioms") Axioms c.of_line-in-Axioms.result c.requires.line c.requires.start
+    says (λ name. refl) (λ name. refl) (λ name good. good) (λ name. tt)
+    (λ within. subst (λ k. IsCommandIn bytes k (Axioms (bytes_of_part bytes c.in-Axioms.label))) (sym c.of_line-in-Axioms.ensures.command) (within, refl))
+    c.of_line-in-Axioms.ensures.fed c.of_line-in-Axioms.ensures.end
+
+pub returns-in-Cites-clause-found : goal.returns-in-Cites-clause-found
+returns-in-Cites-clause-found g c =
+    let bytes = pending c.args.input.now in
+    let says = said_line c.pending.result.now bytes c.args.line _ _ c.pending.ensures c.in-Some.ensures.some c.in-Cites.is in
+    label_next bytes _ c.args.line c.in-Cites.label (codes "cites") Cites c.of_line-in-Cites.result c.requires.line c.requires.start
+    says (λ name. refl) (λ name. refl) (λ name good. good) (λ name. tt)
+    (λ within. subst (λ k. IsCommandIn bytes k (Cites (bytes_of_part bytes c.in-Cites.label))) (sym c.of_line-in-Cites.ensures.command) (within, refl))
+    c.of_line-in-Cites.ensures.fed c.of_line-in-Cites.ensures.end
+
+pub returns-in-Users-clause-found : goal.returns-in-Users-clause-found
+returns-in-Users-clause-found g c =
+    let bytes = pending c.args.input.now in
+    let says = said_line c.pending.result.now bytes c.args.line _ _ c.pending.ensures c.in-Some.ensures.some c.in-Users.is in
+    label_next bytes _ c.args.line c.in-Users.label (codes "users") Users c.of_line-in-Users.result c.requires.line c.requires.start
+    says (λ name. refl) (λ name. refl) (λ name good. good) (λ name. tt)
+    (λ within. subst (λ k. IsCommandIn bytes k (Users (bytes_of_part bytes c.in-Users.label))) (sym c.of_line-in-Users.ensures.command) (within, refl))
+    c.of_line-in-Users.ensures.fed c.of_line-in-Users.ensures.end

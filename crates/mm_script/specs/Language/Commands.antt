@@ -1,0 +1,99 @@
+-- Where commands are in the bytes of a script that are read and not answered yet.
+use Rattle.std.specs.Prelude.{◌≡◌, ◌≤◌, ◌+◌, ◌*◌, ◌⊎◌, ℕ, true, false, Option, List, Contains, [], ◌∷◌, ◌++◌, length, map, drop, replicate, slice_range}
+use Rattle.std.specs.Io.KnownBytes.{Consumes, IsAtEnd}
+use Rattle.mm_store.specs.Language.Edits.{Asked, Insert, Replace, Delete, Move}
+use Rattle.mm_script.specs.declared.entry.Part.{Part}
+use Rattle.mm_script.specs.declared.entry.EditAt.{EditAt}
+use Rattle.mm_script.specs.declared.entry.EditAt.TheVariants as edits
+use Rattle.mm_script.specs.declared.entry.CommandAt.{CommandAt}
+use Rattle.mm_script.specs.declared.entry.CommandAt.TheVariants as code
+use Rattle.mm_script.specs.declared.entry.Complete.{Complete}
+use Rattle.mm_script.specs.declared.input.Input.{Input}
+use Rattle.mm_script.specs.declared.read_stream.Reading.{Reading}
+use Rattle.mm_script.specs.Language.Script.{Command, Change, Batch, Report, Verdict, Axioms, Cites, Users}
+use Rattle.mm_script.specs.Language.Script.{End, EndsSo, Listed, command_bytes, IsGood, IsLongestReading, IsReadSoFar, EndsInLine}
+use Rattle.mm_script.specs.Language.Stream.{calls_left}
+
+-- the bytes that are read and not answered yet
+abbrev pub pending : Input → List ℕ
+pending input = drop input.at input.bytes.items
+
+-- more than all steps that are to come: each call brings 4,096 bytes at most, and each byte may be passed
+abbrev pub to_come : {R : Type 0} → Input → Reading R → ℕ
+to_come input reading = 4097 * calls_left reading + length (pending input)
+
+-- bytes are read on, and empty lines passed: those that were there and those that came are the empty lines and what is there now
+pub record ReadsOn (old new : Input) (unread left : Option (List ℕ)) : Type 0 where
+  pub part : List ℕ
+  pub consumes : Consumes unread left part
+  pub blanks : ℕ
+  pub are : pending old ++ part ≡ replicate blanks 10 ++ pending new
+
+-- the bytes of a part
+abbrev pub bytes_of_part : List ℕ → Part → List ℕ
+bytes_of_part bytes part = slice_range bytes part.start part.end
+
+-- the part is within the bytes
+pub record IsPartWithin (bytes : List ℕ) (part : Part) : Type 0 where
+  pub ordered : part.start ≤ part.end
+  pub within : part.end ≤ length bytes
+
+-- the edit that is there
+abbrev pub edit_in : List ℕ → EditAt → Asked
+edit_in bytes (edits.Insert file at text) = Insert (bytes_of_part bytes file) at (bytes_of_part bytes text)
+edit_in bytes (edits.Replace file at text) = Replace (bytes_of_part bytes file) at (bytes_of_part bytes text)
+edit_in bytes (edits.Delete file at) = Delete (bytes_of_part bytes file) at
+edit_in bytes (edits.Move file at to) = Move (bytes_of_part bytes file) at to
+
+-- the parts of the edit are within the bytes
+abbrev pub IsEditWithin : List ℕ → EditAt → Type 0
+IsEditWithin bytes (edits.Insert file at text) = IsPartWithin bytes file × IsPartWithin bytes text
+IsEditWithin bytes (edits.Replace file at text) = IsPartWithin bytes file × IsPartWithin bytes text
+IsEditWithin bytes (edits.Delete file at) = IsPartWithin bytes file
+IsEditWithin bytes (edits.Move file at to) = IsPartWithin bytes file
+
+-- the edits of a batch that are there, one after another
+pub record AreEditsIn (bytes : List ℕ) (found : List EditAt) (listed : List Listed) : Type 0 where
+  pub within : (k : EditAt) → Contains found k → IsEditWithin bytes k
+  pub are : map (λ one. one.edit) listed ≡ map (edit_in bytes) found
+
+-- the command that is there
+abbrev pub IsCommandIn : List ℕ → CommandAt → Command → Type 0
+IsCommandIn bytes (code.Change edit) command = IsEditWithin bytes edit × (command ≡ Change (edit_in bytes edit))
+IsCommandIn bytes (code.Batch found) command = (listed : List Listed) × AreEditsIn bytes found.items listed × (command ≡ Batch listed)
+IsCommandIn bytes code.Report command = command ≡ Report
+IsCommandIn bytes (code.Verdict label) command = IsPartWithin bytes label × (command ≡ Verdict (bytes_of_part bytes label))
+IsCommandIn bytes (code.Axioms label) command = IsPartWithin bytes label × (command ≡ Axioms (bytes_of_part bytes label))
+IsCommandIn bytes (code.Cites label) command = IsPartWithin bytes label × (command ≡ Cites (bytes_of_part bytes label))
+IsCommandIn bytes (code.Users label) command = IsPartWithin bytes label × (command ≡ Users (bytes_of_part bytes label))
+
+-- the bytes begin with the command, and this many are its
+pub record IsWholeCommand (bytes : List ℕ) (command : Command) (end : ℕ) : Type 0 where
+  pub within : end ≤ length bytes
+  pub are : bytes ≡ command_bytes command ++ drop end bytes
+
+-- the bytes are all of the command but the last line feed, and nothing is left to read
+pub record IsLast (bytes : List ℕ) (left : Option (List ℕ)) (command : Command) : Type 0 where
+  pub at_end : IsAtEnd left
+  pub in_line : EndsInLine command
+  pub are : bytes ++ 10 ∷ [] ≡ command_bytes command
+
+-- the bytes begin with the whole command, or they are the last one, without its last line feed
+abbrev pub IsWholeOrLast : List ℕ → Option (List ℕ) → Complete CommandAt → Command → Type 0
+IsWholeOrLast bytes left next command = ((next.fed ≡ true) × IsWholeCommand bytes command next.end) ⊎ ((next.fed ≡ false) × IsLast bytes left command)
+
+-- the bytes begin with a command, and it is whole
+pub record IsNextCommand (bytes : List ℕ) (left : Option (List ℕ)) (next : Complete CommandAt) : Type 0 where
+  pub command : Command
+  pub good : IsGood command
+  pub is_command : IsCommandIn bytes next.found command
+  pub whole : IsWholeOrLast bytes left next command
+
+-- these bytes begin with no command and no empty line, and the script has this end there
+pub record StopsSo (bytes : List ℕ) (end : End) : Type 0 where
+  pub reading : IsLongestReading bytes [] bytes
+  pub ends : EndsSo bytes end
+
+-- no command and no empty line is whole in these bytes, whatever follows them
+abbrev pub HasNoEntry : List ℕ → Type 0
+HasNoEntry bytes = IsReadSoFar bytes [] bytes

@@ -1,0 +1,51 @@
+-- Some scripts, and how they are read.
+use Rattle.std.specs.Prelude.{[], ◌∷◌, codes}
+use Rattle.mm_store.specs.Language.Edits.{Replace, Delete, Insert, Move}
+use Rattle.mm_script.specs.Language.Script.{Change, Batch, Report, Verdict, Axioms, Users, Blank, Given, Done, CutShort, BadLine}
+use Rattle.mm_script.specs.Language.ReadingLaws.{IsReadSo}
+
+-- A text of two lines, and the line feed after it; the last line of the script may be without one.
+abbrev pub ReadsText : Type 0
+ReadsText = IsReadSo (codes "replace d.mm 7 15\n$c a $.\n$c b $.\n\nverdict t\nusers a1\n\naxioms t")
+    (Given (Change (Replace (codes "d.mm") 7 (codes "$c a $.\n$c b $."))) ∷ Blank ∷ Given (Verdict (codes "t")) ∷ Given (Users (codes "a1")) ∷ Blank
+    ∷ Given (Axioms (codes "t")) ∷ [])
+    [] Done
+
+-- A batch of two edits with an empty line before the second, and a command after it.
+abbrev pub ReadsBatch : Type 0
+ReadsBatch = IsReadSo (codes "batch 2\ninsert a.mm 5 8\n$c a $.\n\n\nmove a.mm 9 10\nreport\n")
+    (Given (Batch (record { blanks = 0; edit = Insert (codes "a.mm") 5 (codes "$c a $.\n") } ∷ record { blanks = 1; edit = Move (codes "a.mm") 9 10 } ∷ []))
+    ∷ Given Report ∷ [])
+    [] Done
+
+-- The last edit of a batch may be without its line feed, if it has no text.
+abbrev pub ReadsLastEdit : Type 0
+ReadsLastEdit = IsReadSo (codes "batch 1\ndelete a.mm 0") (Given (Batch (record { blanks = 0; edit = Delete (codes "a.mm") 0 } ∷ [])) ∷ []) [] Done
+
+-- Inside a text a script is cut short: nothing of it is read, and all of it is left.
+abbrev pub CutsText : Type 0
+CutsText = IsReadSo (codes "insert a.mm 0 9\nabc") [] (codes "insert a.mm 0 9\nabc") CutShort
+
+-- If only the line feed after a text is missing, a script is cut short, too; the command before it is read.
+abbrev pub CutsFeed : Type 0
+CutsFeed = IsReadSo (codes "report\ninsert a.mm 0 3\nabc") (Given Report ∷ []) (codes "insert a.mm 0 3\nabc") CutShort
+
+-- After the line of an edit whose text has no bytes, a script is cut short, too.
+abbrev pub CutsLine : Type 0
+CutsLine = IsReadSo (codes "insert a.mm 0 0") [] (codes "insert a.mm 0 0") CutShort
+
+-- A script is cut short if edits of a batch are missing.
+abbrev pub CutsBatch : Type 0
+CutsBatch = IsReadSo (codes "batch 2\ndelete a.mm 0\n\n") [] (codes "batch 2\ndelete a.mm 0\n\n") CutShort
+
+-- But if the last line of a batch is no edit, the batch is a bad line.
+abbrev pub EndsInEdit : Type 0
+EndsInEdit = IsReadSo (codes "batch 2\ndelete a.mm 0\ndel") [] (codes "batch 2\ndelete a.mm 0\ndel") BadLine
+
+-- A bad line ends a script, and nothing after it is read.
+abbrev pub EndsAtLine : Type 0
+EndsAtLine = IsReadSo (codes "verdict th\nbogus\nreport\n") (Given (Verdict (codes "th")) ∷ []) (codes "bogus\nreport\n") BadLine
+
+-- An edit whose text is followed by another byte than a line feed is a bad line.
+abbrev pub EndsAtText : Type 0
+EndsAtText = IsReadSo (codes "insert a.mm 0 3\nabcd\n") [] (codes "insert a.mm 0 3\nabcd\n") BadLine

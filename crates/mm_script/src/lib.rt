@@ -1,0 +1,22 @@
+//! Scripts: the streams that they come and go through, and how their commands are read.
+#![tactic(auto)]
+
+mod edits;
+mod entry;
+mod error;
+mod input;
+mod laws;
+mod line;
+mod read_stream;
+mod script_lines;
+mod stream;
+
+pub use entry::{CommandAt, Complete, EditAt, Part, bytes_of, edit_of, next_command};
+pub use error::ScriptError;
+pub use input::Input;
+pub use laws::{
+    commands_leave_nothing, divisions_agree, has_reading, one_reading, reading_goes_on,
+    readings_join, scripts_are_read_so,
+};
+pub use read_stream::{ReadFailed, Reading};
+pub use stream::{WriteFailed, Writing};
