@@ -7,8 +7,8 @@ ghost use Rattle.mm_text.specs.declared.word.Word.{Word as Found};
 
 use bytes::Bytes;
 use mm_text::{
-    Keyword, Part, PartKind, TextError, TextFault, TextNumber, Word, WordCursor, WordKind, cut,
-    divided_cut, nth_word, words,
+    DividedPiece, Keyword, Part, PartKind, TextError, TextFault, TextNumber, Word, WordCursor,
+    WordKind, cut, divided_cut, nth_word, words,
 };
 use std::test::Fail;
 
@@ -77,30 +77,42 @@ fn finds_the_words_outside_comments(rt: HostRuntime) -> Result<(), Fail> {
     Ok(())
 }
 
+/// A text with two units, a comment before the second, and a tail.
+const TEXT: &[u8] = b"$c a $. $( x $) ${ l $a a $. $} $( y $)";
+
+/// Its pieces.
+const PIECES: [&[u8]; 2] = [b"$c a $. ", b"$( x $) ${ l $a a $. $} "];
+
+/// Its tail.
+const TAIL: &[u8] = b"$( y $)\n";
+
 #[test]
-fn cuts_into_pieces_and_parts(rt: HostRuntime) -> Result<(), Fail> {
-    let text = b"$c a $. $( x $) ${ l $a a $. $} $( y $)";
-    let texts: [&[u8]; 2] = [b"$c a $. ", b"$( x $) ${ l $a a $. $} "];
+fn cuts_into_pieces(rt: HostRuntime) -> Result<(), Fail> {
+    let found = cut(rt.alloc(), TEXT)?;
+    assert!(rt; found.pieces.len() == 2 && found.tail.as_slice() == TAIL);
+    for (piece, wanted) in found.pieces.iter().zip(PIECES) {
+        assert!(rt; piece.as_slice() == wanted);
+    }
+    Ok(())
+}
+
+/// Whether a piece has this text and these parts.
+fn is_divided(piece: &DividedPiece, text: &[u8], parts: &[Part]) -> bool {
+    piece.text.as_slice() == text && piece.parts.as_slice() == parts
+}
+
+#[test]
+fn cuts_into_pieces_with_parts(rt: HostRuntime) -> Result<(), Fail> {
     let first = [part(PartKind::Constants, 0, 7)];
     let second = [
         part(PartKind::BlockStart, 8, 10),
         part(PartKind::Axiom, 11, 20),
         part(PartKind::BlockEnd, 21, 23),
     ];
-    let parts: [&[Part]; 2] = [&first, &second];
-    let plain = cut(rt.alloc(), text)?;
-    let divided = divided_cut(rt.alloc(), &Bytes::from_static(text))?;
-    assert!(rt; plain.pieces.len() == 2 && plain.tail.as_slice() == b"$( y $)\n".as_slice());
-    assert!(rt; divided.pieces.len() == 2 && divided.tail.as_slice() == b"$( y $)\n".as_slice());
-    for (piece, wanted) in plain.pieces.iter().zip(texts) {
-        assert!(rt; piece.as_slice() == wanted);
-    }
-    for (piece, wanted) in divided.pieces.iter().zip(texts) {
-        assert!(rt; piece.text.as_slice() == wanted);
-    }
-    for (piece, wanted) in divided.pieces.iter().zip(parts) {
-        assert!(rt; piece.parts.as_slice() == wanted);
-    }
+    let found = divided_cut(rt.alloc(), &Bytes::from_static(TEXT))?;
+    assert!(rt; found.pieces.len() == 2 && found.tail.as_slice() == TAIL);
+    assert!(rt; is_divided(&found.pieces[0], PIECES[0], &first));
+    assert!(rt; is_divided(&found.pieces[1], PIECES[1], &second));
     Ok(())
 }
 

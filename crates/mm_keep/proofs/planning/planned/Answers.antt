@@ -3,7 +3,7 @@ use Rattle.std.proofs.lemmas.Option.{none-some, same_Some}
 use Rattle.mm_proof.specs.mm_frame.Language.Base.{BaseView}
 use Rattle.std.proofs.lemmas.List.{length-map, length_push, map-append}
 use Rattle.mm_keep.specs.Code.KeptPlan.{number_planned}
-use Rattle.mm_keep.specs.Code.Planned.{IsPlanned}
+use Rattle.mm_keep.specs.Code.Planned.{ArePlanned, IsPlanned}
 use Rattle.mm_keep.proofs.PlanLemmas.{each_more}
 use Rattle.mm_keep.proofs.planning.planned.Goals as goal
 
@@ -30,3 +30,11 @@ loop-j-preserved c =
           each_more (IsPlanned base copy) (map number_planned entries) _ (number_planned one) (ap (map number_planned) c.in_ok-push.ensures.items ∙ map-append number_planned entries (one ∷ [])) (c.loop-j.invariant.each base copy both)
           (subst₂ (λ i from. IsPlanned base copy i from) (sym count) (sym same) kept);
     }
+
+pub returns : goal.returns
+returns c base copy both =
+    let made = c.of.ensures in
+    subst (ArePlanned base copy) (sym made) (record {
+      count = let n = c.count-count.ensures.count copy (c.args.names.now, both.new_is.base) in let m = length-map c.loop-j.entries.items number_planned in omega (arith, n, m, c.loop-j.invariant.count);
+      each = c.loop-j.invariant.each base copy both;
+    })

@@ -22,3 +22,9 @@ returns g c =
           ∙ entry_map m variables e
           ∙ ap (λ o. read (map m variables) (entry_or o)) (sym (slice_get-get_or spans n e (omega (arith, w, c.requires.count, length-map c.args.taken.now.hypotheses.now (mandatory_of m))) ∙ ap Some (sym c.index-entry.ensures))),
     )
+
+pub index-entry-requires : goal.index-entry-requires
+index-entry-requires g c =
+    let slot = c.slot_of-slot.ensures c.requires.typed in
+    let w = slice_get_within (hypotheses_of g.S.Symbol.means c.args.taken.now.hypotheses.now) c.slot_of-slot.result slot.0 slot.1 in
+    omega (arith, w, c.requires.count, c.args.gathered.now.spans.ok, length-map c.args.taken.now.hypotheses.now (mandatory_of g.S.Symbol.means))

@@ -39,6 +39,12 @@ returns-clause-ok c view is =
     let past : length words ≤ c.loop-word.n = omega (arith, none_left words c.loop-word.words c.loop-word.n c.loop-word.invariant.left c.in_default.ensures.0) in
     finishes view c.args.i words c.loop-word.n c.loop-word.labels.items c.loop-word.steps.items (c.loop-word.invariant.normal view is) past
 
+pub returns-clause-marks : goal.returns-clause-marks
+returns-clause-marks c = record {
+  count = omega (arith, c.loop-word.invariant.count, c.loop-word.invariant.table);
+  each = λ k less. c.loop-word.invariant.marks k;
+}
+
 pub returns-clause-table : goal.returns-clause-table
 returns-clause-table c view is =
     let words = c.args.proof.now in

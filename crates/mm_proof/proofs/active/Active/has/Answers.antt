@@ -6,8 +6,9 @@ use Rattle.mm_frame.specs.Language.Frame.{Symbol}
 use Rattle.mm_frame.specs.Language.NumberedSymbols.{comes_before}
 use Rattle.mm_proof.specs.Code.Citation.{meant_pairs, meant_pair}
 use Rattle.mm_proof.specs.Code.Keys.{pair_keys}
-use Rattle.mm_proof.proofs.lemmas.machine.ApartLemmas.{pair_found, pair_nowhere}
+use Rattle.mm_proof.proofs.lemmas.machine.ApartLemmas.{pair_found, pair_nowhere, each_more}
 use Rattle.mm_proof.proofs.lemmas.machine.KeyOrderLemmas.{none_before, none_behind}
+use Rattle.mm_proof.specs.Code.PairClause.{IsPair}
 use Rattle.mm_proof.proofs.active.Active.has.Goals as goal
 
 pub loop-place-init : goal.loop-place-init
@@ -37,6 +38,16 @@ returns-then-is_at g c =
     let n = c.loop-place.place in
     let at = slice_get-get_or pairs n (d, d) (omega (arith, length-map c.args.self.now.pairs.now (meant_pair m), c.loop-place-test.true)) in
     (λ _. pair_found pairs n (get_or pairs n (d, d)) (m c.args.x.now) (m c.args.y.now) at ((c.is_at.ensures (get_or pairs n (d, d)) at).0 c.if-is_at.true), λ _. refl)
+
+pub loop-place-preserved : goal.loop-place-preserved
+loop-place-preserved g c =
+    let m = g.S.Symbol.means in
+    let d : Symbol = record { name = []; variable = false } in
+    let pairs = meant_pairs m c.args.self.now.pairs.now in
+    let n = c.loop-place.place in
+    let at = get_or pairs n (d, d) in
+    let there = slice_get-get_or pairs n (d, d) (omega (arith, length-map c.args.self.now.pairs.now (meant_pair m), c.loop-place-test.true)) in
+    each_more (λ p. IsPair p (m c.args.x.now) (m c.args.y.now) → ⊥) pairs n at there (λ is. false≢true (sym c.if-is_at.false ∙ (c.is_at.ensures at there).1 is)) c.loop-place.invariant
 
 pub returns : goal.returns
 returns g c =
