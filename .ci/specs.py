@@ -16,7 +16,7 @@ USE = re.compile(r"(?:pub )?use (\S+?)(?:\.\{(.*)\}|(?: as (\S+)))?$")
 COMMENT = re.compile(r"( *)-- ?(.*)")
 BODY = re.compile(r"^ *\{", re.M)
 
-# A crate names the definitions of lower crates through the one that it depends on, which passes them on under their crate's name.
+# A crate names the definitions of lower crates through one that it depends on, which passes them on under their crate's name.
 PASSED_ON = re.compile(r"\bRattle\.mm_[a-z]+\.specs\.(mm_[a-z]+)\.")
 
 

@@ -20,23 +20,25 @@ use mm_store::Edit;
 use std::alloc::Global;
 use std::io::Read;
 
-/// Bytes of a script that are read and not answered: from the one at `start` up to the one at `end`, counted from 0.
+/// A range of the pending bytes ([`Input::pending`]): from `start` up to, but without, `end`. It holds until bytes are passed,
+/// by [`Input::pass`] or by the next [`next_command`].
 #[derive(Clone, Copy)]
 pub struct Part {
-    /// The first of them.
+    /// The first byte, from 0.
     pub start: usize,
-    /// The one after the last.
+    /// The byte after the last one.
     pub end: usize,
 }
 
-/// An edit, with its name and its text where they are in the bytes of a script.
+/// An edit, with its name and its text as ranges of the pending bytes. Its numbers count pieces from 0, and are at most
+/// 4,294,967,295. Whether the file has such a piece is not looked at.
 #[derive(Clone, Copy)]
 pub enum EditAt {
     /// A new piece, of this text, before the piece `at` of the file.
     Insert {
         /// The name of the file.
         file: Part,
-        /// At most the count of its pieces.
+        /// The number of the piece before which it comes.
         at: usize,
         /// The text of the piece.
         text: Part,
@@ -63,12 +65,12 @@ pub enum EditAt {
         file: Part,
         /// The piece.
         at: usize,
-        /// Its place after that.
+        /// Its number after the move.
         to: usize,
     },
 }
 
-/// A command, with its names, texts and labels where they are in the bytes of a script.
+/// A command, with its names, texts and labels as ranges of the pending bytes.
 #[derive(Drop)]
 pub enum CommandAt {
     /// An edit.
@@ -79,26 +81,26 @@ pub enum CommandAt {
     Report,
     /// The verdict of the assertion with this label is asked for.
     Verdict(Part),
-    /// The axioms that it rests on.
+    /// The axioms of the assertion with this label are asked for.
     Axioms(Part),
-    /// The assertions that it cites.
+    /// The assertions that the assertion with this label cites are asked for.
     Cites(Part),
-    /// The theorems that cite it.
+    /// The theorems that cite the assertion with this label are asked for.
     Users(Part),
 }
 
-/// What is complete in the bytes of a script, such as a command, and where it ends.
+/// A command, or an edit, that is complete in the pending bytes, and where it ends.
 #[derive(Drop)]
 pub struct Complete<T: Drop> {
-    /// It.
+    /// The command or the edit.
     pub found: T,
-    /// The byte after it.
+    /// The byte after its last line feed, if that is there.
     pub end: usize,
-    /// Whether the line feed is there that ends it; else the script ends with it.
+    /// Whether its last line feed is there. If not, the script ends with it.
     pub fed: bool,
 }
 
-/// The bytes of a part.
+/// The bytes of a part. `bytes` are the pending bytes in which it was found. Nothing is copied.
 pub fn bytes_of<'a>(bytes: &'a [u8], part: Part) -> &'a [u8]
     requires { IsPartWithin bytes.now part }
     ensures { result.now ≡ bytes_of_part bytes.now part }
@@ -106,7 +108,7 @@ pub fn bytes_of<'a>(bytes: &'a [u8], part: Part) -> &'a [u8]
     &bytes[part.start..part.end]
 }
 
-/// The edit that is there.
+/// The edit, with its name and its text borrowed from the pending bytes in which it was found.
 pub fn edit_of<'a>(bytes: &'a [u8], edit: &EditAt) -> Edit<'a>
     requires { IsEditWithin bytes.now edit.now }
     ensures { asked result ≡ edit_in bytes.now edit.now }
@@ -134,8 +136,8 @@ pub fn edit_of<'a>(bytes: &'a [u8], edit: &EditAt) -> Edit<'a>
     }
 }
 
-/// Reads on until a line that is not empty is complete, and passes the empty lines before it as they come, so that they take no
-/// memory, however many there are; an empty one means the end.
+/// Reads on until a line that is not empty is complete; an empty one means the end. Empty lines before it are passed as they
+/// come, so they take no memory.
 fn first_line<R: Read>(input: &mut Input, reading: &mut Reading<R>) -> Result<LineAt, ScriptError>
     ensures reads { ReadsOn input.old input.new (unread R.remaining reading.old) (unread R.remaining reading.new) }
     ensures line { IfOk result (IsLineAt (pending input.new) (unread R.remaining reading.new)) }
@@ -216,9 +218,15 @@ fn read_command<R: Read>(
     }
 }
 
-/// Reads on until a command is complete, past the empty lines before it; none if the script ends before one.
+/// Reads on until a command is complete, and passes the empty lines before it; none if the script ends before one.
 ///
-/// No read call is made once the command is complete.
+/// The command stays at the front of the pending bytes, and its parts are ranges of them. If it is `fed`, pass `end` bytes
+/// after it is answered; if not, it is the last. No read call is made once it is complete.
+///
+/// `BadLine` and `Cut`: the script ends so at the first pending byte. `Read`: a read failed, and no whole command is pending.
+/// `Memory`: no byte is lost, and a later call goes on. It is never `Write`.
+///
+/// It takes room for the bytes of one command and 4,096 more. The time is linear in these bytes and the empty lines.
 pub fn next_command<R: Read>(
     alloc: Global,
     input: &mut Input,

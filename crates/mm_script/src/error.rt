@@ -1,4 +1,4 @@
-//! Why a script is not answered to its end.
+//! Why a script ends early.
 
 ghost use Rattle.std.specs.Prelude.{◌≡◌};
 ghost use Rattle.mm_script.specs.declared.error.ScriptError.TheVariants as errors;
@@ -7,19 +7,19 @@ use crate::stream::WriteFailed;
 use std::alloc::{AllocError, AllocFailed};
 use thiserror::Error;
 
-/// Why a script is not answered to its end.
+/// Why a script ends early: in its reading, or in the answers to it.
 #[derive(Clone, Copy, Debug, PartialEq, Eq, Error)]
 pub enum ScriptError {
-    /// A line is that of no command, or a text is not followed by a line feed.
+    /// A line is no command, or in a batch no edit; or another byte than a line feed follows a text.
     #[error("a line is no command")]
     BadLine,
     /// The script ends inside a text, before the line feed after it, or with edits of a batch missing.
     #[error("the script is cut short")]
     Cut,
-    /// The reading has failed.
+    /// A read has failed.
     #[error("a read failed")]
     Read,
-    /// The writing has failed.
+    /// A write of an answer has failed. No call that reads answers it.
     #[error("a write failed")]
     Write,
     /// There was not enough memory.

@@ -1,4 +1,4 @@
-//! The bytes of a script that are read and not answered yet.
+//! What is read of a script ahead of its answers.
 
 ghost use Rattle.std.specs.Prelude.{◌≤◌, vec_len};
 
@@ -7,10 +7,10 @@ use crate::read_stream::Reading;
 use std::alloc::Global;
 use std::io::Read;
 
-/// How many bytes a read may bring.
+/// How many bytes a read may bring. The definition `to_come` has this number, too.
 const ROOM: usize = 4096;
 
-/// The bytes of a script that are read and not answered yet: those from `at` on.
+/// The pending bytes of a script: those that are read and not answered yet. They are one command and at most 4,096 bytes more.
 #[derive(Drop)]
 pub struct Input {
     bytes: Vec<u8>,
@@ -26,7 +26,7 @@ impl Input {
     ghost use Rattle.mm_script.specs.Language.Commands.{to_come, pending};
     ghost use Rattle.mm_script.specs.Language.Stream.{cannot_read, unread};
 
-    /// No bytes yet.
+    /// Nothing is pending. It takes no memory.
     pub fn new(alloc: Global) -> Input
         ensures { pending result ≡ [] }
     {
@@ -36,14 +36,14 @@ impl Input {
         }
     }
 
-    /// The bytes that are read and not answered yet.
+    /// The bytes that are read and not answered yet, in order.
     pub fn pending(&self) -> &[u8]
         ensures { result.now ≡ pending self.now }
     {
         &self.bytes[self.at..]
     }
 
-    /// Passes the first of these bytes, this many of them.
+    /// Passes the first `count` pending bytes: they are answered. Parts that were found before are void.
     pub fn pass(&mut self, count: usize)
         requires { count ≤ length (pending self.old) }
         ensures { pending self.new ≡ drop count (pending self.old) }

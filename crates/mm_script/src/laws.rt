@@ -16,8 +16,7 @@ pub fn has_reading()
     ensures { HasReading }
 {}
 
-/// What is read of some bytes stays, whatever follows them: it is a beginning of the reading of them all. It is one
-/// list.
+/// What is read of some bytes is one list. It stays, whatever follows them: it is a beginning of the reading of them all.
 pub fn reading_goes_on()
     ensures on { ReadingGoesOn }
     ensures one { OneReadSoFar }
@@ -28,12 +27,12 @@ pub fn commands_leave_nothing()
     ensures { CommandsLeaveNothing }
 {}
 
-/// Two divisions of a script into commands and empty lines agree: one is a beginning of the other.
+/// Two divisions of a script into commands and empty lines agree: the one with fewer of them is a beginning of the other.
 pub fn divisions_agree()
     ensures { DivisionsAgree }
 {}
 
-/// What is left after some commands and empty lines is read by itself, as what is read of all goes on.
+/// What is left after some commands and empty lines is read by itself: its reading, put after them, is the reading of all.
 pub fn readings_join()
     ensures { ReadingsJoin }
 {}

@@ -1,4 +1,5 @@
 pub use Rattle.mm_report.specs as mm_report
+pub use Rattle.mm_report.specs.mm_script
 pub use Rattle.mm_report.specs.mm_keep
 pub use Rattle.mm_report.specs.mm_proof
 pub use Rattle.mm_report.specs.mm_frame

@@ -1,4 +1,4 @@
--- Where commands are in the bytes of a script that are read and not answered yet.
+-- The next command of a script, in the pending bytes: those that are read and not answered yet.
 use Rattle.std.specs.Prelude.{◌≡◌, ◌≤◌, ◌+◌, ◌*◌, ◌⊎◌, ℕ, true, false, Option, List, Contains, [], ◌∷◌, ◌++◌, length, map, drop, replicate, slice_range}
 use Rattle.std.specs.Io.KnownBytes.{Consumes, IsAtEnd}
 use Rattle.mm_store.specs.Language.Edits.{Asked, Insert, Replace, Delete, Move}
@@ -14,15 +14,15 @@ use Rattle.mm_script.specs.Language.Script.{Command, Change, Batch, Report, Verd
 use Rattle.mm_script.specs.Language.Script.{End, EndsSo, Listed, command_bytes, IsGood, IsLongestReading, IsReadSoFar, EndsInLine}
 use Rattle.mm_script.specs.Language.Stream.{calls_left}
 
--- the bytes that are read and not answered yet
+-- the pending bytes
 abbrev pub pending : Input → List ℕ
 pending input = drop input.at input.bytes.items
 
--- more than all steps that are to come: each call brings 4,096 bytes at most, and each byte may be passed
+-- a bound on the steps to come: a step is a read call or a passed byte, and a call brings at most 4,096 bytes
 abbrev pub to_come : {R : Type 0} → Input → Reading R → ℕ
 to_come input reading = 4097 * calls_left reading + length (pending input)
 
--- bytes are read on, and empty lines passed: those that were there and those that came are the empty lines and what is there now
+-- some bytes came; with those that were pending, they are empty lines, which are passed, and the bytes that are pending now
 pub record ReadsOn (old new : Input) (unread left : Option (List ℕ)) : Type 0 where
   pub part : List ℕ
   pub consumes : Consumes unread left part
@@ -38,7 +38,7 @@ pub record IsPartWithin (bytes : List ℕ) (part : Part) : Type 0 where
   pub ordered : part.start ≤ part.end
   pub within : part.end ≤ length bytes
 
--- the edit that is there
+-- the edit whose name and text are these parts of the bytes
 abbrev pub edit_in : List ℕ → EditAt → Asked
 edit_in bytes (edits.Insert file at text) = Insert (bytes_of_part bytes file) at (bytes_of_part bytes text)
 edit_in bytes (edits.Replace file at text) = Replace (bytes_of_part bytes file) at (bytes_of_part bytes text)
@@ -52,12 +52,12 @@ IsEditWithin bytes (edits.Replace file at text) = IsPartWithin bytes file × IsP
 IsEditWithin bytes (edits.Delete file at) = IsPartWithin bytes file
 IsEditWithin bytes (edits.Move file at to) = IsPartWithin bytes file
 
--- the edits of a batch that are there, one after another
+-- these are the edits of a batch, in order, each with its parts within the bytes
 pub record AreEditsIn (bytes : List ℕ) (found : List EditAt) (listed : List Listed) : Type 0 where
   pub within : (k : EditAt) → Contains found k → IsEditWithin bytes k
   pub are : map (λ one. one.edit) listed ≡ map (edit_in bytes) found
 
--- the command that is there
+-- the command whose names, texts and labels are these parts of the bytes
 abbrev pub IsCommandIn : List ℕ → CommandAt → Command → Type 0
 IsCommandIn bytes (code.Change edit) command = IsEditWithin bytes edit × (command ≡ Change (edit_in bytes edit))
 IsCommandIn bytes (code.Batch found) command = (listed : List Listed) × AreEditsIn bytes found.items listed × (command ≡ Batch listed)
@@ -67,7 +67,7 @@ IsCommandIn bytes (code.Axioms label) command = IsPartWithin bytes label × (com
 IsCommandIn bytes (code.Cites label) command = IsPartWithin bytes label × (command ≡ Cites (bytes_of_part bytes label))
 IsCommandIn bytes (code.Users label) command = IsPartWithin bytes label × (command ≡ Users (bytes_of_part bytes label))
 
--- the bytes begin with the command, and this many are its
+-- the bytes begin with the command, and it takes this many of them
 pub record IsWholeCommand (bytes : List ℕ) (command : Command) (end : ℕ) : Type 0 where
   pub within : end ≤ length bytes
   pub are : bytes ≡ command_bytes command ++ drop end bytes
@@ -78,11 +78,11 @@ pub record IsLast (bytes : List ℕ) (left : Option (List ℕ)) (command : Comma
   pub in_line : EndsInLine command
   pub are : bytes ++ 10 ∷ [] ≡ command_bytes command
 
--- the bytes begin with the whole command, or they are the last one, without its last line feed
+-- the bytes begin with the whole command; or, at the end of the script, they are the command without its last line feed
 abbrev pub IsWholeOrLast : List ℕ → Option (List ℕ) → Complete CommandAt → Command → Type 0
 IsWholeOrLast bytes left next command = ((next.fed ≡ true) × IsWholeCommand bytes command next.end) ⊎ ((next.fed ≡ false) × IsLast bytes left command)
 
--- the bytes begin with a command, and it is whole
+-- the bytes begin with a command, or at the end of the script they are one without its last line feed
 pub record IsNextCommand (bytes : List ℕ) (left : Option (List ℕ)) (next : Complete CommandAt) : Type 0 where
   pub command : Command
   pub good : IsGood command
@@ -94,6 +94,6 @@ pub record StopsSo (bytes : List ℕ) (end : End) : Type 0 where
   pub reading : IsLongestReading bytes [] bytes
   pub ends : EndsSo bytes end
 
--- no command and no empty line is whole in these bytes, whatever follows them
+-- the bytes begin with no whole command and no empty line, whatever follows them
 abbrev pub HasNoEntry : List ℕ → Type 0
 HasNoEntry bytes = IsReadSoFar bytes [] bytes

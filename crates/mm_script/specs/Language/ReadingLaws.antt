@@ -29,8 +29,8 @@ abbrev pub DivisionsAgree : Type 0
 DivisionsAgree = (script : List ℕ) (a b : List Entry) (s t : List ℕ) → HasEntries script a s → HasEntries script b t → length a ≤ length b
     → (more : List Entry) × (a ++ more ≡ b)
 
--- What is left after some entries is read by itself: as more entries; as the reading of it, with which they are the reading of all; or as
--- no entry, whatever follows it, so that they are what is read so far.
+-- What is left after some entries is read by itself. Its entries come after them. Its reading, put after them, is the reading of all. If it
+-- begins with no entry, whatever follows, they are what is read so far.
 pub record ReadingsJoin : Type 0 where
   pub entries : (bytes : List ℕ) (before after : List Entry) (rest left : List ℕ) → AreRead bytes before rest → AreRead rest after left
       → AreRead bytes (before ++ after) left

@@ -178,8 +178,8 @@ abbrev pub IsNoneOrLine : Asked → List ℕ → Type 0
 IsNoneOrLine edit bytes =
     (bytes ≡ []) ⊎ ((more : List ℕ) × (missing : List ℕ) × (bytes ≡ edit_line edit ++ more) × (more ++ missing ≡ 10 ∷ ended_text (edited_text edit)))
 
--- edits are missing after the line of a batch: some of them are whole, and of the next there are empty lines alone, or its whole line and
--- a part of what belongs after it
+-- edits are missing after the line of a batch. Some of them are whole. Of the next there are empty lines alone, or its whole line and a part
+-- of what belongs after it
 pub record MissesEdits (edits : List Listed) (part : List ℕ) : Type 0 where
   pub front : List Listed
   pub next : Listed
@@ -196,8 +196,7 @@ MayBreak (Change edit) part = edited_text edit ≢ None
 MayBreak (Batch edits) part = ((part ≡ []) × (edits ≢ [])) ⊎ MissesEdits edits part
 MayBreak _ part = ⊥
 
--- what is left of a script is cut short: the line of a command, and a part, but not all, of what belongs after it; the command may break
--- off there
+-- what is left of a script is cut short: the line of a command, and not all of what belongs after it. The command may break off there
 pub record IsCutShort (rest : List ℕ) : Type 0 where
   pub command : Command
   pub good : IsGood command
