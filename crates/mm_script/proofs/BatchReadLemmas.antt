@@ -118,13 +118,14 @@ batch_one_more a b u v n end found fed read s yes_fed fewer grows r last =
             last_in_line s.front one parts.1,
             parts.2,
             omega (arith, last e, length-append s.front (one ∷ []), edits_counted (pending a) found s.front s.edits),
+            parts.3,
           );
     }
 
 -- the line of a batch
 pub batch_begun : (a : Input) (u : Option (List ℕ)) (line : LineAt) (n end : ℕ) → IsLineAt (pending a) u line → line.start ≡ 0 → IsNumber n → line_bytes (pending a) line ≡ batch_line n
-    → (line.fed ≡ true → end ≡ line.end + 1) → end ≤ length (pending a) → (line.fed ≡ false → 0 ≡ n) → IsBatchRead (pending a) u n [] end line.fed
-batch_begun a u line n end is start number says fed within none =
+    → (line.fed ≡ true → end ≡ line.end + 1) → (line.fed ≡ false → end ≡ line.end) → end ≤ length (pending a) → (line.fed ≡ false → 0 ≡ n) → IsBatchRead (pending a) u n [] end line.fed
+batch_begun a u line n end is start number says fed unfed within none =
     let bytes = pending a in
     let here : drop line.start bytes ≡ bytes = ap (λ (k : ℕ). drop k bytes) start in
     record {
@@ -140,6 +141,7 @@ batch_begun a u line n end is start number says fed within none =
         tt,
         (is.unfed e).1,
         none e,
+        unfed e ∙ (is.unfed e).0,
       );
     }
 

@@ -60,8 +60,8 @@ held_edit bytes start none t = subst HasNoEntry (sym (all_bytes bytes start none
 -- a command that is no more than its line
 pub line_next : (bytes : List ℕ) (left : Option (List ℕ)) (line : LineAt) (command : Command) (next : Complete CommandAt) → IsLineAt bytes left line → line.start ≡ 0
     → line_bytes bytes line ≡ line_of command → behind_line command ≡ [] → IsGood command → IsCommandIn bytes next.found command → EndsInLine command
-    → next.fed ≡ line.fed → (line.fed ≡ true → next.end ≡ line.end + 1) → IsNextCommand bytes left next
-line_next bytes left line command next is start says none good is_command in_line fed end = record {
+    → next.fed ≡ line.fed → (line.fed ≡ true → next.end ≡ line.end + 1) → (line.fed ≡ false → next.end ≡ line.end) → IsNextCommand bytes left next
+line_next bytes left line command next is start says none good is_command in_line fed end unfed = record {
   command = command;
   good = good;
   is_command = is_command;
@@ -91,6 +91,7 @@ line_next bytes left line command next is start says none good is_command in_lin
         in_line = in_line;
         are = ap (λ (xs : List ℕ). xs ++ 10 ∷ []) (all_bytes bytes line.start start ∙ unfed_line bytes left line is e ∙ says) ∙ ap (λ (xs : List ℕ). line_of command ++ 10 ∷ xs) (sym none);
       },
+      unfed e ∙ (is.unfed e).0,
     )
 
 -- one with a label
@@ -98,14 +99,14 @@ pub label_next : (bytes : List ℕ) (left : Option (List ℕ)) (line : LineAt) (
     → SaysLabel (line_bytes bytes line) word label → ((name : List ℕ) → line_of (make name) ≡ word ++ 32 ∷ name) → ((name : List ℕ) → behind_line (make name) ≡ [])
     → ((name : List ℕ) → IsName name → IsGood (make name)) → ((name : List ℕ) → EndsInLine (make name))
     → (IsPartWithin bytes label → IsCommandIn bytes next.found (make (bytes_of_part bytes label)))
-    → next.fed ≡ line.fed → (line.fed ≡ true → next.end ≡ line.end + 1) → IsNextCommand bytes left next
-label_next bytes left line label word make next is start says line_is none good in_line is_command fed end =
+    → next.fed ≡ line.fed → (line.fed ≡ true → next.end ≡ line.end + 1) → (line.fed ≡ false → next.end ≡ line.end) → IsNextCommand bytes left next
+label_next bytes left line label word make next is start says line_is none good in_line is_command fed end unfed =
     let at : IsShifted label label line.start = record { start = omega arith; end = omega arith } in
     let same : bytes_of_part bytes label ≡ bytes_of_part (line_bytes bytes line) label = shifted_is bytes left line label label is says.good.within at in
     line_next bytes left line (make (bytes_of_part bytes label)) next is start
     (says.is ∙ ap (λ (xs : List ℕ). word ++ 32 ∷ xs) (sym same) ∙ sym (line_is (bytes_of_part bytes label)))
     (none (bytes_of_part bytes label)) (good (bytes_of_part bytes label) (subst IsName (sym same) says.good.name))
-    (is_command (shifted_within bytes left line label label is says.good.within at)) (in_line (bytes_of_part bytes label)) fed end
+    (is_command (shifted_within bytes left line label label is says.good.within at)) (in_line (bytes_of_part bytes label)) fed end unfed
 
 -- a batch
 pub batch_next : (bytes : List ℕ) (left : Option (List ℕ)) (n : ℕ) (next : Complete CommandAt) (found : List EditAt) → IsBatchRead bytes left n found next.end next.fed → length found ≡ n
@@ -140,4 +141,5 @@ batch_next bytes left n next found b count is_command =
             in_line = last.1;
             are = last.0 ∙ ap (λ (k : ℕ). batch_line k ++ 10 ∷ flat_map listed_bytes b.front) long;
           },
+          last.4,
         )

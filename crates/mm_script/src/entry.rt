@@ -1,6 +1,6 @@
 //! The commands of a script, read until each is complete.
 
-ghost use Rattle.std.specs.Prelude.{◌≡◌, ◌≢◌, ◌<◌, ◌≤◌, ◌+◌, ◌^◌, ◌⊎◌, ◌++◌, [], true, Err, None, IfOk, IfSome, IsErrOf, OnErr, OnOk};
+ghost use Rattle.std.specs.Prelude.{◌≡◌, ◌≢◌, ◌<◌, ◌≤◌, ◌+◌, ◌^◌, ◌⊎◌, ◌++◌, [], true, false, Err, None, IfOk, IfSome, IsErrOf, OnErr, OnOk};
 ghost use Rattle.std.specs.Io.KnownBytes.{IsAtEnd};
 ghost use Rattle.mm_store.specs.Language.Edits.{asked};
 ghost use Rattle.mm_script.specs.declared.error.ScriptError.TheVariants as errors;
@@ -94,7 +94,7 @@ pub enum CommandAt {
 pub struct Complete<T: Drop> {
     /// The command or the edit.
     pub found: T,
-    /// The byte after its last line feed, if that is there.
+    /// The byte after it and its last line feed; if that is missing, the count of the pending bytes.
     pub end: usize,
     /// Whether its last line feed is there. If not, the script ends with it.
     pub fed: bool,
@@ -163,6 +163,7 @@ fn of_line(command: CommandAt, line: LineAt) -> Complete<CommandAt>
     ensures command { result.found ≡ command }
     ensures fed { result.fed ≡ line.fed }
     ensures end { line.fed ≡ true → result.end ≡ line.end + 1 }
+    ensures unfed { line.fed ≡ false → result.end ≡ line.end }
 {
     Complete {
         found: command,

@@ -39,3 +39,4 @@ pub record IsBatchRead (bytes : List ℕ) (left : Option (List ℕ)) (n : ℕ) (
   pub within : end ≤ length bytes
   pub fed_so : fed ≡ true → bytes ≡ batch_line n ++ 10 ∷ (flat_map listed_bytes front ++ drop end bytes)
   pub unfed : fed ≡ false → (bytes ++ 10 ∷ [] ≡ batch_line n ++ 10 ∷ flat_map listed_bytes front) × LastInLine front × IsAtEnd left × (length front ≡ n)
+      × (end ≡ length bytes)

@@ -80,7 +80,7 @@ pub record IsLast (bytes : List ℕ) (left : Option (List ℕ)) (command : Comma
 
 -- the bytes begin with the whole command; or, at the end of the script, they are the command without its last line feed
 abbrev pub IsWholeOrLast : List ℕ → Option (List ℕ) → Complete CommandAt → Command → Type 0
-IsWholeOrLast bytes left next command = ((next.fed ≡ true) × IsWholeCommand bytes command next.end) ⊎ ((next.fed ≡ false) × IsLast bytes left command)
+IsWholeOrLast bytes left next command = ((next.fed ≡ true) × IsWholeCommand bytes command next.end) ⊎ ((next.fed ≡ false) × IsLast bytes left command × (next.end ≡ length bytes))
 
 -- the bytes begin with a command, or at the end of the script they are one without its last line feed
 pub record IsNextCommand (bytes : List ℕ) (left : Option (List ℕ)) (next : Complete CommandAt) : Type 0 where

@@ -20,7 +20,7 @@ loop-input-init g c =
       | else-not-line-via-else-not-line w ↦ let fed : c.args.line.fed ≡ true = not-false _ w.if-not-line.false in absurd (cc)
     ] in
     let long = behind_within (pending c.args.input.now) _ c.args.line c.behind-end.result c.requires.line c.behind-end.ensures.fed c.behind-end.ensures.unfed in
-    let begun = batch_begun c.args.input.now _ c.args.line c.args.count c.behind-end.result c.requires.line c.requires.start c.requires.number c.requires.says c.behind-end.ensures.fed long.0 none in
+    let begun = batch_begun c.args.input.now _ c.args.line c.args.count c.behind-end.result c.requires.line c.requires.start c.requires.number c.requires.says c.behind-end.ensures.fed c.behind-end.ensures.unfed long.0 none in
     record {
       grows = grows_not _ _;
       read = subst (λ (found : List EditAt). IsBatchRead (pending c.args.input.now) (g.R.Read.remaining c.args.reading.now.inner) c.args.count found c.behind-end.result c.args.line.fed) (sym c.new-edits.ensures.items) begun;

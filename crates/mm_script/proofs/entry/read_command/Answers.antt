@@ -51,7 +51,7 @@ returns-in-Report-clause-found g c =
     let bytes = pending c.args.input.now in
     let says = said_line c.pending.result.now bytes c.args.line _ _ c.pending.ensures c.in-Some.ensures.some c.in-Report.is in
     line_next bytes _ c.args.line Report c.of_line.result c.requires.line c.requires.start says refl tt
-    (subst (λ k. IsCommandIn bytes k Report) (sym c.of_line.ensures.command) refl) tt c.of_line.ensures.fed c.of_line.ensures.end
+    (subst (λ k. IsCommandIn bytes k Report) (sym c.of_line.ensures.command) refl) tt c.of_line.ensures.fed c.of_line.ensures.end c.of_line.ensures.unfed
 
 pub returns-in-Verdict-clause-found : goal.returns-in-Verdict-clause-found
 returns-in-Verdict-clause-found g c =
@@ -60,7 +60,7 @@ returns-in-Verdict-clause-found g c =
     label_next bytes _ c.args.line c.in-Verdict.label (codes "verdict") Verdict c.of_line-in-Verdict.result c.requires.line c.requires.start
     says (λ name. refl) (λ name. refl) (λ name good. good) (λ name. tt)
     (λ within. subst (λ k. IsCommandIn bytes k (Verdict (bytes_of_part bytes c.in-Verdict.label))) (sym c.of_line-in-Verdict.ensures.command) (within, refl))
-    c.of_line-in-Verdict.ensures.fed c.of_line-in-Verdict.ensures.end
+    c.of_line-in-Verdict.ensures.fed c.of_line-in-Verdict.ensures.end c.of_line-in-Verdict.ensures.unfed
 
 pub returns-in-Axioms-clause-found : goal.returns-in-Axioms-clause-found
 returns-in-Axioms-clause-found g c =
@@ -69,7 +69,7 @@ returns-in-Axioms-clause-found g c =
     label_next bytes _ c.args.line c.in-Axioms.label (codes "axioms") Axioms c.of_line-in-Axioms.result c.requires.line c.requires.start
     says (λ name. refl) (λ name. refl) (λ name good. good) (λ name. tt)
     (λ within. subst (λ k. IsCommandIn bytes k (Axioms (bytes_of_part bytes c.in-Axioms.label))) (sym c.of_line-in-Axioms.ensures.command) (within, refl))
-    c.of_line-in-Axioms.ensures.fed c.of_line-in-Axioms.ensures.end
+    c.of_line-in-Axioms.ensures.fed c.of_line-in-Axioms.ensures.end c.of_line-in-Axioms.ensures.unfed
 
 pub returns-in-Cites-clause-found : goal.returns-in-Cites-clause-found
 returns-in-Cites-clause-found g c =
@@ -78,7 +78,7 @@ returns-in-Cites-clause-found g c =
     label_next bytes _ c.args.line c.in-Cites.label (codes "cites") Cites c.of_line-in-Cites.result c.requires.line c.requires.start
     says (λ name. refl) (λ name. refl) (λ name good. good) (λ name. tt)
     (λ within. subst (λ k. IsCommandIn bytes k (Cites (bytes_of_part bytes c.in-Cites.label))) (sym c.of_line-in-Cites.ensures.command) (within, refl))
-    c.of_line-in-Cites.ensures.fed c.of_line-in-Cites.ensures.end
+    c.of_line-in-Cites.ensures.fed c.of_line-in-Cites.ensures.end c.of_line-in-Cites.ensures.unfed
 
 pub returns-in-Users-clause-found : goal.returns-in-Users-clause-found
 returns-in-Users-clause-found g c =
@@ -87,4 +87,4 @@ returns-in-Users-clause-found g c =
     label_next bytes _ c.args.line c.in-Users.label (codes "users") Users c.of_line-in-Users.result c.requires.line c.requires.start
     says (λ name. refl) (λ name. refl) (λ name good. good) (λ name. tt)
     (λ within. subst (λ k. IsCommandIn bytes k (Users (bytes_of_part bytes c.in-Users.label))) (sym c.of_line-in-Users.ensures.command) (within, refl))
-    c.of_line-in-Users.ensures.fed c.of_line-in-Users.ensures.end
+    c.of_line-in-Users.ensures.fed c.of_line-in-Users.ensures.end c.of_line-in-Users.ensures.unfed
