@@ -108,9 +108,9 @@ module _ (joins : ReadingsJoin) (done : CommandsLeaveNothing) (old session : Ses
   })
 
   -- what is read with a last command, whose line has no line feed
-  last_read : (pend : List ℕ) (command : Command) (so : HasAnswered old session all left before after pend) → IsGood command → IsLast pend left command
+  last_read : (pend : List ℕ) (command : Command) (end : ℕ) (so : HasAnswered old session all left before after pend) → IsGood command → IsLast pend left command end
       → IsLongestReading so.first.bytes (so.first.entries ++ Given command ∷ []) []
-  last_read pend command so good last =
+  last_read pend command end so good last =
       let feed : LacksFeed pend (Given command ∷ []) = record { front = []; last = command; are = refl; in_line = last.in_line; is = last.are ∙ sym (append-nil (command_bytes command)) } in
       joins.reading so.first.bytes so.first.entries (Given command ∷ []) pend [] (read_as pend so)
       (done pend (Given command ∷ []) (record { good = (good, tt); joined = inr (feed, refl) }))
@@ -143,17 +143,14 @@ module _ (joins : ReadingsJoin) (done : CommandsLeaveNothing) (old session : Ses
   -- ---- where the script ends
 
   -- the last command, whose line has no line feed, is answered
-  pub last_answered : (new : SessionView) (now : Option (List ℕ)) (pend : List ℕ) (command : Command) → IsGood command → IsLast pend left command
+  pub last_answered : (new : SessionView) (now : Option (List ℕ)) (pend : List ℕ) (command : Command) (end : ℕ) → IsGood command → IsLast pend left command end
       → IsAnswered session new command after now → HasAnswered old session all left before after pend → IfSome all (λ script. AnswersScript old new script Done before now)
-  last_answered new now pend command good last one so = by all so.first.consumes
+  last_answered new now pend command end good last one so = by all so.first.consumes
     where
-      entries : List Entry
-      entries = so.first.entries
-
       by : (whole : Option (List ℕ)) → Consumes whole left so.first.bytes → IfSome whole (λ script. AnswersScript old new script Done before now)
       by None c = tt
       by (Some script) c =
-          let reading = last_read pend command so good last in
+          let reading = last_read pend command end so good last in
           record {
             answers = so.first.answers ++ one.answer;
             is = record {
@@ -248,10 +245,10 @@ module _ (joins : ReadingsJoin) (done : CommandsLeaveNothing) (old session : Ses
   whole_begun new now pend command end good whole one so = begun_by new now pend (drop end pend) command so (inl (more_read pend command end so good whole)) one
 
   -- or that of the last one
-  pub last_begun : (new : SessionView) (now : Option (List ℕ)) (pend : List ℕ) (command : Command) → IsGood command → IsLast pend left command
+  pub last_begun : (new : SessionView) (now : Option (List ℕ)) (pend : List ℕ) (command : Command) (end : ℕ) → IsGood command → IsLast pend left command end
       → BeginsAnswer session new command after now → HasAnswered old session all left before after pend → BeginsAnswers old new all left before now
-  last_begun new now pend command good last one so =
-      begun_by new now pend [] command so (inr (last.at_end, (last_read pend command so good last).divided)) one
+  last_begun new now pend command end good last one so =
+      begun_by new now pend [] command so (inr (last.at_end, (last_read pend command end so good last).divided)) one
 
 -- ---- one step of the loop
 
@@ -290,7 +287,7 @@ module _ {R W : Type 0} (joins : ReadingsJoin) (done : CommandsLeaveNothing) (re
   answer_stops next is new b so errors.Write fails = (
     elim is.whole [
       | inl h ↦ whole_begun joins done begun session all (unread remaining left) before (written contents a) new (written contents b) (pending now) is.command next.end is.good h.1 fails.1 so
-      | inr h ↦ last_begun joins done begun session all (unread remaining left) before (written contents a) new (written contents b) (pending now) is.command is.good h.1 fails.1 so
+      | inr h ↦ last_begun joins done begun session all (unread remaining left) before (written contents a) new (written contents b) (pending now) is.command next.end is.good h.1 fails.1 so
     ],
     fails.0,
   )
@@ -313,5 +310,5 @@ module _ {R W : Type 0} (joins : ReadingsJoin) (done : CommandsLeaveNothing) (re
           let there = subst (λ (bytes : List ℕ). HasAnswered begun new all (unread remaining left) before (written contents b) bytes) (sym (passed h.0)) whole in
           subst (AnswersSoFar begun new all (unread remaining left) before (written contents b) (pending input)) (sym h.0) there
       by (inr h) =
-          let last = last_answered joins done begun session all (unread remaining left) before (written contents a) new (written contents b) (pending now) is.command is.good h.1 one so in
+          let last = last_answered joins done begun session all (unread remaining left) before (written contents a) new (written contents b) (pending now) is.command next.end is.good h.1 one so in
           subst (AnswersSoFar begun new all (unread remaining left) before (written contents b) (pending input)) (sym h.0) last

@@ -90,8 +90,8 @@ line_next bytes left line command next is start says none good is_command in_lin
         at_end = (is.unfed e).1;
         in_line = in_line;
         are = ap (λ (xs : List ℕ). xs ++ 10 ∷ []) (all_bytes bytes line.start start ∙ unfed_line bytes left line is e ∙ says) ∙ ap (λ (xs : List ℕ). line_of command ++ 10 ∷ xs) (sym none);
+        all = unfed e ∙ (is.unfed e).0;
       },
-      unfed e ∙ (is.unfed e).0,
     )
 
 -- one with a label
@@ -140,6 +140,6 @@ batch_next bytes left n next found b count is_command =
             at_end = last.2;
             in_line = last.1;
             are = last.0 ∙ ap (λ (k : ℕ). batch_line k ++ 10 ∷ flat_map listed_bytes b.front) long;
+            all = last.4;
           },
-          last.4,
         )

@@ -4,7 +4,8 @@ ghost use Rattle.std.specs.Prelude.{◌≡◌, ◌≢◌, ◌<◌, ◌≤◌, �
 ghost use Rattle.std.specs.Io.KnownBytes.{IsAtEnd};
 ghost use Rattle.mm_store.specs.Language.Edits.{asked};
 ghost use Rattle.mm_script.specs.declared.error.ScriptError.TheVariants as errors;
-ghost use Rattle.mm_script.specs.Language.Commands.{pending, bytes_of_part, edit_in, IsEditWithin, IsNextCommand, IsPartWithin, ReadsOn, to_come, HasNoEntry, StopsSo};
+ghost use Rattle.mm_script.specs.Language.Commands.{pending, bytes_of_part, edit_in, to_come};
+ghost use Rattle.mm_script.specs.Language.Commands.{HasNoEntry, IsEditWithin, IsNextCommand, IsPartWithin, ReadsOn, StopsSo};
 ghost use Rattle.mm_script.specs.Code.Growing.{InputGrows, IsLineAt};
 ghost use Rattle.mm_script.specs.Code.Stops.{IsOneLine};
 ghost use Rattle.mm_script.specs.Language.Script.{CutShort, BadLine};

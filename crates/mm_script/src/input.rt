@@ -19,7 +19,7 @@ pub struct Input {
 }
 
 impl Input {
-    ghost use Rattle.std.specs.Prelude.{◌≡◌, ◌+◌, ◌⊎◌, [], true, false, drop, length, Err, IfOk, IsErrOf, OnErr};
+    ghost use Rattle.std.specs.Prelude.{◌≡◌, ◌<◌, ◌+◌, ◌⊎◌, [], true, false, drop, length, Err, IfOk, IsErrOf, OnErr};
     ghost use Rattle.std.specs.Io.KnownBytes.{IsAtEnd};
     ghost use Rattle.mm_script.specs.declared.error.ScriptError.TheVariants as errors;
     ghost use Rattle.mm_script.specs.Code.Growing.{InputGrows};
@@ -67,6 +67,7 @@ impl Input {
     /// read, so that no byte is lost if memory runs out.
     pub(crate) fn read_on<R: Read>(&mut self, reading: &mut Reading<R>) -> Result<bool, ScriptError>
         ensures grows { InputGrows self.old self.new (unread R.remaining reading.old) (unread R.remaining reading.new) }
+        ensures came { IfOk result (λ more. more ≡ true → length (pending self.old) < length (pending self.new)) }
         ensures more { IfOk result (λ more. more ≡ true → to_come self.new reading.new + 1 ≤ to_come self.old reading.old) }
         ensures end { IfOk result (λ more. more ≡ false → (pending self.new ≡ pending self.old) × IsAtEnd (unread R.remaining reading.new)) }
         ensures fewer { IfOk result (λ _. to_come self.new reading.new ≤ to_come self.old reading.old) }

@@ -72,15 +72,17 @@ pub record IsWholeCommand (bytes : List ℕ) (command : Command) (end : ℕ) : T
   pub within : end ≤ length bytes
   pub are : bytes ≡ command_bytes command ++ drop end bytes
 
--- the bytes are all of the command but the last line feed, and nothing is left to read
-pub record IsLast (bytes : List ℕ) (left : Option (List ℕ)) (command : Command) : Type 0 where
+-- the bytes are all of the command but the last line feed, it takes this many of them, and nothing is left to read
+pub record IsLast (bytes : List ℕ) (left : Option (List ℕ)) (command : Command) (end : ℕ) : Type 0 where
   pub at_end : IsAtEnd left
   pub in_line : EndsInLine command
   pub are : bytes ++ 10 ∷ [] ≡ command_bytes command
+  pub all : end ≡ length bytes
 
 -- the bytes begin with the whole command; or, at the end of the script, they are the command without its last line feed
 abbrev pub IsWholeOrLast : List ℕ → Option (List ℕ) → Complete CommandAt → Command → Type 0
-IsWholeOrLast bytes left next command = ((next.fed ≡ true) × IsWholeCommand bytes command next.end) ⊎ ((next.fed ≡ false) × IsLast bytes left command × (next.end ≡ length bytes))
+IsWholeOrLast bytes left next command =
+    ((next.fed ≡ true) × IsWholeCommand bytes command next.end) ⊎ ((next.fed ≡ false) × IsLast bytes left command next.end)
 
 -- the bytes begin with a command, or at the end of the script they are one without its last line feed
 pub record IsNextCommand (bytes : List ℕ) (left : Option (List ℕ)) (next : Complete CommandAt) : Type 0 where
