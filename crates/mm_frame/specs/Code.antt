@@ -8,9 +8,6 @@ pub mod Numbers
 pub mod KeptNames
 pub mod KeptLabels
 pub mod KeptTables
-pub mod PlainWords
-pub mod KeptStatement
-pub mod SpokenProof
 pub mod TakenOver
 pub mod KeptScope
 pub mod SeenNumbers

@@ -1,7 +1,7 @@
 //! The active items of one sort, by their numbers.
 
 ghost use Rattle.std.specs.Prelude.{◌≡◌, ◌+◌, ℕ, Bool, true, false, List, [], ◌∷◌, ◌++◌, length, drop, OnOk, OnErr};
-ghost use Rattle.mm_frame.specs.Language.Item as meant;
+ghost use Rattle.mm_statement.specs.Language.Item as meant;
 ghost use Rattle.mm_frame.specs.Language.Scope.{Neither, mark_of, active_numbers};
 ghost use Rattle.mm_frame.specs.Code.BlockMarks.{stays_by, block_marks};
 ghost use Rattle.mm_frame.specs.Code.KeptActive.{IsPruned};

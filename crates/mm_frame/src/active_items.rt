@@ -2,9 +2,9 @@
 
 ghost use Rattle.std.specs.Prelude.{◌≡◌, ◌∷◌, ◌++◌, ◌&&◌, Bool, List, [], OnOk, length};
 ghost use Rattle.mm_frame.specs.declared.symbol.NumberedSymbol.{NumberedSymbol as Kept};
-ghost use Rattle.mm_frame.specs.Language.Item as meant;
+ghost use Rattle.mm_statement.specs.Language.Item as meant;
 ghost use Rattle.mm_frame.specs.Language.Scope.{closes, mark_of, active_numbers};
-ghost use Rattle.mm_frame.specs.Language.Statement.{kind_of};
+ghost use Rattle.mm_statement.specs.Language.Statement.{kind_of};
 ghost use Rattle.mm_frame.specs.Code.BlockMarks.{block_marks};
 ghost use Rattle.mm_frame.specs.Code.KeptActiveItems.{changes_active};
 ghost use Rattle.mm_frame.specs.Code.KeptScope.{taken};

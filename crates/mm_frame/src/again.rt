@@ -4,10 +4,10 @@ ghost use Rattle.std.specs.Prelude.{◌≡◌, ◌<◌, ◌∷◌, ◌++◌, ℕ
 ghost use Rattle.std.specs.List.{AllZip};
 ghost use Rattle.mm_store.specs.Language.FilesView.{FilesView};
 ghost use Rattle.mm_store.specs.Language.FileFacts.{CanBeRead};
-ghost use Rattle.mm_frame.specs.Language.Item as meant;
-ghost use Rattle.mm_frame.specs.Language.Item.{is_read};
+ghost use Rattle.mm_statement.specs.Language.Item as meant;
+ghost use Rattle.mm_statement.specs.Language.Item.{is_read};
 ghost use Rattle.mm_frame.specs.Language.Base.{BaseView};
-ghost use Rattle.mm_frame.specs.Language.Statement.{Says, kind_of};
+ghost use Rattle.mm_statement.specs.Language.Statement.{Says, kind_of};
 ghost use Rattle.mm_frame.specs.Language.Names.{Begins};
 ghost use Rattle.mm_frame.specs.Language.Answering.{IsBase, IsBaseBy};
 ghost use Rattle.mm_frame.specs.Language.Older.{HasOlder};
@@ -21,8 +21,8 @@ use crate::base::Base;
 use crate::draft::{Draft, number_all};
 use crate::names::Names;
 use crate::room::DraftRoom;
-use crate::statement::{Statement, is_same_range};
 use crate::symbol::NumberedSymbol;
+use mm_statement::{Statement, is_same_range};
 use mm_store::{Files, Item, ItemKind};
 use std::alloc::{AllocError, Global};
 
@@ -66,8 +66,8 @@ fn known_of<'a>(old: &'a Base, i: usize, item: &Item) -> Option<Known<'a>>
     if !needs_no_names(item.kind) || !is_again(old, i, item) {
         return None;
     }
-    // A law: the same bytes have one reading.
-    mm_store::one_meaning();
+    // A law: the same bytes say the same.
+    mm_statement::one_range_says_one();
     match old.sound_symbols(i) {
         Some(symbols) => Some(Known {
             label: old.label(i),
@@ -206,8 +206,8 @@ fn take_over_known<'a>(
     let KnownBy { base, known } = by;
     put_needed(item.kind, known.symbols, &mut draft.numbers)?;
     let statement = Statement::known(alloc, files, item, known.label, known.symbols.len());
-    // A law: the same bytes have one reading.
-    mm_store::one_meaning();
+    // A law: the same bytes say the same.
+    mm_statement::one_range_says_one();
     draft.take_over(alloc, &statement, known.symbols, base)
 }
 
@@ -253,8 +253,8 @@ fn read_next<'a>(
         → IsDraftLater names.new (said ++ one ∷ []) draft.new × AreFirstIf reached.same files.now beside.entry.base.now (said ++ one ∷ []))) }
 {
     names.distinct();
-    // A law: the same bytes have one reading.
-    mm_store::one_meaning();
+    // A law: the same bytes say the same.
+    mm_statement::one_range_says_one();
     let BesideFrom { base, next, .. } = beside;
     let i = draft.count();
     let same = is_same_again(beside, i, item);

@@ -1,7 +1,7 @@
 //! Which pairs of variables were looked up, and what was found.
 
 ghost use Rattle.std.specs.Prelude.{◌≡◌, ℕ, List, [], OnOk};
-ghost use Rattle.mm_frame.specs.Language.Item as meant;
+ghost use Rattle.mm_statement.specs.Language.Item as meant;
 
 use std::alloc::{AllocError, Global};
 use std::collections::HashMap;

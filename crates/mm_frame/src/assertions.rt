@@ -1,8 +1,8 @@
 //! What is kept of the assertions.
 
 ghost use Rattle.std.specs.Prelude.{◌≡◌, ◌∷◌, ◌++◌, ◌&&◌, ℕ, List, [], true, IfOk, OnOk, is_none};
-ghost use Rattle.mm_frame.specs.Language.Item as meant;
-ghost use Rattle.mm_frame.specs.Language.Statement.{kind_of};
+ghost use Rattle.mm_statement.specs.Language.Item as meant;
+ghost use Rattle.mm_statement.specs.Language.Statement.{kind_of};
 ghost use Rattle.mm_frame.specs.Language.Scope.{active_numbers};
 ghost use Rattle.mm_frame.specs.Language.Sound.{AreSound, fault, sound_items};
 ghost use Rattle.mm_frame.specs.Language.Answering.{AreRows, is_told_proof};

@@ -1,7 +1,7 @@
 //! The variables of the active `$e`.
 
 ghost use Rattle.std.specs.Prelude.{◌≡◌, ◌<◌, ◌≤◌, ◌++◌, ◌∷◌, ℕ, List, [], IsTrue, OnOk, Contains, length, drop};
-ghost use Rattle.mm_frame.specs.Language.Item as meant;
+ghost use Rattle.mm_statement.specs.Language.Item as meant;
 ghost use Rattle.mm_frame.specs.declared.symbol.NumberedSymbol.{NumberedSymbol as Kept};
 ghost use Rattle.mm_frame.specs.declared.essential.EssentialVariable.{EssentialVariable};
 ghost use Rattle.mm_frame.specs.Language.Scope.{active_numbers};

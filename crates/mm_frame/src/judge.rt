@@ -2,8 +2,8 @@
 
 ghost use Rattle.std.specs.Prelude.{◌≡◌, ◌<◌, ◌∷◌, ◌++◌, ℕ, true, None, List, [], IfOk, IsTrue, length, map, take, slice_index_or};
 ghost use Rattle.std.specs.Option.{option_map};
-ghost use Rattle.mm_frame.specs.Language.Item as meant;
-ghost use Rattle.mm_frame.specs.Language.Item.{Item};
+ghost use Rattle.mm_statement.specs.Language.Item as meant;
+ghost use Rattle.mm_statement.specs.Language.Item.{Item};
 ghost use Rattle.mm_frame.specs.Code.FaultInOrder as judging;
 ghost use Rattle.mm_frame.specs.Language.Sound as sound;
 ghost use Rattle.mm_frame.specs.Language.Sound.{AreSound};
@@ -11,14 +11,14 @@ ghost use Rattle.mm_frame.specs.Code.KeptScope.{ScopeHolds};
 ghost use Rattle.mm_frame.specs.Code.KeptSymbols.{symbol_by};
 ghost use Rattle.mm_frame.specs.Code.KnownItem.{numbers_of};
 ghost use Rattle.mm_frame.specs.Code.SeenNumbers.{HasSeen, has_number};
-ghost use Rattle.mm_frame.specs.Language.Statement.{kind_of};
+ghost use Rattle.mm_statement.specs.Language.Statement.{kind_of};
 ghost use Rattle.mm_frame.specs.Code.Numbers.{IsNameNumber, AreNameNumbers};
 
 use crate::FrameNumber;
 use crate::names::Names;
 use crate::scope::Scope;
-use crate::statement::Statement;
 use crate::symbol::NumberedSymbol;
+use mm_statement::Statement;
 use mm_store::ItemKind;
 use std::alloc::{AllocError, Global};
 use std::collections::HashSet;

@@ -26,12 +26,10 @@ mod pair_lists;
 mod paired;
 mod partners;
 mod places;
-mod proof_words;
 mod room;
 mod same;
 mod scope;
 mod sparse;
-mod statement;
 mod symbol;
 mod symbol_lists;
 mod tables;
@@ -47,6 +45,9 @@ pub use laws::{
     mandatory_stand_before, never_both, places_have_frames, reader_is_active, sound_has_none,
     stays_by_counts,
 };
+pub use mm_statement::{
+    ProofWords, Statement, has_bytes, nth_of_proof, same_proof, words_of_proof,
+};
 pub use mm_store::{
     BatchError, Edit, EditError, Files, Item, ItemKind, Keyword, PieceKey, Place, StoreError,
     TextError, TextFault, TextNumber, Undo, Undos, Walk, Word, WordKind, edits_keep_files,
@@ -54,11 +55,9 @@ pub use mm_store::{
     one_edit, one_meaning, place, walks_go_on,
 };
 pub use names::Names;
-pub use proof_words::ProofWords;
 pub use same::{
     same_active_pairs, same_but_hypotheses, same_but_pairs, same_expression, same_frame,
 };
-pub use statement::{Statement, has_bytes, nth_of_proof, same_proof, words_of_proof};
 pub use symbol::{NamedSymbol, NumberedSymbol, Symbol};
 
 /// The number of a fault of a statement, or of a missing inclusion.

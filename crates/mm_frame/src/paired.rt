@@ -1,7 +1,7 @@
 //! Which pairs of variables the active `$d` have.
 
 ghost use Rattle.std.specs.Prelude.{◌≡◌, ◌<◌, ◌≤◌, ℕ, suc, true, false, List, [], Some, MatchBool, IfOk, IfSome, IfNone, OnOk, Contains, length, drop};
-ghost use Rattle.mm_frame.specs.Language.Item as meant;
+ghost use Rattle.mm_statement.specs.Language.Item as meant;
 ghost use Rattle.mm_frame.specs.Language.Framing.{active_pairs};
 ghost use Rattle.mm_frame.specs.Language.NumberedSymbols.{as_variable};
 ghost use Rattle.mm_frame.specs.Code.LastItems.{IsRising};

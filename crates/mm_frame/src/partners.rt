@@ -2,7 +2,7 @@
 
 ghost use Rattle.std.specs.Prelude.{◌≡◌, ◌++◌, ◌<◌, ◌+◌, ◌↔◌, ℕ, List, All, IfOk, IfSome, OnOk, Contains, filter, flat_map, map, drop, length, slice_get};
 ghost use Rattle.mm_frame.specs.Language.Frame.{Symbol as Meaning};
-ghost use Rattle.mm_frame.specs.Language.Item as meant;
+ghost use Rattle.mm_statement.specs.Language.Item as meant;
 ghost use Rattle.mm_frame.specs.Language.Answering.{are_paired};
 ghost use Rattle.mm_frame.specs.Language.Framing.{active_pairs};
 ghost use Rattle.mm_frame.specs.Language.NumberedSymbols.{symbol_of, symbols_of, IsNumbered, ArePairsRead};

@@ -1,10 +1,10 @@
 //! What the sound items so far declare, and which of it is active.
 
 ghost use Rattle.std.specs.Prelude.{◌≡◌, ℕ, is_none, true, List, [], ◌∷◌, ◌++◌, OnOk, IfOk, IsTrue, slice_index_or};
-ghost use Rattle.mm_frame.specs.Language.Item as meant;
+ghost use Rattle.mm_statement.specs.Language.Item as meant;
 ghost use Rattle.mm_frame.specs.Language.Scope as scopes;
 ghost use Rattle.mm_frame.specs.Language.Scope.{mark_of};
-ghost use Rattle.mm_frame.specs.Language.Statement.{kind_of};
+ghost use Rattle.mm_statement.specs.Language.Statement.{kind_of};
 ghost use Rattle.mm_frame.specs.Language.Sound as sound;
 ghost use Rattle.mm_frame.specs.Language.Sound.{AreSound};
 ghost use Rattle.mm_frame.specs.Code.FaultInOrder as judging;
@@ -18,9 +18,9 @@ ghost use Rattle.mm_frame.specs.Code.Numbers.{IsNameNumber};
 
 use crate::blocks::Blocks;
 use crate::names::Names;
-use crate::statement::Statement;
 use crate::symbol::NumberedSymbol;
 use crate::tables::{Declared, Tables};
+use mm_statement::Statement;
 use mm_store::ItemKind;
 use std::alloc::{AllocError, Global};
 

@@ -2,7 +2,7 @@
 
 ghost use Rattle.std.specs.Prelude.{◌≡◌, ◌<◌, ◌++◌, ◌∷◌, ℕ, IfOk, OnOk, List, [], None, Some, true, length, nat_eq, option_to_list};
 ghost use Rattle.std.specs.Prelude.{if◌then◌else◌, slice_index_or};
-ghost use Rattle.mm_frame.specs.Language.Item as meant;
+ghost use Rattle.mm_statement.specs.Language.Item as meant;
 ghost use Rattle.mm_frame.specs.Language.Scope.{constants};
 ghost use Rattle.mm_frame.specs.Language.Sound as sound;
 ghost use Rattle.mm_frame.specs.Code.LastItems as numbered;
@@ -12,7 +12,7 @@ ghost use Rattle.mm_frame.specs.Code.Numbers.{IsNameNumber, AreNameNumbers};
 
 use crate::label_numbers::LabelNumbers;
 use crate::names::Names;
-use crate::statement::Statement;
+use mm_statement::Statement;
 use mm_store::ItemKind;
 use std::alloc::{AllocError, Global};
 

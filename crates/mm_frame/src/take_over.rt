@@ -2,7 +2,7 @@
 
 ghost use Rattle.std.specs.Prelude.{◌≡◌, ◌∷◌, ◌++◌, ℕ, List, [], true, IfOk, IfSome, OnOk, length};
 ghost use Rattle.std.specs.Option.{option_map};
-ghost use Rattle.mm_frame.specs.Language.Item as meant;
+ghost use Rattle.mm_statement.specs.Language.Item as meant;
 ghost use Rattle.mm_frame.specs.Language.Scope.{active_numbers};
 ghost use Rattle.mm_frame.specs.Language.Sound.{sound_items};
 ghost use Rattle.mm_frame.specs.Language.Framing.{active_pairs, frame};

@@ -2,7 +2,7 @@
 use Rattle.std.proofs.Common.{◌≡◌, ◌<◌, ℕ, true, List, length, refl, sym, ap, ◌∙◌, subst, Contains}
 use Rattle.std.proofs.lemmas.Bool.{and_parts, false≢true}
 use Rattle.mm_proof.specs.mm_frame.Language.Base.{BaseView, IsOfFiles, said_at, is_proof_at, is_sound_at}
-use Rattle.mm_proof.specs.mm_frame.Language.Item.{Item, is_theorem}
+use Rattle.mm_proof.specs.mm_statement.Language.Item.{Item, is_theorem}
 use Rattle.mm_proof.specs.mm_frame.Language.Laws.{AlikeFilesSayTheSame, HasOwnLabels}
 use Rattle.mm_keep.specs.Language.Citations.{CitesItem, LeadsTo, none, step, IsAxiomOf}
 use Rattle.mm_keep.specs.Language.Laws.{OneListEach, IsOneList, AxiomsHaveThemselves}

@@ -4,7 +4,7 @@ use Rattle.std.proofs.lemmas.Bool.{and_parts, and_from, false≢true}
 use Rattle.std.proofs.lemmas.List.{get_or_default}
 use Rattle.std.proofs.lemmas.Option.{same_Some, slice_get-get_or}
 use Rattle.mm_proof.specs.mm_frame.Language.Base.{BaseView, AreSaid, said_at, is_proof_at, is_sound_at}
-use Rattle.mm_proof.specs.mm_frame.Language.Item.{Kind, Axiom, Theorem, is_assertion, is_labelled}
+use Rattle.mm_proof.specs.mm_statement.Language.Item.{Kind, Axiom, Theorem, is_assertion, is_labelled}
 use Rattle.mm_proof.specs.mm_frame.Language.Laws.{HasOwnLabels}
 use Rattle.mm_proof.specs.mm_frame.Language.Resolving.{IsCarrier}
 use Rattle.mm_proof.specs.Language.CitingLaws.{CitesNameAssertions, CitesTellAssertions, IsCiteOf}

@@ -8,8 +8,8 @@ use Rattle.mm_proof.specs.mm_store.Language.FilesView.{FilesView, plain_file, te
 use Rattle.mm_proof.specs.mm_store.Language.FileFacts.{StandsIn, piece_offset}
 use Rattle.mm_proof.specs.mm_frame.declared.FrameNumber.{FrameNumber}
 use Rattle.mm_proof.specs.mm_frame.Language.Base.{BaseView, said_at, fault_at, is_sound_at, is_proof_at}
-use Rattle.mm_proof.specs.mm_frame.Language.Item.{Kind, Axiom, Theorem, is_assertion, is_theorem, passed}
-use Rattle.mm_proof.specs.mm_frame.Language.Statement.{Says}
+use Rattle.mm_proof.specs.mm_statement.Language.Item.{Kind, Axiom, Theorem, is_assertion, is_theorem, passed}
+use Rattle.mm_proof.specs.mm_statement.Language.Statement.{Says}
 use Rattle.mm_proof.specs.Language.ItemLaws.{HasVerdictAt, SpotsAreIn, TellsSpotIn, IsSpotIn}
 use Rattle.mm_proof.specs.Language.VerdictAt.{IsVerdictAt}
 use Rattle.mm_proof.specs.declared.Spot.{Spot}

@@ -11,10 +11,10 @@ use Rattle.mm_proof.specs.mm_store.Language.FilesView.{FilesView, file_number, f
 use Rattle.mm_proof.specs.mm_store.Language.Holding.{HoldOneEach}
 use Rattle.mm_proof.specs.mm_text.Language.Unit.{tokens_of}
 use Rattle.mm_proof.specs.mm_frame.Language.Base.{BaseView, AreSaid, IsOfFiles, said_at, is_framed_at, is_proof_at, is_sound_at}
-use Rattle.mm_proof.specs.mm_frame.Language.Item.{Item, Kind, Axiom}
+use Rattle.mm_proof.specs.mm_statement.Language.Item.{Item, Kind, Axiom}
 use Rattle.mm_proof.specs.mm_frame.Language.Laws.{FilesHaveOneBase, HasOwnLabels}
 use Rattle.mm_proof.specs.mm_frame.Language.Resolving.{IsCarrier}
-use Rattle.mm_proof.specs.mm_frame.Language.Statement.{Says, item_of, kind_of}
+use Rattle.mm_proof.specs.mm_statement.Language.Statement.{Says, item_of, kind_of}
 use Rattle.mm_proof.specs.Language.CitingLaws.{CitesNameAssertions, CitesTellAssertions, IsCiteOf}
 use Rattle.mm_proof.specs.Language.View.{view_at}
 use Rattle.mm_proof.specs.Language.VerdictAt.{cites_at}

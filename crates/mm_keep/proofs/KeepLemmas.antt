@@ -11,8 +11,8 @@ use Rattle.mm_proof.specs.mm_store.Language.Expansion.{IsExpansion}
 use Rattle.mm_proof.specs.mm_store.Language.FileFacts.{StandsIn}
 use Rattle.mm_proof.specs.mm_store.Language.FilesView.{File, FilesView, FileView, file_number, file_view, files_in, number_of, plain, plain_file}
 use Rattle.mm_proof.specs.mm_frame.Language.Base.{BaseView, IsOfFiles}
-use Rattle.mm_proof.specs.mm_frame.Language.Item.{Item}
-use Rattle.mm_proof.specs.mm_frame.Language.Statement.{Says}
+use Rattle.mm_proof.specs.mm_statement.Language.Item.{Item}
+use Rattle.mm_proof.specs.mm_statement.Language.Statement.{Says}
 use Rattle.mm_keep.specs.Code.Next.{HasTop}
 
 before_map : {X Y : Type 0} (test : Y → Bool) (f : X → Y) (xs : List X) → position_or_len test (map f xs) ≡ position_or_len (λ x. test (f x)) xs

@@ -4,7 +4,7 @@ use Rattle.std.proofs.lemmas.Bool.{false≢true}
 use Rattle.std.proofs.lemmas.Option.{none-some, same_Some}
 use Rattle.mm_proof.specs.mm_store.Language.FilesView.{FilesView}
 use Rattle.mm_proof.specs.mm_frame.Language.Base.{BaseView, said_at, is_sound_at, is_proof_at, is_shown_at}
-use Rattle.mm_proof.specs.mm_frame.Language.Item.{Kind, Theorem, is_labelled, is_theorem}
+use Rattle.mm_proof.specs.mm_statement.Language.Item.{Kind, Theorem, is_labelled, is_theorem}
 use Rattle.mm_proof.specs.mm_frame.Language.Answering.{IsBaseBy}
 use Rattle.mm_proof.specs.mm_frame.declared.base.Base.{Base}
 use Rattle.mm_proof.specs.Language.BaseMarks.{ItemMark, MarksView, IsMark, mark_at}

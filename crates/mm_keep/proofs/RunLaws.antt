@@ -1,7 +1,7 @@
 -- Runs depend on what the items of files say, and on nothing else.
 use Rattle.std.proofs.Common.{◌≡◌, ℕ, ◌<◌, true, List, length, sym, subst, subst₂, Contains}
 use Rattle.mm_proof.specs.mm_store.declared.item.Item as store
-use Rattle.mm_proof.specs.mm_frame.Language.Item.{Item}
+use Rattle.mm_proof.specs.mm_statement.Language.Item.{Item}
 use Rattle.mm_proof.specs.mm_frame.Language.Base.{BaseView, is_proof_at}
 use Rattle.mm_proof.specs.mm_frame.Language.Laws.{AlikeFilesSayTheSame}
 use Rattle.mm_keep.specs.Language.Runs.{HadView, HasSameView, AreRuns}

@@ -14,8 +14,8 @@ use Rattle.mm_proof.specs.mm_store.Language.Pieces.{HeldPiece, text_in, text_und
 use Rattle.mm_proof.specs.mm_store.Language.FilesView.{FilesView, plain, plain_file, text_of}
 use Rattle.mm_proof.specs.mm_store.Language.FileFacts.{CanBeRead, StandsIn, IsByte, IsLive, piece_offset}
 use Rattle.mm_proof.specs.mm_text.Language.Unit.{Token, tokens_of}
-use Rattle.mm_proof.specs.mm_frame.Language.Item.{Kind, Item}
-use Rattle.mm_proof.specs.mm_frame.Language.Statement.{Says, kind_of, is_plain, token_names, symbols_from, symbols_in, proof_in, item_of}
+use Rattle.mm_proof.specs.mm_statement.Language.Item.{Kind, Item}
+use Rattle.mm_proof.specs.mm_statement.Language.Statement.{Says, kind_of, is_plain, token_names, symbols_from, symbols_in, proof_in, item_of}
 use Rattle.mm_proof.specs.Language.ItemLaws.{IsSpotIn}
 use Rattle.mm_proof.specs.declared.Spot.{Spot}
 use Rattle.mm_keep.specs.declared.finding.At.{At}

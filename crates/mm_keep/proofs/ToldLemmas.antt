@@ -6,9 +6,9 @@ use Rattle.mm_proof.specs.mm_store.declared.item.Item as store
 use Rattle.mm_proof.specs.mm_store.Language.FilesView.{FilesView}
 use Rattle.mm_proof.specs.mm_store.Language.FileFacts.{CanBeRead, StandsIn}
 use Rattle.mm_proof.specs.mm_frame.Language.Base.{BaseView, said_at}
-use Rattle.mm_proof.specs.mm_frame.Language.Item.{passed}
+use Rattle.mm_proof.specs.mm_statement.Language.Item.{passed}
 use Rattle.mm_proof.specs.mm_frame.Language.Answering.{IsBase}
-use Rattle.mm_proof.specs.mm_frame.Language.Statement.{Says}
+use Rattle.mm_proof.specs.mm_statement.Language.Statement.{Says}
 use Rattle.mm_proof.specs.mm_frame.declared.base.Base.{Base}
 use Rattle.mm_keep.specs.Code.OfFiles.{IsOf, HasItemOf}
 use Rattle.mm_keep.specs.Code.FoundKinds.{kind_told, one_more}

@@ -1,5 +1,6 @@
 pub use Rattle.mm_proof.specs as mm_proof
 pub use Rattle.mm_proof.specs.mm_frame
+pub use Rattle.mm_proof.specs.mm_statement
 pub use Rattle.mm_proof.specs.mm_store
 pub use Rattle.mm_proof.specs.mm_text
 pub mod Language

@@ -5,8 +5,8 @@ ghost use Rattle.mm_proof.specs.mm_store.Language.FileFacts.{CanBeRead, StandsIn
 ghost use Rattle.mm_proof.specs.mm_store.Language.FilesView.{FilesView};
 ghost use Rattle.mm_proof.specs.mm_frame.Language.Answering.{IsBase};
 ghost use Rattle.mm_proof.specs.mm_frame.Language.Base.{BaseView, said_at, is_sound_at, is_proof_at};
-ghost use Rattle.mm_proof.specs.mm_frame.Language.Item.{is_theorem};
-ghost use Rattle.mm_proof.specs.mm_frame.Language.Statement as spoken;
+ghost use Rattle.mm_proof.specs.mm_statement.Language.Item.{is_theorem};
+ghost use Rattle.mm_proof.specs.mm_statement.Language.Statement as spoken;
 ghost use Rattle.mm_proof.specs.Language.VerdictAt.{IsVerdictAt};
 ghost use Rattle.mm_keep.specs.Language.Findings.{told, counted};
 ghost use Rattle.mm_keep.specs.Code.FoundKinds.{IsFoundAs};

@@ -12,7 +12,8 @@ ghost use Rattle.mm_proof.specs.Code.Citation.{meant_pairs};
 ghost use Rattle.mm_proof.specs.Language.DecodedSteps.{meant};
 ghost use Rattle.mm_proof.specs.Code.Judged.{IsOutcomeWithin};
 ghost use Rattle.mm_proof.specs.Code.MachineState.{state_of, AreRanges};
-ghost use Rattle.mm_proof.specs.Code.Tasks.{AreCitable, AreDoneTo, AreSavedBefore, AreUses, AreUsesWithin, HasState, IsSavedWithin, IsTaskWithin, MeansTask, RunSays, StopsAt};
+ghost use Rattle.mm_proof.specs.Code.Tasks.{AreCitable, AreDoneTo, AreSavedBefore, AreUses, AreUsesWithin};
+ghost use Rattle.mm_proof.specs.Code.Tasks.{HasState, IsSavedWithin, IsTaskWithin, MeansTask, RunSays, StopsAt};
 ghost use Rattle.mm_proof.specs.Code.Tasks.{IsUseWithin, MeansUse, actions_mean, named_expressions, named_frames, saves_by, saves_of};
 
 use crate::ProofNumber;

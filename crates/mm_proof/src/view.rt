@@ -4,8 +4,8 @@ ghost use Rattle.std.specs.Prelude.{◌≡◌, ◌↔◌, true, ℕ, List, Some,
 ghost use Rattle.std.specs.List.{AllByRecursion, before_first};
 ghost use Rattle.mm_frame.specs.mm_store.Language.FileFacts.{CanBeRead};
 ghost use Rattle.mm_frame.specs.Language.Base.{BaseView, is_framed_at, is_proof_at};
-ghost use Rattle.mm_frame.specs.Language.Item as meant;
-ghost use Rattle.mm_frame.specs.Language.Statement.{Says};
+ghost use Rattle.mm_frame.specs.mm_statement.Language.Item as meant;
+ghost use Rattle.mm_frame.specs.mm_statement.Language.Statement.{Says};
 ghost use Rattle.mm_frame.specs.Language.Resolving.{IsCarrier, Resolves};
 ghost use Rattle.mm_frame.specs.Language.Answering.{IsBase, IsBaseBy};
 ghost use Rattle.mm_proof.specs.Code.KeptMarks.{AreTheorems, IsOneCarrier, IsShownItem, SharePairs, ShareHypotheses, ShareProof, is_label_word, stands_for};

@@ -3,7 +3,7 @@ use Rattle.std.proofs.Common.{◌≡◌, ℕ, ◌<◌, Bool, true, false, ◌&&�
 use Rattle.std.proofs.lemmas.Option.{slice_get-get_or, same_Some}
 use Rattle.mm_keep.specs.mm_store.Language.FilesView.{FilesView, File, plain}
 use Rattle.mm_keep.specs.mm_frame.Language.Base.{BaseView, IsOfFiles, told_fault, fault_at, is_sound_at, said_at}
-use Rattle.mm_keep.specs.mm_frame.Language.Item.{Kind, Axiom, Theorem, Item, is_assertion, is_theorem, item_at}
+use Rattle.mm_keep.specs.mm_statement.Language.Item.{Kind, Axiom, Theorem, Item, is_assertion, is_theorem, item_at}
 use Rattle.mm_keep.specs.mm_frame.Language.Sound.{sound_items}
 use Rattle.mm_keep.specs.mm_frame.declared.FrameNumber.{FrameNumber}
 use Rattle.mm_keep.specs.mm_proof.Language.VerdictAt.{IsVerdictAt}

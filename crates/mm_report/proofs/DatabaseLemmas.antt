@@ -12,7 +12,7 @@ use Rattle.mm_keep.specs.mm_store.Language.FileFacts.{CanBeRead, StandsIn, piece
 use Rattle.mm_keep.specs.mm_store.Language.Expansion.{IsExpansion}
 use Rattle.mm_keep.specs.mm_store.Language.Keyless.{keyless_item}
 use Rattle.mm_keep.specs.mm_frame.Language.Base.{BaseView, IsOfFiles, said_at}
-use Rattle.mm_keep.specs.mm_frame.Language.Item.{item_at}
+use Rattle.mm_keep.specs.mm_statement.Language.Item.{item_at}
 use Rattle.mm_keep.specs.mm_frame.Language.Laws.{AreAlikeBases}
 use Rattle.mm_keep.specs.mm_proof.Language.ItemLaws.{HasOneVerdictAt}
 use Rattle.mm_keep.specs.mm_proof.declared.Spot.{Spot}

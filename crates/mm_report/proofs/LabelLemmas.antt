@@ -8,7 +8,7 @@ use Rattle.mm_keep.specs.mm_store.declared.edit.EditError.{EditError}
 use Rattle.mm_keep.specs.mm_store.declared.edit.EditError.TheVariants as refusals
 use Rattle.mm_keep.specs.mm_store.Language.Edits.{Asked}
 use Rattle.mm_keep.specs.mm_frame.Language.Base.{BaseView, said_at}
-use Rattle.mm_keep.specs.mm_frame.Language.Item.{Item}
+use Rattle.mm_keep.specs.mm_statement.Language.Item.{Item}
 use Rattle.mm_report.specs.Code.Answered.{label_lines, text_brought}
 use Rattle.mm_report.specs.Language.Answers.{batch_refusal_line, numbers_listed, refusal_line, refusal_words, text_code}
 

@@ -1,6 +1,6 @@
 -- The lines of a report, one more at a time, and each part by part.
 use Rattle.std.proofs.Common.{◌≡◌, ℕ, List, [], ◌∷◌, ◌++◌, length, refl, sym, ◌∙◌, ap, append_assoc, append-nil, codes, decimal, slice_index_or}
-use Rattle.mm_keep.specs.mm_frame.Language.Item.{Item}
+use Rattle.mm_keep.specs.mm_statement.Language.Item.{Item}
 use Rattle.mm_keep.specs.mm_frame.declared.FrameNumber.{FrameNumber}
 use Rattle.mm_keep.specs.mm_proof.declared.ProofNumber.{ProofNumber}
 use Rattle.mm_keep.specs.declared.finding.At.{At}

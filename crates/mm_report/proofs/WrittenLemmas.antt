@@ -6,7 +6,7 @@ use Rattle.std.specs.Io.KnownBytes.{Appends}
 use Rattle.std.proofs.KnownBytes.{Appends-trans}
 use Rattle.mm_keep.specs.mm_store.Language.FilesView.{FilesView, plain}
 use Rattle.mm_keep.specs.mm_frame.Language.Base.{BaseView, IsOfFiles, said_at}
-use Rattle.mm_keep.specs.mm_frame.Language.Item.{Item, passed}
+use Rattle.mm_keep.specs.mm_statement.Language.Item.{Item, passed}
 use Rattle.mm_keep.specs.mm_frame.Language.Laws.{FilesHaveOneBase}
 use Rattle.mm_keep.specs.Language.Laws.{ItemsHaveFindings}
 use Rattle.mm_keep.specs.Language.Sessions.{SessionView, IsCount, IsFinding, IsLabelOfItem}

@@ -3,7 +3,7 @@
 ghost use Rattle.std.specs.Prelude.{◌≡◌, ◌<◌, ◌++◌, [], true, decimal, length, IfOk, OnOk, OnErr, ℕ, List, unwrap_or};
 ghost use Rattle.std.specs.Io.KnownBytes.{Appends};
 ghost use Rattle.mm_keep.specs.mm_store.Language.FilesView.{plain};
-ghost use Rattle.mm_keep.specs.mm_frame.Language.Item.{Item};
+ghost use Rattle.mm_keep.specs.mm_statement.Language.Item.{Item};
 ghost use Rattle.mm_keep.specs.Language.Findings.{counted, told};
 ghost use Rattle.mm_report.specs.Code.InFiles.{IsInFiles};
 ghost use Rattle.mm_report.specs.Code.Written.{AreAllWritten, FailsWithin};

@@ -3,7 +3,7 @@
 ghost use Rattle.std.specs.Prelude.{◌≡◌, ◌↔◌, ℕ, List, [], IfErr, IfOk, IsTrue, length};
 ghost use Rattle.std.specs.Io.Buffered.{writer_contents};
 ghost use Rattle.std.specs.Io.KnownBytes.{Keeps};
-ghost use Rattle.mm_report.specs.mm_frame.Language.Item.{Item};
+ghost use Rattle.mm_report.specs.mm_statement.Language.Item.{Item};
 ghost use Rattle.mm_report.specs.mm_keep.Language.Findings.{counted};
 ghost use Rattle.mm_report.specs.mm_keep.Language.Told.{Told, counts};
 ghost use Rattle.mm_report.specs.Language.Report.{lines};

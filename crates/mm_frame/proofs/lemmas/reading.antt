@@ -1,9 +1,3 @@
--- What an item says, read from the words of its piece.
+-- What an item says, from what an older base knows of it.
 
-pub mod ByteLemmas
-pub mod NthOfProof
-pub mod PieceLemmas
-pub mod SpokenLemmas
-pub mod WordNumbers
 pub mod KnownItems
-pub mod ShortItems

@@ -1,6 +1,6 @@
 -- Blocks and activity by what each item does to the blocks, and by nothing else of it.
 use Rattle.std.specs.Prelude.{ℕ, zero, Bool, ltb, List, [], ◌∷◌, map, count_by}
-use Rattle.mm_frame.specs.Language.Item.{Item}
+use Rattle.mm_statement.specs.Language.Item.{Item}
 use Rattle.mm_frame.specs.Language.Scope.{Mark, mark_of, closed_at, is_zero, opens, closes}
 
 -- how many of the blocks that were open before them the marks close

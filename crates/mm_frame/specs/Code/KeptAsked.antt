@@ -3,7 +3,7 @@ use Rattle.std.specs.Prelude.{◌≡◌, ℕ, ◌<◌, ◌≤◌, true, Option, 
 use Rattle.mm_frame.specs.declared.asked.Answer.{Answer}
 use Rattle.mm_frame.specs.declared.asked.AskedPairs.{AskedPairs}
 use Rattle.mm_frame.specs.declared.paired.PairTable.{PairTable}
-use Rattle.mm_frame.specs.Language.Item.{Item}
+use Rattle.mm_statement.specs.Language.Item.{Item}
 use Rattle.mm_frame.specs.Language.Scope.{Mark}
 use Rattle.mm_frame.specs.Code.LastItems.{is_active_at}
 use Rattle.mm_frame.specs.Code.Numbers.{IsNameNumber}

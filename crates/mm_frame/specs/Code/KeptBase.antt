@@ -12,8 +12,8 @@ use Rattle.mm_frame.specs.Code.KeptActiveItems.{AreActiveKept}
 use Rattle.mm_frame.specs.Code.KeptRows.{AreRowsKept, rows_of}
 use Rattle.mm_frame.specs.Code.KeptSymbols.{AreSymbols}
 use Rattle.mm_frame.specs.Code.KeptPairTable.{KnowsPairs}
-use Rattle.mm_frame.specs.Language.Item.{Item, is_floating}
-use Rattle.mm_frame.specs.Language.Statement.{kind_of}
+use Rattle.mm_statement.specs.Language.Item.{Item, is_floating}
+use Rattle.mm_statement.specs.Language.Statement.{kind_of}
 use Rattle.mm_frame.specs.Language.Sound.{sound_items}
 use Rattle.mm_frame.specs.declared.pair_lists.PairLists.{PairLists}
 use Rattle.mm_frame.specs.Code.KeptPairLists.{list_kept}

@@ -2,7 +2,7 @@
 use Rattle.std.specs.Prelude.{◌≡◌, ℕ, true, List}
 use Rattle.mm_frame.specs.declared.mandatory.Earlier.{Earlier}
 use Rattle.mm_frame.specs.declared.symbol.NumberedSymbol.{NumberedSymbol}
-use Rattle.mm_frame.specs.Language.Item.{Item, is_assertion}
+use Rattle.mm_statement.specs.Language.Item.{Item, is_assertion}
 use Rattle.mm_frame.specs.Language.Sound.{AreSound, IsSound}
 use Rattle.mm_frame.specs.Language.Framing.{expression}
 use Rattle.mm_frame.specs.Code.BlockMarks.{block_marks}

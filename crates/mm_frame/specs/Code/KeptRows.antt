@@ -1,5 +1,6 @@
 -- The labels and faults of items as the code keeps them: the labels in one list, with the ends of each, and the faults up to the last.
-use Rattle.std.specs.Prelude.{◌≡◌, ℕ, suc, ◌≤◌, ◌&&◌, Bool, false, if◌then◌else◌, is_some, is_none, Option, Some, None, List, [], ◌∷◌, length, slice_get, slice_index_or}
+use Rattle.std.specs.Prelude.{◌≡◌, ℕ, suc, ◌≤◌, ◌&&◌, Bool, false, if◌then◌else◌, is_some, is_none}
+use Rattle.std.specs.Prelude.{Option, Some, None, List, [], ◌∷◌, length, slice_get, slice_index_or}
 use Rattle.std.specs.Option.{option_map}
 use Rattle.mm_frame.specs.declared.FrameNumber.{FrameNumber}
 use Rattle.mm_frame.specs.declared.judge.FrameFault.{FrameFault}

@@ -1,7 +1,7 @@
 -- What a reader keeps of the items so far to judge the next one: their declarations, their blocks, and the typecode of each `$f`.
 use Rattle.std.specs.Prelude.{◌≡◌, ◌||◌, ℕ, Bool, true, if◌then◌else◌, List, [], ◌∷◌, ◌++◌, map}
 use Rattle.mm_frame.specs.declared.scope.Scope.{Scope}
-use Rattle.mm_frame.specs.Language.Item.{Item, Kind, passed, is_declaring, is_disjoint, is_floating, typecode_of}
+use Rattle.mm_statement.specs.Language.Item.{Item, Kind, passed, is_declaring, is_disjoint, is_floating, typecode_of}
 use Rattle.mm_frame.specs.Code.BlockMarks.{block_marks}
 use Rattle.mm_frame.specs.Language.Sound.{IsSound, AreSound}
 use Rattle.mm_frame.specs.Code.Numbers.{AreNameNumbers}

@@ -4,7 +4,7 @@ use Rattle.std.specs.List.{flat_map}
 use Rattle.mm_frame.specs.declared.symbol.NumberedSymbol.{NumberedSymbol}
 use Rattle.mm_frame.specs.declared.tables.Tables.{Tables}
 use Rattle.mm_frame.specs.Language.Frame.{Symbol}
-use Rattle.mm_frame.specs.Language.Item.{Item, has, is_labelled, is_read}
+use Rattle.mm_statement.specs.Language.Item.{Item, has, is_labelled, is_read}
 use Rattle.mm_frame.specs.Language.Scope.{constants}
 use Rattle.mm_frame.specs.Language.Framing.{expression}
 use Rattle.mm_frame.specs.Code.KeptTables.{declared_at, is_constant_as, float_of}

@@ -3,7 +3,7 @@ use Rattle.std.specs.Prelude.{◌≡◌, ℕ, Bool, true, false, if◌then◌els
 use Rattle.mm_frame.specs.declared.tables.Tables.{Tables}
 use Rattle.mm_frame.specs.declared.tables.Declared.{Declared}
 use Rattle.mm_frame.specs.declared.tables.Declared.TheVariants.{Constant, Variable}
-use Rattle.mm_frame.specs.Language.Item.{Item, has}
+use Rattle.mm_statement.specs.Language.Item.{Item, has}
 use Rattle.mm_frame.specs.Language.Scope.{constants}
 use Rattle.mm_frame.specs.Language.Names.{AreDistinct}
 use Rattle.mm_frame.specs.Code.Numbers.{number_in}

@@ -5,11 +5,11 @@ use Rattle.mm_store.specs.declared.item.Item as store
 use Rattle.mm_store.specs.Language.FilesView.{FilesView}
 use Rattle.mm_frame.specs.declared.again.Known.{Known}
 use Rattle.mm_frame.specs.declared.symbol.NumberedSymbol.{NumberedSymbol}
-use Rattle.mm_frame.specs.Language.Item.{Item, is_read}
+use Rattle.mm_statement.specs.Language.Item.{Item, is_read}
 use Rattle.mm_frame.specs.Language.Base.{BaseView, before, said_at, is_sound_at}
 use Rattle.mm_frame.specs.Language.Framing.{expression}
 use Rattle.mm_frame.specs.Language.NumberedSymbols.{symbols_of, IsNumbered}
-use Rattle.mm_frame.specs.Language.Statement.{Says}
+use Rattle.mm_statement.specs.Language.Statement.{AreOneRange, Says}
 use Rattle.mm_frame.specs.Code.Numbers.{AreNameNumbers}
 
 -- the numbers of the names of symbols
@@ -20,10 +20,7 @@ numbers_of symbols = map (λ kept. kept.name) symbols
 pub record IsAgain (found : List store.Item) (i : ℕ) (item : store.Item) : Type 0 where
   pub was : store.Item
   pub there : slice_get found i ≡ Some was
-  pub kind : was.kind ≡ item.kind
-  pub key : was.key ≡ item.key
-  pub start : was.start ≡ item.start
-  pub end : was.end ≡ item.end
+  pub same : AreOneRange was item
 
 -- what is known of an item is its label and the numbers of its symbols
 pub record IsKnownItem (names : List (List ℕ)) (files : FilesView) (item : store.Item) (known : Known) : Type 0 where

@@ -2,8 +2,8 @@
 -- item is active (Metamath book, section 4.2).
 use Rattle.std.specs.Prelude.{◌≡◌, ℕ, suc, ◌<◌, ◌⊎◌, Bool, true, false, not, ◌&&◌, if◌then◌else◌, Option, Some, None, List, [], ◌∷◌, drop, bytes_eq, Contains}
 use Rattle.std.specs.Prelude.{AllPairs}
-use Rattle.mm_frame.specs.Language.Item.{Kind, Passed, Item, item_at, is_variables, is_disjoint, is_floating, is_essential, has, labels_of, typecode_of}
-use Rattle.mm_frame.specs.Language.Item.{variable_of}
+use Rattle.mm_statement.specs.Language.Item.{Kind, Passed, Item, item_at, is_variables, is_disjoint, is_floating, is_essential, has, labels_of, typecode_of}
+use Rattle.mm_statement.specs.Language.Item.{variable_of}
 use Rattle.mm_frame.specs.Language.Scope.{Neither, mark_of, stays, active_numbers}
 use Rattle.mm_frame.specs.Language.Framing.{mandatory_variables}
 

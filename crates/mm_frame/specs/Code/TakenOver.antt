@@ -2,10 +2,10 @@
 use Rattle.std.specs.Prelude.{◌≡◌, ℕ, Bool, true, List, length, take}
 use Rattle.std.specs.List.{AllZip}
 use Rattle.mm_store.specs.Language.FilesView.{FilesView}
-use Rattle.mm_frame.specs.Language.Item.{Item}
+use Rattle.mm_statement.specs.Language.Item.{Item}
 use Rattle.mm_frame.specs.Language.Base.{BaseView, said_at}
 use Rattle.mm_frame.specs.Language.Answering.{BaseAnswers, IsBaseBy}
-use Rattle.mm_frame.specs.Language.Statement.{Says}
+use Rattle.mm_statement.specs.Language.Statement.{Says}
 
 -- the items are the first ones of this base
 abbrev pub AreFirst : BaseView → List Item → Type 0

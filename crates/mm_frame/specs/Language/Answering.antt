@@ -8,8 +8,8 @@ use Rattle.mm_frame.specs.declared.FrameNumber.{FrameNumber}
 use Rattle.mm_frame.specs.declared.symbol.NumberedSymbol.{NumberedSymbol}
 use Rattle.mm_frame.specs.Language.Names.{AreDistinct, Begins}
 use Rattle.mm_frame.specs.Language.Frame.{Symbol, Mandatory, Frame}
-use Rattle.mm_frame.specs.Language.Item.{Item, is_labelled, is_read, is_assertion, is_theorem, item_at}
-use Rattle.mm_frame.specs.Language.Statement.{kind_of}
+use Rattle.mm_statement.specs.Language.Item.{Item, is_labelled, is_read, is_assertion, is_theorem, item_at}
+use Rattle.mm_statement.specs.Language.Statement.{kind_of}
 use Rattle.mm_frame.specs.Language.Scope.{Mark, mark_of}
 use Rattle.mm_frame.specs.Language.Sound.{sound_items}
 use Rattle.mm_frame.specs.Language.Framing.{expression, pairs_of, active_pairs, mandatory_numbers, frame}

@@ -8,9 +8,9 @@ use Rattle.mm_store.specs.Language.Expansion.{IsExpansion}
 use Rattle.mm_frame.specs.declared.FrameNumber.{FrameNumber}
 use Rattle.mm_frame.specs.declared.FrameNumber.TheVariants.{F14}
 use Rattle.mm_frame.specs.Language.Frame.{Symbol, Mandatory, Frame}
-use Rattle.mm_frame.specs.Language.Item.{Kind, Missing, Item, is_labelled, is_assertion, is_theorem, item_at}
+use Rattle.mm_statement.specs.Language.Item.{Kind, Missing, Item, is_labelled, is_assertion, is_theorem, item_at}
 use Rattle.mm_frame.specs.Language.Sound.{fault, sound_items}
-use Rattle.mm_frame.specs.Language.Statement.{Says}
+use Rattle.mm_statement.specs.Language.Statement.{Says}
 use Rattle.mm_frame.specs.Language.Scope.{stays}
 use Rattle.mm_frame.specs.Language.Framing.{expression, hypothesis, mandatory_variables, is_mandatory, frame}
 

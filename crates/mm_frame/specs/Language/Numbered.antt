@@ -1,6 +1,6 @@
 -- Blocks and activity in a whole list, by the items' numbers: a block goes from its `${` to the `$}` that makes their counts even.
 use Rattle.std.specs.Prelude.{◌≡◌, ℕ, true, ◌+◌, ◌-◌, ◌<◌, Some, List, take, drop, slice_get, count_by}
-use Rattle.mm_frame.specs.Language.Item.{Item}
+use Rattle.mm_statement.specs.Language.Item.{Item}
 use Rattle.mm_frame.specs.Language.Scope.{is_start, is_end}
 
 -- from item b up to item e, both counted, there are as many `$}` as `${`

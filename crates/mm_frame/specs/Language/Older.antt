@@ -4,7 +4,7 @@ use Rattle.std.specs.List.{AllZip}
 use Rattle.mm_store.specs.Language.FilesView.{FilesView}
 use Rattle.mm_frame.specs.Language.Base.{BaseView}
 use Rattle.mm_frame.specs.Language.Answering.{BaseAnswers, StandsLater}
-use Rattle.mm_frame.specs.Language.Statement.{Says}
+use Rattle.mm_statement.specs.Language.Statement.{Says}
 
 -- the answers are right of this base by any names that begin with these, and its items can be read in these files and say the same there
 pub record IsOlder (names : List (List ℕ)) (files : FilesView) (answers : BaseAnswers) (base : BaseView) : Type 0 where

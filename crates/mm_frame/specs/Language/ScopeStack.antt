@@ -1,6 +1,6 @@
 -- A stack of scopes, the innermost first, as one reading from left to right keeps it.
 use Rattle.std.specs.Prelude.{Bool, true, false, List, [], ◌∷◌, ◌++◌, filter}
-use Rattle.mm_frame.specs.Language.Item.{Item}
+use Rattle.mm_statement.specs.Language.Item.{Item}
 use Rattle.mm_frame.specs.Language.Scope.{Mark, Opens, Closes, Neither, mark_of}
 
 -- all that the scopes have, outermost first

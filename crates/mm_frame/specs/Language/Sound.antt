@@ -5,13 +5,10 @@ use Rattle.std.specs.Prelude.{length, take, bytes_eq, slice_get, find}
 use Rattle.std.specs.List.{list_any}
 use Rattle.mm_frame.specs.declared.FrameNumber.{FrameNumber}
 use Rattle.mm_frame.specs.declared.FrameNumber.TheVariants.{F01, F02, F03, F04, F05, F06, F07, F08, F09, F10, F11, F12, F13, F14}
-use Rattle.mm_frame.specs.Language.Item.{Kind, Constants, Variables, Disjoint, Floating, Essential, Axiom, Theorem, Item, passed, is_constants, is_variables}
-use Rattle.mm_frame.specs.Language.Item.{is_disjoint, is_floating, is_declaring, is_expression, is_labelled, has, labels_of, typecode_of, variable_of}
+use Rattle.mm_statement.specs.Language.Item.{first_symbol, Kind, Constants, Variables, Disjoint, Floating}
+use Rattle.mm_statement.specs.Language.Item.{Essential, Axiom, Theorem, Item, passed, is_constants, is_variables}
+use Rattle.mm_statement.specs.Language.Item.{is_disjoint, is_floating, is_declaring, is_expression, is_labelled, has, labels_of, typecode_of, variable_of}
 use Rattle.mm_frame.specs.Language.Scope.{is_inside, constants, variables, labels, active_variables, floats, typed}
-
--- the number of the word that is the first symbol. Words of a statement count from 0: the label if there is one, the keyword, the symbols
-abbrev pub first_symbol : Item → ℕ
-first_symbol item = length (labels_of item) + 1
 
 -- the number of the word after the last symbol, which is `$.` or `$=`
 abbrev pub closing_word : Item → ℕ

@@ -4,7 +4,7 @@ use Rattle.std.specs.Prelude.{◌≡◌, ◌+◌, ℕ, true, false, Bool, Some, 
 use Rattle.mm_proof.specs.mm_store.declared.item.Item as store
 use Rattle.mm_proof.specs.mm_store.Language.FilesView.{FilesView}
 use Rattle.mm_proof.specs.mm_frame.Language.Base.{BaseView, fault_at, is_sound_at, is_proof_at, said_at}
-use Rattle.mm_proof.specs.mm_frame.Language.Item.{Axiom, is_assertion}
+use Rattle.mm_proof.specs.mm_statement.Language.Item.{Axiom, is_assertion}
 use Rattle.mm_proof.specs.mm_frame.declared.FrameNumber.{FrameNumber}
 use Rattle.mm_proof.specs.Language.VerdictAt.{IsVerdictAt}
 use Rattle.mm_proof.specs.declared.Spot.{Spot}

@@ -6,8 +6,8 @@ use Rattle.mm_proof.specs.mm_store.declared.item.Item as store
 use Rattle.mm_proof.specs.mm_store.Language.FilesView.{FilesView}
 use Rattle.mm_proof.specs.mm_store.Language.FileFacts.{CanBeRead, StandsIn, IsByte}
 use Rattle.mm_proof.specs.mm_frame.Language.Base.{BaseView, said_at}
-use Rattle.mm_proof.specs.mm_frame.Language.Item.{Item}
-use Rattle.mm_proof.specs.mm_frame.Language.Statement.{symbols_from}
+use Rattle.mm_proof.specs.mm_statement.Language.Item.{Item}
+use Rattle.mm_proof.specs.mm_statement.Language.Statement.{symbols_from}
 use Rattle.mm_proof.specs.declared.Spot.{Spot}
 use Rattle.mm_keep.specs.declared.finding.At.{At}
 

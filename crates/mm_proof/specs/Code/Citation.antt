@@ -1,5 +1,6 @@
 -- An assertion that is cited, as the code has it.
-use Rattle.std.specs.Prelude.{if◌then◌else◌, ◌≡◌, ◌≢◌, ℕ, ◌-◌, ◌≤◌, ◌<◌, true, false, Option, Some, None, List, [], ◌∷◌, length, map, take, drop, slice_get, All, Contains}
+use Rattle.std.specs.Prelude.{if◌then◌else◌, ◌≡◌, ◌≢◌, ℕ, ◌-◌, ◌≤◌, ◌<◌, true, false, Option, Some}
+use Rattle.std.specs.Prelude.{None, List, [], ◌∷◌, length, map, take, drop, slice_get, All, Contains}
 use Rattle.std.specs.List.{AllZip}
 use Rattle.mm_frame.specs.Language.Frame.{Symbol, Mandatory, Frame, HasVariable}
 use Rattle.mm_frame.specs.Language.Typing.{IsFrame, IsTyped, IsTyping}

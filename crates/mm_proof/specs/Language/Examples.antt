@@ -6,7 +6,7 @@ use Rattle.mm_frame.specs.Language.Base.{BaseView}
 use Rattle.mm_frame.specs.Language.Examples.{database, letters, p, q, r, letter_symbols, typing}
 use Rattle.mm_frame.specs.Language.Frame.{Assertion}
 use Rattle.mm_frame.specs.Language.Framing.{setting}
-use Rattle.mm_frame.specs.Language.Item.{Item, Theorem}
+use Rattle.mm_frame.specs.mm_statement.Language.Item.{Item, Theorem}
 use Rattle.mm_proof.specs.declared.ProofNumber.TheVariants.{P06}
 use Rattle.mm_proof.specs.declared.Spot.{Spot}
 use Rattle.mm_proof.specs.declared.Verdict.TheVariants.{Proved}

@@ -4,7 +4,7 @@ use Rattle.std.specs.List.{AllZip}
 use Rattle.mm_frame.specs.mm_store.Language.FilesView.{FilesView}
 use Rattle.mm_frame.specs.Language.Base.{BaseView, is_proof_at}
 use Rattle.mm_frame.specs.Language.Answering.{BaseAnswers, IsBaseBy}
-use Rattle.mm_frame.specs.Language.Statement.{Says}
+use Rattle.mm_frame.specs.mm_statement.Language.Statement.{Says}
 
 -- the answers are right of this base by these names, and its items can be read in these files and say there what it says
 pub record IsReadIn (names : List (List ℕ)) (files : FilesView) (answers : BaseAnswers) (view : BaseView) : Type 0 where

@@ -6,7 +6,7 @@ use Rattle.mm_keep.specs.mm_store.declared.edit.EditError.{EditError}
 use Rattle.mm_keep.specs.mm_store.declared.edit.EditError.TheVariants as edits
 use Rattle.mm_keep.specs.mm_store.Language.Edits.{Asked, edited_text}
 use Rattle.mm_keep.specs.mm_frame.Language.Base.{BaseView, IsOfFiles}
-use Rattle.mm_keep.specs.mm_frame.Language.Item.{Item}
+use Rattle.mm_keep.specs.mm_statement.Language.Item.{Item}
 use Rattle.mm_keep.specs.Language.Sessions.{SessionView, HasAssertion, AreAxiomsOf, AreCitesOf, AreUsersOf}
 use Rattle.mm_script.specs.declared.error.ScriptError.{ScriptError}
 use Rattle.mm_script.specs.declared.error.ScriptError.TheVariants as errors

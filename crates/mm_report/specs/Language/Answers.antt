@@ -12,7 +12,7 @@ use Rattle.mm_keep.specs.mm_store.Language.Batches.{IsBatchOf, IsRefusedAt}
 use Rattle.mm_keep.specs.mm_store.Language.Edits.{Asked, IsEditOf, edited_text}
 use Rattle.mm_keep.specs.mm_store.Language.FilesView.{plain}
 use Rattle.mm_keep.specs.mm_frame.Language.Base.{BaseView, said_at}
-use Rattle.mm_keep.specs.mm_frame.Language.Item.{Item}
+use Rattle.mm_keep.specs.mm_statement.Language.Item.{Item}
 use Rattle.mm_keep.specs.Language.Runs.{AreRunsOf}
 use Rattle.mm_keep.specs.Language.Sessions.{SessionView, OfItems, HasAssertion, IsVerdictOf, AreAxiomsOf, AreCitesOf, AreUsersOf}
 use Rattle.mm_keep.specs.Language.Told.{Told, AnAxiom, Proved, Incomplete, Wrong}

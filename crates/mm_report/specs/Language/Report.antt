@@ -3,7 +3,7 @@ use Rattle.std.specs.Prelude.{◌≡◌, ℕ, Option, unwrap_or}
 use Rattle.std.specs.Prelude.{List, [], ◌∷◌, ◌++◌, map, slice_index_or, codes, decimal}
 use Rattle.mm_keep.specs.mm_store.Language.FilesView.{File, plain}
 use Rattle.mm_keep.specs.mm_frame.Language.Base.{BaseView, IsOfFiles}
-use Rattle.mm_keep.specs.mm_frame.Language.Item.{Item}
+use Rattle.mm_keep.specs.mm_statement.Language.Item.{Item}
 use Rattle.mm_keep.specs.mm_frame.declared.FrameNumber.{FrameNumber}
 use Rattle.mm_keep.specs.mm_frame.declared.FrameNumber.TheVariants.{F01, F02, F03, F04, F05, F06, F07, F08, F09, F10, F11, F12, F13, F14}
 use Rattle.mm_keep.specs.mm_proof.declared.ProofNumber.{ProofNumber}

@@ -1,7 +1,7 @@
 use Rattle.std.proofs.Common.{ap, ◌∙◌, sym, subst}
-use Rattle.mm_frame.specs.Language.Item.{Item, is_read}
+use Rattle.mm_statement.specs.Language.Item.{Item, is_read}
 use Rattle.mm_frame.specs.Language.Base.{before, said_at}
-use Rattle.mm_frame.specs.Language.Statement.{kind_of}
+use Rattle.mm_statement.specs.Language.Statement.{kind_of}
 use Rattle.mm_frame.specs.Code.KnownItem.{numbers_of}
 use Rattle.mm_frame.specs.Code.Numbers.{AreNameNumbers}
 use Rattle.mm_frame.proofs.lemmas.frames.FrameNumbers.{kind_at}
@@ -13,7 +13,7 @@ returns-in-Some-clause-known c names files base by each =
     let i = c.args.i in
     let kept = c.in-Some.symbols.now in
     let again = c.is_again.ensures c.if-not-is_again.false base (names, by) in
-    let same = same_again files base.found base.said i c.args.item.now c.one_meaning.ensures.words each again in
+    let same = same_again files base.found base.said i c.args.item.now c.one_range_says_one.ensures each again in
     record {
       label = λ said says. c.label.ensures base (names, by) ∙ ap (λ (x : Item). x.label) (same said says);
       symbols = λ said says.
@@ -27,7 +27,7 @@ pub returns-in-Some-clause-sound : goal.returns-in-Some-clause-sound
 returns-in-Some-clause-sound c names base by =
     let again = c.is_again.ensures c.if-not-is_again.false base (names, by) in
     let kind = kind_at base.found base.said c.args.i again.was by.kinds again.there in
-    let read = sym (ap is_read kind) ∙ ap (λ k. is_read (kind_of k)) again.kind ∙ c.needs_no_names.ensures c.if-not-needs_no_names.false in
+    let read = sym (ap is_read kind) ∙ ap (λ k. is_read (kind_of k)) again.same.kind ∙ c.needs_no_names.ensures c.if-not-needs_no_names.false in
     record {
       again = again;
       sound = sym (c.in-Some.ensures.sound base (names, by));

@@ -1,7 +1,7 @@
 use Rattle.std.proofs.Common.{ℕ, List, sym, subst}
 use Rattle.std.proofs.lemmas.Bool.{MatchBool-at_false, MatchBool-at_true}
 use Rattle.std.proofs.lemmas.Result.{on_ok_weaker}
-use Rattle.mm_frame.specs.Language.Item.{Item}
+use Rattle.mm_statement.specs.Language.Item.{Item}
 use Rattle.mm_frame.specs.Code.KeptBase.{IsDraft}
 use Rattle.mm_frame.specs.Code.Numbers.{AreNameNumbers}
 use Rattle.mm_frame.proofs.lemmas.base.NumbersAside.{numbers_aside}

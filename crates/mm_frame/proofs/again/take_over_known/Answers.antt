@@ -1,6 +1,6 @@
 use Rattle.std.proofs.Common.{◌≡◌, true, ℕ, List, ◌∙◌, ap, sym, subst}
 use Rattle.std.proofs.lemmas.Result.{on_ok_weaker}
-use Rattle.mm_frame.specs.Language.Item.{Item, is_read}
+use Rattle.mm_statement.specs.Language.Item.{Item, is_read}
 use Rattle.mm_frame.specs.Language.Sound.{sound_items}
 use Rattle.mm_frame.specs.Language.Framing.{expression}
 use Rattle.mm_frame.specs.Code.KeptScope.{uses_numbers}
@@ -19,7 +19,7 @@ returns c =
             statement,
             says,
             λ all base said by each front known again d.
-                let here = same_again c.args.files.now base.found base.said _ c.args.item.now c.one_meaning.ensures.words each again.again statement says in
+                let here = same_again c.args.files.now base.found base.said _ c.args.item.now c.one_range_says_one.ensures each again.again statement says in
                 let read = sym (ap (λ (x : Item). is_read x.kind) here) ∙ again.read in
                 let numbers = λ (u : uses_numbers statement.kind ≡ true). subst (λ (n : List ℕ). AreNameNumbers all n statement.symbols) (sym (c.in_ok-put_needed.ensures (ap (λ (x : Item). uses_numbers x.kind) (sym says.is) ∙ u)))
                 (known.symbols statement says) in

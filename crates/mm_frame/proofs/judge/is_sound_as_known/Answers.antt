@@ -1,5 +1,5 @@
 use Rattle.std.proofs.Common.{◌≡◌, ◌==◌, false, None, sym, ap, subst, ◌∙◌}
-use Rattle.mm_frame.specs.Language.Item.{is_expression}
+use Rattle.mm_statement.specs.Language.Item.{is_expression}
 use Rattle.mm_frame.proofs.lemmas.faults.FaultLemmas.{at_end, enough_symbols, none_there}
 use Rattle.mm_frame.proofs.judge.is_sound_as_known.Goals as goal
 

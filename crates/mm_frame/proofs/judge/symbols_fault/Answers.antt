@@ -1,5 +1,5 @@
 use Rattle.std.proofs.Common.{◌≡◌, ◌<◌, ◌+◌, suc, length, get_or, refl, sym, ◌∙◌, ap, arith}
-use Rattle.mm_frame.specs.Language.Item.{is_expression}
+use Rattle.mm_statement.specs.Language.Item.{is_expression}
 use Rattle.mm_frame.specs.Code.FaultInOrder.{must_differ}
 use Rattle.mm_frame.proofs.lemmas.names.NumberLemmas.{number_at}
 use Rattle.mm_frame.proofs.lemmas.faults.FaultLemmas.{none_left, fault_there, passes_more, repeated_by_number, sees_next}

@@ -17,7 +17,7 @@ use Rattle.mm_frame.specs.declared.base.Base.TheInside.{Inside}
 use Rattle.mm_frame.specs.declared.pair_lists.PairLists.{PairLists}
 use Rattle.mm_frame.specs.Language.Names.{AreDistinct}
 use Rattle.mm_frame.specs.Language.Frame.{Symbol, AreSamePairs}
-use Rattle.mm_frame.specs.Language.Item.{Item, passed, is_floating, is_labelled, is_read, item_at}
+use Rattle.mm_statement.specs.Language.Item.{Item, passed, is_floating, is_labelled, is_read, item_at}
 use Rattle.mm_frame.specs.Language.Sound.{sound_items}
 use Rattle.mm_frame.specs.Language.Framing.{active_pairs, expression, frame}
 use Rattle.mm_frame.specs.Language.Base.{BaseView, before, said_at, told_fault, fault_at, is_sound_at, is_proof_at}

@@ -16,8 +16,8 @@ use Rattle.mm_store.specs.Language.Expansion.{IsExpansion}
 use Rattle.mm_store.specs.Language.Keyless.{keyless_item}
 use Rattle.mm_frame.specs.Language.Base.{BaseView, IsOfFiles}
 use Rattle.mm_frame.specs.Language.Laws.{AreAlikeBases}
-use Rattle.mm_frame.specs.Language.Item.{Item}
-use Rattle.mm_frame.specs.Language.Statement.{Says, kind_of, item_of}
+use Rattle.mm_statement.specs.Language.Item.{Item}
+use Rattle.mm_statement.specs.Language.Statement.{Says, kind_of, item_of}
 
 -- what is known of every text and of all files
 pub record ReadingLaws : Type 0 where

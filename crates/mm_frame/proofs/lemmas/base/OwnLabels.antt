@@ -4,7 +4,7 @@ use Rattle.std.proofs.lemmas.Option.{none-some}
 use native.Mathlib.Decide.{dec_lt}
 use Rattle.std.proofs.lemmas.Bool.{false≢true, and_right}
 use Rattle.mm_frame.specs.declared.base.Resolved.TheVariants as answers
-use Rattle.mm_frame.specs.Language.Item.{Kind, Axiom, Theorem, is_assertion, is_essential, is_floating, has, variable_of}
+use Rattle.mm_statement.specs.Language.Item.{Kind, Axiom, Theorem, is_assertion, is_essential, is_floating, has, variable_of}
 use Rattle.mm_frame.specs.Code.BlockMarks.{block_marks}
 use Rattle.mm_frame.specs.Language.Sound.{sound_items}
 use Rattle.mm_frame.specs.Language.Framing.{mandatory_variables}

@@ -6,7 +6,7 @@ use Rattle.std.proofs.lemmas.Option.{slice_get_within}
 use Rattle.std.proofs.lemmas.Slice.Eq.{bytes_eq-Decides}
 use Rattle.mm_frame.specs.declared.base.Resolved.TheVariants as answers
 use Rattle.mm_frame.specs.Language.Frame.{Hypothesis, Assertion, Inactive, Unknown}
-use Rattle.mm_frame.specs.Language.Item.{Item, is_labelled, is_assertion, has, labels_of}
+use Rattle.mm_statement.specs.Language.Item.{Item, is_labelled, is_assertion, has, labels_of}
 use Rattle.mm_frame.specs.Language.Scope.{Mark, mark_of, stays}
 use Rattle.mm_frame.specs.Code.BlockMarks.{stays_by, block_marks}
 use Rattle.mm_frame.specs.Language.Sound.{sound_items}

@@ -6,10 +6,10 @@ use Rattle.mm_store.specs.mm_text.Language.Unit.{Token, tokens_of}
 use Rattle.mm_store.specs.declared.item.Item as store
 use Rattle.mm_store.specs.Language.FilesView.{FilesView}
 use Rattle.mm_frame.specs.declared.FrameNumber.TheVariants.{F01}
-use Rattle.mm_frame.specs.Language.Item.{Kind, Floating, Essential, Axiom, Theorem, Item, is_floating, is_labelled}
+use Rattle.mm_statement.specs.Language.Item.{Kind, Floating, Essential, Axiom, Theorem, Item, is_floating, is_labelled}
 use Rattle.mm_frame.specs.Language.Sound.{closing_word, at_symbol, is_third, is_short, fault, IsSound}
-use Rattle.mm_frame.specs.Language.Statement.{kind_of, token_names, symbols_in, label_in, item_of, Says}
-use Rattle.mm_frame.specs.Language.Item.{item_at}
+use Rattle.mm_statement.specs.Language.Statement.{kind_of, token_names, symbols_in, label_in, item_of, Says}
+use Rattle.mm_statement.specs.Language.Item.{item_at}
 use Rattle.mm_frame.specs.Language.Base.{BaseView, AreSaid, before, said_at, is_sound_at, is_shown_at}
 use Rattle.mm_frame.proofs.lemmas.faults.FoundFaults.{no_fault_sound}
 use Rattle.mm_frame.proofs.lemmas.base.BaseLemmas.{none_told}

@@ -9,10 +9,10 @@ use Rattle.mm_store.specs.declared.item.Item as store
 use Rattle.mm_store.specs.Language.FilesView.{FilesView}
 use Rattle.mm_frame.specs.declared.pair_lists.PairLists.{PairLists}
 use Rattle.mm_frame.specs.Language.Frame.{Symbol, AreSamePairs}
-use Rattle.mm_frame.specs.Language.Item.{Item, item_at}
+use Rattle.mm_statement.specs.Language.Item.{Item, item_at}
 use Rattle.mm_frame.specs.Language.Sound.{sound_items}
 use Rattle.mm_frame.specs.Language.Framing.{active_pairs}
-use Rattle.mm_frame.specs.Language.Statement.{Says}
+use Rattle.mm_statement.specs.Language.Statement.{OneRangeSaysOne, Says}
 use Rattle.mm_frame.specs.Language.Base.{BaseView, before, said_at, is_proof_at}
 use Rattle.mm_frame.specs.Language.NumberedSymbols.{kept_pairs}
 use Rattle.mm_frame.specs.Language.Answering.{AreRows, BaseAnswers, is_told_proof}
@@ -24,7 +24,6 @@ use Rattle.mm_frame.specs.Code.TakenOver.{AreFirst, AreFirstIf, IsNextOf}
 use Rattle.mm_frame.proofs.lemmas.pairs.PairListLemmas.{list_stays}
 use Rattle.mm_frame.proofs.lemmas.pairs.SharedPairs.{same_joined}
 use Rattle.mm_frame.proofs.lemmas.reading.KnownItems.{same_again}
-use Rattle.mm_frame.proofs.lemmas.reading.PieceLemmas.{OneReading}
 
 -- ---- the first items
 
@@ -66,7 +65,7 @@ there_at files (x ∷ found) (y ∷ said) zero item h e = refl
 there_at files (x ∷ found) (y ∷ said) (suc i) item h e = there_at files found said i item h.1 e
 there_at files (x ∷ found) [] i item h e = absurd h
 
-pub first_after : (same other : Bool) (files : FilesView) (answers : BaseAnswers) (base : BaseView) (said : List Item) (item : store.Item) (i : ℕ) (one : Item) → OneReading → answers.items ≡ base.found → i ≡ length said
+pub first_after : (same other : Bool) (files : FilesView) (answers : BaseAnswers) (base : BaseView) (said : List Item) (item : store.Item) (i : ℕ) (one : Item) → OneRangeSaysOne → answers.items ≡ base.found → i ≡ length said
     → (other ≡ true → IsAgain base.found i item) → (other ≡ true → same ≡ true) → Says files item one → AreFirstIf same files answers said → AreFirstIf other files answers (said ++ one ∷ [])
 first_after same other files answers base said item i one law found number again still says first t b told each =
     let n = length said in

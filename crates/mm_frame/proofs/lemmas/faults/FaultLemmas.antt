@@ -11,9 +11,9 @@ use Rattle.std.proofs.lemmas.Slice.Eq.{bytes_eq-Decides}
 use Rattle.std.proofs.lemmas.Option.{same_Some, slice_get-get_or}
 use Rattle.std.proofs.lemmas.List.{drop_all}
 use Rattle.std.proofs.lemmas.List.Folds.{list_any-append}
-use Rattle.mm_frame.specs.Language.Item.{Kind, Essential, Axiom, Theorem, Item, has, is_expression}
+use Rattle.mm_statement.specs.Language.Item.{first_symbol, Kind, Essential, Axiom, Theorem, Item, has, is_expression}
 use Rattle.mm_frame.specs.Language.Scope.{constants, active_variables, typed}
-use Rattle.mm_frame.specs.Language.Sound.{first_symbol, closing_word, fault_or, fault, AreSound, is_short}
+use Rattle.mm_frame.specs.Language.Sound.{closing_word, fault_or, fault, AreSound, is_short}
 use Rattle.mm_frame.specs.Code.Numbers.{IsNameNumber, AreNameNumbers}
 use Rattle.mm_frame.specs.Language.Names.{AreDistinct}
 use Rattle.mm_frame.specs.Code.KeptScope.{ScopeHolds}

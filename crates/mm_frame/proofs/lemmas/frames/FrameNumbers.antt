@@ -10,10 +10,10 @@ use Rattle.std.proofs.lemmas.Option.{same_Some, slice_get_within, slice_get_case
 use Rattle.mm_store.specs.declared.item.Item as store
 use Rattle.mm_store.specs.Language.FilesView.{FilesView}
 use Rattle.mm_frame.specs.declared.FrameNumber.{FrameNumber}
-use Rattle.mm_frame.specs.Language.Item.{Kind, Floating, Essential, Missing, Item, passed, is_floating, is_essential, is_labelled, has, variable_of, item_at}
+use Rattle.mm_statement.specs.Language.Item.{Kind, Floating, Essential, Missing, Item, passed, is_floating, is_essential, is_labelled, has, variable_of, item_at}
 use Rattle.mm_frame.specs.Language.Sound.{fault, judged, sound_items}
 use Rattle.mm_frame.specs.Language.Framing.{is_mandatory, mandatory_variables, expression, hypothesis, mandatory_numbers}
-use Rattle.mm_frame.specs.Language.Statement.{kind_of, Says}
+use Rattle.mm_statement.specs.Language.Statement.{kind_of, Says}
 use Rattle.mm_frame.specs.Language.Base.{BaseView, before, said_at, fault_by, hypothesis_at, is_sound_at, is_shown_at, is_framed_at, IsMandatoryAt, AreHypotheses}
 use Rattle.mm_frame.specs.Code.KeptBase.{is_float_item, hypotheses_at}
 use Rattle.mm_frame.specs.Language.Answering.{numbers_if}

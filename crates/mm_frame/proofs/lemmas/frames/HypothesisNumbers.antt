@@ -7,7 +7,7 @@ use Rattle.std.proofs.lemmas.Option.{get_or_from_slice_get, slice_get_within}
 use Rattle.std.proofs.lemmas.List.{length-take-le}
 use Rattle.std.proofs.lemmas.Simd.{map-map}
 use Rattle.std.proofs.lemmas.List.Kept.{AllPairs-cons}
-use Rattle.mm_frame.specs.Language.Item.{Item, passed, is_floating, is_essential, is_expression, has, variable_of, item_at}
+use Rattle.mm_statement.specs.Language.Item.{Item, passed, is_floating, is_essential, is_expression, has, variable_of, item_at}
 use Rattle.mm_frame.specs.Language.Scope.{Closes, mark_of, is_zero, stays, active, typed, active_numbers_from, active_numbers}
 use Rattle.mm_frame.specs.Language.Sound.{IsSound, AreSound}
 use Rattle.mm_frame.specs.Language.Framing.{mandatory_variables, is_mandatory, hypothesis, mandatory_hypotheses, mandatory_numbers}

@@ -11,7 +11,7 @@ use Rattle.std.proofs.lemmas.List.Filters.{dedup_is}
 use Rattle.std.proofs.lemmas.List.Kept.{Contains-dedup_nat, Contains-from_dedup, AllPairs-from_increasing}
 use Rattle.std.proofs.lemmas.Map.Keys.{IsStrictlyIncreasing-dedup}
 use Rattle.mm_frame.specs.Language.Frame.{Symbol}
-use Rattle.mm_frame.specs.Language.Item.{Kind, Floating, Item, is_floating, is_essential, is_assertion, has}
+use Rattle.mm_statement.specs.Language.Item.{Kind, Floating, Item, is_floating, is_essential, is_assertion, has}
 use Rattle.mm_frame.specs.Language.Names.{name_at}
 use Rattle.mm_frame.specs.Language.Scope.{active, symbols_by, active_variables, active_numbers}
 use Rattle.mm_frame.specs.Language.Sound.{AreSound, IsSound}

@@ -2,7 +2,7 @@
 use Rattle.std.proofs.Common.{◌≡◌, ℕ, Bool, true, false, ◌&&◌, ◌||◌, List, filter, map, bytes_eq, refl, sym, ◌∙◌, ap, subst, inl, inr, IsTrue, ◌↔◌, All}
 use Rattle.std.proofs.lemmas.Bool.{false≢true, and_from, and_parts, or_left, or_right}
 use Rattle.mm_frame.specs.Language.Frame.{Symbol, Mandatory, Frame, ArePair, AreSamePairs, AreSameFrame}
-use Rattle.mm_frame.specs.Language.Item.{Kind, Axiom, Theorem, is_assertion, is_labelled}
+use Rattle.mm_statement.specs.Language.Item.{Kind, Axiom, Theorem, is_assertion, is_labelled}
 use Rattle.mm_frame.specs.Language.Base.{BaseView, said_at, is_sound_at, is_shown_at, is_framed_at, hypothesis_at, frame_at, AreHypotheses}
 use Rattle.mm_frame.specs.Language.Framing.{pairs_of}
 use Rattle.mm_frame.specs.Language.Answering.{are_paired, typed_variables, pairs_in_order}

@@ -10,7 +10,7 @@ use Rattle.mm_frame.proofs.lemmas.frames.Frames.{essential_neither}
 use Rattle.mm_frame.specs.declared.essential.EssentialVariable.{EssentialVariable}
 use Rattle.mm_frame.specs.declared.symbol.NumberedSymbol.{NumberedSymbol}
 use Rattle.mm_frame.specs.declared.tables.Tables.{Tables}
-use Rattle.mm_frame.specs.Language.Item.{Item}
+use Rattle.mm_statement.specs.Language.Item.{Item}
 use Rattle.mm_frame.specs.Language.Scope.{Mark, Neither, Closes, mark_of, active_numbers}
 use Rattle.mm_frame.specs.Code.LastItems.{is_active_at, is_essential_item}
 use Rattle.mm_frame.specs.Code.KeptSymbols.{expression_kept, kept_or_none, float_number, float_numbers}

@@ -5,7 +5,7 @@ use Rattle.std.specs.Option.{option_map}
 use Rattle.std.proofs.Math.Seq.{take-suc}
 use Rattle.std.proofs.lemmas.List.{map-append}
 use Rattle.std.proofs.lemmas.Option.{slice_get-get_or, slice_get-map}
-use Rattle.mm_frame.specs.Language.Item.{Item, Kind, Disjoint, Essential, Axiom, Theorem, is_disjoint, is_expression, is_labelled}
+use Rattle.mm_statement.specs.Language.Item.{Item, Kind, Disjoint, Essential, Axiom, Theorem, is_disjoint, is_expression, is_labelled}
 use Rattle.mm_frame.specs.declared.symbol.NumberedSymbol.{NumberedSymbol}
 use Rattle.mm_frame.specs.Code.KeptScope.{uses_numbers}
 use Rattle.mm_frame.specs.Code.KnownItem.{numbers_of}

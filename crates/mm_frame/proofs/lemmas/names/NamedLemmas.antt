@@ -3,7 +3,7 @@ use Rattle.std.proofs.Common.{◌≡◌, ℕ, zero, suc, ◌<◌, true, not, Lis
 use Rattle.std.proofs.lemmas.Bool.{false_from_ne_true}
 use Rattle.std.proofs.lemmas.List.Elements.{All-map}
 use Rattle.std.proofs.lemmas.Option.{slice_get_within}
-use Rattle.mm_frame.specs.Language.Item.{Item, is_labelled, is_disjoint, has}
+use Rattle.mm_statement.specs.Language.Item.{Item, is_labelled, is_disjoint, has}
 use Rattle.mm_frame.specs.Language.Scope.{constants, active_variables}
 use Rattle.mm_frame.specs.Language.Frame.{Symbol}
 use Rattle.mm_frame.specs.Language.Sound.{IsSound, AreSound}

@@ -4,7 +4,7 @@ use Rattle.std.proofs.lemmas.Bool.{false≢true, or_cases, or_left, or_right, or
 use Rattle.std.proofs.lemmas.Option.{get_or_from_slice_get}
 use Rattle.std.proofs.lemmas.Slice.Eq.{bytes_eq-Decides}
 use Rattle.mm_frame.specs.Language.Frame.{Symbol}
-use Rattle.mm_frame.specs.Language.Item.{Kind, Disjoint, Item, passed, is_declaring, is_disjoint, is_labelled, has, item_at}
+use Rattle.mm_statement.specs.Language.Item.{Kind, Disjoint, Item, passed, is_declaring, is_disjoint, is_labelled, has, item_at}
 use Rattle.mm_frame.specs.Language.Scope.{Neither, mark_of, stays, active, active_variables, active_numbers}
 use Rattle.mm_frame.specs.declared.FrameNumber.TheVariants.{F03, F09}
 use Rattle.mm_frame.specs.Language.Sound.{each, is_no_variable, is_repeated, IsSound, AreSound}

@@ -11,7 +11,7 @@ use Rattle.mm_frame.specs.declared.symbol.NumberedSymbol.{NumberedSymbol}
 use Rattle.mm_frame.specs.declared.paired.PairTable.{PairTable}
 use Rattle.mm_frame.specs.Language.Frame.{Symbol, Mandatory, ArePair, AreSamePairs}
 use Rattle.mm_frame.specs.Language.Typing.{IsTyped}
-use Rattle.mm_frame.specs.Language.Item.{Item, passed, is_floating, is_essential, is_assertion, has, variable_of, item_at}
+use Rattle.mm_statement.specs.Language.Item.{Item, passed, is_floating, is_essential, is_assertion, has, variable_of, item_at}
 use Rattle.mm_frame.specs.Language.Names.{name_at}
 use Rattle.mm_frame.specs.Language.Scope.{Mark, active, active_numbers}
 use Rattle.mm_frame.specs.Language.Sound.{IsSound, AreSound}

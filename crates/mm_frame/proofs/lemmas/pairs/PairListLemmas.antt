@@ -24,7 +24,7 @@ use Rattle.mm_frame.proofs.lemmas.pairs.FramePairs.{swapped}
 use Rattle.mm_frame.specs.declared.symbol.NumberedSymbol.{NumberedSymbol}
 use Rattle.mm_frame.specs.declared.pair_lists.PairLists.{PairLists}
 use Rattle.mm_frame.specs.Language.Frame.{Symbol, ArePair, AreSamePairs}
-use Rattle.mm_frame.specs.Language.Item.{Item, passed, is_labelled, is_disjoint}
+use Rattle.mm_statement.specs.Language.Item.{Item, passed, is_labelled, is_disjoint}
 use Rattle.mm_frame.specs.Language.Scope.{stays, active_numbers}
 use Rattle.mm_frame.specs.Language.Sound.{AreSound, sound_items}
 use Rattle.mm_frame.specs.Language.Framing.{expression, pairs_of, active_pairs}

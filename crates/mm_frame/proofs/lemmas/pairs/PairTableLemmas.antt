@@ -7,7 +7,7 @@ use Rattle.std.proofs.lemmas.Bool.{false≢true, false_from_ne_true}
 use Rattle.std.proofs.lemmas.Option.{same_Some, get_or_from_slice_get, slice_get_within, slice_get-get_or}
 use Rattle.mm_frame.specs.declared.paired.PairTable.{PairTable}
 use Rattle.mm_frame.specs.Language.Frame.{Symbol}
-use Rattle.mm_frame.specs.Language.Item.{Item, is_disjoint, has}
+use Rattle.mm_statement.specs.Language.Item.{Item, is_disjoint, has}
 use Rattle.mm_frame.specs.Language.Names.{AreDistinct}
 use Rattle.mm_frame.specs.Language.Scope.{Mark, active}
 use Rattle.mm_frame.specs.Language.Sound.{IsSound, AreSound}

@@ -20,7 +20,7 @@ use Rattle.mm_frame.specs.declared.paired.PairTable.{PairTable}
 use Rattle.mm_frame.specs.declared.places.Places.{Places}
 use Rattle.mm_frame.specs.declared.mandatory.Earlier.{Earlier}
 use Rattle.mm_frame.specs.Language.Frame.{Symbol}
-use Rattle.mm_frame.specs.Language.Item.{Item, is_labelled, is_disjoint}
+use Rattle.mm_statement.specs.Language.Item.{Item, is_labelled, is_disjoint}
 use Rattle.mm_frame.specs.Language.Names.{name_at}
 use Rattle.mm_frame.specs.Language.Scope.{Mark}
 use Rattle.mm_frame.specs.Language.Framing.{symbol, expression, active_pairs}

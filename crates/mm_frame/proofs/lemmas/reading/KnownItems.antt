@@ -10,16 +10,15 @@ use Rattle.mm_store.specs.Language.FilesView.{FilesView}
 use Rattle.mm_frame.specs.declared.symbol.NumberedSymbol.{NumberedSymbol}
 use Rattle.mm_frame.specs.Language.Frame.{Symbol}
 use Rattle.mm_frame.specs.Language.Framing.{symbol}
-use Rattle.mm_frame.specs.Language.Item.{Item, item_at}
+use Rattle.mm_statement.specs.Language.Item.{Item, item_at}
 use Rattle.mm_frame.specs.Language.Answering.{BaseAnswers}
 use Rattle.mm_frame.specs.Language.Names.{Begins, name_at}
 use Rattle.mm_frame.specs.Language.Older.{HasOlder}
 use Rattle.mm_frame.specs.Language.NumberedSymbols.{symbol_of, symbols_of, IsNumbered}
-use Rattle.mm_frame.specs.Language.Statement.{Says}
+use Rattle.mm_statement.specs.Language.Statement.{OneRangeSaysOne, Says}
 use Rattle.mm_frame.specs.Code.KnownItem.{IsAgain, numbers_of}
 use Rattle.mm_frame.specs.Code.Numbers.{AreNameNumbers}
 use Rattle.mm_frame.proofs.lemmas.names.NumberLemmas.{begins_on, there_from_map}
-use Rattle.mm_frame.proofs.lemmas.reading.PieceLemmas.{OneReading, same_said}
 
 -- each item says what is said at its place
 says_at : (files : FilesView) (found : List store.Item) (said : List Item) (i : ℕ) (item : store.Item) → AllZip (Says files) found said → slice_get found i ≡ Some item → Says files item (item_at said i)
@@ -29,10 +28,9 @@ says_at files (x ∷ found) (y ∷ said) (suc i) item h e = says_at files found 
 says_at files (x ∷ found) [] i item h e = absurd h
 
 -- and so does the same item once more
-pub same_again : (files : FilesView) (found : List store.Item) (said : List Item) (i : ℕ) (item : store.Item) → OneReading → AllZip (Says files) found said → IsAgain found i item → (told : Item)
+pub same_again : (files : FilesView) (found : List store.Item) (said : List Item) (i : ℕ) (item : store.Item) → OneRangeSaysOne → AllZip (Says files) found said → IsAgain found i item → (told : Item)
     → Says files item told → item_at said i ≡ told
-same_again files found said i item law h again told says =
-    same_said files again.was item (record { kind = again.kind; key = again.key; start = again.start; end = again.end }) law (item_at said i) told (says_at files found said i again.was h again.there) says
+same_again files found said i item law h again told says = law files again.was item again.same (item_at said i) told (says_at files found said i again.was h again.there) says
 
 -- the symbols that are kept of an item have the numbers of its symbols
 pub numbers_known : (names : List (List ℕ)) (before : List Item) (symbols : List (List ℕ)) (kept : List NumberedSymbol)

@@ -2,7 +2,7 @@
 use Rattle.std.proofs.Common.{◌≡◌, ℕ, zero, suc, ◌+◌, ◌-◌, ◌≤◌, ◌<◌, ◌↔◌, Bool, true, false, cond, Some, List, [], ◌∷◌, take, drop, slice_get, count_by, refl, sym, ◌∙◌, ap, subst, arith, take-add, take-take}
 use native.Mathlib.Decide.{dec_lt}
 use Rattle.std.proofs.lemmas.List.Sums.{sum_by-cons, sum_by-append}
-use Rattle.mm_frame.specs.Language.Item.{Item}
+use Rattle.mm_statement.specs.Language.Item.{Item}
 use Rattle.mm_frame.specs.Language.Scope.{Mark, Closes, Neither, mark_of, stays, opens, closes, is_start, is_end}
 use Rattle.mm_frame.specs.Language.Numbered.{IsEven, IsEndOf, HoldsItem, IsActive, between}
 use Rattle.mm_frame.proofs.lemmas.scope.Stack.{stays_by_counts}

@@ -8,7 +8,7 @@ use Rattle.std.proofs.lemmas.List.{length_push, take-append-drop, drop-append-le
 use Rattle.std.proofs.lemmas.List.Sums.{sum_by_push, count_by-le-length}
 use Rattle.std.proofs.lemmas.Option.{slice_get_within, slice_get-get_or, same_Some}
 use native.Mathlib.Decide.{dec_lt}
-use Rattle.mm_frame.specs.Language.Item.{Item}
+use Rattle.mm_statement.specs.Language.Item.{Item}
 use Rattle.mm_frame.specs.Language.Scope.{Mark, Opens, Closes, Neither, mark_of, closed_at, closed, is_zero, stays, opens, closes}
 use Rattle.mm_frame.specs.Code.BlockMarks.{closed_by, stays_by, block_marks}
 use Rattle.mm_frame.specs.Code.BlockEnds.{end_of_block}

@@ -5,7 +5,7 @@ use Rattle.std.proofs.lemmas.Bool.{false≢true}
 use Rattle.std.proofs.lemmas.Option.{get_or_from_slice_get, slice_get_within, same_Some, none-some}
 use Rattle.std.proofs.Math.Seq.{get_or-append_seam, drop-nil}
 use Rattle.std.proofs.lemmas.List.{drop-append-le, drop-map, length_push, get_or_append_left}
-use Rattle.mm_frame.specs.Language.Item.{Item}
+use Rattle.mm_statement.specs.Language.Item.{Item}
 use Rattle.mm_frame.specs.Language.Scope.{Mark, Neither, mark_of, closed_at, closed, is_zero, stays, active_numbers}
 use Rattle.mm_frame.specs.Code.BlockMarks.{stays_by, block_marks}
 use Rattle.mm_frame.specs.Code.LastItems.{is_active_at, IsRising}

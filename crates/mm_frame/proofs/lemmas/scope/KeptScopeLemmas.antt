@@ -2,7 +2,7 @@
 use Rattle.std.proofs.Common.{◌≡◌, ℕ, suc, Bool, false, if◌then◌else◌, Option, Some, List, [], ◌∷◌, ◌++◌, length, drop, map, get_or, sym, ◌∙◌, ap, subst}
 use Rattle.std.proofs.Math.ListN.{get_or-map}
 use Rattle.std.proofs.lemmas.List.{map-append, drop-map, length-map}
-use Rattle.mm_frame.specs.Language.Item.{Kind, Item, passed, typecode_of, item_at}
+use Rattle.mm_statement.specs.Language.Item.{Kind, Item, passed, typecode_of, item_at}
 use Rattle.mm_frame.specs.Language.Scope.{Mark, mark_of}
 use Rattle.mm_frame.specs.Code.BlockMarks.{stays_by, block_marks}
 use Rattle.mm_frame.specs.Code.LastItems.{last_where, types, is_active_last}

@@ -12,12 +12,12 @@ use Rattle.std.proofs.lemmas.Slice.Eq.{bytes_eq-Decides}
 use Rattle.std.proofs.Math.Bool.{or-false}
 use Rattle.mm_store.specs.declared.item.ItemKind.{ItemKind}
 use Rattle.mm_store.specs.declared.item.ItemKind.TheVariants as items
-use Rattle.mm_frame.specs.Language.Statement.{kind_of}
+use Rattle.mm_statement.specs.Language.Statement.{kind_of}
 use Rattle.mm_frame.specs.declared.tables.Tables.{Tables}
 use Rattle.mm_frame.specs.declared.tables.Declared.{Declared}
 use Rattle.mm_frame.specs.declared.tables.Declared.TheVariants.{Constant, Variable}
-use Rattle.mm_frame.specs.Language.Item.{Kind, Constants, Variables, Disjoint, Floating, Essential, Axiom, Theorem, BlockStart, BlockEnd, Missing, Item, passed, is_constants, is_variables, is_floating, is_labelled, has}
-use Rattle.mm_frame.specs.Language.Item as meant
+use Rattle.mm_statement.specs.Language.Item.{Kind, Constants, Variables, Disjoint, Floating, Essential, Axiom, Theorem, BlockStart, BlockEnd, Missing, Item, passed, is_constants, is_variables, is_floating, is_labelled, has}
+use Rattle.mm_statement.specs.Language.Item as meant
 use Rattle.mm_frame.specs.Language.Scope.{constants, variables, active}
 use Rattle.mm_frame.specs.Language.Sound.{is_declared, IsSound, AreSound}
 use Rattle.mm_frame.specs.Code.LastItems.{last_where, declares_variable, types, carries}

@@ -3,7 +3,7 @@ use Rattle.std.proofs.Common.{◌≡◌, ℕ, zero, suc, Bool, true, false, cond
 use Rattle.std.specs.List.{list_any}
 use Rattle.std.proofs.lemmas.Bool.{false≢true, or_left, or_right, false_from_ne_true}
 use Rattle.mm_frame.specs.Language.Frame.{Unknown}
-use Rattle.mm_frame.specs.Language.Item.{Kind, Floating, Essential, Axiom, Theorem, Item, is_floating, is_expression, is_labelled, has, labels_of}
+use Rattle.mm_statement.specs.Language.Item.{Kind, Floating, Essential, Axiom, Theorem, Item, is_floating, is_expression, is_labelled, has, labels_of}
 use Rattle.mm_frame.specs.Language.Scope.{Neither, mark_of, stays, constants, labels, active_variables}
 use Rattle.mm_frame.specs.declared.FrameNumber.TheVariants.{F06}
 use Rattle.mm_frame.specs.Language.Sound.{is_label, IsSound, AreSound}

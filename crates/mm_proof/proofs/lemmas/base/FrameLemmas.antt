@@ -5,7 +5,7 @@ use Rattle.std.proofs.lemmas.List.{get_or_default}
 use Rattle.std.proofs.lemmas.List.Elements.{All-contains}
 use Rattle.mm_frame.specs.Language.Base.{BaseView, said_at, is_sound_at, is_shown_at, is_framed_at, is_proof_at}
 use Rattle.mm_frame.specs.Language.Frame.{Symbol, Mandatory, Frame, AreSameFrame, HasVariable}
-use Rattle.mm_frame.specs.Language.Item.{Kind, Axiom, Theorem, is_theorem, is_assertion, is_labelled}
+use Rattle.mm_frame.specs.mm_statement.Language.Item.{Kind, Axiom, Theorem, is_theorem, is_assertion, is_labelled}
 use Rattle.mm_frame.specs.Language.Typing.{IsTyped, IsTyping, IsFrame}
 
 -- both are variables with a mandatory `$f`

@@ -6,9 +6,9 @@ use Rattle.mm_frame.specs.mm_store.declared.item.Item as store
 use Rattle.mm_frame.specs.mm_store.Language.FilesView.{FilesView}
 use Rattle.mm_frame.specs.mm_store.Language.FileFacts.{CanBeRead}
 use Rattle.mm_frame.specs.Language.Base.{BaseView, is_proof_at, said_at}
-use Rattle.mm_frame.specs.Language.Item.{Item, passed}
+use Rattle.mm_frame.specs.mm_statement.Language.Item.{Item, passed}
 use Rattle.mm_frame.specs.Language.Answering.{IsBase}
-use Rattle.mm_frame.specs.Language.Statement.{Says}
+use Rattle.mm_frame.specs.mm_statement.Language.Statement.{Says}
 use Rattle.mm_frame.specs.declared.base.Base.{Base}
 use Rattle.mm_proof.specs.Language.ReadIn.{HasTheorem, IsReadIn}
 use Rattle.mm_proof.specs.Code.Judged.{IsTheorem}

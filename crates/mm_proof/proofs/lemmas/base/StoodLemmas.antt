@@ -8,7 +8,7 @@ use Rattle.mm_frame.specs.declared.base.Resolved.TheVariants as answers
 use Rattle.mm_frame.specs.Language.Base.{BaseView, said_at, before, is_sound_at, fault_by}
 use Rattle.mm_frame.specs.Language.Frame.{Assertion}
 use Rattle.mm_frame.specs.Language.Framing.{frame, meaning, resolve, resolve_from}
-use Rattle.mm_frame.specs.Language.Item.{Item, passed, is_assertion, is_labelled, labels_of, has}
+use Rattle.mm_frame.specs.mm_statement.Language.Item.{Item, passed, is_assertion, is_labelled, labels_of, has}
 use Rattle.mm_frame.specs.Language.Laws.{KeptNext}
 use Rattle.mm_frame.specs.Language.Resolving.{Resolves}
 use Rattle.mm_frame.specs.Language.Scope.{stays}

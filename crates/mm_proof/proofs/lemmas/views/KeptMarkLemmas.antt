@@ -5,7 +5,7 @@ use Rattle.std.proofs.lemmas.Bool.{false≢true, and_parts}
 use Rattle.std.proofs.lemmas.Option.{none-some, same_Some}
 use Rattle.mm_frame.specs.Language.Base.{BaseView, said_at, is_shown_at, is_sound_at}
 use Rattle.mm_frame.specs.Language.Frame.{Symbol, AreSamePairs}
-use Rattle.mm_frame.specs.Language.Item.{Item, passed, is_labelled}
+use Rattle.mm_frame.specs.mm_statement.Language.Item.{Item, passed, is_labelled}
 use Rattle.mm_frame.specs.Language.Resolving.{IsCarrier}
 use Rattle.mm_frame.specs.declared.base.Base.{Base}
 use Rattle.mm_frame.specs.Language.Answering.{IsBaseBy}

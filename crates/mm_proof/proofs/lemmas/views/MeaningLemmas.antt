@@ -11,7 +11,7 @@ use Rattle.mm_frame.specs.declared.base.Resolved.TheVariants as answers
 use Rattle.mm_frame.specs.Language.Base.{BaseView, said_at, before, is_sound_at, is_shown_at, is_framed_at, frame_at, fault_by}
 use Rattle.mm_frame.specs.Language.Frame.{Resolved, Assertion, Unknown, AreSameFrame}
 use Rattle.mm_frame.specs.Language.Framing.{resolve, resolve_from}
-use Rattle.mm_frame.specs.Language.Item.{Kind, Floating, Essential, Axiom, Theorem, Item, passed, is_labelled, labels_of, has}
+use Rattle.mm_frame.specs.mm_statement.Language.Item.{Kind, Floating, Essential, Axiom, Theorem, Item, passed, is_labelled, labels_of, has}
 use Rattle.mm_frame.specs.Language.Laws as frame
 use Rattle.mm_frame.specs.Language.Resolving.{IsCarrier, IsMeaning, Resolves}
 use Rattle.mm_frame.specs.Language.Sound.{fault, judged, sound_items}

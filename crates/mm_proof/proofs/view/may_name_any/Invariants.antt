@@ -1,5 +1,5 @@
-use Rattle.mm_frame.specs.Language.Item as meant
-use Rattle.mm_frame.specs.Language.Statement.{Says}
+use Rattle.mm_frame.specs.mm_statement.Language.Item as meant
+use Rattle.mm_frame.specs.mm_statement.Language.Statement.{Says}
 use Rattle.mm_proof.specs.Code.TwoTheorems.{AreUnnamed}
 use Rattle.mm_proof.proofs.view.may_name_any.Given as goal
 

@@ -1,6 +1,6 @@
 use Rattle.std.proofs.Common.{ℕ, List, true, ◌≡◌, ◌&&◌, ◌∙◌, ap, sym, subst}
 use Rattle.mm_frame.specs.declared.symbol.NumberedSymbol.{NumberedSymbol}
-use Rattle.mm_frame.specs.Language.Item.{is_essential, is_disjoint}
+use Rattle.mm_statement.specs.Language.Item.{is_essential, is_disjoint}
 use Rattle.mm_frame.specs.Code.KeptActiveItems.{changes_active}
 use Rattle.mm_frame.specs.Code.KeptScope.{taken}
 use Rattle.mm_frame.specs.Code.KeptVariables.{AreVariablesOf}

@@ -1,6 +1,6 @@
 use Rattle.std.proofs.Common.{refl, ◌∙◌, sym, subst}
-use Rattle.mm_frame.specs.Language.Item.{is_assertion, is_theorem}
-use Rattle.mm_frame.specs.Language.Statement.{kind_of}
+use Rattle.mm_statement.specs.Language.Item.{is_assertion, is_theorem}
+use Rattle.mm_statement.specs.Language.Statement.{kind_of}
 use Rattle.mm_frame.specs.Language.Sound.{fault, sound_items, judged}
 use Rattle.mm_frame.specs.Code.KeptAsked.{KnowsAsked}
 use Rattle.mm_frame.specs.Code.KeptPairLists.{AreMade}

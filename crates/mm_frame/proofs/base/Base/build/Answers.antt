@@ -4,7 +4,7 @@ use Rattle.std.proofs.lemmas.Slice.Zip.{AllZip-long}
 use Rattle.mm_frame.specs.declared.base.Base.TheInside.{Inside}
 use Rattle.mm_frame.specs.Language.Names.{AreDistinct, Begins}
 use Rattle.mm_frame.specs.Language.Base.{BaseView}
-use Rattle.mm_frame.specs.Language.Statement.{Says}
+use Rattle.mm_statement.specs.Language.Statement.{Says}
 use Rattle.mm_frame.specs.Language.Answering.{IsBaseBy}
 use Rattle.mm_frame.specs.Code.BaseInside.{answers_of}
 use Rattle.mm_frame.specs.Code.KeptBase.{is_float_item}

@@ -1,6 +1,6 @@
 use Rattle.std.proofs.Common.{ℕ, List}
 use Rattle.std.proofs.lemmas.Result.{on_ok_weaker}
-use Rattle.mm_frame.specs.Language.Item.{Item}
+use Rattle.mm_statement.specs.Language.Item.{Item}
 use Rattle.mm_frame.specs.Code.KeptBase.{IsDraft}
 use Rattle.mm_frame.proofs.lemmas.base.NumbersAside.{numbers_aside}
 use Rattle.mm_frame.proofs.lemmas.names.NumberLemmas.{begins_on}

@@ -1,6 +1,6 @@
 use Rattle.std.proofs.Common.{◌≡◌, ◌∷◌, ◌++◌, [], suc, ◌+◌, take, take_all, sym, subst, arith, append-nil, append_assoc}
 use Rattle.std.specs.List.{AllZip}
-use Rattle.mm_frame.specs.Language.Statement.{Says}
+use Rattle.mm_statement.specs.Language.Statement.{Says}
 use Rattle.mm_frame.specs.Code.KeptBase.{IsDraftLater}
 use Rattle.mm_frame.proofs.lemmas.names.NumberLemmas.{begins_on}
 use Rattle.mm_frame.proofs.lemmas.base.BaseLemmas.{zip_more}

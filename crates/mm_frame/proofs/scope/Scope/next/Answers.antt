@@ -1,5 +1,5 @@
 use Rattle.std.proofs.Common.{OnOk, refl, sym, subst}
-use Rattle.mm_frame.specs.Language.Item.{Passed, passed}
+use Rattle.mm_statement.specs.Language.Item.{Passed, passed}
 use Rattle.mm_frame.specs.Code.KeptScope.{ScopeTakes}
 use Rattle.mm_frame.proofs.lemmas.scope.KnownLemmas.{knows_passed}
 use Rattle.mm_frame.proofs.lemmas.scope.KeptScopeLemmas.{passed_over, marks_more, types_more}

@@ -1,5 +1,5 @@
 use Rattle.std.proofs.Common.{cond, Some, ◌∙◌, ap, refl, option_to_list}
-use Rattle.mm_frame.specs.Language.Item.{has}
+use Rattle.mm_statement.specs.Language.Item.{has}
 use Rattle.mm_frame.specs.Code.KeptTables.{table_label}
 use Rattle.mm_frame.proofs.lemmas.scope.KnownLemmas.{has_one}
 use Rattle.mm_frame.proofs.tables.Tables.take_label.Goals as goal

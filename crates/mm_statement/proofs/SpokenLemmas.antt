@@ -1,0 +1,224 @@
+-- The words of a statement between its keywords, read one by one.
+use Rattle.std.proofs.Common.{◌≡◌, ℕ, zero, suc, ◌+◌, ◌<◌, ◌≤◌, Bool, true, false, cond, if◌then◌else◌, List, [], ◌∷◌, ◌++◌, Option, Some, None, length, map, take, drop, refl, sym, ◌∙◌, ap, subst, arith, append_assoc, length-append}
+use Rattle.std.specs.Prelude.{slice_get, MatchOption}
+use Rattle.std.specs.Option.{option_map}
+use Rattle.std.specs.List.{AllByRecursion, flat_map, prefix_len}
+use Rattle.std.proofs.lemmas.List.{drop-map, drop-drop, take-map, append-nil, length-drop, length-map, length-take}
+use Rattle.std.proofs.lemmas.Simd.{map-map}
+use Rattle.mm_store.specs.mm_text.declared.word.Word.{Word}
+use Rattle.mm_store.specs.mm_text.declared.word.WordKind.TheVariants.{Plain}
+use Rattle.mm_store.specs.mm_text.Language.WordsLeft.{SkipsPlainWords}
+use Rattle.mm_store.specs.mm_text.Language.Unit.{Token, token_of, tokens_of, spellings}
+use Rattle.mm_statement.specs.Language.Item.{Kind, Item, is_labelled}
+use Rattle.mm_statement.specs.Code.PlainWords.{AreFewWords, TakesLabel, word_bytes, plain_words, plain_bytes}
+use Rattle.mm_statement.specs.Language.Statement.{is_plain_kind, is_plain, token_names, plain_from, symbols_from, symbols_in, proof_in, label_in, item_of}
+
+prefix_len-map : {X Y : Type 0} (f : X → Y) (p : Y → Bool) (xs : List X) → prefix_len p (map f xs) ≡ prefix_len (λ x. p (f x)) xs
+prefix_len-map f p [] = refl
+prefix_len-map f p (x ∷ xs) = ap (λ n. cond (p (f x)) (1 + n) 0) (prefix_len-map f p xs)
+
+-- ---- words one by one
+
+-- a plain word is one of the words before the first keyword
+pub plain_more : (word : Word) (words : List Word) → is_plain_kind word.kind ≡ true → plain_words (word ∷ words) ≡ word ∷ plain_words words
+plain_more word words plain =
+    let n = prefix_len (λ (w : Word). is_plain_kind w.kind) words in
+    let one : 1 + n ≡ suc n = omega arith in
+    ap (λ b. take (cond b (1 + n) 0) (word ∷ words)) plain ∙ ap (λ k. take k (word ∷ words)) one
+
+-- and a keyword ends them
+pub plain_end : (word : Word) (words : List Word) → is_plain_kind word.kind ≡ false → plain_words (word ∷ words) ≡ []
+plain_end word words keyword = ap (λ b. take (cond b (1 + prefix_len (λ (w : Word). is_plain_kind w.kind) words) 0) (word ∷ words)) keyword
+
+-- the words of a proof with a word in front
+pub proof_more : (text : List ℕ) (old new : List Word) (word : Word) → old ≡ word ∷ new → is_plain_kind word.kind ≡ true → plain_bytes text old ≡ word_bytes text word ∷ plain_bytes text new
+proof_more text old new word e plain = ap (plain_bytes text) e ∙ ap (map (word_bytes text)) (plain_more word new plain)
+
+-- ---- symbols
+
+-- the symbols so far, of these words, and the words that are left
+pub record Symbols (words left symbols : List Word) : Type 0 where
+  pub joined : plain_words words ≡ symbols ++ plain_words left
+  pub behind : left ≡ drop (length symbols) words
+
+pub symbols_more : (words left new symbols : List Word) (word : Word) → Symbols words left symbols → left ≡ word ∷ new → is_plain_kind word.kind ≡ true → Symbols words new (symbols ++ word ∷ [])
+symbols_more words left new symbols word h e plain = record {
+  joined = h.joined ∙ ap (λ l. symbols ++ plain_words l) e ∙ ap (λ l. symbols ++ l) (plain_more word new plain) ∙ sym (append_assoc symbols (word ∷ []) (plain_words new));
+  behind =
+      let one : length symbols + 1 ≡ length (symbols ++ word ∷ []) = omega (arith, length-append symbols (word ∷ [])) in
+      ap (drop 1) (sym e ∙ h.behind) ∙ drop-drop 1 (length symbols) words ∙ ap (λ k. drop k words) one;
+}
+
+-- all symbols, and the words after the one that closes them
+pub record AllSymbols (words new symbols : List Word) : Type 0 where
+  pub are : symbols ≡ plain_words words
+  pub rest : new ≡ drop (length (plain_words words) + 1) words
+
+rest_is : (words left new symbols : List Word) → plain_words words ≡ symbols → left ≡ drop (length symbols) words → new ≡ drop 1 left → AllSymbols words new symbols
+rest_is words left new symbols all behind e = record {
+  are = sym all;
+  rest = e ∙ ap (drop 1) behind ∙ drop-drop 1 (length symbols) words ∙ ap (λ (l : List Word). drop (length l + 1) words) (sym all);
+}
+
+pub symbols_closed : (words left new symbols : List Word) (word : Word) → Symbols words left symbols → left ≡ word ∷ new → is_plain_kind word.kind ≡ false → AllSymbols words new symbols
+symbols_closed words left new symbols word h e keyword =
+    rest_is words left new symbols (h.joined ∙ ap (λ l. symbols ++ plain_words l) e ∙ ap (λ l. symbols ++ l) (plain_end word new keyword) ∙ append-nil symbols) h.behind (ap (drop 1) (sym e))
+
+-- no word is left
+pub symbols_ended : (words left new symbols : List Word) → Symbols words left symbols → left ≡ [] → new ≡ [] → AllSymbols words new symbols
+symbols_ended words left new symbols h none e =
+    rest_is words left new symbols (h.joined ∙ ap (λ l. symbols ++ plain_words l) none ∙ append-nil symbols) h.behind (e ∙ ap (drop 1) (sym none))
+
+-- plain words are symbols
+passed_more : (passed words left new symbols : List Word) → left ≡ passed ++ new → AllByRecursion (λ (word : Word). word.kind ≡ Plain) passed → Symbols words left symbols → Symbols words new (symbols ++ passed)
+passed_more [] words left new symbols e plain h = subst (λ s. Symbols words new s) (sym (append-nil symbols)) (subst (λ l. Symbols words l symbols) e h)
+passed_more (word ∷ passed) words left new symbols e plain h =
+    subst (λ s. Symbols words new s) (append_assoc symbols (word ∷ []) passed)
+    (passed_more passed words (passed ++ new) new (symbols ++ word ∷ []) refl plain.1 (symbols_more words left (passed ++ new) symbols word h e (ap is_plain_kind plain.0)))
+
+pub symbols_passed : (words left new symbols : List Word) (skips : SkipsPlainWords left new) → Symbols words left symbols → Symbols words new (symbols ++ skips.passed)
+symbols_passed words left new symbols skips h = passed_more skips.passed words left new symbols skips.joined skips.plain h
+
+-- ---- a statement
+
+-- the words after one word
+pub behind_one : (old new : List Word) (word : Option Word) → MatchOption word ((old ≡ []) × (new ≡ [])) (λ w. old ≡ w ∷ new) → new ≡ drop 1 old
+behind_one old new None h = h.1 ∙ ap (drop 1) (sym h.0)
+behind_one old new (Some word) h = ap (drop 1) (sym h)
+
+-- how plain words are spelled
+plain_names : (text : List ℕ) (words : List Word) → token_names (plain_from 0 (tokens_of text words)) ≡ plain_bytes text words
+plain_names text words =
+    ap (λ n. token_names (take n (tokens_of text words))) (prefix_len-map (token_of text) is_plain words)
+    ∙ ap token_names (take-map (token_of text) (prefix_len (λ (w : Word). is_plain_kind w.kind) words) words)
+    ∙ map-map (λ (token : Token). token.bytes) (token_of text) (plain_words words)
+
+-- from a place on
+pub names_from : (text : List ℕ) (words : List Word) (from : ℕ) → token_names (plain_from from (tokens_of text words)) ≡ plain_bytes text (drop from words)
+names_from text words from = ap (λ tokens. token_names (plain_from 0 tokens)) (drop-map (token_of text) from words) ∙ plain_names text (drop from words)
+
+count_names : (tokens : List Token) → length (token_names tokens) ≡ length tokens
+count_names [] = refl
+count_names (token ∷ tokens) = ap suc (count_names tokens)
+
+pub count_bytes : (text : List ℕ) (words : List Word) → length (map (word_bytes text) words) ≡ length words
+count_bytes text [] = refl
+count_bytes text (word ∷ words) = ap suc (count_bytes text words)
+
+-- the words after the label and the keyword
+behind_label : (labelled : Bool) (words new : List Word) (label : Option Word) → TakesLabel labelled words label new → drop 1 new ≡ drop (if labelled then 2 else 1) words
+behind_label true words new (Some word) h = sym (ap (drop 2) h)
+behind_label false words new None h = ap (drop 1) h
+behind_label _ words new _ h = absurd h
+
+label_is : (labelled : Bool) (text : List ℕ) (words new : List Word) (label : Option Word) → TakesLabel labelled words label new
+    → option_map (word_bytes text) label ≡ (if labelled then option_map (λ (token : Token). token.bytes) (slice_get (tokens_of text words) 0) else None)
+label_is true text words new (Some word) h = sym (ap (λ (ws : List Word). option_map (λ (token : Token). token.bytes) (slice_get (tokens_of text ws) 0)) h)
+label_is false text words new None h = refl
+label_is _ text words new _ h = absurd h
+
+-- what is read of a statement with these words
+pub record Reads (kind : Kind) (words : List Word) (label : Option Word) (symbols rest : List Word) : Type 0 where
+  pub behind : List Word
+  pub takes : TakesLabel (is_labelled kind) words label behind
+  pub first : List Word
+  pub keyword : first ≡ drop 1 behind
+  pub all : AllSymbols first rest symbols
+
+-- this is read if the symbols are passed over
+pub passed : (kind : Kind) (words : List Word) (label : Option Word) (behind first rest : List Word) → TakesLabel (is_labelled kind) words label behind → first ≡ drop 1 behind
+    → rest ≡ drop (length (plain_words first) + 1) first → Reads kind words label (plain_words first) rest
+passed kind words label behind first rest takes keyword after = record { behind = behind; takes = takes; first = first; keyword = keyword; all = record { are = refl; rest = after } }
+
+-- the words of the proof, and what comes after them
+pub rest_at : (kind : Kind) (text : List ℕ) (words : List Word) (label : Option Word) (symbols rest : List Word) → Reads kind words label symbols rest
+    → (map (word_bytes text) symbols ≡ token_names (symbols_in kind (tokens_of text words))) × (rest ≡ drop (symbols_from kind + length (symbols_in kind (tokens_of text words)) + 1) words)
+rest_at kind text words label symbols rest h =
+    let from = symbols_from kind in
+    let first : h.first ≡ drop from words = h.keyword ∙ behind_label (is_labelled kind) words h.behind label h.takes in
+    let spelled : map (word_bytes text) symbols ≡ token_names (symbols_in kind (tokens_of text words)) = ap (map (word_bytes text)) h.all.are ∙ ap (plain_bytes text) first ∙ sym (names_from text words from) in
+    let count : length (plain_words h.first) ≡ length (symbols_in kind (tokens_of text words)) = ap length (sym h.all.are) ∙ sym (count_bytes text symbols) ∙ ap length spelled ∙ count_names (symbols_in kind (tokens_of text words)) in
+    let places : from + (length (plain_words h.first) + 1) ≡ from + length (symbols_in kind (tokens_of text words)) + 1 = omega (arith, count) in
+    (spelled, h.all.rest ∙ ap (drop (length (plain_words h.first) + 1)) first ∙ drop-drop (length (plain_words h.first) + 1) from words ∙ ap (λ k. drop k words) places)
+
+pub item_read : (kind : Kind) (text : List ℕ) (words : List Word) (label : Option Word) (symbols rest : List Word) → Reads kind words label symbols rest
+    → ◌≡◌ {A = Item} (record { kind = kind; label = option_map (word_bytes text) label; symbols = map (word_bytes text) symbols; proof = plain_bytes text rest }) (item_of kind (tokens_of text words))
+item_read kind text words label symbols rest h =
+    let at = rest_at kind text words label symbols rest h in
+    let proof : plain_bytes text rest ≡ token_names (proof_in kind (tokens_of text words)) = ap (plain_bytes text) at.1 ∙ sym (names_from text words (symbols_from kind + length (symbols_in kind (tokens_of text words)) + 1)) in
+    let labelled : option_map (word_bytes text) label ≡ label_in kind (tokens_of text words) = label_is (is_labelled kind) text words h.behind label h.takes in
+    λ i. record { kind = kind; label = labelled i; symbols = at.0 i; proof = proof i }
+
+-- ---- how many words are left, and their bytes
+
+-- no word is empty
+abbrev AreSome : List (List ℕ) → Type 0
+AreSome names = AllByRecursion (λ name. 0 < length name) names
+
+-- the bytes of all words
+abbrev bytes_of : List (List ℕ) → ℕ
+bytes_of names = length (flat_map (λ name. name) names)
+
+-- the same holds for the words after some place, and with those before it
+some_behind : (n : ℕ) (names : List (List ℕ)) → AreSome names → AreSome (drop n names)
+some_behind zero names h = h
+some_behind (suc n) [] h = tt
+some_behind (suc n) (name ∷ names) h = some_behind n names h.1
+
+some_before : (n : ℕ) (names : List (List ℕ)) → AreSome names → AreSome (take n names)
+some_before (suc n) (name ∷ names) h = (h.0, some_before n names h.1)
+some_before _ _ h = tt
+
+bytes_behind : (n : ℕ) (names : List (List ℕ)) → bytes_of (drop n names) ≤ bytes_of names
+bytes_behind (suc n) (name ∷ names) = omega (arith, bytes_behind n names, length-append name (flat_map (λ bytes. bytes) names))
+bytes_behind _ _ = omega arith
+
+bytes_before : (n : ℕ) (names : List (List ℕ)) → bytes_of (take n names) ≤ bytes_of names
+bytes_before (suc n) (name ∷ names) =
+    omega (arith, bytes_before n names, length-append name (flat_map (λ bytes. bytes) names), length-append name (flat_map (λ bytes. bytes) (take n names)))
+bytes_before _ _ = omega arith
+
+-- the words of a proof are the first of those that are left
+module _ (text : List ℕ) (words : List Word) where
+  proof_spelled : take (prefix_len (λ (w : Word). is_plain_kind w.kind) words) (spellings text words) ≡ plain_bytes text words
+  proof_spelled =
+      let n = prefix_len (λ (w : Word). is_plain_kind w.kind) words in
+      ap (take n) (map-map (λ (token : Token). token.bytes) (token_of text) words) ∙ take-map (word_bytes text) n words
+
+  pub proof_some : AreSome (spellings text words) → AreSome (plain_bytes text words)
+  proof_some h = subst AreSome proof_spelled (some_before (prefix_len (λ (w : Word). is_plain_kind w.kind) words) (spellings text words) h)
+
+  pub proof_few : length (plain_bytes text words) ≤ length words
+  proof_few = omega (arith, length-map (plain_words words) (word_bytes text), length-take (prefix_len (λ (w : Word). is_plain_kind w.kind) words) words)
+
+  pub proof_bytes : bytes_of (plain_bytes text words) ≤ bytes_of (spellings text words)
+  proof_bytes = subst (λ names. bytes_of names ≤ bytes_of (spellings text words)) proof_spelled (bytes_before (prefix_len (λ (w : Word). is_plain_kind w.kind) words) (spellings text words))
+
+-- the words that are left are the last of the words
+module _ (text : List ℕ) (kind : Kind) (words : List Word) (label : Option Word) (symbols rest : List Word) (h : Reads kind words label symbols rest) where
+  abbrev count : ℕ
+  count = symbols_from kind + (length (plain_words h.first) + 1)
+
+  rest_spelled : drop count (spellings text words) ≡ spellings text rest
+  rest_spelled =
+      let n = length (plain_words h.first) + 1 in
+      let first : h.first ≡ drop (symbols_from kind) words = h.keyword ∙ behind_label (is_labelled kind) words h.behind label h.takes in
+      let behind : rest ≡ drop count words = h.all.rest ∙ ap (drop n) first ∙ drop-drop n (symbols_from kind) words in
+      drop-map (λ (token : Token). token.bytes) count (tokens_of text words) ∙ ap (map (λ (token : Token). token.bytes)) (drop-map (token_of text) count words) ∙ ap (spellings text) (sym behind)
+
+  pub rest_some : AreSome (spellings text words) → AreSome (spellings text rest)
+  rest_some all = subst AreSome rest_spelled (some_behind count (spellings text words) all)
+
+  pub rest_bytes : bytes_of (spellings text rest) ≤ bytes_of (spellings text words)
+  rest_bytes = subst (λ names. bytes_of names ≤ bytes_of (spellings text words)) rest_spelled (bytes_behind count (spellings text words))
+
+  pub rest_few : length symbols + length rest ≤ length words
+  rest_few =
+      let n = length (plain_words h.first) in
+      let first = ap length (h.keyword ∙ behind_label (is_labelled kind) words h.behind label h.takes) ∙ length-drop (symbols_from kind) words in
+      let plain : n ≤ length h.first = omega (arith, length-take (prefix_len (λ (w : Word). is_plain_kind w.kind) h.first) h.first) in
+      omega (arith, first, plain, ap length h.all.are, ap length h.all.rest, length-drop (n + 1) h.first)
+
+-- after the first word there are few
+pub few_more : (word : List ℕ) (words : List (List ℕ)) → AreFewWords (word ∷ words) → AreFewWords words
+few_more word words few = record { few = omega (arith, few.few); some = few.some.1; bytes = omega (arith, few.bytes, length-append word (flat_map (λ (w : List ℕ). w) words)) }

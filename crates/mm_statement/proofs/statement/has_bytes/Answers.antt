@@ -1,0 +1,39 @@
+use Rattle.std.proofs.Common.{◌≡◌, ◌≢◌, sym, ◌∙◌, subst, arith, slice_range}
+use Rattle.std.specs.List.{AllByRecursion}
+use Rattle.std.proofs.lemmas.Bool.{false≢true}
+use Rattle.mm_store.specs.Language.FileFacts.{CanBeRead}
+use Rattle.mm_statement.specs.Language.Item.{Item}
+use Rattle.mm_statement.specs.Language.Statement.{kind_of}
+use Rattle.mm_statement.proofs.ByteLemmas.{no_proof_word, search_tells}
+use Rattle.mm_statement.proofs.PieceLemmas.{ends_within, same_bytes}
+use Rattle.mm_statement.proofs.statement.has_bytes.Goals as goal
+
+pub slice_bounds-find-end : goal.slice_bounds-find-end
+slice_bounds-find-end c =
+    let ends = ends_within c.args.files.now c.args.item.now c.piece-piece.result.now c.requires c.piece-piece.ensures.text in
+    omega (arith, ends, c.requires.some)
+
+pub returns-clause-found : goal.returns-clause-found
+returns-clause-found c =
+    let item = c.args.item.now in
+    let piece = c.piece-piece.result.now in
+    let bytes = c.args.bytes.now in
+    let same = λ (r : CanBeRead c.args.files.now item). same_bytes c.args.files.now item piece r c.piece-piece.ensures.text in
+    let told = search_tells (slice_range piece item.start item.end) bytes c.find.result c.find.ensures in (
+      λ t. (
+          let s = told.0 (sym c.is_some.ensures ∙ t) in
+          record { read = c.requires; start = s.0; end = s.1; stand = subst (λ text. slice_range text s.0 s.1 ≡ bytes) (same c.requires) s.2 }),
+      λ h. c.is_some.ensures ∙ told.1 (h.start, h.end, subst (λ text. slice_range text h.start h.end ≡ bytes) (sym (same h.read)) h.stand),
+    )
+
+pub returns-clause-absent : goal.returns-clause-absent
+returns-clause-absent c none said says =
+    let item = c.args.item.now in
+    let piece = c.piece-piece.result.now in
+    let bytes = c.args.bytes.now in
+    let read = says.read in
+    let told = search_tells (slice_range piece item.start item.end) bytes c.find.result c.find.ensures in
+    let same = same_bytes c.args.files.now item piece read c.piece-piece.ensures.text in
+    subst (λ (s : Item). AllByRecursion (λ word. word ≢ bytes) s.proof) (sym says.is)
+    (no_proof_word (slice_range read.text item.start item.end) bytes (kind_of item.kind) read.words (
+    λ s. false≢true (sym none ∙ c.is_some.ensures ∙ told.1 (s.0, s.1, subst (λ text. slice_range text s.0 s.1 ≡ bytes) (sym same) s.2))))

@@ -1,0 +1,33 @@
+use Rattle.std.proofs.Common.{◌≡◌, refl, ◌∙◌, ap, drop, arith}
+use Rattle.mm_statement.proofs.PieceLemmas.{has_words, ends_within}
+use Rattle.mm_statement.proofs.NthOfProof.{left_more, left_next, left_none, nth_said}
+use Rattle.mm_statement.proofs.statement.nth_of_proof.Goals as goal
+
+pub slice_bounds-text-end : goal.slice_bounds-text-end
+slice_bounds-text-end c =
+    let ends = ends_within c.args.files.now c.args.item.now c.piece-bytes.result.now c.requires c.piece-bytes.ensures.text in
+    omega (arith, ends, c.requires.some)
+
+pub behind_symbols-words-requires : goal.behind_symbols-words-requires
+behind_symbols-words-requires c = (c.requires.words, has_words c.args.files.now c.args.item.now c.piece-bytes.result.now c.requires c.piece-bytes.ensures.text, c.requires.some_word)
+
+pub loop-number-init : goal.loop-number-init
+loop-number-init c = refl
+
+pub loop-number-preserved : goal.loop-number-preserved
+loop-number-preserved c = left_more c.behind_symbols-words.result.words c.loop-number.words.words c.next_word.new.self.words c.loop-number._number c.next_word.result c.loop-number.invariant c.next_word.ensures.word
+
+pub returns-in_err-next_word : goal.returns-in_err-next_word
+returns-in_err-next_word c said says =
+    let item = c.args.item.now in
+    let rest = c.behind_symbols-words.ensures.rest says.read.words (has_words c.args.files.now item c.piece-bytes.result.now says.read c.piece-bytes.ensures.text) in
+    c.from_residual.ensures ∙ left_none c.behind_symbols-words.result.words c.loop-number.words.words c.loop-number._number c.args.n c.loop-number.invariant c.in_err-next_word.ensures.word.0 (omega arith)
+    ∙ nth_said c.args.files.now item c.piece-bytes.result.now c.piece-bytes.ensures.text said says c.behind_symbols-words.result.words c.args.n rest
+
+pub returns : goal.returns
+returns c said says =
+    let item = c.args.item.now in
+    let all : c.loop-number._number ≡ c.args.n = omega arith in
+    let rest = c.behind_symbols-words.ensures.rest says.read.words (has_words c.args.files.now item c.piece-bytes.result.now says.read c.piece-bytes.ensures.text) in
+    left_next c.behind_symbols-words.result.words c.loop-number.words.words c.next_word-2.new.self.words c.args.n c.next_word-2.result (c.loop-number.invariant ∙ ap (λ k. drop k c.behind_symbols-words.result.words) all) c.next_word-2.ensures.word
+    ∙ nth_said c.args.files.now item c.piece-bytes.result.now c.piece-bytes.ensures.text said says c.behind_symbols-words.result.words c.args.n rest

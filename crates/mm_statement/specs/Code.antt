@@ -1,0 +1,4 @@
+-- What the code keeps: private contracts and loop invariants cite it.
+pub mod PlainWords
+pub mod KeptStatement
+pub mod SpokenProof

@@ -1,0 +1,3 @@
+-- The language: what the contracts of public calls cite, all the way down.
+pub mod Item
+pub mod Statement
