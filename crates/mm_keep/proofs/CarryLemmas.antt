@@ -4,9 +4,9 @@ use native.Mathlib.Decide.{dec_lt}
 use Rattle.std.proofs.lemmas.Bool.{false≢true}
 use Rattle.std.proofs.lemmas.Option.{get_or_from_slice_get, slice_get-get_or, slice_get_within}
 use Rattle.mm_proof.specs.mm_frame.Language.Base.{BaseView, is_proof_at}
-use Rattle.mm_proof.specs.Language.DecodingLaws.{LabelsAreOwn}
+use Rattle.mm_proof.specs.mm_verdict.Language.DecodingLaws.{LabelsAreOwn}
 use Rattle.mm_proof.specs.Language.ViewLaws.{SameViewSameVerdict, SameViewSameCites}
-use Rattle.mm_proof.specs.Language.Work.{Judgement}
+use Rattle.mm_proof.specs.mm_verdict.Language.Work.{Judgement}
 use Rattle.mm_keep.specs.Code.KeptSession.{IsCheckedAt, AreChecked}
 use Rattle.mm_keep.specs.Code.Planned.{IsRunBy, CanCarry}
 use Rattle.mm_keep.specs.Language.Runs.{HasSameView}

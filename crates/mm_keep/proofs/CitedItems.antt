@@ -7,11 +7,11 @@ use Rattle.mm_proof.specs.mm_frame.Language.Base.{BaseView, AreSaid, said_at, is
 use Rattle.mm_proof.specs.mm_statement.Language.Item.{Kind, Axiom, Theorem, is_assertion, is_labelled}
 use Rattle.mm_proof.specs.mm_frame.Language.Laws.{HasOwnLabels}
 use Rattle.mm_proof.specs.mm_frame.Language.Resolving.{IsCarrier}
-use Rattle.mm_proof.specs.Language.CitingLaws.{CitesNameAssertions, CitesTellAssertions, IsCiteOf}
-use Rattle.mm_proof.specs.Language.BaseLabels.{setting_at}
-use Rattle.mm_proof.specs.Language.DecodingLaws.{CitesRise}
-use Rattle.mm_proof.specs.Language.VerdictAt.{cites_at, decoding_at}
-use Rattle.mm_proof.specs.Language.Work.{Judgement}
+use Rattle.mm_proof.specs.mm_verdict.Language.CitingLaws.{CitesNameAssertions, CitesTellAssertions, IsCiteOf}
+use Rattle.mm_proof.specs.mm_verdict.Language.BaseLabels.{setting_at}
+use Rattle.mm_proof.specs.mm_verdict.Language.DecodingLaws.{CitesRise}
+use Rattle.mm_proof.specs.mm_verdict.Language.VerdictAt.{cites_at, decoding_at}
+use Rattle.mm_proof.specs.mm_verdict.Language.Work.{Judgement}
 use Rattle.mm_keep.specs.Language.Citations.{CitesItem}
 use Rattle.mm_keep.specs.Language.Sessions.{IsAssertion}
 use Rattle.mm_keep.specs.Code.Cited.{AreRising, HasLabelAmong, IsAmongCited, MarksMore, IsMarked}

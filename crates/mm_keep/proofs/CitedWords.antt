@@ -7,7 +7,7 @@ use Rattle.std.proofs.lemmas.List.{drop-drop, get_or-set_same, get_or-set_other,
 use Rattle.std.proofs.lemmas.Option.{same_Some, none-some}
 use Rattle.mm_proof.specs.mm_frame.Language.Base.{BaseView}
 use Rattle.mm_proof.specs.mm_frame.Language.Resolving.{IsCarrier}
-use Rattle.mm_proof.specs.Language.DecodingLaws.{Rise}
+use Rattle.mm_proof.specs.mm_verdict.Language.DecodingLaws.{Rise}
 use Rattle.mm_keep.specs.Code.Cited.{AreRising, HasLabelAmong, IsAmongCited, IsMarked, MarksMore, passed_words}
 
 -- ---- words

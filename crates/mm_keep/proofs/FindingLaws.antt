@@ -10,11 +10,11 @@ use Rattle.mm_proof.specs.mm_frame.declared.FrameNumber.{FrameNumber}
 use Rattle.mm_proof.specs.mm_frame.Language.Base.{BaseView, said_at, fault_at, is_sound_at, is_proof_at}
 use Rattle.mm_proof.specs.mm_statement.Language.Item.{Kind, Axiom, Theorem, is_assertion, is_theorem, passed}
 use Rattle.mm_proof.specs.mm_statement.Language.Statement.{Says}
-use Rattle.mm_proof.specs.Language.ItemLaws.{HasVerdictAt, SpotsAreIn, TellsSpotIn, IsSpotIn}
-use Rattle.mm_proof.specs.Language.VerdictAt.{IsVerdictAt}
-use Rattle.mm_proof.specs.declared.Spot.{Spot}
-use Rattle.mm_proof.specs.declared.Verdict.{Verdict}
-use Rattle.mm_proof.specs.declared.Verdict.TheVariants as verdicts
+use Rattle.mm_proof.specs.mm_verdict.Language.ItemLaws.{HasVerdictAt, SpotsAreIn, TellsSpotIn, IsSpotIn}
+use Rattle.mm_proof.specs.mm_verdict.Language.VerdictAt.{IsVerdictAt}
+use Rattle.mm_proof.specs.mm_verdict.declared.Spot.{Spot}
+use Rattle.mm_proof.specs.mm_verdict.declared.Verdict.{Verdict}
+use Rattle.mm_proof.specs.mm_verdict.declared.Verdict.TheVariants as verdicts
 use Rattle.mm_keep.specs.declared.finding.At.{At}
 use Rattle.mm_keep.specs.declared.finding.FindingKind.TheVariants as kinds
 use Rattle.mm_keep.specs.Code.FoundKinds.{IsFoundAs, kind_of_verdict}

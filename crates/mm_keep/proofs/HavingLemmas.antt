@@ -15,9 +15,9 @@ use Rattle.mm_proof.specs.mm_statement.Language.Item.{Item, Kind, Axiom}
 use Rattle.mm_proof.specs.mm_frame.Language.Laws.{FilesHaveOneBase, HasOwnLabels}
 use Rattle.mm_proof.specs.mm_frame.Language.Resolving.{IsCarrier}
 use Rattle.mm_proof.specs.mm_statement.Language.Statement.{Says, item_of, kind_of}
-use Rattle.mm_proof.specs.Language.CitingLaws.{CitesNameAssertions, CitesTellAssertions, IsCiteOf}
-use Rattle.mm_proof.specs.Language.View.{view_at}
-use Rattle.mm_proof.specs.Language.VerdictAt.{cites_at}
+use Rattle.mm_proof.specs.mm_verdict.Language.CitingLaws.{CitesNameAssertions, CitesTellAssertions, IsCiteOf}
+use Rattle.mm_proof.specs.mm_verdict.Language.View.{view_at}
+use Rattle.mm_proof.specs.mm_verdict.Language.VerdictAt.{cites_at}
 use Rattle.mm_keep.specs.Language.Citations.{CitesItem, LeadsTo, none, step, IsAxiomOf}
 use Rattle.mm_keep.specs.Language.Laws.{FilesGiveItems, HasListOfRuns, HasListOf, HasListEach, LabelsAreDecided}
 use Rattle.mm_keep.specs.Language.Runs.{HasSameView, HadView, IsRun}

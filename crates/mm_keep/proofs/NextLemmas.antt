@@ -4,7 +4,7 @@ use Rattle.mm_proof.specs.mm_store.Language.FilesView.{FilesView}
 use Rattle.mm_proof.specs.mm_frame.Language.Base.{BaseView}
 use Rattle.mm_proof.specs.mm_frame.Language.Names.{AreDistinct, Begins}
 use Rattle.mm_proof.specs.mm_frame.declared.base.Base.{Base}
-use Rattle.mm_proof.specs.Language.ReadIn.{IsReadIn}
+use Rattle.mm_proof.specs.mm_verdict.Language.ReadIn.{IsReadIn}
 use Rattle.mm_proof.specs.mm_frame.Language.Older.{IsOlder}
 use Rattle.mm_keep.specs.Code.Next.{IsBuilt}
 use Rattle.mm_keep.specs.Code.Planned.{AreBothRead}

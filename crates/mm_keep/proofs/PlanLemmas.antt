@@ -8,10 +8,10 @@ use Rattle.mm_proof.specs.mm_statement.Language.Item.{Kind, Theorem, is_labelled
 use Rattle.mm_proof.specs.mm_frame.Language.Answering.{IsBaseBy}
 use Rattle.mm_proof.specs.mm_frame.declared.base.Base.{Base}
 use Rattle.mm_proof.specs.Language.BaseMarks.{ItemMark, MarksView, IsMark, mark_at}
-use Rattle.mm_proof.specs.Language.DecodingLaws.{LabelsAreOwn}
-use Rattle.mm_proof.specs.Language.View.{view_at, AreSameViews}
+use Rattle.mm_proof.specs.mm_verdict.Language.DecodingLaws.{LabelsAreOwn}
+use Rattle.mm_proof.specs.mm_verdict.Language.View.{view_at, AreSameViews}
 use Rattle.mm_proof.specs.Language.ViewLaws.{SameViewSameVerdict, SameViewSameCites}
-use Rattle.mm_proof.specs.Language.Work.{Judgement}
+use Rattle.mm_proof.specs.mm_verdict.Language.Work.{Judgement}
 use Rattle.mm_keep.specs.Code.KeptSession.{IsCheckedAt}
 use Rattle.mm_keep.specs.Code.Planned.{AreBothRead, AreMarksBy, HasItemBothRead, IsPlanned, CanCarry}
 use Rattle.mm_keep.specs.Language.Runs.{HasSameView}

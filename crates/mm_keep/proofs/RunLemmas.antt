@@ -10,8 +10,8 @@ use Rattle.std.proofs.lemmas.List.Quantifiers.{all_pairs_push}
 use Rattle.std.proofs.lemmas.List.Sums.{sum_by_push}
 use Rattle.std.proofs.lemmas.Option.{get_or_from_slice_get, slice_get-get_or, slice_get_within, same_Some}
 use Rattle.mm_proof.specs.mm_frame.Language.Base.{BaseView, is_proof_at}
-use Rattle.mm_proof.specs.Language.VerdictAt.{AreDoneAt}
-use Rattle.mm_proof.specs.Language.Work.{Recorded, Judgement}
+use Rattle.mm_proof.specs.mm_verdict.Language.VerdictAt.{AreDoneAt}
+use Rattle.mm_proof.specs.mm_verdict.Language.Work.{Recorded, Judgement}
 use Rattle.mm_keep.specs.Language.Runs.{AreThose, AreRuns, AreStepsOf, HadView, IsRun}
 use Rattle.mm_keep.specs.Code.KeptSession.{AreChecked}
 use Rattle.mm_keep.specs.Code.Planned.{IsPlanned, ArePlanned, IsRunBy, AreRunBy, RunsBy, AreRecorded, RecordsRun, RecordsIf}

@@ -16,8 +16,8 @@ use Rattle.mm_proof.specs.mm_store.Language.FileFacts.{CanBeRead, StandsIn, IsBy
 use Rattle.mm_proof.specs.mm_text.Language.Unit.{Token, tokens_of}
 use Rattle.mm_proof.specs.mm_statement.Language.Item.{Kind, Item}
 use Rattle.mm_proof.specs.mm_statement.Language.Statement.{Says, kind_of, is_plain, token_names, symbols_from, symbols_in, proof_in, item_of}
-use Rattle.mm_proof.specs.Language.ItemLaws.{IsSpotIn}
-use Rattle.mm_proof.specs.declared.Spot.{Spot}
+use Rattle.mm_proof.specs.mm_verdict.Language.ItemLaws.{IsSpotIn}
+use Rattle.mm_proof.specs.mm_verdict.declared.Spot.{Spot}
 use Rattle.mm_keep.specs.declared.finding.At.{At}
 use Rattle.mm_keep.specs.Language.WordPlaces.{start_of, spelled, proof_word}
 use Rattle.mm_keep.specs.Code.OfFiles.{IsPlaceIn}

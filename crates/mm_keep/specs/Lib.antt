@@ -1,4 +1,5 @@
 pub use Rattle.mm_proof.specs as mm_proof
+pub use Rattle.mm_proof.specs.mm_verdict
 pub use Rattle.mm_proof.specs.mm_frame
 pub use Rattle.mm_proof.specs.mm_statement
 pub use Rattle.mm_proof.specs.mm_store

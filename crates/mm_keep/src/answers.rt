@@ -7,7 +7,7 @@ ghost use Rattle.mm_proof.specs.mm_frame.Language.Answering.{IsBase};
 ghost use Rattle.mm_proof.specs.mm_frame.Language.Base.{BaseView, said_at, is_sound_at, is_proof_at};
 ghost use Rattle.mm_proof.specs.mm_statement.Language.Item.{is_theorem};
 ghost use Rattle.mm_proof.specs.mm_statement.Language.Statement as spoken;
-ghost use Rattle.mm_proof.specs.Language.VerdictAt.{IsVerdictAt};
+ghost use Rattle.mm_proof.specs.mm_verdict.Language.VerdictAt.{IsVerdictAt};
 ghost use Rattle.mm_keep.specs.Language.Findings.{told, counted};
 ghost use Rattle.mm_keep.specs.Code.FoundKinds.{IsFoundAs};
 ghost use Rattle.mm_keep.specs.Code.KeptSession.{AreChecked};

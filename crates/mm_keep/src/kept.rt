@@ -72,7 +72,7 @@ pub struct KeptCheck {
 }
 
 impl Model for KeptCheck {
-    ghost use Rattle.mm_proof.specs.Language.Work.{Judgement};
+    ghost use Rattle.mm_proof.specs.mm_verdict.Language.Work.{Judgement};
 
     ghost Value = { Judgement };
 
@@ -135,7 +135,7 @@ pub struct Checks {
 
 impl Model for Checks {
     ghost use Rattle.std.specs.Prelude.{List, Option};
-    ghost use Rattle.mm_proof.specs.Language.Work.{Judgement};
+    ghost use Rattle.mm_proof.specs.mm_verdict.Language.Work.{Judgement};
 
     ghost Value = { List (Option Judgement) };
 

@@ -3,7 +3,7 @@
 ghost use Rattle.std.specs.Prelude.{◌≡◌, ◌<◌, ◌+◌, ◌^◌, ℕ, true, Some, None, IfOk, OnOk, is_some, length, slice_index_or, slice_set};
 ghost use Rattle.mm_proof.specs.mm_frame.Language.Base.{BaseView};
 ghost use Rattle.mm_proof.specs.mm_frame.Language.Answering.{IsBase};
-ghost use Rattle.mm_proof.specs.Language.ReadIn.{IsReadIn};
+ghost use Rattle.mm_proof.specs.mm_verdict.Language.ReadIn.{IsReadIn};
 ghost use Rattle.mm_keep.specs.Code.KeptPlan.{number_planned};
 ghost use Rattle.mm_keep.specs.Code.KeptSession.{AreChecked, IsCheckedAt};
 ghost use Rattle.mm_keep.specs.Code.Planned.{AreBothRead, AreMarksBy, ArePlanned, AreRecorded, AreRunBy, CanBeCarried, CanCarry};

@@ -1,4 +1,4 @@
-//! How long two bases are in step: their labelled items mean the same, one by one, from the first on.
+//! The ordinals of labelled items, by which two bases are found to be in step.
 
 ghost use Rattle.std.specs.Prelude.{◌≡◌, ◌<◌, ◌≤◌, true, suc, IfOk, IsTrue, length, slice_index};
 ghost use Rattle.mm_frame.specs.Language.Base.{BaseView, is_shown_at};

@@ -10,15 +10,14 @@ ghost use Rattle.mm_frame.specs.Language.Resolving.{IsCarrier, Resolves};
 ghost use Rattle.mm_frame.specs.Language.Answering.{IsBase, IsBaseBy};
 ghost use Rattle.mm_proof.specs.Code.KeptMarks.{AreTheorems, IsOneCarrier, IsShownItem, SharePairs, ShareHypotheses, ShareProof, is_label_word, stands_for};
 ghost use Rattle.mm_proof.specs.Code.TwoTheorems.{AreMarked, AreUnnamed, CanBeCompared, IsUnnamed, OfTwo, OfTwoIn, MeansSame, TellsLabels, TellsShared};
-ghost use Rattle.mm_proof.specs.Language.ReadIn.{IsReadIn, HasTheorem};
+ghost use Rattle.mm_verdict.specs.Language.ReadIn.{IsReadIn, HasTheorem};
 ghost use Rattle.mm_proof.specs.Language.BaseMarks.{AreMarks, mark_at};
-ghost use Rattle.mm_proof.specs.Language.Decoding.{is_close as is_closing};
-ghost use Rattle.mm_proof.specs.Language.SameProof.{AreSameMeaning, labels_named};
-ghost use Rattle.mm_proof.specs.Language.View.{view_at, AreSameViews};
+ghost use Rattle.mm_verdict.specs.Language.Decoding.{is_close as is_closing};
+ghost use Rattle.mm_verdict.specs.Language.SameProof.{AreSameMeaning, labels_named};
+ghost use Rattle.mm_verdict.specs.Language.View.{view_at, AreSameViews};
 
-use crate::labels::is_close;
 use crate::marks::Marks;
-use crate::reading::{is_open, is_unknown};
+use crate::words::{is_close, is_open, is_unknown};
 use mm_frame::{
     Base, Files, Item, Names, ProofWords, Resolved, has_bytes, has_own_labels, kept_next,
     labels_mean, same_active_pairs, same_but_pairs, same_expression, same_frame, same_proof,

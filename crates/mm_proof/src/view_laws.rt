@@ -2,9 +2,9 @@
 
 ghost use Rattle.mm_proof.specs.Language.ViewLaws.{SameViewSameVerdict, SameViewSameCites};
 
-use crate::decoding_laws::{same_cites_same, same_decodes_same};
-use crate::item_laws::mandatory_labels_mean;
-use crate::verdict_laws::same_proof_same_verdict;
+use mm_verdict::{
+    mandatory_labels_mean, same_cites_same, same_decodes_same, same_proof_same_verdict,
+};
 
 /// Two theorems with equal views have equal verdicts, spots included, in any two databases.
 pub fn same_view_same_verdict()

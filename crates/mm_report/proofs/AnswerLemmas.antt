@@ -6,12 +6,12 @@ use Rattle.mm_keep.specs.mm_frame.Language.Base.{BaseView, IsOfFiles, told_fault
 use Rattle.mm_keep.specs.mm_statement.Language.Item.{Kind, Axiom, Theorem, Item, is_assertion, is_theorem, item_at}
 use Rattle.mm_keep.specs.mm_frame.Language.Sound.{sound_items}
 use Rattle.mm_keep.specs.mm_frame.declared.FrameNumber.{FrameNumber}
-use Rattle.mm_keep.specs.mm_proof.Language.VerdictAt.{IsVerdictAt}
-use Rattle.mm_keep.specs.mm_proof.declared.ProofNumber.{ProofNumber}
+use Rattle.mm_keep.specs.mm_verdict.Language.VerdictAt.{IsVerdictAt}
+use Rattle.mm_keep.specs.mm_verdict.declared.ProofNumber.{ProofNumber}
 use Rattle.mm_keep.specs.declared.finding.At.{At}
-use Rattle.mm_keep.specs.mm_proof.declared.Spot.{Spot}
-use Rattle.mm_keep.specs.mm_proof.declared.Verdict.{Verdict}
-use Rattle.mm_keep.specs.mm_proof.declared.Verdict.TheVariants as verdicts
+use Rattle.mm_keep.specs.mm_verdict.declared.Spot.{Spot}
+use Rattle.mm_keep.specs.mm_verdict.declared.Verdict.{Verdict}
+use Rattle.mm_keep.specs.mm_verdict.declared.Verdict.TheVariants as verdicts
 use Rattle.mm_keep.specs.Language.Sessions.{SessionView}
 use Rattle.mm_keep.specs.Language.Told.{Shown, Told, Quiet, AnAxiom, Proved, Incomplete, Wrong, Fault, IsRightlyTold, IsFaultOf, HasProofVerdict, HasVerdictShown, AreRightlyTold}
 use Rattle.mm_report.specs.Language.Laws.{OneReport}

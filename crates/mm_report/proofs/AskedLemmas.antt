@@ -5,7 +5,7 @@ use Rattle.std.specs.Result.{IsErrAnd}
 use Rattle.mm_keep.specs.declared.answers.KeepError.{KeepError}
 use Rattle.mm_keep.specs.declared.answers.KeepError.TheVariants as keep
 use Rattle.std.specs.Io.KnownBytes.{Appends, Keeps}
-use Rattle.mm_keep.specs.mm_proof.Language.Work.{Recorded}
+use Rattle.mm_keep.specs.mm_verdict.Language.Work.{Recorded}
 use Rattle.mm_keep.specs.mm_frame.Language.Base.{BaseView, IsOfFiles}
 use Rattle.std.specs.Option.{option_map}
 use Rattle.std.proofs.lemmas.List.{length-map}

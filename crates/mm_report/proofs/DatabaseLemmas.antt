@@ -14,8 +14,8 @@ use Rattle.mm_keep.specs.mm_store.Language.Keyless.{keyless_item}
 use Rattle.mm_keep.specs.mm_frame.Language.Base.{BaseView, IsOfFiles, said_at}
 use Rattle.mm_keep.specs.mm_statement.Language.Item.{item_at}
 use Rattle.mm_keep.specs.mm_frame.Language.Laws.{AreAlikeBases}
-use Rattle.mm_keep.specs.mm_proof.Language.ItemLaws.{HasOneVerdictAt}
-use Rattle.mm_keep.specs.mm_proof.declared.Spot.{Spot}
+use Rattle.mm_keep.specs.mm_verdict.Language.ItemLaws.{HasOneVerdictAt}
+use Rattle.mm_keep.specs.mm_verdict.declared.Spot.{Spot}
 use Rattle.mm_keep.specs.declared.finding.At.{At}
 use Rattle.mm_keep.specs.Language.WordPlaces.{start_of, spelled, IsByteOfWord, HasPlace, IsPlaceOfSpot, proof_word}
 use Rattle.mm_keep.specs.Language.Told.{Shown, IsShown}

@@ -2,7 +2,7 @@
 use Rattle.std.proofs.Common.{◌≡◌, ℕ, List, [], ◌∷◌, ◌++◌, length, refl, sym, ◌∙◌, ap, append_assoc, append-nil, codes, decimal, slice_index_or}
 use Rattle.mm_keep.specs.mm_statement.Language.Item.{Item}
 use Rattle.mm_keep.specs.mm_frame.declared.FrameNumber.{FrameNumber}
-use Rattle.mm_keep.specs.mm_proof.declared.ProofNumber.{ProofNumber}
+use Rattle.mm_keep.specs.mm_verdict.declared.ProofNumber.{ProofNumber}
 use Rattle.mm_keep.specs.declared.finding.At.{At}
 use Rattle.mm_keep.specs.declared.tally.Tally.{Tally}
 use Rattle.mm_keep.specs.Language.Findings.{counted}

@@ -23,8 +23,8 @@ use std::marker::Model;
 
 /// A statement or another item of the files: its kind, its label, its symbols, and the words of its proof.
 ///
-/// The words are slices of the text of the item's piece; nothing is copied. The symbols are read once and kept, or else
-/// when they are asked for; so are the words of the proof.
+/// The words are slices of the text of the item's piece; nothing is copied. The symbols are read once and kept, or else read
+/// when they are asked for. The words of the proof are never kept.
 #[derive(Drop)]
 pub struct Statement<'a> {
     kind: ItemKind,

@@ -3,7 +3,7 @@
 ghost use Rattle.std.specs.Prelude.{◌≡◌, ◌<◌, true, IfSome, length};
 ghost use Rattle.mm_proof.specs.mm_frame.Language.Answering.{IsBase};
 ghost use Rattle.mm_proof.specs.mm_frame.Language.Base.{BaseView, is_proof_at};
-ghost use Rattle.mm_proof.specs.Language.ReadIn.{IsReadIn};
+ghost use Rattle.mm_proof.specs.mm_verdict.Language.ReadIn.{IsReadIn};
 
 use mm_proof::{Base, Files, Names, same_view};
 use std::alloc::Global;

@@ -9,7 +9,7 @@ use Rattle.mm_proof.specs.mm_store.Language.FileFacts.{parked_in}
 use Rattle.mm_proof.specs.mm_store.Language.FilesView.{File, FilesView}
 use Rattle.mm_proof.specs.mm_frame.Language.Base.{BaseView, IsOfFiles}
 use Rattle.mm_proof.specs.mm_frame.declared.base.Base.{Base}
-use Rattle.mm_proof.specs.Language.Work.{Judgement}
+use Rattle.mm_proof.specs.mm_verdict.Language.Work.{Judgement}
 use Rattle.mm_keep.specs.Code.KeptSession.{AreChecked}
 use Rattle.mm_keep.specs.Code.Next.{KeepsOrRuns, HasTop, IsBuilt}
 use Rattle.mm_keep.specs.Language.Sessions.{SessionView}

@@ -3,8 +3,8 @@ use Rattle.std.specs.Prelude.{◌≡◌, ℕ, true, false, Option, Some, None, L
 use Rattle.mm_proof.specs.mm_store.Language.FileFacts.{parked_in}
 use Rattle.mm_proof.specs.mm_frame.Language.Base.{BaseView, IsOfFiles, is_proof_at}
 use Rattle.mm_proof.specs.mm_frame.Language.Answering.{IsBaseBy, StandsLater}
-use Rattle.mm_proof.specs.Language.VerdictAt.{IsVerdictAt, cites_at}
-use Rattle.mm_proof.specs.Language.Work.{Judgement}
+use Rattle.mm_proof.specs.mm_verdict.Language.VerdictAt.{IsVerdictAt, cites_at}
+use Rattle.mm_proof.specs.mm_verdict.Language.Work.{Judgement}
 use Rattle.mm_keep.specs.declared.session.Session.TheInside.{Inside}
 use Rattle.mm_keep.specs.Language.Sessions.{SessionView}
 

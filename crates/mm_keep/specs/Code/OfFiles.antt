@@ -5,12 +5,12 @@ use Rattle.mm_proof.specs.mm_store.Language.FilesView.{FilesView}
 use Rattle.mm_proof.specs.mm_store.Language.FileFacts.{CanBeRead, StandsIn}
 use Rattle.mm_proof.specs.mm_frame.Language.Base.{BaseView, said_at, is_proof_at}
 use Rattle.mm_proof.specs.mm_frame.declared.base.Base.{Base}
-use Rattle.mm_proof.specs.Language.ReadIn.{IsReadIn}
-use Rattle.mm_proof.specs.Language.ItemLaws.{IsSpotIn}
-use Rattle.mm_proof.specs.Language.VerdictAt.{IsVerdictAt}
-use Rattle.mm_proof.specs.Language.Work.{Judgement}
-use Rattle.mm_proof.specs.declared.Spot.{Spot}
-use Rattle.mm_proof.specs.declared.Verdict.{Verdict}
+use Rattle.mm_proof.specs.mm_verdict.Language.ReadIn.{IsReadIn}
+use Rattle.mm_proof.specs.mm_verdict.Language.ItemLaws.{IsSpotIn}
+use Rattle.mm_proof.specs.mm_verdict.Language.VerdictAt.{IsVerdictAt}
+use Rattle.mm_proof.specs.mm_verdict.Language.Work.{Judgement}
+use Rattle.mm_proof.specs.mm_verdict.declared.Spot.{Spot}
+use Rattle.mm_proof.specs.mm_verdict.declared.Verdict.{Verdict}
 use Rattle.mm_keep.specs.declared.finding.At.{At}
 use Rattle.mm_keep.specs.Code.KeptSession.{AreChecked}
 use Rattle.mm_keep.specs.Language.WordPlaces.{start_of, HasPlace}

@@ -5,9 +5,9 @@ use Rattle.mm_proof.specs.mm_frame.Language.Base.{BaseView, AreSaid, is_proof_at
 use Rattle.mm_proof.specs.mm_frame.declared.base.Base.{Base}
 use Rattle.mm_proof.specs.mm_frame.Language.Answering.{IsBaseBy}
 use Rattle.mm_proof.specs.Language.BaseMarks.{MarksView, AreMarks}
-use Rattle.mm_proof.specs.Language.VerdictAt.{AreDoneAt}
-use Rattle.mm_proof.specs.Language.ReadIn.{IsReadIn}
-use Rattle.mm_proof.specs.Language.Work.{Recorded, Judgement}
+use Rattle.mm_proof.specs.mm_verdict.Language.VerdictAt.{AreDoneAt}
+use Rattle.mm_proof.specs.mm_verdict.Language.ReadIn.{IsReadIn}
+use Rattle.mm_proof.specs.mm_verdict.Language.Work.{Recorded, Judgement}
 use Rattle.mm_keep.specs.Code.KeptSession.{IsCheckedAt, AreChecked}
 use Rattle.mm_keep.specs.Language.Runs.{HasSameView, HadView, AreThose, AreStepsOf}
 

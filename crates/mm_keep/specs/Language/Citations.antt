@@ -1,7 +1,7 @@
 -- What the assertions of a database cite: directly, and by chains of citations.
 use Rattle.std.specs.Prelude.{◌≡◌, ℕ, true}
 use Rattle.mm_proof.specs.mm_frame.Language.Base.{BaseView, is_proof_at}
-use Rattle.mm_proof.specs.Language.CitingLaws.{NamesAssertionAt}
+use Rattle.mm_proof.specs.mm_verdict.Language.CitingLaws.{NamesAssertionAt}
 use Rattle.mm_keep.specs.Language.Told.{IsAxiom}
 
 -- item i cites item k: it is a sound `$p`, and a decoded step of its proof names a label that means the assertion k there

@@ -3,8 +3,8 @@ use Rattle.std.specs.Prelude.{◌≡◌, ◌↔◌, ◌<◌, ℕ, true, List, Co
 use Rattle.std.specs.List.{AllZip}
 use Rattle.mm_proof.specs.mm_store.Language.FilesView.{FilesView}
 use Rattle.mm_proof.specs.mm_frame.Language.Base.{BaseView, IsOfFiles, said_at, is_proof_at}
-use Rattle.mm_proof.specs.Language.View.{view_at, AreSameViews}
-use Rattle.mm_proof.specs.Language.VerdictAt.{AreDoneAt}
+use Rattle.mm_proof.specs.mm_verdict.Language.View.{view_at, AreSameViews}
+use Rattle.mm_proof.specs.mm_verdict.Language.VerdictAt.{AreDoneAt}
 
 -- these are the numbers below the count of which this holds, from the lowest up
 pub record AreThose (P : ℕ → Type 0) (count : ℕ) (numbers : List ℕ) : Type 0 where

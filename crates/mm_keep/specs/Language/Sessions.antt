@@ -2,7 +2,7 @@
 use Rattle.std.specs.Prelude.{◌≡◌, ◌<◌, ℕ, true, Option, Some, List, length}
 use Rattle.mm_proof.specs.mm_store.Language.FilesView.{FilesView}
 use Rattle.mm_proof.specs.mm_frame.Language.Base.{BaseView, IsOfFiles, said_at, is_framed_at, is_proof_at}
-use Rattle.mm_proof.specs.Language.Work.{Recorded}
+use Rattle.mm_proof.specs.mm_verdict.Language.Work.{Recorded}
 use Rattle.mm_keep.specs.Language.Citations.{CitesItem, IsAxiomOf}
 use Rattle.mm_keep.specs.Language.Runs.{AreThose, AreRunsOf, AreStepsOf}
 use Rattle.mm_keep.specs.Language.Told.{Told, IsRightlyTold, AreRightlyTold, Counts, counts}

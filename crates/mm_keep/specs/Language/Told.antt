@@ -6,11 +6,11 @@ use Rattle.mm_proof.specs.mm_store.Language.FilesView.{FilesView}
 use Rattle.mm_proof.specs.mm_frame.Language.Base.{BaseView, fault_at, is_sound_at, is_proof_at, said_at}
 use Rattle.mm_proof.specs.mm_statement.Language.Item.{Axiom, is_assertion}
 use Rattle.mm_proof.specs.mm_frame.declared.FrameNumber.{FrameNumber}
-use Rattle.mm_proof.specs.Language.VerdictAt.{IsVerdictAt}
-use Rattle.mm_proof.specs.declared.Spot.{Spot}
-use Rattle.mm_proof.specs.declared.Verdict.{Verdict}
-use Rattle.mm_proof.specs.declared.Verdict.TheVariants as verdicts
-use Rattle.mm_proof.specs.declared.ProofNumber.{ProofNumber}
+use Rattle.mm_proof.specs.mm_verdict.Language.VerdictAt.{IsVerdictAt}
+use Rattle.mm_proof.specs.mm_verdict.declared.Spot.{Spot}
+use Rattle.mm_proof.specs.mm_verdict.declared.Verdict.{Verdict}
+use Rattle.mm_proof.specs.mm_verdict.declared.Verdict.TheVariants as verdicts
+use Rattle.mm_proof.specs.mm_verdict.declared.ProofNumber.{ProofNumber}
 use Rattle.mm_keep.specs.declared.finding.At.{At}
 use Rattle.mm_keep.specs.Language.WordPlaces.{spelled, HasPlace, IsPlaceOfSpot}
 

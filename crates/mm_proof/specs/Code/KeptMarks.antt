@@ -9,9 +9,9 @@ use Rattle.mm_frame.specs.Language.Answering.{IsBaseBy}
 use Rattle.mm_frame.specs.declared.base.Base.{Base}
 use Rattle.mm_frame.specs.declared.base.Resolved as answer
 use Rattle.mm_frame.specs.declared.base.Resolved.TheVariants as answers
-use Rattle.mm_proof.specs.Language.BaseLabels.{setting_at}
+use Rattle.mm_verdict.specs.Language.BaseLabels.{setting_at}
 use Rattle.mm_proof.specs.Language.BaseMarks.{ItemMark, MarksView, AreMarks, IsMark, KeepsLabels, mark_at}
-use Rattle.mm_proof.specs.Language.SameProof.{IsSameLabel, labels_named}
+use Rattle.mm_verdict.specs.Language.SameProof.{IsSameLabel, labels_named}
 use Rattle.mm_proof.specs.declared.marks.Compared.{Compared}
 use Rattle.mm_proof.specs.declared.marks.Mark as code
 use Rattle.mm_proof.specs.declared.marks.Marks.TheInside.{Inside}

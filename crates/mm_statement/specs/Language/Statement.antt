@@ -13,7 +13,7 @@ use Rattle.mm_store.specs.Language.FileFacts.{CanBeRead}
 use Rattle.mm_statement.specs.Language.Item.{Kind, Constants, Variables, Disjoint, Floating, Essential, Axiom, Theorem, BlockStart, BlockEnd, Missing, Item}
 use Rattle.mm_statement.specs.Language.Item.{is_labelled}
 
--- the kind of an item of the files, as frames see it
+-- the kind of an item of the files, as the definitions name it
 abbrev pub kind_of : ItemKind → Kind
 kind_of items.Constants = Constants
 kind_of items.Variables = Variables

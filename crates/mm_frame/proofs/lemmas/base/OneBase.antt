@@ -61,7 +61,7 @@ same_piece a b x y alike =
     (ap (λ (f : File). f.pieces) file) (ap (λ (z : store.Item). z.piece) alike.item) s.is_key t.is_key
 
 -- the text under the key of an item is the one that the item is read in
-pub read_under : (files : FilesView) (item : store.Item) → (r : CanBeRead files item) → r.text ≡ text_under files.pieces item.key.at
+read_under : (files : FilesView) (item : store.Item) → (r : CanBeRead files item) → r.text ≡ text_under files.pieces item.key.at
 read_under files item r = r.live.is_text ∙ sym (ap text_in r.live.held)
 
 -- the bytes of an item

@@ -2,7 +2,7 @@ use Rattle.std.proofs.Common.{◌<◌, Some, None, length, sym, ap, ◌∙◌, s
 use Rattle.std.specs.Option.{option_map}
 use Rattle.mm_proof.specs.mm_frame.Language.Base.{said_at, fault_at, is_sound_at}
 use Rattle.mm_proof.specs.mm_statement.Language.Item.{is_theorem}
-use Rattle.mm_proof.specs.Language.VerdictAt.{IsVerdictAt}
+use Rattle.mm_proof.specs.mm_verdict.Language.VerdictAt.{IsVerdictAt}
 use Rattle.mm_keep.proofs.CitedItems.{checked_at}
 use Rattle.mm_keep.proofs.ToldLemmas.{read_at, stands_at}
 use Rattle.mm_keep.proofs.FoundLemmas.{sound_none, no_theorem}

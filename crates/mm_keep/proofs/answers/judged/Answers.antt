@@ -1,6 +1,6 @@
 use Rattle.std.proofs.Common.{◌≡◌, subst}
-use Rattle.mm_proof.specs.Language.VerdictAt.{IsVerdictAt}
-use Rattle.mm_proof.specs.declared.Verdict.TheVariants.{Incomplete, Wrong}
+use Rattle.mm_proof.specs.mm_verdict.Language.VerdictAt.{IsVerdictAt}
+use Rattle.mm_proof.specs.mm_verdict.declared.Verdict.TheVariants.{Incomplete, Wrong}
 use Rattle.mm_keep.proofs.answers.judged.Goals as goal
 
 pub place_of_spot-requires : goal.place_of_spot-requires

@@ -3,7 +3,7 @@ use Rattle.std.specs.Option.{option_map}
 use Rattle.mm_proof.specs.mm_frame.declared.judge.FrameFault.{FrameFault}
 use Rattle.mm_proof.specs.mm_frame.Language.Base.{said_at, fault_at, is_sound_at}
 use Rattle.mm_proof.specs.mm_statement.Language.Item.{is_theorem}
-use Rattle.mm_proof.specs.Language.VerdictAt.{IsVerdictAt}
+use Rattle.mm_proof.specs.mm_verdict.Language.VerdictAt.{IsVerdictAt}
 use Rattle.mm_keep.specs.Code.FoundKinds.{IsFoundAs}
 use Rattle.mm_keep.proofs.CitedItems.{checked_at}
 use Rattle.mm_keep.proofs.FindingLaws.{fault_told, item_at, verdict_told}

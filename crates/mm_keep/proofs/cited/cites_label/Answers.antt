@@ -2,7 +2,7 @@ use Rattle.std.proofs.Common.{◌≡◌, ◌<◌, ℕ, Some, None, List, length,
 use Rattle.std.proofs.lemmas.Bool.{false≢true}
 use Rattle.std.specs.Option.{option_map}
 use Rattle.mm_proof.specs.mm_frame.Language.Base.{said_at}
-use Rattle.mm_proof.specs.Language.VerdictAt.{cites_at}
+use Rattle.mm_proof.specs.mm_verdict.Language.VerdictAt.{cites_at}
 use Rattle.mm_keep.specs.Code.Cited.{IsAmongCited}
 use Rattle.mm_keep.proofs.CitedItems.{checked_at, cites_rising, label_cited, none_cited}
 use Rattle.mm_keep.proofs.ToldLemmas.{read_at, says_at}

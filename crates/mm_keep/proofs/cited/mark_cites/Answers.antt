@@ -1,7 +1,7 @@
 use Rattle.std.proofs.Common.{◌≡◌, ◌<◌, ℕ, Some, None, List, length, sym, ap, ◌∙◌, subst₂, arith}
 use Rattle.std.specs.Option.{option_map}
 use Rattle.mm_proof.specs.mm_frame.Language.Base.{said_at}
-use Rattle.mm_proof.specs.Language.VerdictAt.{cites_at}
+use Rattle.mm_proof.specs.mm_verdict.Language.VerdictAt.{cites_at}
 use Rattle.mm_keep.specs.Language.Citations.{CitesItem}
 use Rattle.mm_keep.specs.Code.Cited.{HasLabelAmong, MarksMore}
 use Rattle.mm_keep.proofs.CitedItems.{among_earlier, checked_at, cites_rising, marks_cited, none_cited}

@@ -1,7 +1,7 @@
 use Rattle.std.proofs.Common.{get_or, arith}
 use Rattle.std.proofs.lemmas.Option.{slice_get-get_or}
 use Rattle.mm_frame.specs.Language.Base.{hypothesis_at}
-use Rattle.mm_proof.proofs.lemmas.views.KeptMarkLemmas.{same_more, same_whole}
+use Rattle.mm_proof.proofs.KeptMarkLemmas.{same_more, same_whole}
 use Rattle.mm_proof.proofs.marks.are_marked.Goals as goal
 
 pub loop-k-init : goal.loop-k-init

@@ -1,7 +1,7 @@
 use Rattle.mm_frame.specs.Language.Base.{hypothesis_at}
 use Rattle.mm_frame.specs.declared.base.Base.{Base}
 use Rattle.mm_proof.specs.Code.KeptMarks.{OfBases, AreHypothesisMarks}
-use Rattle.mm_proof.proofs.lemmas.views.KeptMarkLemmas.{AreSameTo}
+use Rattle.mm_proof.proofs.KeptMarkLemmas.{AreSameTo}
 use Rattle.mm_proof.proofs.marks.are_marked.Given as goal
 
 abbrev pub invariant-loop-k : goal.invariant-loop-k

@@ -3,7 +3,7 @@ use Rattle.std.proofs.lemmas.Option.{none-some, same_Some}
 use Rattle.mm_frame.specs.Language.Frame.{Mandatory}
 use Rattle.mm_proof.specs.Code.InStep.{MeanOne}
 use Rattle.mm_proof.specs.Code.KeptMarks.{kept_mark}
-use Rattle.mm_proof.proofs.lemmas.views.InStepLemmas.{frame_kept}
+use Rattle.mm_proof.proofs.InStepLemmas.{frame_kept}
 use Rattle.mm_proof.proofs.marks.is_alike.Goals as goal
 
 pub returns-then-mark : goal.returns-then-mark

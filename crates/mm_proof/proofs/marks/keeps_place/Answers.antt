@@ -1,5 +1,5 @@
 use Rattle.std.proofs.Common.{sym, ◌∙◌}
-use Rattle.mm_proof.proofs.lemmas.views.InStepLemmas.{same_level}
+use Rattle.mm_proof.proofs.InStepLemmas.{same_level}
 use Rattle.mm_proof.proofs.marks.keeps_place.Goals as goal
 
 pub returns-in-Some : goal.returns-in-Some

@@ -3,7 +3,7 @@ use Rattle.std.proofs.lemmas.Bool.{false≢true}
 use Rattle.std.proofs.lemmas.Option.{same_Some}
 use Rattle.mm_proof.specs.Language.BaseMarks.{IsMark}
 use Rattle.mm_proof.specs.Code.KeptMarks.{IsOneHypothesis}
-use Rattle.mm_proof.proofs.lemmas.views.KeptMarkLemmas.{nothing_kept, some_kept}
+use Rattle.mm_proof.proofs.KeptMarkLemmas.{nothing_kept, some_kept}
 use Rattle.mm_proof.proofs.marks.mark_of.Goals as goal
 
 pub returns-in_default-clause-mark : goal.returns-in_default-clause-mark

@@ -1,6 +1,6 @@
 use Rattle.mm_frame.specs.Language.Base.{before}
 use Rattle.mm_frame.specs.Language.Framing.{active_pairs}
-use Rattle.mm_proof.proofs.lemmas.views.KeptMarkLemmas.{told_again}
+use Rattle.mm_proof.proofs.KeptMarkLemmas.{told_again}
 use Rattle.mm_proof.proofs.marks.same_pairs.Goals as goal
 
 pub returns-in-Some : goal.returns-in-Some

@@ -1,5 +1,5 @@
 use Rattle.std.proofs.Common.{Some}
-use Rattle.mm_proof.proofs.lemmas.views.InStepLemmas.{same_level}
+use Rattle.mm_proof.proofs.InStepLemmas.{same_level}
 use Rattle.mm_proof.proofs.ordinals.end_alike.Goals as goal
 
 pub returns-in-Some-Some : goal.returns-in-Some-Some

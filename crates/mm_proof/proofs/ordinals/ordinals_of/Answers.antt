@@ -2,7 +2,7 @@ use Rattle.std.proofs.Common.{◌≡◌, ◌+◌, ℕ, suc, List, length, sym, �
 use Rattle.mm_frame.specs.Language.Base.{BaseView}
 use Rattle.mm_frame.specs.Language.Answering.{IsBase}
 use Rattle.mm_proof.specs.Code.InStep.{AreOrdinals}
-use Rattle.mm_proof.proofs.lemmas.views.InStepLemmas.{ordinals_more, ordinal_shown, ordinal_hidden}
+use Rattle.mm_proof.proofs.InStepLemmas.{ordinals_more, ordinal_shown, ordinal_hidden}
 use Rattle.mm_proof.proofs.ordinals.ordinals_of.Goals.{then-is_labelled, else-is_labelled}
 use Rattle.mm_proof.proofs.ordinals.ordinals_of.Goals as goal
 

@@ -1,5 +1,5 @@
 use Rattle.std.proofs.Common.{refl}
-use Rattle.mm_proof.proofs.lemmas.views.ViewLemmas.{shared_view, view_proof}
+use Rattle.mm_proof.proofs.ViewLemmas.{shared_view, view_proof}
 use Rattle.mm_proof.proofs.view.have_same_view.Goals as goal
 
 pub returns-then-same_pairs : goal.returns-then-same_pairs

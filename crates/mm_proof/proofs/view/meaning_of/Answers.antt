@@ -1,4 +1,4 @@
-use Rattle.mm_proof.proofs.lemmas.views.MeaningLemmas.{none_means}
+use Rattle.mm_proof.proofs.MeaningLemmas.{none_means}
 use Rattle.mm_proof.proofs.view.meaning_of.Goals as goal
 
 pub returns-in-None : goal.returns-in-None

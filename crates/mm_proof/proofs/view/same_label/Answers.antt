@@ -1,4 +1,4 @@
-use Rattle.mm_proof.proofs.lemmas.views.MeaningLemmas.{means_same}
+use Rattle.mm_proof.proofs.MeaningLemmas.{means_same}
 use Rattle.mm_proof.proofs.view.same_label.Goals as goal
 
 pub returns-in-None : goal.returns-in-None

@@ -1,4 +1,4 @@
-use Rattle.mm_proof.proofs.lemmas.views.MeaningLemmas.{frames_marked, means_same}
+use Rattle.mm_proof.proofs.MeaningLemmas.{frames_marked, means_same}
 use Rattle.mm_proof.proofs.view.same_marked.Goals as goal
 
 pub returns-in-Assertion-Assertion : goal.returns-in-Assertion-Assertion

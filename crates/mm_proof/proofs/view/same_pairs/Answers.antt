@@ -1,4 +1,4 @@
-use Rattle.mm_proof.proofs.lemmas.views.MeaningLemmas.{pairs_marked}
+use Rattle.mm_proof.proofs.MeaningLemmas.{pairs_marked}
 use Rattle.mm_proof.proofs.view.same_pairs.Goals as goal
 
 pub returns-in-Some : goal.returns-in-Some

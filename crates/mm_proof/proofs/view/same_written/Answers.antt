@@ -1,7 +1,7 @@
 use Rattle.std.proofs.Common.{sym, ◌∙◌}
 use Rattle.std.proofs.lemmas.Bool.{false≢true}
 use Rattle.mm_frame.specs.Language.Base.{said_at}
-use Rattle.mm_proof.proofs.lemmas.base.SaysLemmas.{read_at, says_at}
+use Rattle.mm_proof.proofs.TheoremLemmas.{read_at, says_at}
 use Rattle.mm_proof.proofs.view.same_written.Goals as goal
 
 pub same_proof-requires-clause-one : goal.same_proof-requires-clause-one

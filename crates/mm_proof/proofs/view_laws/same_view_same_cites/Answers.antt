@@ -1,4 +1,4 @@
-use Rattle.mm_proof.proofs.lemmas.views.ViewLemmas.{cites_kept}
+use Rattle.mm_proof.proofs.ViewLemmas.{cites_kept}
 use Rattle.mm_proof.proofs.view_laws.same_view_same_cites.Goals as goal
 
 pub returns : goal.returns

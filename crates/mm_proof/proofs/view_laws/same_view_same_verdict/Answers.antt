@@ -1,4 +1,4 @@
-use Rattle.mm_proof.proofs.lemmas.views.ViewLemmas.{verdict_kept}
+use Rattle.mm_proof.proofs.ViewLemmas.{verdict_kept}
 use Rattle.mm_proof.proofs.view_laws.same_view_same_verdict.Goals as goal
 
 pub returns : goal.returns

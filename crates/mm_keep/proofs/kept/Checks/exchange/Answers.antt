@@ -1,5 +1,5 @@
 use Rattle.std.proofs.Common.{◌≡◌, true, None, Option, List, get_or, is_some, sym, ◌∙◌, ap, subst, arith}
-use Rattle.mm_proof.specs.Language.Work.{Judgement}
+use Rattle.mm_proof.specs.mm_verdict.Language.Work.{Judgement}
 use Rattle.mm_keep.proofs.CheckLemmas.{exchanged_by, found, placed}
 use Rattle.mm_keep.proofs.kept.Checks.exchange.Goals as goal
 

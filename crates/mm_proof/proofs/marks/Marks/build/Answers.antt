@@ -4,7 +4,7 @@ use Rattle.mm_proof.specs.Language.BaseMarks.{ItemMark, KeepsLabels}
 use Rattle.mm_proof.specs.declared.marks.Mark as code
 use Rattle.mm_proof.specs.Code.InStep.{IsStepAt, changed_behind}
 use Rattle.mm_proof.specs.Code.KeptMarks.{AreItemMarks, AreHypothesisMarks, kept_mark, kept_marks}
-use Rattle.mm_proof.proofs.lemmas.views.KeptMarkLemmas.{kept_more, marked_behind, marked_more, all_marked}
+use Rattle.mm_proof.proofs.KeptMarkLemmas.{kept_more, marked_behind, marked_more, all_marked}
 use Rattle.mm_proof.proofs.marks.Marks.build.Goals.{then-next+in_ok-push-2, else-next}
 use Rattle.mm_proof.proofs.marks.Marks.build.Goals as goal
 

@@ -1,0 +1,207 @@
+-- What stays of an item of an old base in a new one.
+use Rattle.std.proofs.Common.{◌≡◌, ◌<◌, ℕ, zero, suc, cond, slice_index_or, ◌+◌, Bool, true, false, ◌⊎◌, inl, inr, Option, Some, None, List, [], ◌∷◌, ◌++◌, length, map, slice_get, refl, sym, ◌∙◌, ap, subst, arith, length-append}
+use Rattle.std.specs.Prelude.{◌↔◌, is_some}
+use Rattle.std.proofs.lemmas.Bool.{false≢true, and_parts}
+use Rattle.std.proofs.lemmas.Option.{none-some, same_Some}
+use Rattle.mm_frame.specs.Language.Base.{BaseView, said_at, is_shown_at, is_sound_at}
+use Rattle.mm_frame.specs.Language.Frame.{Symbol, AreSamePairs}
+use Rattle.mm_frame.specs.mm_statement.Language.Item.{Item, passed, is_labelled}
+use Rattle.mm_frame.specs.Language.Resolving.{IsCarrier}
+use Rattle.mm_frame.specs.declared.base.Base.{Base}
+use Rattle.mm_frame.specs.Language.Answering.{IsBaseBy}
+use Rattle.mm_proof.specs.Language.BaseMarks.{ItemMark, MarksView, IsMark, HaveOneLabel, KeepsLabels, AreMarks, no_mark, mark_at}
+use Rattle.mm_proof.specs.Code.InStep.{changed_behind}
+use Rattle.mm_proof.specs.Code.KeptMarks.{AreTheorems, ShareFrame, SharePairs, AreItemMarks, IsHypothesisMark, AreHypothesisMarks}
+use Rattle.mm_proof.specs.declared.marks.Mark as code
+use Rattle.std.proofs.Math.Decide.{ℕ_discrete}
+
+-- the same unordered pairs, the other way round and one after the other
+turned : (ps qs : List (Symbol × Symbol)) → AreSamePairs ps qs → AreSamePairs qs ps
+turned ps qs h x y = ((h x y).1, (h x y).0)
+
+pub joined : (ps qs rs : List (Symbol × Symbol)) → AreSamePairs ps qs → AreSamePairs qs rs → AreSamePairs ps rs
+joined ps qs rs h k x y = (λ p. (k x y).0 ((h x y).0 p), λ r. (h x y).1 ((k x y).1 r))
+
+-- theorems that share their pairs with those that were compared
+pub told_again :
+    (ps qs rs ss : List (Symbol × Symbol)) (same : Bool) → (same ≡ true) ↔ AreSamePairs ps qs → AreSamePairs ps rs → AreSamePairs qs ss →
+    (same ≡ true) ↔ AreSamePairs rs ss
+told_again ps qs rs ss same h k l = (
+  λ e. joined rs qs ss (joined rs ps qs (turned ps rs k) (h.0 e)) l,
+  λ m. h.1 (joined ps ss qs (joined ps rs ss k m) (turned qs ss l)),
+)
+
+-- an item with a label is one of the items
+pub shown_within : (view : BaseView) (i : ℕ) → is_shown_at view i ≡ true → i < length view.said
+shown_within view i e = within view.said i (and_parts (is_sound_at view i) (is_labelled (said_at view i).kind) e).1
+  where
+    within : (items : List Item) (n : ℕ) → is_labelled (slice_index_or items n passed).kind ≡ true → n < length items
+    within [] n h = absurd (false≢true h)
+    within (x ∷ items) zero h = omega arith
+    within (x ∷ items) (suc n) h = let l = within items n h in omega (arith, l)
+
+got : {X : Type 0} (xs : List X) (n : ℕ) → n < length xs → (x : X) × (slice_get xs n ≡ Some x)
+got [] n l = absurd (omega (arith, l))
+got (x ∷ xs) zero l = (x, refl)
+got (x ∷ xs) (suc n) l = got xs n (omega (arith, l))
+
+some_there : {X : Type 0} (o : Option X) → is_some o ≡ true → (x : X) × (o ≡ Some x)
+some_there (Some x) e = (x, refl)
+some_there None e = absurd (false≢true e)
+
+-- it has a label
+pub shown_label : (names : List (List ℕ)) (view : BaseView) (code : Base) (i : ℕ) → IsBaseBy names view code → is_shown_at view i ≡ true → (label : List ℕ) × ((said_at view i).label ≡ Some label)
+shown_label names view code i is e =
+    let within = shown_within view i e in
+    let row = got code.rows i (omega (arith, within, is.rows.count)) in
+    let told = is.rows.each i row.0 row.1 in
+    let some = some_there row.0.0 (told.labelled ∙ (and_parts (is_sound_at view i) (is_labelled (said_at view i).kind) e).1) in
+    (some.0, sym told.label ∙ some.1)
+
+-- it is the item of the old base that carries the label
+pub one_label : (base copy : BaseView) (i j : ℕ) (label : List ℕ) → is_shown_at copy j ≡ true → (said_at copy j).label ≡ Some label → IsCarrier base label i ↔ HaveOneLabel base copy i j
+one_label base copy i j label shown e = (
+  λ c. record { within = shown_within base i c.shown; was = c.shown; is = shown; label = c.label_is ∙ sym e },
+  λ h. record { shown = h.was; label_is = h.label ∙ e },
+)
+
+-- the item is shown exactly when an expression is reported
+pub none_shown : (b : Bool) (e : List Symbol) → None ≡ cond b (Some e) None → b ≡ true → ⊥
+none_shown true e n t = cc
+none_shown false e n t = false≢true t
+
+pub some_shown : (b : Bool) (e d : List Symbol) → Some d ≡ cond b (Some e) None → b ≡ true
+some_shown true e d n = refl
+some_shown false e d n = cc
+
+-- nothing is found exactly when there is nothing
+pub no_number : (found : Option ℕ) (i : ℕ) (P : Type 0) → found ≡ None → (P → ⊥) → (found ≡ Some i) ↔ P
+no_number found i P e none = (λ h. cc, λ p. absurd (none p))
+
+-- nothing stays of an item whose label no old one has
+pub nothing_kept : (base copy : BaseView) (j : ℕ) → ((i : ℕ) → HaveOneLabel base copy i j → ⊥) → IsMark base copy j no_mark
+nothing_kept base copy j none = record {
+  old_is = λ i. (λ e. cc, λ h. absurd (none i h));
+  frame_is = (λ e. absurd (false≢true e), λ k. absurd (none k.i k.one_label));
+  pairs_is = (λ e. absurd (false≢true e), λ k. absurd (none k.i k.one_label));
+}
+
+-- what stays of one whose label an old one has
+pub some_kept :
+    (base copy : BaseView) (i j : ℕ) (frame pairs : Bool) → ((k : ℕ) → ((Some i ≡ Some k) ↔ HaveOneLabel base copy k j)) → (frame ≡ true) ↔ ShareFrame base copy i j →
+    (pairs ≡ true) ↔ (AreTheorems base copy i j × SharePairs base copy i j) → IsMark base copy j (record { old = Some i; frame = frame; pairs = pairs; in_step = false })
+some_kept base copy i j frame pairs old f p = record {
+  old_is = old;
+  frame_is = (
+    λ e. (let s = f.0 e in record { i = i; one_label = (old i).0 refl; was = s.was; is = s.is; same = s.same }),
+    λ k. f.1 (subst (λ (n : ℕ). ShareFrame base copy n j) (same_Some k.i i (sym ((old k.i).1 k.one_label))) (record { was = k.was; is = k.is; same = k.same })),
+  );
+  pairs_is = (
+    λ e. (let s = p.0 e in record { i = i; one_label = (old i).0 refl; was = s.0.was; is = s.0.is; same = s.1 }),
+    λ k. p.1 (subst (λ (n : ℕ). AreTheorems base copy n j × SharePairs base copy n j) (same_Some k.i i (sym ((old k.i).1 k.one_label))) (record { was = k.was; is = k.is }, k.same)),
+  );
+}
+
+at_front : {X : Type 0} (xs ys : List X) (n : ℕ) (d : X) → n < length xs → slice_index_or (xs ++ ys) n d ≡ slice_index_or xs n d
+at_front [] ys n d l = absurd (omega (arith, l))
+at_front (x ∷ xs) ys zero d l = refl
+at_front (x ∷ xs) ys (suc n) d l = at_front xs ys n d (omega (arith, l))
+
+at_end : {X : Type 0} (xs : List X) (y d : X) → slice_index_or (xs ++ y ∷ []) (length xs) d ≡ y
+at_end [] y d = refl
+at_end (x ∷ xs) y d = at_end xs y d
+
+-- one more mark
+pub marked_more :
+    (base copy : BaseView) (n : ℕ) (marks : List ItemMark) (changed : List ℕ) (mark : ItemMark) → AreItemMarks base copy n (record { items = marks; changed = changed }) →
+    IsMark base copy n mark → (mark.in_step ≡ true → KeepsLabels base copy changed n) → AreItemMarks base copy (n + 1) (record { items = marks ++ mark ∷ []; changed = changed })
+marked_more base copy n marks changed mark are is keeps = record {
+  count_is = length-append marks (mark ∷ []) ∙ ap (λ k. k + 1) are.count_is;
+  each = λ j l. each_case j l (ℕ_discrete j n);
+  in_step = λ j l. step_case j l (ℕ_discrete j n);
+}
+  where
+    here : (j : ℕ) → j ≡ n → mark_at (record { items = marks ++ mark ∷ []; changed = changed }) j ≡ mark
+    here j e = subst (λ k. slice_index_or (marks ++ mark ∷ []) k no_mark ≡ mark) (are.count_is ∙ sym e) (at_end marks mark no_mark)
+
+    front : (j : ℕ) → j < n + 1 → (j ≡ n → ⊥) → mark_at (record { items = marks ++ mark ∷ []; changed = changed }) j ≡ mark_at (record { items = marks; changed = changed }) j
+    front j l other = at_front marks (mark ∷ []) j no_mark (omega (arith, l, other, are.count_is))
+
+    each_case : (j : ℕ) → j < n + 1 → Dec (j ≡ n) → IsMark base copy j (mark_at (record { items = marks ++ mark ∷ []; changed = changed }) j)
+    each_case j l (yes e) = subst (λ m. IsMark base copy j m) (sym (here j e)) (subst (λ k. IsMark base copy k mark) (sym e) is)
+    each_case j l (no other) = subst (λ m. IsMark base copy j m) (sym (front j l other)) (are.each j (omega (arith, l, other)))
+
+    step_case : (j : ℕ) → j < n + 1 → Dec (j ≡ n) → (mark_at (record { items = marks ++ mark ∷ []; changed = changed }) j).in_step ≡ true → KeepsLabels base copy changed j
+    step_case j l (yes e) t = subst (KeepsLabels base copy changed) (sym e) (keeps (sym (ap (λ (m : ItemMark). m.in_step) (here j e)) ∙ t))
+    step_case j l (no other) t = are.in_step j (omega (arith, l, other)) (sym (ap (λ (m : ItemMark). m.in_step) (front j l other)) ∙ t)
+
+-- what is listed first is still listed if more is
+pub got_front : (xs ys : List ℕ) (n x : ℕ) → slice_get xs n ≡ Some x → slice_get (xs ++ ys) n ≡ Some x
+got_front [] ys n x e = absurd (none-some x e)
+got_front (y ∷ xs) ys zero x e = e
+got_front (y ∷ xs) ys (suc n) x e = got_front xs ys n x e
+
+-- then less is said of labels
+keeps_less : (base copy : BaseView) (changed more : List ℕ) (j : ℕ) → KeepsLabels base copy changed j → KeepsLabels base copy (changed ++ more) j
+keeps_less base copy changed more j keeps i h label unchanged =
+    keeps i h label (λ t. unchanged (record { m = t.m; place = t.place; told = got_front changed more t.place t.m t.told; earlier = t.earlier; label_is = t.label_is }))
+
+marked_less :
+    (base copy : BaseView) (n : ℕ) (marks : List ItemMark) (changed more : List ℕ) → AreItemMarks base copy n (record { items = marks; changed = changed }) →
+    AreItemMarks base copy n (record { items = marks; changed = changed ++ more })
+marked_less base copy n marks changed more are = record {
+  count_is = are.count_is;
+  each = are.each;
+  in_step = λ j l t. keeps_less base copy changed more j (are.in_step j l t);
+}
+
+pub marked_behind :
+    (base copy : BaseView) (n : ℕ) (marks : List ItemMark) (changed : List ℕ) (j : ℕ) (here : Bool) → AreItemMarks base copy n (record { items = marks; changed = changed }) →
+    AreItemMarks base copy n (record { items = marks; changed = changed_behind changed j here })
+marked_behind base copy n marks changed j true are = marked_less base copy n marks changed (j ∷ []) are
+marked_behind base copy n marks changed j false are = are
+
+-- all are marked
+pub all_marked : (base copy : BaseView) (n : ℕ) (marks : MarksView) → AreItemMarks base copy n marks → n ≡ length copy.said → AreMarks base copy marks
+all_marked base copy n marks are e = record {
+  count = are.count_is ∙ e;
+  each = λ j l. are.each j (omega (arith, l, e));
+  in_step = λ j l. are.in_step j (omega (arith, l, e));
+}
+
+-- marks that say nothing, and one more
+got_last : {X : Type 0} (xs : List X) (y z : X) (m : ℕ) → slice_get (xs ++ y ∷ []) m ≡ Some z → (slice_get xs m ≡ Some z) ⊎ ((m ≡ length xs) × (y ≡ z))
+got_last [] y z zero e = inr (refl, same_Some y z e)
+got_last [] y z (suc m) e = absurd (none-some z e)
+got_last (x ∷ xs) y z zero e = inl e
+got_last (x ∷ xs) y z (suc m) e = elim (got_last xs y z m e) [
+  | inl g ↦ inl g
+  | inr p ↦ inr (ap suc p.0, p.1)
+]
+
+pub kept_more : (old new : Base) (marks : List code.Mark) (mark : code.Mark) (n : ℕ) → length marks ≡ n → AreHypothesisMarks old new marks → IsHypothesisMark old new n mark → AreHypothesisMarks old new (marks ++ mark ∷ [])
+kept_more old new marks mark n count are is m other e = elim (got_last marks mark other m e) [
+  | inl g ↦ are m other g
+  | inr p ↦ subst (λ (w : code.Mark). IsHypothesisMark old new m w) p.1 (subst (λ k. IsHypothesisMark old new k mark) (sym (p.0 ∙ count)) is)
+]
+
+-- two lists agree in this many elements, by these functions
+abbrev pub AreSameTo : {X : Type 0} → (ℕ → X) → (ℕ → X) → List ℕ → List ℕ → ℕ → Type 0
+AreSameTo {X} f g xs ys k = (m x y : ℕ) → m < k → slice_get xs m ≡ Some x → slice_get ys m ≡ Some y → f x ≡ g y
+
+same_at : (xs : List ℕ) (k x y : ℕ) → slice_get xs k ≡ Some x → slice_get xs k ≡ Some y → x ≡ y
+same_at xs k x y a b = same_Some x y (sym a ∙ b)
+
+pub same_more : {X : Type 0} (f g : ℕ → X) (xs ys : List ℕ) (k x y : ℕ) → AreSameTo f g xs ys k → slice_get xs k ≡ Some x → slice_get ys k ≡ Some y → f x ≡ g y → AreSameTo f g xs ys (k + 1)
+same_more {X} f g xs ys k x y h p q e n v w b c d = by_case (ℕ_discrete n k)
+  where
+    by_case : Dec (n ≡ k) → f v ≡ g w
+    by_case (yes z) = ap f (same_at xs k v x (subst (λ (i : ℕ). slice_get xs i ≡ Some v) z c) p) ∙ e ∙ ap g (same_at ys k y w q (subst (λ (i : ℕ). slice_get ys i ≡ Some w) z d))
+    by_case (no other) = h n v w (omega (arith, b, other)) c d
+
+pub same_whole : {X : Type 0} (f g : ℕ → X) (xs ys : List ℕ) → AreSameTo f g xs ys (length xs) → length xs ≡ length ys → map f xs ≡ map g ys
+same_whole f g [] [] h l = refl
+same_whole f g (x ∷ xs) (y ∷ ys) h l =
+    let a = h 0 x y (omega arith) refl refl in
+    λ i. a i ∷ (same_whole f g xs ys (λ m v w n c d. h (suc m) v w (omega (arith, n)) c d) (omega (arith, l))) i
+same_whole f g _ _ h l = absurd (omega (arith, l))

@@ -1,0 +1,190 @@
+-- What labels mean at two theorems of two bases.
+use Rattle.std.proofs.Common.{◌≡◌, ◌<◌, ℕ, zero, suc, cond, Bool, true, false, Option, Some, None, List, [], ◌∷◌, ◌++◌, length, take, refl, sym, ◌∙◌, ap, subst, inl, inr, arith, ◌↔◌, IsTrue, is_none, option_to_list, bytes_eq}
+use Rattle.std.specs.List.{AllByRecursion}
+use Rattle.std.proofs.Math.Decide.{dec_lt}
+use Rattle.std.proofs.Math.Seq.{take-suc}
+use Rattle.std.proofs.lemmas.Bool.{cases_Bool, false≢true}
+use Rattle.std.proofs.lemmas.Slice.Eq.{bytes_eq-Decides}
+use Rattle.mm_frame.specs.declared.FrameNumber.{FrameNumber}
+use Rattle.mm_frame.specs.declared.base.Resolved as answer
+use Rattle.mm_frame.specs.declared.base.Resolved.TheVariants as answers
+use Rattle.mm_frame.specs.Language.Base.{BaseView, said_at, before, is_sound_at, is_shown_at, is_framed_at, frame_at, fault_by}
+use Rattle.mm_frame.specs.Language.Frame.{Resolved, Assertion, Unknown, AreSameFrame}
+use Rattle.mm_frame.specs.Language.Framing.{resolve, resolve_from}
+use Rattle.mm_frame.specs.mm_statement.Language.Item.{Kind, Floating, Essential, Axiom, Theorem, Item, passed, is_labelled, labels_of, has}
+use Rattle.mm_frame.specs.Language.Laws as frame
+use Rattle.mm_frame.specs.Language.Resolving.{IsCarrier, IsMeaning, Resolves}
+use Rattle.mm_frame.specs.Language.Sound.{fault, judged, sound_items}
+use Rattle.mm_proof.specs.Code.KeptMarks.{AreTheorems, IsOneCarrier, IsShownItem, ShareHypotheses, SharePairs, stands_for}
+use Rattle.mm_proof.proofs.TheoremLemmas.{shown_proof}
+use Rattle.std.proofs.lemmas.Option.{none-some, same_Some}
+use Rattle.mm_verdict.specs.Language.BaseLabels.{setting_at}
+use Rattle.mm_proof.specs.Language.BaseMarks.{MarksView, AreMarks, mark_at}
+use Rattle.mm_verdict.specs.Language.SameProof.{AreSameMeaning, IsSameLabel}
+use Rattle.mm_proof.proofs.KeptMarkLemmas.{shown_within, one_label}
+use Rattle.std.proofs.lemmas.Bool.{and_from}
+
+-- ---- a label that no item carries
+
+labelled : (b : Bool) (o : Option (List ℕ)) (label : List ℕ) → has (cond b (option_to_list o) []) label ≡ true → (b ≡ true) × (o ≡ Some label)
+labelled true (Some l) label h = elim (cases_Bool (bytes_eq label l)) [
+  | inl e ↦ (refl, ap Some (sym ((bytes_eq-Decides label l).0 e)))
+  | inr e ↦ absurd (false≢true (rw e at h))
+]
+labelled _ _ label h = absurd (false≢true h)
+
+sound_label : (kind : Kind) → is_labelled kind ≡ true → is_none (fault_by kind None) ≡ true
+sound_label Floating e = refl
+sound_label Essential e = refl
+sound_label Axiom e = refl
+sound_label Theorem e = refl
+sound_label _ e = absurd (false≢true e)
+
+joined : {X : Type 0} (P : X → Type 0) (xs ys : List X) → AllByRecursion P xs → AllByRecursion P ys → AllByRecursion P (xs ++ ys)
+joined P [] ys a b = b
+joined P (x ∷ xs) ys a b = (a.0, joined P xs ys a.1 b)
+
+take_end : {X : Type 0} (xs : List X) (n : ℕ) → (n < length xs → ⊥) → take (suc n) xs ≡ take n xs
+take_end [] zero h = refl
+take_end [] (suc n) h = refl
+take_end (x ∷ xs) zero h = absurd (h (omega arith))
+take_end (x ∷ xs) (suc n) h = ap (λ w. x ∷ w) (take_end xs n (λ l. h (omega (arith, l))))
+
+module _ (view : BaseView) (label : List ℕ) (none : IsOneCarrier view label None) where
+  -- the item does not carry the label
+  abbrev Lacks : Item → Type 0
+  Lacks item = has (labels_of item) label ≡ false
+
+  judged_lacks : (n : ℕ) (found : Option (ℕ × FrameNumber)) → fault (before view n) (said_at view n) ≡ found → Lacks (judged (said_at view n) found)
+  judged_lacks n (Some at) e = refl
+  judged_lacks n None e = elim (cases_Bool (has (labels_of (said_at view n)) label)) [
+    | inl t ↦
+        let item = said_at view n in
+        let l = labelled (is_labelled item.kind) item.label label t in
+        let sound = ap (λ o. is_none (fault_by item.kind o)) e ∙ sound_label item.kind l.0 in
+        absurd (none-some n ((none n).1 (record { shown = and_from (is_sound_at view n) (is_labelled item.kind) sound l.0; label_is = l.1 })))
+    | inr f ↦ f
+  ]
+
+  all_lack : frame.KeptNext → (n : ℕ) → AllByRecursion Lacks (before view n)
+  all_lack next zero = tt
+  all_lack next (suc n) = by_case (all_lack next n) (dec_lt n (length view.said))
+    where
+      item : Item
+      item = said_at view n
+
+      by_case : AllByRecursion Lacks (before view n) → Dec (n < length view.said) → AllByRecursion Lacks (before view (suc n))
+      by_case front (yes l) =
+          let here = joined Lacks (before view n) (judged item (fault (before view n) item) ∷ []) front (judged_lacks n (fault (before view n) item) refl, tt) in
+          subst (λ items. AllByRecursion Lacks items) (sym (ap sound_items (take-suc view.said n passed l) ∙ next (take n view.said) item)) here
+      by_case front (no m) = subst (λ items. AllByRecursion Lacks items) (sym (ap sound_items (take_end view.said n m))) front
+
+  unknown_from : (whole front back : List Item) → AllByRecursion Lacks back → resolve_from whole front back label ≡ Unknown
+  unknown_from whole front [] a = refl
+  unknown_from whole front (item ∷ back) a = rw a.0 (unknown_from whole (front ++ item ∷ []) back a.1)
+
+  pub none_means : frame.KeptNext → (i : ℕ) → resolve (before view i) label ≡ Unknown
+  none_means next i = unknown_from (before view i) [] (before view i) (all_lack next i)
+
+-- ---- what two answers mean
+
+means : (base : BaseView) (i : ℕ) (label : List ℕ) (told : answer.Resolved) (m : Resolved) → IsMeaning base i label told m → (m ≡ stands_for base told) × IsShownItem base told
+means base i label (answers.Hypothesis n) m h = (h.1, h.0.carrier.shown)
+means base i label (answers.Assertion n) m h = (h.2, h.1)
+means base i label _ m h = (h, tt)
+
+moved : (same : Bool) (m n y z : Resolved) → m ≡ n → y ≡ z → IsTrue same ↔ AreSameMeaning n z → IsTrue same ↔ AreSameMeaning m y
+moved same m n y z e f s = subst (λ w. IsTrue same ↔ AreSameMeaning w y) (sym e) (subst (λ w. IsTrue same ↔ AreSameMeaning n w) (sym f) s)
+
+-- the label means the same exactly when its two answers stand for the same
+pub means_same :
+    (base copy : BaseView) (i j : ℕ) (label : List ℕ) (mine yours : answer.Resolved) (same : Bool) → Resolves base i label mine → Resolves copy j label yours →
+    (IsShownItem base mine → IsShownItem copy yours → IsTrue same ↔ AreSameMeaning (stands_for base mine) (stands_for copy yours)) → IsTrue same ↔ IsSameLabel (setting_at base i) (setting_at copy j) label
+means_same base copy i j label mine yours same h k t =
+    let m = resolve (before base i) label in
+    let y = resolve (before copy j) label in
+    let here = means base i label mine m h in
+    let there = means copy j label yours y k in
+    moved same m (stands_for base mine) y (stands_for copy yours) here.0 there.0 (t here.1 there.1)
+
+-- ---- by marks
+
+-- the label of an assertion means the same if its mark says that the frame is kept, and both are earlier
+pub kept_means :
+    frame.AssertionsMean → (base copy : BaseView) (marks : MarksView) → AreMarks base copy marks → (i j : ℕ) (label : List ℕ) (m k : ℕ) → IsCarrier copy label m →
+    (mark_at marks m).frame ≡ true → m < j → (mark_at marks m).old ≡ Some k → k < i → IsSameLabel (setting_at base i) (setting_at copy j) label
+kept_means assertions base copy marks are i j label m k carrier told later old earlier =
+    let within = shown_within copy m carrier.shown in
+    let is = are.each m within in
+    let kept = is.frame_is.0 told in
+    let same : k ≡ kept.i = sym (same_Some kept.i k (sym ((is.old_is kept.i).1 kept.one_label) ∙ old)) in
+    let was : IsCarrier base label kept.i = record { shown = kept.one_label.was; label_is = kept.one_label.label ∙ carrier.label_is } in
+    let mine = assertions base i kept.i label (record { earlier = subst (λ n. n < i) same earlier; carrier = was }) kept.was in
+    let yours = assertions copy j m label (record { earlier = later; carrier = carrier }) kept.is in
+    (means_same base copy i j label (answers.Assertion kept.i) (answers.Assertion m) true mine yours (λ a b. (λ t. kept.same, λ s. refl))).0 refl
+
+-- the label of an assertion means the same if its mark says that the frame is kept
+pub frames_marked :
+    frame.HasOwnLabels → (base copy : BaseView) (marks : MarksView) → AreMarks base copy marks → (i j : ℕ) (label : List ℕ) (m a b : ℕ) (same : Bool) → IsCarrier copy label m →
+    Resolves base i label (answers.Assertion a) → Resolves copy j label (answers.Assertion b) → same ≡ (mark_at marks m).frame →
+    IsTrue same ↔ IsSameLabel (setting_at base i) (setting_at copy j) label
+frames_marked own base copy marks are i j label m a b same carrier h k told =
+    let which : b ≡ m = own copy b m label k.0.carrier carrier in
+    let is = are.each m (shown_within copy m carrier.shown) in
+    moved same (resolve (before base i) label) (Assertion (frame_at base a)) (resolve (before copy j) label) (Assertion (frame_at copy b)) h.2 k.2 (
+      λ e. (
+          let kept = is.frame_is.0 (sym told ∙ e) in
+          let old : kept.i ≡ a = own base kept.i a label (record { shown = kept.one_label.was; label_is = kept.one_label.label ∙ carrier.label_is }) h.0.carrier in
+          subst (λ (n : ℕ). AreSameFrame (frame_at base a) (frame_at copy n)) (sym which) (subst (λ (n : ℕ). AreSameFrame (frame_at base n) (frame_at copy m)) old kept.same)),
+      λ s. told ∙ is.frame_is.1 (record {
+        i = a;
+        one_label = (one_label base copy a m label carrier.shown carrier.label_is).0 h.0.carrier;
+        was = h.1;
+        is = subst (λ (n : ℕ). is_framed_at copy n ≡ true) which k.1;
+        same = subst (λ (n : ℕ). AreSameFrame (frame_at base a) (frame_at copy n)) which s;
+      }),
+    )
+
+-- the item of the old base that a mark names carries the label
+pub old_carries :
+    (base copy : BaseView) (marks : MarksView) → AreMarks base copy marks → (label : List ℕ) (m : ℕ) → IsCarrier copy label m → (n : ℕ) →
+    ((mark_at marks m).old ≡ Some n) ↔ IsCarrier base label n
+old_carries base copy marks are label m carrier n =
+    let is = (are.each m (shown_within copy m carrier.shown)).old_is n in
+    let one = one_label base copy n m label carrier.shown carrier.label_is in
+    (λ e. one.1 (is.0 e), λ c. is.1 (one.0 c))
+
+-- if the mark says that the frame is the same, both are assertions
+pub old_framed :
+    (base copy : BaseView) (marks : MarksView) → AreMarks base copy marks → (m : ℕ) → is_shown_at copy m ≡ true → (mark_at marks m).frame ≡ true → (n : ℕ) →
+    (mark_at marks m).old ≡ Some n → is_framed_at base n ≡ true
+old_framed base copy marks are m shown told n old =
+    let is = are.each m (shown_within copy m shown) in
+    let kept = is.frame_is.0 told in
+    subst (λ (k : ℕ). is_framed_at base k ≡ true) (same_Some kept.i n (sym ((is.old_is kept.i).1 kept.one_label) ∙ old)) kept.was
+
+pub new_framed :
+    (base copy : BaseView) (marks : MarksView) → AreMarks base copy marks → (m : ℕ) → is_shown_at copy m ≡ true → (mark_at marks m).frame ≡ true → (n : ℕ) → Some m ≡ Some n → is_framed_at copy n ≡ true
+new_framed base copy marks are m shown told n e = subst (λ (k : ℕ). is_framed_at copy k ≡ true) (same_Some m n e) ((are.each m (shown_within copy m shown)).frame_is.0 told).is
+
+-- the active pairs are the same if the mark of this item of the old base says so
+pub pairs_marked :
+    (base copy : BaseView) (marks : MarksView) → AreMarks base copy marks → (i j : ℕ) (same : Bool) → AreTheorems base copy i j → (mark_at marks j).old ≡ Some i →
+    same ≡ (mark_at marks j).pairs → IsTrue same ↔ SharePairs base copy i j
+pairs_marked base copy marks are i j same these old told =
+    let is = are.each j (shown_within copy j (shown_proof copy j these.is)) in (
+      λ e. (
+          let kept = is.pairs_is.0 (sym told ∙ e) in
+          subst (λ (n : ℕ). SharePairs base copy n j) (same_Some kept.i i (sym ((is.old_is kept.i).1 kept.one_label) ∙ old)) kept.same),
+      λ s. told ∙ is.pairs_is.1 (record { i = i; one_label = (is.old_is i).0 old; was = these.was; is = these.is; same = s }),
+    )
+
+-- the mandatory hypotheses are the same if the mark of this item of the old base says so
+pub hypotheses_marked :
+    (base copy : BaseView) (marks : MarksView) → AreMarks base copy marks → (i j : ℕ) → AreTheorems base copy i j → (mark_at marks j).old ≡ Some i → (mark_at marks j).frame ≡ true →
+    ShareHypotheses base copy i j
+hypotheses_marked base copy marks are i j these old told =
+    let is = are.each j (shown_within copy j (shown_proof copy j these.is)) in
+    let kept = is.frame_is.0 told in
+    let same = subst (λ (n : ℕ). AreSameFrame (frame_at base n) (frame_at copy j)) (same_Some kept.i i (sym ((is.old_is kept.i).1 kept.one_label) ∙ old)) kept.same in
+    record { expression = same.expression; hypotheses = same.hypotheses }

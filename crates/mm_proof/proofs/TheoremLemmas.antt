@@ -1,0 +1,48 @@
+-- What a theorem of a base is: a statement with a label, an assertion, and what its item says.
+use Rattle.std.proofs.Common.{◌≡◌, ℕ, zero, suc, true, Some, List, [], ◌∷◌, refl, subst, slice_get}
+use Rattle.std.specs.List.{AllZip}
+use Rattle.std.proofs.lemmas.Bool.{false≢true, and_from, and_parts}
+use Rattle.std.proofs.lemmas.Option.{same_Some}
+use Rattle.mm_frame.specs.mm_store.declared.item.Item as store
+use Rattle.mm_frame.specs.mm_store.Language.FilesView.{FilesView}
+use Rattle.mm_frame.specs.mm_store.Language.FileFacts.{CanBeRead}
+use Rattle.mm_frame.specs.mm_statement.Language.Item.{Item, Kind, Theorem, is_theorem, is_assertion, is_labelled, item_at}
+use Rattle.mm_frame.specs.mm_statement.Language.Statement.{Says}
+use Rattle.mm_frame.specs.Language.Base.{BaseView, said_at, is_sound_at, is_shown_at, is_framed_at, is_proof_at}
+use Rattle.mm_frame.specs.Language.Answering.{IsBase}
+use Rattle.mm_frame.specs.declared.base.Base.{Base}
+use Rattle.mm_verdict.specs.Language.ReadIn.{HasTheorem, IsReadIn}
+
+-- a sound theorem is a sound statement with a label
+pub shown_proof : (view : BaseView) (n : ℕ) → is_proof_at view n ≡ true → is_shown_at view n ≡ true
+shown_proof view n e =
+    let both = and_parts (is_sound_at view n) (is_theorem (said_at view n).kind) e in
+    and_from (is_sound_at view n) (is_labelled (said_at view n).kind) both.0 (theorem_labelled (said_at view n).kind both.1)
+  where
+    theorem_labelled : (kind : Kind) → is_theorem kind ≡ true → is_labelled kind ≡ true
+    theorem_labelled Theorem t = refl
+    theorem_labelled _ t = absurd (false≢true t)
+
+-- and a sound assertion
+pub framed_proof : (view : BaseView) (n : ℕ) → is_proof_at view n ≡ true → is_framed_at view n ≡ true
+framed_proof view n e =
+    let both = and_parts (is_sound_at view n) (is_theorem (said_at view n).kind) e in
+    and_from (is_sound_at view n) (is_assertion (said_at view n).kind) both.0 (theorem_asserted (said_at view n).kind both.1)
+  where
+    theorem_asserted : (kind : Kind) → is_theorem kind ≡ true → is_assertion kind ≡ true
+    theorem_asserted Theorem t = refl
+    theorem_asserted _ t = absurd (false≢true t)
+
+says_in : (files : FilesView) (found : List store.Item) (said : List Item) (n : ℕ) (item : store.Item) → AllZip (Says files) found said → slice_get found n ≡ Some item → Says files item (item_at said n)
+says_in files [] said n item h e = cc
+says_in files (x ∷ found) (y ∷ said) zero item h e = subst (λ w. Says files w y) (same_Some x item e) h.0
+says_in files (x ∷ found) (y ∷ said) (suc n) item h e = says_in files found said n item h.1 e
+says_in files (x ∷ found) [] n item h e = absurd h
+
+-- what its item says
+pub says_at : (names : List (List ℕ)) (files : FilesView) (code : Base) (view : BaseView) (n : ℕ) (item : store.Item) → IsReadIn names files code view → slice_get view.found n ≡ Some item → Says files item (said_at view n)
+says_at names files code view n item is e = says_in files view.found view.said n item is.each e
+
+-- that it can be read
+pub read_at : (names : List (List ℕ)) (files : FilesView) (code : Base) (n : ℕ) (item : store.Item) → HasTheorem names files code n → ((view : BaseView) → IsBase view code → slice_get view.found n ≡ Some item) → CanBeRead files item
+read_at names files code n item has e = (says_at names files code has.0 n item has.1 (e has.0 (names, has.1.base))).read

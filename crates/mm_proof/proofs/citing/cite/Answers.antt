@@ -1,8 +1,0 @@
-use Rattle.std.proofs.Common.{ℕ, List, ◌++◌, ap}
-use Rattle.mm_proof.specs.Code.Cited.{marked_at}
-use Rattle.mm_proof.proofs.lemmas.citing.MarkedLemmas.{cites_other}
-use Rattle.mm_proof.proofs.citing.cite.Goals as goal
-
-pub returns-in_default : goal.returns-in_default
-returns-in_default c labels =
-    ap (λ (w : List ℕ). c.args.words.now.items ++ w) (cites_other (marked_at c.args.left.now.items) c.args.word c.args.label labels c.in_default.not-Assertion)

@@ -1,6 +1,0 @@
-use Rattle.std.proofs.Common.{◌≡◌, ℕ, true, false, take}
-use Rattle.mm_proof.specs.Code.Cited.{is_listed, marked_at}
-use Rattle.mm_proof.proofs.citing.forget.Given as goal
-
-abbrev pub invariant-loop-label : goal.invariant-loop-label
-invariant-loop-label l = (j : ℕ) → is_listed (take l.label-index l.labels) j ≡ true → marked_at l.marks.items j ≡ false

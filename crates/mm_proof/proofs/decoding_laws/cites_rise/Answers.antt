@@ -1,5 +1,0 @@
-use Rattle.mm_proof.proofs.lemmas.citing.RiseLemmas.{rises}
-use Rattle.mm_proof.proofs.decoding_laws.cites_rise.Goals as goal
-
-pub returns : goal.returns
-returns c = rises

@@ -1,5 +1,0 @@
-use Rattle.mm_proof.proofs.lemmas.decoding.ShortLemmas.{decodes_short}
-use Rattle.mm_proof.proofs.decoding_laws.decodes_short.Goals as goal
-
-pub returns : goal.returns
-returns c = decodes_short

@@ -1,5 +1,0 @@
-use Rattle.mm_proof.proofs.lemmas.decoding.SureLemmas.{decodes_surely}
-use Rattle.mm_proof.proofs.decoding_laws.decodes_surely.Goals as goal
-
-pub returns : goal.returns
-returns c = decodes_surely

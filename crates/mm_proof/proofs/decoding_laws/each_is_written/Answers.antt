@@ -1,5 +1,0 @@
-use Rattle.mm_proof.proofs.lemmas.decoding.NumberLemmas.{each_written}
-use Rattle.mm_proof.proofs.decoding_laws.each_is_written.Goals as goal
-
-pub returns : goal.returns
-returns c = each_written

@@ -1,5 +1,0 @@
-use Rattle.mm_proof.proofs.lemmas.base.BaseLemmas.{labels_are_own}
-use Rattle.mm_proof.proofs.decoding_laws.labels_are_own.Goals as goal
-
-pub returns : goal.returns
-returns c = labels_are_own c.has_own_labels.ensures c.items_have_labels.ensures

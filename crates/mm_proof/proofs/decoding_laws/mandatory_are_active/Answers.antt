@@ -1,5 +1,0 @@
-use Rattle.mm_proof.proofs.lemmas.base.BaseLemmas.{mandatory_are_active}
-use Rattle.mm_proof.proofs.decoding_laws.mandatory_are_active.Goals as goal
-
-pub returns : goal.returns
-returns c = mandatory_are_active c.items_have_labels.ensures c.mandatory_means.ensures c.mandatory_stand_before.ensures

@@ -1,5 +1,0 @@
-use Rattle.mm_proof.proofs.lemmas.decoding.NumberLemmas.{numbers_apart}
-use Rattle.mm_proof.proofs.decoding_laws.numbers_are_apart.Goals as goal
-
-pub returns : goal.returns
-returns c = numbers_apart

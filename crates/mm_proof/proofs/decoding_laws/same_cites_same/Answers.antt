@@ -1,5 +1,0 @@
-use Rattle.mm_proof.proofs.lemmas.views.SameCites.{cites_same}
-use Rattle.mm_proof.proofs.decoding_laws.same_cites_same.Goals as goal
-
-pub returns : goal.returns
-returns c = cites_same

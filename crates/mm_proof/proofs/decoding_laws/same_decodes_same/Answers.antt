@@ -1,5 +1,0 @@
-use Rattle.mm_proof.proofs.lemmas.views.SameLemmas.{decodes_same}
-use Rattle.mm_proof.proofs.decoding_laws.same_decodes_same.Goals as goal
-
-pub returns : goal.returns
-returns c = decodes_same

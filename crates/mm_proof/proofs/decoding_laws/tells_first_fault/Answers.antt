@@ -1,5 +1,0 @@
-use Rattle.mm_proof.proofs.lemmas.decoding.OrderLemmas.{first_fault}
-use Rattle.mm_proof.proofs.decoding_laws.tells_first_fault.Goals as goal
-
-pub returns : goal.returns
-returns c = first_fault

@@ -1,5 +1,0 @@
-use Rattle.mm_proof.proofs.lemmas.verdicts.ItemLemmas.{has_count_at}
-use Rattle.mm_proof.proofs.item_laws.has_count_at.Goals as goal
-
-pub returns : goal.returns
-returns c = has_count_at c.places_have_frames.ensures c.items_have_labels.ensures c.mandatory_means.ensures c.mandatory_stand_before.ensures

@@ -1,5 +1,0 @@
-use Rattle.mm_proof.proofs.lemmas.verdicts.ItemLemmas.{one_count_at}
-use Rattle.mm_proof.proofs.item_laws.has_one_count_at.Goals as goal
-
-pub returns : goal.returns
-returns c = one_count_at c.places_have_frames.ensures

@@ -1,5 +1,0 @@
-use Rattle.mm_proof.proofs.lemmas.verdicts.ItemLemmas.{labels_mean}
-use Rattle.mm_proof.proofs.item_laws.mandatory_labels_mean.Goals as goal
-
-pub returns : goal.returns
-returns c = labels_mean c.items_have_labels.ensures c.mandatory_means.ensures c.mandatory_stand_before.ensures

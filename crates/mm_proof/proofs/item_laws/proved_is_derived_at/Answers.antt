@@ -1,5 +1,0 @@
-use Rattle.mm_proof.proofs.lemmas.verdicts.ItemLemmas.{proved_at}
-use Rattle.mm_proof.proofs.item_laws.proved_is_derived_at.Goals as goal
-
-pub returns : goal.returns
-returns c = proved_at

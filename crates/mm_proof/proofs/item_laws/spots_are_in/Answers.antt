@@ -1,5 +1,0 @@
-use Rattle.mm_proof.proofs.lemmas.decoding.SpotLemmas.{spots_at}
-use Rattle.mm_proof.proofs.item_laws.spots_are_in.Goals as goal
-
-pub returns : goal.returns
-returns c = spots_at

@@ -1,4 +1,0 @@
-use Rattle.mm_proof.proofs.known.Known.limited.Goals as goal
-
-pub returns-then-len-assertions : goal.returns-then-len-assertions
-returns-then-len-assertions c base is = c.emptied.ensures base

@@ -1,0 +1,3 @@
+pub mod lemmas
+pub mod Rows
+pub mod ExampleLemmas

@@ -1,0 +1,48 @@
+use Rattle.std.proofs.Common.{subst, length, ap}
+use Rattle.mm_verdict.specs.Language.BaseLabels.{setting_at}
+use Rattle.mm_verdict.specs.Language.VerdictAt.{statement_at}
+use Rattle.mm_verdict.specs.Language.DecodedSteps.{entry_steps}
+use Rattle.mm_verdict.specs.Code.DecodedProof.{steps_of}
+use Rattle.mm_verdict.specs.Code.Judged.{IsOutcomeWithin}
+use Rattle.mm_verdict.specs.Code.NumberedBase.{numbered_setting}
+use Rattle.mm_verdict.proofs.lemmas.base.FrameLemmas.{shown_proof}
+use Rattle.mm_verdict.proofs.lemmas.decoding.DecodedProofs.{decoded_saved, used_named}
+use Rattle.mm_verdict.proofs.lemmas.machine.UsedLemmas.{part_entries, part_means}
+use Rattle.mm_verdict.proofs.lemmas.renaming.RenamedFrames.{frames_by_number, run_named}
+use Rattle.mm_verdict.proofs.checking.run_all.Goals as goal
+
+pub name_all-requires-clause-labels : goal.name_all-requires-clause-labels
+name_all-requires-clause-labels c =
+    let has = c.requires.decoded in
+    used_named c.args.proof.base.now has.0 c.args.proof.i has.1.theorem.base has.2 c.args.proof.decoding.now.labels.items c.args.used.now c.requires.used.part has.1.entries
+
+pub run-requires : goal.run-requires
+run-requires c = record {
+  saved = rw c.deref-steps.ensures.value (decoded_saved c.mandatory_are_active.ensures c.decodes_surely.ensures _ _ _ _ _ c.requires.decoded.1);
+  frames = c.in_ok-named.ensures.frames;
+  within = c.in_ok-named.ensures.within;
+}
+
+pub returns-clause-says : goal.returns-clause-says
+returns-clause-says c view is =
+    let proof = c.args.proof in
+    let i = proof.i in
+    let d = proof.decoding.now in
+    let names = is.theorem.base.0 in
+    let base = is.theorem.base.1 in
+    let used = c.args.used.now in
+    let entries = part_entries view i d.labels.items used c.requires.used.part is.entries in
+    let mean = c.in_ok-named.ensures.means names view base i entries in
+    let frames = frames_by_number names (setting_at view i) (c.places_have_frames.ensures view.said i) in
+    let said = c.in_ok-outcome.ensures.says (numbered_setting names view i) (entry_steps view used) frames (rw c.new-active.ensures (c.active.ensures.same names view base is.theorem.is_sound)) mean in
+    let here = rw (c.deref-steps.ensures.value, part_means view d.labels.items used d.steps.items c.requires.used.kept, c.expression.ensures names view base (shown_proof view i is.theorem.is_sound)) at said in
+    run_named names (setting_at view i) (steps_of proof view) (statement_at view i) c.in_ok-outcome.outcome here
+
+pub returns-clause-known : goal.returns-clause-known
+returns-clause-known c = c.known_after.ensures c.args.proof.base.now c.in_ok-named.ensures.known
+
+pub active-requires : goal.active-requires
+active-requires c = let has = c.requires.decoded in (has.0, has.1.theorem.base, has.1.theorem.is_sound)
+
+pub returns-clause-within : goal.returns-clause-within
+returns-clause-within c = subst (λ n. IsOutcomeWithin n c.in_ok-outcome.outcome) (ap length c.deref-steps.ensures.value) c.in_ok-outcome.ensures.within

@@ -1,0 +1,30 @@
+-- What a base and its files say of one item.
+use Rattle.std.proofs.Common.{◌≡◌, ℕ, true, Some, List, slice_get, sym, subst}
+use Rattle.std.proofs.lemmas.Option.{get_or_from_slice_get}
+use Rattle.mm_verdict.proofs.lemmas.machine.EntryFaults.{zip_at}
+use Rattle.mm_frame.specs.mm_store.declared.item.Item as store
+use Rattle.mm_frame.specs.mm_store.Language.FilesView.{FilesView}
+use Rattle.mm_frame.specs.mm_store.Language.FileFacts.{CanBeRead}
+use Rattle.mm_frame.specs.Language.Base.{BaseView, is_proof_at, said_at}
+use Rattle.mm_frame.specs.mm_statement.Language.Item.{Item, passed}
+use Rattle.mm_frame.specs.Language.Answering.{IsBase}
+use Rattle.mm_frame.specs.mm_statement.Language.Statement.{Says}
+use Rattle.mm_frame.specs.declared.base.Base.{Base}
+use Rattle.mm_verdict.specs.Language.ReadIn.{HasTheorem, IsReadIn}
+use Rattle.mm_verdict.specs.Code.Judged.{IsTheorem}
+
+-- what it says
+says_at : (names : List (List ℕ)) (files : FilesView) (code : Base) (view : BaseView) (n : ℕ) (item : store.Item) → IsReadIn names files code view → slice_get view.found n ≡ Some item → Says files item (said_at view n)
+says_at names files code view n item is e =
+    let y = zip_at (Says files) view.found view.said n item is.each e in
+    subst (Says files item) (sym (get_or_from_slice_get view.said n y.0 passed y.1)) y.2
+
+-- that it can be read
+pub read_at : (names : List (List ℕ)) (files : FilesView) (code : Base) (n : ℕ) (item : store.Item) → HasTheorem names files code n → ((view : BaseView) → IsBase view code → slice_get view.found n ≡ Some item) → CanBeRead files item
+read_at names files code n item has e = (says_at names files code has.0 n item has.1 (e has.0 (names, has.1.base))).read
+
+-- the theorem that it is
+pub theorem_at :
+    (names : List (List ℕ)) (files : FilesView) (code : Base) (n : ℕ) (item : store.Item) (proof : List (List ℕ)) (view : BaseView) → IsReadIn names files code view → is_proof_at view n ≡ true →
+    slice_get view.found n ≡ Some item → ((other : Item) → Says files item other → proof ≡ other.proof) → IsTheorem code n proof view
+theorem_at names files code n item proof view is sound at only = record { base = (names, is.base); said = (files, is.each); is_sound = sound; says = sym (only (said_at view n) (says_at names files code view n item is at)) }

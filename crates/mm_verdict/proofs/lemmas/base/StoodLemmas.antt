@@ -1,0 +1,169 @@
+-- A label that means an assertion at an item is the label of one that comes before the item.
+use Rattle.std.proofs.Common.{◌≡◌, ◌<◌, ◌≤◌, ◌⊎◌, ℕ, zero, suc, cond, Bool, true, false, bytes_eq, option_to_list, Option, Some, None, List, [], ◌∷◌, ◌++◌, length, take, slice_get, refl, sym, ◌∙◌, ap, subst, inl, inr, arith, is_none, append-nil}
+use Rattle.std.proofs.Math.Decide.{dec_lt}
+use Rattle.std.proofs.lemmas.Slice.Eq.{bytes_eq-Decides}
+use Rattle.std.proofs.Math.Seq.{take-suc, take-length}
+use Rattle.std.proofs.lemmas.Bool.{cases_Bool, false≢true, and_from}
+use Rattle.mm_frame.specs.declared.FrameNumber.{FrameNumber}
+use Rattle.mm_frame.specs.declared.base.Resolved.TheVariants as answers
+use Rattle.mm_frame.specs.Language.Base.{BaseView, said_at, before, is_sound_at, fault_by}
+use Rattle.mm_frame.specs.Language.Frame.{Assertion}
+use Rattle.mm_frame.specs.Language.Framing.{frame, meaning, resolve, resolve_from}
+use Rattle.mm_frame.specs.mm_statement.Language.Item.{Kind, Floating, Essential, Axiom, Theorem, Item, passed, is_assertion, is_labelled, labels_of, has}
+use Rattle.mm_frame.specs.Language.Laws.{KeptNext}
+use Rattle.mm_frame.specs.Language.Resolving.{Resolves}
+use Rattle.mm_frame.specs.Language.Scope.{stays}
+use Rattle.mm_frame.specs.Language.Sound.{fault, judged, sound_items}
+use Rattle.mm_verdict.specs.Language.Citing.{means_assertion}
+
+labelled : (b : Bool) (o : Option (List ℕ)) (label : List ℕ) → has (cond b (option_to_list o) []) label ≡ true → (b ≡ true) × (o ≡ Some label)
+labelled true (Some l) label h = elim (cases_Bool (bytes_eq label l)) [
+  | inl e ↦ (refl, ap Some (sym ((bytes_eq-Decides label l).0 e)))
+  | inr e ↦ absurd (false≢true (rw e at h))
+]
+labelled _ _ label h = absurd (false≢true h)
+
+sound_label : (kind : Kind) → is_labelled kind ≡ true → is_none (fault_by kind None) ≡ true
+sound_label Floating e = refl
+sound_label Essential e = refl
+sound_label Axiom e = refl
+sound_label Theorem e = refl
+sound_label _ e = absurd (false≢true e)
+
+take_end : {X : Type 0} (xs : List X) (n : ℕ) → (n < length xs → ⊥) → take (suc n) xs ≡ take n xs
+take_end [] zero h = refl
+take_end [] (suc n) h = refl
+take_end (x ∷ xs) zero h = absurd (h (omega arith))
+take_end (x ∷ xs) (suc n) h = ap (λ w. x ∷ w) (take_end xs n (λ l. h (omega (arith, l))))
+
+-- what is at a place of a longer list
+longer : {X : Type 0} (xs : List X) (x : X) (n : ℕ) (y : X) → slice_get (xs ++ x ∷ []) n ≡ Some y → (slice_get xs n ≡ Some y) ⊎ ((n ≡ length xs) × (y ≡ x))
+longer [] x zero y e = inr (refl, cc)
+longer [] x (suc n) y e = cc
+longer (z ∷ xs) x zero y e = inl e
+longer (z ∷ xs) x (suc n) y e = elim (longer xs x n y e) [ inl h ↦ inl h | inr h ↦ inr (ap suc h.0, h.1) ]
+
+within : {X : Type 0} (xs : List X) (n : ℕ) (y : X) → slice_get xs n ≡ Some y → n < length xs
+within [] n y e = cc
+within (x ∷ xs) zero y e = omega arith
+within (x ∷ xs) (suc n) y e = let l = within xs n y e in omega (arith, l)
+
+take_less : {X : Type 0} (xs ys : List X) (n : ℕ) → n ≤ length xs → take n (xs ++ ys) ≡ take n xs
+take_less xs ys zero l = refl
+take_less [] ys (suc n) l = absurd (omega (arith, l))
+take_less (x ∷ xs) ys (suc n) l = ap (λ w. x ∷ w) (take_less xs ys n (omega (arith, l)))
+
+one_moved : {X : Type 0} (xs : List X) (x : X) (ys : List X) → (xs ++ x ∷ []) ++ ys ≡ xs ++ x ∷ ys
+one_moved [] x ys = refl
+one_moved (z ∷ xs) x ys = ap (λ w. z ∷ w) (one_moved xs x ys)
+
+pub longer_by_one : {X : Type 0} (xs : List X) (x : X) → length (xs ++ x ∷ []) ≡ suc (length xs)
+longer_by_one [] x = refl
+longer_by_one (z ∷ xs) x = ap suc (longer_by_one xs x)
+
+module _ (view : BaseView) (next : KeptNext) where
+  -- item n, judged
+  abbrev judged_at : ℕ → Item
+  judged_at n = judged (said_at view n) (fault (before view n) (said_at view n))
+
+  one_more : (i : ℕ) → i < length view.said → before view (suc i) ≡ before view i ++ judged_at i ∷ []
+  one_more i l = ap sound_items (take-suc view.said i passed l) ∙ next (take i view.said) (said_at view i)
+
+  no_more : (i : ℕ) → (i < length view.said → ⊥) → before view (suc i) ≡ before view i
+  no_more i m = ap sound_items (take_end view.said i m)
+
+  count_before : (i : ℕ) → i ≤ length view.said → length (before view i) ≡ i
+  count_before zero l = refl
+  count_before (suc i) l = ap length (one_more i (omega (arith, l))) ∙ longer_by_one (before view i) (judged_at i) ∙ ap suc (count_before i (omega (arith, l)))
+
+  -- what is at place n before item i
+  record Stood (i n : ℕ) (item : Item) : Type 0 where
+    earlier : n < i
+    is : item ≡ judged_at n
+    front : take n (before view i) ≡ before view n
+
+  stood_next :
+      (i n : ℕ) (item : Item) → (slice_get (before view i) n ≡ Some item → Stood i n item) → slice_get (before view (suc i)) n ≡ Some item →
+      Dec (i < length view.said) → Stood (suc i) n item
+  stood_next i n item less e (yes l) =
+      let count = count_before i (omega (arith, l)) in
+      elim (longer (before view i) (judged_at i) n item (ap (λ items. slice_get items n) (sym (one_more i l)) ∙ e)) [
+        | inl h ↦
+            let s = less h in
+            let few = within (before view i) n item h in
+            let m = s.earlier in
+            record {
+              earlier = omega (arith, m);
+              is = s.is;
+              front = ap (take n) (one_more i l) ∙ take_less (before view i) (judged_at i ∷ []) n (omega (arith, few)) ∙ s.front;
+            }
+        | inr h ↦
+            let last : n ≡ i = h.0 ∙ count in
+            let whole = take_less (before view i) (judged_at i ∷ []) (length (before view i)) (omega arith) ∙ take-length (before view i) in
+            let same = ap (λ m. take m (before view i ++ judged_at i ∷ [])) h.0 ∙ whole ∙ ap (before view) (sym last) in
+            record { earlier = omega (arith, last); is = h.1 ∙ ap judged_at (sym last); front = ap (take n) (one_more i l) ∙ same }
+      ]
+  stood_next i n item less e (no m) =
+      let s = less (ap (λ items. slice_get items n) (sym (no_more i m)) ∙ e) in
+      let k = s.earlier in
+      record { earlier = omega (arith, k); is = s.is; front = ap (take n) (no_more i m) ∙ s.front }
+
+  stood : (i n : ℕ) (item : Item) → slice_get (before view i) n ≡ Some item → Stood i n item
+  stood zero n item e = cc
+  stood (suc i) n item e = stood_next i n item (stood i n item) e (dec_lt i (length view.said))
+
+-- the item that a label means, if it means an assertion
+record Found (whole front back : List Item) (label : List ℕ) : Type 0 where
+  place : ℕ
+  item : Item
+  there : slice_get back place ≡ Some item
+  label_is : has (labels_of item) label ≡ true
+  framed : is_assertion item.kind ≡ true
+  means : resolve_from whole front back label ≡ Assertion (frame (front ++ take place back) item)
+
+meaning_framed : (whole front back : List Item) (item : Item) → means_assertion (meaning whole front item back) ≡ true → (is_assertion item.kind ≡ true) × (meaning whole front item back ≡ Assertion (frame front item))
+meaning_framed whole front back item h = elim (cases_Bool (is_assertion item.kind)) [
+  | inl e ↦ (e, rw e refl)
+  | inr e ↦ elim (cases_Bool (stays back)) [
+    | inl s ↦ absurd (false≢true (rw (e, s) at h))
+    | inr s ↦ absurd (false≢true (rw (e, s) at h))
+  ]
+]
+
+found : (whole front back : List Item) (label : List ℕ) → means_assertion (resolve_from whole front back label) ≡ true → Found whole front back label
+found whole front [] label h = absurd (false≢true h)
+found whole front (item ∷ back) label h = elim (cases_Bool (has (labels_of item) label)) [
+  | inl e ↦
+      let m = meaning_framed whole front back item (rw e at h) in
+      record { place = 0; item = item; there = refl; label_is = e; framed = m.0; means = rw e (m.1 ∙ ap (λ items. Assertion (frame items item)) (sym (append-nil front))) }
+  | inr e ↦
+      let f = found whole (front ++ item ∷ []) back label (rw e at h) in
+      record {
+        place = suc f.place;
+        item = f.item;
+        there = f.there;
+        label_is = f.label_is;
+        framed = f.framed;
+        means = rw e (f.means ∙ ap (λ items. Assertion (frame items f.item)) (one_moved front item (take f.place back)));
+      }
+]
+
+-- a sound item, known by what takes its place
+judged_sound : (item : Item) (label : List ℕ) (o : Option (ℕ × FrameNumber)) → has (labels_of (judged item o)) label ≡ true → o ≡ None
+judged_sound item label None h = refl
+judged_sound item label (Some at) h = absurd (false≢true h)
+
+pub assertion_stands : KeptNext → (view : BaseView) (i : ℕ) (label : List ℕ) → means_assertion (resolve (before view i) label) ≡ true → (k : ℕ) × Resolves view i label (answers.Assertion k)
+assertion_stands next view i label h =
+    let f = found (before view i) [] (before view i) label h in
+    let k = f.place in
+    let s = stood view next i k f.item f.there in
+    let said = said_at view k in
+    let here : has (labels_of (judged_at view next k)) label ≡ true = subst (λ (item : Item). has (labels_of item) label ≡ true) s.is f.label_is in
+    let none = judged_sound said label (fault (before view k) said) here in
+    let same : f.item ≡ said = s.is ∙ ap (judged said) none in
+    let l = labelled (is_labelled said.kind) said.label label (subst (λ (item : Item). has (labels_of item) label ≡ true) same f.label_is) in
+    let sound : is_sound_at view k ≡ true = ap (λ o. is_none (fault_by said.kind o)) none ∙ sound_label said.kind l.0 in
+    let framed = (and_from (is_sound_at view k) (is_assertion (said_at view k).kind) sound (subst (λ (item : Item). is_assertion item.kind ≡ true) same f.framed)) in
+    let shown = and_from (is_sound_at view k) (is_labelled said.kind) sound l.0 in
+    (k, (record { earlier = s.earlier; carrier = record { shown = shown; label_is = l.1 } }, framed, f.means ∙ ap (λ items. Assertion (frame items f.item)) s.front ∙ ap (λ item. Assertion (frame (before view k) item)) same))

@@ -1,0 +1,124 @@
+-- A proof that is decoded, and what a run says of it.
+use Rattle.std.proofs.Common.{◌≡◌, ℕ, zero, suc, ◌+◌, ◌<◌, true, false, cond, Some, Ok, List, [], ◌∷◌, length, take, get_or, refl, sym, ◌∙◌, ap, subst, arith, inl, inr, slice_get, All, count_by}
+use Rattle.std.specs.Option.{option_map}
+use Rattle.std.proofs.lemmas.List.{take-map, length-take-le}
+use Rattle.std.proofs.lemmas.List.Elements.{All-nil, All-cons}
+use Rattle.std.proofs.lemmas.List.Sums.{sum_by-cons}
+use Rattle.std.proofs.lemmas.Option.{slice_get-map, slice_get_within}
+use Rattle.mm_frame.specs.declared.base.Base.{Base}
+use Rattle.mm_frame.specs.declared.base.Resolved.{Resolved}
+use Rattle.mm_frame.specs.declared.base.Resolved.TheVariants as answers
+use Rattle.mm_frame.specs.Language.Base.{BaseView, before, said_at, is_framed_at}
+use Rattle.mm_frame.specs.Language.Frame.{Symbol, Setting}
+use Rattle.mm_frame.specs.Language.Framing.{mandatory_numbers}
+use Rattle.mm_frame.specs.Language.Answering.{IsBase}
+use Rattle.mm_verdict.specs.Language.BaseLabels.{AreActive, setting_at}
+use Rattle.mm_verdict.specs.Language.Decoding.{decoding}
+use Rattle.mm_verdict.specs.Language.DecodingLaws.{DecodesSurely, MandatoryAreActive}
+use Rattle.mm_verdict.specs.Language.VerdictAt.{mandatory_labels}
+use Rattle.mm_verdict.specs.Language.Expansion.{Step, Saved, NotKnown}
+use Rattle.mm_verdict.specs.Language.Machine.{AreDecoded, is_save}
+use Rattle.mm_verdict.specs.Language.Run.{AreDone}
+use Rattle.mm_verdict.specs.Language.DecodedSteps.{meant, decoded_steps, decoding_of, AreEntries, entry_step, entry_steps, label_table, labels_at}
+use Rattle.mm_verdict.specs.Code.Decoded.{WhereActive}
+use Rattle.mm_verdict.specs.Code.Judged.{IsDecoding, IsTheorem, done_by}
+use Rattle.mm_verdict.specs.Code.NamedItems.{IsNamedBy}
+use Rattle.mm_verdict.specs.Code.Tasks.{AreSavedBefore, IsSavedWithin, RunSays, actions_mean, saves_by, saves_in}
+use Rattle.mm_verdict.specs.Code.UsedLabels.{IsPart}
+use Rattle.mm_verdict.specs.declared.reading.Decoding.{Decoding}
+use Rattle.mm_verdict.specs.declared.step.Action.{Action}
+use Rattle.mm_verdict.specs.declared.step.Action.TheVariants as actions
+use Rattle.mm_verdict.specs.declared.step.ProofStep.{ProofStep}
+use Rattle.mm_verdict.specs.declared.stepping.Outcome.{Outcome}
+use Rattle.mm_verdict.specs.declared.stepping.Outcome.TheVariants.{Proved, Fault, Unknown, NotOne, Other}
+use Rattle.mm_verdict.proofs.lemmas.base.FrameLemmas.{framed_proof}
+use Rattle.mm_verdict.proofs.lemmas.verdicts.ItemLemmas.{active_usable}
+use Rattle.mm_verdict.proofs.lemmas.verdicts.Part.{known_part}
+use Rattle.mm_verdict.proofs.lemmas.machine.StepLemmas.{part_ends}
+use Rattle.mm_verdict.proofs.lemmas.machine.UsedLemmas.{part_entries}
+
+-- ---- entries
+
+pub named_by : (code : Base) (view : BaseView) (i : ℕ) → IsBase view code → i < length view.said → (labels : List Resolved) → AreEntries view i labels → All (IsNamedBy code) labels
+named_by code view i base within [] entries = All-nil (IsNamedBy code)
+named_by code view i base within (l ∷ labels) entries = All-cons (IsNamedBy code) l labels (record { view = view; i = i; base = base; within = within; entry = entries.0 }) (named_by code view i base within labels entries.1)
+
+-- so are those of them that are kept
+pub used_named : (code : Base) (view : BaseView) (i : ℕ) → IsBase view code → i < length view.said → (labels used : List Resolved) → IsPart labels used → AreEntries view i labels → All (IsNamedBy code) used
+used_named code view i base within labels used part entries = named_by code view i base within used (part_entries view i labels used part entries)
+
+-- no entry is a save
+entry_saves : (view : BaseView) (labels : List Resolved) (k : ℕ) → is_save (get_or (entry_steps view labels) k NotKnown) ≡ false
+entry_saves view [] k = refl
+entry_saves view (l ∷ labels) zero = one l
+  where
+    one : (l : Resolved) → is_save (entry_step view l) ≡ false
+    one (answers.Hypothesis j) = refl
+    one (answers.Assertion j) = refl
+    one answers.Inactive = refl
+    one answers.Unknown = refl
+entry_saves view (l ∷ labels) (suc k) = entry_saves view labels k
+
+-- ---- saves
+
+one_saves : (view : BaseView) (labels : List Resolved) (action : Action) → cond (is_save (meant (entry_steps view labels) action)) 1 0 ≡ saves_by action
+one_saves view labels (actions.Label k) = ap (λ b. cond b 1 0) (entry_saves view labels k)
+one_saves view labels _ = refl
+
+saves_count : (view : BaseView) (labels : List Resolved) (steps : List ProofStep) → count_by is_save (actions_mean (entry_steps view labels) steps) ≡ saves_in steps
+saves_count view labels [] = refl
+saves_count view labels (step ∷ steps) =
+    let names = entry_steps view labels in
+    sum_by-cons (λ s. cond (is_save s) 1 0) (meant names step.action) (actions_mean names steps)
+    ∙ ap (λ n. n + count_by is_save (actions_mean names steps)) (one_saves view labels step.action)
+    ∙ ap (λ n. saves_by step.action + n) (saves_count view labels steps)
+    ∙ sym (sum_by-cons (λ (s : ProofStep). saves_by s.action) step steps)
+
+-- what decoding makes sure of, said of the code's steps
+pub saved_before : (place : Setting) (view : BaseView) (labels : List Resolved) (steps : List ProofStep) → AreDecoded place (actions_mean (entry_steps view labels) steps) → AreSavedBefore steps
+saved_before place view labels steps decoded n step at = by_action step.action refl
+  where
+    counted : count_by is_save (take n (actions_mean (entry_steps view labels) steps)) ≡ saves_in (take n steps)
+    counted = ap (count_by is_save) (take-map (λ (s : ProofStep). meant (entry_steps view labels) s.action) n steps) ∙ saves_count view labels (take n steps)
+
+    by_action : (action : Action) → step.action ≡ action → IsSavedWithin (saves_in (take n steps)) action
+    by_action (actions.Saved k) e =
+        let there : slice_get (actions_mean (entry_steps view labels) steps) n ≡ Some (Saved k) =
+        slice_get-map (λ (s : ProofStep). meant (entry_steps view labels) s.action) steps n ∙ ap (λ o. option_map (λ (s : ProofStep). meant (entry_steps view labels) s.action) o) at ∙ ap (λ a. Some (meant (entry_steps view labels) a)) e in
+        subst (λ m. k < m) counted (decoded.saved n k there)
+    by_action _ e = tt
+
+pub decoded_saved : MandatoryAreActive → DecodesSurely → (code : Base) (i : ℕ) (proof : List (List ℕ)) (d : Decoding) (view : BaseView) → IsDecoding code i proof d view → AreSavedBefore d.steps.items
+decoded_saved active sure code i proof d view is =
+    let usable = active_usable view i (mandatory_numbers (before view i) (said_at view i)) (active view i is.theorem.said) in
+    saved_before (setting_at view i) view d.labels.items d.steps.items (sure (setting_at view i) (mandatory_labels view i) (said_at view i).proof (decoded_steps view d proof) usable is.decodes).0
+
+-- ---- what decodes
+
+-- what decoding says of these hypotheses, it says of the mandatory ones
+pub decoded : (code : Base) (i : ℕ) (proof : List (List ℕ)) (d : Decoding) (numbers : List ℕ) (view : BaseView) → IsTheorem code i proof view →
+    ((v : BaseView) → IsBase v code → is_framed_at v i ≡ true → numbers ≡ mandatory_numbers (before v i) (said_at v i)) → AreActive view i (mandatory_numbers (before view i) (said_at view i)) →
+    WhereActive code i numbers (λ v. decoding_of v i numbers proof ≡ Ok (decoded_steps v d proof)) → WhereActive code i numbers (λ v. AreEntries v i d.labels.items) →
+    WhereActive code i numbers (λ v. entry_steps v d.labels.items ≡ label_table (labels_at v numbers) proof) → IsDecoding code i proof d view
+decoded code i proof d numbers view theorem mandatory active ok entries table =
+    let are = mandatory view theorem.base (framed_proof view i theorem.is_sound) in
+    let there = subst (λ (ns : List ℕ). AreActive view i ns) (sym are) active in
+    record {
+      theorem = theorem;
+      decodes = ap (λ (words : List (List ℕ)). decoding (setting_at view i) (labels_at view (mandatory_numbers (before view i) (said_at view i))) words) theorem.says
+          ∙ ap (λ (ns : List ℕ). decoding (setting_at view i) (labels_at view ns) proof) (sym are) ∙ ok view theorem.base there;
+      entries = entries view theorem.base there;
+      table = table view theorem.base there ∙ ap (λ (ns : List ℕ). label_table (labels_at view ns) proof) are;
+    }
+
+-- ---- steps that are done
+
+pub done_says : (place : Setting) (statement : List Symbol) (steps : List Step) (outcome : Outcome) → RunSays place steps statement outcome → AreDone place steps (done_by (length steps) outcome)
+done_says place statement steps Proved r = inr ((statement ∷ [], rw (known_part steps r.0) r.1), sym (ap length (known_part steps r.0)))
+done_says place statement steps (Fault number n) r = inl (n, number, r, refl)
+done_says place statement steps (Unknown n) r =
+    let ends = part_ends steps n r.0.1 r.0.0 in
+    let l = slice_get_within steps n NotKnown r.0.0 in
+    inr (r.1, sym (ap length ends ∙ length-take-le n steps (omega arith)))
+done_says place statement steps NotOne r = inr ((r.1, rw (known_part steps r.0) r.2), sym (ap length (known_part steps r.0)))
+done_says place statement steps Other r = inr ((r.1 ∷ [], rw (known_part steps r.0) r.2), sym (ap length (known_part steps r.0)))

@@ -1,0 +1,50 @@
+-- Readings in order: all steps, or the first fault.
+use Rattle.std.proofs.Common.{◌≡◌, Result, Ok, Err, List, [], ◌∷◌, ◌++◌, refl, ap, ◌↔◌}
+use Rattle.std.specs.List.{AllByRecursion}
+use Rattle.mm_verdict.specs.Language.Expansion.{Step}
+use Rattle.mm_verdict.specs.Language.Decoding.{Reading, Steps, with_step, read_first, in_order}
+use Rattle.mm_verdict.specs.Language.DecodingLaws.{ReadsStep, IsFirstDecodingFault}
+use Rattle.mm_verdict.specs.declared.Spot.{Spot}
+use Rattle.mm_verdict.specs.declared.ProofNumber.{ProofNumber}
+use Rattle.mm_verdict.specs.declared.step.ProofFault.{ProofFault}
+
+-- a step and those after it
+abbrev pub ReadsOn : Spot → Result Step ProofNumber → Steps → List (Step × Spot) → Type 0
+ReadsOn spot r rest steps = (step : Step) × (more : List (Step × Spot)) × (r ≡ Ok step) × (rest ≡ Ok more) × (steps ≡ (step, spot) ∷ more)
+
+with_ok : (step : Step) (spot : Spot) (rest : Steps) (steps : List (Step × Spot)) → with_step step spot rest ≡ Ok steps → (more : List (Step × Spot)) × (rest ≡ Ok more) × (steps ≡ (step, spot) ∷ more)
+with_ok step spot (Ok more) steps e = (more, refl, cc)
+with_ok step spot (Err fault) steps e = cc
+
+pub read_ok : (spot : Spot) (r : Result Step ProofNumber) (rest : Steps) (steps : List (Step × Spot)) → read_first spot r rest ≡ Ok steps → ReadsOn spot r rest steps
+read_ok spot (Ok step) rest steps e = let w = with_ok step spot rest steps e in (step, w.0, refl, w.1, w.2)
+read_ok spot (Err number) rest steps e = cc
+
+with_err : (step : Step) (spot : Spot) (rest : Steps) (fault : ProofFault) → with_step step spot rest ≡ Err fault → rest ≡ Err fault
+with_err step spot (Ok more) fault e = cc
+with_err step spot (Err other) fault e = e
+
+further : (reading : Reading) (readings : List Reading) (fault : ProofFault) → ReadsStep reading → IsFirstDecodingFault readings fault → IsFirstDecodingFault (reading ∷ readings) fault
+further reading readings fault is f = record { front = reading ∷ f.front; back = f.back; whole = ap (λ (w : List Reading). reading ∷ w) f.whole; before = (is, f.before) }
+
+-- what is reported of a fault that is read first
+told_here : (number : ProofNumber) (spot : Spot) (fault : ProofFault) → ◌≡◌ {A = Steps} (Err (record { number = number; spot = spot })) (Err fault) → record { number = number; spot = spot } ≡ fault
+told_here number spot fault e = cc
+
+found : (spot : Spot) (r : Result Step ProofNumber) (readings : List Reading) (fault : ProofFault) → (in_order readings ≡ Err fault → IsFirstDecodingFault readings fault) → read_first spot r (in_order readings) ≡ Err fault →
+    IsFirstDecodingFault (record { spot = spot; step = r } ∷ readings) fault
+found spot (Ok step) readings fault rest e = further (record { spot = spot; step = Ok step }) readings fault (step, refl) (rest (with_err step spot (in_order readings) fault e))
+found spot (Err number) readings fault rest e =
+    let same = told_here number spot fault e in
+    record { front = []; back = readings; whole = ap (λ (w : ProofFault). record { spot = w.spot; step = Err w.number } ∷ readings) same; before = tt }
+
+fault_found : (readings : List Reading) (fault : ProofFault) → in_order readings ≡ Err fault → IsFirstDecodingFault readings fault
+fault_found [] fault e = cc
+fault_found (reading ∷ readings) fault e = found reading.spot reading.step readings fault (fault_found readings fault) e
+
+passed : (front back : List Reading) (fault : ProofFault) → AllByRecursion ReadsStep front → in_order (front ++ record { spot = fault.spot; step = Err fault.number } ∷ back) ≡ Err fault
+passed [] back fault all = refl
+passed (reading ∷ front) back fault all = rw (all.0.1, passed front back fault all.1) refl
+
+pub first_fault : (readings : List Reading) (fault : ProofFault) → (in_order readings ≡ Err fault) ↔ IsFirstDecodingFault readings fault
+first_fault readings fault = (fault_found readings fault, λ f. rw f.whole (passed f.front f.back fault f.before))

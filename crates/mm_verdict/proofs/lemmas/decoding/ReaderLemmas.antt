@@ -1,0 +1,62 @@
+-- The reader of letters, letter by letter.
+use Rattle.std.proofs.Common.{◌≡◌, ℕ, ◌+◌, Bool, false, ◌==◌, cond, Result, Ok, Err, List, [], ◌∷◌, ◌++◌, map, refl, ap, append_assoc, ne_eqb, ◌<◌, length, get_or, drop, add-one, drop-cons, IfErr}
+use Rattle.std.proofs.lemmas.List.{map-append}
+use Rattle.std.specs.List.{enumerate_from}
+use Rattle.mm_verdict.specs.Language.Expansion.{Step}
+use Rattle.mm_verdict.specs.Language.Numbers.{is_digit}
+use Rattle.mm_verdict.specs.Language.Letters.{Letter, letter_at}
+use Rattle.mm_verdict.specs.Language.Decoding.{Steps, with_step, nameable, word_spot}
+use Rattle.mm_verdict.specs.Code.LeftToRight.{read_behind, read_on, with_steps}
+use Rattle.mm_verdict.specs.Language.DecodedSteps.{meant}
+use Rattle.mm_verdict.specs.Code.Coded.{meant_steps, letters_give}
+use Rattle.mm_verdict.specs.Code.Reader.{Aim}
+use Rattle.mm_verdict.specs.declared.Spot.{Spot}
+use Rattle.mm_verdict.specs.declared.ProofNumber.{ProofNumber}
+use Rattle.mm_verdict.specs.declared.step.Action.{Action}
+use Rattle.mm_verdict.specs.declared.step.ProofStep.{ProofStep}
+
+abbrev pub step_at : Action → Spot → ProofStep
+step_at action spot = record { action = action; spot = spot }
+
+-- one more step that was read
+pub with_one : (done : List (Step × Spot)) (step : Step) (spot : Spot) (rest : Steps) → with_steps (done ++ (step, spot) ∷ []) rest ≡ with_steps done (with_step step spot rest)
+with_one done step spot (Ok more) = ap Ok (append_assoc done ((step, spot) ∷ []) more)
+with_one done step spot (Err fault) = refl
+
+pub meant_more : (names : List Step) (steps : List ProofStep) (action : Action) (spot : Spot) → meant_steps names (steps ++ step_at action spot ∷ []) ≡ meant_steps names steps ++ (meant names action, spot) ∷ []
+meant_more names steps action spot = map-append (λ (step : ProofStep). (meant names step.action, step.spot)) steps (step_at action spot ∷ [])
+
+-- a letter that is no digit, as a step
+pub step_rest :
+    (names : List Step) (close : Spot) (total : Steps) (saves n byte : ℕ) (spot : Spot) (action : Action) (ls : List Letter) (steps more : List ProofStep) (next : ℕ) →
+    is_digit byte ≡ false → ◌≡◌ {A = Result Step ProofNumber} (Ok (meant names action)) (read_behind (nameable names saves) n byte) →
+    more ≡ steps ++ record { action = action; spot = spot } ∷ [] → next ≡ cond (byte == 90) (saves + 1) saves →
+    with_steps (meant_steps names steps) (read_on names close saves n (record { byte = byte; spot = spot } ∷ ls)) ≡ total →
+    with_steps (meant_steps names more) (read_on names close next 0 ls) ≡ total
+step_rest names close total saves n byte spot action ls steps more next other says more_is next_is rest =
+    rw (more_is, next_is, meant_more names steps action spot, with_one (meant_steps names steps) (meant names action) spot (read_on names close (cond (byte == 90) (saves + 1) saves) 0 ls)) (rw (other, ← says) at rest)
+
+not_saved : (b : Bool) (saves : ℕ) → b ≡ false → saves ≡ cond b (saves + 1) saves
+not_saved b saves e = rw e refl
+
+pub no_save : (byte saves : ℕ) → (byte ≡ 90 → ⊥) → saves ≡ cond (byte == 90) (saves + 1) saves
+no_save byte saves other = not_saved (byte == 90) saves (ne_eqb byte 90 other)
+
+-- the next element of a list, and those after it
+pub next_is : {X : Type 0} (xs : List X) (k : ℕ) (d : X) → k < length xs → drop k xs ≡ get_or xs k d ∷ drop (k + 1) xs
+next_is xs k d less = rw (add-one) (drop-cons xs k d less)
+
+-- the letters of a word from the k-th on
+abbrev pub letters_on : ℕ → ℕ → List ℕ → List Letter
+letters_on n k word = map (letter_at n) (enumerate_from k (drop k word))
+
+pub letter_more : (n k : ℕ) (word : List ℕ) → k < length word → letters_on n k word ≡ record { byte = get_or word k 0; spot = record { word = n; letter = k } } ∷ letters_on n (k + 1) word
+letter_more n k word less = ap (λ (w : List ℕ). map (letter_at n) (enumerate_from k w)) (next_is word k 0 less)
+
+-- what the reader is to give for the letters of a proof
+abbrev pub aim_of : List Step → List (List ℕ) → ℕ → Aim
+aim_of names words from = record { names = names; close = word_spot (length words); total = letters_give names words from }
+
+pub if_err : {T E : Type 0} (P Q : E → Type 0) (r : Result T E) → ((e : E) → P e → Q e) → IfErr r P → IfErr r Q
+if_err P Q (Ok x) more is = is
+if_err P Q (Err e) more is = more e is

@@ -1,0 +1,90 @@
+-- There are at most as many steps as bytes.
+use Rattle.std.proofs.Common.{◌≡◌, ℕ, suc, ◌+◌, ◌<◌, ◌≤◌, cond, Result, Ok, List, [], ◌∷◌, ◌++◌, length, map, drop, refl, sym, ap, ◌∙◌, arith, inl, inr, flat_map}
+use Rattle.std.specs.List.{AllByRecursion, list_any, before_first, after_first}
+use Rattle.std.proofs.lemmas.Bool.{cases_Bool}
+use Rattle.std.proofs.lemmas.List.{length-map, length-append}
+use Rattle.mm_verdict.specs.Language.Decoding.{Reading, in_order, each_word, read_label, read_word, each_group, is_save_letter, is_close, is_compressed, compressed_steps, letter_steps, steps_in, word_spot, decoding}
+use Rattle.mm_verdict.specs.Language.Expansion.{Step, Named}
+use Rattle.mm_frame.specs.Language.Frame.{Setting}
+use Rattle.mm_verdict.specs.Language.Letters.{Letter, Group, cut_group, groups_behind, groups, letters_from}
+use Rattle.mm_verdict.specs.Language.Numbers.{is_digit}
+use Rattle.mm_verdict.specs.Language.Verdict.{Decoded}
+use Rattle.mm_verdict.specs.declared.Spot.{Spot}
+use Rattle.mm_verdict.specs.declared.ProofNumber.{ProofNumber}
+use Rattle.mm_verdict.proofs.lemmas.decoding.OrderLemmas.{read_ok}
+use Rattle.mm_verdict.proofs.lemmas.decoding.ReadOnLemmas.{bytes_from}
+use Rattle.mm_verdict.proofs.lemmas.decoding.SureLemmas.{read_behind, decoded_ok}
+
+abbrev bytes_of : List (List ℕ) → ℕ
+bytes_of words = length (flat_map (λ word. word) words)
+
+-- a step for each reading
+order_length : (readings : List Reading) (steps : List (Step × Spot)) → in_order readings ≡ Ok steps → length steps ≡ length readings
+order_length [] steps e = let k : steps ≡ [] = cc in ap length k
+order_length (reading ∷ readings) steps e =
+    let r = read_ok reading.spot reading.step (in_order readings) steps e in
+    ap length r.4 ∙ ap suc (order_length readings r.1 r.3)
+
+words_length : (read : List ℕ → Result Step ProofNumber) (n : ℕ) (words : List (List ℕ)) → length (each_word read n words) ≡ length words
+words_length read n [] = refl
+words_length read n (word ∷ words) = ap suc (words_length read (n + 1) words)
+
+groups_length : (labels : List Step) (close : Spot) (saves : ℕ) (gs : List Group) → length (each_group labels close saves gs) ≡ length gs
+groups_length labels close saves [] = refl
+groups_length labels close saves (g ∷ gs) = ap suc (groups_length labels close (cond (is_save_letter g.last) (saves + 1) saves) gs)
+
+cut_short : (ds : List Letter) → length (cut_group ds) ≤ length ds
+cut_short [] = omega arith
+cut_short (d ∷ ds) = omega arith
+
+-- each group has a letter
+groups_short : (ds ls : List Letter) → length (groups_behind ds ls) ≤ length ds + length ls
+groups_short ds [] = let s = cut_short ds in omega arith
+groups_short ds (l ∷ ls) = elim (cases_Bool (is_digit l.byte)) [
+  | inl e ↦ rw e (let s = groups_short (ds ++ l ∷ []) ls in omega (arith, length-append ds (l ∷ [])))
+  | inr e ↦ rw e (let s = groups_short [] ls in omega arith)
+]
+
+behind_short : (n : ℕ) (words : List (List ℕ)) → bytes_of (drop n words) ≤ bytes_of words
+behind_short (suc n) (word ∷ words) = let s = behind_short n words in omega (arith, length-append word (flat_map (λ word. word) words))
+behind_short _ _ = omega arith
+
+words_short : (words : List (List ℕ)) → AllByRecursion (λ word. 0 < length word) words → length words ≤ bytes_of words
+words_short [] all = omega arith
+words_short (word ∷ words) all = let s = words_short words all.1 in omega (arith, length-append word (flat_map (λ word. word) words))
+
+letters_short : (mandatory listed : List (List ℕ)) (n : ℕ) (words : List (List ℕ)) (close : Spot) (steps : List (Step × Spot)) → letter_steps mandatory listed n words close ≡ Ok steps → length steps ≤ bytes_of words
+letters_short mandatory listed n words close steps e =
+    let a = order_length (each_group (map Named (mandatory ++ listed)) close 0 (groups (letters_from n words))) steps e in
+    let b = groups_length (map Named (mandatory ++ listed)) close 0 (groups (letters_from n words)) in
+    let c = groups_short [] (letters_from n words) in
+    let d = (sym (length-map (letters_from n words) (λ (l : Letter). l.byte)) ∙ ap length (bytes_from n words)) in
+    omega arith
+
+compressed_short : (place : Setting) (mandatory words : List (List ℕ)) (close : Spot) (steps : List (Step × Spot)) → compressed_steps place mandatory words close ≡ Ok steps → length steps ≤ bytes_of words
+compressed_short place mandatory words close steps e =
+    let r = read_behind (in_order (each_word (read_label place) 1 (before_first is_close words))) _ steps e in
+    elim (cases_Bool (list_any is_close words)) [
+      | inl has ↦
+          let s = letters_short mandatory (before_first is_close words) (length (before_first is_close words) + 2) (after_first is_close words) close steps (rw has at r.1) in
+          let t : bytes_of (after_first is_close words) ≤ bytes_of words = behind_short _ words in
+          omega arith
+      | inr none ↦ let bad = rw none at r.1 in cc
+    ]
+
+steps_short : (place : Setting) (mandatory words : List (List ℕ)) (close : Spot) (steps : List (Step × Spot)) → AllByRecursion (λ word. 0 < length word) words → steps_in place mandatory words close ≡ Ok steps → length steps ≤ bytes_of words
+steps_short place mandatory words close steps all e = elim (cases_Bool (is_compressed words)) [
+  | inl is ↦ let s = compressed_short place mandatory (drop 1 words) close steps (rw is at e) in let t = behind_short 1 words in omega arith
+  | inr normal ↦
+      let a = order_length (each_word (read_word place) 0 words) steps (rw normal at e) in
+      let b = words_length (read_word place) 0 words in
+      let c = words_short words all in
+      omega arith
+]
+
+pub decodes_short : (place : Setting) (mandatory words : List (List ℕ)) (d : Decoded) → AllByRecursion (λ word. 0 < length word) words → decoding place mandatory words ≡ Ok d → length d.steps ≤ length (flat_map (λ word. word) words)
+decodes_short place mandatory words d all e =
+    let s = decoded_ok (word_spot (length words)) (steps_in place mandatory words (word_spot (length words))) d e in
+    let t = steps_short place mandatory words (word_spot (length words)) s.0 all s.1 in
+    let k : length d.steps ≡ length s.0 = ap (λ (w : Decoded). length w.steps) s.2 ∙ length-map s.0 (λ (step : Step × Spot). step.0) in
+    omega arith

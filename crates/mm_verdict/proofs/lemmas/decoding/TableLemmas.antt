@@ -1,0 +1,118 @@
+-- The list of labels as the code reads it.
+use Rattle.std.proofs.Common.{◌≡◌, ℕ, ◌+◌, ◌<◌, ◌≤◌, true, false, Ok, Err, List, [], ◌∷◌, ◌++◌, length, map, drop, get_or, refl, sym, ap, ◌∙◌, subst, append_assoc}
+use Rattle.std.specs.List.{before_first}
+use Rattle.std.proofs.Math.ListN.{drop_of_length-le}
+use Rattle.std.proofs.lemmas.List.{append-nil, map-append}
+use Rattle.mm_verdict.specs.Language.Expansion.{Step, Named}
+use Rattle.mm_frame.specs.Language.Base.{BaseView}
+use Rattle.mm_verdict.specs.Language.BaseLabels.{label_at, setting_at, AreActive}
+use Rattle.mm_verdict.specs.Code.Coded.{TellsSteps, meant_steps, letters_give}
+use Rattle.mm_verdict.specs.Language.Decoding.{read_label, is_close, compressed_steps, word_spot}
+use Rattle.mm_verdict.specs.Language.DecodedSteps.{labels_at, entry_step, entry_steps, IsEntry, AreEntries}
+use Rattle.mm_verdict.specs.Code.Labels.{Lists, IsListed, TellsWord, BeginsTable}
+use Rattle.mm_verdict.specs.Code.Left.{AreLeft}
+use Rattle.mm_verdict.specs.Code.LeftToRight.{list_on}
+use Rattle.mm_frame.specs.declared.base.Resolved.{Resolved}
+use Rattle.mm_frame.specs.declared.base.Resolved.TheVariants as answers
+use Rattle.mm_verdict.specs.declared.step.ProofStep.{ProofStep}
+use Rattle.mm_verdict.specs.declared.ProofNumber.TheVariants.{P03}
+use Rattle.mm_verdict.specs.declared.step.Undecoded.{Undecoded}
+use Rattle.mm_verdict.specs.declared.step.Undecoded.TheVariants as errors
+use Rattle.mm_verdict.proofs.lemmas.decoding.ListLemmas.{list_is, word_is, none_more}
+use Rattle.mm_verdict.proofs.lemmas.decoding.ReadOnLemmas.{before_close}
+use Rattle.mm_verdict.proofs.lemmas.decoding.ReaderLemmas.{next_is}
+use Rattle.mm_verdict.proofs.lemmas.decoding.SureLemmas.{usable_is}
+
+pub entries_more : (view : BaseView) (i : ℕ) (labels : List Resolved) (meaning : Resolved) → AreEntries view i labels → IsEntry view i meaning → AreEntries view i (labels ++ meaning ∷ [])
+entries_more view i [] meaning all is = (is, tt)
+entries_more view i (label ∷ labels) meaning all is = (all.0, entries_more view i labels meaning all.1 is)
+
+-- before the first label
+pub starts : (view : BaseView) (i : ℕ) (mandatory words : List (List ℕ)) (labels : List Resolved) → entry_steps view labels ≡ map Named mandatory → AreEntries view i labels → Lists view i mandatory words 1 labels
+starts view i mandatory words labels e all = record {
+  listed = [];
+  labels_are = e ∙ ap (map Named) (sym (append-nil mandatory));
+  entries = all;
+  before = refl;
+  open_yet = refl;
+  rest = list_is (setting_at view i) mandatory (word_spot (length words)) (drop 1 words);
+}
+
+module _ (view : BaseView) (i : ℕ) (mandatory words : List (List ℕ)) (n : ℕ) (labels : List Resolved) (lists : Lists view i mandatory words n labels) where
+  -- the words after the first, by the one at n
+  by_next : (word : List ℕ) → n < length words → word ≡ get_or words n [] → drop 1 words ≡ lists.listed ++ word ∷ drop (n + 1) words
+  by_next word less is = lists.before ∙ ap (λ (w : List (List ℕ)). lists.listed ++ w) (next_is words n [] less ∙ ap (λ (w : List ℕ). w ∷ drop (n + 1) words) (sym is))
+
+  -- what the words from there on give, by the first of them
+  by_word : (word : List ℕ) → n < length words → word ≡ get_or words n [] → compressed_steps (setting_at view i) mandatory (drop 1 words)
+      (word_spot (length words)) ≡ list_on (setting_at view i) mandatory (word_spot (length words)) lists.listed n (word ∷ drop (n + 1) words)
+  by_word word less is = lists.rest ∙ ap (list_on (setting_at view i) mandatory (word_spot (length words)) lists.listed n) (next_is words n [] less ∙ ap (λ (w : List ℕ). w ∷ drop (n + 1) words) (sym is))
+
+  -- at the `)`
+  pub ends : (word : List ℕ) → n < length words → word ≡ get_or words n [] → is_close word ≡ true → IsListed view i mandatory words n labels
+  ends word less is close = record {
+    listed = lists.listed;
+    labels_are = lists.labels_are;
+    entries = lists.entries;
+    within = less;
+    whole = ap (before_first is_close) (by_next word less is ∙ ap (λ (w : List ℕ). lists.listed ++ w ∷ drop (n + 1) words) (word_is word close)) ∙ before_close lists.listed (drop (n + 1) words) lists.open_yet;
+    rest = by_word word less is ∙ rw close refl;
+  }
+
+  -- at a label that can be used
+  pub goes_on : (word : List ℕ) (meaning : Resolved) → n < length words → word ≡ get_or words n [] → is_close word ≡ false
+      → read_label (setting_at view i) word ≡ Ok (entry_step view meaning) → IsEntry view i meaning → Lists view i mandatory words (n + 1)
+      (labels ++ meaning ∷ [])
+  goes_on word meaning less is other read entry =
+      let named = (usable_is word ((setting_at view i).resolve word) (entry_step view meaning) read).0 in
+      record {
+        listed = lists.listed ++ word ∷ [];
+        labels_are = map-append (entry_step view) labels (meaning ∷ []) ∙ rw (lists.labels_are, named, ← append_assoc) (sym (map-append Named (mandatory ++ lists.listed) (word ∷ [])));
+        entries = entries_more view i labels meaning lists.entries entry;
+        before = by_next word less is ∙ sym (append_assoc lists.listed (word ∷ []) (drop (n + 1) words));
+        open_yet = none_more lists.listed word lists.open_yet other;
+        rest = by_word word less is ∙ rw (other, read) refl;
+      }
+
+  -- at a label that cannot be used
+  pub fails : (word : List ℕ) (e : Undecoded) → n < length words → word ≡ get_or words n [] → is_close word ≡ false
+      → TellsWord e n (read_label (setting_at view i) word) → TellsSteps e (compressed_steps (setting_at view i) mandatory (drop 1 words)
+      (word_spot (length words)))
+  fails word (errors.Fault fault) less is other tells = by_word word less is ∙ rw (other, tells.0, tells.1) refl
+  fails word errors.Memory less is other tells = tt
+
+  -- at the end
+  pub stops : length words ≤ n → compressed_steps (setting_at view i) mandatory (drop 1 words) (word_spot (length words)) ≡ Err (record { number = P03; spot = word_spot (length words) })
+  stops past = lists.rest ∙ ap (list_on (setting_at view i) mandatory (word_spot (length words)) lists.listed n) (drop_of_length-le words past)
+
+-- the mandatory hypotheses as entries
+pub hypothesis_steps : (view : BaseView) (numbers : List ℕ) → entry_steps view (map answers.Hypothesis numbers) ≡ map Named (labels_at view numbers)
+hypothesis_steps view [] = refl
+hypothesis_steps view (j ∷ numbers) = ap (λ (w : List Step). Named (label_at view j) ∷ w) (hypothesis_steps view numbers)
+
+pub hypothesis_entries : (view : BaseView) (i : ℕ) (numbers : List ℕ) → AreActive view i numbers → AreEntries view i (map answers.Hypothesis numbers)
+hypothesis_entries view i [] all = tt
+hypothesis_entries view i (j ∷ numbers) all = (all.0, hypothesis_entries view i numbers all.1)
+
+-- after the `(`, with the mandatory hypotheses as entries
+pub list_begins : (view : BaseView) (i : ℕ) (numbers : List ℕ) (words behind : List (List ℕ)) (labels : List Resolved)
+    → labels ≡ map answers.Hypothesis numbers → AreActive view i numbers → AreLeft words behind 1 → BeginsTable view i (labels_at view numbers) words behind
+    labels
+list_begins view i numbers words behind labels e active left = record { left = left; labels_are = rw e (hypothesis_steps view numbers); entries = rw e (hypothesis_entries view i numbers active) }
+
+-- the letters after the list
+pub compressed_ok :
+    (view : BaseView) (i : ℕ) (mandatory words : List (List ℕ)) (n : ℕ) (labels : List Resolved) (steps : List ProofStep) →
+    IsListed view i mandatory words n labels → letters_give (entry_steps view labels) words (n + 1) ≡ Ok (meant_steps (entry_steps view labels) steps) →
+    compressed_steps (setting_at view i) mandatory (drop 1 words) (word_spot (length words)) ≡ Ok (meant_steps (entry_steps view labels) steps)
+compressed_ok view i mandatory words n labels steps listed e = listed.rest ∙ ap (λ (names : List Step). letters_give names words (n + 1)) (sym listed.labels_are) ∙ e
+
+pub compressed_err :
+    (view : BaseView) (i : ℕ) (mandatory words : List (List ℕ)) (n : ℕ) (labels : List Resolved) (e : Undecoded) → IsListed view i mandatory words n labels →
+    TellsSteps e (letters_give (entry_steps view labels) words (n + 1)) →
+    TellsSteps e (compressed_steps (setting_at view i) mandatory (drop 1 words) (word_spot (length words)))
+compressed_err view i mandatory words n labels e listed tells = subst (TellsSteps e) (sym (listed.rest ∙ ap (λ (names : List Step). letters_give names words (n + 1)) (sym listed.labels_are))) tells
+
+-- the table of a compressed proof
+pub compressed_table : (view : BaseView) (i : ℕ) (mandatory words : List (List ℕ)) (n : ℕ) (labels : List Resolved) → IsListed view i mandatory words n labels → entry_steps view labels ≡ map Named (mandatory ++ before_first is_close (drop 1 words))
+compressed_table view i mandatory words n labels listed = listed.labels_are ∙ ap (λ (w : List (List ℕ)). map Named (mandatory ++ w)) (sym listed.whole)

@@ -1,0 +1,133 @@
+-- What was named so far, when more is named.
+use Rattle.std.proofs.Common.{◌≡◌, ℕ, zero, suc, Some, List, [], ◌∷◌, ◌++◌, length, take, refl, sym, ◌∙◌, ap, ap₂, subst, arith, ◌⊎◌, inl, inr, slice_get, All}
+use Rattle.std.specs.List.{AllZip}
+use Rattle.std.proofs.lemmas.List.Elements.{All-nil, All-cons}
+use Rattle.std.proofs.lemmas.Option.{slice_get_within, same_Some}
+use Rattle.mm_frame.specs.declared.base.Base.{Base}
+use Rattle.mm_frame.specs.declared.base.Resolved.{Resolved}
+use Rattle.mm_frame.specs.declared.base.Resolved.TheVariants as answers
+use Rattle.mm_frame.specs.Language.Base.{BaseView}
+use Rattle.mm_frame.specs.Language.Frame.{Hypothesis}
+use Rattle.mm_frame.specs.declared.symbol.NumberedSymbol.{NumberedSymbol}
+use Rattle.mm_frame.specs.Language.Answering.{IsBaseBy}
+use Rattle.mm_verdict.specs.Language.DecodedSteps.{AreEntries, IsEntry, entry_step, entry_steps}
+use Rattle.mm_verdict.specs.Code.NamedItems.{AreCited, AreNamed, NamingGrows, IsUseOf, Stays, expressions_named, frames_cited}
+use Rattle.mm_verdict.specs.Language.Renaming.{renamed_meaning}
+use Rattle.mm_verdict.specs.Code.Numbering.{unnaming}
+use Rattle.mm_verdict.specs.Code.NumberedBase.{numbered_frame, numbered_setting}
+use Rattle.mm_verdict.specs.Code.Tasks.{IsUseWithin, MeansUse}
+use Rattle.mm_verdict.specs.declared.assertion.Cited.{Cited}
+use Rattle.mm_verdict.specs.declared.assertion.Hypothesis as assertion
+use Rattle.mm_verdict.specs.declared.named.Naming.{Naming}
+use Rattle.mm_verdict.specs.declared.named.Use.{Use}
+use Rattle.mm_verdict.specs.declared.named.Use.TheVariants as uses
+use Rattle.mm_verdict.proofs.lemmas.machine.StepLemmas.{kept_at}
+
+-- ---- one more of a list
+
+pub stays_more : (old new : List ℕ) (j : ℕ) → new ≡ old ++ j ∷ [] → Stays old new
+stays_more old new j e n k at = ap (λ w. slice_get w n) e ∙ kept_at old (j ∷ []) n k at
+
+-- if no number of a list moved, the new list begins with it
+pub stays_begins : (old new : List ℕ) → Stays old new → take (length old) new ≡ old
+stays_begins [] new s = refl
+stays_begins (x ∷ old) [] s = absurd (omega (arith, slice_get_within [] zero x (s zero x refl)))
+stays_begins (x ∷ old) (y ∷ new) s = ap₂ ◌∷◌ (same_Some y x (s zero x refl)) (stays_begins old new (λ n j at. s (suc n) j at))
+
+-- so the known assertions are those of the new list's first numbers
+pub cited_first :
+    (code : Base) (old new : List ℕ) (mandatory : List (assertion.Hypothesis NumberedSymbol)) (all : List (Cited NumberedSymbol)) →
+    AreCited code old mandatory all → Stays old new → AreCited code (take (length all) new) mandatory all
+cited_first code old new mandatory all are s =
+    subst (λ (ns : List ℕ). AreCited code ns mandatory all) (sym (ap (λ n. take n new) are.count ∙ stays_begins old new s)) are
+
+pub last_there : {X : Type 0} (xs : List X) (x : X) → slice_get (xs ++ x ∷ []) (length xs) ≡ Some x
+last_there [] x = refl
+last_there (y ∷ xs) x = ap (slice_get (y ∷ (xs ++ x ∷ []))) (sym one) ∙ last_there xs x
+  where
+    one : suc (length xs) ≡ length (y ∷ xs)
+    one = omega arith
+
+-- what is in a list with one more was in it before, or is that one
+pub before_or_last : {X : Type 0} (xs : List X) (x y : X) (n : ℕ) → slice_get (xs ++ x ∷ []) n ≡ Some y → (slice_get xs n ≡ Some y) ⊎ ((n ≡ length xs) × (x ≡ y))
+before_or_last [] x y zero e = inr (refl, same_Some x y e)
+before_or_last [] x y (suc n) e = cc
+before_or_last (z ∷ xs) x y zero e = inl e
+before_or_last (z ∷ xs) x y (suc n) e = elim (before_or_last xs x y n e) [
+  | inl h ↦ inl h
+  | inr h ↦ (let one : suc n ≡ length (z ∷ xs) = omega arith in inr (one, h.1))
+]
+
+-- what a list has for each number of another, it has with one more of each
+pub placed_more :
+    {X Y : Type 0} (shown : X → Type 0) (R : Y → X → Type 0) (xs more : List X) (ys new : List Y) (x : X) (y : Y) →
+    length ys ≡ length xs → more ≡ xs ++ x ∷ [] → new ≡ ys ++ y ∷ [] → (shown x → R y x) →
+    ((n : ℕ) (k : X) → slice_get xs n ≡ Some k → shown k → (z : Y) × (slice_get ys n ≡ Some z) × R z k) →
+    (n : ℕ) (k : X) → slice_get more n ≡ Some k → shown k → (z : Y) × (slice_get new n ≡ Some z) × R z k
+placed_more shown R xs more ys new x y count e f right before n k at is = elim (before_or_last xs x k n (ap (λ w. slice_get w n) (sym e) ∙ at)) [
+  | inl h ↦ (let z = before n k h is in (z.0, ap (λ w. slice_get w n) f ∙ kept_at ys (y ∷ []) n z.0 z.1, z.2))
+  | inr h ↦ (y, ap (λ w. slice_get w n) f ∙ ap (slice_get (ys ++ y ∷ [])) (h.0 ∙ sym count) ∙ last_there ys y, subst (R y) h.1 (right (subst shown (sym h.1) is)))
+]
+
+-- the place of one more
+pub stands_last : (old new : List ℕ) (n j : ℕ) → new ≡ old ++ j ∷ [] → n ≡ length old → slice_get new n ≡ Some j
+stands_last old new n j e f = ap (λ w. slice_get w n) e ∙ ap (slice_get (old ++ j ∷ [])) f ∙ last_there old j
+
+-- ---- all uses
+
+pub uses_grow : (old new : Naming) → NamingGrows old new → (all : List Use) (labels : List Resolved) → AllZip (IsUseOf old) all labels → AllZip (IsUseOf new) all labels
+uses_grow old new g [] [] z = tt
+uses_grow old new g [] (l ∷ labels) z = absurd z
+uses_grow old new g (u ∷ all) [] z = absurd z
+uses_grow old new g (u ∷ all) (l ∷ labels) z = (one u l z.0, uses_grow old new g all labels z.1)
+  where
+    one : (u : Use) (l : Resolved) → IsUseOf old u l → IsUseOf new u l
+    one (uses.Hypothesis n) (answers.Hypothesis j) s = g.hypotheses n j s
+    one (uses.Assertion n) (answers.Assertion j) s = g.assertions n j s
+    one uses.Nothing answers.Inactive s = tt
+    one uses.Nothing answers.Unknown s = tt
+    one (uses.Hypothesis n) (answers.Assertion j) s = absurd s
+    one (uses.Hypothesis n) answers.Inactive s = absurd s
+    one (uses.Hypothesis n) answers.Unknown s = absurd s
+    one (uses.Assertion n) (answers.Hypothesis j) s = absurd s
+    one (uses.Assertion n) answers.Inactive s = absurd s
+    one (uses.Assertion n) answers.Unknown s = absurd s
+    one uses.Nothing (answers.Hypothesis j) s = absurd s
+    one uses.Nothing (answers.Assertion j) s = absurd s
+
+pub uses_more : (naming : Naming) (all : List Use) (labels : List Resolved) (u : Use) (l : Resolved) → AllZip (IsUseOf naming) all labels → IsUseOf naming u l → AllZip (IsUseOf naming) (all ++ u ∷ []) (labels ++ l ∷ [])
+uses_more naming [] [] u l z s = (s, tt)
+uses_more naming (v ∷ all) (m ∷ labels) u l z s = (z.0, uses_more naming all labels u l z.1 s)
+uses_more naming _ _ u l z s = absurd z
+
+-- they are in range
+one_within : (code : Base) (naming : Naming) → AreNamed code naming → (u : Use) (l : Resolved) → IsUseOf naming u l → IsUseWithin (length naming.hypotheses.items) (length naming.assertion_numbers.items.items) u
+one_within code naming is (uses.Hypothesis n) (answers.Hypothesis j) s = let w = slice_get_within naming.hypothesis_numbers.items.items n j s in omega (arith, is.count)
+one_within code naming is (uses.Assertion n) (answers.Assertion j) s = slice_get_within naming.assertion_numbers.items.items n j s
+one_within code naming is uses.Nothing l s = tt
+one_within code naming is _ _ s = absurd s
+
+pub uses_within : (code : Base) (naming : Naming) → AreNamed code naming → (all : List Use) (labels : List Resolved) → AllZip (IsUseOf naming) all labels →
+    All (IsUseWithin (length naming.hypotheses.items) (length naming.assertion_numbers.items.items)) all
+uses_within code naming is [] labels z = All-nil (IsUseWithin (length naming.hypotheses.items) (length naming.assertion_numbers.items.items))
+uses_within code naming is (u ∷ all) [] z = absurd z
+uses_within code naming is (u ∷ all) (l ∷ labels) z = All-cons (IsUseWithin (length naming.hypotheses.items) (length naming.assertion_numbers.items.items)) u all (one_within code naming is u l z.0) (uses_within code naming is all labels z.1)
+
+-- and mean what the entries mean
+one_means :
+    (code : Base) (naming : Naming) → AreNamed code naming → (mandatory : List (assertion.Hypothesis NumberedSymbol)) (cited : List (Cited NumberedSymbol)) →
+    AreCited code naming.assertion_numbers.items.items mandatory cited → (names : List (List ℕ)) (view : BaseView) (i : ℕ) → IsBaseBy names view code →
+    (u : Use) (l : Resolved) → IsUseOf naming u l → IsEntry view i l → MeansUse (expressions_named naming) (frames_cited mandatory cited) (numbered_setting names view i) u (entry_step view l)
+one_means code naming is hs cited are names view i base (uses.Hypothesis n) (answers.Hypothesis j) s e = let h = is.hypotheses names view base n j s e.0.carrier.shown in (h.0, h.1, ap (renamed_meaning (unnaming names)) e.1 ∙ ap Hypothesis (sym h.2))
+one_means code naming is hs cited are names view i base (uses.Assertion n) (answers.Assertion j) s e = let h = are.frames names view base n j s e.1 in (h.0, numbered_frame names view j, h.1, ap (renamed_meaning (unnaming names)) e.2, h.2)
+one_means code naming is hs cited are names view i base uses.Nothing answers.Inactive s e = tt
+one_means code naming is hs cited are names view i base uses.Nothing answers.Unknown s e = tt
+one_means code naming is hs cited are names view i base _ _ s e = absurd s
+
+pub uses_mean :
+    (code : Base) (naming : Naming) → AreNamed code naming → (mandatory : List (assertion.Hypothesis NumberedSymbol)) (cited : List (Cited NumberedSymbol)) →
+    AreCited code naming.assertion_numbers.items.items mandatory cited → (names : List (List ℕ)) (view : BaseView) (i : ℕ) → IsBaseBy names view code → (all : List Use) (labels : List Resolved) →
+    AllZip (IsUseOf naming) all labels → AreEntries view i labels → AllZip (MeansUse (expressions_named naming) (frames_cited mandatory cited) (numbered_setting names view i)) all (entry_steps view labels)
+uses_mean code naming is hs cited are names view i base [] [] z e = tt
+uses_mean code naming is hs cited are names view i base (u ∷ all) (l ∷ labels) z e = (one_means code naming is hs cited are names view i base u l z.0 e.0, uses_mean code naming is hs cited are names view i base all labels z.1 e.1)
+uses_mean code naming is hs cited are names view i base _ _ z e = absurd z

@@ -1,0 +1,79 @@
+-- Ranges of a list that grows, and assertions whose mandatory hypotheses they are.
+use Rattle.std.proofs.Common.{◌≡◌, ℕ, true, ◌-◌, ◌≤◌, List, [], ◌∷◌, ◌++◌, length, map, take, drop, refl, sym, ◌∙◌, ap, ap₂, subst, arith, length-append, length-drop, All}
+use Rattle.std.proofs.lemmas.List.{drop-append-le, take-append-le, take_all, take-map, drop-map, length-map, map-append}
+use Rattle.std.proofs.lemmas.List.Elements.{All-append, All-nil, All-cons, All-head, All-tail}
+use Rattle.std.proofs.Math.Seq.{drop-append_seam}
+use Rattle.mm_frame.specs.declared.base.Base.{Base}
+use Rattle.mm_frame.specs.declared.symbol.NumberedSymbol.{NumberedSymbol}
+use Rattle.mm_frame.specs.Language.Base.{is_framed_at}
+use Rattle.mm_frame.specs.Language.Frame.{Symbol, Mandatory, Frame, AreSameFrame}
+use Rattle.mm_frame.specs.Language.NumberedSymbols.{by_number}
+use Rattle.mm_frame.specs.Language.Typing.{IsFrame}
+use Rattle.mm_verdict.specs.declared.assertion.Cited.{Cited}
+use Rattle.mm_verdict.specs.declared.assertion.Hypothesis.{Hypothesis}
+use Rattle.mm_verdict.specs.Code.Citation.{IsCitable, frame_of, hypotheses_of, meant_pairs, range_of}
+use Rattle.mm_verdict.specs.Code.NamedItems.{AreCited, frames_cited}
+use Rattle.mm_verdict.specs.Code.NumberedBase.{ByNames, numbered_frame}
+use Rattle.mm_verdict.proofs.lemmas.machine.NamedLemmas.{placed_more}
+
+-- the range of what is added at the end
+pub range_behind : {X : Type 0} (first last : ℕ) (xs more new : List X) → new ≡ xs ++ more → first ≡ length xs → last ≡ length new → range_of first last new ≡ more
+range_behind first last xs more new e a b =
+    let count : length more ≤ last - first = omega (arith, ap length e, length-append xs more) in
+    ap (λ w. take (last - first) (drop first w)) e ∙ ap (λ k. take (last - first) (drop k (xs ++ more))) a
+    ∙ ap (take (last - first)) (drop-append_seam xs more) ∙ take_all (last - first) more count
+
+-- before and after the map
+pub range_mapped : {X Y : Type 0} (f : X → Y) (first last : ℕ) (xs : List X) → map f (range_of first last xs) ≡ range_of first last (map f xs)
+range_mapped f first last xs = sym (take-map f (last - first) (drop first xs)) ∙ ap (take (last - first)) (sym (drop-map f first xs))
+
+-- a range stays as the list grows
+range_stays : {X : Type 0} (first last : ℕ) (xs more : List X) → first ≤ last → last ≤ length xs → range_of first last (xs ++ more) ≡ range_of first last xs
+range_stays first last xs more a b =
+    let within : last - first ≤ length (drop first xs) = simp length-drop (omega arith) in
+    ap (take (last - first)) (drop-append-le first xs more (omega arith)) ∙ take-append-le (last - first) (drop first xs) more within
+
+-- so a frame stays
+frame_stays : {S : Type 0} (means : S → Symbol) (hs more : List Mandatory) (a : Cited S) → IsCitable means hs a → frame_of means (hs ++ more) a ≡ frame_of means hs a
+frame_stays means hs more a is =
+    let with_range : List Mandatory → Frame = λ w. record { expression = map means a.expression.now; hypotheses = w; pairs = meant_pairs means a.pairs.now } in
+    ap with_range (range_stays a.first a.last hs more is.in_order is.within)
+
+frames_stay : {S : Type 0} (means : S → Symbol) (hs more : List Mandatory) (all : List (Cited S)) → All (IsCitable means hs) all →
+    map (frame_of means (hs ++ more)) all ≡ map (frame_of means hs) all
+frames_stay means hs more [] are = refl
+frames_stay means hs more (a ∷ all) are =
+    ap₂ ◌∷◌ (frame_stays means hs more a (All-head (IsCitable means hs) a all are)) (frames_stay means hs more all (All-tail (IsCitable means hs) a all are))
+
+citable_stay : {S : Type 0} (means : S → Symbol) (hs more : List Mandatory) (all : List (Cited S)) → All (IsCitable means hs) all → All (IsCitable means (hs ++ more)) all
+citable_stay means hs more [] are = All-nil (IsCitable means (hs ++ more))
+citable_stay means hs more (a ∷ all) are = All-cons (IsCitable means (hs ++ more)) a all one (citable_stay means hs more all (All-tail (IsCitable means hs) a all are))
+  where
+    is : IsCitable means hs a
+    is = All-head (IsCitable means hs) a all are
+
+    one : IsCitable means (hs ++ more) a
+    one = record { in_order = is.in_order; within = omega (arith, is.within, length-append hs more); frame = subst IsFrame (sym (frame_stays means hs more a is)) is.frame }
+
+-- one more assertion, whose hypotheses are added after the others
+pub cited_more :
+    (code : Base) (numbers : List ℕ) (j : ℕ) (mandatory new : List (Hypothesis NumberedSymbol)) (all next : List (Cited NumberedSymbol)) (a : Cited NumberedSymbol) (more : List Mandatory) →
+    AreCited code numbers mandatory all → hypotheses_of by_number new ≡ hypotheses_of by_number mandatory ++ more → next ≡ all ++ a ∷ [] → IsCitable by_number (hypotheses_of by_number new) a →
+    ByNames code (λ names view. is_framed_at view j ≡ true → AreSameFrame (frame_of by_number (hypotheses_of by_number new) a) (numbered_frame names view j)) →
+    AreCited code (numbers ++ j ∷ []) new next
+cited_more code numbers j mandatory new all next a more are grows e one same =
+    let hs = hypotheses_of by_number mandatory in
+    let grown = hypotheses_of by_number new in
+    let kept : frames_cited new all ≡ frames_cited mandatory all =
+    subst (λ (w : List Mandatory). map (frame_of by_number w) all ≡ frames_cited mandatory all) (sym grows) (frames_stay by_number hs more all are.citable) in
+    let citable = subst (λ (w : List Mandatory). All (IsCitable by_number w) all) (sym grows) (citable_stay by_number hs more all are.citable) in
+    let frames : frames_cited new next ≡ frames_cited mandatory all ++ frame_of by_number grown a ∷ [] =
+    ap (frames_cited new) e ∙ map-append (frame_of by_number grown) all (a ∷ []) ∙ ap (λ w. w ++ frame_of by_number grown a ∷ []) kept in
+    record {
+      count = omega (arith, ap length e, are.count, length-append numbers (j ∷ []), length-append all (a ∷ []));
+      frames = λ names view base n i at framed.
+          placed_more (λ k. is_framed_at view k ≡ true) (λ f k. AreSameFrame f (numbered_frame names view k)) numbers (numbers ++ j ∷ []) (frames_cited mandatory all) (frames_cited new next)
+          j (frame_of by_number grown a) (length-map all (frame_of by_number hs) ∙ are.count) refl frames (λ f. same names view base f) (λ m k there f. are.frames names view base m k there f)
+          n i at framed;
+      citable = subst (λ xs. All (IsCitable by_number grown) xs) (sym e) (All-append (IsCitable by_number grown) all (a ∷ []) citable (All-cons (IsCitable by_number grown) a [] one (All-nil (IsCitable by_number grown))));
+    }

@@ -1,0 +1,41 @@
+-- A table with the labels alone that steps name means what the whole one does.
+use Rattle.std.proofs.Common.{◌≡◌, ℕ, suc, Option, Some, List, [], ◌∷◌, refl, sym, ◌∙◌, ap, subst, arith, inl, inr, unwrap_or, ◌⊎◌}
+use Rattle.std.specs.Option.{option_map}
+use Rattle.std.proofs.lemmas.Option.{slice_get-map, unwrap_or-slice_get}
+use Rattle.mm_frame.specs.declared.base.Resolved.{Resolved}
+use Rattle.mm_frame.specs.declared.base.Resolved.TheVariants as answers
+use Rattle.mm_frame.specs.Language.Base.{BaseView}
+use Rattle.mm_verdict.specs.Language.Expansion.{NotKnown}
+use Rattle.mm_verdict.specs.Language.DecodedSteps.{meant, AreEntries, IsEntry, entry_step, entry_steps}
+use Rattle.mm_verdict.specs.Code.Tasks.{actions_mean}
+use Rattle.mm_verdict.specs.Code.UsedLabels.{IsPart, KeepsNamed, KeepsUsed}
+use Rattle.mm_verdict.specs.declared.step.Action.{Action}
+use Rattle.mm_verdict.specs.declared.step.Action.TheVariants as actions
+use Rattle.mm_verdict.specs.declared.step.ProofStep.{ProofStep}
+
+entry_of : (view : BaseView) (i : ℕ) (u : Resolved) (o : Option Resolved) (l : Resolved) → o ≡ Some l → (u ≡ answers.Unknown) ⊎ (o ≡ Some u) → IsEntry view i l → IsEntry view i u
+entry_of view i u o l e (inl z) entry = subst (IsEntry view i) (sym z) tt
+entry_of view i u o l e (inr z) entry = subst (IsEntry view i) (same (sym e ∙ z)) entry
+  where
+    same : Some l ≡ Some u → l ≡ u
+    same q = cc
+
+pub part_entries : (view : BaseView) (i : ℕ) (labels used : List Resolved) → IsPart labels used → AreEntries view i labels → AreEntries view i used
+part_entries view i labels [] part entries = tt
+part_entries view i [] (u ∷ used) part entries = absurd (omega arith)
+part_entries view i (l ∷ labels) (u ∷ used) part entries = (
+  entry_of view i u (Some l) l refl (part.each 0 u refl) entries.0,
+  part_entries view i labels used (record { count = omega arith; each = λ k x e. part.each (suc k) x e }) entries.1,
+)
+
+one_means : (view : BaseView) (labels used : List Resolved) (action : Action) → KeepsNamed labels used action → meant (entry_steps view used) action ≡ meant (entry_steps view labels) action
+one_means view labels used (actions.Label k) keeps =
+    sym (unwrap_or-slice_get (entry_steps view used) k NotKnown)
+    ∙ ap (λ o. unwrap_or o NotKnown) (slice_get-map (entry_step view) used k ∙ ap (option_map (entry_step view)) (keeps k refl) ∙ sym (slice_get-map (entry_step view) labels k))
+    ∙ unwrap_or-slice_get (entry_steps view labels) k NotKnown
+one_means view labels used _ keeps = refl
+
+pub part_means : (view : BaseView) (labels used : List Resolved) (steps : List ProofStep) → KeepsUsed labels used steps → actions_mean (entry_steps view used) steps ≡ actions_mean (entry_steps view labels) steps
+part_means view labels used [] keeps = refl
+part_means view labels used (step ∷ steps) keeps =
+    λ i. one_means view labels used step.action (keeps 0 step refl) i ∷ part_means view labels used steps (λ n s e. keeps (suc n) s e) i

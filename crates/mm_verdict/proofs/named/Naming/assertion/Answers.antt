@@ -1,0 +1,18 @@
+use Rattle.std.proofs.Common.{◌∷◌, [], ℕ, sym, subst, All}
+use Rattle.std.proofs.lemmas.List.Elements.{All-append, All-cons, All-nil}
+use Rattle.mm_frame.specs.declared.base.Resolved.TheVariants as answers
+use Rattle.mm_verdict.specs.Code.NamedItems.{IsNamedBy}
+use Rattle.mm_verdict.proofs.lemmas.machine.NamedLemmas.{stays_more, stands_last}
+use Rattle.mm_verdict.proofs.named.Naming.assertion.Goals as goal
+
+pub returns : goal.returns
+returns c =
+    let is = c.requires.named in
+    let P : ℕ → Type 0 = λ j. IsNamedBy c.args.base.now (answers.Assertion j) in
+    let numbers = c.args.self.now.assertion_numbers.items.items in
+    let all = All-append P numbers (c.args.number ∷ []) is.assertions (All-cons P c.args.number [] c.requires.entry (All-nil P)) in
+    record {
+      named = record { count = is.count; hypotheses = is.hypotheses; assertions = subst (All P) (sym c.in_ok-place.ensures.items) all };
+      grows = record { hypotheses = λ n j at. at; assertions = stays_more c.args.self.now.assertion_numbers.items.items c.add.new.self.items.items c.args.number c.in_ok-place.ensures.items };
+      stands = stands_last c.args.self.now.assertion_numbers.items.items c.add.new.self.items.items c.in_ok-place.place c.args.number c.in_ok-place.ensures.items c.in_ok-place.ensures.place;
+    }

@@ -1,0 +1,32 @@
+use Rattle.std.proofs.Common.{◌≡◌, ◌∷◌, [], true, List, length, map, ◌∙◌, ap, arith, length-append}
+use Rattle.std.specs.Borrow.{Bor}
+use Rattle.std.proofs.lemmas.List.{length-map, map-append}
+use Rattle.mm_frame.specs.Language.Base.{is_shown_at}
+use Rattle.mm_frame.specs.Language.Frame.{Symbol}
+use Rattle.mm_frame.specs.declared.symbol.NumberedSymbol.{NumberedSymbol}
+use Rattle.mm_verdict.specs.Code.NumberedBase.{all_by_number, numbered_hypothesis}
+use Rattle.mm_verdict.proofs.lemmas.machine.NamedLemmas.{placed_more, stays_more, stands_last}
+use Rattle.mm_verdict.proofs.named.Naming.hypothesis.Goals as goal
+
+pub returns : goal.returns
+returns c =
+    let old = c.args.self.now in
+    let is = c.requires in
+    let expressions : List (Bor (List NumberedSymbol)) → List (List Symbol) = map (λ e. all_by_number e.now) in
+    let numbers = old.hypothesis_numbers.items.items in
+    let a = ap length c.in_ok-place.ensures.items in
+    let b = ap length c.in_ok-push.ensures.items in
+    record {
+      named = record {
+        count = omega (arith, is.count, length-append numbers (c.args.number ∷ []), length-append old.hypotheses.items (c.expression.result ∷ []));
+        hypotheses = λ names view base n j at shown.
+            placed_more (λ k. is_shown_at view k ≡ true) (λ e k. e ≡ (numbered_hypothesis names view k).expression) numbers c.add.new.self.items.items
+            (expressions old.hypotheses.items) (expressions c.push.new.self.items) c.args.number (all_by_number c.expression.result.now)
+            (length-map old.hypotheses.items (λ e. all_by_number e.now) ∙ is.count) c.in_ok-place.ensures.items
+            (ap expressions c.in_ok-push.ensures.items ∙ map-append (λ e. all_by_number e.now) old.hypotheses.items (c.expression.result ∷ []))
+            (λ s. c.expression.ensures names view base s) (λ m k there s. is.hypotheses names view base m k there s) n j at shown;
+        assertions = is.assertions;
+      };
+      grows = record { hypotheses = stays_more c.args.self.now.hypothesis_numbers.items.items c.add.new.self.items.items c.args.number c.in_ok-place.ensures.items; assertions = λ n j at. at };
+      stands = stands_last c.args.self.now.hypothesis_numbers.items.items c.add.new.self.items.items c.in_ok-place.place c.args.number c.in_ok-place.ensures.items c.in_ok-place.ensures.place;
+    }

@@ -1,0 +1,12 @@
+use Rattle.std.proofs.Common.{◌≡◌, ◌≤◌, ◌++◌, List, length, map, take, drop}
+use Rattle.mm_frame.specs.Language.Frame.{Symbol}
+use Rattle.mm_verdict.specs.Language.Substitution.{substituted}
+use Rattle.mm_verdict.specs.Code.Citation.{GivesVariables, hypotheses_of, entries_of}
+use Rattle.mm_verdict.proofs.pattern.fits.Given as goal
+
+abbrev pub invariant-loop-place : goal.invariant-loop-place
+invariant-loop-place g l = record {
+  low : l.at ≤ length l.entry;
+  joined : (given : Symbol → List Symbol) → GivesVariables given (hypotheses_of g.S.Symbol.means l.taken.hypotheses.now) (entries_of g.S.Symbol.means l.taken) (map g.S.Symbol.means l.expression) →
+      map g.S.Symbol.means l.entry ≡ substituted given (take l.place (map g.S.Symbol.means l.expression)) ++ drop l.at (map g.S.Symbol.means l.entry);
+}

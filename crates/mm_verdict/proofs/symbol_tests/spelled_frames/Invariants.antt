@@ -1,0 +1,15 @@
+use Rattle.std.proofs.Common.{◌≡◌, List, map, take}
+use Rattle.mm_frame.specs.Language.Frame.{Mandatory}
+use Rattle.mm_frame.specs.Language.NumberedSymbols.{by_number, named_symbol}
+use Rattle.mm_verdict.specs.Code.Citation.{frame_of, meant_pairs, range_of}
+use Rattle.mm_verdict.specs.Code.Spelled.{ranged}
+use Rattle.mm_verdict.proofs.symbol_tests.spelled_frames.Given as goal
+
+abbrev pub invariant-loop-one : goal.invariant-loop-one
+invariant-loop-one l = (hypotheses : List Mandatory) →
+    map (λ a. ranged a.first a.last (frame_of by_number hypotheses a)) (take l.one-index l.cited) ≡
+    map (λ f. ranged f.first f.last (record {
+      expression = map named_symbol f.expression.items;
+      hypotheses = range_of f.first f.last hypotheses;
+      pairs = meant_pairs named_symbol f.pairs.items;
+    })) l.named.items

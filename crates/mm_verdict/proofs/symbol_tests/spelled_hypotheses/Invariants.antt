@@ -1,0 +1,8 @@
+use Rattle.std.proofs.Common.{◌≡◌, map, take}
+use Rattle.mm_frame.specs.Language.NumberedSymbols.{named_symbol}
+use Rattle.mm_verdict.specs.Code.Citation.{hypotheses_of}
+use Rattle.mm_frame.specs.Language.NumberedSymbols.{by_number}
+use Rattle.mm_verdict.proofs.symbol_tests.spelled_hypotheses.Given as goal
+
+abbrev pub invariant-loop-hypothesis : goal.invariant-loop-hypothesis
+invariant-loop-hypothesis l = hypotheses_of by_number (take l.hypothesis-index l.hypotheses) ≡ map (λ h. record { floating = h.floating; expression = map named_symbol h.expression.items }) l.named.items

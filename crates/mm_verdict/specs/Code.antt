@@ -1,0 +1,26 @@
+-- What the code keeps: private contracts and loop invariants cite it.
+pub mod Left
+pub mod Coded
+pub mod Reader
+pub mod LeftToRight
+pub mod Labels
+pub mod Decoded
+pub mod Cited
+pub mod KeptWork
+pub mod Flat
+pub mod Keys
+pub mod Citation
+pub mod PairClause
+pub mod Ranges
+pub mod MachineState
+pub mod NamedItems
+pub mod KeptChecker
+pub mod Tasks
+pub mod UsedLabels
+pub mod MarkedLabels
+pub mod Judged
+pub mod DecodedProof
+pub mod Numbering
+pub mod NumberedBase
+pub mod Spelled
+pub mod ShortSteps

@@ -1,0 +1,129 @@
+//! What citing an assertion needs.
+
+ghost use Rattle.std.specs.Prelude.{◌≡◌, ◌++◌, ◌<◌, ◌≤◌, true, List, All, IfOk, OnOk, length, map, take};
+ghost use Rattle.mm_frame.specs.Language.Base.{BaseView, is_shown_at, is_framed_at, is_proof_at};
+ghost use Rattle.mm_frame.specs.Language.Answering.{IsBase};
+ghost use Rattle.mm_frame.specs.Language.Frame.{Mandatory, AreSameFrame, AreSamePairs};
+ghost use Rattle.mm_verdict.specs.Code.Citation.{mandatory_of, hypotheses_of, frame_of, meant_pairs};
+ghost use Rattle.mm_verdict.specs.Code.Keys.{AreInKeyOrder, key_by_number};
+ghost use Rattle.mm_frame.specs.Language.NumberedSymbols.{by_number};
+ghost use Rattle.mm_frame.specs.declared.base.Resolved.TheVariants as answers;
+ghost use Rattle.mm_verdict.specs.Code.NamedItems.{AreCited, IsNamedBy};
+ghost use Rattle.mm_verdict.specs.Code.NumberedBase.{ByNames, all_by_number, numbered_hypothesis, numbered_frame, numbered_setting};
+
+use mm_frame::{Base, NumberedSymbol, places_have_frames};
+use std::alloc::{AllocError, Global};
+
+/// A mandatory hypothesis of an assertion.
+#[derive(Drop)]
+pub struct Hypothesis<'a, S> {
+    /// It is a `$f`, and else a `$e`.
+    pub floating: bool,
+    pub expression: &'a [S],
+}
+
+/// An assertion with its frame.
+#[derive(Drop)]
+pub struct Cited<'a, S> {
+    pub expression: &'a [S],
+    /// Where its mandatory hypotheses begin in a list of those of all assertions, in order.
+    pub first: usize,
+    /// Where they end, this place not counted.
+    pub last: usize,
+    /// Its mandatory pairs.
+    pub pairs: &'a [(S, S)],
+}
+
+/// The expression of the item with this number, which is one that has an expression.
+pub fn expression(base: &Base, number: usize) -> &[NumberedSymbol]
+    ensures { ByNames base.now (λ names view. is_shown_at view number ≡ true
+        → all_by_number result.now ≡ (numbered_hypothesis names view number).expression) }
+{
+    base.known_expression(number)
+}
+
+/// The active pairs at the sound theorem with this number.
+pub fn active(base: &Base, number: usize) -> &[(NumberedSymbol, NumberedSymbol)]
+    requires { (view : BaseView) × IsBase view base.now × (is_proof_at view number ≡ true) }
+    ensures same { ByNames base.now (λ names view. is_proof_at view number ≡ true
+        → AreSamePairs (meant_pairs by_number result.now) (numbered_setting names view number).active) }
+    ensures order { AreInKeyOrder key_by_number (meant_pairs by_number result.now) }
+{
+    base.pairs(number).unwrap()
+}
+
+/// The hypothesis with this number.
+fn hypothesis_of(base: &Base, number: usize) -> Hypothesis<'_, NumberedSymbol>
+    ensures { ByNames base.now (λ names view. is_shown_at view number ≡ true → mandatory_of by_number result ≡ numbered_hypothesis names view number) }
+{
+    Hypothesis {
+        floating: base.is_floating(number),
+        expression: expression(base, number),
+    }
+}
+
+/// Adds the hypotheses with these numbers after others.
+fn add_hypotheses<'a>(
+    base: &'a Base,
+    numbers: &[usize],
+    to: &mut Vec<Hypothesis<'a, NumberedSymbol>>,
+) -> Result<(), AllocError>
+    ensures { OnOk result (ByNames base.now (λ names view. All (λ n. is_shown_at view n ≡ true) numbers.now →
+        hypotheses_of by_number to.new.items ≡ hypotheses_of by_number to.old.items ++ map (numbered_hypothesis names view) numbers.now)) }
+{
+    for number in numbers {
+        to.push(hypothesis_of(base, *number))?;
+    }
+    Ok(())
+}
+
+/// The assertion with this number. Its mandatory hypotheses are added after others.
+fn assertion_of<'a>(
+    base: &'a Base,
+    number: usize,
+    mandatory: &mut Vec<Hypothesis<'a, NumberedSymbol>>,
+) -> Result<Cited<'a, NumberedSymbol>, AllocError>
+    requires { (view : BaseView) × IsBase view base.now × (is_framed_at view number ≡ true) × (number < length view.said) }
+    ensures grows { OnOk result ((more : List Mandatory)
+        × (hypotheses_of by_number mandatory.new.items ≡ hypotheses_of by_number mandatory.old.items ++ more)) }
+    ensures within { IfOk result (λ cited. (cited.first ≤ cited.last) × (cited.last ≡ length mandatory.new.items)) }
+    ensures frame { IfOk result (λ cited. ByNames base.now (λ names view. is_framed_at view number ≡ true →
+        AreSameFrame (frame_of by_number (hypotheses_of by_number mandatory.new.items) cited) (numbered_frame names view number))) }
+{
+    let frame = base.frame(number).unwrap();
+    let first = mandatory.len();
+    add_hypotheses(base, &frame.hypotheses, &mut *mandatory)?;
+    Ok(Cited {
+        expression: expression(base, number),
+        first,
+        last: mandatory.len(),
+        pairs: &frame.pairs,
+    })
+}
+
+/// The assertions with these numbers, and before them a list of their mandatory hypotheses. The lists that are passed have
+/// those of the first numbers; the others are added.
+pub fn with_assertions<'a>(
+    base: &'a Base,
+    numbers: &[usize],
+    mandatory: Vec<Hypothesis<'a, NumberedSymbol>>,
+    assertions: Vec<Cited<'a, NumberedSymbol>>,
+) -> Result<
+    (
+        Vec<Hypothesis<'a, NumberedSymbol>>,
+        Vec<Cited<'a, NumberedSymbol>>,
+    ),
+    AllocError,
+>
+    requires named { All (λ j. IsNamedBy base.now (answers.Assertion j)) numbers.now }
+    requires there { AreCited base.now (take (length assertions.items) numbers.now) mandatory.items assertions.items }
+    ensures { IfOk result (λ r. AreCited base.now numbers.now r.0.items r.1.items) }
+{
+    places_have_frames();
+    let mut mandatory = mandatory;
+    let mut assertions = assertions;
+    for place in assertions.len()..numbers.len() {
+        assertions.push(assertion_of(base, numbers[place], &mut mandatory)?)?;
+    }
+    Ok((mandatory, assertions))
+}

@@ -1,0 +1,359 @@
+//! The check of a proof.
+
+ghost use Rattle.std.specs.Prelude.{true, ◌≡◌, ◌<◌, ◌≤◌, ◌+◌, ◌++◌, ◌∷◌, ◌^◌, [], ℕ, List, Err, IfOk, OnOk, OnErr, IfSome, length};
+ghost use Rattle.mm_frame.specs.Language.Base.{BaseView, before, said_at, is_framed_at};
+ghost use Rattle.mm_frame.specs.Language.Framing.{mandatory_numbers};
+ghost use Rattle.mm_frame.specs.Language.Answering.{IsBase};
+ghost use Rattle.mm_verdict.specs.Language.BaseLabels.{setting_at};
+ghost use Rattle.mm_verdict.specs.Language.Decoding.{word_spot};
+ghost use Rattle.mm_verdict.specs.Language.Verdict.{IsVerdictOnSteps};
+ghost use Rattle.mm_verdict.specs.Language.VerdictAt.{IsVerdictAt, AreDoneAt, cites_at, statement_at};
+ghost use Rattle.mm_frame.specs.Language.Frame.{Symbol, Setting};
+ghost use Rattle.mm_verdict.specs.Language.DecodedSteps.{decoded_steps};
+ghost use Rattle.mm_verdict.specs.Code.DecodedProof.{IsDecoded, IsJudgedProof, OfDecoded, steps_of};
+ghost use Rattle.mm_verdict.specs.Code.Judged.{HasProof, IsOutcomeWithin, OfProof, done_by};
+ghost use Rattle.mm_verdict.specs.Code.NamedItems.{AreKnownOf};
+ghost use Rattle.mm_verdict.specs.Language.ReadIn.{HasTheorem, OfTheorem};
+ghost use Rattle.mm_verdict.specs.Code.Tasks.{RunSays, StopsAt};
+ghost use Rattle.mm_verdict.specs.Code.UsedLabels.{AreUseMarks, AreUsed};
+ghost use Rattle.mm_verdict.specs.declared.step.Undecoded.TheVariants as errors;
+
+use crate::active::Active;
+use crate::assertion::{active, expression};
+use crate::checker::Checker;
+use crate::citing::cites_used;
+use crate::decoding_laws::{decodes_short, decodes_surely, labels_are_own, mandatory_are_active};
+use crate::known::{Known, known_after};
+use crate::named::{NamingRoom, name_all};
+use crate::reading::{Decoding, MarkedDecoding, decode_marked};
+use crate::short::{steps_before, take_more, takes_more};
+use crate::step::{ProofFault, ProofStep, Undecoded};
+use crate::stepping::{Outcome, run, run_through};
+use crate::used::{labels_marked, labels_used};
+use crate::work::{Checked, Scratch, Work};
+use crate::{ProofNumber, Spot, Verdict};
+use mm_frame::{
+    Base, Files, Names, NumberedSymbol, ProofWords, Resolved, places_have_frames, words_of_proof,
+};
+use std::alloc::{AllocError, Global};
+use std::mem;
+
+/// The numbers of the mandatory hypotheses of the sound assertion with this number.
+pub fn mandatory(base: &Base, i: usize) -> &[usize]
+    requires { (view : BaseView) × IsBase view base.now × (is_framed_at view i ≡ true) }
+    ensures { (view : BaseView) → IsBase view base.now → is_framed_at view i ≡ true → result.now ≡ mandatory_numbers (before view i) (said_at view i) }
+{
+    let frame = base.frame(i).unwrap();
+    &frame.hypotheses
+}
+
+/// The fault that decoding reports; out of memory stays what it is.
+pub fn decoding_fault(error: Undecoded) -> Result<ProofFault, AllocError>
+    ensures { IfOk result (λ fault. error ≡ errors.Fault fault) }
+{
+    match error {
+        Undecoded::Fault(fault) => Ok(fault),
+        Undecoded::Memory => Err(AllocError),
+    }
+}
+
+/// The spot after the words of a proof.
+fn closing_spot(words: ProofWords) -> Spot
+    requires { length words ≤ 4294967295 }
+    ensures { result ≡ word_spot (length words.entry) }
+{
+    let mut words = words;
+    let mut word = 0;
+    while words.next_word().is_some() {
+        word += 1;
+    }
+    Spot { word, letter: 0 }
+}
+
+/// The verdict on a proof with these words, by what the run of its steps came to.
+pub fn verdict(outcome: Outcome, decoding: &Decoding, words: ProofWords) -> Verdict
+    requires within { IsOutcomeWithin (length decoding.now.steps.items) outcome }
+    requires few { length words ≤ 4294967295 }
+    ensures { (view : BaseView) (place : Setting) (statement : List Symbol)
+        → RunSays place (decoded_steps view decoding.now words.entry).steps statement outcome
+        → IsVerdictOnSteps place statement (decoded_steps view decoding.now words.entry) result }
+{
+    match outcome {
+        Outcome::Proved => Verdict::Proved,
+        Outcome::Fault(number, n) => Verdict::Wrong(number, decoding.steps[n].spot),
+        Outcome::Unknown(n) => Verdict::Incomplete(decoding.steps[n].spot),
+        Outcome::NotOne => Verdict::Wrong(ProofNumber::P14, closing_spot(words)),
+        Outcome::Other => Verdict::Wrong(ProofNumber::P15, closing_spot(words)),
+    }
+}
+
+/// How many of this many steps are done in a run that came to this.
+fn steps_done(outcome: Outcome, steps: usize) -> usize
+    requires { IsOutcomeWithin steps outcome }
+    ensures value { result ≡ done_by steps outcome }
+    ensures within { result ≤ steps }
+{
+    match outcome {
+        Outcome::Proved | Outcome::NotOne | Outcome::Other => steps,
+        Outcome::Fault(_, n) => n + 1,
+        Outcome::Unknown(n) => n,
+    }
+}
+
+/// The proof of the item `i` of a base, and what it decodes to.
+#[derive(Clone, Copy)]
+pub struct DecodedProof<'b, 'a> {
+    pub base: &'b Base,
+    pub i: usize,
+    pub words: &'a ProofWords<'a>,
+    pub decoding: &'a Decoding,
+}
+
+/// Runs the steps of a proof before the first with too few entries, by the count of entries alone, and looks at that one. It
+/// loads no assertion for a step with too few entries. If that does not say what the steps come to, it answers `None`.
+fn run_front<'b>(
+    alloc: Global,
+    scratch: &mut Scratch,
+    known: &mut Known<'b>,
+    proof: DecodedProof<'b, '_>,
+) -> Result<Option<Outcome>, AllocError>
+    requires decoded { IsDecoded proof }
+    requires known { AreKnownOf proof.base.now known.old }
+    ensures within { IfOk result (λ found. IfSome found (IsOutcomeWithin (length proof.entry.decoding.now.steps.items))) }
+    ensures says { IfOk result (λ found. IfSome found (λ outcome. OfDecoded proof.entry (λ view.
+        StopsAt (setting_at view proof.entry.i) (steps_of proof.entry view) outcome))) }
+    ensures known { OnOk result (AreKnownOf proof.entry.base.now known.new) }
+{
+    places_have_frames();
+    decodes_surely();
+    mandatory_are_active();
+    let labels: &[Resolved] = &proof.decoding.labels;
+    let steps: &[ProofStep] = &proof.decoding.steps;
+    let count = steps_before(proof.base, labels, steps);
+    let front = &steps[..count];
+    let room = mem::replace(&mut scratch.naming, NamingRoom::new(alloc));
+    let before = mem::replace(known, Known::new(alloc));
+    let used = labels_used(alloc, labels, front)?;
+    let (named, room, numbers) = name_all(proof.base, &used, room, before)?;
+    scratch.naming = room;
+    let active = Active::new(active(proof.base, proof.i));
+    let found = run_through(alloc, &mut scratch.machine, &named, &active, front)?;
+    *known = known_after(named, numbers);
+    if let Some(outcome) = found {
+        return Ok(Some(outcome));
+    }
+    let entries = scratch.machine.stack.len();
+    if takes_more(proof.base, labels, steps, count, entries) {
+        return Ok(Some(Outcome::Fault(ProofNumber::P07, count)));
+    }
+    Ok(None)
+}
+
+/// Runs all steps of a proof, which name these labels.
+fn run_all<'b>(
+    alloc: Global,
+    scratch: &mut Scratch,
+    known: &mut Known<'b>,
+    used: &[Resolved],
+    proof: DecodedProof<'b, '_>,
+) -> Result<Outcome, AllocError>
+    requires decoded { IsDecoded proof }
+    requires used { AreUsed proof.decoding.now.labels.items used.now proof.decoding.now.steps.items }
+    requires known { AreKnownOf proof.base.now known.old }
+    ensures within { IfOk result (IsOutcomeWithin (length proof.entry.decoding.now.steps.items)) }
+    ensures says { IfOk result (λ outcome. OfDecoded proof.entry (λ view.
+        RunSays (setting_at view proof.entry.i) (steps_of proof.entry view) (statement_at view proof.entry.i) outcome)) }
+    ensures known { OnOk result (AreKnownOf proof.entry.base.now known.new) }
+{
+    places_have_frames();
+    decodes_surely();
+    mandatory_are_active();
+    let steps: &[ProofStep] = &proof.decoding.steps;
+    let room = mem::replace(&mut scratch.naming, NamingRoom::new(alloc));
+    let before = mem::replace(known, Known::new(alloc));
+    let (named, room, numbers) = name_all(proof.base, used, room, before)?;
+    scratch.naming = room;
+    let active = Active::new(active(proof.base, proof.i));
+    let outcome = run(
+        alloc,
+        &mut scratch.machine,
+        &named,
+        &active,
+        steps,
+        expression(proof.base, proof.i),
+    )?;
+    *known = known_after(named, numbers);
+    Ok(outcome)
+}
+
+/// Runs the steps of a proof, which name these labels.
+fn run_steps<'b>(
+    alloc: Global,
+    scratch: &mut Scratch,
+    known: &mut Known<'b>,
+    used: &[Resolved],
+    proof: DecodedProof<'b, '_>,
+) -> Result<Outcome, AllocError>
+    requires decoded { IsDecoded proof }
+    requires used { AreUsed proof.decoding.now.labels.items used.now proof.decoding.now.steps.items }
+    requires known { AreKnownOf proof.base.now known.old }
+    ensures within { IfOk result (IsOutcomeWithin (length proof.entry.decoding.now.steps.items)) }
+    ensures says { IfOk result (λ outcome. OfDecoded proof.entry (λ view.
+        RunSays (setting_at view proof.entry.i) (steps_of proof.entry view) (statement_at view proof.entry.i) outcome)) }
+    ensures known { OnOk result (AreKnownOf proof.entry.base.now known.new) }
+{
+    let decoding = proof.decoding;
+    if take_more(proof.base, &decoding.labels, decoding.steps.len()) {
+        if let Some(outcome) = run_front(alloc, &mut *scratch, &mut *known, proof)? {
+            return Ok(outcome);
+        }
+    }
+    run_all(alloc, &mut *scratch, &mut *known, used, proof)
+}
+
+/// What a check says of a proof that decodes, and how many steps are done. Marks say which labels its steps name.
+fn judge_steps<'b>(
+    alloc: Global,
+    scratch: &mut Scratch,
+    known: &mut Known<'b>,
+    marks: &[bool],
+    proof: DecodedProof<'b, '_>,
+) -> Result<(Checked, u64), AllocError>
+    requires decoded { IsDecoded proof }
+    requires marks { AreUseMarks (length proof.decoding.now.labels.items) marks.now proof.decoding.now.steps.items }
+    requires known { AreKnownOf proof.base.now known.old }
+    ensures says { IfOk result (λ judged. OfDecoded proof.entry (λ view. IsJudgedProof view proof.entry.i judged)) }
+    ensures few { IfOk result (λ judged. judged.1 ≤ 4294967295) }
+    ensures known { OnOk result (AreKnownOf proof.entry.base.now known.new) }
+{
+    decodes_short();
+    labels_are_own();
+    let hypotheses = mandatory(proof.base, proof.i).len();
+    let room = mem::replace(&mut scratch.used, Vec::new(alloc));
+    let used = labels_marked(room, &proof.decoding.labels, marks)?;
+    let cites = cites_used(
+        alloc,
+        &mut scratch.marks,
+        proof.decoding,
+        &used,
+        hypotheses,
+        proof.words,
+    )?;
+    let outcome = run_steps(alloc, &mut *scratch, &mut *known, &used, proof)?;
+    scratch.used = used;
+    let done = steps_done(outcome, proof.decoding.steps.len());
+    let verdict = verdict(outcome, proof.decoding, proof.words.again());
+    Ok((Checked::new(verdict, cites), done as u64))
+}
+
+/// What a check says of a proof, and how many steps are done.
+fn judge<'b, 'a>(
+    alloc: Global,
+    scratch: &mut Scratch,
+    known: &mut Known<'b>,
+    base: &'b Base,
+    i: usize,
+    proof: &'a ProofWords<'a>,
+) -> Result<(Checked, u64), AllocError>
+    requires proof { HasProof base.now i proof.now }
+    requires known { AreKnownOf base.now known.old }
+    ensures says { IfOk result (λ judged. OfProof base.now i proof.now (λ view. IsJudgedProof view i judged)) }
+    ensures few { IfOk result (λ judged. judged.1 ≤ 4294967295) }
+    ensures known { OnOk result (AreKnownOf base.now known.new) }
+{
+    mandatory_are_active();
+    let mandatory = mandatory(base, i);
+    let room = mem::replace(&mut scratch.decoding, MarkedDecoding::new(alloc));
+    match decode_marked(base, i, mandatory, proof, room) {
+        Ok(marked) => {
+            let decoded = DecodedProof {
+                base,
+                i,
+                words: proof,
+                decoding: &marked.decoding,
+            };
+            let judged = judge_steps(alloc, &mut *scratch, &mut *known, &marked.used, decoded)?;
+            scratch.decoding = marked;
+            Ok(judged)
+        }
+        Err(error) => {
+            let fault = decoding_fault(error)?;
+            let verdict = Verdict::Wrong(fault.number, fault.spot);
+            Ok((Checked::new(verdict, Vec::new(alloc)), 0))
+        }
+    }
+}
+
+/// Checks the proof of the item with the number `i`, a sound `$p` of a base whose items can be read in these files, and
+/// records the run. The symbols of the base are read by the names that it was built over, or by any that begin with
+/// these.
+///
+/// A run has at most 4,294,967,295 steps. It takes time near linear in the symbols of the expressions that its steps
+/// make and compare, and memory for the entries of the stack and for what is saved. After out of memory nothing is
+/// recorded.
+pub fn check(
+    alloc: Global,
+    names: &Names,
+    files: &Files,
+    base: &Base,
+    i: usize,
+    work: &mut Work,
+) -> Result<Checked, AllocError>
+    requires theorem { HasTheorem names.now files.now base.now i }
+    requires room { 0 < work.old.room }
+    requires steps { work.old.steps + 4294967295 < 2 ^ 64 }
+
+    // The verdict is that on the item's proof, its decoding included, and the words are those that cite.
+    ensures verdict { IfOk result (λ checked. OfTheorem names.now files.now base.now i (λ view. IsVerdictAt view i checked.verdict)) }
+    ensures cites { IfOk result (λ checked. OfTheorem names.now files.now base.now i (λ view. checked.cites ≡ cites_at view i)) }
+
+    // One more run is recorded, with the steps that are done in it.
+    ensures run { OnOk result (work.new.runs ≡ work.old.runs ++ i ∷ []) }
+    ensures room { OnOk result (work.new.room + 1 ≡ work.old.room) }
+    ensures done { OnOk result (OfTheorem names.now files.now base.now i (λ view.
+        (n : ℕ) × AreDoneAt view i n × (n ≤ 4294967295) × (work.new.steps ≡ work.old.steps + n))) }
+
+    ensures memory { OnErr result (work.new ≡ work.old) }
+{
+    let mut checker = Checker::new(alloc, base);
+    checker.check(alloc, names, files, i, work)
+}
+
+impl Checker<'_> {
+    /// Checks the proof of an item of the base, as the function `check` does. The assertions that it looks up are known to the
+    /// next check, unless they are too many. After out of memory none is known.
+    pub fn check(
+        &mut self,
+        alloc: Global,
+        names: &Names,
+        files: &Files,
+        i: usize,
+        work: &mut Work,
+    ) -> Result<Checked, AllocError>
+        requires theorem { HasTheorem names.now files.now self.old i }
+        requires room { 0 < work.old.room }
+        requires steps { work.old.steps + 4294967295 < 2 ^ 64 }
+
+        ensures verdict { IfOk result (λ checked. OfTheorem names.now files.now self.old i (λ view. IsVerdictAt view i checked.verdict)) }
+        ensures cites { IfOk result (λ checked. OfTheorem names.now files.now self.old i (λ view. checked.cites ≡ cites_at view i)) }
+
+        ensures run { OnOk result (work.new.runs ≡ work.old.runs ++ i ∷ []) }
+        ensures room { OnOk result (work.new.room + 1 ≡ work.old.room) }
+        ensures done { OnOk result (OfTheorem names.now files.now self.old i (λ view.
+            (n : ℕ) × AreDoneAt view i n × (n ≤ 4294967295) × (work.new.steps ≡ work.old.steps + n))) }
+
+        ensures base { self.new ≡ self.old }
+        ensures memory { OnErr result (work.new ≡ work.old) }
+    {
+        let base = self.base();
+        let proof = words_of_proof(files, base.item(i));
+        let mut scratch = work.lend(alloc);
+        scratch.widen(base.count(), names.count())?;
+        let mut known = self.lend(alloc);
+        let (checked, done) = judge(alloc, &mut scratch, &mut known, base, i, &proof)?;
+        self.take_back(known);
+        work.take_back(scratch)?;
+        work.record(i, done)?;
+        Ok(checked)
+    }
+}

@@ -1,0 +1,166 @@
+//! Which words of a proof cite an assertion.
+
+ghost use Rattle.std.specs.Prelude.{◌≡◌, ◌≤◌, true, false, ℕ, ◌+◌, ◌++◌, ◌∷◌, ◌||◌, nat_eq, List, IfOk, OnOk, drop, length};
+ghost use Rattle.mm_verdict.specs.Code.Cited.{item_cites, without, marked_at, is_listed};
+ghost use Rattle.mm_verdict.specs.Code.UsedLabels.{AreUsed};
+ghost use Rattle.mm_frame.specs.declared.base.Resolved as labels;
+ghost use Rattle.mm_frame.specs.Language.Base.{BaseView};
+ghost use Rattle.mm_verdict.specs.Language.BaseLabels.{NoLabelTwice};
+ghost use Rattle.mm_verdict.specs.Language.BaseLabels.{setting_at};
+ghost use Rattle.mm_verdict.specs.Language.Citing.{cited_words};
+ghost use Rattle.mm_verdict.specs.Language.DecodedSteps.{decoded_steps, AreEntries, entry_steps, label_table, labels_at};
+
+use crate::reading::{Decoding, is_compressed};
+use crate::used::labels_used;
+use mm_frame::{ProofWords, Resolved};
+use std::alloc::{AllocError, Global};
+
+/// Marks a number.
+fn mark(marks: &mut Vec<bool>, j: usize) -> Result<(), AllocError>
+    ensures { OnOk result ((i : ℕ) → marked_at marks.new.items i ≡ (marked_at marks.old.items i || nat_eq j i)) }
+{
+    if j < marks.len() {
+        marks[j] = true;
+        return Ok(());
+    }
+    marks.resize(j, false)?;
+    marks.push(true)?;
+    Ok(())
+}
+
+/// Takes the mark from a number. Answers whether it was there.
+fn unmark(marks: &mut Vec<bool>, j: usize) -> bool
+    ensures was { result ≡ marked_at marks.old.items j }
+    ensures left { (i : ℕ) → marked_at marks.new.items i ≡ without (marked_at marks.old.items) j i }
+{
+    if j >= marks.len() {
+        return false;
+    }
+    let was = marks[j];
+    marks[j] = false;
+    was
+}
+
+/// Takes the marks from the assertions that labels name.
+fn forget(marks: &mut Vec<bool>, labels: &[Resolved])
+    ensures { (j : ℕ) → is_listed labels.now j ≡ true → marked_at marks.new.items j ≡ false }
+{
+    for label in labels {
+        if let Resolved::Assertion(j) = *label {
+            unmark(&mut *marks, j);
+        }
+    }
+}
+
+/// Marks, of the assertions that labels name, those that the labels in use name. Of others the marks do not count.
+fn named(marks: &mut Vec<bool>, labels: &[Resolved], used: &[Resolved]) -> Result<(), AllocError>
+    ensures { OnOk result ((j : ℕ) → is_listed labels.now j ≡ true → marked_at marks.new.items j ≡ is_listed used.now j) }
+{
+    forget(&mut *marks, labels);
+    for label in used {
+        if let Resolved::Assertion(j) = *label {
+            mark(&mut *marks, j)?;
+        }
+    }
+    Ok(())
+}
+
+/// Adds a word, if its label is that of an assertion that is left.
+fn cite(
+    left: &mut Vec<bool>,
+    words: &mut Vec<usize>,
+    label: Resolved,
+    word: usize,
+) -> Result<(), AllocError>
+    ensures { OnOk result ((labels : List labels.Resolved) →
+        words.new.items ++ item_cites (marked_at left.new.items) (word + 1) labels
+        ≡ words.old.items ++ item_cites (marked_at left.old.items) word (label ∷ labels)) }
+{
+    if let Resolved::Assertion(j) = label {
+        if unmark(&mut *left, j) {
+            words.push(word)?;
+        }
+    }
+    Ok(())
+}
+
+/// The first label that is a word of a proof.
+#[derive(Clone, Copy)]
+struct FirstLabel {
+    /// Its place in the proof's table.
+    place: usize,
+    /// The number of its word.
+    word: usize,
+}
+
+/// The numbers of the words that cite: those of the labels from the first on that is a word of the proof.
+/// Each assertion that the labels in use name is given once, by the first word that is its label. There is room for this many
+/// words from the beginning.
+fn cited(
+    alloc: Global,
+    marks: &mut Vec<bool>,
+    labels: &[Resolved],
+    used: &[Resolved],
+    first: FirstLabel,
+    room: usize,
+) -> Result<Vec<usize>, AllocError>
+    requires { first.word ≤ 1 }
+    ensures { IfOk result (λ words. words.items ≡ item_cites (is_listed used.now) first.word (drop first.place labels.now)) }
+{
+    named(&mut *marks, labels, used)?;
+    let mut words = Vec::with_capacity(alloc, room)?;
+    for k in first.place..labels.len() {
+        let word = k - first.place + first.word;
+        cite(&mut *marks, &mut words, labels[k], word)?;
+    }
+    Ok(words)
+}
+
+/// The numbers of the words of a proof that cite, where these labels are in use.
+pub fn cites_used(
+    alloc: Global,
+    marks: &mut Vec<bool>,
+    decoding: &Decoding,
+    used: &[Resolved],
+    mandatory: usize,
+    proof: &ProofWords,
+) -> Result<Vec<usize>, AllocError>
+    requires { AreUsed decoding.now.labels.items used.now decoding.now.steps.items }
+    ensures { IfOk result (λ words. (view : BaseView) (i : ℕ) (numbers : List ℕ) → NoLabelTwice view → length numbers ≡ mandatory →
+        AreEntries view i decoding.now.labels.items →
+        entry_steps view decoding.now.labels.items ≡ label_table (labels_at view numbers) proof.now →
+        words.items ≡ cited_words (setting_at view i) proof.now (decoded_steps view decoding.now proof.now).steps) }
+{
+    let labels: &[Resolved] = &decoding.labels;
+    if is_compressed(proof) {
+        // Most labels of a list are those of assertions that are cited.
+        let room = labels.len().saturating_sub(mandatory);
+        let first = FirstLabel {
+            place: mandatory,
+            word: 1,
+        };
+        cited(alloc, &mut *marks, labels, used, first, room)
+    } else {
+        let first = FirstLabel { place: 0, word: 0 };
+        cited(alloc, &mut *marks, labels, used, first, 0)
+    }
+}
+
+/// The numbers of the words of a proof that cite: for each assertion that a decoded step names, the first word that is
+/// its label. They rise. It takes the words of the proof, its decoding, and how many mandatory hypotheses there are. It
+/// marks assertions by their numbers; the marks that are there do not count.
+pub fn cites(
+    alloc: Global,
+    marks: &mut Vec<bool>,
+    decoding: &Decoding,
+    mandatory: usize,
+    proof: &ProofWords,
+) -> Result<Vec<usize>, AllocError>
+    ensures { IfOk result (λ words. (view : BaseView) (i : ℕ) (numbers : List ℕ) → NoLabelTwice view → length numbers ≡ mandatory →
+        AreEntries view i decoding.now.labels.items →
+        entry_steps view decoding.now.labels.items ≡ label_table (labels_at view numbers) proof.now →
+        words.items ≡ cited_words (setting_at view i) proof.now (decoded_steps view decoding.now proof.now).steps) }
+{
+    let used = labels_used(alloc, &decoding.labels, &decoding.steps)?;
+    cites_used(alloc, marks, decoding, &used, mandatory, proof)
+}

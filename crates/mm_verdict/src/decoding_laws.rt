@@ -1,0 +1,105 @@
+//! The laws of decoding.
+
+ghost use Rattle.mm_verdict.specs.Language.DecodingLaws.{LabelsAreOwn, MandatoryAreActive};
+ghost use Rattle.mm_verdict.specs.Language.DecodingLaws.{HasNumberTable, NumbersAreApart, EachIsWritten, HasOneDivision};
+ghost use Rattle.mm_verdict.specs.Language.DecodingLaws.{TellsFirstFault, LettersReadOn, DecodesShort, DecodesSurely, CitesRise, SameCitesSame, SameDecodesSame};
+
+use mm_frame::{has_own_labels, items_have_labels, mandatory_means, mandatory_stand_before};
+
+/// The numbers of the book's table.
+///
+/// It shows what the definitions mean; no code calls on it.
+pub fn has_number_table()
+    ensures { HasNumberTable }
+{}
+
+/// Two numbers that are written differently are different.
+///
+/// It shows what the definitions mean; no code calls on it.
+pub fn numbers_are_apart()
+    ensures { NumbersAreApart }
+{}
+
+/// Each number from 1 on can be written.
+///
+/// It shows what the definitions mean; no code calls on it.
+pub fn each_is_written()
+    ensures { EachIsWritten }
+{}
+
+/// Letters are divided into numbers and other letters in one way.
+///
+/// It shows what the definitions mean; no code calls on it.
+pub fn has_one_division()
+    ensures { HasOneDivision }
+{}
+
+/// The fault that is reported is the first in reading order.
+///
+/// It shows what the definitions mean; no code calls on it.
+pub fn tells_first_fault()
+    ensures { TellsFirstFault }
+{}
+
+/// What decoding makes sure of.
+///
+/// For `check`, which runs the decoded steps.
+pub fn decodes_surely()
+    ensures { DecodesSurely }
+{}
+
+/// Letters read on over the ends of words.
+///
+/// It shows what the definitions mean; no code calls on it.
+pub fn letters_read_on()
+    ensures { LettersReadOn }
+{}
+
+/// Proofs with the same words decode to the same if their labels mean the same.
+///
+/// For the law that equal views have equal verdicts.
+pub fn same_decodes_same()
+    ensures { SameDecodesSame }
+{}
+
+/// Proofs with the same words cite by the same words if their labels mean the same.
+///
+/// For the law that with equal views the same words cite.
+pub fn same_cites_same()
+    ensures { SameCitesSame }
+{}
+
+/// The words that cite rise.
+///
+/// For sessions, which look for what a proof cites among the words that cite.
+pub fn cites_rise()
+    ensures { CitesRise }
+{}
+
+/// There are at most as many steps as the words have bytes.
+///
+/// For the steps of a run, whose sum has a bound.
+pub fn decodes_short()
+    ensures { DecodesShort }
+{}
+
+/// No two sound items have the same label.
+///
+/// For `check`, which gives the words that cite, and for sessions, which carry results from base to base.
+pub fn labels_are_own()
+    ensures { LabelsAreOwn }
+{
+    has_own_labels();
+    items_have_labels();
+}
+
+/// The mandatory hypotheses of an item are active there.
+///
+/// For `decode`, which takes their numbers.
+pub fn mandatory_are_active()
+    ensures { MandatoryAreActive }
+{
+    items_have_labels();
+    mandatory_means();
+    mandatory_stand_before();
+}

@@ -1,0 +1,74 @@
+//! The laws of the proofs of items.
+
+ghost use Rattle.mm_verdict.specs.Language.ItemLaws.{MandatoryLabelsMean, HasOneVerdictAt, HasVerdictAt, ProvedIsDerivedAt};
+ghost use Rattle.mm_verdict.specs.Language.ItemLaws.{HasOneCountAt, HasCountAt, SpotsAreIn};
+
+use mm_frame::{items_have_labels, mandatory_means, mandatory_stand_before, places_have_frames};
+
+/// The label of each mandatory hypothesis of an item means it there.
+///
+/// For the laws on views and on citations.
+pub fn mandatory_labels_mean()
+    ensures { MandatoryLabelsMean }
+{
+    items_have_labels();
+    mandatory_means();
+    mandatory_stand_before();
+}
+
+/// There is one verdict at most on the proof of an item.
+///
+/// For the laws that there is one report and one list of answers to a script.
+pub fn has_one_verdict_at()
+    ensures { HasOneVerdictAt }
+{
+    places_have_frames();
+}
+
+/// There is a verdict on the proof of each item of a base of files.
+///
+/// For the law that each item has a finding.
+pub fn has_verdict_at()
+    ensures { HasVerdictAt }
+{
+    places_have_frames();
+    items_have_labels();
+    mandatory_means();
+    mandatory_stand_before();
+}
+
+/// Proved is the verdict on the proof of an item exactly when it decodes, no step is unknown, and its expanded labels
+/// derive the statement.
+///
+/// It shows what the definitions mean; no code calls on it.
+pub fn proved_is_derived_at()
+    ensures { ProvedIsDerivedAt }
+{}
+
+/// There is one number at most of the steps of the proof of an item that are done.
+///
+/// It shows what the definitions mean; no code calls on it.
+pub fn has_one_count_at()
+    ensures { HasOneCountAt }
+{
+    places_have_frames();
+}
+
+/// There is a number of the steps that are done, on the proof of each item of a base of files.
+///
+/// It shows what the definitions mean; no code calls on it.
+pub fn has_count_at()
+    ensures { HasCountAt }
+{
+    places_have_frames();
+    items_have_labels();
+    mandatory_means();
+    mandatory_stand_before();
+}
+
+/// The spot of a verdict is in the proof that it is on.
+///
+/// For the places of wrong and of incomplete proofs.
+pub fn spots_are_in()
+    ensures { SpotsAreIn }
+{}
