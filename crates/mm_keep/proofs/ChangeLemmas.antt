@@ -2,7 +2,7 @@
 use Rattle.std.proofs.Common.{◌≡◌, ℕ, Option, List, refl, sym, ◌∙◌, subst}
 use Rattle.mm_proof.specs.mm_store.Language.Undoing.{UndoView}
 use Rattle.mm_proof.specs.mm_store.Language.Batches.{IsBatchOf, IsSpendable, KeepsReading, KeepsStanding}
-use Rattle.mm_proof.specs.mm_store.Language.Edits.{Asked}
+use Rattle.mm_proof.specs.mm_text.Language.Asked.{Asked}
 use Rattle.mm_proof.specs.mm_store.Language.FileFacts.{parked_in}
 use Rattle.mm_proof.specs.mm_store.Language.FilesView.{FilesView, files_in, plain}
 use Rattle.mm_proof.specs.mm_frame.Language.Base.{BaseView}

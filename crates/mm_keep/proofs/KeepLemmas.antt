@@ -6,7 +6,8 @@ use Rattle.std.proofs.lemmas.List.Elements.{recursion_from_All}
 use Rattle.std.proofs.lemmas.Option.{none-some}
 use Rattle.mm_proof.specs.mm_store.declared.item.Item as store
 use Rattle.mm_proof.specs.mm_store.Language.Batches.{IsBatchOf, KeepsReading, KeepsStanding, ReadsAlike, StartsPlaced}
-use Rattle.mm_proof.specs.mm_store.Language.Edits.{Asked, IsEditOf}
+use Rattle.mm_proof.specs.mm_text.Language.Asked.{Asked}
+use Rattle.mm_proof.specs.mm_store.Language.Edits.{IsEditOf}
 use Rattle.mm_proof.specs.mm_store.Language.Expansion.{IsExpansion}
 use Rattle.mm_proof.specs.mm_store.Language.FileFacts.{StandsIn}
 use Rattle.mm_proof.specs.mm_store.Language.FilesView.{File, FilesView, FileView, file_number, file_view, files_in, number_of, plain, plain_file}

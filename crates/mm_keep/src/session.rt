@@ -8,7 +8,8 @@ ghost use Rattle.mm_proof.specs.mm_store.declared.edit.EditError.TheVariants.{Me
 ghost use Rattle.mm_proof.specs.mm_store.declared.error.StoreError.TheVariants.{NoTop};
 ghost use Rattle.mm_proof.specs.mm_store.Language.Answers.{IsExpansionError};
 ghost use Rattle.mm_proof.specs.mm_store.Language.Batches.{IsBatchOf};
-ghost use Rattle.mm_proof.specs.mm_store.Language.Edits.{asked, edited_name, IsEditOf, NamesNoMember};
+ghost use Rattle.mm_proof.specs.mm_text.Language.Asked.{asked, edited_name};
+ghost use Rattle.mm_proof.specs.mm_store.Language.Edits.{IsEditOf, NamesNoMember};
 ghost use Rattle.mm_proof.specs.mm_store.Language.FileFacts.{parked_in};
 ghost use Rattle.mm_proof.specs.mm_store.Language.FilesView.{FilesView, files_in, file_number, number_of, plain};
 ghost use Rattle.mm_keep.specs.Code.Changing.{CanTake, HasKept, HasTaking, IsChangeError, WereKept, session_of};

@@ -11,10 +11,10 @@ use Rattle.std.specs.Option.{option_map}
 use Rattle.std.proofs.lemmas.List.{length-map}
 use Rattle.std.proofs.lemmas.Option.{slice_get-map, slice_get_within, slice_get-get_or, same_Some}
 use Rattle.std.proofs.KnownBytes.{Appends-kept}
-use Rattle.mm_keep.specs.mm_store.declared.edit.Edit.{Edit}
+use Rattle.mm_keep.specs.mm_text.declared.edit.Edit.{Edit}
 use Rattle.mm_keep.specs.mm_store.Language.Batches.{IsRefusedAt}
 use Rattle.mm_keep.specs.mm_store.declared.edit.EditError.{EditError}
-use Rattle.mm_keep.specs.mm_store.Language.Edits.{Asked, asked}
+use Rattle.mm_keep.specs.mm_text.Language.Asked.{Asked, asked}
 use Rattle.mm_keep.specs.mm_store.Language.FilesView.{plain}
 use Rattle.mm_keep.specs.Language.Sessions.{SessionView, AreAxiomsOf, IsChanged, HasAssertion}
 use Rattle.mm_script.specs.declared.error.ScriptError.{ScriptError}

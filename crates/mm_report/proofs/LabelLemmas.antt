@@ -6,7 +6,7 @@ use Rattle.mm_keep.specs.mm_text.declared.fault.TextFault.{TextFault}
 use Rattle.mm_keep.specs.mm_text.Language.Place.{line_at, column_at}
 use Rattle.mm_keep.specs.mm_store.declared.edit.EditError.{EditError}
 use Rattle.mm_keep.specs.mm_store.declared.edit.EditError.TheVariants as refusals
-use Rattle.mm_keep.specs.mm_store.Language.Edits.{Asked}
+use Rattle.mm_keep.specs.mm_text.Language.Asked.{Asked}
 use Rattle.mm_keep.specs.mm_frame.Language.Base.{BaseView, said_at}
 use Rattle.mm_keep.specs.mm_statement.Language.Item.{Item}
 use Rattle.mm_report.specs.Code.Answered.{label_lines, text_brought}

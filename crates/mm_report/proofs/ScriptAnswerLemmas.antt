@@ -7,7 +7,8 @@ use Rattle.mm_keep.specs.mm_store.declared.edit.EditError.{EditError}
 use Rattle.mm_keep.specs.mm_store.declared.edit.EditError.TheVariants.{Memory}
 use Rattle.mm_keep.specs.mm_store.Language.Answers.{IsEditError}
 use Rattle.mm_keep.specs.mm_store.Language.Batches.{IsBatchOf, IsRefusedAt}
-use Rattle.mm_keep.specs.mm_store.Language.Edits.{Asked, IsEditOf}
+use Rattle.mm_keep.specs.mm_text.Language.Asked.{Asked}
+use Rattle.mm_keep.specs.mm_store.Language.Edits.{IsEditOf}
 use Rattle.mm_keep.specs.mm_store.Language.FilesView.{File, plain}
 use Rattle.mm_keep.specs.mm_frame.Language.Base.{BaseView, IsOfFiles}
 use Rattle.mm_keep.specs.mm_frame.Language.Laws.{HasOwnLabels}

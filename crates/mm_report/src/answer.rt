@@ -4,7 +4,7 @@ ghost use Rattle.std.specs.Prelude.{◌≡◌, ◌≢◌, ◌≤◌, ◌<◌, �
 ghost use Rattle.std.specs.Prelude.{List, Contains, Err, IsOk, IsTrue, true, false, IfOk, IfErr, IsErrOf, OnOk, codes, length, map};
 ghost use Rattle.std.specs.Io.KnownBytes.{Appends};
 ghost use Rattle.mm_keep.specs.mm_store.declared.edit.EditError.TheVariants as refusals;
-ghost use Rattle.mm_keep.specs.mm_store.Language.Edits.{asked};
+ghost use Rattle.mm_keep.specs.mm_text.Language.Asked.{asked};
 ghost use Rattle.mm_keep.specs.mm_store.Language.FilesView.{File, plain};
 ghost use Rattle.mm_keep.specs.mm_frame.Language.Base.{said_at};
 ghost use Rattle.mm_keep.specs.declared.answers.KeepError.TheVariants as keep;

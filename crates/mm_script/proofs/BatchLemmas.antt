@@ -9,7 +9,7 @@ use Rattle.mm_script.specs.Code.Batches.{IsBatchFront}
 use Rattle.mm_script.specs.Code.Growing.{InputGrows, HasBlanks, IsLineAt, IsTextBad, IsTextLine, IsTextShort, line_bytes}
 use Rattle.mm_script.specs.Language.Commands.{pending, StopsSo, HasNoEntry}
 use Rattle.mm_script.specs.Code.Stops.{IsBadEditLine, IsOneLine, batch_bytes, batch_line}
-use Rattle.mm_store.specs.Language.Edits.{Asked, edited_text}
+use Rattle.mm_text.specs.Language.Asked.{Asked, edited_text}
 use Rattle.mm_script.specs.Language.Script.{CutShort, BadLine, IsGoodEdit, Listed, edit_line, listed_bytes}
 use Rattle.mm_script.proofs.EditLemmas.{fed_line, unfed_line}
 use Rattle.mm_script.proofs.GrowLemmas.{grows_not}

@@ -4,8 +4,8 @@ use Rattle.std.specs.List.{flat_map}
 use Rattle.std.proofs.lemmas.List.{append-nil, length-drop, length-map, map-append, take_at}
 use Rattle.std.proofs.lemmas.List.Concat.{flat_map-append}
 use Rattle.std.proofs.lemmas.List.Elements.{Contains-append_left, Contains-append_right, Contains-push, Contains-push_cases}
-use Rattle.mm_store.specs.Language.Edits.{Asked, edited_text}
-use Rattle.mm_store.specs.Language.Edits as ask
+use Rattle.mm_text.specs.Language.Asked.{Asked, edited_text}
+use Rattle.mm_text.specs.Language.Asked as ask
 use Rattle.mm_script.specs.declared.entry.Complete.{Complete}
 use Rattle.mm_script.specs.declared.entry.EditAt.{EditAt}
 use Rattle.mm_script.specs.declared.entry.EditAt.TheVariants.{Insert, Replace, Delete, Move}

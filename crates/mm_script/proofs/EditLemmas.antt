@@ -3,8 +3,8 @@ use Rattle.std.proofs.Common.{◌≡◌, ℕ, ◌+◌, ◌-◌, ◌≤◌, Bool,
 use Rattle.std.specs.List.{join_with_byte}
 use Rattle.std.proofs.lemmas.List.{append-nil, length-drop, length-take, length-replicate, drop-drop, drop-take, take-take, drop_all}
 use Rattle.std.proofs.lemmas.List.Folds.{drop_split}
-use Rattle.mm_store.specs.Language.Edits.{Asked, edited_text}
-use Rattle.mm_store.specs.Language.Edits as ask
+use Rattle.mm_text.specs.Language.Asked.{Asked, edited_text}
+use Rattle.mm_text.specs.Language.Asked as ask
 use Rattle.mm_script.specs.declared.entry.EditAt.{EditAt}
 use Rattle.mm_script.specs.declared.entry.Part.{Part}
 use Rattle.mm_script.specs.declared.input.Input.{Input}

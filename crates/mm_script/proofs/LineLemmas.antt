@@ -8,8 +8,8 @@ use Rattle.std.specs.Option.{is_some}
 use Rattle.std.specs.Str.Parse.{ParsesUnsigned}
 use Rattle.std.proofs.lemmas.Fmt.{parse-decimal, IsAscii-decimal}
 use Rattle.std.proofs.lemmas.Bool.{and_from}
-use Rattle.mm_store.specs.Language.Edits.{Asked}
-use Rattle.mm_store.specs.Language.Edits as ask
+use Rattle.mm_text.specs.Language.Asked.{Asked}
+use Rattle.mm_text.specs.Language.Asked as ask
 use Rattle.mm_script.specs.declared.line.Verb.{Verb}
 use Rattle.mm_script.specs.declared.line.Verb.TheVariants.{Insert, Replace, Delete, Move, Batch, Verdict, Axioms, Cites, Users}
 use Rattle.mm_script.specs.Code.Lines.{CutsAt, HasNoSpace, IsFileAnd, IsFileAndTwo, verb_word}

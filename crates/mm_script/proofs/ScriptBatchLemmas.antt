@@ -5,7 +5,7 @@ use Rattle.std.proofs.lemmas.Bool.{cases_lt}
 use Rattle.std.proofs.lemmas.Fmt.{decimal_injective}
 use Rattle.std.proofs.lemmas.List.{append-nil, length-replicate}
 use Rattle.std.proofs.lemmas.List.Concat.{flat_map-append}
-use Rattle.mm_store.specs.Language.Edits.{Asked, Delete, edited_text}
+use Rattle.mm_text.specs.Language.Asked.{Asked, Delete, edited_text}
 use Rattle.mm_script.specs.Code.Stops.{AreListed, batch_line, batch_bytes}
 use Rattle.mm_script.specs.Language.Script.{Listed, Command, Change, Batch, AreGoodEdits, EndsInLine, IsCutShort, IsGood, IsGoodEdit, IsNoneOrLine, IsNumber, MayBreak, MissesEdits}
 use Rattle.mm_script.specs.Language.Script.{behind_line, edit_bytes, edit_line, ended_text, line_of, listed_bytes, command_words}

@@ -1,7 +1,7 @@
 -- Some scripts are read by the definitions.
 use Rattle.std.proofs.Common.{◌≡◌, ◌≢◌, ℕ, ◌<◌, List, [], ◌∷◌, length, refl, ap, arith, codes, slice_index}
 use Rattle.std.specs.Fmt.{digits}
-use Rattle.mm_store.specs.Language.Edits.{Asked, Insert, Replace, Delete}
+use Rattle.mm_text.specs.Language.Asked.{Asked, Insert, Replace, Delete}
 use Rattle.mm_script.specs.Code.Stops.{AreListed, HasTextOf}
 use Rattle.mm_script.specs.Language.Commands.{StopsSo}
 use Rattle.mm_script.specs.Language.Script.{Command, Change, Batch, Report, Verdict, Axioms, Users, Blank, Given, End, CutShort, BadLine, IsGood, IsGoodEdit, IsName, edit_line, line_of}

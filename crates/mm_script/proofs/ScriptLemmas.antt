@@ -4,7 +4,7 @@ use Rattle.std.specs.List.{flat_map}
 use Rattle.std.proofs.lemmas.Bool.{cases_lt}
 use Rattle.std.proofs.lemmas.List.{append-nil, append_cancel_left, append_cancel_right}
 use Rattle.std.proofs.lemmas.List.Concat.{flat_map-append}
-use Rattle.mm_store.specs.Language.Edits.{edited_text}
+use Rattle.mm_text.specs.Language.Asked.{edited_text}
 use Rattle.mm_script.specs.Language.Script.{Listed, Command, Change, Batch, Entry, Blank, Given, listed_bytes, edit_line, entry_bytes, IsGoodEntry, AreGood}
 use Rattle.mm_script.specs.Language.Script.{IsGood, entries_bytes, line_of, ended_text, behind_line, command_bytes, EndsInLine}
 use Rattle.mm_script.specs.Language.Script.{LacksFeed, HasEntries, IsLongestReading, AreRead, IsReadSoFar, IsCutShort, End, Done, CutShort, BadLine, EndsSo}

@@ -4,7 +4,7 @@ use Rattle.std.specs.List.{join_with_byte}
 use Rattle.std.proofs.lemmas.Fmt.{decimal_injective}
 use Rattle.std.proofs.lemmas.List.{append-nil, length-replicate}
 use Rattle.std.proofs.lemmas.Option.{same_Some, none-some}
-use Rattle.mm_store.specs.Language.Edits.{Asked, Insert, Replace, Delete, Move, edited_text}
+use Rattle.mm_text.specs.Language.Asked.{Asked, Insert, Replace, Delete, Move, edited_text}
 use Rattle.mm_script.specs.Code.Stops.{HasTextOf}
 use Rattle.mm_script.specs.Language.Commands.{StopsSo}
 use Rattle.mm_script.specs.Language.Script.{Command, Change, Blank, Given, CutShort, BadLine, EndsInLine, MayBreak, IsCutShort, IsGood, IsGoodEdit, IsNumber}

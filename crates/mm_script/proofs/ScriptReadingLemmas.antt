@@ -4,7 +4,7 @@ use Rattle.std.specs.List.{flat_map}
 use Rattle.std.proofs.lemmas.List.Concat.{flat_map-append}
 use Rattle.std.proofs.Math.Decide.{ℕ_discrete}
 use Rattle.mm_script.proofs.BatchReadLemmas.{good_more, last_in_line}
-use Rattle.mm_store.specs.Language.Edits.{Asked, edited_text}
+use Rattle.mm_text.specs.Language.Asked.{Asked, edited_text}
 use Rattle.mm_script.specs.Code.Stops.{HasTextOf, AreListed, batch_line, batch_bytes}
 use Rattle.mm_script.specs.Language.Commands.{StopsSo}
 use Rattle.mm_script.specs.Language.Script.{Listed, Command, Change, Batch, Entry, Blank, Given, End, Done, CutShort, BadLine}

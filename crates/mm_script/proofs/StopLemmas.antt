@@ -2,7 +2,7 @@
 use Rattle.std.proofs.Common.{◌≡◌, ◌≢◌, ◌<◌, ◌≤◌, ◌+◌, ℕ, None, List, [], ◌∷◌, ◌++◌, length, length-append, replicate, refl, sym, ap, ◌∙◌, subst, inl, inr, arith, append_assoc}
 use Rattle.std.specs.List.{flat_map}
 use Rattle.std.proofs.lemmas.List.{append-nil, length-replicate, replicate_more}
-use Rattle.mm_store.specs.Language.Edits.{Asked, edited_text}
+use Rattle.mm_text.specs.Language.Asked.{Asked, edited_text}
 use Rattle.mm_script.specs.Code.Stops.{IsOneLine, IsBadLine, IsBadEditLine, HasTextOf, AreListed, batch_line, batch_bytes}
 use Rattle.mm_script.specs.Language.Commands.{StopsSo, HasNoEntry}
 use Rattle.mm_script.specs.Language.Script.{Command, Batch, Change, Listed, CutShort, BadLine, EndsInLine, IsCutShort, IsGood, IsGoodEdit, IsNumber, LastInLine, MayBreak}

@@ -5,7 +5,7 @@ use Rattle.std.specs.List.{AllByRecursion, flat_map, list_all, join_with_byte}
 use Rattle.std.proofs.lemmas.List.{append-nil}
 use Rattle.std.proofs.lemmas.Fmt.{decimal_by_steps, decimal_injective}
 use Rattle.std.proofs.lemmas.Bool.{and_from, and_parts}
-use Rattle.mm_store.specs.Language.Edits.{Asked, Insert, Replace, Delete, Move, edited_text}
+use Rattle.mm_text.specs.Language.Asked.{Asked, Insert, Replace, Delete, Move, edited_text}
 use Rattle.mm_script.specs.Language.Script.{Listed, Command, Change, Report, Verdict, Axioms, Cites, Users, Batch, edit_line, listed_bytes, edit_words, command_words, line_of, ended_text, behind_line, command_bytes}
 use Rattle.mm_script.specs.Language.Script.{is_word_byte, IsName, IsNumber, IsGoodEdit, AreGoodEdits, IsGood}
 use Rattle.mm_script.proofs.SplitLemmas.{Lacks, split_at, same_words, join_lacks, solid_space, solid_feed}

@@ -1,4 +1,3 @@
-pub use Rattle.mm_store.specs as mm_store
-pub use Rattle.mm_store.specs.mm_text
+pub use Rattle.mm_text.specs as mm_text
 pub mod Language
 pub mod Code

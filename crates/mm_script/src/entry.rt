@@ -2,7 +2,7 @@
 
 ghost use Rattle.std.specs.Prelude.{◌≡◌, ◌≢◌, ◌<◌, ◌≤◌, ◌+◌, ◌^◌, ◌⊎◌, ◌++◌, [], true, false, Err, None, IfOk, IfSome, IsErrOf, OnErr, OnOk};
 ghost use Rattle.std.specs.Io.KnownBytes.{IsAtEnd};
-ghost use Rattle.mm_store.specs.Language.Edits.{asked};
+ghost use Rattle.mm_text.specs.Language.Asked.{asked};
 ghost use Rattle.mm_script.specs.declared.error.ScriptError.TheVariants as errors;
 ghost use Rattle.mm_script.specs.Language.Commands.{pending, bytes_of_part, edit_in, to_come};
 ghost use Rattle.mm_script.specs.Language.Commands.{HasNoEntry, IsEditWithin, IsNextCommand, IsPartWithin, ReadsOn, StopsSo};
@@ -17,7 +17,7 @@ use crate::input::Input;
 use crate::line::{CommandLine, command_asked};
 use crate::read_stream::Reading;
 use crate::script_lines::{LineAt, read_line};
-use mm_store::Edit;
+use mm_text::Edit;
 use std::alloc::Global;
 use std::io::Read;
 

@@ -1,7 +1,7 @@
 //! What a line of a script asks for.
 
 ghost use Rattle.std.specs.Prelude.{◌≡◌, ◌≢◌, ◌≤◌, ◌+◌, ◌++◌, ◌∷◌, true, false, None, decimal, drop, length, IfSome, List, ℕ};
-ghost use Rattle.mm_store.specs.Language.Edits.{Asked};
+ghost use Rattle.mm_text.specs.Language.Asked.{Asked};
 ghost use Rattle.mm_script.specs.declared.line.Verb.{Verb};
 ghost use Rattle.mm_script.specs.Code.Lines.{BeginsWithVerb, CutsAt, HasNoSpace, IsFileAnd, IsFileAndTwo, IsNameIn, SaysEdit, SaysLine, verb_word};
 ghost use Rattle.mm_script.specs.Language.Commands.{bytes_of_part};

@@ -3,16 +3,18 @@
 ghost use Rattle.std.specs.Prelude.{◌≡◌, [], ◌∷◌, ◌++◌, IfOk, IfErr, OnOk, OnErr, map};
 ghost use Rattle.mm_store.specs.declared.batch.BatchError.TheVariants.{Memory};
 ghost use Rattle.mm_store.specs.Language.Batches.{IsBatchOf, IsBatchError, IsSpendable, KeepsReading, KeepsStanding};
-ghost use Rattle.mm_store.specs.Language.Edits.{asked, IsEditOf};
+ghost use Rattle.mm_text.specs.Language.Asked.{asked};
+ghost use Rattle.mm_store.specs.Language.Edits.{IsEditOf};
 ghost use Rattle.mm_store.specs.Language.EditedKeys.{IsBatchByKeys, IsEditByKeys};
 ghost use Rattle.mm_store.specs.Language.FileFacts.{parked_in};
 ghost use Rattle.mm_store.specs.Language.FilesView.{FilesView, files_in, plain};
 ghost use Rattle.mm_store.specs.Language.Undoing.{KeepsKeys, UndoView};
 ghost use Rattle.mm_store.specs.Code.Batched.{IsNextError, refusal};
 
-use crate::edit::{Edit, EditError};
+use crate::edit::EditError;
 use crate::files::Files;
 use crate::undo::Undo;
+use mm_text::Edit;
 use std::alloc::{AllocError, Global};
 use std::marker::Model;
 use thiserror::Error;

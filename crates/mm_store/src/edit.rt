@@ -1,74 +1,33 @@
-//! Edits, and why they are refused.
+//! What edits name, and why they are refused.
 
 ghost use Rattle.std.specs.Prelude.{◌≡◌, ◌↔◌, IsTrue};
 ghost use Rattle.mm_store.specs.declared.edit.EditError.TheVariants.{Memory};
-ghost use Rattle.mm_store.specs.Language.Edits.{asked, edited_name, IsAmong};
+ghost use Rattle.mm_text.specs.Language.Asked.{asked, edited_name, IsAmong};
 
-use mm_text::{TextError, TextFault};
+use mm_text::{Edit, TextError, TextFault};
 use std::alloc::AllocError;
 use thiserror::Error;
 
-/// An edit of one file, by its name: of its pieces, counted from 0.
-#[derive(Clone, Copy, Debug)]
-pub enum Edit<'a> {
-    /// A new piece, of this text, before the piece `at`; after the last if `at` is their count.
-    Insert {
-        /// The name of the file.
-        file: &'a [u8],
-        /// At most the count of the pieces.
-        at: usize,
-        /// One unit, with white space and comments around it.
-        text: &'a [u8],
-    },
-    /// A new piece, of this text, in the place of the piece `at`.
-    Replace {
-        /// The name of the file.
-        file: &'a [u8],
-        /// Less than the count of the pieces.
-        at: usize,
-        /// One unit, with white space and comments around it.
-        text: &'a [u8],
-    },
-    /// The piece `at` is taken out.
-    Delete {
-        /// The name of the file.
-        file: &'a [u8],
-        /// Less than the count of the pieces.
-        at: usize,
-    },
-    /// The piece `at` is taken out and put back as piece `to`.
-    Move {
-        /// The name of the file.
-        file: &'a [u8],
-        /// Less than the count of the pieces.
-        at: usize,
-        /// Less than the count of the pieces.
-        to: usize,
-    },
+/// The name of the file that is edited.
+pub fn edited_file<'a>(edit: &Edit<'a>) -> &'a [u8]
+    ensures { result.now ≡ edited_name (asked edit.now) }
+{
+    match *edit {
+        Edit::Insert { file, .. }
+        | Edit::Replace { file, .. }
+        | Edit::Delete { file, .. }
+        | Edit::Move { file, .. } => file,
+    }
 }
 
-impl Edit<'_> {
-    /// The name of its file.
-    pub(crate) fn name(&self) -> &[u8]
-        ensures { result.now ≡ edited_name (asked self.now) }
-    {
-        match *self {
-            Edit::Insert { file, .. }
-            | Edit::Replace { file, .. }
-            | Edit::Delete { file, .. }
-            | Edit::Move { file, .. } => file,
-        }
-    }
-
-    /// Whether its places are there in a file of this many pieces.
-    pub(crate) fn is_among(&self, count: usize) -> bool
-        ensures { IsTrue result ↔ IsAmong (asked self.now) count }
-    {
-        match *self {
-            Edit::Insert { at, .. } => at <= count,
-            Edit::Replace { at, .. } | Edit::Delete { at, .. } => at < count,
-            Edit::Move { at, to, .. } => at < count && to < count,
-        }
+/// Whether the places of an edit are there in a file of this many pieces.
+pub fn is_among(edit: &Edit, count: usize) -> bool
+    ensures { IsTrue result ↔ IsAmong (asked edit.now) count }
+{
+    match *edit {
+        Edit::Insert { at, .. } => at <= count,
+        Edit::Replace { at, .. } | Edit::Delete { at, .. } => at < count,
+        Edit::Move { at, to, .. } => at < count && to < count,
     }
 }
 

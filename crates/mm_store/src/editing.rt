@@ -8,7 +8,8 @@ ghost use Rattle.mm_store.specs.declared.edit.EditError.TheVariants.{NoFile, NoP
 ghost use Rattle.mm_store.specs.Language.Pieces.{Replaced, Deleted};
 ghost use Rattle.mm_store.specs.Language.FilesView.{bytes_of, file_number, number_of, plain};
 ghost use Rattle.mm_store.specs.Language.FileFacts.{parked_in};
-ghost use Rattle.mm_store.specs.Language.Edits.{asked, edited_name, IsEditOf, NamesNoMember};
+ghost use Rattle.mm_text.specs.Language.Asked.{asked, edited_name};
+ghost use Rattle.mm_store.specs.Language.Edits.{IsEditOf, NamesNoMember};
 ghost use Rattle.mm_store.specs.Language.EditedKeys.{IsEditByKeys, parks};
 ghost use Rattle.mm_store.specs.Language.Undoing as action;
 ghost use Rattle.mm_store.specs.Language.Undoing.{keys_in};
@@ -17,12 +18,13 @@ ghost use Rattle.mm_store.specs.Language.Answers.{IsEditError};
 ghost use Rattle.mm_store.specs.Code.Edited.{pieces_in, with_pieces, IsReplaced, IsInserted, IsDeleted, IsMoved, NamesPlace};
 ghost use Rattle.mm_store.specs.Code.Inside.{IsPieceKept};
 
-use crate::edit::{Edit, EditError};
+use crate::edit::{EditError, edited_file, is_among};
 use crate::files::Files;
 use crate::piece_text::PieceText;
 use crate::state::{EditKind, State};
 use crate::undo::{Action, Undo};
 use crate::unit::new_piece;
+use mm_text::Edit;
 use std::alloc::AllocError;
 
 impl Files {
@@ -132,11 +134,11 @@ impl Files {
         ensures ok { IfOk result (NamesPlace (asked edit.now) self.now) }
         ensures err { IfErr result (IsEditError (asked edit.now) (plain self.now)) }
     {
-        let Some(number) = self.number_of(edit.name()) else {
+        let Some(number) = self.number_of(edited_file(edit)) else {
             return Err(EditError::NoFile);
         };
         let count = self.count_in(number);
-        if !edit.is_among(count) {
+        if !is_among(edit, count) {
             return Err(EditError::NoPiece(count));
         }
         Ok(number)

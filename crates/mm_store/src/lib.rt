@@ -31,7 +31,7 @@ mod unit;
 mod walk;
 
 pub use batch::{BatchError, Undos};
-pub use edit::{Edit, EditError};
+pub use edit::EditError;
 pub use error::StoreError;
 pub use examples::rings_are_read_so;
 pub use files::{Files, PieceKey};
@@ -42,7 +42,7 @@ pub use laws::{
     one_expansion, pieces_join_to_text, walks_go_on,
 };
 pub use mm_text::{
-    Keyword, Place, TextError, TextFault, TextNumber, Word, WordCursor, WordKind,
+    Edit, Keyword, Place, TextError, TextFault, TextNumber, Word, WordCursor, WordKind,
     first_faults_are_within, nth_word, one_meaning, place,
 };
 pub use room::fits;

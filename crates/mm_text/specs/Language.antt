@@ -7,5 +7,6 @@ pub mod Place
 pub mod Unit
 pub mod Cut
 pub mod Part
+pub mod Asked
 pub mod WordsLeft
 pub mod Examples

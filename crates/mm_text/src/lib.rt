@@ -9,12 +9,13 @@
 //!
 //! The words of a database make units: statements, inclusions, and blocks with units inside. `cut` cuts a text
 //! into pieces with one unit each, or reports the first fault of its words or units, and `divided_cut` also divides
-//! each piece into its statements.
+//! each piece into its statements. An `Edit` says what becomes of a piece of a file.
 #![tactic(auto)]
 
 mod cursor;
 mod cutting;
 mod division;
+mod edit;
 mod examples;
 mod fault;
 mod grammar;
@@ -31,6 +32,7 @@ mod word;
 
 pub use cursor::WordCursor;
 pub use cutting::{cut, divided_cut, ends_white};
+pub use edit::Edit;
 pub use examples::texts_are_read_so;
 pub use fault::{TextError, TextFault, TextNumber};
 pub use laws::{

@@ -4,7 +4,7 @@ use Rattle.mm_proof.specs.mm_store.declared.batch.BatchError.{BatchError}
 use Rattle.mm_proof.specs.mm_store.declared.batch.BatchError.TheVariants as batch
 use Rattle.mm_proof.specs.mm_store.Language.Undoing.{UndoView}
 use Rattle.mm_proof.specs.mm_store.Language.Batches.{IsRefusedAt, IsSpendable, KeepsReading, StartsPlaced}
-use Rattle.mm_proof.specs.mm_store.Language.Edits.{Asked}
+use Rattle.mm_proof.specs.mm_text.Language.Asked.{Asked}
 use Rattle.mm_proof.specs.mm_store.Language.FileFacts.{parked_in}
 use Rattle.mm_proof.specs.mm_store.Language.FilesView.{File, FilesView}
 use Rattle.mm_proof.specs.mm_frame.Language.Base.{BaseView, IsOfFiles}

@@ -7,7 +7,8 @@ use Rattle.mm_proof.specs.mm_store.declared.batch.BatchError.TheVariants as batc
 use Rattle.mm_proof.specs.mm_store.Language.FilesView.{File}
 use Rattle.mm_proof.specs.mm_store.Language.Answers.{IsEditError}
 use Rattle.mm_proof.specs.mm_store.Language.Batches.{IsRefusedAt}
-use Rattle.mm_proof.specs.mm_store.Language.Edits.{Asked, IsPlaced}
+use Rattle.mm_proof.specs.mm_text.Language.Asked.{Asked}
+use Rattle.mm_proof.specs.mm_store.Language.Edits.{IsPlaced}
 
 -- an edit is refused for the reason for which files refuse it; or because memory has run out, once its file and its members are known
 abbrev pub IsRefusal : Asked → List File → EditError → Type 0

@@ -9,7 +9,8 @@ use Rattle.mm_keep.specs.mm_store.declared.edit.EditError.{EditError}
 use Rattle.mm_keep.specs.mm_store.declared.edit.EditError.TheVariants.{NoFile, NoPiece, Text, NotOne, TooMany, Memory}
 use Rattle.mm_keep.specs.mm_store.Language.Answers.{IsEditError}
 use Rattle.mm_keep.specs.mm_store.Language.Batches.{IsBatchOf, IsRefusedAt}
-use Rattle.mm_keep.specs.mm_store.Language.Edits.{Asked, IsEditOf, edited_text}
+use Rattle.mm_keep.specs.mm_text.Language.Asked.{Asked, edited_text}
+use Rattle.mm_keep.specs.mm_store.Language.Edits.{IsEditOf}
 use Rattle.mm_keep.specs.mm_store.Language.FilesView.{plain}
 use Rattle.mm_keep.specs.mm_frame.Language.Base.{BaseView, said_at}
 use Rattle.mm_keep.specs.mm_statement.Language.Item.{Item}

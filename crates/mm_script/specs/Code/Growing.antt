@@ -2,7 +2,7 @@
 use Rattle.std.specs.Prelude.{◌≡◌, ◌≢◌, ◌≤◌, ◌+◌, ℕ, true, false, Option}
 use Rattle.std.specs.Prelude.{None, List, ◌∷◌, ◌++◌, ◌-◌, length, drop, replicate, slice_range}
 use Rattle.std.specs.Io.KnownBytes.{Consumes, IsAtEnd}
-use Rattle.mm_store.specs.Language.Edits.{Asked, edited_text}
+use Rattle.mm_text.specs.Language.Asked.{Asked, edited_text}
 use Rattle.mm_script.specs.declared.entry.Complete.{Complete}
 use Rattle.mm_script.specs.declared.entry.EditAt.{EditAt}
 use Rattle.mm_script.specs.declared.input.Input.{Input}

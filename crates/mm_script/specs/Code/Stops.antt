@@ -1,7 +1,7 @@
 -- Lines that are those of no command, and what a command is before it is whole.
 use Rattle.std.specs.Prelude.{◌≡◌, ◌≢◌, ◌<◌, ℕ, Some, List, [], ◌∷◌, ◌++◌, length, codes, decimal, replicate}
 use Rattle.std.specs.List.{AllByRecursion, flat_map, join_with_byte}
-use Rattle.mm_store.specs.Language.Edits.{Asked, edited_text}
+use Rattle.mm_text.specs.Language.Asked.{Asked, edited_text}
 use Rattle.mm_script.specs.Language.Script.{Command, IsGood, IsGoodEdit, AreGoodEdits, IsNumber}
 use Rattle.mm_script.specs.Language.Script.{Listed, listed_bytes, line_of, edit_line}
 

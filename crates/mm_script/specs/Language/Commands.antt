@@ -1,7 +1,7 @@
 -- The next command of a script, in the pending bytes: those that are read and not answered yet.
 use Rattle.std.specs.Prelude.{◌≡◌, ◌≤◌, ◌+◌, ◌*◌, ◌⊎◌, ℕ, true, false, Option, List, Contains, [], ◌∷◌, ◌++◌, length, map, drop, replicate, slice_range}
 use Rattle.std.specs.Io.KnownBytes.{Consumes, IsAtEnd}
-use Rattle.mm_store.specs.Language.Edits.{Asked, Insert, Replace, Delete, Move}
+use Rattle.mm_text.specs.Language.Asked.{Asked, Insert, Replace, Delete, Move}
 use Rattle.mm_script.specs.declared.entry.Part.{Part}
 use Rattle.mm_script.specs.declared.entry.EditAt.{EditAt}
 use Rattle.mm_script.specs.declared.entry.EditAt.TheVariants as edits

@@ -1,6 +1,6 @@
 -- Some scripts, and how they are read.
 use Rattle.std.specs.Prelude.{[], ◌∷◌, codes}
-use Rattle.mm_store.specs.Language.Edits.{Replace, Delete, Insert, Move}
+use Rattle.mm_text.specs.Language.Asked.{Replace, Delete, Insert, Move}
 use Rattle.mm_script.specs.Language.Script.{Change, Batch, Report, Verdict, Axioms, Users, Blank, Given, Done, CutShort, BadLine}
 use Rattle.mm_script.specs.Language.ReadingLaws.{IsReadSo}
 

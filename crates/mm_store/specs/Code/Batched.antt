@@ -8,7 +8,8 @@ use Rattle.mm_store.specs.declared.batch.BatchError.TheVariants as batch
 use Rattle.mm_store.specs.Language.Undoing.{UndoView}
 use Rattle.mm_store.specs.declared.batch.Undos.TheInside.{Inside}
 use Rattle.mm_store.specs.Language.Answers.{IsEditError}
-use Rattle.mm_store.specs.Language.Edits.{Asked, IsPlaced}
+use Rattle.mm_text.specs.Language.Asked.{Asked}
+use Rattle.mm_store.specs.Language.Edits.{IsPlaced}
 use Rattle.mm_store.specs.Language.FilesView.{File, FilesView}
 use Rattle.mm_store.specs.Code.Kept.{places, standing_count}
 

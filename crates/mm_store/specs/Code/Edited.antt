@@ -4,7 +4,7 @@ use Rattle.std.specs.List.{insert, remove}
 use Rattle.std.specs.FinMap as finite
 use Rattle.mm_store.specs.Language.Undoing as action
 use Rattle.mm_store.specs.Language.FilesView.{File, FilesView, plain, bytes_of, file_number}
-use Rattle.mm_store.specs.Language.Edits.{Asked, edited_name, IsAmong}
+use Rattle.mm_text.specs.Language.Asked.{Asked, edited_name, IsAmong}
 use Rattle.mm_store.specs.Language.Undoing.{UndoView, keys_in, key_at, moved, undone, CanUndo, CanSettle, KeepsText}
 use Rattle.mm_store.specs.Language.EditedKeys.{inserted, replaced, deleted}
 

@@ -8,7 +8,8 @@ use Rattle.mm_store.specs.declared.error.StoreError.TheVariants.{Text, TooMany, 
 use Rattle.mm_store.specs.declared.edit.EditError.{EditError}
 use Rattle.mm_store.specs.declared.edit.EditError.TheVariants as edits
 use Rattle.mm_store.specs.Language.FilesView.{File, file_number, bytes_of}
-use Rattle.mm_store.specs.Language.Edits.{Asked, edited_name, edited_text, IsPlaced, NamesNoMember, BringsFault, BringsNotOne, BringsOneUnit, after_edit}
+use Rattle.mm_text.specs.Language.Asked.{Asked, edited_name, edited_text}
+use Rattle.mm_store.specs.Language.Edits.{IsPlaced, NamesNoMember, BringsFault, BringsNotOne, BringsOneUnit, after_edit}
 
 -- what is reported of a text that is not read
 abbrev pub store_error_of : TextError → StoreError

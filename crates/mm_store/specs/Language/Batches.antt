@@ -6,7 +6,8 @@ use Rattle.mm_store.specs.declared.batch.BatchError.{BatchError}
 use Rattle.mm_store.specs.declared.batch.BatchError.TheVariants as batch
 use Rattle.mm_store.specs.declared.item.Item.{Item}
 use Rattle.mm_store.specs.Language.Answers.{IsEditError}
-use Rattle.mm_store.specs.Language.Edits.{Asked, IsEditOf, IsPlaced}
+use Rattle.mm_text.specs.Language.Asked.{Asked}
+use Rattle.mm_store.specs.Language.Edits.{IsEditOf, IsPlaced}
 use Rattle.mm_store.specs.Language.FileFacts.{CanBeRead, StandsIn, parked_in}
 use Rattle.mm_store.specs.Language.FilesView.{File, FilesView}
 use Rattle.mm_store.specs.Language.Undoing.{UndoView, CanSettle, CanUndo, undone, settled}

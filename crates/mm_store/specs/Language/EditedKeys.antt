@@ -3,7 +3,7 @@ use Rattle.std.specs.Prelude.{◌≡◌, ℕ, List, [], ◌∷◌, Some, None, s
 use Rattle.std.specs.List.{insert, remove}
 use Rattle.std.specs.FinMap as finite
 use Rattle.mm_text.specs.Language.Cut.{ended}
-use Rattle.mm_store.specs.Language.Edits.{Asked, Insert, Replace, Delete, Move, edited_name}
+use Rattle.mm_text.specs.Language.Asked.{Asked, Insert, Replace, Delete, Move, edited_name}
 use Rattle.mm_store.specs.Language.FilesView.{FilesView, file_number, plain}
 use Rattle.mm_store.specs.Language.Pieces.{Parked, Replaced, Deleted, standing_piece, with_state}
 use Rattle.mm_store.specs.Language.Undoing as action

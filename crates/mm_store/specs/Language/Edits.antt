@@ -1,47 +1,10 @@
--- Edits: what an edit asks for, when it is refused, and what it makes of the files without keys.
-use Rattle.std.specs.Prelude.{◌≡◌, ◌≢◌, ℕ, ◌<◌, ◌≤◌, List, [], Option, Some, None, length, slice_get, slice_set, slice_index_or}
+-- Edits: when one is refused, and what it makes of the files without keys.
+use Rattle.std.specs.Prelude.{◌≡◌, ◌≢◌, ℕ, ◌≤◌, List, [], Option, Some, None, length, slice_get, slice_set, slice_index_or}
 use Rattle.std.specs.List.{insert, remove}
 use Rattle.mm_text.specs.declared.fault.TextFault.{TextFault}
 use Rattle.mm_text.specs.Language.Cut.{IsCut, IsFirstFault, ended}
-use Rattle.mm_store.specs.declared.edit.Edit.{Edit}
-use Rattle.mm_store.specs.declared.edit.Edit.TheVariants as code
+use Rattle.mm_text.specs.Language.Asked.{Asked, Insert, Replace, Delete, Move, edited_name, edited_text, IsAmong}
 use Rattle.mm_store.specs.Language.FilesView.{File, file_number, bytes_of}
-
--- an edit of the file with a name. A member is one of its pieces, by its number from 0. A text becomes a new member before the one with
--- this number, or takes its place; or a member is taken out; or it is taken out and put back with another number
-pub data Asked : Type 0 where
-  Insert : List ℕ → ℕ → List ℕ → Asked
-  Replace : List ℕ → ℕ → List ℕ → Asked
-  Delete : List ℕ → ℕ → Asked
-  Move : List ℕ → ℕ → ℕ → Asked
-
--- the edit that a call gets, as the definitions see it
-abbrev pub asked : Edit → Asked
-asked (code.Insert file at text) = Insert file.now at text.now
-asked (code.Replace file at text) = Replace file.now at text.now
-asked (code.Delete file at) = Delete file.now at
-asked (code.Move file at to) = Move file.now at to
-
--- the name of the file that is edited
-abbrev pub edited_name : Asked → List ℕ
-edited_name (Insert file at text) = file
-edited_name (Replace file at text) = file
-edited_name (Delete file at) = file
-edited_name (Move file at to) = file
-
--- the text that an edit brings; a deletion and a move bring none
-abbrev pub edited_text : Asked → Option (List ℕ)
-edited_text (Insert file at text) = Some text
-edited_text (Replace file at text) = Some text
-edited_text (Delete file at) = None
-edited_text (Move file at to) = None
-
--- a file of this many members has those that the edit names; an insertion may name the place after the last
-abbrev pub IsAmong : Asked → ℕ → Type 0
-IsAmong (Insert file at text) count = at ≤ count
-IsAmong (Replace file at text) count = at < count
-IsAmong (Delete file at) count = at < count
-IsAmong (Move file at to) count = (at < count) × (to < count)
 
 -- the members after the edit. A new one is the whole text of the edit, ended by white space, and is not cut again
 abbrev pub edited : Asked → List (List ℕ) → List (List ℕ)

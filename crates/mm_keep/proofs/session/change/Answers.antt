@@ -1,6 +1,6 @@
 use Rattle.std.proofs.Common.{map, sym, subst}
 use Rattle.mm_proof.specs.mm_store.declared.batch.BatchError.{BatchError}
-use Rattle.mm_proof.specs.mm_store.Language.Edits.{asked}
+use Rattle.mm_proof.specs.mm_text.Language.Asked.{asked}
 use Rattle.mm_proof.specs.mm_store.Language.FilesView.{plain}
 use Rattle.mm_keep.specs.Code.Changing.{IsChangeError}
 use Rattle.mm_keep.proofs.KeepLemmas.{batch_starts}

@@ -2,7 +2,7 @@ use Rattle.std.proofs.Common.{◌≡◌, List, inl, map, sym, ap, ◌∙◌, sub
 use Rattle.mm_keep.specs.Language.Refusals.{IsBatchRefusal}
 use Rattle.mm_keep.specs.Language.Sessions.{SessionView}
 use Rattle.mm_keep.specs.mm_store.Language.Batches.{IsBatchOf}
-use Rattle.mm_keep.specs.mm_store.Language.Edits.{Asked, asked}
+use Rattle.mm_keep.specs.mm_text.Language.Asked.{Asked, asked}
 use Rattle.mm_keep.specs.mm_store.Language.FilesView.{plain}
 use Rattle.mm_report.specs.Code.Answered.{Answers}
 use Rattle.mm_script.specs.Language.Script.{Batch, Listed}

@@ -1,5 +1,5 @@
 use Rattle.std.proofs.Common.{◌≡◌, map, take}
-use Rattle.mm_keep.specs.mm_store.Language.Edits.{asked}
+use Rattle.mm_keep.specs.mm_text.Language.Asked.{asked}
 use Rattle.mm_script.specs.Language.Commands.{edit_in}
 use Rattle.mm_report.proofs.answer.edits_of.Given as goal
 

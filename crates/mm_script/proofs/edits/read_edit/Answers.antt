@@ -1,8 +1,8 @@
 use Rattle.std.proofs.Common.{◌+◌, ◌∷◌, [], ◌∙◌, ap, arith, sym, subst, inl, inr, refl, rules, ℕ, List, codes, decimal}
 use Rattle.std.specs.List.{join_with_byte}
 use Rattle.std.proofs.lemmas.Bool.{not-false, not-true}
-use Rattle.mm_store.specs.Language.Edits.{Asked}
-use Rattle.mm_store.specs.Language.Edits as ask
+use Rattle.mm_text.specs.Language.Asked.{Asked}
+use Rattle.mm_text.specs.Language.Asked as ask
 use Rattle.mm_script.specs.declared.entry.EditAt.TheVariants as found
 use Rattle.mm_script.specs.declared.line.EditLine.TheVariants as lines
 use Rattle.mm_script.specs.Code.Growing.{line_bytes}

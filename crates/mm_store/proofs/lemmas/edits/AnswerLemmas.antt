@@ -10,7 +10,8 @@ use Rattle.mm_text.specs.Language.Cut.{IsCut, IsFirstFault}
 use Rattle.mm_store.specs.declared.edit.EditError.{EditError}
 use Rattle.mm_store.specs.declared.edit.EditError.TheVariants as edits
 use Rattle.mm_store.specs.Language.FilesView.{File, file_number, bytes_of}
-use Rattle.mm_store.specs.Language.Edits.{Asked, Insert, Replace, Delete, Move, edited_name, edited_text, IsAmong, IsEditedFile, IsPlaced, BringsOneUnit, BringsFault, BringsNotOne, IsEditOf, after_edit}
+use Rattle.mm_text.specs.Language.Asked.{Asked, Insert, Replace, Delete, Move, edited_name, edited_text, IsAmong}
+use Rattle.mm_store.specs.Language.Edits.{IsEditedFile, IsPlaced, BringsOneUnit, BringsFault, BringsNotOne, IsEditOf, after_edit}
 use Rattle.mm_store.specs.Language.Answers.{IsEditError}
 
 abbrev pub SomeCut : Type 0

@@ -4,7 +4,7 @@ use Rattle.std.proofs.lemmas.Option.{none-some}
 use Rattle.std.specs.FinMap as finite
 use Rattle.mm_store.specs.declared.edit.EditError.{EditError}
 use Rattle.mm_store.specs.Language.Undoing as action
-use Rattle.mm_store.specs.Language.Edits.{Asked, Delete, Move}
+use Rattle.mm_text.specs.Language.Asked.{Asked, Delete, Move}
 use Rattle.mm_store.specs.Language.EditedKeys.{IsEditByKeys, IsMadeOf, parks}
 use Rattle.mm_store.specs.Language.Batches.{CanSettleAll, CanUndoAll, IsSpendable, settled_all, undone_all}
 use Rattle.mm_store.specs.Language.FileFacts.{parked_in}

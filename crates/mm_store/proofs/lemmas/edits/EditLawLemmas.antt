@@ -9,7 +9,8 @@ use Rattle.std.proofs.Math.Seq.{map-set_same}
 use Rattle.std.proofs.lemmas.Option.{get_or_from_slice_get, none-some, same_Some}
 use Rattle.mm_text.specs.Language.Cut.{ended}
 use Rattle.mm_store.specs.Language.FilesView.{File, file_number, file_at, find_file, bytes_of, text_of}
-use Rattle.mm_store.specs.Language.Edits.{Asked, Insert, Replace, Delete, Move, edited, after_edit, with_members, IsEditOf}
+use Rattle.mm_text.specs.Language.Asked.{Asked, Insert, Replace, Delete, Move}
+use Rattle.mm_store.specs.Language.Edits.{edited, after_edit, with_members, IsEditOf}
 
 -- one element of a list set
 module _ {X : Type 0} where

@@ -8,7 +8,8 @@ use Rattle.mm_store.specs.declared.edit.EditError.{EditError}
 use Rattle.mm_store.specs.declared.edit.EditError.TheVariants.{NoFile, NoPiece, Text, NotOne, TooMany, Memory}
 use Rattle.mm_store.specs.Language.FilesView.{File, FilesView, plain, file_number, bytes_of}
 use Rattle.mm_store.specs.Language.Undoing.{keys_in}
-use Rattle.mm_store.specs.Language.Edits.{Asked, edited_name, edited_text, IsAmong, edited, after_edit, IsPlaced, NamesNoMember, BringsOneUnit, BringsFault, BringsNotOne, IsEditOf}
+use Rattle.mm_text.specs.Language.Asked.{Asked, edited_name, edited_text, IsAmong}
+use Rattle.mm_store.specs.Language.Edits.{edited, after_edit, IsPlaced, NamesNoMember, BringsOneUnit, BringsFault, BringsNotOne, IsEditOf}
 use Rattle.mm_store.specs.Language.Answers.{IsEditError}
 use Rattle.mm_store.specs.Code.Edited.{pieces_in, with_pieces, NamesPlace}
 use Rattle.mm_store.specs.Code.Units.{IsTextRefused}

@@ -6,7 +6,8 @@ use Rattle.std.specs.FinMap as finite
 use Rattle.std.proofs.lemmas.List.Elements.{All-nil, All-cons}
 use Rattle.std.proofs.lemmas.Option.{none-some, same_Some, slice_get-map}
 use Rattle.mm_text.specs.Language.Cut.{HoldsOne, IsCut, ended}
-use Rattle.mm_store.specs.Language.Edits.{Asked, Insert, Replace, Delete, Move, edited, edited_text, with_members, BringsOneUnit, HasUnitCount, IsAmong, IsEditOf}
+use Rattle.mm_text.specs.Language.Asked.{Asked, Insert, Replace, Delete, Move, edited_text, IsAmong}
+use Rattle.mm_store.specs.Language.Edits.{edited, with_members, BringsOneUnit, HasUnitCount, IsEditOf}
 use Rattle.mm_store.specs.Language.FileFacts.{HoldsPieces}
 use Rattle.mm_store.specs.Language.FilesView.{File, FileView, FilesView, KeyedFile, PieceView, file_view, files_in, piece_view, plain, plain_file}
 use Rattle.mm_store.specs.Language.Holding.{HoldOneEach}

@@ -6,7 +6,8 @@ use Rattle.mm_text.specs.Language.Cut.{IsFirstFault}
 use Rattle.mm_store.specs.declared.edit.EditError.{EditError}
 use Rattle.mm_store.specs.declared.edit.EditError.TheVariants as edits
 use Rattle.mm_store.specs.Language.FilesView.{File, file_number}
-use Rattle.mm_store.specs.Language.Edits.{Asked, edited_name, edited_text, IsAmong, IsEditedFile, IsPlaced, BringsFault, BringsNotOne, NamesNoMember}
+use Rattle.mm_text.specs.Language.Asked.{Asked, edited_name, edited_text, IsAmong}
+use Rattle.mm_store.specs.Language.Edits.{IsEditedFile, IsPlaced, BringsFault, BringsNotOne, NamesNoMember}
 use Rattle.mm_store.specs.Language.Answers.{IsEditError}
 use Rattle.mm_store.proofs.lemmas.files.NamedLemmas.{OneCut}
 use Rattle.mm_store.proofs.lemmas.edits.RefusalLemmas.{NotBoth, brings_no_fault, brings_one}

@@ -6,7 +6,8 @@ use Rattle.mm_text.specs.Language.Cut.{IsCut, IsFirstFault}
 use Rattle.mm_store.specs.declared.edit.EditError.{EditError}
 use Rattle.mm_store.specs.declared.edit.EditError.TheVariants as edits
 use Rattle.mm_store.specs.Language.FilesView.{File, bytes_of}
-use Rattle.mm_store.specs.Language.Edits.{Asked, edited_text, IsAmong, IsEditedFile, BringsOneUnit, BringsFault, BringsNotOne, IsEditOf, after_edit}
+use Rattle.mm_text.specs.Language.Asked.{Asked, edited_text, IsAmong}
+use Rattle.mm_store.specs.Language.Edits.{IsEditedFile, BringsOneUnit, BringsFault, BringsNotOne, IsEditOf, after_edit}
 use Rattle.mm_store.specs.Language.Answers.{IsEditError}
 use Rattle.mm_store.proofs.lemmas.files.NamedLemmas.{OneCut}
 

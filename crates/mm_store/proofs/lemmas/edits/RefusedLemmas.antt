@@ -6,9 +6,10 @@ use Rattle.std.proofs.lemmas.Option.{none-some}
 use Rattle.mm_store.specs.declared.batch.BatchError.{BatchError}
 use Rattle.mm_store.specs.declared.batch.BatchError.TheVariants.{Edit, Memory}
 use Rattle.mm_store.specs.Language.Batches.{IsBatchError, IsBatchOf, KeepsReading, StartsPlaced}
-use Rattle.mm_store.specs.declared.edit.Edit as code
+use Rattle.mm_text.specs.declared.edit.Edit as code
 use Rattle.mm_store.specs.Language.EditedKeys.{IsBatchByKeys, IsEditByKeys}
-use Rattle.mm_store.specs.Language.Edits.{Asked, asked, IsEditOf, IsPlaced}
+use Rattle.mm_text.specs.Language.Asked.{Asked, asked}
+use Rattle.mm_store.specs.Language.Edits.{IsEditOf, IsPlaced}
 use Rattle.mm_store.specs.Language.FilesView.{File, FilesView}
 use Rattle.mm_store.specs.Language.Pieces.{text_in}
 use Rattle.mm_store.specs.Language.Undoing.{KeepsKeys, UndoView}

@@ -12,7 +12,8 @@ use Rattle.std.proofs.lemmas.Bool.{false_from_ne_true}
 use Rattle.mm_text.specs.Language.Cut.{IsCut, ended}
 use Rattle.mm_store.specs.Language.FilesView.{File, file_number, file_at, find_file, text_of}
 use Rattle.mm_store.specs.Language.FileFacts.{IsAdded}
-use Rattle.mm_store.specs.Language.Edits.{Asked, edited, edited_name, with_members, IsEditOf}
+use Rattle.mm_text.specs.Language.Asked.{Asked, edited_name}
+use Rattle.mm_store.specs.Language.Edits.{edited, with_members, IsEditOf}
 use Rattle.mm_store.proofs.lemmas.edits.EditLawLemmas.{changed_there, number_kept, others_kept}
 
 -- the file of a name has this name

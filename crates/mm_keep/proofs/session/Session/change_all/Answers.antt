@@ -1,5 +1,5 @@
 use Rattle.std.proofs.Common.{map, subst, IfErr}
-use Rattle.mm_proof.specs.mm_store.Language.Edits.{asked}
+use Rattle.mm_proof.specs.mm_text.Language.Asked.{asked}
 use Rattle.mm_proof.specs.mm_store.Language.FilesView.{plain}
 use Rattle.mm_keep.specs.Code.Changing.{IsChangeError}
 use Rattle.mm_keep.specs.Language.Sessions.{SessionView}

@@ -2,9 +2,10 @@ use Rattle.std.proofs.Common.{ℕ, ◌<◌, List, length, set, refl, sym, ap, �
 use Rattle.std.specs.List.{insert}
 use Rattle.std.proofs.lemmas.List.{length-map}
 use Rattle.mm_text.specs.Language.Cut.{ended}
-use Rattle.mm_store.specs.declared.edit.Edit.{Edit}
+use Rattle.mm_text.specs.declared.edit.Edit.{Edit}
 use Rattle.mm_store.specs.Language.FilesView.{plain, plain_file, bytes_of}
-use Rattle.mm_store.specs.Language.Edits.{asked, edited_text, IsEditOf}
+use Rattle.mm_text.specs.Language.Asked.{asked, edited_text}
+use Rattle.mm_store.specs.Language.Edits.{IsEditOf}
 use Rattle.mm_store.specs.Language.Answers.{IsEditError}
 use Rattle.mm_store.specs.Code.Edited.{pieces_in, with_pieces, NamesPlace}
 use Rattle.mm_store.proofs.lemmas.files.ListLemmas.{bytes_more, bytes_other, count_members}

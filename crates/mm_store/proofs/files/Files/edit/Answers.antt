@@ -3,7 +3,7 @@ use Rattle.std.specs.Result.{OnOk}
 use Rattle.mm_store.specs.Language.EditedKeys.{parks}
 use Rattle.mm_store.specs.Language.FileFacts.{parked_in}
 use Rattle.mm_store.specs.Code.Batched.{StandOnce}
-use Rattle.mm_store.specs.Language.Edits.{asked}
+use Rattle.mm_text.specs.Language.Asked.{asked}
 use Rattle.mm_store.specs.Language.FilesView.{plain}
 use Rattle.mm_store.proofs.lemmas.edits.BatchLemmas.{parks_more}
 use Rattle.mm_store.proofs.lemmas.edits.EditLemmas.{no_file_told, no_piece_told}
