@@ -1,7 +1,7 @@
 //! What is active after the items so far.
 
 ghost use Rattle.std.specs.Prelude.{◌≡◌, ◌∷◌, ◌++◌, ◌&&◌, Bool, List, [], OnOk, length};
-ghost use Rattle.mm_frame.specs.declared.symbol.NumberedSymbol.{NumberedSymbol as Kept};
+ghost use Rattle.mm_machine.specs.declared.symbol.NumberedSymbol.{NumberedSymbol as Kept};
 ghost use Rattle.mm_statement.specs.Language.Item as meant;
 ghost use Rattle.mm_frame.specs.Language.Scope.{closes, mark_of, active_numbers};
 ghost use Rattle.mm_statement.specs.Language.Statement.{kind_of};

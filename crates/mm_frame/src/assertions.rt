@@ -21,7 +21,7 @@ use crate::mandatory::{Earlier, FrameRoom, hypotheses, mandatory_pairs};
 use crate::pair_lists::PairLists;
 use crate::room::next_frame;
 use crate::sparse::Sparse;
-use crate::symbol::NumberedSymbol;
+use mm_machine::NumberedSymbol;
 use mm_store::ItemKind;
 use std::alloc::{AllocError, Global};
 

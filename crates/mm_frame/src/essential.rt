@@ -2,14 +2,14 @@
 
 ghost use Rattle.std.specs.Prelude.{◌≡◌, ◌<◌, ◌≤◌, ◌++◌, ◌∷◌, ℕ, List, [], IsTrue, OnOk, Contains, length, drop};
 ghost use Rattle.mm_statement.specs.Language.Item as meant;
-ghost use Rattle.mm_frame.specs.declared.symbol.NumberedSymbol.{NumberedSymbol as Kept};
+ghost use Rattle.mm_machine.specs.declared.symbol.NumberedSymbol.{NumberedSymbol as Kept};
 ghost use Rattle.mm_frame.specs.declared.essential.EssentialVariable.{EssentialVariable};
 ghost use Rattle.mm_frame.specs.Language.Scope.{active_numbers};
 ghost use Rattle.mm_frame.specs.Code.LastItems.{is_essential_item, IsRising};
 
 use crate::expressions::Expressions;
 use crate::mandatory::is_among;
-use crate::symbol::NumberedSymbol;
+use mm_machine::NumberedSymbol;
 use std::alloc::{AllocError, Global};
 
 /// A variable of an active `$e`.

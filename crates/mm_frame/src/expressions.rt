@@ -6,8 +6,8 @@ ghost use Rattle.mm_frame.specs.Code.KeptExpressions.{KeepsExpressions};
 
 use crate::counts::Counts;
 use crate::guesses::ListGuesses;
-use crate::symbol::NumberedSymbol;
 use crate::symbol_lists::SymbolLists;
+use mm_machine::NumberedSymbol;
 use std::alloc::{AllocError, Global};
 use std::marker::Model;
 
@@ -23,7 +23,7 @@ pub struct Expressions {
 
 impl Model for Expressions {
     ghost use Rattle.std.specs.Prelude.{List};
-    ghost use Rattle.mm_frame.specs.declared.symbol.NumberedSymbol.{NumberedSymbol as Kept};
+    ghost use Rattle.mm_machine.specs.declared.symbol.NumberedSymbol.{NumberedSymbol as Kept};
 
     ghost Value = { List (List Kept) };
 

@@ -1,6 +1,6 @@
 //! Guesses of the numbers of lists of symbols.
 
-use crate::symbol::NumberedSymbol;
+use mm_machine::NumberedSymbol;
 use std::alloc::{AllocError, Global};
 
 /// The most guesses: about as many as the largest databases have different expressions. They find 97 of 100 symbols that

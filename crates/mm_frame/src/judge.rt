@@ -17,7 +17,7 @@ ghost use Rattle.mm_frame.specs.Code.Numbers.{IsNameNumber, AreNameNumbers};
 use crate::FrameNumber;
 use crate::names::Names;
 use crate::scope::Scope;
-use crate::symbol::NumberedSymbol;
+use mm_machine::NumberedSymbol;
 use mm_statement::Statement;
 use mm_store::ItemKind;
 use std::alloc::{AllocError, Global};

@@ -1,8 +1,7 @@
 //! What is proved of soundness, blocks and frames: each law is the contract of a function.
 
 ghost use Rattle.mm_frame.specs.Language.Laws.{ActiveByBlocks, FaultIsFound, HasFaultOrIsSound, HasOneStatementFault, KeptNext, NeverFaultAndSound};
-ghost use Rattle.mm_frame.specs.Language.Laws.{PlacesHaveFrames, ReaderIsActive};
-ghost use Rattle.mm_frame.specs.Language.Laws.{SoundHasNone, StaysByCounts};
+ghost use Rattle.mm_frame.specs.Language.Laws.{PlacesHaveFrames, ReaderIsActive, SoundHasNone, StaysByCounts};
 ghost use Rattle.mm_frame.specs.Language.Laws.{AssertionsMean, HasItemOrIsUnknown, HasOwnLabels, ItemsHaveLabels, MandatoryMeans, MandatoryStandBefore};
 ghost use Rattle.mm_frame.specs.Language.Laws.{AlikeFilesSayTheSame, FilesHaveOneBase};
 

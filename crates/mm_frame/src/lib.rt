@@ -45,6 +45,7 @@ pub use laws::{
     mandatory_stand_before, never_both, places_have_frames, reader_is_active, sound_has_none,
     stays_by_counts,
 };
+pub use mm_machine::{NamedSymbol, NumberedSymbol, Symbol};
 pub use mm_statement::{
     ProofWords, Statement, has_bytes, nth_of_proof, same_proof, words_of_proof,
 };
@@ -58,7 +59,6 @@ pub use names::Names;
 pub use same::{
     same_active_pairs, same_but_hypotheses, same_but_pairs, same_expression, same_frame,
 };
-pub use symbol::{NamedSymbol, NumberedSymbol, Symbol};
 
 /// The number of a fault of a statement, or of a missing inclusion.
 #[derive(Clone, Copy, Debug, PartialEq, Eq)]

@@ -2,12 +2,12 @@
 
 ghost use Rattle.std.specs.Prelude.{◌≡◌, ◌++◌, ◌∷◌, ◌<◌, ℕ, List, [], All, IsTrue, OnOk, IfOk, IfSome, ◌+◌, Some, length, map, filter, drop, slice_get};
 ghost use Rattle.std.specs.List.{flat_map};
-ghost use Rattle.mm_frame.specs.Language.Frame.{Symbol as Meaning};
+ghost use Rattle.mm_machine.specs.Language.Frame.{Symbol as Meaning};
 ghost use Rattle.mm_statement.specs.Language.Item as meant;
 ghost use Rattle.mm_frame.specs.Language.Framing.{pairs_of, active_pairs, frame, mandatory_numbers};
 ghost use Rattle.mm_frame.specs.Code.KeptEarlier.{IsFramed, KnowsEarlier};
 ghost use Rattle.mm_frame.specs.Code.LastItems.{IsRising};
-ghost use Rattle.mm_frame.specs.Language.NumberedSymbols.{symbol_of, symbols_of, IsNumbered, ArePairsRead};
+ghost use Rattle.mm_machine.specs.Language.NumberedSymbols.{symbol_of, symbols_of, IsNumbered, ArePairsRead};
 ghost use Rattle.mm_frame.specs.Code.KeptSymbols.{float_number, float_numbers};
 ghost use Rattle.mm_frame.specs.Code.KeptVariables.{known_float};
 ghost use Rattle.mm_frame.specs.Code.PairOrder as paired;
@@ -25,8 +25,8 @@ use crate::expressions::Expressions;
 use crate::paired::PairTable;
 use crate::partners::{PlacedVariables, add_partners, are_short, places_if_many};
 use crate::room::copy_in;
-use crate::symbol::NumberedSymbol;
 use crate::tables::Tables;
+use mm_machine::NumberedSymbol;
 use std::alloc::{AllocError, Global};
 use std::vec::IntoIter;
 

@@ -2,7 +2,7 @@
 
 ghost use Rattle.std.specs.Prelude.{◌≡◌, ℕ, List, [], ◌∷◌, ◌++◌, Some, false, IfOk, IsTrue, OnErr, length, slice_get, bytes_eq};
 ghost use Rattle.std.specs.List.{list_any};
-ghost use Rattle.mm_frame.specs.Language.Names.{AreDistinct, Begins};
+ghost use Rattle.mm_machine.specs.Language.Names.{AreDistinct, Begins};
 ghost use Rattle.mm_frame.specs.Code.Numbers.{number_in};
 
 use indexmap::IndexSet;

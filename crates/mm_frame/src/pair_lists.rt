@@ -4,18 +4,18 @@ ghost use Rattle.std.specs.Prelude.{◌≡◌, ◌<◌, ◌≤◌, ◌+◌, ◌-
 ghost use Rattle.std.specs.List.{flat_map};
 ghost use Rattle.mm_statement.specs.Language.Item as meant;
 ghost use Rattle.mm_frame.specs.Language.Sound.{AreSound};
-ghost use Rattle.mm_frame.specs.Language.Frame.{Symbol as Meaning};
+ghost use Rattle.mm_machine.specs.Language.Frame.{Symbol as Meaning};
 ghost use Rattle.mm_frame.specs.Language.Framing.{active_pairs};
 ghost use Rattle.mm_frame.specs.Code.LastItems.{is_disjoint_item};
 ghost use Rattle.mm_frame.specs.Language.Scope.{active_numbers};
 ghost use Rattle.mm_frame.specs.Code.KeptSymbols.{AreSymbols, expression_kept};
-ghost use Rattle.mm_frame.specs.Language.NumberedSymbols.{AreInOrder, AreSamePairsRead};
+ghost use Rattle.mm_machine.specs.Language.NumberedSymbols.{AreInOrder, AreSamePairsRead};
 ghost use Rattle.mm_frame.specs.Code.KeptPairLists.{AreFrontNumbers, HasSame, HasEach, pairs_among, with_low_first};
 
 use crate::expressions::Expressions;
 use crate::room::{copy_in, move_in, next_list};
 use crate::same::same_pairs;
-use crate::symbol::NumberedSymbol;
+use mm_machine::NumberedSymbol;
 use std::alloc::{AllocError, Global};
 use std::collections::HashMap;
 use std::vec::IntoIter;

@@ -3,7 +3,7 @@
 ghost use Rattle.std.specs.Prelude.{◌≡◌, ◌<◌, ◌≤◌, ℕ, suc, true, false, List, [], Some, MatchBool, IfOk, IfSome, IfNone, OnOk, Contains, length, drop};
 ghost use Rattle.mm_statement.specs.Language.Item as meant;
 ghost use Rattle.mm_frame.specs.Language.Framing.{active_pairs};
-ghost use Rattle.mm_frame.specs.Language.NumberedSymbols.{as_variable};
+ghost use Rattle.mm_machine.specs.Language.NumberedSymbols.{as_variable};
 ghost use Rattle.mm_frame.specs.Code.LastItems.{IsRising};
 ghost use Rattle.mm_frame.specs.Code.Numbers.{IsNameNumber};
 ghost use Rattle.mm_frame.specs.Language.Answering.{are_paired};

@@ -3,7 +3,7 @@
 ghost use Rattle.std.specs.Prelude.{◌≡◌, IfOk, IfSome};
 ghost use Rattle.mm_frame.specs.Code.KeptPlaces.{ArePlaces};
 
-use crate::symbol::NumberedSymbol;
+use mm_machine::NumberedSymbol;
 use std::alloc::{AllocError, Global};
 use std::collections::HashMap;
 

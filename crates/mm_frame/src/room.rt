@@ -3,7 +3,7 @@
 ghost use Rattle.std.specs.Prelude.{◌≡◌, IfOk};
 
 use crate::draft::Frame;
-use crate::symbol::NumberedSymbol;
+use mm_machine::NumberedSymbol;
 use mm_store::Item;
 use std::alloc::{AllocError, Global};
 use std::vec::IntoIter;

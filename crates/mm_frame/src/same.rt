@@ -4,11 +4,12 @@ ghost use Rattle.std.specs.Prelude.{◌≡◌, ◌↔◌, ◌⊎◌, ℕ, List, 
 ghost use Rattle.mm_frame.specs.Language.Base.{BaseView, before, said_at, is_shown_at, is_framed_at, is_proof_at, hypothesis_at, frame_at};
 ghost use Rattle.mm_frame.specs.Language.Framing.{active_pairs, expression};
 ghost use Rattle.mm_frame.specs.Language.Answering.{IsBaseBy};
-ghost use Rattle.mm_frame.specs.Language.Frame.{AreSameFrame, AreSamePairs};
+ghost use Rattle.mm_machine.specs.Language.Frame.{AreSameFrame, AreSamePairs};
 
 use crate::base::Base;
 use crate::names::Names;
-use crate::symbol::{NumberedSymbol, same_symbols};
+use crate::symbol::same_symbols;
+use mm_machine::NumberedSymbol;
 
 /// Whether two lists of pairs are the same, one by one.
 pub fn same_pairs(

@@ -13,13 +13,13 @@ ghost use Rattle.mm_frame.specs.Code.BlockMarks.{block_marks};
 ghost use Rattle.mm_frame.specs.Code.KeptTables.{Knows};
 ghost use Rattle.mm_frame.specs.Code.KeptScope.{float_typecode};
 ghost use Rattle.mm_frame.specs.Code.KeptSymbols.{symbol_by};
-ghost use Rattle.mm_frame.specs.Language.Names.{AreDistinct};
+ghost use Rattle.mm_machine.specs.Language.Names.{AreDistinct};
 ghost use Rattle.mm_frame.specs.Code.Numbers.{IsNameNumber};
 
 use crate::blocks::Blocks;
 use crate::names::Names;
-use crate::symbol::NumberedSymbol;
 use crate::tables::{Declared, Tables};
+use mm_machine::NumberedSymbol;
 use mm_statement::Statement;
 use mm_store::ItemKind;
 use std::alloc::{AllocError, Global};

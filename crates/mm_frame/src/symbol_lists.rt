@@ -4,7 +4,8 @@ ghost use Rattle.std.specs.Prelude.{◌≡◌, ◌≤◌, List, [], ◌∷◌, �
 ghost use Rattle.mm_frame.specs.Code.KeptSymbols.{expression_kept};
 
 use crate::counts::{Counts, Part};
-use crate::symbol::{NumberedSymbol, same_symbols};
+use crate::symbol::same_symbols;
+use mm_machine::NumberedSymbol;
 use std::alloc::{AllocError, Global};
 use std::marker::Model;
 
@@ -27,7 +28,7 @@ pub struct SymbolLists {
 
 impl Model for SymbolLists {
     ghost use Rattle.std.specs.Prelude.{List};
-    ghost use Rattle.mm_frame.specs.declared.symbol.NumberedSymbol.{NumberedSymbol as Kept};
+    ghost use Rattle.mm_machine.specs.declared.symbol.NumberedSymbol.{NumberedSymbol as Kept};
 
     ghost Value = { List (List Kept) };
 

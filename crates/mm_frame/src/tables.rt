@@ -6,7 +6,7 @@ ghost use Rattle.mm_statement.specs.Language.Item as meant;
 ghost use Rattle.mm_frame.specs.Language.Scope.{constants};
 ghost use Rattle.mm_frame.specs.Language.Sound as sound;
 ghost use Rattle.mm_frame.specs.Code.LastItems as numbered;
-ghost use Rattle.mm_frame.specs.Language.Names.{AreDistinct};
+ghost use Rattle.mm_machine.specs.Language.Names.{AreDistinct};
 ghost use Rattle.mm_frame.specs.Code.KeptScope.{uses_numbers};
 ghost use Rattle.mm_frame.specs.Code.Numbers.{IsNameNumber, AreNameNumbers};
 

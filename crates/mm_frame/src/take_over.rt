@@ -7,7 +7,7 @@ ghost use Rattle.mm_frame.specs.Language.Scope.{active_numbers};
 ghost use Rattle.mm_frame.specs.Language.Sound.{sound_items};
 ghost use Rattle.mm_frame.specs.Language.Framing.{active_pairs, frame};
 ghost use Rattle.mm_frame.specs.Language.Base.{BaseView, is_proof_at};
-ghost use Rattle.mm_frame.specs.Language.NumberedSymbols.{AreInOrder, ArePairsRead, AreSamePairsRead};
+ghost use Rattle.mm_machine.specs.Language.NumberedSymbols.{AreInOrder, ArePairsRead, AreSamePairsRead};
 ghost use Rattle.mm_frame.specs.Language.Answering.{AreRows, IsBaseBy, pairs_in_order, told_numbers};
 ghost use Rattle.mm_frame.specs.Code.KeptAssertions.{AreAssertions, TellsFrame, TellsPairs};
 ghost use Rattle.mm_frame.specs.Code.KeptPairLists.{AreMade, IsList, KeepsLists};
@@ -23,7 +23,7 @@ use crate::expressions::Expressions;
 use crate::pair_lists::PairLists;
 use crate::room::{copy_in, next_frame};
 use crate::sparse::{Sparse, number_at};
-use crate::symbol::NumberedSymbol;
+use mm_machine::NumberedSymbol;
 use std::alloc::{AllocError, Global};
 use std::vec::IntoIter;
 

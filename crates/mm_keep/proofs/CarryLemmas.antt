@@ -1,15 +1,11 @@
 -- What is carried so far.
-use Rattle.std.proofs.Common.{◌≡◌, ◌≢◌, ℕ, true, is_some, ◌<◌, ◌≤◌, ◌+◌, Option, Some, None, List, length, get_or, set, refl, sym, ◌∙◌, ap, subst, arith, length-set, get_or-set_other, get_or-set_same, slice_get}
+use Rattle.std.proofs.Common.{◌≡◌, ◌≢◌, ℕ, true, is_some, ◌<◌, ◌≤◌, ◌+◌, Option, Some, None, List, length, get_or, set, refl, sym, ◌∙◌, ap, subst, arith, length-set, get_or-set_other, get_or-set_same}
+use Rattle.std.proofs.Common.{slice_get}
+use Rattle.std.proofs.lemmas.{Bool.{false≢true}, Option.{get_or_from_slice_get, slice_get-get_or, slice_get_within}}
 use native.Mathlib.Decide.{dec_lt}
-use Rattle.std.proofs.lemmas.Bool.{false≢true}
-use Rattle.std.proofs.lemmas.Option.{get_or_from_slice_get, slice_get-get_or, slice_get_within}
-use Rattle.mm_proof.specs.mm_frame.Language.Base.{BaseView, is_proof_at}
-use Rattle.mm_proof.specs.mm_verdict.Language.DecodingLaws.{LabelsAreOwn}
+use Rattle.mm_proof.specs.{mm_frame.Language.Base.{BaseView, is_proof_at}, mm_verdict.Language.{DecodingLaws.{LabelsAreOwn}, Work.{Judgement}}}
 use Rattle.mm_proof.specs.Language.ViewLaws.{SameViewSameVerdict, SameViewSameCites}
-use Rattle.mm_proof.specs.mm_verdict.Language.Work.{Judgement}
-use Rattle.mm_keep.specs.Code.KeptSession.{IsCheckedAt, AreChecked}
-use Rattle.mm_keep.specs.Code.Planned.{IsRunBy, CanCarry}
-use Rattle.mm_keep.specs.Language.Runs.{HasSameView}
+use Rattle.mm_keep.specs.{Code.{KeptSession.{IsCheckedAt, AreChecked}, Planned.{IsRunBy, CanCarry}}, Language.Runs.{HasSameView}}
 use Rattle.mm_keep.proofs.PlanLemmas.{checked_same, kept_by_one}
 
 -- the first items of the new list are checked, the others are as the runs gave them, and what they keep is where it was

@@ -1,16 +1,9 @@
 -- Chains of citations, and marks of the items to which they lead.
 use Rattle.std.proofs.Common.{◌≡◌, ◌<◌, ◌≤◌, ℕ, zero, suc, ◌+◌, Bool, true, false, List, [], ◌∷◌, ◌++◌, length, take, get_or, set, refl, sym, ap, ◌∙◌, subst, inl, inr, arith, replicate}
-use Rattle.std.proofs.Math.Decide.{dec_lt, ℕ_discrete}
-use Rattle.std.proofs.Math.ListN.{get_or-eq_default}
-use Rattle.std.proofs.lemmas.Bool.{false≢true}
-use Rattle.std.proofs.lemmas.List.{get_or-replicate, get_or-set_same, get_or-set_other, length-replicate}
+use Rattle.std.proofs.{Math.{Decide.{dec_lt, ℕ_discrete}, ListN.{get_or-eq_default}}, lemmas.{Bool.{false≢true}, List.{get_or-replicate, get_or-set_same, get_or-set_other, length-replicate}}}
 use Rattle.mm_proof.specs.mm_frame.Language.Base.{BaseView}
-use Rattle.mm_keep.specs.Language.Citations.{CitesItem, LeadsTo, none, step, IsAxiomOf}
-use Rattle.mm_keep.specs.Language.Runs.{AreThose}
-use Rattle.mm_keep.specs.Language.Told.{IsAxiom}
-use Rattle.mm_keep.specs.Code.Cited.{IsMarked, MarksMore, MarksBehind}
-use Rattle.mm_keep.proofs.CitedItems.{cites_earlier}
-use Rattle.mm_keep.proofs.RunLemmas.{those_moved}
+use Rattle.mm_keep.specs.{Language.{Citations.{CitesItem, LeadsTo, none, step, IsAxiomOf}, Runs.{AreThose}, Told.{IsAxiom}}, Code.Cited.{IsMarked, MarksMore, MarksBehind}}
+use Rattle.mm_keep.proofs.{CitedItems.{cites_earlier}, RunLemmas.{those_moved}}
 
 -- ---- chains
 

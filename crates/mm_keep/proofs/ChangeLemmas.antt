@@ -1,19 +1,8 @@
 -- How a session goes on with edited files.
 use Rattle.std.proofs.Common.{◌≡◌, ℕ, Option, List, refl, sym, ◌∙◌, subst}
-use Rattle.mm_proof.specs.mm_store.Language.Undoing.{UndoView}
-use Rattle.mm_proof.specs.mm_store.Language.Batches.{IsBatchOf, IsSpendable, KeepsReading, KeepsStanding}
-use Rattle.mm_proof.specs.mm_text.Language.Asked.{Asked}
-use Rattle.mm_proof.specs.mm_store.Language.FileFacts.{parked_in}
-use Rattle.mm_proof.specs.mm_store.Language.FilesView.{FilesView, files_in, plain}
-use Rattle.mm_proof.specs.mm_frame.Language.Base.{BaseView}
-use Rattle.mm_proof.specs.mm_frame.declared.base.Base.{Base}
-use Rattle.mm_proof.specs.mm_verdict.Language.Work.{Judgement, Recorded}
-use Rattle.mm_keep.specs.declared.keeping.Next.{Next}
-use Rattle.mm_keep.specs.Code.Changing.{CanTake, HasKept, WereKept, session_of}
-use Rattle.mm_keep.specs.Code.KeptSession.{AreChecked}
-use Rattle.mm_proof.specs.mm_frame.Language.Older.{IsOlder}
-use Rattle.mm_keep.specs.Code.Next.{IsBuilt, IsNextBase}
-use Rattle.mm_keep.specs.Code.Planned.{CanCarry}
+use Rattle.mm_proof.specs.mm_store.Language.{Undoing.{UndoView}, Batches.{IsBatchOf, IsSpendable, KeepsReading, KeepsStanding}, FileFacts.{parked_in}, FilesView.{FilesView, files_in, plain}}
+use Rattle.mm_proof.specs.{mm_text.Language.Asked.{Asked}, mm_frame.{Language.{Base.{BaseView}, Older.{IsOlder}}, declared.base.Base.{Base}}, mm_verdict.Language.Work.{Judgement, Recorded}}
+use Rattle.mm_keep.specs.{declared.keeping.Next.{Next}, Code.{Changing.{CanTake, HasKept, WereKept, session_of}, KeptSession.{AreChecked}, Next.{IsBuilt, IsNextBase}, Planned.{CanCarry}}}
 use Rattle.mm_keep.specs.Language.Sessions.{IsChanged}
 use Rattle.mm_keep.proofs.KeepLemmas.{ItemsStand, KeepsNumbers, batch_top, expansion_top, base_settled, says_edited}
 

@@ -1,11 +1,9 @@
 -- What checks said, by the places of items: one item more, and one check in the place of another.
-use Rattle.std.proofs.Common.{cond, Result, Ok, is_ok}
-use Rattle.std.proofs.Common.{◌≡◌, ◌≢◌, ℕ, zero, suc, ◌<◌, ◌≤◌, ◌+◌, ◌-◌, true, Option, Some, None, List, [], ◌∷◌, ◌++◌, length, map, get_or, set, is_some, refl, sym, ◌∙◌, ap, subst, arith, length-set, get_or-set_other, get_or-set_same, slice_get}
-use native.Mathlib.Decide.{dec_lt}
-use Rattle.std.proofs.lemmas.Bool.{false≢true}
-use Rattle.std.proofs.lemmas.List.{length-map, length_push, get_or-map, get_or_append_left, get_or_past, map-append, same_lists}
-use Rattle.std.proofs.lemmas.Option.{slice_get-get_or, slice_get_past}
+use Rattle.std.proofs.Common.{cond, Result, Ok, is_ok, ◌≡◌, ◌≢◌, ℕ, zero, suc, ◌<◌, ◌≤◌, ◌+◌, ◌-◌, true, Option, Some, None, List, [], ◌∷◌, ◌++◌, length, map, get_or, set, is_some, refl, sym, ◌∙◌, ap}
+use Rattle.std.proofs.Common.{subst, arith, length-set, get_or-set_other, get_or-set_same, slice_get}
+use Rattle.std.proofs.lemmas.{Bool.{false≢true}, List.{length-map, length_push, get_or-map, get_or_append_left, get_or_past, map-append, same_lists}, Option.{slice_get-get_or, slice_get_past}}
 use Rattle.std.proofs.Math.Seq.{get_or-append_seam}
+use native.Mathlib.Decide.{dec_lt}
 use Rattle.mm_proof.specs.mm_verdict.Language.Work.{Judgement}
 use Rattle.mm_keep.specs.Code.KeptCheck.{IsPlaced, judgement_at}
 

@@ -1,17 +1,9 @@
 -- Citations depend on what the items of files say, and on nothing else.
-use Rattle.std.proofs.Common.{◌≡◌, ◌<◌, ℕ, true, List, length, refl, sym, ap, ◌∙◌, subst, Contains}
-use Rattle.std.proofs.lemmas.Bool.{and_parts, false≢true}
-use Rattle.mm_proof.specs.mm_frame.Language.Base.{BaseView, IsOfFiles, said_at, is_proof_at, is_sound_at}
-use Rattle.mm_proof.specs.mm_statement.Language.Item.{Item, is_theorem}
-use Rattle.mm_proof.specs.mm_frame.Language.Laws.{AlikeFilesSayTheSame, HasOwnLabels}
-use Rattle.mm_keep.specs.Language.Citations.{CitesItem, LeadsTo, none, step, IsAxiomOf}
-use Rattle.mm_keep.specs.Language.Laws.{OneListEach, IsOneList, AxiomsHaveThemselves}
-use Rattle.mm_keep.specs.Language.Runs.{AreThose}
-use Rattle.mm_keep.specs.Language.Sessions.{IsAssertion, AreNumbersOf}
+use Rattle.std.proofs.{Common.{◌≡◌, ◌<◌, ℕ, true, List, length, refl, sym, ap, ◌∙◌, subst, Contains}, lemmas.Bool.{and_parts, false≢true}}
+use Rattle.mm_proof.specs.{mm_frame.Language.{Base.{BaseView, IsOfFiles, said_at, is_proof_at, is_sound_at}, Laws.{AlikeFilesSayTheSame, HasOwnLabels}}, mm_statement.Language.Item.{Item, is_theorem}}
+use Rattle.mm_keep.specs.Language.{Citations.{CitesItem, LeadsTo, none, step, IsAxiomOf}, Laws.{OneListEach, IsOneList, AxiomsHaveThemselves}, Runs.{AreThose}, Sessions.{IsAssertion, AreNumbersOf}}
 use Rattle.mm_keep.specs.Language.Told.{IsAxiom}
-use Rattle.mm_keep.proofs.CitedItems.{assertion_carries}
-use Rattle.mm_keep.proofs.NumberLemmas.{one_rising}
-use Rattle.mm_keep.proofs.RunLaws.{saying}
+use Rattle.mm_keep.proofs.{CitedItems.{assertion_carries}, NumberLemmas.{one_rising}, RunLaws.{saying}}
 
 -- ---- two bases whose items say the same
 

@@ -1,21 +1,11 @@
 -- The items that a theorem cites are those whose labels are words that cite.
 use Rattle.std.proofs.Common.{◌≡◌, ◌<◌, ◌⊎◌, ℕ, Bool, true, false, Option, Some, None, List, length, get_or, slice_get, refl, sym, ap, ◌∙◌, subst, inl, inr, arith, ◌↔◌, Contains, slice_index}
-use Rattle.std.proofs.lemmas.Bool.{and_parts, and_from, false≢true}
-use Rattle.std.proofs.lemmas.List.{get_or_default}
-use Rattle.std.proofs.lemmas.Option.{same_Some, slice_get-get_or}
-use Rattle.mm_proof.specs.mm_frame.Language.Base.{BaseView, AreSaid, said_at, is_proof_at, is_sound_at}
+use Rattle.std.proofs.lemmas.{Bool.{and_parts, and_from, false≢true}, List.{get_or_default}, Option.{same_Some, slice_get-get_or}}
+use Rattle.mm_proof.specs.mm_frame.Language.{Base.{BaseView, AreSaid, said_at, is_proof_at, is_sound_at}, Laws.{HasOwnLabels}, Resolving.{IsCarrier}}
 use Rattle.mm_proof.specs.mm_statement.Language.Item.{Kind, Axiom, Theorem, is_assertion, is_labelled}
-use Rattle.mm_proof.specs.mm_frame.Language.Laws.{HasOwnLabels}
-use Rattle.mm_proof.specs.mm_frame.Language.Resolving.{IsCarrier}
-use Rattle.mm_proof.specs.mm_verdict.Language.CitingLaws.{CitesNameAssertions, CitesTellAssertions, IsCiteOf}
-use Rattle.mm_proof.specs.mm_verdict.Language.BaseLabels.{setting_at}
-use Rattle.mm_proof.specs.mm_verdict.Language.DecodingLaws.{CitesRise}
-use Rattle.mm_proof.specs.mm_verdict.Language.VerdictAt.{cites_at, decoding_at}
+use Rattle.mm_proof.specs.mm_verdict.Language.{CitingLaws.{CitesNameAssertions, CitesTellAssertions, IsCiteOf}, BaseLabels.{setting_at}, DecodingLaws.{CitesRise}, VerdictAt.{cites_at, decoding_at}}
 use Rattle.mm_proof.specs.mm_verdict.Language.Work.{Judgement}
-use Rattle.mm_keep.specs.Language.Citations.{CitesItem}
-use Rattle.mm_keep.specs.Language.Sessions.{IsAssertion}
-use Rattle.mm_keep.specs.Code.Cited.{AreRising, HasLabelAmong, IsAmongCited, MarksMore, IsMarked}
-use Rattle.mm_keep.specs.Code.KeptSession.{AreChecked, IsCheckedAt}
+use Rattle.mm_keep.specs.{Language.{Citations.{CitesItem}, Sessions.{IsAssertion}}, Code.{Cited.{AreRising, HasLabelAmong, IsAmongCited, MarksMore, IsMarked}, KeptSession.{AreChecked, IsCheckedAt}}}
 use Rattle.mm_keep.proofs.CitedWords.{rise_pairs}
 
 -- ---- assertions have labels

@@ -1,13 +1,9 @@
 -- The words of a proof that cite, one after another, and marks of the items that they are labels of.
-use Rattle.std.proofs.Common.{◌≡◌, ◌⊎◌, ◌<◌, ℕ, zero, suc, ◌+◌, Bool, true, false, Option, Some, None, List, [], ◌∷◌, length, drop, set, get_or, slice_get, refl, sym, ap, ◌∙◌, subst, inl, inr, arith, ◌↔◌, MatchOption, slice_index}
-use Rattle.std.specs.Option.{option_map}
-use Rattle.std.specs.List.{AllByRecursion}
-use Rattle.std.proofs.Math.Decide.{dec_lt, ℕ_discrete}
-use Rattle.std.proofs.lemmas.List.{drop-drop, get_or-set_same, get_or-set_other, length-set}
-use Rattle.std.proofs.lemmas.Option.{same_Some, none-some}
-use Rattle.mm_proof.specs.mm_frame.Language.Base.{BaseView}
-use Rattle.mm_proof.specs.mm_frame.Language.Resolving.{IsCarrier}
-use Rattle.mm_proof.specs.mm_verdict.Language.DecodingLaws.{Rise}
+use Rattle.std.proofs.Common.{◌≡◌, ◌⊎◌, ◌<◌, ℕ, zero, suc, ◌+◌, Bool, true, false, Option, Some, None, List, [], ◌∷◌, length, drop, set, get_or, slice_get, refl, sym, ap, ◌∙◌, subst, inl, inr, arith}
+use Rattle.std.proofs.Common.{◌↔◌, MatchOption, slice_index}
+use Rattle.std.proofs.{Math.Decide.{dec_lt, ℕ_discrete}, lemmas.{List.{drop-drop, get_or-set_same, get_or-set_other, length-set}, Option.{same_Some, none-some}}}
+use Rattle.std.specs.{Option.{option_map}, List.{AllByRecursion}}
+use Rattle.mm_proof.specs.{mm_frame.Language.{Base.{BaseView}, Resolving.{IsCarrier}}, mm_verdict.Language.DecodingLaws.{Rise}}
 use Rattle.mm_keep.specs.Code.Cited.{AreRising, HasLabelAmong, IsAmongCited, IsMarked, MarksMore, passed_words}
 
 -- ---- words

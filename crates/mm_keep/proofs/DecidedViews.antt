@@ -1,9 +1,7 @@
 -- Whether two views are equal is decided.
-use Rattle.std.proofs.Common.{◌≡◌, List, [], ◌∷◌, subst, inl, inr, arith, Contains}
+use Rattle.std.proofs.{Common.{◌≡◌, List, [], ◌∷◌, subst, inl, inr, arith, Contains}, Math.Decide.{map_dec}}
 use Rattle.std.specs.List.{AllByRecursion}
-use Rattle.std.proofs.Math.Decide.{map_dec}
-use Rattle.mm_proof.specs.mm_frame.Language.Frame.{Symbol, Mandatory, Frame, Resolved, Hypothesis, Assertion, Inactive, Unknown, ArePair, AreSamePairs, AreSameFrame}
-use Rattle.mm_proof.specs.mm_verdict.Language.SameProof.{AreSameMeaning}
+use Rattle.mm_proof.specs.mm_machine.Language.{Frame.{Symbol, Mandatory, Frame, Resolved, Hypothesis, Assertion, Inactive, Unknown, ArePair, AreSamePairs, AreSameFrame}, SameProof.{AreSameMeaning}}
 use Rattle.mm_proof.specs.mm_verdict.Language.View.{View, AreSameViews}
 use Rattle.mm_keep.proofs.DecidingLemmas.{dec_and, dec_or, dec_bool, dec_bytes, dec_list, dec_contains, dec_each, dec_zip, first_of_list, later_of_list, member_cases}
 

@@ -1,11 +1,8 @@
 -- What can be decided: lists, members, and numbers below a bound.
-use Rattle.std.proofs.Common.{◌≡◌, ◌⊎◌, ◌<◌, ℕ, zero, suc, ◌+◌, Bool, true, false, Option, Some, None, List, [], ◌∷◌, ◌++◌, length, drop, get_or, Decides, refl, sym, ap, subst, inl, inr, arith, Contains}
-use Rattle.std.specs.List.{AllByRecursion, AllZip}
-use Rattle.std.proofs.Math.Decide.{dec_lt, map_dec}
-use Rattle.std.proofs.lemmas.Bool.{false≢true}
-use Rattle.std.proofs.lemmas.Option.{none-some, same_Some}
-use Rattle.std.proofs.lemmas.Slice.Eq.{bytes_eq-Decides}
-use Rattle.std.specs.Str.{bytes_eq}
+use Rattle.std.proofs.Common.{◌≡◌, ◌⊎◌, ◌<◌, ℕ, zero, suc, ◌+◌, Bool, true, false, Option, Some, None, List, [], ◌∷◌, ◌++◌, length, drop, get_or, Decides, refl, sym, ap, subst, inl, inr, arith}
+use Rattle.std.proofs.Common.{Contains}
+use Rattle.std.proofs.{Math.Decide.{dec_lt, map_dec}, lemmas.{Bool.{false≢true}, Option.{none-some, same_Some}, Slice.Eq.{bytes_eq-Decides}}}
+use Rattle.std.specs.{List.{AllByRecursion, AllZip}, Str.{bytes_eq}}
 use Rattle.mm_keep.specs.Language.Runs.{AreThose}
 use Rattle.mm_keep.proofs.RunLemmas.{those_none, those_skip, those_more}
 

@@ -1,30 +1,18 @@
 -- Something is rightly reported of each item of files: its fault at a word, or the verdict on its proof, each at a place that there is.
-use Rattle.std.proofs.Common.{◌≡◌, ◌<◌, ◌≤◌, ◌⊎◌, ℕ, zero, suc, ◌+◌, Some, None, Option, is_none, true, false, ◌&&◌, List, [], ◌∷◌, length, slice_get, refl, sym, ap, subst, inl, inr, arith, All, slice_range}
-use Rattle.std.specs.List.{AllZip}
+use Rattle.std.proofs.Common.{◌≡◌, ◌<◌, ◌≤◌, ◌⊎◌, ℕ, zero, suc, ◌+◌, Some, None, Option, is_none, true, false, ◌&&◌, List, [], ◌∷◌, length, slice_get, refl, sym, ap, subst, inl, inr, arith, All}
+use Rattle.std.proofs.Common.{slice_range}
 use Rattle.std.proofs.lemmas.Option.{get_or_from_slice_get, slice_get_within}
-use Rattle.mm_proof.specs.mm_text.Language.Place.{line_at, column_at}
+use Rattle.std.specs.List.{AllZip}
+use Rattle.mm_proof.specs.{mm_text.Language.Place.{line_at, column_at}, mm_store.Language.{FilesView.{FilesView, plain_file, text_of}, FileFacts.{StandsIn, piece_offset}}}
+use Rattle.mm_proof.specs.mm_frame.{declared.FrameNumber.{FrameNumber}, Language.Base.{BaseView, said_at, fault_at, is_sound_at, is_proof_at}}
+use Rattle.mm_proof.specs.mm_statement.Language.{Item.{Kind, Axiom, Theorem, is_assertion, is_theorem, passed}, Statement.{Says}}
+use Rattle.mm_proof.specs.{mm_verdict.Language.{ItemLaws.{HasVerdictAt, SpotsAreIn, TellsSpotIn, IsSpotIn}, VerdictAt.{IsVerdictAt}}, mm_machine.declared.{Spot.{Spot}, Verdict.{Verdict}}}
+use Rattle.mm_keep.specs.{declared.finding.At.{At}, Code.{FoundKinds.{IsFoundAs, kind_of_verdict}, OfFiles.{IsPlaceIn}}}
+use Rattle.mm_keep.specs.Language.{Laws.{ItemsHaveFindings}, Told.{Told, Quiet, AnAxiom, Proved, Incomplete, Wrong, Fault, IsRightlyTold}, WordPlaces.{start_of, spelled, IsPlaceOfSpot, proof_word}}
+use Rattle.mm_keep.proofs.{FoundLemmas.{ItemsStand}, SpotLemmas.{letter_in, letter_within, placed_in}, ZipLemmas.{zip_found}}
 use Rattle.mm_proof.specs.mm_store.declared.item.Item as store
-use Rattle.mm_proof.specs.mm_store.Language.FilesView.{FilesView, plain_file, text_of}
-use Rattle.mm_proof.specs.mm_store.Language.FileFacts.{StandsIn, piece_offset}
-use Rattle.mm_proof.specs.mm_frame.declared.FrameNumber.{FrameNumber}
-use Rattle.mm_proof.specs.mm_frame.Language.Base.{BaseView, said_at, fault_at, is_sound_at, is_proof_at}
-use Rattle.mm_proof.specs.mm_statement.Language.Item.{Kind, Axiom, Theorem, is_assertion, is_theorem, passed}
-use Rattle.mm_proof.specs.mm_statement.Language.Statement.{Says}
-use Rattle.mm_proof.specs.mm_verdict.Language.ItemLaws.{HasVerdictAt, SpotsAreIn, TellsSpotIn, IsSpotIn}
-use Rattle.mm_proof.specs.mm_verdict.Language.VerdictAt.{IsVerdictAt}
-use Rattle.mm_proof.specs.mm_verdict.declared.Spot.{Spot}
-use Rattle.mm_proof.specs.mm_verdict.declared.Verdict.{Verdict}
-use Rattle.mm_proof.specs.mm_verdict.declared.Verdict.TheVariants as verdicts
-use Rattle.mm_keep.specs.declared.finding.At.{At}
+use Rattle.mm_proof.specs.mm_machine.declared.Verdict.TheVariants as verdicts
 use Rattle.mm_keep.specs.declared.finding.FindingKind.TheVariants as kinds
-use Rattle.mm_keep.specs.Code.FoundKinds.{IsFoundAs, kind_of_verdict}
-use Rattle.mm_keep.specs.Code.OfFiles.{IsPlaceIn}
-use Rattle.mm_keep.specs.Language.Laws.{ItemsHaveFindings}
-use Rattle.mm_keep.specs.Language.Told.{Told, Quiet, AnAxiom, Proved, Incomplete, Wrong, Fault, IsRightlyTold}
-use Rattle.mm_keep.specs.Language.WordPlaces.{start_of, spelled, IsPlaceOfSpot, proof_word}
-use Rattle.mm_keep.proofs.FoundLemmas.{ItemsStand}
-use Rattle.mm_keep.proofs.SpotLemmas.{letter_in, letter_within, placed_in}
-use Rattle.mm_keep.proofs.ZipLemmas.{zip_found}
 
 -- a byte of an item has a place
 has_place : (files : FilesView) (item : store.Item) → StandsIn files item → (byte : ℕ) → item.start + byte ≤ item.end → (at : At) × IsPlaceIn files item byte at

@@ -1,18 +1,10 @@
 -- From what a session keeps to what it answers.
 use Rattle.std.proofs.Common.{◌≡◌, ℕ, Bool, true, false, ◌&&◌, Option, Some, None, is_none, List, sym, ap, subst, All, IfSome}
 use Rattle.std.specs.Option.{option_map}
+use Rattle.mm_proof.specs.mm_store.Language.{FilesView.{FilesView, files_in}, FileFacts.{StandsIn}, Expansion.{IsExpansion}}
+use Rattle.mm_proof.specs.mm_frame.{declared.{FrameNumber.{FrameNumber}, judge.FrameFault.{FrameFault}}, Language.{Laws.{FilesHaveOneBase}, Base.{BaseView, IsOfFiles}}}
+use Rattle.mm_keep.specs.{Code.{KeptSession.{AreChecked, IsSessionKept, session_view}, OfFiles.{IsOf}}, Language.Sessions.{OfItems, SessionView}, declared.session.Session.TheInside.{Inside}}
 use Rattle.mm_proof.specs.mm_store.declared.item.Item as store
-use Rattle.mm_proof.specs.mm_store.Language.FilesView.{FilesView, files_in}
-use Rattle.mm_proof.specs.mm_store.Language.FileFacts.{StandsIn}
-use Rattle.mm_proof.specs.mm_store.Language.Expansion.{IsExpansion}
-use Rattle.mm_proof.specs.mm_frame.declared.FrameNumber.{FrameNumber}
-use Rattle.mm_proof.specs.mm_frame.declared.judge.FrameFault.{FrameFault}
-use Rattle.mm_proof.specs.mm_frame.Language.Laws.{FilesHaveOneBase}
-use Rattle.mm_proof.specs.mm_frame.Language.Base.{BaseView, IsOfFiles}
-use Rattle.mm_keep.specs.Code.KeptSession.{AreChecked, IsSessionKept, session_view}
-use Rattle.mm_keep.specs.Code.OfFiles.{IsOf}
-use Rattle.mm_keep.specs.Language.Sessions.{OfItems, SessionView}
-use Rattle.mm_keep.specs.declared.session.Session.TheInside.{Inside}
 
 -- no fault is reported of a sound item
 pub sound_none : (fault : Option FrameFault) (t : Option (ℕ × FrameNumber)) → option_map (λ (f : FrameFault). (f.word, f.number)) fault ≡ t → fault ≡ None → is_none t ≡ true

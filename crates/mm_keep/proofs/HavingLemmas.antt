@@ -1,31 +1,16 @@
 -- Sessions have answers: items, lists of runs, and what assertions cite.
 use Rattle.std.proofs.Common.{◌≡◌, ◌≢◌, ◌⊎◌, ◌<◌, ℕ, zero, suc, Bool, true, false, Some, None, List, [], ◌∷◌, length, refl, sym, ◌∙◌, subst, inl, inr, arith, slice_range, All, slice_index}
+use Rattle.std.proofs.{Math.Decide.{dec_lt, ℕ_discrete, map_dec}, lemmas.{List.{get_or_default}, Option.{none-some, same_Some}}}
 use Rattle.std.specs.List.{AllZip}
-use Rattle.std.proofs.Math.Decide.{dec_lt, ℕ_discrete, map_dec}
-use Rattle.std.proofs.lemmas.List.{get_or_default}
-use Rattle.std.proofs.lemmas.Option.{none-some, same_Some}
-use Rattle.mm_proof.specs.mm_store.declared.item.Item as store
-use Rattle.mm_proof.specs.mm_store.Language.Expansion.{IsExpansion}
-use Rattle.mm_proof.specs.mm_store.Language.FileFacts.{CanBeRead, HoldsPieces}
-use Rattle.mm_proof.specs.mm_store.Language.FilesView.{FilesView, file_number, files_in, number_of, plain}
-use Rattle.mm_proof.specs.mm_store.Language.Holding.{HoldOneEach}
+use Rattle.mm_proof.specs.mm_store.Language.{Expansion.{IsExpansion}, FileFacts.{CanBeRead, HoldsPieces}, FilesView.{FilesView, file_number, files_in, number_of, plain}, Holding.{HoldOneEach}}
 use Rattle.mm_proof.specs.mm_text.Language.Unit.{tokens_of}
-use Rattle.mm_proof.specs.mm_frame.Language.Base.{BaseView, AreSaid, IsOfFiles, said_at, is_framed_at, is_proof_at, is_sound_at}
-use Rattle.mm_proof.specs.mm_statement.Language.Item.{Item, Kind, Axiom}
-use Rattle.mm_proof.specs.mm_frame.Language.Laws.{FilesHaveOneBase, HasOwnLabels}
-use Rattle.mm_proof.specs.mm_frame.Language.Resolving.{IsCarrier}
-use Rattle.mm_proof.specs.mm_statement.Language.Statement.{Says, item_of, kind_of}
-use Rattle.mm_proof.specs.mm_verdict.Language.CitingLaws.{CitesNameAssertions, CitesTellAssertions, IsCiteOf}
-use Rattle.mm_proof.specs.mm_verdict.Language.View.{view_at}
-use Rattle.mm_proof.specs.mm_verdict.Language.VerdictAt.{cites_at}
-use Rattle.mm_keep.specs.Language.Citations.{CitesItem, LeadsTo, none, step, IsAxiomOf}
-use Rattle.mm_keep.specs.Language.Laws.{FilesGiveItems, HasListOfRuns, HasListOf, HasListEach, LabelsAreDecided}
-use Rattle.mm_keep.specs.Language.Runs.{HasSameView, HadView, IsRun}
-use Rattle.mm_keep.specs.Language.Sessions.{IsAssertion, HasAssertion, AreNumbersOf}
-use Rattle.mm_keep.proofs.CitedItems.{cites_earlier, none_cited}
-use Rattle.mm_keep.proofs.DecidedViews.{dec_views}
-use Rattle.mm_keep.proofs.KeepLemmas.{number_plain}
-use Rattle.mm_keep.proofs.DecidingLemmas.{dec_and, dec_not, dec_bool, dec_label, dec_below, have_those}
+use Rattle.mm_proof.specs.mm_frame.Language.{Base.{BaseView, AreSaid, IsOfFiles, said_at, is_framed_at, is_proof_at, is_sound_at}, Laws.{FilesHaveOneBase, HasOwnLabels}, Resolving.{IsCarrier}}
+use Rattle.mm_proof.specs.mm_statement.Language.{Item.{Item, Kind, Axiom}, Statement.{Says, item_of, kind_of}}
+use Rattle.mm_proof.specs.mm_verdict.Language.{CitingLaws.{CitesNameAssertions, CitesTellAssertions, IsCiteOf}, View.{view_at}, VerdictAt.{cites_at}}
+use Rattle.mm_keep.specs.Language.{Citations.{CitesItem, LeadsTo, none, step, IsAxiomOf}, Laws.{FilesGiveItems, HasListOfRuns, HasListOf, HasListEach, LabelsAreDecided}}
+use Rattle.mm_keep.specs.Language.{Runs.{HasSameView, HadView, IsRun}, Sessions.{IsAssertion, HasAssertion, AreNumbersOf}}
+use Rattle.mm_keep.proofs.{CitedItems.{cites_earlier, none_cited}, DecidedViews.{dec_views}, KeepLemmas.{number_plain}, DecidingLemmas.{dec_and, dec_not, dec_bool, dec_label, dec_below, have_those}}
+use Rattle.mm_proof.specs.mm_store.declared.item.Item as store
 
 -- ---- items
 

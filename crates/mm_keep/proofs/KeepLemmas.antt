@@ -1,20 +1,12 @@
 -- What stays of files when they are edited and settled, and how a session goes on.
 use Rattle.std.proofs.Common.{◌≡◌, ℕ, ◌+◌, ◌⊎◌, Bool, not, cond, List, [], ◌∷◌, map, bytes_eq, refl, sym, ◌∙◌, ap, subst, inl, inr, All, position}
+use Rattle.std.proofs.lemmas.{List.{length-map, Elements.{recursion_from_All}}, Option.{none-some}}
 use Rattle.std.specs.List.{AllZip, AllByRecursion, position_or_len}
-use Rattle.std.proofs.lemmas.List.{length-map}
-use Rattle.std.proofs.lemmas.List.Elements.{recursion_from_All}
-use Rattle.std.proofs.lemmas.Option.{none-some}
-use Rattle.mm_proof.specs.mm_store.declared.item.Item as store
-use Rattle.mm_proof.specs.mm_store.Language.Batches.{IsBatchOf, KeepsReading, KeepsStanding, ReadsAlike, StartsPlaced}
-use Rattle.mm_proof.specs.mm_text.Language.Asked.{Asked}
-use Rattle.mm_proof.specs.mm_store.Language.Edits.{IsEditOf}
-use Rattle.mm_proof.specs.mm_store.Language.Expansion.{IsExpansion}
-use Rattle.mm_proof.specs.mm_store.Language.FileFacts.{StandsIn}
+use Rattle.mm_proof.specs.mm_store.Language.{Batches.{IsBatchOf, KeepsReading, KeepsStanding, ReadsAlike, StartsPlaced}, Edits.{IsEditOf}, Expansion.{IsExpansion}, FileFacts.{StandsIn}}
 use Rattle.mm_proof.specs.mm_store.Language.FilesView.{File, FilesView, FileView, file_number, file_view, files_in, number_of, plain, plain_file}
-use Rattle.mm_proof.specs.mm_frame.Language.Base.{BaseView, IsOfFiles}
-use Rattle.mm_proof.specs.mm_statement.Language.Item.{Item}
-use Rattle.mm_proof.specs.mm_statement.Language.Statement.{Says}
+use Rattle.mm_proof.specs.{mm_text.Language.Asked.{Asked}, mm_frame.Language.Base.{BaseView, IsOfFiles}, mm_statement.Language.{Item.{Item}, Statement.{Says}}}
 use Rattle.mm_keep.specs.Code.Next.{HasTop}
+use Rattle.mm_proof.specs.mm_store.declared.item.Item as store
 
 before_map : {X Y : Type 0} (test : Y → Bool) (f : X → Y) (xs : List X) → position_or_len test (map f xs) ≡ position_or_len (λ x. test (f x)) xs
 before_map test f [] = refl

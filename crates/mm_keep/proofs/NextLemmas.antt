@@ -1,13 +1,8 @@
 -- What a session goes on with.
 use Rattle.std.proofs.Common.{ℕ, List}
-use Rattle.mm_proof.specs.mm_store.Language.FilesView.{FilesView}
-use Rattle.mm_proof.specs.mm_frame.Language.Base.{BaseView}
-use Rattle.mm_proof.specs.mm_frame.Language.Names.{AreDistinct, Begins}
-use Rattle.mm_proof.specs.mm_frame.declared.base.Base.{Base}
+use Rattle.mm_proof.specs.{mm_store.Language.FilesView.{FilesView}, mm_frame.{Language.{Base.{BaseView}, Older.{IsOlder}}, declared.base.Base.{Base}}, mm_machine.Language.Names.{AreDistinct, Begins}}
 use Rattle.mm_proof.specs.mm_verdict.Language.ReadIn.{IsReadIn}
-use Rattle.mm_proof.specs.mm_frame.Language.Older.{IsOlder}
-use Rattle.mm_keep.specs.Code.Next.{IsBuilt}
-use Rattle.mm_keep.specs.Code.Planned.{AreBothRead}
+use Rattle.mm_keep.specs.Code.{Next.{IsBuilt}, Planned.{AreBothRead}}
 
 pub built_read : (names : List (List ℕ)) (files : FilesView) (top : List ℕ) (code : Base) (view : BaseView) → IsBuilt names files top code view → IsReadIn names files code view
 built_read names files top code view built = record { base = built.by_names; each = built.of_files.each }

@@ -1,9 +1,7 @@
 -- Two rising lists of numbers with the same members are one.
-use Rattle.std.proofs.Common.{◌≡◌, ◌⊎◌, ℕ, suc, ◌<◌, List, [], ◌∷◌, get_or, refl, sym, inl, inr, arith, Contains, AllPairs}
+use Rattle.std.proofs.{Common.{◌≡◌, ◌⊎◌, ℕ, suc, ◌<◌, List, [], ◌∷◌, get_or, refl, sym, inl, inr, arith, Contains, AllPairs}, lemmas.List.Elements.{recursion_from_All}}
 use Rattle.std.specs.List.{AllByRecursion}
-use Rattle.std.proofs.lemmas.List.Elements.{recursion_from_All}
-use Rattle.mm_keep.proofs.CitedWords.{above_at}
-use Rattle.mm_keep.proofs.DecidingLemmas.{first_of_list, later_of_list, member_cases}
+use Rattle.mm_keep.proofs.{CitedWords.{above_at}, DecidingLemmas.{first_of_list, later_of_list, member_cases}}
 
 -- each number is below each later one
 abbrev Rises : List ℕ → Type 0

@@ -1,20 +1,12 @@
 -- What a plan says of an item, and what is carried by it.
 use Rattle.std.proofs.Common.{◌≡◌, ℕ, ◌<◌, ◌&&◌, Bool, true, false, Option, Some, None, List, [], ◌∷◌, ◌++◌, length, refl, sym, ◌∙◌, ap, subst, inl, inr, slice_get, unwrap_or}
-use Rattle.std.proofs.lemmas.Bool.{false≢true}
-use Rattle.std.proofs.lemmas.Option.{none-some, same_Some}
+use Rattle.std.proofs.lemmas.{Bool.{false≢true}, Option.{none-some, same_Some}}
 use Rattle.mm_proof.specs.mm_store.Language.FilesView.{FilesView}
-use Rattle.mm_proof.specs.mm_frame.Language.Base.{BaseView, said_at, is_sound_at, is_proof_at, is_shown_at}
+use Rattle.mm_proof.specs.mm_frame.{Language.{Base.{BaseView, said_at, is_sound_at, is_proof_at, is_shown_at}, Answering.{IsBaseBy}}, declared.base.Base.{Base}}
 use Rattle.mm_proof.specs.mm_statement.Language.Item.{Kind, Theorem, is_labelled, is_theorem}
-use Rattle.mm_proof.specs.mm_frame.Language.Answering.{IsBaseBy}
-use Rattle.mm_proof.specs.mm_frame.declared.base.Base.{Base}
-use Rattle.mm_proof.specs.Language.BaseMarks.{ItemMark, MarksView, IsMark, mark_at}
-use Rattle.mm_proof.specs.mm_verdict.Language.DecodingLaws.{LabelsAreOwn}
-use Rattle.mm_proof.specs.mm_verdict.Language.View.{view_at, AreSameViews}
-use Rattle.mm_proof.specs.Language.ViewLaws.{SameViewSameVerdict, SameViewSameCites}
-use Rattle.mm_proof.specs.mm_verdict.Language.Work.{Judgement}
-use Rattle.mm_keep.specs.Code.KeptSession.{IsCheckedAt}
-use Rattle.mm_keep.specs.Code.Planned.{AreBothRead, AreMarksBy, HasItemBothRead, IsPlanned, CanCarry}
-use Rattle.mm_keep.specs.Language.Runs.{HasSameView}
+use Rattle.mm_proof.specs.Language.{BaseMarks.{ItemMark, MarksView, IsMark, mark_at}, ViewLaws.{SameViewSameVerdict, SameViewSameCites}}
+use Rattle.mm_proof.specs.mm_verdict.Language.{DecodingLaws.{LabelsAreOwn}, View.{view_at, AreSameViews}, Work.{Judgement}}
+use Rattle.mm_keep.specs.{Code.{KeptSession.{IsCheckedAt}, Planned.{AreBothRead, AreMarksBy, HasItemBothRead, IsPlanned, CanCarry}}, Language.Runs.{HasSameView}}
 use Rattle.mm_keep.proofs.RunLemmas.{get_front}
 
 -- a theorem has a label

@@ -1,20 +1,16 @@
 -- Runs by a plan: one item more.
-use Rattle.std.proofs.Common.{◌≡◌, ℕ, ◌<◌, ◌≤◌, ◌+◌, ◌↔◌, ◌⊎◌, true, Option, Some, None, List, [], ◌∷◌, ◌++◌, length, get_or, replicate, refl, sym, ◌∙◌, ap, subst, arith, inl, inr, slice_get, Contains}
-use Rattle.std.specs.List.{AllZip}
-use native.Mathlib.Decide.{dec_lt}
+use Rattle.std.proofs.Common.{◌≡◌, ℕ, ◌<◌, ◌≤◌, ◌+◌, ◌↔◌, ◌⊎◌, true, Option, Some, None, List, [], ◌∷◌, ◌++◌, length, get_or, replicate, refl, sym, ◌∙◌, ap, subst, arith, inl, inr, slice_get}
+use Rattle.std.proofs.Common.{Contains}
 use Rattle.std.proofs.lemmas.Bool.{false≢true}
 use Rattle.std.proofs.lemmas.List.{length-replicate, length_push, get_or_append_left, get_or-replicate}
-use Rattle.std.proofs.Math.Seq.{get_or-append_seam}
-use Rattle.std.proofs.lemmas.List.Elements.{Contains-get_or, Contains-append_left, Contains-push, Contains-push_cases}
-use Rattle.std.proofs.lemmas.List.Quantifiers.{all_pairs_push}
-use Rattle.std.proofs.lemmas.List.Sums.{sum_by_push}
+use Rattle.std.proofs.lemmas.List.{Elements.{Contains-get_or, Contains-append_left, Contains-push, Contains-push_cases}, Quantifiers.{all_pairs_push}, Sums.{sum_by_push}}
 use Rattle.std.proofs.lemmas.Option.{get_or_from_slice_get, slice_get-get_or, slice_get_within, same_Some}
-use Rattle.mm_proof.specs.mm_frame.Language.Base.{BaseView, is_proof_at}
-use Rattle.mm_proof.specs.mm_verdict.Language.VerdictAt.{AreDoneAt}
-use Rattle.mm_proof.specs.mm_verdict.Language.Work.{Recorded, Judgement}
+use Rattle.std.proofs.Math.Seq.{get_or-append_seam}
+use Rattle.std.specs.List.{AllZip}
+use native.Mathlib.Decide.{dec_lt}
+use Rattle.mm_proof.specs.{mm_frame.Language.Base.{BaseView, is_proof_at}, mm_verdict.Language.{VerdictAt.{AreDoneAt}, Work.{Recorded, Judgement}}}
 use Rattle.mm_keep.specs.Language.Runs.{AreThose, AreRuns, AreStepsOf, HadView, IsRun}
-use Rattle.mm_keep.specs.Code.KeptSession.{AreChecked}
-use Rattle.mm_keep.specs.Code.Planned.{IsPlanned, ArePlanned, IsRunBy, AreRunBy, RunsBy, AreRecorded, RecordsRun, RecordsIf}
+use Rattle.mm_keep.specs.Code.{KeptSession.{AreChecked}, Planned.{IsPlanned, ArePlanned, IsRunBy, AreRunBy, RunsBy, AreRecorded, RecordsRun, RecordsIf}}
 
 -- an element is in the list with one more, and is the last or one before it
 pub get_front : {X : Type 0} (xs : List X) (y : X) (k : ℕ) (x : X) → slice_get (xs ++ y ∷ []) k ≡ Some x → ((k < length xs) × (slice_get xs k ≡ Some x)) ⊎ ((k ≡ length xs) × (y ≡ x))

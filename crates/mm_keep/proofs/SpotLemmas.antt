@@ -1,26 +1,16 @@
 -- Where the words of items are, and the spots of their proofs.
-use Rattle.std.proofs.Common.{◌≤◌, ◌≡◌, ℕ, zero, suc, ◌+◌, ◌-◌, Some, None, Option, List, [], ◌∷◌, ◌++◌, length, take, drop, slice_get, refl, sym, ap, ◌∙◌, subst, inl, inr, arith, slice_range, slice_index_or}
-use Rattle.std.specs.List.{AllByRecursion, flat_map, prefix_len}
-use Rattle.std.specs.Option.{option_map}
-use Rattle.std.proofs.lemmas.Bool.{cases_Bool}
-use Rattle.std.proofs.lemmas.Option.{same_Some, slice_get-map}
-use Rattle.std.proofs.lemmas.List.{length-take, length-take-le, length-drop, length-map}
+use Rattle.std.proofs.Common.{◌≤◌, ◌≡◌, ℕ, zero, suc, ◌+◌, ◌-◌, Some, None, Option, List, [], ◌∷◌, ◌++◌, length, take, drop, slice_get, refl, sym, ap, ◌∙◌, subst, inl, inr, arith, slice_range}
+use Rattle.std.proofs.Common.{slice_index_or}
+use Rattle.std.proofs.lemmas.{Bool.{cases_Bool}, Option.{same_Some, slice_get-map}, List.{length-take, length-take-le, length-drop, length-map}}
+use Rattle.std.specs.{List.{AllByRecursion, flat_map, prefix_len}, Option.{option_map}}
 use Rattle.mm_proof.specs.mm_text.declared.word.Word.{Word}
-use Rattle.mm_proof.specs.mm_text.Language.Place.{line_at, column_at}
-use Rattle.mm_proof.specs.mm_text.Language.Run.{Run, is_white, ends_run, with_front, runs_from}
-use Rattle.mm_proof.specs.mm_text.Language.Reading.{HasWords, Segment, Single, Comment, IsSegment, segment_runs, segment_words}
+use Rattle.mm_proof.specs.mm_text.Language.{Place.{line_at, column_at}, Run.{Run, is_white, ends_run, with_front, runs_from}}
+use Rattle.mm_proof.specs.mm_text.Language.{Reading.{HasWords, Segment, Single, Comment, IsSegment, segment_runs, segment_words}, Unit.{Token, tokens_of}}
+use Rattle.mm_proof.specs.mm_store.Language.{Pieces.{HeldPiece, text_in, text_under}, FilesView.{FilesView, plain, plain_file, text_of}, FileFacts.{CanBeRead, StandsIn, IsByte, IsLive, piece_offset}}
+use Rattle.mm_proof.specs.mm_statement.Language.{Item.{Kind, Item}, Statement.{Says, kind_of, is_plain, token_names, symbols_from, symbols_in, proof_in, item_of}}
+use Rattle.mm_proof.specs.{mm_verdict.Language.ItemLaws.{IsSpotIn}, mm_machine.declared.Spot.{Spot}}
+use Rattle.mm_keep.specs.{declared.finding.At.{At}, Language.WordPlaces.{start_of, spelled, proof_word}, Code.OfFiles.{IsPlaceIn}}
 use Rattle.mm_proof.specs.mm_store.declared.item.Item as store
-use Rattle.mm_proof.specs.mm_store.Language.Pieces.{HeldPiece, text_in, text_under}
-use Rattle.mm_proof.specs.mm_store.Language.FilesView.{FilesView, plain, plain_file, text_of}
-use Rattle.mm_proof.specs.mm_store.Language.FileFacts.{CanBeRead, StandsIn, IsByte, IsLive, piece_offset}
-use Rattle.mm_proof.specs.mm_text.Language.Unit.{Token, tokens_of}
-use Rattle.mm_proof.specs.mm_statement.Language.Item.{Kind, Item}
-use Rattle.mm_proof.specs.mm_statement.Language.Statement.{Says, kind_of, is_plain, token_names, symbols_from, symbols_in, proof_in, item_of}
-use Rattle.mm_proof.specs.mm_verdict.Language.ItemLaws.{IsSpotIn}
-use Rattle.mm_proof.specs.mm_verdict.declared.Spot.{Spot}
-use Rattle.mm_keep.specs.declared.finding.At.{At}
-use Rattle.mm_keep.specs.Language.WordPlaces.{start_of, spelled, proof_word}
-use Rattle.mm_keep.specs.Code.OfFiles.{IsPlaceIn}
 
 -- ---- where words begin
 

@@ -1,19 +1,12 @@
 -- What a base and its files say of one item.
 use Rattle.std.proofs.Common.{◌≡◌, ◌⊎◌, ℕ, zero, suc, ◌+◌, Bool, cond, count_by, Some, List, [], ◌∷◌, ◌++◌, inl, inr, length-append, length, slice_get, refl, sym, ◌∙◌, ap, subst, arith}
-use Rattle.std.proofs.lemmas.List.Sums.{sum_by_push}
-use Rattle.std.proofs.lemmas.Option.{get_or_from_slice_get, same_Some, slice_get_within}
-use Rattle.mm_proof.specs.mm_store.declared.item.Item as store
-use Rattle.mm_proof.specs.mm_store.Language.FilesView.{FilesView}
-use Rattle.mm_proof.specs.mm_store.Language.FileFacts.{CanBeRead, StandsIn}
-use Rattle.mm_proof.specs.mm_frame.Language.Base.{BaseView, said_at}
-use Rattle.mm_proof.specs.mm_statement.Language.Item.{passed}
-use Rattle.mm_proof.specs.mm_frame.Language.Answering.{IsBase}
-use Rattle.mm_proof.specs.mm_statement.Language.Statement.{Says}
-use Rattle.mm_proof.specs.mm_frame.declared.base.Base.{Base}
-use Rattle.mm_keep.specs.Code.OfFiles.{IsOf, HasItemOf}
-use Rattle.mm_keep.specs.Code.FoundKinds.{kind_told, one_more}
+use Rattle.std.proofs.lemmas.{List.Sums.{sum_by_push}, Option.{get_or_from_slice_get, same_Some, slice_get_within}}
+use Rattle.mm_proof.specs.{mm_store.Language.{FilesView.{FilesView}, FileFacts.{CanBeRead, StandsIn}}, mm_frame.{Language.{Base.{BaseView, said_at}, Answering.{IsBase}}, declared.base.Base.{Base}}}
+use Rattle.mm_proof.specs.mm_statement.Language.{Item.{passed}, Statement.{Says}}
+use Rattle.mm_keep.specs.Code.{OfFiles.{IsOf, HasItemOf}, FoundKinds.{kind_told, one_more}}
 use Rattle.mm_keep.specs.Language.Told.{Told, Quiet, Counts, counts, is_axiom, is_proved, is_incomplete, is_wrong, is_fault, IsRightlyTold}
 use Rattle.mm_keep.proofs.ZipLemmas.{zip_found}
+use Rattle.mm_proof.specs.mm_store.declared.item.Item as store
 
 -- what it says
 pub says_at : (names : List (List ℕ)) (files : FilesView) (code : Base) (view : BaseView) (n : ℕ) (item : store.Item) → IsOf names files code view → slice_get view.found n ≡ Some item → Says files item (said_at view n)

@@ -5,7 +5,7 @@ ghost use Rattle.mm_proof.specs.mm_store.declared.error.StoreError.TheVariants.{
 ghost use Rattle.mm_proof.specs.mm_store.Language.Answers.{IsExpansionError};
 ghost use Rattle.mm_proof.specs.mm_store.Language.FilesView.{files_in, number_of};
 ghost use Rattle.mm_proof.specs.mm_frame.Language.Base.{BaseView};
-ghost use Rattle.mm_proof.specs.mm_frame.Language.Names.{AreDistinct, Begins};
+ghost use Rattle.mm_proof.specs.mm_machine.Language.Names.{AreDistinct, Begins};
 ghost use Rattle.mm_proof.specs.mm_verdict.Language.ReadIn.{IsReadIn};
 ghost use Rattle.mm_proof.specs.mm_frame.Language.Older.{HasOlder, IsOlder};
 ghost use Rattle.mm_keep.specs.Code.Next.{KeepsOrRuns, HasTop, IsBuilt, IsFirst, IsNextBase, RunsAll};

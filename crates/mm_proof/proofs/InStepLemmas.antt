@@ -1,21 +1,17 @@
 -- How far two bases are in step, and what labels mean there.
-use Rattle.std.proofs.Common.{◌≡◌, ◌+◌, ◌<◌, ◌≤◌, ◌⊎◌, ◌++◌, ℕ, zero, suc, cond, Bool, true, false, Option, Some, None, List, [], ◌∷◌, length, refl, sym, ◌∙◌, ap, subst, inl, inr, arith, length-append, is_some, slice_get, slice_index, slice_index_or}
+use Rattle.std.proofs.Common.{◌≡◌, ◌+◌, ◌<◌, ◌≤◌, ◌⊎◌, ◌++◌, ℕ, zero, suc, cond, Bool, true, false, Option, Some, None, List, [], ◌∷◌, length, refl, sym, ◌∙◌, ap, subst, inl, inr, arith}
+use Rattle.std.proofs.Common.{length-append, is_some, slice_get, slice_index, slice_index_or}
+use Rattle.std.proofs.{Math.Decide.{dec_lt}, lemmas.{Bool.{cases_Bool, false≢true}, Option.{same_Some, none-some}}}
 use Rattle.std.specs.Option.{option_map}
-use Rattle.std.proofs.Math.Decide.{dec_lt}
-use Rattle.std.proofs.lemmas.Bool.{cases_Bool, false≢true}
-use Rattle.std.proofs.lemmas.Option.{same_Some, none-some}
-use Rattle.mm_frame.specs.declared.base.Resolved as answer
-use Rattle.mm_frame.specs.declared.base.Resolved.TheVariants as answers
-use Rattle.mm_frame.specs.Language.Base.{BaseView, said_at, is_shown_at}
-use Rattle.mm_frame.specs.Language.Laws as frame
-use Rattle.mm_frame.specs.Language.Resolving.{IsLabelOf, IsUpTo, Resolves}
-use Rattle.mm_verdict.specs.Language.BaseLabels.{setting_at}
+use Rattle.mm_frame.specs.Language.{Base.{BaseView, said_at, is_shown_at}, Resolving.{IsLabelOf, IsUpTo, Resolves}}
+use Rattle.mm_verdict.specs.{Language.{BaseLabels.{setting_at}, SameToDecode.{IsSameLabel}}, mm_machine.Language.SameProof.{AreSameMeaning}}
 use Rattle.mm_proof.specs.Language.BaseMarks.{ItemMark, MarksView, IsMark, IsToldChanged, HaveOneLabel, AreMarks, mark_at, no_mark}
-use Rattle.mm_verdict.specs.Language.SameProof.{AreSameMeaning, IsSameLabel}
 use Rattle.mm_proof.specs.Code.InStep.{ordinal, AreOrdinals, AreEndsAlike, AreInStep, EndsAt, HasAlike, HasLevel, IsTold, KeepsHypothesis, MeanOne, changed_behind}
 use Rattle.mm_proof.specs.Code.KeptMarks.{ShareFrame, stands_for}
-use Rattle.mm_proof.proofs.MeaningLemmas.{means_same}
-use Rattle.mm_proof.proofs.KeptMarkLemmas.{got_front}
+use Rattle.mm_proof.proofs.{MeaningLemmas.{means_same}, KeptMarkLemmas.{got_front}}
+use Rattle.mm_frame.specs.declared.base.Resolved as answer
+use Rattle.mm_frame.specs.declared.base.Resolved.TheVariants as answers
+use Rattle.mm_frame.specs.Language.Laws as frame
 
 -- ---- ordinals
 

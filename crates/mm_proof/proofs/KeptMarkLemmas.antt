@@ -1,19 +1,13 @@
 -- What stays of an item of an old base in a new one.
-use Rattle.std.proofs.Common.{◌≡◌, ◌<◌, ℕ, zero, suc, cond, slice_index_or, ◌+◌, Bool, true, false, ◌⊎◌, inl, inr, Option, Some, None, List, [], ◌∷◌, ◌++◌, length, map, slice_get, refl, sym, ◌∙◌, ap, subst, arith, length-append}
+use Rattle.std.proofs.Common.{◌≡◌, ◌<◌, ℕ, zero, suc, cond, slice_index_or, ◌+◌, Bool, true, false, ◌⊎◌, inl, inr, Option, Some, None, List, [], ◌∷◌, ◌++◌, length, map, slice_get, refl, sym, ◌∙◌, ap}
+use Rattle.std.proofs.Common.{subst, arith, length-append}
+use Rattle.std.proofs.{lemmas.{Bool.{false≢true, and_parts}, Option.{none-some, same_Some}}, Math.Decide.{ℕ_discrete}}
 use Rattle.std.specs.Prelude.{◌↔◌, is_some}
-use Rattle.std.proofs.lemmas.Bool.{false≢true, and_parts}
-use Rattle.std.proofs.lemmas.Option.{none-some, same_Some}
-use Rattle.mm_frame.specs.Language.Base.{BaseView, said_at, is_shown_at, is_sound_at}
-use Rattle.mm_frame.specs.Language.Frame.{Symbol, AreSamePairs}
-use Rattle.mm_frame.specs.mm_statement.Language.Item.{Item, passed, is_labelled}
-use Rattle.mm_frame.specs.Language.Resolving.{IsCarrier}
-use Rattle.mm_frame.specs.declared.base.Base.{Base}
-use Rattle.mm_frame.specs.Language.Answering.{IsBaseBy}
+use Rattle.mm_frame.specs.{Language.{Base.{BaseView, said_at, is_shown_at, is_sound_at}, Resolving.{IsCarrier}, Answering.{IsBaseBy}}, mm_machine.Language.Frame.{Symbol, AreSamePairs}}
+use Rattle.mm_frame.specs.{mm_statement.Language.Item.{Item, passed, is_labelled}, declared.base.Base.{Base}}
 use Rattle.mm_proof.specs.Language.BaseMarks.{ItemMark, MarksView, IsMark, HaveOneLabel, KeepsLabels, AreMarks, no_mark, mark_at}
-use Rattle.mm_proof.specs.Code.InStep.{changed_behind}
-use Rattle.mm_proof.specs.Code.KeptMarks.{AreTheorems, ShareFrame, SharePairs, AreItemMarks, IsHypothesisMark, AreHypothesisMarks}
+use Rattle.mm_proof.specs.Code.{InStep.{changed_behind}, KeptMarks.{AreTheorems, ShareFrame, SharePairs, AreItemMarks, IsHypothesisMark, AreHypothesisMarks}}
 use Rattle.mm_proof.specs.declared.marks.Mark as code
-use Rattle.std.proofs.Math.Decide.{ℕ_discrete}
 
 -- the same unordered pairs, the other way round and one after the other
 turned : (ps qs : List (Symbol × Symbol)) → AreSamePairs ps qs → AreSamePairs qs ps

@@ -1,7 +1,6 @@
 -- What holds of each label that the words of a proof name, word by word.
-use Rattle.std.proofs.Common.{◌≡◌, ℕ, false, List, ◌∷◌, sym, refl, ◌∙◌, ap, subst, ◌↔◌, IsTrue, one-add}
+use Rattle.std.proofs.{Common.{◌≡◌, ℕ, false, List, ◌∷◌, sym, refl, ◌∙◌, ap, subst, ◌↔◌, IsTrue, one-add}, lemmas.Bool.{false≢true}}
 use Rattle.std.specs.List.{AllByRecursion, before_first}
-use Rattle.std.proofs.lemmas.Bool.{false≢true}
 use Rattle.mm_verdict.specs.Language.Decoding.{is_close}
 
 -- what holds of the labels that are listed before a `)`

@@ -1,28 +1,19 @@
 -- What labels mean at two theorems of two bases.
-use Rattle.std.proofs.Common.{◌≡◌, ◌<◌, ℕ, zero, suc, cond, Bool, true, false, Option, Some, None, List, [], ◌∷◌, ◌++◌, length, take, refl, sym, ◌∙◌, ap, subst, inl, inr, arith, ◌↔◌, IsTrue, is_none, option_to_list, bytes_eq}
+use Rattle.std.proofs.Common.{◌≡◌, ◌<◌, ℕ, zero, suc, cond, Bool, true, false, Option, Some, None, List, [], ◌∷◌, ◌++◌, length, take, refl, sym, ◌∙◌, ap, subst, inl, inr, arith, ◌↔◌, IsTrue, is_none}
+use Rattle.std.proofs.Common.{option_to_list, bytes_eq}
+use Rattle.std.proofs.{Math.{Decide.{dec_lt}, Seq.{take-suc}}, lemmas.{Bool.{cases_Bool, false≢true, and_from}, Slice.Eq.{bytes_eq-Decides}, Option.{none-some, same_Some}}}
 use Rattle.std.specs.List.{AllByRecursion}
-use Rattle.std.proofs.Math.Decide.{dec_lt}
-use Rattle.std.proofs.Math.Seq.{take-suc}
-use Rattle.std.proofs.lemmas.Bool.{cases_Bool, false≢true}
-use Rattle.std.proofs.lemmas.Slice.Eq.{bytes_eq-Decides}
 use Rattle.mm_frame.specs.declared.FrameNumber.{FrameNumber}
+use Rattle.mm_frame.specs.Language.{Base.{BaseView, said_at, before, is_sound_at, is_shown_at, is_framed_at, frame_at, fault_by}, Framing.{resolve, resolve_from}}
+use Rattle.mm_frame.specs.Language.{Resolving.{IsCarrier, IsMeaning, Resolves}, Sound.{fault, judged, sound_items}}
+use Rattle.mm_frame.specs.mm_machine.Language.Frame.{Resolved, Assertion, Unknown, AreSameFrame}
+use Rattle.mm_frame.specs.mm_statement.Language.Item.{Kind, Floating, Essential, Axiom, Theorem, Item, passed, is_labelled, labels_of, has}
+use Rattle.mm_proof.specs.{Code.KeptMarks.{AreTheorems, IsOneCarrier, IsShownItem, ShareHypotheses, SharePairs, stands_for}, Language.BaseMarks.{MarksView, AreMarks, mark_at}}
+use Rattle.mm_verdict.specs.{Language.{BaseLabels.{setting_at}, SameToDecode.{IsSameLabel}}, mm_machine.Language.SameProof.{AreSameMeaning}}
+use Rattle.mm_proof.proofs.{TheoremLemmas.{shown_proof}, KeptMarkLemmas.{shown_within, one_label}}
 use Rattle.mm_frame.specs.declared.base.Resolved as answer
 use Rattle.mm_frame.specs.declared.base.Resolved.TheVariants as answers
-use Rattle.mm_frame.specs.Language.Base.{BaseView, said_at, before, is_sound_at, is_shown_at, is_framed_at, frame_at, fault_by}
-use Rattle.mm_frame.specs.Language.Frame.{Resolved, Assertion, Unknown, AreSameFrame}
-use Rattle.mm_frame.specs.Language.Framing.{resolve, resolve_from}
-use Rattle.mm_frame.specs.mm_statement.Language.Item.{Kind, Floating, Essential, Axiom, Theorem, Item, passed, is_labelled, labels_of, has}
 use Rattle.mm_frame.specs.Language.Laws as frame
-use Rattle.mm_frame.specs.Language.Resolving.{IsCarrier, IsMeaning, Resolves}
-use Rattle.mm_frame.specs.Language.Sound.{fault, judged, sound_items}
-use Rattle.mm_proof.specs.Code.KeptMarks.{AreTheorems, IsOneCarrier, IsShownItem, ShareHypotheses, SharePairs, stands_for}
-use Rattle.mm_proof.proofs.TheoremLemmas.{shown_proof}
-use Rattle.std.proofs.lemmas.Option.{none-some, same_Some}
-use Rattle.mm_verdict.specs.Language.BaseLabels.{setting_at}
-use Rattle.mm_proof.specs.Language.BaseMarks.{MarksView, AreMarks, mark_at}
-use Rattle.mm_verdict.specs.Language.SameProof.{AreSameMeaning, IsSameLabel}
-use Rattle.mm_proof.proofs.KeptMarkLemmas.{shown_within, one_label}
-use Rattle.std.proofs.lemmas.Bool.{and_from}
 
 -- ---- a label that no item carries
 

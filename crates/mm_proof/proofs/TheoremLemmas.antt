@@ -1,17 +1,11 @@
 -- What a theorem of a base is: a statement with a label, an assertion, and what its item says.
-use Rattle.std.proofs.Common.{◌≡◌, ℕ, zero, suc, true, Some, List, [], ◌∷◌, refl, subst, slice_get}
+use Rattle.std.proofs.{Common.{◌≡◌, ℕ, zero, suc, true, Some, List, [], ◌∷◌, refl, subst, slice_get}, lemmas.{Bool.{false≢true, and_from, and_parts}, Option.{same_Some}}}
 use Rattle.std.specs.List.{AllZip}
-use Rattle.std.proofs.lemmas.Bool.{false≢true, and_from, and_parts}
-use Rattle.std.proofs.lemmas.Option.{same_Some}
-use Rattle.mm_frame.specs.mm_store.declared.item.Item as store
-use Rattle.mm_frame.specs.mm_store.Language.FilesView.{FilesView}
-use Rattle.mm_frame.specs.mm_store.Language.FileFacts.{CanBeRead}
-use Rattle.mm_frame.specs.mm_statement.Language.Item.{Item, Kind, Theorem, is_theorem, is_assertion, is_labelled, item_at}
-use Rattle.mm_frame.specs.mm_statement.Language.Statement.{Says}
-use Rattle.mm_frame.specs.Language.Base.{BaseView, said_at, is_sound_at, is_shown_at, is_framed_at, is_proof_at}
-use Rattle.mm_frame.specs.Language.Answering.{IsBase}
-use Rattle.mm_frame.specs.declared.base.Base.{Base}
+use Rattle.mm_frame.specs.mm_store.Language.{FilesView.{FilesView}, FileFacts.{CanBeRead}}
+use Rattle.mm_frame.specs.mm_statement.Language.{Item.{Item, Kind, Theorem, is_theorem, is_assertion, is_labelled, item_at}, Statement.{Says}}
+use Rattle.mm_frame.specs.{Language.{Base.{BaseView, said_at, is_sound_at, is_shown_at, is_framed_at, is_proof_at}, Answering.{IsBase}}, declared.base.Base.{Base}}
 use Rattle.mm_verdict.specs.Language.ReadIn.{HasTheorem, IsReadIn}
+use Rattle.mm_frame.specs.mm_store.declared.item.Item as store
 
 -- a sound theorem is a sound statement with a label
 pub shown_proof : (view : BaseView) (n : ℕ) → is_proof_at view n ≡ true → is_shown_at view n ≡ true

@@ -1,13 +1,10 @@
 -- Words of a proof that are no label that is listed as changed.
 use Rattle.std.proofs.Common.{◌≡◌, ◌<◌, ℕ, zero, suc, Bool, true, false, cond, not, Some, List, [], ◌∷◌, length, take, drop, filter, bytes_eq, refl, arith}
-use Rattle.std.specs.Prelude.{◌≢◌, slice_get, codes}
-use Rattle.std.specs.List.{AllByRecursion, before_first, position_or_len}
-use Rattle.std.proofs.lemmas.Bool.{false≢true}
-use Rattle.std.proofs.lemmas.Option.{none-some}
+use Rattle.std.proofs.lemmas.{Bool.{false≢true}, Option.{none-some}}
+use Rattle.std.specs.{Prelude.{◌≢◌, slice_get, codes}, List.{AllByRecursion, before_first, position_or_len}}
 use Rattle.mm_frame.specs.Language.Base.{BaseView}
 use Rattle.mm_proof.specs.Language.BaseMarks.{IsToldChanged}
-use Rattle.mm_verdict.specs.Language.Decoding.{is_compressed, is_close}
-use Rattle.mm_verdict.specs.Language.SameProof.{labels_named}
+use Rattle.mm_verdict.specs.Language.{Decoding.{is_compressed, is_close}, SameToDecode.{labels_named}}
 
 -- what holds of each word of a proof holds of each label that it names
 all_filtered : (P : List ℕ → Type 0) (p : List ℕ → Bool) (words : List (List ℕ)) → AllByRecursion P words → AllByRecursion P (filter p words)

@@ -1,23 +1,12 @@
 -- Equal views have equal verdicts, and their proofs cite by the same words.
 use Rattle.std.proofs.Common.{ℕ, Result, Ok, Err, List, [], ◌∷◌, map, sym, ◌∙◌, ap, subst}
 use Rattle.std.specs.List.{AllZip, AllByRecursion}
-use Rattle.mm_frame.specs.Language.Base.{BaseView, AreSaid, before, said_at, frame_at}
-use Rattle.mm_frame.specs.Language.Frame.{Symbol, Mandatory, Setting, Resolved}
-use Rattle.mm_frame.specs.Language.Framing.{resolve}
-use Rattle.mm_proof.specs.Code.KeptMarks.{ShareHypotheses, SharePairs, ShareProof}
-use Rattle.mm_verdict.specs.Language.BaseLabels.{setting_at}
-use Rattle.mm_verdict.specs.Language.Citing.{cites}
-use Rattle.mm_verdict.specs.Language.Decoding.{decoding}
-use Rattle.mm_verdict.specs.Language.DecodingLaws.{SameCitesSame, SameDecodesSame}
-use Rattle.mm_verdict.specs.Language.ItemLaws.{MandatoryLabelsMean, MeansHypothesis}
-use Rattle.mm_verdict.specs.Language.Laws.{SameProofSameVerdict}
-use Rattle.mm_verdict.specs.Language.SameProof.{AreSameMeaning, AreSameToDecode, IsSameDecoding, IsSameHypothesis, labels_named}
-use Rattle.mm_verdict.specs.Language.Verdict.{Decoded, IsVerdict}
-use Rattle.mm_verdict.specs.Language.VerdictAt.{mandatory_labels, statement_at, decoding_at}
-use Rattle.mm_verdict.specs.Language.View.{view_at, AreSameViews}
-use Rattle.mm_proof.specs.Language.ViewLaws.{SameViewSameCites, SameViewSameVerdict}
-use Rattle.mm_verdict.specs.declared.Verdict.{Verdict}
-use Rattle.mm_verdict.specs.declared.step.ProofFault.{ProofFault}
+use Rattle.mm_frame.specs.{Language.{Base.{BaseView, AreSaid, before, said_at, frame_at}, Framing.{resolve}}, mm_machine.Language.Frame.{Symbol, Mandatory, Setting, Resolved}}
+use Rattle.mm_proof.specs.{Code.KeptMarks.{ShareHypotheses, SharePairs, ShareProof}, Language.ViewLaws.{SameViewSameCites, SameViewSameVerdict}}
+use Rattle.mm_verdict.specs.Language.{BaseLabels.{setting_at}, Citing.{cites}, Decoding.{decoding}, DecodingLaws.{SameCitesSame, SameDecodesSame}, ItemLaws.{MandatoryLabelsMean, MeansHypothesis}}
+use Rattle.mm_verdict.specs.Language.{SameToDecode.{AreSameToDecode, IsSameHypothesis, labels_named}, VerdictAt.{mandatory_labels, statement_at, decoding_at}, View.{view_at, AreSameViews}}
+use Rattle.mm_verdict.specs.mm_machine.Language.{Laws.{SameProofSameVerdict}, SameProof.{AreSameMeaning, IsSameDecoding}, Verdict.{Decoded, IsVerdict}}
+use Rattle.mm_verdict.specs.mm_machine.declared.{Verdict.{Verdict}, step.ProofFault.{ProofFault}}
 
 -- labels that mean the same hypotheses, one by one
 same_hypotheses :

@@ -13,16 +13,17 @@ ghost use Rattle.mm_proof.specs.Code.TwoTheorems.{AreMarked, AreUnnamed, CanBeCo
 ghost use Rattle.mm_verdict.specs.Language.ReadIn.{IsReadIn, HasTheorem};
 ghost use Rattle.mm_proof.specs.Language.BaseMarks.{AreMarks, mark_at};
 ghost use Rattle.mm_verdict.specs.Language.Decoding.{is_close as is_closing};
-ghost use Rattle.mm_verdict.specs.Language.SameProof.{AreSameMeaning, labels_named};
+ghost use Rattle.mm_verdict.specs.Language.SameToDecode.{labels_named};
+ghost use Rattle.mm_verdict.specs.mm_machine.Language.SameProof.{AreSameMeaning};
 ghost use Rattle.mm_verdict.specs.Language.View.{view_at, AreSameViews};
 
 use crate::marks::Marks;
-use crate::words::{is_close, is_open, is_unknown};
 use mm_frame::{
     Base, Files, Item, Names, ProofWords, Resolved, has_bytes, has_own_labels, kept_next,
     labels_mean, same_active_pairs, same_but_pairs, same_expression, same_frame, same_proof,
     words_of_proof,
 };
+use mm_verdict::{is_close, is_open, is_unknown};
 
 /// The item `i` of an old base and the item `j` of a new one. The symbols of both bases are read by these names. The marks,
 /// if there are any, say what stays of the old base in the new one.

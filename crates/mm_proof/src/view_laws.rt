@@ -2,9 +2,8 @@
 
 ghost use Rattle.mm_proof.specs.Language.ViewLaws.{SameViewSameVerdict, SameViewSameCites};
 
-use mm_verdict::{
-    mandatory_labels_mean, same_cites_same, same_decodes_same, same_proof_same_verdict,
-};
+use mm_machine::same_proof_same_verdict;
+use mm_verdict::{mandatory_labels_mean, same_cites_same, same_decodes_same};
 
 /// Two theorems with equal views have equal verdicts, spots included, in any two databases.
 pub fn same_view_same_verdict()

@@ -2,21 +2,14 @@
 use Rattle.std.proofs.Common.{◌≡◌, ℕ, ◌<◌, Bool, true, false, ◌&&◌, Option, is_none, List, length, take, get_or, Some, refl, sym, ◌∙◌, ap, subst, ext_get_or, arith}
 use Rattle.std.proofs.lemmas.Option.{slice_get-get_or, same_Some}
 use Rattle.mm_keep.specs.mm_store.Language.FilesView.{FilesView, File, plain}
-use Rattle.mm_keep.specs.mm_frame.Language.Base.{BaseView, IsOfFiles, told_fault, fault_at, is_sound_at, said_at}
-use Rattle.mm_keep.specs.mm_statement.Language.Item.{Kind, Axiom, Theorem, Item, is_assertion, is_theorem, item_at}
-use Rattle.mm_keep.specs.mm_frame.Language.Sound.{sound_items}
-use Rattle.mm_keep.specs.mm_frame.declared.FrameNumber.{FrameNumber}
-use Rattle.mm_keep.specs.mm_verdict.Language.VerdictAt.{IsVerdictAt}
-use Rattle.mm_keep.specs.mm_verdict.declared.ProofNumber.{ProofNumber}
-use Rattle.mm_keep.specs.declared.finding.At.{At}
-use Rattle.mm_keep.specs.mm_verdict.declared.Spot.{Spot}
-use Rattle.mm_keep.specs.mm_verdict.declared.Verdict.{Verdict}
-use Rattle.mm_keep.specs.mm_verdict.declared.Verdict.TheVariants as verdicts
+use Rattle.mm_keep.specs.mm_frame.{Language.{Base.{BaseView, IsOfFiles, told_fault, fault_at, is_sound_at, said_at}, Sound.{sound_items}}, declared.FrameNumber.{FrameNumber}}
+use Rattle.mm_keep.specs.{mm_statement.Language.Item.{Kind, Axiom, Theorem, Item, is_assertion, is_theorem, item_at}, mm_verdict.Language.VerdictAt.{IsVerdictAt}}
+use Rattle.mm_keep.specs.{mm_machine.declared.{ProofNumber.{ProofNumber}, Spot.{Spot}, Verdict.{Verdict}}, declared.finding.At.{At}}
 use Rattle.mm_keep.specs.Language.Sessions.{SessionView}
 use Rattle.mm_keep.specs.Language.Told.{Shown, Told, Quiet, AnAxiom, Proved, Incomplete, Wrong, Fault, IsRightlyTold, IsFaultOf, HasProofVerdict, HasVerdictShown, AreRightlyTold}
-use Rattle.mm_report.specs.Language.Laws.{OneReport}
-use Rattle.mm_report.specs.Language.Report.{names_of, report, IsReport}
+use Rattle.mm_report.specs.Language.{Laws.{OneReport}, Report.{names_of, report, IsReport}}
 use Rattle.mm_report.proofs.DatabaseLemmas.{Laws, Database, same_items, same_spot_place, same_shown_word}
+use Rattle.mm_keep.specs.mm_machine.declared.Verdict.TheVariants as verdicts
 
 -- ---- what is reported of one item
 

@@ -1,29 +1,16 @@
 -- What is answered, from what is written.
-use Rattle.std.proofs.Common.{◌≡◌, ◌⊎◌, ℕ, ◌<◌, Option, List, Result, Ok, Err, inl, inr, length, map, refl, sym, ap, ◌∙◌, subst, arith, take_all, Global, codes, IfErr, IfOk, IsErrOf, IsOk, IsTrue, OnOk, Bool, true, false, ◌↔◌, Some}
-use Rattle.std.proofs.Common.{Vec, get_or, slice_get}
-use Rattle.std.specs.Result.{IsErrAnd}
-use Rattle.mm_keep.specs.declared.answers.KeepError.{KeepError}
-use Rattle.mm_keep.specs.declared.answers.KeepError.TheVariants as keep
-use Rattle.std.specs.Io.KnownBytes.{Appends, Keeps}
-use Rattle.mm_keep.specs.mm_verdict.Language.Work.{Recorded}
-use Rattle.mm_keep.specs.mm_frame.Language.Base.{BaseView, IsOfFiles}
-use Rattle.std.specs.Option.{option_map}
-use Rattle.std.proofs.lemmas.List.{length-map}
-use Rattle.std.proofs.lemmas.Option.{slice_get-map, slice_get_within, slice_get-get_or, same_Some}
-use Rattle.std.proofs.KnownBytes.{Appends-kept}
-use Rattle.mm_keep.specs.mm_text.declared.edit.Edit.{Edit}
-use Rattle.mm_keep.specs.mm_store.Language.Batches.{IsRefusedAt}
-use Rattle.mm_keep.specs.mm_store.declared.edit.EditError.{EditError}
-use Rattle.mm_keep.specs.mm_text.Language.Asked.{Asked, asked}
-use Rattle.mm_keep.specs.mm_store.Language.FilesView.{plain}
+use Rattle.std.proofs.Common.{◌≡◌, ◌⊎◌, ℕ, ◌<◌, Option, List, Result, Ok, Err, inl, inr, length, map, refl, sym, ap, ◌∙◌, subst, arith, take_all, Global, codes, IfErr, IfOk, IsErrOf, IsOk, IsTrue}
+use Rattle.std.proofs.Common.{OnOk, Bool, true, false, ◌↔◌, Some, Vec, get_or, slice_get}
+use Rattle.std.proofs.{lemmas.{List.{length-map}, Option.{slice_get-map, slice_get_within, slice_get-get_or, same_Some}}, KnownBytes.{Appends-kept}}
+use Rattle.std.specs.{Result.{IsErrAnd}, Io.KnownBytes.{Appends, Keeps}, Option.{option_map}}
+use Rattle.mm_keep.specs.{declared.answers.KeepError.{KeepError}, mm_verdict.Language.Work.{Recorded}, mm_frame.Language.Base.{BaseView, IsOfFiles}}
+use Rattle.mm_keep.specs.{mm_text.{declared.edit.Edit.{Edit}, Language.Asked.{Asked, asked}}, mm_store.{Language.{Batches.{IsRefusedAt}, FilesView.{plain}}, declared.edit.EditError.{EditError}}}
 use Rattle.mm_keep.specs.Language.Sessions.{SessionView, AreAxiomsOf, IsChanged, HasAssertion}
-use Rattle.mm_script.specs.declared.error.ScriptError.{ScriptError}
+use Rattle.mm_script.specs.declared.{error.ScriptError.{ScriptError}, stream.Writing.{Writing}}
+use Rattle.mm_script.specs.Language.{Script.{Command, Listed, Batch, Axioms, Cites, Users}, Stream.{written, has_failed, AppendsPart, Stops}}
+use Rattle.mm_report.specs.{Code.Answered.{Answers, FailsSo, Finds, Lacks}, Language.Answers.{IsAnswer, IsBatchRefused, IsRunAnswer, batch_refusal_line, numbers_listed, unknown_line}}
+use Rattle.mm_keep.specs.declared.answers.KeepError.TheVariants as keep
 use Rattle.mm_script.specs.declared.error.ScriptError.TheVariants as errors
-use Rattle.mm_script.specs.declared.stream.Writing.{Writing}
-use Rattle.mm_report.specs.Code.Answered.{Answers, FailsSo, Finds, Lacks}
-use Rattle.mm_report.specs.Language.Answers.{IsAnswer, IsBatchRefused, IsRunAnswer, batch_refusal_line, numbers_listed, unknown_line}
-use Rattle.mm_script.specs.Language.Script.{Command, Listed, Batch, Axioms, Cites, Users}
-use Rattle.mm_script.specs.Language.Stream.{written, has_failed, AppendsPart, Stops}
 
 -- an answer is written
 pub answered_ok : {W T : Type 0} (contents : W → Option (List ℕ)) (command : Command) (old new : SessionView) (a b : Writing W) (done : T) (answer : List ℕ)

@@ -1,10 +1,7 @@
 -- The assertion of a label depends on what the items say, and on nothing else.
 use Rattle.std.proofs.Common.{◌≡◌, ℕ, ◌<◌, Bool, true, false, ◌&&◌, List, [], length, sym, ap, ◌∙◌, subst}
-use Rattle.mm_keep.specs.mm_frame.Language.Base.{BaseView, said_at, is_framed_at, is_sound_at}
-use Rattle.mm_keep.specs.mm_statement.Language.Item.{Kind, Axiom, Theorem, Item, item_at, is_assertion, is_labelled}
-use Rattle.mm_keep.specs.mm_frame.Language.Laws.{HasOwnLabels}
-use Rattle.mm_keep.specs.mm_frame.Language.Resolving.{IsCarrier}
-use Rattle.mm_keep.specs.Language.Sessions.{IsAssertion}
+use Rattle.mm_keep.specs.mm_frame.Language.{Base.{BaseView, said_at, is_framed_at, is_sound_at}, Laws.{HasOwnLabels}, Resolving.{IsCarrier}}
+use Rattle.mm_keep.specs.{mm_statement.Language.Item.{Kind, Axiom, Theorem, Item, item_at, is_assertion, is_labelled}, Language.Sessions.{IsAssertion}}
 
 -- items that say this, wherever they are
 abbrev pub saying : List Item → BaseView

@@ -1,24 +1,13 @@
 -- Files that mean the same are one database: their items are the same but for keys, and say the same.
-use Rattle.std.proofs.Common.{◌≡◌, ℕ, ◌+◌, List, Some, map, slice_get, slice_range, refl, sym, ap, ◌∙◌, subst, All}
+use Rattle.std.proofs.{Common.{◌≡◌, ℕ, ◌+◌, List, Some, map, slice_get, slice_range, refl, sym, ap, ◌∙◌, subst, All}, lemmas.Option.{slice_get-map, slice_get_within, get_or_from_slice_get, same_Some}}
 use Rattle.std.specs.Option.{option_map}
-use Rattle.std.proofs.lemmas.Option.{slice_get-map, slice_get_within, get_or_from_slice_get, same_Some}
-use Rattle.mm_keep.specs.mm_text.declared.word.Word.{Word}
-use Rattle.mm_keep.specs.mm_text.Language.Reading.{HasWords}
-use Rattle.mm_keep.specs.mm_text.Language.Place.{line_at, column_at}
+use Rattle.mm_keep.specs.mm_text.{declared.word.Word.{Word}, Language.{Reading.{HasWords}, Place.{line_at, column_at}}}
+use Rattle.mm_keep.specs.mm_store.Language.{Pieces.{text_in, text_under}, FilesView.{FilesView, File, files_in, plain, plain_file, text_of}, FileFacts.{CanBeRead, StandsIn, piece_offset}}
+use Rattle.mm_keep.specs.mm_store.Language.{Expansion.{IsExpansion}, Keyless.{keyless_item}}
+use Rattle.mm_keep.specs.{mm_frame.Language.{Base.{BaseView, IsOfFiles, said_at}, Laws.{AreAlikeBases}}, mm_statement.Language.Item.{item_at}, mm_verdict.Language.ItemLaws.{HasOneVerdictAt}}
+use Rattle.mm_keep.specs.{mm_machine.declared.Spot.{Spot}, declared.finding.At.{At}}
+use Rattle.mm_keep.specs.Language.{WordPlaces.{start_of, spelled, IsByteOfWord, HasPlace, IsPlaceOfSpot, proof_word}, Told.{Shown, IsShown}}
 use Rattle.mm_keep.specs.mm_store.declared.item.Item as store
-use Rattle.mm_keep.specs.mm_store.Language.Pieces.{text_in, text_under}
-use Rattle.mm_keep.specs.mm_store.Language.FilesView.{FilesView, File, files_in, plain, plain_file, text_of}
-use Rattle.mm_keep.specs.mm_store.Language.FileFacts.{CanBeRead, StandsIn, piece_offset}
-use Rattle.mm_keep.specs.mm_store.Language.Expansion.{IsExpansion}
-use Rattle.mm_keep.specs.mm_store.Language.Keyless.{keyless_item}
-use Rattle.mm_keep.specs.mm_frame.Language.Base.{BaseView, IsOfFiles, said_at}
-use Rattle.mm_keep.specs.mm_statement.Language.Item.{item_at}
-use Rattle.mm_keep.specs.mm_frame.Language.Laws.{AreAlikeBases}
-use Rattle.mm_keep.specs.mm_verdict.Language.ItemLaws.{HasOneVerdictAt}
-use Rattle.mm_keep.specs.mm_verdict.declared.Spot.{Spot}
-use Rattle.mm_keep.specs.declared.finding.At.{At}
-use Rattle.mm_keep.specs.Language.WordPlaces.{start_of, spelled, IsByteOfWord, HasPlace, IsPlaceOfSpot, proof_word}
-use Rattle.mm_keep.specs.Language.Told.{Shown, IsShown}
 
 -- what is known of every text and of all files
 pub record Laws : Type 0 where

@@ -1,16 +1,11 @@
 -- Files by number: their names; and what is reported of an item names one of them.
 use Rattle.std.proofs.Common.{◌≡◌, ℕ, ◌<◌, List, [], Some, length, slice_get, sym, ap, ◌∙◌, subst, slice_index_or}
+use Rattle.std.proofs.lemmas.{Option.{slice_get-map, slice_get_within, get_or_from_slice_get}, Simd.{map-map}}
 use Rattle.std.specs.Option.{option_map}
-use Rattle.std.proofs.lemmas.Option.{slice_get-map, slice_get_within, get_or_from_slice_get}
-use Rattle.std.proofs.lemmas.Simd.{map-map}
-use Rattle.mm_keep.specs.mm_store.Language.FilesView.{KeyedFile, FilesView, File, plain, plain_file}
+use Rattle.mm_keep.specs.{mm_store.Language.FilesView.{KeyedFile, FilesView, File, plain, plain_file}, mm_frame.Language.Base.{BaseView}, declared.finding.At.{At}}
+use Rattle.mm_keep.specs.Language.{Told.{Told, Incomplete, Wrong, Fault, IsRightlyTold}, WordPlaces.{HasPlace}}
+use Rattle.mm_report.specs.{Code.InFiles.{IsInFiles}, Language.Report.{names_of}}
 use Rattle.mm_keep.specs.mm_store.declared.item.Item as store
-use Rattle.mm_keep.specs.mm_frame.Language.Base.{BaseView}
-use Rattle.mm_keep.specs.declared.finding.At.{At}
-use Rattle.mm_keep.specs.Language.Told.{Told, Incomplete, Wrong, Fault, IsRightlyTold}
-use Rattle.mm_report.specs.Code.InFiles.{IsInFiles}
-use Rattle.mm_report.specs.Language.Report.{names_of}
-use Rattle.mm_keep.specs.Language.WordPlaces.{HasPlace}
 
 -- the name of a file, by its number
 pub name_is : (files : FilesView) (n : ℕ) (name : List ℕ) → option_map (λ (file : KeyedFile). file.name) (slice_get files.keyed n) ≡ Some name → slice_index_or (names_of (plain files)) n [] ≡ name

@@ -1,24 +1,15 @@
 -- Each script has answers, in sessions as they are.
 use Rattle.std.proofs.Common.{◌≡◌, ◌≢◌, ◌⊎◌, ◌<◌, ℕ, zero, suc, Some, List, [], ◌∷◌, ◌++◌, length, refl, sym, ap, ◌∙◌, subst, inl, inr, arith, codes, map, slice_get}
 use Rattle.std.proofs.lemmas.Option.{none-some, same_Some}
-use Rattle.mm_keep.specs.mm_store.declared.edit.EditError.{EditError}
-use Rattle.mm_keep.specs.mm_store.declared.edit.EditError.TheVariants.{Memory}
-use Rattle.mm_keep.specs.mm_store.Language.Answers.{IsEditError}
-use Rattle.mm_keep.specs.mm_store.Language.Batches.{IsBatchOf, IsRefusedAt}
-use Rattle.mm_keep.specs.mm_text.Language.Asked.{Asked}
-use Rattle.mm_keep.specs.mm_store.Language.Edits.{IsEditOf}
-use Rattle.mm_keep.specs.mm_store.Language.FileFacts.{HoldsPieces}
-use Rattle.mm_keep.specs.mm_store.Language.FilesView.{File, FilesView, file_number, plain}
+use Rattle.mm_keep.specs.mm_store.declared.edit.EditError.{EditError, TheVariants.{Memory}}
+use Rattle.mm_keep.specs.mm_store.Language.{Answers.{IsEditError}, Batches.{IsBatchOf, IsRefusedAt}, Edits.{IsEditOf}, FileFacts.{HoldsPieces}, FilesView.{File, FilesView, file_number, plain}}
 use Rattle.mm_keep.specs.mm_store.Language.Holding.{HoldOneEach}
+use Rattle.mm_keep.specs.mm_text.Language.Asked.{Asked}
 use Rattle.mm_keep.specs.Language.Laws.{FilesGiveItems, HasListOf, HasListOfRuns, HasListEach, ItemsHaveFindings, LabelsAreDecided}
-use Rattle.mm_keep.specs.Language.Sessions.{SessionView, HasAssertion, AreAxiomsOf, AreCitesOf, AreUsersOf}
-use Rattle.mm_keep.specs.Language.Told.{Told, IsRightlyTold}
-use Rattle.mm_report.specs.Language.Answers.{AreAnswers, IsAnswer, IsFound, IsRunAnswer, IsUnknown, IsVerdictAnswer}
-use Rattle.mm_report.specs.Language.Answers.{batch_refusal_line, numbers_listed, refusal_line, told_line, unknown_line}
-use Rattle.mm_report.specs.Language.Report.{names_of, report, IsReport}
-use Rattle.mm_script.specs.Language.Script.{Command, Change, Batch, Report, Verdict, Axioms, Cites, Users, Listed, commands_of}
-use Rattle.mm_report.specs.Language.ScriptLaws.{HasScriptAnswer, IsWholeSession}
-use Rattle.mm_script.specs.Language.ReadingLaws.{HasReading}
+use Rattle.mm_keep.specs.Language.{Sessions.{SessionView, HasAssertion, AreAxiomsOf, AreCitesOf, AreUsersOf}, Told.{Told, IsRightlyTold}}
+use Rattle.mm_report.specs.Language.Answers.{AreAnswers, IsAnswer, IsFound, IsRunAnswer, IsUnknown, IsVerdictAnswer, batch_refusal_line, numbers_listed, refusal_line, told_line, unknown_line}
+use Rattle.mm_report.specs.Language.{Report.{names_of, report, IsReport}, ScriptLaws.{HasScriptAnswer, IsWholeSession}}
+use Rattle.mm_script.specs.Language.{Script.{Command, Change, Batch, Report, Verdict, Axioms, Cites, Users, Listed, commands_of}, ReadingLaws.{HasReading}}
 
 -- what is known of all files and sessions
 pub record HavingLaws : Type 0 where

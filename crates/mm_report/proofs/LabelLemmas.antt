@@ -1,16 +1,10 @@
 -- Lines of answers, part by part; and lines of labels, one more at a time.
 use Rattle.std.proofs.Common.{◌≡◌, ℕ, ◌+◌, ◌<◌, List, [], ◌∷◌, ◌++◌, length, map, take, drop, get_or, sym, ◌∙◌, ap, append_assoc, codes, decimal, unwrap_or}
-use Rattle.std.proofs.lemmas.List.{append-nil, length-map, map-append, take_more, take-append-drop}
-use Rattle.std.proofs.lemmas.Grind.{flat_map-append}
-use Rattle.mm_keep.specs.mm_text.declared.fault.TextFault.{TextFault}
-use Rattle.mm_keep.specs.mm_text.Language.Place.{line_at, column_at}
-use Rattle.mm_keep.specs.mm_store.declared.edit.EditError.{EditError}
+use Rattle.std.proofs.lemmas.{List.{append-nil, length-map, map-append, take_more, take-append-drop}, Grind.{flat_map-append}}
+use Rattle.mm_keep.specs.{mm_text.{declared.fault.TextFault.{TextFault}, Language.{Place.{line_at, column_at}, Asked.{Asked}}}, mm_store.declared.edit.EditError.{EditError}}
+use Rattle.mm_keep.specs.{mm_frame.Language.Base.{BaseView, said_at}, mm_statement.Language.Item.{Item}}
+use Rattle.mm_report.specs.{Code.Answered.{label_lines, text_brought}, Language.Answers.{batch_refusal_line, numbers_listed, refusal_line, refusal_words, text_code}}
 use Rattle.mm_keep.specs.mm_store.declared.edit.EditError.TheVariants as refusals
-use Rattle.mm_keep.specs.mm_text.Language.Asked.{Asked}
-use Rattle.mm_keep.specs.mm_frame.Language.Base.{BaseView, said_at}
-use Rattle.mm_keep.specs.mm_statement.Language.Item.{Item}
-use Rattle.mm_report.specs.Code.Answered.{label_lines, text_brought}
-use Rattle.mm_report.specs.Language.Answers.{batch_refusal_line, numbers_listed, refusal_line, refusal_words, text_code}
 
 -- ---- part by part
 

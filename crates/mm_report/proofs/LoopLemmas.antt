@@ -1,23 +1,17 @@
 -- A script that is answered command by command.
-use Rattle.std.proofs.Common.{◌≡◌, ℕ, zero, suc, true, Option, Some, None, List, [], ◌∷◌, ◌++◌, inl, inr, drop, take, replicate, refl, sym, ap, ◌∙◌, subst, append_assoc, append-nil, ◌≢◌, Result, Ok, Err, IfErr, IfSome, IsErrOf}
-use Rattle.std.specs.Result.{IsErrAnd}
-use Rattle.mm_script.specs.declared.error.ScriptError.{ScriptError}
-use Rattle.mm_script.specs.declared.error.ScriptError.TheVariants as errors
-use Rattle.std.specs.Io.KnownBytes.{Consumes, IsAtEnd}
+use Rattle.std.proofs.Common.{◌≡◌, ℕ, zero, suc, true, Option, Some, None, List, [], ◌∷◌, ◌++◌, inl, inr, drop, take, replicate, refl, sym, ap, ◌∙◌, subst, append_assoc, append-nil, ◌≢◌, Result, Ok}
+use Rattle.std.proofs.Common.{Err, IfErr, IfSome, IsErrOf}
 use Rattle.std.proofs.KnownBytes.{Appends-nil, Appends-trans, Consumes-nil, Consumes-trans}
-use Rattle.mm_keep.specs.Language.Sessions.{SessionView}
-use Rattle.mm_script.specs.declared.input.Input.{Input}
-use Rattle.mm_script.specs.declared.entry.CommandAt.{CommandAt}
-use Rattle.mm_script.specs.declared.entry.Complete.{Complete}
-use Rattle.mm_script.specs.declared.stream.Writing.{Writing}
-use Rattle.mm_script.specs.declared.read_stream.Reading.{Reading}
-use Rattle.mm_report.specs.Code.Answered.{IsAnswered, BeginsAnswer, FailsSo, AnswersSoFar, HasAnswered, StopsAnswering}
+use Rattle.std.specs.{Result.{IsErrAnd}, Io.KnownBytes.{Consumes, IsAtEnd}}
+use Rattle.mm_script.specs.declared.{error.ScriptError.{ScriptError}, input.Input.{Input}, entry.{CommandAt.{CommandAt}, Complete.{Complete}}, stream.Writing.{Writing}, read_stream.Reading.{Reading}}
 use Rattle.mm_script.specs.Language.Commands.{pending, ReadsOn, IsNextCommand, IsWholeCommand, IsLast, IsWholeOrLast, HasNoEntry, StopsSo}
-use Rattle.mm_report.specs.Language.Answers.{AreAnswers, IsAnswer}
-use Rattle.mm_script.specs.Language.Script.{Command, End, Done, CutShort, BadLine, Entry, Blank, Given, AreGood, IsGood, AreRead, IsLongestReading, LacksFeed, entries_bytes, command_bytes, commands_of}
-use Rattle.mm_report.specs.Language.Scripting.{AnswersScript, AnswersFirst, AnswersRead, AreFirst, BeginsAnswers}
-use Rattle.mm_script.specs.Language.Stream.{cannot_read, unread, written}
-use Rattle.mm_script.specs.Language.ReadingLaws.{CommandsLeaveNothing, ReadingsJoin}
+use Rattle.mm_script.specs.Language.Script.{Command, End, Done, CutShort, BadLine, Entry, Blank, Given, AreGood, IsGood, AreRead, IsLongestReading, LacksFeed, entries_bytes, command_bytes}
+use Rattle.mm_script.specs.Language.Script.{commands_of}
+use Rattle.mm_script.specs.Language.{Stream.{cannot_read, unread, written}, ReadingLaws.{CommandsLeaveNothing, ReadingsJoin}}
+use Rattle.mm_keep.specs.Language.Sessions.{SessionView}
+use Rattle.mm_report.specs.Code.Answered.{IsAnswered, BeginsAnswer, FailsSo, AnswersSoFar, HasAnswered, StopsAnswering}
+use Rattle.mm_report.specs.Language.{Answers.{AreAnswers, IsAnswer}, Scripting.{AnswersScript, AnswersFirst, AnswersRead, AreFirst, BeginsAnswers}}
+use Rattle.mm_script.specs.declared.error.ScriptError.TheVariants as errors
 
 -- ---- empty lines, and commands, after entries
 

@@ -1,31 +1,18 @@
 -- The answers of scripts are one, of sessions that are alike.
-use Rattle.std.proofs.Common.{◌≡◌, ◌≢◌, ◌⊎◌, ℕ, zero, suc, ◌<◌, ◌≤◌, Some, List, [], ◌∷◌, ◌++◌, length, map, take, refl, sym, ap, ◌∙◌, subst, inl, inr, arith, append_assoc, codes, slice_get, append-nil, take_all}
-use Rattle.std.proofs.lemmas.Bool.{cases_lt}
-use Rattle.std.proofs.lemmas.List.Elements.{filter_map-append}
-use Rattle.std.proofs.lemmas.Option.{same_Some, slice_get_within}
-use Rattle.mm_keep.specs.mm_store.declared.edit.EditError.{EditError}
-use Rattle.mm_keep.specs.mm_store.declared.edit.EditError.TheVariants.{Memory}
-use Rattle.mm_keep.specs.mm_store.Language.Answers.{IsEditError}
-use Rattle.mm_keep.specs.mm_store.Language.Batches.{IsBatchOf, IsRefusedAt}
-use Rattle.mm_keep.specs.mm_text.Language.Asked.{Asked}
-use Rattle.mm_keep.specs.mm_store.Language.Edits.{IsEditOf}
-use Rattle.mm_keep.specs.mm_store.Language.FilesView.{File, plain}
-use Rattle.mm_keep.specs.mm_frame.Language.Base.{BaseView, IsOfFiles}
-use Rattle.mm_keep.specs.mm_frame.Language.Laws.{HasOwnLabels}
-use Rattle.mm_keep.specs.Language.Citations.{CitesItem, IsAxiomOf}
-use Rattle.mm_keep.specs.Language.Laws.{IsOneList, OneListEach, OneListOfRuns}
-use Rattle.mm_keep.specs.Language.Runs.{AreRunsOf}
-use Rattle.mm_keep.specs.Language.Sessions.{SessionView, AreNumbersOf, HasAssertion}
+use Rattle.std.proofs.Common.{◌≡◌, ◌≢◌, ◌⊎◌, ℕ, zero, suc, ◌<◌, ◌≤◌, Some, List, [], ◌∷◌, ◌++◌, length, map, take, refl, sym, ap, ◌∙◌, subst, inl, inr, arith, append_assoc, codes, slice_get}
+use Rattle.std.proofs.Common.{append-nil, take_all}
+use Rattle.std.proofs.lemmas.{Bool.{cases_lt}, List.Elements.{filter_map-append}, Option.{same_Some, slice_get_within}}
+use Rattle.mm_keep.specs.mm_store.declared.edit.EditError.{EditError, TheVariants.{Memory}}
+use Rattle.mm_keep.specs.mm_store.Language.{Answers.{IsEditError}, Batches.{IsBatchOf, IsRefusedAt}, Edits.{IsEditOf}, FilesView.{File, plain}}
+use Rattle.mm_keep.specs.{mm_text.Language.Asked.{Asked}, mm_frame.Language.{Base.{BaseView, IsOfFiles}, Laws.{HasOwnLabels}}}
+use Rattle.mm_keep.specs.Language.{Citations.{CitesItem, IsAxiomOf}, Laws.{IsOneList, OneListEach, OneListOfRuns}, Runs.{AreRunsOf}, Sessions.{SessionView, AreNumbersOf, HasAssertion}}
 use Rattle.mm_keep.specs.Language.Told.{IsRightlyTold}
-use Rattle.mm_report.specs.Language.Answers.{AreAnswers, IsAnswer, IsBatchAnswer, IsEditAnswer, IsFound, IsRunAnswer, IsUnknown, IsVerdictAnswer}
-use Rattle.mm_report.specs.Language.Answers.{batch_refusal_line, numbers_listed, refusal_line, told_line}
-use Rattle.mm_report.specs.Language.Report.{names_of}
+use Rattle.mm_report.specs.Language.Answers.{AreAnswers, IsAnswer, IsBatchAnswer, IsEditAnswer, IsFound, IsRunAnswer, IsUnknown, IsVerdictAnswer, batch_refusal_line, numbers_listed, refusal_line}
+use Rattle.mm_report.specs.Language.Answers.{told_line}
+use Rattle.mm_report.specs.Language.{Report.{names_of}, ScriptLaws.{AnswersBegin, AreAlike, AreTheFirst, HasItems, OneScriptAnswer}}
 use Rattle.mm_script.specs.Language.Script.{Command, Change, Batch, Report, Verdict, Axioms, Cites as CitesOf, Users, EndsSo, Entry, command_of, commands_of, entries_bytes, HasEntries}
 use Rattle.mm_script.specs.Language.ReadingLaws.{DivisionsAgree, OneEnd, OneReading}
-use Rattle.mm_report.specs.Language.ScriptLaws.{AnswersBegin, AreAlike, AreTheFirst, HasItems, OneScriptAnswer}
-use Rattle.mm_report.proofs.AnswerLemmas.{same_report, same_told}
-use Rattle.mm_report.proofs.DatabaseLemmas.{Database, Laws, same_items}
-use Rattle.mm_report.proofs.AssertionLemmas.{assertion_by_said, one_assertion, saying}
+use Rattle.mm_report.proofs.{AnswerLemmas.{same_report, same_told}, DatabaseLemmas.{Database, Laws, same_items}, AssertionLemmas.{assertion_by_said, one_assertion, saying}}
 
 -- what is known of all files, their edits, runs and labels
 pub record AnswerLaws : Type 0 where

@@ -1,11 +1,8 @@
 -- How parts of what is written join.
-use Rattle.std.proofs.Common.{◌≡◌, ℕ, ◌+◌, min, List, ◌++◌, length, take, Option, Result, Ok, Err, sym, ◌∙◌, subst, arith, IsErr}
-use Rattle.std.specs.Io.KnownBytes.{Appends}
-use Rattle.std.proofs.KnownBytes.{Appends-trans}
-use Rattle.std.proofs.Math.Seq.{take-append-add}
+use Rattle.std.proofs.{Common.{◌≡◌, ℕ, ◌+◌, min, List, ◌++◌, length, take, Option, Result, Ok, Err, sym, ◌∙◌, subst, arith, IsErr}, KnownBytes.{Appends-trans}, Math.Seq.{take-append-add}}
 use Rattle.std.proofs.lemmas.List.{take-append-le, take_min}
-use Rattle.mm_script.specs.declared.stream.Writing.{Writing}
-use Rattle.mm_script.specs.Language.Stream.{AppendsPart, Stops, Writes, written}
+use Rattle.std.specs.Io.KnownBytes.{Appends}
+use Rattle.mm_script.specs.{declared.stream.Writing.{Writing}, Language.Stream.{AppendsPart, Stops, Writes, written}}
 
 -- a part of the first bytes
 part_front : (a b : Option (List ℕ)) (xs ys : List ℕ) → AppendsPart a b xs → AppendsPart a b (xs ++ ys)

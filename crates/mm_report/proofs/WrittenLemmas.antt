@@ -1,22 +1,13 @@
 -- A report as it is written, one item more at a time.
-use Rattle.std.proofs.Common.{◌≡◌, ◌⊎◌, ℕ, zero, suc, ◌+◌, ◌-◌, ◌<◌, ◌≤◌, Some, Option, List, [], ◌∷◌, ◌++◌, inl, inr, length-append, length, get_or, slice_get, take, drop, refl, sym, ◌∙◌, ap, subst, append_assoc, arith}
-use Rattle.std.proofs.lemmas.Option.{same_Some}
-use Rattle.std.proofs.lemmas.List.{append-nil, length-take-le, take-append-drop, take_all, take_more}
+use Rattle.std.proofs.Common.{◌≡◌, ◌⊎◌, ℕ, zero, suc, ◌+◌, ◌-◌, ◌<◌, ◌≤◌, Some, Option, List, [], ◌∷◌, ◌++◌, inl, inr, length-append, length, get_or, slice_get, take, drop, refl, sym, ◌∙◌, ap, subst}
+use Rattle.std.proofs.Common.{append_assoc, arith}
+use Rattle.std.proofs.{lemmas.{Option.{same_Some}, List.{append-nil, length-take-le, take-append-drop, take_all, take_more}}, KnownBytes.{Appends-trans}}
 use Rattle.std.specs.Io.KnownBytes.{Appends}
-use Rattle.std.proofs.KnownBytes.{Appends-trans}
-use Rattle.mm_keep.specs.mm_store.Language.FilesView.{FilesView, plain}
-use Rattle.mm_keep.specs.mm_frame.Language.Base.{BaseView, IsOfFiles, said_at}
-use Rattle.mm_keep.specs.mm_statement.Language.Item.{Item, passed}
-use Rattle.mm_keep.specs.mm_frame.Language.Laws.{FilesHaveOneBase}
-use Rattle.mm_keep.specs.Language.Laws.{ItemsHaveFindings}
-use Rattle.mm_keep.specs.Language.Sessions.{SessionView, IsCount, IsFinding, IsLabelOfItem}
-use Rattle.mm_keep.specs.Language.Told.{Told, IsRightlyTold, Counts, counts}
-use Rattle.mm_script.specs.declared.stream.Writing.{Writing}
-use Rattle.mm_report.specs.Code.Written.{ToldUpTo, AreWrittenUpTo, AreAllWritten, FailsWithin}
-use Rattle.mm_report.specs.Language.Report.{item_line, lines, names_of, report, summary, IsReport}
-use Rattle.mm_script.specs.Language.Stream.{written, Stops}
-use Rattle.mm_report.proofs.ReportLemmas.{lines_join, lines_push}
-use Rattle.mm_report.proofs.StreamLemmas.{stops_front, stops_behind}
+use Rattle.mm_keep.specs.{mm_store.Language.FilesView.{FilesView, plain}, mm_frame.Language.{Base.{BaseView, IsOfFiles, said_at}, Laws.{FilesHaveOneBase}}, mm_statement.Language.Item.{Item, passed}}
+use Rattle.mm_keep.specs.Language.{Laws.{ItemsHaveFindings}, Sessions.{SessionView, IsCount, IsFinding, IsLabelOfItem}, Told.{Told, IsRightlyTold, Counts, counts}}
+use Rattle.mm_script.specs.{declared.stream.Writing.{Writing}, Language.Stream.{written, Stops}}
+use Rattle.mm_report.specs.{Code.Written.{ToldUpTo, AreWrittenUpTo, AreAllWritten, FailsWithin}, Language.Report.{item_line, lines, names_of, report, summary, IsReport}}
+use Rattle.mm_report.proofs.{ReportLemmas.{lines_join, lines_push}, StreamLemmas.{stops_front, stops_behind}}
 
 -- ---- what is reported of the items, one after another
 

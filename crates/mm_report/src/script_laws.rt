@@ -1,7 +1,6 @@
 //! What holds of the answers of all scripts. Each function does nothing; what it promises is the law.
 
-ghost use Rattle.mm_report.specs.Language.ScriptLaws.{AnswersBegin, OneScriptAnswer};
-ghost use Rattle.mm_report.specs.Language.ScriptLaws.{HasScriptAnswer, IsWholeSession};
+ghost use Rattle.mm_report.specs.Language.ScriptLaws.{AnswersBegin, OneScriptAnswer, HasScriptAnswer, IsWholeSession};
 
 use mm_keep::Session;
 

@@ -1,18 +1,14 @@
 -- Batches whose edits are not all read, or that stop.
-use Rattle.std.proofs.Common.{◌≡◌, ◌≢◌, ℕ, ◌+◌, ◌-◌, ◌<◌, ◌≤◌, Bool, true, false, List, [], ◌∷◌, ◌++◌, append_assoc, length, take, drop, replicate, refl, sym, ap, ◌∙◌, subst, arith, Option, Some, None, IfSome}
-use Rattle.std.specs.List.{flat_map}
-use Rattle.std.specs.Io.KnownBytes.{IsAtEnd}
+use Rattle.std.proofs.Common.{◌≡◌, ◌≢◌, ℕ, ◌+◌, ◌-◌, ◌<◌, ◌≤◌, Bool, true, false, List, [], ◌∷◌, ◌++◌, append_assoc, length, take, drop, replicate, refl, sym, ap, ◌∙◌, subst, arith, Option, Some}
+use Rattle.std.proofs.Common.{None, IfSome}
 use Rattle.std.proofs.lemmas.List.{append-nil, length-drop, length-take, take-append-drop, take-append-le, drop_all}
-use Rattle.mm_script.specs.declared.input.Input.{Input}
-use Rattle.mm_script.specs.declared.script_lines.LineAt.{LineAt}
-use Rattle.mm_script.specs.Code.Batches.{IsBatchFront}
-use Rattle.mm_script.specs.Code.Growing.{InputGrows, HasBlanks, IsLineAt, IsTextBad, IsTextLine, IsTextShort, line_bytes}
-use Rattle.mm_script.specs.Language.Commands.{pending, StopsSo, HasNoEntry}
+use Rattle.std.specs.{List.{flat_map}, Io.KnownBytes.{IsAtEnd}}
+use Rattle.mm_script.specs.declared.{input.Input.{Input}, script_lines.LineAt.{LineAt}}
+use Rattle.mm_script.specs.Code.{Batches.{IsBatchFront}, Growing.{InputGrows, HasBlanks, IsLineAt, IsTextBad, IsTextLine, IsTextShort, line_bytes}}
 use Rattle.mm_script.specs.Code.Stops.{IsBadEditLine, IsOneLine, batch_bytes, batch_line}
+use Rattle.mm_script.specs.Language.{Commands.{pending, StopsSo, HasNoEntry}, Script.{CutShort, BadLine, IsGoodEdit, Listed, edit_line, listed_bytes}}
 use Rattle.mm_text.specs.Language.Asked.{Asked, edited_text}
-use Rattle.mm_script.specs.Language.Script.{CutShort, BadLine, IsGoodEdit, Listed, edit_line, listed_bytes}
-use Rattle.mm_script.proofs.EditLemmas.{fed_line, unfed_line}
-use Rattle.mm_script.proofs.GrowLemmas.{grows_not}
+use Rattle.mm_script.proofs.{EditLemmas.{fed_line, unfed_line}, GrowLemmas.{grows_not}}
 use Rattle.mm_script.proofs.StopLemmas.{batch_no_feed, batch_cut, batch_bad_line, batch_bad_last, batch_text_cut, batch_text_none, batch_text_line_cut, batch_text_bad, batch_edit_cut}
 
 -- if nothing is left

@@ -1,25 +1,16 @@
 -- The edits of a batch that are read, one after another.
-use Rattle.std.proofs.Common.{◌≡◌, ℕ, ◌+◌, ◌-◌, ◌<◌, ◌≤◌, Bool, true, false, List, [], ◌∷◌, ◌++◌, append_assoc, map, length, length-append, take, drop, replicate, refl, sym, ap, ◌∙◌, subst, arith, Option, None, inl, inr, IfSome, Contains}
-use Rattle.std.specs.List.{flat_map}
+use Rattle.std.proofs.Common.{◌≡◌, ℕ, ◌+◌, ◌-◌, ◌<◌, ◌≤◌, Bool, true, false, List, [], ◌∷◌, ◌++◌, append_assoc, map, length, length-append, take, drop, replicate, refl, sym, ap, ◌∙◌, subst, arith}
+use Rattle.std.proofs.Common.{Option, None, inl, inr, IfSome, Contains}
 use Rattle.std.proofs.lemmas.List.{append-nil, length-drop, length-map, map-append, take_at}
-use Rattle.std.proofs.lemmas.List.Concat.{flat_map-append}
-use Rattle.std.proofs.lemmas.List.Elements.{Contains-append_left, Contains-append_right, Contains-push, Contains-push_cases}
+use Rattle.std.proofs.lemmas.List.{Concat.{flat_map-append}, Elements.{Contains-append_left, Contains-append_right, Contains-push, Contains-push_cases}}
+use Rattle.std.specs.List.{flat_map}
 use Rattle.mm_text.specs.Language.Asked.{Asked, edited_text}
-use Rattle.mm_text.specs.Language.Asked as ask
-use Rattle.mm_script.specs.declared.entry.Complete.{Complete}
-use Rattle.mm_script.specs.declared.entry.EditAt.{EditAt}
-use Rattle.mm_script.specs.declared.entry.EditAt.TheVariants.{Insert, Replace, Delete, Move}
-use Rattle.mm_script.specs.declared.input.Input.{Input}
-use Rattle.mm_script.specs.declared.script_lines.LineAt.{LineAt}
-use Rattle.mm_script.specs.Code.Batches.{IsBatchRead, IsBatchFront, IsListedRead}
-use Rattle.mm_script.specs.Code.Growing.{InputGrows, IsLineAt, line_bytes}
+use Rattle.mm_script.specs.declared.{entry.{Complete.{Complete}, EditAt.{EditAt, TheVariants.{Insert, Replace, Delete, Move}}}, input.Input.{Input}, script_lines.LineAt.{LineAt}}
+use Rattle.mm_script.specs.Code.{Batches.{IsBatchRead, IsBatchFront, IsListedRead}, Growing.{InputGrows, IsLineAt, line_bytes}, Stops.{batch_bytes, batch_line}}
 use Rattle.mm_script.specs.Language.Commands.{pending, bytes_of_part, edit_in, AreEditsIn, IsEditWithin, StopsSo}
-use Rattle.mm_script.specs.Code.Stops.{batch_bytes, batch_line}
 use Rattle.mm_script.specs.Language.Script.{CutShort, Listed, AreGoodEdits, IsGoodEdit, IsNumber, LastInLine, edit_bytes, edit_line, ended_text, listed_bytes}
-use Rattle.mm_script.proofs.BatchLemmas.{at_end, batch_more, front_bytes}
-use Rattle.mm_script.proofs.EditLemmas.{bytes_grown, fed_line, unfed_line, within_grown}
-use Rattle.mm_script.proofs.GrowLemmas.{grows_not}
-use Rattle.mm_script.proofs.StopLemmas.{batch_line_cut}
+use Rattle.mm_script.proofs.{BatchLemmas.{at_end, batch_more, front_bytes}, EditLemmas.{bytes_grown, fed_line, unfed_line, within_grown}, GrowLemmas.{grows_not}, StopLemmas.{batch_line_cut}}
+use Rattle.mm_text.specs.Language.Asked as ask
 
 -- the parts of an edit are in the bytes as they grow
 pub edit_within_grown : (a b : Input) (u v : Option (List ℕ)) (k : EditAt) → InputGrows a b u v → IsEditWithin (pending a) k → IsEditWithin (pending b) k

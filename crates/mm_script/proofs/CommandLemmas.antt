@@ -1,22 +1,12 @@
 -- Commands that are read, from their lines on.
 use Rattle.std.proofs.Common.{◌≡◌, ◌⊎◌, ℕ, ◌+◌, Bool, true, false, List, [], ◌∷◌, ◌++◌, append_assoc, length, drop, refl, sym, ap, ◌∙◌, subst, arith, Option, inl, inr, IfSome, length-drop}
-use Rattle.std.specs.List.{flat_map}
-use Rattle.std.specs.Io.KnownBytes.{IsAtEnd}
 use Rattle.std.proofs.lemmas.List.Folds.{drop_split}
-use Rattle.mm_script.specs.declared.entry.EditAt.{EditAt}
-use Rattle.mm_script.specs.declared.entry.CommandAt.{CommandAt}
-use Rattle.mm_script.specs.declared.entry.Complete.{Complete}
-use Rattle.mm_script.specs.declared.entry.Part.{Part}
-use Rattle.mm_script.specs.declared.script_lines.LineAt.{LineAt}
-use Rattle.mm_script.specs.Code.Batches.{IsBatchRead}
-use Rattle.mm_script.specs.Code.Growing.{IsLineAt, IsTextBad, IsTextLine, IsTextShort, line_bytes}
-use Rattle.mm_script.specs.Code.Lines.{SaysLabel}
+use Rattle.std.specs.{List.{flat_map}, Io.KnownBytes.{IsAtEnd}}
+use Rattle.mm_script.specs.declared.{entry.{EditAt.{EditAt}, CommandAt.{CommandAt}, Complete.{Complete}, Part.{Part}}, script_lines.LineAt.{LineAt}}
+use Rattle.mm_script.specs.Code.{Batches.{IsBatchRead}, Growing.{IsLineAt, IsTextBad, IsTextLine, IsTextShort, line_bytes}, Lines.{SaysLabel}, Stops.{IsBadLine, batch_line}}
 use Rattle.mm_script.specs.Language.Commands.{bytes_of_part, AreEditsIn, IsCommandIn, IsNextCommand, IsWholeOrLast, IsPartWithin, StopsSo, HasNoEntry}
-use Rattle.mm_script.specs.Code.Stops.{IsBadLine, batch_line}
 use Rattle.mm_script.specs.Language.Script.{CutShort, BadLine, Command, Batch, IsGood, IsName, EndsInLine, IsNumber, Listed, behind_line, edit_line, line_of, listed_bytes}
-use Rattle.mm_script.proofs.BatchLemmas.{always, at_end}
-use Rattle.mm_script.proofs.BatchReadLemmas.{edits_counted}
-use Rattle.mm_script.proofs.EditLemmas.{IsShifted, shifted_is, shifted_within, unfed_line}
+use Rattle.mm_script.proofs.{BatchLemmas.{always, at_end}, BatchReadLemmas.{edits_counted}, EditLemmas.{IsShifted, shifted_is, shifted_within, unfed_line}}
 use Rattle.mm_script.proofs.StopLemmas.{bad_line, bad_last, text_cut, text_none, text_line_cut, text_bad}
 
 fed_bytes : (bytes : List ℕ) (left : Option (List ℕ)) (line : LineAt) → IsLineAt bytes left line → line.fed ≡ true → drop line.start bytes ≡ line_bytes bytes line ++ 10 ∷ drop (line.end + 1) bytes

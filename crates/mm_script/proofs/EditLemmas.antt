@@ -1,21 +1,15 @@
 -- Edits that are in the bytes of a script: their lines, and their texts.
-use Rattle.std.proofs.Common.{◌≡◌, ℕ, ◌+◌, ◌-◌, ◌≤◌, Bool, true, false, List, [], ◌∷◌, ◌++◌, append_assoc, length, take, drop, replicate, refl, sym, ap, ◌∙◌, subst, arith, Option, Some, None, codes, decimal, slice_range}
+use Rattle.std.proofs.Common.{◌≡◌, ℕ, ◌+◌, ◌-◌, ◌≤◌, Bool, true, false, List, [], ◌∷◌, ◌++◌, append_assoc, length, take, drop, replicate, refl, sym, ap, ◌∙◌, subst, arith, Option, Some, None, codes}
+use Rattle.std.proofs.Common.{decimal, slice_range}
+use Rattle.std.proofs.lemmas.List.{append-nil, length-drop, length-take, length-replicate, drop-drop, drop-take, take-take, drop_all, Folds.{drop_split}}
 use Rattle.std.specs.List.{join_with_byte}
-use Rattle.std.proofs.lemmas.List.{append-nil, length-drop, length-take, length-replicate, drop-drop, drop-take, take-take, drop_all}
-use Rattle.std.proofs.lemmas.List.Folds.{drop_split}
 use Rattle.mm_text.specs.Language.Asked.{Asked, edited_text}
-use Rattle.mm_text.specs.Language.Asked as ask
-use Rattle.mm_script.specs.declared.entry.EditAt.{EditAt}
-use Rattle.mm_script.specs.declared.entry.Part.{Part}
-use Rattle.mm_script.specs.declared.input.Input.{Input}
-use Rattle.mm_script.specs.declared.line.EditLine.TheVariants as lines
-use Rattle.mm_script.specs.declared.script_lines.LineAt.{LineAt}
-use Rattle.mm_script.specs.Code.Growing.{InputGrows, IsEditRead, IsLineAt, IsOtherByte, IsTextBad, IsTextLine, IsTextShort, line_bytes}
-use Rattle.mm_script.specs.Code.Lines.{SaysEdit}
-use Rattle.mm_script.specs.Language.Commands.{pending, bytes_of_part, edit_in, IsEditWithin, IsPartWithin}
-use Rattle.mm_script.specs.Code.Stops.{HasTextOf}
-use Rattle.mm_script.specs.Language.Script.{IsGoodEdit, IsNumber, edit_bytes, edit_line, ended_text}
+use Rattle.mm_script.specs.declared.{entry.{EditAt.{EditAt}, Part.{Part}}, input.Input.{Input}, script_lines.LineAt.{LineAt}}
+use Rattle.mm_script.specs.Code.{Growing.{InputGrows, IsEditRead, IsLineAt, IsOtherByte, IsTextBad, IsTextLine, IsTextShort, line_bytes}, Lines.{SaysEdit}, Stops.{HasTextOf}}
+use Rattle.mm_script.specs.Language.{Commands.{pending, bytes_of_part, edit_in, IsEditWithin, IsPartWithin}, Script.{IsGoodEdit, IsNumber, edit_bytes, edit_line, ended_text}}
 use Rattle.mm_script.proofs.GrowLemmas.{grown_long, part_grown, rest_grown}
+use Rattle.mm_text.specs.Language.Asked as ask
+use Rattle.mm_script.specs.declared.line.EditLine.TheVariants as lines
 
 -- a line asks for an edit with a text of this many bytes
 pub record AsksText (line : List ℕ) (count : ℕ) (edit : List ℕ → Asked) : Type 0 where

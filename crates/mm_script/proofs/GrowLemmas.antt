@@ -1,18 +1,12 @@
 -- Bytes that are read on keep what was in them.
-use Rattle.std.proofs.Common.{◌≡◌, ◌≢◌, ℕ, zero, suc, ◌+◌, ◌-◌, ◌<◌, ◌≤◌, true, false, List, [], ◌∷◌, ◌++◌, append_assoc, length, length-append, take, drop, replicate, refl, sym, ap, ◌∙◌, subst, arith, Option, ◌⊎◌, inl, inr}
-use Rattle.std.proofs.Common.{get_or, Result, Ok, Err, eq-eqb, eqb-true, ◌==◌, slice_index, slice_range}
-use Rattle.std.specs.Result.{IsErrAnd, IsErrOf}
-use Rattle.mm_script.specs.declared.script_lines.LineAt.{LineAt}
+use Rattle.std.proofs.Common.{◌≡◌, ◌≢◌, ℕ, zero, suc, ◌+◌, ◌-◌, ◌<◌, ◌≤◌, true, false, List, [], ◌∷◌, ◌++◌, append_assoc, length, length-append, take, drop, replicate, refl, sym, ap, ◌∙◌, subst}
+use Rattle.std.proofs.Common.{arith, Option, ◌⊎◌, inl, inr, get_or, Result, Ok, Err, eq-eqb, eqb-true, ◌==◌, slice_index, slice_range}
 use Rattle.std.proofs.KnownBytes.{Consumes-nil, Consumes-trans}
-use Rattle.std.proofs.lemmas.List.Folds.{drop_split}
-use Rattle.std.specs.Io.KnownBytes.{IsAtEnd}
-use Rattle.std.proofs.lemmas.List.{append-nil, length-drop, take-append-le, drop-append-le, drop-drop, drop_more, length-take-le, take-append-drop, take_all, take_rest}
+use Rattle.std.proofs.lemmas.List.{append-nil, length-drop, take-append-le, drop-append-le, drop-drop, drop_more, length-take-le, take-append-drop, take_all, take_rest, Folds.{drop_split}}
 use Rattle.std.proofs.Math.Seq.{take-add}
-use Rattle.mm_script.specs.declared.input.Input.{Input}
-use Rattle.mm_script.specs.declared.error.ScriptError.{ScriptError}
-use Rattle.mm_script.specs.Code.Growing.{InputGrows, HasBlanks, IsLineAt, IsOtherByte}
-use Rattle.mm_script.specs.Language.Commands.{pending, ReadsOn}
-use Rattle.mm_script.specs.Code.Stops.{IsOneLine}
+use Rattle.std.specs.{Result.{IsErrAnd, IsErrOf}, Io.KnownBytes.{IsAtEnd}}
+use Rattle.mm_script.specs.declared.{script_lines.LineAt.{LineAt}, input.Input.{Input}, error.ScriptError.{ScriptError}}
+use Rattle.mm_script.specs.{Code.{Growing.{InputGrows, HasBlanks, IsLineAt, IsOtherByte}, Stops.{IsOneLine}}, Language.Commands.{pending, ReadsOn}}
 
 pub grows_not : (a : Input) (u : Option (List ℕ)) → InputGrows a a u u
 grows_not a u = record { part = []; consumes = Consumes-nil u; are = sym (append-nil (pending a)) }

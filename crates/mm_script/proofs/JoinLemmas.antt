@@ -1,7 +1,6 @@
 -- What is read of a script after commands and empty lines that are read.
 use Rattle.std.proofs.Common.{◌≡◌, ◌⊎◌, ℕ, ◌+◌, ◌<◌, ◌≤◌, List, [], ◌∷◌, ◌++◌, length, length-append, refl, sym, ap, ◌∙◌, subst, inl, inr, arith, append_assoc, append-nil}
-use Rattle.std.proofs.lemmas.Bool.{cases_lt}
-use Rattle.std.proofs.lemmas.List.Concat.{flat_map-append}
+use Rattle.std.proofs.lemmas.{Bool.{cases_lt}, List.Concat.{flat_map-append}}
 use Rattle.mm_script.specs.Language.Commands.{HasNoEntry}
 use Rattle.mm_script.specs.Language.Script.{Command, Entry, Given, entry_bytes, entries_bytes, command_bytes, AreRead, HasEntries, IsLongestReading, IsReadSoFar, IsGood, EndsInLine}
 use Rattle.mm_script.proofs.ScriptLemmas.{IsBeginning, NoEntry, NoLast, blank_no, divisions_agree, entry_some, good_more, one_begins, read_less, read_more, reading_ended, reading_unended}

@@ -1,23 +1,15 @@
 -- What a line asks for is known from its first space on.
-use Rattle.std.proofs.Common.{◌≡◌, ◌≢◌, ◌⊎◌, ℕ, Bool, true, false, not, List, [], ◌∷◌, ◌++◌, length, length-append, take, refl, sym, ap, ◌∙◌, subst, arith, Option, Some, None, Result, Ok, inl, inr, take_at, eqb-true, ne_eqb, ◌==◌, codes, decimal}
-use Rattle.std.specs.List.{list_all}
-use Rattle.std.specs.Str.{IsUtf8, bytes_eq}
-use Rattle.std.proofs.lemmas.Slice.Eq.{bytes_eq-Decides}
-use Rattle.std.proofs.lemmas.Str.{IsUtf8-from_ascii}
-use Rattle.std.specs.Option.{is_some}
-use Rattle.std.specs.Str.Parse.{ParsesUnsigned}
-use Rattle.std.proofs.lemmas.Fmt.{parse-decimal, IsAscii-decimal}
-use Rattle.std.proofs.lemmas.Bool.{and_from}
+use Rattle.std.proofs.Common.{◌≡◌, ◌≢◌, ◌⊎◌, ℕ, Bool, true, false, not, List, [], ◌∷◌, ◌++◌, length, length-append, take, refl, sym, ap, ◌∙◌, subst, arith, Option, Some, None, Result, Ok, inl, inr}
+use Rattle.std.proofs.Common.{take_at, eqb-true, ne_eqb, ◌==◌, codes, decimal}
+use Rattle.std.proofs.lemmas.{Slice.Eq.{bytes_eq-Decides}, Str.{IsUtf8-from_ascii}, Fmt.{parse-decimal, IsAscii-decimal}, Bool.{and_from}}
+use Rattle.std.specs.{List.{list_all}, Str.{IsUtf8, bytes_eq, Parse.{ParsesUnsigned}}, Option.{is_some}}
 use Rattle.mm_text.specs.Language.Asked.{Asked}
-use Rattle.mm_text.specs.Language.Asked as ask
-use Rattle.mm_script.specs.declared.line.Verb.{Verb}
-use Rattle.mm_script.specs.declared.line.Verb.TheVariants.{Insert, Replace, Delete, Move, Batch, Verdict, Axioms, Cites, Users}
-use Rattle.mm_script.specs.Code.Lines.{CutsAt, HasNoSpace, IsFileAnd, IsFileAndTwo, verb_word}
-use Rattle.mm_script.specs.Code.Stops.{IsOneLine}
-use Rattle.mm_script.specs.Language.Script as commands
+use Rattle.mm_script.specs.declared.line.Verb.{Verb, TheVariants.{Insert, Replace, Delete, Move, Batch, Verdict, Axioms, Cites, Users}}
+use Rattle.mm_script.specs.Code.{Lines.{CutsAt, HasNoSpace, IsFileAnd, IsFileAndTwo, verb_word}, Stops.{IsOneLine}}
 use Rattle.mm_script.specs.Language.Script.{Command, Change, Report, IsName, IsNumber, edit_line, line_of, is_word_byte}
-use Rattle.mm_script.proofs.SplitLemmas.{Lacks, split_at, solid_space}
-use Rattle.mm_script.proofs.WordLemmas.{solid_decimal, small_number, both_not}
+use Rattle.mm_script.proofs.{SplitLemmas.{Lacks, split_at, solid_space}, WordLemmas.{solid_decimal, small_number, both_not}}
+use Rattle.mm_text.specs.Language.Asked as ask
+use Rattle.mm_script.specs.Language.Script as commands
 
 -- bytes of a line without a space are a name
 pub solid_by : (xs : List ℕ) → HasNoSpace xs → IsOneLine xs → list_all is_word_byte xs ≡ true

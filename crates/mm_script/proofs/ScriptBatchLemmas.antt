@@ -1,18 +1,16 @@
 -- A script that begins with the line of a batch and some of its edits.
-use Rattle.std.proofs.Common.{◌≡◌, ◌≢◌, ◌⊎◌, ℕ, zero, suc, ◌+◌, ◌-◌, ◌<◌, ◌≤◌, List, [], ◌∷◌, ◌++◌, length, length-append, replicate, refl, sym, ap, ◌∙◌, subst, inl, inr, arith, append_assoc, codes, decimal}
+use Rattle.std.proofs.Common.{◌≡◌, ◌≢◌, ◌⊎◌, ℕ, zero, suc, ◌+◌, ◌-◌, ◌<◌, ◌≤◌, List, [], ◌∷◌, ◌++◌, length, length-append, replicate, refl, sym, ap, ◌∙◌, subst, inl, inr, arith, append_assoc, codes}
+use Rattle.std.proofs.Common.{decimal}
+use Rattle.std.proofs.lemmas.{Bool.{cases_lt}, Fmt.{decimal_injective}, List.{append-nil, length-replicate, Concat.{flat_map-append}}}
 use Rattle.std.specs.List.{flat_map, join_with_byte}
-use Rattle.std.proofs.lemmas.Bool.{cases_lt}
-use Rattle.std.proofs.lemmas.Fmt.{decimal_injective}
-use Rattle.std.proofs.lemmas.List.{append-nil, length-replicate}
-use Rattle.std.proofs.lemmas.List.Concat.{flat_map-append}
 use Rattle.mm_text.specs.Language.Asked.{Asked, Delete, edited_text}
 use Rattle.mm_script.specs.Code.Stops.{AreListed, batch_line, batch_bytes}
-use Rattle.mm_script.specs.Language.Script.{Listed, Command, Change, Batch, AreGoodEdits, EndsInLine, IsCutShort, IsGood, IsGoodEdit, IsNoneOrLine, IsNumber, MayBreak, MissesEdits}
-use Rattle.mm_script.specs.Language.Script.{behind_line, edit_bytes, edit_line, ended_text, line_of, listed_bytes, command_words}
+use Rattle.mm_script.specs.Language.Script.{Listed, Command, Change, Batch, AreGoodEdits, EndsInLine, IsCutShort, IsGood, IsGoodEdit, IsNoneOrLine, IsNumber, MayBreak, MissesEdits, behind_line}
+use Rattle.mm_script.specs.Language.Script.{edit_bytes, edit_line, ended_text, line_of, listed_bytes, command_words}
 use Rattle.mm_script.proofs.SplitLemmas.{Lacks, join_lacks, not_inside}
-use Rattle.mm_script.proofs.WordLemmas.{AreSolid, BeginsEdits, edit_head, edit_tag, edits_begin, has_first, lack_feeds, listed_parts, same_blanks, same_words_by_line, small_number, solid_decimal, tag, words_solid}
-use Rattle.mm_script.proofs.ScriptLemmas.{NoEntry, NoLast}
-use Rattle.mm_script.proofs.ScriptLineLemmas.{no_entry_by, no_last_by, not_cut_by}
+use Rattle.mm_script.proofs.WordLemmas.{AreSolid, BeginsEdits, edit_head, edit_tag, edits_begin, has_first, lack_feeds, listed_parts, same_blanks, same_words_by_line, small_number, solid_decimal, tag}
+use Rattle.mm_script.proofs.WordLemmas.{words_solid}
+use Rattle.mm_script.proofs.{ScriptLemmas.{NoEntry, NoLast}, ScriptLineLemmas.{no_entry_by, no_last_by, not_cut_by}}
 
 -- ---- the line
 

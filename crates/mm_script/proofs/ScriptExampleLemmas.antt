@@ -5,10 +5,8 @@ use Rattle.mm_text.specs.Language.Asked.{Asked, Insert, Replace, Delete}
 use Rattle.mm_script.specs.Code.Stops.{AreListed, HasTextOf}
 use Rattle.mm_script.specs.Language.Commands.{StopsSo}
 use Rattle.mm_script.specs.Language.Script.{Command, Change, Batch, Report, Verdict, Axioms, Users, Blank, Given, End, CutShort, BadLine, IsGood, IsGoodEdit, IsName, edit_line, line_of}
-use Rattle.mm_script.specs.Language.ScriptExamples.{ReadsText, ReadsBatch, ReadsLastEdit, CutsText, CutsFeed, CutsLine, CutsBatch, EndsInEdit, EndsAtLine, EndsAtText}
-use Rattle.mm_script.specs.Language.ReadingLaws.{IsReadSo}
-use Rattle.mm_script.proofs.JoinLemmas.{reading_behind, reading_done, reading_last}
-use Rattle.mm_script.proofs.StopLemmas.{bad_line, batch_bad_last, batch_cut, text_bad, text_cut, text_line_cut}
+use Rattle.mm_script.specs.Language.{ScriptExamples.{ReadsText, ReadsBatch, ReadsLastEdit, CutsText, CutsFeed, CutsLine, CutsBatch, EndsInEdit, EndsAtLine, EndsAtText}, ReadingLaws.{IsReadSo}}
+use Rattle.mm_script.proofs.{JoinLemmas.{reading_behind, reading_done, reading_last}, StopLemmas.{bad_line, batch_bad_last, batch_cut, text_bad, text_cut, text_line_cut}}
 
 name_a : IsName (codes "a.mm")
 name_a = record { some = λ (e : codes "a.mm" ≡ []). cc; bytes = refl }

@@ -1,9 +1,7 @@
 -- The laws of readings.
 use Rattle.std.proofs.Common.{◌≡◌, ◌⊎◌, ℕ, List, [], ◌++◌, sym, inl, inr}
-use Rattle.mm_script.specs.Language.Script.{entries_bytes, IsLongestReading, LacksFeed}
-use Rattle.mm_script.specs.Language.ReadingLaws.{CommandsLeaveNothing, OneReading, OneEnd, ReadingGoesOn, OneReadSoFar}
-use Rattle.mm_script.proofs.ScriptLemmas.{goes_on, one_end, one_reading, one_so_far, reading_unended}
-use Rattle.mm_script.proofs.JoinLemmas.{reading_done}
+use Rattle.mm_script.specs.Language.{Script.{entries_bytes, IsLongestReading, LacksFeed}, ReadingLaws.{CommandsLeaveNothing, OneReading, OneEnd, ReadingGoesOn, OneReadSoFar}}
+use Rattle.mm_script.proofs.{ScriptLemmas.{goes_on, one_end, one_reading, one_so_far, reading_unended}, JoinLemmas.{reading_done}}
 
 pub readings : OneReading
 readings = one_reading

@@ -1,15 +1,11 @@
 -- How a script is divided: in one way; and when a division of it is its reading.
 use Rattle.std.proofs.Common.{◌≡◌, ◌⊎◌, ℕ, ◌+◌, ◌<◌, ◌≤◌, Option, Some, None, List, [], ◌∷◌, ◌++◌, length, length-append, replicate, refl, sym, ap, ◌∙◌, subst, inl, inr, arith, append_assoc}
+use Rattle.std.proofs.lemmas.{Bool.{cases_lt}, List.{append-nil, append_cancel_left, append_cancel_right, Concat.{flat_map-append}}}
 use Rattle.std.specs.List.{flat_map}
-use Rattle.std.proofs.lemmas.Bool.{cases_lt}
-use Rattle.std.proofs.lemmas.List.{append-nil, append_cancel_left, append_cancel_right}
-use Rattle.std.proofs.lemmas.List.Concat.{flat_map-append}
 use Rattle.mm_text.specs.Language.Asked.{edited_text}
-use Rattle.mm_script.specs.Language.Script.{Listed, Command, Change, Batch, Entry, Blank, Given, listed_bytes, edit_line, entry_bytes, IsGoodEntry, AreGood}
-use Rattle.mm_script.specs.Language.Script.{IsGood, entries_bytes, line_of, ended_text, behind_line, command_bytes, EndsInLine}
-use Rattle.mm_script.specs.Language.Script.{LacksFeed, HasEntries, IsLongestReading, AreRead, IsReadSoFar, IsCutShort, End, Done, CutShort, BadLine, EndsSo}
-use Rattle.mm_script.proofs.SplitLemmas.{split_at}
-use Rattle.mm_script.proofs.WordLemmas.{line_lacks_feed, same_first, line_some}
+use Rattle.mm_script.specs.Language.Script.{Listed, Command, Change, Batch, Entry, Blank, Given, listed_bytes, edit_line, entry_bytes, IsGoodEntry, AreGood, IsGood, entries_bytes, line_of, ended_text}
+use Rattle.mm_script.specs.Language.Script.{behind_line, command_bytes, EndsInLine, LacksFeed, HasEntries, IsLongestReading, AreRead, IsReadSoFar, IsCutShort, End, Done, CutShort, BadLine, EndsSo}
+use Rattle.mm_script.proofs.{SplitLemmas.{split_at}, WordLemmas.{line_lacks_feed, same_first, line_some}}
 
 pub blank_no : (d : Command) (s t : List ℕ) → IsGood d → 10 ∷ s ≡ command_bytes d ++ t → ⊥
 blank_no d s t h e =

@@ -1,16 +1,13 @@
 -- A script that begins with a line, and with no whole command.
 use Rattle.std.proofs.Common.{◌≡◌, ◌≢◌, ℕ, ◌+◌, ◌-◌, ◌≤◌, Some, List, [], ◌∷◌, ◌++◌, length, length-append, replicate, refl, sym, ap, ◌∙◌, subst, arith, append_assoc, codes, decimal}
+use Rattle.std.proofs.lemmas.{Fmt.{decimal_injective}, List.{append-nil, length-replicate}, Option.{same_Some, none-some}}
 use Rattle.std.specs.List.{join_with_byte}
-use Rattle.std.proofs.lemmas.Fmt.{decimal_injective}
-use Rattle.std.proofs.lemmas.List.{append-nil, length-replicate}
-use Rattle.std.proofs.lemmas.Option.{same_Some, none-some}
 use Rattle.mm_text.specs.Language.Asked.{Asked, Insert, Replace, Delete, Move, edited_text}
 use Rattle.mm_script.specs.Code.Stops.{HasTextOf}
 use Rattle.mm_script.specs.Language.Commands.{StopsSo}
-use Rattle.mm_script.specs.Language.Script.{Command, Change, Blank, Given, CutShort, BadLine, EndsInLine, MayBreak, IsCutShort, IsGood, IsGoodEdit, IsNumber}
-use Rattle.mm_script.specs.Language.Script.{behind_line, edit_line, edit_words, line_of, command_words}
-use Rattle.mm_script.proofs.SplitLemmas.{Lacks, not_inside, split_at}
-use Rattle.mm_script.proofs.WordLemmas.{edit_head, has_first, line_lacks_feed, same_words_by_line, small_number, tag, words_solid}
+use Rattle.mm_script.specs.Language.Script.{Command, Change, Blank, Given, CutShort, BadLine, EndsInLine, MayBreak, IsCutShort, IsGood, IsGoodEdit, IsNumber, behind_line, edit_line, edit_words}
+use Rattle.mm_script.specs.Language.Script.{line_of, command_words}
+use Rattle.mm_script.proofs.{SplitLemmas.{Lacks, not_inside, split_at}, WordLemmas.{edit_head, has_first, line_lacks_feed, same_words_by_line, small_number, tag, words_solid}}
 use Rattle.mm_script.proofs.ScriptLemmas.{NoEntry, NoLast, entry_ends, none_is_read}
 
 -- ---- bytes of one line

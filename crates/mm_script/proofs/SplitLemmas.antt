@@ -1,7 +1,6 @@
 -- Lists that are joined by a byte which none of them has.
-use Rattle.std.proofs.Common.{◌≡◌, ◌≢◌, ℕ, Bool, true, false, not, ◌&&◌, List, [], ◌∷◌, ◌++◌, refl, sym, ap, ◌==◌, IsTrue}
+use Rattle.std.proofs.{Common.{◌≡◌, ◌≢◌, ℕ, Bool, true, false, not, ◌&&◌, List, [], ◌∷◌, ◌++◌, refl, sym, ap, ◌==◌, IsTrue}, lemmas.Bool.{and_parts}}
 use Rattle.std.specs.List.{AllByRecursion, list_all, join_with_byte}
-use Rattle.std.proofs.lemmas.Bool.{and_parts}
 use Rattle.mm_script.specs.Language.Script.{is_word_byte}
 
 -- none of the bytes is this one

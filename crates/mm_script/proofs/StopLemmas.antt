@@ -1,19 +1,18 @@
 -- Where a script ends that begins with no whole command, and where it has to be read on.
 use Rattle.std.proofs.Common.{◌≡◌, ◌≢◌, ◌<◌, ◌≤◌, ◌+◌, ℕ, None, List, [], ◌∷◌, ◌++◌, length, length-append, replicate, refl, sym, ap, ◌∙◌, subst, inl, inr, arith, append_assoc}
-use Rattle.std.specs.List.{flat_map}
 use Rattle.std.proofs.lemmas.List.{append-nil, length-replicate, replicate_more}
+use Rattle.std.specs.List.{flat_map}
 use Rattle.mm_text.specs.Language.Asked.{Asked, edited_text}
 use Rattle.mm_script.specs.Code.Stops.{IsOneLine, IsBadLine, IsBadEditLine, HasTextOf, AreListed, batch_line, batch_bytes}
 use Rattle.mm_script.specs.Language.Commands.{StopsSo, HasNoEntry}
-use Rattle.mm_script.specs.Language.Script.{Command, Batch, Change, Listed, CutShort, BadLine, EndsInLine, IsCutShort, IsGood, IsGoodEdit, IsNumber, LastInLine, MayBreak}
-use Rattle.mm_script.specs.Language.Script.{behind_line, edit_bytes, edit_line, ended_text, line_of, listed_bytes}
+use Rattle.mm_script.specs.Language.Script.{Command, Batch, Change, Listed, CutShort, BadLine, EndsInLine, IsCutShort, IsGood, IsGoodEdit, IsNumber, LastInLine, MayBreak, behind_line, edit_bytes}
+use Rattle.mm_script.specs.Language.Script.{edit_line, ended_text, line_of, listed_bytes}
 use Rattle.mm_script.proofs.ScriptLemmas.{NoEntry, NoLast, none_is_read, none_so_far}
 use Rattle.mm_script.proofs.ScriptLineLemmas.{LacksWhole, HasTextBehind, WithText, edit_line_some, filled, filling, filling_ends, line_no_entry, line_no_last, line_not_cut, no_entry_by, no_last_by}
 use Rattle.mm_script.proofs.ScriptLineLemmas.{stops_bad, stops_bad_by, stops_cut, text_of_line, too_long, with_text}
 use Rattle.mm_script.proofs.ScriptBatchLemmas.{NextEdit, any_are_good, any_edit, any_good, any_listed, batch_by_line, batch_is_cut, batch_lacks, batch_no_entry, batch_no_last, batch_not_cut}
 use Rattle.mm_script.proofs.ScriptBatchLemmas.{feeds_no_line, inside, line_behind_feeds, listed_some, no_break}
-use Rattle.mm_script.proofs.SplitLemmas.{not_inside, split_at}
-use Rattle.mm_script.proofs.WordLemmas.{edit_lacks_feed, same_front}
+use Rattle.mm_script.proofs.{SplitLemmas.{not_inside, split_at}, WordLemmas.{edit_lacks_feed, same_front}}
 
 -- a bad line, with its line feed or as the last
 pub bad_line : (line more : List ℕ) → IsBadLine line → StopsSo (line ++ 10 ∷ more) BadLine

@@ -1,8 +1,6 @@
 -- The first words of lines that have more words.
 use Rattle.std.proofs.Common.{◌≢◌, ◌+◌, ◌<◌, ℕ, zero, suc, List, [], ◌∷◌, get_or, arith}
-use Rattle.mm_script.specs.declared.line.Verb.{Verb}
-use Rattle.mm_script.specs.declared.line.Verb.TheVariants.{Insert, Replace, Delete, Move, Batch, Verdict, Axioms, Cites, Users}
-use Rattle.mm_script.specs.Code.Lines.{verb_word}
+use Rattle.mm_script.specs.{declared.line.Verb.{Verb, TheVariants.{Insert, Replace, Delete, Move, Batch, Verdict, Axioms, Cites, Users}}, Code.Lines.{verb_word}}
 
 -- all of them
 abbrev pub verbs : List Verb

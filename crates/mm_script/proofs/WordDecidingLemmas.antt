@@ -1,21 +1,14 @@
 -- Whether bytes are the line of an edit or of a command.
 use Rattle.std.proofs.Common.{◌≡◌, ◌≢◌, ◌⊎◌, ℕ, ◌<◌, ◌≤◌, true, false, List, [], ◌∷◌, length, replicate, refl, sym, ap, ◌∙◌, subst, inl, inr, arith, All, codes, decimal}
-use Rattle.std.specs.List.{AllByRecursion, list_all, join_with_byte, slice_split}
-use Rattle.std.specs.Str.Parse.{digits_value}
-use Rattle.std.proofs.Math.Dec.{eqb}
-use Rattle.std.proofs.Math.Decide.{map_dec, ℕ_discrete}
+use Rattle.std.proofs.Math.{Dec.{eqb}, Decide.{map_dec, ℕ_discrete}, Bool.{Bool-discrete}}
+use Rattle.std.proofs.lemmas.{Bool.{cases_lt, ne_eqb}, Fmt.{decimal_is_IsNumeral}}
+use Rattle.std.proofs.lemmas.List.{length-replicate, Elements.{All-from_recursion}, Splits.{join_with_byte-slice_split, slice_split_none, slice_split_at}}
+use Rattle.std.specs.{List.{AllByRecursion, list_all, join_with_byte, slice_split}, Str.Parse.{digits_value}}
 use mathlib.Core.List.{List-discrete}
-use Rattle.std.proofs.lemmas.Bool.{cases_lt, ne_eqb}
-use Rattle.std.proofs.Math.Bool.{Bool-discrete}
-use Rattle.std.proofs.lemmas.Fmt.{decimal_is_IsNumeral}
-use Rattle.std.proofs.lemmas.List.{length-replicate}
-use Rattle.std.proofs.lemmas.List.Elements.{All-from_recursion}
-use Rattle.std.proofs.lemmas.List.Splits.{join_with_byte-slice_split, slice_split_none, slice_split_at}
 use Rattle.mm_text.specs.Language.Asked.{Asked, Insert, Replace, Delete, Move}
-use Rattle.mm_script.specs.Language.Script.{Command, Change, Batch, Report, Verdict, Axioms, Cites, Users, edit_line, edit_words, command_words, line_of, is_word_byte, IsName, IsNumber, IsGood, IsGoodEdit}
-use Rattle.mm_script.proofs.SplitLemmas.{Lacks}
-use Rattle.mm_script.proofs.WordLemmas.{words_solid, has_first, small_number, HasFirst, lack_spaces}
-use Rattle.mm_script.proofs.ScriptBatchLemmas.{any_are_good, any_listed}
+use Rattle.mm_script.specs.Language.Script.{Command, Change, Batch, Report, Verdict, Axioms, Cites, Users, edit_line, edit_words, command_words, line_of, is_word_byte, IsName, IsNumber, IsGood}
+use Rattle.mm_script.specs.Language.Script.{IsGoodEdit}
+use Rattle.mm_script.proofs.{SplitLemmas.{Lacks}, WordLemmas.{words_solid, has_first, small_number, HasFirst, lack_spaces}, ScriptBatchLemmas.{any_are_good, any_listed}}
 
 dec_and : {P Q : Type 0} → Dec P → Dec Q → Dec (P × Q)
 dec_and (yes p) (yes q) = yes (p, q)

@@ -1,13 +1,11 @@
 -- The words of commands, and what follows from equal bytes.
-use Rattle.std.proofs.Common.{◌≡◌, ◌≢◌, ◌⊎◌, ℕ, zero, suc, ◌+◌, ◌*◌, ◌^◌, ◌%◌, ◌<◌, ◌≤◌, Bool, true, false, not, ◌&&◌, List, [], ◌∷◌, ◌++◌, length, length-append, replicate, refl, sym, ap, ◌∙◌, subst, arith, append_assoc, inl, inr, ne_eqb}
-use Rattle.std.specs.Prelude.{codes, decimal, slice_index, slice_index_or}
-use Rattle.std.specs.List.{AllByRecursion, flat_map, list_all, join_with_byte}
-use Rattle.std.proofs.lemmas.List.{append-nil}
-use Rattle.std.proofs.lemmas.Fmt.{decimal_by_steps, decimal_injective}
-use Rattle.std.proofs.lemmas.Bool.{and_from, and_parts}
+use Rattle.std.proofs.Common.{◌≡◌, ◌≢◌, ◌⊎◌, ℕ, zero, suc, ◌+◌, ◌*◌, ◌^◌, ◌%◌, ◌<◌, ◌≤◌, Bool, true, false, not, ◌&&◌, List, [], ◌∷◌, ◌++◌, length, length-append, replicate, refl, sym, ap, ◌∙◌, subst}
+use Rattle.std.proofs.Common.{arith, append_assoc, inl, inr, ne_eqb}
+use Rattle.std.proofs.lemmas.{List.{append-nil}, Fmt.{decimal_by_steps, decimal_injective}, Bool.{and_from, and_parts}}
+use Rattle.std.specs.{Prelude.{codes, decimal, slice_index, slice_index_or}, List.{AllByRecursion, flat_map, list_all, join_with_byte}}
 use Rattle.mm_text.specs.Language.Asked.{Asked, Insert, Replace, Delete, Move, edited_text}
-use Rattle.mm_script.specs.Language.Script.{Listed, Command, Change, Report, Verdict, Axioms, Cites, Users, Batch, edit_line, listed_bytes, edit_words, command_words, line_of, ended_text, behind_line, command_bytes}
-use Rattle.mm_script.specs.Language.Script.{is_word_byte, IsName, IsNumber, IsGoodEdit, AreGoodEdits, IsGood}
+use Rattle.mm_script.specs.Language.Script.{Listed, Command, Change, Report, Verdict, Axioms, Cites, Users, Batch, edit_line, listed_bytes, edit_words, command_words, line_of, ended_text, behind_line}
+use Rattle.mm_script.specs.Language.Script.{command_bytes, is_word_byte, IsName, IsNumber, IsGoodEdit, AreGoodEdits, IsGood}
 use Rattle.mm_script.proofs.SplitLemmas.{Lacks, split_at, same_words, join_lacks, solid_space, solid_feed}
 
 -- a word has neither a space nor a line feed

@@ -1,15 +1,10 @@
 -- The words of a proof by their numbers among all words of the item.
 use Rattle.std.proofs.Common.{◌≡◌, ℕ, ◌+◌, ◌-◌, ◌≤◌, List, [], ◌∷◌, Option, Some, None, length, drop, slice_range, refl, sym, ◌∙◌, ap, arith, slice_get, MatchOption}
 use Rattle.std.proofs.lemmas.List.{drop-drop, length-map}
-use Rattle.mm_store.specs.mm_text.declared.word.Word.{Word}
-use Rattle.mm_store.specs.mm_text.Language.Unit.{Token, tokens_of}
+use Rattle.mm_store.specs.{mm_text.{declared.word.Word.{Word}, Language.Unit.{Token, tokens_of}}, Language.FilesView.{FilesView}}
+use Rattle.mm_statement.specs.Language.{Item.{Item}, Statement.{Says, kind_of, symbols_from, symbols_in}}
+use Rattle.mm_statement.proofs.{ListLemmas.{get_drop}, PieceLemmas.{IsTextOf}, SpokenLemmas.{behind_one}}
 use Rattle.mm_store.specs.declared.item.Item as store
-use Rattle.mm_store.specs.Language.FilesView.{FilesView}
-use Rattle.mm_statement.specs.Language.Item.{Item}
-use Rattle.mm_statement.specs.Language.Statement.{Says, kind_of, symbols_from, symbols_in}
-use Rattle.mm_statement.proofs.ListLemmas.{get_drop}
-use Rattle.mm_statement.proofs.PieceLemmas.{IsTextOf}
-use Rattle.mm_statement.proofs.SpokenLemmas.{behind_one}
 
 -- a word further
 pub left_more : (words left new : List Word) (n : ℕ) (word : Option Word) → left ≡ drop n words → MatchOption word ((left ≡ []) × (new ≡ [])) (λ w. left ≡ w ∷ new) → new ≡ drop (n + 1) words

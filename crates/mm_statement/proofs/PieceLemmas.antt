@@ -1,14 +1,9 @@
 -- What an item says is read from the text under its key, and items of one range of one piece say the same.
 use Rattle.std.proofs.Common.{◌≡◌, ℕ, ◌<◌, ◌≤◌, List, length, slice_range, sym, ap, ◌∙◌, subst}
-use Rattle.mm_store.specs.mm_text.declared.word.Word.{Word}
-use Rattle.mm_store.specs.mm_text.Language.Reading.{HasWords}
-use Rattle.mm_store.specs.mm_text.Language.Unit.{tokens_of}
+use Rattle.mm_store.specs.mm_text.{declared.word.Word.{Word}, Language.{Reading.{HasWords}, Unit.{tokens_of}}}
+use Rattle.mm_store.specs.Language.{FilesView.{FilesView}, FileFacts.{CanBeRead, IsLive}, Pieces.{text_in, text_under}}
+use Rattle.mm_statement.specs.Language.{Item.{Item}, Statement.{AreOneRange, Says, kind_of, item_of}}
 use Rattle.mm_store.specs.declared.item.Item as store
-use Rattle.mm_store.specs.Language.FilesView.{FilesView}
-use Rattle.mm_store.specs.Language.FileFacts.{CanBeRead, IsLive}
-use Rattle.mm_store.specs.Language.Pieces.{text_in, text_under}
-use Rattle.mm_statement.specs.Language.Item.{Item}
-use Rattle.mm_statement.specs.Language.Statement.{AreOneRange, Says, kind_of, item_of}
 
 -- what is read under the key of an item
 abbrev pub IsTextOf : FilesView → store.Item → List ℕ → Type 0

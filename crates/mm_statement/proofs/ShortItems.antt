@@ -1,16 +1,13 @@
 -- A text of two bytes has one word at most, so a mark of a block that has no more has no symbol.
-use Rattle.std.proofs.Common.{◌≡◌, ℕ, ◌+◌, ◌-◌, ◌≤◌, Bool, true, false, Option, None, List, [], ◌∷◌, ◌++◌, length, drop, flat_map, refl, sym, ap, ◌∙◌, arith, slice_range, length-append, length-take, le_refl}
+use Rattle.std.proofs.Common.{◌≡◌, ℕ, ◌+◌, ◌-◌, ◌≤◌, Bool, true, false, Option, None, List, [], ◌∷◌, ◌++◌, length, drop, flat_map, refl, sym, ap, ◌∙◌, arith, slice_range, length-append, length-take}
+use Rattle.std.proofs.Common.{le_refl}
+use Rattle.std.proofs.lemmas.{List.{length-map}, Bool.{false≢true}}
 use Rattle.std.specs.Prelude.{if◌then◌else◌}
-use Rattle.std.proofs.lemmas.List.{length-map}
-use Rattle.std.proofs.lemmas.Bool.{false≢true}
 use Rattle.mm_store.specs.mm_text.declared.word.Word.{Word}
-use Rattle.mm_store.specs.mm_text.Language.Reading.{HasWords, Segment, Single, Comment, segment_runs, segment_words}
-use Rattle.mm_store.specs.mm_text.Language.Run.{Run, runs, is_white, with_front}
-use Rattle.mm_store.specs.mm_text.Language.Unit.{Token, token_of, tokens_of}
-use Rattle.mm_store.specs.declared.item.Item as store
+use Rattle.mm_store.specs.mm_text.Language.{Reading.{HasWords, Segment, Single, Comment, segment_runs, segment_words}, Run.{Run, runs, is_white, with_front}, Unit.{Token, token_of, tokens_of}}
 use Rattle.mm_store.specs.Language.FilesView.{FilesView}
-use Rattle.mm_statement.specs.Language.Item.{Item, is_labelled}
-use Rattle.mm_statement.specs.Language.Statement.{Says, kind_of, plain_from, token_names}
+use Rattle.mm_statement.specs.Language.{Item.{Item, is_labelled}, Statement.{Says, kind_of, plain_from, token_names}}
+use Rattle.mm_store.specs.declared.item.Item as store
 
 -- two bytes are one run at most
 abbrev one_run : ℕ → ℕ → Bool → List Run

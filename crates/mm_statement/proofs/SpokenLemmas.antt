@@ -1,17 +1,11 @@
 -- The words of a statement between its keywords, read one by one.
-use Rattle.std.proofs.Common.{◌≡◌, ℕ, zero, suc, ◌+◌, ◌<◌, ◌≤◌, Bool, true, false, cond, if◌then◌else◌, List, [], ◌∷◌, ◌++◌, Option, Some, None, length, map, take, drop, refl, sym, ◌∙◌, ap, subst, arith, append_assoc, length-append}
-use Rattle.std.specs.Prelude.{slice_get, MatchOption}
-use Rattle.std.specs.Option.{option_map}
-use Rattle.std.specs.List.{AllByRecursion, flat_map, prefix_len}
-use Rattle.std.proofs.lemmas.List.{drop-map, drop-drop, take-map, append-nil, length-drop, length-map, length-take}
-use Rattle.std.proofs.lemmas.Simd.{map-map}
-use Rattle.mm_store.specs.mm_text.declared.word.Word.{Word}
-use Rattle.mm_store.specs.mm_text.declared.word.WordKind.TheVariants.{Plain}
-use Rattle.mm_store.specs.mm_text.Language.WordsLeft.{SkipsPlainWords}
-use Rattle.mm_store.specs.mm_text.Language.Unit.{Token, token_of, tokens_of, spellings}
-use Rattle.mm_statement.specs.Language.Item.{Kind, Item, is_labelled}
+use Rattle.std.proofs.Common.{◌≡◌, ℕ, zero, suc, ◌+◌, ◌<◌, ◌≤◌, Bool, true, false, cond, if◌then◌else◌, List, [], ◌∷◌, ◌++◌, Option, Some, None, length, map, take, drop, refl, sym, ◌∙◌, ap, subst}
+use Rattle.std.proofs.Common.{arith, append_assoc, length-append}
+use Rattle.std.proofs.lemmas.{List.{drop-map, drop-drop, take-map, append-nil, length-drop, length-map, length-take}, Simd.{map-map}}
+use Rattle.std.specs.{Prelude.{slice_get, MatchOption}, Option.{option_map}, List.{AllByRecursion, flat_map, prefix_len}}
+use Rattle.mm_store.specs.mm_text.{declared.word.{Word.{Word}, WordKind.TheVariants.{Plain}}, Language.{WordsLeft.{SkipsPlainWords}, Unit.{Token, token_of, tokens_of, spellings}}}
+use Rattle.mm_statement.specs.Language.{Item.{Kind, Item, is_labelled}, Statement.{is_plain_kind, is_plain, token_names, plain_from, symbols_from, symbols_in, proof_in, label_in, item_of}}
 use Rattle.mm_statement.specs.Code.PlainWords.{AreFewWords, TakesLabel, word_bytes, plain_words, plain_bytes}
-use Rattle.mm_statement.specs.Language.Statement.{is_plain_kind, is_plain, token_names, plain_from, symbols_from, symbols_in, proof_in, label_in, item_of}
 
 prefix_len-map : {X Y : Type 0} (f : X → Y) (p : Y → Bool) (xs : List X) → prefix_len p (map f xs) ≡ prefix_len (λ x. p (f x)) xs
 prefix_len-map f p [] = refl

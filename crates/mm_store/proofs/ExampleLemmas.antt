@@ -1,23 +1,15 @@
 -- The worked examples of files, by computing.
-use Rattle.std.proofs.Common.{◌≡◌, ℕ, ◌+◌, ◌==◌, true, not, List, [], ◌∷◌, length, get_or, None, refl, ◌∙◌, codes, Contains, inl, inr, arith, append-nil}
-use Rattle.std.specs.List.{flat_map, list_all}
-use Rattle.std.specs.Str.{bytes_eq}
-use Rattle.std.proofs.lemmas.List.Sums.{AllPass-from_list_all}
-use Rattle.mm_text.specs.declared.word.Keyword.{Keyword}
-use Rattle.mm_text.specs.declared.word.Keyword.TheVariants.{Constants, Variables, StatementEnd, InclusionStart, InclusionEnd}
-use Rattle.mm_text.specs.declared.word.Word.{Word}
-use Rattle.mm_text.specs.declared.word.WordKind.TheVariants as kinds
-use Rattle.mm_text.specs.Language.Run.{Run, runs, is_white}
-use Rattle.mm_text.specs.Language.Spelling.{spelling}
-use Rattle.mm_text.specs.Language.Reading.{Segment, Single, segment_runs, HasWords, first_bad, is_allowed}
-use Rattle.mm_text.specs.Language.Unit.{token_of, tokens_of, Shape, Declaration, Inclusion, IsShape, shape_tokens, Nothing, Simple}
-use Rattle.mm_text.specs.Language.Part.{shape_part}
-use Rattle.mm_text.specs.declared.part.PartKind.TheVariants as parts
+use Rattle.std.proofs.{Common.{◌≡◌, ℕ, ◌+◌, ◌==◌, true, not, List, [], ◌∷◌, length, get_or, None, refl, ◌∙◌, codes, Contains, inl, inr, arith, append-nil}, lemmas.List.Sums.{AllPass-from_list_all}}
+use Rattle.std.specs.{List.{flat_map, list_all}, Str.{bytes_eq}}
+use Rattle.mm_text.specs.declared.word.{Keyword.{Keyword, TheVariants.{Constants, Variables, StatementEnd, InclusionStart, InclusionEnd}}, Word.{Word}}
+use Rattle.mm_text.specs.Language.{Run.{Run, runs, is_white}, Spelling.{spelling}, Reading.{Segment, Single, segment_runs, HasWords, first_bad, is_allowed}}
+use Rattle.mm_text.specs.Language.{Unit.{token_of, tokens_of, Shape, Declaration, Inclusion, IsShape, shape_tokens, Nothing, Simple}, Part.{shape_part}}
 use Rattle.mm_store.specs.declared.item.Item.{Item}
-use Rattle.mm_store.specs.declared.item.ItemKind.TheVariants as items
-use Rattle.mm_store.specs.Language.FilesView.{FileView, PieceView, key_of}
-use Rattle.mm_store.specs.Language.Expansion.{Placed, placed_part, included_name, ArePartsOf, ArePlaced, Expands, nothing, own, again, missing, included}
+use Rattle.mm_store.specs.Language.{FilesView.{FileView, PieceView, key_of}, Expansion.{Placed, placed_part, included_name, ArePartsOf, ArePlaced, Expands, nothing, own, again, missing, included}}
 use Rattle.mm_store.specs.Language.Examples.{piece, item, ring, RingGivesThree}
+use Rattle.mm_text.specs.declared.word.WordKind.TheVariants as kinds
+use Rattle.mm_text.specs.declared.part.PartKind.TheVariants as parts
+use Rattle.mm_store.specs.declared.item.ItemKind.TheVariants as items
 
 no_dollar : (bytes : List ℕ) → list_all (λ b. not (b == 36)) bytes ≡ true → ¬ Contains bytes 36
 no_dollar bytes all there =

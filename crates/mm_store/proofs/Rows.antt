@@ -1,10 +1,7 @@
 -- A small case of the definition: a file that includes another twice, a missing one twice, and itself.
 use Rattle.std.proofs.Common.{◌≡◌, ℕ, zero, suc, ◌<◌, List, [], ◌∷◌, length, get_or, refl, arith, Contains}
-use Rattle.mm_text.specs.declared.part.PartKind.{PartKind}
-use Rattle.mm_text.specs.declared.part.PartKind.TheVariants.{Inclusion, Axiom}
-use Rattle.mm_store.specs.declared.item.Item.{Item}
-use Rattle.mm_store.specs.Language.FilesView.{FileView}
-use Rattle.mm_store.specs.Language.Expansion.{Placed, placed_item, Expands, nothing, own, again, missing, included}
+use Rattle.mm_text.specs.declared.part.PartKind.{PartKind, TheVariants.{Inclusion, Axiom}}
+use Rattle.mm_store.specs.{declared.item.Item.{Item}, Language.{FilesView.{FileView}, Expansion.{Placed, placed_item, Expands, nothing, own, again, missing, included}}}
 
 abbrev named : ℕ → List ℕ
 named byte = byte ∷ []

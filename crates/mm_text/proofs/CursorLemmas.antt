@@ -1,20 +1,11 @@
 -- The words that are left to a cursor.
-use Rattle.std.proofs.Common.{◌≡◌, ℕ, zero, suc, ◌+◌, ◌-◌, ◌<◌, ◌≤◌, List, [], ◌∷◌, ◌++◌, Some, None, Ok, Err, length, get_or, refl, sym, ap, ◌∙◌, append_assoc, arith, length-append, slice_get, slice_range, Option, IfNone, IfSome, MatchOption}
+use Rattle.std.proofs.Common.{◌≡◌, ℕ, zero, suc, ◌+◌, ◌-◌, ◌<◌, ◌≤◌, List, [], ◌∷◌, ◌++◌, Some, None, Ok, Err, length, get_or, refl, sym, ap, ◌∙◌, append_assoc, arith, length-append, slice_get}
+use Rattle.std.proofs.Common.{slice_range, Option, IfNone, IfSome, MatchOption}
 use Rattle.std.specs.List.{AllByRecursion, flat_map}
-use Rattle.mm_text.specs.declared.word.Word.{Word}
-use Rattle.mm_text.specs.declared.fault.TextFault.{TextFault}
-use Rattle.mm_text.specs.Language.Reading.{AreWords, HasWords, LiesIn, AreWithin}
-use Rattle.mm_text.specs.Language.Unit.{spellings}
-use Rattle.mm_text.specs.declared.word.WordKind.TheVariants.{Plain}
-use Rattle.mm_text.specs.Code.LeftToRight.{read_runs}
-use Rattle.mm_text.specs.Language.Run.{Run, runs}
-use Rattle.mm_text.specs.Code.Reader.{runs_at, TakesWord, SkipsPlain}
-use Rattle.mm_text.specs.Language.WordsLeft.{SkipsPlainWords}
-use Rattle.mm_text.specs.Code.Cursor.{words_read, words_from, AreLast}
-use Rattle.mm_text.proofs.ReadingLemmas.{read_words, read_whole}
-use Rattle.mm_text.proofs.SkipLemmas.{plain_words, are_plain_words, read_on}
-use Rattle.mm_text.proofs.ReaderLemmas.{slice_length, word_read}
-use Rattle.mm_text.proofs.NthLemmas.{first_word}
+use Rattle.mm_text.specs.declared.{word.{Word.{Word}, WordKind.TheVariants.{Plain}}, fault.TextFault.{TextFault}}
+use Rattle.mm_text.specs.Language.{Reading.{AreWords, HasWords, LiesIn, AreWithin}, Unit.{spellings}, Run.{Run, runs}, WordsLeft.{SkipsPlainWords}}
+use Rattle.mm_text.specs.Code.{LeftToRight.{read_runs}, Reader.{runs_at, TakesWord, SkipsPlain}, Cursor.{words_read, words_from, AreLast}}
+use Rattle.mm_text.proofs.{ReadingLemmas.{read_words, read_whole}, SkipLemmas.{plain_words, are_plain_words, read_on}, ReaderLemmas.{slice_length, word_read}, NthLemmas.{first_word}}
 use Rattle.mm_text.proofs.PositionLemmas.{Lying, words_lie, are_within, nth_lies}
 
 -- before the first word all are left

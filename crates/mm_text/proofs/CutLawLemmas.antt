@@ -1,31 +1,23 @@
 -- A text has one cut at most, one first fault at most, and never both; and a text whose cut has one piece holds one unit.
-use Rattle.std.proofs.Common.{◌≡◌, ◌⊎◌, ℕ, zero, suc, Bool, ◌+◌, ◌-◌, ◌<◌, ◌≤◌, ◌||◌, true, List, [], ◌∷◌, ◌++◌, append_assoc, map, length, take, drop, get_or, slice_get, Some, None, Ok, Err, refl, sym, ap, ◌∙◌, subst, inl, inr, arith}
-use Rattle.std.specs.List.{concat, AllPass}
+use Rattle.std.proofs.Common.{◌≡◌, ◌⊎◌, ℕ, zero, suc, Bool, ◌+◌, ◌-◌, ◌<◌, ◌≤◌, ◌||◌, true, List, [], ◌∷◌, ◌++◌, append_assoc, map, length, take, drop, get_or, slice_get, Some, None, Ok, Err, refl}
+use Rattle.std.proofs.Common.{sym, ap, ◌∙◌, subst, inl, inr, arith}
 use Rattle.std.proofs.Math.Seq.{take-append_seam, drop-append_seam}
-use Rattle.std.proofs.lemmas.Bool.{false≢true}
-use Rattle.std.proofs.lemmas.List.{append-nil, map-append, append_cancel_left, take-append-le, drop-append-le, length-append, get_or-append_right}
-use Rattle.std.proofs.lemmas.List.Elements.{All-take, All-append}
+use Rattle.std.proofs.lemmas.{Bool.{false≢true}, List.{append-nil, map-append, append_cancel_left, take-append-le, drop-append-le, length-append, get_or-append_right, Elements.{All-take, All-append}}}
 use Rattle.std.proofs.lemmas.Option.{slice_get_within}
-use Rattle.mm_text.specs.declared.word.Word.{Word}
-use Rattle.mm_text.specs.declared.fault.TextFault.{TextFault}
-use Rattle.mm_text.specs.declared.fault.TextNumber.{TextNumber}
-use Rattle.mm_text.specs.declared.fault.TextNumber.TheVariants.{T01, T02, T03, T04, T05, T07, T08}
-use Rattle.mm_text.specs.Language.Run.{Run, runs, runs_from, is_white, ends_run}
-use Rattle.mm_text.specs.Language.Reading.{is_allowed, first_bad, AreWords, HasWords, AreViableRuns, IsWordsFaultAt}
-use Rattle.mm_text.specs.Language.Unit as units
+use Rattle.std.specs.List.{concat, AllPass}
+use Rattle.mm_text.specs.declared.{word.Word.{Word}, fault.{TextFault.{TextFault}, TextNumber.{TextNumber, TheVariants.{T01, T02, T03, T04, T05, T07, T08}}}}
+use Rattle.mm_text.specs.Language.{Run.{Run, runs, runs_from, is_white, ends_run}, Reading.{is_allowed, first_bad, AreWords, HasWords, AreViableRuns, IsWordsFaultAt}}
 use Rattle.mm_text.specs.Language.Unit.{Token, token_of, tokens_of, Shape, shape_tokens, Units, Nothing, Simple, Block, unit_tokens, AreUnits, IsViable, IsUnitFault}
-use Rattle.mm_text.specs.Code.UnitReading as m
-use Rattle.mm_text.specs.Code.LeftToRight.{Read, read_runs, with_words, words_fault_at, read_text}
 use Rattle.mm_text.specs.Language.Cut.{ends_white, ended, IsOne, end_of_words, HoldsOne, IsPiece, BeginsSolid, ArePieces, IsCut, HoldWords, StopsWords, StopsUnits, IsFirstFaultAt, IsFirstFault}
 use Rattle.mm_text.specs.Language.Part.{HasUnits}
-use Rattle.mm_text.proofs.ReadingLemmas.{closer, closer_closes, close_step, read_whole, read_words, same_words, text_words, text_fault}
-use Rattle.mm_text.proofs.ReaderLemmas.{in_comment, words-append}
-use Rattle.mm_text.proofs.PositionLemmas.{Lying, words_lie}
-use Rattle.mm_text.proofs.UnitReadingLemmas.{run-append, run-IsViable, IsWhole-run, run-IsWhole}
-use Rattle.mm_text.proofs.UnitFaultLemmas.{cut_twice, viable_front, not_viable_all, block_viable, one_stop, one_unit_fault, whole_has_no_fault}
-use Rattle.mm_text.proofs.UnitDivisionLemmas.{one_division}
+use Rattle.mm_text.specs.Code.LeftToRight.{Read, read_runs, with_words, words_fault_at, read_text}
+use Rattle.mm_text.proofs.{ReadingLemmas.{closer, closer_closes, close_step, read_whole, read_words, same_words, text_words, text_fault}, ReaderLemmas.{in_comment, words-append}}
+use Rattle.mm_text.proofs.{PositionLemmas.{Lying, words_lie}, UnitReadingLemmas.{run-append, run-IsViable, IsWhole-run, run-IsWhole}}
+use Rattle.mm_text.proofs.{UnitFaultLemmas.{cut_twice, viable_front, not_viable_all, block_viable, one_stop, one_unit_fault, whole_has_no_fault}, UnitDivisionLemmas.{one_division}}
 use Rattle.mm_text.proofs.PieceLemmas.{runs-append, shift_run, shift_word, runs-shift, words-shift, line_end, ended_is, runs-ended, ended_white}
 use Rattle.mm_text.proofs.PieceUnitLemmas.{one_words, allowed_all, all_allowed, bare, tokens-shift, tokens-front, run_bare, WholeRun}
+use Rattle.mm_text.specs.Language.Unit as units
+use Rattle.mm_text.specs.Code.UnitReading as m
 
 -- ---- two texts, one after another
 

@@ -1,29 +1,20 @@
 -- What the loop of `cut` keeps.
-use Rattle.std.proofs.Common.{◌≡◌, ◌≢◌, ◌⊎◌, ℕ, ◌+◌, ◌-◌, ◌<◌, ◌≤◌, true, inl, inr, List, [], ◌∷◌, ◌++◌, append_assoc, map, length, take, drop, None, Ok, Err, refl, sym, ap, ◌∙◌, subst, ⊎_elim, arith, slice_range}
-use Rattle.std.specs.List.{concat, prefix_len}
+use Rattle.std.proofs.Common.{◌≡◌, ◌≢◌, ◌⊎◌, ℕ, ◌+◌, ◌-◌, ◌<◌, ◌≤◌, true, inl, inr, List, [], ◌∷◌, ◌++◌, append_assoc, map, length, take, drop, None, Ok, Err, refl, sym, ap, ◌∙◌, subst, ⊎_elim, arith}
+use Rattle.std.proofs.Common.{slice_range}
 use Rattle.std.proofs.lemmas.Bool.{cases_lt}
+use Rattle.std.proofs.lemmas.List.{append-nil, map-append, take-append-drop, take-append-le, length-append, length-map, length-take-le, take_all, nil_from_length, Folds.{concat-append}}
 use Rattle.std.proofs.Math.Seq.{take-append-add}
-use Rattle.std.proofs.lemmas.List.{append-nil, map-append, take-append-drop, take-append-le, length-append, length-map, length-take-le, take_all, nil_from_length}
-use Rattle.std.proofs.lemmas.List.Folds.{concat-append}
-use Rattle.mm_text.specs.declared.word.Word.{Word}
-use Rattle.mm_text.specs.declared.fault.TextNumber.{TextNumber}
-use Rattle.mm_text.specs.declared.fault.TextNumber.TheVariants.{T07, T08}
-use Rattle.mm_text.specs.Language.Run.{Run, runs, runs_from, is_white}
-use Rattle.mm_text.specs.Language.Reading.{AreWords, HasWords, LiesIn, first_bad}
-use Rattle.mm_text.specs.Language.Unit.{Token, token_of, tokens_of}
-use Rattle.mm_text.specs.Code.UnitReading as m
-use Rattle.mm_text.specs.Code.Grammar.{first_behind, blocks_behind, is_within}
-use Rattle.mm_text.specs.Code.Reader.{runs_at, TakesWord, FailsBehind, SkipsPlain}
+use Rattle.std.specs.List.{concat, prefix_len}
+use Rattle.mm_text.specs.declared.{word.Word.{Word}, fault.TextNumber.{TextNumber, TheVariants.{T07, T08}}}
+use Rattle.mm_text.specs.Language.{Run.{Run, runs, runs_from, is_white}, Reading.{AreWords, HasWords, LiesIn, first_bad}, Unit.{Token, token_of, tokens_of}}
 use Rattle.mm_text.specs.Language.Cut.{ended, IsPiece, BeginsSolid, ArePieces, IsCut, IsFirstFaultAt}
-use Rattle.mm_text.proofs.LayoutLemmas.{laid_out}
-use Rattle.mm_text.proofs.PositionLemmas.{Standing, standing_front, Lying, runs_stand, parts_lie}
-use Rattle.mm_text.proofs.ReadingLemmas.{none_read}
-use Rattle.mm_text.proofs.ReaderLemmas.{words-append, fails_more, first_of_words}
-use Rattle.mm_text.proofs.SkipLemmas.{plain_words, are_plain_words, plain_tokens}
-use Rattle.mm_text.proofs.UnitReadingLemmas.{run-append, run-IsViable}
+use Rattle.mm_text.specs.Code.{Grammar.{first_behind, blocks_behind, is_within}, Reader.{runs_at, TakesWord, FailsBehind, SkipsPlain}}
+use Rattle.mm_text.proofs.{LayoutLemmas.{laid_out}, PositionLemmas.{Standing, standing_front, Lying, runs_stand, parts_lie}, ReadingLemmas.{none_read}}
+use Rattle.mm_text.proofs.{ReaderLemmas.{words-append, fails_more, first_of_words}, SkipLemmas.{plain_words, are_plain_words, plain_tokens}, UnitReadingLemmas.{run-append, run-IsViable}}
 use Rattle.mm_text.proofs.GrammarLemmas.{Stands, stands_none, stands_more, stands_plain, stands_unit, stands_block, plain_run, is_no_begin, first_of_units}
 use Rattle.mm_text.proofs.PieceLemmas.{shift_word, runs-shift, words_unshift, runs-ended}
 use Rattle.mm_text.proofs.PieceUnitLemmas.{allowed-ended, allowed_rest, solid_ended, WholeRun, white_within, rest_solid, rest_ended, runs_behind, piece_is}
+use Rattle.mm_text.specs.Code.UnitReading as m
 
 -- ---- where words are
 

@@ -1,31 +1,16 @@
 -- What the loop of `divided_cut` keeps of the parts of the piece that it reads.
-use Rattle.std.proofs.Common.{◌≡◌, ℕ, ◌+◌, ◌-◌, ◌≤◌, zero, suc, Bool, true, false, List, [], ◌∷◌, ◌++◌, append_assoc, map, length, take, drop, Option, None, Some, Result, Ok, refl, sym, ap, ◌∙◌, subst, arith}
-use Rattle.std.specs.Prelude.{slice_range, unwrap_or, if◌then◌else◌}
-use Rattle.std.specs.List.{AllByRecursion, prefix_len}
+use Rattle.std.proofs.Common.{◌≡◌, ℕ, ◌+◌, ◌-◌, ◌≤◌, zero, suc, Bool, true, false, List, [], ◌∷◌, ◌++◌, append_assoc, map, length, take, drop, Option, None, Some, Result, Ok, refl, sym, ap, ◌∙◌}
+use Rattle.std.proofs.Common.{subst, arith}
 use Rattle.std.proofs.lemmas.List.{append-nil, map-append, take_rest}
-use Rattle.mm_text.specs.declared.division.PartReading.{PartReading}
-use Rattle.mm_text.specs.declared.part.Part.{Part}
-use Rattle.mm_text.specs.declared.part.PartKind.{PartKind}
-use Rattle.mm_text.specs.declared.fault.TextNumber.{TextNumber}
-use Rattle.mm_text.specs.declared.word.Word.{Word}
-use Rattle.mm_text.specs.declared.word.WordKind.{WordKind}
+use Rattle.std.specs.{Prelude.{slice_range, unwrap_or, if◌then◌else◌}, List.{AllByRecursion, prefix_len}}
+use Rattle.mm_text.specs.declared.{division.PartReading.{PartReading}, part.{Part.{Part}, PartKind.{PartKind}}, fault.TextNumber.{TextNumber}}
+use Rattle.mm_text.specs.declared.word.{Word.{Word}, WordKind.{WordKind}, Keyword.TheVariants.{BlockStart, BlockEnd, StatementEnd, InclusionEnd}}
+use Rattle.mm_text.specs.Language.{Run.{Run, is_white}, Reading.{AreWords, LiesIn, first_bad}, Unit.{Token, token_of, tokens_of, IsPlain}, Cut.{ended}, Part.{HasParts, token_end, word_part}}
+use Rattle.mm_text.specs.Code.{Grammar.{phase_of, is_within}, PartReading.{ends_part, emit, parts_behind, open_behind, TakesPartWord}, Reader.{runs_at, TakesWord, SkipsPlain}}
+use Rattle.mm_text.proofs.{GrammarLemmas.{is_no_begin}, PartLemmas.{made_part, emit_symbols, whole_parts}, PieceUnitLemmas.{unshift, piece_spells, runs_behind}}
+use Rattle.mm_text.proofs.{ReaderLemmas.{words-append, slice_length}, ReadingLemmas.{none_read}, SkipLemmas.{plain_words, are_plain_words, plain_tokens}}
 use Rattle.mm_text.specs.declared.word.WordKind.TheVariants as kinds
-use Rattle.mm_text.specs.declared.word.Keyword.TheVariants.{BlockStart, BlockEnd, StatementEnd, InclusionEnd}
-use Rattle.mm_text.specs.Language.Run.{Run, is_white}
-use Rattle.mm_text.specs.Language.Reading.{AreWords, LiesIn, first_bad}
-use Rattle.mm_text.specs.Language.Unit.{Token, token_of, tokens_of, IsPlain}
-use Rattle.mm_text.specs.Language.Cut.{ended}
-use Rattle.mm_text.specs.Language.Part.{HasParts, token_end, word_part}
 use Rattle.mm_text.specs.Code.UnitReading as m
-use Rattle.mm_text.specs.Code.Grammar.{phase_of, is_within}
-use Rattle.mm_text.specs.Code.PartReading.{ends_part, emit, parts_behind, open_behind, TakesPartWord}
-use Rattle.mm_text.specs.Code.Reader.{runs_at, TakesWord, SkipsPlain}
-use Rattle.mm_text.proofs.GrammarLemmas.{is_no_begin}
-use Rattle.mm_text.proofs.PartLemmas.{made_part, emit_symbols, whole_parts}
-use Rattle.mm_text.proofs.PieceUnitLemmas.{unshift, piece_spells, runs_behind}
-use Rattle.mm_text.proofs.ReaderLemmas.{words-append, slice_length}
-use Rattle.mm_text.proofs.ReadingLemmas.{none_read}
-use Rattle.mm_text.proofs.SkipLemmas.{plain_words, are_plain_words, plain_tokens}
 
 -- ---- words inside a statement
 

@@ -1,21 +1,12 @@
 -- What the steps of `cut` do to what its loop keeps.
-use Rattle.std.proofs.Common.{◌≡◌, ℕ, ◌+◌, ◌-◌, ◌≤◌, Bool, List, [], ◌∷◌, ◌++◌, length, take, drop, None, Ok, Err, sym, ap, ◌∙◌, subst, arith, slice_range}
+use Rattle.std.proofs.{Common.{◌≡◌, ℕ, ◌+◌, ◌-◌, ◌≤◌, Bool, List, [], ◌∷◌, ◌++◌, length, take, drop, None, Ok, Err, sym, ap, ◌∙◌, subst, arith, slice_range}, lemmas.List.{take_rest}}
 use Rattle.std.specs.List.{prefix_len}
-use Rattle.std.proofs.lemmas.List.{take_rest}
-use Rattle.mm_text.specs.declared.grammar.Grammar.{Grammar}
-use Rattle.mm_text.specs.declared.word.Word.{Word}
-use Rattle.mm_text.specs.declared.fault.TextError.{TextError}
-use Rattle.mm_text.specs.declared.fault.TextError.TheVariants as errors
-use Rattle.mm_text.specs.declared.fault.TextNumber.{TextNumber}
-use Rattle.mm_text.specs.declared.fault.TextNumber.TheVariants.{T07, T08}
-use Rattle.mm_text.specs.Language.Run.{is_white}
-use Rattle.mm_text.specs.Language.Reading.{AreWords, LiesIn, first_bad}
-use Rattle.mm_text.specs.Language.Unit.{token_of}
-use Rattle.mm_text.specs.Code.UnitReading as m
-use Rattle.mm_text.specs.Code.Grammar.{phase_of, first_behind, blocks_behind, TakesUnit, GrammarTakes, EndsWith}
-use Rattle.mm_text.specs.Code.Reader.{runs_at, TakesWord}
-use Rattle.mm_text.specs.Language.Cut.{ended, IsCut, IsFirstFaultAt, IsCutError}
+use Rattle.mm_text.specs.declared.{grammar.Grammar.{Grammar}, word.Word.{Word}, fault.{TextError.{TextError}, TextNumber.{TextNumber, TheVariants.{T07, T08}}}}
+use Rattle.mm_text.specs.Language.{Run.{is_white}, Reading.{AreWords, LiesIn, first_bad}, Unit.{token_of}, Cut.{ended, IsCut, IsFirstFaultAt, IsCutError}}
+use Rattle.mm_text.specs.Code.{Grammar.{phase_of, first_behind, blocks_behind, TakesUnit, GrammarTakes, EndsWith}, Reader.{runs_at, TakesWord}}
 use Rattle.mm_text.proofs.CutLemmas.{Progress, word_lies, units_fault, unit_end, block_end, cut_end, progress_more, progress_piece}
+use Rattle.mm_text.specs.declared.fault.TextError.TheVariants as errors
+use Rattle.mm_text.specs.Code.UnitReading as m
 
 step_to : (step : m.UnitStep) (next : m.Phase) → phase_of step ≡ Ok next → (depth : ℕ) × (step ≡ Ok (m.phase_state next depth))
 step_to (Ok s) next e = let same : s.0 ≡ next = cc in (s.1, ap (λ (p : m.Phase). Ok (m.phase_state p s.1)) same)

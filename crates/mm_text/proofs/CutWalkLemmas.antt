@@ -1,32 +1,16 @@
 -- Each text has its cut or its first fault: what `cut` does, without its code.
 use Rattle.std.proofs.Common.{◌≡◌, ◌≢◌, ◌⊎◌, ℕ, zero, suc, ◌+◌, ◌-◌, ◌<◌, ◌≤◌, List, [], ◌∷◌, ◌++◌, length, take, drop, Option, Some, None, Ok, Err, refl, sym, ap, ◌∙◌, inl, inr, arith, slice_range}
-use Rattle.std.specs.List.{prefix_len}
-use Rattle.std.specs.Str.{bytes_eq}
-use Rattle.std.proofs.lemmas.Bool.{cases_Bool, false≢true}
-use Rattle.std.proofs.lemmas.List.{take_rest, length-drop}
-use Rattle.std.proofs.lemmas.List.Sums.{prefix_len-le-length}
-use Rattle.mm_text.specs.declared.reader.Span.{Span}
-use Rattle.mm_text.specs.declared.word.Word.{Word}
-use Rattle.mm_text.specs.declared.word.WordKind.{WordKind}
-use Rattle.mm_text.specs.declared.fault.TextFault.{TextFault}
-use Rattle.mm_text.specs.declared.fault.TextNumber.{TextNumber}
-use Rattle.mm_text.specs.declared.fault.TextNumber.TheVariants.{T01, T02, T03, T04, T05, T07, T08}
-use Rattle.mm_text.specs.Language.Run.{is_white, is_solid}
-use Rattle.mm_text.specs.Language.Spelling.{opening, closing}
-use Rattle.mm_text.specs.Language.Reading.{AreWords, first_bad}
-use Rattle.mm_text.specs.Language.Unit.{token_of}
-use Rattle.mm_text.specs.Code.UnitReading as m
-use Rattle.mm_text.specs.Code.LeftToRight.{word_kind, holds_mark, words_fault_at}
-use Rattle.mm_text.specs.Code.Grammar.{first_behind, blocks_behind}
+use Rattle.std.proofs.lemmas.{Bool.{cases_Bool, false≢true}, List.{take_rest, length-drop, Sums.{prefix_len-le-length}}}
+use Rattle.std.specs.{List.{prefix_len}, Str.{bytes_eq}}
+use Rattle.mm_text.specs.declared.{reader.Span.{Span}, word.{Word.{Word}, WordKind.{WordKind}}, fault.{TextFault.{TextFault}, TextNumber.{TextNumber, TheVariants.{T01, T02, T03, T04, T05, T07, T08}}}}
+use Rattle.mm_text.specs.Language.{Run.{is_white, is_solid}, Spelling.{opening, closing}, Reading.{AreWords, first_bad}, Unit.{token_of}, Cut.{ended, IsCut, IsFirstFault}}
+use Rattle.mm_text.specs.Code.{LeftToRight.{word_kind, holds_mark, words_fault_at}, Grammar.{first_behind, blocks_behind}}
 use Rattle.mm_text.specs.Code.Reader.{runs_at, TakesSpan, SkipsComment, FailsInside, TakesWord, FailsBehind}
-use Rattle.mm_text.specs.Language.Cut.{ended, IsCut, IsFirstFault}
-use Rattle.mm_text.proofs.KindLemmas.{mark_stands, stands_mark}
-use Rattle.mm_text.proofs.RunLemmas.{no_run, white_at, takes_run}
-use Rattle.mm_text.proofs.ReadingLemmas.{is_from, not_from}
+use Rattle.mm_text.proofs.{KindLemmas.{mark_stands, stands_mark}, RunLemmas.{no_run, white_at, takes_run}, ReadingLemmas.{is_from, not_from}}
 use Rattle.mm_text.proofs.ReaderLemmas.{Skipping, skip_none, skip_more, skip_end, skip_fault, skip_open, Passing, pass_none, pass_end, pass_word, pass_close, pass_dollar, pass_comment, pass_fails}
-use Rattle.mm_text.proofs.UnitScanLemmas.{is_begin}
-use Rattle.mm_text.proofs.GrammarLemmas.{last_of}
+use Rattle.mm_text.proofs.{UnitScanLemmas.{is_begin}, GrammarLemmas.{last_of}}
 use Rattle.mm_text.proofs.CutLemmas.{Progress, progress_start, progress_more, progress_piece, words_fault, units_fault, unit_end, block_end, cut_end}
+use Rattle.mm_text.specs.Code.UnitReading as m
 
 -- ---- the next run
 

@@ -1,24 +1,16 @@
 -- What a grammar keeps: the state of the machine, where the unit that is being read begins, and the open blocks.
-use Rattle.std.proofs.Common.{true, ◌≡◌, ◌≢◌, ◌⊎◌, ℕ, zero, suc, ◌+◌, ◌-◌, ◌<◌, ◌≤◌, List, [], ◌∷◌, ◌++◌, append_assoc, length, take, drop, slice_get, Some, None, Ok, Err, refl, sym, ap, ◌∙◌, subst, inl, inr, ⊎_elim, arith}
+use Rattle.std.proofs.Common.{true, ◌≡◌, ◌≢◌, ◌⊎◌, ℕ, zero, suc, ◌+◌, ◌-◌, ◌<◌, ◌≤◌, List, [], ◌∷◌, ◌++◌, append_assoc, length, take, drop, slice_get, Some, None, Ok, Err, refl, sym, ap, ◌∙◌, subst}
+use Rattle.std.proofs.Common.{inl, inr, ⊎_elim, arith}
 use Rattle.std.proofs.Math.Seq.{take-append_seam, drop-append-add}
+use Rattle.std.proofs.lemmas.{Bool.{cases_lt, false≢true}, List.{append-nil, map-append, length-append, length-map, take-append-le, length-take-le, take_all}}
 use Rattle.std.specs.List.{AllByRecursion}
-use Rattle.std.proofs.lemmas.Bool.{cases_lt, false≢true}
-use Rattle.std.proofs.lemmas.List.{append-nil, map-append, length-append, length-map, take-append-le, length-take-le, take_all}
-use Rattle.mm_text.specs.declared.word.Word.{Word}
-use Rattle.mm_text.specs.declared.word.WordKind.{WordKind}
-use Rattle.mm_text.specs.declared.word.WordKind.TheVariants as kinds
-use Rattle.mm_text.specs.declared.word.Keyword.TheVariants.{BlockStart, BlockEnd}
-use Rattle.mm_text.specs.declared.fault.TextNumber.{TextNumber}
-use Rattle.mm_text.specs.declared.fault.TextNumber.TheVariants.{T06, T09, T10, T11, T12}
-use Rattle.mm_text.specs.Language.Run.{Run, runs}
-use Rattle.mm_text.specs.Language.Reading.{AreWords, first_bad}
-use Rattle.mm_text.specs.Language.Unit.{Token, IsKeyword, IsPlain, EndsInUnit, EndsInBlock, token_of, tokens_of}
-use Rattle.mm_text.specs.Code.UnitReading as m
-use Rattle.mm_text.specs.Code.Grammar.{first_behind, blocks_behind, is_within}
-use Rattle.mm_text.specs.Code.BlockCounts.{is_start_word, is_end_word, starts, ends}
-use Rattle.mm_text.specs.Language.Cut.{StopsUnits, IsFirstFaultAt}
+use Rattle.mm_text.specs.declared.{word.{Word.{Word}, WordKind.{WordKind}, Keyword.TheVariants.{BlockStart, BlockEnd}}, fault.TextNumber.{TextNumber, TheVariants.{T06, T09, T10, T11, T12}}}
+use Rattle.mm_text.specs.Language.{Run.{Run, runs}, Reading.{AreWords, first_bad}, Unit.{Token, IsKeyword, IsPlain, EndsInUnit, EndsInBlock, token_of, tokens_of}, Cut.{StopsUnits, IsFirstFaultAt}}
+use Rattle.mm_text.specs.Code.{Grammar.{first_behind, blocks_behind, is_within}, BlockCounts.{is_start_word, is_end_word, starts, ends}}
 use Rattle.mm_text.proofs.UnitFaultLemmas.{run_push, stop_at, ends_in_unit, ends_in_block, Covered, covered-append, covered_drop, starts-append, ends-append, start_counts, end_counts}
 use Rattle.mm_text.proofs.UnitScanLemmas.{Counts, step_counts, is_begin, slice_get_at}
+use Rattle.mm_text.specs.declared.word.WordKind.TheVariants as kinds
+use Rattle.mm_text.specs.Code.UnitReading as m
 
 -- ---- open blocks
 

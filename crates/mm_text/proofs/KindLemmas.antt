@@ -1,15 +1,15 @@
 -- Kinds of words, and marks, against how they are spelled.
-use Rattle.std.proofs.Common.{◌≡◌, ℕ, suc, zero, ◌<◌, ◌≤◌, true, false, not, cond, eqb, ◌||◌, List, [], ◌∷◌, length, get_or, drop, Option, IfSome, Some, None, Contains, refl, sym, ap, ◌∙◌, subst, arith, inl, inr, ◌⊎◌, eq-eqb}
-use Rattle.std.specs.List.{list_any, prefix_len}
-use Rattle.std.specs.Prelude.{option_map, ◌==◌}
+use Rattle.std.proofs.Common.{◌≡◌, ℕ, suc, zero, ◌<◌, ◌≤◌, true, false, not, cond, eqb, ◌||◌, List, [], ◌∷◌, length, get_or, drop, Option, IfSome, Some, None, Contains, refl, sym, ap, ◌∙◌, subst}
+use Rattle.std.proofs.Common.{arith, inl, inr, ◌⊎◌, eq-eqb}
 use Rattle.std.proofs.lemmas.Bool.{cases_Bool, cond-false, eqb-true, ne_eqb, false≢true, or_left, or_right, or_cases, and_parts, false_from_ne_true, not-true}
+use Rattle.std.specs.{List.{list_any, prefix_len}, Prelude.{option_map, ◌==◌}}
 use Rattle.mm_text.specs.declared.word.Keyword.{Keyword}
-use Rattle.mm_text.specs.declared.word.Keyword.TheVariants.{BlockStart, BlockEnd, Constants, Variables, Floating, Essential, Disjoint, Axiom, Theorem, StatementEnd, ProofStart, InclusionStart, InclusionEnd}
+use Rattle.mm_text.specs.declared.word.Keyword.TheVariants.{BlockStart, BlockEnd, Constants, Variables, Floating, Essential, Disjoint, Axiom, Theorem, StatementEnd, ProofStart, InclusionStart}
+use Rattle.mm_text.specs.declared.word.Keyword.TheVariants.{InclusionEnd}
 use Rattle.mm_text.specs.declared.word.WordKind.{WordKind}
-use Rattle.mm_text.specs.declared.word.WordKind.TheVariants as kinds
-use Rattle.mm_text.specs.Language.Run.{is_white, is_solid, ends_run}
-use Rattle.mm_text.specs.Language.Spelling.{spelling, IsSpelled, HoldsMark, HasBytesAt, opening, closing}
+use Rattle.mm_text.specs.Language.{Run.{is_white, is_solid, ends_run}, Spelling.{spelling, IsSpelled, HoldsMark, HasBytesAt, opening, closing}}
 use Rattle.mm_text.specs.Code.LeftToRight.{keyword_at, plain_unless, word_kind, is_mark, holds_mark, has_dollar}
+use Rattle.mm_text.specs.declared.word.WordKind.TheVariants as kinds
 
 -- ---- a `$` somewhere
 

@@ -1,9 +1,7 @@
 -- The computed runs are the runs of the layout, and no others are.
-use Rattle.std.proofs.Common.{◌≡◌, ℕ, ◌+◌, ◌<◌, true, false, List, [], ◌∷◌, ◌++◌, length, refl, sym, ap, ◌∙◌, subst, arith, inl, inr, append-nil}
+use Rattle.std.proofs.{Common.{◌≡◌, ℕ, ◌+◌, ◌<◌, true, false, List, [], ◌∷◌, ◌++◌, length, refl, sym, ap, ◌∙◌, subst, arith, inl, inr, append-nil}, lemmas.Bool.{cases_Bool, false≢true}}
 use Rattle.std.specs.List.{AllByRecursion}
-use Rattle.std.proofs.lemmas.Bool.{cases_Bool, false≢true}
-use Rattle.mm_text.specs.Language.Run.{Run, is_white, ends_run, with_front, runs_from}
-use Rattle.mm_text.specs.Language.Layout.{IsGap, IsLaidOut}
+use Rattle.mm_text.specs.Language.{Run.{Run, is_white, ends_run, with_front, runs_from}, Layout.{IsGap, IsLaidOut}}
 
 gap_more : (at b : ℕ) (bytes : List ℕ) (runs : List Run) → is_white b ≡ true → IsLaidOut (at + 1) bytes runs → IsLaidOut at (b ∷ bytes) runs
 gap_more at b bytes [] white h = (white, h)

@@ -1,8 +1,7 @@
 -- The n-th word, found by reading on.
 use Rattle.std.proofs.Common.{◌≡◌, ℕ, zero, suc, ◌+◌, ◌<◌, ◌≤◌, List, [], ◌∷◌, Option, Some, None, Ok, Err, drop, length, refl, sym, ap, ◌∙◌, arith, slice_get, MatchOption, drop-drop, length-drop}
 use Rattle.std.proofs.lemmas.Option.{slice_get_past}
-use Rattle.mm_text.specs.declared.word.Word.{Word}
-use Rattle.mm_text.specs.Code.LeftToRight.{Read, cons_word}
+use Rattle.mm_text.specs.{declared.word.Word.{Word}, Code.LeftToRight.{Read, cons_word}}
 
 -- what is read after the first word
 pub first_word : (old new : Read) (word : Word) (rest : List Word) → old ≡ cons_word word new → old ≡ Ok rest → (more : List Word) × (rest ≡ word ∷ more) × (new ≡ Ok more)

@@ -1,20 +1,13 @@
 -- A text without what comes before its first word and after its last has the same words.
-use Rattle.std.proofs.Common.{◌≡◌, ℕ, zero, suc, ◌+◌, ◌-◌, ◌<◌, ◌≤◌, true, List, [], ◌∷◌, ◌++◌, append_assoc, length, map, drop, None, Ok, Err, refl, sym, ap, ◌∙◌, subst, inl, inr, arith, slice_range, append-nil, length-append, take-append-drop}
+use Rattle.std.proofs.Common.{◌≡◌, ℕ, zero, suc, ◌+◌, ◌-◌, ◌<◌, ◌≤◌, true, List, [], ◌∷◌, ◌++◌, append_assoc, length, map, drop, None, Ok, Err, refl, sym, ap, ◌∙◌, subst, inl, inr, arith, slice_range}
+use Rattle.std.proofs.Common.{append-nil, length-append, take-append-drop}
 use Rattle.mm_text.specs.declared.word.Word.{Word}
-use Rattle.mm_text.specs.Language.Run.{runs, ends_run}
-use Rattle.mm_text.specs.Language.Reading.{HasWords, LiesIn}
+use Rattle.mm_text.specs.Language.{Run.{runs, ends_run}, Reading.{HasWords, LiesIn}}
 use Rattle.mm_text.specs.Language.Unit.{Token, token_of, tokens_of, spellings, Shape, Declaration, Labelled, Provable, Inclusion, shape_tokens, Nothing, Simple}
-use Rattle.mm_text.specs.Language.Part.{HasUnits, token_end, shape_part}
-use Rattle.mm_text.specs.Language.Cut.{end_of_words}
-use Rattle.mm_text.specs.Code.LeftToRight.{read_runs, words_fault_at}
-use Rattle.mm_text.specs.Code.Reader.{runs_at, TakesWord}
-use Rattle.mm_text.proofs.ReadingLemmas.{read_words, same_words}
-use Rattle.mm_text.proofs.ReaderLemmas.{pass_none, slice_length, word_read, fails_read}
-use Rattle.mm_text.proofs.PieceLemmas.{shift_word}
-use Rattle.mm_text.proofs.PieceUnitLemmas.{bare, ends_at_last, tokens-shift}
-use Rattle.mm_text.proofs.PositionLemmas.{Lying, words_lie}
-use Rattle.mm_text.proofs.CutWalkLemmas.{Given, word_from}
-use Rattle.mm_text.proofs.NthLemmas.{first_word}
+use Rattle.mm_text.specs.Language.{Part.{HasUnits, token_end, shape_part}, Cut.{end_of_words}}
+use Rattle.mm_text.specs.Code.{LeftToRight.{read_runs, words_fault_at}, Reader.{runs_at, TakesWord}}
+use Rattle.mm_text.proofs.{ReadingLemmas.{read_words, same_words}, ReaderLemmas.{pass_none, slice_length, word_read, fails_read}, PieceLemmas.{shift_word}}
+use Rattle.mm_text.proofs.{PieceUnitLemmas.{bare, ends_at_last, tokens-shift}, PositionLemmas.{Lying, words_lie}, CutWalkLemmas.{Given, word_from}, NthLemmas.{first_word}}
 use Rattle.mm_text.proofs.PartLemmas.{Begun, begun_first, begun_more, begun_words}
 
 bytes_bare : (tokens : List Token) → map (λ token. token.bytes) (map bare tokens) ≡ map (λ token. token.bytes) tokens

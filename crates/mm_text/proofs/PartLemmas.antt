@@ -1,31 +1,22 @@
 -- The parts that are found word by word are those of the units.
-use Rattle.std.proofs.Common.{◌≡◌, ◌⊎◌, ℕ, ◌-◌, ◌+◌, ◌<◌, ◌≤◌, Bool, true, false, List, [], ◌∷◌, ◌++◌, append_assoc, length, map, drop, Option, Some, None, Ok, Err, All, refl, sym, ap, ◌∙◌, subst, inl, inr, arith, slice_range}
-use Rattle.std.proofs.Common.{unwrap_or, if◌then◌else◌}
+use Rattle.std.proofs.Common.{◌≡◌, ◌⊎◌, ℕ, ◌-◌, ◌+◌, ◌<◌, ◌≤◌, Bool, true, false, List, [], ◌∷◌, ◌++◌, append_assoc, length, map, drop, Option, Some, None, Ok, Err, All, refl, sym, ap, ◌∙◌, subst}
+use Rattle.std.proofs.Common.{inl, inr, arith, slice_range, unwrap_or, if◌then◌else◌}
+use Rattle.std.proofs.{lemmas.List.{append-nil, take-append-drop, append_cancel_right, drop-drop, length-append, length-map, Elements.{All-nil, All-cons, All-append}}, Math.Bool.{or-true}}
 use Rattle.std.specs.List.{AllByRecursion}
-use Rattle.std.proofs.lemmas.List.{append-nil, take-append-drop, append_cancel_right, drop-drop, length-append, length-map}
-use Rattle.std.proofs.lemmas.List.Elements.{All-nil, All-cons, All-append}
-use Rattle.std.proofs.Math.Bool.{or-true}
-use Rattle.mm_text.specs.declared.part.Part.{Part}
-use Rattle.mm_text.specs.declared.part.PartKind.{PartKind}
-use Rattle.mm_text.specs.declared.part.PartKind.TheVariants as parts
-use Rattle.mm_text.specs.declared.word.Word.{Word}
-use Rattle.mm_text.specs.declared.word.WordKind.{WordKind}
-use Rattle.mm_text.specs.declared.word.WordKind.TheVariants as kinds
-use Rattle.mm_text.specs.declared.word.Keyword.TheVariants.{BlockStart, BlockEnd, Constants, Variables, Disjoint, Floating, Essential, Axiom, Theorem, StatementEnd, ProofStart, InclusionStart, InclusionEnd}
+use Rattle.mm_text.specs.declared.part.{Part.{Part}, PartKind.{PartKind}}
+use Rattle.mm_text.specs.declared.word.{Word.{Word}, WordKind.{WordKind}}
+use Rattle.mm_text.specs.declared.word.Keyword.TheVariants.{BlockStart, BlockEnd, Constants, Variables, Disjoint, Floating, Essential, Axiom, Theorem, StatementEnd, ProofStart, InclusionStart}
+use Rattle.mm_text.specs.declared.word.Keyword.TheVariants.{InclusionEnd}
 use Rattle.mm_text.specs.declared.fault.TextNumber.{TextNumber}
-use Rattle.mm_text.specs.Language.Run.{Run, runs, runs_from, ends_run}
-use Rattle.mm_text.specs.Language.Reading.{first_bad, AreWords, HasWords}
-use Rattle.mm_text.specs.Language.Unit.{Token, token_of, tokens_of, IsKeyword, IsPlain, Shape, Declaration, Labelled, Provable, Inclusion, shape_tokens, IsShape, Units, Nothing, Simple, Block, unit_tokens, AreUnits}
-use Rattle.mm_text.specs.Code.LeftToRight.{Read, read_runs, words_fault_at}
-use Rattle.mm_text.specs.Code.Reader.{runs_at, run_between, TakesWord, FailsBehind}
-use Rattle.mm_text.specs.Language.Cut.{ends_white, IsPiece, ArePieces}
-use Rattle.mm_text.specs.Language.Part.{HasUnits, token_end, part, word_part, shape_part, parts_of, IsReadable}
-use Rattle.mm_text.specs.Code.PartReading.{ends_part, emit_word, emit}
-use Rattle.mm_text.proofs.ReadingLemmas.{none_read, word_step, read_words}
-use Rattle.mm_text.proofs.ReaderLemmas.{words-append, slice_length, word_read, fails_read}
-use Rattle.mm_text.proofs.PieceLemmas.{Seam, runs-append, shift_run, shift_word, runs-shift, words_unshift}
-use Rattle.mm_text.proofs.PieceUnitLemmas.{allowed_part}
-use Rattle.mm_text.proofs.NthLemmas.{first_word}
+use Rattle.mm_text.specs.Language.{Run.{Run, runs, runs_from, ends_run}, Reading.{first_bad, AreWords, HasWords}}
+use Rattle.mm_text.specs.Language.Unit.{Token, token_of, tokens_of, IsKeyword, IsPlain, Shape, Declaration, Labelled, Provable, Inclusion, shape_tokens, IsShape, Units, Nothing, Simple, Block}
+use Rattle.mm_text.specs.Language.Unit.{unit_tokens, AreUnits}
+use Rattle.mm_text.specs.Language.{Cut.{ends_white, IsPiece, ArePieces}, Part.{HasUnits, token_end, part, word_part, shape_part, parts_of, IsReadable}}
+use Rattle.mm_text.specs.Code.{LeftToRight.{Read, read_runs, words_fault_at}, Reader.{runs_at, run_between, TakesWord, FailsBehind}, PartReading.{ends_part, emit_word, emit}}
+use Rattle.mm_text.proofs.{ReadingLemmas.{none_read, word_step, read_words}, ReaderLemmas.{words-append, slice_length, word_read, fails_read}}
+use Rattle.mm_text.proofs.{PieceLemmas.{Seam, runs-append, shift_run, shift_word, runs-shift, words_unshift}, PieceUnitLemmas.{allowed_part}, NthLemmas.{first_word}}
+use Rattle.mm_text.specs.declared.part.PartKind.TheVariants as parts
+use Rattle.mm_text.specs.declared.word.WordKind.TheVariants as kinds
 
 -- ---- units
 

@@ -1,15 +1,8 @@
 -- The parts of units are texts with words: a walk over all words of a text, from part to part.
-use Rattle.std.proofs.Common.{ℕ, zero, suc, ◌+◌, ◌<◌, ◌≤◌, List, [], Option, None, All, length, subst, inl, inr, arith}
-use Rattle.std.proofs.lemmas.Bool.{cases_Bool}
-use Rattle.mm_text.specs.declared.part.Part.{Part}
-use Rattle.mm_text.specs.declared.part.PartKind.{PartKind}
+use Rattle.std.proofs.{Common.{ℕ, zero, suc, ◌+◌, ◌<◌, ◌≤◌, List, [], Option, None, All, length, subst, inl, inr, arith}, lemmas.Bool.{cases_Bool}}
+use Rattle.mm_text.specs.{declared.part.{Part.{Part}, PartKind.{PartKind}}, Language.{Unit.{Units}, Part.{HasUnits, parts_of, IsReadable}}, Code.PartReading.{ends_part}}
+use Rattle.mm_text.proofs.{ReaderLemmas.{pass_none}, CutWalkLemmas.{Given, word_from}, PartLemmas.{Divides, divides_start, divides_end, divides_fault, divides_part, divides_more}}
 use Rattle.mm_text.specs.declared.part.PartKind.TheVariants as parts
-use Rattle.mm_text.specs.Language.Unit.{Units}
-use Rattle.mm_text.specs.Language.Part.{HasUnits, parts_of, IsReadable}
-use Rattle.mm_text.specs.Code.PartReading.{ends_part}
-use Rattle.mm_text.proofs.ReaderLemmas.{pass_none}
-use Rattle.mm_text.proofs.CutWalkLemmas.{Given, word_from}
-use Rattle.mm_text.proofs.PartLemmas.{Divides, divides_start, divides_end, divides_fault, divides_part, divides_more}
 
 module _ (text : List ℕ) (units : Units) (has : HasUnits text units) where
   abbrev AllRead : Type 0

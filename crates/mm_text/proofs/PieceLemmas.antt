@@ -1,17 +1,12 @@
 -- Reading is local: what a part of a text holds, that ends in white space.
-use Rattle.std.proofs.Common.{◌≡◌, ℕ, suc, ◌+◌, ◌-◌, Bool, true, false, ◌||◌, List, [], ◌∷◌, ◌++◌, append_assoc, map, length, Option, Some, None, Ok, Err, refl, sym, ap, ◌∙◌, inl, inr, ◌⊎◌, arith, append-nil, slice_get, if◌then◌else◌}
-use Rattle.std.specs.Str.{bytes_eq}
+use Rattle.std.proofs.Common.{◌≡◌, ℕ, suc, ◌+◌, ◌-◌, Bool, true, false, ◌||◌, List, [], ◌∷◌, ◌++◌, append_assoc, map, length, Option, Some, None, Ok, Err, refl, sym, ap, ◌∙◌, inl, inr, ◌⊎◌, arith}
+use Rattle.std.proofs.Common.{append-nil, slice_get, if◌then◌else◌}
 use Rattle.std.proofs.lemmas.Bool.{cases_Bool}
-use Rattle.mm_text.specs.declared.word.Word.{Word}
-use Rattle.mm_text.specs.declared.word.WordKind.{WordKind}
-use Rattle.mm_text.specs.declared.fault.TextFault.{TextFault}
-use Rattle.mm_text.specs.Language.Run.{Run, runs_from, is_white, ends_run, with_front}
-use Rattle.mm_text.specs.Language.Spelling.{opening, closing}
-use Rattle.mm_text.specs.Language.Reading.{AreWords}
-use Rattle.mm_text.specs.Language.Cut.{ends_white, ended}
+use Rattle.std.specs.Str.{bytes_eq}
+use Rattle.mm_text.specs.declared.{word.{Word.{Word}, WordKind.{WordKind}}, fault.TextFault.{TextFault}}
+use Rattle.mm_text.specs.Language.{Run.{Run, runs_from, is_white, ends_run, with_front}, Spelling.{opening, closing}, Reading.{AreWords}, Cut.{ends_white, ended}}
 use Rattle.mm_text.specs.Code.LeftToRight.{Read, read_runs, word_kind, word_alone, holds_mark, word_at}
-use Rattle.mm_text.proofs.LayoutLemmas.{front_step}
-use Rattle.mm_text.proofs.ReadLemmas.{inside_end, inside_mark, inside_more, outside_open, outside_close, outside_word}
+use Rattle.mm_text.proofs.{LayoutLemmas.{front_step}, ReadLemmas.{inside_end, inside_mark, inside_more, outside_open, outside_close, outside_word}}
 use Rattle.mm_text.proofs.ReadingLemmas.{made_word, read_words, words_from_read, is_from, not_from}
 
 -- ---- runs of a text in two parts

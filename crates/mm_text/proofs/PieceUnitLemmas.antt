@@ -1,29 +1,19 @@
 -- A part of a text with one unit is a piece.
-use Rattle.std.proofs.Common.{◌≡◌, ◌⊎◌, ℕ, ◌+◌, ◌-◌, ◌<◌, ◌≤◌, Bool, true, not, ◌||◌, List, [], ◌∷◌, ◌++◌, append_assoc, map, length, take, drop, get_or, Option, Some, None, Ok, Err, refl, sym, ap, ◌∙◌, subst, inl, inr, arith, one-add}
-use Rattle.std.specs.Prelude.{slice_range}
-use Rattle.std.specs.List.{AllByRecursion, AllPass, prefix_len}
-use Rattle.std.proofs.Math.Seq.{take-add, take-append_seam, drop-append_seam}
+use Rattle.std.proofs.Common.{◌≡◌, ◌⊎◌, ℕ, ◌+◌, ◌-◌, ◌<◌, ◌≤◌, Bool, true, not, ◌||◌, List, [], ◌∷◌, ◌++◌, append_assoc, map, length, take, drop, get_or, Option, Some, None, Ok, Err, refl, sym, ap}
+use Rattle.std.proofs.Common.{◌∙◌, subst, inl, inr, arith, one-add}
+use Rattle.std.proofs.Math.{Seq.{take-add, take-append_seam, drop-append_seam}, Bool.{or-true}}
 use Rattle.std.proofs.lemmas.Bool.{cases_Bool, false≢true, not-false}
 use Rattle.std.proofs.lemmas.List.{append-nil, take-append-drop, append_cancel_right, take-append-le, drop-append-le, drop-drop, length-append, length-map, length-take-le, length-drop, take-map}
-use Rattle.std.proofs.lemmas.List.Elements.{All-append, All-take, All-drop, All-nil, All-cons}
-use Rattle.std.proofs.lemmas.List.Quantifiers.{position-Some}
-use Rattle.std.proofs.lemmas.List.Sums.{prefix_len-le-length}
-use Rattle.std.proofs.Math.Bool.{or-true}
-use Rattle.mm_text.specs.declared.word.Word.{Word}
-use Rattle.mm_text.specs.declared.word.WordKind.{WordKind}
-use Rattle.mm_text.specs.Language.Run.{Run, runs, runs_from, is_white, ends_run}
-use Rattle.mm_text.specs.Language.Reading.{is_allowed, first_bad, AreWords, HasWords}
+use Rattle.std.proofs.lemmas.List.{Elements.{All-append, All-take, All-drop, All-nil, All-cons}, Quantifiers.{position-Some}, Sums.{prefix_len-le-length}}
+use Rattle.std.specs.{Prelude.{slice_range}, List.{AllByRecursion, AllPass, prefix_len}}
+use Rattle.mm_text.specs.declared.word.{Word.{Word}, WordKind.{WordKind}}
+use Rattle.mm_text.specs.Language.{Run.{Run, runs, runs_from, is_white, ends_run}, Reading.{is_allowed, first_bad, AreWords, HasWords}}
 use Rattle.mm_text.specs.Language.Unit.{Token, token_of, tokens_of, Shape, Declaration, shape_tokens, Units, Nothing, Simple, Block, unit_tokens, AreUnits}
-use Rattle.mm_text.specs.Code.LeftToRight.{read_text}
-use Rattle.mm_text.specs.Code.UnitReading as m
-use Rattle.mm_text.specs.Language.Cut.{ends_white, ended, IsOne, end_of_words, IsPiece, BeginsSolid}
-use Rattle.mm_text.specs.Language.Part.{HasUnits}
-use Rattle.mm_text.specs.Code.Reader.{runs_at}
-use Rattle.mm_text.proofs.RunLemmas.{skip_white}
-use Rattle.mm_text.proofs.ReadingLemmas.{text_words}
-use Rattle.mm_text.proofs.PositionLemmas.{Lying, words_lie, none_found}
-use Rattle.mm_text.proofs.UnitReadingLemmas.{IsWhole-run, run-IsWhole}
+use Rattle.mm_text.specs.Language.{Cut.{ends_white, ended, IsOne, end_of_words, IsPiece, BeginsSolid}, Part.{HasUnits}}
+use Rattle.mm_text.specs.Code.{LeftToRight.{read_text}, Reader.{runs_at}}
+use Rattle.mm_text.proofs.{RunLemmas.{skip_white}, ReadingLemmas.{text_words}, PositionLemmas.{Lying, words_lie, none_found}, UnitReadingLemmas.{IsWhole-run, run-IsWhole}}
 use Rattle.mm_text.proofs.PieceLemmas.{feed_white, Seam, runs-append, shift_word, runs-shift, words_unshift, line_end, ended_is, runs-ended, ended_white, ended-append, ends_behind}
+use Rattle.mm_text.specs.Code.UnitReading as m
 
 -- ---- bytes that a text may hold
 

@@ -1,13 +1,9 @@
 -- Runs without a `$`.
 use Rattle.std.proofs.Common.{◌≡◌, ℕ, ◌<◌, true, false, not, eqb, List, length, take, get_or, Some, None, refl, sym, inl, inr, arith}
-use Rattle.std.proofs.lemmas.Bool.{cases_Bool, false≢true, ne_eqb}
-use Rattle.std.proofs.lemmas.List.Sums.{prefix_len_is}
-use Rattle.std.proofs.lemmas.List.Quantifiers.{position-Some}
+use Rattle.std.proofs.lemmas.{Bool.{cases_Bool, false≢true, ne_eqb}, List.{Sums.{prefix_len_is}, Quantifiers.{position-Some}}}
 use Rattle.std.specs.List.{position, prefix_len}
-use Rattle.mm_text.specs.Language.Run.{is_white, is_solid}
-use Rattle.mm_text.specs.Code.LeftToRight.{is_dollarless, has_dollar}
-use Rattle.mm_text.proofs.PositionLemmas.{none_found}
-use Rattle.mm_text.proofs.SkipLemmas.{none_before}
+use Rattle.mm_text.specs.{Language.Run.{is_white, is_solid}, Code.LeftToRight.{is_dollarless, has_dollar}}
+use Rattle.mm_text.proofs.{PositionLemmas.{none_found}, SkipLemmas.{none_before}}
 
 -- a run that ends at the first byte that is white space or a `$`, or at the end
 solid_is : (b : ℕ) → not (is_dollarless b) ≡ false → (is_solid b ≡ true) × (¬ (eqb b 36 ≡ true))

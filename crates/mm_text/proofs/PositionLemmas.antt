@@ -1,28 +1,17 @@
 -- Where the words of a text are, and which bytes a text has.
-use Rattle.std.proofs.Common.{◌≡◌, ℕ, ◌+◌, ◌-◌, ◌<◌, ◌≤◌, Bool, true, false, not, ◌||◌, ◌&&◌, eqb, List, [], ◌∷◌, ◌++◌, append_assoc, length, take, drop, get_or, Option, Some, None, IfSome, Result, length-append, nat_le, nat_lt}
-use Rattle.std.proofs.Common.{slice_range, slice_get}
-use Rattle.std.proofs.Common.{Err, IfErr, All, AllPairs, refl, sym, ap, ◌∙◌, subst, arith, inl, inr}
-use Rattle.std.specs.List.{flat_map, AllByRecursion, position, position_or_len}
-use Rattle.std.proofs.lemmas.Bool.{cases_Bool, false≢true, or_cases, and_parts, eqb-true, leb-true, ltb-false, not-false}
-use Rattle.std.proofs.lemmas.Option.{slice_get_within, get_or_from_slice_get}
-use Rattle.std.proofs.lemmas.List.Elements.{All-nil, All-cons}
-use Rattle.std.proofs.lemmas.List.Kept.{AllPairs-cons}
-use Rattle.std.proofs.lemmas.List.Quantifiers.{position-Some}
-use Rattle.std.proofs.lemmas.List.Sums.{fails_before_first}
+use Rattle.std.proofs.Common.{◌≡◌, ℕ, ◌+◌, ◌-◌, ◌<◌, ◌≤◌, Bool, true, false, not, ◌||◌, ◌&&◌, eqb, List, [], ◌∷◌, ◌++◌, append_assoc, length, take, drop, get_or, Option, Some, None, IfSome, Result}
+use Rattle.std.proofs.Common.{length-append, nat_le, nat_lt, slice_range, slice_get, Err, IfErr, All, AllPairs, refl, sym, ap, ◌∙◌, subst, arith, inl, inr}
+use Rattle.std.proofs.lemmas.{Bool.{cases_Bool, false≢true, or_cases, and_parts, eqb-true, leb-true, ltb-false, not-false}, Option.{slice_get_within, get_or_from_slice_get}}
+use Rattle.std.proofs.lemmas.List.{Elements.{All-nil, All-cons}, Kept.{AllPairs-cons}, Quantifiers.{position-Some}, Sums.{fails_before_first}}
 use Rattle.std.proofs.Math.Seq.{take-append_seam, drop-append_seam}
-use Rattle.mm_text.specs.declared.word.Word.{Word}
-use Rattle.mm_text.specs.declared.fault.TextFault.{TextFault}
-use Rattle.mm_text.specs.declared.fault.TextError.{TextError}
-use Rattle.mm_text.specs.declared.fault.TextError.TheVariants as errors
-use Rattle.mm_text.specs.declared.fault.TextNumber.{TextNumber}
-use Rattle.mm_text.specs.declared.fault.TextNumber.TheVariants.{T01, T02, T03, T04, T05, T07, T08}
-use Rattle.mm_text.specs.Language.Run.{Run, is_white, ends_run, runs}
-use Rattle.mm_text.specs.Language.Layout.{IsLaidOut}
-use Rattle.mm_text.specs.Language.Spelling.{IsSpelled, IsWord}
-use Rattle.mm_text.specs.Language.Reading.{is_allowed, first_bad, Segment, Single, Comment, segment_runs, segment_words, IsSegment, AreWords, HasWords, LiesIn, AreWithin, StopsAtRun, EndsOpen, IsWordsFaultAt, IsWordsFault, IsTextErrorIn}
-use Rattle.mm_text.specs.Language.Unit.{Token, token_of, tokens_of, EndsInUnit, EndsInBlock}
-use Rattle.mm_text.specs.Language.Cut.{StopsUnits, EndsUnits, IsFirstFaultAt, IsFirstFault, IsCutError}
+use Rattle.std.specs.List.{flat_map, AllByRecursion, position, position_or_len}
+use Rattle.mm_text.specs.declared.{word.Word.{Word}, fault.{TextFault.{TextFault}, TextError.{TextError}, TextNumber.{TextNumber, TheVariants.{T01, T02, T03, T04, T05, T07, T08}}}}
+use Rattle.mm_text.specs.Language.{Run.{Run, is_white, ends_run, runs}, Layout.{IsLaidOut}, Spelling.{IsSpelled, IsWord}}
+use Rattle.mm_text.specs.Language.Reading.{is_allowed, first_bad, Segment, Single, Comment, segment_runs, segment_words, IsSegment, AreWords, HasWords, LiesIn, AreWithin, StopsAtRun, EndsOpen}
+use Rattle.mm_text.specs.Language.Reading.{IsWordsFaultAt, IsWordsFault, IsTextErrorIn}
+use Rattle.mm_text.specs.Language.{Unit.{Token, token_of, tokens_of, EndsInUnit, EndsInBlock}, Cut.{StopsUnits, EndsUnits, IsFirstFaultAt, IsFirstFault, IsCutError}}
 use Rattle.mm_text.proofs.LayoutLemmas.{laid_out}
+use Rattle.mm_text.specs.declared.fault.TextError.TheVariants as errors
 
 -- ---- runs
 

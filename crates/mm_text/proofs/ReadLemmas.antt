@@ -1,12 +1,7 @@
 -- What one run does to a reading.
-use Rattle.std.proofs.Common.{◌≡◌, ◌≢◌, ℕ, true, false, List, [], ◌∷◌, ◌++◌, append_assoc, Some, None, Ok, Err, refl, ap}
-use Rattle.std.proofs.lemmas.Bool.{false_from_ne_true}
-use Rattle.std.proofs.lemmas.Slice.Eq.{bytes_eq-Decides}
+use Rattle.std.proofs.{Common.{◌≡◌, ◌≢◌, ℕ, true, false, List, [], ◌∷◌, ◌++◌, append_assoc, Some, None, Ok, Err, refl, ap}, lemmas.{Bool.{false_from_ne_true}, Slice.Eq.{bytes_eq-Decides}}}
 use Rattle.std.specs.Str.{bytes_eq}
-use Rattle.mm_text.specs.declared.fault.TextNumber.TheVariants.{T03, T04}
-use Rattle.mm_text.specs.Language.Run.{Run}
-use Rattle.mm_text.specs.Language.Spelling.{opening, closing}
-use Rattle.mm_text.specs.declared.word.Word.{Word}
+use Rattle.mm_text.specs.{declared.{fault.TextNumber.TheVariants.{T03, T04}, word.Word.{Word}}, Language.{Run.{Run}, Spelling.{opening, closing}}}
 use Rattle.mm_text.specs.Code.LeftToRight.{read_runs, Read, with_words, cons_word, holds_mark, words_fault_at, word_kind, word_alone}
 
 pub same_bytes : (bytes part : List ℕ) → bytes ≡ part → bytes_eq bytes part ≡ true

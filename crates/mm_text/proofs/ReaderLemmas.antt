@@ -1,24 +1,17 @@
 -- What the steps of a reader read, and the faults that they meet.
-use Rattle.std.proofs.Common.{◌≡◌, ◌≢◌, ℕ, ◌+◌, ◌-◌, ◌<◌, ◌≤◌, List, [], ◌∷◌, ◌++◌, append_assoc, length, take, drop, slice_range, Option, Some, None, Ok, Err, refl, sym, ap, ◌∙◌, subst, inl, inr, arith, append-nil, length-take-le, length-drop}
+use Rattle.std.proofs.Common.{◌≡◌, ◌≢◌, ℕ, ◌+◌, ◌-◌, ◌<◌, ◌≤◌, List, [], ◌∷◌, ◌++◌, append_assoc, length, take, drop, slice_range, Option, Some, None, Ok, Err, refl, sym, ap, ◌∙◌, subst, inl, inr}
+use Rattle.std.proofs.Common.{arith, append-nil, length-take-le, length-drop}
 use Rattle.std.proofs.lemmas.Grind.{flat_map-append}
 use Rattle.std.specs.List.{prefix_len}
-use Rattle.mm_text.specs.declared.reader.Span.{Span}
-use Rattle.mm_text.specs.declared.word.Word.{Word}
-use Rattle.mm_text.specs.declared.word.WordKind.{WordKind}
-use Rattle.mm_text.specs.declared.fault.TextNumber.{TextNumber}
-use Rattle.mm_text.specs.declared.fault.TextNumber.TheVariants.{T02, T03, T04, T05}
-use Rattle.mm_text.specs.Language.Run.{Run, runs, is_solid}
-use Rattle.mm_text.specs.Language.Spelling.{IsWord, HoldsMark, opening, closing}
-use Rattle.mm_text.specs.Language.Reading as words
-use Rattle.mm_text.specs.Language.Reading.{segment_runs, segment_words, HoldNoMarks, IsSegment, AreWords, EndsOpen, first_bad}
-use Rattle.mm_text.specs.Language.Cut.{EndsInComment, HoldWords, StopsWords, IsFirstFaultAt}
+use Rattle.mm_text.specs.declared.{reader.Span.{Span}, word.{Word.{Word}, WordKind.{WordKind}}, fault.TextNumber.{TextNumber, TheVariants.{T02, T03, T04, T05}}}
+use Rattle.mm_text.specs.Language.{Run.{Run, runs, is_solid}, Spelling.{IsWord, HoldsMark, opening, closing}}
+use Rattle.mm_text.specs.Language.{Reading.{segment_runs, segment_words, HoldNoMarks, IsSegment, AreWords, EndsOpen, first_bad}, Cut.{EndsInComment, HoldWords, StopsWords, IsFirstFaultAt}}
 use Rattle.mm_text.specs.Language.Unit.{tokens_of, IsViable}
 use Rattle.mm_text.specs.Code.LeftToRight.{Read, read_runs, cons_word, with_words, word_kind, word_alone, words_fault_at}
 use Rattle.mm_text.specs.Code.Reader.{runs_at, run_of, TakesSpan, SkipsComment, FailsInside, TakesWord, IsRunRefused, MeetsRun, FailsBehind}
-use Rattle.mm_text.proofs.KindLemmas.{kind_spelled, spelled_kind, no_kind, stands_mark}
-use Rattle.mm_text.proofs.RunLemmas.{front_is, takes_run}
-use Rattle.mm_text.proofs.ReadLemmas.{inside_mark, outside_close, outside_word}
+use Rattle.mm_text.proofs.{KindLemmas.{kind_spelled, spelled_kind, no_kind, stands_mark}, RunLemmas.{front_is, takes_run}, ReadLemmas.{inside_mark, outside_close, outside_word}}
 use Rattle.mm_text.proofs.ReadingLemmas.{none_read, all_append, InComment, Behind, word_step, read_whole, stops, is_whole, goes_on, is_open, not_whole, stop_fault, open_fault}
+use Rattle.mm_text.specs.Language.Reading as words
 
 -- ---- readings side by side
 

@@ -1,22 +1,13 @@
 -- What is read from left to right is the meaning of the runs.
 use Rattle.std.proofs.Common.{◌≡◌, ◌≢◌, ℕ, ◌+◌, true, false, List, [], ◌∷◌, ◌++◌, length, append_assoc, Option, Some, None, Ok, Err, refl, sym, ap, ◌∙◌, subst, inl, inr, append-nil}
-use Rattle.std.specs.List.{flat_map, AllByRecursion}
-use Rattle.std.specs.Str.{bytes_eq}
-use Rattle.std.proofs.lemmas.Bool.{cases_Bool, false≢true}
-use Rattle.std.proofs.lemmas.Grind.{flat_map-append}
-use Rattle.std.proofs.lemmas.Slice.Eq.{bytes_eq-Decides}
-use Rattle.mm_text.specs.declared.word.Word.{Word}
-use Rattle.mm_text.specs.declared.word.WordKind.{WordKind}
-use Rattle.mm_text.specs.declared.fault.TextFault.{TextFault}
-use Rattle.mm_text.specs.declared.fault.TextNumber.{TextNumber}
-use Rattle.mm_text.specs.declared.fault.TextNumber.TheVariants.{T01, T02, T03, T04, T05}
-use Rattle.mm_text.specs.Language.Run.{Run, runs}
-use Rattle.mm_text.specs.Language.Spelling.{IsWord, IsSpelled, HoldsMark, opening, closing}
+use Rattle.std.proofs.lemmas.{Bool.{cases_Bool, false≢true}, Grind.{flat_map-append}, Slice.Eq.{bytes_eq-Decides}}
+use Rattle.std.specs.{List.{flat_map, AllByRecursion}, Str.{bytes_eq}}
+use Rattle.mm_text.specs.declared.{word.{Word.{Word}, WordKind.{WordKind}}, fault.{TextFault.{TextFault}, TextNumber.{TextNumber, TheVariants.{T01, T02, T03, T04, T05}}}}
+use Rattle.mm_text.specs.Language.{Run.{Run, runs}, Spelling.{IsWord, IsSpelled, HoldsMark, opening, closing}}
 use Rattle.mm_text.specs.Language.Reading.{Segment, Single, Comment, segment_runs, segment_words, HoldNoMarks, IsSegment, IsReading, AreWords, HaveReading, AreViableRuns, IsOpen, IsRunNumber}
 use Rattle.mm_text.specs.Language.Reading.{StopsAtRun, EndsOpen, IsRunFault, first_bad, HasWords, IsWordsFault, IsWordsFaultAt}
 use Rattle.mm_text.specs.Code.LeftToRight.{Read, read_runs, word_kind, word_alone, word_at, words_fault_at, cons_word, with_words, holds_mark, checked, read_text}
-use Rattle.mm_text.proofs.KindLemmas.{kind_spelled, spelled_kind, no_kind, mark_stands, stands_mark}
-use Rattle.mm_text.proofs.ReadLemmas.{inside_end, inside_mark, inside_more, outside_open, outside_close, outside_word}
+use Rattle.mm_text.proofs.{KindLemmas.{kind_spelled, spelled_kind, no_kind, mark_stands, stands_mark}, ReadLemmas.{inside_end, inside_mark, inside_more, outside_open, outside_close, outside_word}}
 
 pub all_append : {X : Type 0} (P : X → Type 0) (xs ys : List X) → AllByRecursion P xs → AllByRecursion P ys → AllByRecursion P (xs ++ ys)
 all_append P [] ys f g = g

@@ -1,18 +1,12 @@
 -- Runs without a `$`, passed over at once.
-use Rattle.std.proofs.Common.{◌≡◌, ℕ, zero, suc, get_or, ◌+◌, ◌≤◌, ◌<◌, true, false, not, eqb, Ok, Err, List, [], ◌∷◌, ◌++◌, append_assoc, length, take, drop, map, refl, sym, ap, ◌∙◌, inl, inr, arith, drop-drop, length-take-le, take-append-drop}
+use Rattle.std.proofs.Common.{◌≡◌, ℕ, zero, suc, get_or, ◌+◌, ◌≤◌, ◌<◌, true, false, not, eqb, Ok, Err, List, [], ◌∷◌, ◌++◌, append_assoc, length, take, drop, map, refl, sym, ap, ◌∙◌, inl, inr, arith}
+use Rattle.std.proofs.Common.{drop-drop, length-take-le, take-append-drop}
 use Rattle.std.proofs.lemmas.Bool.{cases_Bool, false_from_ne_true, or_parts}
 use Rattle.std.specs.List.{AllByRecursion}
-use Rattle.mm_text.specs.declared.word.Word.{Word}
+use Rattle.mm_text.specs.{declared.word.Word.{Word}, Language.{Run.{Run, is_white, ends_run, with_front, runs_from}, Reading.{HoldNoMarks, AreWords}, Unit.{tokens_of, IsPlain}}}
+use Rattle.mm_text.specs.Code.{LeftToRight.{Read, with_words, has_dollar, word_at}, Reader.{runs_at, ArePlain, SkipsPlain}}
+use Rattle.mm_text.proofs.{KindLemmas.{kind_spelled, plain_word, no_mark}, PieceLemmas.{Seam, runs-append}, ReaderLemmas.{Skipping, words-append}, ReadingLemmas.{all_append, none_read, word_step}}
 use Rattle.mm_text.specs.declared.word.WordKind.TheVariants as kinds
-use Rattle.mm_text.specs.Language.Run.{Run, is_white, ends_run, with_front, runs_from}
-use Rattle.mm_text.specs.Language.Reading.{HoldNoMarks, AreWords}
-use Rattle.mm_text.specs.Language.Unit.{tokens_of, IsPlain}
-use Rattle.mm_text.specs.Code.LeftToRight.{Read, with_words, has_dollar, word_at}
-use Rattle.mm_text.specs.Code.Reader.{runs_at, ArePlain, SkipsPlain}
-use Rattle.mm_text.proofs.KindLemmas.{kind_spelled, plain_word, no_mark}
-use Rattle.mm_text.proofs.PieceLemmas.{Seam, runs-append}
-use Rattle.mm_text.proofs.ReaderLemmas.{Skipping, words-append}
-use Rattle.mm_text.proofs.ReadingLemmas.{all_append, none_read, word_step}
 
 -- ---- bytes without a `$`
 

@@ -2,10 +2,10 @@
 use Rattle.std.proofs.Common.{◌≡◌, ◌⊎◌, Bool, true, false, List, [], ◌∷◌, ◌++◌, append_assoc, refl, sym, ap, ◌∙◌, subst, inl, inr, arith, append-nil}
 use Rattle.std.specs.List.{AllByRecursion, flat_map}
 use Rattle.mm_text.specs.declared.word.Keyword.TheVariants.{BlockStart, BlockEnd, Constants, Variables, Floating, Essential, Disjoint, Axiom, Theorem, StatementEnd, ProofStart, InclusionStart}
-use Rattle.mm_text.specs.declared.word.WordKind.TheVariants as kinds
 use Rattle.mm_text.specs.Language.Unit.{Token, IsKeyword, IsPlain, Shape, Declaration, Labelled, Provable, Inclusion, shape_tokens, IsShape, Units, Nothing, Simple, Block, unit_tokens, AreUnits}
 use Rattle.mm_text.specs.Code.BlockCounts.{is_start_word, is_end_word}
 use Rattle.mm_text.proofs.UnitFaultLemmas.{IsInner, inner_shape, no_plain, start_counts, end_counts}
+use Rattle.mm_text.specs.declared.word.WordKind.TheVariants as kinds
 
 -- ---- the machine over shapes and plain words
 

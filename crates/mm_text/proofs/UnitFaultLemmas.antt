@@ -1,20 +1,19 @@
 -- The faults of units: the machine finds them, and a list has one at most.
-use Rattle.std.proofs.Common.{◌≡◌, ◌≢◌, ◌⊎◌, ◌↔◌, ℕ, zero, suc, ◌+◌, ◌<◌, ◌≤◌, Bool, true, false, List, [], ◌∷◌, ◌++◌, append_assoc, length, take, drop, slice_get, take-append-drop, take-take, Some, append-nil, drop-drop, take_all}
-use Rattle.std.proofs.Common.{Ok, Err, refl, sym, ap, ◌∙◌, subst, inl, inr, le_of_lt, le_of_eq, ◌-◌, arith}
-use Rattle.std.specs.List.{AllByRecursion}
+use Rattle.std.proofs.Common.{◌≡◌, ◌≢◌, ◌⊎◌, ◌↔◌, ℕ, zero, suc, ◌+◌, ◌<◌, ◌≤◌, Bool, true, false, List, [], ◌∷◌, ◌++◌, append_assoc, length, take, drop, slice_get, take-append-drop, take-take, Some}
+use Rattle.std.proofs.Common.{append-nil, drop-drop, take_all, Ok, Err, refl, sym, ap, ◌∙◌, subst, inl, inr, le_of_lt, le_of_eq, ◌-◌, arith}
 use Rattle.std.proofs.lemmas.Bool.{false≢true}
+use Rattle.std.specs.List.{AllByRecursion}
 use Rattle.mm_text.specs.declared.word.Keyword.{Keyword}
-use Rattle.mm_text.specs.declared.word.Keyword.TheVariants.{BlockStart, BlockEnd, Constants, Variables, Floating, Essential, Disjoint, Axiom, Theorem, StatementEnd, ProofStart, InclusionStart, InclusionEnd}
+use Rattle.mm_text.specs.declared.word.Keyword.TheVariants.{BlockStart, BlockEnd, Constants, Variables, Floating, Essential, Disjoint, Axiom, Theorem, StatementEnd, ProofStart, InclusionStart}
+use Rattle.mm_text.specs.declared.word.Keyword.TheVariants.{InclusionEnd}
 use Rattle.mm_text.specs.declared.word.WordKind.{WordKind}
-use Rattle.mm_text.specs.declared.word.WordKind.TheVariants as kinds
-use Rattle.mm_text.specs.declared.fault.TextNumber.{TextNumber}
-use Rattle.mm_text.specs.declared.fault.TextNumber.TheVariants.{T06, T07, T08, T09, T10, T11, T12}
+use Rattle.mm_text.specs.declared.fault.TextNumber.{TextNumber, TheVariants.{T06, T07, T08, T09, T10, T11, T12}}
 use Rattle.mm_text.specs.Language.Unit.{Token, IsKeyword, IsPlain, Shape, Declaration, Labelled, Provable, Inclusion, shape_tokens, IsShape, Units, Nothing, Simple, Block, unit_tokens, AreUnits}
-use Rattle.mm_text.specs.Language.Unit.{IsWhole, IsViable, a_block, MayBegin, EndsInInclusion, IsUnitNumber, StopsAtWord, EndsInUnit}
-use Rattle.mm_text.specs.Language.Unit.{EndsInBlock, IsUnitFault}
-use Rattle.mm_text.specs.Code.UnitReading as m
+use Rattle.mm_text.specs.Language.Unit.{IsWhole, IsViable, a_block, MayBegin, EndsInInclusion, IsUnitNumber, StopsAtWord, EndsInUnit, EndsInBlock, IsUnitFault}
 use Rattle.mm_text.specs.Code.BlockCounts.{is_start_word, is_end_word, starts, ends}
 use Rattle.mm_text.proofs.UnitReadingLemmas.{run-append, run-IsViable, run-not_viable, IsWhole-run, through_units, blocks, blocks_run, key, key-kind, whole_run, Completes, Closes}
+use Rattle.mm_text.specs.declared.word.WordKind.TheVariants as kinds
+use Rattle.mm_text.specs.Code.UnitReading as m
 
 -- ---- a prefix of a viable list is viable
 

@@ -1,17 +1,14 @@
 -- Every list of words is whole or has a fault, and what loops that look for the fault keep.
-use Rattle.std.proofs.Common.{rules, ◌≡◌, ◌≢◌, ◌⊎◌, ℕ, zero, suc, ◌+◌, ◌<◌, ◌≤◌, Bool, true, List, [], ◌∷◌, ◌++◌, append_assoc, length, take, drop, slice_get, drop_of_length-le, Some, Ok, Err, refl, sym, ap, ◌∙◌, subst, inl, inr, ⊎_elim, ◌-◌, arith}
-use Rattle.std.proofs.lemmas.Bool.{cases_lt}
-use Rattle.std.proofs.lemmas.List.{take_all, take_at}
-use Rattle.mm_text.specs.declared.word.Keyword.TheVariants.{BlockStart, BlockEnd, Floating, InclusionStart, InclusionEnd}
-use Rattle.mm_text.specs.declared.word.WordKind.{WordKind}
-use Rattle.mm_text.specs.declared.word.WordKind.TheVariants as kinds
-use Rattle.mm_text.specs.declared.fault.TextNumber.{TextNumber}
-use Rattle.mm_text.specs.declared.fault.TextNumber.TheVariants.{T07, T08}
-use Rattle.mm_text.specs.Language.Unit.{Token, IsKeyword, IsWhole, IsViable, IsUnitFault}
-use Rattle.mm_text.specs.Code.UnitReading as m
-use Rattle.mm_text.specs.Code.BlockCounts.{is_start_word, is_end_word, starts, ends}
+use Rattle.std.proofs.Common.{rules, ◌≡◌, ◌≢◌, ◌⊎◌, ℕ, zero, suc, ◌+◌, ◌<◌, ◌≤◌, Bool, true, List, [], ◌∷◌, ◌++◌, append_assoc, length, take, drop, slice_get, drop_of_length-le, Some, Ok, Err, refl}
+use Rattle.std.proofs.Common.{sym, ap, ◌∙◌, subst, inl, inr, ⊎_elim, ◌-◌, arith}
+use Rattle.std.proofs.lemmas.{Bool.{cases_lt}, List.{take_all, take_at}}
+use Rattle.mm_text.specs.declared.word.{Keyword.TheVariants.{BlockStart, BlockEnd, Floating, InclusionStart, InclusionEnd}, WordKind.{WordKind}}
+use Rattle.mm_text.specs.declared.fault.TextNumber.{TextNumber, TheVariants.{T07, T08}}
+use Rattle.mm_text.specs.{Language.Unit.{Token, IsKeyword, IsWhole, IsViable, IsUnitFault}, Code.BlockCounts.{is_start_word, is_end_word, starts, ends}}
 use Rattle.mm_text.proofs.UnitReadingLemmas.{run-IsViable, run-IsWhole}
 use Rattle.mm_text.proofs.UnitFaultLemmas.{viable_take, viable_run, run_push, may_begin_from, may_begin_phase, stops_at, ends_in_unit, start_counts, end_counts, counts_next, ends_in_block}
+use Rattle.mm_text.specs.declared.word.WordKind.TheVariants as kinds
+use Rattle.mm_text.specs.Code.UnitReading as m
 
 -- ---- every list is whole or has a fault
 

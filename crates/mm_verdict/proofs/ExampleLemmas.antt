@@ -1,13 +1,9 @@
 -- The worked proof is proved, by the definitions.
-use Rattle.std.proofs.Common.{◌≡◌, List, [], ◌∷◌, refl, codes, arith}
-use Rattle.std.proofs.lemmas.List.Elements.{All-nil}
-use Rattle.mm_frame.specs.Language.Examples.{database, letter_symbols, typing}
-use Rattle.mm_frame.specs.Language.Frame.{Symbol, Frame, Setting}
-use Rattle.mm_frame.specs.Language.Framing.{setting}
-use Rattle.mm_verdict.specs.Language.Derivation.{AreApart, Takes, Derives, by_hypothesis, by_assertion, nothing, first_then}
+use Rattle.std.proofs.{Common.{◌≡◌, List, [], ◌∷◌, refl, codes, arith}, lemmas.List.Elements.{All-nil}}
+use Rattle.mm_frame.specs.Language.{Examples.{database, letter_symbols, typing}, Framing.{setting}}
+use Rattle.mm_machine.specs.Language.{Frame.{Symbol, Frame, Setting}, Derivation.{AreApart, Takes, Derives, by_hypothesis, by_assertion, nothing, first_then}, Expansion.{Named, Saved, Save, NotKnown}}
+use Rattle.mm_machine.specs.Language.Machine.{AreAllKnown}
 use Rattle.mm_verdict.specs.Language.Examples.{steps, IsProved}
-use Rattle.mm_verdict.specs.Language.Expansion.{Named, Saved, Save, NotKnown}
-use Rattle.mm_verdict.specs.Language.Machine.{AreAllKnown}
 
 abbrev here : Setting
 here = setting database

@@ -1,20 +1,9 @@
 -- The language: what the contracts of public calls cite, all the way down.
-pub mod Substitution
-pub mod Derivation
-pub mod Steps
-pub mod Expansion
-pub mod Faults
-pub mod Reaches
-pub mod Machine
-pub mod Run
-pub mod Verdict
-pub mod SameProof
-pub mod Renaming
-pub mod Laws
 pub mod BaseLabels
 pub mod Numbers
 pub mod Letters
 pub mod Decoding
+pub mod SameToDecode
 pub mod DecodedSteps
 pub mod Citing
 pub mod DecodingLaws

@@ -1,3 +1,4 @@
+pub use Rattle.mm_machine.specs as mm_machine
 pub use Rattle.mm_frame.specs as mm_frame
 pub use Rattle.mm_frame.specs.mm_statement
 pub use Rattle.mm_frame.specs.mm_store

@@ -1,44 +1,29 @@
-//! What citing an assertion needs.
+//! What citing an assertion of a base needs.
 
 ghost use Rattle.std.specs.Prelude.{◌≡◌, ◌++◌, ◌<◌, ◌≤◌, true, List, All, IfOk, OnOk, length, map, take};
 ghost use Rattle.mm_frame.specs.Language.Base.{BaseView, is_shown_at, is_framed_at, is_proof_at};
 ghost use Rattle.mm_frame.specs.Language.Answering.{IsBase};
-ghost use Rattle.mm_frame.specs.Language.Frame.{Mandatory, AreSameFrame, AreSamePairs};
-ghost use Rattle.mm_verdict.specs.Code.Citation.{mandatory_of, hypotheses_of, frame_of, meant_pairs};
-ghost use Rattle.mm_verdict.specs.Code.Keys.{AreInKeyOrder, key_by_number};
-ghost use Rattle.mm_frame.specs.Language.NumberedSymbols.{by_number};
+ghost use Rattle.mm_machine.specs.Language.Frame.{Mandatory, AreSameFrame, AreSamePairs};
+ghost use Rattle.mm_machine.specs.Language.CitedFrames.{mandatory_of, hypotheses_of, frame_of, meant_pairs};
+ghost use Rattle.mm_machine.specs.Language.Keys.{AreInKeyOrder, key_by_number};
+ghost use Rattle.mm_machine.specs.Language.NumberedSymbols.{by_number, all_by_number};
 ghost use Rattle.mm_frame.specs.declared.base.Resolved.TheVariants as answers;
 ghost use Rattle.mm_verdict.specs.Code.NamedItems.{AreCited, IsNamedBy};
-ghost use Rattle.mm_verdict.specs.Code.NumberedBase.{ByNames, all_by_number, numbered_hypothesis, numbered_frame, numbered_setting};
+ghost use Rattle.mm_verdict.specs.Code.NumberedBase.{ByNames, numbered_hypothesis, numbered_frame, numbered_setting};
 
-use mm_frame::{Base, NumberedSymbol, places_have_frames};
+use mm_frame::{Base, places_have_frames};
+use mm_machine::{
+    Cited, Hypothesis, NumberedSymbol, numbers_keep_frames, numbers_keep_order, numbers_keep_pairs,
+    numbers_name_symbols,
+};
 use std::alloc::{AllocError, Global};
-
-/// A mandatory hypothesis of an assertion.
-#[derive(Drop)]
-pub struct Hypothesis<'a, S> {
-    /// It is a `$f`, and else a `$e`.
-    pub floating: bool,
-    pub expression: &'a [S],
-}
-
-/// An assertion with its frame.
-#[derive(Drop)]
-pub struct Cited<'a, S> {
-    pub expression: &'a [S],
-    /// Where its mandatory hypotheses begin in a list of those of all assertions, in order.
-    pub first: usize,
-    /// Where they end, this place not counted.
-    pub last: usize,
-    /// Its mandatory pairs.
-    pub pairs: &'a [(S, S)],
-}
 
 /// The expression of the item with this number, which is one that has an expression.
 pub fn expression(base: &Base, number: usize) -> &[NumberedSymbol]
     ensures { ByNames base.now (λ names view. is_shown_at view number ≡ true
         → all_by_number result.now ≡ (numbered_hypothesis names view number).expression) }
 {
+    numbers_name_symbols();
     base.known_expression(number)
 }
 
@@ -49,6 +34,8 @@ pub fn active(base: &Base, number: usize) -> &[(NumberedSymbol, NumberedSymbol)]
         → AreSamePairs (meant_pairs by_number result.now) (numbered_setting names view number).active) }
     ensures order { AreInKeyOrder key_by_number (meant_pairs by_number result.now) }
 {
+    numbers_keep_pairs();
+    numbers_keep_order();
     base.pairs(number).unwrap()
 }
 
@@ -90,6 +77,7 @@ fn assertion_of<'a>(
     ensures frame { IfOk result (λ cited. ByNames base.now (λ names view. is_framed_at view number ≡ true →
         AreSameFrame (frame_of by_number (hypotheses_of by_number mandatory.new.items) cited) (numbered_frame names view number))) }
 {
+    numbers_keep_pairs();
     let frame = base.frame(number).unwrap();
     let first = mandatory.len();
     add_hypotheses(base, &frame.hypotheses, &mut *mandatory)?;
@@ -120,6 +108,7 @@ pub fn with_assertions<'a>(
     ensures { IfOk result (λ r. AreCited base.now numbers.now r.0.items r.1.items) }
 {
     places_have_frames();
+    numbers_keep_frames();
     let mut mandatory = mandatory;
     let mut assertions = assertions;
     for place in assertions.len()..numbers.len() {

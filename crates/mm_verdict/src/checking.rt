@@ -6,19 +6,18 @@ ghost use Rattle.mm_frame.specs.Language.Framing.{mandatory_numbers};
 ghost use Rattle.mm_frame.specs.Language.Answering.{IsBase};
 ghost use Rattle.mm_verdict.specs.Language.BaseLabels.{setting_at};
 ghost use Rattle.mm_verdict.specs.Language.Decoding.{word_spot};
-ghost use Rattle.mm_verdict.specs.Language.Verdict.{IsVerdictOnSteps};
+ghost use Rattle.mm_machine.specs.Language.Verdict.{IsVerdictOnSteps};
 ghost use Rattle.mm_verdict.specs.Language.VerdictAt.{IsVerdictAt, AreDoneAt, cites_at, statement_at};
-ghost use Rattle.mm_frame.specs.Language.Frame.{Symbol, Setting};
+ghost use Rattle.mm_machine.specs.Language.Frame.{Symbol, Setting};
 ghost use Rattle.mm_verdict.specs.Language.DecodedSteps.{decoded_steps};
 ghost use Rattle.mm_verdict.specs.Code.DecodedProof.{IsDecoded, IsJudgedProof, OfDecoded, steps_of};
-ghost use Rattle.mm_verdict.specs.Code.Judged.{HasProof, IsOutcomeWithin, OfProof, done_by};
+ghost use Rattle.mm_machine.specs.Language.NamedSteps.{IsOutcomeWithin, RunSays, StopsAt};
+ghost use Rattle.mm_verdict.specs.Code.Judged.{HasProof, OfProof, done_by};
 ghost use Rattle.mm_verdict.specs.Code.NamedItems.{AreKnownOf};
 ghost use Rattle.mm_verdict.specs.Language.ReadIn.{HasTheorem, OfTheorem};
-ghost use Rattle.mm_verdict.specs.Code.Tasks.{RunSays, StopsAt};
 ghost use Rattle.mm_verdict.specs.Code.UsedLabels.{AreUseMarks, AreUsed};
-ghost use Rattle.mm_verdict.specs.declared.step.Undecoded.TheVariants as errors;
+ghost use Rattle.mm_verdict.specs.declared.undecoded.Undecoded.TheVariants as errors;
 
-use crate::active::Active;
 use crate::assertion::{active, expression};
 use crate::checker::Checker;
 use crate::citing::cites_used;
@@ -27,13 +26,13 @@ use crate::known::{Known, known_after};
 use crate::named::{NamingRoom, name_all};
 use crate::reading::{Decoding, MarkedDecoding, decode_marked};
 use crate::short::{steps_before, take_more, takes_more};
-use crate::step::{ProofFault, ProofStep, Undecoded};
-use crate::stepping::{Outcome, run, run_through};
+use crate::undecoded::Undecoded;
 use crate::used::{labels_marked, labels_used};
 use crate::work::{Checked, Scratch, Work};
-use crate::{ProofNumber, Spot, Verdict};
-use mm_frame::{
-    Base, Files, Names, NumberedSymbol, ProofWords, Resolved, places_have_frames, words_of_proof,
+use mm_frame::{Base, Files, Names, ProofWords, Resolved, places_have_frames, words_of_proof};
+use mm_machine::{
+    Active, Front, Outcome, ProofFault, ProofNumber, ProofStep, Spot, Verdict, lack_stops,
+    numbers_keep_places, numbers_say_the_same, parts_are_run, run, run_counted, stops_stay,
 };
 use std::alloc::{AllocError, Global};
 use std::mem;
@@ -127,6 +126,10 @@ fn run_front<'b>(
     places_have_frames();
     decodes_surely();
     mandatory_are_active();
+    numbers_keep_places();
+    numbers_say_the_same();
+    stops_stay();
+    lack_stops();
     let labels: &[Resolved] = &proof.decoding.labels;
     let steps: &[ProofStep] = &proof.decoding.steps;
     let count = steps_before(proof.base, labels, steps);
@@ -137,12 +140,12 @@ fn run_front<'b>(
     let (named, room, numbers) = name_all(proof.base, &used, room, before)?;
     scratch.naming = room;
     let active = Active::new(active(proof.base, proof.i));
-    let found = run_through(alloc, &mut scratch.machine, &named, &active, front)?;
+    let came_to = run_counted(alloc, &mut scratch.machine, &named, &active, front)?;
     *known = known_after(named, numbers);
-    if let Some(outcome) = found {
-        return Ok(Some(outcome));
-    }
-    let entries = scratch.machine.stack.len();
+    let entries = match came_to {
+        Front::Stops(outcome) => return Ok(Some(outcome)),
+        Front::Leaves(entries) => entries,
+    };
     if takes_more(proof.base, labels, steps, count, entries) {
         return Ok(Some(Outcome::Fault(ProofNumber::P07, count)));
     }
@@ -168,6 +171,8 @@ fn run_all<'b>(
     places_have_frames();
     decodes_surely();
     mandatory_are_active();
+    numbers_keep_places();
+    numbers_say_the_same();
     let steps: &[ProofStep] = &proof.decoding.steps;
     let room = mem::replace(&mut scratch.naming, NamingRoom::new(alloc));
     let before = mem::replace(known, Known::new(alloc));
@@ -228,6 +233,7 @@ fn judge_steps<'b>(
 {
     decodes_short();
     labels_are_own();
+    parts_are_run();
     let hypotheses = mandatory(proof.base, proof.i).len();
     let room = mem::replace(&mut scratch.used, Vec::new(alloc));
     let used = labels_marked(room, &proof.decoding.labels, marks)?;

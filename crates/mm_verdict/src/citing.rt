@@ -5,8 +5,7 @@ ghost use Rattle.mm_verdict.specs.Code.Cited.{item_cites, without, marked_at, is
 ghost use Rattle.mm_verdict.specs.Code.UsedLabels.{AreUsed};
 ghost use Rattle.mm_frame.specs.declared.base.Resolved as labels;
 ghost use Rattle.mm_frame.specs.Language.Base.{BaseView};
-ghost use Rattle.mm_verdict.specs.Language.BaseLabels.{NoLabelTwice};
-ghost use Rattle.mm_verdict.specs.Language.BaseLabels.{setting_at};
+ghost use Rattle.mm_verdict.specs.Language.BaseLabels.{NoLabelTwice, setting_at};
 ghost use Rattle.mm_verdict.specs.Language.Citing.{cited_words};
 ghost use Rattle.mm_verdict.specs.Language.DecodedSteps.{decoded_steps, AreEntries, entry_steps, label_table, labels_at};
 

@@ -2,9 +2,11 @@
 
 ghost use Rattle.mm_verdict.specs.Language.DecodingLaws.{LabelsAreOwn, MandatoryAreActive};
 ghost use Rattle.mm_verdict.specs.Language.DecodingLaws.{HasNumberTable, NumbersAreApart, EachIsWritten, HasOneDivision};
-ghost use Rattle.mm_verdict.specs.Language.DecodingLaws.{TellsFirstFault, LettersReadOn, DecodesShort, DecodesSurely, CitesRise, SameCitesSame, SameDecodesSame};
+ghost use Rattle.mm_verdict.specs.Language.DecodingLaws.{TellsFirstFault, LettersReadOn, DecodesShort, DecodesSurely, CitesRise};
+ghost use Rattle.mm_verdict.specs.Language.DecodingLaws.{RenamingKeepsDecoding, SameCitesSame, SameDecodesSame};
 
 use mm_frame::{has_own_labels, items_have_labels, mandatory_means, mandatory_stand_before};
+use mm_machine::sure_by_counting;
 
 /// The numbers of the book's table.
 ///
@@ -46,7 +48,9 @@ pub fn tells_first_fault()
 /// For `check`, which runs the decoded steps.
 pub fn decodes_surely()
     ensures { DecodesSurely }
-{}
+{
+    sure_by_counting();
+}
 
 /// Letters read on over the ends of words.
 ///
@@ -103,3 +107,10 @@ pub fn mandatory_are_active()
     mandatory_means();
     mandatory_stand_before();
 }
+
+/// A renaming of symbols keeps what the words of a proof decode to, and which of them cite.
+///
+/// It shows what the definitions mean; no code calls on it.
+pub fn renaming_keeps_decoding()
+    ensures { RenamingKeepsDecoding }
+{}

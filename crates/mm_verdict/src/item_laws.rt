@@ -3,7 +3,9 @@
 ghost use Rattle.mm_verdict.specs.Language.ItemLaws.{MandatoryLabelsMean, HasOneVerdictAt, HasVerdictAt, ProvedIsDerivedAt};
 ghost use Rattle.mm_verdict.specs.Language.ItemLaws.{HasOneCountAt, HasCountAt, SpotsAreIn};
 
+use crate::decoding_laws::decodes_surely;
 use mm_frame::{items_have_labels, mandatory_means, mandatory_stand_before, places_have_frames};
+use mm_machine::{has_count, has_one_count, has_one_verdict, has_verdict, proved_is_derived};
 
 /// The label of each mandatory hypothesis of an item means it there.
 ///
@@ -23,6 +25,7 @@ pub fn has_one_verdict_at()
     ensures { HasOneVerdictAt }
 {
     places_have_frames();
+    has_one_verdict();
 }
 
 /// There is a verdict on the proof of each item of a base of files.
@@ -35,6 +38,8 @@ pub fn has_verdict_at()
     items_have_labels();
     mandatory_means();
     mandatory_stand_before();
+    decodes_surely();
+    has_verdict();
 }
 
 /// Proved is the verdict on the proof of an item exactly when it decodes, no step is unknown, and its expanded labels
@@ -43,7 +48,9 @@ pub fn has_verdict_at()
 /// It shows what the definitions mean; no code calls on it.
 pub fn proved_is_derived_at()
     ensures { ProvedIsDerivedAt }
-{}
+{
+    proved_is_derived();
+}
 
 /// There is one number at most of the steps of the proof of an item that are done.
 ///
@@ -52,6 +59,7 @@ pub fn has_one_count_at()
     ensures { HasOneCountAt }
 {
     places_have_frames();
+    has_one_count();
 }
 
 /// There is a number of the steps that are done, on the proof of each item of a base of files.
@@ -64,6 +72,8 @@ pub fn has_count_at()
     items_have_labels();
     mandatory_means();
     mandatory_stand_before();
+    decodes_surely();
+    has_count();
 }
 
 /// The spot of a verdict is in the proof that it is on.

@@ -3,9 +3,8 @@
 ghost use Rattle.mm_frame.specs.declared.base.Base.{Base as Meant};
 ghost use Rattle.mm_verdict.specs.Code.NamedItems.{AreKnown, AreKnownOf};
 
-use crate::assertion::{Cited, Hypothesis};
-use crate::named::{Named, Numbers, Use};
-use mm_frame::NumberedSymbol;
+use crate::named::Numbers;
+use mm_machine::{Cited, Hypothesis, Named, NumberedSymbol, Use};
 use std::alloc::Global;
 
 /// If more assertions and mandatory hypotheses than this are known, all are forgotten. So they take some megabytes at most, and

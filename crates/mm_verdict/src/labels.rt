@@ -5,14 +5,15 @@ ghost use Rattle.mm_frame.specs.Language.Base.{BaseView};
 ghost use Rattle.mm_frame.specs.Language.Answering.{IsBase};
 ghost use Rattle.mm_verdict.specs.Language.BaseLabels.{setting_at};
 ghost use Rattle.mm_verdict.specs.Language.Decoding.{word_spot, read_label as read_label_lem, is_close as is_close_lem};
-ghost use Rattle.mm_verdict.specs.declared.step.Undecoded.TheVariants as errors;
+ghost use Rattle.mm_verdict.specs.declared.undecoded.Undecoded.TheVariants as errors;
 ghost use Rattle.mm_verdict.specs.Language.DecodedSteps.{IsEntry, entry_step};
 ghost use Rattle.mm_verdict.specs.Code.Labels.{TellsWord, FromBegin, IsListed, TellsListed};
 ghost use Rattle.mm_verdict.specs.Code.Left.{AreLeft};
 
-use crate::step::{ProofFault, Undecoded};
-use crate::{ProofNumber, Spot};
+use crate::undecoded::Undecoded;
+use crate::words::is_close;
 use mm_frame::{Base, ProofWords, Resolved};
+use mm_machine::{ProofFault, ProofNumber, Spot};
 
 /// A fault at a word.
 fn fault_at(number: ProofNumber, word: usize) -> Undecoded
@@ -37,13 +38,6 @@ pub fn read_label(base: &Base, i: usize, label: &[u8], n: usize) -> Result<Resol
         Resolved::Inactive => Err(fault_at(ProofNumber::P02, n)),
         Resolved::Unknown => Err(fault_at(ProofNumber::P01, n)),
     }
-}
-
-/// Whether a word ends the list of labels of a compressed proof.
-pub fn is_close(word: &[u8]) -> bool
-    ensures { result ≡ is_close_lem word.now }
-{
-    matches!(word, b")")
 }
 
 /// Reads the list of labels after the `(` of a compressed proof, adds what they mean to the `labels`, and gives the

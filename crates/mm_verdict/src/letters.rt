@@ -1,18 +1,18 @@
 //! The letters of a compressed proof, read in one pass.
 
 ghost use Rattle.std.specs.Prelude.{◌≡◌, ℕ, ◌+◌, ◌-◌, ◌*◌, ◌^◌, ◌<◌, ◌≤◌, min, nat_lt, length, List, slice_get, IfOk, IfErr, Ok};
-ghost use Rattle.mm_verdict.specs.Language.Expansion.{Step};
+ghost use Rattle.mm_machine.specs.Language.Expansion.{Step};
 ghost use Rattle.mm_verdict.specs.Language.Numbers as numbers;
 ghost use Rattle.mm_verdict.specs.Language.Decoding.{nameable, named as named_lem};
 ghost use Rattle.mm_verdict.specs.Code.LeftToRight.{read_behind, alone_behind, read_on};
-ghost use Rattle.mm_verdict.specs.Language.DecodedSteps.{meant};
+ghost use Rattle.mm_machine.specs.Language.NamedSteps.{meant};
 ghost use Rattle.mm_verdict.specs.Code.Coded.{TellsSteps, meant_or, meant_steps, LettersGive};
 ghost use Rattle.mm_verdict.specs.Code.UsedLabels.{AreUseMarks, IsLabelWithin};
 
-use crate::step::{Action, ProofFault, ProofStep, Undecoded};
+use crate::undecoded::Undecoded;
 use crate::used::mark;
-use crate::{ProofNumber, Spot};
 use mm_frame::ProofWords;
+use mm_machine::{Action, ProofFault, ProofNumber, ProofStep, Spot};
 use std::alloc::AllocError;
 
 /// Whether a byte is one of the digits `U` to `Y`.

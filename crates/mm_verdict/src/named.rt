@@ -4,38 +4,15 @@ ghost use Rattle.std.specs.Prelude.{◌≡◌, ◌++◌, ◌∷◌, ◌<◌, [],
 ghost use Rattle.mm_frame.specs.declared.base.Resolved.TheVariants as answers;
 ghost use Rattle.mm_verdict.specs.Language.DecodedSteps.{AreEntries, entry_steps};
 ghost use Rattle.mm_verdict.specs.Code.NamedItems.{AreKnown, AreKnownOf, AreNamed, IsNamedBy, IsUseOf, NamingGrows};
-ghost use Rattle.mm_frame.specs.Language.NumberedSymbols.{by_number};
+ghost use Rattle.mm_machine.specs.Language.NumberedSymbols.{by_number};
 ghost use Rattle.mm_verdict.specs.Code.NumberedBase.{ByNames, numbered_setting};
-ghost use Rattle.mm_verdict.specs.Code.Tasks.{AreCitable, AreUses, AreUsesWithin};
+ghost use Rattle.mm_machine.specs.Language.NamedSteps.{AreCitable, AreUses, AreUsesWithin};
 
-use crate::assertion::{Cited, Hypothesis, expression, with_assertions};
+use crate::assertion::{expression, with_assertions};
 use crate::known::Known;
-use mm_frame::{Base, NumberedSymbol, Resolved};
+use mm_frame::{Base, Resolved};
+use mm_machine::{Named, NumberedSymbol, Use};
 use std::alloc::{AllocError, Global};
-
-/// What a label is used for.
-#[derive(Clone, Copy)]
-pub enum Use {
-    /// It names the hypothesis with this number.
-    Hypothesis(usize),
-    /// It names the assertion with this number.
-    Assertion(usize),
-    /// It is a `?`.
-    Nothing,
-}
-
-/// What the labels of a proof name.
-#[derive(Drop)]
-pub struct Named<'a, S> {
-    /// What each entry of the proof's table is used for.
-    pub uses: Vec<Use>,
-    /// The expressions of the hypotheses that are named, each once.
-    pub hypotheses: Vec<&'a [S]>,
-    /// The mandatory hypotheses of all these assertions.
-    pub mandatory: Vec<Hypothesis<'a, S>>,
-    /// The assertions that are named, and others that were named before.
-    pub assertions: Vec<Cited<'a, S>>,
-}
 
 /// Numbers of items, in order.
 #[derive(Drop)]

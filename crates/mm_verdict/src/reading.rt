@@ -1,27 +1,28 @@
 //! Decoding: the steps of a proof, or its first fault.
 
 ghost use Rattle.std.specs.Prelude.{◌≡◌, true, ◌+◌, List, Ok, IfOk, IfErr, map, length, codes, bytes_eq, ◌∷◌, ◌++◌};
-ghost use Rattle.mm_verdict.specs.Language.Expansion.{Step};
+ghost use Rattle.mm_machine.specs.Language.Expansion.{Step};
 ghost use Rattle.mm_frame.specs.Language.Base.{BaseView};
 ghost use Rattle.mm_frame.specs.Language.Answering.{IsBase};
 ghost use Rattle.mm_verdict.specs.Language.BaseLabels.{setting_at, AreActive};
 ghost use Rattle.mm_verdict.specs.Language.Decoding.{read_word as read_word_lem, is_compressed as is_compressed_lem};
 ghost use Rattle.mm_frame.specs.declared.base.Resolved.TheVariants as answers;
 ghost use Rattle.mm_verdict.specs.Language.DecodedSteps.{decoded_steps, TellsFault, decoding_of, labels_at, label_table};
-ghost use Rattle.mm_verdict.specs.Language.DecodedSteps.{meant, AreEntries, IsEntry, entry_step, entry_steps, word_step};
+ghost use Rattle.mm_machine.specs.Language.NamedSteps.{meant};
+ghost use Rattle.mm_verdict.specs.Language.DecodedSteps.{AreEntries, IsEntry, entry_step, entry_steps, word_step};
 ghost use Rattle.mm_verdict.specs.Code.Coded.{TellsSteps};
-ghost use Rattle.mm_verdict.specs.Code.Decoded.{InViews, WhereActive, compressed_at, normal_at};
-ghost use Rattle.mm_verdict.specs.Code.Decoded.{steps_by, listed_table};
+ghost use Rattle.mm_verdict.specs.Code.Decoded.{InViews, WhereActive, compressed_at, normal_at, steps_by, listed_table};
 ghost use Rattle.mm_verdict.specs.Code.Labels.{TellsWord};
 ghost use Rattle.mm_verdict.specs.Code.UsedLabels.{IsLabelWithin};
 ghost use Rattle.mm_verdict.specs.Code.MarkedLabels.{HasMarks};
 
-use crate::Spot;
 use crate::labels::{read_label, read_list};
 use crate::letters::{MarkedSteps, read_letters};
-use crate::step::{Action, ProofStep, Undecoded};
+use crate::undecoded::Undecoded;
 use crate::used::mark;
+use crate::words::{is_open, is_unknown};
 use mm_frame::{Base, ProofWords, Resolved};
+use mm_machine::{Action, ProofStep, Spot};
 use std::alloc::{AllocError, Global};
 
 /// The steps of a proof, and what the labels that they name mean.
@@ -112,13 +113,6 @@ fn decode_compressed(
     })
 }
 
-/// Whether a word is a `?`.
-pub fn is_unknown(word: &[u8]) -> bool
-    ensures { result ≡ bytes_eq word.now (codes "?") }
-{
-    matches!(word, b"?")
-}
-
 /// What the n-th word of a normal proof of the item with the number `i` names, and what it does.
 fn read_word(base: &Base, i: usize, word: &[u8], n: usize) -> Result<(Resolved, Action), Undecoded>
     ensures ok { IfOk result (λ read. InViews base.now (λ view. read_word_lem (setting_at view i) word.now ≡ Ok (entry_step view read.0))) }
@@ -169,13 +163,6 @@ fn decode_normal(
     }
     let decoding = Decoding { labels, steps };
     Ok(MarkedDecoding { decoding, used })
-}
-
-/// Whether a word begins the list of labels of a compressed proof.
-pub fn is_open(word: &[u8]) -> bool
-    ensures { result ≡ bytes_eq word.now (codes "(") }
-{
-    matches!(word, b"(")
 }
 
 /// Whether the words of a proof are those of a compressed one: the first is a `(`.

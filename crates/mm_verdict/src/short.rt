@@ -5,8 +5,8 @@ ghost use Rattle.mm_frame.specs.Language.Base.{BaseView};
 ghost use Rattle.mm_frame.specs.Language.Answering.{IsBase};
 ghost use Rattle.mm_verdict.specs.Code.ShortSteps.{NamesLarger, TakesMore};
 
-use crate::step::{Action, ProofStep};
 use mm_frame::{Base, Resolved};
+use mm_machine::{Action, ProofStep};
 
 /// How many entries what a label names takes from the stack.
 fn taken_by(base: &Base, label: Resolved) -> usize

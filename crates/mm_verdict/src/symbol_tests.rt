@@ -1,30 +1,28 @@
 //! The machine over names and over numbers: it says the same of a proof.
 
 ghost use Rattle.std.specs.Prelude.{◌≡◌, List, All, IfOk, length, map};
-ghost use Rattle.mm_frame.specs.Language.Frame.{Mandatory};
-ghost use Rattle.mm_frame.specs.Language.NumberedSymbols.{by_number, named_symbol};
-ghost use Rattle.mm_verdict.specs.Code.Citation.{frame_of, hypotheses_of, meant_pairs, range_of};
-ghost use Rattle.mm_verdict.specs.Code.Judged.{HasDecoding, HasProof, IsOutcomeWithin};
-ghost use Rattle.mm_verdict.specs.Code.Keys.{AreInKeyOrder, key_by_number};
-ghost use Rattle.mm_verdict.specs.Code.NumberedBase.{all_by_number};
+ghost use Rattle.mm_machine.specs.Language.Frame.{Mandatory};
+ghost use Rattle.mm_machine.specs.Language.NumberedSymbols.{by_number, named_symbol, all_by_number};
+ghost use Rattle.mm_machine.specs.Language.CitedFrames.{frame_of, hypotheses_of, meant_pairs, range_of};
+ghost use Rattle.mm_machine.specs.Language.NamedSteps.{IsOutcomeWithin, AreCitable, AreSavedBefore, AreUsesWithin, IsUseWithin};
+ghost use Rattle.mm_verdict.specs.Code.Judged.{HasDecoding, HasProof};
+ghost use Rattle.mm_machine.specs.Language.Keys.{AreInKeyOrder, key_by_number};
 ghost use Rattle.mm_verdict.specs.Code.Spelled.{HasOneKey, IsRanged, key_by_name, ranged};
 ghost use Rattle.mm_verdict.specs.Language.ReadIn.{HasTheorem};
-ghost use Rattle.mm_verdict.specs.Code.Tasks.{AreCitable, AreSavedBefore, AreUsesWithin, IsUseWithin};
 
-use crate::Verdict;
-use crate::active::Active;
-use crate::assertion::{Cited, Hypothesis, active, expression};
+use crate::assertion::{active, expression};
 use crate::checking::{decoding_fault, mandatory, verdict};
 use crate::citing::cites;
 use crate::decoding_laws::{decodes_surely, mandatory_are_active};
 use crate::known::Known;
-use crate::machine::Machine;
-use crate::named::{Named, NamingRoom, Use, name_all};
+use crate::named::{NamingRoom, name_all};
 use crate::reading::{Decoding, decode};
-use crate::step::ProofStep;
-use crate::stepping::{Outcome, run};
 use crate::work::Checked;
-use mm_frame::{Base, Files, NamedSymbol, Names, NumberedSymbol, ProofWords, words_of_proof};
+use mm_frame::{Base, Files, Names, ProofWords, words_of_proof};
+use mm_machine::{
+    Active, Cited, Hypothesis, Machine, Named, NamedSymbol, NumberedSymbol, Outcome, ProofStep,
+    Use, Verdict, run,
+};
 use std::alloc::{AllocError, Global};
 
 /// The tables of a run over names have this many places: fewer than there are names, so some names share one.

@@ -5,10 +5,11 @@ ghost use Rattle.mm_frame.specs.Language.Base.{BaseView, is_proof_at};
 ghost use Rattle.mm_frame.specs.Language.Answering.{IsBase};
 ghost use Rattle.mm_verdict.specs.Language.ReadIn.{IsReadIn};
 
+use crate::check;
 use crate::symbol_tests::agrees;
 use crate::work::{Checked, Work};
-use crate::{ProofNumber, Spot, Verdict, check};
 use mm_frame::{Base, Files, Names, StoreError};
+use mm_machine::{ProofNumber, Spot, Verdict};
 use std::alloc::{AllocError, Global};
 use std::mem;
 use std::test::Fail;

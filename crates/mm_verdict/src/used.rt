@@ -2,12 +2,12 @@
 
 ghost use Rattle.std.specs.Prelude.{◌≡◌, ◌<◌, ◌||◌, ℕ, List, IfOk, Some, length, slice_get};
 ghost use Rattle.mm_frame.specs.declared.base.Resolved.TheVariants as answers;
-ghost use Rattle.mm_verdict.specs.declared.step.ProofStep.{ProofStep};
+ghost use Rattle.mm_machine.specs.declared.step.ProofStep.{ProofStep};
 ghost use Rattle.mm_verdict.specs.Code.Cited.{is_item, marked_at};
 ghost use Rattle.mm_verdict.specs.Code.UsedLabels.{AreUseMarks, AreUsed, IsLabelWithin, label_named};
 
-use crate::step::{Action, ProofStep};
 use mm_frame::Resolved;
+use mm_machine::{Action, ProofStep};
 use std::alloc::{AllocError, Global};
 
 /// Marks the label that an action names, if it names one.

@@ -2,11 +2,10 @@
 
 ghost use Rattle.std.specs.Prelude.{◌≡◌, ◌<◌, ◌+◌, ◌++◌, ◌∷◌, ◌^◌, [], IfOk, OnOk, OnErr};
 
-use crate::Verdict;
-use crate::machine::Machine;
 use crate::named::NamingRoom;
 use crate::reading::MarkedDecoding;
-use mm_frame::{NumberedSymbol, Resolved};
+use mm_frame::Resolved;
+use mm_machine::{Machine, NumberedSymbol, Verdict};
 use std::alloc::{AllocError, Global};
 use std::marker::Model;
 

@@ -1,11 +1,7 @@
 -- The words that are a command, by how many there are.
-use Rattle.std.proofs.Common.{◌≡◌, ◌≢◌, ℕ, true, false, List, [], ◌∷◌, length, get_or, refl, sym, ◌∙◌, ap, arith, codes, bytes_eq}
-use Rattle.std.proofs.lemmas.List.{length-map}
-use Rattle.std.proofs.lemmas.Slice.Eq.{bytes_eq-Decides}
+use Rattle.std.proofs.{Common.{◌≡◌, ◌≢◌, ℕ, true, false, List, [], ◌∷◌, length, get_or, refl, sym, ◌∙◌, ap, arith, codes, bytes_eq}, lemmas.{List.{length-map}, Slice.Eq.{bytes_eq-Decides}}}
 use Rattle.std.specs.Borrow.{Bor}
-use Rattle.mmkeep.specs.declared.arguments.Command.{Command}
-use Rattle.mmkeep.specs.declared.arguments.Command.TheVariants.{Verify, Axioms, Session}
-use Rattle.mmkeep.specs.Language.Asking.{said, words_of}
+use Rattle.mmkeep.specs.{declared.arguments.Command.{Command, TheVariants.{Verify, Axioms, Session}}, Language.Asking.{said, words_of}}
 
 -- the words that are given, if there are two or three
 two_words : (words : List (Bor (List ℕ))) (d : Bor (List ℕ)) → length words ≡ 2 → said words ≡ (get_or words 0 d).now ∷ ((get_or words 1 d).now ∷ [])

@@ -1,24 +1,15 @@
 -- Files that are loaded: none is parked, those that are there stay, and a walk goes on among them.
-use Rattle.std.proofs.Common.{◌≡◌, ◌≢◌, ℕ, ◌+◌, ◌<◌, suc, Bool, true, false, not, cond, List, [], ◌∷◌, ◌++◌, ◌⊎◌, Option, Some, None, Result, Ok, Err, OnOk, IfErr, IsErrOf, length, map, sym, ap, ◌∙◌, subst, refl, inl, inr, arith, Contains, position}
-use Rattle.std.specs.List.{position_or_len, sum_by}
-use Rattle.std.specs.Str.{bytes_eq}
-use Rattle.std.specs.FinMap as finite
-use Rattle.std.specs.Ordering.{nat_cmp}
-use Rattle.std.proofs.lemmas.Bool.{lt-ltb, ltb-true}
-use Rattle.std.proofs.lemmas.List.{length-map, nil_from_length}
-use Rattle.std.proofs.lemmas.Option.{none-some}
-use Rattle.std.proofs.lemmas.Slice.Eq.{bytes_eq-Decides}
-use Rattle.mm_report.specs.mm_store.declared.error.StoreError.{StoreError}
-use Rattle.mm_report.specs.mm_store.declared.error.StoreError.TheVariants.{Memory, NoTop}
-use Rattle.mm_report.specs.mm_store.Language.Answers.{IsExpansionError}
-use Rattle.mm_report.specs.mm_store.declared.item.Item.{Item}
-use Rattle.mm_report.specs.mm_store.Language.FileFacts.{IsAdded, parked_in}
-use Rattle.mm_report.specs.mm_store.Language.FilesView.{File, FilesView, file_number, file_view, files_in, no_files, number_of, plain, plain_file}
-use Rattle.mm_report.specs.mm_store.Language.Keyless.{bare, bare_file}
-use Rattle.mm_report.specs.mm_store.Language.Pieces.{HeldPiece, parked_state}
-use Rattle.mm_report.specs.mm_store.Language.Walking.{WalkView, IsWalk, FindsMissing}
+use Rattle.std.proofs.Common.{◌≡◌, ◌≢◌, ℕ, ◌+◌, ◌<◌, suc, Bool, true, false, not, cond, List, [], ◌∷◌, ◌++◌, ◌⊎◌, Option, Some, None, Result, Ok, Err, OnOk, IfErr, IsErrOf, length, map, sym, ap, ◌∙◌}
+use Rattle.std.proofs.Common.{subst, refl, inl, inr, arith, Contains, position}
+use Rattle.std.proofs.lemmas.{Bool.{lt-ltb, ltb-true}, List.{length-map, nil_from_length}, Option.{none-some}, Slice.Eq.{bytes_eq-Decides}}
+use Rattle.std.specs.{List.{position_or_len, sum_by}, Str.{bytes_eq}, Ordering.{nat_cmp}}
+use Rattle.mm_report.specs.mm_store.declared.{error.StoreError.{StoreError, TheVariants.{Memory, NoTop}}, item.Item.{Item}}
+use Rattle.mm_report.specs.mm_store.Language.{Answers.{IsExpansionError}, FileFacts.{IsAdded, parked_in}}
+use Rattle.mm_report.specs.mm_store.Language.{FilesView.{File, FilesView, file_number, file_view, files_in, no_files, number_of, plain, plain_file}, Keyless.{bare, bare_file}}
+use Rattle.mm_report.specs.mm_store.Language.{Pieces.{HeldPiece, parked_state}, Walking.{WalkView, IsWalk, FindsMissing}}
 use Rattle.mmkeep.specs.Code.Loaded.{AddsIfOpened, AddsOpened, HasFile, HasWalked, KeepsFiles}
 use Rattle.mmkeep.specs.Language.Loading.{AddsFile, AreLoaded, Bytes, IsNew, KnownFile, Loads, NoFile, Opens, TakesFile, TakesTop, Unknown}
+use Rattle.std.specs.FinMap as finite
 
 pub nothing_parked : parked_in no_files ≡ 0
 nothing_parked = ap (sum_by (λ (entry : ℕ × HeldPiece). parked_state entry.1.state)) (nil_from_length (finite.entries finite.empty) (sym (finite.len-entries finite.empty) ∙ finite.len-empty nat_cmp HeldPiece))

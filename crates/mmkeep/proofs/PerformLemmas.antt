@@ -1,16 +1,11 @@
 -- What a command has done, by what its parts have done.
-use Rattle.std.proofs.Common.{◌≡◌, ◌⊎◌, ℕ, List, Option, Result, Ok, Err, IfErr, sym, subst, inl, inr}
+use Rattle.std.proofs.{Common.{◌≡◌, ◌⊎◌, ℕ, List, Option, Result, Ok, Err, IfErr, sym, subst, inl, inr}, KnownBytes.{Keeps-refl}}
 use Rattle.std.specs.Io.KnownBytes.{Appends, Keeps}
-use Rattle.std.proofs.KnownBytes.{Keeps-refl}
 use Rattle.mm_report.specs.mm_keep.Language.Sessions.{SessionView, HasAssertion}
-use Rattle.mm_report.specs.mm_script.declared.error.ScriptError.{ScriptError}
+use Rattle.mm_report.specs.{mm_script.{declared.{error.ScriptError.{ScriptError}, stream.Writing.{Writing}}, Language.Stream.{AppendsPart, written}}, Language.Answers.{IsAnswer}}
+use Rattle.mmkeep.specs.{declared.outcome.Outcome.TheVariants.{Clean}, Language.Performing.{ListsAxioms, StopsAxioms}}
 use Rattle.mm_report.specs.mm_script.declared.error.ScriptError.TheVariants as errors
-use Rattle.mm_report.specs.mm_script.declared.stream.Writing.{Writing}
-use Rattle.mm_report.specs.Language.Answers.{IsAnswer}
 use Rattle.mm_report.specs.mm_script.Language.Script as script
-use Rattle.mm_report.specs.mm_script.Language.Stream.{AppendsPart, written}
-use Rattle.mmkeep.specs.declared.outcome.Outcome.TheVariants.{Clean}
-use Rattle.mmkeep.specs.Language.Performing.{ListsAxioms, StopsAxioms}
 
 -- the axioms of an assertion that is there are listed
 pub lists_there : (session : SessionView) (label word : List ℕ) (before after : Option (List ℕ)) → word ≡ label

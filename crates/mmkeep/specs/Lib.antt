@@ -5,6 +5,7 @@ pub use Rattle.mm_report.specs.mm_proof
 pub use Rattle.mm_report.specs.mm_verdict
 pub use Rattle.mm_report.specs.mm_frame
 pub use Rattle.mm_report.specs.mm_statement
+pub use Rattle.mm_report.specs.mm_machine
 pub use Rattle.mm_report.specs.mm_store
 pub use Rattle.mm_report.specs.mm_text
 pub mod Language

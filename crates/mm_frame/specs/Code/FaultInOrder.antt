@@ -4,13 +4,10 @@ use Rattle.std.specs.Option.{option_or}
 use Rattle.mm_frame.specs.declared.FrameNumber.{FrameNumber}
 use Rattle.mm_frame.specs.declared.FrameNumber.TheVariants.{F01, F02, F03, F04, F05, F06, F07, F08, F09, F10, F11, F12, F13}
 use Rattle.mm_statement.specs.Language.Item.{first_symbol, Kind, Constants, Variables, Disjoint, Floating}
-use Rattle.mm_statement.specs.Language.Item.{Essential, Axiom, Theorem, Item, is_constants, is_disjoint}
-use Rattle.mm_statement.specs.Language.Item.{is_declaring}
-use Rattle.mm_statement.specs.Language.Item.{labels_of}
+use Rattle.mm_statement.specs.Language.Item.{Essential, Axiom, Theorem, Item, is_constants, is_disjoint, is_declaring, labels_of}
 use Rattle.mm_frame.specs.Language.Scope.{is_inside}
 use Rattle.mm_frame.specs.Language.Sound.{closing_word, is_repeated, is_declared, is_active_symbol, is_label, is_no_constant, is_no_variable}
-use Rattle.mm_frame.specs.Language.Sound.{is_no_active_symbol}
-use Rattle.mm_frame.specs.Language.Sound.{is_untyped, is_typed, is_typed_otherwise, is_short, fault_or}
+use Rattle.mm_frame.specs.Language.Sound.{is_no_active_symbol, is_untyped, is_typed, is_typed_otherwise, is_short, fault_or}
 
 -- the first symbol with a fault; the first of these symbols has number n in its statement and is this word
 abbrev pub first_fault : (ℕ → List ℕ → Option FrameNumber) → ℕ → ℕ → List (List ℕ) → Option (ℕ × FrameNumber)

@@ -1,7 +1,7 @@
 -- What the code keeps of the active `$e` and `$d`.
 use Rattle.std.specs.Prelude.{◌≡◌, ◌||◌, Bool, List}
 use Rattle.mm_frame.specs.declared.active_items.ActiveItems.{ActiveItems}
-use Rattle.mm_frame.specs.declared.symbol.NumberedSymbol.{NumberedSymbol}
+use Rattle.mm_machine.specs.declared.symbol.NumberedSymbol.{NumberedSymbol}
 use Rattle.mm_statement.specs.Language.Item.{Kind, Item, is_essential, is_disjoint}
 use Rattle.mm_frame.specs.Language.Scope.{closes, mark_of, active_numbers}
 use Rattle.mm_frame.specs.Code.LastItems.{is_essential_item, is_disjoint_item}

@@ -8,7 +8,7 @@ use Rattle.mm_statement.specs.Language.Item.{Item, is_assertion}
 use Rattle.mm_frame.specs.Language.Sound.{sound_items}
 use Rattle.mm_frame.specs.Language.Framing.{frame, active_pairs}
 use Rattle.mm_frame.specs.Language.Base.{told_fault}
-use Rattle.mm_frame.specs.Language.NumberedSymbols.{ArePairsRead}
+use Rattle.mm_machine.specs.Language.NumberedSymbols.{ArePairsRead}
 use Rattle.mm_frame.specs.Language.Answering.{AreRows, told_numbers, is_told_proof, pairs_in_order}
 use Rattle.mm_frame.specs.Code.KeptAsked.{KnowsAsked}
 use Rattle.mm_frame.specs.Code.KeptPairLists.{IsList, AreMade}

@@ -1,7 +1,7 @@
 -- What the code keeps of the sound items before an assertion, from which its frame is made.
 use Rattle.std.specs.Prelude.{◌≡◌, ℕ, true, List}
 use Rattle.mm_frame.specs.declared.mandatory.Earlier.{Earlier}
-use Rattle.mm_frame.specs.declared.symbol.NumberedSymbol.{NumberedSymbol}
+use Rattle.mm_machine.specs.declared.symbol.NumberedSymbol.{NumberedSymbol}
 use Rattle.mm_statement.specs.Language.Item.{Item, is_assertion}
 use Rattle.mm_frame.specs.Language.Sound.{AreSound, IsSound}
 use Rattle.mm_frame.specs.Language.Framing.{expression}
@@ -11,7 +11,7 @@ use Rattle.mm_frame.specs.Language.Scope.{active_numbers}
 use Rattle.mm_frame.specs.Code.KeptTables.{Knows}
 use Rattle.mm_frame.specs.Code.KeptPairTable.{KnowsPairs}
 use Rattle.mm_frame.specs.Code.KeptVariables.{AreVariablesOf}
-use Rattle.mm_frame.specs.Language.NumberedSymbols.{AreSymbolsRead}
+use Rattle.mm_machine.specs.Language.NumberedSymbols.{AreSymbolsRead}
 use Rattle.mm_frame.specs.Code.KeptSymbols.{AreExpressions, AreNumbered, AreSymbols}
 
 -- the items are sound, and this is known of them

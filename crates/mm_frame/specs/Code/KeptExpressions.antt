@@ -1,6 +1,6 @@
 -- The symbols of items as the code keeps them: lists of symbols, and for each item the number of its list.
 use Rattle.std.specs.Prelude.{◌≡◌, ℕ, ◌<◌, List, All, map, length}
-use Rattle.mm_frame.specs.declared.symbol.NumberedSymbol.{NumberedSymbol}
+use Rattle.mm_machine.specs.declared.symbol.NumberedSymbol.{NumberedSymbol}
 use Rattle.mm_frame.specs.declared.expressions.Expressions.TheInside.{Inside}
 use Rattle.mm_frame.specs.Code.KeptSymbols.{expression_kept}
 

@@ -2,14 +2,14 @@
 use Rattle.std.specs.Prelude.{◌≡◌, ℕ, ◌≤◌, leb, cond, Option, Some, None, List, [], ◌∷◌, ◌++◌, length, map, take, slice_get, nat_eq, Contains, Vec}
 use Rattle.std.specs.HashMap.{get}
 use Rattle.std.specs.Global.{Global}
-use Rattle.mm_frame.specs.declared.symbol.NumberedSymbol.{NumberedSymbol}
+use Rattle.mm_machine.specs.declared.symbol.NumberedSymbol.{NumberedSymbol}
 use Rattle.mm_frame.specs.declared.pair_lists.PairLists.{PairLists}
-use Rattle.mm_frame.specs.Language.Frame.{Symbol}
+use Rattle.mm_machine.specs.Language.Frame.{Symbol}
 use Rattle.mm_statement.specs.Language.Item.{Item}
 use Rattle.mm_frame.specs.Language.Framing.{active_pairs}
 use Rattle.mm_frame.specs.Language.Scope.{active_numbers}
 use Rattle.mm_frame.specs.Code.LastItems.{is_disjoint_item}
-use Rattle.mm_frame.specs.Language.NumberedSymbols.{AreSamePairsRead, AreInOrder}
+use Rattle.mm_machine.specs.Language.NumberedSymbols.{AreSamePairsRead, AreInOrder}
 
 -- the pairs of a list: none if there is no list
 abbrev pub pairs_or_none : Option (Vec (NumberedSymbol × NumberedSymbol) Global) → List (NumberedSymbol × NumberedSymbol)

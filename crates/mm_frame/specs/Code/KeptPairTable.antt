@@ -3,7 +3,7 @@ use Rattle.std.specs.Prelude.{◌≡◌, ℕ, suc, true, Option, Some, None, Lis
 use Rattle.std.specs.Global.{Global}
 use Rattle.mm_frame.specs.declared.paired.PairTable.{PairTable}
 use Rattle.mm_statement.specs.Language.Item.{Item, is_disjoint, has}
-use Rattle.mm_frame.specs.Language.Names.{AreDistinct}
+use Rattle.mm_machine.specs.Language.Names.{AreDistinct}
 use Rattle.mm_frame.specs.Language.Scope.{Mark}
 use Rattle.mm_frame.specs.Language.Sound.{AreSound}
 use Rattle.mm_frame.specs.Code.BlockMarks.{stays_by, block_marks}

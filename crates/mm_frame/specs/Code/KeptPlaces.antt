@@ -2,7 +2,7 @@
 use Rattle.std.specs.Prelude.{◌≡◌, ℕ, suc, if◌then◌else◌, nat_lt, nat_eq, Option, Some, List, [], map, flat_map, filter, drop, slice_get, option_to_list}
 use Rattle.std.specs.HashMap.{get}
 use Rattle.mm_frame.specs.declared.places.Places.{Places}
-use Rattle.mm_frame.specs.declared.symbol.NumberedSymbol.{NumberedSymbol}
+use Rattle.mm_machine.specs.declared.symbol.NumberedSymbol.{NumberedSymbol}
 use Rattle.mm_frame.specs.Language.Scope.{Mark}
 use Rattle.mm_frame.specs.Code.BlockMarks.{stays_by}
 use Rattle.mm_frame.specs.Code.KeptSymbols.{expression_kept}

@@ -1,6 +1,6 @@
 -- Lists of symbols as the code keeps them: the symbols of all in one list, with the ends of those of each.
 use Rattle.std.specs.Prelude.{List, length}
-use Rattle.mm_frame.specs.declared.symbol.NumberedSymbol.{NumberedSymbol}
+use Rattle.mm_machine.specs.declared.symbol.NumberedSymbol.{NumberedSymbol}
 use Rattle.mm_frame.specs.declared.symbol_lists.SymbolLists.TheInside.{Inside}
 use Rattle.mm_frame.specs.Code.KeptParts.{cut_from, EndsFrom}
 

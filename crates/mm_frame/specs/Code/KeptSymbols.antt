@@ -1,14 +1,14 @@
 -- Symbols and expressions as the code keeps them.
 use Rattle.std.specs.Prelude.{◌≡◌, ℕ, Bool, true, not, length, if◌then◌else◌, Option, Some, None, List, [], All, take, slice_get, option_to_list}
 use Rattle.std.specs.List.{flat_map}
-use Rattle.mm_frame.specs.declared.symbol.NumberedSymbol.{NumberedSymbol}
+use Rattle.mm_machine.specs.declared.symbol.NumberedSymbol.{NumberedSymbol}
 use Rattle.mm_frame.specs.declared.tables.Tables.{Tables}
-use Rattle.mm_frame.specs.Language.Frame.{Symbol}
+use Rattle.mm_machine.specs.Language.Frame.{Symbol}
 use Rattle.mm_statement.specs.Language.Item.{Item, has, is_labelled, is_read}
 use Rattle.mm_frame.specs.Language.Scope.{constants}
 use Rattle.mm_frame.specs.Language.Framing.{expression}
 use Rattle.mm_frame.specs.Code.KeptTables.{declared_at, is_constant_as, float_of}
-use Rattle.mm_frame.specs.Language.NumberedSymbols.{symbols_of, IsNumbered}
+use Rattle.mm_machine.specs.Language.NumberedSymbols.{symbols_of, IsNumbered}
 
 -- a name as a symbol: a variable if it is no declared constant
 abbrev pub by_constants : List Item → List ℕ → Symbol

@@ -5,7 +5,7 @@ use Rattle.mm_frame.specs.declared.tables.Declared.{Declared}
 use Rattle.mm_frame.specs.declared.tables.Declared.TheVariants.{Constant, Variable}
 use Rattle.mm_statement.specs.Language.Item.{Item, has}
 use Rattle.mm_frame.specs.Language.Scope.{constants}
-use Rattle.mm_frame.specs.Language.Names.{AreDistinct}
+use Rattle.mm_machine.specs.Language.Names.{AreDistinct}
 use Rattle.mm_frame.specs.Code.Numbers.{number_in}
 use Rattle.mm_frame.specs.Code.KeptLabels.{label_number}
 use Rattle.mm_frame.specs.Code.LastItems.{last_where, declares_variable, types, carries}

@@ -1,7 +1,7 @@
 -- What the code keeps of the variables of the active `$e`.
 use Rattle.std.specs.Prelude.{◌≡◌, ℕ, ◌<◌, ◌≤◌, true, if◌then◌else◌, List, [], ◌++◌, length, Contains}
 use Rattle.mm_frame.specs.declared.essential.EssentialVariable.{EssentialVariable}
-use Rattle.mm_frame.specs.declared.symbol.NumberedSymbol.{NumberedSymbol}
+use Rattle.mm_machine.specs.declared.symbol.NumberedSymbol.{NumberedSymbol}
 use Rattle.mm_frame.specs.declared.tables.Tables.{Tables}
 use Rattle.mm_frame.specs.Code.KeptSymbols.{expression_kept, float_number}
 use Rattle.mm_frame.specs.Code.PairOrder.{is_among}

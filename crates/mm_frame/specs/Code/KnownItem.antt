@@ -4,11 +4,11 @@ use Rattle.std.specs.Option.{option_map}
 use Rattle.mm_store.specs.declared.item.Item as store
 use Rattle.mm_store.specs.Language.FilesView.{FilesView}
 use Rattle.mm_frame.specs.declared.again.Known.{Known}
-use Rattle.mm_frame.specs.declared.symbol.NumberedSymbol.{NumberedSymbol}
+use Rattle.mm_machine.specs.declared.symbol.NumberedSymbol.{NumberedSymbol}
 use Rattle.mm_statement.specs.Language.Item.{Item, is_read}
 use Rattle.mm_frame.specs.Language.Base.{BaseView, before, said_at, is_sound_at}
 use Rattle.mm_frame.specs.Language.Framing.{expression}
-use Rattle.mm_frame.specs.Language.NumberedSymbols.{symbols_of, IsNumbered}
+use Rattle.mm_machine.specs.Language.NumberedSymbols.{symbols_of, IsNumbered}
 use Rattle.mm_statement.specs.Language.Statement.{AreOneRange, Says}
 use Rattle.mm_frame.specs.Code.Numbers.{AreNameNumbers}
 

@@ -1,7 +1,7 @@
 -- The variables of the `$f` of a frame, as the code keeps them.
 use Rattle.std.specs.Prelude.{ℕ, Bool, if◌then◌else◌, List, [], flat_map, nat_eq, slice_get, option_to_list}
 use Rattle.std.specs.List.{list_any}
-use Rattle.mm_frame.specs.declared.symbol.NumberedSymbol.{NumberedSymbol}
+use Rattle.mm_machine.specs.declared.symbol.NumberedSymbol.{NumberedSymbol}
 use Rattle.mm_frame.specs.Code.KeptSymbols.{expression_kept}
 
 -- the number is one of these

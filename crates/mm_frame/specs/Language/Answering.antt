@@ -5,15 +5,15 @@ use Rattle.std.specs.Option.{option_map}
 use Rattle.std.specs.List.{AllZip, list_any}
 use Rattle.mm_store.specs.declared.item.Item as store
 use Rattle.mm_frame.specs.declared.FrameNumber.{FrameNumber}
-use Rattle.mm_frame.specs.declared.symbol.NumberedSymbol.{NumberedSymbol}
-use Rattle.mm_frame.specs.Language.Names.{AreDistinct, Begins}
-use Rattle.mm_frame.specs.Language.Frame.{Symbol, Mandatory, Frame}
+use Rattle.mm_machine.specs.declared.symbol.NumberedSymbol.{NumberedSymbol}
+use Rattle.mm_machine.specs.Language.Names.{AreDistinct, Begins}
+use Rattle.mm_machine.specs.Language.Frame.{Symbol, Mandatory, Frame}
 use Rattle.mm_statement.specs.Language.Item.{Item, is_labelled, is_read, is_assertion, is_theorem, item_at}
 use Rattle.mm_statement.specs.Language.Statement.{kind_of}
 use Rattle.mm_frame.specs.Language.Scope.{Mark, mark_of}
 use Rattle.mm_frame.specs.Language.Sound.{sound_items}
 use Rattle.mm_frame.specs.Language.Framing.{expression, pairs_of, active_pairs, mandatory_numbers, frame}
-use Rattle.mm_frame.specs.Language.NumberedSymbols.{symbols_of, IsNumbered, ArePairsRead, AreSamePairsRead, AreInOrder}
+use Rattle.mm_machine.specs.Language.NumberedSymbols.{symbols_of, IsNumbered, ArePairsRead, AreSamePairsRead, AreInOrder}
 use Rattle.mm_frame.specs.Language.Base.{BaseView, told_fault}
 
 -- what is reported of the items, each by its number: the items themselves; their labels and faults; the symbols; the numbers of the

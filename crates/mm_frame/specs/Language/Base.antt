@@ -7,7 +7,7 @@ use Rattle.mm_store.specs.Language.FilesView.{FilesView, files_in}
 use Rattle.mm_store.specs.Language.Expansion.{IsExpansion}
 use Rattle.mm_frame.specs.declared.FrameNumber.{FrameNumber}
 use Rattle.mm_frame.specs.declared.FrameNumber.TheVariants.{F14}
-use Rattle.mm_frame.specs.Language.Frame.{Symbol, Mandatory, Frame}
+use Rattle.mm_machine.specs.Language.Frame.{Symbol, Mandatory, Frame}
 use Rattle.mm_statement.specs.Language.Item.{Kind, Missing, Item, is_labelled, is_assertion, is_theorem, item_at}
 use Rattle.mm_frame.specs.Language.Sound.{fault, sound_items}
 use Rattle.mm_statement.specs.Language.Statement.{Says}

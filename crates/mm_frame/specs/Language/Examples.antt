@@ -1,7 +1,7 @@
 -- A small database, and what is sound, active and mandatory in it. Each of its symbols is one letter.
 use Rattle.std.specs.Prelude.{◌≡◌, ℕ, ◌&&◌, nat_le, true, Some, None, List, [], ◌∷◌, ◌++◌, map, codes}
 use Rattle.mm_frame.specs.declared.FrameNumber.TheVariants.{F12}
-use Rattle.mm_frame.specs.Language.Frame.{Symbol, Mandatory, Assertion, Inactive}
+use Rattle.mm_machine.specs.Language.Frame.{Symbol, Mandatory, Assertion, Inactive}
 use Rattle.mm_frame.specs.Language.Framing.{active_pairs, frame, resolve}
 use Rattle.mm_statement.specs.Language.Item.{Kind, Constants, Variables, Disjoint, Floating, Essential, Axiom, BlockStart, BlockEnd, Item}
 use Rattle.mm_frame.specs.Language.Sound.{fault, sound_items}

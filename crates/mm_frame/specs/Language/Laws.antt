@@ -2,7 +2,7 @@
 use Rattle.std.specs.Prelude.{◌≡◌, ℕ, ◌<◌, ◌≤◌, ◌↔◌, ◌⊎◌, true, Some, None, List, [], ◌∷◌, ◌++◌, map, take, count_by, slice_get}
 use Rattle.mm_store.specs.Language.FilesView.{FilesView, plain}
 use Rattle.mm_store.specs.Language.Keyless.{keyless_item}
-use Rattle.mm_frame.specs.Language.Typing.{HasFrames}
+use Rattle.mm_machine.specs.Language.Typing.{HasFrames}
 use Rattle.mm_statement.specs.Language.Item.{Item}
 use Rattle.mm_frame.specs.Language.Numbered.{IsActive, between}
 use Rattle.mm_frame.specs.Language.Scope.{Neither, mark_of, closed, stays, active, is_start, is_end}

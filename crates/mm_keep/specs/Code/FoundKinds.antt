@@ -2,8 +2,8 @@
 use Rattle.std.specs.Prelude.{◌≡◌, ◌+◌, ℕ}
 use Rattle.mm_proof.specs.mm_store.Language.FilesView.{FilesView}
 use Rattle.mm_proof.specs.mm_frame.Language.Base.{BaseView}
-use Rattle.mm_proof.specs.mm_verdict.declared.Verdict.{Verdict}
-use Rattle.mm_proof.specs.mm_verdict.declared.Verdict.TheVariants as verdicts
+use Rattle.mm_proof.specs.mm_machine.declared.Verdict.{Verdict}
+use Rattle.mm_proof.specs.mm_machine.declared.Verdict.TheVariants as verdicts
 use Rattle.mm_keep.specs.declared.finding.FindingKind.{FindingKind}
 use Rattle.mm_keep.specs.declared.finding.FindingKind.TheVariants as kinds
 use Rattle.mm_keep.specs.Language.Told.{Told, Quiet, AnAxiom, Proved, Incomplete, Wrong, Fault, Counts, IsRightlyTold}

@@ -9,8 +9,8 @@ use Rattle.mm_proof.specs.mm_verdict.Language.ReadIn.{IsReadIn}
 use Rattle.mm_proof.specs.mm_verdict.Language.ItemLaws.{IsSpotIn}
 use Rattle.mm_proof.specs.mm_verdict.Language.VerdictAt.{IsVerdictAt}
 use Rattle.mm_proof.specs.mm_verdict.Language.Work.{Judgement}
-use Rattle.mm_proof.specs.mm_verdict.declared.Spot.{Spot}
-use Rattle.mm_proof.specs.mm_verdict.declared.Verdict.{Verdict}
+use Rattle.mm_proof.specs.mm_machine.declared.Spot.{Spot}
+use Rattle.mm_proof.specs.mm_machine.declared.Verdict.{Verdict}
 use Rattle.mm_keep.specs.declared.finding.At.{At}
 use Rattle.mm_keep.specs.Code.KeptSession.{AreChecked}
 use Rattle.mm_keep.specs.Language.WordPlaces.{start_of, HasPlace}

@@ -7,10 +7,10 @@ use Rattle.mm_proof.specs.mm_frame.Language.Base.{BaseView, fault_at, is_sound_a
 use Rattle.mm_proof.specs.mm_statement.Language.Item.{Axiom, is_assertion}
 use Rattle.mm_proof.specs.mm_frame.declared.FrameNumber.{FrameNumber}
 use Rattle.mm_proof.specs.mm_verdict.Language.VerdictAt.{IsVerdictAt}
-use Rattle.mm_proof.specs.mm_verdict.declared.Spot.{Spot}
-use Rattle.mm_proof.specs.mm_verdict.declared.Verdict.{Verdict}
-use Rattle.mm_proof.specs.mm_verdict.declared.Verdict.TheVariants as verdicts
-use Rattle.mm_proof.specs.mm_verdict.declared.ProofNumber.{ProofNumber}
+use Rattle.mm_proof.specs.mm_machine.declared.Spot.{Spot}
+use Rattle.mm_proof.specs.mm_machine.declared.Verdict.{Verdict}
+use Rattle.mm_proof.specs.mm_machine.declared.Verdict.TheVariants as verdicts
+use Rattle.mm_proof.specs.mm_machine.declared.ProofNumber.{ProofNumber}
 use Rattle.mm_keep.specs.declared.finding.At.{At}
 use Rattle.mm_keep.specs.Language.WordPlaces.{spelled, HasPlace, IsPlaceOfSpot}
 

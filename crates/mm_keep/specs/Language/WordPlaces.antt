@@ -8,7 +8,7 @@ use Rattle.mm_proof.specs.mm_store.Language.FileFacts.{CanBeRead, StandsIn, IsBy
 use Rattle.mm_proof.specs.mm_frame.Language.Base.{BaseView, said_at}
 use Rattle.mm_proof.specs.mm_statement.Language.Item.{Item}
 use Rattle.mm_proof.specs.mm_statement.Language.Statement.{symbols_from}
-use Rattle.mm_proof.specs.mm_verdict.declared.Spot.{Spot}
+use Rattle.mm_proof.specs.mm_machine.declared.Spot.{Spot}
 use Rattle.mm_keep.specs.declared.finding.At.{At}
 
 -- the byte at which a word begins; 0 if there is none

@@ -2,7 +2,7 @@
 use Rattle.std.specs.Prelude.{◌≡◌, ◌↔◌, ◌<◌, ℕ, Bool, true, false, not, Option, Some, None, List, length, map, slice_get, bytes_eq, codes}
 use Rattle.std.specs.List.{AllByRecursion}
 use Rattle.mm_frame.specs.Language.Base.{BaseView, before, said_at, is_shown_at, is_framed_at, is_proof_at, frame_at, hypothesis_at}
-use Rattle.mm_frame.specs.Language.Frame.{Resolved, Hypothesis, Assertion, Inactive, Unknown, AreSameFrame, AreSamePairs}
+use Rattle.mm_frame.specs.mm_machine.Language.Frame.{Resolved, Hypothesis, Assertion, Inactive, Unknown, AreSameFrame, AreSamePairs}
 use Rattle.mm_frame.specs.Language.Framing.{active_pairs, expression}
 use Rattle.mm_frame.specs.Language.Resolving.{IsCarrier}
 use Rattle.mm_frame.specs.Language.Answering.{IsBaseBy}
@@ -11,7 +11,7 @@ use Rattle.mm_frame.specs.declared.base.Resolved as answer
 use Rattle.mm_frame.specs.declared.base.Resolved.TheVariants as answers
 use Rattle.mm_verdict.specs.Language.BaseLabels.{setting_at}
 use Rattle.mm_proof.specs.Language.BaseMarks.{ItemMark, MarksView, AreMarks, IsMark, KeepsLabels, mark_at}
-use Rattle.mm_verdict.specs.Language.SameProof.{IsSameLabel, labels_named}
+use Rattle.mm_verdict.specs.Language.SameToDecode.{IsSameLabel, labels_named}
 use Rattle.mm_proof.specs.declared.marks.Compared.{Compared}
 use Rattle.mm_proof.specs.declared.marks.Mark as code
 use Rattle.mm_proof.specs.declared.marks.Marks.TheInside.{Inside}

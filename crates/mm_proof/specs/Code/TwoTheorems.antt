@@ -6,7 +6,7 @@ use Rattle.mm_frame.specs.Language.Base.{BaseView, said_at}
 use Rattle.mm_frame.specs.Language.Answering.{IsBase}
 use Rattle.mm_verdict.specs.Language.BaseLabels.{setting_at}
 use Rattle.mm_verdict.specs.Language.ReadIn.{HasTheorem, IsReadIn}
-use Rattle.mm_verdict.specs.Language.SameProof.{IsSameLabel}
+use Rattle.mm_verdict.specs.Language.SameToDecode.{IsSameLabel}
 use Rattle.mm_proof.specs.Code.KeptMarks.{OfBasesBy, AreMarksOf, AreTheorems}
 use Rattle.mm_proof.specs.declared.view.TwoTheorems.{TwoTheorems}
 

@@ -1,10 +1,10 @@
 -- What stays of an old base in a new one, for each item of the new one.
 use Rattle.std.specs.Prelude.{◌≡◌, ◌↔◌, ℕ, ◌<◌, Bool, true, false, Option, Some, None, List, length, slice_get, slice_index_or}
 use Rattle.mm_frame.specs.Language.Base.{BaseView, before, said_at, is_framed_at, is_proof_at, is_shown_at, frame_at}
-use Rattle.mm_frame.specs.Language.Frame.{AreSameFrame, AreSamePairs}
+use Rattle.mm_frame.specs.mm_machine.Language.Frame.{AreSameFrame, AreSamePairs}
 use Rattle.mm_frame.specs.Language.Framing.{active_pairs}
 use Rattle.mm_verdict.specs.Language.BaseLabels.{setting_at}
-use Rattle.mm_verdict.specs.Language.SameProof.{IsSameLabel}
+use Rattle.mm_verdict.specs.Language.SameToDecode.{IsSameLabel}
 
 -- What is reported of an item: the number of the sound item of the old base that has its label; whether both are assertions with the same
 -- frame; whether both are theorems with the same active pairs; and whether every label is known to mean the same at both.

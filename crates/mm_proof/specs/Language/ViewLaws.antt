@@ -3,7 +3,7 @@ use Rattle.std.specs.Prelude.{◌≡◌, ℕ}
 use Rattle.mm_frame.specs.Language.Base.{BaseView, AreSaid}
 use Rattle.mm_verdict.specs.Language.View.{view_at, AreSameViews}
 use Rattle.mm_verdict.specs.Language.VerdictAt.{IsVerdictAt, cites_at}
-use Rattle.mm_verdict.specs.declared.Verdict.{Verdict}
+use Rattle.mm_verdict.specs.mm_machine.declared.Verdict.{Verdict}
 
 -- Two theorems with equal views have equal verdicts, spots included, in any two databases.
 abbrev pub SameViewSameVerdict : Type 0

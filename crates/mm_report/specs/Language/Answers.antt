@@ -1,6 +1,5 @@
 -- The answers of a script: its commands are put to a session, and may edit it.
-use Rattle.std.specs.Prelude.{◌≡◌, ◌≢◌, ◌⊎◌, ℕ, unwrap_or}
-use Rattle.std.specs.Prelude.{List, [], ◌∷◌, ◌++◌, length, map, codes, decimal}
+use Rattle.std.specs.Prelude.{◌≡◌, ◌≢◌, ◌⊎◌, ℕ, unwrap_or, List, [], ◌∷◌, ◌++◌, length, map, codes, decimal}
 use Rattle.std.specs.List.{flat_map}
 use Rattle.mm_keep.specs.mm_text.Language.Place.{line_at, column_at}
 use Rattle.mm_keep.specs.mm_text.declared.fault.TextNumber.{TextNumber}

@@ -1,13 +1,12 @@
 -- The report of a session: a line for each fault and for each theorem whose proof is wrong or incomplete, and a line of counts.
-use Rattle.std.specs.Prelude.{◌≡◌, ℕ, Option, unwrap_or}
-use Rattle.std.specs.Prelude.{List, [], ◌∷◌, ◌++◌, map, slice_index_or, codes, decimal}
+use Rattle.std.specs.Prelude.{◌≡◌, ℕ, Option, unwrap_or, List, [], ◌∷◌, ◌++◌, map, slice_index_or, codes, decimal}
 use Rattle.mm_keep.specs.mm_store.Language.FilesView.{File, plain}
 use Rattle.mm_keep.specs.mm_frame.Language.Base.{BaseView, IsOfFiles}
 use Rattle.mm_keep.specs.mm_statement.Language.Item.{Item}
 use Rattle.mm_keep.specs.mm_frame.declared.FrameNumber.{FrameNumber}
 use Rattle.mm_keep.specs.mm_frame.declared.FrameNumber.TheVariants.{F01, F02, F03, F04, F05, F06, F07, F08, F09, F10, F11, F12, F13, F14}
-use Rattle.mm_keep.specs.mm_verdict.declared.ProofNumber.{ProofNumber}
-use Rattle.mm_keep.specs.mm_verdict.declared.ProofNumber.TheVariants.{P01, P02, P03, P04, P05, P06, P07, P08, P09, P10, P11, P12, P13, P14, P15}
+use Rattle.mm_keep.specs.mm_machine.declared.ProofNumber.{ProofNumber}
+use Rattle.mm_keep.specs.mm_machine.declared.ProofNumber.TheVariants.{P01, P02, P03, P04, P05, P06, P07, P08, P09, P10, P11, P12, P13, P14, P15}
 use Rattle.mm_keep.specs.declared.finding.At.{At}
 use Rattle.mm_keep.specs.Language.Sessions.{SessionView}
 use Rattle.mm_keep.specs.Language.Told.{Told, Incomplete, Wrong, Fault, Shown, Counts, counts, AreRightlyTold}

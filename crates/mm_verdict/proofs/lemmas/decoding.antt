@@ -15,4 +15,3 @@ pub mod ShortLemmas
 pub mod SpotLemmas
 pub mod SureLemmas
 pub mod TableLemmas
-pub mod Threaded

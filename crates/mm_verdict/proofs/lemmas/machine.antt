@@ -1,25 +1,8 @@
--- The machine: its stack, substitution, citations, pairs, and runs of it.
+-- What is given to the machine: the labels that steps name, what they name, and the first steps of a proof.
 
-pub mod ApartLemmas
-pub mod BoundLemmas
-pub mod CitingFaults
-pub mod Counting
-pub mod EntryFaults
-pub mod FlatLemmas
-pub mod Given
-pub mod KeyOrderLemmas
 pub mod LackLemmas
-pub mod MarkLemmas
 pub mod MarkedLabels
 pub mod NamedLemmas
-pub mod PairClauseLemmas
 pub mod RangeLemmas
-pub mod Reaching
-pub mod Running
-pub mod SlotLemmas
 pub mod SpelledLemmas
-pub mod StackLemmas
-pub mod StepLemmas
-pub mod Substituted
-pub mod Turning
 pub mod UsedLemmas

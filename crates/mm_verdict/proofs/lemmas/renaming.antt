@@ -1,6 +1,4 @@
--- A renaming of symbols, one to one, keeps verdicts; numbers for names are one.
+-- A renaming of symbols keeps what a proof decodes to; the names of labels.
 
 pub mod NameLemmas
-pub mod NumberingLemmas
-pub mod RenamedFrames
-pub mod RenamingLemmas
+pub mod RenamedDecoding

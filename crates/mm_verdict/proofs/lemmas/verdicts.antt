@@ -1,11 +1,3 @@
--- Verdicts over the definitions alone: what is derived, reached or at fault, and that there is one.
+-- The verdict on the proof of an item, and how many of its steps are done.
 
-pub mod Choices
-pub mod Fronts
 pub mod ItemLemmas
-pub mod Joins
-pub mod Lines
-pub mod OneVerdict
-pub mod Part
-pub mod Unique
-pub mod Weights

@@ -1,5 +1,4 @@
--- Proofs that mean the same decode to the same, cite by the same words, and have one verdict.
+-- Proofs that mean the same decode to the same, and cite by the same words.
 
-pub mod Moving
 pub mod SameCites
 pub mod SameLemmas

@@ -3,9 +3,9 @@ use Rattle.std.specs.Prelude.{ℕ, ◌+◌, Bool, false, not, slice_index_or, �
 use Rattle.std.specs.List.{list_any}
 use Rattle.mm_frame.specs.declared.base.Resolved.{Resolved}
 use Rattle.mm_frame.specs.declared.base.Resolved.TheVariants as answers
-use Rattle.mm_verdict.specs.declared.step.Action.{Action}
-use Rattle.mm_verdict.specs.declared.step.Action.TheVariants as actions
-use Rattle.mm_verdict.specs.declared.step.ProofStep.{ProofStep}
+use Rattle.mm_machine.specs.declared.step.Action.{Action}
+use Rattle.mm_machine.specs.declared.step.Action.TheVariants as actions
+use Rattle.mm_machine.specs.declared.step.ProofStep.{ProofStep}
 
 -- the assertion of an entry, if it is one
 abbrev pub cited_item : Option Resolved → Option ℕ

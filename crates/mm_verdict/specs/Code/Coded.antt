@@ -1,16 +1,16 @@
 -- What the code's steps and faults stand for.
 use Rattle.std.specs.Prelude.{◌≡◌, ℕ, Result, Ok, Err, List, length, drop, map}
-use Rattle.mm_verdict.specs.Language.Expansion.{Step}
+use Rattle.mm_machine.specs.Language.Expansion.{Step}
 use Rattle.mm_verdict.specs.Language.Letters.{groups, letters_from}
 use Rattle.mm_verdict.specs.Code.Left.{AreLeft}
 use Rattle.mm_verdict.specs.Language.Decoding.{Steps, in_order, each_group, word_spot}
-use Rattle.mm_verdict.specs.Language.DecodedSteps.{meant}
-use Rattle.mm_verdict.specs.declared.Spot.{Spot}
-use Rattle.mm_verdict.specs.declared.ProofNumber.{ProofNumber}
-use Rattle.mm_verdict.specs.declared.step.Action.{Action}
-use Rattle.mm_verdict.specs.declared.step.ProofStep.{ProofStep}
-use Rattle.mm_verdict.specs.declared.step.Undecoded.{Undecoded}
-use Rattle.mm_verdict.specs.declared.step.Undecoded.TheVariants as errors
+use Rattle.mm_machine.specs.Language.NamedSteps.{meant}
+use Rattle.mm_machine.specs.declared.Spot.{Spot}
+use Rattle.mm_machine.specs.declared.ProofNumber.{ProofNumber}
+use Rattle.mm_machine.specs.declared.step.Action.{Action}
+use Rattle.mm_machine.specs.declared.step.ProofStep.{ProofStep}
+use Rattle.mm_verdict.specs.declared.undecoded.Undecoded.{Undecoded}
+use Rattle.mm_verdict.specs.declared.undecoded.Undecoded.TheVariants as errors
 
 -- the step that an action stands for, or its fault
 abbrev pub meant_or : List Step → Result Action ProofNumber → Result Step ProofNumber

@@ -8,8 +8,8 @@ use Rattle.mm_verdict.specs.Language.BaseLabels.{setting_at, AreActive}
 use Rattle.mm_verdict.specs.Language.DecodedSteps.{entry_steps, labels_at}
 use Rattle.mm_verdict.specs.Code.Coded.{meant_steps}
 use Rattle.mm_verdict.specs.Language.Decoding.{Steps, word_spot, read_word, in_order, each_word, is_close, compressed_steps}
-use Rattle.mm_verdict.specs.Language.Expansion.{Step, Named}
-use Rattle.mm_verdict.specs.declared.Spot.{Spot}
+use Rattle.mm_machine.specs.Language.Expansion.{Step, Named}
+use Rattle.mm_machine.specs.declared.Spot.{Spot}
 use Rattle.mm_verdict.specs.declared.reading.Decoding.{Decoding}
 
 -- this holds in each view that the base stands for

@@ -2,7 +2,7 @@
 use Rattle.std.specs.Prelude.{◌≡◌, ℕ, List}
 use Rattle.mm_frame.specs.Language.Base.{BaseView}
 use Rattle.mm_verdict.specs.Language.DecodedSteps.{decoded_steps}
-use Rattle.mm_verdict.specs.Language.Expansion.{Step}
+use Rattle.mm_machine.specs.Language.Expansion.{Step}
 use Rattle.mm_verdict.specs.Language.VerdictAt.{IsVerdictAt, AreDoneAt, cites_at}
 use Rattle.mm_verdict.specs.Code.Judged.{HasDecoding, OfDecoding}
 use Rattle.mm_verdict.specs.declared.checking.DecodedProof.{DecodedProof}

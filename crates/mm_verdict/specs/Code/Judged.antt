@@ -6,8 +6,8 @@ use Rattle.mm_frame.specs.Language.Answering.{IsBase}
 use Rattle.mm_verdict.specs.Language.VerdictAt.{decoding_at, mandatory_labels}
 use Rattle.mm_verdict.specs.Language.DecodedSteps.{decoded_steps, AreEntries, entry_steps, label_table}
 use Rattle.mm_verdict.specs.declared.reading.Decoding.{Decoding}
-use Rattle.mm_verdict.specs.declared.stepping.Outcome.{Outcome}
-use Rattle.mm_verdict.specs.declared.stepping.Outcome.TheVariants.{Proved, Fault, Unknown, NotOne, Other}
+use Rattle.mm_machine.specs.declared.stepping.Outcome.{Outcome}
+use Rattle.mm_machine.specs.declared.stepping.Outcome.TheVariants.{Proved, Fault, Unknown, NotOne, Other}
 
 -- the code's base answers this, by what its items' words say, and the item with this number is a sound `$p` with a proof of
 -- these words
@@ -39,12 +39,6 @@ OfDecoding code i proof d holds = (view : BaseView) → IsDecoding code i proof 
 -- there is such a view of the base
 abbrev pub HasDecoding : Base → ℕ → List (List ℕ) → Decoding → Type 0
 HasDecoding code i proof d = (view : BaseView) × IsDecoding code i proof d view × (i < length view.said)
-
--- the step that an outcome names is one of this many
-abbrev pub IsOutcomeWithin : ℕ → Outcome → Type 0
-IsOutcomeWithin steps (Fault number n) = n < steps
-IsOutcomeWithin steps (Unknown n) = n < steps
-IsOutcomeWithin steps _ = Unit {0}
 
 -- how many of this many steps are done
 abbrev pub done_by : ℕ → Outcome → ℕ

@@ -2,20 +2,20 @@
 use Rattle.std.specs.Prelude.{◌≡◌, ◌<◌, ℕ, ◌+◌, Result, Err, List, ◌++◌, length, map, take, drop, false}
 use Rattle.std.specs.List.{list_any, before_first}
 use Rattle.mm_frame.specs.declared.base.Resolved.{Resolved}
-use Rattle.mm_verdict.specs.declared.ProofNumber.{ProofNumber}
-use Rattle.mm_verdict.specs.declared.step.Undecoded.{Undecoded}
-use Rattle.mm_verdict.specs.declared.step.Undecoded.TheVariants as errors
+use Rattle.mm_machine.specs.declared.ProofNumber.{ProofNumber}
+use Rattle.mm_verdict.specs.declared.undecoded.Undecoded.{Undecoded}
+use Rattle.mm_verdict.specs.declared.undecoded.Undecoded.TheVariants as errors
 use Rattle.mm_frame.specs.Language.Base.{BaseView}
 use Rattle.mm_frame.specs.Language.Answering.{IsBase}
 use Rattle.mm_frame.specs.declared.base.Base.{Base}
 use Rattle.mm_verdict.specs.Language.BaseLabels.{setting_at}
-use Rattle.mm_verdict.specs.Language.Expansion.{Step, Named}
+use Rattle.mm_machine.specs.Language.Expansion.{Step, Named}
 use Rattle.mm_verdict.specs.Language.DecodedSteps.{entry_steps, AreEntries, word_step}
 use Rattle.mm_verdict.specs.Language.Decoding.{word_spot, compressed_steps, letter_steps, in_order, each_word, read_word, is_close}
 use Rattle.mm_verdict.specs.Code.LeftToRight.{list_on, with_steps}
 use Rattle.mm_verdict.specs.Code.Coded.{TellsSteps, meant_steps}
 use Rattle.mm_verdict.specs.Code.Left.{AreLeft}
-use Rattle.mm_verdict.specs.declared.step.ProofStep.{ProofStep}
+use Rattle.mm_machine.specs.declared.step.ProofStep.{ProofStep}
 
 -- a fault that is reported is that of a word
 abbrev pub TellsWord : Undecoded → ℕ → Result Step ProofNumber → Type 0

@@ -1,14 +1,14 @@
 -- The letters read from left to right, with a number for the digits so far. No public contract speaks of it: it is
 -- between the code and the definition, with which it is proved to agree.
 use Rattle.std.specs.Prelude.{ℕ, ◌+◌, ◌-◌, ◌*◌, ◌==◌, if◌then◌else◌, Result, Ok, Err, List, [], ◌∷◌, ◌++◌, slice_get}
-use Rattle.mm_frame.specs.Language.Frame.{Setting}
-use Rattle.mm_verdict.specs.Language.Expansion.{Step, Save, NotKnown}
+use Rattle.mm_machine.specs.Language.Frame.{Setting}
+use Rattle.mm_machine.specs.Language.Expansion.{Step, Save, NotKnown}
 use Rattle.mm_verdict.specs.Language.Numbers.{is_digit, is_last, digit_worth, last_worth}
 use Rattle.mm_verdict.specs.Language.Letters.{Letter}
 use Rattle.mm_verdict.specs.Language.Decoding.{Steps, read_first, nameable, named, read_label, is_close, letter_steps, word_spot}
-use Rattle.mm_verdict.specs.declared.Spot.{Spot}
-use Rattle.mm_verdict.specs.declared.ProofNumber.{ProofNumber}
-use Rattle.mm_verdict.specs.declared.ProofNumber.TheVariants.{P03, P04, P05}
+use Rattle.mm_machine.specs.declared.Spot.{Spot}
+use Rattle.mm_machine.specs.declared.ProofNumber.{ProofNumber}
+use Rattle.mm_machine.specs.declared.ProofNumber.TheVariants.{P03, P04, P05}
 
 -- a letter that takes no digits: their number is 0 if there are none
 abbrev pub alone_behind : ℕ → Step → Result Step ProofNumber

@@ -3,20 +3,20 @@ use Rattle.std.specs.Prelude.{◌≡◌, ℕ, ◌<◌, true, Some, List, All, le
 use Rattle.mm_frame.specs.declared.base.Base.{Base}
 use Rattle.mm_frame.specs.declared.base.Resolved.{Resolved}
 use Rattle.mm_frame.specs.declared.base.Resolved.TheVariants as answers
-use Rattle.mm_frame.specs.declared.symbol.NumberedSymbol.{NumberedSymbol}
+use Rattle.mm_machine.specs.declared.symbol.NumberedSymbol.{NumberedSymbol}
 use Rattle.mm_frame.specs.Language.Base.{BaseView, is_shown_at, is_framed_at}
-use Rattle.mm_frame.specs.Language.Frame.{Symbol, Frame, AreSameFrame}
+use Rattle.mm_machine.specs.Language.Frame.{Symbol, Frame, AreSameFrame}
 use Rattle.mm_frame.specs.Language.Answering.{IsBase}
-use Rattle.mm_verdict.specs.Code.Citation.{IsCitable, frame_of, hypotheses_of}
+use Rattle.mm_machine.specs.Language.CitedFrames.{IsCitable, frame_of, hypotheses_of}
 use Rattle.mm_verdict.specs.Language.DecodedSteps.{IsEntry}
-use Rattle.mm_frame.specs.Language.NumberedSymbols.{by_number}
-use Rattle.mm_verdict.specs.Code.NumberedBase.{ByNames, all_by_number, numbered_hypothesis, numbered_frame}
-use Rattle.mm_verdict.specs.declared.assertion.Cited.{Cited}
-use Rattle.mm_verdict.specs.declared.assertion.Hypothesis.{Hypothesis}
+use Rattle.mm_machine.specs.Language.NumberedSymbols.{by_number, all_by_number}
+use Rattle.mm_verdict.specs.Code.NumberedBase.{ByNames, numbered_hypothesis, numbered_frame}
+use Rattle.mm_machine.specs.declared.assertion.Cited.{Cited}
+use Rattle.mm_machine.specs.declared.assertion.Hypothesis.{Hypothesis}
 use Rattle.mm_verdict.specs.declared.known.Known.{Known}
 use Rattle.mm_verdict.specs.declared.named.Naming.{Naming}
-use Rattle.mm_verdict.specs.declared.named.Use.{Use}
-use Rattle.mm_verdict.specs.declared.named.Use.TheVariants as uses
+use Rattle.mm_machine.specs.declared.named.Use.{Use}
+use Rattle.mm_machine.specs.declared.named.Use.TheVariants as uses
 
 -- the expressions that were named
 abbrev pub expressions_named : Naming → List (List Symbol)

@@ -1,21 +1,12 @@
 -- What a base answers, with numbers in place of the names of symbols.
-use Rattle.std.specs.Prelude.{ℕ, List, map}
+use Rattle.std.specs.Prelude.{ℕ, List}
 use Rattle.mm_frame.specs.declared.base.Base.{Base}
-use Rattle.mm_frame.specs.declared.symbol.NumberedSymbol.{NumberedSymbol}
 use Rattle.mm_frame.specs.Language.Base.{BaseView, hypothesis_at, frame_at}
-use Rattle.mm_frame.specs.Language.Frame.{Symbol, Mandatory, Frame, Setting}
-use Rattle.mm_frame.specs.Language.NumberedSymbols.{by_number}
+use Rattle.mm_machine.specs.Language.Frame.{Mandatory, Frame, Setting}
 use Rattle.mm_frame.specs.Language.Answering.{IsBaseBy}
 use Rattle.mm_verdict.specs.Language.BaseLabels.{setting_at}
-use Rattle.mm_verdict.specs.Language.Renaming.{renamed_mandatory, renamed_frame, renamed_meaning, renamed_pairs}
-use Rattle.mm_verdict.specs.Code.Numbering.{unnaming}
-
-abbrev pub all_by_number : List NumberedSymbol → List Symbol
-all_by_number symbols = map by_number symbols
-
--- the setting whose symbols are renamed
-abbrev pub renamed_setting : (Symbol → Symbol) → Setting → Setting
-renamed_setting to place = record { resolve = λ label. renamed_meaning to (place.resolve label); active = renamed_pairs to place.active }
+use Rattle.mm_machine.specs.Language.Renaming.{renamed_mandatory, renamed_frame, renamed_setting}
+use Rattle.mm_machine.specs.Language.Numbering.{unnaming}
 
 -- the hypothesis with a number, by the numbers of names
 abbrev pub numbered_hypothesis : List (List ℕ) → BaseView → ℕ → Mandatory

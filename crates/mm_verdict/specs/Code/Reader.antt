@@ -1,11 +1,11 @@
 -- What the code's reader of letters has read, and what the letters that are left make of it.
 use Rattle.std.specs.Prelude.{◌≡◌, ℕ, ◌+◌, ◌-◌, ◌^◌, ◌≤◌, min, List, length, vec_capacity}
-use Rattle.mm_verdict.specs.Language.Expansion.{Step}
+use Rattle.mm_machine.specs.Language.Expansion.{Step}
 use Rattle.mm_verdict.specs.Language.Letters.{Letter}
 use Rattle.mm_verdict.specs.Language.Decoding.{Steps}
 use Rattle.mm_verdict.specs.Code.LeftToRight.{read_on, with_steps}
 use Rattle.mm_verdict.specs.Code.Coded.{meant_steps}
-use Rattle.mm_verdict.specs.declared.Spot.{Spot}
+use Rattle.mm_machine.specs.declared.Spot.{Spot}
 use Rattle.mm_verdict.specs.declared.letters.LetterReader.{LetterReader}
 
 -- The labels that numbers name, the spot after the letters, and what all letters give.

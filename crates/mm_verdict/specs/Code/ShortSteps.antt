@@ -3,8 +3,8 @@ use Rattle.std.specs.Prelude.{◌≡◌, ℕ, ◌<◌, true, Some, List, length,
 use Rattle.mm_frame.specs.declared.base.Resolved.{Resolved}
 use Rattle.mm_frame.specs.declared.base.Resolved.TheVariants as answers
 use Rattle.mm_frame.specs.Language.Base.{BaseView, frame_at, is_framed_at}
-use Rattle.mm_verdict.specs.declared.step.Action.TheVariants as actions
-use Rattle.mm_verdict.specs.declared.step.ProofStep.{ProofStep}
+use Rattle.mm_machine.specs.declared.step.Action.TheVariants as actions
+use Rattle.mm_machine.specs.declared.step.ProofStep.{ProofStep}
 
 -- the label names an assertion with more than this many hypotheses
 pub record NamesLarger (view : BaseView) (label : Resolved) (n : ℕ) : Type 0 where

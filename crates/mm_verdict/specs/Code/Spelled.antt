@@ -1,8 +1,8 @@
 -- The numbers by which symbols by name are looked for, and those of symbols by number.
 use Rattle.std.specs.Prelude.{◌≡◌, ◌≤◌, ℕ}
-use Rattle.mm_frame.specs.Language.Frame.{Symbol, Frame}
-use Rattle.mm_frame.specs.Language.Typing.{IsFrame}
-use Rattle.mm_verdict.specs.Code.Keys.{key_by_number, key_from}
+use Rattle.mm_machine.specs.Language.Frame.{Symbol, Frame}
+use Rattle.mm_machine.specs.Language.Typing.{IsFrame}
+use Rattle.mm_machine.specs.Language.Keys.{key_by_number, key_from}
 
 -- the number of a symbol by the bytes of its name
 abbrev pub key_by_name : Symbol → ℕ

@@ -3,9 +3,9 @@ use Rattle.std.specs.Prelude.{◌≡◌, ◌<◌, ℕ, Bool, Option, Some, None,
 use Rattle.std.specs.List.{list_any}
 use Rattle.mm_frame.specs.declared.base.Resolved.{Resolved}
 use Rattle.mm_frame.specs.declared.base.Resolved.TheVariants as answers
-use Rattle.mm_verdict.specs.declared.step.Action.{Action}
-use Rattle.mm_verdict.specs.declared.step.Action.TheVariants as actions
-use Rattle.mm_verdict.specs.declared.step.ProofStep.{ProofStep}
+use Rattle.mm_machine.specs.declared.step.Action.{Action}
+use Rattle.mm_machine.specs.declared.step.Action.TheVariants as actions
+use Rattle.mm_machine.specs.declared.step.ProofStep.{ProofStep}
 use Rattle.mm_verdict.specs.Code.Cited.{is_item, is_listed, marked_at, names_item}
 
 -- the number of the label that an action names

@@ -3,7 +3,7 @@ use Rattle.std.specs.Prelude.{◌≡◌, ℕ, true, List, [], unwrap_or}
 use Rattle.std.specs.List.{AllByRecursion}
 use Rattle.mm_frame.specs.Language.Base.{BaseView, before, said_at, is_shown_at}
 use Rattle.mm_frame.specs.Language.Framing.{setting}
-use Rattle.mm_frame.specs.Language.Frame.{Setting}
+use Rattle.mm_machine.specs.Language.Frame.{Setting}
 use Rattle.mm_frame.specs.Language.Resolving.{Resolves}
 use Rattle.mm_frame.specs.declared.base.Resolved.TheVariants as answers
 

@@ -1,11 +1,11 @@
 -- Which words of a proof cite an assertion: for each assertion that a decoded step names, the first word that is its label.
 use Rattle.std.specs.Prelude.{ℕ, Bool, true, false, not, ◌&&◌, if◌then◌else◌, Result, Ok, Err, List, [], ◌∷◌, map, filter, drop, bytes_eq, codes}
 use Rattle.std.specs.List.{list_any, enumerate_from, before_first}
-use Rattle.mm_frame.specs.Language.Frame.{Resolved, Hypothesis, Assertion, Inactive, Unknown, Setting}
-use Rattle.mm_verdict.specs.Language.Expansion.{Step, Named, Saved, Save, NotKnown}
+use Rattle.mm_machine.specs.Language.Frame.{Resolved, Hypothesis, Assertion, Inactive, Unknown, Setting}
+use Rattle.mm_machine.specs.Language.Expansion.{Step, Named, Saved, Save, NotKnown}
 use Rattle.mm_verdict.specs.Language.Decoding.{is_compressed, is_close}
-use Rattle.mm_verdict.specs.Language.Verdict.{Decoded}
-use Rattle.mm_verdict.specs.declared.step.ProofFault.{ProofFault}
+use Rattle.mm_machine.specs.Language.Verdict.{Decoded}
+use Rattle.mm_machine.specs.declared.step.ProofFault.{ProofFault}
 
 -- the words of a proof that are labels, with their numbers from 0: those of a normal proof except `?`, or those of the list of a compressed
 -- one

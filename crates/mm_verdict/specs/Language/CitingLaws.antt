@@ -3,8 +3,8 @@ use Rattle.std.specs.Prelude.{◌≡◌, ◌↔◌, ℕ, Ok, Some, List, Contain
 use Rattle.mm_frame.specs.Language.Base.{BaseView, AreSaid, said_at}
 use Rattle.mm_frame.specs.Language.Resolving.{Resolves}
 use Rattle.mm_frame.specs.declared.base.Resolved.TheVariants as answers
-use Rattle.mm_verdict.specs.Language.Expansion.{Named}
-use Rattle.mm_verdict.specs.Language.Verdict.{Decoded}
+use Rattle.mm_machine.specs.Language.Expansion.{Named}
+use Rattle.mm_machine.specs.Language.Verdict.{Decoded}
 use Rattle.mm_verdict.specs.Language.VerdictAt.{decoding_at, cites_at}
 
 -- item i cites item k: a decoded step of its proof names a label, and at item i that is the label of assertion k

@@ -1,5 +1,5 @@
 -- What a decoding of the code stands for at an item of a base: which label each entry of its table is, and which steps its actions are.
-use Rattle.std.specs.Prelude.{◌≡◌, ℕ, Result, Err, List, ◌++◌, length, map, drop, slice_index_or, if◌then◌else◌, bytes_eq, codes}
+use Rattle.std.specs.Prelude.{◌≡◌, ℕ, Result, Err, List, ◌++◌, length, map, drop, if◌then◌else◌, bytes_eq, codes}
 use Rattle.std.specs.List.{AllByRecursion, before_first}
 use Rattle.mm_frame.specs.Language.Base.{BaseView}
 use Rattle.mm_frame.specs.Language.Resolving.{Resolves}
@@ -7,14 +7,13 @@ use Rattle.mm_frame.specs.declared.base.Resolved.{Resolved}
 use Rattle.mm_frame.specs.declared.base.Resolved.TheVariants as answers
 use Rattle.mm_verdict.specs.Language.BaseLabels.{label_at, setting_at}
 use Rattle.mm_verdict.specs.Language.Decoding.{word_spot, is_close, is_compressed, decoding}
-use Rattle.mm_verdict.specs.Language.Expansion.{Step, Named, Saved, Save, NotKnown}
-use Rattle.mm_verdict.specs.Language.Verdict.{Decoded}
+use Rattle.mm_machine.specs.Language.Expansion.{Step, Named, NotKnown}
+use Rattle.mm_machine.specs.Language.Verdict.{Decoded}
+use Rattle.mm_machine.specs.Language.NamedSteps.{meant}
 use Rattle.mm_verdict.specs.declared.reading.Decoding.{Decoding}
-use Rattle.mm_verdict.specs.declared.step.Action.{Action}
-use Rattle.mm_verdict.specs.declared.step.Action.TheVariants as actions
-use Rattle.mm_verdict.specs.declared.step.ProofFault.{ProofFault}
-use Rattle.mm_verdict.specs.declared.step.Undecoded.{Undecoded}
-use Rattle.mm_verdict.specs.declared.step.Undecoded.TheVariants as errors
+use Rattle.mm_machine.specs.declared.step.ProofFault.{ProofFault}
+use Rattle.mm_verdict.specs.declared.undecoded.Undecoded.{Undecoded}
+use Rattle.mm_verdict.specs.declared.undecoded.Undecoded.TheVariants as errors
 
 -- the step that an entry of the table stands for: its label, or `?`
 abbrev pub entry_step : BaseView → Resolved → Step
@@ -49,13 +48,6 @@ word_step word = if bytes_eq word (codes "?") then NotKnown else Named word
 -- what the table of a proof has: the mandatory hypotheses and the listed labels, or each word
 abbrev pub label_table : List (List ℕ) → List (List ℕ) → List Step
 label_table mandatory words = if is_compressed words then map Named (mandatory ++ before_first is_close (drop 1 words)) else map word_step words
-
--- the step that an action stands for, if the labels of the proof's table are these steps
-abbrev pub meant : List Step → Action → Step
-meant names (actions.Label k) = slice_index_or names k NotKnown
-meant names (actions.Saved n) = Saved n
-meant names actions.Save = Save
-meant names actions.Unknown = NotKnown
 
 -- the steps of a decoding, with their spots, and the spot after these words
 abbrev pub decoded_steps : BaseView → Decoding → List (List ℕ) → Decoded

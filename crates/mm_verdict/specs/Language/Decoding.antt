@@ -2,15 +2,15 @@
 use Rattle.std.specs.Prelude.{ℕ, ◌+◌, ◌-◌, ◌==◌, Bool, false, if◌then◌else◌, Option, Some, None, Result, Ok, Err}
 use Rattle.std.specs.Prelude.{List, [], ◌∷◌, ◌++◌, length, map, drop, slice_get, bytes_eq, codes}
 use Rattle.std.specs.List.{list_any, enumerate_from, range_with_len, before_first, after_first}
-use Rattle.mm_frame.specs.Language.Frame.{Resolved, Hypothesis, Assertion, Inactive, Unknown, Setting}
-use Rattle.mm_verdict.specs.Language.Expansion.{Step, Named, Saved, Save, NotKnown}
+use Rattle.mm_machine.specs.Language.Frame.{Resolved, Hypothesis, Assertion, Inactive, Unknown, Setting}
+use Rattle.mm_machine.specs.Language.Expansion.{Step, Named, Saved, Save, NotKnown}
 use Rattle.mm_verdict.specs.Language.Numbers.{is_last, value_of}
 use Rattle.mm_verdict.specs.Language.Letters.{Letter, letters_from, Group, groups}
-use Rattle.mm_verdict.specs.Language.Verdict.{Decoded}
-use Rattle.mm_verdict.specs.declared.Spot.{Spot}
-use Rattle.mm_verdict.specs.declared.ProofNumber.{ProofNumber}
-use Rattle.mm_verdict.specs.declared.ProofNumber.TheVariants.{P01, P02, P03, P04, P05, P06}
-use Rattle.mm_verdict.specs.declared.step.ProofFault.{ProofFault}
+use Rattle.mm_machine.specs.Language.Verdict.{Decoded}
+use Rattle.mm_machine.specs.declared.Spot.{Spot}
+use Rattle.mm_machine.specs.declared.ProofNumber.{ProofNumber}
+use Rattle.mm_machine.specs.declared.ProofNumber.TheVariants.{P01, P02, P03, P04, P05, P06}
+use Rattle.mm_machine.specs.declared.step.ProofFault.{ProofFault}
 
 -- What is read at a spot of a proof: a step, or the number of a fault.
 pub record Reading : Type 0 where

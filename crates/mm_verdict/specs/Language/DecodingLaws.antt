@@ -4,18 +4,19 @@ use Rattle.std.specs.List.{AllByRecursion, list_any}
 use Rattle.mm_frame.specs.Language.Base.{BaseView, AreSaid, before, said_at}
 use Rattle.mm_frame.specs.Language.Framing.{mandatory_numbers}
 use Rattle.mm_verdict.specs.Language.BaseLabels.{NoLabelTwice, AreActive}
-use Rattle.mm_frame.specs.Language.Frame.{Symbol, Setting}
-use Rattle.mm_verdict.specs.Language.Expansion.{Step}
-use Rattle.mm_verdict.specs.Language.Machine.{IsUsable, AreDecoded}
+use Rattle.mm_machine.specs.Language.Frame.{Symbol, Setting}
+use Rattle.mm_machine.specs.Language.Expansion.{Step}
+use Rattle.mm_machine.specs.Language.Machine.{IsUsable, AreDecoded}
 use Rattle.mm_verdict.specs.Language.Numbers.{is_digit, is_last, value_of}
 use Rattle.mm_verdict.specs.Language.Letters.{Letter, Group, groups, IsDivided}
 use Rattle.mm_verdict.specs.Language.Decoding.{Reading, in_order, is_close, decoding}
 use Rattle.mm_verdict.specs.Language.Citing.{cites}
-use Rattle.mm_verdict.specs.Language.SameProof.{AreSameToDecode, IsSameDecoding}
-use Rattle.mm_verdict.specs.Language.Renaming.{IsRenamedSetting}
-use Rattle.mm_verdict.specs.Language.Verdict.{Decoded}
-use Rattle.mm_verdict.specs.declared.ProofNumber.{ProofNumber}
-use Rattle.mm_verdict.specs.declared.step.ProofFault.{ProofFault}
+use Rattle.mm_verdict.specs.Language.SameToDecode.{AreSameToDecode}
+use Rattle.mm_machine.specs.Language.SameProof.{IsSameDecoding}
+use Rattle.mm_machine.specs.Language.Renaming.{IsRenamedSetting}
+use Rattle.mm_machine.specs.Language.Verdict.{Decoded}
+use Rattle.mm_machine.specs.declared.ProofNumber.{ProofNumber}
+use Rattle.mm_machine.specs.declared.step.ProofFault.{ProofFault}
 
 -- digits, and a last letter
 abbrev pub IsWrittenNumber : List ℕ → ℕ → Type 0

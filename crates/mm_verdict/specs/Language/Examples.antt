@@ -4,14 +4,14 @@
 use Rattle.std.specs.Prelude.{◌≡◌, ℕ, Some, Ok, Err, List, [], ◌∷◌, ◌++◌, codes}
 use Rattle.mm_frame.specs.Language.Base.{BaseView}
 use Rattle.mm_frame.specs.Language.Examples.{database, letters, p, q, r, letter_symbols, typing}
-use Rattle.mm_frame.specs.Language.Frame.{Assertion}
+use Rattle.mm_machine.specs.Language.Frame.{Assertion}
 use Rattle.mm_frame.specs.Language.Framing.{setting}
 use Rattle.mm_frame.specs.mm_statement.Language.Item.{Item, Theorem}
-use Rattle.mm_verdict.specs.declared.ProofNumber.TheVariants.{P06}
-use Rattle.mm_verdict.specs.declared.Spot.{Spot}
-use Rattle.mm_verdict.specs.declared.Verdict.TheVariants.{Proved}
+use Rattle.mm_machine.specs.declared.ProofNumber.TheVariants.{P06}
+use Rattle.mm_machine.specs.declared.Spot.{Spot}
+use Rattle.mm_machine.specs.declared.Verdict.TheVariants.{Proved}
 use Rattle.mm_verdict.specs.Language.Decoding.{decoding}
-use Rattle.mm_verdict.specs.Language.Expansion.{expansion, Step, Named, Saved, Save}
+use Rattle.mm_machine.specs.Language.Expansion.{expansion, Step, Named, Saved, Save}
 use Rattle.mm_verdict.specs.Language.VerdictAt.{decoding_at, IsVerdictAt}
 use Rattle.mm_verdict.specs.Language.View.{view_at}
 

@@ -2,14 +2,14 @@
 use Rattle.std.specs.Prelude.{◌≡◌, ◌↔◌, ◌≤◌, ℕ, Ok, List, [], length, slice_index_or}
 use Rattle.std.specs.List.{AllZip}
 use Rattle.mm_frame.specs.Language.Base.{BaseView, AreSaid, frame_at, said_at}
-use Rattle.mm_frame.specs.Language.Frame.{Mandatory, Hypothesis, Setting}
+use Rattle.mm_machine.specs.Language.Frame.{Mandatory, Hypothesis, Setting}
 use Rattle.mm_verdict.specs.Language.BaseLabels.{setting_at}
-use Rattle.mm_verdict.specs.Language.Machine.{AreAllKnown}
-use Rattle.mm_verdict.specs.Language.Verdict.{Decoded, StepsDerive}
+use Rattle.mm_machine.specs.Language.Machine.{AreAllKnown}
+use Rattle.mm_machine.specs.Language.Verdict.{Decoded, StepsDerive}
 use Rattle.mm_verdict.specs.Language.VerdictAt.{mandatory_labels, statement_at, decoding_at, IsVerdictAt, AreDoneAt}
-use Rattle.mm_verdict.specs.declared.Spot.{Spot}
-use Rattle.mm_verdict.specs.declared.Verdict.{Verdict}
-use Rattle.mm_verdict.specs.declared.Verdict.TheVariants.{Proved, Incomplete, Wrong}
+use Rattle.mm_machine.specs.declared.Spot.{Spot}
+use Rattle.mm_machine.specs.declared.Verdict.{Verdict}
+use Rattle.mm_machine.specs.declared.Verdict.TheVariants.{Proved, Incomplete, Wrong}
 
 -- the label means the hypothesis at this place
 abbrev pub MeansHypothesis : Setting → List ℕ → Mandatory → Type 0

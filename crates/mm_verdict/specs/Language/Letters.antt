@@ -1,7 +1,7 @@
 -- The letters of a compressed proof, over all words after its list of labels, and the groups that they make (Metamath book, Appendix B).
 use Rattle.std.specs.Prelude.{◌≡◌, ◌≢◌, ℕ, true, false, if◌then◌else◌, Option, Some, None, List, [], ◌∷◌, ◌++◌, map, flat_map, option_to_list}
 use Rattle.std.specs.List.{enumerate_from, AllByRecursion}
-use Rattle.mm_verdict.specs.declared.Spot.{Spot}
+use Rattle.mm_machine.specs.declared.Spot.{Spot}
 use Rattle.mm_verdict.specs.Language.Numbers.{is_digit}
 
 -- A byte of the letters, and its spot in the proof.

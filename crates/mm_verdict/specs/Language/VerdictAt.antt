@@ -2,14 +2,14 @@
 use Rattle.std.specs.Prelude.{◌≡◌, ℕ, Result, Ok, Err, List, map}
 use Rattle.mm_frame.specs.Language.Base.{BaseView, before, said_at}
 use Rattle.mm_frame.specs.Language.Framing.{expression, mandatory_numbers}
-use Rattle.mm_frame.specs.Language.Frame.{Symbol, Setting}
+use Rattle.mm_machine.specs.Language.Frame.{Symbol, Setting}
 use Rattle.mm_verdict.specs.Language.BaseLabels.{label_at, setting_at}
 use Rattle.mm_verdict.specs.Language.Citing.{cites}
 use Rattle.mm_verdict.specs.Language.Decoding.{decoding}
-use Rattle.mm_verdict.specs.Language.Run.{AreDone}
-use Rattle.mm_verdict.specs.Language.Verdict.{Decoded, IsVerdict}
-use Rattle.mm_verdict.specs.declared.Verdict.{Verdict}
-use Rattle.mm_verdict.specs.declared.step.ProofFault.{ProofFault}
+use Rattle.mm_machine.specs.Language.Run.{AreDone}
+use Rattle.mm_machine.specs.Language.Verdict.{Decoded, IsVerdict}
+use Rattle.mm_machine.specs.declared.Verdict.{Verdict}
+use Rattle.mm_machine.specs.declared.step.ProofFault.{ProofFault}
 
 -- the labels of the mandatory hypotheses of the item with this number, in order
 abbrev pub mandatory_labels : BaseView → ℕ → List (List ℕ)

@@ -2,9 +2,10 @@
 use Rattle.std.specs.Prelude.{◌≡◌, ℕ, List, map}
 use Rattle.std.specs.List.{AllZip}
 use Rattle.mm_frame.specs.Language.Base.{BaseView, before, said_at, frame_at}
-use Rattle.mm_frame.specs.Language.Frame.{Symbol, Mandatory, Resolved, AreSamePairs}
+use Rattle.mm_machine.specs.Language.Frame.{Symbol, Mandatory, Resolved, AreSamePairs}
 use Rattle.mm_frame.specs.Language.Framing.{active_pairs, resolve}
-use Rattle.mm_verdict.specs.Language.SameProof.{AreSameMeaning, labels_named}
+use Rattle.mm_verdict.specs.Language.SameToDecode.{labels_named}
+use Rattle.mm_machine.specs.Language.SameProof.{AreSameMeaning}
 use Rattle.mm_verdict.specs.Language.VerdictAt.{statement_at}
 
 -- The view of a theorem: the words of its proof, its expression, its mandatory hypotheses, all pairs that are active at it, and what each

@@ -1,6 +1,6 @@
 -- What is recorded of the runs of proofs, and what a check answers.
 use Rattle.std.specs.Prelude.{ℕ, List}
-use Rattle.mm_verdict.specs.declared.Verdict.{Verdict}
+use Rattle.mm_machine.specs.declared.Verdict.{Verdict}
 
 -- The items whose proofs were run, in order; the steps that were done in all; and how many more runs there is room for.
 pub record Recorded : Type 0 where

@@ -1,5 +1,4 @@
-use Rattle.std.proofs.Common.{◌∙◌, ap, sym}
-use Rattle.std.proofs.lemmas.Bool.{false≢true}
+use Rattle.std.proofs.{Common.{◌∙◌, ap, sym}, lemmas.Bool.{false≢true}}
 use Rattle.mm_statement.specs.Language.Item.{Kind}
 use Rattle.mm_frame.specs.Language.Scope.{closes, mark_of}
 use Rattle.mm_frame.proofs.lemmas.base.BaseLemmas.{numbers_still}

@@ -1,11 +1,7 @@
 use Rattle.std.proofs.Common.{ap, ◌∙◌, sym, subst}
-use Rattle.mm_statement.specs.Language.Item.{Item, is_read}
-use Rattle.mm_frame.specs.Language.Base.{before, said_at}
-use Rattle.mm_statement.specs.Language.Statement.{kind_of}
-use Rattle.mm_frame.specs.Code.KnownItem.{numbers_of}
-use Rattle.mm_frame.specs.Code.Numbers.{AreNameNumbers}
-use Rattle.mm_frame.proofs.lemmas.frames.FrameNumbers.{kind_at}
-use Rattle.mm_frame.proofs.lemmas.reading.KnownItems.{same_again, numbers_known}
+use Rattle.mm_statement.specs.Language.{Item.{Item, is_read}, Statement.{kind_of}}
+use Rattle.mm_frame.specs.{Language.Base.{before, said_at}, Code.{KnownItem.{numbers_of}, Numbers.{AreNameNumbers}}}
+use Rattle.mm_frame.proofs.lemmas.{frames.FrameNumbers.{kind_at}, reading.KnownItems.{same_again, numbers_known}}
 use Rattle.mm_frame.proofs.again.known_of.Goals as goal
 
 pub returns-in-Some-clause-known : goal.returns-in-Some-clause-known

@@ -1,8 +1,7 @@
 use Rattle.std.proofs.Common.{ℕ, List}
 use Rattle.mm_statement.specs.Language.Item.{Item}
 use Rattle.mm_frame.specs.Code.KeptBase.{IsDraft}
-use Rattle.mm_frame.proofs.lemmas.base.NumbersAside.{numbers_aside}
-use Rattle.mm_frame.proofs.lemmas.names.NumberLemmas.{begins_on}
+use Rattle.mm_frame.proofs.lemmas.{base.NumbersAside.{numbers_aside}, names.NumberLemmas.{begins_on}}
 use Rattle.mm_frame.proofs.again.read_again.Goals as goal
 
 pub read_known-requires-clause-known : goal.read_known-requires-clause-known

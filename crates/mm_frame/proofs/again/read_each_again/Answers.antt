@@ -1,9 +1,7 @@
 use Rattle.std.proofs.Common.{◌≡◌, ◌∷◌, ◌++◌, [], suc, ◌+◌, take, take_all, refl, subst, arith}
 use Rattle.std.specs.List.{AllZip}
 use Rattle.mm_statement.specs.Language.Statement.{Says}
-use Rattle.mm_frame.proofs.lemmas.names.NumberLemmas.{begins_on}
-use Rattle.mm_frame.proofs.lemmas.base.BaseLemmas.{zip_more}
-use Rattle.mm_frame.proofs.lemmas.reading.KnownItems.{older_on}
+use Rattle.mm_frame.proofs.lemmas.{names.NumberLemmas.{begins_on}, base.BaseLemmas.{zip_more}, reading.KnownItems.{older_on}}
 use Rattle.mm_frame.proofs.again.read_each_again.Goals as goal
 
 pub loop-item-init : goal.loop-item-init

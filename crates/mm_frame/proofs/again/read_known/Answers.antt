@@ -1,11 +1,7 @@
-use Rattle.std.proofs.Common.{ℕ, List, sym, subst}
-use Rattle.std.proofs.lemmas.Bool.{MatchBool-at_false, MatchBool-at_true}
-use Rattle.std.proofs.lemmas.Result.{on_ok_weaker}
+use Rattle.std.proofs.{Common.{ℕ, List, sym, subst}, lemmas.{Bool.{MatchBool-at_false, MatchBool-at_true}, Result.{on_ok_weaker}}}
 use Rattle.mm_statement.specs.Language.Item.{Item}
-use Rattle.mm_frame.specs.Code.KeptBase.{IsDraft}
-use Rattle.mm_frame.specs.Code.Numbers.{AreNameNumbers}
-use Rattle.mm_frame.proofs.lemmas.base.NumbersAside.{numbers_aside}
-use Rattle.mm_frame.proofs.lemmas.reading.KnownItems.{numbers_on}
+use Rattle.mm_frame.specs.Code.{KeptBase.{IsDraft}, Numbers.{AreNameNumbers}}
+use Rattle.mm_frame.proofs.lemmas.{base.NumbersAside.{numbers_aside}, reading.KnownItems.{numbers_on}}
 use Rattle.mm_frame.proofs.again.read_known.Goals as goal
 
 pub returns-then-branch : goal.returns-then-branch

@@ -1,7 +1,5 @@
 use Rattle.std.proofs.Common.{Some, None, ◌++◌, ◌∷◌, [], ◌∙◌, ap, sym, subst}
-use Rattle.mm_frame.specs.Language.Sound.{sound_items}
-use Rattle.mm_frame.specs.Language.Answering.{AreRows, numbers_if}
-use Rattle.mm_frame.specs.Code.KeptAssertions.{TellsFrame}
+use Rattle.mm_frame.specs.{Language.{Sound.{sound_items}, Answering.{AreRows, numbers_if}}, Code.KeptAssertions.{TellsFrame}}
 use Rattle.mm_frame.proofs.lemmas.base.BaseLemmas.{rows_more}
 use Rattle.mm_frame.proofs.assertions.keep_frame.Goals as goal
 

@@ -1,9 +1,6 @@
 use Rattle.std.proofs.Common.{Some, None, ◌++◌, ◌∷◌, [], ◌∙◌, sym, subst}
-use Rattle.mm_frame.specs.Language.Sound.{sound_items}
-use Rattle.mm_frame.specs.Code.KeptAssertions.{TellsPairs}
-use Rattle.mm_frame.specs.Language.Answering.{AreRows}
-use Rattle.mm_frame.proofs.lemmas.base.BaseLemmas.{kept_are_sound}
-use Rattle.mm_frame.proofs.lemmas.pairs.PairListLemmas.{pairs_more, keeps_all, no_number, some_number}
+use Rattle.mm_frame.specs.{Language.{Sound.{sound_items}, Answering.{AreRows}}, Code.KeptAssertions.{TellsPairs}}
+use Rattle.mm_frame.proofs.lemmas.{base.BaseLemmas.{kept_are_sound}, pairs.PairListLemmas.{pairs_more, keeps_all, no_number, some_number}}
 use Rattle.mm_frame.proofs.assertions.keep_pairs.Goals as goal
 
 pub returns-then-not-proof-clause-pairs : goal.returns-then-not-proof-clause-pairs

@@ -1,7 +1,6 @@
-use Rattle.std.proofs.Common.{◌∙◌, ap, sym, subst, All}
-use Rattle.std.proofs.lemmas.Result.{on_ok_weaker}
+use Rattle.std.proofs.{Common.{◌∙◌, ap, sym, subst, All}, lemmas.Result.{on_ok_weaker}}
 use Rattle.mm_statement.specs.Language.Item.{is_disjoint}
-use Rattle.mm_frame.specs.Language.NumberedSymbols.{symbols_of, IsNumbered}
+use Rattle.mm_machine.specs.Language.NumberedSymbols.{symbols_of, IsNumbered}
 use Rattle.mm_frame.proofs.lemmas.names.NamedLemmas.{read_all, variables_read_all, numbered_all, numbered_variables}
 use Rattle.mm_frame.proofs.draft.keep_symbols.Goals as goal
 

@@ -1,8 +1,6 @@
-use Rattle.std.proofs.Common.{◌+◌, refl, take_all, subst, arith}
-use Rattle.std.proofs.lemmas.List.{length_push}
+use Rattle.std.proofs.{Common.{◌+◌, refl, take_all, subst, arith}, lemmas.List.{length_push}}
 use Rattle.mm_frame.specs.Code.Numbers.{AreNameNumbers}
-use Rattle.mm_frame.proofs.lemmas.names.NumberLemmas.{begins_on}
-use Rattle.mm_frame.proofs.lemmas.base.BaseLemmas.{numbers_more, numbers_none}
+use Rattle.mm_frame.proofs.lemmas.{names.NumberLemmas.{begins_on}, base.BaseLemmas.{numbers_more, numbers_none}}
 use Rattle.mm_frame.proofs.draft.number_all.Goals as goal
 
 pub loop-n-init : goal.loop-n-init

@@ -1,5 +1,5 @@
 use Rattle.std.proofs.Common.{◌≡◌, ℕ, List, length, take}
-use Rattle.mm_frame.specs.Language.Names.{Begins}
+use Rattle.mm_machine.specs.Language.Names.{Begins}
 use Rattle.mm_frame.specs.Code.Numbers.{AreNameNumbers}
 use Rattle.mm_frame.proofs.draft.number_all.Given as goal
 

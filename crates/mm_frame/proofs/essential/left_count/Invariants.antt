@@ -1,6 +1,5 @@
 use Rattle.std.proofs.Common.{ℕ, ◌<◌, ◌≤◌, length, drop, Contains}
-use Rattle.mm_frame.specs.declared.essential.EssentialVariable.{EssentialVariable}
-use Rattle.mm_frame.specs.Code.LastItems.{IsRising}
+use Rattle.mm_frame.specs.{declared.essential.EssentialVariable.{EssentialVariable}, Code.LastItems.{IsRising}}
 use Rattle.mm_frame.proofs.essential.left_count.Given as goal
 
 abbrev pub invariant-loop-count : goal.invariant-loop-count

@@ -1,8 +1,6 @@
 use Rattle.std.proofs.Common.{rules, ◌≡◌, ◌<◌, ◌≤◌, ◌+◌, length, map, take_all, get_or, refl, [], sym, ◌∙◌, subst, arith}
-use Rattle.mm_frame.specs.Code.KeptSymbols.{symbol_by}
-use Rattle.mm_frame.specs.Code.KnownItem.{numbers_of}
-use Rattle.mm_frame.proofs.lemmas.faults.FaultLemmas.{none_left, passes_more, expression_is}
-use Rattle.mm_frame.proofs.lemmas.names.KnownSymbols.{named_number, sorts_more}
+use Rattle.mm_frame.specs.Code.{KeptSymbols.{symbol_by}, KnownItem.{numbers_of}}
+use Rattle.mm_frame.proofs.lemmas.{faults.FaultLemmas.{none_left, passes_more, expression_is}, names.KnownSymbols.{named_number, sorts_more}}
 use Rattle.mm_frame.proofs.judge.are_right.Goals as goal
 
 pub loop-n-init : goal.loop-n-init

@@ -1,6 +1,5 @@
 use Rattle.std.proofs.Common.{◌<◌, ◌≤◌, ◌+◌, length, get_or, [], sym, ◌∙◌, arith}
-use Rattle.mm_frame.proofs.lemmas.names.NumberLemmas.{number_at}
-use Rattle.mm_frame.proofs.lemmas.faults.FaultLemmas.{none_left, fault_there, passes_more, passed_later, expression_is}
+use Rattle.mm_frame.proofs.lemmas.{names.NumberLemmas.{number_at}, faults.FaultLemmas.{none_left, fault_there, passes_more, passed_later, expression_is}}
 use Rattle.mm_frame.proofs.judge.expression_symbols_fault.Goals as goal
 
 pub returns-in-Some : goal.returns-in-Some

@@ -1,6 +1,5 @@
 use Rattle.std.proofs.Common.{ap, sym, ◌∙◌}
-use Rattle.mm_frame.specs.Language.Sound.{is_repeated, is_declared, is_active_symbol}
-use Rattle.mm_frame.specs.Code.FaultInOrder.{must_differ, symbol_fault_of}
+use Rattle.mm_frame.specs.{Language.Sound.{is_repeated, is_declared, is_active_symbol}, Code.FaultInOrder.{must_differ, symbol_fault_of}}
 use Rattle.mm_frame.proofs.judge.symbol_fault.Goals as goal
 
 pub returns-in-Constants : goal.returns-in-Constants

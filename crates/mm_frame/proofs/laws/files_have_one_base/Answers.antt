@@ -1,6 +1,5 @@
-use Rattle.mm_frame.proofs.lemmas.base.OneBase.{ReadingLaws, one_base, said_same}
+use Rattle.mm_frame.proofs.{lemmas.base.OneBase.{ReadingLaws, one_base, said_same}, laws.files_have_one_base.Goals.{After-keys_do_not_matter}}
 use Rattle.mm_frame.proofs.laws.files_have_one_base.Goals as goal
-use Rattle.mm_frame.proofs.laws.files_have_one_base.Goals.{After-keys_do_not_matter}
 
 laws : After-keys_do_not_matter → ReadingLaws
 laws c = record {

@@ -1,42 +1,21 @@
 -- What a base says, from what is kept, and that it is right.
-use Rattle.std.proofs.Common.{◌≡◌, ◌↔◌, ℕ, zero, suc, ◌≤◌, Bool, true, false, ◌&&◌, Option, Some, None, List, [], ◌∷◌, length, map, take, slice_get, nat_eq, is_none, is_some, refl, sym, ◌∙◌, ap, subst, arith, inl, inr, All, IfSome}
-use Rattle.std.specs.Borrow.{Bor}
-use Rattle.std.proofs.lemmas.List.Elements.{All-nil}
-use Rattle.std.proofs.lemmas.List.{length-map}
-use Rattle.std.specs.Option.{option_map, option_eq}
-use Rattle.std.specs.List.{AllZip}
-use Rattle.std.proofs.lemmas.Bool.{false≢true, and_from, and_parts}
-use Rattle.std.proofs.lemmas.Bool.Decides.{Decides-eqb}
-use Rattle.std.proofs.lemmas.Option.{slice_get-map, slice_get_within, slice_get_cases}
-use Rattle.mm_store.specs.declared.item.Item as store
-use Rattle.mm_frame.specs.declared.FrameNumber.{FrameNumber}
-use Rattle.mm_frame.specs.declared.symbol.NumberedSymbol.{NumberedSymbol}
-use Rattle.mm_frame.specs.declared.draft.Frame.{Frame}
-use Rattle.mm_frame.specs.declared.draft.Parts.{Parts}
-use Rattle.mm_frame.specs.declared.base.Base.TheInside.{Inside}
-use Rattle.mm_frame.specs.declared.pair_lists.PairLists.{PairLists}
-use Rattle.mm_frame.specs.Language.Names.{AreDistinct}
-use Rattle.mm_frame.specs.Language.Frame.{Symbol, AreSamePairs}
-use Rattle.mm_statement.specs.Language.Item.{Item, passed, is_floating, is_labelled, is_read, item_at}
-use Rattle.mm_frame.specs.Language.Sound.{sound_items}
-use Rattle.mm_frame.specs.Language.Framing.{active_pairs, expression, frame}
-use Rattle.mm_frame.specs.Language.Base.{BaseView, before, said_at, told_fault, fault_at, is_sound_at, is_proof_at}
-use Rattle.mm_frame.specs.Language.NumberedSymbols.{symbols_of, kept_pairs, IsNumbered, ArePairsRead}
-use Rattle.mm_frame.specs.Language.Resolving.{IsCarrier}
-use Rattle.mm_frame.specs.Language.Answering.{AreRows, IsLabelTold, IsExpressionTold, IsFrameTold, AreActiveTold, BaseAnswers, IsBaseBy, is_told_proof}
-use Rattle.mm_frame.specs.Code.KeptSymbols.{AreSymbols, expression_kept, kept_or_none}
-use Rattle.mm_frame.specs.Code.KeptTables.{table_label}
-use Rattle.mm_frame.specs.Code.KeptPairLists.{list_kept}
-use Rattle.mm_frame.specs.Code.BaseInside.{answers_of}
-use Rattle.mm_frame.specs.Code.KeptRows.{rows_of, row_label, row_fault, is_shown_in}
-use Rattle.mm_frame.specs.Code.KeptAssertions.{TellsFrame, TellsPairs}
-use Rattle.mm_frame.specs.Code.KeptBase.{AreParts, is_float_item, frame_told, list_told}
+use Rattle.std.proofs.Common.{◌≡◌, ◌↔◌, ℕ, zero, suc, ◌≤◌, Bool, true, false, ◌&&◌, Option, Some, None, List, [], ◌∷◌, length, map, take, slice_get, nat_eq, is_none, is_some, refl, sym, ◌∙◌, ap}
+use Rattle.std.proofs.Common.{subst, arith, inl, inr, All, IfSome}
+use Rattle.std.proofs.lemmas.{List.{length-map, Elements.{All-nil}}, Bool.{false≢true, and_from, and_parts, Decides.{Decides-eqb}}, Option.{slice_get-map, slice_get_within, slice_get_cases}}
+use Rattle.std.specs.{Borrow.{Bor}, Option.{option_map, option_eq}, List.{AllZip}}
+use Rattle.mm_frame.specs.declared.{FrameNumber.{FrameNumber}, draft.{Frame.{Frame}, Parts.{Parts}}, base.Base.TheInside.{Inside}, pair_lists.PairLists.{PairLists}}
+use Rattle.mm_frame.specs.Language.{Sound.{sound_items}, Framing.{active_pairs, expression, frame}, Base.{BaseView, before, said_at, told_fault, fault_at, is_sound_at, is_proof_at}}
+use Rattle.mm_frame.specs.Language.{Resolving.{IsCarrier}, Answering.{AreRows, IsLabelTold, IsExpressionTold, IsFrameTold, AreActiveTold, BaseAnswers, IsBaseBy, is_told_proof}}
+use Rattle.mm_frame.specs.Code.{KeptSymbols.{AreSymbols, expression_kept, kept_or_none}, KeptTables.{table_label}, KeptPairLists.{list_kept}, BaseInside.{answers_of}}
+use Rattle.mm_frame.specs.Code.{KeptRows.{rows_of, row_label, row_fault, is_shown_in}, KeptAssertions.{TellsFrame, TellsPairs}, KeptBase.{AreParts, is_float_item, frame_told, list_told}}
 use Rattle.mm_frame.specs.Code.KeptSparse.{value_or_none, value_kept}
+use Rattle.mm_machine.specs.declared.symbol.NumberedSymbol.{NumberedSymbol}
+use Rattle.mm_machine.specs.Language.{Names.{AreDistinct}, Frame.{Symbol, AreSamePairs}, NumberedSymbols.{symbols_of, kept_pairs, IsNumbered, ArePairsRead}}
+use Rattle.mm_statement.specs.Language.Item.{Item, passed, is_floating, is_labelled, is_read, item_at}
 use Rattle.mm_frame.proofs.lemmas.base.BaseLemmas.{row_none, item_beyond, fault_beyond, frame_beyond, shown_is, not_shown, kept_count, symbols_there, read_there, labelled_there}
-use Rattle.mm_frame.proofs.lemmas.frames.FrameNumbers.{HasKind}
 use Rattle.mm_frame.proofs.lemmas.base.ResolvingLemmas.{carrier_found, found_carrier}
-use Rattle.mm_frame.proofs.lemmas.pairs.PairListLemmas.{list_read, list_in_order}
-use Rattle.mm_frame.proofs.lemmas.pairs.SharedPairs.{same_turned, same_joined}
+use Rattle.mm_frame.proofs.lemmas.{frames.FrameNumbers.{HasKind}, pairs.{PairListLemmas.{list_read, list_in_order}, SharedPairs.{same_turned, same_joined}}}
+use Rattle.mm_store.specs.declared.item.Item as store
 
 -- ---- rows that are reported, from rows that are kept
 

@@ -1,40 +1,21 @@
 -- Rows kept of the items, one more item, and what a base answers.
-use Rattle.std.proofs.Common.{◌≡◌, ℕ, zero, suc, ◌<◌, ◌≤◌, Bool, true, Option, Some, None, List, [], ◌∷◌, ◌++◌, length, take, drop, slice_get, append_assoc, IfSome, All}
-use Rattle.std.proofs.Common.{append-nil, ◌&&◌, ◌||◌, cond, get_or, is_none, is_some, not, false, refl, sym, ◌∙◌, ap, subst, arith, inl, inr}
-use Rattle.std.specs.Option.{option_map}
-use Rattle.std.specs.List.{AllZip}
-use Rattle.std.proofs.lemmas.Bool.{false≢true, and_from, and_parts}
-use Rattle.std.proofs.Math.ListN.{get_or-append}
-use Rattle.std.proofs.Math.Seq.{take-suc}
-use Rattle.std.proofs.lemmas.List.{length_push, get_or_push, take-append-le, length-take-le}
+use Rattle.std.proofs.Common.{◌≡◌, ℕ, zero, suc, ◌<◌, ◌≤◌, Bool, true, Option, Some, None, List, [], ◌∷◌, ◌++◌, length, take, drop, slice_get, append_assoc, IfSome, All, append-nil, ◌&&◌, ◌||◌, cond}
+use Rattle.std.proofs.Common.{get_or, is_none, is_some, not, false, refl, sym, ◌∙◌, ap, subst, arith, inl, inr}
+use Rattle.std.proofs.lemmas.{Bool.{false≢true, and_from, and_parts}, List.{length_push, get_or_push, take-append-le, length-take-le, Elements.{All-nil}}}
 use Rattle.std.proofs.lemmas.Option.{slice_get_within, slice_get_cases, none-some}
-use Rattle.std.proofs.lemmas.List.Elements.{All-nil}
-use Rattle.mm_frame.proofs.lemmas.frames.Frames.{essential_neither}
+use Rattle.std.proofs.Math.{ListN.{get_or-append}, Seq.{take-suc}}
+use Rattle.std.specs.{Option.{option_map}, List.{AllZip}}
 use Rattle.mm_frame.specs.declared.FrameNumber.{FrameNumber}
-use Rattle.mm_frame.specs.declared.symbol.NumberedSymbol.{NumberedSymbol}
-use Rattle.mm_statement.specs.Language.Item.{Kind, Disjoint, Essential, Axiom, Theorem, BlockEnd, Missing, Item, passed, is_labelled, is_disjoint, is_read, is_assertion, is_essential, item_at}
-use Rattle.mm_frame.specs.Language.Sound.{IsSound, AreSound, fault, judged, sound_items, sound_items_after}
-use Rattle.mm_frame.specs.Language.Framing.{expression}
-use Rattle.mm_frame.specs.Language.Scope.{Mark, Closes, mark_of, closes, active_numbers}
-use Rattle.mm_frame.specs.Code.Numbers.{IsNameNumber, AreNameNumbers}
-use Rattle.mm_frame.specs.Language.NumberedSymbols.{symbols_of, kept_pairs, IsNumbered, IsPairNumbered, ArePairsRead}
-use Rattle.mm_frame.specs.Code.KeptSymbols.{expression_kept, kept_or_none, AreSymbols}
-use Rattle.mm_frame.specs.Code.LastItems.{IsSort}
-use Rattle.mm_frame.specs.Code.KeptScope.{taken}
+use Rattle.mm_frame.specs.Language.{Sound.{IsSound, AreSound, fault, judged, sound_items, sound_items_after}, Framing.{expression}, Scope.{Mark, Closes, mark_of, closes, active_numbers}}
 use Rattle.mm_frame.specs.Language.Base.{BaseView, before, said_at, fault_by, told_fault, is_sound_at, expression_at, is_framed_at, frame_at}
-use Rattle.mm_frame.specs.Language.Answering.{told_numbers, numbers_if}
+use Rattle.mm_frame.specs.Language.Answering.{told_numbers, numbers_if, AreRows, pairs_in_order}
+use Rattle.mm_frame.specs.Code.{Numbers.{IsNameNumber, AreNameNumbers}, KeptSymbols.{expression_kept, kept_or_none, AreSymbols}, LastItems.{IsSort}, KeptScope.{taken}}
 use Rattle.mm_frame.specs.Code.KeptActiveItems.{changes_active}
-use Rattle.mm_frame.specs.Language.Answering.{AreRows}
-use Rattle.mm_frame.specs.Language.Frame.{AreSamePairs}
-use Rattle.mm_frame.specs.Language.Answering.{pairs_in_order}
-use Rattle.mm_frame.proofs.lemmas.pairs.FramePairs.{same_pairs}
+use Rattle.mm_machine.specs.{declared.symbol.NumberedSymbol.{NumberedSymbol}, Language.{NumberedSymbols.{symbols_of, kept_pairs, IsNumbered, IsPairNumbered, ArePairsRead}, Frame.{AreSamePairs}}}
+use Rattle.mm_statement.specs.Language.Item.{Kind, Disjoint, Essential, Axiom, Theorem, BlockEnd, Missing, Item, passed, is_labelled, is_disjoint, is_read, is_assertion, is_essential, item_at}
+use Rattle.mm_frame.proofs.lemmas.{frames.{Frames.{essential_neither}, HypothesisNumbers.{active_numbers_more}}, pairs.{FramePairs.{same_pairs}, ActivePairLemmas.{disjoint_neither, get_between}}}
 use Rattle.mm_frame.proofs.lemmas.faults.FoundFaults.{no_fault_sound, sound_found, passed_sound, kept_is_sound, kept_next, kept_after_append}
-use Rattle.mm_frame.proofs.lemmas.scope.SoundItems.{kept_sound, split_at}
-use Rattle.mm_frame.proofs.lemmas.pairs.ActivePairLemmas.{disjoint_neither, get_between}
-use Rattle.mm_frame.proofs.lemmas.scope.TableLemmas.{item_between, take_between}
-use Rattle.mm_frame.proofs.lemmas.scope.BlockLemmas.{get_cases, get_last}
-use Rattle.mm_frame.proofs.lemmas.names.NamedLemmas.{get_before}
-use Rattle.mm_frame.proofs.lemmas.frames.HypothesisNumbers.{active_numbers_more}
+use Rattle.mm_frame.proofs.lemmas.{scope.{SoundItems.{kept_sound, split_at}, TableLemmas.{item_between, take_between}, BlockLemmas.{get_cases, get_last}}, names.NamedLemmas.{get_before}}
 
 pub item_before : (said : List Item) (item : Item) (n : ℕ) → n < length said → item_at (said ++ item ∷ []) n ≡ item_at said n
 item_before [] item n l = absurd (omega arith)

@@ -1,9 +1,7 @@
 -- The symbols of the last statement and their numbers, which a draft has aside.
 use Rattle.std.proofs.Common.{ℕ, List, OnOk, Result, Ok, Err}
-use Rattle.mm_frame.specs.declared.draft.Draft.{Draft}
+use Rattle.mm_frame.specs.{declared.draft.Draft.{Draft}, Code.{KeptAssertions.{AreAssertions}, KeptBase.{IsDraft, IsDraftApart}}}
 use Rattle.mm_statement.specs.Language.Item.{Item}
-use Rattle.mm_frame.specs.Code.KeptAssertions.{AreAssertions}
-use Rattle.mm_frame.specs.Code.KeptBase.{IsDraft, IsDraftApart}
 
 -- the numbers of the last statement's symbols are nothing that is said
 pub numbers_aside : (all : List (List ℕ)) (said : List Item) (old : Draft) (numbers : _) → IsDraft all said old → IsDraft all said (record old { numbers = numbers })

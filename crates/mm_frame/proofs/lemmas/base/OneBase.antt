@@ -1,23 +1,13 @@
 -- Files have one base: what the items say is a function of their words.
 use Rattle.std.proofs.Common.{◌≡◌, ℕ, List, [], ◌∷◌, Some, map, slice_get, slice_range, refl, sym, ap, ◌∙◌, subst, All}
-use Rattle.std.specs.List.{AllByRecursion, AllZip}
-use Rattle.std.specs.Option.{option_map}
-use Rattle.std.proofs.lemmas.List.Elements.{recursion_from_All}
-use Rattle.std.proofs.lemmas.Option.{slice_get-map, same_Some}
-use Rattle.std.proofs.lemmas.Simd.{map-map}
-use Rattle.mm_store.specs.mm_text.declared.word.Word.{Word}
-use Rattle.mm_store.specs.mm_text.Language.Reading.{HasWords}
-use Rattle.mm_store.specs.mm_text.Language.Unit.{tokens_of}
+use Rattle.std.proofs.lemmas.{List.Elements.{recursion_from_All}, Option.{slice_get-map, same_Some}, Simd.{map-map}}
+use Rattle.std.specs.{List.{AllByRecursion, AllZip}, Option.{option_map}}
+use Rattle.mm_store.specs.mm_text.{declared.word.Word.{Word}, Language.{Reading.{HasWords}, Unit.{tokens_of}}}
+use Rattle.mm_store.specs.Language.{Pieces.{Pieces, text_in, text_under}, FilesView.{PieceView, KeyedFile, FileView, FilesView, files_in, file_view, piece_view, without_keys, File, plain, plain_file}}
+use Rattle.mm_store.specs.Language.{FileFacts.{CanBeRead, StandsIn}, Expansion.{IsExpansion}, Keyless.{keyless_item}}
+use Rattle.mm_frame.specs.Language.{Base.{BaseView, IsOfFiles}, Laws.{AreAlikeBases}}
+use Rattle.mm_statement.specs.Language.{Item.{Item}, Statement.{Says, kind_of, item_of}}
 use Rattle.mm_store.specs.declared.item.Item as store
-use Rattle.mm_store.specs.Language.Pieces.{Pieces, text_in, text_under}
-use Rattle.mm_store.specs.Language.FilesView.{PieceView, KeyedFile, FileView, FilesView, files_in, file_view, piece_view, without_keys, File, plain, plain_file}
-use Rattle.mm_store.specs.Language.FileFacts.{CanBeRead, StandsIn}
-use Rattle.mm_store.specs.Language.Expansion.{IsExpansion}
-use Rattle.mm_store.specs.Language.Keyless.{keyless_item}
-use Rattle.mm_frame.specs.Language.Base.{BaseView, IsOfFiles}
-use Rattle.mm_frame.specs.Language.Laws.{AreAlikeBases}
-use Rattle.mm_statement.specs.Language.Item.{Item}
-use Rattle.mm_statement.specs.Language.Statement.{Says, kind_of, item_of}
 
 -- what is known of every text and of all files
 pub record ReadingLaws : Type 0 where

@@ -1,17 +1,12 @@
 -- A label belongs to one sound item, and a mandatory hypothesis is found by its label.
-use Rattle.std.proofs.Common.{◌≡◌, ◌<◌, ◌⊎◌, ℕ, Bool, true, false, ◌&&◌, ◌||◌, Option, Some, None, List, refl, sym, ◌∙◌, inl, inr, arith}
-use Rattle.std.proofs.lemmas.Option.{none-some}
+use Rattle.std.proofs.{Common.{◌≡◌, ◌<◌, ◌⊎◌, ℕ, Bool, true, false, ◌&&◌, ◌||◌, Option, Some, None, List, refl, sym, ◌∙◌, inl, inr, arith}, lemmas.{Option.{none-some}, Bool.{false≢true, and_right}}}
 use native.Mathlib.Decide.{dec_lt}
-use Rattle.std.proofs.lemmas.Bool.{false≢true, and_right}
-use Rattle.mm_frame.specs.declared.base.Resolved.TheVariants as answers
 use Rattle.mm_statement.specs.Language.Item.{Kind, Axiom, Theorem, is_assertion, is_essential, is_floating, has, variable_of}
-use Rattle.mm_frame.specs.Code.BlockMarks.{block_marks}
-use Rattle.mm_frame.specs.Language.Sound.{sound_items}
-use Rattle.mm_frame.specs.Language.Framing.{mandatory_variables}
-use Rattle.mm_frame.specs.Language.Base.{BaseView, before, said_at, is_sound_at, is_framed_at, IsMandatoryAt}
+use Rattle.mm_frame.specs.Code.{BlockMarks.{block_marks}, KeptBase.{find_in}}
+use Rattle.mm_frame.specs.Language.{Sound.{sound_items}, Framing.{mandatory_variables}, Base.{BaseView, before, said_at, is_sound_at, is_framed_at, IsMandatoryAt}}
 use Rattle.mm_frame.specs.Language.Resolving.{IsCarrier, IsLabelOf, Resolves}
-use Rattle.mm_frame.specs.Code.KeptBase.{find_in}
 use Rattle.mm_frame.proofs.lemmas.base.ResolvingLemmas.{carrier_found, found_carrier, active_by, active_means, assertion_means, later_means, unknown_means}
+use Rattle.mm_frame.specs.declared.base.Resolved.TheVariants as answers
 
 -- two sound items with one label are one
 pub own_label : (base : BaseView) (j k : ℕ) (label : List ℕ) → IsCarrier base label j → IsCarrier base label k → j ≡ k

@@ -1,28 +1,16 @@
 -- What a label means at an item, by the number of the item that has the label.
-use Rattle.std.proofs.Common.{◌≡◌, ℕ, suc, ◌<◌, ◌≤◌, Bool, true, false, cond, ◌&&◌, Option, Some, List, [], length, take, drop, slice_get, bytes_eq, refl, sym, ◌∙◌, ap, subst, arith, inl, inr, option_to_list}
-use Rattle.std.proofs.lemmas.Bool.{false≢true, false_from_ne_true, or_cases, and_parts}
-use Rattle.std.proofs.lemmas.List.{take-take, drop-map, take-map, length-take-le}
-use Rattle.std.proofs.lemmas.Option.{slice_get_within}
-use Rattle.std.proofs.lemmas.Slice.Eq.{bytes_eq-Decides}
-use Rattle.mm_frame.specs.declared.base.Resolved.TheVariants as answers
-use Rattle.mm_frame.specs.Language.Frame.{Hypothesis, Assertion, Inactive, Unknown}
+use Rattle.std.proofs.Common.{◌≡◌, ℕ, suc, ◌<◌, ◌≤◌, Bool, true, false, cond, ◌&&◌, Option, Some, List, [], length, take, drop, slice_get, bytes_eq, refl, sym, ◌∙◌, ap, subst, arith, inl, inr}
+use Rattle.std.proofs.Common.{option_to_list}
+use Rattle.std.proofs.lemmas.{Bool.{false≢true, false_from_ne_true, or_cases, and_parts}, List.{take-take, drop-map, take-map, length-take-le}, Option.{slice_get_within}, Slice.Eq.{bytes_eq-Decides}}
+use Rattle.mm_machine.specs.Language.Frame.{Hypothesis, Assertion, Inactive, Unknown}
 use Rattle.mm_statement.specs.Language.Item.{Item, is_labelled, is_assertion, has, labels_of}
-use Rattle.mm_frame.specs.Language.Scope.{Mark, mark_of, stays}
-use Rattle.mm_frame.specs.Code.BlockMarks.{stays_by, block_marks}
-use Rattle.mm_frame.specs.Language.Sound.{sound_items}
-use Rattle.mm_frame.specs.Language.Framing.{expression, meaning, resolve}
-use Rattle.mm_frame.specs.Code.LastItems.{carries}
-use Rattle.mm_frame.specs.Language.Base.{BaseView, before, said_at, is_sound_at, is_shown_at, is_framed_at, frame_at}
-use Rattle.mm_frame.specs.Code.KeptBase.{find_in}
-use Rattle.mm_frame.specs.Language.Resolving.{IsCarrier, IsLabelOf, Resolves}
-use Rattle.mm_frame.proofs.lemmas.lists.Members.{in_get}
-use Rattle.mm_frame.proofs.lemmas.scope.SoundItems.{split_at, resolve_meaning, no_item_unknown}
-use Rattle.mm_frame.proofs.lemmas.pairs.ActivePairLemmas.{expression_at_number}
-use Rattle.mm_frame.proofs.lemmas.scope.TableLemmas.{label_first}
-use Rattle.mm_frame.proofs.lemmas.frames.HypothesisNumbers.{last_there}
-use Rattle.mm_frame.proofs.lemmas.scope.BlockLemmas.{stays_of}
+use Rattle.mm_frame.specs.Language.{Scope.{Mark, mark_of, stays}, Sound.{sound_items}, Framing.{expression, meaning, resolve}}
+use Rattle.mm_frame.specs.Language.{Base.{BaseView, before, said_at, is_sound_at, is_shown_at, is_framed_at, frame_at}, Resolving.{IsCarrier, IsLabelOf, Resolves}}
+use Rattle.mm_frame.specs.Code.{BlockMarks.{stays_by, block_marks}, LastItems.{carries}, KeptBase.{find_in}}
+use Rattle.mm_frame.proofs.lemmas.{lists.Members.{in_get}, scope.{SoundItems.{split_at, resolve_meaning, no_item_unknown}, TableLemmas.{label_first}, BlockLemmas.{stays_of}}}
+use Rattle.mm_frame.proofs.lemmas.{pairs.ActivePairLemmas.{expression_at_number}, frames.{HypothesisNumbers.{last_there}, FrameNumbers.{get_front, kept_front, shown_kept, shown_there, shown_before}}}
 use Rattle.mm_frame.proofs.lemmas.base.BaseLemmas.{kept_are_sound}
-use Rattle.mm_frame.proofs.lemmas.frames.FrameNumbers.{get_front, kept_front, shown_kept, shown_there, shown_before}
+use Rattle.mm_frame.specs.declared.base.Resolved.TheVariants as answers
 
 -- an item that carries a label has it
 label_in : (b : Bool) (own : Option (List ℕ)) (label : List ℕ) → has (cond b (option_to_list own) []) label ≡ true → (b ≡ true) × (own ≡ Some label)

@@ -1,14 +1,10 @@
 -- The labels and faults of items: how many there are, each of them, and one more.
-use Rattle.std.proofs.Common.{◌≡◌, ℕ, zero, suc, ◌+◌, ◌<◌, ◌≤◌, Bool, true, false, cond, ◌&&◌, Option, Some, None, List, [], ◌∷◌, ◌++◌, length, slice_get, get_or, refl, sym, ◌∙◌, ap, arith, length-append, is_some, is_none}
-use Rattle.std.specs.List.{slice_range}
-use Rattle.std.specs.Option.{option_map}
+use Rattle.std.proofs.Common.{◌≡◌, ℕ, zero, suc, ◌+◌, ◌<◌, ◌≤◌, Bool, true, false, cond, ◌&&◌, Option, Some, None, List, [], ◌∷◌, ◌++◌, length, slice_get, get_or, refl, sym, ◌∙◌, ap, arith}
+use Rattle.std.proofs.Common.{length-append, is_some, is_none}
+use Rattle.std.proofs.{Math.Seq.{get_or-append_seam}, lemmas.{Bool.{false≢true}, List.{get_or_append_left}, Option.{slice_get_past}}}
+use Rattle.std.specs.{List.{slice_range}, Option.{option_map}}
 use native.Mathlib.Decide.{dec_lt}
-use Rattle.std.proofs.Math.Seq.{get_or-append_seam}
-use Rattle.std.proofs.lemmas.Bool.{false≢true}
-use Rattle.std.proofs.lemmas.List.{get_or_append_left}
-use Rattle.std.proofs.lemmas.Option.{slice_get_past}
-use Rattle.mm_frame.specs.declared.judge.FrameFault.{FrameFault}
-use Rattle.mm_frame.specs.declared.item_rows.Rows.{Rows}
+use Rattle.mm_frame.specs.declared.{judge.FrameFault.{FrameFault}, item_rows.Rows.{Rows}}
 use Rattle.mm_frame.specs.Code.KeptParts.{cut_from, start_at}
 use Rattle.mm_frame.specs.Code.KeptRows.{bytes_or_none, fault_or_none, fault_kept, fault_told, row_told, rows_from, rows_of, row_label, row_fault, is_shown_in, AreRowsKept}
 use Rattle.mm_frame.proofs.lemmas.names.ExpressionLemmas.{cut_length, cut_there, cut_added}

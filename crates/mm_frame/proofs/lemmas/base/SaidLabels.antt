@@ -1,18 +1,14 @@
 -- Each sound item of a kind that has a label has one, since it has symbols.
 use Rattle.std.proofs.Common.{◌≡◌, ℕ, zero, suc, true, cond, ◌&&◌, ◌==◌, Some, None, List, [], ◌∷◌, length, slice_range, refl, sym, ◌∙◌, ap}
-use Rattle.std.specs.List.{AllZip}
 use Rattle.std.proofs.lemmas.Bool.{false≢true, or_parts, and_parts, and_from, eq-eqb}
-use Rattle.mm_store.specs.mm_text.Language.Unit.{Token, tokens_of}
-use Rattle.mm_store.specs.declared.item.Item as store
-use Rattle.mm_store.specs.Language.FilesView.{FilesView}
+use Rattle.std.specs.List.{AllZip}
+use Rattle.mm_store.specs.{mm_text.Language.Unit.{Token, tokens_of}, Language.FilesView.{FilesView}}
 use Rattle.mm_frame.specs.declared.FrameNumber.TheVariants.{F01}
-use Rattle.mm_statement.specs.Language.Item.{Kind, Floating, Essential, Axiom, Theorem, Item, is_floating, is_labelled}
-use Rattle.mm_frame.specs.Language.Sound.{closing_word, at_symbol, is_third, is_short, fault, IsSound}
+use Rattle.mm_frame.specs.Language.{Sound.{closing_word, at_symbol, is_third, is_short, fault, IsSound}, Base.{BaseView, AreSaid, before, said_at, is_sound_at, is_shown_at}}
+use Rattle.mm_statement.specs.Language.Item.{Kind, Floating, Essential, Axiom, Theorem, Item, is_floating, is_labelled, item_at}
 use Rattle.mm_statement.specs.Language.Statement.{kind_of, token_names, symbols_in, label_in, item_of, Says}
-use Rattle.mm_statement.specs.Language.Item.{item_at}
-use Rattle.mm_frame.specs.Language.Base.{BaseView, AreSaid, before, said_at, is_sound_at, is_shown_at}
-use Rattle.mm_frame.proofs.lemmas.faults.FoundFaults.{no_fault_sound}
-use Rattle.mm_frame.proofs.lemmas.base.BaseLemmas.{none_told}
+use Rattle.mm_frame.proofs.lemmas.{faults.FoundFaults.{no_fault_sound}, base.BaseLemmas.{none_told}}
+use Rattle.mm_store.specs.declared.item.Item as store
 
 short_kind : (kind : Kind) → is_labelled kind ≡ true → is_short kind 0 ≡ true
 short_kind Floating t = refl

@@ -1,29 +1,17 @@
 -- The items so far are the first ones of an older base: what it says of its next item is right of the next item.
-use Rattle.std.proofs.Common.{◌≡◌, ℕ, zero, suc, ◌<◌, Bool, true, Option, Some, None, List, [], ◌∷◌, ◌++◌, length, take, drop, slice_get, nat_eq, is_some, refl, sym, ◌∙◌, ap, subst, arith, take-suc, take-append-drop}
-use Rattle.std.specs.HashMap.{get}
-use Rattle.std.specs.List.{AllZip}
-use Rattle.std.proofs.lemmas.Bool.{false≢true}
-use Rattle.std.proofs.lemmas.List.{length_push, take-append-le}
-use Rattle.std.proofs.lemmas.Option.{slice_get_within, get_or_from_slice_get}
-use Rattle.mm_store.specs.declared.item.Item as store
+use Rattle.std.proofs.Common.{◌≡◌, ℕ, zero, suc, ◌<◌, Bool, true, Option, Some, None, List, [], ◌∷◌, ◌++◌, length, take, drop, slice_get, nat_eq, is_some, refl, sym, ◌∙◌, ap, subst, arith, take-suc}
+use Rattle.std.proofs.Common.{take-append-drop}
+use Rattle.std.proofs.lemmas.{Bool.{false≢true}, List.{length_push, take-append-le}, Option.{slice_get_within, get_or_from_slice_get}}
+use Rattle.std.specs.{HashMap.{get}, List.{AllZip}}
 use Rattle.mm_store.specs.Language.FilesView.{FilesView}
 use Rattle.mm_frame.specs.declared.pair_lists.PairLists.{PairLists}
-use Rattle.mm_frame.specs.Language.Frame.{Symbol, AreSamePairs}
-use Rattle.mm_statement.specs.Language.Item.{Item, item_at}
-use Rattle.mm_frame.specs.Language.Sound.{sound_items}
-use Rattle.mm_frame.specs.Language.Framing.{active_pairs}
-use Rattle.mm_statement.specs.Language.Statement.{OneRangeSaysOne, Says}
-use Rattle.mm_frame.specs.Language.Base.{BaseView, before, said_at, is_proof_at}
-use Rattle.mm_frame.specs.Language.NumberedSymbols.{kept_pairs}
-use Rattle.mm_frame.specs.Language.Answering.{AreRows, BaseAnswers, is_told_proof}
-use Rattle.mm_frame.specs.Code.KeptAssertions.{TellsPairs}
-use Rattle.mm_frame.specs.Code.KeptPairLists.{AreMade, IsList, KeepsLists}
-use Rattle.mm_frame.specs.Code.KeptSparse.{value_kept, value_or_none}
-use Rattle.mm_frame.specs.Code.KnownItem.{IsAgain}
+use Rattle.mm_frame.specs.Language.{Sound.{sound_items}, Framing.{active_pairs}, Base.{BaseView, before, said_at, is_proof_at}, Answering.{AreRows, BaseAnswers, is_told_proof}}
+use Rattle.mm_frame.specs.Code.{KeptAssertions.{TellsPairs}, KeptPairLists.{AreMade, IsList, KeepsLists}, KeptSparse.{value_kept, value_or_none}, KnownItem.{IsAgain}}
 use Rattle.mm_frame.specs.Code.TakenOver.{AreFirst, AreFirstIf, IsNextOf}
-use Rattle.mm_frame.proofs.lemmas.pairs.PairListLemmas.{list_stays}
-use Rattle.mm_frame.proofs.lemmas.pairs.SharedPairs.{same_joined}
-use Rattle.mm_frame.proofs.lemmas.reading.KnownItems.{same_again}
+use Rattle.mm_machine.specs.Language.{Frame.{Symbol, AreSamePairs}, NumberedSymbols.{kept_pairs}}
+use Rattle.mm_statement.specs.Language.{Item.{Item, item_at}, Statement.{OneRangeSaysOne, Says}}
+use Rattle.mm_frame.proofs.lemmas.{pairs.{PairListLemmas.{list_stays}, SharedPairs.{same_joined}}, reading.KnownItems.{same_again}}
+use Rattle.mm_store.specs.declared.item.Item as store
 
 -- ---- the first items
 

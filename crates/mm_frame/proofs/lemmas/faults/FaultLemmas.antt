@@ -1,37 +1,19 @@
 -- What the code that looks for a fault rests on.
-use Rattle.std.proofs.Common.{◌≡◌, ℕ, zero, nat_eq, slice_get, suc, ◌+◌, ◌<◌, ◌≤◌, Bool, true, false, not, cond, ◌==◌, ◌&&◌, ◌||◌, Option, Some, None, is_some, List, [], ◌∷◌, ◌++◌}
-use Rattle.std.proofs.Common.{length, take, drop, get_or, bytes_eq, refl, sym, ◌∙◌, ap, subst, arith}
-use Rattle.std.specs.Prelude.{is_none}
-use Rattle.std.specs.Option.{option_or}
-use Rattle.std.specs.HashSet.{HashSet, Updates}
+use Rattle.std.proofs.Common.{◌≡◌, ℕ, zero, nat_eq, slice_get, suc, ◌+◌, ◌<◌, ◌≤◌, Bool, true, false, not, cond, ◌==◌, ◌&&◌, ◌||◌, Option, Some, None, is_some, List, [], ◌∷◌, ◌++◌, length, take, drop}
+use Rattle.std.proofs.Common.{get_or, bytes_eq, refl, sym, ◌∙◌, ap, subst, arith}
 use Rattle.std.proofs.Math.Seq.{take-suc}
-use Rattle.std.proofs.lemmas.Bool.{false≢true}
-use Rattle.std.proofs.lemmas.Bool.Decides.{Decides-eqb}
-use Rattle.std.proofs.lemmas.Slice.Eq.{bytes_eq-Decides}
-use Rattle.std.proofs.lemmas.Option.{same_Some, slice_get-get_or}
-use Rattle.std.proofs.lemmas.List.{drop_all}
-use Rattle.std.proofs.lemmas.List.Folds.{list_any-append}
+use Rattle.std.proofs.lemmas.{Bool.{false≢true, Decides.{Decides-eqb}}, Slice.Eq.{bytes_eq-Decides}, Option.{same_Some, slice_get-get_or}, List.{drop_all, Folds.{list_any-append}}}
+use Rattle.std.specs.{Prelude.{is_none}, Option.{option_or}, HashSet.{HashSet, Updates}}
 use Rattle.mm_statement.specs.Language.Item.{first_symbol, Kind, Essential, Axiom, Theorem, Item, has, is_expression}
-use Rattle.mm_frame.specs.Language.Scope.{constants, active_variables, typed}
-use Rattle.mm_frame.specs.Language.Sound.{closing_word, fault_or, fault, AreSound, is_short}
-use Rattle.mm_frame.specs.Code.Numbers.{IsNameNumber, AreNameNumbers}
-use Rattle.mm_frame.specs.Language.Names.{AreDistinct}
-use Rattle.mm_frame.specs.Code.KeptScope.{ScopeHolds}
-use Rattle.mm_frame.specs.declared.scope.Scope.{Scope}
-use Rattle.mm_frame.specs.declared.tables.Declared.{Declared}
-use Rattle.mm_frame.specs.declared.tables.Declared.TheVariants.{Constant, Variable}
-use Rattle.mm_frame.specs.Code.KeptTables.{declared_at, declared_in, variable_at}
+use Rattle.mm_frame.specs.Language.{Scope.{constants, active_variables, typed}, Sound.{closing_word, fault_or, fault, AreSound, is_short}}
+use Rattle.mm_frame.specs.Code.{Numbers.{IsNameNumber, AreNameNumbers}, KeptScope.{ScopeHolds}, KeptTables.{declared_at, declared_in, variable_at}}
 use Rattle.mm_frame.specs.Code.LastItems.{last_where, declares_variable, types, is_active_last}
-use Rattle.mm_frame.specs.declared.FrameNumber.{FrameNumber}
-use Rattle.mm_frame.specs.declared.FrameNumber.TheVariants.{F01, F10, F11}
 use Rattle.mm_frame.specs.Code.FaultInOrder.{front_fault, end_fault, first_fault, symbol_fault_of, symbol_fault, symbols_fault, typecode_fault, expression_fault, later_fault}
 use Rattle.mm_frame.specs.Code.SeenNumbers.{HasSeen, has_number}
-use Rattle.mm_frame.proofs.lemmas.faults.FaultReading.{first_fault_at, fault_is}
-use Rattle.mm_frame.proofs.lemmas.frames.Frames.{from_typed, float_of}
-use Rattle.mm_frame.proofs.lemmas.lists.Members.{has_in}
-use Rattle.mm_frame.proofs.lemmas.scope.SoundItems.{sound_kept}
-use Rattle.mm_frame.proofs.lemmas.scope.KnownLemmas.{constant_no_variable, known_at}
-use Rattle.mm_frame.proofs.lemmas.scope.TableLemmas.{active_variable_last, typed_last}
+use Rattle.mm_frame.specs.declared.{scope.Scope.{Scope}, tables.Declared.{Declared, TheVariants.{Constant, Variable}}, FrameNumber.{FrameNumber, TheVariants.{F01, F10, F11}}}
+use Rattle.mm_machine.specs.Language.Names.{AreDistinct}
+use Rattle.mm_frame.proofs.lemmas.{faults.FaultReading.{first_fault_at, fault_is}, frames.Frames.{from_typed, float_of}, lists.Members.{has_in}}
+use Rattle.mm_frame.proofs.lemmas.scope.{SoundItems.{sound_kept}, KnownLemmas.{constant_no_variable, known_at}, TableLemmas.{active_variable_last, typed_last}}
 
 -- whether a name with this declaration may come after a typecode
 abbrev pub may_follow_as : List Item → Option Declared → Bool

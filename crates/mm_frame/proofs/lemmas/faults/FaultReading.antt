@@ -1,20 +1,14 @@
 -- The fault of a statement is the one that is read from left to right.
-use Rattle.std.proofs.Common.{◌≡◌, ℕ, zero, suc, ◌+◌, ◌-◌, ◌≤◌, ◌<◌, Bool, true, false, cond, ◌&&◌, ◌||◌, ltb, leb, ◌==◌, Option, Some, None, List, [], ◌∷◌, length, drop, find, slice_get, refl, sym, ◌∙◌, ap, subst, arith, option_to_list}
-use Rattle.std.specs.Option.{option_or}
-use Rattle.std.specs.List.{list_any}
-use Rattle.std.proofs.Math.Bool.{or-false}
-use Rattle.std.proofs.lemmas.Bool.{false≢true, and_left, and_right, le-leb, lt-ltb, eq-eqb, ne_eqb}
-use Rattle.std.proofs.lemmas.Option.{slice_get_past, slice_get_within}
-use Rattle.mm_statement.specs.Language.Item.{first_symbol, Kind, Constants, Disjoint, Floating, Essential, Axiom, Theorem}
-use Rattle.mm_statement.specs.Language.Item.{Item, is_constants, is_variables, is_disjoint, is_floating, is_declaring, is_expression, is_labelled, labels_of}
+use Rattle.std.proofs.Common.{◌≡◌, ℕ, zero, suc, ◌+◌, ◌-◌, ◌≤◌, ◌<◌, Bool, true, false, cond, ◌&&◌, ◌||◌, ltb, leb, ◌==◌, Option, Some, None, List, [], ◌∷◌, length, drop, find, slice_get, refl, sym}
+use Rattle.std.proofs.Common.{◌∙◌, ap, subst, arith, option_to_list}
+use Rattle.std.proofs.{Math.Bool.{or-false}, lemmas.{Bool.{false≢true, and_left, and_right, le-leb, lt-ltb, eq-eqb, ne_eqb}, Option.{slice_get_past, slice_get_within}}}
+use Rattle.std.specs.{Option.{option_or}, List.{list_any}}
+use Rattle.mm_statement.specs.Language.Item.{first_symbol, Kind, Constants, Disjoint, Floating, Essential, Axiom, Theorem, Item, is_constants, is_variables, is_disjoint, is_floating, is_declaring}
+use Rattle.mm_statement.specs.Language.Item.{is_expression, is_labelled, labels_of}
 use Rattle.mm_frame.specs.Language.Scope.{is_inside}
-use Rattle.mm_frame.specs.declared.FrameNumber.{FrameNumber}
-use Rattle.mm_frame.specs.declared.FrameNumber.TheVariants.{F01, F02, F03, F04, F05, F06, F07, F08, F09, F10, F11, F12, F13, F14}
-use Rattle.mm_frame.specs.Language.Sound.{closing_word, passes, at_symbol, each, first, second, later, is_third, is_repeated, is_declared}
-use Rattle.mm_frame.specs.Language.Sound.{is_active_symbol, is_label, is_no_constant, is_no_variable, is_no_active_symbol, is_untyped, is_typed}
-use Rattle.mm_frame.specs.Language.Sound.{is_typed_otherwise, is_short, numbers}
-use Rattle.mm_frame.specs.Language.Sound.{number_at, fault_or}
-use Rattle.mm_frame.specs.Language.Sound.{fault_from, fault}
+use Rattle.mm_frame.specs.Language.Sound.{closing_word, passes, at_symbol, each, first, second, later, is_third, is_repeated, is_declared, is_active_symbol, is_label, is_no_constant, is_no_variable}
+use Rattle.mm_frame.specs.Language.Sound.{is_no_active_symbol, is_untyped, is_typed, is_typed_otherwise, is_short, numbers, number_at, fault_or, fault_from, fault}
+use Rattle.mm_frame.specs.declared.FrameNumber.{FrameNumber, TheVariants.{F01, F02, F03, F04, F05, F06, F07, F08, F09, F10, F11, F12, F13, F14}}
 use Rattle.mm_frame.specs.Code.FaultInOrder.{first_fault, typecode_fault, typed_fault, floating_fault, symbol_fault_of, labels_fault, front_fault, end_fault, symbols_fault, fault_by_kind}
 
 -- what a line looks at in a word: whether the statement ends there too early, whether it is word 0, and what its symbol passes

@@ -1,18 +1,14 @@
 -- What is found is the fault, and what is kept is sound.
-use Rattle.std.proofs.Common.{◌≡◌, ℕ, zero, suc, pred, ◌+◌, ◌-◌, ◌≤◌, ◌<◌, Bool, true, false, cond, ◌||◌, leb, ◌==◌, Option, Some, None, List, [], ◌∷◌, ◌++◌}
-use Rattle.std.proofs.Common.{length, find, slice_get, refl, sym, ◌∙◌, ap, subst, append_assoc, append-nil, arith, inl, inr, ◌⊎◌}
+use Rattle.std.proofs.Common.{◌≡◌, ℕ, zero, suc, pred, ◌+◌, ◌-◌, ◌≤◌, ◌<◌, Bool, true, false, cond, ◌||◌, leb, ◌==◌, Option, Some, None, List, [], ◌∷◌, ◌++◌, length, find, slice_get, refl, sym, ◌∙◌}
+use Rattle.std.proofs.Common.{ap, subst, append_assoc, append-nil, arith, inl, inr, ◌⊎◌}
+use Rattle.std.proofs.lemmas.{Bool.{false≢true, and_right, and_left, or_from, ne_eqb}, Option.{slice_get_past}}
 use native.Mathlib.Decide.{dec_lt}
-use Rattle.std.proofs.lemmas.Bool.{false≢true, and_right, and_left, or_from, ne_eqb}
-use Rattle.std.proofs.lemmas.Option.{slice_get_past}
 use Rattle.mm_statement.specs.Language.Item.{first_symbol, Item, passed, is_constants, is_variables, is_disjoint, is_floating, is_declaring, is_expression, is_labelled}
 use Rattle.mm_frame.specs.Language.Scope.{is_inside}
-use Rattle.mm_frame.specs.declared.FrameNumber.{FrameNumber}
-use Rattle.mm_frame.specs.declared.FrameNumber.TheVariants.{F01, F02, F03, F04, F05, F06, F07, F08, F09, F10, F11, F12, F13, F14}
-use Rattle.mm_frame.specs.Language.Sound.{closing_word, passes, at_symbol, each, first, second, later, is_third, is_repeated, is_declared}
-use Rattle.mm_frame.specs.Language.Sound.{is_active_symbol, is_label, is_no_constant, is_no_variable, is_no_active_symbol, is_untyped, is_typed}
-use Rattle.mm_frame.specs.Language.Sound.{is_typed_otherwise, is_short, line_holds}
-use Rattle.mm_frame.specs.Language.Sound.{StatementLineHolds, IsSound, row}
-use Rattle.mm_frame.specs.Language.Sound.{IsStatementFault, numbers, number_at, fault_or, fault_from, fault, judged, sound_items_after, sound_items}
+use Rattle.mm_frame.specs.Language.Sound.{closing_word, passes, at_symbol, each, first, second, later, is_third, is_repeated, is_declared, is_active_symbol, is_label, is_no_constant, is_no_variable}
+use Rattle.mm_frame.specs.Language.Sound.{is_no_active_symbol, is_untyped, is_typed, is_typed_otherwise, is_short, line_holds, StatementLineHolds, IsSound, row, IsStatementFault, numbers, number_at}
+use Rattle.mm_frame.specs.Language.Sound.{fault_or, fault_from, fault, judged, sound_items_after, sound_items}
+use Rattle.mm_frame.specs.declared.FrameNumber.{FrameNumber, TheVariants.{F01, F02, F03, F04, F05, F06, F07, F08, F09, F10, F11, F12, F13, F14}}
 use Rattle.mm_frame.proofs.lemmas.scope.Facts.{AreKept}
 
 -- no line holds after the statement's words

@@ -1,28 +1,20 @@
 -- What is kept of an item at its number, and the hypotheses of a frame by their numbers.
-use Rattle.std.proofs.Common.{◌≡◌, ◌↔◌, ℕ, zero, suc, ◌<◌, Bool, true, false, ◌&&◌, ◌||◌, Option, Some, None, List, [], ◌∷◌, length, map, take, take_all, slice_get, get_or, is_none, is_some, refl, sym, ◌∙◌, ap, subst, arith, inl, inr}
-use Rattle.std.specs.Option.{option_map, IfSome}
-use Rattle.std.specs.Prelude.{Contains}
-use Rattle.std.specs.List.{AllZip}
-use Rattle.std.proofs.lemmas.Bool.{false≢true, and_from, and_parts}
-use Rattle.std.proofs.lemmas.List.{take-take}
-use Rattle.std.proofs.lemmas.List.Elements.{All-from_get_or}
+use Rattle.std.proofs.Common.{◌≡◌, ◌↔◌, ℕ, zero, suc, ◌<◌, Bool, true, false, ◌&&◌, ◌||◌, Option, Some, None, List, [], ◌∷◌, length, map, take, take_all, slice_get, get_or, is_none, is_some, refl}
+use Rattle.std.proofs.Common.{sym, ◌∙◌, ap, subst, arith, inl, inr}
+use Rattle.std.proofs.lemmas.{Bool.{false≢true, and_from, and_parts}, List.{take-take, Elements.{All-from_get_or}}}
 use Rattle.std.proofs.lemmas.Option.{same_Some, slice_get_within, slice_get_cases, slice_get-get_or, get_or_from_slice_get}
-use Rattle.mm_store.specs.declared.item.Item as store
+use Rattle.std.specs.{Option.{option_map, IfSome}, Prelude.{Contains}, List.{AllZip}}
 use Rattle.mm_store.specs.Language.FilesView.{FilesView}
 use Rattle.mm_frame.specs.declared.FrameNumber.{FrameNumber}
-use Rattle.mm_statement.specs.Language.Item.{Kind, Floating, Essential, Missing, Item, passed, is_floating, is_essential, is_labelled, has, variable_of, item_at}
-use Rattle.mm_frame.specs.Language.Sound.{fault, judged, sound_items}
-use Rattle.mm_frame.specs.Language.Framing.{is_mandatory, mandatory_variables, expression, hypothesis, mandatory_numbers}
-use Rattle.mm_statement.specs.Language.Statement.{kind_of, Says}
-use Rattle.mm_frame.specs.Language.Base.{BaseView, before, said_at, fault_by, hypothesis_at, is_sound_at, is_shown_at, is_framed_at, IsMandatoryAt, AreHypotheses}
+use Rattle.mm_frame.specs.Language.{Sound.{fault, judged, sound_items}, Framing.{is_mandatory, mandatory_variables, expression, hypothesis, mandatory_numbers}}
+use Rattle.mm_frame.specs.Language.{Base.{BaseView, before, said_at, fault_by, hypothesis_at, is_sound_at, is_shown_at, is_framed_at, IsMandatoryAt, AreHypotheses}, Answering.{numbers_if}}
 use Rattle.mm_frame.specs.Code.KeptBase.{is_float_item, hypotheses_at}
-use Rattle.mm_frame.specs.Language.Answering.{numbers_if}
+use Rattle.mm_statement.specs.Language.{Item.{Kind, Floating, Essential, Missing, Item, passed, is_floating, is_essential, is_labelled, has, variable_of, item_at}, Statement.{kind_of, Says}}
 use Rattle.mm_frame.proofs.lemmas.lists.Members.{In, in_contains, contains_in}
-use Rattle.mm_frame.proofs.lemmas.frames.Frames.{in_at}
-use Rattle.mm_frame.proofs.lemmas.scope.SoundItems.{map_same}
+use Rattle.mm_frame.proofs.lemmas.{frames.{Frames.{in_at}, HypothesisNumbers.{to_active_number, from_active_number, active_numbers_rise, hypotheses_by_numbers}}, scope.SoundItems.{map_same}}
 use Rattle.mm_frame.proofs.lemmas.pairs.ActivePairLemmas.{expression_at_number, get_between}
-use Rattle.mm_frame.proofs.lemmas.frames.HypothesisNumbers.{to_active_number, from_active_number, active_numbers_rise, hypotheses_by_numbers}
 use Rattle.mm_frame.proofs.lemmas.base.BaseLemmas.{kept_item_at, none_told, labelled_there, kept_count, kept_at, kept_front_at, kept_are_sound}
+use Rattle.mm_store.specs.declared.item.Item as store
 
 -- an element of the front of a list
 pub get_front : {X : Type 0} (xs : List X) (i n : ℕ) (x : X) → slice_get (take i xs) n ≡ Some x → (n < i) × (slice_get xs n ≡ Some x)

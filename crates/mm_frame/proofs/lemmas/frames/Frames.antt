@@ -1,15 +1,16 @@
 -- The four facts of a frame.
-use Rattle.std.proofs.Common.{◌≡◌, ◌≢◌, ℕ, zero, suc, ◌<◌, Bool, true, false, cond, ◌&&◌, Some, List, [], ◌∷◌, ◌++◌, length, map, filter, take, slice_get, slice_index_or, get_or, refl, sym, ◌∙◌, ap, subst, append_assoc, arith, inl, inr, ◌⊎◌}
+use Rattle.std.proofs.Common.{◌≡◌, ◌≢◌, ℕ, zero, suc, ◌<◌, Bool, true, false, cond, ◌&&◌, Some, List, [], ◌∷◌, ◌++◌, length, map, filter, take, slice_get, slice_index_or, get_or, refl, sym, ◌∙◌, ap}
+use Rattle.std.proofs.Common.{subst, append_assoc, arith, inl, inr, ◌⊎◌}
+use Rattle.std.proofs.lemmas.{Bool.{false≢true, true≢false, or_cases, or_right, and_from, false_from_ne_true, and_parts}, List.Kept.{AllPairs-cons, AllPairs-filter}}
 use Rattle.std.specs.Prelude.{Contains, All, AllPairs}
-use Rattle.std.proofs.lemmas.Bool.{false≢true, true≢false, or_cases, or_right, and_from, false_from_ne_true, and_parts}
-use Rattle.std.proofs.lemmas.List.Kept.{AllPairs-cons, AllPairs-filter}
-use Rattle.mm_frame.specs.Language.Frame.{Symbol, Mandatory, Frame, Hypothesis, Assertion, Inactive, HasVariable}
-use Rattle.mm_frame.specs.Language.Typing.{IsTyped, IsTyping, IsFrame, HasFrames}
-use Rattle.mm_statement.specs.Language.Item.{Kind, Floating, Essential, Axiom, Theorem, Item, is_constants, is_variables, is_disjoint, is_floating, is_essential, is_expression, is_labelled, is_assertion, has, labels_of, variable_of}
-use Rattle.mm_frame.specs.Language.Scope.{Neither, mark_of, stays, active, symbols_by, constants, active_variables, typed, floats}
-use Rattle.mm_frame.specs.Language.Sound.{IsSound, sound_items}
-use Rattle.mm_frame.specs.Language.Framing.{symbol, expression, mandatory_variables, is_mandatory, hypothesis, mandatory_hypotheses, pairs_of, active_pairs, is_mandatory_pair, frame, meaning, resolve_from, setting_of}
-use Rattle.mm_frame.proofs.lemmas.lists.Members.{In, in_contains, contains_in, in_left, in_right, in_cases, in_map, from_map, in_filter, from_filter, from_flat, in_get, has_in, in_has, from_symbols, to_symbols, in_cond}
+use Rattle.mm_machine.specs.Language.{Frame.{Symbol, Mandatory, Frame, Hypothesis, Assertion, Inactive, HasVariable}, Typing.{IsTyped, IsTyping, IsFrame, HasFrames}}
+use Rattle.mm_statement.specs.Language.Item.{Kind, Floating, Essential, Axiom, Theorem, Item, is_constants, is_variables, is_disjoint, is_floating, is_essential, is_expression, is_labelled}
+use Rattle.mm_statement.specs.Language.Item.{is_assertion, has, labels_of, variable_of}
+use Rattle.mm_frame.specs.Language.{Scope.{Neither, mark_of, stays, active, symbols_by, constants, active_variables, typed, floats}, Sound.{IsSound, sound_items}}
+use Rattle.mm_frame.specs.Language.Framing.{symbol, expression, mandatory_variables, is_mandatory, hypothesis, mandatory_hypotheses, pairs_of, active_pairs, is_mandatory_pair, frame, meaning}
+use Rattle.mm_frame.specs.Language.Framing.{resolve_from, setting_of}
+use Rattle.mm_frame.proofs.lemmas.lists.Members.{In, in_contains, contains_in, in_left, in_right, in_cases, in_map, from_map, in_filter, from_filter, from_flat, in_get, has_in, in_has, from_symbols}
+use Rattle.mm_frame.proofs.lemmas.lists.Members.{to_symbols, in_cond}
 use Rattle.mm_frame.proofs.lemmas.scope.ActiveBySplit.{active_split, split_active, active_later, stays_front}
 use Rattle.mm_frame.proofs.lemmas.scope.Facts.{AreKept, sound_at, kept_front, not_constant, first_constant, known, typed_there, float_variable, float_new, float_two}
 use Rattle.mm_frame.proofs.lemmas.faults.FoundFaults.{kept_is_sound}

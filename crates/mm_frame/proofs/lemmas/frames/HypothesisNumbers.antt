@@ -1,23 +1,18 @@
 -- The mandatory hypotheses of a statement are those whose numbers the tables give.
-use Rattle.std.proofs.Common.{◌≡◌, ℕ, zero, suc, ◌+◌, ◌<◌, Bool, true, false, cond, ◌&&◌, Option, Some, None, List, [], ◌∷◌, ◌++◌, length, map, filter, take, drop, slice_get, get_or, refl, sym, ◌∙◌, ap, subst, append_assoc, arith, inl, inr}
-use Rattle.std.specs.Prelude.{Contains, ◌↔◌}
+use Rattle.std.proofs.Common.{◌≡◌, ℕ, zero, suc, ◌+◌, ◌<◌, Bool, true, false, cond, ◌&&◌, Option, Some, None, List, [], ◌∷◌, ◌++◌, length, map, filter, take, drop, slice_get, get_or, refl, sym, ◌∙◌}
+use Rattle.std.proofs.Common.{ap, subst, append_assoc, arith, inl, inr}
 use Rattle.std.proofs.Math.Seq.{drop-nil}
-use Rattle.std.proofs.lemmas.Bool.{false≢true, or_cases, or_left, or_right, and_from, false_from_ne_true, and_parts}
-use Rattle.std.proofs.lemmas.Option.{get_or_from_slice_get, slice_get_within}
-use Rattle.std.proofs.lemmas.List.{length-take-le}
-use Rattle.std.proofs.lemmas.Simd.{map-map}
-use Rattle.std.proofs.lemmas.List.Kept.{AllPairs-cons}
+use Rattle.std.proofs.lemmas.{Bool.{false≢true, or_cases, or_left, or_right, and_from, false_from_ne_true, and_parts}, Option.{get_or_from_slice_get, slice_get_within}}
+use Rattle.std.proofs.lemmas.{List.{length-take-le, Kept.{AllPairs-cons}}, Simd.{map-map}}
+use Rattle.std.specs.Prelude.{Contains, ◌↔◌}
 use Rattle.mm_statement.specs.Language.Item.{Item, passed, is_floating, is_essential, is_expression, has, variable_of, item_at}
-use Rattle.mm_frame.specs.Language.Scope.{Closes, mark_of, is_zero, stays, active, typed, active_numbers_from, active_numbers}
-use Rattle.mm_frame.specs.Language.Sound.{IsSound, AreSound}
+use Rattle.mm_frame.specs.Language.{Scope.{Closes, mark_of, is_zero, stays, active, typed, active_numbers_from, active_numbers}, Sound.{IsSound, AreSound}}
 use Rattle.mm_frame.specs.Language.Framing.{mandatory_variables, is_mandatory, hypothesis, mandatory_hypotheses, mandatory_numbers}
 use Rattle.mm_frame.specs.Code.LastItems.{last_where, is_active_at, is_active_last, types, is_essential_item, IsHypothesisNumber, IsRising}
 use Rattle.mm_frame.proofs.lemmas.lists.Members.{In, in_contains, contains_in, in_get, has_in, in_has}
-use Rattle.mm_frame.proofs.lemmas.scope.ActiveBySplit.{split_active, in_first, in_later, stays_front}
-use Rattle.mm_frame.proofs.lemmas.scope.Facts.{float_new}
-use Rattle.mm_frame.proofs.lemmas.frames.Frames.{to_typed, mandatory_typed, in_at}
-use Rattle.mm_frame.proofs.lemmas.scope.SoundItems.{split_at, sound_kept}
+use Rattle.mm_frame.proofs.lemmas.scope.{ActiveBySplit.{split_active, in_first, in_later, stays_front}, Facts.{float_new}, SoundItems.{split_at, sound_kept}}
 use Rattle.mm_frame.proofs.lemmas.scope.TableLemmas.{last_cases, last_none, last_number, last_is, first_cases, stands_in, typing, typed_by, float_second, typed_last, closed_next}
+use Rattle.mm_frame.proofs.lemmas.frames.Frames.{to_typed, mandatory_typed, in_at}
 
 -- an active item that passes has its number among the numbers
 numbered : (test : Item → Bool) (n : ℕ) (items : List Item) (k : ℕ) (x : Item) → slice_get items k ≡ Some x → stays (drop (suc k) items) ≡ true → test x ≡ true → In (n + k) (active_numbers_from test n items)

@@ -1,37 +1,20 @@
 -- The numbers of the mandatory hypotheses, as the code collects them.
 use Rattle.std.proofs.Common.{Contains, ◌≡◌, ℕ, Bool, true, cond, Option, Some, List, [], ◌++◌, flat_map, slice_get, refl, sym, ◌∙◌, ap, subst, eqb, inl, inr, All, option_to_list}
-use Rattle.std.specs.List.{dedup}
-use Rattle.std.specs.List.Sorted.{IsPermutation, IsSorted}
-use Rattle.std.specs.List.Retain.{IsFiltered, DiffersFromLast}
-use Rattle.std.specs.Ordering.{nat_cmp}
 use Rattle.std.proofs.lemmas.Bool.{false≢true}
-use Rattle.std.proofs.lemmas.List.Elements.{All-contains}
-use Rattle.std.proofs.lemmas.List.Sorted.{IsPermutation-sym, Contains-permutation}
-use Rattle.std.proofs.lemmas.List.Filters.{dedup_is}
+use Rattle.std.proofs.lemmas.List.{Elements.{All-contains}, Sorted.{IsPermutation-sym, Contains-permutation}, Filters.{dedup_is}}
 use Rattle.std.proofs.lemmas.List.Kept.{Contains-dedup_nat, Contains-from_dedup, AllPairs-from_increasing}
 use Rattle.std.proofs.lemmas.Map.Keys.{IsStrictlyIncreasing-dedup}
-use Rattle.mm_frame.specs.Language.Frame.{Symbol}
+use Rattle.std.specs.{List.{dedup, Sorted.{IsPermutation, IsSorted}, Retain.{IsFiltered, DiffersFromLast}}, Ordering.{nat_cmp}}
+use Rattle.mm_machine.specs.{Language.{Frame.{Symbol}, Names.{name_at}, NumberedSymbols.{symbol_of, symbols_of, IsNumbered, AreSymbolsRead}}, declared.symbol.NumberedSymbol.{NumberedSymbol}}
 use Rattle.mm_statement.specs.Language.Item.{Kind, Floating, Item, is_floating, is_essential, is_assertion, has}
-use Rattle.mm_frame.specs.Language.Names.{name_at}
-use Rattle.mm_frame.specs.Language.Scope.{active, symbols_by, active_variables, active_numbers}
-use Rattle.mm_frame.specs.Language.Sound.{AreSound, IsSound}
-use Rattle.mm_frame.specs.Language.Framing.{symbol, expression, mandatory_variables, mandatory_numbers}
-use Rattle.mm_frame.specs.Code.LastItems.{last_where, types, is_active_at, is_essential_item, IsHypothesisNumber}
-use Rattle.mm_frame.specs.declared.symbol.NumberedSymbol.{NumberedSymbol}
-use Rattle.mm_frame.specs.declared.tables.Tables.{Tables}
-use Rattle.mm_frame.specs.Code.Numbers.{IsNameNumber}
-use Rattle.mm_frame.specs.Code.KeptTables.{Knows, declared_at, float_of}
-use Rattle.mm_frame.specs.Language.NumberedSymbols.{symbol_of, symbols_of, IsNumbered, AreSymbolsRead}
-use Rattle.mm_frame.specs.Code.KeptSymbols.{expression_kept, AreExpressions, AreNumbered, float_number, float_numbers}
+use Rattle.mm_frame.specs.Language.{Scope.{active, symbols_by, active_variables, active_numbers}, Sound.{AreSound, IsSound}, Framing.{symbol, expression, mandatory_variables, mandatory_numbers}}
+use Rattle.mm_frame.specs.Code.{LastItems.{last_where, types, is_active_at, is_essential_item, IsHypothesisNumber}, Numbers.{IsNameNumber}, KeptTables.{Knows, declared_at, float_of}}
+use Rattle.mm_frame.specs.Code.{KeptSymbols.{expression_kept, AreExpressions, AreNumbered, float_number, float_numbers}, KeptVariables.{AreVariablesOf, known_float}}
+use Rattle.mm_frame.specs.declared.{tables.Tables.{Tables}, essential.EssentialVariable.{EssentialVariable}}
 use Rattle.mm_frame.proofs.lemmas.lists.Members.{In, in_contains, contains_in, in_left, in_right, in_cases, in_map, from_map, in_filter, from_filter, in_flat, from_flat, from_symbols, to_symbols}
 use Rattle.mm_frame.proofs.lemmas.frames.Frames.{assertion_expression, essential_expression, expression_labelled}
-use Rattle.mm_frame.proofs.lemmas.names.NumberLemmas.{declared_named, name_there}
-use Rattle.mm_frame.proofs.lemmas.scope.KnownLemmas.{float_in}
-use Rattle.mm_frame.proofs.lemmas.frames.HypothesisNumbers.{to_active_number, from_active_number, sound_typed, mandatory_numbers_built}
-use Rattle.mm_frame.specs.declared.essential.EssentialVariable.{EssentialVariable}
-use Rattle.mm_frame.specs.Code.KeptVariables.{AreVariablesOf, known_float}
-use Rattle.mm_frame.proofs.lemmas.frames.VariableLemmas.{known_from, known_to}
-use Rattle.mm_frame.proofs.lemmas.pairs.ActivePairLemmas.{expression_at_number, active_at_number, number_of_active}
+use Rattle.mm_frame.proofs.lemmas.frames.{HypothesisNumbers.{to_active_number, from_active_number, sound_typed, mandatory_numbers_built}, VariableLemmas.{known_from, known_to}}
+use Rattle.mm_frame.proofs.lemmas.{names.NumberLemmas.{declared_named, name_there}, scope.KnownLemmas.{float_in}, pairs.ActivePairLemmas.{expression_at_number, active_at_number, number_of_active}}
 
 -- the number of the `$f` of a variable
 under : (b : Bool) (n : ℕ) (o : Option ℕ) → In n (cond b (option_to_list o) []) → (b ≡ true) × (o ≡ Some n)

@@ -1,14 +1,11 @@
 -- Frames are the same exactly when their expressions, their hypotheses and their pairs in one order are.
 use Rattle.std.proofs.Common.{◌≡◌, ℕ, Bool, true, false, ◌&&◌, ◌||◌, List, filter, map, bytes_eq, refl, sym, ◌∙◌, ap, subst, inl, inr, IsTrue, ◌↔◌, All}
 use Rattle.std.proofs.lemmas.Bool.{false≢true, and_from, and_parts, or_left, or_right}
-use Rattle.mm_frame.specs.Language.Frame.{Symbol, Mandatory, Frame, ArePair, AreSamePairs, AreSameFrame}
+use Rattle.mm_machine.specs.Language.Frame.{Symbol, Mandatory, Frame, ArePair, AreSamePairs, AreSameFrame}
 use Rattle.mm_statement.specs.Language.Item.{Kind, Axiom, Theorem, is_assertion, is_labelled}
-use Rattle.mm_frame.specs.Language.Base.{BaseView, said_at, is_sound_at, is_shown_at, is_framed_at, hypothesis_at, frame_at, AreHypotheses}
-use Rattle.mm_frame.specs.Language.Framing.{pairs_of}
+use Rattle.mm_frame.specs.Language.{Base.{BaseView, said_at, is_sound_at, is_shown_at, is_framed_at, hypothesis_at, frame_at, AreHypotheses}, Framing.{pairs_of}}
 use Rattle.mm_frame.specs.Language.Answering.{are_paired, typed_variables, pairs_in_order}
-use Rattle.mm_frame.proofs.lemmas.lists.Members.{in_contains, contains_in}
-use Rattle.mm_frame.proofs.lemmas.scope.SoundItems.{filter_same, in_any}
-use Rattle.mm_frame.proofs.lemmas.scope.TableLemmas.{any_in}
+use Rattle.mm_frame.proofs.lemmas.{lists.Members.{in_contains, contains_in}, scope.{SoundItems.{filter_same, in_any}, TableLemmas.{any_in}}}
 
 -- the names of the two are those of a pair, in one order or the other
 abbrev are_names : Symbol × Symbol → Symbol × Symbol → Bool

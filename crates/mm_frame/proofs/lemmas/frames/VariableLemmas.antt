@@ -1,28 +1,16 @@
 -- The variables of the active `$e`: after one more item, and what numbers they give.
-use Rattle.std.proofs.Common.{◌≡◌, ℕ, zero, suc, ◌+◌, ◌<◌, ◌≤◌, Bool, true, false, cond, Some, List, [], ◌∷◌, ◌++◌, length, flat_map, take, drop, slice_get, Contains}
-use Rattle.std.proofs.Common.{get_or, refl, sym, ◌∙◌, ap, subst, take-append-drop, append_assoc, append-nil, length-append, arith, inl, inr, ◌⊎◌}
+use Rattle.std.proofs.Common.{◌≡◌, ℕ, zero, suc, ◌+◌, ◌<◌, ◌≤◌, Bool, true, false, cond, Some, List, [], ◌∷◌, ◌++◌, length, flat_map, take, drop, slice_get, Contains, get_or, refl, sym, ◌∙◌, ap}
+use Rattle.std.proofs.Common.{subst, take-append-drop, append_assoc, append-nil, length-append, arith, inl, inr, ◌⊎◌}
+use Rattle.std.proofs.lemmas.{Bool.{false≢true}, List.{take_more, Elements.{Contains-append_left, Contains-append_right, Contains-append_cases}}, Option.{slice_get_within}}
 use native.Mathlib.Decide.{dec_lt}
-use Rattle.std.proofs.lemmas.Bool.{false≢true}
-use Rattle.std.proofs.lemmas.List.{take_more}
-use Rattle.std.proofs.lemmas.List.Elements.{Contains-append_left, Contains-append_right, Contains-append_cases}
-use Rattle.std.proofs.lemmas.Option.{slice_get_within}
-use Rattle.mm_frame.proofs.lemmas.frames.Frames.{essential_neither}
-use Rattle.mm_frame.specs.declared.essential.EssentialVariable.{EssentialVariable}
-use Rattle.mm_frame.specs.declared.symbol.NumberedSymbol.{NumberedSymbol}
-use Rattle.mm_frame.specs.declared.tables.Tables.{Tables}
+use Rattle.mm_frame.specs.{declared.{essential.EssentialVariable.{EssentialVariable}, tables.Tables.{Tables}}, Language.Scope.{Mark, Neither, Closes, mark_of, active_numbers}}
+use Rattle.mm_frame.specs.Code.{LastItems.{is_active_at, is_essential_item}, KeptSymbols.{expression_kept, kept_or_none, float_number, float_numbers}}
+use Rattle.mm_frame.specs.Code.{KeptVariables.{by_essential, AddsOne, AddsAll, IsKeptVariable, AreVariablesOf, IsKeptBy, known_float}, PairOrder.{is_among}}
+use Rattle.mm_machine.specs.declared.symbol.NumberedSymbol.{NumberedSymbol}
 use Rattle.mm_statement.specs.Language.Item.{Item}
-use Rattle.mm_frame.specs.Language.Scope.{Mark, Neither, Closes, mark_of, active_numbers}
-use Rattle.mm_frame.specs.Code.LastItems.{is_active_at, is_essential_item}
-use Rattle.mm_frame.specs.Code.KeptSymbols.{expression_kept, kept_or_none, float_number, float_numbers}
-use Rattle.mm_frame.specs.Code.KeptVariables.{by_essential, AddsOne, AddsAll, IsKeptVariable, AreVariablesOf, IsKeptBy, known_float}
-use Rattle.mm_frame.specs.Code.PairOrder.{is_among}
-use Rattle.mm_frame.proofs.lemmas.lists.Members.{In, in_contains, contains_in, in_left, in_flat, from_flat, in_cond}
-use Rattle.mm_frame.proofs.lemmas.lists.Rising.{among_in, in_among}
-use Rattle.mm_frame.proofs.lemmas.scope.BlockLemmas.{get_front, get_cases}
-use Rattle.mm_frame.proofs.lemmas.names.NamedLemmas.{get_before}
-use Rattle.mm_frame.proofs.lemmas.scope.EndLemmas.{active_at_front}
-use Rattle.mm_frame.proofs.lemmas.pairs.AskedLemmas.{active_below}
-use Rattle.mm_frame.proofs.lemmas.frames.HypothesisNumbers.{to_active_number, from_active_number, active_numbers_more}
+use Rattle.mm_frame.proofs.lemmas.frames.{Frames.{essential_neither}, HypothesisNumbers.{to_active_number, from_active_number, active_numbers_more}}
+use Rattle.mm_frame.proofs.lemmas.lists.{Members.{In, in_contains, contains_in, in_left, in_flat, from_flat, in_cond}, Rising.{among_in, in_among}}
+use Rattle.mm_frame.proofs.lemmas.{scope.{BlockLemmas.{get_front, get_cases}, EndLemmas.{active_at_front}}, names.NamedLemmas.{get_before}, pairs.AskedLemmas.{active_below}}
 
 -- ---- those that are left, and those that are added
 

@@ -1,7 +1,7 @@
 -- What is in a list, by recursion, and what tests find.
-use Rattle.std.proofs.Common.{◌≡◌, ℕ, zero, suc, ◌<◌, Bool, true, false, cond, Some, List, [], ◌∷◌, ◌++◌, length, map, filter, flat_map, get_or, bytes_eq, slice_get, refl, sym, ◌∙◌, ap, subst, arith, inl, inr, ◌⊎◌, Contains}
-use Rattle.std.proofs.lemmas.Bool.{or_cases, false≢true, or_left, or_right}
-use Rattle.std.proofs.lemmas.Slice.Eq.{bytes_eq-Decides}
+use Rattle.std.proofs.Common.{◌≡◌, ℕ, zero, suc, ◌<◌, Bool, true, false, cond, Some, List, [], ◌∷◌, ◌++◌, length, map, filter, flat_map, get_or, bytes_eq, slice_get, refl, sym, ◌∙◌, ap, subst, arith}
+use Rattle.std.proofs.Common.{inl, inr, ◌⊎◌, Contains}
+use Rattle.std.proofs.lemmas.{Bool.{or_cases, false≢true, or_left, or_right}, Slice.Eq.{bytes_eq-Decides}}
 use Rattle.mm_statement.specs.Language.Item.{Kind, Item, has}
 use Rattle.mm_frame.specs.Language.Scope.{symbols_by}
 

@@ -1,20 +1,13 @@
 -- Numbers that rise: the beginning of them, one more after them, and what a search among them finds.
-use Rattle.std.proofs.Common.{◌≡◌, ℕ, zero, suc, ◌+◌, ◌-◌, ◌<◌, ◌≤◌, true, false, Some, Result, Ok, Err, List, [], ◌∷◌, ◌++◌, length, drop, slice_get, get_or, refl, sym, ◌∙◌, ap, subst, arith, inl, inr, ◌⊎◌, length-append, Contains, is_ok}
-use Rattle.std.specs.List.Sorted.{IsBinarySearchResult}
-use Rattle.std.specs.Ordering.{nat_cmp}
-use Rattle.std.specs.Cmp.{nat_eq_equiv}
-use native.Mathlib.Decide.{dec_lt}
+use Rattle.std.proofs.Common.{◌≡◌, ℕ, zero, suc, ◌+◌, ◌-◌, ◌<◌, ◌≤◌, true, false, Some, Result, Ok, Err, List, [], ◌∷◌, ◌++◌, length, drop, slice_get, get_or, refl, sym, ◌∙◌, ap, subst, arith, inl}
+use Rattle.std.proofs.Common.{inr, ◌⊎◌, length-append, Contains, is_ok, eqb-true}
 use Rattle.std.proofs.Math.Seq.{get_or-append_seam}
-use Rattle.std.proofs.lemmas.Bool.{false_from_ne_true, eqb-true}
-use Rattle.std.proofs.lemmas.List.{get_or_append_left, length_push}
-use Rattle.std.proofs.lemmas.List.Sorted.{searched}
-use Rattle.std.proofs.lemmas.Map.Views.{list_any-from_Contains, Contains-from_any}
+use Rattle.std.proofs.lemmas.{Bool.{false_from_ne_true, eqb-true}, List.{get_or_append_left, length_push, Sorted.{searched}}, Map.Views.{list_any-from_Contains, Contains-from_any}}
 use Rattle.std.proofs.lemmas.Option.{get_or_from_slice_get, slice_get_within, slice_get-get_or}
-use Rattle.std.proofs.Common.{eqb-true}
-use Rattle.mm_frame.specs.Code.LastItems.{IsRising}
-use Rattle.mm_frame.specs.Code.PairOrder.{is_among}
-use Rattle.mm_frame.proofs.lemmas.lists.Members.{In, in_contains, contains_in, in_get, get_in}
-use Rattle.mm_frame.proofs.lemmas.frames.Frames.{in_at}
+use Rattle.std.specs.{List.Sorted.{IsBinarySearchResult}, Ordering.{nat_cmp}, Cmp.{nat_eq_equiv}}
+use native.Mathlib.Decide.{dec_lt}
+use Rattle.mm_frame.specs.Code.{LastItems.{IsRising}, PairOrder.{is_among}}
+use Rattle.mm_frame.proofs.lemmas.{lists.Members.{In, in_contains, contains_in, in_get, get_in}, frames.Frames.{in_at}}
 
 -- the beginning of rising numbers rises, and so do they with a larger one after them
 pub rising_front : (kept gone : List ℕ) → IsRising (kept ++ gone) → IsRising kept

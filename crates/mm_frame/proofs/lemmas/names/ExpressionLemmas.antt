@@ -1,12 +1,9 @@
 -- The parts of one list by their ends: how many there are, each of them, and one more.
 use Rattle.std.proofs.Common.{◌≡◌, ℕ, zero, suc, ◌+◌, ◌-◌, ◌<◌, ◌≤◌, Some, None, List, [], ◌∷◌, ◌++◌, length, map, take, drop, get_or, slice_get, refl, sym, ◌∙◌, ap, subst, arith, length-append}
-use Rattle.std.specs.List.{slice_range}
-use Rattle.std.specs.Option.{option_map}
+use Rattle.std.proofs.lemmas.{Option.{slice_get-map, slice_get_past}, List.{take-append-le, drop-append-le, take_all, length-drop, length-map}}
+use Rattle.std.specs.{List.{slice_range}, Option.{option_map}}
 use native.Mathlib.Decide.{dec_lt}
-use Rattle.std.proofs.lemmas.Option.{slice_get-map, slice_get_past}
-use Rattle.std.proofs.lemmas.List.{take-append-le, drop-append-le, take_all, length-drop, length-map}
-use Rattle.mm_frame.specs.Code.KeptParts.{cut_from, EndsFrom, start_at}
-use Rattle.mm_frame.specs.Code.KeptSparse.{first_of, value_or_none, value_kept}
+use Rattle.mm_frame.specs.Code.{KeptParts.{cut_from, EndsFrom, start_at}, KeptSparse.{first_of, value_or_none, value_kept}}
 
 pub cut_length : {X : Type 0} (symbols : List X) (from : ℕ) (ends : List ℕ) → length (cut_from symbols from ends) ≡ length ends
 cut_length symbols from [] = refl

@@ -1,20 +1,11 @@
 -- Symbols that are known by the numbers of their names.
 use Rattle.std.proofs.Common.{◌≡◌, ℕ, suc, true, ◌<◌, List, [], ◌∷◌, ◌++◌, length, map, take, get_or, refl, sym, ◌∙◌, ap, subst, All}
-use Rattle.std.proofs.lemmas.Bool.{false≢true}
+use Rattle.std.proofs.{lemmas.{Bool.{false≢true}, List.{map-append}, Option.{slice_get-get_or, slice_get-map}}, Math.Seq.{take-suc}}
 use Rattle.std.specs.Option.{option_map}
-use Rattle.std.proofs.Math.Seq.{take-suc}
-use Rattle.std.proofs.lemmas.List.{map-append}
-use Rattle.std.proofs.lemmas.Option.{slice_get-get_or, slice_get-map}
 use Rattle.mm_statement.specs.Language.Item.{Item, Kind, Disjoint, Essential, Axiom, Theorem, is_disjoint, is_expression, is_labelled}
-use Rattle.mm_frame.specs.declared.symbol.NumberedSymbol.{NumberedSymbol}
-use Rattle.mm_frame.specs.Code.KeptScope.{uses_numbers}
-use Rattle.mm_frame.specs.Code.KnownItem.{numbers_of}
-use Rattle.mm_frame.specs.Code.Numbers.{IsNameNumber, AreNameNumbers}
-use Rattle.mm_frame.specs.Code.KeptSymbols.{AreSymbolsOf, symbol_by}
-use Rattle.mm_frame.specs.Code.KeptTables.{Knows}
-use Rattle.mm_frame.specs.Language.NumberedSymbols.{symbols_of, IsNumbered}
-use Rattle.mm_frame.specs.Language.Sound.{IsSound, AreSound}
-use Rattle.mm_frame.specs.declared.tables.Tables.{Tables}
+use Rattle.mm_machine.specs.{declared.symbol.NumberedSymbol.{NumberedSymbol}, Language.NumberedSymbols.{symbols_of, IsNumbered}}
+use Rattle.mm_frame.specs.Code.{KeptScope.{uses_numbers}, KnownItem.{numbers_of}, Numbers.{IsNameNumber, AreNameNumbers}, KeptSymbols.{AreSymbolsOf, symbol_by}, KeptTables.{Knows}}
+use Rattle.mm_frame.specs.{Language.Sound.{IsSound, AreSound}, declared.tables.Tables.{Tables}}
 use Rattle.mm_frame.proofs.lemmas.names.NamedLemmas.{read_all, numbered_all}
 
 -- the number of a symbol is that of the name at its place

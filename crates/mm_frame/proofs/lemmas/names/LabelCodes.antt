@@ -1,14 +1,9 @@
 -- Short labels have codes of their own, which fit into 64 bits, and middle ones into 128; what is kept of labels after one more.
-use Rattle.std.proofs.Common.{◌≡◌, ℕ, zero, suc, ◌*◌, ◌-◌, ◌^◌, ◌<◌, ◌≤◌, Bool, true, false, cond, not, Option, Some, List, [], ◌∷◌}
-use Rattle.std.proofs.Common.{length, drop, length-drop, slice_index_or, ◌&&◌, nat_eq, nat_le, nat_lt, bytes_eq, Vec, Global, inl, inr, refl, sym, ◌∙◌, ap, subst, arith}
-use Rattle.std.specs.HashMap.{HashMap, UpdatesBy, get_by}
-use Rattle.std.specs.Map.{KeepsOthers, IsKeyTest, AreApart, lookup}
-use Rattle.std.specs.Cmp.Lexicographic.{nat_list_eq_equiv}
-use Rattle.std.proofs.lemmas.Bool.{false≢true, cases_Bool, cond-true, cond-false, leb-true, and_parts, false_from_ne_true}
-use Rattle.std.proofs.lemmas.Bool.Decides.{Decides-eqb}
-use Rattle.std.proofs.lemmas.Slice.Eq.{bytes_eq-Decides}
-use Rattle.mm_frame.specs.declared.label_numbers.LabelNumbers.{LabelNumbers}
-use Rattle.mm_frame.specs.Code.KeptLabels.{are_ascii, label_code, is_coded, is_wide_coded, later_number, label_number}
+use Rattle.std.proofs.Common.{◌≡◌, ℕ, zero, suc, ◌*◌, ◌-◌, ◌^◌, ◌<◌, ◌≤◌, Bool, true, false, cond, not, Option, Some, List, [], ◌∷◌, length, drop, length-drop, slice_index_or, ◌&&◌, nat_eq, nat_le}
+use Rattle.std.proofs.Common.{nat_lt, bytes_eq, Vec, Global, inl, inr, refl, sym, ◌∙◌, ap, subst, arith}
+use Rattle.std.proofs.lemmas.{Bool.{false≢true, cases_Bool, cond-true, cond-false, leb-true, and_parts, false_from_ne_true, Decides.{Decides-eqb}}, Slice.Eq.{bytes_eq-Decides}}
+use Rattle.std.specs.{HashMap.{HashMap, UpdatesBy, get_by}, Map.{KeepsOthers, IsKeyTest, AreApart, lookup}, Cmp.Lexicographic.{nat_list_eq_equiv}}
+use Rattle.mm_frame.specs.{declared.label_numbers.LabelNumbers.{LabelNumbers}, Code.KeptLabels.{are_ascii, label_code, is_coded, is_wide_coded, later_number, label_number}}
 
 code_positive : (bs : List ℕ) → 1 ≤ label_code bs
 code_positive [] = omega arith

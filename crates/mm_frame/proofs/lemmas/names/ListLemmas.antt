@@ -1,14 +1,10 @@
 -- Lists of symbols by their numbers: a list by its part, a list that is there, and lists that keep their numbers.
 use Rattle.std.proofs.Common.{◌≡◌, ℕ, ◌-◌, ◌<◌, ◌≤◌, Some, List, [], ◌∷◌, ◌++◌, length, map, take, drop, slice_get, get_or, refl, sym, ◌∙◌, ap, arith, All}
+use Rattle.std.proofs.lemmas.{Option.{slice_get-get_or, slice_get_past}, List.{map-append, Elements.{All-head, All-tail}}}
 use Rattle.std.specs.List.{slice_range}
 use native.Mathlib.Decide.{dec_lt}
-use Rattle.std.proofs.lemmas.Option.{slice_get-get_or, slice_get_past}
-use Rattle.std.proofs.lemmas.List.Elements.{All-head, All-tail}
-use Rattle.std.proofs.lemmas.List.{map-append}
-use Rattle.mm_frame.specs.declared.symbol.NumberedSymbol.{NumberedSymbol}
-use Rattle.mm_frame.specs.Code.KeptSymbols.{kept_or_none, expression_kept}
-use Rattle.mm_frame.specs.Code.KeptExpressions.{KeepsExpressions}
-use Rattle.mm_frame.specs.Code.KeptParts.{cut_from, start_at}
+use Rattle.mm_machine.specs.declared.symbol.NumberedSymbol.{NumberedSymbol}
+use Rattle.mm_frame.specs.Code.{KeptSymbols.{kept_or_none, expression_kept}, KeptExpressions.{KeepsExpressions}, KeptParts.{cut_from, start_at}}
 use Rattle.mm_frame.proofs.lemmas.names.ExpressionLemmas.{cut_length, cut_there, end_there}
 
 -- a list by its part of the symbols

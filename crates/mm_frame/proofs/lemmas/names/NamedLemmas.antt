@@ -1,25 +1,12 @@
 -- The symbols of a sound statement, as the code keeps them by the numbers of their names.
 use Rattle.std.proofs.Common.{◌≡◌, ℕ, zero, suc, ◌<◌, true, not, List, [], ◌∷◌, ◌++◌, length, map, slice_get, get_or, refl, sym, ◌∙◌, ap, subst, arith, inl, inr, ◌⊎◌, All}
-use Rattle.std.proofs.lemmas.Bool.{false_from_ne_true}
-use Rattle.std.proofs.lemmas.List.Elements.{All-map}
-use Rattle.std.proofs.lemmas.Option.{slice_get_within}
+use Rattle.std.proofs.lemmas.{Bool.{false_from_ne_true}, List.Elements.{All-map}, Option.{slice_get_within}}
 use Rattle.mm_statement.specs.Language.Item.{Item, is_labelled, is_disjoint, has}
-use Rattle.mm_frame.specs.Language.Scope.{constants, active_variables}
-use Rattle.mm_frame.specs.Language.Frame.{Symbol}
-use Rattle.mm_frame.specs.Language.Sound.{IsSound, AreSound}
-use Rattle.mm_frame.specs.Language.Framing.{symbol, expression}
-use Rattle.mm_frame.specs.declared.symbol.NumberedSymbol.{NumberedSymbol}
-use Rattle.mm_frame.specs.declared.tables.Tables.{Tables}
-use Rattle.mm_frame.specs.Code.Numbers.{IsNameNumber, AreNameNumbers}
-use Rattle.mm_frame.specs.Code.KeptTables.{declared_at, is_constant_as, Knows}
-use Rattle.mm_frame.specs.Language.NumberedSymbols.{symbol_of, symbols_of, as_variable, IsNumbered}
-use Rattle.mm_frame.specs.Code.KeptSymbols.{by_constants, symbol_by, variable_by}
-use Rattle.mm_frame.proofs.lemmas.lists.Members.{In, has_in, in_has}
-use Rattle.mm_frame.proofs.lemmas.scope.Facts.{not_constant}
-use Rattle.mm_frame.proofs.lemmas.scope.SoundItems.{map_same, named, sound_kept}
-use Rattle.mm_frame.proofs.lemmas.pairs.ActivePairLemmas.{disjoint_named}
-use Rattle.mm_frame.proofs.lemmas.names.NumberLemmas.{name_read, number_at}
-use Rattle.mm_frame.proofs.lemmas.scope.KnownLemmas.{known_at, constant_in}
+use Rattle.mm_frame.specs.{Language.{Scope.{constants, active_variables}, Sound.{IsSound, AreSound}, Framing.{symbol, expression}}, declared.tables.Tables.{Tables}}
+use Rattle.mm_frame.specs.Code.{Numbers.{IsNameNumber, AreNameNumbers}, KeptTables.{declared_at, is_constant_as, Knows}, KeptSymbols.{by_constants, symbol_by, variable_by}}
+use Rattle.mm_machine.specs.{Language.{Frame.{Symbol}, NumberedSymbols.{symbol_of, symbols_of, as_variable, IsNumbered}}, declared.symbol.NumberedSymbol.{NumberedSymbol}}
+use Rattle.mm_frame.proofs.lemmas.{lists.Members.{In, has_in, in_has}, scope.{Facts.{not_constant}, SoundItems.{map_same, named, sound_kept}, KnownLemmas.{known_at, constant_in}}}
+use Rattle.mm_frame.proofs.lemmas.{pairs.ActivePairLemmas.{disjoint_named}, names.NumberLemmas.{name_read, number_at}}
 
 -- a symbol of a sound `$f`, `$e`, `$a` or `$p` is a variable if it is no declared constant
 by_constants_is : (before : List Item) (item : Item) (name : List ℕ) → AreSound before → IsSound before item → is_labelled item.kind ≡ true → In name item.symbols → by_constants before name ≡ symbol before name

@@ -1,20 +1,13 @@
 -- Names by their numbers, and lists of names that grow.
-use Rattle.std.proofs.Common.{◌≡◌, ℕ, zero, suc, ◌+◌, ◌<◌, nat_eq, Option, inl, inr, Bool, true, false, not, ◌||◌, cond, Some, None, List, [], ◌∷◌, ◌++◌, length, map, get_or, refl, sym, ap, ◌∙◌, subst, arith, slice_get, position}
-use Rattle.std.proofs.Common.{Vec, if◌then◌else◌, nat_lt, Result, Ok, Err, IfOk, OnErr}
-use Rattle.std.specs.List.{IsDistinct, list_any, position_or_len}
-use Rattle.std.specs.Str.{bytes_eq}
-use Rattle.std.proofs.lemmas.Bool.{false≢true, ltb-true, ltb-false}
-use Rattle.std.proofs.lemmas.Bool.Decides.{Decides-eqb, eqb_tells}
-use Rattle.std.proofs.lemmas.Slice.Eq.{bytes_eq-Decides}
-use Rattle.std.proofs.lemmas.List.{map_push, length-map}
-use Rattle.std.proofs.lemmas.Map.Keys.{apart_from_distinct}
+use Rattle.std.proofs.Common.{◌≡◌, ℕ, zero, suc, ◌+◌, ◌<◌, nat_eq, Option, inl, inr, Bool, true, false, not, ◌||◌, cond, Some, None, List, [], ◌∷◌, ◌++◌, length, map, get_or, refl, sym, ap, ◌∙◌}
+use Rattle.std.proofs.Common.{subst, arith, slice_get, position, Vec, if◌then◌else◌, nat_lt, Result, Ok, Err, IfOk, OnErr}
+use Rattle.std.proofs.lemmas.{Bool.{false≢true, ltb-true, ltb-false, Decides.{Decides-eqb, eqb_tells}}, Slice.Eq.{bytes_eq-Decides}, List.{map_push, length-map}, Map.Keys.{apart_from_distinct}}
 use Rattle.std.proofs.lemmas.Option.{same_Some, slice_get_within, slice_get-get_or, get_or_from_slice_get}
+use Rattle.std.specs.{List.{IsDistinct, list_any, position_or_len}, Str.{bytes_eq}}
 use native.Mathlib.Decide.{dec_lt}
 use Rattle.indexmap.specs.IndexSet.{insert_key}
-use Rattle.mm_frame.specs.Language.Names.{Begins, AreDistinct, name_at}
-use Rattle.mm_frame.specs.Code.Numbers.{number_in, IsNameNumber, AreNameNumbers}
-use Rattle.mm_frame.specs.declared.tables.Tables.{Tables}
-use Rattle.mm_frame.specs.Code.KeptTables.{declared_at, declared_for, table_name}
+use Rattle.mm_machine.specs.Language.Names.{Begins, AreDistinct, name_at}
+use Rattle.mm_frame.specs.{Code.{Numbers.{number_in, IsNameNumber, AreNameNumbers}, KeptTables.{declared_at, declared_for, table_name}}, declared.tables.Tables.{Tables}}
 
 same_tests : (b : Bool) (m n : ℕ) → m ≡ n → cond (not b) (1 + m) 0 ≡ cond (not b) (1 + n) 0
 same_tests b m n e = ap (λ (k : ℕ). cond (not b) (1 + k) 0) e

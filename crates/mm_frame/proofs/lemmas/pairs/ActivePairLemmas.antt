@@ -1,23 +1,15 @@
 -- Active pairs: they grow by those of each `$d`, an active statement reads at its own place as after all items, and which `$d` has a pair.
-use Rattle.std.proofs.Common.{◌≡◌, ◌≢◌, ℕ, zero, suc, ◌+◌, ◌<◌, Bool, true, false, cond, ◌&&◌, ◌||◌, Some, List, [], ◌∷◌, ◌++◌, length, map, filter, flat_map, take, drop, slice_get, get_or, bytes_eq, refl, sym, ◌∙◌, ap, subst, arith, inl, inr, ◌⊎◌}
-use Rattle.std.proofs.lemmas.Bool.{false≢true, or_cases, or_left, or_right, or_parts, and_from, false_from_ne_true, not-false, and_parts}
-use Rattle.std.proofs.lemmas.Option.{get_or_from_slice_get}
-use Rattle.std.proofs.lemmas.Slice.Eq.{bytes_eq-Decides}
-use Rattle.mm_frame.specs.Language.Frame.{Symbol}
+use Rattle.std.proofs.Common.{◌≡◌, ◌≢◌, ℕ, zero, suc, ◌+◌, ◌<◌, Bool, true, false, cond, ◌&&◌, ◌||◌, Some, List, [], ◌∷◌, ◌++◌, length, map, filter, flat_map, take, drop, slice_get, get_or, bytes_eq}
+use Rattle.std.proofs.Common.{refl, sym, ◌∙◌, ap, subst, arith, inl, inr, ◌⊎◌}
+use Rattle.std.proofs.lemmas.{Bool.{false≢true, or_cases, or_left, or_right, or_parts, and_from, false_from_ne_true, not-false, and_parts}, Option.{get_or_from_slice_get}, Slice.Eq.{bytes_eq-Decides}}
+use Rattle.mm_machine.specs.Language.Frame.{Symbol}
 use Rattle.mm_statement.specs.Language.Item.{Kind, Disjoint, Item, passed, is_declaring, is_disjoint, is_labelled, has, item_at}
-use Rattle.mm_frame.specs.Language.Scope.{Neither, mark_of, stays, active, active_variables, active_numbers}
-use Rattle.mm_frame.specs.declared.FrameNumber.TheVariants.{F03, F09}
-use Rattle.mm_frame.specs.Language.Sound.{each, is_no_variable, is_repeated, IsSound, AreSound}
-use Rattle.mm_frame.specs.Language.Framing.{symbol, expression, pairs_of, active_pairs}
-use Rattle.mm_frame.specs.Code.LastItems.{is_active_at, is_disjoint_item}
-use Rattle.mm_frame.specs.Language.Answering.{are_paired}
+use Rattle.mm_frame.specs.Language.{Scope.{Neither, mark_of, stays, active, active_variables, active_numbers}, Sound.{each, is_no_variable, is_repeated, IsSound, AreSound}}
+use Rattle.mm_frame.specs.Language.{Framing.{symbol, expression, pairs_of, active_pairs}, Answering.{are_paired}}
+use Rattle.mm_frame.specs.{declared.FrameNumber.TheVariants.{F03, F09}, Code.LastItems.{is_active_at, is_disjoint_item}}
 use Rattle.mm_frame.proofs.lemmas.lists.Members.{In, in_left, in_right, in_cases, in_map, from_map, in_flat, from_flat, in_get, has_in, in_has, in_cond}
-use Rattle.mm_frame.proofs.lemmas.scope.ActiveBySplit.{active_split, split_active}
-use Rattle.mm_frame.proofs.lemmas.scope.Facts.{no_symbol_of}
-use Rattle.mm_frame.proofs.lemmas.frames.Frames.{variables_later}
-use Rattle.mm_frame.proofs.lemmas.scope.SoundItems.{split_at, map_same, expression_stays}
-use Rattle.mm_frame.proofs.lemmas.scope.TableLemmas.{active_between}
-use Rattle.mm_frame.proofs.lemmas.frames.HypothesisNumbers.{from_active_number, active_number_items}
+use Rattle.mm_frame.proofs.lemmas.scope.{ActiveBySplit.{active_split, split_active}, Facts.{no_symbol_of}, SoundItems.{split_at, map_same, expression_stays}, TableLemmas.{active_between}}
+use Rattle.mm_frame.proofs.lemmas.frames.{Frames.{variables_later}, HypothesisNumbers.{from_active_number, active_number_items}}
 
 -- a `$d` opens and closes no block
 pub disjoint_neither : (k : Kind) → is_disjoint k ≡ true → mark_of k ≡ Neither

@@ -1,22 +1,14 @@
 -- What was found for pairs that were looked up: after one more item, and what it says of active pairs.
-use Rattle.std.proofs.Common.{◌≡◌, ℕ, zero, suc, ◌<◌, ◌≤◌, Bool, true, false, Option, Some, None, List, [], ◌∷◌, ◌++◌, length, take, drop, get_or, refl, sym, ◌∙◌, ap, subst, take-append-drop, append_assoc, length-append, arith, inl, inr}
+use Rattle.std.proofs.Common.{◌≡◌, ℕ, zero, suc, ◌<◌, ◌≤◌, Bool, true, false, Option, Some, None, List, [], ◌∷◌, ◌++◌, length, take, drop, get_or, refl, sym, ◌∙◌, ap, subst, take-append-drop}
+use Rattle.std.proofs.Common.{append_assoc, length-append, arith, inl, inr}
+use Rattle.std.proofs.lemmas.{Bool.{false≢true}, List.{drop-append-le}, Option.{slice_get_within}}
 use Rattle.std.specs.Prelude.{Contains, IfSome, IfNone, is_some}
 use native.Mathlib.Decide.{dec_lt}
-use Rattle.std.proofs.lemmas.Bool.{false≢true}
-use Rattle.std.proofs.lemmas.List.{drop-append-le}
-use Rattle.std.proofs.lemmas.Option.{slice_get_within}
-use Rattle.mm_frame.specs.declared.asked.AskedPairs.{AskedPairs}
-use Rattle.mm_frame.specs.declared.paired.PairTable.{PairTable}
-use Rattle.mm_statement.specs.Language.Item.{Item}
-use Rattle.mm_frame.specs.Language.Scope.{Mark, stays}
-use Rattle.mm_frame.specs.Language.Framing.{active_pairs}
-use Rattle.mm_frame.specs.Language.NumberedSymbols.{as_variable}
-use Rattle.mm_frame.specs.Language.Answering.{are_paired}
-use Rattle.mm_frame.specs.Code.BlockMarks.{stays_by}
-use Rattle.mm_frame.specs.Code.LastItems.{is_active_at}
-use Rattle.mm_frame.specs.Code.Numbers.{IsNameNumber}
-use Rattle.mm_frame.specs.Code.KeptPairTable.{row_at, IsDisjointAt, IsCommon, ReadsPairs}
+use Rattle.mm_frame.specs.{declared.{asked.AskedPairs.{AskedPairs}, paired.PairTable.{PairTable}}, Language.{Scope.{Mark, stays}, Framing.{active_pairs}, Answering.{are_paired}}}
+use Rattle.mm_frame.specs.Code.{BlockMarks.{stays_by}, LastItems.{is_active_at}, Numbers.{IsNameNumber}, KeptPairTable.{row_at, IsDisjointAt, IsCommon, ReadsPairs}}
 use Rattle.mm_frame.specs.Code.KeptAsked.{IsFoundBefore, IsPairAnswer, KnowsAsked}
+use Rattle.mm_statement.specs.Language.Item.{Item}
+use Rattle.mm_machine.specs.Language.NumberedSymbols.{as_variable}
 use Rattle.mm_frame.proofs.lemmas.scope.ActiveBySplit.{stays_join, stays_front}
 use Rattle.mm_frame.proofs.lemmas.pairs.PairTableLemmas.{disjoint_front, disjoint_cases, active_before, HavePair, paired_from, paired_to, active_at_marks}
 

@@ -1,36 +1,26 @@
 -- The pairs of a frame: those of its variables, in order, that an active `$d` has.
-use Rattle.std.proofs.Common.{◌≡◌, ℕ, suc, ◌+◌, ◌<◌, ◌≤◌, Bool, true, false, cond, ◌&&◌, Some, None, List, [], ◌∷◌, ◌++◌, length, map, filter, flat_map, All, option_to_list}
-use Rattle.std.proofs.Common.{take, drop, slice_get, get_or, refl, sym, ◌∙◌, ap, subst, append_assoc, append-nil, take-suc, arith, inl, inr, ◌⊎◌}
-use Rattle.std.proofs.lemmas.Bool.{or_cases, and_from, false_from_ne_true, and_parts}
-use Rattle.std.proofs.lemmas.Grind.{flat_map-append}
-use Rattle.std.proofs.lemmas.List.{map-append, map_push}
-use Rattle.std.proofs.lemmas.List.Elements.{All-contains, All-push, filter-append}
-use Rattle.std.proofs.lemmas.Map.Views.{any-filter_same}
-use Rattle.std.proofs.lemmas.Option.{same_Some, get_or_from_slice_get}
-use Rattle.mm_frame.specs.declared.symbol.NumberedSymbol.{NumberedSymbol}
+use Rattle.std.proofs.Common.{◌≡◌, ℕ, suc, ◌+◌, ◌<◌, ◌≤◌, Bool, true, false, cond, ◌&&◌, Some, None, List, [], ◌∷◌, ◌++◌, length, map, filter, flat_map, All, option_to_list, take, drop, slice_get}
+use Rattle.std.proofs.Common.{get_or, refl, sym, ◌∙◌, ap, subst, append_assoc, append-nil, take-suc, arith, inl, inr, ◌⊎◌}
+use Rattle.std.proofs.lemmas.{Bool.{or_cases, and_from, false_from_ne_true, and_parts}, Grind.{flat_map-append}, List.{map-append, map_push, Elements.{All-contains, All-push, filter-append}}}
+use Rattle.std.proofs.lemmas.{Map.Views.{any-filter_same}, Option.{same_Some, get_or_from_slice_get}}
+use Rattle.mm_machine.specs.declared.symbol.NumberedSymbol.{NumberedSymbol}
+use Rattle.mm_machine.specs.Language.{Frame.{Symbol, Mandatory, ArePair, AreSamePairs}, Typing.{IsTyped}, Names.{name_at}}
+use Rattle.mm_machine.specs.Language.NumberedSymbols.{symbol_of, symbols_of, pair_of, IsNumbered, IsPairNumbered, ArePairsRead}
 use Rattle.mm_frame.specs.declared.paired.PairTable.{PairTable}
-use Rattle.mm_frame.specs.Language.Frame.{Symbol, Mandatory, ArePair, AreSamePairs}
-use Rattle.mm_frame.specs.Language.Typing.{IsTyped}
-use Rattle.mm_statement.specs.Language.Item.{Item, passed, is_floating, is_essential, is_assertion, has, variable_of, item_at}
-use Rattle.mm_frame.specs.Language.Names.{name_at}
-use Rattle.mm_frame.specs.Language.Scope.{Mark, active, active_numbers}
-use Rattle.mm_frame.specs.Language.Sound.{IsSound, AreSound}
-use Rattle.mm_frame.specs.Language.Framing.{symbol, expression, mandatory_variables, is_mandatory, hypothesis, mandatory_hypotheses, pairs_of, active_pairs, is_mandatory_pair, frame, mandatory_numbers}
-use Rattle.mm_frame.specs.Code.LastItems.{is_active_at, is_essential_item}
-use Rattle.mm_frame.specs.Language.NumberedSymbols.{symbol_of, symbols_of, pair_of, IsNumbered, IsPairNumbered, ArePairsRead}
-use Rattle.mm_frame.specs.Code.KeptSymbols.{expression_kept, AreExpressions, AreNumbered}
-use Rattle.mm_frame.specs.Code.KeptPairTable.{row_at, ReadsPairs}
-use Rattle.mm_frame.specs.Code.PairOrder.{is_among, float_variable, float_variables}
+use Rattle.mm_frame.specs.Language.{Scope.{Mark, active, active_numbers}, Sound.{IsSound, AreSound}}
+use Rattle.mm_frame.specs.Language.Framing.{symbol, expression, mandatory_variables, is_mandatory, hypothesis, mandatory_hypotheses, pairs_of, active_pairs, is_mandatory_pair, frame}
+use Rattle.mm_frame.specs.Language.Framing.{mandatory_numbers}
 use Rattle.mm_frame.specs.Language.Answering.{are_paired, typed_variables, pairs_in_order}
-use Rattle.mm_frame.proofs.lemmas.lists.Members.{In, in_contains, contains_in, get_in, from_map, in_filter, from_filter, in_flat, from_flat}
-use Rattle.mm_frame.proofs.lemmas.scope.Facts.{float_two}
+use Rattle.mm_frame.specs.Code.{LastItems.{is_active_at, is_essential_item}, KeptSymbols.{expression_kept, AreExpressions, AreNumbered}, KeptPairTable.{row_at, ReadsPairs}}
+use Rattle.mm_frame.specs.Code.PairOrder.{is_among, float_variable, float_variables}
+use Rattle.mm_statement.specs.Language.Item.{Item, passed, is_floating, is_essential, is_assertion, has, variable_of, item_at}
+use Rattle.mm_frame.proofs.lemmas.lists.{Members.{In, in_contains, contains_in, get_in, from_map, in_filter, from_filter, in_flat, from_flat}, Rising.{in_among, among_in}}
+use Rattle.mm_frame.proofs.lemmas.scope.{Facts.{float_two}, SoundItems.{split_at, filter_same, sound_kept}}
 use Rattle.mm_frame.proofs.lemmas.frames.Frames.{in_at, float_of, float_name, float_labelled, from_pairs, pairs_typed_at, assertion_expression}
-use Rattle.mm_frame.proofs.lemmas.scope.SoundItems.{split_at, filter_same, sound_kept}
+use Rattle.mm_frame.proofs.lemmas.frames.{HypothesisNumbers.{to_active_number, from_active_number, hypotheses_by_numbers}, MandatoryLemmas.{not_both}}
 use Rattle.mm_frame.proofs.lemmas.names.NumberLemmas.{name_there}
-use Rattle.mm_frame.proofs.lemmas.frames.HypothesisNumbers.{to_active_number, from_active_number, hypotheses_by_numbers}
-use Rattle.mm_frame.proofs.lemmas.lists.Rising.{in_among, among_in}
-use Rattle.mm_frame.proofs.lemmas.frames.MandatoryLemmas.{not_both}
-use Rattle.mm_frame.proofs.lemmas.pairs.ActivePairLemmas.{expression_at_number, flat_same, flat_of_map, pairs_with, row_last, all_more, in_order, is_pair, SameNames, same_names, found_pair, to_paired, pair_here, pair_turned, apart_active}
+use Rattle.mm_frame.proofs.lemmas.pairs.ActivePairLemmas.{expression_at_number, flat_same, flat_of_map, pairs_with, row_last, all_more, in_order, is_pair, SameNames, same_names, found_pair, to_paired}
+use Rattle.mm_frame.proofs.lemmas.pairs.ActivePairLemmas.{pair_here, pair_turned, apart_active}
 use Rattle.mm_frame.proofs.lemmas.pairs.PairTableLemmas.{none_told}
 
 -- the variables of the mandatory `$f`

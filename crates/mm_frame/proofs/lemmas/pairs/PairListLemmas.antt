@@ -1,46 +1,27 @@
 -- The active pairs are those after the items up to the last active `$d`, and the lists that are made of them.
 use Rattle.std.proofs.Common.{◌≡◌, ℕ, zero, suc, ◌+◌, ◌-◌, ◌<◌, ◌≤◌, Bool, true, false, cond, ◌&&◌, ◌||◌, Option, Some, None, List, [], ◌∷◌, ◌++◌, length, All, Contains, Decides, ◌⊎◌, ◌↔◌, leb, map}
-use Rattle.std.proofs.Common.{flat_map, take, drop, slice_get, get_or, nat_eq, refl, sym, ◌∙◌, ap, subst, append-nil, arith, length-append}
-use Rattle.std.proofs.Common.{length-take-le, inl, inr}
-use native.Mathlib.Decide.{dec_lt}
+use Rattle.std.proofs.Common.{flat_map, take, drop, slice_get, get_or, nat_eq, refl, sym, ◌∙◌, ap, subst, append-nil, arith, length-append, length-take-le, inl, inr}
 use Rattle.std.proofs.lemmas.Simd.{map-map}
-use Rattle.std.proofs.lemmas.List.{map-append}
-use Rattle.std.proofs.lemmas.Grind.{flat_map-append}
-use Rattle.std.specs.Cmp.{decided, unsigned_Decides, booleans_Decides}
-use Rattle.std.proofs.Math.Bool.{beq}
-use Rattle.std.specs.List.{dedup}
-use Rattle.std.specs.List.Sorted.{IsPermutation}
-use Rattle.std.specs.List.Retain.{IsFiltered, DiffersFromLast}
+use Rattle.std.proofs.lemmas.List.{map-append, take-append-le, drop-append-le, take-append-drop}
 use Rattle.std.proofs.lemmas.List.Elements.{Contains-append_left, Contains-append_right, Contains-append_cases, All-nil, All-append, All-map, All-contains, All-contains_itself}
-use Rattle.std.proofs.lemmas.List.Sorted.{IsPermutation-sym, Contains-permutation}
-use Rattle.std.proofs.lemmas.List.Filters.{dedup_is}
-use Rattle.std.proofs.lemmas.List.Kept.{Contains-dedup, Contains-from_dedup}
-use Rattle.std.proofs.lemmas.Bool.{false≢true}
-use Rattle.std.proofs.lemmas.Bool.Decides.{eqb_tells, Decides-and}
-use Rattle.std.proofs.lemmas.Option.{get_or_from_slice_get, slice_get_within, slice_get-get_or, none-some}
-use Rattle.std.proofs.lemmas.List.{take-append-le, drop-append-le, take-append-drop}
-use Rattle.mm_frame.proofs.lemmas.frames.FrameNumbers.{front_get}
-use Rattle.mm_frame.proofs.lemmas.pairs.FramePairs.{swapped}
-use Rattle.mm_frame.specs.declared.symbol.NumberedSymbol.{NumberedSymbol}
+use Rattle.std.proofs.lemmas.List.{Sorted.{IsPermutation-sym, Contains-permutation}, Filters.{dedup_is}, Kept.{Contains-dedup, Contains-from_dedup}}
+use Rattle.std.proofs.lemmas.{Grind.{flat_map-append}, Bool.{false≢true, Decides.{eqb_tells, Decides-and}}, Option.{get_or_from_slice_get, slice_get_within, slice_get-get_or, none-some}}
+use Rattle.std.proofs.Math.Bool.{beq}
+use Rattle.std.specs.{Cmp.{decided, unsigned_Decides, booleans_Decides}, List.{dedup, Sorted.{IsPermutation}, Retain.{IsFiltered, DiffersFromLast}}}
+use native.Mathlib.Decide.{dec_lt}
+use Rattle.mm_machine.specs.declared.symbol.NumberedSymbol.{NumberedSymbol}
+use Rattle.mm_machine.specs.Language.Frame.{Symbol, ArePair, AreSamePairs}
+use Rattle.mm_machine.specs.Language.NumberedSymbols.{symbol_of, symbols_of, pair_of, kept_pairs, IsNumbered, IsPairNumbered, ArePairsRead, AreSamePairsRead, AreInOrder}
 use Rattle.mm_frame.specs.declared.pair_lists.PairLists.{PairLists}
-use Rattle.mm_frame.specs.Language.Frame.{Symbol, ArePair, AreSamePairs}
-use Rattle.mm_statement.specs.Language.Item.{Item, passed, is_labelled, is_disjoint}
-use Rattle.mm_frame.specs.Language.Scope.{stays, active_numbers}
-use Rattle.mm_frame.specs.Language.Sound.{AreSound, sound_items}
-use Rattle.mm_frame.specs.Language.Framing.{expression, pairs_of, active_pairs}
-use Rattle.mm_frame.specs.Code.LastItems.{is_active_at, is_disjoint_item, IsRising}
-use Rattle.mm_frame.specs.Language.NumberedSymbols.{symbol_of, symbols_of, pair_of, kept_pairs, IsNumbered, IsPairNumbered, ArePairsRead, AreSamePairsRead, AreInOrder}
-use Rattle.mm_frame.specs.Code.KeptSymbols.{expression_kept, AreSymbols, AreNumbered}
+use Rattle.mm_frame.specs.Language.{Scope.{stays, active_numbers}, Sound.{AreSound, sound_items}, Framing.{expression, pairs_of, active_pairs}, Answering.{AreRows, is_told_proof}}
+use Rattle.mm_frame.specs.Code.{LastItems.{is_active_at, is_disjoint_item, IsRising}, KeptSymbols.{expression_kept, AreSymbols, AreNumbered}}
 use Rattle.mm_frame.specs.Code.KeptPairLists.{pairs_among, with_low_first, pairs_or_none, list_kept, IsThere, IsList, list_made, IsMadeFor, AreMade, KeepsLists, AreFrontNumbers, HasEach, HasSame}
 use Rattle.mm_frame.specs.Code.KeptAssertions.{TellsPairs}
-use Rattle.mm_frame.specs.Language.Answering.{AreRows, is_told_proof}
-use Rattle.mm_frame.proofs.lemmas.lists.Members.{In, in_left, in_right, in_cases, in_get, get_in, in_contains, contains_in, in_map, from_map}
-use Rattle.mm_frame.proofs.lemmas.scope.ActiveBySplit.{stays_join, stays_front}
-use Rattle.mm_frame.proofs.lemmas.scope.SoundItems.{sound_take}
-use Rattle.mm_frame.proofs.lemmas.base.BaseLemmas.{rows_more}
-use Rattle.mm_frame.proofs.lemmas.frames.HypothesisNumbers.{to_active_number, from_active_number, active_numbers_rise, same_rising, above, behind}
-use Rattle.mm_frame.proofs.lemmas.lists.Rising.{rising_front}
-use Rattle.mm_frame.proofs.lemmas.pairs.ActivePairLemmas.{pairs_at, flat_same, active_pairs_by_numbers}
+use Rattle.mm_statement.specs.Language.Item.{Item, passed, is_labelled, is_disjoint}
+use Rattle.mm_frame.proofs.lemmas.frames.{FrameNumbers.{front_get}, HypothesisNumbers.{to_active_number, from_active_number, active_numbers_rise, same_rising, above, behind}}
+use Rattle.mm_frame.proofs.lemmas.pairs.{FramePairs.{swapped}, ActivePairLemmas.{pairs_at, flat_same, active_pairs_by_numbers}}
+use Rattle.mm_frame.proofs.lemmas.lists.{Members.{In, in_left, in_right, in_cases, in_get, get_in, in_contains, contains_in, in_map, from_map}, Rising.{rising_front}}
+use Rattle.mm_frame.proofs.lemmas.{scope.{ActiveBySplit.{stays_join, stays_front}, SoundItems.{sound_take}}, base.BaseLemmas.{rows_more}}
 
 -- the last of rising numbers is the greatest
 at_most_last : (numbers : List ℕ) (n : ℕ) → IsRising numbers → slice_get numbers (length numbers - 1) ≡ Some n → (m : ℕ) → In m numbers → m ≤ n

@@ -1,19 +1,10 @@
 -- Lists of pairs in the order of the numbers of their names: after a sort, and with each kept once.
 use Rattle.std.proofs.Common.{◌≡◌, ℕ, zero, suc, ◌+◌, ◌≤◌, Bool, true, false, cond, leb, Some, List, [], ◌∷◌, flat_map, map, get_or, slice_get, refl, sym, ◌∙◌, ap, subst, arith, leb-true}
-use Rattle.std.specs.Prelude.{All, ⊤}
-use Rattle.std.specs.Ordering.{is_lt, nat_cmp, ordering_then}
-use Rattle.std.specs.List.{dedup, dedup_from}
-use Rattle.std.specs.List.Sorted.{IsPermutation, IsSortedBy}
-use Rattle.std.specs.List.Retain.{IsFiltered, DiffersFromLast}
-use Rattle.std.proofs.lemmas.Bool.Decides.{nat_tests}
-use Rattle.std.proofs.lemmas.Option.{none-some, same_Some}
-use Rattle.std.proofs.lemmas.List.Elements.{All-nil, All-cons, All-tail, All-append, All-contains}
-use Rattle.std.proofs.lemmas.List.Filters.{dedup_is, All-dedup}
-use Rattle.std.proofs.lemmas.List.Sorted.{All-permutation}
-use Rattle.mm_frame.specs.declared.symbol.NumberedSymbol.{NumberedSymbol}
-use Rattle.mm_frame.specs.Language.NumberedSymbols.{AreInOrder, comes_before, name_numbers}
-use Rattle.mm_frame.specs.Code.KeptSymbols.{expression_kept}
-use Rattle.mm_frame.specs.Code.KeptPairLists.{pairs_among, with_low_first}
+use Rattle.std.proofs.lemmas.{Bool.Decides.{nat_tests}, Option.{none-some, same_Some}}
+use Rattle.std.proofs.lemmas.List.{Elements.{All-nil, All-cons, All-tail, All-append, All-contains}, Filters.{dedup_is, All-dedup}, Sorted.{All-permutation}}
+use Rattle.std.specs.{Prelude.{All, ⊤}, Ordering.{is_lt, nat_cmp, ordering_then}, List.{dedup, dedup_from, Sorted.{IsPermutation, IsSortedBy}, Retain.{IsFiltered, DiffersFromLast}}}
+use Rattle.mm_machine.specs.{declared.symbol.NumberedSymbol.{NumberedSymbol}, Language.NumberedSymbols.{AreInOrder, comes_before, name_numbers}}
+use Rattle.mm_frame.specs.Code.{KeptSymbols.{expression_kept}, KeptPairLists.{pairs_among, with_low_first}}
 use Rattle.mm_frame.proofs.lemmas.lists.Members.{in_contains, get_in}
 
 abbrev Pair : Type 0

@@ -1,32 +1,19 @@
 -- The table of pairs: its rows after a write and after one more item, and what they say of active pairs.
-use Rattle.std.proofs.Common.{◌≡◌, ◌≢◌, ℕ, zero, suc, ◌+◌, ◌<◌, Bool, true, false, Some, List, [], ◌∷◌, ◌++◌, length, take, drop, slice_get, get_or, refl, sym, ◌∙◌, ap, subst, take-suc, arith, inl, inr, ◌⊎◌, Global, Contains, MatchBool, Vec}
+use Rattle.std.proofs.Common.{◌≡◌, ◌≢◌, ℕ, zero, suc, ◌+◌, ◌<◌, Bool, true, false, Some, List, [], ◌∷◌, ◌++◌, length, take, drop, slice_get, get_or, refl, sym, ◌∙◌, ap, subst, take-suc, arith, inl}
+use Rattle.std.proofs.Common.{inr, ◌⊎◌, Global, Contains, MatchBool, Vec}
+use Rattle.std.proofs.{Math.ListN.{set}, lemmas.{Bool.{false≢true, false_from_ne_true}, Option.{same_Some, get_or_from_slice_get, slice_get_within, slice_get-get_or}}}
 use Rattle.std.specs.Vec.{with_item}
-use Rattle.std.proofs.Math.ListN.{set}
 use native.Mathlib.Decide.{dec_lt}
-use Rattle.std.proofs.lemmas.Bool.{false≢true, false_from_ne_true}
-use Rattle.std.proofs.lemmas.Option.{same_Some, get_or_from_slice_get, slice_get_within, slice_get-get_or}
-use Rattle.mm_frame.specs.declared.paired.PairTable.{PairTable}
-use Rattle.mm_frame.specs.Language.Frame.{Symbol}
+use Rattle.mm_frame.specs.{declared.paired.PairTable.{PairTable}, Language.{Scope.{Mark, active}, Sound.{IsSound, AreSound}, Framing.{symbol, expression, active_pairs}, Answering.{are_paired}}}
+use Rattle.mm_frame.specs.Code.{BlockMarks.{stays_by, block_marks}, KeptActive.{IsPruned}, LastItems.{IsRising, is_active_at}, Numbers.{IsNameNumber, AreNameNumbers}, PairOrder.{is_among}}
+use Rattle.mm_frame.specs.Code.{KeptScope.{taken}, KeptPairTable.{numbers_or_none, row_at, Puts, PutsAll, AreOnce, IsDisjointAt, IsRow, KnowsPairs, IsCommon, ReadsPairs}}
+use Rattle.mm_machine.specs.Language.{Frame.{Symbol}, Names.{AreDistinct}, NumberedSymbols.{as_variable}}
 use Rattle.mm_statement.specs.Language.Item.{Item, is_disjoint, has}
-use Rattle.mm_frame.specs.Language.Names.{AreDistinct}
-use Rattle.mm_frame.specs.Language.Scope.{Mark, active}
-use Rattle.mm_frame.specs.Language.Sound.{IsSound, AreSound}
-use Rattle.mm_frame.specs.Language.Framing.{symbol, expression, active_pairs}
-use Rattle.mm_frame.specs.Code.BlockMarks.{stays_by, block_marks}
-use Rattle.mm_frame.specs.Language.NumberedSymbols.{as_variable}
-use Rattle.mm_frame.specs.Code.KeptActive.{IsPruned}
-use Rattle.mm_frame.specs.Code.LastItems.{IsRising, is_active_at}
-use Rattle.mm_frame.specs.Code.Numbers.{IsNameNumber, AreNameNumbers}
-use Rattle.mm_frame.specs.Code.PairOrder.{is_among}
-use Rattle.mm_frame.specs.Language.Answering.{are_paired}
-use Rattle.mm_frame.specs.Code.KeptScope.{taken}
-use Rattle.mm_frame.specs.Code.KeptPairTable.{numbers_or_none, row_at, Puts, PutsAll, AreOnce, IsDisjointAt, IsRow, KnowsPairs, IsCommon, ReadsPairs}
 use Rattle.mm_frame.proofs.lemmas.lists.Members.{In, in_contains, contains_in, in_left, in_right, in_cases, in_map, from_map, in_get, get_in, has_in, in_has}
-use Rattle.mm_frame.proofs.lemmas.frames.Frames.{from_pairs}
-use Rattle.mm_frame.proofs.lemmas.scope.BlockLemmas.{get_front, get_last, get_cases}
 use Rattle.mm_frame.proofs.lemmas.lists.Rising.{rising_front, rising_more, in_among, among_in}
-use Rattle.mm_frame.proofs.lemmas.scope.EndLemmas.{active_at_front, active_by_marks}
-use Rattle.mm_frame.proofs.lemmas.pairs.ActivePairLemmas.{active_at_number, number_of_active, SameNames, in_order, found_pair, to_paired, pair_here, pair_turned, AreUnrepeated, disjoint_unrepeated, from_active_pairs, to_active_pairs, apart_active}
+use Rattle.mm_frame.proofs.lemmas.{frames.Frames.{from_pairs}, scope.{BlockLemmas.{get_front, get_last, get_cases}, EndLemmas.{active_at_front, active_by_marks}}}
+use Rattle.mm_frame.proofs.lemmas.pairs.ActivePairLemmas.{active_at_number, number_of_active, SameNames, in_order, found_pair, to_paired, pair_here, pair_turned, AreUnrepeated, disjoint_unrepeated}
+use Rattle.mm_frame.proofs.lemmas.pairs.ActivePairLemmas.{from_active_pairs, to_active_pairs, apart_active}
 
 -- a number is put into one row after another
 in_take : (names : List ℕ) (k n : ℕ) → In n (take k names) → (i : ℕ) × (i < k) × (slice_get names i ≡ Some n)

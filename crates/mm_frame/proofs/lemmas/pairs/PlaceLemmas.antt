@@ -1,48 +1,24 @@
 -- The places of the variables of a frame: with one more of them, and those of the ones that an active `$d` has together with one.
-use Rattle.std.proofs.Common.{◌≡◌, ℕ, zero, suc, ◌+◌, ◌-◌, ◌<◌, ◌≤◌, Bool, true, false, cond, nat_eq, Option, Some, None, List, [], ◌∷◌, ◌++◌, length, map, All, option_to_list, nat_lt, ◌↔◌}
-use Rattle.std.proofs.Common.{filter, flat_map, take, drop, slice_get, get_or, refl, sym, ◌∙◌, ap, subst, arith, inl, inr, Contains, eqb}
-use Rattle.std.specs.List.{dedup}
-use Rattle.std.specs.List.Sorted.{IsPermutation, IsSorted}
-use Rattle.std.specs.List.Retain.{IsFiltered, DiffersFromLast}
-use Rattle.std.specs.Ordering.{nat_cmp}
-use native.Mathlib.Decide.{dec_lt}
+use Rattle.std.proofs.Common.{◌≡◌, ℕ, zero, suc, ◌+◌, ◌-◌, ◌<◌, ◌≤◌, Bool, true, false, cond, nat_eq, Option, Some, None, List, [], ◌∷◌, ◌++◌, length, map, All, option_to_list, nat_lt, ◌↔◌, filter}
+use Rattle.std.proofs.Common.{flat_map, take, drop, slice_get, get_or, refl, sym, ◌∙◌, ap, subst, arith, inl, inr, Contains, eqb}
 use Rattle.std.proofs.lemmas.Bool.{false_from_ne_true, eqb-true, eq-eqb, lt-ltb, ltb-true, or_right}
 use Rattle.std.proofs.lemmas.List.{map-append}
-use Rattle.std.proofs.lemmas.List.Elements.{All-append, All-contains}
-use Rattle.std.proofs.lemmas.List.Filters.{dedup_is}
-use Rattle.std.proofs.lemmas.List.Kept.{Contains-dedup_nat, Contains-from_dedup, AllPairs-from_increasing}
+use Rattle.std.proofs.lemmas.List.{Elements.{All-append, All-contains}, Filters.{dedup_is}, Kept.{Contains-dedup_nat, Contains-from_dedup, AllPairs-from_increasing}}
 use Rattle.std.proofs.lemmas.List.Sorted.{IsPermutation-sym, Contains-permutation}
-use Rattle.std.proofs.lemmas.Map.Keys.{IsStrictlyIncreasing-dedup}
-use Rattle.std.proofs.lemmas.Option.{same_Some, slice_get_within}
-use Rattle.mm_frame.proofs.lemmas.frames.VariableLemmas.{under_true}
-use Rattle.mm_frame.specs.declared.symbol.NumberedSymbol.{NumberedSymbol}
-use Rattle.mm_frame.specs.declared.paired.PairTable.{PairTable}
-use Rattle.mm_frame.specs.declared.places.Places.{Places}
-use Rattle.mm_frame.specs.declared.mandatory.Earlier.{Earlier}
-use Rattle.mm_frame.specs.Language.Frame.{Symbol}
+use Rattle.std.proofs.lemmas.{Map.Keys.{IsStrictlyIncreasing-dedup}, Option.{same_Some, slice_get_within}}
+use Rattle.std.specs.{List.{dedup, Sorted.{IsPermutation, IsSorted}, Retain.{IsFiltered, DiffersFromLast}}, Ordering.{nat_cmp}}
+use native.Mathlib.Decide.{dec_lt}
+use Rattle.mm_machine.specs.declared.symbol.NumberedSymbol.{NumberedSymbol}
+use Rattle.mm_machine.specs.Language.{Frame.{Symbol}, Names.{name_at}, NumberedSymbols.{symbol_of, symbols_of, pair_of, kept_pairs, IsNumbered, IsPairNumbered, ArePairsRead}}
+use Rattle.mm_frame.specs.declared.{paired.PairTable.{PairTable}, places.Places.{Places}, mandatory.Earlier.{Earlier}}
+use Rattle.mm_frame.specs.Language.{Scope.{Mark}, Framing.{symbol, expression, active_pairs}, Answering.{are_paired}}
+use Rattle.mm_frame.specs.Code.{BlockMarks.{stays_by}, KeptEarlier.{KnowsEarlier}, KeptPairTable.{row_at, IsDisjointAt, ReadsPairs}}
+use Rattle.mm_frame.specs.Code.{KeptPlaces.{place_of, ArePlaces, later_place, later_places_at, pair_at}, KeptSymbols.{expression_kept, AreSymbols}, LastItems.{IsRising}, Numbers.{IsNameNumber}}
 use Rattle.mm_statement.specs.Language.Item.{Item, is_labelled, is_disjoint}
-use Rattle.mm_frame.specs.Language.Names.{name_at}
-use Rattle.mm_frame.specs.Language.Scope.{Mark}
-use Rattle.mm_frame.specs.Language.Framing.{symbol, expression, active_pairs}
-use Rattle.mm_frame.specs.Language.NumberedSymbols.{symbol_of, symbols_of, pair_of, kept_pairs, IsNumbered, IsPairNumbered, ArePairsRead}
-use Rattle.mm_frame.specs.Language.Answering.{are_paired}
-use Rattle.mm_frame.specs.Code.BlockMarks.{stays_by}
-use Rattle.mm_frame.specs.Code.KeptEarlier.{KnowsEarlier}
-use Rattle.mm_frame.specs.Code.KeptPairTable.{row_at, IsDisjointAt, ReadsPairs}
-use Rattle.mm_frame.specs.Code.KeptPlaces.{place_of, ArePlaces, later_place, later_places_at, pair_at}
-use Rattle.mm_frame.specs.Code.KeptSymbols.{expression_kept, AreSymbols}
-use Rattle.mm_frame.specs.Code.LastItems.{IsRising}
-use Rattle.mm_frame.specs.Code.Numbers.{IsNameNumber}
-use Rattle.mm_frame.proofs.lemmas.lists.Members.{In, in_contains, contains_in, in_map, from_map, in_filter, from_filter, in_flat, from_flat, get_in, has_in, in_cond}
-use Rattle.mm_frame.proofs.lemmas.scope.ActiveBySplit.{in_first, in_later}
-use Rattle.mm_frame.proofs.lemmas.frames.Frames.{in_at}
-use Rattle.mm_frame.proofs.lemmas.scope.TableLemmas.{first_cases}
-use Rattle.mm_frame.proofs.lemmas.names.NumberLemmas.{name_there}
-use Rattle.mm_frame.proofs.lemmas.frames.HypothesisNumbers.{rise_step, same_rising, drop_step}
-use Rattle.mm_frame.proofs.lemmas.lists.Rising.{get_drop}
-use Rattle.mm_frame.proofs.lemmas.pairs.ActivePairLemmas.{pairs_with}
-use Rattle.mm_frame.proofs.lemmas.pairs.PairTableLemmas.{named_in, paired_from, paired_to, active_at_marks}
-use Rattle.mm_frame.proofs.lemmas.pairs.AskedLemmas.{names_apart}
+use Rattle.mm_frame.proofs.lemmas.frames.{VariableLemmas.{under_true}, Frames.{in_at}, HypothesisNumbers.{rise_step, same_rising, drop_step}}
+use Rattle.mm_frame.proofs.lemmas.lists.{Members.{In, in_contains, contains_in, in_map, from_map, in_filter, from_filter, in_flat, from_flat, get_in, has_in, in_cond}, Rising.{get_drop}}
+use Rattle.mm_frame.proofs.lemmas.{scope.{ActiveBySplit.{in_first, in_later}, TableLemmas.{first_cases}}, names.NumberLemmas.{name_there}}
+use Rattle.mm_frame.proofs.lemmas.pairs.{ActivePairLemmas.{pairs_with}, PairTableLemmas.{named_in, paired_from, paired_to, active_at_marks}, AskedLemmas.{names_apart}}
 
 -- ---- one more symbol
 

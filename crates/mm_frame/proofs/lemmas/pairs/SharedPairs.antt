@@ -1,14 +1,9 @@
 -- Lists of pairs that are compared as sets of unordered pairs.
 use Rattle.std.proofs.Common.{◌≡◌, ◌<◌, ◌+◌, ℕ, suc, List, [], ◌∷◌, ◌++◌, length, take, get_or, sym, ◌∙◌, ap, subst, take-suc, arith, inl, inr, Contains, All, ◌↔◌, ◌⊎◌}
-use Rattle.std.proofs.lemmas.Option.{slice_get-get_or}
-use Rattle.std.proofs.lemmas.List.Elements.{All-contains, Contains-append_cases}
-use Rattle.mm_frame.proofs.lemmas.pairs.FramePairs.{swapped}
-use Rattle.mm_frame.specs.declared.symbol.NumberedSymbol.{NumberedSymbol}
-use Rattle.mm_frame.specs.Language.Frame.{Symbol, ArePair, AreSamePairs}
-use Rattle.mm_frame.specs.Language.Names.{AreDistinct}
-use Rattle.mm_frame.specs.Language.NumberedSymbols.{pair_of, kept_pairs, IsPairNumbered}
-use Rattle.mm_frame.proofs.lemmas.lists.Members.{in_contains, contains_in, contains_cases, get_in, in_map, from_map}
-use Rattle.mm_frame.proofs.lemmas.frames.SameLemmas.{pair_from_reading}
+use Rattle.std.proofs.lemmas.{Option.{slice_get-get_or}, List.Elements.{All-contains, Contains-append_cases}}
+use Rattle.mm_machine.specs.declared.symbol.NumberedSymbol.{NumberedSymbol}
+use Rattle.mm_machine.specs.Language.{Frame.{Symbol, ArePair, AreSamePairs}, Names.{AreDistinct}, NumberedSymbols.{pair_of, kept_pairs, IsPairNumbered}}
+use Rattle.mm_frame.proofs.lemmas.{pairs.FramePairs.{swapped}, lists.Members.{in_contains, contains_in, contains_cases, get_in, in_map, from_map}, frames.SameLemmas.{pair_from_reading}}
 
 -- ---- the same unordered pairs
 

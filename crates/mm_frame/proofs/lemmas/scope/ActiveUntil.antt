@@ -1,14 +1,9 @@
 -- Up to where an item is active.
-use Rattle.std.proofs.Common.{◌≡◌, ℕ, suc, ◌+◌, ◌-◌, ◌<◌, ◌≤◌, leb, ◌++◌, ◌∷◌, Bool, true, Option, Some, None, List, [], length, min, take, drop, get_or, refl, sym, ◌∙◌, ap, subst, arith, ◌↔◌, slice_range}
-use Rattle.std.proofs.lemmas.Bool.{le-leb, lt-leb, false≢true}
-use Rattle.std.proofs.lemmas.List.{drop-take, length-drop, length-append}
-use Rattle.std.proofs.lemmas.Option.{slice_get-get_or}
+use Rattle.std.proofs.Common.{◌≡◌, ℕ, suc, ◌+◌, ◌-◌, ◌<◌, ◌≤◌, leb, ◌++◌, ◌∷◌, Bool, true, Option, Some, None, List, [], length, min, take, drop, get_or, refl, sym, ◌∙◌, ap, subst, arith, ◌↔◌}
+use Rattle.std.proofs.Common.{slice_range}
+use Rattle.std.proofs.lemmas.{Bool.{le-leb, lt-leb, false≢true}, List.{drop-take, length-drop, length-append}, Option.{slice_get-get_or}}
 use native.Mathlib.Decide.{dec_lt}
-use Rattle.mm_frame.specs.Language.Scope.{Mark, Closes}
-use Rattle.mm_frame.specs.Language.Resolving.{IsUpTo}
-use Rattle.mm_frame.specs.Code.BlockMarks.{stays_by}
-use Rattle.mm_frame.specs.Code.BlockEnds.{end_of_block}
-use Rattle.mm_frame.specs.Code.KeptBlocks.{marks_from, StandsEnded, Stands, AreBlockEndsKept}
+use Rattle.mm_frame.specs.{Language.{Scope.{Mark, Closes}, Resolving.{IsUpTo}}, Code.{BlockMarks.{stays_by}, BlockEnds.{end_of_block}, KeptBlocks.{marks_from, StandsEnded, Stands, AreBlockEndsKept}}}
 use Rattle.mm_frame.proofs.lemmas.scope.BlockLemmas.{length_marks, before_none, is_active_open, is_active_ended}
 
 -- what is between an item and a later place, with or without an item there

@@ -1,12 +1,11 @@
 -- Activity by blocks and by what is closed between.
-use Rattle.std.proofs.Common.{◌≡◌, ℕ, zero, suc, ◌+◌, ◌-◌, ◌≤◌, ◌<◌, ◌↔◌, Bool, true, false, cond, Some, List, [], ◌∷◌, take, drop, slice_get, count_by, refl, sym, ◌∙◌, ap, subst, arith, take-add, take-take}
-use native.Mathlib.Decide.{dec_lt}
+use Rattle.std.proofs.Common.{◌≡◌, ℕ, zero, suc, ◌+◌, ◌-◌, ◌≤◌, ◌<◌, ◌↔◌, Bool, true, false, cond, Some, List, [], ◌∷◌, take, drop, slice_get, count_by, refl, sym, ◌∙◌, ap, subst, arith, take-add}
+use Rattle.std.proofs.Common.{take-take}
 use Rattle.std.proofs.lemmas.List.Sums.{sum_by-cons, sum_by-append}
+use native.Mathlib.Decide.{dec_lt}
 use Rattle.mm_statement.specs.Language.Item.{Item}
-use Rattle.mm_frame.specs.Language.Scope.{Mark, Closes, Neither, mark_of, stays, opens, closes, is_start, is_end}
-use Rattle.mm_frame.specs.Language.Numbered.{IsEven, IsEndOf, HoldsItem, IsActive, between}
-use Rattle.mm_frame.proofs.lemmas.scope.Stack.{stays_by_counts}
-use Rattle.mm_frame.proofs.lemmas.scope.Heights.{IsHeight, EndsAt, Around, from_height, to_height}
+use Rattle.mm_frame.specs.Language.{Scope.{Mark, Closes, Neither, mark_of, stays, opens, closes, is_start, is_end}, Numbered.{IsEven, IsEndOf, HoldsItem, IsActive, between}}
+use Rattle.mm_frame.proofs.lemmas.scope.{Stack.{stays_by_counts}, Heights.{IsHeight, EndsAt, Around, from_height, to_height}}
 
 cons_count : (p : Item → Bool) (x : Item) (xs : List Item) → count_by p (x ∷ xs) ≡ cond (p x) 1 0 + count_by p xs
 cons_count p x xs = sum_by-cons (λ i. cond (p i) 1 0) x xs

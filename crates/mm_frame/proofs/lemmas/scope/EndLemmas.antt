@@ -1,21 +1,14 @@
 -- What a `$}` leaves of the numbers of active items: the last of them are dropped.
-use Rattle.std.proofs.Common.{◌≡◌, ℕ, zero, suc, ◌+◌, ◌-◌, ◌<◌, Bool, true, false, cond, Option, Some, None, List, [], ◌∷◌, ◌++◌, length, take, drop, slice_get, get_or, refl, sym, ◌∙◌, ap, subst, append_assoc, arith, inl, inr, ◌⊎◌}
-use Rattle.std.specs.Prelude.{Contains, option_to_list}
-use Rattle.std.proofs.lemmas.Bool.{false≢true}
-use Rattle.std.proofs.lemmas.Option.{get_or_from_slice_get, slice_get_within, same_Some, none-some}
+use Rattle.std.proofs.Common.{◌≡◌, ℕ, zero, suc, ◌+◌, ◌-◌, ◌<◌, Bool, true, false, cond, Option, Some, None, List, [], ◌∷◌, ◌++◌, length, take, drop, slice_get, get_or, refl, sym, ◌∙◌, ap, subst}
+use Rattle.std.proofs.Common.{append_assoc, arith, inl, inr, ◌⊎◌}
+use Rattle.std.proofs.lemmas.{Bool.{false≢true}, Option.{get_or_from_slice_get, slice_get_within, same_Some, none-some}, List.{drop-append-le, drop-map, length_push, get_or_append_left}}
 use Rattle.std.proofs.Math.Seq.{get_or-append_seam, drop-nil}
-use Rattle.std.proofs.lemmas.List.{drop-append-le, drop-map, length_push, get_or_append_left}
+use Rattle.std.specs.Prelude.{Contains, option_to_list}
 use Rattle.mm_statement.specs.Language.Item.{Item}
 use Rattle.mm_frame.specs.Language.Scope.{Mark, Neither, mark_of, closed_at, closed, is_zero, stays, active_numbers}
-use Rattle.mm_frame.specs.Code.BlockMarks.{stays_by, block_marks}
-use Rattle.mm_frame.specs.Code.LastItems.{is_active_at, IsRising}
-use Rattle.mm_frame.specs.Code.KeptActive.{IsPruned}
-use Rattle.mm_frame.proofs.lemmas.lists.Members.{In, in_contains, contains_in, in_left, in_right, in_cases, in_get}
-use Rattle.mm_frame.proofs.lemmas.scope.ActiveBySplit.{closed_none, stays_front}
-use Rattle.mm_frame.proofs.lemmas.scope.SoundItems.{split_at}
-use Rattle.mm_frame.proofs.lemmas.scope.TableLemmas.{not_closing}
-use Rattle.mm_frame.proofs.lemmas.scope.BlockLemmas.{get_front, get_cases, get_last, stays_of}
-use Rattle.mm_frame.proofs.lemmas.lists.Rising.{rising_front, get_drop}
+use Rattle.mm_frame.specs.Code.{BlockMarks.{stays_by, block_marks}, LastItems.{is_active_at, IsRising}, KeptActive.{IsPruned}}
+use Rattle.mm_frame.proofs.lemmas.lists.{Members.{In, in_contains, contains_in, in_left, in_right, in_cases, in_get}, Rising.{rising_front, get_drop}}
+use Rattle.mm_frame.proofs.lemmas.scope.{ActiveBySplit.{closed_none, stays_front}, SoundItems.{split_at}, TableLemmas.{not_closing}, BlockLemmas.{get_front, get_cases, get_last, stays_of}}
 use Rattle.mm_frame.proofs.lemmas.frames.HypothesisNumbers.{to_active_number, from_active_number, active_numbers_rise, active_numbers_more, same_rising}
 
 -- what is active after one more item was active before it

@@ -1,13 +1,13 @@
 -- What soundness gives.
-use Rattle.std.proofs.Common.{◌≡◌, ℕ, suc, ◌+◌, ◌-◌, ◌≤◌, Bool, true, false, not, ◌&&◌, ltb, leb, ◌==◌, Some, List, [], ◌∷◌, ◌++◌, length, slice_get, refl, sym, ◌∙◌, subst, append_assoc, append-nil, arith, inl, inr, ◌⊎◌}
+use Rattle.std.proofs.Common.{◌≡◌, ℕ, suc, ◌+◌, ◌-◌, ◌≤◌, Bool, true, false, not, ◌&&◌, ltb, leb, ◌==◌, Some, List, [], ◌∷◌, ◌++◌, length, slice_get, refl, sym, ◌∙◌, subst, append_assoc, append-nil}
+use Rattle.std.proofs.Common.{arith, inl, inr, ◌⊎◌}
 use Rattle.std.proofs.lemmas.Bool.{false≢true, or_parts, or_cases, le-leb, lt-ltb, not-false}
 use Rattle.mm_statement.specs.Language.Item.{first_symbol, Kind, Constants, Floating, Item, is_constants, is_variables, is_floating, is_expression, is_labelled, has}
 use Rattle.mm_frame.specs.Language.Scope.{active, symbols_by, constants, variables, active_variables, typed}
+use Rattle.mm_frame.specs.Language.Sound.{closing_word, passes, at_symbol, each, first, second, later, is_third, is_declared, is_active_symbol, is_no_constant, is_no_variable, is_no_active_symbol}
+use Rattle.mm_frame.specs.Language.Sound.{is_untyped, is_typed, is_short, IsSound}
 use Rattle.mm_frame.specs.declared.FrameNumber.TheVariants.{F01, F04, F08, F09, F10, F11, F12}
-use Rattle.mm_frame.specs.Language.Sound.{closing_word, passes, at_symbol, each, first, second, later, is_third, is_declared, is_active_symbol}
-use Rattle.mm_frame.specs.Language.Sound.{is_no_constant, is_no_variable, is_no_active_symbol, is_untyped, is_typed, is_short, IsSound}
-use Rattle.mm_frame.proofs.lemmas.lists.Members.{In, in_cases, in_get, has_in, in_has, from_symbols, to_symbols}
-use Rattle.mm_frame.proofs.lemmas.scope.ActiveBySplit.{active_in}
+use Rattle.mm_frame.proofs.lemmas.{lists.Members.{In, in_cases, in_get, has_in, in_has, from_symbols, to_symbols}, scope.ActiveBySplit.{active_in}}
 
 pub and_rest : (x y : Bool) → (x && y) ≡ false → x ≡ true → y ≡ false
 and_rest true y h e = h

@@ -1,15 +1,10 @@
 -- What a scope keeps says what is active and how it is typed, and what one more item makes of it.
-use Rattle.std.proofs.Common.{◌≡◌, ℕ, suc, Bool, false, if◌then◌else◌, Option, Some, List, [], ◌∷◌, ◌++◌, length, drop, map, get_or, sym, ◌∙◌, ap, subst}
-use Rattle.std.proofs.Math.ListN.{get_or-map}
+use Rattle.std.proofs.{Common.{◌≡◌, ℕ, suc, Bool, false, if◌then◌else◌, Option, Some, List, [], ◌∷◌, ◌++◌, length, drop, map, get_or, sym, ◌∙◌, ap, subst}, Math.ListN.{get_or-map}}
 use Rattle.std.proofs.lemmas.List.{map-append, drop-map, length-map}
 use Rattle.mm_statement.specs.Language.Item.{Kind, Item, passed, typecode_of, item_at}
-use Rattle.mm_frame.specs.Language.Scope.{Mark, mark_of}
-use Rattle.mm_frame.specs.Code.BlockMarks.{stays_by, block_marks}
-use Rattle.mm_frame.specs.Code.LastItems.{last_where, types, is_active_last}
+use Rattle.mm_frame.specs.{Language.Scope.{Mark, mark_of}, Code.{BlockMarks.{stays_by, block_marks}, LastItems.{last_where, types, is_active_last}, KeptScope.{ScopeHolds, float_typecode, taken}}}
 use Rattle.mm_frame.specs.declared.scope.Scope.{Scope}
-use Rattle.mm_frame.specs.Code.KeptScope.{ScopeHolds, float_typecode, taken}
-use Rattle.mm_frame.proofs.lemmas.scope.BlockLemmas.{stays_of}
-use Rattle.mm_frame.proofs.lemmas.scope.TableLemmas.{float_at_last}
+use Rattle.mm_frame.proofs.lemmas.scope.{BlockLemmas.{stays_of}, TableLemmas.{float_at_last}}
 
 -- whether the last item that passes some test is active
 pub active_by_marks : (before : List Item) (marks : List Mark) (last : Option ℕ) (n : ℕ) → marks ≡ block_marks before → last ≡ Some n → stays_by (drop (suc n) marks) ≡ is_active_last before last

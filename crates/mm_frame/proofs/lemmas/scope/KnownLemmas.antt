@@ -1,36 +1,26 @@
 -- What the tables of names and labels keep, and what one more item makes of what is declared.
 use Rattle.std.proofs.Common.{◌≡◌, ℕ, zero, suc, ◌<◌, ◌≤◌, Bool, true, false, cond, ◌&&◌, ◌||◌, Option, Some, None, List, [], ◌∷◌, ◌++◌, length, take, get_or-set_other, is_some, option_to_list}
 use Rattle.std.proofs.Common.{take_all, get_or, set, slice_get, nat_eq, bytes_eq, refl, sym, ◌∙◌, ap, subst, inl, inr, ◌⊎◌, arith}
-use Rattle.std.specs.Cmp.Lexicographic.{nat_list_eq_equiv}
-use Rattle.std.proofs.Math.Seq.{take-suc}
-use Rattle.std.proofs.lemmas.Bool.{false≢true, false_from_ne_true, and_parts}
-use Rattle.std.proofs.lemmas.Bool.Decides.{Decides-eqb}
-use Rattle.std.proofs.lemmas.Option.{same_Some}
-use Rattle.std.proofs.lemmas.Grind.{get_or-set_at}
-use Rattle.std.proofs.lemmas.List.Folds.{list_any-append}
+use Rattle.std.proofs.Math.{Seq.{take-suc}, Bool.{or-false}}
+use Rattle.std.proofs.lemmas.{Bool.{false≢true, false_from_ne_true, and_parts, Decides.{Decides-eqb}}, Option.{same_Some}, Grind.{get_or-set_at}, List.Folds.{list_any-append}}
 use Rattle.std.proofs.lemmas.Slice.Eq.{bytes_eq-Decides}
-use Rattle.std.proofs.Math.Bool.{or-false}
+use Rattle.std.specs.Cmp.Lexicographic.{nat_list_eq_equiv}
 use Rattle.mm_store.specs.declared.item.ItemKind.{ItemKind}
-use Rattle.mm_store.specs.declared.item.ItemKind.TheVariants as items
 use Rattle.mm_statement.specs.Language.Statement.{kind_of}
-use Rattle.mm_frame.specs.declared.tables.Tables.{Tables}
-use Rattle.mm_frame.specs.declared.tables.Declared.{Declared}
-use Rattle.mm_frame.specs.declared.tables.Declared.TheVariants.{Constant, Variable}
-use Rattle.mm_statement.specs.Language.Item.{Kind, Constants, Variables, Disjoint, Floating, Essential, Axiom, Theorem, BlockStart, BlockEnd, Missing, Item, passed, is_constants, is_variables, is_floating, is_labelled, has}
-use Rattle.mm_statement.specs.Language.Item as meant
-use Rattle.mm_frame.specs.Language.Scope.{constants, variables, active}
-use Rattle.mm_frame.specs.Language.Sound.{is_declared, IsSound, AreSound}
-use Rattle.mm_frame.specs.Code.LastItems.{last_where, declares_variable, types, carries}
-use Rattle.mm_frame.specs.Language.Names.{AreDistinct}
-use Rattle.mm_frame.specs.Code.Numbers.{number_in, IsNameNumber, AreNameNumbers}
-use Rattle.mm_frame.specs.Code.KeptLabels.{label_number}
-use Rattle.mm_frame.specs.Code.KeptTables.{declared_at, declared_for, table_name, table_label, variable_at, is_constant_as, declared_in, variable_number, float_of, typed_by, Knows, Declares, TypesName, Carries}
+use Rattle.mm_statement.specs.Language.Item.{Kind, Constants, Variables, Disjoint, Floating, Essential, Axiom, Theorem, BlockStart, BlockEnd, Missing, Item, passed, is_constants, is_variables}
+use Rattle.mm_statement.specs.Language.Item.{is_floating, is_labelled, has}
+use Rattle.mm_frame.specs.declared.tables.{Tables.{Tables}, Declared.{Declared, TheVariants.{Constant, Variable}}}
+use Rattle.mm_frame.specs.Language.{Scope.{constants, variables, active}, Sound.{is_declared, IsSound, AreSound}}
+use Rattle.mm_frame.specs.Code.{LastItems.{last_where, declares_variable, types, carries}, Numbers.{number_in, IsNameNumber, AreNameNumbers}, KeptLabels.{label_number}}
+use Rattle.mm_frame.specs.Code.KeptTables.{declared_at, declared_for, table_name, table_label, variable_at, is_constant_as, declared_in, variable_number, float_of, typed_by, Knows, Declares}
+use Rattle.mm_frame.specs.Code.KeptTables.{TypesName, Carries}
+use Rattle.mm_machine.specs.Language.Names.{AreDistinct}
 use Rattle.mm_frame.proofs.lemmas.names.NumberLemmas.{number_names, number_of_named, same_number, other_number, number_at, declared_named}
 use Rattle.mm_frame.proofs.lemmas.lists.Members.{In, in_has, from_symbols, to_symbols, in_left}
-use Rattle.mm_frame.proofs.lemmas.scope.ActiveBySplit.{active_in}
-use Rattle.mm_frame.proofs.lemmas.scope.Facts.{float_variable, float_two}
-use Rattle.mm_frame.proofs.lemmas.scope.SoundItems.{sound_front}
+use Rattle.mm_frame.proofs.lemmas.scope.{ActiveBySplit.{active_in}, Facts.{float_variable, float_two}, SoundItems.{sound_front}}
 use Rattle.mm_frame.proofs.lemmas.scope.TableLemmas.{last_where_next, last_cases, last_none, Last, constants_next, variable_last, constant_or_variable, float_second, typed_by as types_it}
+use Rattle.mm_store.specs.declared.item.ItemKind.TheVariants as items
+use Rattle.mm_statement.specs.Language.Item as meant
 
 -- a name is one of the names of a list of one
 pub has_one : (bs cs : List ℕ) → bytes_eq bs cs ≡ has (bs ∷ []) cs

@@ -1,17 +1,15 @@
 -- Sound lists keep their items, and labels keep their meaning.
-use Rattle.std.proofs.Common.{◌≡◌, ℕ, zero, suc, Bool, true, false, cond, Some, List, [], ◌∷◌, ◌++◌, map, filter, take, drop, slice_get, refl, sym, ◌∙◌, ap, subst, append_assoc, append-nil, inl, inr, ◌⊎◌, take-append-drop}
-use Rattle.std.specs.List.{list_any}
+use Rattle.std.proofs.Common.{◌≡◌, ℕ, zero, suc, Bool, true, false, cond, Some, List, [], ◌∷◌, ◌++◌, map, filter, take, drop, slice_get, refl, sym, ◌∙◌, ap, subst, append_assoc, append-nil, inl, inr}
+use Rattle.std.proofs.Common.{◌⊎◌, take-append-drop}
 use Rattle.std.proofs.lemmas.Bool.{false≢true, or_left, or_right, false_from_ne_true}
-use Rattle.mm_frame.specs.Language.Frame.{Unknown}
+use Rattle.std.specs.List.{list_any}
+use Rattle.mm_machine.specs.Language.Frame.{Unknown}
 use Rattle.mm_statement.specs.Language.Item.{Kind, Floating, Essential, Axiom, Theorem, Item, is_floating, is_expression, is_labelled, has, labels_of}
-use Rattle.mm_frame.specs.Language.Scope.{Neither, mark_of, stays, constants, labels, active_variables}
-use Rattle.mm_frame.specs.declared.FrameNumber.TheVariants.{F06}
-use Rattle.mm_frame.specs.Language.Sound.{is_label, IsSound, AreSound}
+use Rattle.mm_frame.specs.Language.{Scope.{Neither, mark_of, stays, constants, labels, active_variables}, Sound.{is_label, IsSound, AreSound}}
 use Rattle.mm_frame.specs.Language.Framing.{symbol, expression, meaning, resolve_from, resolve}
-use Rattle.mm_frame.proofs.lemmas.lists.Members.{In, in_flat, in_get, has_in, in_has}
-use Rattle.mm_frame.proofs.lemmas.scope.Facts.{AreKept, sound_at, kept_front, not_constant, first_constant, known, float_variable, float_two}
-use Rattle.mm_frame.proofs.lemmas.faults.FoundFaults.{kept_more}
-use Rattle.mm_frame.proofs.lemmas.frames.Frames.{constants_later, variables_later}
+use Rattle.mm_frame.specs.declared.FrameNumber.TheVariants.{F06}
+use Rattle.mm_frame.proofs.lemmas.{lists.Members.{In, in_flat, in_get, has_in, in_has}, scope.Facts.{AreKept, sound_at, kept_front, not_constant, first_constant, known, float_variable, float_two}}
+use Rattle.mm_frame.proofs.lemmas.{faults.FoundFaults.{kept_more}, frames.Frames.{constants_later, variables_later}}
 
 -- an item by its number
 pub split_at : {X : Type 0} (xs : List X) (i : ℕ) (x : X) → slice_get xs i ≡ Some x → xs ≡ take i xs ++ x ∷ drop (suc i) xs

@@ -1,20 +1,16 @@
 -- What is looked up by number is what the definitions say.
-use Rattle.std.proofs.Common.{◌≡◌, ℕ, suc, Bool, true, false, cond, not, ◌&&◌, Option, Some, None, List, [], ◌∷◌, ◌++◌, length, take, drop, slice_get, slice_index_or, bytes_eq, refl, sym, ◌∙◌, ap, subst, append_assoc, append-nil, inl, inr, ◌⊎◌}
-use Rattle.std.specs.Prelude.{is_some}
-use Rattle.std.specs.List.{list_any}
-use Rattle.std.proofs.lemmas.Bool.{false≢true, or_parts, or_cases, and_from, false_from_ne_true, and_parts}
-use Rattle.std.proofs.lemmas.Slice.Eq.{bytes_eq-Decides}
-use Rattle.std.proofs.lemmas.Grind.{flat_map-append}
+use Rattle.std.proofs.Common.{◌≡◌, ℕ, suc, Bool, true, false, cond, not, ◌&&◌, Option, Some, None, List, [], ◌∷◌, ◌++◌, length, take, drop, slice_get, slice_index_or, bytes_eq, refl, sym, ◌∙◌, ap}
+use Rattle.std.proofs.Common.{subst, append_assoc, append-nil, inl, inr, ◌⊎◌}
+use Rattle.std.proofs.lemmas.{Bool.{false≢true, or_parts, or_cases, and_from, false_from_ne_true, and_parts}, Slice.Eq.{bytes_eq-Decides}, Grind.{flat_map-append}}
+use Rattle.std.specs.{Prelude.{is_some}, List.{list_any}}
 use Rattle.mm_statement.specs.Language.Item.{Kind, Item, is_constants, is_variables, is_floating, has, labels_of, typecode_of, variable_of, item_at}
 use Rattle.mm_frame.specs.Language.Scope.{Mark, Closes, Neither, mark_of, closed_at, closed, stays, active, symbols_by, constants, variables, labels, active_variables, floats, typed}
-use Rattle.mm_frame.specs.declared.FrameNumber.TheVariants.{F04, F13}
 use Rattle.mm_frame.specs.Language.Sound.{each, second, is_active_symbol, is_typed_otherwise, IsSound, AreSound}
-use Rattle.mm_frame.specs.Code.LastItems.{number_or_first, last_where, is_active_at, is_active_last, declares_variable, types, carries, is_otherwise_at}
+use Rattle.mm_frame.specs.{declared.FrameNumber.TheVariants.{F04, F13}, Code.LastItems.{number_or_first, last_where, is_active_at, is_active_last, declares_variable, types, carries, is_otherwise_at}}
 use Rattle.mm_frame.proofs.lemmas.lists.Members.{In, in_right, in_cases, in_filter, from_filter, in_flat, from_flat, in_get, has_in, in_has, from_symbols, to_symbols}
-use Rattle.mm_frame.proofs.lemmas.scope.ActiveBySplit.{active_in, split_active, in_first, in_later, closed_join, stays_front}
-use Rattle.mm_frame.proofs.lemmas.scope.Facts.{no_symbol_of, apart, float_two, float_new}
-use Rattle.mm_frame.proofs.lemmas.frames.Frames.{from_typed, to_typed}
+use Rattle.mm_frame.proofs.lemmas.scope.{ActiveBySplit.{active_in, split_active, in_first, in_later, closed_join, stays_front}, Facts.{no_symbol_of, apart, float_two, float_new}}
 use Rattle.mm_frame.proofs.lemmas.scope.SoundItems.{sound_kept, label_new, in_any}
+use Rattle.mm_frame.proofs.lemmas.frames.Frames.{from_typed, to_typed}
 
 -- one more item: it is the last that passes, or else the same one is
 next_at : (b c : Bool) (o : Option ℕ) (n : ℕ) → number_or_first (cond b (Some n) o) c ≡ cond b (Some (suc n)) (number_or_first o c)

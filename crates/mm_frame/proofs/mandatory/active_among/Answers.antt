@@ -1,12 +1,7 @@
-use Rattle.std.proofs.Common.{◌+◌, ◌++◌, ◌∙◌, false, ap, sym, subst, filter, drop, get_or, append-nil}
-use Rattle.std.proofs.lemmas.List.{drop_all}
-use Rattle.std.proofs.lemmas.Option.{slice_get-get_or}
-use Rattle.mm_frame.specs.declared.symbol.NumberedSymbol.{NumberedSymbol}
-use Rattle.mm_frame.specs.Language.Framing.{active_pairs, pairs_of}
-use Rattle.mm_frame.specs.Language.NumberedSymbols.{symbol_of, symbols_of, ArePairsRead}
-use Rattle.mm_frame.specs.Language.Answering.{are_paired}
-use Rattle.mm_frame.proofs.lemmas.pairs.ActivePairLemmas.{pairs_with}
-use Rattle.mm_frame.proofs.lemmas.pairs.FramePairs.{among_more}
+use Rattle.std.proofs.{Common.{◌+◌, ◌++◌, ◌∙◌, false, ap, sym, subst, filter, drop, get_or, append-nil}, lemmas.{List.{drop_all}, Option.{slice_get-get_or}}}
+use Rattle.mm_machine.specs.{declared.symbol.NumberedSymbol.{NumberedSymbol}, Language.NumberedSymbols.{symbol_of, symbols_of, ArePairsRead}}
+use Rattle.mm_frame.specs.Language.{Framing.{active_pairs, pairs_of}, Answering.{are_paired}}
+use Rattle.mm_frame.proofs.lemmas.pairs.{ActivePairLemmas.{pairs_with}, FramePairs.{among_more}}
 use Rattle.mm_frame.proofs.mandatory.active_among.Goals as goal
 
 pub loop-n-preserved : goal.loop-n-preserved

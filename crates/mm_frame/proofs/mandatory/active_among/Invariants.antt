@@ -1,12 +1,7 @@
 use Rattle.std.proofs.Common.{◌≡◌, ℕ, ◌++◌, List, filter, drop, All, IfSome}
-use Rattle.mm_frame.specs.Language.Frame.{Symbol}
+use Rattle.mm_machine.specs.Language.{Frame.{Symbol}, NumberedSymbols.{symbols_of, IsNumbered, ArePairsRead}}
 use Rattle.mm_statement.specs.Language.Item.{Item}
-use Rattle.mm_frame.specs.Language.Framing.{pairs_of, active_pairs}
-use Rattle.mm_frame.specs.Language.NumberedSymbols.{symbols_of, IsNumbered, ArePairsRead}
-use Rattle.mm_frame.specs.Language.Answering.{are_paired}
-use Rattle.mm_frame.specs.Code.KeptPlaces.{ArePlaces}
-use Rattle.mm_frame.specs.Code.KeptEarlier.{KnowsEarlier}
-use Rattle.mm_frame.specs.Code.KeptAsked.{KnowsAsked}
+use Rattle.mm_frame.specs.{Language.{Framing.{pairs_of, active_pairs}, Answering.{are_paired}}, Code.{KeptPlaces.{ArePlaces}, KeptEarlier.{KnowsEarlier}, KeptAsked.{KnowsAsked}}}
 use Rattle.mm_frame.proofs.mandatory.active_among.Given as goal
 
 abbrev pub invariant-loop-n : goal.invariant-loop-n

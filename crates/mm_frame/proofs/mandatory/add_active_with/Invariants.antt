@@ -1,11 +1,7 @@
 use Rattle.std.proofs.Common.{ℕ, ◌++◌, List, filter, take, All}
-use Rattle.mm_frame.specs.Language.Frame.{Symbol}
+use Rattle.mm_machine.specs.Language.{Frame.{Symbol}, NumberedSymbols.{symbol_of, symbols_of, IsNumbered, ArePairsRead}}
 use Rattle.mm_statement.specs.Language.Item.{Item}
-use Rattle.mm_frame.specs.Language.Framing.{active_pairs}
-use Rattle.mm_frame.specs.Language.NumberedSymbols.{symbol_of, symbols_of, IsNumbered, ArePairsRead}
-use Rattle.mm_frame.specs.Language.Answering.{are_paired}
-use Rattle.mm_frame.specs.Code.KeptPairTable.{ReadsPairs}
-use Rattle.mm_frame.specs.Code.KeptAsked.{KnowsAsked, AsksOn}
+use Rattle.mm_frame.specs.{Language.{Framing.{active_pairs}, Answering.{are_paired}}, Code.{KeptPairTable.{ReadsPairs}, KeptAsked.{KnowsAsked, AsksOn}}}
 use Rattle.mm_frame.proofs.lemmas.pairs.ActivePairLemmas.{pairs_with}
 use Rattle.mm_frame.proofs.mandatory.add_active_with.Given as goal
 

@@ -1,6 +1,5 @@
 use Rattle.std.proofs.Common.{false, ◌++◌, flat_map, take_all, ap, ◌∙◌}
-use Rattle.mm_frame.specs.declared.essential.EssentialVariable.{EssentialVariable}
-use Rattle.mm_frame.specs.Code.KeptVariables.{known_float}
+use Rattle.mm_frame.specs.{declared.essential.EssentialVariable.{EssentialVariable}, Code.KeptVariables.{known_float}}
 use Rattle.mm_frame.proofs.lemmas.lists.Growing.{flat_map_grows}
 use Rattle.mm_frame.proofs.mandatory.add_known_floats.Goals as goal
 

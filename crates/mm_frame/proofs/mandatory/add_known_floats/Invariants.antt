@@ -1,6 +1,5 @@
 use Rattle.std.proofs.Common.{◌≡◌, ◌++◌, take, flat_map}
-use Rattle.mm_frame.specs.Code.LastItems.{IsRising}
-use Rattle.mm_frame.specs.Code.KeptVariables.{known_float}
+use Rattle.mm_frame.specs.Code.{LastItems.{IsRising}, KeptVariables.{known_float}}
 use Rattle.mm_frame.proofs.mandatory.add_known_floats.Given as goal
 
 abbrev pub invariant-loop-variable : goal.invariant-loop-variable

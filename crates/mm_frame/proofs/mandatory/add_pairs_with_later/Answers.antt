@@ -1,16 +1,7 @@
-use Rattle.std.proofs.Common.{◌+◌, ◌++◌, false, sym, subst, filter, All, IfSome}
-use Rattle.std.proofs.lemmas.List.{take_rest}
-use Rattle.std.proofs.lemmas.List.Elements.{All-contains, All-drop}
-use Rattle.std.proofs.lemmas.Option.{get_or_from_slice_get}
-use Rattle.std.proofs.lemmas.Result.{on_ok_weaker}
-use Rattle.mm_frame.specs.declared.symbol.NumberedSymbol.{NumberedSymbol}
-use Rattle.mm_frame.specs.Language.Framing.{active_pairs}
-use Rattle.mm_frame.specs.Language.NumberedSymbols.{symbol_of, symbols_of, IsNumbered, ArePairsRead}
-use Rattle.mm_frame.specs.Language.Answering.{are_paired}
-use Rattle.mm_frame.specs.Code.KeptPlaces.{ArePlaces}
-use Rattle.mm_frame.proofs.lemmas.lists.Members.{in_contains, get_in}
-use Rattle.mm_frame.proofs.lemmas.pairs.ActivePairLemmas.{pairs_with}
-use Rattle.mm_frame.proofs.lemmas.pairs.PlaceLemmas.{reads_earlier}
+use Rattle.std.proofs.{Common.{◌+◌, ◌++◌, false, sym, subst, filter, All, IfSome}, lemmas.{List.{take_rest, Elements.{All-contains, All-drop}}, Option.{get_or_from_slice_get}, Result.{on_ok_weaker}}}
+use Rattle.mm_machine.specs.{declared.symbol.NumberedSymbol.{NumberedSymbol}, Language.NumberedSymbols.{symbol_of, symbols_of, IsNumbered, ArePairsRead}}
+use Rattle.mm_frame.specs.{Language.{Framing.{active_pairs}, Answering.{are_paired}}, Code.KeptPlaces.{ArePlaces}}
+use Rattle.mm_frame.proofs.lemmas.{lists.Members.{in_contains, get_in}, pairs.{ActivePairLemmas.{pairs_with}, PlaceLemmas.{reads_earlier}}}
 use Rattle.mm_frame.proofs.mandatory.add_pairs_with_later.Goals as goal
 
 pub returns-then-are_short-clause-pairs : goal.returns-then-are_short-clause-pairs

@@ -1,9 +1,6 @@
 use Rattle.std.proofs.Common.{◌∙◌, ap, ◌++◌, flat_map, sym, subst}
-use Rattle.mm_frame.specs.Code.KeptSymbols.{float_numbers}
-use Rattle.mm_frame.specs.Code.KeptVariables.{known_float}
-use Rattle.mm_frame.specs.Code.LastItems.{IsRising, is_essential_item}
-use Rattle.mm_frame.proofs.lemmas.frames.HypothesisNumbers.{active_numbers_rise}
-use Rattle.mm_frame.proofs.lemmas.frames.MandatoryLemmas.{hypotheses_sorted}
+use Rattle.mm_frame.specs.Code.{KeptSymbols.{float_numbers}, KeptVariables.{known_float}, LastItems.{IsRising, is_essential_item}}
+use Rattle.mm_frame.proofs.lemmas.frames.{HypothesisNumbers.{active_numbers_rise}, MandatoryLemmas.{hypotheses_sorted}}
 use Rattle.mm_frame.proofs.mandatory.hypotheses.Goals as goal
 
 pub returns : goal.returns

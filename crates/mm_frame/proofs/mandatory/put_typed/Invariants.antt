@@ -1,6 +1,5 @@
 use Rattle.std.proofs.Common.{◌≡◌, take}
-use Rattle.mm_frame.specs.Code.LastItems.{IsRising}
-use Rattle.mm_frame.specs.Code.PairOrder.{float_variables}
+use Rattle.mm_frame.specs.Code.{LastItems.{IsRising}, PairOrder.{float_variables}}
 use Rattle.mm_frame.proofs.mandatory.put_typed.Given as goal
 
 abbrev pub invariant-loop-number : goal.invariant-loop-number

@@ -1,6 +1,5 @@
 use Rattle.std.proofs.Common.{◌≡◌, take, flat_map}
-use Rattle.mm_frame.specs.Code.KeptPairLists.{pairs_among}
-use Rattle.mm_frame.specs.Code.KeptSymbols.{expression_kept}
+use Rattle.mm_frame.specs.Code.{KeptPairLists.{pairs_among}, KeptSymbols.{expression_kept}}
 use Rattle.mm_frame.proofs.pair_lists.pairs_at.Given as goal
 
 abbrev pub invariant-loop-number : goal.invariant-loop-number

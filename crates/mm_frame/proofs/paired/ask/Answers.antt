@@ -1,7 +1,5 @@
 use Rattle.std.proofs.Common.{ℕ, List, ◌<◌, ◌≤◌, sym, subst, ◌∙◌, Contains}
-use Rattle.mm_frame.specs.Code.LastItems.{IsRising}
-use Rattle.mm_frame.specs.Code.Numbers.{IsNameNumber}
-use Rattle.mm_frame.specs.Code.KeptPairTable.{row_at}
+use Rattle.mm_frame.specs.Code.{LastItems.{IsRising}, Numbers.{IsNameNumber}, KeptPairTable.{row_at}}
 use Rattle.mm_frame.proofs.lemmas.pairs.AskedLemmas.{IsFirstFrom, active_told, ended_told, next_answer}
 use Rattle.mm_frame.proofs.paired.ask.Goals as goal
 

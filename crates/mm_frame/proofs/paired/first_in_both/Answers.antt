@@ -1,9 +1,6 @@
-use Rattle.std.proofs.Common.{sym, ◌∙◌, subst, get_or, arith}
-use Rattle.std.proofs.lemmas.Option.{get_or_from_slice_get, slice_get_within}
+use Rattle.std.proofs.{Common.{sym, ◌∙◌, subst, get_or, arith}, lemmas.Option.{get_or_from_slice_get, slice_get_within}}
 use Rattle.mm_frame.specs.Code.KeptPairTable.{IsCommon}
-use Rattle.mm_frame.proofs.lemmas.lists.Members.{in_contains, contains_in, in_get}
-use Rattle.mm_frame.proofs.lemmas.frames.Frames.{in_at}
-use Rattle.mm_frame.proofs.lemmas.lists.Rising.{among_in, rising_least}
+use Rattle.mm_frame.proofs.lemmas.{lists.{Members.{in_contains, contains_in, in_get}, Rising.{among_in, rising_least}}, frames.Frames.{in_at}}
 use Rattle.mm_frame.proofs.paired.first_in_both.Goals as goal
 
 pub returns-then-is_active_now-clause-some : goal.returns-then-is_active_now-clause-some

@@ -1,6 +1,5 @@
 use Rattle.std.proofs.Common.{ℕ, ◌<◌, get_or}
-use Rattle.mm_frame.specs.Code.LastItems.{IsRising}
-use Rattle.mm_frame.specs.Code.KeptPairTable.{IsCommon}
+use Rattle.mm_frame.specs.Code.{LastItems.{IsRising}, KeptPairTable.{IsCommon}}
 use Rattle.mm_frame.proofs.paired.first_in_both.Given as goal
 
 abbrev pub invariant-loop-k : goal.invariant-loop-k

@@ -1,5 +1,4 @@
-use Rattle.std.proofs.Common.{sym, subst, Contains}
-use Rattle.std.proofs.lemmas.List.{take_rest}
+use Rattle.std.proofs.{Common.{sym, subst, Contains}, lemmas.List.{take_rest}}
 use Rattle.mm_frame.proofs.lemmas.lists.Rising.{rest_whole}
 use Rattle.mm_frame.proofs.paired.rest_from.Goals as goal
 

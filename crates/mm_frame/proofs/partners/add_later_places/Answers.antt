@@ -1,5 +1,5 @@
 use Rattle.std.proofs.Common.{false, ◌++◌, flat_map, take_all, ap, ◌∙◌}
-use Rattle.mm_frame.specs.declared.symbol.NumberedSymbol.{NumberedSymbol}
+use Rattle.mm_machine.specs.declared.symbol.NumberedSymbol.{NumberedSymbol}
 use Rattle.mm_frame.specs.Code.KeptPlaces.{later_place}
 use Rattle.mm_frame.proofs.lemmas.lists.Growing.{flat_map_grows}
 use Rattle.mm_frame.proofs.partners.add_later_places.Goals as goal

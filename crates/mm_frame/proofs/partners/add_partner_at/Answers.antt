@@ -1,6 +1,5 @@
-use Rattle.std.proofs.Common.{◌++◌, map, append-nil, ap, sym, ◌∙◌, option_to_list}
-use Rattle.std.proofs.lemmas.Option.{slice_get_past}
-use Rattle.mm_frame.specs.declared.symbol.NumberedSymbol.{NumberedSymbol}
+use Rattle.std.proofs.{Common.{◌++◌, map, append-nil, ap, sym, ◌∙◌, option_to_list}, lemmas.Option.{slice_get_past}}
+use Rattle.mm_machine.specs.declared.symbol.NumberedSymbol.{NumberedSymbol}
 use Rattle.mm_frame.proofs.partners.add_partner_at.Goals as goal
 
 pub returns-in_default : goal.returns-in_default

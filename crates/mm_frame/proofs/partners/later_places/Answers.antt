@@ -1,7 +1,6 @@
 use Rattle.std.proofs.Common.{[], ℕ, flat_map, take_all, ap, subst, ◌∙◌, ◌↔◌, Contains}
 use Rattle.mm_frame.specs.Code.KeptPlaces.{later_places_at}
-use Rattle.mm_frame.proofs.lemmas.lists.Growing.{flat_map_grows}
-use Rattle.mm_frame.proofs.lemmas.pairs.PlaceLemmas.{rising_once, same_once}
+use Rattle.mm_frame.proofs.lemmas.{lists.Growing.{flat_map_grows}, pairs.PlaceLemmas.{rising_once, same_once}}
 use Rattle.mm_frame.proofs.partners.later_places.Goals as goal
 
 pub loop-number-preserved : goal.loop-number-preserved

@@ -1,5 +1,4 @@
-use Rattle.std.proofs.Common.{◌∙◌, refl, sym, subst, take_all, Contains}
-use Rattle.std.proofs.lemmas.Bool.{false≢true}
+use Rattle.std.proofs.{Common.{◌∙◌, refl, sym, subst, take_all, Contains}, lemmas.Bool.{false≢true}}
 use Rattle.mm_frame.proofs.lemmas.pairs.SharedPairs.{element_there, either_way_more}
 use Rattle.mm_frame.proofs.same.has_each.Goals as goal
 

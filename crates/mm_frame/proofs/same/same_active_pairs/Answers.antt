@@ -1,7 +1,5 @@
-use Rattle.std.proofs.Common.{sym, ◌∙◌}
-use Rattle.std.proofs.lemmas.Bool.{false≢true}
-use Rattle.mm_frame.specs.Language.Base.{before}
-use Rattle.mm_frame.specs.Language.Framing.{active_pairs}
+use Rattle.std.proofs.{Common.{sym, ◌∙◌}, lemmas.Bool.{false≢true}}
+use Rattle.mm_frame.specs.Language.{Base.{before}, Framing.{active_pairs}}
 use Rattle.mm_frame.proofs.lemmas.pairs.SharedPairs.{all_either_way, same_told}
 use Rattle.mm_frame.proofs.same.same_active_pairs.Goals as goal
 

@@ -1,5 +1,5 @@
 use Rattle.std.proofs.Common.{◌∙◌, ap, sym}
-use Rattle.mm_frame.specs.Language.NumberedSymbols.{symbols_of}
+use Rattle.mm_machine.specs.Language.NumberedSymbols.{symbols_of}
 use Rattle.mm_frame.proofs.lemmas.frames.SameLemmas.{numbers_from_readings}
 use Rattle.mm_frame.proofs.same.same_expression.Goals as goal
 

@@ -1,12 +1,7 @@
-use Rattle.std.proofs.Common.{IsTrue, ◌&&◌, ◌↔◌, ◌∙◌, ap, sym, subst}
-use Rattle.std.proofs.lemmas.Bool.{false≢true}
-use Rattle.mm_frame.specs.Language.Base.{frame_at}
-use Rattle.mm_frame.specs.Language.Frame.{AreSameFrame}
-use Rattle.mm_frame.specs.Language.NumberedSymbols.{kept_pairs, ArePairsRead}
-use Rattle.mm_frame.specs.Language.Answering.{pairs_in_order}
-use Rattle.mm_frame.proofs.lemmas.base.BaseLemmas.{framed_in_order}
-use Rattle.mm_frame.proofs.lemmas.frames.SameFrames.{same_by_parts}
-use Rattle.mm_frame.proofs.lemmas.frames.SameLemmas.{pairs_from_readings}
+use Rattle.std.proofs.{Common.{IsTrue, ◌&&◌, ◌↔◌, ◌∙◌, ap, sym, subst}, lemmas.Bool.{false≢true}}
+use Rattle.mm_frame.specs.Language.{Base.{frame_at}, Answering.{pairs_in_order}}
+use Rattle.mm_machine.specs.Language.{Frame.{AreSameFrame}, NumberedSymbols.{kept_pairs, ArePairsRead}}
+use Rattle.mm_frame.proofs.lemmas.{base.BaseLemmas.{framed_in_order}, frames.{SameFrames.{same_by_parts}, SameLemmas.{pairs_from_readings}}}
 use Rattle.mm_frame.proofs.same.same_frame.Goals as goal
 
 pub returns-then-same_but_pairs : goal.returns-then-same_but_pairs

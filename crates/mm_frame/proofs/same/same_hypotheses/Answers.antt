@@ -1,7 +1,4 @@
-use Rattle.std.proofs.Common.{◌≡◌, true, get_or, refl, ◌∙◌, sym, arith}
-use Rattle.std.proofs.lemmas.Bool.{false≢true}
-use Rattle.std.proofs.lemmas.List.Elements.{All-get_or}
-use Rattle.std.proofs.lemmas.Option.{slice_get-get_or}
+use Rattle.std.proofs.{Common.{◌≡◌, true, get_or, refl, ◌∙◌, sym, arith}, lemmas.{Bool.{false≢true}, List.Elements.{All-get_or}, Option.{slice_get-get_or}}}
 use Rattle.mm_frame.specs.Language.Base.{is_shown_at, hypothesis_at}
 use Rattle.mm_frame.proofs.lemmas.frames.SameLemmas.{same_more, same_whole, same_each, same_long}
 use Rattle.mm_frame.proofs.same.same_hypotheses.Goals as goal

@@ -1,6 +1,6 @@
 use Rattle.std.proofs.Common.{◌≡◌, ◌∙◌, ap, sym}
 use Rattle.std.specs.Cmp.{booleans_Decides}
-use Rattle.mm_frame.specs.Language.Frame.{Mandatory}
+use Rattle.mm_machine.specs.Language.Frame.{Mandatory}
 use Rattle.mm_statement.specs.Language.Item.{is_floating}
 use Rattle.mm_frame.specs.Language.Base.{said_at}
 use Rattle.mm_frame.proofs.same.same_hypothesis.Goals as goal

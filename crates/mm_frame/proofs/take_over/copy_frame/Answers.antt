@@ -1,10 +1,7 @@
 use Rattle.std.proofs.Common.{Some, None, IfSome, ◌++◌, ◌∷◌, [], ◌∙◌, ap, sym, subst}
 use Rattle.std.specs.Option.{option_map}
-use Rattle.mm_frame.specs.Language.Sound.{sound_items}
-use Rattle.mm_frame.specs.Language.Framing.{frame}
-use Rattle.mm_frame.specs.Language.NumberedSymbols.{ArePairsRead}
-use Rattle.mm_frame.specs.Language.Answering.{AreRows, pairs_in_order}
-use Rattle.mm_frame.specs.Code.KeptAssertions.{TellsFrame}
+use Rattle.mm_frame.specs.{Language.{Sound.{sound_items}, Framing.{frame}, Answering.{AreRows, pairs_in_order}}, Code.KeptAssertions.{TellsFrame}}
+use Rattle.mm_machine.specs.Language.NumberedSymbols.{ArePairsRead}
 use Rattle.mm_frame.proofs.lemmas.base.BaseLemmas.{rows_more}
 use Rattle.mm_frame.proofs.take_over.copy_frame.Goals as goal
 

@@ -1,12 +1,7 @@
 use Rattle.std.proofs.Common.{Some, None, ◌++◌, ◌∷◌, [], ◌∙◌, sym, subst}
-use Rattle.mm_frame.specs.Language.Sound.{sound_items}
-use Rattle.mm_frame.specs.Language.Frame.{AreSamePairs}
-use Rattle.mm_frame.specs.Language.Framing.{active_pairs}
-use Rattle.mm_frame.specs.Language.NumberedSymbols.{AreSamePairsRead, kept_pairs}
-use Rattle.mm_frame.specs.Language.Answering.{AreRows}
-use Rattle.mm_frame.specs.Code.KeptAssertions.{TellsPairs}
-use Rattle.mm_frame.proofs.lemmas.base.TakenOverLemmas.{before_next, proof_next}
-use Rattle.mm_frame.proofs.lemmas.pairs.PairListLemmas.{pairs_more, keeps_all, no_number, some_number}
+use Rattle.mm_frame.specs.{Language.{Sound.{sound_items}, Framing.{active_pairs}, Answering.{AreRows}}, Code.KeptAssertions.{TellsPairs}}
+use Rattle.mm_machine.specs.Language.{Frame.{AreSamePairs}, NumberedSymbols.{AreSamePairsRead, kept_pairs}}
+use Rattle.mm_frame.proofs.lemmas.{base.TakenOverLemmas.{before_next, proof_next}, pairs.PairListLemmas.{pairs_more, keeps_all, no_number, some_number}}
 use Rattle.mm_frame.proofs.take_over.copy_pairs.Goals as goal
 
 pub returns-in_default-clause-pairs : goal.returns-in_default-clause-pairs

@@ -1,6 +1,5 @@
 use Rattle.std.proofs.Common.{◌≡◌, subst}
-use Rattle.mm_proof.specs.mm_verdict.Language.VerdictAt.{IsVerdictAt}
-use Rattle.mm_proof.specs.mm_verdict.declared.Verdict.TheVariants.{Incomplete, Wrong}
+use Rattle.mm_proof.specs.{mm_verdict.Language.VerdictAt.{IsVerdictAt}, mm_machine.declared.Verdict.TheVariants.{Incomplete, Wrong}}
 use Rattle.mm_keep.proofs.answers.judged.Goals as goal
 
 pub place_of_spot-requires : goal.place_of_spot-requires

@@ -1,11 +1,8 @@
-use Rattle.std.proofs.Common.{◌≡◌, ◌<◌, ℕ, Some, None, List, length, sym, ap, ◌∙◌, subst₂, arith, ◌↔◌, IsTrue}
-use Rattle.std.proofs.lemmas.Bool.{false≢true}
+use Rattle.std.proofs.{Common.{◌≡◌, ◌<◌, ℕ, Some, None, List, length, sym, ap, ◌∙◌, subst₂, arith, ◌↔◌, IsTrue}, lemmas.Bool.{false≢true}}
 use Rattle.std.specs.Option.{option_map}
-use Rattle.mm_proof.specs.mm_frame.Language.Base.{said_at}
-use Rattle.mm_proof.specs.mm_verdict.Language.VerdictAt.{cites_at}
+use Rattle.mm_proof.specs.{mm_frame.Language.Base.{said_at}, mm_verdict.Language.VerdictAt.{cites_at}}
 use Rattle.mm_keep.specs.Code.Cited.{IsAmongCited}
-use Rattle.mm_keep.proofs.CitedItems.{checked_at, cites_rising, label_cited, none_cited}
-use Rattle.mm_keep.proofs.ToldLemmas.{read_at, says_at}
+use Rattle.mm_keep.proofs.{CitedItems.{checked_at, cites_rising, label_cited, none_cited}, ToldLemmas.{read_at, says_at}}
 use Rattle.mm_keep.proofs.cited.cites_label.Goals as goal
 
 pub words_of_proof-words-requires : goal.words_of_proof-words-requires

@@ -1,10 +1,6 @@
-use Rattle.std.proofs.Common.{◌≡◌, length, sym, subst, ◌∙◌, refl, arith, inl, inr}
-use Rattle.std.proofs.lemmas.Bool.{false≢true}
-use Rattle.std.proofs.lemmas.Option.{none-some, same_Some}
-use Rattle.std.proofs.lemmas.Slice.Eq.{bytes_eq-Decides}
+use Rattle.std.proofs.{Common.{◌≡◌, length, sym, subst, ◌∙◌, refl, arith, inl, inr}, lemmas.{Bool.{false≢true}, Option.{none-some, same_Some}, Slice.Eq.{bytes_eq-Decides}}}
 use Rattle.mm_keep.specs.Code.Cited.{IsAmongCited}
-use Rattle.mm_keep.proofs.CitedWords.{among_none, last_or_before}
-use Rattle.mm_keep.proofs.cited.has_label.Goals.{in-Some+else-eq, in_default}
+use Rattle.mm_keep.proofs.{CitedWords.{among_none, last_or_before}, cited.has_label.Goals.{in-Some+else-eq, in_default}}
 use Rattle.mm_keep.proofs.cited.has_label.Goals as goal
 
 pub loop-x-init : goal.loop-x-init

@@ -1,5 +1,4 @@
-use Rattle.std.proofs.Common.{sym, ◌∙◌}
-use Rattle.std.proofs.lemmas.Option.{same_Some}
+use Rattle.std.proofs.{Common.{sym, ◌∙◌}, lemmas.Option.{same_Some}}
 use Rattle.mm_proof.specs.mm_frame.Language.Resolving.{IsCarrier}
 use Rattle.mm_keep.proofs.CitedWords.{mark_one}
 use Rattle.mm_keep.proofs.cited.mark.Goals as goal

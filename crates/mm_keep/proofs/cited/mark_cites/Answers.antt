@@ -1,12 +1,8 @@
 use Rattle.std.proofs.Common.{◌≡◌, ◌<◌, ℕ, Some, None, List, length, sym, ap, ◌∙◌, subst₂, arith}
 use Rattle.std.specs.Option.{option_map}
-use Rattle.mm_proof.specs.mm_frame.Language.Base.{said_at}
-use Rattle.mm_proof.specs.mm_verdict.Language.VerdictAt.{cites_at}
-use Rattle.mm_keep.specs.Language.Citations.{CitesItem}
-use Rattle.mm_keep.specs.Code.Cited.{HasLabelAmong, MarksMore}
-use Rattle.mm_keep.proofs.CitedItems.{among_earlier, checked_at, cites_rising, marks_cited, none_cited}
-use Rattle.mm_keep.proofs.CitedWords.{marks_same}
-use Rattle.mm_keep.proofs.ToldLemmas.{read_at, says_at}
+use Rattle.mm_proof.specs.{mm_frame.Language.Base.{said_at}, mm_verdict.Language.VerdictAt.{cites_at}}
+use Rattle.mm_keep.specs.{Language.Citations.{CitesItem}, Code.Cited.{HasLabelAmong, MarksMore}}
+use Rattle.mm_keep.proofs.{CitedItems.{among_earlier, checked_at, cites_rising, marks_cited, none_cited}, CitedWords.{marks_same}, ToldLemmas.{read_at, says_at}}
 use Rattle.mm_keep.proofs.cited.mark_cites.Goals as goal
 
 pub words_of_proof-words-requires : goal.words_of_proof-words-requires

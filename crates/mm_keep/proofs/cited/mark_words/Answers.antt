@@ -1,8 +1,7 @@
 use Rattle.std.proofs.Common.{◌≡◌, ◌<◌, ℕ, length, sym, subst, refl, arith}
 use Rattle.mm_proof.specs.mm_frame.Language.Resolving.{IsCarrier}
 use Rattle.mm_keep.specs.Code.Cited.{HasLabelAmong, IsAmongCited, MarksMore}
-use Rattle.mm_keep.proofs.CitedWords.{words_none, words_more, words_skip}
-use Rattle.mm_keep.proofs.cited.mark_words.Goals.{in-Some, in_default}
+use Rattle.mm_keep.proofs.{CitedWords.{words_none, words_more, words_skip}, cited.mark_words.Goals.{in-Some, in_default}}
 use Rattle.mm_keep.proofs.cited.mark_words.Goals as goal
 
 pub mark-requires : goal.mark-requires

@@ -1,6 +1,5 @@
 use Rattle.std.proofs.Common.{◌≡◌, drop}
-use Rattle.mm_proof.specs.mm_frame.Language.Base.{BaseView}
-use Rattle.mm_proof.specs.mm_frame.Language.Answering.{IsBase}
+use Rattle.mm_proof.specs.mm_frame.Language.{Base.{BaseView}, Answering.{IsBase}}
 use Rattle.mm_keep.specs.Code.Cited.{HasLabelAmong, MarksMore, passed_words}
 use Rattle.mm_keep.proofs.cited.mark_words.Given as goal
 

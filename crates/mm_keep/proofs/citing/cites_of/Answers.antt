@@ -1,7 +1,5 @@
-use Rattle.std.proofs.Common.{◌<◌, Bool, List, drop, length, sym, ap, ◌∙◌, subst₂, arith}
-use Rattle.std.proofs.lemmas.Result.{IfOk-weaker}
-use Rattle.mm_keep.specs.Language.Citations.{CitesItem}
-use Rattle.mm_keep.specs.Code.Cited.{MarksMore}
+use Rattle.std.proofs.{Common.{◌<◌, Bool, List, drop, length, sym, ap, ◌∙◌, subst₂, arith}, lemmas.Result.{IfOk-weaker}}
+use Rattle.mm_keep.specs.{Language.Citations.{CitesItem}, Code.Cited.{MarksMore}}
 use Rattle.mm_keep.proofs.ChainLemmas.{cites_marked, take_front}
 use Rattle.mm_keep.proofs.citing.cites_of.Goals as goal
 

@@ -1,9 +1,6 @@
-use Rattle.std.proofs.Common.{◌≡◌, ◌+◌, ◌-◌, List, Bool, length, sym, subst, ◌∙◌, arith}
-use Rattle.std.proofs.lemmas.Bool.{false≢true}
-use Rattle.mm_keep.specs.Language.Citations.{CitesItem}
-use Rattle.mm_keep.specs.Code.Cited.{IsMarked, MarksMore}
-use Rattle.mm_keep.proofs.ChainLemmas.{AreBehind, behind_none, behind_skip, behind_more, behind_all}
-use Rattle.mm_keep.proofs.citing.mark_behind.Goals.{then-marks-j, else-marks-j}
+use Rattle.std.proofs.{Common.{◌≡◌, ◌+◌, ◌-◌, List, Bool, length, sym, subst, ◌∙◌, arith}, lemmas.Bool.{false≢true}}
+use Rattle.mm_keep.specs.{Language.Citations.{CitesItem}, Code.Cited.{IsMarked, MarksMore}}
+use Rattle.mm_keep.proofs.{ChainLemmas.{AreBehind, behind_none, behind_skip, behind_more, behind_all}, citing.mark_behind.Goals.{then-marks-j, else-marks-j}}
 use Rattle.mm_keep.proofs.citing.mark_behind.Goals as goal
 
 pub loop-n-init : goal.loop-n-init

@@ -1,9 +1,6 @@
-use Rattle.std.proofs.Common.{◌≡◌, ◌+◌, length, sym, ap, ◌∙◌, subst, arith}
-use Rattle.std.proofs.lemmas.Bool.{false≢true}
-use Rattle.mm_keep.specs.Language.Runs.{AreThose}
-use Rattle.mm_keep.specs.Code.Cited.{IsMarked}
-use Rattle.mm_keep.proofs.RunLemmas.{those_none, those_skip, those_more}
-use Rattle.mm_keep.proofs.citing.marked.Goals.{then-marks-k+in_ok-push, else-marks-k}
+use Rattle.std.proofs.{Common.{◌≡◌, ◌+◌, length, sym, ap, ◌∙◌, subst, arith}, lemmas.Bool.{false≢true}}
+use Rattle.mm_keep.specs.{Language.Runs.{AreThose}, Code.Cited.{IsMarked}}
+use Rattle.mm_keep.proofs.{RunLemmas.{those_none, those_skip, those_more}, citing.marked.Goals.{then-marks-k+in_ok-push, else-marks-k}}
 use Rattle.mm_keep.proofs.citing.marked.Goals as goal
 
 pub loop-k-init : goal.loop-k-init

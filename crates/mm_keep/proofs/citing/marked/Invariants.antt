@@ -1,5 +1,4 @@
-use Rattle.mm_keep.specs.Language.Runs.{AreThose}
-use Rattle.mm_keep.specs.Code.Cited.{IsMarked}
+use Rattle.mm_keep.specs.{Language.Runs.{AreThose}, Code.Cited.{IsMarked}}
 use Rattle.mm_keep.proofs.citing.marked.Given as goal
 
 abbrev pub invariant-loop-k : goal.invariant-loop-k

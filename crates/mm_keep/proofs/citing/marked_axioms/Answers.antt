@@ -1,8 +1,5 @@
-use Rattle.std.proofs.Common.{◌≡◌, ◌+◌, ℕ, length, sym, ap, subst, ◌∙◌, arith}
-use Rattle.std.proofs.lemmas.Bool.{false≢true}
-use Rattle.mm_keep.specs.Language.Runs.{AreThose}
-use Rattle.mm_keep.specs.Language.Told.{IsAxiom}
-use Rattle.mm_keep.specs.Code.Cited.{IsMarked}
+use Rattle.std.proofs.{Common.{◌≡◌, ◌+◌, ℕ, length, sym, ap, subst, ◌∙◌, arith}, lemmas.Bool.{false≢true}}
+use Rattle.mm_keep.specs.{Language.{Runs.{AreThose}, Told.{IsAxiom}}, Code.Cited.{IsMarked}}
 use Rattle.mm_keep.proofs.RunLemmas.{those_none, those_skip, those_more}
 use Rattle.mm_keep.proofs.citing.marked_axioms.Goals.{then-marks-k+then-is_axiom+in_ok-push, else-marks-k, else-marks-k-via-then-marks-k+else-is_axiom, else-marks-k-via-else-marks-k}
 use Rattle.mm_keep.proofs.citing.marked_axioms.Goals as goal

@@ -1,8 +1,5 @@
-use Rattle.mm_proof.specs.mm_frame.Language.Base.{BaseView}
-use Rattle.mm_proof.specs.mm_frame.Language.Answering.{IsBase}
-use Rattle.mm_keep.specs.Language.Runs.{AreThose}
-use Rattle.mm_keep.specs.Language.Told.{IsAxiom}
-use Rattle.mm_keep.specs.Code.Cited.{IsMarked}
+use Rattle.mm_proof.specs.mm_frame.Language.{Base.{BaseView}, Answering.{IsBase}}
+use Rattle.mm_keep.specs.{Language.{Runs.{AreThose}, Told.{IsAxiom}}, Code.Cited.{IsMarked}}
 use Rattle.mm_keep.proofs.citing.marked_axioms.Given as goal
 
 abbrev pub invariant-loop-k : goal.invariant-loop-k

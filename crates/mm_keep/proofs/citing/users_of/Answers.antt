@@ -1,11 +1,7 @@
-use Rattle.std.proofs.Common.{◌≡◌, ◌+◌, ◌<◌, ℕ, length, sym, ap, subst, ◌∙◌, arith}
-use Rattle.std.proofs.lemmas.Bool.{false≢true}
+use Rattle.std.proofs.{Common.{◌≡◌, ◌+◌, ◌<◌, ℕ, length, sym, ap, subst, ◌∙◌, arith}, lemmas.Bool.{false≢true}}
 use Rattle.mm_proof.specs.mm_frame.Language.Base.{BaseView}
-use Rattle.mm_keep.specs.Language.Citations.{CitesItem}
-use Rattle.mm_keep.specs.Language.Runs.{AreThose}
-use Rattle.mm_keep.proofs.CitedItems.{cites_earlier}
-use Rattle.mm_keep.proofs.RunLemmas.{those_behind, those_skip, those_more}
-use Rattle.mm_keep.proofs.citing.users_of.Goals.{then-cites_label+in_ok-push, else-cites_label}
+use Rattle.mm_keep.specs.Language.{Citations.{CitesItem}, Runs.{AreThose}}
+use Rattle.mm_keep.proofs.{CitedItems.{cites_earlier}, RunLemmas.{those_behind, those_skip, those_more}, citing.users_of.Goals.{then-cites_label+in_ok-push, else-cites_label}}
 use Rattle.mm_keep.proofs.citing.users_of.Goals as goal
 
 -- an item cites no later one

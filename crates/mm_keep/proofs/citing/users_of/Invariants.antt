@@ -1,7 +1,4 @@
-use Rattle.mm_keep.specs.Language.Citations.{CitesItem}
-use Rattle.mm_keep.specs.Language.Runs.{AreThose}
-use Rattle.mm_keep.specs.Language.Sessions.{IsAssertion}
-use Rattle.mm_keep.specs.Code.Cited.{OfChecks}
+use Rattle.mm_keep.specs.{Language.{Citations.{CitesItem}, Runs.{AreThose}, Sessions.{IsAssertion}}, Code.Cited.{OfChecks}}
 use Rattle.mm_keep.proofs.citing.users_of.Given as goal
 
 abbrev pub invariant-loop-j : goal.invariant-loop-j

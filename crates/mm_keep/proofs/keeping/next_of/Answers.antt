@@ -1,8 +1,6 @@
-use Rattle.std.proofs.Common.{◌≡◌, Ok, sym, subst}
-use Rattle.std.proofs.lemmas.Result.{IfOk-weaker}
+use Rattle.std.proofs.{Common.{◌≡◌, Ok, sym, subst}, lemmas.Result.{IfOk-weaker}}
 use Rattle.mm_proof.specs.mm_frame.declared.base.Base.{Base}
-use Rattle.mm_keep.specs.Code.Next.{IsBuilt}
-use Rattle.mm_keep.specs.Code.Planned.{AreBothRead}
+use Rattle.mm_keep.specs.Code.{Next.{IsBuilt}, Planned.{AreBothRead}}
 use Rattle.mm_keep.proofs.NextLemmas.{both_read}
 use Rattle.mm_keep.proofs.keeping.next_of.Goals as goal
 

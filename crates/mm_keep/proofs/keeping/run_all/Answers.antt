@@ -1,5 +1,4 @@
-use Rattle.std.proofs.Common.{◌∙◌, None, length, ap}
-use Rattle.std.proofs.lemmas.List.{length-replicate}
+use Rattle.std.proofs.{Common.{◌∙◌, None, length, ap}, lemmas.List.{length-replicate}}
 use Rattle.mm_keep.proofs.RunLemmas.{begun_runs, begun_checked, keeps_nothing}
 use Rattle.mm_keep.proofs.keeping.run_all.Goals as goal
 

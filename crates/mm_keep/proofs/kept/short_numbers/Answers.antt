@@ -1,5 +1,4 @@
-use Rattle.std.proofs.Common.{◌∷◌, [], ◌++◌, get_or, take_all, sym, ap, ◌∙◌}
-use Rattle.std.proofs.lemmas.List.{take_more}
+use Rattle.std.proofs.{Common.{◌∷◌, [], ◌++◌, get_or, take_all, sym, ap, ◌∙◌}, lemmas.List.{take_more}}
 use Rattle.mm_keep.proofs.kept.short_numbers.Goals as goal
 
 pub loop-number-preserved : goal.loop-number-preserved

@@ -1,5 +1,4 @@
-use Rattle.std.proofs.Common.{◌≡◌, ◌<◌, Some, None, length, sym, ◌∙◌, ap, subst, arith}
-use Rattle.std.proofs.lemmas.Option.{slice_get-get_or}
+use Rattle.std.proofs.{Common.{◌≡◌, ◌<◌, Some, None, length, sym, ◌∙◌, ap, subst, arith}, lemmas.Option.{slice_get-get_or}}
 use Rattle.mm_keep.proofs.CarryLemmas.{AreCarried, carried_lengths, carried_one, carried_all, new_some, old_some}
 use Rattle.mm_keep.proofs.planning.carry.Goals as goal
 

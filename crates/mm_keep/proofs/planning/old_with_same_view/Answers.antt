@@ -1,5 +1,4 @@
-use Rattle.std.proofs.Common.{ℕ, Option, sym, ◌∙◌, ap, subst, is_some}
-use Rattle.std.proofs.lemmas.Bool.{false≢true}
+use Rattle.std.proofs.{Common.{ℕ, Option, sym, ◌∙◌, ap, subst, is_some}, lemmas.Bool.{false≢true}}
 use Rattle.mm_proof.specs.Language.BaseMarks.{mark_at}
 use Rattle.mm_keep.specs.Code.Planned.{IsPlanned}
 use Rattle.mm_keep.proofs.PlanLemmas.{mark_here, plans_unmarked, plans_no_theorem, plans_kept, plans_changed}

@@ -1,7 +1,6 @@
 use Rattle.std.proofs.Common.{◌≡◌, ℕ, Option, Some, length, map, slice_get}
 use Rattle.mm_proof.specs.mm_frame.Language.Base.{BaseView}
-use Rattle.mm_keep.specs.Code.KeptPlan.{number_planned}
-use Rattle.mm_keep.specs.Code.Planned.{AreBothRead, IsPlanned}
+use Rattle.mm_keep.specs.Code.{KeptPlan.{number_planned}, Planned.{AreBothRead, IsPlanned}}
 use Rattle.mm_keep.proofs.planning.planned.Given as goal
 
 abbrev pub invariant-loop-j : goal.invariant-loop-j

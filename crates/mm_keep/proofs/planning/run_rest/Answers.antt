@@ -1,6 +1,4 @@
-use Rattle.std.proofs.Common.{◌≡◌, ◌+◌, Option, Some, None, List, length, sym, ◌∙◌, ap, subst, arith, slice_get}
-use Rattle.std.proofs.lemmas.List.{length_push}
-use Rattle.std.proofs.lemmas.Option.{slice_get-get_or}
+use Rattle.std.proofs.{Common.{◌≡◌, ◌+◌, Option, Some, None, List, length, sym, ◌∙◌, ap, subst, arith, slice_get}, lemmas.{List.{length_push}, Option.{slice_get-get_or}}}
 use Rattle.mm_proof.specs.mm_verdict.Language.Work.{Judgement}
 use Rattle.mm_keep.specs.Code.Planned.{AreRunBy, AreRecorded, IsRunBy}
 use Rattle.mm_keep.proofs.RunLemmas.{run_more, recorded_more, takes}

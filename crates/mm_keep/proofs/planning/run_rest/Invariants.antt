@@ -1,6 +1,5 @@
 use Rattle.std.proofs.Common.{◌≡◌, ◌≤◌, ◌+◌, ◌*◌, length}
-use Rattle.mm_proof.specs.mm_frame.Language.Base.{BaseView}
-use Rattle.mm_proof.specs.mm_verdict.Language.ReadIn.{IsReadIn}
+use Rattle.mm_proof.specs.{mm_frame.Language.Base.{BaseView}, mm_verdict.Language.ReadIn.{IsReadIn}}
 use Rattle.mm_keep.specs.Code.Planned.{AreRunBy, AreRecorded}
 use Rattle.mm_keep.proofs.planning.run_rest.Given as goal
 

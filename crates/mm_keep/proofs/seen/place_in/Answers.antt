@@ -1,6 +1,5 @@
 use Rattle.std.proofs.Common.{◌+◌, refl}
-use Rattle.mm_proof.specs.mm_store.Language.FilesView.{plain_file, text_of}
-use Rattle.mm_proof.specs.mm_store.Language.FileFacts.{piece_offset}
+use Rattle.mm_proof.specs.mm_store.Language.{FilesView.{plain_file, text_of}, FileFacts.{piece_offset}}
 use Rattle.mm_keep.proofs.SpotLemmas.{own_text, placed_in, word_is_byte}
 use Rattle.mm_keep.proofs.seen.place_in.Goals as goal
 

@@ -1,8 +1,7 @@
 use Rattle.std.proofs.Common.{◌+◌, ◌∙◌, sym, ap, arith}
 use Rattle.mm_proof.specs.mm_frame.Language.Base.{said_at}
 use Rattle.mm_keep.specs.Language.WordPlaces.{proof_word, start_of}
-use Rattle.mm_keep.proofs.ToldLemmas.{read_at, stands_at, says_at}
-use Rattle.mm_keep.proofs.SpotLemmas.{letter_in, letter_within}
+use Rattle.mm_keep.proofs.{ToldLemmas.{read_at, stands_at, says_at}, SpotLemmas.{letter_in, letter_within}}
 use Rattle.mm_keep.proofs.seen.place_of_spot.Goals as goal
 
 pub nth_of_proof-word-requires : goal.nth_of_proof-word-requires

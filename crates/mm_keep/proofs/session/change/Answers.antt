@@ -1,10 +1,7 @@
 use Rattle.std.proofs.Common.{map, sym, subst}
-use Rattle.mm_proof.specs.mm_store.declared.batch.BatchError.{BatchError}
-use Rattle.mm_proof.specs.mm_text.Language.Asked.{asked}
-use Rattle.mm_proof.specs.mm_store.Language.FilesView.{plain}
+use Rattle.mm_proof.specs.{mm_store.{declared.batch.BatchError.{BatchError}, Language.FilesView.{plain}}, mm_text.Language.Asked.{asked}}
 use Rattle.mm_keep.specs.Code.Changing.{IsChangeError}
-use Rattle.mm_keep.proofs.KeepLemmas.{batch_starts}
-use Rattle.mm_keep.proofs.ChangeLemmas.{were_kept}
+use Rattle.mm_keep.proofs.{KeepLemmas.{batch_starts}, ChangeLemmas.{were_kept}}
 use Rattle.mm_keep.proofs.session.change.Goals as goal
 
 pub go_on-requires : goal.go_on-requires

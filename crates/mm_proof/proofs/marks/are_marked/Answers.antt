@@ -1,5 +1,4 @@
-use Rattle.std.proofs.Common.{get_or, arith}
-use Rattle.std.proofs.lemmas.Option.{slice_get-get_or}
+use Rattle.std.proofs.{Common.{get_or, arith}, lemmas.Option.{slice_get-get_or}}
 use Rattle.mm_frame.specs.Language.Base.{hypothesis_at}
 use Rattle.mm_proof.proofs.KeptMarkLemmas.{same_more, same_whole}
 use Rattle.mm_proof.proofs.marks.are_marked.Goals as goal

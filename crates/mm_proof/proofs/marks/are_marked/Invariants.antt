@@ -1,5 +1,4 @@
-use Rattle.mm_frame.specs.Language.Base.{hypothesis_at}
-use Rattle.mm_frame.specs.declared.base.Base.{Base}
+use Rattle.mm_frame.specs.{Language.Base.{hypothesis_at}, declared.base.Base.{Base}}
 use Rattle.mm_proof.specs.Code.KeptMarks.{OfBases, AreHypothesisMarks}
 use Rattle.mm_proof.proofs.KeptMarkLemmas.{AreSameTo}
 use Rattle.mm_proof.proofs.marks.are_marked.Given as goal

@@ -1,5 +1,4 @@
-use Rattle.std.proofs.Common.{Some, ap, subst}
-use Rattle.std.proofs.lemmas.Option.{same_Some}
+use Rattle.std.proofs.{Common.{Some, ap, subst}, lemmas.Option.{same_Some}}
 use Rattle.mm_frame.specs.Language.Resolving.{IsCarrier}
 use Rattle.mm_proof.proofs.marks.find_expected.Goals as goal
 

@@ -1,8 +1,6 @@
-use Rattle.std.proofs.Common.{inl, inr, sym, ◌∙◌, ap, subst}
-use Rattle.std.proofs.lemmas.Option.{none-some, same_Some}
-use Rattle.mm_frame.specs.Language.Frame.{Mandatory}
-use Rattle.mm_proof.specs.Code.InStep.{MeanOne}
-use Rattle.mm_proof.specs.Code.KeptMarks.{kept_mark}
+use Rattle.std.proofs.{Common.{inl, inr, sym, ◌∙◌, ap, subst}, lemmas.Option.{none-some, same_Some}}
+use Rattle.mm_frame.specs.mm_machine.Language.Frame.{Mandatory}
+use Rattle.mm_proof.specs.Code.{InStep.{MeanOne}, KeptMarks.{kept_mark}}
 use Rattle.mm_proof.proofs.InStepLemmas.{frame_kept}
 use Rattle.mm_proof.proofs.marks.is_alike.Goals as goal
 

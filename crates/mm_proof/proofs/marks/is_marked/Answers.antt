@@ -1,5 +1,4 @@
-use Rattle.std.proofs.Common.{◌≡◌, Some, sym, ◌∙◌, ap, subst, eqb-true}
-use Rattle.std.proofs.lemmas.Option.{slice_get-get_or}
+use Rattle.std.proofs.{Common.{◌≡◌, Some, sym, ◌∙◌, ap, subst, eqb-true}, lemmas.Option.{slice_get-get_or}}
 use Rattle.mm_frame.specs.Language.Base.{hypothesis_at}
 use Rattle.mm_proof.proofs.marks.is_marked.Goals as goal
 

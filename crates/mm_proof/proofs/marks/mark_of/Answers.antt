@@ -1,8 +1,5 @@
-use Rattle.std.proofs.Common.{false, Some, refl, sym, ◌∙◌, subst, arith}
-use Rattle.std.proofs.lemmas.Bool.{false≢true}
-use Rattle.std.proofs.lemmas.Option.{same_Some}
-use Rattle.mm_proof.specs.Language.BaseMarks.{IsMark}
-use Rattle.mm_proof.specs.Code.KeptMarks.{IsOneHypothesis}
+use Rattle.std.proofs.{Common.{false, Some, refl, sym, ◌∙◌, subst, arith}, lemmas.{Bool.{false≢true}, Option.{same_Some}}}
+use Rattle.mm_proof.specs.{Language.BaseMarks.{IsMark}, Code.KeptMarks.{IsOneHypothesis}}
 use Rattle.mm_proof.proofs.KeptMarkLemmas.{nothing_kept, some_kept}
 use Rattle.mm_proof.proofs.marks.mark_of.Goals as goal
 

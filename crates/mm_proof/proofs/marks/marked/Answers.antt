@@ -1,6 +1,4 @@
-use Rattle.std.proofs.Common.{◌≡◌, true, inl, inr, sym, ◌∙◌, subst}
-use Rattle.std.proofs.lemmas.Bool.{false≢true}
-use Rattle.std.proofs.lemmas.Option.{same_Some}
+use Rattle.std.proofs.{Common.{◌≡◌, true, inl, inr, sym, ◌∙◌, subst}, lemmas.{Bool.{false≢true}, Option.{same_Some}}}
 use Rattle.mm_proof.specs.Code.InStep.{ordinal}
 use Rattle.mm_proof.proofs.InStepLemmas.{in_step_behind, in_step_labels, stepped}
 use Rattle.mm_proof.proofs.marks.marked.Goals.{then-step, else-step, then-placed, else-placed, then-placed-2, else-placed-2, then-not-alike, else-not-alike, then-alike, else-alike}

@@ -1,6 +1,5 @@
 use Rattle.std.proofs.Common.{sym, ◌∙◌}
-use Rattle.mm_frame.specs.Language.Base.{before, said_at, is_shown_at}
-use Rattle.mm_frame.specs.Language.Framing.{expression}
+use Rattle.mm_frame.specs.Language.{Base.{before, said_at, is_shown_at}, Framing.{expression}}
 use Rattle.mm_proof.specs.Language.BaseMarks.{HaveOneLabel}
 use Rattle.mm_proof.proofs.KeptMarkLemmas.{shown_label, one_label, none_shown, some_shown, no_number}
 use Rattle.mm_proof.proofs.marks.old_of.Goals as goal

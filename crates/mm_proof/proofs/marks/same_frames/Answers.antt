@@ -1,5 +1,4 @@
-use Rattle.std.proofs.Common.{◌≡◌, true, sym, ◌∙◌, subst}
-use Rattle.std.proofs.lemmas.Bool.{false≢true}
+use Rattle.std.proofs.{Common.{◌≡◌, true, sym, ◌∙◌, subst}, lemmas.Bool.{false≢true}}
 use Rattle.mm_frame.specs.Language.Base.{AreHypotheses, is_framed_at, frame_at}
 use Rattle.mm_proof.proofs.marks.same_frames.Goals.{then-told, else-told}
 use Rattle.mm_proof.proofs.marks.same_frames.Goals as goal

@@ -1,8 +1,6 @@
-use Rattle.std.proofs.Common.{◌≡◌, not, sym, ◌∙◌, ap}
+use Rattle.std.proofs.{Common.{◌≡◌, not, sym, ◌∙◌, ap}, lemmas.Bool.{false≢true}}
 use Rattle.std.specs.Cmp.{booleans_Decides}
-use Rattle.std.proofs.lemmas.Bool.{false≢true}
-use Rattle.mm_frame.specs.mm_statement.Language.Item.{is_floating}
-use Rattle.mm_frame.specs.Language.Base.{said_at}
+use Rattle.mm_frame.specs.{mm_statement.Language.Item.{is_floating}, Language.Base.{said_at}}
 use Rattle.mm_proof.proofs.marks.same_hypothesis.Goals.{then-is_none, else-is_none, then-is_none-2, else-is_none-2}
 use Rattle.mm_proof.proofs.marks.same_hypothesis.Goals as goal
 

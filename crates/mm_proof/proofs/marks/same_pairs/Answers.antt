@@ -1,5 +1,4 @@
-use Rattle.mm_frame.specs.Language.Base.{before}
-use Rattle.mm_frame.specs.Language.Framing.{active_pairs}
+use Rattle.mm_frame.specs.Language.{Base.{before}, Framing.{active_pairs}}
 use Rattle.mm_proof.proofs.KeptMarkLemmas.{told_again}
 use Rattle.mm_proof.proofs.marks.same_pairs.Goals as goal
 

@@ -1,6 +1,5 @@
 use Rattle.std.proofs.Common.{◌∙◌}
-use Rattle.mm_frame.specs.Language.Base.{before, said_at, is_shown_at}
-use Rattle.mm_frame.specs.Language.Framing.{expression}
+use Rattle.mm_frame.specs.Language.{Base.{before, said_at, is_shown_at}, Framing.{expression}}
 use Rattle.mm_proof.proofs.InStepLemmas.{told_shown}
 use Rattle.mm_proof.proofs.ordinals.is_labelled.Goals as goal
 

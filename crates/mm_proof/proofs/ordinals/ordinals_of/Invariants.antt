@@ -1,6 +1,5 @@
 use Rattle.std.specs.Prelude.{◌≡◌, ◌≤◌}
-use Rattle.mm_frame.specs.Language.Base.{BaseView}
-use Rattle.mm_frame.specs.Language.Answering.{IsBase}
+use Rattle.mm_frame.specs.Language.{Base.{BaseView}, Answering.{IsBase}}
 use Rattle.mm_proof.specs.Code.InStep.{AreOrdinals, ordinal}
 use Rattle.mm_proof.proofs.ordinals.ordinals_of.Given as goal
 

@@ -1,8 +1,6 @@
 use Rattle.std.proofs.Common.{List, ℕ, length, subst}
-use Rattle.mm_proof.specs.Code.TwoTheorems.{AreUnnamed, MeansSame}
-use Rattle.mm_proof.specs.Language.BaseMarks.{IsToldChanged}
-use Rattle.mm_proof.proofs.InStepLemmas.{in_step_kept}
-use Rattle.mm_proof.proofs.UnnamedLemmas.{all_named, all_with, got_within, none_changed, not_true}
+use Rattle.mm_proof.specs.{Code.TwoTheorems.{AreUnnamed, MeansSame}, Language.BaseMarks.{IsToldChanged}}
+use Rattle.mm_proof.proofs.{InStepLemmas.{in_step_kept}, UnnamedLemmas.{all_named, all_with, got_within, none_changed, not_true}}
 use Rattle.mm_proof.proofs.view.are_kept.Goals as goal
 
 pub returns-then-is_in_step : goal.returns-then-is_in_step

@@ -1,6 +1,5 @@
-use Rattle.std.proofs.Common.{◌≢◌, ◌∙◌, subst}
+use Rattle.std.proofs.{Common.{◌≢◌, ◌∙◌, subst}, lemmas.Option.{same_Some}}
 use Rattle.std.specs.List.{AllByRecursion}
-use Rattle.std.proofs.lemmas.Option.{same_Some}
 use Rattle.mm_proof.proofs.view.may_name.Goals as goal
 
 pub returns-in-Some : goal.returns-in-Some

@@ -1,6 +1,4 @@
-use Rattle.std.proofs.Common.{◌≡◌, ◌<◌, Some, get_or, slice_get, sym, ◌∙◌, subst, arith}
-use Rattle.std.proofs.Math.Decide.{dec_lt}
-use Rattle.std.proofs.lemmas.Option.{same_Some, slice_get-get_or}
+use Rattle.std.proofs.{Common.{◌≡◌, ◌<◌, Some, get_or, slice_get, sym, ◌∙◌, subst, arith}, Math.Decide.{dec_lt}, lemmas.Option.{same_Some, slice_get-get_or}}
 use Rattle.mm_proof.specs.Code.TwoTheorems.{IsUnnamed}
 use Rattle.mm_proof.proofs.view.may_name_any.Goals as goal
 

@@ -1,6 +1,5 @@
 use Rattle.std.proofs.Common.{refl}
-use Rattle.mm_proof.proofs.TheoremLemmas.{framed_proof}
-use Rattle.mm_proof.proofs.MeaningLemmas.{hypotheses_marked}
+use Rattle.mm_proof.proofs.{TheoremLemmas.{framed_proof}, MeaningLemmas.{hypotheses_marked}}
 use Rattle.mm_proof.proofs.view.same_but_active.Goals as goal
 
 pub returns-in-Some : goal.returns-in-Some

@@ -1,6 +1,6 @@
 use Rattle.std.proofs.Common.{ℕ, refl}
-use Rattle.mm_frame.specs.declared.base.Resolved.TheVariants as answers
 use Rattle.mm_proof.proofs.MeaningLemmas.{kept_means, means_same, none_means, new_framed, old_carries, old_framed}
+use Rattle.mm_frame.specs.declared.base.Resolved.TheVariants as answers
 use Rattle.mm_proof.proofs.view.same_by.Goals as goal
 
 pub returns-in-Some : goal.returns-in-Some

@@ -1,6 +1,5 @@
 use Rattle.std.specs.Prelude.{filter, length}
-use Rattle.mm_proof.specs.Code.KeptMarks.{is_label_word}
-use Rattle.mm_proof.specs.Code.TwoTheorems.{LeavesLabels}
+use Rattle.mm_proof.specs.Code.{KeptMarks.{is_label_word}, TwoTheorems.{LeavesLabels}}
 use Rattle.mm_proof.proofs.view.same_words.Given as goal
 
 abbrev pub invariant-loop-word : goal.invariant-loop-word

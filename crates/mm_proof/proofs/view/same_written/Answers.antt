@@ -1,5 +1,4 @@
-use Rattle.std.proofs.Common.{sym, ◌∙◌}
-use Rattle.std.proofs.lemmas.Bool.{false≢true}
+use Rattle.std.proofs.{Common.{sym, ◌∙◌}, lemmas.Bool.{false≢true}}
 use Rattle.mm_frame.specs.Language.Base.{said_at}
 use Rattle.mm_proof.proofs.TheoremLemmas.{read_at, says_at}
 use Rattle.mm_proof.proofs.view.same_written.Goals as goal

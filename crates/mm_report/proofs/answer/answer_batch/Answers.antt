@@ -1,9 +1,5 @@
 use Rattle.std.proofs.Common.{◌≡◌, List, inl, map, sym, ap, ◌∙◌, subst}
-use Rattle.mm_keep.specs.Language.Refusals.{IsBatchRefusal}
-use Rattle.mm_keep.specs.Language.Sessions.{SessionView}
-use Rattle.mm_keep.specs.mm_store.Language.Batches.{IsBatchOf}
-use Rattle.mm_keep.specs.mm_text.Language.Asked.{Asked, asked}
-use Rattle.mm_keep.specs.mm_store.Language.FilesView.{plain}
+use Rattle.mm_keep.specs.{Language.{Refusals.{IsBatchRefusal}, Sessions.{SessionView}}, mm_store.Language.{Batches.{IsBatchOf}, FilesView.{plain}}, mm_text.Language.Asked.{Asked, asked}}
 use Rattle.mm_report.specs.Code.Answered.{Answers}
 use Rattle.mm_script.specs.Language.Script.{Batch, Listed}
 use Rattle.mm_report.proofs.AskedLemmas.{answered_ok, answered_stop, ran_base, ran_is}

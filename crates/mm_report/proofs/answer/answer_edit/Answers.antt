@@ -1,6 +1,5 @@
 use Rattle.std.proofs.Common.{inl, sym, subst}
-use Rattle.mm_keep.specs.Language.Sessions.{SessionView}
-use Rattle.mm_keep.specs.mm_text.Language.Asked.{asked}
+use Rattle.mm_keep.specs.{Language.Sessions.{SessionView}, mm_text.Language.Asked.{asked}}
 use Rattle.mm_report.specs.Code.Answered.{Answers}
 use Rattle.mm_script.specs.Language.Script.{Change}
 use Rattle.mm_report.proofs.AskedLemmas.{answered_ok, answered_stop, ran_base, ran_is}

@@ -1,8 +1,8 @@
 use Rattle.std.proofs.Common.{[]}
 use Rattle.mm_keep.specs.mm_text.declared.edit.Edit.{Edit}
-use Rattle.mm_keep.specs.mm_text.declared.edit.Edit.TheVariants as code
 use Rattle.mm_script.specs.Language.Script.{Batch}
 use Rattle.mm_report.proofs.AskedLemmas.{answered_ok, answered_stop, batch_refused_is}
+use Rattle.mm_keep.specs.mm_text.declared.edit.Edit.TheVariants as code
 use Rattle.mm_report.proofs.answer.write_batch_refusal.Goals as goal
 
 none : Edit

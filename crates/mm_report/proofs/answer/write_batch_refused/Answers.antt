@@ -1,6 +1,5 @@
 use Rattle.mm_keep.specs.mm_text.Language.Asked.{asked}
-use Rattle.mm_report.proofs.LabelLemmas.{batch_refusal_parts}
-use Rattle.mm_report.proofs.StreamLemmas.{stops_front, stops_then, writes_then, writes_stop}
+use Rattle.mm_report.proofs.{LabelLemmas.{batch_refusal_parts}, StreamLemmas.{stops_front, stops_then, writes_then, writes_stop}}
 use Rattle.mm_report.proofs.answer.write_batch_refused.Goals as goal
 
 pub returns-in_err-write_count : goal.returns-in_err-write_count

@@ -1,8 +1,6 @@
 use Rattle.std.proofs.Common.{◌≡◌, ◌<◌, [], get_or, length, arith, unwrap_or}
 use Rattle.mm_keep.specs.mm_frame.Language.Base.{said_at}
-use Rattle.mm_report.proofs.LabelLemmas.{lines_around}
-use Rattle.mm_report.proofs.StreamLemmas.{stops_behind, stops_front, writes_stop}
-use Rattle.mm_report.proofs.WrittenLemmas.{label_is}
+use Rattle.mm_report.proofs.{LabelLemmas.{lines_around}, StreamLemmas.{stops_behind, stops_front, writes_stop}, WrittenLemmas.{label_is}}
 use Rattle.mm_report.proofs.answer.write_label_lines.Goals as goal
 
 pub returns-in_err-write_part : goal.returns-in_err-write_part

@@ -1,5 +1,4 @@
-use Rattle.mm_report.proofs.LabelLemmas.{listed_parts}
-use Rattle.mm_report.proofs.StreamLemmas.{stops_front, stops_then, writes_then, writes_stop}
+use Rattle.mm_report.proofs.{LabelLemmas.{listed_parts}, StreamLemmas.{stops_front, stops_then, writes_then, writes_stop}}
 use Rattle.mm_report.proofs.answer.write_labels.Goals as goal
 
 pub returns-in_err-write_part : goal.returns-in_err-write_part

@@ -1,5 +1,4 @@
-use Rattle.mm_report.proofs.LabelLemmas.{fault_words}
-use Rattle.mm_report.proofs.StreamLemmas.{stops_front, stops_then, writes_then, writes_stop}
+use Rattle.mm_report.proofs.{LabelLemmas.{fault_words}, StreamLemmas.{stops_front, stops_then, writes_then, writes_stop}}
 use Rattle.mm_report.proofs.answer.write_text_fault.Goals as goal
 
 pub returns-in_err-write_count : goal.returns-in_err-write_count

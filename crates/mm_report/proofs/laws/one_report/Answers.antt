@@ -1,7 +1,5 @@
-use Rattle.mm_report.proofs.DatabaseLemmas.{Laws}
-use Rattle.mm_report.proofs.AnswerLemmas.{same_report}
+use Rattle.mm_report.proofs.{DatabaseLemmas.{Laws}, AnswerLemmas.{same_report}, laws.one_report.Goals.{After-has_one_verdict_at}}
 use Rattle.mm_report.proofs.laws.one_report.Goals as goal
-use Rattle.mm_report.proofs.laws.one_report.Goals.{After-has_one_verdict_at}
 
 laws : After-has_one_verdict_at → Laws
 laws c = record {

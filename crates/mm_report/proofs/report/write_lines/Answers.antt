@@ -1,6 +1,5 @@
 use Rattle.std.proofs.Common.{◌≡◌, [], arith, unwrap_or}
-use Rattle.mm_keep.specs.mm_frame.Language.Base.{said_at}
-use Rattle.mm_keep.specs.Language.Findings.{counted, told}
+use Rattle.mm_keep.specs.{mm_frame.Language.Base.{said_at}, Language.Findings.{counted, told}}
 use Rattle.mm_script.specs.Language.Stream.{written}
 use Rattle.mm_report.proofs.WrittenLemmas.{label_is, within_is, one_written, line_fails}
 use Rattle.mm_report.proofs.report.write_lines.Goals as goal

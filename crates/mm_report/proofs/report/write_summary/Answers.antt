@@ -1,5 +1,4 @@
-use Rattle.mm_report.proofs.ReportLemmas.{summary_parts}
-use Rattle.mm_report.proofs.StreamLemmas.{stops_front, stops_then, writes_then, writes_stop}
+use Rattle.mm_report.proofs.{ReportLemmas.{summary_parts}, StreamLemmas.{stops_front, stops_then, writes_then, writes_stop}}
 use Rattle.mm_report.proofs.report.write_summary.Goals as goal
 
 pub returns-in_err-write_count : goal.returns-in_err-write_count

@@ -1,10 +1,8 @@
 use Rattle.std.proofs.Common.{◌≡◌, sym, ap, subst, ◌∙◌, drop, true}
-use Rattle.mm_script.specs.Language.Commands.{pending, IsCommandIn}
-use Rattle.mm_script.specs.Language.Stream.{unread, written}
+use Rattle.mm_script.specs.Language.{Commands.{pending, IsCommandIn}, Stream.{unread, written}}
 use Rattle.mm_report.specs.Code.Answered.{StopsAnswering}
-use Rattle.mm_report.proofs.LoopLemmas.{answer_stops, done_answered, goes_on, if_err_is, next_stops, reads_on}
+use Rattle.mm_report.proofs.{LoopLemmas.{answer_stops, done_answered, goes_on, if_err_is, next_stops, reads_on}, script.answer_next.Goals.{then-next, else-next}}
 use Rattle.mm_report.proofs.script.answer_next.Goals as goal
-use Rattle.mm_report.proofs.script.answer_next.Goals.{then-next, else-next}
 
 pub returns-in_err-next-clause-err : goal.returns-in_err-next-clause-err
 returns-in_err-next-clause-err g c begun all before so =

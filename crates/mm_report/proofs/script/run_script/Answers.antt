@@ -1,9 +1,8 @@
 use Rattle.std.proofs.Common.{List, ℕ, sym, subst, rules}
-use Rattle.mm_script.specs.declared.error.ScriptError.{ScriptError}
-use Rattle.mm_script.specs.declared.error.ScriptError.TheVariants as errors
+use Rattle.mm_script.specs.{declared.error.ScriptError.{ScriptError}, Language.Stream.{unread, written}}
 use Rattle.mm_report.specs.Code.Answered.{HasAnswered, StopsAnswering}
-use Rattle.mm_script.specs.Language.Stream.{unread, written}
 use Rattle.mm_report.proofs.LoopLemmas.{if_err_is, none_answered, when_err}
+use Rattle.mm_script.specs.declared.error.ScriptError.TheVariants as errors
 use Rattle.mm_report.proofs.script.run_script.Goals as goal
 
 pub loop-input-init : goal.loop-input-init

@@ -1,6 +1,5 @@
 use Rattle.mm_report.specs.Code.Answered.{HasAnswered}
-use Rattle.mm_script.specs.Language.Commands.{to_come, pending}
-use Rattle.mm_script.specs.Language.Stream.{unread, written}
+use Rattle.mm_script.specs.Language.{Commands.{to_come, pending}, Stream.{unread, written}}
 use Rattle.mm_report.proofs.script.run_script.Given as goal
 
 abbrev pub invariant-loop-input : goal.invariant-loop-input

@@ -1,6 +1,5 @@
-use Rattle.mm_report.proofs.ScriptAnswerLemmas.{AnswerLaws, answers_begin as law}
+use Rattle.mm_report.proofs.{ScriptAnswerLemmas.{AnswerLaws, answers_begin as law}, script_laws.answers_begin.Goals.{After-one_list_each}}
 use Rattle.mm_report.proofs.script_laws.answers_begin.Goals as goal
-use Rattle.mm_report.proofs.script_laws.answers_begin.Goals.{After-one_list_each}
 
 laws : After-one_list_each → AnswerLaws
 laws c = record {

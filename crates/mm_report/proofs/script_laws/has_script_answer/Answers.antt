@@ -1,6 +1,5 @@
-use Rattle.mm_report.proofs.HavingLemmas.{HavingLaws, has_script_answer as law}
+use Rattle.mm_report.proofs.{HavingLemmas.{HavingLaws, has_script_answer as law}, script_laws.has_script_answer.Goals.{After-has_reading}}
 use Rattle.mm_report.proofs.script_laws.has_script_answer.Goals as goal
-use Rattle.mm_report.proofs.script_laws.has_script_answer.Goals.{After-has_reading}
 
 laws : After-has_reading → HavingLaws
 laws c = record {

@@ -1,6 +1,5 @@
-use Rattle.mm_report.proofs.ScriptAnswerLemmas.{AnswerLaws, same_script as law}
+use Rattle.mm_report.proofs.{ScriptAnswerLemmas.{AnswerLaws, same_script as law}, script_laws.one_script_answer.Goals.{After-one_list_each}}
 use Rattle.mm_report.proofs.script_laws.one_script_answer.Goals as goal
-use Rattle.mm_report.proofs.script_laws.one_script_answer.Goals.{After-one_list_each}
 
 laws : After-one_list_each → AnswerLaws
 laws c = record {

@@ -1,13 +1,9 @@
-use Rattle.std.proofs.Common.{◌≡◌, ◌<◌, ◌+◌, ◌++◌, ◌∷◌, [], ◌∙◌, ap, sym, subst, arith, length, length-append, true, false, rules, List}
-use Rattle.std.proofs.lemmas.Bool.{not-false, not-true}
-use Rattle.mm_script.specs.declared.entry.EditAt.{EditAt}
-use Rattle.mm_script.specs.Code.Batches.{IsBatchRead}
-use Rattle.mm_script.specs.Language.Commands.{pending}
-use Rattle.mm_script.proofs.GrowLemmas.{grows_not, grows_then, same_error}
-use Rattle.mm_script.proofs.EditLemmas.{behind_within}
+use Rattle.std.proofs.{Common.{◌≡◌, ◌<◌, ◌+◌, ◌++◌, ◌∷◌, [], ◌∙◌, ap, sym, subst, arith, length, length-append, true, false, rules, List}, lemmas.Bool.{not-false, not-true}}
+use Rattle.mm_script.specs.{declared.entry.EditAt.{EditAt}, Code.Batches.{IsBatchRead}, Language.Commands.{pending}}
+use Rattle.mm_script.proofs.{GrowLemmas.{grows_not, grows_then, same_error}, EditLemmas.{behind_within}}
 use Rattle.mm_script.proofs.BatchReadLemmas.{batch_begun, batch_front, batch_line_last, batch_one_more, edits_counted, fed_by}
-use Rattle.mm_script.proofs.edits.read_batch.Goals as goal
 use Rattle.mm_script.proofs.edits.read_batch.Goals.{else-not-line-via-then-not-line+else-count-gt0, else-not-line-via-else-not-line}
+use Rattle.mm_script.proofs.edits.read_batch.Goals as goal
 
 pub returns-then-count-gt0-clause-cut : goal.returns-then-count-gt0-clause-cut
 returns-then-count-gt0-clause-cut g c = λ cut.

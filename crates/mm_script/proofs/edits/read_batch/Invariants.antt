@@ -1,7 +1,5 @@
 use Rattle.std.proofs.Common.{◌≡◌, ◌-◌, ◌≤◌, false, length}
-use Rattle.mm_script.specs.Code.Batches.{IsBatchRead}
-use Rattle.mm_script.specs.Code.Growing.{InputGrows}
-use Rattle.mm_script.specs.Language.Commands.{to_come, pending}
+use Rattle.mm_script.specs.{Code.{Batches.{IsBatchRead}, Growing.{InputGrows}}, Language.Commands.{to_come, pending}}
 use Rattle.mm_script.proofs.edits.read_batch.Given as goal
 
 abbrev pub invariant-loop-input : goal.invariant-loop-input

@@ -1,16 +1,13 @@
-use Rattle.std.proofs.Common.{◌+◌, ◌∷◌, [], ◌∙◌, ap, arith, sym, subst, inl, inr, refl, rules, ℕ, List, codes, decimal}
+use Rattle.std.proofs.{Common.{◌+◌, ◌∷◌, [], ◌∙◌, ap, arith, sym, subst, inl, inr, refl, rules, ℕ, List, codes, decimal}, lemmas.Bool.{not-false, not-true}}
 use Rattle.std.specs.List.{join_with_byte}
-use Rattle.std.proofs.lemmas.Bool.{not-false, not-true}
 use Rattle.mm_text.specs.Language.Asked.{Asked}
+use Rattle.mm_script.specs.{Code.{Growing.{line_bytes}, Lines.{SaysEdit}}, Language.{Commands.{pending, bytes_of_part}, Script.{IsName}}}
+use Rattle.mm_script.proofs.GrowLemmas.{few_pending, same_error}
+use Rattle.mm_script.proofs.EditLemmas.{AsksText, IsShifted, asks_insert, asks_replace, behind_within, bytes_grown, fed_line, plain_read, shifted_is, shifted_within, text_bad, text_line, text_read}
+use Rattle.mm_script.proofs.EditLemmas.{text_short, unfed_line, within_grown}
 use Rattle.mm_text.specs.Language.Asked as ask
 use Rattle.mm_script.specs.declared.entry.EditAt.TheVariants as found
 use Rattle.mm_script.specs.declared.line.EditLine.TheVariants as lines
-use Rattle.mm_script.specs.Code.Growing.{line_bytes}
-use Rattle.mm_script.specs.Code.Lines.{SaysEdit}
-use Rattle.mm_script.specs.Language.Commands.{pending, bytes_of_part}
-use Rattle.mm_script.specs.Language.Script.{IsName}
-use Rattle.mm_script.proofs.GrowLemmas.{few_pending, same_error}
-use Rattle.mm_script.proofs.EditLemmas.{AsksText, IsShifted, asks_insert, asks_replace, behind_within, bytes_grown, fed_line, plain_read, shifted_is, shifted_within, text_bad, text_line, text_read, text_short, unfed_line, within_grown}
 use Rattle.mm_script.proofs.edits.read_edit.Goals as goal
 
 pub returns-then-not-line-clause-cut : goal.returns-then-not-line-clause-cut

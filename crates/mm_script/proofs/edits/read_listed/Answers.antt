@@ -1,12 +1,8 @@
-use Rattle.std.proofs.Common.{◌≡◌, ◌<◌, ◌∙◌, ap, arith, false, refl, inl, inr, rules, slice_range}
-use Rattle.std.proofs.lemmas.Bool.{false_from_ne_true, not-true}
-use Rattle.mm_script.specs.declared.error.ScriptError.{ScriptError}
-use Rattle.mm_script.specs.declared.error.ScriptError.TheVariants as errors
-use Rattle.mm_script.specs.Code.Growing.{line_bytes}
-use Rattle.mm_script.specs.Language.Commands.{pending, edit_in}
-use Rattle.mm_script.specs.Code.Stops.{IsBadEditLine}
+use Rattle.std.proofs.{Common.{◌≡◌, ◌<◌, ◌∙◌, ap, arith, false, refl, inl, inr, rules, slice_range}, lemmas.Bool.{false_from_ne_true, not-true}}
+use Rattle.mm_script.specs.{declared.error.ScriptError.{ScriptError}, Code.{Growing.{line_bytes}, Stops.{IsBadEditLine}}, Language.Commands.{pending, edit_in}}
 use Rattle.mm_script.proofs.GrowLemmas.{blanks_grown, grows_then, other_error, same_error}
 use Rattle.mm_script.proofs.BatchLemmas.{bad_listed, bad_text, begun_holds, edit_missing, line_cut, line_some, none_left, short_cut, short_holds}
+use Rattle.mm_script.specs.declared.error.ScriptError.TheVariants as errors
 use Rattle.mm_script.proofs.edits.read_listed.Goals as goal
 
 pub returns-in_err-line : goal.returns-in_err-line

@@ -1,5 +1,4 @@
-use Rattle.std.proofs.Common.{◌≡◌, ◌≤◌, ◌∷◌, ◌∙◌, ap, sym, arith, length, drop}
-use Rattle.std.proofs.lemmas.Bool.{not-false}
+use Rattle.std.proofs.{Common.{◌≡◌, ◌≤◌, ◌∷◌, ◌∙◌, ap, sym, arith, length, drop}, lemmas.Bool.{not-false}}
 use Rattle.mm_script.specs.Language.Commands.{pending}
 use Rattle.mm_script.proofs.GrowLemmas.{blank_line, reads_not, reads_pass, reads_then}
 use Rattle.mm_script.proofs.entry.first_line.Goals as goal

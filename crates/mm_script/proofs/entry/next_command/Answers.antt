@@ -1,6 +1,5 @@
 use Rattle.mm_script.specs.Language.Commands.{pending}
-use Rattle.mm_script.proofs.GrowLemmas.{reads_then, same_error}
-use Rattle.mm_script.proofs.StopLemmas.{no_feed}
+use Rattle.mm_script.proofs.{GrowLemmas.{reads_then, same_error}, StopLemmas.{no_feed}}
 use Rattle.mm_script.proofs.entry.next_command.Goals as goal
 
 pub returns-in_err-line-clause-read : goal.returns-in_err-line-clause-read

@@ -1,14 +1,7 @@
 use Rattle.std.proofs.Common.{◌≡◌, ◌<◌, ◌∙◌, ap, sym, subst, arith, refl, List, ℕ, codes, slice_range}
-use Rattle.mm_script.specs.declared.line.CommandLine.{CommandLine}
-use Rattle.mm_script.specs.declared.script_lines.LineAt.{LineAt}
-use Rattle.mm_script.specs.Code.Growing.{line_bytes}
-use Rattle.mm_script.specs.Code.Lines.{SaysLine}
-use Rattle.mm_script.specs.Language.Commands.{pending, bytes_of_part, IsCommandIn}
-use Rattle.mm_script.specs.Code.Stops.{IsBadLine}
-use Rattle.mm_script.specs.Language.Script.{Report, Verdict, Axioms, Cites, Users}
-use Rattle.mm_script.proofs.BatchLemmas.{line_some}
-use Rattle.mm_script.proofs.GrowLemmas.{same_error}
-use Rattle.mm_script.proofs.CommandLemmas.{bad_first, bad_edit, cut_edit, held_edit, batch_next, label_next, line_next}
+use Rattle.mm_script.specs.{declared.{line.CommandLine.{CommandLine}, script_lines.LineAt.{LineAt}}, Code.{Growing.{line_bytes}, Lines.{SaysLine}, Stops.{IsBadLine}}}
+use Rattle.mm_script.specs.Language.{Commands.{pending, bytes_of_part, IsCommandIn}, Script.{Report, Verdict, Axioms, Cites, Users}}
+use Rattle.mm_script.proofs.{BatchLemmas.{line_some}, GrowLemmas.{same_error}, CommandLemmas.{bad_first, bad_edit, cut_edit, held_edit, batch_next, label_next, line_next}}
 use Rattle.mm_script.proofs.entry.read_command.Goals as goal
 
 -- what the bytes of a line say is what was found in them

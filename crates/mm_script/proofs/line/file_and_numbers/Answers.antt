@@ -1,6 +1,5 @@
 use Rattle.std.proofs.Common.{◌++◌, ◌∷◌, decimal, ◌∙◌, sym}
-use Rattle.mm_script.proofs.SplitLemmas.{not_inside}
-use Rattle.mm_script.proofs.LineLemmas.{cut_so, empty_by, file_and_two, name_space, number_space, some_by}
+use Rattle.mm_script.proofs.{SplitLemmas.{not_inside}, LineLemmas.{cut_so, empty_by, file_and_two, name_space, number_space, some_by}}
 use Rattle.mm_script.proofs.line.file_and_numbers.Goals as goal
 
 pub returns-in_err-name-clause-none : goal.returns-in_err-name-clause-none

@@ -1,8 +1,6 @@
 use Rattle.std.proofs.Common.{◌≢◌, ◌∙◌, ℕ, get_or, sym, arith}
-use Rattle.mm_script.specs.declared.line.Verb.TheVariants.{Insert}
-use Rattle.mm_script.specs.Code.Lines.{verb_word}
-use Rattle.mm_script.proofs.LineLemmas.{unequal}
-use Rattle.mm_script.proofs.VerbLemmas.{none_of_all, up_to, verbs}
+use Rattle.mm_script.specs.{declared.line.Verb.TheVariants.{Insert}, Code.Lines.{verb_word}}
+use Rattle.mm_script.proofs.{LineLemmas.{unequal}, VerbLemmas.{none_of_all, up_to, verbs}}
 use Rattle.mm_script.proofs.line.verb_of.Goals as goal
 
 pub loop-verb-preserved : goal.loop-verb-preserved

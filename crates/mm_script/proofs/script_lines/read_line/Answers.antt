@@ -1,7 +1,5 @@
-use Rattle.std.proofs.Common.{◌≡◌, ◌∙◌, ap, sym, subst, arith, length, drop, slice_range}
-use Rattle.std.proofs.lemmas.List.{take_rest}
-use Rattle.mm_script.specs.Language.Commands.{pending}
-use Rattle.mm_script.specs.Code.Stops.{IsOneLine}
+use Rattle.std.proofs.{Common.{◌≡◌, ◌∙◌, ap, sym, subst, arith, length, drop, slice_range}, lemmas.List.{take_rest}}
+use Rattle.mm_script.specs.{Language.Commands.{pending}, Code.Stops.{IsOneLine}}
 use Rattle.mm_script.proofs.GrowLemmas.{found_line, no_feed_left, last_line, rest_of, same_error, grows_then, grown_long, part_grown}
 use Rattle.mm_script.proofs.script_lines.read_line.Goals as goal
 

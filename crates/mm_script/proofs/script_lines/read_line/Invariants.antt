@@ -1,7 +1,5 @@
 use Rattle.std.proofs.Common.{◌≤◌, length, slice_range}
-use Rattle.mm_script.specs.Code.Growing.{InputGrows}
-use Rattle.mm_script.specs.Language.Commands.{to_come, pending}
-use Rattle.mm_script.specs.Code.Stops.{IsOneLine}
+use Rattle.mm_script.specs.{Code.{Growing.{InputGrows}, Stops.{IsOneLine}}, Language.Commands.{to_come, pending}}
 use Rattle.mm_script.proofs.script_lines.read_line.Given as goal
 
 abbrev pub invariant-loop-more : goal.invariant-loop-more

@@ -1,5 +1,4 @@
-use Rattle.std.proofs.Common.{◌≡◌, ◌≤◌, arith}
-use Rattle.std.proofs.lemmas.Bool.{not-false}
+use Rattle.std.proofs.{Common.{◌≡◌, ◌≤◌, arith}, lemmas.Bool.{not-false}}
 use Rattle.mm_script.specs.Language.Commands.{pending}
 use Rattle.mm_script.proofs.GrowLemmas.{blank_line, blank_more, blanks_grown, grows_not, grows_then, no_blanks, same_error}
 use Rattle.mm_script.proofs.script_lines.read_some_line.Goals as goal

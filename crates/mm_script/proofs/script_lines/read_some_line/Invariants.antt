@@ -1,6 +1,5 @@
 use Rattle.std.proofs.Common.{◌≤◌, ◌-◌}
-use Rattle.mm_script.specs.Code.Growing.{InputGrows, HasBlanks}
-use Rattle.mm_script.specs.Language.Commands.{to_come, pending}
+use Rattle.mm_script.specs.{Code.Growing.{InputGrows, HasBlanks}, Language.Commands.{to_come, pending}}
 use Rattle.mm_script.proofs.script_lines.read_some_line.Given as goal
 
 abbrev pub invariant-loop-line : goal.invariant-loop-line

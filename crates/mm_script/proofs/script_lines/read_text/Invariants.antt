@@ -1,6 +1,5 @@
 use Rattle.std.proofs.Common.{◌≤◌, length}
-use Rattle.mm_script.specs.Code.Growing.{InputGrows}
-use Rattle.mm_script.specs.Language.Commands.{to_come, pending}
+use Rattle.mm_script.specs.{Code.Growing.{InputGrows}, Language.Commands.{to_come, pending}}
 use Rattle.mm_script.proofs.script_lines.read_text.Given as goal
 
 abbrev pub invariant-loop-byte : goal.invariant-loop-byte

@@ -1,11 +1,8 @@
-use Rattle.std.proofs.Common.{◌≡◌, ◌≢◌, sym, ◌∙◌, subst, arith, slice_range}
+use Rattle.std.proofs.{Common.{◌≡◌, ◌≢◌, sym, ◌∙◌, subst, arith, slice_range}, lemmas.Bool.{false≢true}}
 use Rattle.std.specs.List.{AllByRecursion}
-use Rattle.std.proofs.lemmas.Bool.{false≢true}
 use Rattle.mm_store.specs.Language.FileFacts.{CanBeRead}
-use Rattle.mm_statement.specs.Language.Item.{Item}
-use Rattle.mm_statement.specs.Language.Statement.{kind_of}
-use Rattle.mm_statement.proofs.ByteLemmas.{no_proof_word, search_tells}
-use Rattle.mm_statement.proofs.PieceLemmas.{ends_within, same_bytes}
+use Rattle.mm_statement.specs.Language.{Item.{Item}, Statement.{kind_of}}
+use Rattle.mm_statement.proofs.{ByteLemmas.{no_proof_word, search_tells}, PieceLemmas.{ends_within, same_bytes}}
 use Rattle.mm_statement.proofs.statement.has_bytes.Goals as goal
 
 pub slice_bounds-find-end : goal.slice_bounds-find-end

@@ -1,6 +1,5 @@
 use Rattle.std.proofs.Common.{◌≡◌, refl, ◌∙◌, ap, drop, arith}
-use Rattle.mm_statement.proofs.PieceLemmas.{has_words, ends_within}
-use Rattle.mm_statement.proofs.NthOfProof.{left_more, left_next, left_none, nth_said}
+use Rattle.mm_statement.proofs.{PieceLemmas.{has_words, ends_within}, NthOfProof.{left_more, left_next, left_none, nth_said}}
 use Rattle.mm_statement.proofs.statement.nth_of_proof.Goals as goal
 
 pub slice_bounds-text-end : goal.slice_bounds-text-end

@@ -1,7 +1,5 @@
 use Rattle.std.proofs.Common.{ap, ◌∙◌, arith}
-use Rattle.mm_statement.specs.Language.Item.{Item}
-use Rattle.mm_statement.specs.Language.Statement.{kind_of}
-use Rattle.mm_statement.specs.Code.PlainWords.{plain_words}
+use Rattle.mm_statement.specs.{Language.{Item.{Item}, Statement.{kind_of}}, Code.PlainWords.{plain_words}}
 use Rattle.mm_statement.proofs.SpokenLemmas.{behind_one, item_read, passed, proof_few, proof_some, proof_bytes, rest_few, rest_some, rest_bytes}
 use Rattle.mm_statement.proofs.statement.proof_among.Goals as goal
 

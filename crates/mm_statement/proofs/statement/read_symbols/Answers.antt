@@ -1,5 +1,4 @@
-use Rattle.std.proofs.Common.{sym, ◌∙◌, subst, arith, All}
-use Rattle.std.proofs.lemmas.List.Elements.{All-push}
+use Rattle.std.proofs.{Common.{sym, ◌∙◌, subst, arith, All}, lemmas.List.Elements.{All-push}}
 use Rattle.mm_store.specs.mm_text.Language.Reading.{LiesIn}
 use Rattle.mm_statement.specs.Code.PlainWords.{LiesInText}
 use Rattle.mm_statement.proofs.SpokenLemmas.{Symbols, symbols_more, symbols_closed}

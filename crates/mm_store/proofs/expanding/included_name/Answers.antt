@@ -1,10 +1,5 @@
-use Rattle.std.proofs.Common.{◌≡◌, List, ◌∙◌, sym, ap, subst, get_or, All}
-use Rattle.std.proofs.lemmas.Bool.{false≢true}
-use Rattle.std.proofs.lemmas.Option.{slice_get-get_or, get_or_from_slice_get}
-use Rattle.mm_text.specs.declared.part.Part.{Part}
-use Rattle.mm_text.specs.declared.word.Word.{Word}
-use Rattle.mm_text.specs.Language.Reading.{HasWords}
-use Rattle.mm_text.specs.Language.Part.{IsReadable, part_bytes}
+use Rattle.std.proofs.{Common.{◌≡◌, List, ◌∙◌, sym, ap, subst, get_or, All}, lemmas.{Bool.{false≢true}, Option.{slice_get-get_or, get_or_from_slice_get}}}
+use Rattle.mm_text.specs.{declared.{part.Part.{Part}, word.Word.{Word}}, Language.{Reading.{HasWords}, Part.{IsReadable, part_bytes}}}
 use Rattle.mm_store.specs.Language.FileFacts.{second_word}
 use Rattle.mm_store.proofs.lemmas.expansion.IncludeLemmas.{nothing_there, included_there, units, no_first, some_first}
 use Rattle.mm_store.proofs.expanding.included_name.Goals as goal

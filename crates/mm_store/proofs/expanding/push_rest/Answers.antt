@@ -1,15 +1,9 @@
 use Rattle.std.proofs.Common.{◌∙◌, sym, ap, subst, Vec, Global}
-use Rattle.mm_store.specs.declared.item.Item.{Item}
-use Rattle.mm_store.specs.declared.walk.Step.{Step}
-use Rattle.mm_store.specs.declared.walk.Step.TheVariants as steps
-use Rattle.mm_store.specs.Language.FilesView.{files_in}
-use Rattle.mm_store.specs.Language.Walking.{IsWalk}
-use Rattle.mm_store.specs.Code.Steps.{IsStep}
-use Rattle.mm_store.proofs.lemmas.expansion.TurnLemmas.{tells_less, nothing_less, items_less}
-use Rattle.mm_store.proofs.lemmas.expansion.WalkStepLemmas.{walk_ends}
-use Rattle.mm_store.proofs.lemmas.expansion.ItemLemmas.{spot_held, walk_items, walk_nothing, walk_tells}
-use Rattle.mm_store.proofs.expanding.push_rest.Goals as goal
+use Rattle.mm_store.specs.{declared.{item.Item.{Item}, walk.Step.{Step}}, Language.{FilesView.{files_in}, Walking.{IsWalk}}, Code.Steps.{IsStep}}
+use Rattle.mm_store.proofs.lemmas.expansion.{TurnLemmas.{tells_less, nothing_less, items_less}, WalkStepLemmas.{walk_ends}, ItemLemmas.{spot_held, walk_items, walk_nothing, walk_tells}}
 use Rattle.mm_store.proofs.expanding.push_rest.Goals.{in-Items+in_ok-push_items-in-Items, in-Nothing, in-Missing}
+use Rattle.mm_store.specs.declared.walk.Step.TheVariants as steps
+use Rattle.mm_store.proofs.expanding.push_rest.Goals as goal
 
 pub returns-in-End : goal.returns-in-End
 returns-in-End c top is =

@@ -1,9 +1,6 @@
-use Rattle.std.proofs.Common.{◌≡◌, ℕ, ◌+◌, ◌<◌, [], ◌∷◌, ◌++◌, List, length, map, take, get_or, sym, ap, ◌∙◌, subst, arith, length-append}
+use Rattle.std.proofs.{Common.{◌≡◌, ℕ, ◌+◌, ◌<◌, [], ◌∷◌, ◌++◌, List, length, map, take, get_or, sym, ap, ◌∙◌, subst, arith, length-append}, lemmas.List.{length-map, get_or-map}}
 use Rattle.std.specs.List.{concat}
-use Rattle.std.proofs.lemmas.List.{length-map, get_or-map}
-use Rattle.mm_store.specs.declared.piece_text.PieceText.{PieceText}
-use Rattle.mm_store.specs.declared.start.Start.{Start}
-use Rattle.mm_store.specs.Code.Lines.{IsStart}
+use Rattle.mm_store.specs.{declared.{piece_text.PieceText.{PieceText}, start.Start.{Start}}, Code.Lines.{IsStart}}
 use Rattle.mm_store.proofs.lemmas.places.PlaceLemmas.{each_more, concat_one, piece_within}
 use Rattle.mm_store.proofs.file_text.starts.Goals as goal
 

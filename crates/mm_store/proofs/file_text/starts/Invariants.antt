@@ -1,7 +1,6 @@
 use Rattle.std.proofs.Common.{◌≡◌, ℕ, ◌<◌, length, map, take, get_or}
 use Rattle.std.specs.List.{concat}
-use Rattle.mm_store.specs.declared.start.Start.{Start}
-use Rattle.mm_store.specs.Code.Lines.{IsStart}
+use Rattle.mm_store.specs.{declared.start.Start.{Start}, Code.Lines.{IsStart}}
 use Rattle.mm_store.proofs.file_text.starts.Given as goal
 
 abbrev pub invariant-loop-piece : goal.invariant-loop-piece

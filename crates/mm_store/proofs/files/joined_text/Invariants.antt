@@ -1,8 +1,7 @@
 use Rattle.std.proofs.Common.{◌≡◌, ◌++◌, map, All, IsSome}
-use Rattle.std.specs.List.{concat}
-use Rattle.std.specs.FinMap as finite
-use Rattle.std.specs.VecDeque.Iter.{deque_iter_rest}
+use Rattle.std.specs.{List.{concat}, VecDeque.Iter.{deque_iter_rest}}
 use Rattle.mm_store.specs.Language.Pieces.{text_under}
+use Rattle.std.specs.FinMap as finite
 use Rattle.mm_store.proofs.files.joined_text.Given as goal
 
 abbrev pub invariant-loop-key : goal.invariant-loop-key

@@ -1,6 +1,5 @@
-use Rattle.std.proofs.Common.{◌≡◌, ◌<◌, [], length, map, take, get_or, sym, ap, ◌∙◌, arith}
+use Rattle.std.proofs.{Common.{◌≡◌, ◌<◌, [], length, map, take, get_or, sym, ap, ◌∙◌, arith}, lemmas.List.{length-map, length-take, get_or-map}}
 use Rattle.std.specs.List.{concat}
-use Rattle.std.proofs.lemmas.List.{length-map, length-take, get_or-map}
 use Rattle.mm_store.specs.Language.Pieces.{text_under}
 use Rattle.mm_store.proofs.lemmas.places.PlaceLemmas.{piece_within}
 use Rattle.mm_store.proofs.files.lines_at.Goals as goal

@@ -1,5 +1,4 @@
-use Rattle.mm_store.proofs.lemmas.edits.EditLawLemmas.{names_kept, number_kept}
-use Rattle.mm_store.proofs.lemmas.files.NamedLemmas.{edited_kept, other_kept}
+use Rattle.mm_store.proofs.lemmas.{edits.EditLawLemmas.{names_kept, number_kept}, files.NamedLemmas.{edited_kept, other_kept}}
 use Rattle.mm_store.proofs.laws.edits_keep_files.Goals as goal
 
 pub returns : goal.returns

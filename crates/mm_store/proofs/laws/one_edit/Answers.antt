@@ -1,7 +1,4 @@
-use Rattle.mm_store.proofs.lemmas.edits.AnswerLemmas.{some_answer}
-use Rattle.mm_store.proofs.lemmas.edits.EditLawLemmas.{one_after}
-use Rattle.mm_store.proofs.lemmas.edits.ReasonLemmas.{one_reason}
-use Rattle.mm_store.proofs.lemmas.edits.RefusalLemmas.{not_refused}
+use Rattle.mm_store.proofs.lemmas.edits.{AnswerLemmas.{some_answer}, EditLawLemmas.{one_after}, ReasonLemmas.{one_reason}, RefusalLemmas.{not_refused}}
 use Rattle.mm_store.proofs.laws.one_edit.Goals as goal
 
 pub returns : goal.returns

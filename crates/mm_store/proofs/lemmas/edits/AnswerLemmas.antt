@@ -1,18 +1,11 @@
 -- Each edit is accepted, or refused for one reason.
-use Rattle.std.proofs.lemmas.Bool.{cases_eq}
-use Rattle.std.proofs.lemmas.Bool.Decides.{nat_tests}
+use Rattle.std.proofs.lemmas.{Bool.{cases_eq, Decides.{nat_tests}}, Option.{slice_get-get_or, cond_some}}
 use Rattle.std.proofs.Common.{◌≡◌, ◌≢◌, ◌⊎◌, inl, inr, ℕ, ◌-◌, ◌<◌, ◌≤◌, nat_lt, List, [], Option, Some, None, length, get_or, refl, arith, slice_get}
-use Rattle.std.specs.List.{position_or_len}
-use Rattle.std.specs.Str.{bytes_eq}
-use Rattle.std.proofs.lemmas.Option.{slice_get-get_or, cond_some}
-use Rattle.mm_text.specs.declared.fault.TextFault.{TextFault}
-use Rattle.mm_text.specs.Language.Cut.{IsCut, IsFirstFault}
+use Rattle.std.specs.{List.{position_or_len}, Str.{bytes_eq}}
+use Rattle.mm_text.specs.{declared.fault.TextFault.{TextFault}, Language.{Cut.{IsCut, IsFirstFault}, Asked.{Asked, Insert, Replace, Delete, Move, edited_name, edited_text, IsAmong}}}
 use Rattle.mm_store.specs.declared.edit.EditError.{EditError}
+use Rattle.mm_store.specs.Language.{FilesView.{File, file_number, bytes_of}, Edits.{IsEditedFile, IsPlaced, BringsOneUnit, BringsFault, BringsNotOne, IsEditOf, after_edit}, Answers.{IsEditError}}
 use Rattle.mm_store.specs.declared.edit.EditError.TheVariants as edits
-use Rattle.mm_store.specs.Language.FilesView.{File, file_number, bytes_of}
-use Rattle.mm_text.specs.Language.Asked.{Asked, Insert, Replace, Delete, Move, edited_name, edited_text, IsAmong}
-use Rattle.mm_store.specs.Language.Edits.{IsEditedFile, IsPlaced, BringsOneUnit, BringsFault, BringsNotOne, IsEditOf, after_edit}
-use Rattle.mm_store.specs.Language.Answers.{IsEditError}
 
 abbrev pub SomeCut : Type 0
 SomeCut = (text : List ℕ) → ((pieces : List (List ℕ)) × (tail : List ℕ) × IsCut text pieces tail) ⊎ ((fault : TextFault) × IsFirstFault text fault)

@@ -1,23 +1,15 @@
 -- Edits that were done one after another, undone and settled.
-use Rattle.std.proofs.Common.{◌≡◌, ◌≢◌, ℕ, ◌+◌, List, [], ◌∷◌, ◌++◌, Option, Some, None, length, refl, sym, ap, ◌∙◌, subst, arith, Result, Ok, Err, IfOk, OnOk}
-use Rattle.std.proofs.lemmas.Option.{none-some}
-use Rattle.std.specs.FinMap as finite
+use Rattle.std.proofs.{Common.{◌≡◌, ◌≢◌, ℕ, ◌+◌, List, [], ◌∷◌, ◌++◌, Option, Some, None, length, refl, sym, ap, ◌∙◌, subst, arith, Result, Ok, Err, IfOk, OnOk}, lemmas.Option.{none-some}}
 use Rattle.mm_store.specs.declared.edit.EditError.{EditError}
-use Rattle.mm_store.specs.Language.Undoing as action
-use Rattle.mm_text.specs.Language.Asked.{Asked, Delete, Move}
-use Rattle.mm_store.specs.Language.EditedKeys.{IsEditByKeys, IsMadeOf, parks}
-use Rattle.mm_store.specs.Language.Batches.{CanSettleAll, CanUndoAll, IsSpendable, settled_all, undone_all}
-use Rattle.mm_store.specs.Language.FileFacts.{parked_in}
-use Rattle.mm_store.specs.Language.FilesView.{FilesView}
+use Rattle.mm_store.specs.Language.{EditedKeys.{IsEditByKeys, IsMadeOf, parks}, Batches.{CanSettleAll, CanUndoAll, IsSpendable, settled_all, undone_all}, FileFacts.{parked_in}, FilesView.{FilesView}}
 use Rattle.mm_store.specs.Language.Pieces.{PieceState, Standing, Parked, Removal, HeldPiece, in_state, IsParked, parked_count, Pieces, parked_pieces, parked_state, state_in, with_state}
 use Rattle.mm_store.specs.Language.Undoing.{UndoView, EditAction, CanSettle, CanUndo, Fits, IsUndoable, key_at, reversed, settled, spent, undone}
-use Rattle.mm_store.specs.Code.Batched.{StandOnce}
-use Rattle.mm_store.specs.Code.Kept.{standing_count, standing_state}
-use Rattle.mm_store.proofs.lemmas.files.MapLemmas.{get_drop_other, get_drop_same}
-use Rattle.mm_store.proofs.lemmas.files.PieceLemmas.{get_state_other, get_state_same}
-use Rattle.mm_store.proofs.lemmas.edits.ReplaceLemmas.{key_stands}
-use Rattle.mm_store.proofs.lemmas.edits.StepLemmas.{parked}
-use Rattle.mm_store.proofs.lemmas.files.StoreLemmas.{parked_changed, parked_dropped}
+use Rattle.mm_store.specs.Code.{Batched.{StandOnce}, Kept.{standing_count, standing_state}}
+use Rattle.mm_text.specs.Language.Asked.{Asked, Delete, Move}
+use Rattle.mm_store.proofs.lemmas.files.{MapLemmas.{get_drop_other, get_drop_same}, PieceLemmas.{get_state_other, get_state_same}, StoreLemmas.{parked_changed, parked_dropped}}
+use Rattle.mm_store.proofs.lemmas.edits.{ReplaceLemmas.{key_stands}, StepLemmas.{parked}}
+use Rattle.std.specs.FinMap as finite
+use Rattle.mm_store.specs.Language.Undoing as action
 
 -- one edit more, after the others
 pub undone_last : (front : List UndoView) (undo : UndoView) (view : FilesView) → undone_all (front ++ undo ∷ []) view ≡ undone_all front (undone undo view)

@@ -1,16 +1,11 @@
 -- Edits over files without keys: what they leave as it was, and what reverses them.
-use Rattle.std.proofs.Common.{◌≡◌, ◌≢◌, ℕ, zero, suc, ◌+◌, ◌<◌, ◌≤◌, List, [], ◌∷◌, ◌++◌, Option, Some, None, length, map, get_or, set, refl, sym, ap, ◌∙◌, append_assoc, arith, length-append, slice_get, length-set}
-use Rattle.std.specs.List.{concat, sum_by, insert, remove}
-use Rattle.std.specs.Str.{bytes_eq}
-use Rattle.std.proofs.lemmas.List.Edits.{length-remove}
-use Rattle.std.proofs.lemmas.List.Folds.{position_or_len-set}
-use Rattle.std.proofs.lemmas.List.Sums.{sum_by-cons, sum_by-insert, sum_by-remove}
+use Rattle.std.proofs.Common.{◌≡◌, ◌≢◌, ℕ, zero, suc, ◌+◌, ◌<◌, ◌≤◌, List, [], ◌∷◌, ◌++◌, Option, Some, None, length, map, get_or, set, refl, sym, ap, ◌∙◌, append_assoc, arith, length-append}
+use Rattle.std.proofs.Common.{slice_get, length-set}
+use Rattle.std.proofs.lemmas.{List.{Edits.{length-remove}, Folds.{position_or_len-set}, Sums.{sum_by-cons, sum_by-insert, sum_by-remove}}, Option.{get_or_from_slice_get, none-some, same_Some}}
 use Rattle.std.proofs.Math.Seq.{map-set_same}
-use Rattle.std.proofs.lemmas.Option.{get_or_from_slice_get, none-some, same_Some}
-use Rattle.mm_text.specs.Language.Cut.{ended}
-use Rattle.mm_store.specs.Language.FilesView.{File, file_number, file_at, find_file, bytes_of, text_of}
-use Rattle.mm_text.specs.Language.Asked.{Asked, Insert, Replace, Delete, Move}
-use Rattle.mm_store.specs.Language.Edits.{edited, after_edit, with_members, IsEditOf}
+use Rattle.std.specs.{List.{concat, sum_by, insert, remove}, Str.{bytes_eq}}
+use Rattle.mm_text.specs.Language.{Cut.{ended}, Asked.{Asked, Insert, Replace, Delete, Move}}
+use Rattle.mm_store.specs.Language.{FilesView.{File, file_number, file_at, find_file, bytes_of, text_of}, Edits.{edited, after_edit, with_members, IsEditOf}}
 
 -- one element of a list set
 module _ {X : Type 0} where

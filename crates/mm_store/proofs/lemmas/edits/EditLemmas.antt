@@ -1,18 +1,11 @@
 -- From what is done by keys to the edit of the files without keys, and why an edit is refused.
-use Rattle.std.proofs.Common.{◌≡◌, ℕ, ◌+◌, ◌<◌, ◌≤◌, List, Some, length, sym, ap, ◌∙◌, subst}
-use Rattle.std.proofs.lemmas.Option.{none-some}
-use Rattle.std.proofs.Common.{◌↔◌, None, Result, Ok, Err, rules}
+use Rattle.std.proofs.{Common.{◌≡◌, ℕ, ◌+◌, ◌<◌, ◌≤◌, List, Some, length, sym, ap, ◌∙◌, subst, ◌↔◌, None, Result, Ok, Err, rules}, lemmas.Option.{none-some}}
 use Rattle.std.specs.Result.{IfErr, OnOk, IsErrOf, IsErrAnd}
-use Rattle.mm_text.specs.Language.Cut.{ended}
-use Rattle.mm_store.specs.declared.edit.EditError.{EditError}
-use Rattle.mm_store.specs.declared.edit.EditError.TheVariants.{NoFile, NoPiece, Text, NotOne, TooMany, Memory}
-use Rattle.mm_store.specs.Language.FilesView.{File, FilesView, plain, file_number, bytes_of}
-use Rattle.mm_store.specs.Language.Undoing.{keys_in}
-use Rattle.mm_text.specs.Language.Asked.{Asked, edited_name, edited_text, IsAmong}
-use Rattle.mm_store.specs.Language.Edits.{edited, after_edit, IsPlaced, NamesNoMember, BringsOneUnit, BringsFault, BringsNotOne, IsEditOf}
-use Rattle.mm_store.specs.Language.Answers.{IsEditError}
-use Rattle.mm_store.specs.Code.Edited.{pieces_in, with_pieces, NamesPlace}
-use Rattle.mm_store.specs.Code.Units.{IsTextRefused}
+use Rattle.mm_text.specs.Language.{Cut.{ended}, Asked.{Asked, edited_name, edited_text, IsAmong}}
+use Rattle.mm_store.specs.declared.edit.EditError.{EditError, TheVariants.{NoFile, NoPiece, Text, NotOne, TooMany, Memory}}
+use Rattle.mm_store.specs.Language.{FilesView.{File, FilesView, plain, file_number, bytes_of}, Undoing.{keys_in}}
+use Rattle.mm_store.specs.Language.{Edits.{edited, after_edit, IsPlaced, NamesNoMember, BringsOneUnit, BringsFault, BringsNotOne, IsEditOf}, Answers.{IsEditError}}
+use Rattle.mm_store.specs.Code.{Edited.{pieces_in, with_pieces, NamesPlace}, Units.{IsTextRefused}}
 use Rattle.mm_store.proofs.lemmas.files.NumberLemmas.{IsThere, file_there, with_pieces_is}
 
 -- the edit names a file, and a place that it does not have

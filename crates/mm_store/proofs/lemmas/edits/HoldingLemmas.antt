@@ -1,20 +1,14 @@
 -- Files each piece of which holds one unit: edits keep this, and keys can be given to the files.
 use Rattle.std.proofs.Common.{◌≡◌, ℕ, zero, suc, ◌+◌, ◌<◌, Some, is_some, List, [], ◌∷◌, ◌++◌, length, map, take, drop, get_or, set, refl, sym, ap, ◌∙◌, subst, arith, All, IsSome, slice_get}
-use Rattle.std.specs.List.{AllByRecursion, insert, remove}
-use Rattle.std.specs.Option.{option_map}
-use Rattle.std.specs.FinMap as finite
-use Rattle.std.proofs.lemmas.List.Elements.{All-nil, All-cons}
-use Rattle.std.proofs.lemmas.Option.{none-some, same_Some, slice_get-map}
-use Rattle.mm_text.specs.Language.Cut.{HoldsOne, IsCut, ended}
-use Rattle.mm_text.specs.Language.Asked.{Asked, Insert, Replace, Delete, Move, edited_text, IsAmong}
-use Rattle.mm_store.specs.Language.Edits.{edited, with_members, BringsOneUnit, HasUnitCount, IsEditOf}
-use Rattle.mm_store.specs.Language.FileFacts.{HoldsPieces}
-use Rattle.mm_store.specs.Language.FilesView.{File, FileView, FilesView, KeyedFile, PieceView, file_view, files_in, piece_view, plain, plain_file}
-use Rattle.mm_store.specs.Language.Holding.{HoldOneEach}
+use Rattle.std.proofs.lemmas.{List.Elements.{All-nil, All-cons}, Option.{none-some, same_Some, slice_get-map}}
+use Rattle.std.specs.{List.{AllByRecursion, insert, remove}, Option.{option_map}}
+use Rattle.mm_text.specs.Language.{Cut.{HoldsOne, IsCut, ended}, Asked.{Asked, Insert, Replace, Delete, Move, edited_text, IsAmong}}
+use Rattle.mm_store.specs.Language.{Edits.{edited, with_members, BringsOneUnit, HasUnitCount, IsEditOf}, FileFacts.{HoldsPieces}}
+use Rattle.mm_store.specs.Language.{FilesView.{File, FileView, FilesView, KeyedFile, PieceView, file_view, files_in, piece_view, plain, plain_file}, Holding.{HoldOneEach}}
 use Rattle.mm_store.specs.Language.Pieces.{Pieces, HeldPiece, standing_piece, text_in, text_under}
 use Rattle.mm_store.specs.Code.Gains.{HoldUnits}
-use Rattle.mm_store.proofs.lemmas.files.MapLemmas.{get_put_same, get_put_other}
-use Rattle.mm_store.proofs.lemmas.files.ViewLemmas.{there_from_map}
+use Rattle.mm_store.proofs.lemmas.files.{MapLemmas.{get_put_same, get_put_other}, ViewLemmas.{there_from_map}}
+use Rattle.std.specs.FinMap as finite
 
 -- ---- what holds of each element
 

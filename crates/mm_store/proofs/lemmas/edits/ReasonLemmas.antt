@@ -1,16 +1,10 @@
 -- An edit that is refused is refused for one reason, unless memory runs out.
-use Rattle.std.proofs.Common.{◌≡◌, ◌≢◌, ℕ, List, Option, Some, None, length, refl, sym, ap, ◌∙◌, subst, slice_get}
-use Rattle.std.proofs.lemmas.Option.{none-some, same_Some}
-use Rattle.mm_text.specs.declared.fault.TextFault.{TextFault}
-use Rattle.mm_text.specs.Language.Cut.{IsFirstFault}
+use Rattle.std.proofs.{Common.{◌≡◌, ◌≢◌, ℕ, List, Option, Some, None, length, refl, sym, ap, ◌∙◌, subst, slice_get}, lemmas.Option.{none-some, same_Some}}
+use Rattle.mm_text.specs.{declared.fault.TextFault.{TextFault}, Language.{Cut.{IsFirstFault}, Asked.{Asked, edited_name, edited_text, IsAmong}}}
 use Rattle.mm_store.specs.declared.edit.EditError.{EditError}
+use Rattle.mm_store.specs.Language.{FilesView.{File, file_number}, Edits.{IsEditedFile, IsPlaced, BringsFault, BringsNotOne, NamesNoMember}, Answers.{IsEditError}}
+use Rattle.mm_store.proofs.lemmas.{files.NamedLemmas.{OneCut}, edits.RefusalLemmas.{NotBoth, brings_no_fault, brings_one}}
 use Rattle.mm_store.specs.declared.edit.EditError.TheVariants as edits
-use Rattle.mm_store.specs.Language.FilesView.{File, file_number}
-use Rattle.mm_text.specs.Language.Asked.{Asked, edited_name, edited_text, IsAmong}
-use Rattle.mm_store.specs.Language.Edits.{IsEditedFile, IsPlaced, BringsFault, BringsNotOne, NamesNoMember}
-use Rattle.mm_store.specs.Language.Answers.{IsEditError}
-use Rattle.mm_store.proofs.lemmas.files.NamedLemmas.{OneCut}
-use Rattle.mm_store.proofs.lemmas.edits.RefusalLemmas.{NotBoth, brings_no_fault, brings_one}
 
 abbrev pub OneFault : Type 0
 OneFault = (text : List ℕ) (a b : TextFault) → IsFirstFault text a → IsFirstFault text b → a ≡ b

@@ -1,15 +1,10 @@
 -- An edit that is accepted is not refused.
-use Rattle.std.proofs.Common.{◌≡◌, ℕ, List, Option, Some, None, length, refl, sym, ap, ◌∙◌, subst, arith, slice_get}
-use Rattle.std.proofs.lemmas.Option.{none-some, same_Some}
-use Rattle.mm_text.specs.declared.fault.TextFault.{TextFault}
-use Rattle.mm_text.specs.Language.Cut.{IsCut, IsFirstFault}
+use Rattle.std.proofs.{Common.{◌≡◌, ℕ, List, Option, Some, None, length, refl, sym, ap, ◌∙◌, subst, arith, slice_get}, lemmas.Option.{none-some, same_Some}}
+use Rattle.mm_text.specs.{declared.fault.TextFault.{TextFault}, Language.{Cut.{IsCut, IsFirstFault}, Asked.{Asked, edited_text, IsAmong}}}
 use Rattle.mm_store.specs.declared.edit.EditError.{EditError}
-use Rattle.mm_store.specs.declared.edit.EditError.TheVariants as edits
-use Rattle.mm_store.specs.Language.FilesView.{File, bytes_of}
-use Rattle.mm_text.specs.Language.Asked.{Asked, edited_text, IsAmong}
-use Rattle.mm_store.specs.Language.Edits.{IsEditedFile, BringsOneUnit, BringsFault, BringsNotOne, IsEditOf, after_edit}
-use Rattle.mm_store.specs.Language.Answers.{IsEditError}
+use Rattle.mm_store.specs.Language.{FilesView.{File, bytes_of}, Edits.{IsEditedFile, BringsOneUnit, BringsFault, BringsNotOne, IsEditOf, after_edit}, Answers.{IsEditError}}
 use Rattle.mm_store.proofs.lemmas.files.NamedLemmas.{OneCut}
+use Rattle.mm_store.specs.declared.edit.EditError.TheVariants as edits
 
 abbrev pub NotBoth : Type 0
 NotBoth = (text : List ℕ) (pieces : List (List ℕ)) (tail : List ℕ) (fault : TextFault) → IsCut text pieces tail → ¬ IsFirstFault text fault

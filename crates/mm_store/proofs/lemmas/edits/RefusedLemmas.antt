@@ -1,20 +1,14 @@
 -- Edits that are done one after another, and why one of them is refused.
-use Rattle.std.proofs.Common.{◌≡◌, ℕ, zero, suc, ◌+◌, ◌<◌, List, [], ◌∷◌, ◌++◌, Some, is_some, length, map, take, get_or, refl, sym, ap, ◌∙◌, subst, arith, slice_get}
-use Rattle.std.specs.FinMap as finite
-use Rattle.std.proofs.Math.Numerals.{suc-eq-add-one}
+use Rattle.std.proofs.{Common.{◌≡◌, ℕ, zero, suc, ◌+◌, ◌<◌, List, [], ◌∷◌, ◌++◌, Some, is_some, length, map, take, get_or, refl, sym, ap, ◌∙◌, subst, arith, slice_get}, Math.Numerals.{suc-eq-add-one}}
 use Rattle.std.proofs.lemmas.Option.{none-some}
-use Rattle.mm_store.specs.declared.batch.BatchError.{BatchError}
-use Rattle.mm_store.specs.declared.batch.BatchError.TheVariants.{Edit, Memory}
-use Rattle.mm_store.specs.Language.Batches.{IsBatchError, IsBatchOf, KeepsReading, StartsPlaced}
-use Rattle.mm_text.specs.declared.edit.Edit as code
-use Rattle.mm_store.specs.Language.EditedKeys.{IsBatchByKeys, IsEditByKeys}
-use Rattle.mm_text.specs.Language.Asked.{Asked, asked}
-use Rattle.mm_store.specs.Language.Edits.{IsEditOf, IsPlaced}
-use Rattle.mm_store.specs.Language.FilesView.{File, FilesView}
-use Rattle.mm_store.specs.Language.Pieces.{text_in}
-use Rattle.mm_store.specs.Language.Undoing.{KeepsKeys, UndoView}
+use Rattle.mm_store.specs.declared.batch.BatchError.{BatchError, TheVariants.{Edit, Memory}}
+use Rattle.mm_store.specs.Language.{Batches.{IsBatchError, IsBatchOf, KeepsReading, StartsPlaced}, EditedKeys.{IsBatchByKeys, IsEditByKeys}, Edits.{IsEditOf, IsPlaced}, FilesView.{File, FilesView}}
+use Rattle.mm_store.specs.Language.{Pieces.{text_in}, Undoing.{KeepsKeys, UndoView}}
 use Rattle.mm_store.specs.Code.Batched.{IsNextError}
+use Rattle.mm_text.specs.Language.Asked.{Asked, asked}
 use Rattle.mm_store.proofs.lemmas.files.ViewLemmas.{some_is}
+use Rattle.std.specs.FinMap as finite
+use Rattle.mm_text.specs.declared.edit.Edit as code
 
 -- one edit more
 pub batch_last : (edits : List Asked) (edit : Asked) (files between after : List File) → IsBatchOf edits files between → IsEditOf edit between after → IsBatchOf (edits ++ edit ∷ []) files after

@@ -1,17 +1,13 @@
 -- What a replacement makes of the files.
 use Rattle.std.proofs.Common.{◌≡◌, ◌≢◌, ℕ, ◌+◌, ◌<◌, ◌≤◌, List, [], ◌∷◌, Option, Some, None, is_some, true, length, map, get_or, set, refl, sym, ap, ◌∙◌, arith}
-use Rattle.std.proofs.lemmas.List.{map-set, get_or-map, length-map}
-use Rattle.std.proofs.lemmas.List.Sums.{sum_by-set}
-use Rattle.std.specs.FinMap as finite
-use Rattle.mm_store.proofs.lemmas.files.MapLemmas.{get_put_other}
-use Rattle.mm_store.proofs.lemmas.files.ListLemmas.{times_at, places_with, places_in, in_files, texts_same, plain_same, plain_with, plain_pieces, bytes_with}
+use Rattle.std.proofs.lemmas.List.{map-set, get_or-map, length-map, Sums.{sum_by-set}}
+use Rattle.mm_store.specs.Code.{Edited.{pieces_in, with_pieces}, Kept.{one, places, standing_state, standing_count, deleted_state, deletions}}
+use Rattle.mm_store.specs.Language.{FilesView.{KeyedFile, plain_file, bytes_of}, Pieces.{PieceState, Standing, Parked, Replaced, HeldPiece, Pieces, in_state, with_state, standing_piece, text_under}}
+use Rattle.mm_store.specs.Language.Undoing.{keys_in, with_keys}
+use Rattle.mm_store.proofs.lemmas.files.{MapLemmas.{get_put_other}, ListLemmas.{times_at, places_with, places_in, in_files, texts_same, plain_same, plain_with, plain_pieces, bytes_with}}
 use Rattle.mm_store.proofs.lemmas.files.PieceLemmas.{text_put_same, text_put_other, text_state, stands_put, stands_parked}
 use Rattle.mm_store.proofs.lemmas.expansion.WeightLemmas.{weight_fresh, weight_put}
-use Rattle.mm_store.specs.Code.Edited.{pieces_in, with_pieces}
-use Rattle.mm_store.specs.Code.Kept.{one, places, standing_state, standing_count, deleted_state, deletions}
-use Rattle.mm_store.specs.Language.FilesView.{KeyedFile, plain_file, bytes_of}
-use Rattle.mm_store.specs.Language.Pieces.{PieceState, Standing, Parked, Replaced, HeldPiece, Pieces, in_state, with_state, standing_piece, text_under}
-use Rattle.mm_store.specs.Language.Undoing.{keys_in, with_keys}
+use Rattle.std.specs.FinMap as finite
 
 -- at most one piece is under a key
 pub at_most_one : (o : Option HeldPiece) → standing_count o ≤ 1

@@ -1,20 +1,12 @@
 -- What settling leaves as it was.
 use Rattle.std.proofs.Common.{◌≡◌, ◌≢◌, inl, inr, ℕ, zero, suc, ◌≤◌, List, [], ◌∷◌, Some, map, refl, ap, ◌∙◌, arith, slice_get}
-use Rattle.std.specs.FinMap as finite
-use Rattle.std.proofs.lemmas.Bool.{cases_eq}
-use Rattle.std.proofs.lemmas.List.Sums.{sum_by-cons}
-use Rattle.std.proofs.lemmas.Option.{none-some, same_Some}
-use Rattle.mm_store.specs.Language.Undoing as action
-use Rattle.mm_store.specs.Language.Batches.{KeepsStanding}
-use Rattle.mm_store.specs.Language.FilesView.{FilesView, KeyedFile, PieceView, file_view, files_in, piece_view, plain}
-use Rattle.mm_store.specs.Language.Pieces.{Removal, IsParked, Pieces, text_under}
+use Rattle.std.proofs.lemmas.{Bool.{cases_eq}, List.Sums.{sum_by-cons}, Option.{none-some, same_Some}}
+use Rattle.mm_store.specs.Language.{Batches.{KeepsStanding}, FilesView.{FilesView, KeyedFile, PieceView, file_view, files_in, piece_view, plain}, Pieces.{Removal, IsParked, Pieces, text_under}}
 use Rattle.mm_store.specs.Language.Undoing.{EditAction, CanSettle, spent}
-use Rattle.mm_store.specs.Code.Batched.{StandOnce}
-use Rattle.mm_store.specs.Code.Kept.{one, places, times}
-use Rattle.mm_store.proofs.lemmas.files.ListLemmas.{one_same, plain_same}
-use Rattle.mm_store.proofs.lemmas.files.MapLemmas.{get_drop_other}
-use Rattle.mm_store.proofs.lemmas.files.PieceLemmas.{text_drop_other}
-use Rattle.mm_store.proofs.lemmas.edits.StepLemmas.{parked}
+use Rattle.mm_store.specs.Code.{Batched.{StandOnce}, Kept.{one, places, times}}
+use Rattle.mm_store.proofs.lemmas.{files.{ListLemmas.{one_same, plain_same}, MapLemmas.{get_drop_other}, PieceLemmas.{text_drop_other}}, edits.StepLemmas.{parked}}
+use Rattle.std.specs.FinMap as finite
+use Rattle.mm_store.specs.Language.Undoing as action
 
 -- a key that is in a file is at a place
 times_there : (keys : List ℕ) (at key : ℕ) → slice_get keys at ≡ Some key → 1 ≤ times key keys

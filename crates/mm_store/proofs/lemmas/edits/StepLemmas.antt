@@ -1,21 +1,16 @@
 -- What each edit and its undoing make of the files.
 use Rattle.std.proofs.Common.{◌≡◌, ◌≢◌, ℕ, zero, suc, ◌+◌, ◌<◌, List, [], ◌∷◌, Option, Some, None, is_some, true, length, map, get_or, set, refl, sym, ap, ◌∙◌, arith}
+use Rattle.std.proofs.lemmas.{List.{map-set, get_or-map, length-map, Sums.{sum_by-set, sum_by-insert, sum_by-remove}}, Option.{same_Some, none-some}, Bool.Decides.{nat_tests}}
 use Rattle.std.specs.List.{insert, remove}
-use Rattle.std.proofs.lemmas.List.{map-set, get_or-map, length-map}
-use Rattle.std.proofs.lemmas.List.Sums.{sum_by-set, sum_by-insert, sum_by-remove}
-use Rattle.std.proofs.lemmas.Option.{same_Some, none-some}
-use Rattle.std.proofs.lemmas.Bool.Decides.{nat_tests}
-use Rattle.std.specs.FinMap as finite
-use Rattle.mm_store.proofs.lemmas.files.MapLemmas.{get_drop_other}
-use Rattle.mm_store.proofs.lemmas.files.ListLemmas.{one_same, one_other, places_with, places_in, in_files, texts_same, plain_same, plain_with, plain_pieces, bytes_with, keys_with}
-use Rattle.mm_store.proofs.lemmas.files.PieceLemmas.{text_put_same, text_put_other, text_drop_other, text_state, stands_put, stands_parked, stands_again, stands_dropped}
-use Rattle.mm_store.proofs.lemmas.expansion.WeightLemmas.{weight_fresh, weight_put, weight_dropped}
-use Rattle.mm_store.proofs.lemmas.edits.ReplaceLemmas.{stands, key_stands, replaced_weight}
-use Rattle.mm_store.specs.Code.Edited.{pieces_in, with_pieces}
-use Rattle.mm_store.specs.Code.Kept.{one, times, places, standing_state, standing_count, deleted_state, deletions}
+use Rattle.mm_store.specs.Code.{Edited.{pieces_in, with_pieces}, Kept.{one, times, places, standing_state, standing_count, deleted_state, deletions}}
 use Rattle.mm_store.specs.Language.FilesView.{File, KeyedFile, plain_file, bytes_of}
 use Rattle.mm_store.specs.Language.Pieces.{Standing, Parked, Removal, Replaced, Deleted, HeldPiece, Pieces, in_state, with_state, standing_piece, text_in, text_under, state_in, IsParked}
 use Rattle.mm_store.specs.Language.Undoing.{keys_in, with_keys, moved_list}
+use Rattle.mm_store.proofs.lemmas.files.MapLemmas.{get_drop_other}
+use Rattle.mm_store.proofs.lemmas.files.ListLemmas.{one_same, one_other, places_with, places_in, in_files, texts_same, plain_same, plain_with, plain_pieces, bytes_with, keys_with}
+use Rattle.mm_store.proofs.lemmas.files.PieceLemmas.{text_put_same, text_put_other, text_drop_other, text_state, stands_put, stands_parked, stands_again, stands_dropped}
+use Rattle.mm_store.proofs.lemmas.{expansion.WeightLemmas.{weight_fresh, weight_put, weight_dropped}, edits.ReplaceLemmas.{stands, key_stands, replaced_weight}}
+use Rattle.std.specs.FinMap as finite
 
 pub map_insert : {X Y : Type 0} (f : X → Y) (xs : List X) (i : ℕ) (y : X) → map f (insert xs i y) ≡ insert (map f xs) i (f y)
 map_insert f xs zero y = refl

@@ -1,27 +1,17 @@
 -- Edits are done, and their undoing gives the files of before.
 use Rattle.std.proofs.Common.{◌≡◌, ◌≢◌, inl, inr, ℕ, zero, suc, ◌<◌, ◌≤◌, List, [], ◌∷◌, Option, Some, None, is_some, true, length, get_or, set, refl, sym, ap, ◌∙◌, subst, arith}
+use Rattle.std.proofs.lemmas.{Bool.{cases_eq}, List.{set-set, set-get_or, get_or-set_same, length-set, Edits.{length-insert, length-remove, get_or-insert_at}}}
 use Rattle.std.specs.List.{insert, remove}
-use Rattle.std.proofs.lemmas.Bool.{cases_eq}
-use Rattle.std.proofs.lemmas.List.{set-set, set-get_or, get_or-set_same, length-set}
-use Rattle.std.proofs.lemmas.List.Edits.{length-insert, length-remove, get_or-insert_at}
-use Rattle.std.specs.FinMap as finite
-use Rattle.mm_store.specs.declared.undo.Action.{Action}
-use Rattle.mm_store.specs.declared.undo.Undo.TheInside.{Inside}
-use Rattle.mm_store.specs.Code.Undone.{undo_by, undo_view}
-use Rattle.mm_store.proofs.lemmas.files.PieceLemmas.{text_drop_other}
-use Rattle.mm_store.specs.Language.Undoing as action
-use Rattle.mm_store.proofs.lemmas.files.MapLemmas.{get_put_other, get_drop_same, get_drop_other, same_but}
-use Rattle.mm_store.proofs.lemmas.files.ListLemmas.{in_files, back, keys_with}
-use Rattle.mm_store.proofs.lemmas.files.EntryLemmas.{same_view}
-use Rattle.mm_store.proofs.lemmas.files.PieceLemmas.{text_put_other, text_state, get_state_same, get_state_other}
-use Rattle.mm_store.proofs.lemmas.edits.ReplaceLemmas.{key_stands, plain_replaced, old_other}
-use Rattle.mm_store.proofs.lemmas.edits.StepLemmas.{plain_inserted, plain_deleted, plain_moved, bytes_deleted, bytes_moved}
-use Rattle.mm_store.specs.Language.EditedKeys.{replaced, inserted, deleted}
-use Rattle.mm_store.specs.Code.Edited.{IsReplaced, IsInserted, IsDeleted, IsMoved}
-use Rattle.mm_store.specs.Code.Kept.{places, standing_state, standing_count}
-use Rattle.mm_store.specs.Language.FilesView.{KeyedFile, FilesView, plain, bytes_of}
+use Rattle.mm_store.specs.declared.undo.{Action.{Action}, Undo.TheInside.{Inside}}
+use Rattle.mm_store.specs.Code.{Undone.{undo_by, undo_view}, Edited.{IsReplaced, IsInserted, IsDeleted, IsMoved}, Kept.{places, standing_state, standing_count}}
+use Rattle.mm_store.specs.Language.{EditedKeys.{replaced, inserted, deleted}, FilesView.{KeyedFile, FilesView, plain, bytes_of}}
 use Rattle.mm_store.specs.Language.Pieces.{PieceState, Standing, Parked, Removal, Replaced, Deleted, HeldPiece, Pieces, in_state, with_state, standing_piece, state_in, IsParked}
 use Rattle.mm_store.specs.Language.Undoing.{UndoView, EditAction, KeepsOthers, reversed, spent, undone_key, settled_key, keys_in, key_at, moved_list, moved, undone}
+use Rattle.mm_store.proofs.lemmas.files.{PieceLemmas.{text_drop_other, text_put_other, text_state, get_state_same, get_state_other}, MapLemmas.{get_put_other, get_drop_same, get_drop_other, same_but}}
+use Rattle.mm_store.proofs.lemmas.files.{ListLemmas.{in_files, back, keys_with}, EntryLemmas.{same_view}}
+use Rattle.mm_store.proofs.lemmas.edits.{ReplaceLemmas.{key_stands, plain_replaced, old_other}, StepLemmas.{plain_inserted, plain_deleted, plain_moved, bytes_deleted, bytes_moved}}
+use Rattle.std.specs.FinMap as finite
+use Rattle.mm_store.specs.Language.Undoing as action
 
 -- what an undo says, by what was done
 pub undo_is : (inside : Inside) (did : Action) (undo : UndoView) → undo_view inside ≡ undo → inside.action ≡ did → undo_by inside.file did ≡ undo

@@ -1,19 +1,13 @@
 -- The steps of a walk do not go by keys.
-use Rattle.std.proofs.Common.{◌≡◌, ℕ, List, [], ◌∷◌, Option, Some, None, map, refl, sym, ap, ◌∙◌, subst, inl, inr, slice_get}
-use Rattle.std.specs.List.{AllByRecursion}
-use Rattle.std.specs.Option.{option_map}
-use Rattle.std.proofs.lemmas.Option.{slice_get-map}
+use Rattle.std.proofs.{Common.{◌≡◌, ℕ, List, [], ◌∷◌, Option, Some, None, map, refl, sym, ap, ◌∙◌, subst, inl, inr, slice_get}, lemmas.Option.{slice_get-map}}
+use Rattle.std.specs.{List.{AllByRecursion}, Option.{option_map}}
 use Rattle.mm_text.specs.Language.Cut.{HoldsOne}
 use Rattle.mm_store.specs.declared.walk.Spot.{Spot}
-use Rattle.mm_store.specs.declared.walk.Step.TheVariants as steps
-use Rattle.mm_store.specs.Language.FilesView.{PieceView, FileView, FilesView, files_in, plain, number_of}
-use Rattle.mm_store.specs.Language.Expansion.{Placed, IsInclusion}
-use Rattle.mm_store.specs.Language.Keyless.{bare, keyless_placed}
+use Rattle.mm_store.specs.Language.{FilesView.{PieceView, FileView, FilesView, files_in, plain, number_of}, Expansion.{Placed, IsInclusion}, Keyless.{bare, keyless_placed}}
 use Rattle.mm_store.specs.Language.Walking.{LevelView, WalkView}
-use Rattle.mm_store.specs.Code.Gains.{HoldUnits}
-use Rattle.mm_store.specs.Code.Steps.{piece_in, piece_at, IsHere, IncludesNothing, Includes, spot_at, Tells, IsStep}
-use Rattle.mm_store.proofs.lemmas.files.ViewLemmas.{there_from_map}
-use Rattle.mm_store.proofs.lemmas.expansion.KeylessLemmas.{keyless_piece, keyless_file, number_keyless, parts_keyless, keyless_bare}
+use Rattle.mm_store.specs.Code.{Gains.{HoldUnits}, Steps.{piece_in, piece_at, IsHere, IncludesNothing, Includes, spot_at, Tells, IsStep}}
+use Rattle.mm_store.proofs.lemmas.{files.ViewLemmas.{there_from_map}, expansion.KeylessLemmas.{keyless_piece, keyless_file, number_keyless, parts_keyless, keyless_bare}}
+use Rattle.mm_store.specs.declared.walk.Step.TheVariants as steps
 
 in_keyless : (o : Option FileView) (n : ℕ) → piece_in (option_map keyless_file o) n ≡ option_map keyless_piece (piece_in o n)
 in_keyless None n = refl

@@ -1,18 +1,13 @@
 -- What the files weigh whose names are not taken. Each inclusion of a file takes its name, and its weight with it.
-use Rattle.std.proofs.Common.{◌≡◌, ℕ, zero, suc, ◌+◌, ◌≤◌, Bool, true, false, ◌||◌, List, [], ◌∷◌, ◌++◌, Some, length, map, refl, sym, ap, ◌∙◌, subst, arith, length-append, Contains, ◌⊎◌, inl, inr, if◌then◌else◌, slice_get}
-use Rattle.std.specs.List.{list_any, concat}
-use Rattle.std.specs.Str.{bytes_eq}
-use Rattle.std.proofs.lemmas.Bool.{false≢true}
-use Rattle.std.proofs.lemmas.Slice.Eq.{bytes_eq-Decides}
-use Rattle.std.proofs.lemmas.List.Elements.{Contains-append_left, Contains-append_right, Contains-append_cases}
-use Rattle.std.proofs.lemmas.Option.{none-some, same_Some}
+use Rattle.std.proofs.Common.{◌≡◌, ℕ, zero, suc, ◌+◌, ◌≤◌, Bool, true, false, ◌||◌, List, [], ◌∷◌, ◌++◌, Some, length, map, refl, sym, ap, ◌∙◌, subst, arith, length-append, Contains, ◌⊎◌, inl, inr}
+use Rattle.std.proofs.Common.{if◌then◌else◌, slice_get}
+use Rattle.std.proofs.lemmas.{Bool.{false≢true}, Slice.Eq.{bytes_eq-Decides}, List.Elements.{Contains-append_left, Contains-append_right, Contains-append_cases}, Option.{none-some, same_Some}}
 use Rattle.std.proofs.lemmas.Simd.{map-map}
+use Rattle.std.specs.{List.{list_any, concat}, Str.{bytes_eq}}
 use Rattle.mm_store.specs.declared.item.Item.{Item}
-use Rattle.mm_store.specs.Language.Pieces.{text_under}
-use Rattle.mm_store.specs.Language.FilesView.{KeyedFile, PieceView, FileView, FilesView, files_in, file_view, piece_view, piece_texts, plain, plain_file, bytes_of}
+use Rattle.mm_store.specs.Language.{Pieces.{text_under}, FilesView.{KeyedFile, PieceView, FileView, FilesView, files_in, file_view, piece_view, piece_texts, plain, plain_file, bytes_of}}
 use Rattle.mm_store.specs.Language.Expansion.{Placed, Expands, nothing, own, again, missing, included, IsExpansion}
-use Rattle.mm_store.proofs.lemmas.expansion.CountLemmas.{placed_few}
-use Rattle.mm_store.proofs.lemmas.files.GrowthLemmas.{name_of_number}
+use Rattle.mm_store.proofs.lemmas.{expansion.CountLemmas.{placed_few}, files.GrowthLemmas.{name_of_number}}
 
 abbrev pub is_among : List ℕ → List (List ℕ) → Bool
 is_among name names = list_any (λ other. bytes_eq name other) names

@@ -1,17 +1,12 @@
 -- Items are no more than bytes.
-use Rattle.std.proofs.Common.{◌≡◌, ℕ, suc, ◌+◌, ◌<◌, ◌≤◌, Bool, false, if◌then◌else◌, List, [], ◌∷◌, ◌++◌, length, refl, ap, arith, length-append}
+use Rattle.std.proofs.{Common.{◌≡◌, ℕ, suc, ◌+◌, ◌<◌, ◌≤◌, Bool, false, if◌then◌else◌, List, [], ◌∷◌, ◌++◌, length, refl, ap, arith, length-append}, lemmas.List.{length-map}}
 use Rattle.std.specs.List.{flat_map, concat}
-use Rattle.std.proofs.lemmas.List.{length-map}
-use Rattle.mm_text.specs.declared.word.Word.{Word}
-use Rattle.mm_text.specs.Language.Run.{Run, runs, runs_from, with_front, is_white, ends_run}
-use Rattle.mm_text.specs.Language.Reading as reading
-use Rattle.mm_text.specs.Language.Reading.{Single, Comment, segment_words, segment_runs, HasWords}
-use Rattle.mm_text.specs.Language.Unit.{Shape, Declaration, Labelled, Provable, Inclusion, Units, Nothing, Simple, Block, shape_tokens, unit_tokens, token_of}
-use Rattle.mm_text.specs.declared.part.PartKind.TheVariants.{BlockEnd}
-use Rattle.mm_text.specs.Language.Part.{part, parts_of}
-use Rattle.mm_store.specs.Language.FilesView.{PieceView, piece_texts}
-use Rattle.mm_store.specs.Language.Expansion.{Placed, named_parts, placed_part, ArePartsOf, ArePlaced}
+use Rattle.mm_text.specs.declared.{word.Word.{Word}, part.PartKind.TheVariants.{BlockEnd}}
+use Rattle.mm_text.specs.Language.{Run.{Run, runs, runs_from, with_front, is_white, ends_run}, Reading.{Single, Comment, segment_words, segment_runs, HasWords}}
+use Rattle.mm_text.specs.Language.{Unit.{Shape, Declaration, Labelled, Provable, Inclusion, Units, Nothing, Simple, Block, shape_tokens, unit_tokens, token_of}, Part.{part, parts_of}}
+use Rattle.mm_store.specs.Language.{FilesView.{PieceView, piece_texts}, Expansion.{Placed, named_parts, placed_part, ArePartsOf, ArePlaced}}
 use Rattle.mm_store.proofs.lemmas.expansion.NameLemmas.{named_are}
+use Rattle.mm_text.specs.Language.Reading as reading
 
 front_count : (at b : ℕ) (runs : List Run) → length (with_front at b runs) ≡ length runs
 front_count at b [] = refl

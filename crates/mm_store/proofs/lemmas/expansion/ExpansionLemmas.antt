@@ -1,9 +1,6 @@
 -- Files give one list of items at most.
-use Rattle.std.proofs.Common.{◌≡◌, ℕ, ◌+◌, true, List, [], ◌∷◌, ◌++◌, Some, None, map, refl, sym, ap, ◌∙◌, subst, Contains, ◌⊎◌, inl, inr, slice_get}
-use Rattle.std.proofs.lemmas.Option.{none-some, same_Some}
-use Rattle.mm_text.specs.declared.word.Word.{Word}
-use Rattle.mm_text.specs.Language.Reading.{HasWords}
-use Rattle.mm_text.specs.Language.Unit.{Units, AreUnits, unit_tokens, tokens_of}
+use Rattle.std.proofs.{Common.{◌≡◌, ℕ, ◌+◌, true, List, [], ◌∷◌, ◌++◌, Some, None, map, refl, sym, ap, ◌∙◌, subst, Contains, ◌⊎◌, inl, inr, slice_get}, lemmas.Option.{none-some, same_Some}}
+use Rattle.mm_text.specs.{declared.word.Word.{Word}, Language.{Reading.{HasWords}, Unit.{Units, AreUnits, unit_tokens, tokens_of}}}
 use Rattle.mm_store.specs.declared.item.Item.{Item}
 use Rattle.mm_store.specs.Language.FilesView.{PieceView, FileView, number_of}
 use Rattle.mm_store.specs.Language.Expansion.{Placed, IsInclusion, placed_item, named_parts, placed_part, ArePartsOf, ArePlaced, Expands, nothing, own, again, missing, included, IsExpansion}

@@ -1,13 +1,9 @@
 -- The expansion one part at a time, and the expansion as a whole.
-use Rattle.std.proofs.Common.{◌≡◌, ℕ, List, [], ◌∷◌, ◌++◌, map, refl, sym, ap, ◌∙◌, subst, append_assoc, Contains, inl, inr}
+use Rattle.std.proofs.{Common.{◌≡◌, ℕ, List, [], ◌∷◌, ◌++◌, map, refl, sym, ap, ◌∙◌, subst, append_assoc, Contains, inl, inr}, lemmas.List.Elements.{Contains-append_left}}
 use Rattle.std.specs.List.{AllByRecursion}
-use Rattle.std.proofs.lemmas.List.Elements.{Contains-append_left}
-use Rattle.mm_store.specs.declared.item.Item.{Item}
-use Rattle.mm_store.specs.Language.FilesView.{FileView}
-use Rattle.mm_store.specs.Language.Expansion.{Placed, IsInclusion, placed_item, Expands}
-use Rattle.mm_store.specs.Language.Expansion as whole
-use Rattle.mm_store.specs.Language.Walking.{Goes, here, own, again, missing, included}
+use Rattle.mm_store.specs.{declared.item.Item.{Item}, Language.{FilesView.{FileView}, Expansion.{Placed, IsInclusion, placed_item, Expands}, Walking.{Goes, here, own, again, missing, included}}}
 use Rattle.mm_store.proofs.lemmas.expansion.ExpansionLemmas.{Way, way}
+use Rattle.mm_store.specs.Language.Expansion as whole
 
 -- one way and then another
 pub goes_joined : {files : List FileView} {a b c : List Placed} {names between after : List (List ℕ)} {items more : List Item} → Goes files a names items b between → Goes files b between more c after → Goes files a names (items ++ more) c after

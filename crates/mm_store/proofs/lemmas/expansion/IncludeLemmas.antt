@@ -1,20 +1,15 @@
 -- A piece is one inclusion, or includes nothing.
 use Rattle.std.proofs.Common.{◌≡◌, ℕ, ◌<◌, true, false, length, arith, List, [], ◌∷◌, Some, map, refl, sym, ap, ◌∙◌, subst, ◌⊎◌, inl, inr, ◌==◌, slice_get}
+use Rattle.std.proofs.lemmas.{Bool.{eqb-true, eqb-false}, Option.{none-some, same_Some, slice_get_within}}
 use Rattle.std.specs.List.{AllByRecursion}
-use Rattle.std.proofs.lemmas.Bool.{eqb-true, eqb-false}
-use Rattle.std.proofs.lemmas.Option.{none-some, same_Some, slice_get_within}
-use Rattle.mm_text.specs.declared.word.Word.{Word}
-use Rattle.mm_text.specs.declared.part.Part.{Part}
-use Rattle.mm_text.specs.declared.part.PartKind.TheVariants as kinds
-use Rattle.mm_text.specs.Language.Reading.{HasWords}
-use Rattle.mm_text.specs.Language.Unit.{Declaration, Labelled, Provable, Inclusion, Units, Nothing, Simple, Block, AreUnits}
-use Rattle.mm_text.specs.Language.Part.{HasUnits, HasParts, part, part_bytes, shape_part}
-use Rattle.mm_text.specs.Language.Cut.{IsOne, HoldsOne}
+use Rattle.mm_text.specs.declared.{word.Word.{Word}, part.Part.{Part}}
+use Rattle.mm_text.specs.Language.{Reading.{HasWords}, Unit.{Declaration, Labelled, Provable, Inclusion, Units, Nothing, Simple, Block, AreUnits}}
+use Rattle.mm_text.specs.Language.{Part.{HasUnits, HasParts, part, part_bytes, shape_part}, Cut.{IsOne, HoldsOne}}
 use Rattle.mm_store.specs.declared.files.PieceKey.{PieceKey}
-use Rattle.mm_store.specs.Language.FileFacts.{second_word}
-use Rattle.mm_store.specs.Language.Expansion.{Named, Placed, IsInclusion, included_name, nameless, named_parts, placed_part, ArePartsOf}
+use Rattle.mm_store.specs.Language.{FileFacts.{second_word}, Expansion.{Named, Placed, IsInclusion, included_name, nameless, named_parts, placed_part, ArePartsOf}}
 use Rattle.mm_store.specs.Code.Steps.{IncludesNothing, Includes}
 use Rattle.mm_store.proofs.lemmas.expansion.NameLemmas.{StandsAlone, all_and, all_named, named_are, inner_kind, declared_kind, labelled_kind}
+use Rattle.mm_text.specs.declared.part.PartKind.TheVariants as kinds
 
 abbrev IsOwn : Named → Type 0
 IsOwn named = named.part.kind ≡ kinds.Inclusion → ⊥

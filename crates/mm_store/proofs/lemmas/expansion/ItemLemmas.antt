@@ -1,23 +1,14 @@
 -- The items that a walk goes past, as the code puts them one after another.
-use Rattle.std.proofs.Common.{◌≡◌, ℕ, List, [], ◌∷◌, ◌++◌, map, sym, ap, ◌∙◌, subst, append-nil, inl, inr, IsSome}
-use Rattle.std.specs.FinMap as finite
-use Rattle.std.proofs.lemmas.Simd.{map-map}
-use Rattle.mm_text.specs.declared.part.Part.{Part}
-use Rattle.mm_text.specs.Language.Part.{HasUnits, HasParts}
-use Rattle.mm_store.specs.declared.item.Item.{Item}
-use Rattle.mm_store.specs.declared.walk.Spot.{Spot}
-use Rattle.mm_store.specs.declared.walk.Step.TheVariants as steps
-use Rattle.mm_store.specs.Language.Pieces.{text_under}
-use Rattle.mm_store.specs.Language.FilesView.{PieceView, FilesView, files_in}
-use Rattle.mm_store.specs.Language.FileFacts.{HoldsPieces}
-use Rattle.mm_store.specs.Language.Expansion.{Placed, placed_item, named_parts, placed_part, ArePartsOf}
+use Rattle.std.proofs.{Common.{◌≡◌, ℕ, List, [], ◌∷◌, ◌++◌, map, sym, ap, ◌∙◌, subst, append-nil, inl, inr, IsSome}, lemmas.Simd.{map-map}}
+use Rattle.mm_text.specs.{declared.part.Part.{Part}, Language.Part.{HasUnits, HasParts}}
+use Rattle.mm_store.specs.declared.{item.Item.{Item}, walk.Spot.{Spot}}
+use Rattle.mm_store.specs.Language.{Pieces.{text_under}, FilesView.{PieceView, FilesView, files_in}, FileFacts.{HoldsPieces}, Expansion.{Placed, placed_item, named_parts, placed_part, ArePartsOf}}
 use Rattle.mm_store.specs.Language.Walking.{LevelView, WalkView, IsWalk}
-use Rattle.mm_store.specs.Code.Gains.{HoldUnits, item_of_part}
-use Rattle.mm_store.specs.Code.Steps.{spot_at, Tells, IsStep}
-use Rattle.mm_store.proofs.lemmas.expansion.ExpansionLemmas.{OneReading, OneDivision}
-use Rattle.mm_store.proofs.lemmas.expansion.NameLemmas.{named_are}
+use Rattle.mm_store.specs.Code.{Gains.{HoldUnits, item_of_part}, Steps.{spot_at, Tells, IsStep}}
+use Rattle.mm_store.proofs.lemmas.expansion.{ExpansionLemmas.{OneReading, OneDivision}, NameLemmas.{named_are}, WalkStepLemmas.{leaves, comes_again, enters, passes, passes_told, walk_on}}
 use Rattle.mm_store.proofs.lemmas.files.ViewLemmas.{PieceThere, next_there, held_there}
-use Rattle.mm_store.proofs.lemmas.expansion.WalkStepLemmas.{leaves, comes_again, enters, passes, passes_told, walk_on}
+use Rattle.std.specs.FinMap as finite
+use Rattle.mm_store.specs.declared.walk.Step.TheVariants as steps
 
 -- the items of a piece, part by part
 items_are : (level : LevelView) (piece : PieceView) (placed : List Placed) (parts : List Part) → ArePartsOf level.file level.piece piece placed → HasParts piece.text parts → map (item_of_part (spot_at level piece)) parts ≡ map placed_item placed

@@ -1,15 +1,11 @@
 -- Files that differ in the keys of their pieces alone give items that differ in their keys alone.
-use Rattle.std.proofs.Common.{◌≡◌, ℕ, ◌+◌, List, [], ◌∷◌, Some, map, bytes_eq, refl, sym, ap, ◌∙◌, subst, slice_get}
+use Rattle.std.proofs.{Common.{◌≡◌, ℕ, ◌+◌, List, [], ◌∷◌, Some, map, bytes_eq, refl, sym, ap, ◌∙◌, subst, slice_get}, lemmas.{List.{map-append}, Option.{slice_get-map}, Simd.{map-map}}}
 use Rattle.std.specs.Option.{option_map}
-use Rattle.std.proofs.lemmas.List.{map-append}
-use Rattle.std.proofs.lemmas.Option.{slice_get-map}
-use Rattle.std.proofs.lemmas.Simd.{map-map}
 use Rattle.mm_store.specs.declared.item.Item.{Item}
 use Rattle.mm_store.specs.Language.FilesView.{KeyedFile, PieceView, FileView, FilesView, files_in, file_view, piece_view, plain, plain_file, number_of, without_keys}
 use Rattle.mm_store.specs.Language.Expansion.{Placed, named_parts, placed_part, ArePartsOf, ArePlaced, Expands, nothing, own, again, missing, included, IsExpansion}
 use Rattle.mm_store.specs.Language.Keyless.{one_key, bare_file, bare, keyless_placed, keyless_item}
-use Rattle.mm_store.proofs.lemmas.expansion.ExpansionLemmas.{OneReading, OneDivision, expansion_one}
-use Rattle.mm_store.proofs.lemmas.files.ViewLemmas.{position_map}
+use Rattle.mm_store.proofs.lemmas.{expansion.ExpansionLemmas.{OneReading, OneDivision, expansion_one}, files.ViewLemmas.{position_map}}
 
 -- a piece, and a file, under one key
 abbrev pub keyless_piece : PieceView → PieceView

@@ -1,27 +1,19 @@
 -- The names of inclusions: those of the units, and the second words of the items' own bytes.
 use Rattle.std.proofs.Common.{◌≡◌, ◌⊎◌, ℕ, ◌+◌, ◌<◌, false, List, [], ◌∷◌, ◌++◌, Some, None, map, refl, sym, ap, ◌∙◌, subst, append_assoc, length, arith, length-append, inl, inr, All, slice_get}
+use Rattle.std.proofs.lemmas.{Bool.{false≢true}, List.{get_or_at, map-append, Elements.{All-from_recursion}}, Option.{slice_get-get_or}}
 use Rattle.std.specs.List.{AllByRecursion}
-use Rattle.std.proofs.lemmas.Bool.{false≢true}
-use Rattle.std.proofs.lemmas.List.{get_or_at, map-append}
-use Rattle.std.proofs.lemmas.List.Elements.{All-from_recursion}
-use Rattle.std.proofs.lemmas.Option.{slice_get-get_or}
-use Rattle.mm_text.specs.declared.word.Word.{Word}
-use Rattle.mm_text.specs.declared.word.Keyword.TheVariants.{Constants, Variables, Disjoint, Floating, Essential, Axiom}
-use Rattle.mm_text.specs.declared.part.PartKind.{PartKind}
-use Rattle.mm_text.specs.declared.part.PartKind.TheVariants as parts
+use Rattle.mm_text.specs.declared.{word.{Word.{Word}, Keyword.TheVariants.{Constants, Variables, Disjoint, Floating, Essential, Axiom}}, part.PartKind.{PartKind}}
 use Rattle.mm_text.specs.Language.Reading.{HasWords}
 use Rattle.mm_text.specs.Language.Unit.{Token, IsKeyword, Shape, Declaration, Labelled, Provable, Inclusion, shape_tokens, IsShape, Units, Nothing, Simple, Block, AreUnits, spellings, tokens_of}
-use Rattle.mm_text.specs.Language.Part.{HasUnits, part, part_bytes, parts_of, shape_part, word_part}
-use Rattle.mm_text.specs.Language.Cut.{IsOne, HoldsOne}
+use Rattle.mm_text.specs.Language.{Part.{HasUnits, part, part_bytes, parts_of, shape_part, word_part}, Cut.{IsOne, HoldsOne}}
 use Rattle.mm_store.specs.declared.item.Item.{Item}
-use Rattle.mm_store.specs.declared.item.ItemKind.TheVariants as items
-use Rattle.mm_store.specs.Language.Pieces.{text_in, text_under}
-use Rattle.mm_store.specs.Language.FilesView.{PieceView, FileView, FilesView, files_in, number_of}
-use Rattle.mm_store.specs.Language.FileFacts.{NamesNoFile, second_word}
-use Rattle.mm_store.specs.Language.Expansion.{Named, Placed, IsInclusion, included_name, item_kind, placed_item, nameless, named_parts, placed_part, ArePlaced, Expands, nothing, own, again, missing, included, IsExpansion}
+use Rattle.mm_store.specs.Language.{Pieces.{text_in, text_under}, FilesView.{PieceView, FileView, FilesView, files_in, number_of}, FileFacts.{NamesNoFile, second_word}}
+use Rattle.mm_store.specs.Language.Expansion.{Named, Placed, IsInclusion, included_name, item_kind, placed_item, nameless, named_parts, placed_part, ArePlaced, Expands, nothing, own, again, missing}
+use Rattle.mm_store.specs.Language.Expansion.{included, IsExpansion}
 use Rattle.mm_store.specs.Code.Gains.{IsNamed, HoldUnits}
-use Rattle.mm_store.proofs.lemmas.expansion.ExpansionLemmas.{OneReading, OneDivision}
-use Rattle.mm_store.proofs.lemmas.files.ViewLemmas.{piece_there}
+use Rattle.mm_store.proofs.lemmas.{expansion.ExpansionLemmas.{OneReading, OneDivision}, files.ViewLemmas.{piece_there}}
+use Rattle.mm_text.specs.declared.part.PartKind.TheVariants as parts
+use Rattle.mm_store.specs.declared.item.ItemKind.TheVariants as items
 
 -- the named parts are the parts
 pub named_are : (units : Units) → map (λ named. named.part) (named_parts units) ≡ parts_of units

@@ -1,14 +1,9 @@
 -- A set of names, and what it takes.
-use Rattle.std.proofs.Common.{◌≡◌, ℕ, zero, suc, ◌<◌, Bool, true, false, Result, Ok, Err, ◌||◌, List, [], ◌∷◌, ◌++◌, map, get_or, refl, sym, ap, ◌∙◌, arith, Contains, ◌⊎◌, inl, inr, Vec, if◌then◌else◌}
-use Rattle.std.specs.Result.{IsErrAnd}
-use Rattle.std.specs.List.{list_any}
-use Rattle.std.specs.Str.{bytes_eq}
-use Rattle.std.proofs.lemmas.Bool.{false≢true, false_from_ne_true}
-use Rattle.std.proofs.lemmas.Slice.Eq.{bytes_eq-Decides}
-use Rattle.std.proofs.lemmas.List.{map_push}
-use Rattle.std.proofs.lemmas.List.Elements.{Contains-append_right, Contains-append_cases}
-use Rattle.mm_store.specs.declared.error.StoreError.{StoreError}
-use Rattle.mm_store.specs.declared.error.StoreError.TheVariants.{NoTop, Memory}
+use Rattle.std.proofs.Common.{◌≡◌, ℕ, zero, suc, ◌<◌, Bool, true, false, Result, Ok, Err, ◌||◌, List, [], ◌∷◌, ◌++◌, map, get_or, refl, sym, ap, ◌∙◌, arith, Contains, ◌⊎◌, inl, inr, Vec}
+use Rattle.std.proofs.Common.{if◌then◌else◌}
+use Rattle.std.proofs.lemmas.{Bool.{false≢true, false_from_ne_true}, Slice.Eq.{bytes_eq-Decides}, List.{map_push, Elements.{Contains-append_right, Contains-append_cases}}}
+use Rattle.std.specs.{Result.{IsErrAnd}, List.{list_any}, Str.{bytes_eq}}
+use Rattle.mm_store.specs.declared.error.StoreError.{StoreError, TheVariants.{NoTop, Memory}}
 use Rattle.indexmap.specs.IndexSet.{insert_key}
 
 abbrev pub tests : {Y : Type 0} → List ℕ → List (Vec ℕ Y) → Bool

@@ -1,19 +1,13 @@
 -- The pieces of items are in their files, and their texts can be read.
 use Rattle.std.proofs.Common.{◌≡◌, ℕ, ◌+◌, ◌<◌, List, [], ◌∷◌, ◌++◌, Some, length, map, refl, sym, ap, ◌∙◌, subst, append_assoc, arith, length-append, slice_get, All}
+use Rattle.std.proofs.lemmas.{List.{get_or_at, Elements.{All-from_recursion, recursion_from_All}}, Option.{slice_get-get_or}}
 use Rattle.std.specs.List.{AllByRecursion}
-use Rattle.std.specs.FinMap as finite
-use Rattle.std.proofs.lemmas.List.{get_or_at}
-use Rattle.std.proofs.lemmas.List.Elements.{All-from_recursion, recursion_from_All}
-use Rattle.std.proofs.lemmas.Option.{slice_get-get_or}
-use Rattle.mm_text.specs.Language.Unit.{Units}
-use Rattle.mm_text.specs.Language.Part.{HasUnits, IsReadable, parts_of}
+use Rattle.mm_text.specs.Language.{Unit.{Units}, Part.{HasUnits, IsReadable, parts_of}}
 use Rattle.mm_store.specs.declared.item.Item.{Item}
-use Rattle.mm_store.specs.Language.Pieces.{text_in, text_under}
-use Rattle.mm_store.specs.Language.FilesView.{KeyedFile, PieceView, FileView, FilesView, files_in}
-use Rattle.mm_store.specs.Language.FileFacts.{CanBeRead, StandsIn, HoldsPieces}
+use Rattle.mm_store.specs.Language.{Pieces.{text_in, text_under}, FilesView.{KeyedFile, PieceView, FileView, FilesView, files_in}, FileFacts.{CanBeRead, StandsIn, HoldsPieces}}
 use Rattle.mm_store.specs.Language.Expansion.{Placed, placed_item, Named, named_parts, placed_part, ArePlaced, Expands, nothing, own, again, missing, included, IsExpansion}
-use Rattle.mm_store.proofs.lemmas.expansion.NameLemmas.{all_and, all_mapped, named_are}
-use Rattle.mm_store.proofs.lemmas.files.ViewLemmas.{PieceThere, piece_there, held_there, some_is}
+use Rattle.mm_store.proofs.lemmas.{expansion.NameLemmas.{all_and, all_mapped, named_are}, files.ViewLemmas.{PieceThere, piece_there, held_there, some_is}}
+use Rattle.std.specs.FinMap as finite
 
 abbrev pub PartsAreTexts : Type 0
 PartsAreTexts = (text : List ℕ) (units : Units) → HasUnits text units → All (IsReadable text) (parts_of units)

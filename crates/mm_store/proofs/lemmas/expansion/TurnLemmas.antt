@@ -1,13 +1,10 @@
 -- A walk takes a number of turns at most: each step but the last makes what is left smaller.
 use Rattle.std.proofs.Common.{◌≡◌, ℕ, ◌+◌, ◌*◌, ◌-◌, ◌<◌, ◌≤◌, Bool, true, false, List, [], ◌∷◌, ◌++◌, Option, Some, None, length, ap, ◌∙◌, arith, inl, inr, slice_get}
 use Rattle.std.proofs.lemmas.Option.{none-some, slice_get_within}
-use Rattle.mm_store.specs.declared.walk.Spot.{Spot}
-use Rattle.mm_store.specs.declared.walk.Step.TheVariants as steps
-use Rattle.mm_store.specs.Language.FilesView.{PieceView, FileView}
-use Rattle.mm_store.specs.Language.Walking.{LevelView, WalkView}
+use Rattle.mm_store.specs.{declared.walk.Spot.{Spot}, Language.{FilesView.{PieceView, FileView}, Walking.{LevelView, WalkView}}}
 use Rattle.mm_store.specs.Code.Steps.{piece_in, behind, beginning, IsHere, Leaves, ComesAgain, Enters, Passes, PassesTold, Tells, IsStep}
-use Rattle.mm_store.proofs.lemmas.files.GrowthLemmas.{name_of_number, there_number}
-use Rattle.mm_store.proofs.lemmas.expansion.BudgetLemmas.{weight, weight_less, weight_entered}
+use Rattle.mm_store.proofs.lemmas.{files.GrowthLemmas.{name_of_number, there_number}, expansion.BudgetLemmas.{weight, weight_less, weight_entered}}
+use Rattle.mm_store.specs.declared.walk.Step.TheVariants as steps
 
 -- how many turns a file takes: one for each piece, one to leave it, and one more
 abbrev pub file_turns : FileView → ℕ

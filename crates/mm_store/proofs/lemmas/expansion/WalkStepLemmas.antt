@@ -1,18 +1,12 @@
 -- The steps of a walk go through the expansion.
-use Rattle.std.proofs.Common.{◌≡◌, ℕ, zero, suc, ◌+◌, ◌<◌, ◌≤◌, false, List, [], ◌∷◌, ◌++◌, Some, None, length, map, drop, refl, sym, ap, ◌∙◌, subst, append_assoc, append-nil, arith, length-append, Contains, slice_get}
-use Rattle.std.proofs.Math.Seq.{drop-cons}
-use Rattle.std.proofs.lemmas.List.{drop_all, get_or_at}
-use Rattle.std.proofs.lemmas.Option.{none-some, slice_get_within, slice_get-get_or, get_or_from_slice_get}
-use Rattle.mm_store.specs.declared.item.Item.{Item}
-use Rattle.mm_store.specs.declared.walk.Spot.{Spot}
-use Rattle.mm_store.specs.Language.FilesView.{PieceView, FileView, number_of}
-use Rattle.mm_store.specs.Language.Expansion.{Placed, placed_item, named_parts, placed_part, ArePartsOf, ArePlaced, IsExpansion}
+use Rattle.std.proofs.Common.{◌≡◌, ℕ, zero, suc, ◌+◌, ◌<◌, ◌≤◌, false, List, [], ◌∷◌, ◌++◌, Some, None, length, map, drop, refl, sym, ap, ◌∙◌, subst, append_assoc, append-nil, arith, length-append}
+use Rattle.std.proofs.Common.{Contains, slice_get}
+use Rattle.std.proofs.{Math.Seq.{drop-cons}, lemmas.{List.{drop_all, get_or_at}, Option.{none-some, slice_get_within, slice_get-get_or, get_or_from_slice_get}}}
+use Rattle.mm_store.specs.declared.{item.Item.{Item}, walk.Spot.{Spot}}
+use Rattle.mm_store.specs.Language.{FilesView.{PieceView, FileView, number_of}, Expansion.{Placed, placed_item, named_parts, placed_part, ArePartsOf, ArePlaced, IsExpansion}}
 use Rattle.mm_store.specs.Language.Walking.{LevelView, WalkView, IsRest, ArePending, Goes, here, again, missing, included, IsWalk}
-use Rattle.mm_store.specs.Code.Gains.{HoldUnits}
-use Rattle.mm_store.specs.Code.Steps.{piece_in, piece_at, behind, beginning, IsHere, Includes, Leaves, ComesAgain, Enters, Passes, PassesTold}
-use Rattle.mm_store.proofs.lemmas.expansion.ExpansionLemmas.{OneReading, OneDivision, parts_one}
-use Rattle.mm_store.proofs.lemmas.expansion.GoesLemmas.{goes_joined, goes_own, expands_from_goes}
-use Rattle.mm_store.proofs.lemmas.files.GrowthLemmas.{there_number}
+use Rattle.mm_store.specs.Code.{Gains.{HoldUnits}, Steps.{piece_in, piece_at, behind, beginning, IsHere, Includes, Leaves, ComesAgain, Enters, Passes, PassesTold}}
+use Rattle.mm_store.proofs.lemmas.{expansion.{ExpansionLemmas.{OneReading, OneDivision, parts_one}, GoesLemmas.{goes_joined, goes_own, expands_from_goes}}, files.GrowthLemmas.{there_number}}
 
 -- the innermost file comes first
 pub record Innermost (files : List FileView) (front : List LevelView) (level : LevelView) (parts : List Placed) : Type 0 where

@@ -1,32 +1,15 @@
 -- What a file more makes of the files.
-use Rattle.std.proofs.Common.{◌≡◌, ◌≢◌, is_some, true, ℕ, suc, ◌+◌, ◌≤◌, List, [], ◌∷◌, ◌++◌, Option, Some, None, length, map, refl, sym, ap, ◌∙◌, subst, arith, length-append, Global, Vec, All, position}
-use Rattle.std.proofs.Common.{Bool, false, not, cond, ltb, Result, Ok}
-use Rattle.std.specs.Result.{OnOk}
-use Rattle.std.specs.List.{position_or_len}
-use Rattle.std.specs.Map.{keys_of, lookup}
-use Rattle.std.proofs.lemmas.Bool.Decides.{nat_tests}
-use Rattle.std.proofs.lemmas.List.{length-map}
-use Rattle.std.proofs.lemmas.List.Elements.{All-nil, All-cons}
-use Rattle.mm_text.specs.Language.Cut.{ArePieces, IsPiece, HoldsOne}
-use Rattle.mm_store.specs.Code.Inside.{CanBeKept}
-use Rattle.std.specs.List.{concat}
-use Rattle.std.proofs.lemmas.List.{map-append}
-use Rattle.std.proofs.lemmas.List.Sums.{sum_by-cons}
-use Rattle.std.specs.FinMap as finite
-use Rattle.mm_text.specs.Language.Reading.{HasWords}
-use Rattle.mm_store.specs.declared.file_text.FileText.{FileText}
-use Rattle.mm_store.specs.declared.files.Files.TheInside.{Inside}
-use Rattle.mm_store.specs.Language.Pieces.{HeldPiece, Pieces, standing_piece, text_in, text_under}
-use Rattle.mm_store.specs.Language.FilesView.{File, KeyedFile, plain, plain_file, text_of, bytes_of}
-use Rattle.mm_store.specs.Code.Starts.{HasStarts}
-use Rattle.mm_store.specs.Code.Inside.{ArePut}
-use Rattle.mm_store.specs.Code.Room.{HasRoom}
+use Rattle.std.proofs.Common.{◌≡◌, ◌≢◌, is_some, true, ℕ, suc, ◌+◌, ◌≤◌, List, [], ◌∷◌, ◌++◌, Option, Some, None, length, map, refl, sym, ap, ◌∙◌, subst, arith, length-append, Global, Vec, All}
+use Rattle.std.proofs.Common.{position, Bool, false, not, cond, ltb, Result, Ok}
+use Rattle.std.proofs.lemmas.{Bool.Decides.{nat_tests}, List.{length-map, map-append, Elements.{All-nil, All-cons}, Sums.{sum_by-cons}}}
+use Rattle.std.specs.{Result.{OnOk}, List.{position_or_len, concat}, Map.{keys_of, lookup}}
+use Rattle.mm_text.specs.Language.{Cut.{ArePieces, IsPiece, HoldsOne}, Reading.{HasWords}}
+use Rattle.mm_store.specs.Code.{Inside.{CanBeKept, ArePut}, Starts.{HasStarts}, Room.{HasRoom}}
 use Rattle.mm_store.specs.Code.Kept.{files_view, keyed_file, one, times, places, standing_count, deleted_state, deletions, IsRoomy, HaveRoom, HaveStarts, AreFilesKept}
-use Rattle.mm_store.proofs.lemmas.files.MapLemmas.{get_put_same, get_put_other}
-use Rattle.mm_store.proofs.lemmas.files.PieceLemmas.{stands_put}
-use Rattle.mm_store.proofs.lemmas.expansion.WeightLemmas.{weight_fresh}
-use Rattle.mm_store.proofs.lemmas.files.ListLemmas.{one_same}
-use Rattle.mm_store.proofs.lemmas.files.EntryLemmas.{room_same}
+use Rattle.mm_store.specs.declared.{file_text.FileText.{FileText}, files.Files.TheInside.{Inside}}
+use Rattle.mm_store.specs.Language.{Pieces.{HeldPiece, Pieces, standing_piece, text_in, text_under}, FilesView.{File, KeyedFile, plain, plain_file, text_of, bytes_of}}
+use Rattle.mm_store.proofs.lemmas.{files.{MapLemmas.{get_put_same, get_put_other}, PieceLemmas.{stands_put}, ListLemmas.{one_same}, EntryLemmas.{room_same}}, expansion.WeightLemmas.{weight_fresh}}
+use Rattle.std.specs.FinMap as finite
 
 -- pieces that were put: what was there stays
 pub put_keeps : (p p' : Pieces) (texts : List (List ℕ)) (keys : List ℕ) → ArePut p texts keys p' → (q : ℕ) → is_some (finite.get p q) ≡ true → finite.get p' q ≡ finite.get p q

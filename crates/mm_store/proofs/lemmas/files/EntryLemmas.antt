@@ -1,15 +1,9 @@
 -- From the entries of the map of files to the files.
-use Rattle.std.proofs.Common.{◌≡◌, ◌≢◌, ℕ, zero, suc, ◌+◌, ◌<◌, List, [], ◌∷◌, Some, map, refl, sym, ap, ◌∙◌, subst, arith, Vec, slice_get}
+use Rattle.std.proofs.{Common.{◌≡◌, ◌≢◌, ℕ, zero, suc, ◌+◌, ◌<◌, List, [], ◌∷◌, Some, map, refl, sym, ap, ◌∙◌, subst, arith, Vec, slice_get}, lemmas.Option.{same_Some, none-some}}
 use Rattle.mm_text.specs.Language.Reading.{HasWords}
-use Rattle.mm_store.specs.Code.Starts.{HasStarts}
-use Rattle.mm_store.specs.Code.Edited.{pieces_in, with_pieces}
-use Rattle.std.proofs.lemmas.Option.{same_Some, none-some}
+use Rattle.mm_store.specs.{Code.{Starts.{HasStarts}, Edited.{pieces_in, with_pieces}, Kept.{keyed_file, IsRoomy, HaveRoom, deletions, HaveStarts}}, declared.file_text.FileText.{FileText}}
+use Rattle.mm_store.specs.Language.{FilesView.{FilesView, File}, Pieces.{Pieces}, Undoing.{keys_in, with_keys}}
 use Rattle.indexmap.specs.IndexMap.{set_value_at}
-use Rattle.mm_store.specs.declared.file_text.FileText.{FileText}
-use Rattle.mm_store.specs.Code.Kept.{keyed_file, IsRoomy, HaveRoom, deletions, HaveStarts}
-use Rattle.mm_store.specs.Language.FilesView.{FilesView, File}
-use Rattle.mm_store.specs.Language.Pieces.{Pieces}
-use Rattle.mm_store.specs.Language.Undoing.{keys_in, with_keys}
 
 module _ {Y : Type 0} where
   abbrev pub texts_of : List (Vec ℕ Y × FileText) → List FileText

@@ -1,22 +1,12 @@
 -- What is known of a file, and of a piece of it, by the fields of `Files`.
 use Rattle.std.proofs.Common.{◌≡◌, ℕ, ◌<◌, ◌≤◌, List, Some, Option, length, map, get_or, deque_len, refl, sym, ap, ◌∙◌, subst, arith, Global, Vec, slice_get, Bor, MutBor}
-use Rattle.std.specs.List.{concat}
-use Rattle.std.specs.Option.{option_map, option_copied_mut}
-use Rattle.std.specs.Map.Iter.{deref_pair}
+use Rattle.std.proofs.lemmas.{List.{length-map}, Option.{slice_get-map}}
+use Rattle.std.specs.{List.{concat}, Option.{option_map, option_copied_mut}, Map.Iter.{deref_pair}}
+use Rattle.mm_store.specs.declared.{file_text.FileText.{FileText}, files.Files.TheInside.{Inside}}
+use Rattle.mm_store.specs.Language.{Pieces.{text_under}, FilesView.{FilesView, KeyedFile, plain, bytes_of}, Undoing.{keys_in}}
+use Rattle.mm_store.specs.Code.{Kept.{files_view, keyed_file, places, standing_count, IsRoomy, AreFilesKept}, Starts.{KnowsStarts}}
+use Rattle.mm_store.proofs.lemmas.{files.{EntryLemmas.{texts_of, keys_at, room_at}, FilesLemmas.{file_small}, ListLemmas.{in_files, text_within}}, places.ChangeLemmas.{starts_here}}
 use Rattle.std.specs.FinMap as finite
-use Rattle.std.proofs.lemmas.List.{length-map}
-use Rattle.std.proofs.lemmas.Option.{slice_get-map}
-use Rattle.mm_store.specs.declared.file_text.FileText.{FileText}
-use Rattle.mm_store.specs.declared.files.Files.TheInside.{Inside}
-use Rattle.mm_store.specs.Language.Pieces.{text_under}
-use Rattle.mm_store.specs.Language.FilesView.{FilesView, KeyedFile, plain, bytes_of}
-use Rattle.mm_store.specs.Language.Undoing.{keys_in}
-use Rattle.mm_store.specs.Code.Kept.{files_view, keyed_file, places, standing_count, IsRoomy, AreFilesKept}
-use Rattle.mm_store.specs.Code.Starts.{KnowsStarts}
-use Rattle.mm_store.proofs.lemmas.files.EntryLemmas.{texts_of, keys_at, room_at}
-use Rattle.mm_store.proofs.lemmas.files.FilesLemmas.{file_small}
-use Rattle.mm_store.proofs.lemmas.files.ListLemmas.{in_files, text_within}
-use Rattle.mm_store.proofs.lemmas.places.ChangeLemmas.{starts_here}
 
 -- the file of this number
 pub record IsFile (inside : Inside) (n : ℕ) (v : FileText) : Type 0 where

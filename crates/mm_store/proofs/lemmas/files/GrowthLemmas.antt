@@ -1,17 +1,11 @@
 -- The numbers that names have, and what one more file changes.
-use Rattle.std.proofs.Common.{◌≡◌, ℕ, zero, suc, ◌+◌, ◌<◌, ◌≤◌, Bool, true, false, not, cond, ltb, List, [], ◌∷◌, ◌++◌, Some, None, length, refl, sym, ap, ◌∙◌, subst, arith, length-append, Contains, position, slice_get}
-use Rattle.std.specs.List.{position_or_len}
-use Rattle.std.specs.Str.{bytes_eq}
-use Rattle.std.proofs.lemmas.Bool.{ltb-true, ltb-false, lt-ltb, le-ltb, ne_eqb, eq-eqb, false_from_ne_true}
-use Rattle.std.proofs.lemmas.Slice.Eq.{bytes_eq-Decides}
-use Rattle.std.proofs.lemmas.List.Elements.{Contains-append_right}
-use Rattle.std.proofs.lemmas.List.Folds.{position_or_len_push}
-use Rattle.std.proofs.lemmas.List.Quantifiers.{position-Some}
-use Rattle.std.proofs.lemmas.Option.{none-some, get_or_from_slice_get, cond_some}
+use Rattle.std.proofs.Common.{◌≡◌, ℕ, zero, suc, ◌+◌, ◌<◌, ◌≤◌, Bool, true, false, not, cond, ltb, List, [], ◌∷◌, ◌++◌, Some, None, length, refl, sym, ap, ◌∙◌, subst, arith, length-append, Contains}
+use Rattle.std.proofs.Common.{position, slice_get}
+use Rattle.std.proofs.lemmas.{Bool.{ltb-true, ltb-false, lt-ltb, le-ltb, ne_eqb, eq-eqb, false_from_ne_true}, Slice.Eq.{bytes_eq-Decides}}
+use Rattle.std.proofs.lemmas.{List.{Elements.{Contains-append_right}, Folds.{position_or_len_push}, Quantifiers.{position-Some}}, Option.{none-some, get_or_from_slice_get, cond_some}}
+use Rattle.std.specs.{List.{position_or_len}, Str.{bytes_eq}}
 use Rattle.mm_store.specs.declared.item.Item.{Item}
-use Rattle.mm_store.specs.Language.FilesView.{FileView, number_of}
-use Rattle.mm_store.specs.Language.Expansion.{Placed}
-use Rattle.mm_store.specs.Language.Walking.{LevelView, WalkView, IsRest, ArePending, Goes, here, own, again, missing, included, IsWalk}
+use Rattle.mm_store.specs.Language.{FilesView.{FileView, number_of}, Expansion.{Placed}, Walking.{LevelView, WalkView, IsRest, ArePending, Goes, here, own, again, missing, included, IsWalk}}
 use Rattle.mm_store.proofs.lemmas.expansion.GoesLemmas.{goes_grows}
 
 no_place : (b : Bool) (m : ℕ) → cond b (Some m) None ≡ None → b ≡ false

@@ -1,13 +1,9 @@
 -- A key that is in a file has a piece.
-use Rattle.std.proofs.Common.{ℕ, zero, suc, ◌<◌, ◌≤◌, List, [], ◌∷◌, Option, Some, None, map, length, get_or, refl, arith, IsSome}
-use Rattle.std.specs.FinMap as finite
-use Rattle.std.proofs.lemmas.List.Sums.{get_or-le-sum_by}
-use Rattle.mm_store.specs.declared.files.Files.TheInside.{Inside}
-use Rattle.mm_store.specs.Language.Pieces.{HeldPiece}
-use Rattle.mm_store.specs.Language.FilesView.{KeyedFile}
-use Rattle.mm_store.specs.Language.FileFacts.{HoldsPieces}
+use Rattle.std.proofs.{Common.{ℕ, zero, suc, ◌<◌, ◌≤◌, List, [], ◌∷◌, Option, Some, None, map, length, get_or, refl, arith, IsSome}, lemmas.List.Sums.{get_or-le-sum_by}}
+use Rattle.mm_store.specs.{declared.files.Files.TheInside.{Inside}, Language.{Pieces.{HeldPiece}, FilesView.{KeyedFile}, FileFacts.{HoldsPieces}}}
 use Rattle.mm_store.specs.Code.Kept.{keyed_file, files_view, one, times, places, standing_count, AreFilesKept}
 use Rattle.mm_store.proofs.lemmas.files.ListLemmas.{one_same}
+use Rattle.std.specs.FinMap as finite
 
 key_times : (keys : List ℕ) (n d : ℕ) → n < length keys → 1 ≤ times (get_or keys n d) keys
 key_times keys n d h =

@@ -1,29 +1,17 @@
 -- The files after a change of the keys of one file and of the pieces.
-use Rattle.std.proofs.lemmas.Bool.{cases_eq}
+use Rattle.std.proofs.lemmas.{Bool.{cases_eq}, Option.{slice_get_within, none-some}, List.{length-map}}
 use Rattle.std.proofs.Common.{◌≡◌, ◌≢◌, inl, inr, ℕ, zero, suc, ◌-◌, ◌<◌, ◌≤◌, List, [], ◌∷◌, Some, length, map, get_or, deque_len, refl, sym, ap, ◌∙◌, subst, arith, Global, Vec, slice_get}
-use Rattle.std.proofs.lemmas.Option.{slice_get_within, none-some}
-use Rattle.std.proofs.lemmas.List.{length-map}
-use Rattle.std.specs.FinMap as finite
 use Rattle.indexmap.specs.IndexMap.{set_value_at, with_value_at}
-use Rattle.mm_store.specs.declared.file_text.FileText.{FileText}
-use Rattle.mm_store.specs.declared.files.Files.TheInside.{Inside}
-use Rattle.mm_store.proofs.lemmas.files.PieceLemmas.{stands_settled, text_drop_other}
-use Rattle.mm_store.proofs.lemmas.expansion.WeightLemmas.{weight_dropped}
-use Rattle.mm_store.proofs.lemmas.edits.ReplaceLemmas.{replaced_weight}
-use Rattle.mm_store.proofs.lemmas.edits.StepLemmas.{parked, settled_here}
-use Rattle.mm_store.proofs.lemmas.files.ListLemmas.{with_same, plain_same, plain_pieces, with_pieces_same}
-use Rattle.mm_text.specs.Language.Reading.{HasWords}
-use Rattle.mm_store.specs.Code.Starts.{HasStarts, KnowsStarts}
-use Rattle.mm_store.specs.Code.Room.{HasRoom}
-use Rattle.mm_store.specs.declared.start.Start.{Start}
-use Rattle.mm_store.proofs.lemmas.places.ChangeLemmas.{starts_after}
-use Rattle.mm_store.proofs.lemmas.places.StartLemmas.{starts_stay}
-use Rattle.mm_store.specs.Code.Edited.{pieces_in, with_pieces}
-use Rattle.mm_store.proofs.lemmas.files.EntryLemmas.{texts_of, keys_at, view_set, room_at, room_same, room_set, starts_at, starts_set, tail_at, same_view}
+use Rattle.mm_store.specs.declared.{file_text.FileText.{FileText}, files.Files.TheInside.{Inside}, start.Start.{Start}}
+use Rattle.mm_store.specs.Code.{Starts.{HasStarts, KnowsStarts}, Room.{HasRoom}, Edited.{pieces_in, with_pieces}}
 use Rattle.mm_store.specs.Code.Kept.{files_view, keyed_file, places, standing_count, deleted_state, deletions, HaveStarts, AreFilesKept}
-use Rattle.mm_store.specs.Language.FilesView.{FilesView, plain, KeyedFile, plain_file, bytes_of}
-use Rattle.mm_store.specs.Language.Pieces.{Replaced, Deleted, text_under, HeldPiece, Pieces, IsParked}
-use Rattle.mm_store.specs.Language.Undoing.{keys_in, with_keys}
+use Rattle.mm_store.specs.Language.{FilesView.{FilesView, plain, KeyedFile, plain_file, bytes_of}, Pieces.{Replaced, Deleted, text_under, HeldPiece, Pieces, IsParked}, Undoing.{keys_in, with_keys}}
+use Rattle.mm_text.specs.Language.Reading.{HasWords}
+use Rattle.mm_store.proofs.lemmas.files.{PieceLemmas.{stands_settled, text_drop_other}, ListLemmas.{with_same, plain_same, plain_pieces, with_pieces_same}}
+use Rattle.mm_store.proofs.lemmas.files.EntryLemmas.{texts_of, keys_at, view_set, room_at, room_same, room_set, starts_at, starts_set, tail_at, same_view}
+use Rattle.mm_store.proofs.lemmas.{expansion.WeightLemmas.{weight_dropped}, edits.{ReplaceLemmas.{replaced_weight}, StepLemmas.{parked, settled_here}}}
+use Rattle.mm_store.proofs.lemmas.places.{ChangeLemmas.{starts_after}, StartLemmas.{starts_stay}}
+use Rattle.std.specs.FinMap as finite
 
 pub length_set : {Y : Type 0} (es : List (Vec ℕ Y × FileText)) (n : ℕ) (w : FileText) → length (set_value_at es n w) ≡ length es
 length_set (e ∷ es) (suc n) w = omega (arith, length_set es n w)

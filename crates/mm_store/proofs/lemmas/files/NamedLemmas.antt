@@ -1,19 +1,10 @@
 -- Files by name: each name has one number, and a file that comes last is found if no other has its name.
 use Rattle.std.proofs.Common.{◌≡◌, ◌≢◌, ℕ, ◌<◌, Bool, true, false, cond, nat_lt, List, [], ◌∷◌, ◌++◌, Some, None, length, get_or, refl, sym, ap, ◌∙◌, arith, slice_get}
-use Rattle.std.specs.List.{find, position_or_len}
-use Rattle.std.specs.Option.{option_map}
-use Rattle.std.specs.Str.{bytes_eq}
-use Rattle.std.proofs.lemmas.Bool.Decides.{nat_tests}
-use Rattle.std.proofs.lemmas.List.Folds.{find_at}
-use Rattle.std.proofs.lemmas.List.Sums.{passes_at_first}
-use Rattle.std.proofs.lemmas.Option.{get_or_from_slice_get, none-some, same_Some, slice_get_past, cond_some}
-use Rattle.std.proofs.lemmas.Slice.Eq.{bytes_eq-Decides}
-use Rattle.std.proofs.lemmas.Bool.{false_from_ne_true}
-use Rattle.mm_text.specs.Language.Cut.{IsCut, ended}
-use Rattle.mm_store.specs.Language.FilesView.{File, file_number, file_at, find_file, text_of}
-use Rattle.mm_store.specs.Language.FileFacts.{IsAdded}
-use Rattle.mm_text.specs.Language.Asked.{Asked, edited_name}
-use Rattle.mm_store.specs.Language.Edits.{edited, with_members, IsEditOf}
+use Rattle.std.proofs.lemmas.{Bool.{false_from_ne_true, Decides.{nat_tests}}, List.{Folds.{find_at}, Sums.{passes_at_first}}}
+use Rattle.std.proofs.lemmas.{Option.{get_or_from_slice_get, none-some, same_Some, slice_get_past, cond_some}, Slice.Eq.{bytes_eq-Decides}}
+use Rattle.std.specs.{List.{find, position_or_len}, Option.{option_map}, Str.{bytes_eq}}
+use Rattle.mm_text.specs.Language.{Cut.{IsCut, ended}, Asked.{Asked, edited_name}}
+use Rattle.mm_store.specs.Language.{FilesView.{File, file_number, file_at, find_file, text_of}, FileFacts.{IsAdded}, Edits.{edited, with_members, IsEditOf}}
 use Rattle.mm_store.proofs.lemmas.edits.EditLawLemmas.{changed_there, number_kept, others_kept}
 
 -- the file of a name has this name

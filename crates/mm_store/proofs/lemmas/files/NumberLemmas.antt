@@ -1,17 +1,10 @@
 -- Files by name, and files without keys.
 use Rattle.std.proofs.Common.{◌≡◌, ℕ, zero, suc, ◌+◌, ◌<◌, Bool, not, cond, List, [], ◌∷◌, Some, length, map, set, refl, sym, ap, ◌∙◌, arith, Vec, position, slice_get}
-use Rattle.std.specs.List.{position_or_len}
-use Rattle.std.specs.Str.{bytes_eq}
-use Rattle.std.specs.Map.{keys_of}
-use Rattle.std.proofs.lemmas.List.{length-map}
-use Rattle.std.proofs.lemmas.Option.{same_Some, none-some}
+use Rattle.std.proofs.lemmas.{List.{length-map}, Option.{same_Some, none-some}}
+use Rattle.std.specs.{List.{position_or_len}, Str.{bytes_eq}, Map.{keys_of}}
 use Rattle.mm_store.specs.declared.file_text.FileText.{FileText}
-use Rattle.mm_store.specs.Language.Pieces.{Pieces, text_under}
-use Rattle.mm_store.specs.Language.FilesView.{File, KeyedFile, FilesView, plain, plain_file, file_number}
-use Rattle.mm_store.specs.Language.Undoing.{keys_in}
-use Rattle.mm_store.specs.Language.Edits.{with_members}
-use Rattle.mm_store.specs.Code.Edited.{pieces_in, with_pieces}
-use Rattle.mm_store.specs.Code.Kept.{keyed_file}
+use Rattle.mm_store.specs.Language.{Pieces.{Pieces, text_under}, FilesView.{File, KeyedFile, FilesView, plain, plain_file, file_number}, Undoing.{keys_in}, Edits.{with_members}}
+use Rattle.mm_store.specs.Code.{Edited.{pieces_in, with_pieces}, Kept.{keyed_file}}
 
 same_tests : (b : Bool) (m n : ℕ) → m ≡ n → cond (not b) (1 + m) 0 ≡ cond (not b) (1 + n) 0
 same_tests b m n e = ap (λ (k : ℕ). cond (not b) (1 + k) 0) e

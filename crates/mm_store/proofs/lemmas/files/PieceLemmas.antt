@@ -1,11 +1,9 @@
 -- What changes of single pieces make of their texts, of the pieces that are not parked, and of weights.
-use Rattle.std.proofs.Common.{◌≡◌, ◌≢◌, inl, inr, ℕ, ◌+◌, List, Option, Some, None, refl, sym, ap, ◌∙◌, arith}
-use Rattle.std.proofs.lemmas.Bool.{cases_eq}
-use Rattle.std.specs.FinMap as finite
-use Rattle.mm_store.proofs.lemmas.files.MapLemmas.{get_put_same, get_put_other, get_drop_same, get_drop_other}
-use Rattle.mm_store.proofs.lemmas.files.ListLemmas.{one_same, one_other}
+use Rattle.std.proofs.{Common.{◌≡◌, ◌≢◌, inl, inr, ℕ, ◌+◌, List, Option, Some, None, refl, sym, ap, ◌∙◌, arith}, lemmas.Bool.{cases_eq}}
 use Rattle.mm_store.specs.Code.Kept.{one, standing_state, standing_count}
 use Rattle.mm_store.specs.Language.Pieces.{PieceState, Standing, Parked, Removal, HeldPiece, Pieces, in_state, with_state, standing_piece, text_in, text_under}
+use Rattle.mm_store.proofs.lemmas.files.{MapLemmas.{get_put_same, get_put_other, get_drop_same, get_drop_other}, ListLemmas.{one_same, one_other}}
+use Rattle.std.specs.FinMap as finite
 
 module _ (p : Pieces) (k : ℕ) where
   pub text_put_same : (v : HeldPiece) → text_under (finite.insert p k v) k ≡ v.text

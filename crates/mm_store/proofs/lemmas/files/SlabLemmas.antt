@@ -1,18 +1,12 @@
 -- From a slab of pieces to the map of the pieces.
 use Rattle.std.proofs.Common.{is_some, ◌≡◌, ℕ, zero, suc, ◌+◌, ◌<◌, List, [], ◌∷◌, Option, Some, None, map, get_or, cond, refl, sym, ap, ◌∙◌, arith, add-zero, true}
-use Rattle.std.specs.Ordering.{nat_cmp, eq_by_cmp}
-use Rattle.std.specs.Cmp.{nat_cmp_total}
-use Rattle.std.specs.Option.{option_map}
-use Rattle.std.specs.FinMap as finite
-use Rattle.std.specs.FinMap.{find, get-from_entries}
+use Rattle.std.specs.{Ordering.{nat_cmp, eq_by_cmp}, Cmp.{nat_cmp_total}, Option.{option_map}, FinMap.{find, get-from_entries}}
 use Rattle.slab.specs.Slab.{Slab, get, entries_from, entries, Updates, with_value}
-use Rattle.slab.proofs.SlabLemmas.{Updates-with_value}
-use Rattle.mm_store.specs.declared.state.State.{State}
-use Rattle.mm_store.specs.declared.pieces.Piece.{Piece}
-use Rattle.mm_store.proofs.lemmas.files.MapLemmas.{same_key, other_key, same_but, get_put_same, get_put_other, get_drop_same, get_drop_other}
-use Rattle.mm_store.specs.Code.States.{piece_state}
-use Rattle.mm_store.specs.Code.Slots.{held, entry_view, pieces_of}
+use Rattle.mm_store.specs.{declared.{state.State.{State}, pieces.Piece.{Piece}}, Code.{States.{piece_state}, Slots.{held, entry_view, pieces_of}}}
 use Rattle.mm_store.specs.Language.Pieces.{Pieces, in_state, with_state, text_in, text_under}
+use Rattle.slab.proofs.SlabLemmas.{Updates-with_value}
+use Rattle.mm_store.proofs.lemmas.files.MapLemmas.{same_key, other_key, same_but, get_put_same, get_put_other, get_drop_same, get_drop_other}
+use Rattle.std.specs.FinMap as finite
 
 pub below : (q first : ℕ) (slots : List (Option Piece)) → q < first → find nat_cmp q (map entry_view (entries_from first slots)) ≡ None
 below q first [] lt = refl

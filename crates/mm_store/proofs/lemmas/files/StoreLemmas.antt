@@ -1,26 +1,15 @@
 -- What is kept of the pieces in a slab, after changes of it.
 use Rattle.std.proofs.Common.{◌≡◌, inl, inr, is_some, true, ℕ, zero, suc, ◌+◌, ◌≤◌, List, [], ◌∷◌, ◌++◌, Option, Some, None, map, cond, get_or, count_by, refl, sym, ap, ◌∙◌, subst, arith, All}
-use Rattle.std.specs.List.{sum_by}
-use Rattle.std.specs.Option.{option_map}
-use Rattle.std.proofs.lemmas.Bool.{cases_eq}
-use Rattle.std.proofs.lemmas.Option.{same_Some, none-some}
-use Rattle.std.proofs.lemmas.List.Sums.{sum_by-cons}
-use Rattle.std.specs.FinMap as finite
-use Rattle.std.specs.FinMap.{get-from_entries}
-use Rattle.std.proofs.lemmas.List.{nil_from_length}
-use Rattle.std.specs.Ordering.{nat_cmp}
-use Rattle.std.specs.Cmp.{nat_cmp_total}
+use Rattle.std.proofs.lemmas.{Bool.{cases_eq}, Option.{same_Some, none-some}, List.{nil_from_length, Sums.{sum_by-cons}}}
+use Rattle.std.specs.{List.{sum_by}, Option.{option_map}, FinMap.{get-from_entries}, Ordering.{nat_cmp}, Cmp.{nat_cmp_total}}
 use Rattle.slab.specs.Slab.{Slab, get, entries_from, Updates, slab_len}
+use Rattle.mm_store.specs.declared.{piece_text.PieceText.{PieceText}, pieces.Piece.{Piece}}
+use Rattle.mm_store.specs.Language.Pieces.{HeldPiece, Pieces, PieceState, Standing, Parked, standing_piece, in_state, with_state, parked_state, parked_count, parked_under, parked_pieces, text_in}
+use Rattle.mm_store.specs.Language.Pieces.{text_under}
+use Rattle.mm_store.specs.Code.{Inside.{IsPieceKept, ArePut}, Kept.{weigh}, States.{piece_state}, Slots.{held, entry_view, pieces_of, AreKeptIn, ArePutIn}}
+use Rattle.mm_store.proofs.lemmas.{files.SlabLemmas.{below, get_is, put_is}, expansion.WeightLemmas.{weight_fresh, weight_put, weight_dropped}}
+use Rattle.std.specs.FinMap as finite
 use Rattle.mm_store.specs.declared.state.State.TheVariants as code
-use Rattle.mm_store.specs.declared.piece_text.PieceText.{PieceText}
-use Rattle.mm_store.specs.declared.pieces.Piece.{Piece}
-use Rattle.mm_store.specs.Language.Pieces.{HeldPiece, Pieces, PieceState, Standing, Parked, standing_piece, in_state, with_state, parked_state, parked_count, parked_under, parked_pieces, text_in, text_under}
-use Rattle.mm_store.specs.Code.Inside.{IsPieceKept, ArePut}
-use Rattle.mm_store.specs.Code.Kept.{weigh}
-use Rattle.mm_store.specs.Code.States.{piece_state}
-use Rattle.mm_store.specs.Code.Slots.{held, entry_view, pieces_of, AreKeptIn, ArePutIn}
-use Rattle.mm_store.proofs.lemmas.files.SlabLemmas.{below, get_is, put_is}
-use Rattle.mm_store.proofs.lemmas.expansion.WeightLemmas.{weight_fresh, weight_put, weight_dropped}
 
 pub kept_put : (old new : Slab Piece) (key : ℕ) (piece : Piece) → Updates old new key (Some piece) → IsPieceKept piece.kept → AreKeptIn old → AreKeptIn new
 kept_put old new key piece updates is_kept kept k x there = elim (cases_eq k key) [

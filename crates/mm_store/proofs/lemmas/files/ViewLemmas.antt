@@ -1,15 +1,11 @@
 -- What the files with keys and texts say of the keyed files and the pieces.
 use Rattle.std.proofs.Common.{◌≡◌, ℕ, zero, suc, ◌+◌, Bool, not, cond, List, [], ◌∷◌, Option, Some, None, map, bytes_eq, refl, sym, ap, ◌∙◌, subst, IsSome, All, position, slice_get}
-use Rattle.std.specs.List.{position_or_len}
-use Rattle.std.specs.Option.{option_map}
-use Rattle.std.specs.FinMap as finite
-use Rattle.std.proofs.lemmas.List.{length-map}
-use Rattle.std.proofs.lemmas.Option.{none-some, same_Some, slice_get-map, slice_get_within, get_or_from_slice_get}
-use Rattle.mm_store.specs.Language.Walking.{LevelView}
-use Rattle.mm_store.specs.Language.Pieces.{text_under}
-use Rattle.mm_store.specs.Language.FilesView.{KeyedFile, PieceView, FileView, FilesView, files_in, file_number, file_view, number_of, piece_view, plain, plain_file}
-use Rattle.mm_store.specs.Language.FileFacts.{HoldsPieces}
+use Rattle.std.proofs.lemmas.{List.{length-map}, Option.{none-some, same_Some, slice_get-map, slice_get_within, get_or_from_slice_get}}
+use Rattle.std.specs.{List.{position_or_len}, Option.{option_map}}
+use Rattle.mm_store.specs.Language.{Walking.{LevelView}, Pieces.{text_under}}
+use Rattle.mm_store.specs.Language.{FilesView.{KeyedFile, PieceView, FileView, FilesView, files_in, file_number, file_view, number_of, piece_view, plain, plain_file}, FileFacts.{HoldsPieces}}
 use Rattle.mm_store.specs.Code.Steps.{piece_in, piece_at}
+use Rattle.std.specs.FinMap as finite
 
 -- the element that a list of values has at a place
 pub there_from_map : {X Y : Type 0} (f : X → Y) (xs : List X) (n : ℕ) (y : Y) → slice_get (map f xs) n ≡ Some y → (x : X) × (slice_get xs n ≡ Some x) × (y ≡ f x)

@@ -1,17 +1,11 @@
 -- Where a byte of a piece is in its file, by the fields of `Files`.
 use Rattle.std.proofs.Common.{◌≡◌, ℕ, ◌+◌, ◌<◌, ◌≤◌, List, [], Some, length, map, take, get_or, sym, ap, ◌∙◌, subst, Global, Vec, slice_get}
-use Rattle.std.specs.List.{concat}
-use Rattle.std.specs.Option.{option_map}
 use Rattle.std.proofs.lemmas.Option.{slice_get-map, slice_get_within, get_or_from_slice_get, same_Some}
-use Rattle.mm_store.specs.declared.file_text.FileText.{FileText}
-use Rattle.mm_store.specs.declared.files.Files.TheInside.{Inside}
-use Rattle.mm_store.proofs.lemmas.files.FileLemmas.{IsShown}
-use Rattle.mm_store.specs.Language.Pieces.{Pieces, text_under}
-use Rattle.mm_store.specs.Language.FilesView.{File, FilesView, plain, plain_file, text_of}
-use Rattle.mm_store.specs.Language.FileFacts.{IsByte, piece_offset}
-use Rattle.mm_store.specs.Code.Lines.{bytes_before}
-use Rattle.mm_store.specs.Code.Kept.{files_view, keyed_file}
-use Rattle.mm_store.proofs.lemmas.places.PlaceLemmas.{before_byte}
+use Rattle.std.specs.{List.{concat}, Option.{option_map}}
+use Rattle.mm_store.specs.declared.{file_text.FileText.{FileText}, files.Files.TheInside.{Inside}}
+use Rattle.mm_store.specs.Language.{Pieces.{Pieces, text_under}, FilesView.{File, FilesView, plain, plain_file, text_of}, FileFacts.{IsByte, piece_offset}}
+use Rattle.mm_store.specs.Code.{Lines.{bytes_before}, Kept.{files_view, keyed_file}}
+use Rattle.mm_store.proofs.lemmas.{files.FileLemmas.{IsShown}, places.PlaceLemmas.{before_byte}}
 
 -- a byte of one of these texts, and the bytes of all before it
 pub record IsIn (texts : List (List ℕ)) (piece at : ℕ) (before : List ℕ) : Type 0 where

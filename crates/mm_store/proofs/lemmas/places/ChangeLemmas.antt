@@ -1,15 +1,8 @@
 -- The starts of a file after its keys and the pieces have changed.
-use Rattle.std.proofs.Common.{◌≡◌, ℕ, ◌<◌, List, Some, length, map, sym, ap, ◌∙◌, subst, arith, Vec, slice_get}
-use Rattle.std.proofs.lemmas.List.{length-map}
-use Rattle.mm_store.specs.declared.file_text.FileText.{FileText}
-use Rattle.mm_store.specs.Language.Pieces.{Pieces, text_under}
-use Rattle.mm_store.specs.Language.FilesView.{KeyedFile, plain_file}
-use Rattle.mm_store.specs.Language.Undoing.{keys_in, with_keys}
-use Rattle.mm_store.specs.Code.Starts.{HasStarts, KnowsStarts}
-use Rattle.mm_store.specs.Code.Edited.{pieces_in, with_pieces}
-use Rattle.mm_store.specs.Code.Kept.{keyed_file, HaveStarts}
-use Rattle.mm_store.proofs.lemmas.files.ListLemmas.{plain_pieces, keys_with, pieces_with}
-use Rattle.mm_store.proofs.lemmas.files.EntryLemmas.{texts_of, keys_at, starts_at}
+use Rattle.std.proofs.{Common.{◌≡◌, ℕ, ◌<◌, List, Some, length, map, sym, ap, ◌∙◌, subst, arith, Vec, slice_get}, lemmas.List.{length-map}}
+use Rattle.mm_store.specs.{declared.file_text.FileText.{FileText}, Language.{Pieces.{Pieces, text_under}, FilesView.{KeyedFile, plain_file}, Undoing.{keys_in, with_keys}}}
+use Rattle.mm_store.specs.Code.{Starts.{HasStarts, KnowsStarts}, Edited.{pieces_in, with_pieces}, Kept.{keyed_file, HaveStarts}}
+use Rattle.mm_store.proofs.lemmas.files.{ListLemmas.{plain_pieces, keys_with, pieces_with}, EntryLemmas.{texts_of, keys_at, starts_at}}
 
 -- where the pieces of a file begin, by its keys
 pub starts_here : {Y : Type 0} (p p1 : Pieces) (es : List (Vec ℕ Y × FileText)) (n : ℕ) (v : FileText) → HaveStarts (map (plain_file p) (map keyed_file es)) es → slice_get (texts_of es) n ≡ Some v

@@ -1,9 +1,7 @@
 -- A piece is in the text of its file.
-use Rattle.std.proofs.Common.{◌≡◌, ℕ, zero, suc, ◌+◌, ◌≤◌, Some, List, [], ◌∷◌, length, length-append, take, slice_get, ap, arith}
+use Rattle.std.proofs.{Common.{◌≡◌, ℕ, zero, suc, ◌+◌, ◌≤◌, Some, List, [], ◌∷◌, length, length-append, take, slice_get, ap, arith}, lemmas.Option.{same_Some}}
 use Rattle.std.specs.List.{concat}
-use Rattle.std.proofs.lemmas.Option.{same_Some}
-use Rattle.mm_store.specs.Language.FilesView.{FilesView}
-use Rattle.mm_store.specs.Language.FileFacts.{IsByte}
+use Rattle.mm_store.specs.Language.{FilesView.{FilesView}, FileFacts.{IsByte}}
 
 -- a text, after those before it, is in all of them joined
 lies_in_joined : (texts : List (List ℕ)) (n : ℕ) (text : List ℕ) → slice_get texts n ≡ Some text → length (concat (take n texts)) + length text ≤ length (concat texts)

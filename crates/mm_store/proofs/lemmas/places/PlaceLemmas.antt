@@ -1,18 +1,14 @@
 -- Lines and columns after joined bytes, and where the bytes of a piece are.
-use Rattle.std.proofs.Common.{◌≡◌, ℕ, zero, suc, ◌+◌, ◌-◌, ◌<◌, ◌≤◌, Bool, true, false, not, eqb, cond, List, [], ◌∷◌, ◌++◌, Some, length, take, drop, get_or, reverse, count_by, refl, sym, ap, ◌∙◌, subst, append_assoc, arith, length-append}
-use Rattle.std.specs.Prelude.{slice_get}
-use Rattle.std.specs.List.{suffix_len, prefix_len, after_last, concat}
+use Rattle.std.proofs.Common.{◌≡◌, ℕ, zero, suc, ◌+◌, ◌-◌, ◌<◌, ◌≤◌, Bool, true, false, not, eqb, cond, List, [], ◌∷◌, ◌++◌, Some, length, take, drop, get_or, reverse, count_by, refl, sym, ap, ◌∙◌}
+use Rattle.std.proofs.Common.{subst, append_assoc, arith, length-append}
 use Rattle.std.proofs.lemmas.Bool.Decides.{nat_tests}
 use Rattle.std.proofs.lemmas.List.{append-nil, length-drop, length-reverse, reverse-append, take_more, drop_more, take-append-drop, take-append-le}
-use Rattle.std.proofs.lemmas.List.Sums.{sum_by-cons, sum_by-append, suffix_len-le-length}
-use Rattle.std.proofs.lemmas.List.Sorted.{sum_by-IsPermutation, IsPermutation-reverse}
-use Rattle.std.proofs.lemmas.List.Folds.{prefix_len-append, concat-append}
+use Rattle.std.proofs.lemmas.List.{Sums.{sum_by-cons, sum_by-append, suffix_len-le-length}, Sorted.{sum_by-IsPermutation, IsPermutation-reverse}, Folds.{prefix_len-append, concat-append}}
 use Rattle.std.proofs.lemmas.Option.{get_or_from_slice_get, slice_get_within}
 use Rattle.std.proofs.Math.Seq.{take-append-add}
+use Rattle.std.specs.{Prelude.{slice_get}, List.{suffix_len, prefix_len, after_last, concat}}
 use Rattle.mm_text.specs.Language.Place.{is_line_feed}
-use Rattle.mm_store.specs.Language.FilesView.{File, text_of}
-use Rattle.mm_store.specs.Language.FileFacts.{piece_offset}
-use Rattle.mm_store.specs.Code.Lines.{bytes_before}
+use Rattle.mm_store.specs.{Language.{FilesView.{File, text_of}, FileFacts.{piece_offset}}, Code.Lines.{bytes_before}}
 
 abbrev is_other : ℕ → Bool
 is_other b = not (is_line_feed b)

@@ -1,13 +1,8 @@
 -- Where pieces begin, after a change of their list.
 use Rattle.std.proofs.Common.{◌≡◌, inl, inr, ℕ, zero, suc, ◌+◌, ◌<◌, ◌≤◌, List, [], ◌∷◌, length, map, deque_len, take, get_or, set, refl, sym, ap, ◌∙◌, subst, arith, Vec, Global}
+use Rattle.std.proofs.lemmas.{Bool.{cases_eq}, List.{length-map, get_or-set_same, get_or-set_other, take-map}}
 use Rattle.std.specs.List.{concat, insert, remove}
-use Rattle.std.proofs.lemmas.Bool.{cases_eq}
-use Rattle.std.proofs.lemmas.List.{length-map, get_or-set_same, get_or-set_other, take-map}
-use Rattle.mm_store.specs.declared.start.Start.{Start}
-use Rattle.mm_store.specs.declared.file_text.FileText.{FileText}
-use Rattle.mm_store.specs.Language.Pieces.{Pieces, text_under}
-use Rattle.mm_store.specs.Code.Starts.{HasStarts, KnowsStarts}
-use Rattle.mm_store.specs.Code.Lines.{IsStart, AreStartsTo}
+use Rattle.mm_store.specs.{declared.{start.Start.{Start}, file_text.FileText.{FileText}}, Language.Pieces.{Pieces, text_under}, Code.{Starts.{HasStarts, KnowsStarts}, Lines.{IsStart, AreStartsTo}}}
 
 pub take_insert : (xs : List ℕ) (at key n : ℕ) → n ≤ at → at ≤ length xs → take n (insert xs at key) ≡ take n xs
 take_insert xs at key zero le there = refl

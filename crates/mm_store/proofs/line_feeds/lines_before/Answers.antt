@@ -1,5 +1,4 @@
-use Rattle.std.proofs.Common.{◌≡◌, ◌+◌, ◌-◌, ◌*◌, ◌<◌, ◌++◌, length, take, drop, get_or, sym, ap, ◌∙◌, subst, arith, ◌/◌}
-use Rattle.std.proofs.Math.Seq.{take-add}
+use Rattle.std.proofs.{Common.{◌≡◌, ◌+◌, ◌-◌, ◌*◌, ◌<◌, ◌++◌, length, take, drop, get_or, sym, ap, ◌∙◌, subst, arith, ◌/◌}, Math.Seq.{take-add}}
 use Rattle.mm_store.specs.Code.Lines.{AreLines}
 use Rattle.mm_store.proofs.line_feeds.lines_before.Goals as goal
 

@@ -1,6 +1,5 @@
 use Rattle.std.proofs.Common.{◌≡◌, ℕ, ◌+◌, ◌*◌, ◌<◌, length, take, get_or}
-use Rattle.mm_store.specs.declared.line_feeds.Lines.{Lines}
-use Rattle.mm_store.specs.Code.Lines.{AreLines}
+use Rattle.mm_store.specs.{declared.line_feeds.Lines.{Lines}, Code.Lines.{AreLines}}
 use Rattle.mm_store.proofs.line_feeds.marks.Given as goal
 
 abbrev pub invariant-loop-number : goal.invariant-loop-number

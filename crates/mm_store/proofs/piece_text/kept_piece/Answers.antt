@@ -1,7 +1,5 @@
 use Rattle.std.proofs.Common.{ℕ, List, All, sym, subst, arith}
-use Rattle.mm_text.specs.declared.part.Part.{Part}
-use Rattle.mm_text.specs.Language.Unit.{Units}
-use Rattle.mm_text.specs.Language.Part.{HasUnits, HasParts, IsReadable, parts_of}
+use Rattle.mm_text.specs.{declared.part.Part.{Part}, Language.{Unit.{Units}, Part.{HasUnits, HasParts, IsReadable, parts_of}}}
 use Rattle.mm_store.specs.Code.Inside.{CanBeKept}
 use Rattle.mm_store.proofs.piece_text.kept_piece.Goals as goal
 

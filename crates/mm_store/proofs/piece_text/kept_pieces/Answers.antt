@@ -1,12 +1,8 @@
-use Rattle.std.proofs.Common.{◌≡◌, [], ◌∷◌, ◌++◌, All, map, length, drop, sym, ap, ◌∙◌, subst, append_assoc, arith}
+use Rattle.std.proofs.{Common.{◌≡◌, [], ◌∷◌, ◌++◌, All, map, length, drop, sym, ap, ◌∙◌, subst, append_assoc, arith}, Math.Seq.{drop-append_seam}}
+use Rattle.std.proofs.lemmas.List.{map-append, Elements.{All-nil, All-cons, All-append, All-drop}}
 use Rattle.std.specs.Vec.Iter.{into_iter_items}
-use Rattle.std.proofs.Math.Seq.{drop-append_seam}
-use Rattle.std.proofs.lemmas.List.{map-append}
-use Rattle.std.proofs.lemmas.List.Elements.{All-nil, All-cons, All-append, All-drop}
-use Rattle.mm_text.specs.declared.pieces.DividedPiece.{DividedPiece}
-use Rattle.mm_text.specs.Language.Part.{HasOwnParts}
-use Rattle.mm_store.specs.declared.piece_text.PieceText.{PieceText}
-use Rattle.mm_store.specs.Code.Inside.{IsPieceKept}
+use Rattle.mm_text.specs.{declared.pieces.DividedPiece.{DividedPiece}, Language.Part.{HasOwnParts}}
+use Rattle.mm_store.specs.{declared.piece_text.PieceText.{PieceText}, Code.Inside.{IsPieceKept}}
 use Rattle.mm_store.proofs.piece_text.kept_pieces.Goals as goal
 
 pub kept_piece-requires-clause-parts : goal.kept_piece-requires-clause-parts

@@ -1,6 +1,5 @@
 use Rattle.std.proofs.Common.{◌≡◌, ◌+◌, [], ◌∷◌, ◌++◌, length, ap, ◌∙◌, append_assoc, arith, length-append, true, if◌then◌else◌, vec_len}
-use Rattle.std.specs.Result.{is_ok}
-use Rattle.std.specs.Vec.Iter.{into_iter_items}
+use Rattle.std.specs.{Result.{is_ok}, Vec.Iter.{into_iter_items}}
 use Rattle.mm_store.proofs.lemmas.files.StoreLemmas.{put_more}
 use Rattle.mm_store.proofs.pieces.put_each.Goals as goal
 

@@ -1,7 +1,5 @@
 use Rattle.std.proofs.Common.{ℕ, List, sym, ap, subst, length, arith}
-use Rattle.mm_store.specs.declared.edit.EditError.{EditError}
-use Rattle.mm_store.specs.declared.edit.EditError.TheVariants.{Text, NotOne, Memory}
-use Rattle.mm_store.specs.Code.Units.{IsUnit, IsUnitError, IsTextRefused}
+use Rattle.mm_store.specs.{declared.edit.EditError.{EditError, TheVariants.{Text, NotOne, Memory}}, Code.Units.{IsUnit, IsUnitError, IsTextRefused}}
 use Rattle.mm_store.proofs.lemmas.edits.EditLemmas.{if_err}
 use Rattle.mm_store.proofs.unit.new_piece.Goals as goal
 

@@ -1,13 +1,7 @@
-use Rattle.std.proofs.Common.{◌≡◌, ℕ, All, map, List, [], ◌∷◌, ◌++◌, Option, Some, length, length-append, sym, ap, ◌∙◌, subst, arith}
+use Rattle.std.proofs.{Common.{◌≡◌, ℕ, All, map, List, [], ◌∷◌, ◌++◌, Option, Some, length, length-append, sym, ap, ◌∙◌, subst, arith}, lemmas.List.{append-nil}}
 use Rattle.std.specs.Option.{option_to_list}
-use Rattle.std.proofs.lemmas.List.{append-nil}
-use Rattle.mm_text.specs.declared.pieces.DividedPiece.{DividedPiece}
-use Rattle.mm_text.specs.declared.fault.TextError.{TextError}
-use Rattle.mm_text.specs.declared.fault.TextError.TheVariants.{Fault, Memory}
-use Rattle.mm_text.specs.Language.Cut.{IsCut, IsCutError, ended}
-use Rattle.mm_text.specs.Language.Part.{HasOwnParts}
-use Rattle.mm_store.specs.Language.Answers.{edit_error_of}
-use Rattle.mm_store.specs.Code.Units.{IsUnitError}
+use Rattle.mm_text.specs.{declared.{pieces.DividedPiece.{DividedPiece}, fault.TextError.{TextError, TheVariants.{Fault, Memory}}}, Language.{Cut.{IsCut, IsCutError, ended}, Part.{HasOwnParts}}}
+use Rattle.mm_store.specs.{Language.Answers.{edit_error_of}, Code.Units.{IsUnitError}}
 use Rattle.mm_store.proofs.lemmas.edits.EditLemmas.{if_err}
 use Rattle.mm_store.proofs.unit.read_unit.Goals as goal
 

@@ -1,5 +1,4 @@
-use Rattle.std.proofs.Common.{◌≡◌, ◌-◌, ◌∷◌, ◌++◌, [], length, ◌∙◌, ap, sym, get_or, arith, length-append, slice_set}
-use Rattle.std.proofs.lemmas.List.{get_or_at}
+use Rattle.std.proofs.{Common.{◌≡◌, ◌-◌, ◌∷◌, ◌++◌, [], length, ◌∙◌, ap, sym, get_or, arith, length-append, slice_set}, lemmas.List.{get_or_at}}
 use Rattle.mm_store.specs.Code.Steps.{behind}
 use Rattle.mm_store.proofs.lemmas.expansion.StackLemmas.{set_last}
 use Rattle.mm_store.proofs.walk.advance.Goals as goal

@@ -1,11 +1,6 @@
-use Rattle.std.proofs.Common.{refl, ◌≤◌, length, sym, ap, ◌∙◌, arith}
-use Rattle.std.proofs.lemmas.Bool.{false≢true}
-use Rattle.std.proofs.lemmas.Result.{err_from_is_err_and}
-use Rattle.mm_text.specs.Code.Reader.{SkipsPlain}
-use Rattle.std.proofs.lemmas.List.Elements.{All-nil}
-use Rattle.mm_text.specs.Language.Part.{HasOwnParts}
-use Rattle.mm_text.proofs.CutPartLemmas.{no_end, divided_none, parts_more, parts_skip, parts_end, parts_next}
-use Rattle.mm_text.proofs.CutLemmas.{progress_start, progress_skip, words_fault}
+use Rattle.std.proofs.{Common.{refl, ◌≤◌, length, sym, ap, ◌∙◌, arith}, lemmas.{Bool.{false≢true}, Result.{err_from_is_err_and}, List.Elements.{All-nil}}}
+use Rattle.mm_text.specs.{Code.Reader.{SkipsPlain}, Language.Part.{HasOwnParts}}
+use Rattle.mm_text.proofs.{CutPartLemmas.{no_end, divided_none, parts_more, parts_skip, parts_end, parts_next}, CutLemmas.{progress_start, progress_skip, words_fault}}
 use Rattle.mm_text.proofs.CutStepLemmas.{lies, ends_fault, ends_cut, from_before, refused, keeps_more, keeps_piece}
 use Rattle.mm_text.proofs.cutting.cut_units.Goals as goal
 

@@ -1,12 +1,6 @@
-use Rattle.std.proofs.Common.{ℕ, List, All, map, sym, subst}
-use Rattle.std.proofs.lemmas.List.{take_rest}
-use Rattle.std.proofs.lemmas.Result.{err_from_is_err_and}
-use Rattle.mm_text.specs.declared.pieces.DividedPiece.{DividedPiece}
-use Rattle.mm_text.specs.Language.Cut.{ended, IsCut}
-use Rattle.mm_text.specs.Language.Part.{IsReadable}
-use Rattle.mm_text.proofs.PartLemmas.{each_units}
-use Rattle.mm_text.proofs.PartWalkLemmas.{parts_read}
-use Rattle.mm_text.proofs.PositionLemmas.{cut_error_lies}
+use Rattle.std.proofs.{Common.{ℕ, List, All, map, sym, subst}, lemmas.{List.{take_rest}, Result.{err_from_is_err_and}}}
+use Rattle.mm_text.specs.{declared.pieces.DividedPiece.{DividedPiece}, Language.{Cut.{ended, IsCut}, Part.{IsReadable}}}
+use Rattle.mm_text.proofs.{PartLemmas.{each_units}, PartWalkLemmas.{parts_read}, PositionLemmas.{cut_error_lies}}
 use Rattle.mm_text.proofs.cutting.divided_cut.Goals as goal
 
 -- the bytes of a piece

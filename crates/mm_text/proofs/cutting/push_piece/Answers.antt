@@ -1,7 +1,5 @@
-use Rattle.std.proofs.Common.{[], ◌∷◌, All, sym, ◌∙◌, subst}
-use Rattle.std.proofs.lemmas.List.Elements.{All-nil, All-cons, All-append}
-use Rattle.mm_text.specs.declared.pieces.DividedPiece.{DividedPiece}
-use Rattle.mm_text.specs.Language.Part.{HasOwnParts}
+use Rattle.std.proofs.{Common.{[], ◌∷◌, All, sym, ◌∙◌, subst}, lemmas.List.Elements.{All-nil, All-cons, All-append}}
+use Rattle.mm_text.specs.{declared.pieces.DividedPiece.{DividedPiece}, Language.Part.{HasOwnParts}}
 use Rattle.mm_text.proofs.cutting.push_piece.Goals as goal
 
 pub returns-clause-parts : goal.returns-clause-parts

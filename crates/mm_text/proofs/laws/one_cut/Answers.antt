@@ -1,5 +1,4 @@
-use Rattle.mm_text.proofs.CutLawLemmas.{one_cut, one_first_fault, cut_has_no_fault}
-use Rattle.mm_text.proofs.CutWalkLemmas.{cut_or_fault}
+use Rattle.mm_text.proofs.{CutLawLemmas.{one_cut, one_first_fault, cut_has_no_fault}, CutWalkLemmas.{cut_or_fault}}
 use Rattle.mm_text.proofs.laws.one_cut.Goals as goal
 
 pub returns : goal.returns

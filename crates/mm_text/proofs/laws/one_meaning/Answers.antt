@@ -1,8 +1,5 @@
 use Rattle.std.proofs.Common.{◌≡◌, ℕ, List, ◌⊎◌, inl, inr, Ok, Err, refl}
-use Rattle.mm_text.specs.declared.word.Word.{Word}
-use Rattle.mm_text.specs.declared.fault.TextFault.{TextFault}
-use Rattle.mm_text.specs.Language.Reading.{HasWords, IsWordsFault}
-use Rattle.mm_text.specs.Code.LeftToRight.{Read, read_text}
+use Rattle.mm_text.specs.{declared.{word.Word.{Word}, fault.TextFault.{TextFault}}, Language.Reading.{HasWords, IsWordsFault}, Code.LeftToRight.{Read, read_text}}
 use Rattle.mm_text.proofs.ReadingLemmas.{text_words, text_fault, words_of_text, fault_of_text}
 use Rattle.mm_text.proofs.laws.one_meaning.Goals as goal
 

@@ -1,5 +1,4 @@
-use Rattle.mm_text.proofs.UnitFaultLemmas.{one_unit_fault, whole_has_no_fault}
-use Rattle.mm_text.proofs.UnitScanLemmas.{whole_or_fault}
+use Rattle.mm_text.proofs.{UnitFaultLemmas.{one_unit_fault, whole_has_no_fault}, UnitScanLemmas.{whole_or_fault}}
 use Rattle.mm_text.proofs.laws.one_unit_fault.Goals as goal
 
 pub returns : goal.returns

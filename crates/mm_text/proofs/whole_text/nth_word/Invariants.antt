@@ -1,6 +1,5 @@
 use Rattle.std.proofs.Common.{◌≡◌, List, drop}
-use Rattle.mm_text.specs.declared.word.Word.{Word}
-use Rattle.mm_text.specs.Language.Reading.{HasWords}
+use Rattle.mm_text.specs.{declared.word.Word.{Word}, Language.Reading.{HasWords}}
 use Rattle.mm_text.proofs.whole_text.nth_word.Given as goal
 
 abbrev pub invariant-loop-number : goal.invariant-loop-number

@@ -1,7 +1,5 @@
 use Rattle.std.proofs.Common.{◌≡◌, ◌-◌, length, None}
-use Rattle.mm_text.specs.Language.Run.{runs}
-use Rattle.mm_text.specs.Code.Reader.{runs_at}
-use Rattle.mm_text.specs.Code.LeftToRight.{read_runs, with_words}
+use Rattle.mm_text.specs.{Language.Run.{runs}, Code.{Reader.{runs_at}, LeftToRight.{read_runs, with_words}}}
 use Rattle.mm_text.proofs.whole_text.read_words.Given as goal
 
 abbrev pub invariant-loop-words : goal.invariant-loop-words

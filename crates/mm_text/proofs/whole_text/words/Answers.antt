@@ -1,11 +1,7 @@
 use Rattle.std.proofs.Common.{List, ℕ, ◌<◌, Result, Ok, Err, IfOk, IfErr, OnOk, All, Vec, Global}
-use Rattle.mm_text.specs.declared.word.Word.{Word}
-use Rattle.mm_text.specs.declared.fault.TextError.{TextError}
+use Rattle.mm_text.specs.{declared.{word.Word.{Word}, fault.TextError.{TextError}}, Language.Reading.{HasWords, IsWordsError, IsTextErrorIn, AreWithin}, Code.LeftToRight.{GivesWords, read_text}}
+use Rattle.mm_text.proofs.{ReadingLemmas.{words_of_text, fault_of_text}, PositionLemmas.{are_within, all_below, fault_lies}}
 use Rattle.mm_text.specs.declared.fault.TextError.TheVariants as errors
-use Rattle.mm_text.specs.Language.Reading.{HasWords, IsWordsError, IsTextErrorIn, AreWithin}
-use Rattle.mm_text.specs.Code.LeftToRight.{GivesWords, read_text}
-use Rattle.mm_text.proofs.ReadingLemmas.{words_of_text, fault_of_text}
-use Rattle.mm_text.proofs.PositionLemmas.{are_within, all_below, fault_lies}
 use Rattle.mm_text.proofs.whole_text.words.Goals as goal
 
 given_words : (text : List ℕ) (r : Result (Vec Word Global) TextError) → GivesWords r (read_text text) → IfOk r (λ found. HasWords text found.items)

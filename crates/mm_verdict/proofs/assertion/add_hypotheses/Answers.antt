@@ -1,6 +1,5 @@
 use Rattle.std.proofs.Common.{◌++◌, ◌∙◌, ap, map, arith, take_all}
-use Rattle.mm_verdict.specs.Code.Citation.{hypotheses_of}
-use Rattle.mm_frame.specs.Language.NumberedSymbols.{by_number}
+use Rattle.mm_machine.specs.Language.{CitedFrames.{hypotheses_of}, NumberedSymbols.{by_number}}
 use Rattle.mm_verdict.specs.Code.NumberedBase.{numbered_hypothesis}
 use Rattle.mm_verdict.proofs.assertion.add_hypotheses.Goals as goal
 

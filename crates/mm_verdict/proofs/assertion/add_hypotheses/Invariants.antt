@@ -1,7 +1,6 @@
 use Rattle.std.proofs.Common.{◌≡◌, ◌++◌, true, map, take, All}
 use Rattle.mm_frame.specs.Language.Base.{is_shown_at}
-use Rattle.mm_verdict.specs.Code.Citation.{hypotheses_of}
-use Rattle.mm_frame.specs.Language.NumberedSymbols.{by_number}
+use Rattle.mm_machine.specs.Language.{CitedFrames.{hypotheses_of}, NumberedSymbols.{by_number}}
 use Rattle.mm_verdict.specs.Code.NumberedBase.{ByNames, numbered_hypothesis}
 use Rattle.mm_verdict.proofs.assertion.add_hypotheses.Given as goal
 

@@ -1,18 +1,9 @@
-use Rattle.std.proofs.Common.{◌≡◌, ◌∙◌, ℕ, true, List, map, length, length-append, sym, ap, subst, arith, All}
-use Rattle.std.proofs.lemmas.List.{length-map}
-use Rattle.std.proofs.lemmas.Simd.{map-map}
-use Rattle.mm_frame.specs.Language.Base.{BaseView, is_shown_at, hypothesis_at, frame_at}
-use Rattle.mm_frame.specs.Language.Answering.{IsBaseBy}
-use Rattle.mm_frame.specs.Language.Frame.{AreSamePairs}
-use Rattle.mm_frame.specs.declared.symbol.NumberedSymbol.{NumberedSymbol}
-use Rattle.mm_verdict.specs.Language.Renaming.{renamed_mandatory}
-use Rattle.mm_verdict.specs.Code.Citation.{hypotheses_of, mandatory_of, meant_pairs}
-use Rattle.mm_verdict.specs.Code.Numbering.{unnaming}
-use Rattle.mm_frame.specs.Language.NumberedSymbols.{by_number}
+use Rattle.std.proofs.{Common.{◌≡◌, ◌∙◌, ℕ, true, List, map, length, length-append, sym, ap, subst, arith, All}, lemmas.{List.{length-map}, Simd.{map-map}}}
+use Rattle.mm_frame.specs.Language.{Base.{BaseView, is_shown_at, hypothesis_at, frame_at}, Answering.{IsBaseBy}}
+use Rattle.mm_machine.specs.Language.{Frame.{AreSamePairs}, Renaming.{renamed_mandatory}, CitedFrames.{hypotheses_of, mandatory_of, meant_pairs}, Numbering.{unnaming}, NumberedSymbols.{by_number}}
+use Rattle.mm_machine.specs.declared.symbol.NumberedSymbol.{NumberedSymbol}
 use Rattle.mm_verdict.specs.Code.NumberedBase.{numbered_hypothesis, numbered_frame}
-use Rattle.mm_verdict.proofs.lemmas.base.FrameLemmas.{shown_framed}
-use Rattle.mm_verdict.proofs.lemmas.machine.RangeLemmas.{range_behind}
-use Rattle.mm_verdict.proofs.lemmas.renaming.RenamedFrames.{pairs_by_number}
+use Rattle.mm_verdict.proofs.lemmas.{base.FrameLemmas.{shown_framed}, machine.RangeLemmas.{range_behind}}
 use Rattle.mm_verdict.proofs.assertion.assertion_of.Goals as goal
 
 pub returns : goal.returns
@@ -40,6 +31,6 @@ returns c =
                 (c.in_ok-add_hypotheses.ensures names view is (shown names view is)) first last
                 ∙ ap (map (numbered_hypothesis names view)) numbers ∙ sym (map-map renamed (hypothesis_at view) _) ∙ ap (map renamed) means.are;
             pairs = subst (λ (ps : List (NumberedSymbol × NumberedSymbol)). AreSamePairs (meant_pairs by_number ps) (numbered_frame names view n).pairs) (sym c.deref-2.ensures.value)
-                (pairs_by_number names is.distinct _ (frame_at view n).pairs (rw c.unwrap-frame.ensures at (c.frame.ensures.numbered names view is)) (rw c.unwrap-frame.ensures at (c.frame.ensures.pairs names view is)));
+                (c.numbers_keep_pairs.ensures names is.distinct _ (frame_at view n).pairs (rw c.unwrap-frame.ensures at (c.frame.ensures.numbered names view is)) (rw c.unwrap-frame.ensures at (c.frame.ensures.pairs names view is)));
           });
     }

@@ -1,5 +1,4 @@
-use Rattle.mm_verdict.proofs.lemmas.decoding.DecodedProofs.{decoded}
-use Rattle.mm_verdict.proofs.lemmas.base.FrameLemmas.{framed_proof}
+use Rattle.mm_verdict.proofs.lemmas.{decoding.DecodedProofs.{decoded}, base.FrameLemmas.{framed_proof}}
 use Rattle.mm_verdict.proofs.checking.judge.Goals as goal
 
 pub judge_steps-requires-clause-decoded : goal.judge_steps-requires-clause-decoded

@@ -1,19 +1,10 @@
-use Rattle.std.proofs.Common.{◌≡◌, ◌<◌, ◌≤◌, ℕ, Result, List, length, sym, ◌∙◌, ap, subst, arith}
+use Rattle.std.proofs.{Common.{◌≡◌, ◌<◌, ◌≤◌, ℕ, Result, List, length, sym, ◌∙◌, ap, subst, arith}, lemmas.List.{length-map}}
 use Rattle.std.specs.List.{AllByRecursion, flat_map}
-use Rattle.std.proofs.lemmas.List.{length-map}
-use Rattle.mm_frame.specs.Language.Base.{before, said_at}
-use Rattle.mm_frame.specs.Language.Framing.{mandatory_numbers}
-use Rattle.mm_verdict.specs.Language.BaseLabels.{setting_at}
-use Rattle.mm_verdict.specs.Language.Citing.{cites, cited_words}
-use Rattle.mm_verdict.specs.Language.Verdict.{Decoded}
-use Rattle.mm_verdict.specs.Language.VerdictAt.{mandatory_labels, statement_at}
-use Rattle.mm_verdict.specs.declared.step.ProofFault.{ProofFault}
-use Rattle.mm_verdict.specs.declared.step.ProofStep.{ProofStep}
-use Rattle.mm_verdict.specs.Language.DecodedSteps.{meant, decoded_steps, entry_steps}
-use Rattle.mm_verdict.specs.Code.Judged.{done_by, IsOutcomeWithin}
-use Rattle.mm_verdict.specs.Code.Tasks.{actions_mean}
-use Rattle.mm_verdict.proofs.lemmas.base.FrameLemmas.{framed_proof}
-use Rattle.mm_verdict.proofs.lemmas.decoding.DecodedProofs.{done_says}
+use Rattle.mm_frame.specs.Language.{Base.{before, said_at}, Framing.{mandatory_numbers}}
+use Rattle.mm_verdict.specs.Language.{BaseLabels.{setting_at}, Citing.{cites, cited_words}, VerdictAt.{mandatory_labels, statement_at}, DecodedSteps.{decoded_steps, entry_steps}}
+use Rattle.mm_verdict.specs.Code.Judged.{done_by}
+use Rattle.mm_machine.specs.{Language.{Verdict.{Decoded}, NamedSteps.{meant, IsOutcomeWithin, actions_mean}}, declared.step.{ProofFault.{ProofFault}, ProofStep.{ProofStep}}}
+use Rattle.mm_verdict.proofs.lemmas.{base.FrameLemmas.{framed_proof}, decoding.DecodedProofs.{done_says}}
 use Rattle.mm_verdict.proofs.checking.judge_steps.Goals as goal
 
 pub returns : goal.returns
@@ -43,7 +34,7 @@ returns c =
           record {
             verdict = rw (ap (λ j. j.verdict) c.new-2.ensures, is.decodes) on;
             cites = ap (λ j. j.cites) c.new-2.ensures ∙ told ∙ sym (ap (λ (o : Result Decoded ProofFault). cites place (said_at view i).proof o) is.decodes ∙ ap (λ (words : List (List ℕ)). cited_words place words steps) is.theorem.says);
-            done = rw is.decodes (rw done at (done_says place (statement_at view i) steps c.in_ok-outcome.outcome says));
+            done = rw is.decodes (rw done at (done_says c.parts_are_run.ensures place (statement_at view i) steps c.in_ok-outcome.outcome says));
           };
       known = c.in_ok-outcome.ensures.known;
       few = omega (arith, c.steps_done-done.ensures.within, c.len.ensures, d.steps.ok, length-map d.steps.items (λ (step : ProofStep). meant names step.action));

@@ -1,8 +1,6 @@
 use Rattle.std.proofs.Common.{◌≡◌, Option, ◌∙◌, subst, IfSome}
 use Rattle.std.specs.Borrow.{Bor}
-use Rattle.mm_frame.specs.Language.Base.{before, said_at}
-use Rattle.mm_frame.specs.Language.Framing.{mandatory_numbers}
-use Rattle.mm_frame.specs.declared.draft.Frame.{Frame}
+use Rattle.mm_frame.specs.{Language.{Base.{before, said_at}, Framing.{mandatory_numbers}}, declared.draft.Frame.{Frame}}
 use Rattle.mm_verdict.proofs.checking.mandatory.Goals as goal
 
 pub returns : goal.returns

@@ -1,14 +1,7 @@
 use Rattle.std.proofs.Common.{subst, length, ap}
-use Rattle.mm_verdict.specs.Language.BaseLabels.{setting_at}
-use Rattle.mm_verdict.specs.Language.VerdictAt.{statement_at}
-use Rattle.mm_verdict.specs.Language.DecodedSteps.{entry_steps}
-use Rattle.mm_verdict.specs.Code.DecodedProof.{steps_of}
-use Rattle.mm_verdict.specs.Code.Judged.{IsOutcomeWithin}
-use Rattle.mm_verdict.specs.Code.NumberedBase.{numbered_setting}
-use Rattle.mm_verdict.proofs.lemmas.base.FrameLemmas.{shown_proof}
-use Rattle.mm_verdict.proofs.lemmas.decoding.DecodedProofs.{decoded_saved, used_named}
-use Rattle.mm_verdict.proofs.lemmas.machine.UsedLemmas.{part_entries, part_means}
-use Rattle.mm_verdict.proofs.lemmas.renaming.RenamedFrames.{frames_by_number, run_named}
+use Rattle.mm_verdict.specs.{Language.{BaseLabels.{setting_at}, VerdictAt.{statement_at}, DecodedSteps.{entry_steps}}, Code.{DecodedProof.{steps_of}, NumberedBase.{numbered_setting}}}
+use Rattle.mm_machine.specs.Language.NamedSteps.{IsOutcomeWithin}
+use Rattle.mm_verdict.proofs.lemmas.{base.FrameLemmas.{shown_proof}, decoding.DecodedProofs.{decoded_saved, used_named}, machine.UsedLemmas.{part_entries, part_means}}
 use Rattle.mm_verdict.proofs.checking.run_all.Goals as goal
 
 pub name_all-requires-clause-labels : goal.name_all-requires-clause-labels
@@ -33,10 +26,10 @@ returns-clause-says c view is =
     let used = c.args.used.now in
     let entries = part_entries view i d.labels.items used c.requires.used.part is.entries in
     let mean = c.in_ok-named.ensures.means names view base i entries in
-    let frames = frames_by_number names (setting_at view i) (c.places_have_frames.ensures view.said i) in
+    let frames = c.numbers_keep_places.ensures names (setting_at view i) (c.places_have_frames.ensures view.said i) in
     let said = c.in_ok-outcome.ensures.says (numbered_setting names view i) (entry_steps view used) frames (rw c.new-active.ensures (c.active.ensures.same names view base is.theorem.is_sound)) mean in
     let here = rw (c.deref-steps.ensures.value, part_means view d.labels.items used d.steps.items c.requires.used.kept, c.expression.ensures names view base (shown_proof view i is.theorem.is_sound)) at said in
-    run_named names (setting_at view i) (steps_of proof view) (statement_at view i) c.in_ok-outcome.outcome here
+    c.numbers_say_the_same.ensures names (setting_at view i) (steps_of proof view) (statement_at view i) c.in_ok-outcome.outcome here
 
 pub returns-clause-known : goal.returns-clause-known
 returns-clause-known c = c.known_after.ensures c.args.proof.base.now c.in_ok-named.ensures.known

@@ -1,16 +1,6 @@
-use Rattle.std.proofs.Common.{◌≡◌, refl, length, map, ap, arith}
-use Rattle.std.proofs.lemmas.List.{length-map}
-use Rattle.std.proofs.lemmas.Option.{slice_get_within}
-use Rattle.mm_frame.specs.Language.NumberedSymbols.{by_number}
-use Rattle.mm_verdict.specs.Language.BaseLabels.{setting_at}
-use Rattle.mm_verdict.specs.Language.DecodedSteps.{entry_steps}
-use Rattle.mm_verdict.specs.Code.Flat.{read}
-use Rattle.mm_verdict.specs.Code.MachineState.{state_of}
-use Rattle.mm_verdict.specs.Code.NumberedBase.{numbered_setting}
-use Rattle.mm_verdict.proofs.lemmas.decoding.DecodedProofs.{decoded_saved, used_named}
-use Rattle.mm_verdict.proofs.lemmas.machine.LackLemmas.{front_lacks, front_stops, saved_before_front}
-use Rattle.mm_verdict.proofs.lemmas.machine.UsedLemmas.{part_entries}
-use Rattle.mm_verdict.proofs.lemmas.renaming.RenamedFrames.{frames_by_number}
+use Rattle.std.proofs.{Common.{refl, length, ap, arith}, lemmas.Option.{slice_get_within}}
+use Rattle.mm_verdict.specs.{Language.{BaseLabels.{setting_at}, DecodedSteps.{entry_steps}}, Code.NumberedBase.{numbered_setting}}
+use Rattle.mm_verdict.proofs.lemmas.{decoding.DecodedProofs.{decoded_saved, used_named}, machine.{LackLemmas.{front_lacks_counted, front_stops, saved_before_front}, UsedLemmas.{part_entries}}}
 use Rattle.mm_verdict.proofs.checking.run_front.Goals as goal
 
 pub name_all-requires-clause-labels : goal.name_all-requires-clause-labels
@@ -19,12 +9,12 @@ name_all-requires-clause-labels c =
     let labels = c.args.proof.decoding.now.labels.items in
     rw c.deref.ensures.value (used_named c.args.proof.base.now has.0 c.args.proof.i has.1.theorem.base has.2 labels c.in_ok-used.used.items (rw c.deref-labels.ensures.value at c.in_ok-used.ensures.part) has.1.entries)
 
-pub run_through-requires-clause-saved : goal.run_through-requires-clause-saved
-run_through-requires-clause-saved c =
+pub run_counted-requires-clause-saved : goal.run_counted-requires-clause-saved
+run_counted-requires-clause-saved c =
     rw c.deref-steps.ensures.value (saved_before_front c.args.proof.decoding.now.steps.items c.steps_before-count.result (decoded_saved c.mandatory_are_active.ensures c.decodes_surely.ensures _ _ _ _ _ c.requires.decoded.1))
 
-pub returns-in-Some-clause-says : goal.returns-in-Some-clause-says
-returns-in-Some-clause-says c view is =
+pub returns-in-Stops-clause-says : goal.returns-in-Stops-clause-says
+returns-in-Stops-clause-says c view is =
     let proof = c.args.proof in
     let i = proof.i in
     let d = proof.decoding.now in
@@ -34,10 +24,10 @@ returns-in-Some-clause-says c view is =
     let entries = part_entries view i d.labels.items used (rw c.deref-labels.ensures.value at c.in_ok-used.ensures.part) is.entries in
     let keeps = rw (c.deref-labels.ensures.value, c.deref-steps.ensures.value) at c.in_ok-used.ensures.kept in
     let mean = (rw c.deref.ensures.value at c.in_ok-named.ensures.means) names view base i entries in
-    let frames = frames_by_number names (setting_at view i) (c.places_have_frames.ensures view.said i) in
+    let frames = c.numbers_keep_places.ensures names (setting_at view i) (c.places_have_frames.ensures view.said i) in
     let pairs = c.active.ensures.same names view base is.theorem.is_sound in
-    let stops = (rw c.in-Some.is at c.in_ok-found.ensures.says) (numbered_setting names view i) (entry_steps view used) frames (rw c.new-active.ensures pairs) mean in
-    front_stops names view i d.labels.items used d.steps.items c.steps_before-count.result keeps c.in-Some.outcome (rw c.deref-steps.ensures.value at stops)
+    let stops = (rw c.in-Stops.is at c.in_ok-came_to.ensures.says) (numbered_setting names view i) (entry_steps view used) frames (rw c.new-active.ensures pairs) mean in
+    front_stops c.numbers_say_the_same.ensures c.stops_stay.ensures c.lack_stops.ensures names view i d.labels.items used d.steps.items c.steps_before-count.result keeps c.in-Stops.outcome (rw c.deref-steps.ensures.value at stops)
 
 pub returns-then-takes_more : goal.returns-then-takes_more
 returns-then-takes_more c =
@@ -56,21 +46,19 @@ returns-then-takes_more c =
           let entries = part_entries view i d.labels.items used (rw c.deref-labels.ensures.value at c.in_ok-used.ensures.part) is.entries in
           let keeps = rw (c.deref-labels.ensures.value, c.deref-steps.ensures.value) at c.in_ok-used.ensures.kept in
           let mean = (rw c.deref.ensures.value at c.in_ok-named.ensures.means) names view base i entries in
-          let frames = frames_by_number names (setting_at view i) (c.places_have_frames.ensures view.said i) in
+          let frames = c.numbers_keep_places.ensures names (setting_at view i) (c.places_have_frames.ensures view.said i) in
           let pairs = c.active.ensures.same names view base is.theorem.is_sound in
-          let done = (rw c.in_default.is at c.in_ok-found.ensures.says) (numbered_setting names view i) (entry_steps view used) frames (rw c.new-active.ensures pairs) mean in
-          let m = c.run_through.new.machine in
-          let stack = (state_of by_number m).stack in
-          let count : c.len-entries.result ≡ length stack = omega (arith, c.len-entries.ensures, m.stack.ok, length-map m.stack.items (read (map by_number m.symbols.items))) in
-          let more = rw (count, c.deref-labels.ensures.value, c.deref-steps.ensures.value) at (c.if-takes_more.ensures refl view is.theorem.base) in
-          front_lacks names view i d.labels.items used d.steps.items c.steps_before-count.result keeps stack frames is.entries more (rw c.deref-steps.ensures.value at done);
+          let done = (rw c.in-Leaves.is at c.in_ok-came_to.ensures.says) (numbered_setting names view i) (entry_steps view used) frames (rw c.new-active.ensures pairs) mean in
+          let more = rw (c.deref-labels.ensures.value, c.deref-steps.ensures.value) at (c.if-takes_more.ensures refl view is.theorem.base) in
+          front_lacks_counted c.numbers_say_the_same.ensures c.stops_stay.ensures c.lack_stops.ensures names view i d.labels.items used d.steps.items c.steps_before-count.result
+          keeps c.deref-steps.result.now c.deref-steps.ensures.value _ done frames is.entries more;
     }
 
 pub active-requires : goal.active-requires
 active-requires c = let has = c.requires.decoded in (has.0, has.1.theorem.base, has.1.theorem.is_sound)
 
-pub returns-in-Some-clause-known : goal.returns-in-Some-clause-known
-returns-in-Some-clause-known c = c.known_after.ensures c.args.proof.base.now c.in_ok-named.ensures.known
+pub returns-in-Stops-clause-known : goal.returns-in-Stops-clause-known
+returns-in-Stops-clause-known c = c.known_after.ensures c.args.proof.base.now c.in_ok-named.ensures.known
 
 pub returns-clause-known : goal.returns-clause-known
 returns-clause-known c = c.known_after.ensures c.args.proof.base.now c.in_ok-named.ensures.known

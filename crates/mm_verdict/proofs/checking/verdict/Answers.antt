@@ -1,10 +1,12 @@
-use Rattle.std.proofs.Common.{subst, length, arith}
+use Rattle.std.proofs.{Common.{◌≡◌, ◌<◌, ℕ, Some, List, subst, length, map, refl, ◌∙◌, ap, arith, get_or, slice_get}, lemmas.Option.{slice_get-map, slice_get_read}}
+use Rattle.std.specs.Option.{option_map}
 use Rattle.mm_verdict.specs.Language.DecodedSteps.{decoded_steps}
-use Rattle.mm_verdict.specs.Code.Judged.{IsOutcomeWithin}
-use Rattle.mm_verdict.specs.Code.Tasks.{RunSays}
-use Rattle.mm_verdict.specs.declared.step.ProofStep.{ProofStep}
-use Rattle.mm_verdict.proofs.lemmas.machine.FlatLemmas.{mapped_get}
+use Rattle.mm_machine.specs.{Language.NamedSteps.{IsOutcomeWithin, RunSays}, declared.step.ProofStep.{ProofStep}}
 use Rattle.mm_verdict.proofs.checking.verdict.Goals as goal
+
+-- the spot of a step
+spot_at : (steps : List ProofStep) (n : ℕ) (step : ProofStep) → n < length steps → step ≡ get_or steps n step → slice_get (map (λ (s : ProofStep). s.spot) steps) n ≡ Some step.spot
+spot_at steps n step within is = slice_get-map (λ (s : ProofStep). s.spot) steps n ∙ ap (option_map (λ (s : ProofStep). s.spot)) (slice_get_read steps (length steps) n step refl within is)
 
 pub index-requires : goal.index-requires
 index-requires c =
@@ -31,7 +33,7 @@ returns-in-Unknown c view place statement says =
     let n = c.in-Unknown.n in
     let run = subst (RunSays place (decoded_steps view c.args.decoding.now c.args.words).steps statement) c.in-Unknown.is says in
     let within = subst (IsOutcomeWithin (length steps)) c.in-Unknown.is c.requires.within in
-    (n, run.0, mapped_get (λ (step : ProofStep). step.spot) steps n c.index-in-Unknown.result.now within c.index-in-Unknown.ensures, run.1)
+    (n, run.0, spot_at steps n c.index-in-Unknown.result.now within c.index-in-Unknown.ensures, run.1)
 
 pub returns-in-NotOne : goal.returns-in-NotOne
 returns-in-NotOne c view place statement says =

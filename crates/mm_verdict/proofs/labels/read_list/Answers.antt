@@ -1,7 +1,5 @@
-use Rattle.std.proofs.Common.{◌≤◌, length, sym, ap, arith, refl}
-use Rattle.std.proofs.lemmas.Result.{err_from_is_err_and}
-use Rattle.mm_verdict.proofs.lemmas.decoding.LeftLemmas.{take_one, none_left}
-use Rattle.mm_verdict.proofs.lemmas.decoding.TableLemmas.{starts, ends, goes_on, fails, stops}
+use Rattle.std.proofs.{Common.{◌≤◌, length, sym, ap, arith, refl}, lemmas.Result.{err_from_is_err_and}}
+use Rattle.mm_verdict.proofs.lemmas.decoding.{LeftLemmas.{take_one, none_left}, TableLemmas.{starts, ends, goes_on, fails, stops}}
 use Rattle.mm_verdict.proofs.labels.read_list.Goals as goal
 
 pub loop-word-init : goal.loop-word-init

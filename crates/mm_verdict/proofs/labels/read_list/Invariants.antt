@@ -1,8 +1,6 @@
 use Rattle.std.proofs.Common.{◌≡◌, ◌+◌, ℕ, List, length}
-use Rattle.mm_frame.specs.Language.Base.{BaseView}
-use Rattle.mm_frame.specs.Language.Answering.{IsBase}
-use Rattle.mm_verdict.specs.Code.Labels.{BeginsTable, Lists}
-use Rattle.mm_verdict.specs.Code.Left.{AreLeft}
+use Rattle.mm_frame.specs.Language.{Base.{BaseView}, Answering.{IsBase}}
+use Rattle.mm_verdict.specs.Code.{Labels.{BeginsTable, Lists}, Left.{AreLeft}}
 use Rattle.mm_verdict.proofs.labels.read_list.Given as goal
 
 abbrev pub invariant-loop-word : goal.invariant-loop-word

@@ -1,12 +1,10 @@
 -- Labels of a base belong to one item each, and mandatory hypotheses are active.
 use Rattle.std.proofs.Common.{◌≡◌, ℕ, true, Option, Some, List, [], ◌∷◌, sym, ◌∙◌, ap, Contains, unwrap_or}
-use Rattle.mm_frame.specs.Language.Base.{BaseView, AreSaid, before, said_at, is_shown_at}
-use Rattle.mm_frame.specs.Language.Laws as frame
-use Rattle.mm_frame.specs.Language.Resolving.{IsCarrier, Resolves}
-use Rattle.mm_frame.specs.Language.Framing.{mandatory_numbers}
-use Rattle.mm_frame.specs.declared.base.Resolved.TheVariants as answers
-use Rattle.mm_verdict.proofs.lemmas.lists.Members.{Contains-here, contains_there}
+use Rattle.mm_frame.specs.Language.{Base.{BaseView, AreSaid, before, said_at, is_shown_at}, Resolving.{IsCarrier, Resolves}, Framing.{mandatory_numbers}}
 use Rattle.mm_verdict.specs.Language.BaseLabels.{label_at, NoLabelTwice, AreActive}
+use Rattle.mm_verdict.proofs.lemmas.lists.Members.{Contains-here, contains_there}
+use Rattle.mm_frame.specs.Language.Laws as frame
+use Rattle.mm_frame.specs.declared.base.Resolved.TheVariants as answers
 
 -- the label of a sound item
 own_label : frame.ItemsHaveLabels → (view : BaseView) → AreSaid view → (j : ℕ) → is_shown_at view j ≡ true → IsCarrier view (label_at view j) j

@@ -1,12 +1,9 @@
 -- Frames that are the same, and what a theorem and an assertion of a base are.
 use Rattle.std.proofs.Common.{◌≡◌, ◌≢◌, ℕ, true, List, get_or, refl, sym, subst, inl, inr, slice_get, All, AllPairs, Contains}
-use Rattle.std.proofs.lemmas.Bool.{false≢true, and_from, and_parts}
-use Rattle.std.proofs.lemmas.List.{get_or_default}
-use Rattle.std.proofs.lemmas.List.Elements.{All-contains}
+use Rattle.std.proofs.lemmas.{Bool.{false≢true, and_from, and_parts}, List.{get_or_default, Elements.{All-contains}}}
 use Rattle.mm_frame.specs.Language.Base.{BaseView, said_at, is_sound_at, is_shown_at, is_framed_at, is_proof_at}
-use Rattle.mm_frame.specs.Language.Frame.{Symbol, Mandatory, Frame, AreSameFrame, HasVariable}
 use Rattle.mm_frame.specs.mm_statement.Language.Item.{Kind, Axiom, Theorem, is_theorem, is_assertion, is_labelled}
-use Rattle.mm_frame.specs.Language.Typing.{IsTyped, IsTyping, IsFrame}
+use Rattle.mm_machine.specs.Language.{Frame.{Symbol, Mandatory, Frame, AreSameFrame, HasVariable}, Typing.{IsTyped, IsTyping, IsFrame}}
 
 -- both are variables with a mandatory `$f`
 abbrev Typed : List Mandatory → Symbol × Symbol → Type 0

@@ -1,17 +1,16 @@
 -- What a base and its files say of one item.
-use Rattle.std.proofs.Common.{◌≡◌, ℕ, true, Some, List, slice_get, sym, subst}
-use Rattle.std.proofs.lemmas.Option.{get_or_from_slice_get}
-use Rattle.mm_verdict.proofs.lemmas.machine.EntryFaults.{zip_at}
+use Rattle.std.proofs.{Common.{◌≡◌, ℕ, zero, suc, true, Some, List, [], ◌∷◌, slice_get, refl, sym, subst}, lemmas.Option.{get_or_from_slice_get}}
+use Rattle.std.specs.List.{AllZip}
+use Rattle.mm_frame.specs.{mm_store.Language.{FilesView.{FilesView}, FileFacts.{CanBeRead}}, Language.{Base.{BaseView, is_proof_at, said_at}, Answering.{IsBase}}}
+use Rattle.mm_frame.specs.{mm_statement.Language.{Item.{Item, passed}, Statement.{Says}}, declared.base.Base.{Base}}
+use Rattle.mm_verdict.specs.{Language.ReadIn.{HasTheorem, IsReadIn}, Code.Judged.{IsTheorem}}
 use Rattle.mm_frame.specs.mm_store.declared.item.Item as store
-use Rattle.mm_frame.specs.mm_store.Language.FilesView.{FilesView}
-use Rattle.mm_frame.specs.mm_store.Language.FileFacts.{CanBeRead}
-use Rattle.mm_frame.specs.Language.Base.{BaseView, is_proof_at, said_at}
-use Rattle.mm_frame.specs.mm_statement.Language.Item.{Item, passed}
-use Rattle.mm_frame.specs.Language.Answering.{IsBase}
-use Rattle.mm_frame.specs.mm_statement.Language.Statement.{Says}
-use Rattle.mm_frame.specs.declared.base.Base.{Base}
-use Rattle.mm_verdict.specs.Language.ReadIn.{HasTheorem, IsReadIn}
-use Rattle.mm_verdict.specs.Code.Judged.{IsTheorem}
+
+zip_at : {A B : Type 0} (R : A → B → Type 0) (xs : List A) (ys : List B) (n : ℕ) (x : A) → AllZip R xs ys → slice_get xs n ≡ Some x → (y : B) × (slice_get ys n ≡ Some y) × R x y
+zip_at R [] [] n x a e = cc
+zip_at R (w ∷ xs) (z ∷ ys) zero x a e = let f : w ≡ x = cc in (z, refl, subst (λ v. R v z) f a.0)
+zip_at R (w ∷ xs) (z ∷ ys) (suc n) x a e = zip_at R xs ys n x a.1 e
+zip_at R _ _ n x a e = absurd a
 
 -- what it says
 says_at : (names : List (List ℕ)) (files : FilesView) (code : Base) (view : BaseView) (n : ℕ) (item : store.Item) → IsReadIn names files code view → slice_get view.found n ≡ Some item → Says files item (said_at view n)

@@ -1,20 +1,14 @@
 -- A label that means an assertion at an item is the label of one that comes before the item.
-use Rattle.std.proofs.Common.{◌≡◌, ◌<◌, ◌≤◌, ◌⊎◌, ℕ, zero, suc, cond, Bool, true, false, bytes_eq, option_to_list, Option, Some, None, List, [], ◌∷◌, ◌++◌, length, take, slice_get, refl, sym, ◌∙◌, ap, subst, inl, inr, arith, is_none, append-nil}
-use Rattle.std.proofs.Math.Decide.{dec_lt}
-use Rattle.std.proofs.lemmas.Slice.Eq.{bytes_eq-Decides}
-use Rattle.std.proofs.Math.Seq.{take-suc, take-length}
-use Rattle.std.proofs.lemmas.Bool.{cases_Bool, false≢true, and_from}
+use Rattle.std.proofs.Common.{◌≡◌, ◌<◌, ◌≤◌, ◌⊎◌, ℕ, zero, suc, cond, Bool, true, bytes_eq, option_to_list, Option, Some, None, List, [], ◌∷◌, ◌++◌, length, take, slice_get, refl, sym, ◌∙◌, ap, subst}
+use Rattle.std.proofs.Common.{inl, inr, arith, is_none, append-nil}
+use Rattle.std.proofs.{Math.{Decide.{dec_lt}, Seq.{take-suc, take-length}}, lemmas.{Slice.Eq.{bytes_eq-Decides}, Bool.{cases_Bool, false≢true, and_from}}}
 use Rattle.mm_frame.specs.declared.FrameNumber.{FrameNumber}
-use Rattle.mm_frame.specs.declared.base.Resolved.TheVariants as answers
-use Rattle.mm_frame.specs.Language.Base.{BaseView, said_at, before, is_sound_at, fault_by}
-use Rattle.mm_frame.specs.Language.Frame.{Assertion}
-use Rattle.mm_frame.specs.Language.Framing.{frame, meaning, resolve, resolve_from}
-use Rattle.mm_frame.specs.mm_statement.Language.Item.{Kind, Floating, Essential, Axiom, Theorem, Item, passed, is_assertion, is_labelled, labels_of, has}
-use Rattle.mm_frame.specs.Language.Laws.{KeptNext}
-use Rattle.mm_frame.specs.Language.Resolving.{Resolves}
-use Rattle.mm_frame.specs.Language.Scope.{stays}
+use Rattle.mm_frame.specs.Language.{Base.{BaseView, said_at, before, is_sound_at, fault_by}, Framing.{frame, meaning, resolve, resolve_from}, Laws.{KeptNext}, Resolving.{Resolves}, Scope.{stays}}
 use Rattle.mm_frame.specs.Language.Sound.{fault, judged, sound_items}
+use Rattle.mm_frame.specs.mm_statement.Language.Item.{Kind, Floating, Essential, Axiom, Theorem, Item, passed, is_assertion, is_labelled, labels_of, has}
+use Rattle.mm_machine.specs.Language.Frame.{Assertion}
 use Rattle.mm_verdict.specs.Language.Citing.{means_assertion}
+use Rattle.mm_frame.specs.declared.base.Resolved.TheVariants as answers
 
 labelled : (b : Bool) (o : Option (List ℕ)) (label : List ℕ) → has (cond b (option_to_list o) []) label ≡ true → (b ≡ true) × (o ≡ Some label)
 labelled true (Some l) label h = elim (cases_Bool (bytes_eq label l)) [

@@ -1,23 +1,16 @@
 -- The words that the code gives are those that cite.
-use Rattle.std.proofs.Common.{◌≡◌, ℕ, zero, suc, ◌+◌, Bool, true, false, not, ◌&&◌, List, [], ◌∷◌, ◌++◌, length, map, drop, refl, sym, ap, ◌∙◌, inl, inr, eqb-true, eq-eqb, filter, bytes_eq, codes, nat_eq, slice_get, slice_index_or}
+use Rattle.std.proofs.Common.{◌≡◌, ℕ, zero, suc, ◌+◌, Bool, true, false, not, ◌&&◌, List, [], ◌∷◌, ◌++◌, length, map, drop, refl, sym, ap, ◌∙◌, inl, inr, eqb-true, eq-eqb, filter, bytes_eq, codes}
+use Rattle.std.proofs.Common.{nat_eq, slice_get, slice_index_or}
+use Rattle.std.proofs.lemmas.{Bool.{cases_Bool, false≢true}, Slice.Eq.{bytes_eq-Decides}}
 use Rattle.std.specs.List.{list_any, enumerate_from, before_first}
-use Rattle.std.proofs.lemmas.Bool.{cases_Bool, false≢true}
-use Rattle.std.proofs.lemmas.Slice.Eq.{bytes_eq-Decides}
-use Rattle.mm_frame.specs.Language.Base.{BaseView}
-use Rattle.mm_verdict.specs.Language.BaseLabels.{NoLabelTwice}
-use Rattle.mm_verdict.specs.Language.BaseLabels.{label_at, setting_at}
-use Rattle.mm_frame.specs.Language.Base.{is_shown_at}
+use Rattle.mm_frame.specs.{Language.Base.{BaseView, is_shown_at}, declared.base.Resolved.{Resolved}}
+use Rattle.mm_verdict.specs.Language.{BaseLabels.{NoLabelTwice, label_at, setting_at}, Citing.{firsts, means_assertion, names_assertion, is_cited, cited_words}}
+use Rattle.mm_verdict.specs.Language.{DecodedSteps.{entry_step, entry_steps, IsEntry, AreEntries, labels_at, word_step, label_table}, Decoding.{is_close, is_compressed}}
 use Rattle.mm_verdict.specs.Code.Cited.{cited_item, item_named, is_item, names_item, without, item_cites}
-use Rattle.mm_verdict.specs.Language.Citing.{firsts, means_assertion, names_assertion, is_cited, cited_words}
-use Rattle.mm_verdict.specs.Language.DecodedSteps.{meant, entry_step, entry_steps, IsEntry, AreEntries, labels_at, word_step, label_table}
-use Rattle.mm_verdict.specs.Language.Decoding.{is_close, is_compressed}
-use Rattle.mm_verdict.specs.Language.Expansion.{Step, Named, NotKnown}
+use Rattle.mm_machine.specs.{Language.{NamedSteps.{meant}, Expansion.{Step, Named, NotKnown}}, declared.step.{Action.{Action}, ProofStep.{ProofStep}}}
 use Rattle.mm_verdict.proofs.lemmas.views.SameCites.{other_label}
-use Rattle.mm_frame.specs.declared.base.Resolved.{Resolved}
 use Rattle.mm_frame.specs.declared.base.Resolved.TheVariants as answers
-use Rattle.mm_verdict.specs.declared.step.Action.{Action}
-use Rattle.mm_verdict.specs.declared.step.Action.TheVariants as actions
-use Rattle.mm_verdict.specs.declared.step.ProofStep.{ProofStep}
+use Rattle.mm_machine.specs.declared.step.Action.TheVariants as actions
 
 abbrev Words : Type 0
 Words = List (ℕ × List ℕ)

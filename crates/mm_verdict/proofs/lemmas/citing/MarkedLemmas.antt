@@ -1,9 +1,8 @@
 -- What is marked counts for the assertions of entries alone.
-use Rattle.std.proofs.Common.{◌≡◌, ℕ, suc, ◌+◌, Bool, true, List, [], ◌∷◌, drop, refl, ap, inl, inr, eq-eqb, nat_eq}
-use Rattle.std.proofs.lemmas.Bool.{cases_Bool}
+use Rattle.std.proofs.{Common.{◌≡◌, ℕ, suc, ◌+◌, Bool, true, List, [], ◌∷◌, drop, refl, ap, inl, inr, eq-eqb, nat_eq}, lemmas.Bool.{cases_Bool}}
 use Rattle.mm_frame.specs.declared.base.Resolved.{Resolved}
-use Rattle.mm_frame.specs.declared.base.Resolved.TheVariants as answers
 use Rattle.mm_verdict.specs.Code.Cited.{without, item_cites, is_listed}
+use Rattle.mm_frame.specs.declared.base.Resolved.TheVariants as answers
 
 -- one of the rest is one of all
 listed_on : (label : Resolved) (labels : List Resolved) (j : ℕ) → is_listed labels j ≡ true → is_listed (label ∷ labels) j ≡ true

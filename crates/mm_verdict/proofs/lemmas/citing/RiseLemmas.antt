@@ -1,13 +1,8 @@
 -- The words that cite rise.
-use Rattle.std.proofs.Common.{ℕ, ◌+◌, ◌<◌, Bool, not, Result, Ok, Err, List, [], ◌∷◌, map, drop, arith, inl, inr, filter, bytes_eq, codes}
+use Rattle.std.proofs.{Common.{ℕ, ◌+◌, ◌<◌, Bool, not, Result, Ok, Err, List, [], ◌∷◌, map, drop, arith, inl, inr, filter, bytes_eq, codes}, lemmas.Bool.{cases_Bool}}
 use Rattle.std.specs.List.{AllByRecursion, enumerate_from, before_first}
-use Rattle.std.proofs.lemmas.Bool.{cases_Bool}
-use Rattle.mm_verdict.specs.Language.Citing.{label_words, firsts, is_cited, cites}
-use Rattle.mm_verdict.specs.Language.Decoding.{is_close, is_compressed}
-use Rattle.mm_frame.specs.Language.Frame.{Setting}
-use Rattle.mm_verdict.specs.Language.DecodingLaws.{Rise}
-use Rattle.mm_verdict.specs.Language.Verdict.{Decoded}
-use Rattle.mm_verdict.specs.declared.step.ProofFault.{ProofFault}
+use Rattle.mm_verdict.specs.Language.{Citing.{label_words, firsts, is_cited, cites}, Decoding.{is_close, is_compressed}, DecodingLaws.{Rise}}
+use Rattle.mm_machine.specs.{Language.{Frame.{Setting}, Verdict.{Decoded}}, declared.step.ProofFault.{ProofFault}}
 use Rattle.mm_verdict.proofs.lemmas.views.SameCites.{kept_all}
 
 -- words with numbers that rise

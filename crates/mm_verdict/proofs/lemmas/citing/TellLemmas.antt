@@ -1,32 +1,17 @@
 -- The words that cite are labels of exactly the assertions that decoded steps name.
-use Rattle.std.proofs.Common.{◌≡◌, ◌⊎◌, ℕ, zero, suc, ◌+◌, ◌-◌, Bool, true, false, not, cond, ◌||◌, Option, Some, None, Result, Ok, Err, List, [], ◌∷◌, ◌++◌, length, map, drop, take, slice_get, refl, sym, ap, ◌∙◌, subst, inl, inr, arith}
-use Rattle.std.specs.Prelude.{◌↔◌, Contains, filter, bytes_eq, codes, ◌==◌}
-use Rattle.std.specs.List.{AllZip, AllByRecursion, list_any, enumerate_from, before_first, after_first, range_with_len, prefix_len}
-use Rattle.std.proofs.lemmas.Bool.{false≢true, and_parts, and_from, or_left, or_right}
-use Rattle.std.proofs.lemmas.Option.{same_Some}
-use Rattle.std.proofs.lemmas.Slice.Eq.{bytes_eq-Decides}
-use Rattle.mm_frame.specs.Language.Base.{BaseView, AreSaid, said_at, frame_at}
-use Rattle.mm_frame.specs.Language.Frame.{Mandatory, Resolved, Inactive, Unknown, Setting}
-use Rattle.mm_frame.specs.Language.Laws.{KeptNext}
-use Rattle.mm_verdict.specs.Language.BaseLabels.{setting_at}
-use Rattle.mm_verdict.specs.Language.Citing.{label_words, firsts, means_assertion, names_assertion, is_cited, cites}
-use Rattle.mm_verdict.specs.Language.CitingLaws.{NamesAssertionAt, IsCiteOf}
-use Rattle.mm_verdict.specs.Language.Decoding.{Reading, Steps, with_step, read_first, in_order, word_spot, usable, read_label, read_word, each_word, nameable, named}
-use Rattle.mm_verdict.specs.Language.Decoding.{alone, read_letter, read_group, is_save_letter, each_group, if_read, is_close, is_compressed, letter_steps, steps_in, decoding}
-use Rattle.mm_verdict.specs.Language.Expansion.{Step, Named, Saved, Save, NotKnown}
-use Rattle.mm_verdict.specs.Language.ItemLaws.{MandatoryLabelsMean, MeansHypothesis}
-use Rattle.mm_verdict.specs.Language.Letters.{Letter, Group, groups, letters_from}
-use Rattle.mm_verdict.specs.Language.Numbers.{is_last, value_of}
-use Rattle.mm_verdict.specs.Language.SameProof.{labels_named}
-use Rattle.mm_verdict.specs.Language.Verdict.{Decoded}
+use Rattle.std.proofs.Common.{◌≡◌, ◌⊎◌, ℕ, zero, suc, ◌+◌, ◌-◌, Bool, true, false, not, cond, ◌||◌, Option, Some, None, Result, Ok, Err, List, [], ◌∷◌, ◌++◌, length, map, drop, take, slice_get, refl}
+use Rattle.std.proofs.Common.{sym, ap, ◌∙◌, subst, inl, inr, arith}
+use Rattle.std.proofs.lemmas.{Bool.{false≢true, and_parts, and_from, or_left, or_right}, Option.{same_Some}, Slice.Eq.{bytes_eq-Decides}}
+use Rattle.std.specs.{Prelude.{◌↔◌, Contains, filter, bytes_eq, codes, ◌==◌}, List.{AllZip, AllByRecursion, list_any, enumerate_from, before_first, after_first, range_with_len, prefix_len}}
+use Rattle.mm_frame.specs.Language.{Base.{BaseView, AreSaid, said_at, frame_at}, Laws.{KeptNext}}
+use Rattle.mm_machine.specs.Language.{Frame.{Mandatory, Resolved, Inactive, Unknown, Setting}, Expansion.{Step, Named, Saved, Save, NotKnown}, Verdict.{Decoded}}
+use Rattle.mm_machine.specs.declared.{Spot.{Spot}, ProofNumber.{ProofNumber, TheVariants.{P03, P04}}, step.ProofFault.{ProofFault}}
+use Rattle.mm_verdict.specs.Language.{BaseLabels.{setting_at}, Citing.{label_words, firsts, means_assertion, names_assertion, is_cited, cites}, CitingLaws.{NamesAssertionAt, IsCiteOf}}
+use Rattle.mm_verdict.specs.Language.Decoding.{Reading, Steps, with_step, read_first, in_order, word_spot, usable, read_label, read_word, each_word, nameable, named, alone, read_letter, read_group}
+use Rattle.mm_verdict.specs.Language.Decoding.{is_save_letter, each_group, if_read, is_close, is_compressed, letter_steps, steps_in, decoding}
+use Rattle.mm_verdict.specs.Language.{ItemLaws.{MandatoryLabelsMean, MeansHypothesis}, Letters.{Letter, Group, groups, letters_from}, Numbers.{is_last, value_of}, SameToDecode.{labels_named}}
 use Rattle.mm_verdict.specs.Language.VerdictAt.{mandatory_labels, decoding_at, cites_at}
-use Rattle.mm_verdict.specs.declared.Spot.{Spot}
-use Rattle.mm_verdict.specs.declared.ProofNumber.{ProofNumber}
-use Rattle.mm_verdict.specs.declared.ProofNumber.TheVariants.{P03, P04}
-use Rattle.mm_verdict.specs.declared.step.ProofFault.{ProofFault}
-use Rattle.mm_verdict.proofs.lemmas.lists.Members.{Contains-here, contains_there, contains_cases}
-use Rattle.mm_verdict.proofs.lemmas.base.StoodLemmas.{assertion_stands}
-use Rattle.mm_verdict.proofs.lemmas.decoding.SureLemmas.{decoded_ok}
+use Rattle.mm_verdict.proofs.lemmas.{lists.Members.{Contains-here, contains_there, contains_cases}, base.StoodLemmas.{assertion_stands}, decoding.SureLemmas.{decoded_ok}}
 
 -- ---- what is in a list, by recursion
 

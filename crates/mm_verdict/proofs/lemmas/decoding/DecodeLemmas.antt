@@ -1,15 +1,9 @@
 -- The decoding that the code has.
 use Rattle.std.proofs.Common.{◌≡◌, ℕ, true, false, Ok, List, [], ◌∷◌, length, map, drop, refl, ap}
-use Rattle.mm_frame.specs.Language.Frame.{Setting}
-use Rattle.mm_verdict.specs.Language.Expansion.{Step}
-use Rattle.mm_verdict.specs.Language.DecodedSteps.{meant, TellsFault, label_table, word_step}
-use Rattle.mm_verdict.specs.Code.Coded.{meant_steps, TellsSteps}
-use Rattle.mm_verdict.specs.Language.Decoding.{in_order, each_word, read_word, compressed_steps, is_compressed, word_spot, decoded, decoding}
-use Rattle.mm_verdict.specs.Language.Verdict.{Decoded}
-use Rattle.mm_verdict.specs.declared.Spot.{Spot}
-use Rattle.mm_verdict.specs.declared.step.ProofStep.{ProofStep}
-use Rattle.mm_verdict.specs.declared.step.Undecoded.{Undecoded}
-use Rattle.mm_verdict.specs.declared.step.Undecoded.TheVariants as errors
+use Rattle.mm_machine.specs.{Language.{Frame.{Setting}, Expansion.{Step}, NamedSteps.{meant}, Verdict.{Decoded}}, declared.{Spot.{Spot}, step.ProofStep.{ProofStep}}}
+use Rattle.mm_verdict.specs.Language.{DecodedSteps.{TellsFault, label_table, word_step}, Decoding.{in_order, each_word, read_word, compressed_steps, is_compressed, word_spot, decoded, decoding}}
+use Rattle.mm_verdict.specs.{Code.Coded.{meant_steps, TellsSteps}, declared.undecoded.Undecoded.{Undecoded}}
+use Rattle.mm_verdict.specs.declared.undecoded.Undecoded.TheVariants as errors
 
 only_steps : (names : List Step) (steps : List ProofStep) → map (λ (step : Step × Spot). step.0) (meant_steps names steps) ≡ map (λ (step : ProofStep). meant names step.action) steps
 only_steps names [] = refl

@@ -1,41 +1,17 @@
 -- A proof that is decoded, and what a run says of it.
 use Rattle.std.proofs.Common.{◌≡◌, ℕ, zero, suc, ◌+◌, ◌<◌, true, false, cond, Some, Ok, List, [], ◌∷◌, length, take, get_or, refl, sym, ◌∙◌, ap, subst, arith, inl, inr, slice_get, All, count_by}
+use Rattle.std.proofs.lemmas.{List.{take-map, length-take-le, Elements.{All-nil, All-cons}, Sums.{sum_by-cons}}, Option.{slice_get-map, slice_get_within}}
 use Rattle.std.specs.Option.{option_map}
-use Rattle.std.proofs.lemmas.List.{take-map, length-take-le}
-use Rattle.std.proofs.lemmas.List.Elements.{All-nil, All-cons}
-use Rattle.std.proofs.lemmas.List.Sums.{sum_by-cons}
-use Rattle.std.proofs.lemmas.Option.{slice_get-map, slice_get_within}
-use Rattle.mm_frame.specs.declared.base.Base.{Base}
-use Rattle.mm_frame.specs.declared.base.Resolved.{Resolved}
+use Rattle.mm_frame.specs.{declared.base.{Base.{Base}, Resolved.{Resolved}}, Language.{Base.{BaseView, before, said_at, is_framed_at}, Framing.{mandatory_numbers}, Answering.{IsBase}}}
+use Rattle.mm_machine.specs.Language.{Frame.{Symbol, Setting}, Expansion.{Step, Saved, NotKnown}, Machine.{AreDecoded, is_save}, Run.{AreDone}}
+use Rattle.mm_machine.specs.Language.{NamedSteps.{meant, AreSavedBefore, IsSavedWithin, RunSays, actions_mean, saves_by, saves_in}, RunLaws.{PartsAreRun}}
+use Rattle.mm_machine.specs.declared.{step.{Action.{Action}, ProofStep.{ProofStep}}, stepping.Outcome.{Outcome, TheVariants.{Proved, Fault, Unknown, NotOne, Other}}}
+use Rattle.mm_verdict.specs.Language.{BaseLabels.{AreActive, setting_at}, Decoding.{decoding}, DecodingLaws.{DecodesSurely, MandatoryAreActive}, VerdictAt.{mandatory_labels}}
+use Rattle.mm_verdict.specs.Language.DecodedSteps.{decoded_steps, decoding_of, AreEntries, entry_step, entry_steps, label_table, labels_at}
+use Rattle.mm_verdict.specs.{Code.{Decoded.{WhereActive}, Judged.{IsDecoding, IsTheorem, done_by}, NamedItems.{IsNamedBy}, UsedLabels.{IsPart}}, declared.reading.Decoding.{Decoding}}
+use Rattle.mm_verdict.proofs.lemmas.{base.FrameLemmas.{framed_proof}, verdicts.ItemLemmas.{active_usable}, machine.UsedLemmas.{part_entries}}
 use Rattle.mm_frame.specs.declared.base.Resolved.TheVariants as answers
-use Rattle.mm_frame.specs.Language.Base.{BaseView, before, said_at, is_framed_at}
-use Rattle.mm_frame.specs.Language.Frame.{Symbol, Setting}
-use Rattle.mm_frame.specs.Language.Framing.{mandatory_numbers}
-use Rattle.mm_frame.specs.Language.Answering.{IsBase}
-use Rattle.mm_verdict.specs.Language.BaseLabels.{AreActive, setting_at}
-use Rattle.mm_verdict.specs.Language.Decoding.{decoding}
-use Rattle.mm_verdict.specs.Language.DecodingLaws.{DecodesSurely, MandatoryAreActive}
-use Rattle.mm_verdict.specs.Language.VerdictAt.{mandatory_labels}
-use Rattle.mm_verdict.specs.Language.Expansion.{Step, Saved, NotKnown}
-use Rattle.mm_verdict.specs.Language.Machine.{AreDecoded, is_save}
-use Rattle.mm_verdict.specs.Language.Run.{AreDone}
-use Rattle.mm_verdict.specs.Language.DecodedSteps.{meant, decoded_steps, decoding_of, AreEntries, entry_step, entry_steps, label_table, labels_at}
-use Rattle.mm_verdict.specs.Code.Decoded.{WhereActive}
-use Rattle.mm_verdict.specs.Code.Judged.{IsDecoding, IsTheorem, done_by}
-use Rattle.mm_verdict.specs.Code.NamedItems.{IsNamedBy}
-use Rattle.mm_verdict.specs.Code.Tasks.{AreSavedBefore, IsSavedWithin, RunSays, actions_mean, saves_by, saves_in}
-use Rattle.mm_verdict.specs.Code.UsedLabels.{IsPart}
-use Rattle.mm_verdict.specs.declared.reading.Decoding.{Decoding}
-use Rattle.mm_verdict.specs.declared.step.Action.{Action}
-use Rattle.mm_verdict.specs.declared.step.Action.TheVariants as actions
-use Rattle.mm_verdict.specs.declared.step.ProofStep.{ProofStep}
-use Rattle.mm_verdict.specs.declared.stepping.Outcome.{Outcome}
-use Rattle.mm_verdict.specs.declared.stepping.Outcome.TheVariants.{Proved, Fault, Unknown, NotOne, Other}
-use Rattle.mm_verdict.proofs.lemmas.base.FrameLemmas.{framed_proof}
-use Rattle.mm_verdict.proofs.lemmas.verdicts.ItemLemmas.{active_usable}
-use Rattle.mm_verdict.proofs.lemmas.verdicts.Part.{known_part}
-use Rattle.mm_verdict.proofs.lemmas.machine.StepLemmas.{part_ends}
-use Rattle.mm_verdict.proofs.lemmas.machine.UsedLemmas.{part_entries}
+use Rattle.mm_machine.specs.declared.step.Action.TheVariants as actions
 
 -- ---- entries
 
@@ -113,12 +89,12 @@ decoded code i proof d numbers view theorem mandatory active ok entries table =
 
 -- ---- steps that are done
 
-pub done_says : (place : Setting) (statement : List Symbol) (steps : List Step) (outcome : Outcome) → RunSays place steps statement outcome → AreDone place steps (done_by (length steps) outcome)
-done_says place statement steps Proved r = inr ((statement ∷ [], rw (known_part steps r.0) r.1), sym (ap length (known_part steps r.0)))
-done_says place statement steps (Fault number n) r = inl (n, number, r, refl)
-done_says place statement steps (Unknown n) r =
-    let ends = part_ends steps n r.0.1 r.0.0 in
+pub done_says : PartsAreRun → (place : Setting) (statement : List Symbol) (steps : List Step) (outcome : Outcome) → RunSays place steps statement outcome → AreDone place steps (done_by (length steps) outcome)
+done_says parts place statement steps Proved r = inr ((statement ∷ [], rw (parts.known steps r.0) r.1), sym (ap length (parts.known steps r.0)))
+done_says parts place statement steps (Fault number n) r = inl (n, number, r, refl)
+done_says parts place statement steps (Unknown n) r =
+    let ends = parts.unknown steps n r.0 in
     let l = slice_get_within steps n NotKnown r.0.0 in
     inr (r.1, sym (ap length ends ∙ length-take-le n steps (omega arith)))
-done_says place statement steps NotOne r = inr ((r.1, rw (known_part steps r.0) r.2), sym (ap length (known_part steps r.0)))
-done_says place statement steps Other r = inr ((r.1 ∷ [], rw (known_part steps r.0) r.2), sym (ap length (known_part steps r.0)))
+done_says parts place statement steps NotOne r = inr ((r.1, rw (parts.known steps r.0) r.2), sym (ap length (parts.known steps r.0)))
+done_says parts place statement steps Other r = inr ((r.1 ∷ [], rw (parts.known steps r.0) r.2), sym (ap length (parts.known steps r.0)))

@@ -1,8 +1,7 @@
 -- The letters are divided into groups in exactly one way.
 use Rattle.std.proofs.Common.{◌≡◌, true, false, Option, Some, None, List, [], ◌∷◌, ◌++◌, refl, sym, ap, ◌∙◌, inl, inr, append_assoc, append-nil, flat_map, option_to_list, ◌↔◌}
 use Rattle.std.proofs.lemmas.Bool.{cases_Bool}
-use Rattle.mm_verdict.specs.Language.Numbers.{is_digit}
-use Rattle.mm_verdict.specs.Language.Letters.{Letter, Group, cut_group, groups_behind, groups, group_letters, AreDigits, EndsGroup, AreGroups, IsDivided}
+use Rattle.mm_verdict.specs.Language.{Numbers.{is_digit}, Letters.{Letter, Group, cut_group, groups_behind, groups, group_letters, AreDigits, EndsGroup, AreGroups, IsDivided}}
 
 pub digits_more : (ds : List Letter) (l : Letter) → AreDigits ds → is_digit l.byte ≡ true → AreDigits (ds ++ l ∷ [])
 digits_more [] l all e = (e, tt)

@@ -1,15 +1,10 @@
 -- The letters read from left to right are the letters read in groups.
-use Rattle.std.proofs.Common.{◌≡◌, ℕ, ◌+◌, false, ◌==◌, cond, Result, List, [], ◌∷◌, ◌++◌, map, refl, sym, ap, ◌∙◌, arith, inl, inr, eqb-true}
-use Rattle.std.proofs.lemmas.Bool.{cases_Bool}
-use Rattle.mm_verdict.specs.Language.Expansion.{Step, Save, NotKnown}
-use Rattle.mm_verdict.specs.Language.Numbers.{is_digit, digit_worth, in_base_five}
-use Rattle.mm_verdict.specs.Language.Letters.{Letter, cut_group, groups_behind, groups, AreDigits}
+use Rattle.std.proofs.{Common.{◌≡◌, ℕ, ◌+◌, false, ◌==◌, cond, Result, List, [], ◌∷◌, ◌++◌, map, refl, sym, ap, ◌∙◌, arith, inl, inr, eqb-true}, lemmas.Bool.{cases_Bool}}
+use Rattle.mm_machine.specs.{Language.Expansion.{Step, Save, NotKnown}, declared.{Spot.{Spot}, ProofNumber.{ProofNumber}}}
+use Rattle.mm_verdict.specs.Language.{Numbers.{is_digit, digit_worth, in_base_five}, Letters.{Letter, cut_group, groups_behind, groups, AreDigits}}
 use Rattle.mm_verdict.specs.Language.Decoding.{Steps, read_first, in_order, alone, nameable, read_letter, each_group}
 use Rattle.mm_verdict.specs.Code.LeftToRight.{alone_behind, read_behind, end_behind, read_on}
-use Rattle.mm_verdict.specs.declared.Spot.{Spot}
-use Rattle.mm_verdict.specs.declared.ProofNumber.{ProofNumber}
-use Rattle.mm_verdict.proofs.lemmas.decoding.NumberLemmas.{base_five_more, digit_is, AreWorth, none}
-use Rattle.mm_verdict.proofs.lemmas.decoding.GroupLemmas.{digits_more}
+use Rattle.mm_verdict.proofs.lemmas.decoding.{NumberLemmas.{base_five_more, digit_is, AreWorth, none}, GroupLemmas.{digits_more}}
 
 -- the worths of digits, and their number
 abbrev worths : List Letter → List ℕ

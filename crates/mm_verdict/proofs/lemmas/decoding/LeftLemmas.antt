@@ -1,13 +1,8 @@
 -- The words of a proof, taken one by one.
-use Rattle.std.proofs.Common.{◌≡◌, ℕ, ◌+◌, ◌<◌, List, [], ◌∷◌, Option, Some, None, true, get_or, length, drop, sym, ◌∙◌, ap, arith, MatchOption}
-use Rattle.std.proofs.lemmas.List.{drop_more}
-use Rattle.mm_verdict.specs.Language.Decoding.{is_compressed}
-use Rattle.mm_verdict.specs.Language.Expansion.{Step}
-use Rattle.mm_verdict.specs.Code.Left.{AreLeft}
-use Rattle.mm_verdict.specs.Language.Letters.{letters_from}
-use Rattle.mm_verdict.specs.Code.LeftToRight.{read_on}
-use Rattle.mm_verdict.proofs.lemmas.decoding.JoinLemmas.{letters_are}
-use Rattle.mm_verdict.proofs.lemmas.decoding.ReaderLemmas.{aim_of}
+use Rattle.std.proofs.{Common.{◌≡◌, ℕ, ◌+◌, ◌<◌, List, [], ◌∷◌, Option, Some, None, true, get_or, length, drop, sym, ◌∙◌, ap, arith, MatchOption}, lemmas.List.{drop_more}}
+use Rattle.mm_verdict.specs.{Language.{Decoding.{is_compressed}, Letters.{letters_from}}, Code.{Left.{AreLeft}, LeftToRight.{read_on}}}
+use Rattle.mm_machine.specs.Language.Expansion.{Step}
+use Rattle.mm_verdict.proofs.lemmas.decoding.{JoinLemmas.{letters_are}, ReaderLemmas.{aim_of}}
 
 -- one more word is taken
 pub record Taken (all new : List (List ℕ)) (n : ℕ) (word : List ℕ) : Type 0 where

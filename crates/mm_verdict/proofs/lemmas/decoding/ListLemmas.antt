@@ -1,16 +1,11 @@
 -- The list of labels read from left to right is the list.
 use Rattle.std.proofs.Common.{◌≡◌, ℕ, suc, ◌+◌, Bool, true, false, Result, Ok, Err, List, [], ◌∷◌, ◌++◌, length, refl, sym, ap, ◌∙◌, arith, inl, inr, append_assoc, append-nil, codes}
+use Rattle.std.proofs.{lemmas.{Bool.{cases_Bool, or_parts}, Slice.Eq.{bytes_eq-Decides}}, Math.Numerals.{one-add}}
 use Rattle.std.specs.List.{list_any, before_first, after_first}
-use Rattle.std.proofs.lemmas.Bool.{cases_Bool, or_parts}
-use Rattle.std.proofs.lemmas.Slice.Eq.{bytes_eq-Decides}
-use Rattle.mm_frame.specs.Language.Frame.{Setting}
-use Rattle.mm_verdict.specs.Language.Expansion.{Step}
+use Rattle.mm_machine.specs.{Language.{Frame.{Setting}, Expansion.{Step}}, declared.{Spot.{Spot}, ProofNumber.{ProofNumber}}}
 use Rattle.mm_verdict.specs.Language.Decoding.{Steps, read_first, in_order, each_word, read_label, is_close, if_read, letter_steps, compressed_steps, word_spot}
 use Rattle.mm_verdict.specs.Code.LeftToRight.{behind_label, list_on}
-use Rattle.mm_verdict.specs.declared.Spot.{Spot}
-use Rattle.mm_verdict.specs.declared.ProofNumber.{ProofNumber}
 use Rattle.mm_verdict.proofs.lemmas.decoding.ReadOnLemmas.{compressed_is, parts}
-use Rattle.std.proofs.Math.Numerals.{one-add}
 
 -- the labels listed so far can be used, and none is a `)`
 abbrev AreListed : Setting → ℕ → List (List ℕ) → Type 0

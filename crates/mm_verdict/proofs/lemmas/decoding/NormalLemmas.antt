@@ -1,27 +1,12 @@
 -- A normal proof as the code reads it.
 use Rattle.std.proofs.Common.{◌≡◌, ℕ, ◌+◌, ◌<◌, ◌≤◌, Result, Ok, List, [], ◌∷◌, ◌++◌, length, map, drop, get_or, refl, sym, ap, ◌∙◌, append_assoc, arith, inl, inr, bytes_eq, codes}
-use Rattle.std.proofs.Math.ListN.{drop_of_length-le}
-use Rattle.std.proofs.lemmas.List.{append-nil, map-append, length-append, length-map, map_more, take_all}
-use Rattle.std.proofs.lemmas.Bool.{cases_Bool}
-use Rattle.mm_verdict.proofs.lemmas.decoding.SureLemmas.{usable_is}
-use Rattle.mm_frame.specs.Language.Frame.{Setting}
-use Rattle.mm_verdict.specs.Language.Expansion.{Step}
-use Rattle.mm_frame.specs.Language.Base.{BaseView}
-use Rattle.mm_verdict.specs.Language.BaseLabels.{setting_at}
-use Rattle.mm_verdict.specs.Language.DecodedSteps.{meant, entry_step, entry_steps, IsEntry, word_step}
-use Rattle.mm_verdict.specs.Code.Coded.{TellsSteps, meant_steps}
-use Rattle.mm_verdict.specs.Language.Decoding.{read_first, in_order, each_word, read_word, word_spot}
-use Rattle.mm_verdict.specs.Code.Labels.{TellsWord, Normal}
-use Rattle.mm_verdict.specs.Code.LeftToRight.{with_steps}
-use Rattle.mm_verdict.specs.declared.Spot.{Spot}
-use Rattle.mm_frame.specs.declared.base.Resolved.{Resolved}
-use Rattle.mm_verdict.specs.declared.ProofNumber.{ProofNumber}
-use Rattle.mm_verdict.specs.declared.step.Action.{Action}
-use Rattle.mm_verdict.specs.declared.step.ProofStep.{ProofStep}
-use Rattle.mm_verdict.specs.declared.step.Undecoded.{Undecoded}
-use Rattle.mm_verdict.specs.declared.step.Undecoded.TheVariants as errors
-use Rattle.mm_verdict.proofs.lemmas.decoding.ReaderLemmas.{next_is, with_one, meant_more}
-use Rattle.mm_verdict.proofs.lemmas.decoding.TableLemmas.{entries_more}
+use Rattle.std.proofs.{Math.ListN.{drop_of_length-le}, lemmas.{List.{append-nil, map-append, length-append, length-map, map_more, take_all}, Bool.{cases_Bool}}}
+use Rattle.mm_machine.specs.{Language.{Frame.{Setting}, Expansion.{Step}, NamedSteps.{meant}}, declared.{Spot.{Spot}, ProofNumber.{ProofNumber}, step.{Action.{Action}, ProofStep.{ProofStep}}}}
+use Rattle.mm_frame.specs.{Language.Base.{BaseView}, declared.base.Resolved.{Resolved}}
+use Rattle.mm_verdict.specs.Language.{BaseLabels.{setting_at}, DecodedSteps.{entry_step, entry_steps, IsEntry, word_step}, Decoding.{read_first, in_order, each_word, read_word, word_spot}}
+use Rattle.mm_verdict.specs.{Code.{Coded.{TellsSteps, meant_steps}, Labels.{TellsWord, Normal}, LeftToRight.{with_steps}}, declared.undecoded.Undecoded.{Undecoded}}
+use Rattle.mm_verdict.proofs.lemmas.decoding.{SureLemmas.{usable_is}, ReaderLemmas.{next_is, with_one, meant_more}, TableLemmas.{entries_more}}
+use Rattle.mm_verdict.specs.declared.undecoded.Undecoded.TheVariants as errors
 
 count_more : (labels : List Resolved) (n : ℕ) (meaning : Resolved) → length labels ≡ n → length (labels ++ meaning ∷ []) ≡ n + 1
 count_more labels n meaning e = omega (arith, length-append labels (meaning ∷ []))

@@ -1,11 +1,9 @@
 -- Numbers of compressed proofs: one more digit, and each number from 1 on is written in exactly one way.
-use Rattle.std.proofs.Common.{◌≡◌, ℕ, zero, suc, ◌+◌, ◌-◌, ◌*◌, ◌/◌, ◌%◌, ◌^◌, ◌<◌, ◌≤◌, true, List, [], ◌∷◌, ◌++◌, length, map, refl, sym, ap, ◌∙◌, arith, inl, inr, ◌⊎◌}
-use Rattle.std.specs.List.{AllByRecursion}
-use Rattle.std.proofs.Math.Nat.{pow-succ'}
+use Rattle.std.proofs.{Common.{◌≡◌, ℕ, zero, suc, ◌+◌, ◌-◌, ◌*◌, ◌/◌, ◌%◌, ◌^◌, ◌<◌, ◌≤◌, true, List, [], ◌∷◌, ◌++◌, length, map, refl, sym, ap, ◌∙◌, arith, inl, inr, ◌⊎◌}, Math.Nat.{pow-succ'}}
 use Rattle.std.proofs.lemmas.Bool.{and_parts, leb-true, le-leb}
+use Rattle.std.specs.List.{AllByRecursion}
+use Rattle.mm_verdict.specs.Language.{Numbers.{in_base_five, is_digit, is_last, digit_worth, value_of}, DecodingLaws.{IsWrittenNumber}}
 use Rattle.mm_verdict.proofs.lemmas.base.StoodLemmas.{longer_by_one}
-use Rattle.mm_verdict.specs.Language.Numbers.{in_base_five, is_digit, is_last, digit_worth, value_of}
-use Rattle.mm_verdict.specs.Language.DecodingLaws.{IsWrittenNumber}
 
 power_more : (ds : List ℕ) (d : ℕ) → 5 ^ length (ds ++ d ∷ []) ≡ 5 * 5 ^ length ds
 power_more ds d = rw (longer_by_one ds d) (pow-succ' 5 (length ds))

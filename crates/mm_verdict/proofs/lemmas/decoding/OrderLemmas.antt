@@ -1,12 +1,8 @@
 -- Readings in order: all steps, or the first fault.
 use Rattle.std.proofs.Common.{◌≡◌, Result, Ok, Err, List, [], ◌∷◌, ◌++◌, refl, ap, ◌↔◌}
 use Rattle.std.specs.List.{AllByRecursion}
-use Rattle.mm_verdict.specs.Language.Expansion.{Step}
-use Rattle.mm_verdict.specs.Language.Decoding.{Reading, Steps, with_step, read_first, in_order}
-use Rattle.mm_verdict.specs.Language.DecodingLaws.{ReadsStep, IsFirstDecodingFault}
-use Rattle.mm_verdict.specs.declared.Spot.{Spot}
-use Rattle.mm_verdict.specs.declared.ProofNumber.{ProofNumber}
-use Rattle.mm_verdict.specs.declared.step.ProofFault.{ProofFault}
+use Rattle.mm_machine.specs.{Language.Expansion.{Step}, declared.{Spot.{Spot}, ProofNumber.{ProofNumber}, step.ProofFault.{ProofFault}}}
+use Rattle.mm_verdict.specs.Language.{Decoding.{Reading, Steps, with_step, read_first, in_order}, DecodingLaws.{ReadsStep, IsFirstDecodingFault}}
 
 -- a step and those after it
 abbrev pub ReadsOn : Spot → Result Step ProofNumber → Steps → List (Step × Spot) → Type 0

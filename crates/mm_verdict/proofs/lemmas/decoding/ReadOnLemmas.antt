@@ -1,18 +1,13 @@
 -- Letters read on over the ends of words.
-use Rattle.std.proofs.Common.{◌≡◌, ℕ, suc, ◌+◌, Bool, true, false, not, ◌||◌, ◌==◌, cond, Some, Result, Ok, Err, List, [], ◌∷◌, ◌++◌, length, map, drop, refl, sym, ap, ◌∙◌, arith, inl, inr, add-one, flat_map, codes}
+use Rattle.std.proofs.Common.{◌≡◌, ℕ, suc, ◌+◌, Bool, true, false, not, ◌||◌, ◌==◌, cond, Some, Result, Ok, Err, List, [], ◌∷◌, ◌++◌, length, map, drop, refl, sym, ap, ◌∙◌, arith, inl, inr, add-one}
+use Rattle.std.proofs.Common.{flat_map, codes}
+use Rattle.std.proofs.{lemmas.{Bool.{cases_Bool, or_parts}, List.{map-append}}, Math.Seq.{take-append_seam}}
 use Rattle.std.specs.List.{list_any, prefix_len, enumerate_from, before_first, after_first}
-use Rattle.std.proofs.lemmas.Bool.{cases_Bool, or_parts}
-use Rattle.std.proofs.lemmas.List.{map-append}
-use Rattle.std.proofs.Math.Seq.{take-append_seam}
-use Rattle.mm_frame.specs.Language.Frame.{Setting}
-use Rattle.mm_verdict.specs.Language.Expansion.{Step, Named, Save, NotKnown}
-use Rattle.mm_verdict.specs.Language.Numbers.{is_digit}
-use Rattle.mm_verdict.specs.Language.Letters.{Letter, Group, letters_in, letters_from, cut_group, groups_behind, groups}
-use Rattle.mm_verdict.specs.Language.Decoding.{Steps, with_step, read_first, in_order, alone, nameable, read_letter, each_group, is_close, compressed_steps, letter_steps, if_read, each_word, read_label, decoded, decoding, word_spot}
+use Rattle.mm_machine.specs.{Language.{Frame.{Setting}, Expansion.{Step, Named, Save, NotKnown}}, declared.{Spot.{Spot}, ProofNumber.{ProofNumber, TheVariants.{P03}}}}
+use Rattle.mm_verdict.specs.Language.{Numbers.{is_digit}, Letters.{Letter, Group, letters_in, letters_from, cut_group, groups_behind, groups}}
+use Rattle.mm_verdict.specs.Language.Decoding.{Steps, with_step, read_first, in_order, alone, nameable, read_letter, each_group, is_close, compressed_steps, letter_steps, if_read, each_word}
+use Rattle.mm_verdict.specs.Language.Decoding.{read_label, decoded, decoding, word_spot}
 use Rattle.mm_verdict.specs.Language.DecodingLaws.{without_spots, compressed_words}
-use Rattle.mm_verdict.specs.declared.Spot.{Spot}
-use Rattle.mm_verdict.specs.declared.ProofNumber.{ProofNumber}
-use Rattle.mm_verdict.specs.declared.ProofNumber.TheVariants.{P03}
 
 abbrev pub bytes : List Letter → List ℕ
 bytes ls = map (λ l. l.byte) ls

@@ -2,18 +2,9 @@
 use Rattle.std.proofs.Common.{◌≡◌, ℕ, ◌+◌, Bool, false, ◌==◌, cond, Result, Ok, Err, List, [], ◌∷◌, ◌++◌, map, refl, ap, append_assoc, ne_eqb, ◌<◌, length, get_or, drop, add-one, drop-cons, IfErr}
 use Rattle.std.proofs.lemmas.List.{map-append}
 use Rattle.std.specs.List.{enumerate_from}
-use Rattle.mm_verdict.specs.Language.Expansion.{Step}
-use Rattle.mm_verdict.specs.Language.Numbers.{is_digit}
-use Rattle.mm_verdict.specs.Language.Letters.{Letter, letter_at}
-use Rattle.mm_verdict.specs.Language.Decoding.{Steps, with_step, nameable, word_spot}
-use Rattle.mm_verdict.specs.Code.LeftToRight.{read_behind, read_on, with_steps}
-use Rattle.mm_verdict.specs.Language.DecodedSteps.{meant}
-use Rattle.mm_verdict.specs.Code.Coded.{meant_steps, letters_give}
-use Rattle.mm_verdict.specs.Code.Reader.{Aim}
-use Rattle.mm_verdict.specs.declared.Spot.{Spot}
-use Rattle.mm_verdict.specs.declared.ProofNumber.{ProofNumber}
-use Rattle.mm_verdict.specs.declared.step.Action.{Action}
-use Rattle.mm_verdict.specs.declared.step.ProofStep.{ProofStep}
+use Rattle.mm_machine.specs.{Language.{Expansion.{Step}, NamedSteps.{meant}}, declared.{Spot.{Spot}, ProofNumber.{ProofNumber}, step.{Action.{Action}, ProofStep.{ProofStep}}}}
+use Rattle.mm_verdict.specs.Language.{Numbers.{is_digit}, Letters.{Letter, letter_at}, Decoding.{Steps, with_step, nameable, word_spot}}
+use Rattle.mm_verdict.specs.Code.{LeftToRight.{read_behind, read_on, with_steps}, Coded.{meant_steps, letters_give}, Reader.{Aim}}
 
 abbrev pub step_at : Action → Spot → ProofStep
 step_at action spot = record { action = action; spot = spot }

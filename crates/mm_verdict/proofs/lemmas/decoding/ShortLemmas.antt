@@ -1,19 +1,12 @@
 -- There are at most as many steps as bytes.
 use Rattle.std.proofs.Common.{◌≡◌, ℕ, suc, ◌+◌, ◌<◌, ◌≤◌, cond, Result, Ok, List, [], ◌∷◌, ◌++◌, length, map, drop, refl, sym, ap, ◌∙◌, arith, inl, inr, flat_map}
+use Rattle.std.proofs.lemmas.{Bool.{cases_Bool}, List.{length-map, length-append}}
 use Rattle.std.specs.List.{AllByRecursion, list_any, before_first, after_first}
-use Rattle.std.proofs.lemmas.Bool.{cases_Bool}
-use Rattle.std.proofs.lemmas.List.{length-map, length-append}
-use Rattle.mm_verdict.specs.Language.Decoding.{Reading, in_order, each_word, read_label, read_word, each_group, is_save_letter, is_close, is_compressed, compressed_steps, letter_steps, steps_in, word_spot, decoding}
-use Rattle.mm_verdict.specs.Language.Expansion.{Step, Named}
-use Rattle.mm_frame.specs.Language.Frame.{Setting}
-use Rattle.mm_verdict.specs.Language.Letters.{Letter, Group, cut_group, groups_behind, groups, letters_from}
-use Rattle.mm_verdict.specs.Language.Numbers.{is_digit}
-use Rattle.mm_verdict.specs.Language.Verdict.{Decoded}
-use Rattle.mm_verdict.specs.declared.Spot.{Spot}
-use Rattle.mm_verdict.specs.declared.ProofNumber.{ProofNumber}
-use Rattle.mm_verdict.proofs.lemmas.decoding.OrderLemmas.{read_ok}
-use Rattle.mm_verdict.proofs.lemmas.decoding.ReadOnLemmas.{bytes_from}
-use Rattle.mm_verdict.proofs.lemmas.decoding.SureLemmas.{read_behind, decoded_ok}
+use Rattle.mm_verdict.specs.Language.Decoding.{Reading, in_order, each_word, read_label, read_word, each_group, is_save_letter, is_close, is_compressed, compressed_steps, letter_steps, steps_in}
+use Rattle.mm_verdict.specs.Language.Decoding.{word_spot, decoding}
+use Rattle.mm_verdict.specs.Language.{Letters.{Letter, Group, cut_group, groups_behind, groups, letters_from}, Numbers.{is_digit}}
+use Rattle.mm_machine.specs.{Language.{Expansion.{Step, Named}, Frame.{Setting}, Verdict.{Decoded}}, declared.{Spot.{Spot}, ProofNumber.{ProofNumber}}}
+use Rattle.mm_verdict.proofs.lemmas.decoding.{OrderLemmas.{read_ok}, ReadOnLemmas.{bytes_from}, SureLemmas.{read_behind, decoded_ok}}
 
 abbrev bytes_of : List (List ℕ) → ℕ
 bytes_of words = length (flat_map (λ word. word) words)

@@ -1,24 +1,16 @@
 -- The spots that decoding gives are in the words of the proof, and so is that of the verdict.
-use Rattle.std.proofs.Common.{◌≡◌, ℕ, true, zero, suc, ◌+◌, ◌<◌, ◌≤◌, cond, Some, Result, Ok, Err, List, [], ◌∷◌, ◌++◌, length, map, drop, sym, ap, ◌∙◌, subst, arith, inl, inr, slice_get, slice_index_or, not, length-take, length-drop, drop-drop}
+use Rattle.std.proofs.Common.{◌≡◌, ℕ, true, zero, suc, ◌+◌, ◌<◌, ◌≤◌, cond, Some, Result, Ok, Err, List, [], ◌∷◌, ◌++◌, length, map, drop, sym, ap, ◌∙◌, subst, arith, inl, inr, slice_get}
+use Rattle.std.proofs.Common.{slice_index_or, not, length-take, length-drop, drop-drop}
+use Rattle.std.proofs.lemmas.{Bool.{cases_Bool}, List.Folds.{length-prefix_len}}
 use Rattle.std.specs.List.{AllByRecursion, list_any, prefix_len, enumerate_from, before_first, after_first}
-use Rattle.std.proofs.lemmas.Bool.{cases_Bool}
-use Rattle.std.proofs.lemmas.List.Folds.{length-prefix_len}
 use Rattle.mm_frame.specs.Language.Base.{BaseView, said_at}
-use Rattle.mm_frame.specs.Language.Frame.{Symbol, Setting}
+use Rattle.mm_machine.specs.Language.{Frame.{Symbol, Setting}, Expansion.{Step, Named}, Verdict.{Decoded, IsVerdict, IsWrongBy}}
+use Rattle.mm_machine.specs.declared.{ProofNumber.{ProofNumber, TheVariants.{P14, P15}}, Spot.{Spot}, Verdict.{Verdict, TheVariants.{Proved, Incomplete, Wrong}}, step.ProofFault.{ProofFault}}
 use Rattle.mm_verdict.specs.Language.BaseLabels.{setting_at}
-use Rattle.mm_verdict.specs.Language.Decoding.{Reading, Steps, read_first, in_order, each_word, read_label, read_word, each_group, group_spot, is_save_letter, is_close, is_compressed, compressed_steps, if_read, steps_in, word_spot, decoded}
-use Rattle.mm_verdict.specs.Language.Expansion.{Step, Named}
-use Rattle.mm_verdict.specs.Language.ItemLaws.{IsSpotIn, TellsSpotIn}
-use Rattle.mm_verdict.specs.Language.Letters.{Letter, letter_at, letters_in, letters_from, Group, cut_group, groups_behind}
-use Rattle.mm_verdict.specs.Language.Numbers.{is_digit}
-use Rattle.mm_verdict.specs.Language.Verdict.{Decoded, IsVerdict, IsWrongBy}
+use Rattle.mm_verdict.specs.Language.Decoding.{Reading, Steps, read_first, in_order, each_word, read_label, read_word, each_group, group_spot, is_save_letter, is_close, is_compressed}
+use Rattle.mm_verdict.specs.Language.Decoding.{compressed_steps, if_read, steps_in, word_spot, decoded}
+use Rattle.mm_verdict.specs.Language.{ItemLaws.{IsSpotIn, TellsSpotIn}, Letters.{Letter, letter_at, letters_in, letters_from, Group, cut_group, groups_behind}, Numbers.{is_digit}}
 use Rattle.mm_verdict.specs.Language.VerdictAt.{mandatory_labels, statement_at, decoding_at, IsVerdictAt}
-use Rattle.mm_verdict.specs.declared.ProofNumber.{ProofNumber}
-use Rattle.mm_verdict.specs.declared.ProofNumber.TheVariants.{P14, P15}
-use Rattle.mm_verdict.specs.declared.Spot.{Spot}
-use Rattle.mm_verdict.specs.declared.Verdict.{Verdict}
-use Rattle.mm_verdict.specs.declared.Verdict.TheVariants.{Proved, Incomplete, Wrong}
-use Rattle.mm_verdict.specs.declared.step.ProofFault.{ProofFault}
 
 all_at : {X : Type 0} (P : X → Type 0) (xs : List X) (n : ℕ) (x : X) → AllByRecursion P xs → slice_get xs n ≡ Some x → P x
 all_at P [] n x a e = cc

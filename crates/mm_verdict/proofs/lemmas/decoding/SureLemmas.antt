@@ -1,21 +1,15 @@
 -- What decoding makes sure of.
-use Rattle.std.proofs.Common.{◌≤◌, ◌≡◌, ℕ, zero, suc, ◌+◌, ◌<◌, Bool, true, false, ◌==◌, Option, Some, None, Result, Ok, Err, List, [], ◌∷◌, ◌++◌, length, map, drop, refl, ap, arith, inl, inr, eqb-true, subst, cond, nat_le}
-use Rattle.std.proofs.Common.{slice_get, bytes_eq, codes}
-use Rattle.std.specs.List.{AllByRecursion, range_with_len, before_first, list_any, after_first}
+use Rattle.std.proofs.Common.{◌≤◌, ◌≡◌, ℕ, zero, suc, ◌+◌, ◌<◌, Bool, true, false, ◌==◌, Option, Some, None, Result, Ok, Err, List, [], ◌∷◌, ◌++◌, length, map, drop, refl, ap, arith, inl, inr}
+use Rattle.std.proofs.Common.{eqb-true, subst, cond, nat_le, slice_get, bytes_eq, codes}
 use Rattle.std.proofs.lemmas.Bool.{cases_Bool, and_parts, leb-true}
-use Rattle.mm_frame.specs.Language.Frame.{Resolved, Inactive, Unknown, Setting}
-use Rattle.mm_verdict.specs.Language.Expansion.{Step, Named, Saved, Save, NotKnown}
-use Rattle.mm_verdict.specs.Language.Machine.{IsUsable, AreDecoded}
-use Rattle.mm_verdict.specs.Language.Numbers.{is_last}
-use Rattle.mm_verdict.specs.Language.Letters.{Letter, Group, groups, letters_from}
-use Rattle.mm_verdict.specs.Language.Decoding.{Steps, in_order, usable, read_label, read_word, each_word, nameable, named, alone, read_letter, read_group}
-use Rattle.mm_verdict.specs.Language.Decoding.{group_spot, is_save_letter, each_group, is_close, is_compressed, compressed_steps, steps_in, word_spot, decoded}
-use Rattle.mm_verdict.specs.Language.Decoding.{decoding, if_read}
-use Rattle.mm_verdict.specs.Language.Verdict.{Decoded}
-use Rattle.mm_verdict.specs.declared.Spot.{Spot}
-use Rattle.mm_verdict.specs.declared.ProofNumber.{ProofNumber}
+use Rattle.std.specs.List.{AllByRecursion, range_with_len, before_first, list_any, after_first}
+use Rattle.mm_machine.specs.Language.{Frame.{Resolved, Inactive, Unknown, Setting}, Expansion.{Step, Named, Saved, Save, NotKnown}, Machine.{IsUsable, AreDecoded, AreDecodedAfter}, Verdict.{Decoded}}
+use Rattle.mm_machine.specs.Language.RunLaws.{SureByCounting}
+use Rattle.mm_machine.specs.declared.{Spot.{Spot}, ProofNumber.{ProofNumber}}
+use Rattle.mm_verdict.specs.Language.{Numbers.{is_last}, Letters.{Letter, Group, groups, letters_from}}
+use Rattle.mm_verdict.specs.Language.Decoding.{Steps, in_order, usable, read_label, read_word, each_word, nameable, named, alone, read_letter, read_group, group_spot, is_save_letter, each_group}
+use Rattle.mm_verdict.specs.Language.Decoding.{is_close, is_compressed, compressed_steps, steps_in, word_spot, decoded, decoding, if_read}
 use Rattle.mm_verdict.proofs.lemmas.decoding.OrderLemmas.{read_ok}
-use Rattle.mm_verdict.proofs.lemmas.decoding.Threaded.{AreDecodedAfter, counted}
 
 abbrev step_list : List (Step × Spot) → List Step
 step_list steps = map (λ step. step.0) steps
@@ -177,8 +171,8 @@ same_count : (steps : List (Step × Spot)) → length (map (λ (step : Step × S
 same_count [] = refl
 same_count (step ∷ steps) = ap suc (same_count steps)
 
-pub decodes_surely : (place : Setting) (mandatory words : List (List ℕ)) (d : Decoded) → AllByRecursion (λ label. IsUsable (place.resolve label)) mandatory
+pub decodes_surely : SureByCounting → (place : Setting) (mandatory words : List (List ℕ)) (d : Decoded) → AllByRecursion (λ label. IsUsable (place.resolve label)) mandatory
     → decoding place mandatory words ≡ Ok d → AreDecoded place d.steps × (length d.spots ≡ length d.steps)
-decodes_surely place mandatory words d all e =
+decodes_surely counts place mandatory words d all e =
     let s = decoded_ok (word_spot (length words)) (steps_in place mandatory words (word_spot (length words))) d e in
-    rw s.2 (counted place (step_list s.0) (steps_sure place mandatory words (word_spot (length words)) s.0 all s.1), same_count s.0)
+    rw s.2 ((counts place (step_list s.0)).0 (steps_sure place mandatory words (word_spot (length words)) s.0 all s.1), same_count s.0)

@@ -1,27 +1,16 @@
 -- The list of labels as the code reads it.
-use Rattle.std.proofs.Common.{◌≡◌, ℕ, ◌+◌, ◌<◌, ◌≤◌, true, false, Ok, Err, List, [], ◌∷◌, ◌++◌, length, map, drop, get_or, refl, sym, ap, ◌∙◌, subst, append_assoc}
-use Rattle.std.specs.List.{before_first}
-use Rattle.std.proofs.Math.ListN.{drop_of_length-le}
+use Rattle.std.proofs.{Common.{◌≡◌, ℕ, ◌+◌, ◌<◌, ◌≤◌, true, false, Ok, Err, List, [], ◌∷◌, ◌++◌, length, map, drop, get_or, refl, sym, ap, ◌∙◌, subst, append_assoc}, Math.ListN.{drop_of_length-le}}
 use Rattle.std.proofs.lemmas.List.{append-nil, map-append}
-use Rattle.mm_verdict.specs.Language.Expansion.{Step, Named}
-use Rattle.mm_frame.specs.Language.Base.{BaseView}
-use Rattle.mm_verdict.specs.Language.BaseLabels.{label_at, setting_at, AreActive}
-use Rattle.mm_verdict.specs.Code.Coded.{TellsSteps, meant_steps, letters_give}
-use Rattle.mm_verdict.specs.Language.Decoding.{read_label, is_close, compressed_steps, word_spot}
+use Rattle.std.specs.List.{before_first}
+use Rattle.mm_machine.specs.{Language.Expansion.{Step, Named}, declared.{step.ProofStep.{ProofStep}, ProofNumber.TheVariants.{P03}}}
+use Rattle.mm_frame.specs.{Language.Base.{BaseView}, declared.base.Resolved.{Resolved}}
+use Rattle.mm_verdict.specs.Language.{BaseLabels.{label_at, setting_at, AreActive}, Decoding.{read_label, is_close, compressed_steps, word_spot}}
 use Rattle.mm_verdict.specs.Language.DecodedSteps.{labels_at, entry_step, entry_steps, IsEntry, AreEntries}
-use Rattle.mm_verdict.specs.Code.Labels.{Lists, IsListed, TellsWord, BeginsTable}
-use Rattle.mm_verdict.specs.Code.Left.{AreLeft}
-use Rattle.mm_verdict.specs.Code.LeftToRight.{list_on}
-use Rattle.mm_frame.specs.declared.base.Resolved.{Resolved}
+use Rattle.mm_verdict.specs.Code.{Coded.{TellsSteps, meant_steps, letters_give}, Labels.{Lists, IsListed, TellsWord, BeginsTable}, Left.{AreLeft}, LeftToRight.{list_on}}
+use Rattle.mm_verdict.specs.declared.undecoded.Undecoded.{Undecoded}
+use Rattle.mm_verdict.proofs.lemmas.decoding.{ListLemmas.{list_is, word_is, none_more}, ReadOnLemmas.{before_close}, ReaderLemmas.{next_is}, SureLemmas.{usable_is}}
 use Rattle.mm_frame.specs.declared.base.Resolved.TheVariants as answers
-use Rattle.mm_verdict.specs.declared.step.ProofStep.{ProofStep}
-use Rattle.mm_verdict.specs.declared.ProofNumber.TheVariants.{P03}
-use Rattle.mm_verdict.specs.declared.step.Undecoded.{Undecoded}
-use Rattle.mm_verdict.specs.declared.step.Undecoded.TheVariants as errors
-use Rattle.mm_verdict.proofs.lemmas.decoding.ListLemmas.{list_is, word_is, none_more}
-use Rattle.mm_verdict.proofs.lemmas.decoding.ReadOnLemmas.{before_close}
-use Rattle.mm_verdict.proofs.lemmas.decoding.ReaderLemmas.{next_is}
-use Rattle.mm_verdict.proofs.lemmas.decoding.SureLemmas.{usable_is}
+use Rattle.mm_verdict.specs.declared.undecoded.Undecoded.TheVariants as errors
 
 pub entries_more : (view : BaseView) (i : ℕ) (labels : List Resolved) (meaning : Resolved) → AreEntries view i labels → IsEntry view i meaning → AreEntries view i (labels ++ meaning ∷ [])
 entries_more view i [] meaning all is = (is, tt)

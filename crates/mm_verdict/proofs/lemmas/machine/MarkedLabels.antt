@@ -1,18 +1,13 @@
 -- Marks for the labels that steps name, and the labels that are marked.
 use Rattle.std.proofs.Common.{◌≡◌, ℕ, zero, suc, ◌<◌, Bool, true, false, ◌||◌, Option, Some, None, List, [], ◌∷◌, ◌++◌, length, refl, sym, ◌∙◌, ap, inl, inr, slice_get, ◌⊎◌, eq-eqb, eqb-true, arith}
-use Rattle.std.specs.List.{list_any}
 use Rattle.std.proofs.Math.Bool.{or-false}
-use Rattle.std.proofs.lemmas.Bool.{cases_Bool, false≢true}
-use Rattle.std.proofs.lemmas.List.Folds.{list_any-append}
-use Rattle.std.proofs.lemmas.Map.Keys.{any_passes_from_place}
-use Rattle.std.proofs.lemmas.Option.{same_Some, slice_get_cases, slice_get_past, slice_get_within}
+use Rattle.std.proofs.lemmas.{Bool.{cases_Bool, false≢true}, List.Folds.{list_any-append}, Map.Keys.{any_passes_from_place}, Option.{same_Some, slice_get_cases, slice_get_past, slice_get_within}}
+use Rattle.std.specs.List.{list_any}
 use Rattle.mm_frame.specs.declared.base.Resolved.{Resolved}
+use Rattle.mm_verdict.specs.Code.{Cited.{cited_item, is_item, is_listed, item_named, marked_at, names_item}, UsedLabels.{AreUseMarks, AreUsed, KeepsNamed, KeepsUsed, label_named, names_label}}
+use Rattle.mm_machine.specs.declared.step.{Action.{Action}, ProofStep.{ProofStep}}
 use Rattle.mm_frame.specs.declared.base.Resolved.TheVariants as answers
-use Rattle.mm_verdict.specs.Code.Cited.{cited_item, is_item, is_listed, item_named, marked_at, names_item}
-use Rattle.mm_verdict.specs.Code.UsedLabels.{AreUseMarks, AreUsed, KeepsNamed, KeepsUsed, label_named, names_label}
-use Rattle.mm_verdict.specs.declared.step.Action.{Action}
-use Rattle.mm_verdict.specs.declared.step.Action.TheVariants as actions
-use Rattle.mm_verdict.specs.declared.step.ProofStep.{ProofStep}
+use Rattle.mm_machine.specs.declared.step.Action.TheVariants as actions
 
 -- one step more names what it names
 pub names_more : (k : ℕ) (steps : List ProofStep) (step : ProofStep) → list_any (names_label k) (steps ++ step ∷ []) ≡ (list_any (names_label k) steps || is_item (label_named step.action) k)

@@ -1,29 +1,23 @@
 -- What was named so far, when more is named.
 use Rattle.std.proofs.Common.{◌≡◌, ℕ, zero, suc, Some, List, [], ◌∷◌, ◌++◌, length, take, refl, sym, ◌∙◌, ap, ap₂, subst, arith, ◌⊎◌, inl, inr, slice_get, All}
+use Rattle.std.proofs.lemmas.{List.Elements.{All-nil, All-cons}, Option.{slice_get_within, same_Some}}
 use Rattle.std.specs.List.{AllZip}
-use Rattle.std.proofs.lemmas.List.Elements.{All-nil, All-cons}
-use Rattle.std.proofs.lemmas.Option.{slice_get_within, same_Some}
-use Rattle.mm_frame.specs.declared.base.Base.{Base}
-use Rattle.mm_frame.specs.declared.base.Resolved.{Resolved}
-use Rattle.mm_frame.specs.declared.base.Resolved.TheVariants as answers
-use Rattle.mm_frame.specs.Language.Base.{BaseView}
-use Rattle.mm_frame.specs.Language.Frame.{Hypothesis}
-use Rattle.mm_frame.specs.declared.symbol.NumberedSymbol.{NumberedSymbol}
-use Rattle.mm_frame.specs.Language.Answering.{IsBaseBy}
+use Rattle.mm_frame.specs.{declared.base.{Base.{Base}, Resolved.{Resolved}}, Language.{Base.{BaseView}, Answering.{IsBaseBy}}}
+use Rattle.mm_machine.specs.Language.{Frame.{Hypothesis}, Renaming.{renamed_meaning}, Numbering.{unnaming}, NamedSteps.{IsUseWithin, MeansUse}}
+use Rattle.mm_machine.specs.declared.{symbol.NumberedSymbol.{NumberedSymbol}, assertion.Cited.{Cited}, named.Use.{Use}}
 use Rattle.mm_verdict.specs.Language.DecodedSteps.{AreEntries, IsEntry, entry_step, entry_steps}
-use Rattle.mm_verdict.specs.Code.NamedItems.{AreCited, AreNamed, NamingGrows, IsUseOf, Stays, expressions_named, frames_cited}
-use Rattle.mm_verdict.specs.Language.Renaming.{renamed_meaning}
-use Rattle.mm_verdict.specs.Code.Numbering.{unnaming}
-use Rattle.mm_verdict.specs.Code.NumberedBase.{numbered_frame, numbered_setting}
-use Rattle.mm_verdict.specs.Code.Tasks.{IsUseWithin, MeansUse}
-use Rattle.mm_verdict.specs.declared.assertion.Cited.{Cited}
-use Rattle.mm_verdict.specs.declared.assertion.Hypothesis as assertion
+use Rattle.mm_verdict.specs.Code.{NamedItems.{AreCited, AreNamed, NamingGrows, IsUseOf, Stays, expressions_named, frames_cited}, NumberedBase.{numbered_frame, numbered_setting}}
 use Rattle.mm_verdict.specs.declared.named.Naming.{Naming}
-use Rattle.mm_verdict.specs.declared.named.Use.{Use}
-use Rattle.mm_verdict.specs.declared.named.Use.TheVariants as uses
-use Rattle.mm_verdict.proofs.lemmas.machine.StepLemmas.{kept_at}
+use Rattle.mm_frame.specs.declared.base.Resolved.TheVariants as answers
+use Rattle.mm_machine.specs.declared.assertion.Hypothesis as assertion
+use Rattle.mm_machine.specs.declared.named.Use.TheVariants as uses
 
 -- ---- one more of a list
+
+pub kept_at : {X : Type 0} (front back : List X) (n : ℕ) (x : X) → slice_get front n ≡ Some x → slice_get (front ++ back) n ≡ Some x
+kept_at [] back n x e = cc
+kept_at (y ∷ front) back zero x e = e
+kept_at (y ∷ front) back (suc n) x e = kept_at front back n x e
 
 pub stays_more : (old new : List ℕ) (j : ℕ) → new ≡ old ++ j ∷ [] → Stays old new
 stays_more old new j e n k at = ap (λ w. slice_get w n) e ∙ kept_at old (j ∷ []) n k at

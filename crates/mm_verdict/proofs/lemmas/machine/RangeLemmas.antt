@@ -1,19 +1,11 @@
 -- Ranges of a list that grows, and assertions whose mandatory hypotheses they are.
 use Rattle.std.proofs.Common.{◌≡◌, ℕ, true, ◌-◌, ◌≤◌, List, [], ◌∷◌, ◌++◌, length, map, take, drop, refl, sym, ◌∙◌, ap, ap₂, subst, arith, length-append, length-drop, All}
-use Rattle.std.proofs.lemmas.List.{drop-append-le, take-append-le, take_all, take-map, drop-map, length-map, map-append}
-use Rattle.std.proofs.lemmas.List.Elements.{All-append, All-nil, All-cons, All-head, All-tail}
-use Rattle.std.proofs.Math.Seq.{drop-append_seam}
-use Rattle.mm_frame.specs.declared.base.Base.{Base}
-use Rattle.mm_frame.specs.declared.symbol.NumberedSymbol.{NumberedSymbol}
-use Rattle.mm_frame.specs.Language.Base.{is_framed_at}
-use Rattle.mm_frame.specs.Language.Frame.{Symbol, Mandatory, Frame, AreSameFrame}
-use Rattle.mm_frame.specs.Language.NumberedSymbols.{by_number}
-use Rattle.mm_frame.specs.Language.Typing.{IsFrame}
-use Rattle.mm_verdict.specs.declared.assertion.Cited.{Cited}
-use Rattle.mm_verdict.specs.declared.assertion.Hypothesis.{Hypothesis}
-use Rattle.mm_verdict.specs.Code.Citation.{IsCitable, frame_of, hypotheses_of, meant_pairs, range_of}
-use Rattle.mm_verdict.specs.Code.NamedItems.{AreCited, frames_cited}
-use Rattle.mm_verdict.specs.Code.NumberedBase.{ByNames, numbered_frame}
+use Rattle.std.proofs.{lemmas.List.{drop-append-le, take-append-le, take_all, length-map, map-append, Elements.{All-append, All-nil, All-cons, All-head, All-tail}}, Math.Seq.{drop-append_seam}}
+use Rattle.mm_frame.specs.{declared.base.Base.{Base}, Language.Base.{is_framed_at}}
+use Rattle.mm_machine.specs.declared.{symbol.NumberedSymbol.{NumberedSymbol}, assertion.{Cited.{Cited}, Hypothesis.{Hypothesis}}}
+use Rattle.mm_machine.specs.Language.{Frame.{Symbol, Mandatory, Frame, AreSameFrame}, NumberedSymbols.{by_number}, Typing.{IsFrame}}
+use Rattle.mm_machine.specs.Language.CitedFrames.{IsCitable, frame_of, hypotheses_of, meant_pairs, range_of}
+use Rattle.mm_verdict.specs.Code.{NamedItems.{AreCited, frames_cited}, NumberedBase.{ByNames, numbered_frame}}
 use Rattle.mm_verdict.proofs.lemmas.machine.NamedLemmas.{placed_more}
 
 -- the range of what is added at the end
@@ -22,10 +14,6 @@ range_behind first last xs more new e a b =
     let count : length more ≤ last - first = omega (arith, ap length e, length-append xs more) in
     ap (λ w. take (last - first) (drop first w)) e ∙ ap (λ k. take (last - first) (drop k (xs ++ more))) a
     ∙ ap (take (last - first)) (drop-append_seam xs more) ∙ take_all (last - first) more count
-
--- before and after the map
-pub range_mapped : {X Y : Type 0} (f : X → Y) (first last : ℕ) (xs : List X) → map f (range_of first last xs) ≡ range_of first last (map f xs)
-range_mapped f first last xs = sym (take-map f (last - first) (drop first xs)) ∙ ap (take (last - first)) (sym (drop-map f first xs))
 
 -- a range stays as the list grows
 range_stays : {X : Type 0} (first last : ℕ) (xs more : List X) → first ≤ last → last ≤ length xs → range_of first last (xs ++ more) ≡ range_of first last xs

@@ -1,17 +1,10 @@
 -- What is kept in another way: frames and orders that are the same, for the tests of the machine.
 use Rattle.std.proofs.Common.{◌≡◌, ℕ, List, get_or, length, map, sym, ◌∙◌, ap, subst, arith, All}
-use Rattle.std.proofs.lemmas.List.{length-map, get_or-map}
-use Rattle.std.proofs.lemmas.List.Elements.{All-map}
-use Rattle.std.proofs.lemmas.Option.{get_or_from_slice_get, slice_get_within}
-use Rattle.mm_frame.specs.Language.Frame.{Frame, Mandatory, Symbol}
-use Rattle.mm_frame.specs.Language.NumberedSymbols.{named_symbol}
-use Rattle.mm_frame.specs.declared.symbol.NamedSymbol.{NamedSymbol}
-use Rattle.mm_verdict.specs.Code.Citation.{IsCitable, frame_of, meant_pair, meant_pairs}
-use Rattle.mm_verdict.specs.Code.Keys.{AreInKeyOrder, key_by_number}
+use Rattle.std.proofs.lemmas.{List.{length-map, get_or-map, Elements.{All-map}}, Option.{get_or_from_slice_get, slice_get_within}}
+use Rattle.mm_machine.specs.Language.{Frame.{Frame, Mandatory, Symbol}, NumberedSymbols.{named_symbol}, CitedFrames.{IsCitable, frame_of, meant_pair, meant_pairs}, Keys.{AreInKeyOrder, key_by_number}}
+use Rattle.mm_machine.specs.Language.NamedSteps.{IsUseWithin}
+use Rattle.mm_machine.specs.declared.{symbol.NamedSymbol.{NamedSymbol}, assertion.Cited.{Cited}, named.Use.{Use}}
 use Rattle.mm_verdict.specs.Code.Spelled.{HasOneKey, IsRanged, key_by_name, ranged}
-use Rattle.mm_verdict.specs.Code.Tasks.{IsUseWithin}
-use Rattle.mm_verdict.specs.declared.assertion.Cited.{Cited}
-use Rattle.mm_verdict.specs.declared.named.Use.{Use}
 
 alike : {X Y Z : Type 0} (P : Z → Type 0) (f : X → Z) (g : Y → Z) (xs : List X) (ys : List Y) → map f xs ≡ map g ys → All (λ y. P (g y)) ys → All (λ x. P (f x)) xs
 alike P f g xs ys same are k d l =

@@ -1,17 +1,11 @@
 -- A table with the labels alone that steps name means what the whole one does.
-use Rattle.std.proofs.Common.{◌≡◌, ℕ, suc, Option, Some, List, [], ◌∷◌, refl, sym, ◌∙◌, ap, subst, arith, inl, inr, unwrap_or, ◌⊎◌}
+use Rattle.std.proofs.{Common.{◌≡◌, ℕ, suc, Option, Some, List, [], ◌∷◌, refl, sym, ◌∙◌, ap, subst, arith, inl, inr, unwrap_or, ◌⊎◌}, lemmas.Option.{slice_get-map, unwrap_or-slice_get}}
 use Rattle.std.specs.Option.{option_map}
-use Rattle.std.proofs.lemmas.Option.{slice_get-map, unwrap_or-slice_get}
-use Rattle.mm_frame.specs.declared.base.Resolved.{Resolved}
+use Rattle.mm_frame.specs.{declared.base.Resolved.{Resolved}, Language.Base.{BaseView}}
+use Rattle.mm_machine.specs.{Language.{Expansion.{NotKnown}, NamedSteps.{meant, actions_mean}}, declared.step.{Action.{Action}, ProofStep.{ProofStep}}}
+use Rattle.mm_verdict.specs.{Language.DecodedSteps.{AreEntries, IsEntry, entry_step, entry_steps}, Code.UsedLabels.{IsPart, KeepsNamed, KeepsUsed}}
 use Rattle.mm_frame.specs.declared.base.Resolved.TheVariants as answers
-use Rattle.mm_frame.specs.Language.Base.{BaseView}
-use Rattle.mm_verdict.specs.Language.Expansion.{NotKnown}
-use Rattle.mm_verdict.specs.Language.DecodedSteps.{meant, AreEntries, IsEntry, entry_step, entry_steps}
-use Rattle.mm_verdict.specs.Code.Tasks.{actions_mean}
-use Rattle.mm_verdict.specs.Code.UsedLabels.{IsPart, KeepsNamed, KeepsUsed}
-use Rattle.mm_verdict.specs.declared.step.Action.{Action}
-use Rattle.mm_verdict.specs.declared.step.Action.TheVariants as actions
-use Rattle.mm_verdict.specs.declared.step.ProofStep.{ProofStep}
+use Rattle.mm_machine.specs.declared.step.Action.TheVariants as actions
 
 entry_of : (view : BaseView) (i : ℕ) (u : Resolved) (o : Option Resolved) (l : Resolved) → o ≡ Some l → (u ≡ answers.Unknown) ⊎ (o ≡ Some u) → IsEntry view i l → IsEntry view i u
 entry_of view i u o l e (inl z) entry = subst (IsEntry view i) (sym z) tt

@@ -1,10 +1,8 @@
 -- What numbers name.
 use Rattle.std.proofs.Common.{◌≡◌, ℕ, zero, suc, ◌+◌, ◌-◌, ◌*◌, ◌<◌, ◌≤◌, min, Some, None, Result, Ok, Err, List, [], ◌∷◌, length, map, refl, sym, ap, arith, slice_get}
 use Rattle.std.specs.List.{range_with_len}
-use Rattle.mm_verdict.specs.Language.Expansion.{Step, Saved}
+use Rattle.mm_machine.specs.{Language.Expansion.{Step, Saved}, declared.ProofNumber.{ProofNumber, TheVariants.{P06}}}
 use Rattle.mm_verdict.specs.Language.Decoding.{nameable, named}
-use Rattle.mm_verdict.specs.declared.ProofNumber.{ProofNumber}
-use Rattle.mm_verdict.specs.declared.ProofNumber.TheVariants.{P06}
 
 saved_get : (from saves k j : ℕ) → k < saves → from + k ≡ j → slice_get (map Saved (range_with_len from saves)) k ≡ Some (Saved j)
 saved_get from zero k j less e = absurd (omega arith)

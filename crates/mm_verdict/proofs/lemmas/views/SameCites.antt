@@ -1,14 +1,11 @@
 -- Proofs that mean the same cite by the same words.
 use Rattle.std.proofs.Common.{◌≡◌, ℕ, ◌+◌, Bool, true, false, not, Ok, Err, List, [], ◌∷◌, length, map, drop, refl, sym, ap, ◌∙◌, inl, inr, filter, bytes_eq, codes}
+use Rattle.std.proofs.lemmas.{Bool.{cases_Bool, false≢true}, Slice.Eq.{bytes_eq-Decides}}
 use Rattle.std.specs.List.{AllZip, AllByRecursion, list_any, enumerate_from, before_first}
-use Rattle.std.proofs.lemmas.Bool.{cases_Bool, false≢true}
-use Rattle.std.proofs.lemmas.Slice.Eq.{bytes_eq-Decides}
-use Rattle.mm_frame.specs.Language.Frame.{Resolved, Hypothesis, Assertion, Inactive, Unknown, Setting}
-use Rattle.mm_verdict.specs.Language.Expansion.{Step, Named, Saved, Save, NotKnown}
+use Rattle.mm_machine.specs.Language.{Frame.{Resolved, Hypothesis, Assertion, Inactive, Unknown, Setting}, Expansion.{Step, Named, Saved, Save, NotKnown}, SameProof.{AreSameMeaning}}
+use Rattle.mm_machine.specs.declared.Spot.{Spot}
 use Rattle.mm_verdict.specs.Language.Citing.{label_words, firsts, means_assertion, names_assertion, is_cited, cites}
-use Rattle.mm_verdict.specs.Language.Decoding.{Steps, is_close, is_compressed, word_spot, steps_in, decoded, decoding}
-use Rattle.mm_verdict.specs.Language.SameProof.{AreSameMeaning, IsSameLabel, labels_named, AreSameToDecode}
-use Rattle.mm_verdict.specs.declared.Spot.{Spot}
+use Rattle.mm_verdict.specs.Language.{Decoding.{Steps, is_close, is_compressed, word_spot, steps_in, decoded, decoding}, SameToDecode.{IsSameLabel, labels_named, AreSameToDecode}}
 use Rattle.mm_verdict.proofs.lemmas.views.SameLemmas.{IsBoth, AreSame, steps_same}
 
 -- the same test keeps the same elements

@@ -1,6 +1,5 @@
 use Rattle.std.proofs.Common.{◌≡◌, ◌+◌, length}
-use Rattle.mm_verdict.specs.Language.Letters.{letters_from}
-use Rattle.mm_verdict.specs.Code.Reader.{Aim, ReadsLetters}
+use Rattle.mm_verdict.specs.{Language.Letters.{letters_from}, Code.Reader.{Aim, ReadsLetters}}
 use Rattle.mm_verdict.proofs.letters.read_letters.Given as goal
 
 abbrev pub invariant-loop-word : goal.invariant-loop-word

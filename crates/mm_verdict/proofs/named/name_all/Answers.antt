@@ -1,13 +1,10 @@
-use Rattle.std.proofs.Common.{slice_get, ◌+◌, ◌++◌, ◌∷◌, [], ℕ, List, get_or, length, take, sym, ◌∙◌, ap, subst, arith, All, take_all}
+use Rattle.std.proofs.{Common.{slice_get, ◌+◌, ◌++◌, ◌∷◌, [], ℕ, List, get_or, length, take, sym, ◌∙◌, ap, subst, arith, All, take_all}, lemmas.List.{take_more}}
 use Rattle.std.specs.List.{AllZip}
-use Rattle.std.proofs.lemmas.Option.{slice_get-get_or}
 use Rattle.mm_frame.specs.declared.base.Resolved.{Resolved}
-use Rattle.mm_frame.specs.declared.base.Resolved.TheVariants as answers
 use Rattle.mm_verdict.specs.Code.NamedItems.{AreCited, IsUseOf}
-use Rattle.mm_verdict.specs.Code.Tasks.{IsUseWithin}
-use Rattle.mm_verdict.specs.declared.named.Use.{Use}
-use Rattle.mm_verdict.proofs.lemmas.machine.StepLemmas.{take_next}
+use Rattle.mm_machine.specs.{Language.NamedSteps.{IsUseWithin}, declared.named.Use.{Use}}
 use Rattle.mm_verdict.proofs.lemmas.machine.NamedLemmas.{cited_first, uses_grow, uses_more, uses_within, uses_mean}
+use Rattle.mm_frame.specs.declared.base.Resolved.TheVariants as answers
 use Rattle.mm_verdict.proofs.named.name_all.Goals as goal
 
 pub loop-label-preserved : goal.loop-label-preserved
@@ -23,7 +20,7 @@ loop-label-preserved c =
       named = c.in_ok-name.ensures.named;
       known = λ n j at. c.in_ok-name.ensures.grows.assertions n j (c.loop-label.invariant.known n j at);
       stand = subst (λ (us : List Use). AllZip (IsUseOf new) us (take (k + 1) labels)) (sym c.in_ok-push.ensures.items)
-          (subst (λ (ls : List Resolved). AllZip (IsUseOf new) (uses ++ c.in_ok-name.field-0 ∷ []) ls) (sym (take_next labels k label (slice_get-get_or labels k (answers.Hypothesis 0) (omega (arith, c.loop-label-test.true))))) more);
+          (subst (λ (ls : List Resolved). AllZip (IsUseOf new) (uses ++ c.in_ok-name.field-0 ∷ []) ls) (sym (take_more labels k (answers.Hypothesis 0) (omega (arith, c.loop-label-test.true)))) more);
     }
 
 pub returns-clause-within : goal.returns-clause-within

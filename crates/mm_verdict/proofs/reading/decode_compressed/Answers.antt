@@ -1,10 +1,7 @@
-use Rattle.std.proofs.Common.{◌≡◌, ℕ, List, length, arith}
+use Rattle.std.proofs.{Common.{◌≡◌, ℕ, List, length, arith}, lemmas.{List.{length-map}, Result.{err_from_is_err_and}}}
 use Rattle.std.specs.Borrow.{Bor}
-use Rattle.std.proofs.lemmas.List.{length-map}
-use Rattle.std.proofs.lemmas.Result.{err_from_is_err_and}
 use Rattle.mm_verdict.specs.Language.DecodedSteps.{labels_at, entry_step, entry_steps}
-use Rattle.mm_verdict.proofs.lemmas.decoding.LeftLemmas.{behind_open}
-use Rattle.mm_verdict.proofs.lemmas.decoding.TableLemmas.{list_begins, compressed_ok, compressed_err, compressed_table}
+use Rattle.mm_verdict.proofs.lemmas.decoding.{LeftLemmas.{behind_open}, TableLemmas.{list_begins, compressed_ok, compressed_err, compressed_table}}
 use Rattle.mm_verdict.proofs.reading.decode_compressed.Goals as goal
 
 pub returns-in_err-close-clause-err : goal.returns-in_err-close-clause-err

@@ -1,9 +1,6 @@
-use Rattle.mm_verdict.specs.Language.BaseLabels.{setting_at}
-use Rattle.std.proofs.Common.{sym, ◌∙◌}
-use Rattle.std.proofs.lemmas.Result.{IfOk-weaker}
-use Rattle.mm_verdict.specs.Language.DecodedSteps.{labels_at, entry_steps}
-use Rattle.mm_verdict.proofs.lemmas.decoding.ReaderLemmas.{if_err}
-use Rattle.mm_verdict.proofs.lemmas.decoding.DecodeLemmas.{compressed_done, normal_done, normal_table, normal_fails}
+use Rattle.std.proofs.{Common.{sym, ◌∙◌}, lemmas.Result.{IfOk-weaker}}
+use Rattle.mm_verdict.specs.Language.{BaseLabels.{setting_at}, DecodedSteps.{labels_at, entry_steps}}
+use Rattle.mm_verdict.proofs.lemmas.decoding.{ReaderLemmas.{if_err}, DecodeLemmas.{compressed_done, normal_done, normal_table, normal_fails}}
 use Rattle.mm_verdict.proofs.reading.decode_marked.Goals as goal
 
 pub returns-then-is_compressed-clause-ok : goal.returns-then-is_compressed-clause-ok

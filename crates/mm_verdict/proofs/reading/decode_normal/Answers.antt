@@ -1,9 +1,5 @@
-use Rattle.std.proofs.Common.{◌≤◌, false, [], ◌∷◌, length, ap, arith}
-use Rattle.std.proofs.lemmas.List.{length-append}
-use Rattle.mm_verdict.proofs.lemmas.machine.MarkedLabels.{marks_next}
-use Rattle.std.proofs.lemmas.Result.{err_from_is_err_and}
-use Rattle.mm_verdict.proofs.lemmas.decoding.LeftLemmas.{take_one, none_left}
-use Rattle.mm_verdict.proofs.lemmas.decoding.NormalLemmas.{word_on, word_fails, table_is, finishes}
+use Rattle.std.proofs.{Common.{◌≤◌, false, [], ◌∷◌, length, ap, arith}, lemmas.{List.{length-append}, Result.{err_from_is_err_and}}}
+use Rattle.mm_verdict.proofs.lemmas.{machine.MarkedLabels.{marks_next}, decoding.{LeftLemmas.{take_one, none_left}, NormalLemmas.{word_on, word_fails, table_is, finishes}}}
 use Rattle.mm_verdict.proofs.reading.decode_normal.Goals as goal
 
 pub loop-word-preserved : goal.loop-word-preserved

@@ -1,11 +1,7 @@
 use Rattle.std.proofs.Common.{◌≡◌, ℕ, length}
 use Rattle.std.specs.List.{list_any}
-use Rattle.mm_frame.specs.Language.Base.{BaseView}
-use Rattle.mm_frame.specs.Language.Answering.{IsBase}
-use Rattle.mm_verdict.specs.Code.Labels.{Normal}
-use Rattle.mm_verdict.specs.Code.Left.{AreLeft}
-use Rattle.mm_verdict.specs.Code.UsedLabels.{names_label}
-use Rattle.mm_verdict.specs.Code.Cited.{marked_at}
+use Rattle.mm_frame.specs.Language.{Base.{BaseView}, Answering.{IsBase}}
+use Rattle.mm_verdict.specs.Code.{Labels.{Normal}, Left.{AreLeft}, UsedLabels.{names_label}, Cited.{marked_at}}
 use Rattle.mm_verdict.proofs.reading.decode_normal.Given as goal
 
 abbrev pub invariant-loop-word : goal.invariant-loop-word

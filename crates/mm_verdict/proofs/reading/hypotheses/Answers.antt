@@ -1,5 +1,4 @@
-use Rattle.std.proofs.Common.{List, ◌∷◌, [], ◌++◌, map, take, get_or, sym, ◌∙◌, ap, arith}
-use Rattle.std.proofs.lemmas.List.{take_more, take_all, map-append}
+use Rattle.std.proofs.{Common.{List, ◌∷◌, [], ◌++◌, map, take, get_or, sym, ◌∙◌, ap, arith}, lemmas.List.{take_more, take_all, map-append}}
 use Rattle.mm_frame.specs.declared.base.Resolved.{Resolved}
 use Rattle.mm_frame.specs.declared.base.Resolved.TheVariants as answers
 use Rattle.mm_verdict.proofs.reading.hypotheses.Goals as goal

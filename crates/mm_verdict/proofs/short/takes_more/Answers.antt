@@ -1,8 +1,7 @@
-use Rattle.std.proofs.Common.{get_or, arith, ltb-true}
-use Rattle.std.proofs.lemmas.Option.{slice_get-get_or}
+use Rattle.std.proofs.{Common.{get_or, arith, ltb-true}, lemmas.Option.{slice_get-get_or}}
+use Rattle.mm_machine.specs.declared.step.ProofStep.{ProofStep}
 use Rattle.mm_frame.specs.declared.base.Resolved.TheVariants as answers
-use Rattle.mm_verdict.specs.declared.step.Action.TheVariants as actions
-use Rattle.mm_verdict.specs.declared.step.ProofStep.{ProofStep}
+use Rattle.mm_machine.specs.declared.step.Action.TheVariants as actions
 use Rattle.mm_verdict.proofs.short.takes_more.Goals as goal
 
 abbrev nowhere : ProofStep

@@ -1,5 +1,4 @@
-use Rattle.mm_verdict.proofs.lemmas.decoding.DecodedProofs.{decoded}
-use Rattle.mm_verdict.proofs.lemmas.base.FrameLemmas.{framed_proof}
+use Rattle.mm_verdict.proofs.lemmas.{decoding.DecodedProofs.{decoded}, base.FrameLemmas.{framed_proof}}
 use Rattle.mm_verdict.proofs.symbol_tests.judge_by_names.Goals as goal
 
 pub verdict_by_names-requires : goal.verdict_by_names-requires

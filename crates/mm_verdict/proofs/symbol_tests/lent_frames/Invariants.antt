@@ -1,7 +1,5 @@
 use Rattle.std.proofs.Common.{◌≡◌, List, map, take}
-use Rattle.mm_frame.specs.Language.Frame.{Mandatory}
-use Rattle.mm_frame.specs.Language.NumberedSymbols.{named_symbol}
-use Rattle.mm_verdict.specs.Code.Citation.{frame_of, meant_pairs, range_of}
+use Rattle.mm_machine.specs.Language.{Frame.{Mandatory}, NumberedSymbols.{named_symbol}, CitedFrames.{frame_of, meant_pairs, range_of}}
 use Rattle.mm_verdict.specs.Code.Spelled.{ranged}
 use Rattle.mm_verdict.proofs.symbol_tests.lent_frames.Given as goal
 

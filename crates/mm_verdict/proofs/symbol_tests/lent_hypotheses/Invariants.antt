@@ -1,6 +1,5 @@
 use Rattle.std.proofs.Common.{◌≡◌, map, take}
-use Rattle.mm_frame.specs.Language.NumberedSymbols.{named_symbol}
-use Rattle.mm_verdict.specs.Code.Citation.{hypotheses_of}
+use Rattle.mm_machine.specs.Language.{NumberedSymbols.{named_symbol}, CitedFrames.{hypotheses_of}}
 use Rattle.mm_verdict.proofs.symbol_tests.lent_hypotheses.Given as goal
 
 abbrev pub invariant-loop-hypothesis : goal.invariant-loop-hypothesis

@@ -1,9 +1,6 @@
-use Rattle.std.proofs.Common.{[], List, length, sym, ◌∙◌, ap, subst}
-use Rattle.std.proofs.lemmas.List.{length-map}
-use Rattle.mm_frame.specs.Language.NumberedSymbols.{by_number, named_symbol}
-use Rattle.mm_frame.specs.declared.symbol.NamedSymbol.{NamedSymbol}
-use Rattle.mm_verdict.specs.Code.Citation.{hypotheses_of, meant_pairs}
-use Rattle.mm_verdict.specs.Code.Keys.{AreInKeyOrder, key_by_number}
+use Rattle.std.proofs.{Common.{[], List, length, sym, ◌∙◌, ap, subst}, lemmas.List.{length-map}}
+use Rattle.mm_machine.specs.Language.{NumberedSymbols.{by_number, named_symbol}, CitedFrames.{hypotheses_of, meant_pairs}, Keys.{AreInKeyOrder, key_by_number}}
+use Rattle.mm_machine.specs.declared.symbol.NamedSymbol.{NamedSymbol}
 use Rattle.mm_verdict.specs.Code.Spelled.{key_by_name}
 use Rattle.mm_verdict.proofs.lemmas.machine.SpelledLemmas.{ranged_alike, alike_count, order_by_name, uses_alike}
 use Rattle.mm_verdict.proofs.symbol_tests.run_by_names.Goals as goal

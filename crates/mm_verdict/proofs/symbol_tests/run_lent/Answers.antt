@@ -1,7 +1,5 @@
-use Rattle.std.proofs.Common.{[], length, ◌∙◌, ap}
-use Rattle.std.proofs.lemmas.List.{length-map}
-use Rattle.mm_frame.specs.Language.NumberedSymbols.{named_symbol}
-use Rattle.mm_verdict.specs.Code.Citation.{hypotheses_of}
+use Rattle.std.proofs.{Common.{[], length, ◌∙◌, ap}, lemmas.List.{length-map}}
+use Rattle.mm_machine.specs.Language.{NumberedSymbols.{named_symbol}, CitedFrames.{hypotheses_of}}
 use Rattle.mm_verdict.proofs.lemmas.machine.SpelledLemmas.{citable_alike, alike_count, uses_alike}
 use Rattle.mm_verdict.proofs.symbol_tests.run_lent.Goals as goal
 

@@ -1,6 +1,5 @@
 use Rattle.std.proofs.Common.{◌≡◌, map, take}
-use Rattle.mm_frame.specs.Language.NumberedSymbols.{named_symbol}
-use Rattle.mm_verdict.specs.Code.NumberedBase.{all_by_number}
+use Rattle.mm_machine.specs.Language.NumberedSymbols.{named_symbol, all_by_number}
 use Rattle.mm_verdict.proofs.symbol_tests.spelled.Given as goal
 
 abbrev pub invariant-loop-symbol : goal.invariant-loop-symbol

@@ -1,6 +1,5 @@
 use Rattle.std.proofs.Common.{◌≡◌, take, All}
-use Rattle.mm_frame.specs.Language.NumberedSymbols.{by_number, named_symbol}
-use Rattle.mm_verdict.specs.Code.Citation.{meant_pairs}
+use Rattle.mm_machine.specs.Language.{NumberedSymbols.{by_number, named_symbol}, CitedFrames.{meant_pairs}}
 use Rattle.mm_verdict.specs.Code.Spelled.{HasOneKey}
 use Rattle.mm_verdict.proofs.symbol_tests.spelled_pairs.Given as goal
 

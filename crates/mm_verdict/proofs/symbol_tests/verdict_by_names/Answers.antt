@@ -1,14 +1,8 @@
 use Rattle.std.proofs.Common.{List, sym, subst, All}
-use Rattle.mm_frame.specs.Language.Base.{before, said_at}
-use Rattle.mm_frame.specs.Language.Framing.{mandatory_numbers}
-use Rattle.mm_frame.specs.declared.base.Resolved.{Resolved}
-use Rattle.mm_verdict.specs.Language.BaseLabels.{setting_at}
-use Rattle.mm_verdict.specs.Language.VerdictAt.{mandatory_labels}
-use Rattle.mm_verdict.specs.Code.NamedItems.{IsNamedBy}
-use Rattle.mm_verdict.specs.Code.Tasks.{AreSavedBefore}
-use Rattle.mm_verdict.specs.declared.step.ProofStep.{ProofStep}
-use Rattle.mm_verdict.proofs.lemmas.verdicts.ItemLemmas.{active_usable}
-use Rattle.mm_verdict.proofs.lemmas.decoding.DecodedProofs.{named_by, saved_before}
+use Rattle.mm_frame.specs.{Language.{Base.{before, said_at}, Framing.{mandatory_numbers}}, declared.base.Resolved.{Resolved}}
+use Rattle.mm_verdict.specs.{Language.{BaseLabels.{setting_at}, VerdictAt.{mandatory_labels}}, Code.NamedItems.{IsNamedBy}}
+use Rattle.mm_machine.specs.{Language.NamedSteps.{AreSavedBefore}, declared.step.ProofStep.{ProofStep}}
+use Rattle.mm_verdict.proofs.lemmas.{verdicts.ItemLemmas.{active_usable}, decoding.DecodedProofs.{named_by, saved_before}}
 use Rattle.mm_verdict.proofs.symbol_tests.verdict_by_names.Goals as goal
 
 pub name_all-requires-clause-labels : goal.name_all-requires-clause-labels

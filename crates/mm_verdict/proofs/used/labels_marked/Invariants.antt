@@ -1,6 +1,6 @@
 use Rattle.std.proofs.Common.{◌≡◌, ◌<◌, ◌≤◌, ℕ, true, false, Some, slice_get, length}
-use Rattle.mm_frame.specs.declared.base.Resolved.TheVariants as answers
 use Rattle.mm_verdict.specs.Code.Cited.{marked_at}
+use Rattle.mm_frame.specs.declared.base.Resolved.TheVariants as answers
 use Rattle.mm_verdict.proofs.used.labels_marked.Given as goal
 
 abbrev pub invariant-loop-k : goal.invariant-loop-k

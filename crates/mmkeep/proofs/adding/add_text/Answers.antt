@@ -1,6 +1,5 @@
 use Rattle.std.proofs.Common.{ℕ, List, sym, subst}
-use Rattle.mm_report.specs.mm_store.Language.Answers.{IsAddError}
-use Rattle.mm_report.specs.mm_store.Language.FilesView.{plain}
+use Rattle.mm_report.specs.mm_store.Language.{Answers.{IsAddError}, FilesView.{plain}}
 use Rattle.mmkeep.specs.Language.Loading.{IsTextError}
 use Rattle.mmkeep.proofs.adding.add_text.Goals as goal
 

@@ -1,8 +1,8 @@
-use Rattle.std.proofs.Common.{get_or, sym, arith, codes}
-use Rattle.std.proofs.lemmas.Slice.Eq.{bytes_eq-Decides}
+use Rattle.std.proofs.{Common.{get_or, sym, arith, codes}, lemmas.Slice.Eq.{bytes_eq-Decides}}
 use Rattle.mmkeep.proofs.AskingLemmas.{differs, said_two, said_three, no_two, no_three, no_other}
+use Rattle.mmkeep.proofs.asking.command.Goals.{in_default-via-then-words-lt2, in_default-via-in-len2-2+else-eq-2, in_default-via-in-len3+else-eq-3}
+use Rattle.mmkeep.proofs.asking.command.Goals.{in_default-via-else-words-lt2+else-words-lt3+else-words-lt4}
 use Rattle.mmkeep.proofs.asking.command.Goals as goal
-use Rattle.mmkeep.proofs.asking.command.Goals.{in_default-via-then-words-lt2, in_default-via-in-len2-2+else-eq-2, in_default-via-in-len3+else-eq-3, in_default-via-else-words-lt2+else-words-lt3+else-words-lt4}
 
 pub returns-in-len2-clause-some : goal.returns-in-len2-clause-some
 returns-in-len2-clause-some c = said_two c.args.words.now _ (codes "verify") (omega arith) ((bytes_eq-Decides (get_or c.args.words.now 0 _).now (codes "verify")).0 (sym c.if-eq.ensures))

@@ -1,9 +1,6 @@
 use Rattle.std.proofs.Common.{◌≡◌}
-use Rattle.mm_report.specs.mm_store.Language.FileFacts.{parked_in}
-use Rattle.mm_report.specs.mm_store.Language.FilesView.{FilesView}
-use Rattle.mm_report.specs.mm_store.Language.Walking.{WalkView}
-use Rattle.mmkeep.specs.Code.Loaded.{HasWalked, KeepsFiles}
-use Rattle.mmkeep.specs.Language.Loading.{Loads}
+use Rattle.mm_report.specs.mm_store.Language.{FileFacts.{parked_in}, FilesView.{FilesView}, Walking.{WalkView}}
+use Rattle.mmkeep.specs.{Code.Loaded.{HasWalked, KeepsFiles}, Language.Loading.{Loads}}
 use Rattle.mmkeep.proofs.loading.add_missing.Given as goal
 
 abbrev pub invariant-loop : goal.invariant-loop

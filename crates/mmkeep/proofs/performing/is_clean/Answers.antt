@@ -1,7 +1,6 @@
 use Rattle.std.proofs.Common.{arith}
-use Rattle.mmkeep.proofs.CleanLemmas.{clean_by_faults, not_clean}
+use Rattle.mmkeep.proofs.{CleanLemmas.{clean_by_faults, not_clean}, performing.is_clean.Goals.{then-tally-eq0, else-tally-eq0}}
 use Rattle.mmkeep.proofs.performing.is_clean.Goals as goal
-use Rattle.mmkeep.proofs.performing.is_clean.Goals.{then-tally-eq0, else-tally-eq0}
 
 pub returns-then-tally-eq0-2 : goal.returns-then-tally-eq0-2
 returns-then-tally-eq0-2 c names items all count same = elim c.if-tally-eq0.branch [

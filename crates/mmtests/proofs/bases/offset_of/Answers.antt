@@ -1,9 +1,6 @@
-use Rattle.std.proofs.Common.{◌+◌, Some, refl, sym, ap, ◌∙◌, arith}
+use Rattle.std.proofs.{Common.{◌+◌, Some, refl, sym, ap, ◌∙◌, arith}, lemmas.Option.{slice_get-map}}
 use Rattle.std.specs.Option.{option_map}
-use Rattle.std.proofs.lemmas.Option.{slice_get-map}
-use Rattle.mm_report.specs.mm_store.Language.FileFacts.{piece_offset}
-use Rattle.mm_report.specs.mm_store.Language.FilesView.{plain_file, text_of}
-use Rattle.mm_report.specs.mm_store.Language.Pieces.{text_in, text_under}
+use Rattle.mm_report.specs.mm_store.Language.{FileFacts.{piece_offset}, FilesView.{plain_file, text_of}, Pieces.{text_in, text_under}}
 use Rattle.mmtests.proofs.bases.offset_of.Goals as goal
 
 pub offset-requires : goal.offset-requires

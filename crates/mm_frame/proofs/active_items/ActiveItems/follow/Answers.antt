@@ -1,11 +1,8 @@
 use Rattle.std.proofs.Common.{ℕ, List, true, ◌≡◌, ◌&&◌, ◌∙◌, ap, sym, subst}
-use Rattle.mm_frame.specs.declared.symbol.NumberedSymbol.{NumberedSymbol}
+use Rattle.mm_machine.specs.declared.symbol.NumberedSymbol.{NumberedSymbol}
 use Rattle.mm_statement.specs.Language.Item.{is_essential, is_disjoint}
-use Rattle.mm_frame.specs.Code.KeptActiveItems.{changes_active}
-use Rattle.mm_frame.specs.Code.KeptScope.{taken}
-use Rattle.mm_frame.specs.Code.KeptVariables.{AreVariablesOf}
-use Rattle.mm_frame.proofs.lemmas.base.BaseLemmas.{essential_sort, disjoint_sort, numbers_still, not_changed}
-use Rattle.mm_frame.proofs.lemmas.frames.VariableLemmas.{variables_stay}
+use Rattle.mm_frame.specs.Code.{KeptActiveItems.{changes_active}, KeptScope.{taken}, KeptVariables.{AreVariablesOf}}
+use Rattle.mm_frame.proofs.lemmas.{base.BaseLemmas.{essential_sort, disjoint_sort, numbers_still, not_changed}, frames.VariableLemmas.{variables_stay}}
 use Rattle.mm_frame.proofs.active_items.ActiveItems.follow.Goals as goal
 
 pub returns-then-not-changes_active : goal.returns-then-not-changes_active

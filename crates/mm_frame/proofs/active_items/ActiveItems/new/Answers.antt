@@ -1,6 +1,5 @@
 use Rattle.std.proofs.Common.{ℕ, List, [], sym, subst}
-use Rattle.mm_frame.specs.Code.KeptVariables.{AreVariablesOf}
-use Rattle.mm_frame.specs.Code.LastItems.{is_essential_item, is_disjoint_item}
+use Rattle.mm_frame.specs.Code.{KeptVariables.{AreVariablesOf}, LastItems.{is_essential_item, is_disjoint_item}}
 use Rattle.mm_frame.proofs.active_items.ActiveItems.new.Goals as goal
 
 pub returns : goal.returns

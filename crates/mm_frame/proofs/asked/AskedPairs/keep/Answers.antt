@@ -1,5 +1,4 @@
-use Rattle.std.proofs.Common.{[], ◌∷◌, sym, subst, All}
-use Rattle.std.proofs.lemmas.List.Elements.{All-append, All-cons, All-nil}
+use Rattle.std.proofs.{Common.{[], ◌∷◌, sym, subst, All}, lemmas.List.Elements.{All-append, All-cons, All-nil}}
 use Rattle.mm_frame.specs.Code.KeptAsked.{IsKnownPair}
 use Rattle.mm_frame.proofs.asked.AskedPairs.keep.Goals as goal
 

@@ -1,13 +1,7 @@
 use Rattle.std.proofs.Common.{refl, ◌∙◌, sym, subst}
-use Rattle.mm_statement.specs.Language.Item.{is_assertion, is_theorem}
-use Rattle.mm_statement.specs.Language.Statement.{kind_of}
-use Rattle.mm_frame.specs.Language.Sound.{fault, sound_items, judged}
-use Rattle.mm_frame.specs.Code.KeptAsked.{KnowsAsked}
-use Rattle.mm_frame.specs.Code.KeptPairLists.{AreMade}
-use Rattle.mm_frame.proofs.lemmas.base.BaseLemmas.{told_as, kept_are_sound}
-use Rattle.mm_frame.proofs.lemmas.faults.FoundFaults.{kept_next}
-use Rattle.mm_frame.proofs.lemmas.pairs.AskedLemmas.{asked_more}
-use Rattle.mm_frame.proofs.lemmas.pairs.PairListLemmas.{made_more}
+use Rattle.mm_statement.specs.Language.{Item.{is_assertion, is_theorem}, Statement.{kind_of}}
+use Rattle.mm_frame.specs.{Language.Sound.{fault, sound_items, judged}, Code.{KeptAsked.{KnowsAsked}, KeptPairLists.{AreMade}}}
+use Rattle.mm_frame.proofs.lemmas.{base.BaseLemmas.{told_as, kept_are_sound}, faults.FoundFaults.{kept_next}, pairs.{AskedLemmas.{asked_more}, PairListLemmas.{made_more}}}
 use Rattle.mm_frame.proofs.assertions.Assertions.keep.Goals as goal
 
 pub returns : goal.returns

@@ -1,5 +1,4 @@
-use Rattle.std.proofs.Common.{◌∙◌, ap}
-use Rattle.std.proofs.lemmas.Bool.{false_from_ne_true}
+use Rattle.std.proofs.{Common.{◌∙◌, ap}, lemmas.Bool.{false_from_ne_true}}
 use Rattle.mm_frame.proofs.lemmas.base.ResolvingLemmas.{active_means, inactive_means}
 use Rattle.mm_frame.proofs.base.Base.active_until.Goals as goal
 

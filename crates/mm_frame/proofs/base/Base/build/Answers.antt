@@ -1,15 +1,9 @@
-use Rattle.std.proofs.Common.{ℕ, List, map, refl, sym, ◌∙◌, ap, subst, arith}
+use Rattle.std.proofs.{Common.{ℕ, List, map, refl, sym, ◌∙◌, ap, subst, arith}, lemmas.Slice.Zip.{AllZip-long}}
 use Rattle.std.specs.List.{AllZip}
-use Rattle.std.proofs.lemmas.Slice.Zip.{AllZip-long}
-use Rattle.mm_frame.specs.declared.base.Base.TheInside.{Inside}
-use Rattle.mm_frame.specs.Language.Names.{AreDistinct, Begins}
-use Rattle.mm_frame.specs.Language.Base.{BaseView}
+use Rattle.mm_frame.specs.{declared.base.Base.TheInside.{Inside}, Language.{Base.{BaseView}, Answering.{IsBaseBy}}, Code.{BaseInside.{answers_of}, KeptBase.{is_float_item}}}
+use Rattle.mm_machine.specs.Language.Names.{AreDistinct, Begins}
 use Rattle.mm_statement.specs.Language.Statement.{Says}
-use Rattle.mm_frame.specs.Language.Answering.{IsBaseBy}
-use Rattle.mm_frame.specs.Code.BaseInside.{answers_of}
-use Rattle.mm_frame.specs.Code.KeptBase.{is_float_item}
-use Rattle.mm_frame.proofs.lemmas.base.AnswerLemmas.{base_told, labels_told}
-use Rattle.mm_frame.proofs.lemmas.frames.FrameNumbers.{kinds_said}
+use Rattle.mm_frame.proofs.lemmas.{base.AnswerLemmas.{base_told, labels_told}, frames.FrameNumbers.{kinds_said}}
 use Rattle.mm_frame.proofs.base.Base.build.Goals as goal
 
 pub invariant_of-result : goal.invariant_of-result

@@ -1,10 +1,8 @@
 use Rattle.std.proofs.Common.{Some, None, cond, ◌∙◌, ap, sym, subst}
 use Rattle.std.specs.Prelude.{All}
-use Rattle.mm_frame.specs.Language.Base.{before, said_at, is_sound_at}
-use Rattle.mm_frame.specs.Language.Framing.{expression}
-use Rattle.mm_frame.specs.Language.NumberedSymbols.{symbols_of, IsNumbered}
-use Rattle.mm_frame.proofs.lemmas.base.AnswerLemmas.{expression_read, expression_numbered}
-use Rattle.mm_frame.proofs.lemmas.base.BaseLemmas.{expression_none, shown_read}
+use Rattle.mm_frame.specs.Language.{Base.{before, said_at, is_sound_at}, Framing.{expression}}
+use Rattle.mm_machine.specs.Language.NumberedSymbols.{symbols_of, IsNumbered}
+use Rattle.mm_frame.proofs.lemmas.base.{AnswerLemmas.{expression_read, expression_numbered}, BaseLemmas.{expression_none, shown_read}}
 use Rattle.mm_frame.proofs.base.Base.expression.Goals as goal
 
 pub returns-then-is_shown-clause-symbols : goal.returns-then-is_shown-clause-symbols

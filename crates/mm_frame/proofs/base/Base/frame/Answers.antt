@@ -1,5 +1,4 @@
-use Rattle.mm_frame.proofs.lemmas.base.BaseLemmas.{ordered_pairs, ordered_numbered}
-use Rattle.mm_frame.proofs.lemmas.frames.FrameNumbers.{frame_means, frame_is, framed_some}
+use Rattle.mm_frame.proofs.lemmas.{base.BaseLemmas.{ordered_pairs, ordered_numbered}, frames.FrameNumbers.{frame_means, frame_is, framed_some}}
 use Rattle.mm_frame.proofs.base.Base.frame.Goals as goal
 
 pub returns : goal.returns

@@ -1,8 +1,7 @@
 use Rattle.std.proofs.Common.{slice_get, map, sym, ap, ◌∙◌}
 use Rattle.std.specs.Option.{option_map}
 use Rattle.mm_frame.specs.Code.KeptBase.{is_float_item}
-use Rattle.mm_frame.proofs.lemmas.base.AnswerLemmas.{float_none}
-use Rattle.mm_frame.proofs.lemmas.frames.FrameNumbers.{float_at}
+use Rattle.mm_frame.proofs.lemmas.{base.AnswerLemmas.{float_none}, frames.FrameNumbers.{float_at}}
 use Rattle.mm_frame.proofs.base.Base.is_floating.Goals as goal
 
 pub returns-in-Some : goal.returns-in-Some

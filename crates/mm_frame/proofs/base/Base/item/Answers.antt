@@ -1,5 +1,4 @@
-use Rattle.std.proofs.Common.{length, slice_get, refl, ◌∙◌, ap, sym, arith}
-use Rattle.std.proofs.lemmas.Option.{slice_get_read}
+use Rattle.std.proofs.{Common.{length, slice_get, refl, ◌∙◌, ap, sym, arith}, lemmas.Option.{slice_get_read}}
 use Rattle.mm_frame.proofs.lemmas.frames.FrameNumbers.{kind_at}
 use Rattle.mm_frame.proofs.base.Base.item.Goals as goal
 

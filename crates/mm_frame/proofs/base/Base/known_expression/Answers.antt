@@ -1,8 +1,7 @@
 use Rattle.std.proofs.Common.{◌∙◌, ap, sym, subst, All}
-use Rattle.mm_frame.specs.Language.NumberedSymbols.{symbols_of, IsNumbered}
-use Rattle.mm_frame.proofs.lemmas.base.AnswerLemmas.{expression_read, expression_numbered}
+use Rattle.mm_machine.specs.Language.NumberedSymbols.{symbols_of, IsNumbered}
 use Rattle.mm_frame.specs.Language.Base.{said_at, is_sound_at}
-use Rattle.mm_frame.proofs.lemmas.base.BaseLemmas.{shown_read}
+use Rattle.mm_frame.proofs.lemmas.base.{AnswerLemmas.{expression_read, expression_numbered}, BaseLemmas.{shown_read}}
 use Rattle.mm_frame.proofs.base.Base.known_expression.Goals as goal
 
 pub returns-clause-symbols : goal.returns-clause-symbols

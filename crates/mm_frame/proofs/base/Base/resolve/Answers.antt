@@ -1,5 +1,4 @@
-use Rattle.std.proofs.Common.{◌∙◌, sym}
-use Rattle.std.proofs.lemmas.Option.{none-some}
+use Rattle.std.proofs.{Common.{◌∙◌, sym}, lemmas.Option.{none-some}}
 use Rattle.mm_frame.proofs.lemmas.base.ResolvingLemmas.{unknown_means}
 use Rattle.mm_frame.proofs.base.Base.resolve.Goals as goal
 

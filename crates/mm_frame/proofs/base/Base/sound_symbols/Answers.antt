@@ -1,11 +1,9 @@
-use Rattle.std.proofs.Common.{◌∙◌, ap, sym, subst}
+use Rattle.std.proofs.{Common.{◌∙◌, ap, sym, subst}, lemmas.Bool.{and_from}}
 use Rattle.std.specs.Prelude.{All}
-use Rattle.std.proofs.lemmas.Bool.{and_from}
 use Rattle.mm_frame.specs.Language.Base.{said_at, is_sound_at}
 use Rattle.mm_statement.specs.Language.Item.{is_read}
-use Rattle.mm_frame.specs.Language.NumberedSymbols.{symbols_of, IsNumbered}
-use Rattle.mm_frame.proofs.lemmas.base.AnswerLemmas.{expression_read, expression_numbered}
-use Rattle.mm_frame.proofs.lemmas.base.BaseLemmas.{none_is_told, some_is_told}
+use Rattle.mm_machine.specs.Language.NumberedSymbols.{symbols_of, IsNumbered}
+use Rattle.mm_frame.proofs.lemmas.base.{AnswerLemmas.{expression_read, expression_numbered}, BaseLemmas.{none_is_told, some_is_told}}
 use Rattle.mm_frame.proofs.base.Base.sound_symbols.Goals as goal
 
 pub returns-clause-symbols : goal.returns-clause-symbols

@@ -1,10 +1,6 @@
 use Rattle.std.proofs.Common.{◌≡◌, ◌<◌, ◌+◌, List, suc, true, length, take, drop, arith, sym, ◌∙◌, ap, subst, ◌↔◌, Some, None}
-use Rattle.mm_frame.specs.Language.Scope.{Mark}
-use Rattle.mm_frame.specs.Language.Resolving.{IsUpTo}
-use Rattle.mm_frame.specs.Code.BlockMarks.{stays_by}
-use Rattle.mm_frame.specs.Code.BlockEnds.{end_of_block}
-use Rattle.mm_frame.proofs.lemmas.scope.BlockLemmas.{marks_count}
-use Rattle.mm_frame.proofs.lemmas.scope.ActiveUntil.{until_absent, until_open, until_ended, end_there}
+use Rattle.mm_frame.specs.{Language.{Scope.{Mark}, Resolving.{IsUpTo}}, Code.{BlockMarks.{stays_by}, BlockEnds.{end_of_block}}}
+use Rattle.mm_frame.proofs.lemmas.scope.{BlockLemmas.{marks_count}, ActiveUntil.{until_absent, until_open, until_ended, end_there}}
 use Rattle.mm_frame.proofs.blocks.Blocks.active_until.Goals as goal
 
 pub index-requires : goal.index-requires

@@ -1,6 +1,5 @@
 use Rattle.std.proofs.Common.{◌≡◌, ◌++◌, ◌∷◌, [], length, refl, ◌∙◌, ap, arith}
-use Rattle.mm_frame.specs.Language.Scope.{Opens, opens}
-use Rattle.mm_frame.specs.Code.KeptBlocks.{marks_from}
+use Rattle.mm_frame.specs.{Language.Scope.{Opens, opens}, Code.KeptBlocks.{marks_from}}
 use Rattle.mm_frame.proofs.lemmas.scope.BlockLemmas.{kept_moved, kept_entered, kept_begun, entered_marks, begun_marks, count_within, pushed}
 use Rattle.mm_frame.proofs.blocks.Blocks.begin.Goals as goal
 

@@ -1,6 +1,5 @@
 use Rattle.std.proofs.Common.{◌≡◌, ◌++◌, ◌∷◌, [], length, refl, ◌∙◌, ap, arith, unwrap_or}
-use Rattle.mm_frame.specs.Language.Scope.{Closes, closes}
-use Rattle.mm_frame.specs.Code.KeptBlocks.{marks_from}
+use Rattle.mm_frame.specs.{Language.Scope.{Closes, closes}, Code.KeptBlocks.{marks_from}}
 use Rattle.mm_frame.proofs.lemmas.scope.BlockLemmas.{popped_is, closing, kept_moved, kept_entered, kept_ended, entered_marks, ended_marks, count_within, pushed}
 use Rattle.mm_frame.proofs.blocks.Blocks.end.Goals as goal
 

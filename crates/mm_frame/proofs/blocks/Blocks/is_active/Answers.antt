@@ -1,6 +1,5 @@
 use Rattle.std.proofs.Common.{◌<◌, ◌+◌, length, sym, ◌∙◌, ap, arith, slice_range}
-use Rattle.mm_frame.specs.Code.BlockMarks.{stays_by}
-use Rattle.mm_frame.specs.Code.BlockEnds.{end_of_block}
+use Rattle.mm_frame.specs.Code.{BlockMarks.{stays_by}, BlockEnds.{end_of_block}}
 use Rattle.mm_frame.proofs.lemmas.scope.BlockLemmas.{items_within, is_active_open, is_active_ended}
 use Rattle.mm_frame.proofs.blocks.Blocks.is_active.Goals as goal
 

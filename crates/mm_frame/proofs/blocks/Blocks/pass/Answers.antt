@@ -1,6 +1,5 @@
 use Rattle.std.proofs.Common.{refl, ◌∙◌, ap, ◌++◌, ◌∷◌, []}
-use Rattle.mm_frame.specs.Language.Scope.{Neither}
-use Rattle.mm_frame.specs.Code.KeptBlocks.{marks_from}
+use Rattle.mm_frame.specs.{Language.Scope.{Neither}, Code.KeptBlocks.{marks_from}}
 use Rattle.mm_frame.proofs.lemmas.scope.BlockLemmas.{kept_moved, kept_passed, passed_marks}
 use Rattle.mm_frame.proofs.blocks.Blocks.pass.Goals as goal
 

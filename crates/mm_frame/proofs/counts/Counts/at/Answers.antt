@@ -1,5 +1,4 @@
-use Rattle.std.proofs.Common.{unwrap_or, ap, ◌∙◌}
-use Rattle.std.proofs.lemmas.Option.{unwrap_or-slice_get}
+use Rattle.std.proofs.{Common.{unwrap_or, ap, ◌∙◌}, lemmas.Option.{unwrap_or-slice_get}}
 use Rattle.mm_frame.proofs.counts.Counts.at.Goals as goal
 
 pub returns : goal.returns

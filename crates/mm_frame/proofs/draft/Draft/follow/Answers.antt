@@ -1,17 +1,10 @@
 use Rattle.std.proofs.Common.{◌≡◌, true, length, ◌∷◌, ◌++◌, [], ◌∙◌, ap, sym, subst, arith}
 use Rattle.std.specs.Option.{option_map}
-use Rattle.mm_frame.specs.Language.Base.{fault_by}
-use Rattle.mm_frame.specs.Language.Sound.{sound_items}
-use Rattle.mm_frame.specs.Language.Answering.{AreRows, IsLabelTold}
-use Rattle.mm_frame.specs.Code.KeptActiveItems.{AreActiveKept}
-use Rattle.mm_frame.specs.Code.KeptPairTable.{KnowsPairs}
-use Rattle.mm_frame.specs.Code.KeptRows.{rows_of, fault_told}
-use Rattle.mm_frame.specs.Code.KeptScope.{ScopeHolds, taken}
-use Rattle.mm_frame.specs.Code.KeptSymbols.{AreSymbols}
+use Rattle.mm_frame.specs.Language.{Base.{fault_by}, Sound.{sound_items}, Answering.{AreRows, IsLabelTold}}
+use Rattle.mm_frame.specs.Code.{KeptActiveItems.{AreActiveKept}, KeptPairTable.{KnowsPairs}, KeptRows.{rows_of, fault_told}, KeptScope.{ScopeHolds, taken}, KeptSymbols.{AreSymbols}}
 use Rattle.mm_frame.specs.Code.Numbers.{AreNameNumbers}
-use Rattle.mm_frame.proofs.lemmas.base.BaseLemmas.{rows_more, kept_are_sound, kept_taken, kept_count, sound_found_none, none_found, symbols_more, symbols_taken}
+use Rattle.mm_frame.proofs.lemmas.base.{BaseLemmas.{rows_more, kept_are_sound, kept_taken, kept_count, sound_found_none, none_found, symbols_more, symbols_taken}, RowLemmas.{some_lent}}
 use Rattle.mm_frame.proofs.lemmas.names.KnownSymbols.{disjoint_uses}
-use Rattle.mm_frame.proofs.lemmas.base.RowLemmas.{some_lent}
 use Rattle.mm_frame.proofs.draft.Draft.follow.Goals as goal
 
 pub returns-clause-follows : goal.returns-clause-follows

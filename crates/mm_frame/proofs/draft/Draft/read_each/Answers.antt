@@ -2,8 +2,7 @@ use Rattle.std.proofs.Common.{◌≡◌, ◌∷◌, ◌++◌, [], suc, ◌+◌, 
 use Rattle.std.specs.List.{AllZip}
 use Rattle.mm_statement.specs.Language.Statement.{Says}
 use Rattle.mm_frame.specs.Code.KeptBase.{IsDraftLater}
-use Rattle.mm_frame.proofs.lemmas.names.NumberLemmas.{begins_on}
-use Rattle.mm_frame.proofs.lemmas.base.BaseLemmas.{zip_more}
+use Rattle.mm_frame.proofs.lemmas.{names.NumberLemmas.{begins_on}, base.BaseLemmas.{zip_more}}
 use Rattle.mm_frame.proofs.draft.Draft.read_each.Goals as goal
 
 pub loop-item-init : goal.loop-item-init

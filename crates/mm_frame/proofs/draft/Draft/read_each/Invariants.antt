@@ -1,9 +1,9 @@
 use Rattle.std.proofs.Common.{◌++◌, List, take}
 use Rattle.std.specs.List.{AllZip}
-use Rattle.mm_statement.specs.Language.Item as meant
-use Rattle.mm_frame.specs.Language.Names.{Begins}
+use Rattle.mm_machine.specs.Language.Names.{Begins}
 use Rattle.mm_statement.specs.Language.Statement.{Says}
 use Rattle.mm_frame.specs.Code.KeptBase.{IsDraftLater}
+use Rattle.mm_statement.specs.Language.Item as meant
 use Rattle.mm_frame.proofs.draft.Draft.read_each.Given as goal
 
 abbrev pub invariant-loop-item : goal.invariant-loop-item

@@ -1,12 +1,7 @@
 use Rattle.std.proofs.Common.{◌≡◌, ℕ, IfOk, List, [], sym, ap, ◌∙◌, subst}
-use Rattle.mm_frame.specs.declared.symbol.NumberedSymbol.{NumberedSymbol}
+use Rattle.mm_machine.specs.{declared.symbol.NumberedSymbol.{NumberedSymbol}, Language.Names.{AreDistinct}}
 use Rattle.mm_frame.specs.Language.Answering.{AreRows, IsLabelTold}
-use Rattle.mm_frame.specs.Language.Names.{AreDistinct}
-use Rattle.mm_frame.specs.Code.KeptActiveItems.{AreActiveKept}
-use Rattle.mm_frame.specs.Code.KeptAssertions.{AreAssertions}
-use Rattle.mm_frame.specs.Code.KeptRows.{AreRowsKept, rows_of}
-use Rattle.mm_frame.specs.Code.KeptScope.{ScopeHolds}
-use Rattle.mm_frame.specs.Code.KeptSymbols.{AreSymbols}
+use Rattle.mm_frame.specs.Code.{KeptActiveItems.{AreActiveKept}, KeptAssertions.{AreAssertions}, KeptRows.{AreRowsKept, rows_of}, KeptScope.{ScopeHolds}, KeptSymbols.{AreSymbols}}
 use Rattle.mm_frame.proofs.lemmas.base.BaseLemmas.{rows_none, symbols_none}
 use Rattle.mm_frame.proofs.draft.Draft.with_room.Goals as goal
 

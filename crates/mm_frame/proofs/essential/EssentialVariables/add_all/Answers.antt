@@ -1,5 +1,5 @@
 use Rattle.std.proofs.Common.{false}
-use Rattle.mm_frame.specs.declared.symbol.NumberedSymbol.{NumberedSymbol}
+use Rattle.mm_machine.specs.declared.symbol.NumberedSymbol.{NumberedSymbol}
 use Rattle.mm_frame.proofs.lemmas.frames.VariableLemmas.{adds_none, adds_more}
 use Rattle.mm_frame.proofs.essential.EssentialVariables.add_all.Goals as goal
 

@@ -1,6 +1,5 @@
 use Rattle.std.specs.Prelude.{Contains, take}
-use Rattle.mm_frame.specs.Code.LastItems.{IsRising}
-use Rattle.mm_frame.specs.Code.KeptVariables.{AddsAll}
+use Rattle.mm_frame.specs.Code.{LastItems.{IsRising}, KeptVariables.{AddsAll}}
 use Rattle.mm_frame.proofs.essential.EssentialVariables.add_all.Given as goal
 
 abbrev pub invariant-loop-k : goal.invariant-loop-k

@@ -1,11 +1,7 @@
 use Rattle.std.proofs.Common.{◌<◌, length, sym, subst, ◌∙◌, arith, Contains}
-use Rattle.mm_frame.specs.declared.symbol.NumberedSymbol.{NumberedSymbol}
-use Rattle.mm_frame.specs.declared.essential.EssentialVariable.{EssentialVariable}
-use Rattle.mm_frame.specs.Code.KeptVariables.{by_essential}
-use Rattle.mm_frame.proofs.lemmas.lists.Members.{In, in_contains}
-use Rattle.mm_frame.proofs.lemmas.frames.Frames.{in_at}
-use Rattle.mm_frame.proofs.lemmas.lists.Rising.{among_in}
-use Rattle.mm_frame.proofs.lemmas.pairs.PairListLemmas.{symbol_decides}
+use Rattle.mm_machine.specs.declared.symbol.NumberedSymbol.{NumberedSymbol}
+use Rattle.mm_frame.specs.{declared.essential.EssentialVariable.{EssentialVariable}, Code.KeptVariables.{by_essential}}
+use Rattle.mm_frame.proofs.lemmas.{lists.{Members.{In, in_contains}, Rising.{among_in}}, frames.Frames.{in_at}, pairs.PairListLemmas.{symbol_decides}}
 use Rattle.mm_frame.proofs.essential.EssentialVariables.has.Goals as goal
 
 pub returns-then-eq : goal.returns-then-eq

@@ -1,7 +1,6 @@
 use Rattle.std.proofs.Common.{false, get_or, sym, ap, ◌∙◌, is_none}
 use Rattle.mm_frame.specs.Code.KeptRows.{fault_kept}
-use Rattle.mm_frame.proofs.lemmas.base.BaseLemmas.{none_found}
-use Rattle.mm_frame.proofs.lemmas.base.RowLemmas.{shown_none, shown_some}
+use Rattle.mm_frame.proofs.lemmas.base.{BaseLemmas.{none_found}, RowLemmas.{shown_none, shown_some}}
 use Rattle.mm_frame.proofs.item_rows.Rows.is_shown.Goals as goal
 
 pub returns-then-not-is_labelled : goal.returns-then-not-is_labelled

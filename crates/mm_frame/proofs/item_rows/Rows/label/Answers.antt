@@ -1,8 +1,7 @@
 use Rattle.std.proofs.Common.{◌≡◌, ◌<◌, false, Some, length, get_or, sym, ap, ◌∙◌, arith}
 use Rattle.std.specs.List.{slice_range}
 use Rattle.mm_frame.specs.Code.KeptParts.{start_at}
-use Rattle.mm_frame.proofs.lemmas.names.ExpressionLemmas.{part_within}
-use Rattle.mm_frame.proofs.lemmas.base.RowLemmas.{flag_within, label_none, label_some}
+use Rattle.mm_frame.proofs.lemmas.{names.ExpressionLemmas.{part_within}, base.RowLemmas.{flag_within, label_none, label_some}}
 use Rattle.mm_frame.proofs.item_rows.Rows.label.Goals as goal
 
 pub returns-then-not-is_labelled : goal.returns-then-not-is_labelled

@@ -1,7 +1,5 @@
-use Rattle.std.proofs.Common.{ap, ◌∙◌, sym, map, ◌++◌, ◌∷◌, [], length}
-use Rattle.std.specs.Str.{bytes_eq}
-use Rattle.std.specs.List.{list_any}
-use Rattle.std.proofs.lemmas.List.{length-map}
+use Rattle.std.proofs.{Common.{ap, ◌∙◌, sym, map, ◌++◌, ◌∷◌, [], length}, lemmas.List.{length-map}}
+use Rattle.std.specs.{Str.{bytes_eq}, List.{list_any}}
 use Rattle.mm_frame.proofs.lemmas.names.NumberLemmas.{inserted, any_by_keys}
 use Rattle.mm_frame.proofs.names.Names.add.Goals as goal
 

@@ -1,5 +1,5 @@
-use Rattle.mm_frame.specs.Language.Names.{AreDistinct}
 use Rattle.std.proofs.Common.{subst}
+use Rattle.mm_machine.specs.Language.Names.{AreDistinct}
 use Rattle.mm_frame.proofs.lemmas.names.NumberLemmas.{distinct_names}
 use Rattle.mm_frame.proofs.names.Names.count.Goals as goal
 

@@ -1,6 +1,5 @@
 use Rattle.std.proofs.Common.{Some, subst, sym, ap, ◌∙◌, ◌≡◌, is_some, slice_get}
-use Rattle.std.specs.Str.{bytes_eq}
-use Rattle.std.specs.List.{list_any}
+use Rattle.std.specs.{Str.{bytes_eq}, List.{list_any}}
 use Rattle.mm_frame.proofs.lemmas.names.NumberLemmas.{number_by_keys, any_by_keys, number_names, added_named, added_grows}
 use Rattle.mm_frame.proofs.names.Names.find_or_add.Goals as goal
 

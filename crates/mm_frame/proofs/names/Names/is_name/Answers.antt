@@ -1,7 +1,5 @@
-use Rattle.std.proofs.Common.{◌≡◌, Some, ap, sym, ◌∙◌, subst, slice_get}
+use Rattle.std.proofs.{Common.{◌≡◌, Some, ap, sym, ◌∙◌, subst, slice_get}, lemmas.{Option.{slice_get-map}, Slice.Eq.{bytes_eq-Decides}}}
 use Rattle.std.specs.Option.{option_map}
-use Rattle.std.proofs.lemmas.Option.{slice_get-map}
-use Rattle.std.proofs.lemmas.Slice.Eq.{bytes_eq-Decides}
 use Rattle.mm_frame.proofs.names.Names.is_name.Goals as goal
 
 pub returns-in-Some : goal.returns-in-Some

@@ -1,11 +1,7 @@
 use Rattle.std.proofs.Common.{Some, cond, nat_eq, take, flat_map, sym, ap, subst, ◌∙◌, All}
 use Rattle.std.specs.HashMap.{get}
-use Rattle.mm_frame.specs.Language.Framing.{active_pairs}
-use Rattle.mm_frame.specs.declared.pair_lists.PairLists.{PairLists}
-use Rattle.mm_frame.specs.Code.KeptSymbols.{expression_kept}
-use Rattle.mm_frame.specs.Code.KeptPairLists.{KeepsLists, HasSame, pairs_among}
-use Rattle.mm_frame.proofs.lemmas.pairs.PairListLemmas.{made_one_more, is_list, same_members, front_read}
-use Rattle.mm_frame.proofs.lemmas.pairs.PairOrderLemmas.{IsLowFirst, all_low}
+use Rattle.mm_frame.specs.{Language.Framing.{active_pairs}, declared.pair_lists.PairLists.{PairLists}, Code.{KeptSymbols.{expression_kept}, KeptPairLists.{KeepsLists, HasSame, pairs_among}}}
+use Rattle.mm_frame.proofs.lemmas.pairs.{PairListLemmas.{made_one_more, is_list, same_members, front_read}, PairOrderLemmas.{IsLowFirst, all_low}}
 use Rattle.mm_frame.proofs.pair_lists.PairLists.first_list.Goals as goal
 
 pub returns-clause-pairs : goal.returns-clause-pairs

@@ -1,6 +1,5 @@
 use Rattle.std.proofs.Common.{[], append-nil, sym, subst, ◌∙◌}
-use Rattle.mm_frame.specs.declared.pair_lists.PairLists.{PairLists}
-use Rattle.mm_frame.specs.Code.KeptPairLists.{KeepsLists, IsList}
+use Rattle.mm_frame.specs.{declared.pair_lists.PairLists.{PairLists}, Code.KeptPairLists.{KeepsLists, IsList}}
 use Rattle.mm_frame.proofs.lemmas.pairs.PairListLemmas.{made_one_more, whole_front}
 use Rattle.mm_frame.proofs.pair_lists.PairLists.keep_made.Goals as goal
 

@@ -1,14 +1,8 @@
-use Rattle.std.proofs.Common.{ℕ, [], Some, cond, nat_eq, List, take, drop, take-append-drop, append-nil, flat_map, sym, ap, subst, ◌∙◌}
-use Rattle.std.proofs.lemmas.List.{take_rest}
+use Rattle.std.proofs.{Common.{ℕ, [], Some, cond, nat_eq, List, take, drop, take-append-drop, append-nil, flat_map, sym, ap, subst, ◌∙◌}, lemmas.List.{take_rest}}
 use Rattle.std.specs.HashMap.{get}
-use Rattle.mm_frame.specs.Language.Framing.{active_pairs}
-use Rattle.mm_frame.specs.declared.pair_lists.PairLists.{PairLists}
-use Rattle.mm_frame.specs.Language.NumberedSymbols.{AreSamePairsRead}
-use Rattle.mm_frame.specs.Code.KeptPairLists.{KeepsLists, IsList, pairs_among}
-use Rattle.mm_frame.specs.Code.KeptSymbols.{expression_kept}
-use Rattle.mm_frame.proofs.lemmas.lists.Members.{In, in_right}
-use Rattle.mm_frame.proofs.lemmas.pairs.ActivePairLemmas.{pairs_at}
-use Rattle.mm_frame.proofs.lemmas.pairs.PairListLemmas.{made_one_more, whole_front, front_and_own, active_read}
+use Rattle.mm_frame.specs.{Language.Framing.{active_pairs}, declared.pair_lists.PairLists.{PairLists}, Code.{KeptPairLists.{KeepsLists, IsList, pairs_among}, KeptSymbols.{expression_kept}}}
+use Rattle.mm_machine.specs.Language.NumberedSymbols.{AreSamePairsRead}
+use Rattle.mm_frame.proofs.lemmas.{lists.Members.{In, in_right}, pairs.{ActivePairLemmas.{pairs_at}, PairListLemmas.{made_one_more, whole_front, front_and_own, active_read}}}
 use Rattle.mm_frame.proofs.pair_lists.PairLists.list_of.Goals as goal
 
 pub returns-clause-pairs : goal.returns-clause-pairs

@@ -1,5 +1,4 @@
-use Rattle.std.proofs.Common.{sym, subst}
-use Rattle.std.proofs.lemmas.Result.{IfOk-weaker, on_ok_weaker}
+use Rattle.std.proofs.{Common.{sym, subst}, lemmas.Result.{IfOk-weaker, on_ok_weaker}}
 use Rattle.mm_frame.specs.Code.Numbers.{IsNameNumber}
 use Rattle.mm_frame.proofs.lemmas.pairs.PairTableLemmas.{pair_told, pair_turned_told, same_told}
 use Rattle.mm_frame.proofs.paired.PairTable.is_active_pair.Goals as goal

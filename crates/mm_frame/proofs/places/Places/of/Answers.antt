@@ -1,8 +1,6 @@
-use Rattle.std.proofs.Common.{false, sym, ◌∙◌}
-use Rattle.std.proofs.lemmas.Option.{slice_get-get_or}
-use Rattle.mm_frame.proofs.lemmas.scope.KnownLemmas.{without_number}
-use Rattle.mm_frame.specs.declared.symbol.NumberedSymbol.{NumberedSymbol}
-use Rattle.mm_frame.proofs.lemmas.pairs.PlaceLemmas.{placed_more, placed_all}
+use Rattle.std.proofs.{Common.{false, sym, ◌∙◌}, lemmas.Option.{slice_get-get_or}}
+use Rattle.mm_machine.specs.declared.symbol.NumberedSymbol.{NumberedSymbol}
+use Rattle.mm_frame.proofs.lemmas.{scope.KnownLemmas.{without_number}, pairs.PlaceLemmas.{placed_more, placed_all}}
 use Rattle.mm_frame.proofs.places.Places.of.Goals as goal
 
 pub loop-n-preserved : goal.loop-n-preserved

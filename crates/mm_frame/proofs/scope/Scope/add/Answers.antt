@@ -1,7 +1,6 @@
 use Rattle.std.proofs.Common.{refl, arith}
 use Rattle.mm_statement.specs.Language.Statement.{kind_of}
-use Rattle.mm_frame.proofs.lemmas.scope.SoundItems.{sound_more}
-use Rattle.mm_frame.proofs.lemmas.scope.KeptScopeLemmas.{typecodes_count, marks_more, types_more}
+use Rattle.mm_frame.proofs.lemmas.scope.{SoundItems.{sound_more}, KeptScopeLemmas.{typecodes_count, marks_more, types_more}}
 use Rattle.mm_frame.proofs.scope.Scope.add.Goals as goal
 
 pub returns : goal.returns

@@ -1,7 +1,6 @@
 use Rattle.std.proofs.Common.{sym, ◌∙◌, ap}
 use Rattle.mm_frame.specs.Code.LastItems.{last_where, declares_variable, is_active_last}
-use Rattle.mm_frame.proofs.lemmas.scope.TableLemmas.{active_variable_last}
-use Rattle.mm_frame.proofs.lemmas.scope.KeptScopeLemmas.{active_by_marks}
+use Rattle.mm_frame.proofs.lemmas.scope.{TableLemmas.{active_variable_last}, KeptScopeLemmas.{active_by_marks}}
 use Rattle.mm_frame.proofs.scope.Scope.is_active_variable.Goals as goal
 
 pub returns-in-Some : goal.returns-in-Some

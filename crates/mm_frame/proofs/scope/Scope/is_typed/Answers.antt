@@ -1,7 +1,6 @@
 use Rattle.std.proofs.Common.{sym, ◌∙◌, ap}
 use Rattle.mm_frame.specs.Code.LastItems.{last_where, types, is_active_last}
-use Rattle.mm_frame.proofs.lemmas.scope.TableLemmas.{typed_last}
-use Rattle.mm_frame.proofs.lemmas.scope.KeptScopeLemmas.{active_by_marks}
+use Rattle.mm_frame.proofs.lemmas.scope.{TableLemmas.{typed_last}, KeptScopeLemmas.{active_by_marks}}
 use Rattle.mm_frame.proofs.scope.Scope.is_typed.Goals as goal
 
 pub returns-in-Some : goal.returns-in-Some

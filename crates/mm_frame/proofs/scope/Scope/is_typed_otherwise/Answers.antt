@@ -1,8 +1,6 @@
 use Rattle.std.proofs.Common.{not, bytes_eq, sym, ◌∙◌, ap}
-use Rattle.mm_frame.specs.Code.KeptScope.{typecodes_of}
-use Rattle.mm_frame.specs.Code.LastItems.{is_otherwise_at}
-use Rattle.mm_frame.proofs.lemmas.scope.TableLemmas.{typed_otherwise_last}
-use Rattle.mm_frame.proofs.lemmas.scope.KeptScopeLemmas.{typecode_kept}
+use Rattle.mm_frame.specs.Code.{KeptScope.{typecodes_of}, LastItems.{is_otherwise_at}}
+use Rattle.mm_frame.proofs.lemmas.scope.{TableLemmas.{typed_otherwise_last}, KeptScopeLemmas.{typecode_kept}}
 use Rattle.mm_frame.proofs.scope.Scope.is_typed_otherwise.Goals as goal
 
 pub returns-in-Some : goal.returns-in-Some

@@ -1,8 +1,7 @@
 use Rattle.std.proofs.Common.{OnOk, refl, sym, subst}
 use Rattle.mm_statement.specs.Language.Item.{Passed, passed}
 use Rattle.mm_frame.specs.Code.KeptScope.{ScopeTakes}
-use Rattle.mm_frame.proofs.lemmas.scope.KnownLemmas.{knows_passed}
-use Rattle.mm_frame.proofs.lemmas.scope.KeptScopeLemmas.{passed_over, marks_more, types_more}
+use Rattle.mm_frame.proofs.lemmas.scope.{KnownLemmas.{knows_passed}, KeptScopeLemmas.{passed_over, marks_more, types_more}}
 use Rattle.mm_frame.proofs.scope.Scope.next.Goals as goal
 
 pub returns-then-sound : goal.returns-then-sound

@@ -1,6 +1,5 @@
 use Rattle.std.proofs.Common.{◌+◌, ◌++◌, ◌∷◌, [], length, ap, ◌∙◌, arith, length-append}
-use Rattle.mm_frame.proofs.lemmas.scope.BlockLemmas.{pushed}
-use Rattle.mm_frame.proofs.lemmas.names.ExpressionLemmas.{cut_added}
+use Rattle.mm_frame.proofs.lemmas.{scope.BlockLemmas.{pushed}, names.ExpressionLemmas.{cut_added}}
 use Rattle.mm_frame.proofs.symbol_lists.SymbolLists.add.Goals as goal
 
 pub invariant_of-self-2 : goal.invariant_of-self-2

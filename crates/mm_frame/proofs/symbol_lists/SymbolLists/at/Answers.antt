@@ -1,8 +1,7 @@
 use Rattle.std.proofs.Common.{length, ap, ◌∙◌, arith}
 use Rattle.std.specs.List.{slice_range}
 use Rattle.mm_frame.specs.Code.KeptSymbols.{expression_kept}
-use Rattle.mm_frame.proofs.lemmas.names.ListLemmas.{part_told, none_told}
-use Rattle.mm_frame.proofs.lemmas.names.ExpressionLemmas.{end_within}
+use Rattle.mm_frame.proofs.lemmas.names.{ListLemmas.{part_told, none_told}, ExpressionLemmas.{end_within}}
 use Rattle.mm_frame.proofs.symbol_lists.SymbolLists.at.Goals as goal
 
 pub part-requires : goal.part-requires

@@ -1,6 +1,5 @@
 use Rattle.std.proofs.Common.{ℕ, sym, subst, IfSome}
-use Rattle.mm_keep.specs.Code.KeptSession.{session_view}
-use Rattle.mm_keep.specs.Language.Sessions.{HasAssertion, IsAssertion, OfItems}
+use Rattle.mm_keep.specs.{Code.KeptSession.{session_view}, Language.Sessions.{HasAssertion, IsAssertion, OfItems}}
 use Rattle.mm_keep.proofs.FoundLemmas.{map_some, kept_items}
 use Rattle.mm_keep.proofs.session.Session.assertion.Goals as goal
 

@@ -1,8 +1,6 @@
 use Rattle.std.proofs.Common.{map, subst, IfErr}
-use Rattle.mm_proof.specs.mm_text.Language.Asked.{asked}
-use Rattle.mm_proof.specs.mm_store.Language.FilesView.{plain}
-use Rattle.mm_keep.specs.Code.Changing.{IsChangeError}
-use Rattle.mm_keep.specs.Language.Sessions.{SessionView}
+use Rattle.mm_proof.specs.{mm_text.Language.Asked.{asked}, mm_store.Language.FilesView.{plain}}
+use Rattle.mm_keep.specs.{Code.Changing.{IsChangeError}, Language.Sessions.{SessionView}}
 use Rattle.mm_keep.proofs.session.Session.change_all.Goals as goal
 
 pub returns-clause-refused : goal.returns-clause-refused

@@ -1,6 +1,5 @@
 use Rattle.std.proofs.Common.{subst}
-use Rattle.mm_keep.specs.Language.Findings.{counted}
-use Rattle.mm_keep.specs.Language.Sessions.{IsTally}
+use Rattle.mm_keep.specs.Language.{Findings.{counted}, Sessions.{IsTally}}
 use Rattle.mm_keep.proofs.FoundLemmas.{kept_of}
 use Rattle.mm_keep.proofs.session.Session.tally.Goals as goal
 

@@ -1,6 +1,5 @@
 use Rattle.std.proofs.Common.{subst}
-use Rattle.mm_keep.specs.Language.Findings.{told}
-use Rattle.mm_keep.specs.Language.Told.{IsRightlyTold}
+use Rattle.mm_keep.specs.Language.{Findings.{told}, Told.{IsRightlyTold}}
 use Rattle.mm_keep.proofs.session.Session.verdict.Goals as goal
 
 pub returns-in-Some-clause-ok : goal.returns-in-Some-clause-ok

@@ -1,11 +1,7 @@
-use Rattle.std.proofs.Common.{◌≡◌, ◌+◌, ℕ, List, [], ◌∷◌, sym, ◌∙◌, ap, subst, arith, length}
-use Rattle.std.proofs.lemmas.List.{length-append, map-append}
-use Rattle.mm_proof.specs.Language.BaseMarks.{ItemMark, KeepsLabels}
+use Rattle.std.proofs.{Common.{◌≡◌, ◌+◌, ℕ, List, [], ◌∷◌, sym, ◌∙◌, ap, subst, arith, length}, lemmas.List.{length-append, map-append}}
+use Rattle.mm_proof.specs.{Language.BaseMarks.{ItemMark, KeepsLabels}, Code.{InStep.{IsStepAt, changed_behind}, KeptMarks.{AreItemMarks, AreHypothesisMarks, kept_mark, kept_marks}}}
+use Rattle.mm_proof.proofs.{KeptMarkLemmas.{kept_more, marked_behind, marked_more, all_marked}, marks.Marks.build.Goals.{then-next+in_ok-push-2, else-next}}
 use Rattle.mm_proof.specs.declared.marks.Mark as code
-use Rattle.mm_proof.specs.Code.InStep.{IsStepAt, changed_behind}
-use Rattle.mm_proof.specs.Code.KeptMarks.{AreItemMarks, AreHypothesisMarks, kept_mark, kept_marks}
-use Rattle.mm_proof.proofs.KeptMarkLemmas.{kept_more, marked_behind, marked_more, all_marked}
-use Rattle.mm_proof.proofs.marks.Marks.build.Goals.{then-next+in_ok-push-2, else-next}
 use Rattle.mm_proof.proofs.marks.Marks.build.Goals as goal
 
 pub marked-requires-clause-marks : goal.marked-requires-clause-marks

@@ -1,6 +1,5 @@
 use Rattle.std.proofs.Common.{◌≡◌, length}
-use Rattle.mm_proof.specs.Code.InStep.{IsStepAt}
-use Rattle.mm_proof.specs.Code.KeptMarks.{OfBases, AreItemMarks, AreHypothesisMarks, kept_marks}
+use Rattle.mm_proof.specs.Code.{InStep.{IsStepAt}, KeptMarks.{OfBases, AreItemMarks, AreHypothesisMarks, kept_marks}}
 use Rattle.mm_proof.proofs.marks.Marks.build.Given as goal
 
 abbrev pub invariant-loop-j : goal.invariant-loop-j

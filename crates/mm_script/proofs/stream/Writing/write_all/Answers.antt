@@ -1,10 +1,7 @@
-use Rattle.std.proofs.Common.{◌≡◌, ◌≤◌, ◌+◌, ℕ, min, take, arith}
+use Rattle.std.proofs.{Common.{◌≡◌, ◌≤◌, ◌+◌, ℕ, min, take, arith}, lemmas.List.{take_rest}, Math.Seq.{take-add}, KnownBytes.{Appends-trans, Appends-kept}}
 use Rattle.std.specs.Io.KnownBytes.{Appends}
-use Rattle.std.proofs.lemmas.List.{take_rest}
-use Rattle.std.proofs.Math.Seq.{take-add}
-use Rattle.std.proofs.KnownBytes.{Appends-trans, Appends-kept}
-use Rattle.mm_script.proofs.stream.Writing.write_all.Goals as goal
 use Rattle.mm_script.proofs.stream.Writing.write_all.Goals.{in_default-via-in-Ok+else-n-gt0, in_default-via-in_default}
+use Rattle.mm_script.proofs.stream.Writing.write_all.Goals as goal
 
 -- one call more
 counted_more : (old now new calls : ℕ) → min now 18446744073709551615 ≡ min (min old 18446744073709551615 + calls) 18446744073709551615 → new ≡ min (now + 1) 18446744073709551615

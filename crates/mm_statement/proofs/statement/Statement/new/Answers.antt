@@ -1,13 +1,7 @@
-use Rattle.std.proofs.Common.{[], ◌∙◌, sym, ap, subst, length, get_or, arith, All}
-use Rattle.std.proofs.lemmas.Option.{slice_get_within, get_or_from_slice_get}
-use Rattle.std.proofs.lemmas.List.Elements.{All-get_or}
-use Rattle.mm_store.specs.mm_text.Language.Unit.{tokens_of}
-use Rattle.mm_store.specs.mm_text.Language.WordsLeft.{WordsLeft}
-use Rattle.mm_statement.specs.Language.Item.{Item}
-use Rattle.mm_statement.specs.Language.Statement.{kind_of, item_of}
-use Rattle.mm_statement.specs.Code.PlainWords.{LiesInText}
-use Rattle.mm_statement.proofs.SpokenLemmas.{Reads, behind_one, item_read, count_bytes}
-use Rattle.mm_statement.proofs.WordNumbers.{spelled_at}
+use Rattle.std.proofs.{Common.{[], ◌∙◌, sym, ap, subst, length, get_or, arith, All}, lemmas.{Option.{slice_get_within, get_or_from_slice_get}, List.Elements.{All-get_or}}}
+use Rattle.mm_store.specs.mm_text.Language.{Unit.{tokens_of}, WordsLeft.{WordsLeft}}
+use Rattle.mm_statement.specs.{Language.{Item.{Item}, Statement.{kind_of, item_of}}, Code.PlainWords.{LiesInText}}
+use Rattle.mm_statement.proofs.{SpokenLemmas.{Reads, behind_one, item_read, count_bytes}, WordNumbers.{spelled_at}}
 use Rattle.mm_statement.proofs.statement.Statement.new.Goals as goal
 
 pub invariant_of-result : goal.invariant_of-result

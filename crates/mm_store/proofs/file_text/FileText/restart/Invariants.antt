@@ -1,6 +1,5 @@
 use Rattle.std.proofs.Common.{◌≡◌, length, map}
-use Rattle.mm_store.specs.Language.Pieces.{text_under}
-use Rattle.mm_store.specs.Code.Lines.{AreStartsTo}
+use Rattle.mm_store.specs.{Language.Pieces.{text_under}, Code.Lines.{AreStartsTo}}
 use Rattle.mm_store.proofs.file_text.FileText.restart.Given as goal
 
 abbrev pub invariant-loop-piece : goal.invariant-loop-piece

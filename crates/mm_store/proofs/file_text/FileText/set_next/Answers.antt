@@ -1,10 +1,7 @@
-use Rattle.std.proofs.Common.{◌≡◌, ◌<◌, [], ◌++◌, length, map, take, get_or, sym, ap, ◌∙◌, subst, arith}
+use Rattle.std.proofs.{Common.{◌≡◌, ◌<◌, [], ◌++◌, length, map, take, get_or, sym, ap, ◌∙◌, subst, arith}, lemmas.List.{length-map, get_or-map}}
 use Rattle.std.specs.List.{concat}
-use Rattle.std.proofs.lemmas.List.{length-map, get_or-map}
-use Rattle.mm_store.specs.Language.Pieces.{text_under}
-use Rattle.mm_store.specs.Code.Lines.{IsStart}
-use Rattle.mm_store.proofs.lemmas.places.PlaceLemmas.{concat_one, piece_within}
-use Rattle.mm_store.proofs.lemmas.places.StartLemmas.{starts_more}
+use Rattle.mm_store.specs.{Language.Pieces.{text_under}, Code.Lines.{IsStart}}
+use Rattle.mm_store.proofs.lemmas.places.{PlaceLemmas.{concat_one, piece_within}, StartLemmas.{starts_more}}
 use Rattle.mm_store.proofs.file_text.FileText.set_next.Goals as goal
 
 pub next_start-requires : goal.next_start-requires

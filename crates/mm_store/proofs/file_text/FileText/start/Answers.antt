@@ -1,8 +1,6 @@
-use Rattle.std.proofs.Common.{◌≡◌, ◌<◌, [], ◌++◌, length, map, take, get_or, sym, ap, ◌∙◌, subst, arith}
+use Rattle.std.proofs.{Common.{◌≡◌, ◌<◌, [], ◌++◌, length, map, take, get_or, sym, ap, ◌∙◌, subst, arith}, lemmas.List.{length-map, get_or-map}}
 use Rattle.std.specs.List.{concat}
-use Rattle.std.proofs.lemmas.List.{length-map, get_or-map}
-use Rattle.mm_store.specs.Language.Pieces.{text_under}
-use Rattle.mm_store.specs.Code.Lines.{IsStart}
+use Rattle.mm_store.specs.{Language.Pieces.{text_under}, Code.Lines.{IsStart}}
 use Rattle.mm_store.proofs.lemmas.places.PlaceLemmas.{concat_one, piece_within}
 use Rattle.mm_store.proofs.file_text.FileText.start.Goals as goal
 

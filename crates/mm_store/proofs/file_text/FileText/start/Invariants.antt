@@ -1,7 +1,6 @@
 use Rattle.std.proofs.Common.{map, take}
 use Rattle.std.specs.List.{concat}
-use Rattle.mm_store.specs.Language.Pieces.{text_under}
-use Rattle.mm_store.specs.Code.Lines.{IsStart}
+use Rattle.mm_store.specs.{Language.Pieces.{text_under}, Code.Lines.{IsStart}}
 use Rattle.mm_store.proofs.file_text.FileText.start.Given as goal
 
 abbrev pub invariant-loop-before : goal.invariant-loop-before

@@ -1,12 +1,7 @@
 use Rattle.std.proofs.Common.{◌≡◌, ℕ, List, length, map, sym, ap, ◌∙◌, subst, arith}
-use Rattle.mm_text.specs.declared.pieces.DividedPiece.{DividedPiece}
-use Rattle.mm_text.specs.declared.fault.TextError.{TextError}
-use Rattle.mm_text.specs.declared.fault.TextError.TheVariants.{Fault, Memory}
-use Rattle.mm_text.specs.Language.Reading.{IsTextErrorIn}
-use Rattle.mm_store.specs.Language.FilesView.{File, FilesView, plain, bytes_of}
-use Rattle.mm_store.specs.Language.Answers.{store_error_of, IsAddErrorIn}
-use Rattle.mm_store.proofs.lemmas.files.AddLemmas.{bytes_more}
-use Rattle.mm_store.proofs.lemmas.edits.EditLemmas.{if_err}
+use Rattle.mm_text.specs.{declared.{pieces.DividedPiece.{DividedPiece}, fault.TextError.{TextError, TheVariants.{Fault, Memory}}}, Language.Reading.{IsTextErrorIn}}
+use Rattle.mm_store.specs.Language.{FilesView.{File, FilesView, plain, bytes_of}, Answers.{store_error_of, IsAddErrorIn}}
+use Rattle.mm_store.proofs.lemmas.{files.AddLemmas.{bytes_more}, edits.EditLemmas.{if_err}}
 use Rattle.mm_store.proofs.files.Files.add_bytes.Goals as goal
 
 fault_lies : (text : List ℕ) (error : TextError) → IsTextErrorIn text error → IsAddErrorIn text (store_error_of error)

@@ -1,15 +1,8 @@
-use Rattle.std.proofs.Common.{ℕ, ◌<◌, List, length, set, refl, sym, ap, ◌∙◌, subst, arith}
+use Rattle.std.proofs.{Common.{ℕ, ◌<◌, List, length, set, refl, sym, ap, ◌∙◌, subst, arith}, lemmas.List.{length-map}}
 use Rattle.std.specs.List.{insert}
-use Rattle.std.proofs.lemmas.List.{length-map}
-use Rattle.mm_text.specs.Language.Cut.{ended}
-use Rattle.mm_text.specs.declared.edit.Edit.{Edit}
-use Rattle.mm_store.specs.Language.FilesView.{plain, plain_file, bytes_of}
-use Rattle.mm_text.specs.Language.Asked.{asked, edited_text}
-use Rattle.mm_store.specs.Language.Edits.{IsEditOf}
-use Rattle.mm_store.specs.Language.Answers.{IsEditError}
-use Rattle.mm_store.specs.Code.Edited.{pieces_in, with_pieces, NamesPlace}
-use Rattle.mm_store.proofs.lemmas.files.ListLemmas.{bytes_more, bytes_other, count_members}
-use Rattle.mm_store.proofs.lemmas.edits.EditLemmas.{if_err, is_edit, no_memory, not_new}
+use Rattle.mm_text.specs.{Language.{Cut.{ended}, Asked.{asked, edited_text}}, declared.edit.Edit.{Edit}}
+use Rattle.mm_store.specs.{Language.{FilesView.{plain, plain_file, bytes_of}, Edits.{IsEditOf}, Answers.{IsEditError}}, Code.Edited.{pieces_in, with_pieces, NamesPlace}}
+use Rattle.mm_store.proofs.lemmas.{files.ListLemmas.{bytes_more, bytes_other, count_members}, edits.EditLemmas.{if_err, is_edit, no_memory, not_new}}
 use Rattle.mm_store.proofs.files.Files.apply.Goals as goal
 
 pub returns-in_err-kept-in-Insert-clause-err : goal.returns-in_err-kept-in-Insert-clause-err

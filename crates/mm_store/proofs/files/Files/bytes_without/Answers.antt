@@ -1,15 +1,8 @@
-use Rattle.std.proofs.Common.{◌≡◌, [], is_some, length, map, get_or, ap, ◌∙◌, arith}
+use Rattle.std.proofs.{Common.{◌≡◌, [], is_some, length, map, get_or, ap, ◌∙◌, arith}, lemmas.List.{get_or_read}}
+use Rattle.mm_store.specs.{Code.{Edited.{pieces_in}, Kept.{keyed_file}}, Language.{FilesView.{FilesView, plain, bytes_of}, Pieces.{text_under}, Undoing.{keys_in}}}
+use Rattle.mm_store.proofs.lemmas.{files.{FileLemmas.{shown, piece_is, in_keys, old_key}, ListLemmas.{read_member}}, edits.StepLemmas.{here_is_some}}
 use Rattle.std.specs.FinMap as finite
-use Rattle.std.proofs.lemmas.List.{get_or_read}
-use Rattle.mm_store.proofs.lemmas.files.FileLemmas.{shown, piece_is, in_keys, old_key}
-use Rattle.mm_store.proofs.lemmas.files.ListLemmas.{read_member}
-use Rattle.mm_store.proofs.lemmas.edits.StepLemmas.{here_is_some}
 use Rattle.mm_store.proofs.files.Files.bytes_without.Goals as goal
-use Rattle.mm_store.specs.Code.Edited.{pieces_in}
-use Rattle.mm_store.specs.Code.Kept.{keyed_file}
-use Rattle.mm_store.specs.Language.FilesView.{FilesView, plain, bytes_of}
-use Rattle.mm_store.specs.Language.Pieces.{text_under}
-use Rattle.mm_store.specs.Language.Undoing.{keys_in}
 
 pub unwrap-requires : goal.unwrap-requires
 unwrap-requires c = c.get_index.ensures.found.1 (omega (arith, (piece_is c.self.inside c.args.number c.args.at c.self.invariant c.self.view_is c.requires).entry, ap length c.as_slice.ensures.entries))

@@ -1,8 +1,7 @@
 use Rattle.std.proofs.Common.{length, ap, arith}
+use Rattle.mm_store.specs.Language.{FilesView.{FilesView}, Undoing.{keys_in}}
 use Rattle.mm_store.proofs.lemmas.files.FileLemmas.{shown}
 use Rattle.mm_store.proofs.files.Files.count_in.Goals as goal
-use Rattle.mm_store.specs.Language.FilesView.{FilesView}
-use Rattle.mm_store.specs.Language.Undoing.{keys_in}
 
 pub returns : goal.returns
 returns c =

@@ -1,19 +1,13 @@
 use Rattle.std.proofs.Common.{◌≡◌, ◌-◌, List, is_some, length, map, get_or, sym, ap, ◌∙◌, subst, arith}
 use Rattle.std.specs.List.{remove}
+use Rattle.mm_store.specs.Language.{EditedKeys.{deleted}, FilesView.{KeyedFile, plain_file}, Pieces.{Parked, Deleted, with_state, text_under}, Undoing.{keys_in, key_at}}
+use Rattle.mm_store.specs.Code.{Edited.{pieces_in, IsDeleted}, Kept.{keyed_file}}
+use Rattle.mm_store.proofs.lemmas.files.{FileLemmas.{lent, piece_is, in_keys, old_key, once_in, small_in}, KeptLemmas.{view_after, kept_edited}, PieceLemmas.{text_state}}
+use Rattle.mm_store.proofs.lemmas.edits.UndoLemmas.{is_deleted}
 use Rattle.std.specs.FinMap as finite
 use Rattle.mm_store.specs.Language.Undoing as action
-use Rattle.mm_store.proofs.lemmas.files.FileLemmas.{lent, piece_is, in_keys, old_key, once_in, small_in}
-use Rattle.mm_store.proofs.lemmas.files.KeptLemmas.{view_after, kept_edited}
-use Rattle.mm_store.proofs.lemmas.files.PieceLemmas.{text_state}
-use Rattle.mm_store.proofs.lemmas.edits.UndoLemmas.{is_deleted}
 use Rattle.mm_store.proofs.lemmas.edits.StepLemmas as lemmas
 use Rattle.mm_store.proofs.files.Files.delete_piece.Goals as goal
-use Rattle.mm_store.specs.Language.EditedKeys.{deleted}
-use Rattle.mm_store.specs.Code.Edited.{pieces_in, IsDeleted}
-use Rattle.mm_store.specs.Code.Kept.{keyed_file}
-use Rattle.mm_store.specs.Language.FilesView.{KeyedFile, plain_file}
-use Rattle.mm_store.specs.Language.Pieces.{Parked, Deleted, with_state, text_under}
-use Rattle.mm_store.specs.Language.Undoing.{keys_in, key_at}
 
 pub unwrap-file-requires : goal.unwrap-file-requires
 unwrap-file-requires c = c.get_index_mut.ensures.found.1 (piece_is c.self.inside c.args.number c.args.at c.self.invariant c.self.view_is c.requires.there).entry

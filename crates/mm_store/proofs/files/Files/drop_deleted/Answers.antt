@@ -1,21 +1,13 @@
 use Rattle.std.proofs.Common.{◌≡◌, List, length, map, sym, ap, ◌∙◌, subst, arith, Vec, Global}
 use Rattle.std.specs.VecDeque.{deque_len, deque_capacity}
+use Rattle.mm_store.specs.{Code.{Kept.{keyed_file, places}, Edited.{pieces_in}}, Language.{FilesView.{FilesView, KeyedFile, plain_file, bytes_of}, Pieces.{Deleted, IsParked}, Undoing.{keys_in}}}
+use Rattle.mm_store.specs.declared.start.Start.{Start}
+use Rattle.mm_store.proofs.lemmas.files.{FileLemmas.{lent}, ListLemmas.{plain_same, with_same, with_pieces_same}, KeptLemmas.{view_after, kept_after, deleted_from, deleted_file}}
+use Rattle.mm_store.proofs.lemmas.files.{PieceLemmas.{stands_settled, text_drop_other}, EntryLemmas.{starts_at}}
+use Rattle.mm_store.proofs.lemmas.places.StartLemmas.{starts_alike}
 use Rattle.std.specs.FinMap as finite
-use Rattle.mm_store.proofs.lemmas.files.FileLemmas.{lent}
-use Rattle.mm_store.proofs.lemmas.files.ListLemmas.{plain_same, with_same}
-use Rattle.mm_store.proofs.lemmas.files.KeptLemmas.{view_after, kept_after, deleted_from, deleted_file}
-use Rattle.mm_store.proofs.lemmas.files.PieceLemmas.{stands_settled, text_drop_other}
 use Rattle.mm_store.proofs.lemmas.edits.StepLemmas as lemmas
 use Rattle.mm_store.proofs.files.Files.drop_deleted.Goals as goal
-use Rattle.mm_store.specs.Code.Kept.{keyed_file, places}
-use Rattle.mm_store.specs.Language.FilesView.{FilesView, KeyedFile, plain_file, bytes_of}
-use Rattle.mm_store.specs.Language.Pieces.{Deleted, IsParked}
-use Rattle.mm_store.specs.declared.start.Start.{Start}
-use Rattle.mm_store.specs.Code.Edited.{pieces_in}
-use Rattle.mm_store.proofs.lemmas.places.StartLemmas.{starts_alike}
-use Rattle.mm_store.proofs.lemmas.files.ListLemmas.{with_pieces_same}
-use Rattle.mm_store.proofs.lemmas.files.EntryLemmas.{starts_at}
-use Rattle.mm_store.specs.Language.Undoing.{keys_in}
 
 pub unwrap-file-requires : goal.unwrap-file-requires
 unwrap-file-requires c = c.get_index_mut.ensures.found.1 (deleted_file c.self.inside c.args.number c.args.old c.self.invariant c.self.view_is c.requires)

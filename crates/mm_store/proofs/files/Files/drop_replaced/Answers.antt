@@ -1,11 +1,8 @@
 use Rattle.std.proofs.Common.{◌≡◌, refl, sym, ap, ◌∙◌, subst}
+use Rattle.mm_store.specs.Language.{FilesView.{FilesView}, Pieces.{Replaced, IsParked}}
+use Rattle.mm_store.proofs.lemmas.files.{EntryLemmas.{same_view}, KeptLemmas.{settled_kept}}
 use Rattle.std.specs.FinMap as finite
-use Rattle.mm_store.proofs.lemmas.files.EntryLemmas.{same_view}
-use Rattle.mm_store.proofs.lemmas.files.KeptLemmas.{settled_kept}
 use Rattle.mm_store.proofs.files.Files.drop_replaced.Goals as goal
-use Rattle.mm_store.specs.Language.FilesView.{FilesView}
-use Rattle.std.proofs.Common.{refl}
-use Rattle.mm_store.specs.Language.Pieces.{Replaced, IsParked}
 
 pub invariant_of-self : goal.invariant_of-self
 invariant_of-self c =

@@ -1,14 +1,9 @@
 use Rattle.std.proofs.Common.{◌≡◌, ◌+◌, sym, ◌∙◌, subst}
 use Rattle.std.specs.Result.{OnOk}
-use Rattle.mm_store.specs.Language.EditedKeys.{parks}
-use Rattle.mm_store.specs.Language.FileFacts.{parked_in}
-use Rattle.mm_store.specs.Code.Batched.{StandOnce}
+use Rattle.mm_store.specs.{Language.{EditedKeys.{parks}, FileFacts.{parked_in}, FilesView.{plain}}, Code.Batched.{StandOnce}}
 use Rattle.mm_text.specs.Language.Asked.{asked}
-use Rattle.mm_store.specs.Language.FilesView.{plain}
-use Rattle.mm_store.proofs.lemmas.edits.BatchLemmas.{parks_more}
-use Rattle.mm_store.proofs.lemmas.edits.EditLemmas.{no_file_told, no_piece_told}
+use Rattle.mm_store.proofs.{lemmas.edits.{BatchLemmas.{parks_more}, EditLemmas.{no_file_told, no_piece_told}}, files.Files.edit.Goals.{in-Ok, in_default}}
 use Rattle.mm_store.proofs.files.Files.edit.Goals as goal
-use Rattle.mm_store.proofs.files.Files.edit.Goals.{in-Ok, in_default}
 
 pub returns-clause-parked : goal.returns-clause-parked
 returns-clause-parked c =

@@ -1,8 +1,6 @@
 use Rattle.std.proofs.Common.{◌+◌, map, sym, subst, arith, take}
-use Rattle.mm_store.specs.Language.Batches.{IsBatchOf, IsSpendable, KeepsReading}
-use Rattle.mm_store.specs.Language.EditedKeys.{IsBatchByKeys}
+use Rattle.mm_store.specs.Language.{Batches.{IsBatchOf, IsSpendable, KeepsReading}, EditedKeys.{IsBatchByKeys}, FilesView.{plain}}
 use Rattle.mm_text.specs.Language.Asked.{asked}
-use Rattle.mm_store.specs.Language.FilesView.{plain}
 use Rattle.mm_store.proofs.lemmas.edits.RefusedLemmas.{batch_error, batch_next, by_keys_next, mapped_there, keys_then, reads_alike, take_whole}
 use Rattle.mm_store.proofs.files.Files.edit_all.Goals as goal
 

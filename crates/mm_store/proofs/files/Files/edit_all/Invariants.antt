@@ -1,9 +1,6 @@
 use Rattle.std.proofs.Common.{map, take}
-use Rattle.mm_store.specs.Language.Batches.{IsBatchOf, IsSpendable}
-use Rattle.mm_store.specs.Language.EditedKeys.{IsBatchByKeys}
+use Rattle.mm_store.specs.Language.{Batches.{IsBatchOf, IsSpendable}, EditedKeys.{IsBatchByKeys}, FilesView.{plain}, Undoing.{KeepsKeys}}
 use Rattle.mm_text.specs.Language.Asked.{asked}
-use Rattle.mm_store.specs.Language.FilesView.{plain}
-use Rattle.mm_store.specs.Language.Undoing.{KeepsKeys}
 use Rattle.mm_store.proofs.files.Files.edit_all.Given as goal
 
 abbrev pub invariant-loop-number : goal.invariant-loop-number

@@ -1,26 +1,15 @@
-use Rattle.std.proofs.Common.{◌+◌, ◌<◌, ◌≤◌, List, Result, Ok, Err, length, map, refl, sym, ap, ◌∙◌, subst, arith, Global}
-use Rattle.std.specs.List.{insert}
-use Rattle.std.specs.FinMap as finite
-use Rattle.std.specs.Result.{OnErr}
-use Rattle.std.proofs.lemmas.List.{length-map}
-use Rattle.std.proofs.lemmas.Option.{same_Some}
+use Rattle.std.proofs.{Common.{◌+◌, ◌<◌, ◌≤◌, List, Result, Ok, Err, length, map, refl, sym, ap, ◌∙◌, subst, arith, Global}, lemmas.{List.{length-map}, Option.{same_Some}}}
+use Rattle.std.specs.{List.{insert}, Result.{OnErr}}
 use Rattle.indexmap.specs.IndexMap.{with_value_at}
 use Rattle.mm_store.specs.declared.files.Files.TheInside.{Inside}
-use Rattle.mm_store.specs.Language.Undoing as action
-use Rattle.mm_store.proofs.lemmas.files.FileLemmas.{lent, once_in, small_in}
-use Rattle.mm_store.proofs.lemmas.files.KeptLemmas.{file_in, length_set, reserved, texts_set, view_after, kept_edited}
-use Rattle.mm_store.proofs.lemmas.places.ChangeLemmas.{starts_here}
+use Rattle.mm_store.specs.Language.{EditedKeys.{inserted}, FilesView.{FilesView, KeyedFile, plain, plain_file, bytes_of}, Pieces.{standing_piece, text_under}, Undoing.{keys_in}}
+use Rattle.mm_store.specs.Code.{Edited.{pieces_in, with_pieces, IsInserted}, Kept.{keyed_file}, Room.{HasRoomForOne}, Starts.{KnowsStarts}}
+use Rattle.mm_store.proofs.lemmas.{files.{FileLemmas.{lent, once_in, small_in}, KeptLemmas.{file_in, length_set, reserved, texts_set, view_after, kept_edited}}, places.ChangeLemmas.{starts_here}}
 use Rattle.mm_store.proofs.lemmas.edits.UndoLemmas.{is_inserted}
+use Rattle.std.specs.FinMap as finite
+use Rattle.mm_store.specs.Language.Undoing as action
 use Rattle.mm_store.proofs.lemmas.edits.StepLemmas as lemmas
 use Rattle.mm_store.proofs.files.Files.insert_piece.Goals as goal
-use Rattle.mm_store.specs.Language.EditedKeys.{inserted}
-use Rattle.mm_store.specs.Code.Edited.{pieces_in, with_pieces, IsInserted}
-use Rattle.mm_store.specs.Code.Kept.{keyed_file}
-use Rattle.mm_store.specs.Code.Room.{HasRoomForOne}
-use Rattle.mm_store.specs.Code.Starts.{KnowsStarts}
-use Rattle.mm_store.specs.Language.FilesView.{FilesView, KeyedFile, plain, plain_file, bytes_of}
-use Rattle.mm_store.specs.Language.Pieces.{standing_piece, text_under}
-use Rattle.mm_store.specs.Language.Undoing.{keys_in}
 
 on_err : {T E : Type 0} (r : Result T E) (P : Type 0) → P → OnErr r P
 on_err (Ok x) P p = tt

@@ -1,10 +1,6 @@
-use Rattle.std.proofs.Common.{◌≡◌, List, Some, refl, sym, ap, ◌∙◌, length, Global, Vec, ℕ, slice_get}
+use Rattle.std.proofs.{Common.{◌≡◌, List, Some, refl, sym, ap, ◌∙◌, length, Global, Vec, ℕ, slice_get}, lemmas.Option.{slice_get-map, slice_get_past, slice_get_read}}
 use Rattle.std.specs.Option.{option_map}
-use Rattle.std.proofs.lemmas.Option.{slice_get-map, slice_get_past, slice_get_read}
-use Rattle.mm_store.specs.declared.file_text.FileText.{FileText}
-use Rattle.mm_store.specs.declared.files.Files.TheInside.{Inside}
-use Rattle.mm_store.specs.declared.files.PieceKey.{PieceKey}
-use Rattle.mm_store.specs.Language.FilesView.{FilesView, piece_view}
+use Rattle.mm_store.specs.{declared.{file_text.FileText.{FileText}, files.{Files.TheInside.{Inside}, PieceKey.{PieceKey}}}, Language.FilesView.{FilesView, piece_view}}
 use Rattle.mm_store.specs.Code.Kept.{files_view, keyed_file}
 use Rattle.mm_store.proofs.lemmas.files.ViewLemmas.{piece_at_key, held_there}
 use Rattle.mm_store.proofs.files.Files.key_at.Goals as goal

@@ -1,15 +1,10 @@
 use Rattle.std.proofs.Common.{[], List, map, get_or, refl, sym, ap, ◌∙◌, subst, arith}
 use Rattle.std.specs.List.{insert, remove}
+use Rattle.mm_store.specs.{Code.{Edited.{pieces_in, IsMoved}, Kept.{keyed_file}}, Language.{FilesView.{KeyedFile, plain_file}, Undoing.{keys_in, moved_list, moved}}}
+use Rattle.mm_store.proofs.lemmas.{files.{FileLemmas.{lent, piece_is, in_keys, once_in, small_in}, KeptLemmas.{view_after, kept_edited}}, edits.UndoLemmas.{is_moved}}
 use Rattle.mm_store.specs.Language.Undoing as action
-use Rattle.mm_store.proofs.lemmas.files.FileLemmas.{lent, piece_is, in_keys, once_in, small_in}
-use Rattle.mm_store.proofs.lemmas.files.KeptLemmas.{view_after, kept_edited}
-use Rattle.mm_store.proofs.lemmas.edits.UndoLemmas.{is_moved}
 use Rattle.mm_store.proofs.lemmas.edits.StepLemmas as lemmas
 use Rattle.mm_store.proofs.files.Files.move_piece.Goals as goal
-use Rattle.mm_store.specs.Code.Edited.{pieces_in, IsMoved}
-use Rattle.mm_store.specs.Code.Kept.{keyed_file}
-use Rattle.mm_store.specs.Language.FilesView.{KeyedFile, plain_file}
-use Rattle.mm_store.specs.Language.Undoing.{keys_in, moved_list, moved}
 
 pub unwrap-file-requires : goal.unwrap-file-requires
 unwrap-file-requires c = c.get_index_mut.ensures.found.1 (piece_is c.self.inside c.args.number c.args.at c.self.invariant c.self.view_is c.requires.there).entry

@@ -1,12 +1,9 @@
-use Rattle.std.proofs.Common.{◌≡◌, map, refl, sym, ap, ◌∙◌, subst, arith}
-use Rattle.std.proofs.lemmas.List.{nil_from_length}
+use Rattle.std.proofs.{Common.{◌≡◌, map, refl, sym, ap, ◌∙◌, subst, arith}, lemmas.List.{nil_from_length}}
 use Rattle.std.specs.Ordering.{nat_cmp}
-use Rattle.std.specs.FinMap as finite
+use Rattle.mm_store.specs.{Code.Kept.{keyed_file, places, standing_count, deletions, deleted_state, weigh, HaveRoom, HaveStarts}, Language.{FilesView.{plain_file, bytes_of}, Pieces.{HeldPiece}}}
 use Rattle.mm_store.proofs.lemmas.files.EntryLemmas.{same_view}
+use Rattle.std.specs.FinMap as finite
 use Rattle.mm_store.proofs.files.Files.new.Goals as goal
-use Rattle.mm_store.specs.Code.Kept.{keyed_file, places, standing_count, deletions, deleted_state, weigh, HaveRoom, HaveStarts}
-use Rattle.mm_store.specs.Language.FilesView.{plain_file, bytes_of}
-use Rattle.mm_store.specs.Language.Pieces.{HeldPiece}
 
 pub invariant_of-result : goal.invariant_of-result
 invariant_of-result c =

@@ -1,10 +1,7 @@
-use Rattle.std.proofs.Common.{length, sym, ap, ◌∙◌, arith, Global}
-use Rattle.std.proofs.lemmas.Option.{IfSome_then}
-use Rattle.std.proofs.lemmas.List.{length-map}
+use Rattle.std.proofs.{Common.{length, sym, ap, ◌∙◌, arith, Global}, lemmas.{Option.{IfSome_then}, List.{length-map}}}
+use Rattle.mm_store.specs.{Code.Kept.{keyed_file}, Language.FilesView.{plain, FilesView, file_number}}
 use Rattle.mm_store.proofs.lemmas.files.NumberLemmas.{number_is}
 use Rattle.mm_store.proofs.files.Files.number_of.Goals as goal
-use Rattle.mm_store.specs.Code.Kept.{keyed_file}
-use Rattle.mm_store.specs.Language.FilesView.{plain, FilesView, file_number}
 
 pub returns-clause-number : goal.returns-clause-number
 returns-clause-number c = c.get_index_of.ensures.index ∙ sym (number_is c.self.inside.pieces c.args.name.now c.self.inside.files.entries) ∙ ap (λ (view : FilesView). file_number (plain view) c.args.name.now) c.self.view_is

@@ -1,8 +1,6 @@
-use Rattle.std.proofs.Common.{ℕ, Some, length, sym, ap, ◌∙◌}
+use Rattle.std.proofs.{Common.{ℕ, Some, length, sym, ap, ◌∙◌}, lemmas.List.{length-map}}
 use Rattle.std.specs.Option.{option_map}
-use Rattle.std.proofs.lemmas.List.{length-map}
-use Rattle.mm_store.specs.Language.Pieces.{text_under}
-use Rattle.mm_store.specs.Language.FilesView.{File, FilesView, plain, find_file}
+use Rattle.mm_store.specs.Language.{Pieces.{text_under}, FilesView.{File, FilesView, plain, find_file}}
 use Rattle.mm_store.proofs.lemmas.files.FilesLemmas.{found_is, none_is}
 use Rattle.mm_store.proofs.files.Files.piece_count.Goals as goal
 

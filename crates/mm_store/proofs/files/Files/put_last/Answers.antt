@@ -1,23 +1,11 @@
-use Rattle.std.proofs.Common.{◌≡◌, ℕ, ◌+◌, ◌≤◌, List, [], ◌∷◌, ◌++◌, None, length, map, refl, sym, ap, ◌∙◌, subst, arith, length-append, Global, Vec, position}
-use Rattle.std.specs.List.{concat}
-use Rattle.std.specs.Str.{bytes_eq}
-use Rattle.std.specs.Map.{keys_of, lookup}
-use Rattle.std.proofs.lemmas.List.{length-map}
-use Rattle.indexmap.proofs.CallerLemmas.{insert_entry-new}
+use Rattle.std.proofs.{Common.{◌≡◌, ℕ, ◌+◌, ◌≤◌, List, [], ◌∷◌, ◌++◌, None, length, map, refl, sym, ap, ◌∙◌, subst, arith, length-append, Global, Vec, position}, lemmas.List.{length-map}}
+use Rattle.std.specs.{List.{concat}, Str.{bytes_eq}, Map.{keys_of, lookup}}
 use Rattle.mm_text.specs.declared.pieces.DividedPiece.{DividedPiece}
-use Rattle.mm_store.specs.declared.file_text.FileText.{FileText}
-use Rattle.mm_store.specs.declared.piece_text.PieceText.{PieceText}
-use Rattle.mm_store.specs.declared.files.Files.TheInside.{Inside}
-use Rattle.mm_store.specs.Language.Pieces.{parked_pieces}
-use Rattle.mm_store.specs.Language.FilesView.{File, FilesView, plain, plain_file, file_number, bytes_of}
-use Rattle.mm_store.specs.Code.Inside.{ArePut}
-use Rattle.mm_store.specs.Code.Lines.{AreStarts}
-use Rattle.mm_store.specs.Code.Starts.{HasStarts}
-use Rattle.mm_store.specs.Code.Edited.{with_file}
-use Rattle.mm_store.specs.Code.Kept.{keyed_file}
-use Rattle.mm_store.proofs.lemmas.files.NumberLemmas.{number_is}
-use Rattle.mm_store.proofs.lemmas.files.StoreLemmas.{parked_all}
-use Rattle.mm_store.proofs.lemmas.files.AddLemmas.{can_be_kept, tail_of, done_ok, no_file, kept_added, plain_added, put_keeps, put_many}
+use Rattle.mm_store.specs.declared.{file_text.FileText.{FileText}, piece_text.PieceText.{PieceText}, files.Files.TheInside.{Inside}}
+use Rattle.mm_store.specs.Language.{Pieces.{parked_pieces}, FilesView.{File, FilesView, plain, plain_file, file_number, bytes_of}}
+use Rattle.mm_store.specs.Code.{Inside.{ArePut}, Lines.{AreStarts}, Starts.{HasStarts}, Edited.{with_file}, Kept.{keyed_file}}
+use Rattle.indexmap.proofs.CallerLemmas.{insert_entry-new}
+use Rattle.mm_store.proofs.lemmas.files.{NumberLemmas.{number_is}, StoreLemmas.{parked_all}, AddLemmas.{can_be_kept, tail_of, done_ok, no_file, kept_added, plain_added, put_keeps, put_many}}
 use Rattle.mm_store.proofs.files.Files.put_last.Goals as goal
 
 -- the bytes of a piece

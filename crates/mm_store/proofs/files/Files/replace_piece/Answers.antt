@@ -1,19 +1,13 @@
 use Rattle.std.proofs.Common.{◌≡◌, ◌+◌, ◌-◌, ◌≤◌, List, is_some, length, map, set, get_or, sym, ap, ◌∙◌, subst, arith}
+use Rattle.mm_store.specs.Language.{EditedKeys.{replaced}, FilesView.{FilesView, KeyedFile, plain, plain_file, bytes_of}, Pieces.{Parked, Replaced, standing_piece, with_state, text_under}}
+use Rattle.mm_store.specs.Language.Undoing.{keys_in, with_keys, key_at}
+use Rattle.mm_store.specs.Code.{Edited.{pieces_in, with_pieces, IsReplaced}, Kept.{keyed_file}, Starts.{KnowsStarts}}
+use Rattle.mm_store.proofs.lemmas.{files.{FileLemmas.{lent, piece_is, in_keys, old_key, once_in, small_in}, KeptLemmas.{view_after, kept_edited}}, places.ChangeLemmas.{starts_here}}
+use Rattle.mm_store.proofs.lemmas.edits.UndoLemmas.{is_replaced}
 use Rattle.std.specs.FinMap as finite
 use Rattle.mm_store.specs.Language.Undoing as action
-use Rattle.mm_store.proofs.lemmas.files.FileLemmas.{lent, piece_is, in_keys, old_key, once_in, small_in}
-use Rattle.mm_store.proofs.lemmas.files.KeptLemmas.{view_after, kept_edited}
-use Rattle.mm_store.proofs.lemmas.places.ChangeLemmas.{starts_here}
-use Rattle.mm_store.proofs.lemmas.edits.UndoLemmas.{is_replaced}
 use Rattle.mm_store.proofs.lemmas.edits.ReplaceLemmas as lemmas
 use Rattle.mm_store.proofs.files.Files.replace_piece.Goals as goal
-use Rattle.mm_store.specs.Language.EditedKeys.{replaced}
-use Rattle.mm_store.specs.Code.Edited.{pieces_in, with_pieces, IsReplaced}
-use Rattle.mm_store.specs.Code.Kept.{keyed_file}
-use Rattle.mm_store.specs.Code.Starts.{KnowsStarts}
-use Rattle.mm_store.specs.Language.FilesView.{FilesView, KeyedFile, plain, plain_file, bytes_of}
-use Rattle.mm_store.specs.Language.Pieces.{Parked, Replaced, standing_piece, with_state, text_under}
-use Rattle.mm_store.specs.Language.Undoing.{keys_in, with_keys, key_at}
 
 pub unwrap-file-requires : goal.unwrap-file-requires
 unwrap-file-requires c = c.get_index_mut.ensures.found.1 (piece_is c.self.inside c.args.number c.args.at c.self.invariant c.self.view_is c.requires.there).entry

@@ -1,11 +1,8 @@
 use Rattle.std.proofs.Common.{refl, sym, ap, ◌∙◌, subst, arith}
 use Rattle.std.specs.VecDeque.{deque_len, deque_capacity}
-use Rattle.mm_store.specs.Code.Kept.{files_view, AreFilesKept}
-use Rattle.mm_store.specs.Code.Room.{HasRoom}
-use Rattle.mm_store.proofs.lemmas.files.FileLemmas.{lent}
-use Rattle.mm_store.proofs.lemmas.files.KeptLemmas.{reserved_view, reserved_kept}
+use Rattle.mm_store.specs.Code.{Kept.{files_view, AreFilesKept}, Room.{HasRoom}}
+use Rattle.mm_store.proofs.{lemmas.files.{FileLemmas.{lent}, KeptLemmas.{reserved_view, reserved_kept}}, files.Files.restart_file.Goals.{in-None, in-Some}}
 use Rattle.mm_store.proofs.files.Files.restart_file.Goals as goal
-use Rattle.mm_store.proofs.files.Files.restart_file.Goals.{in-None, in-Some}
 
 pub restart-requires : goal.restart-requires
 restart-requires c = record {

@@ -1,7 +1,6 @@
 use Rattle.std.proofs.Common.{sym, ap, ◌∙◌, subst}
 use Rattle.mm_store.specs.Language.Batches.{CanSettleAll, settled_all}
-use Rattle.mm_store.proofs.lemmas.edits.BatchLemmas.{settle_last, settle_others, settled_last}
-use Rattle.mm_store.proofs.lemmas.edits.SettleLemmas.{Stays, spent_stays, stays_same, stays_then}
+use Rattle.mm_store.proofs.lemmas.edits.{BatchLemmas.{settle_last, settle_others, settled_last}, SettleLemmas.{Stays, spent_stays, stays_same, stays_then}}
 use Rattle.mm_store.proofs.files.Files.settle_all.Goals as goal
 
 pub loop-spent-init : goal.loop-spent-init

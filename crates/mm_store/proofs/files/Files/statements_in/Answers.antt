@@ -1,12 +1,7 @@
 use Rattle.std.proofs.Common.{◌∙◌, sym, ap, subst, List, [], arith}
-use Rattle.mm_store.specs.declared.item.Item.{Item}
-use Rattle.mm_store.specs.Language.FilesView.{FilesView, files_in, plain, bytes_of}
-use Rattle.mm_store.specs.Language.Walking.{IsWalk}
+use Rattle.mm_store.specs.{declared.item.Item.{Item}, Language.{FilesView.{FilesView, files_in, plain, bytes_of}, Walking.{IsWalk}}}
 use Rattle.mm_store.proofs.lemmas.files.ViewLemmas.{number_plain}
-use Rattle.mm_store.proofs.lemmas.expansion.WalkStepLemmas.{walk_begins}
-use Rattle.mm_store.proofs.lemmas.expansion.BudgetLemmas.{expansion_few, bytes_few}
-use Rattle.mm_store.proofs.lemmas.expansion.NameLemmas.{expansion_names}
-use Rattle.mm_store.proofs.lemmas.expansion.StandLemmas.{expansion_read, expansion_stands}
+use Rattle.mm_store.proofs.lemmas.expansion.{WalkStepLemmas.{walk_begins}, BudgetLemmas.{expansion_few, bytes_few}, NameLemmas.{expansion_names}, StandLemmas.{expansion_read, expansion_stands}}
 use Rattle.mm_store.proofs.files.Files.statements_in.Goals as goal
 
 pub returns-clause-items : goal.returns-clause-items

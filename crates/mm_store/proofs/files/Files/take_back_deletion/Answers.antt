@@ -1,17 +1,11 @@
-use Rattle.std.proofs.Common.{◌+◌, ◌<◌, ◌≤◌, List, length, map, sym, ap, ◌∙◌, subst, arith, Global}
+use Rattle.std.proofs.{Common.{◌+◌, ◌<◌, ◌≤◌, List, length, map, sym, ap, ◌∙◌, subst, arith, Global}, lemmas.List.{length-map}}
 use Rattle.std.specs.List.{insert}
-use Rattle.std.proofs.lemmas.List.{length-map}
+use Rattle.mm_store.specs.Code.{Edited.{pieces_in}, Kept.{keyed_file}}
+use Rattle.mm_store.specs.Language.{FilesView.{FilesView, KeyedFile, plain, plain_file, bytes_of}, Pieces.{Standing, Deleted, with_state, text_under, IsParked}, Undoing.{keys_in, reversed}}
+use Rattle.mm_store.proofs.lemmas.files.{FileLemmas.{lent}, KeptLemmas.{view_after, kept_edited, deleted_from, deleted_file}, PieceLemmas.{text_state}}
 use Rattle.mm_store.specs.Language.Undoing as action
-use Rattle.mm_store.proofs.lemmas.files.FileLemmas.{lent}
-use Rattle.mm_store.proofs.lemmas.files.KeptLemmas.{view_after, kept_edited, deleted_from, deleted_file}
-use Rattle.mm_store.proofs.lemmas.files.PieceLemmas.{text_state}
 use Rattle.mm_store.proofs.lemmas.edits.StepLemmas as lemmas
 use Rattle.mm_store.proofs.files.Files.take_back_deletion.Goals as goal
-use Rattle.mm_store.specs.Code.Edited.{pieces_in}
-use Rattle.mm_store.specs.Code.Kept.{keyed_file}
-use Rattle.mm_store.specs.Language.FilesView.{FilesView, KeyedFile, plain, plain_file, bytes_of}
-use Rattle.mm_store.specs.Language.Pieces.{Standing, Deleted, with_state, text_under, IsParked}
-use Rattle.mm_store.specs.Language.Undoing.{keys_in, reversed}
 
 pub unwrap-file-requires : goal.unwrap-file-requires
 unwrap-file-requires c = c.get_index_mut.ensures.found.1 (deleted_file c.self.inside c.args.number c.args.old c.self.invariant c.self.view_is c.requires.fits.1)

@@ -1,16 +1,11 @@
 use Rattle.std.proofs.Common.{◌≡◌, ◌-◌, List, length, map, get_or, sym, ap, ◌∙◌, arith}
 use Rattle.std.specs.List.{remove}
+use Rattle.mm_store.specs.{Code.{Edited.{pieces_in}, Kept.{keyed_file}}, Language.{FilesView.{KeyedFile, plain_file}, Pieces.{text_under}, Undoing.{keys_in, reversed}}}
+use Rattle.mm_store.proofs.lemmas.files.{FileLemmas.{lent, piece_is, in_keys, old_key}, KeptLemmas.{view_after, kept_edited}}
 use Rattle.std.specs.FinMap as finite
 use Rattle.mm_store.specs.Language.Undoing as action
-use Rattle.mm_store.proofs.lemmas.files.FileLemmas.{lent, piece_is, in_keys, old_key}
-use Rattle.mm_store.proofs.lemmas.files.KeptLemmas.{view_after, kept_edited}
 use Rattle.mm_store.proofs.lemmas.edits.StepLemmas as lemmas
 use Rattle.mm_store.proofs.files.Files.take_back_insertion.Goals as goal
-use Rattle.mm_store.specs.Code.Edited.{pieces_in}
-use Rattle.mm_store.specs.Code.Kept.{keyed_file}
-use Rattle.mm_store.specs.Language.FilesView.{KeyedFile, plain_file}
-use Rattle.mm_store.specs.Language.Pieces.{text_under}
-use Rattle.mm_store.specs.Language.Undoing.{keys_in, reversed}
 
 pub unwrap-file-requires : goal.unwrap-file-requires
 unwrap-file-requires c = c.get_index_mut.ensures.found.1 (piece_is c.self.inside c.args.number c.args.at c.self.invariant c.self.view_is c.requires.fits).entry

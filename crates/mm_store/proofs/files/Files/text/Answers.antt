@@ -1,12 +1,8 @@
-use Rattle.std.proofs.Common.{◌≡◌, ℕ, Some, is_some, true, length, map, get_or, sym, ap, ◌∙◌, subst, arith, Vec, Global}
+use Rattle.std.proofs.{Common.{◌≡◌, ℕ, Some, is_some, true, length, map, get_or, sym, ap, ◌∙◌, subst, arith, Vec, Global}, lemmas.Option.{slice_get-map}}
 use Rattle.std.specs.Option.{option_map}
+use Rattle.mm_store.specs.{declared.file_text.FileText.{FileText}, Language.FilesView.{FilesView, plain, find_file, text_of}, Code.Kept.{keyed_file}}
+use Rattle.mm_store.proofs.lemmas.files.{EntryLemmas.{keys_at}, FilesLemmas.{found_is, none_is, key_some}}
 use Rattle.std.specs.FinMap as finite
-use Rattle.std.proofs.lemmas.Option.{slice_get-map}
-use Rattle.mm_store.specs.declared.file_text.FileText.{FileText}
-use Rattle.mm_store.specs.Language.FilesView.{FilesView, plain, find_file, text_of}
-use Rattle.mm_store.specs.Code.Kept.{keyed_file}
-use Rattle.mm_store.proofs.lemmas.files.EntryLemmas.{keys_at}
-use Rattle.mm_store.proofs.lemmas.files.FilesLemmas.{found_is, none_is, key_some}
 use Rattle.mm_store.proofs.files.Files.text.Goals as goal
 
 pub joined_text-requires : goal.joined_text-requires

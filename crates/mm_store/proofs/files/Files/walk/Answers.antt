@@ -1,11 +1,6 @@
-use Rattle.std.proofs.Common.{◌∙◌, sym, ap, subst, []}
-use Rattle.std.proofs.lemmas.Result.{IfOk-weaker}
-use Rattle.mm_store.specs.Language.FilesView.{plain}
-use Rattle.mm_store.specs.Language.Keyless.{bare}
-use Rattle.mm_store.specs.Language.Walking.{WalkView, IsWalk}
-use Rattle.mm_store.proofs.lemmas.expansion.BareLemmas.{hold_bare, number_bare}
-use Rattle.mm_store.proofs.lemmas.files.ViewLemmas.{number_plain}
-use Rattle.mm_store.proofs.lemmas.expansion.WalkStepLemmas.{walk_begins}
+use Rattle.std.proofs.{Common.{◌∙◌, sym, ap, subst, []}, lemmas.Result.{IfOk-weaker}}
+use Rattle.mm_store.specs.Language.{FilesView.{plain}, Keyless.{bare}, Walking.{WalkView, IsWalk}}
+use Rattle.mm_store.proofs.lemmas.{expansion.{BareLemmas.{hold_bare, number_bare}, WalkStepLemmas.{walk_begins}}, files.ViewLemmas.{number_plain}}
 use Rattle.mm_store.proofs.files.Files.walk.Goals as goal
 
 pub returns-clause-ok : goal.returns-clause-ok

@@ -1,7 +1,5 @@
-use Rattle.std.proofs.Common.{◌∙◌, sym, refl}
-use Rattle.std.proofs.lemmas.Option.{none-some}
-use Rattle.mm_store.proofs.lemmas.files.ViewLemmas.{number_plain}
-use Rattle.mm_store.proofs.lemmas.expansion.SetLemmas.{not_no_top}
+use Rattle.std.proofs.{Common.{◌∙◌, sym, refl}, lemmas.Option.{none-some}}
+use Rattle.mm_store.proofs.lemmas.{files.ViewLemmas.{number_plain}, expansion.SetLemmas.{not_no_top}}
 use Rattle.mm_store.proofs.files.Files.walk_from_top.Goals as goal
 
 pub returns-in_err-from_top-in-Some-clause-no_top : goal.returns-in_err-from_top-in-Some-clause-no_top

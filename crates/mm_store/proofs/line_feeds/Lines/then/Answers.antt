@@ -1,8 +1,7 @@
 use Rattle.std.proofs.Common.{◌≡◌, ◌<◌, [], count_by, arith}
 use Rattle.mm_text.specs.Language.Place.{is_line_feed}
-use Rattle.mm_store.proofs.lemmas.places.PlaceLemmas.{column_goes_on, column_begins, lines_joined}
+use Rattle.mm_store.proofs.{lemmas.places.PlaceLemmas.{column_goes_on, column_begins, lines_joined}, line_feeds.Lines.then.Goals.{then-later-eq0, else-later-eq0}}
 use Rattle.mm_store.proofs.line_feeds.Lines.then.Goals as goal
-use Rattle.mm_store.proofs.line_feeds.Lines.then.Goals.{then-later-eq0, else-later-eq0}
 
 pub returns : goal.returns
 returns c first second a b = record {

@@ -1,10 +1,8 @@
 use Rattle.std.proofs.Common.{length, sym, ap, ◌∙◌, arith}
 use Rattle.std.specs.Option.{option_map}
+use Rattle.mm_store.specs.{Language.Pieces.{parked_pieces}, Code.Slots.{pieces_of, held}}
+use Rattle.mm_store.proofs.lemmas.files.{SlabLemmas.{get_is, drop_is, text_is}, StoreLemmas.{kept_drop, parked_dropped, none_text}}
 use Rattle.std.specs.FinMap as finite
-use Rattle.mm_store.specs.Language.Pieces.{parked_pieces}
-use Rattle.mm_store.specs.Code.Slots.{pieces_of, held}
-use Rattle.mm_store.proofs.lemmas.files.SlabLemmas.{get_is, drop_is, text_is}
-use Rattle.mm_store.proofs.lemmas.files.StoreLemmas.{kept_drop, parked_dropped, none_text}
 use Rattle.mm_store.proofs.pieces.PieceStore.drop_piece.Goals as goal
 
 pub overflow_sub-self : goal.overflow_sub-self

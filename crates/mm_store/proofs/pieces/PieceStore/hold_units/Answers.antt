@@ -1,5 +1,4 @@
-use Rattle.std.proofs.Common.{◌≡◌, Option, Some, None, is_some, true, refl, sym, subst}
-use Rattle.std.proofs.lemmas.Bool.{false≢true}
+use Rattle.std.proofs.{Common.{◌≡◌, Option, Some, None, is_some, true, refl, sym, subst}, lemmas.Bool.{false≢true}}
 use Rattle.slab.specs.Slab.{get}
 use Rattle.mm_text.specs.Language.Cut.{HoldsOne}
 use Rattle.mm_store.specs.declared.pieces.Piece.{Piece}

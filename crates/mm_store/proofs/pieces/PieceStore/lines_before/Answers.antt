@@ -1,8 +1,6 @@
 use Rattle.std.proofs.Common.{◌≡◌, length, take, sym, ap, ◌∙◌, subst, arith}
-use Rattle.mm_store.specs.Language.Pieces.{text_under}
-use Rattle.mm_store.specs.Code.Lines.{AreLines}
-use Rattle.mm_store.proofs.lemmas.files.SlabLemmas.{text_is}
-use Rattle.mm_store.proofs.lemmas.files.StoreLemmas.{none_text}
+use Rattle.mm_store.specs.{Language.Pieces.{text_under}, Code.Lines.{AreLines}}
+use Rattle.mm_store.proofs.lemmas.files.{SlabLemmas.{text_is}, StoreLemmas.{none_text}}
 use Rattle.mm_store.proofs.pieces.PieceStore.lines_before.Goals as goal
 
 pub lines_before-requires : goal.lines_before-requires

@@ -1,10 +1,8 @@
-use Rattle.std.proofs.Common.{None, map, get_or, sym, ap, ◌∙◌}
-use Rattle.std.specs.FinMap as finite
-use Rattle.std.proofs.lemmas.Option.{none-some}
+use Rattle.std.proofs.{Common.{None, map, get_or, sym, ap, ◌∙◌}, lemmas.Option.{none-some}}
 use Rattle.slab.specs.Slab.{entries_from}
-use Rattle.mm_store.specs.Language.Pieces.{parked_pieces}
-use Rattle.mm_store.specs.Code.Slots.{entry_view}
+use Rattle.mm_store.specs.{Language.Pieces.{parked_pieces}, Code.Slots.{entry_view}}
 use Rattle.mm_store.proofs.lemmas.files.StoreLemmas.{nothing_parked}
+use Rattle.std.specs.FinMap as finite
 use Rattle.mm_store.proofs.pieces.PieceStore.new.Goals as goal
 
 pub invariant_of-result : goal.invariant_of-result

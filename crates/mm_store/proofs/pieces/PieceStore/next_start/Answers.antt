@@ -1,7 +1,6 @@
 use Rattle.std.proofs.Common.{◌++◌, sym, ap, ◌∙◌, subst, append-nil}
 use Rattle.mm_store.specs.Code.Lines.{IsStart, StaysSmall}
-use Rattle.mm_store.proofs.lemmas.files.SlabLemmas.{text_is}
-use Rattle.mm_store.proofs.lemmas.files.StoreLemmas.{none_text}
+use Rattle.mm_store.proofs.lemmas.files.{SlabLemmas.{text_is}, StoreLemmas.{none_text}}
 use Rattle.mm_store.proofs.pieces.PieceStore.next_start.Goals as goal
 
 pub behind-requires-clause-kept : goal.behind-requires-clause-kept

@@ -1,7 +1,6 @@
 use Rattle.std.proofs.Common.{sym, ap, ◌∙◌}
 use Rattle.std.specs.Option.{option_map}
-use Rattle.mm_store.specs.Language.Pieces.{parked_count}
-use Rattle.mm_store.specs.Code.Slots.{held}
+use Rattle.mm_store.specs.{Language.Pieces.{parked_count}, Code.Slots.{held}}
 use Rattle.mm_store.proofs.lemmas.files.StoreLemmas.{at_is, parked_there}
 use Rattle.mm_store.proofs.pieces.PieceStore.parked_under.Goals as goal
 

@@ -1,8 +1,7 @@
 use Rattle.std.proofs.Common.{◌≡◌, Option, Some, None, is_some, true, Bor, refl, sym, ap, ◌∙◌, subst}
 use Rattle.std.specs.Option.{option_copied}
 use Rattle.slab.specs.Slab.{get}
-use Rattle.mm_text.specs.Language.Part.{HasUnits}
-use Rattle.mm_text.specs.Language.Cut.{HoldsOne}
+use Rattle.mm_text.specs.Language.{Part.{HasUnits}, Cut.{HoldsOne}}
 use Rattle.mm_store.proofs.lemmas.files.SlabLemmas.{some_slot, text_is}
 use Rattle.mm_store.proofs.pieces.PieceStore.parts.Goals as goal
 

@@ -1,14 +1,9 @@
 use Rattle.std.proofs.Common.{◌≡◌, None, sym, ap, ◌∙◌, subst}
-use Rattle.mm_store.specs.declared.pieces.Piece.{Piece}
-use Rattle.mm_store.proofs.lemmas.files.StoreLemmas.{kept_put, parked_put}
-use Rattle.mm_store.specs.Code.Slots.{pieces_of, AreKeptIn}
 use Rattle.std.specs.Option.{option_map}
+use Rattle.mm_store.specs.{declared.{pieces.Piece.{Piece}, state.State.TheVariants.{Standing}}, Code.Slots.{pieces_of, AreKeptIn, held}, Language.Pieces.{standing_piece, parked_pieces}}
+use Rattle.mm_store.proofs.lemmas.files.{StoreLemmas.{kept_put, parked_put}, SlabLemmas.{get_is, put_is}}
 use Rattle.std.specs.FinMap as finite
-use Rattle.mm_store.specs.declared.state.State.TheVariants.{Standing}
-use Rattle.mm_store.proofs.lemmas.files.SlabLemmas.{get_is, put_is}
 use Rattle.mm_store.proofs.pieces.PieceStore.put.Goals as goal
-use Rattle.mm_store.specs.Code.Slots.{held}
-use Rattle.mm_store.specs.Language.Pieces.{standing_piece, parked_pieces}
 
 pub returns-clause-fresh : goal.returns-clause-fresh
 returns-clause-fresh c = ap (λ m. finite.get m c.in_ok-insert.field-0) (sym c.self.view_is) ∙ get_is c.self.inside.slab c.in_ok-insert.field-0 ∙ ap (option_map held) c.in_ok-insert.ensures.was_vacant

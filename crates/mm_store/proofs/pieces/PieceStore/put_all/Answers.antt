@@ -1,8 +1,5 @@
 use Rattle.std.proofs.Common.{◌≡◌, ◌++◌, map, sym, ap, ◌∙◌, subst}
-use Rattle.mm_store.specs.declared.piece_text.PieceText.{PieceText}
-use Rattle.mm_store.specs.Language.Pieces.{parked_pieces}
-use Rattle.mm_store.specs.Code.Inside.{ArePut}
-use Rattle.mm_store.specs.Code.Slots.{pieces_of, AreKeptIn}
+use Rattle.mm_store.specs.{declared.piece_text.PieceText.{PieceText}, Language.Pieces.{parked_pieces}, Code.{Inside.{ArePut}, Slots.{pieces_of, AreKeptIn}}}
 use Rattle.mm_store.proofs.lemmas.files.StoreLemmas.{are_put, kept_all, parked_all}
 use Rattle.mm_store.proofs.pieces.PieceStore.put_all.Goals as goal
 

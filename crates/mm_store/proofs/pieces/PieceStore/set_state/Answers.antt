@@ -1,14 +1,9 @@
-use Rattle.std.proofs.Common.{◌≡◌, Some, is_some, true, length, refl, sym, ap, ◌∙◌, arith}
+use Rattle.std.proofs.{Common.{◌≡◌, Some, is_some, true, length, refl, sym, ap, ◌∙◌, arith}, lemmas.Option.{none-some}}
 use Rattle.std.specs.Option.{option_map}
-use Rattle.std.proofs.lemmas.Option.{none-some}
 use Rattle.slab.specs.Slab.{get, with_value}
+use Rattle.mm_store.specs.{declared.pieces.Piece.{Piece}, Language.Pieces.{with_state, parked_pieces}, Code.{States.{piece_state}, Slots.{pieces_of, held}}}
 use Rattle.slab.proofs.SlabLemmas.{Updates-with_value}
-use Rattle.mm_store.specs.declared.pieces.Piece.{Piece}
-use Rattle.mm_store.specs.Language.Pieces.{with_state, parked_pieces}
-use Rattle.mm_store.specs.Code.States.{piece_state}
-use Rattle.mm_store.specs.Code.Slots.{pieces_of, held}
-use Rattle.mm_store.proofs.lemmas.files.SlabLemmas.{get_is, state_is, text_is}
-use Rattle.mm_store.proofs.lemmas.files.StoreLemmas.{kept_put, parked_changed, parked_dropped, others_parked, slot_there, parked_there}
+use Rattle.mm_store.proofs.lemmas.files.{SlabLemmas.{get_is, state_is, text_is}, StoreLemmas.{kept_put, parked_changed, parked_dropped, others_parked, slot_there, parked_there}}
 use Rattle.mm_store.proofs.pieces.PieceStore.set_state.Goals as goal
 
 pub overflow_sub-others : goal.overflow_sub-others

@@ -1,6 +1,4 @@
-use Rattle.std.proofs.Common.{◌∙◌, sym, inr}
-use Rattle.std.proofs.lemmas.Bool.{false≢true}
-use Rattle.std.proofs.lemmas.Result.{IfOk-weaker}
+use Rattle.std.proofs.{Common.{◌∙◌, sym, inr}, lemmas.{Bool.{false≢true}, Result.{IfOk-weaker}}}
 use Rattle.mm_store.specs.Language.FilesView.{files_in}
 use Rattle.mm_store.proofs.lemmas.files.ViewLemmas.{number_plain}
 use Rattle.mm_store.proofs.walk.Walk.include.Goals as goal

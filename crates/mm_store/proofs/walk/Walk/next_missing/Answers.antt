@@ -1,13 +1,8 @@
 use Rattle.std.proofs.Common.{sym, subst}
-use Rattle.mm_store.specs.declared.walk.Step.{Step}
-use Rattle.mm_store.specs.declared.walk.Step.TheVariants as steps
-use Rattle.mm_store.specs.Language.FilesView.{files_in, plain}
-use Rattle.mm_store.specs.Language.Keyless.{bare}
-use Rattle.mm_store.specs.Language.Walking.{FindsEnd}
-use Rattle.mm_store.specs.Code.Steps.{IsStep}
-use Rattle.mm_store.proofs.lemmas.expansion.BareLemmas.{hold_bare, bare_nothing, bare_items, bare_tells}
-use Rattle.mm_store.proofs.lemmas.expansion.TurnLemmas.{nothing_less, items_less}
+use Rattle.mm_store.specs.{declared.walk.Step.{Step}, Language.{FilesView.{files_in, plain}, Keyless.{bare}, Walking.{FindsEnd}}, Code.Steps.{IsStep}}
+use Rattle.mm_store.proofs.lemmas.expansion.{BareLemmas.{hold_bare, bare_nothing, bare_items, bare_tells}, TurnLemmas.{nothing_less, items_less}}
 use Rattle.mm_store.proofs.lemmas.expansion.WalkLemmas.{since_nothing, since_items, since_tells, since_end}
+use Rattle.mm_store.specs.declared.walk.Step.TheVariants as steps
 use Rattle.mm_store.proofs.walk.Walk.next_missing.Goals as goal
 
 pub returns-in-End-clause-end : goal.returns-in-End-clause-end

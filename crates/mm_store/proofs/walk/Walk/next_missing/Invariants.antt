@@ -1,10 +1,6 @@
 use Rattle.std.proofs.Common.{ℕ, List}
-use Rattle.mm_store.specs.declared.item.Item.{Item}
-use Rattle.mm_store.specs.Language.FilesView.{files_in, plain}
-use Rattle.mm_store.specs.Language.Keyless.{bare}
-use Rattle.mm_store.specs.Language.Walking.{IsWalk}
-use Rattle.mm_store.proofs.lemmas.expansion.TurnLemmas.{turns}
-use Rattle.mm_store.proofs.lemmas.expansion.WalkLemmas.{Since}
+use Rattle.mm_store.specs.{declared.item.Item.{Item}, Language.{FilesView.{files_in, plain}, Keyless.{bare}, Walking.{IsWalk}}}
+use Rattle.mm_store.proofs.lemmas.expansion.{TurnLemmas.{turns}, WalkLemmas.{Since}}
 use Rattle.mm_store.proofs.walk.Walk.next_missing.Given as goal
 
 abbrev pub invariant-loop-name : goal.invariant-loop-name

@@ -1,7 +1,5 @@
 use Rattle.std.proofs.Common.{ℕ, List, None, Contains, sym, ap, ◌∙◌, ◌≡◌, subst, true, inr}
-use Rattle.mm_store.specs.Language.FilesView.{number_of}
-use Rattle.mm_store.specs.Language.Walking.{WalkView}
-use Rattle.mm_store.specs.Code.Steps.{Includes}
+use Rattle.mm_store.specs.{Language.{FilesView.{number_of}, Walking.{WalkView}}, Code.Steps.{Includes}}
 use Rattle.mm_store.proofs.walk.Walk.report_missing.Goals as goal
 
 pub returns-then-self-clause-ok : goal.returns-then-self-clause-ok

@@ -1,6 +1,5 @@
 use Rattle.std.proofs.Common.{◌∙◌, ap, sym, inl}
-use Rattle.mm_store.specs.Language.FilesView.{files_in, piece_view}
-use Rattle.mm_store.specs.Code.Steps.{piece_at, spot_at}
+use Rattle.mm_store.specs.{Language.FilesView.{files_in, piece_view}, Code.Steps.{piece_at, spot_at}}
 use Rattle.mm_store.proofs.walk.Walk.step.Goals as goal
 
 pub returns-in-None-included_name-clause-ok : goal.returns-in-None-included_name-clause-ok

@@ -1,8 +1,6 @@
 use Rattle.std.proofs.Common.{◌<◌, ◌≤◌, sym, ◌∙◌, ap, subst, length}
 use Rattle.std.specs.List.{AllByRecursion, flat_map}
-use Rattle.mm_text.specs.Code.Cursor.{words_from, AreLast}
-use Rattle.mm_text.specs.Language.Reading.{HasWords}
-use Rattle.mm_text.specs.Language.Unit.{spellings}
+use Rattle.mm_text.specs.{Code.Cursor.{words_from, AreLast}, Language.{Reading.{HasWords}, Unit.{spellings}}}
 use Rattle.mm_text.proofs.CursorLemmas.{all_left, at_first, few_words, some_bytes, few_bytes}
 use Rattle.mm_text.proofs.cursor.WordCursor.new.Goals as goal
 

@@ -1,8 +1,6 @@
 use Rattle.std.proofs.Common.{◌≡◌, [], sym, subst, IfNone}
-use Rattle.mm_text.specs.Code.Cursor.{AreLast}
-use Rattle.mm_text.specs.Code.Reader.{runs_at}
-use Rattle.mm_text.proofs.CursorLemmas.{went, no_fault}
-use Rattle.mm_text.proofs.ReaderLemmas.{fails_read}
+use Rattle.mm_text.specs.Code.{Cursor.{AreLast}, Reader.{runs_at}}
+use Rattle.mm_text.proofs.{CursorLemmas.{went, no_fault}, ReaderLemmas.{fails_read}}
 use Rattle.mm_text.proofs.cursor.WordCursor.next_word.Goals as goal
 
 pub unreachable-requires : goal.unreachable-requires

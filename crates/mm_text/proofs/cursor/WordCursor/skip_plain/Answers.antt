@@ -1,6 +1,5 @@
 use Rattle.std.proofs.Common.{sym, ap, subst}
-use Rattle.mm_text.specs.Code.Cursor.{words_from, AreLast}
-use Rattle.mm_text.specs.Language.WordsLeft.{WordsLeft, SkipsPlainWords}
+use Rattle.mm_text.specs.{Code.Cursor.{words_from, AreLast}, Language.WordsLeft.{WordsLeft, SkipsPlainWords}}
 use Rattle.mm_text.proofs.CursorLemmas.{plain_passed}
 use Rattle.mm_text.proofs.cursor.WordCursor.skip_plain.Goals as goal
 

@@ -1,8 +1,5 @@
-use Rattle.std.proofs.Common.{◌≡◌, ◌≤◌, length, slice_range, sym, ◌∙◌, Some, arith}
-use Rattle.std.proofs.lemmas.Result.{err_from_is_err_and}
-use Rattle.mm_text.specs.Language.Spelling.{opening}
-use Rattle.mm_text.specs.Code.LeftToRight.{word_kind}
-use Rattle.mm_text.specs.Code.Reader.{runs_at, TakesSpan, SkipsComment, FailsInside}
+use Rattle.std.proofs.{Common.{◌≡◌, ◌≤◌, length, slice_range, sym, ◌∙◌, Some, arith}, lemmas.Result.{err_from_is_err_and}}
+use Rattle.mm_text.specs.{Language.Spelling.{opening}, Code.{LeftToRight.{word_kind}, Reader.{runs_at, TakesSpan, SkipsComment, FailsInside}}}
 use Rattle.mm_text.proofs.ReaderLemmas.{pass_word, pass_comment, pass_fails}
 use Rattle.mm_text.proofs.reader.Reader.any_word.Goals as goal
 

@@ -1,8 +1,6 @@
 use Rattle.std.proofs.Common.{◌<◌, ◌+◌, ◌-◌, length, take, drop, not, ap, arith}
 use Rattle.mm_text.specs.declared.word.WordKind.TheVariants.{Plain}
-use Rattle.mm_text.proofs.KindLemmas.{plain_word}
-use Rattle.mm_text.proofs.ReaderLemmas.{word_here}
-use Rattle.mm_text.proofs.RunLemmas.{white_at}
+use Rattle.mm_text.proofs.{KindLemmas.{plain_word}, ReaderLemmas.{word_here}, RunLemmas.{white_at}}
 use Rattle.mm_text.proofs.reader.Reader.next_word.Goals as goal
 
 pub other_word-requires-clause-white : goal.other_word-requires-clause-white

@@ -1,10 +1,6 @@
-use Rattle.std.proofs.Common.{◌≢◌, rules, slice_range, sym, ◌∙◌}
-use Rattle.std.proofs.lemmas.Bool.{false≢true}
-use Rattle.mm_text.specs.Language.Spelling.{HoldsMark, closing}
-use Rattle.mm_text.specs.Code.Reader.{SkipsPlain}
-use Rattle.mm_text.proofs.KindLemmas.{mark_stands, stands_mark}
-use Rattle.mm_text.proofs.ReaderLemmas.{skip_none, skip_more, skip_fault}
-use Rattle.mm_text.proofs.SkipLemmas.{skip_all}
+use Rattle.std.proofs.{Common.{◌≢◌, rules, slice_range, sym, ◌∙◌}, lemmas.Bool.{false≢true}}
+use Rattle.mm_text.specs.{Language.Spelling.{HoldsMark, closing}, Code.Reader.{SkipsPlain}}
+use Rattle.mm_text.proofs.{KindLemmas.{mark_stands, stands_mark}, ReaderLemmas.{skip_none, skip_more, skip_fault}, SkipLemmas.{skip_all}}
 use Rattle.mm_text.proofs.reader.Reader.skip_comment.Goals as goal
 
 pub loop-span-init : goal.loop-span-init

@@ -1,10 +1,7 @@
-use Rattle.std.proofs.Common.{List, length, ◌∙◌, ◌+◌, ◌-◌, ◌++◌, subst, ap, map, ℕ, arith}
-use Rattle.std.proofs.lemmas.Result.{err_from_is_err_and}
-use Rattle.mm_verdict.specs.Language.Letters.{Letter, letter_at}
-use Rattle.mm_verdict.specs.Code.Reader.{ReadsLetters}
-use Rattle.mm_verdict.proofs.lemmas.decoding.ReaderLemmas.{letters_on, letter_more}
-use Rattle.std.proofs.lemmas.List.{drop_all}
+use Rattle.std.proofs.{Common.{List, length, ◌∙◌, ◌+◌, ◌-◌, ◌++◌, subst, ap, map, ℕ, arith}, lemmas.{Result.{err_from_is_err_and}, List.{drop_all}}}
 use Rattle.std.specs.List.{enumerate_from}
+use Rattle.mm_verdict.specs.{Language.Letters.{Letter, letter_at}, Code.Reader.{ReadsLetters}}
+use Rattle.mm_verdict.proofs.lemmas.decoding.ReaderLemmas.{letters_on, letter_more}
 use Rattle.mm_verdict.proofs.letters.LetterReader.read_word.Goals as goal
 
 pub returns-in_err-read-clause-err : goal.returns-in_err-read-clause-err

@@ -1,6 +1,5 @@
 use Rattle.std.proofs.Common.{◌≡◌, ◌≤◌, ◌+◌, ◌-◌, List, ◌++◌, length, vec_capacity}
-use Rattle.mm_verdict.specs.Language.Letters.{Letter, letters_in}
-use Rattle.mm_verdict.specs.Code.Reader.{Aim, ReadsLetters}
+use Rattle.mm_verdict.specs.{Language.Letters.{Letter, letters_in}, Code.Reader.{Aim, ReadsLetters}}
 use Rattle.mm_verdict.proofs.lemmas.decoding.ReaderLemmas.{letters_on}
 use Rattle.mm_verdict.proofs.letters.LetterReader.read_word.Given as goal
 

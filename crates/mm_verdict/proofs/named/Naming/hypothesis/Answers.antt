@@ -1,10 +1,8 @@
-use Rattle.std.proofs.Common.{◌≡◌, ◌∷◌, [], true, List, length, map, ◌∙◌, ap, arith, length-append}
+use Rattle.std.proofs.{Common.{◌≡◌, ◌∷◌, [], true, List, length, map, ◌∙◌, ap, arith, length-append}, lemmas.List.{length-map, map-append}}
 use Rattle.std.specs.Borrow.{Bor}
-use Rattle.std.proofs.lemmas.List.{length-map, map-append}
 use Rattle.mm_frame.specs.Language.Base.{is_shown_at}
-use Rattle.mm_frame.specs.Language.Frame.{Symbol}
-use Rattle.mm_frame.specs.declared.symbol.NumberedSymbol.{NumberedSymbol}
-use Rattle.mm_verdict.specs.Code.NumberedBase.{all_by_number, numbered_hypothesis}
+use Rattle.mm_machine.specs.{Language.{Frame.{Symbol}, NumberedSymbols.{all_by_number}}, declared.symbol.NumberedSymbol.{NumberedSymbol}}
+use Rattle.mm_verdict.specs.Code.NumberedBase.{numbered_hypothesis}
 use Rattle.mm_verdict.proofs.lemmas.machine.NamedLemmas.{placed_more, stays_more, stands_last}
 use Rattle.mm_verdict.proofs.named.Naming.hypothesis.Goals as goal
 

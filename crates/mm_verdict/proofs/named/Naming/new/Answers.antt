@@ -1,5 +1,4 @@
-use Rattle.std.proofs.Common.{length, sym, ◌∙◌, ap, arith}
-use Rattle.std.proofs.lemmas.Option.{slice_get_within}
+use Rattle.std.proofs.{Common.{length, sym, ◌∙◌, ap, arith}, lemmas.Option.{slice_get_within}}
 use Rattle.mm_verdict.proofs.named.Naming.new.Goals as goal
 
 pub returns-clause-named : goal.returns-clause-named

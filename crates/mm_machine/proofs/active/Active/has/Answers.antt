@@ -1,0 +1,50 @@
+use Rattle.std.proofs.{Common.{[], false, get_or, arith, refl, sym, ◌∙◌, ap}, lemmas.{Bool.{false≢true}, List.{length-map}, Option.{slice_get-get_or}}}
+use Rattle.mm_machine.specs.{Language.{Frame.{Symbol}, NumberedSymbols.{comes_before}, CitedFrames.{meant_pairs, meant_pair}, Keys.{pair_keys}}, Code.PairClause.{IsPair}}
+use Rattle.mm_machine.proofs.lemmas.machine.{ApartLemmas.{pair_found, pair_nowhere, each_more}, KeyOrderLemmas.{none_before, none_behind}}
+use Rattle.mm_machine.proofs.active.Active.has.Goals as goal
+
+pub loop-place-init : goal.loop-place-init
+loop-place-init g c =
+    let m = g.S.Symbol.means in
+    none_before g.S.Kept.key_of (meant_pairs m c.args.self.now.pairs.now) c.place_of-place.result (m c.args.x.now) (m c.args.y.now)
+    (λ k p l e. ap (comes_before (pair_keys g.S.Kept.key_of p)) (sym c.keys-wanted.ensures) ∙ c.place_of-place.ensures k p l e)
+
+pub returns-then-is_before : goal.returns-then-is_before
+returns-then-is_before g c =
+    let m = g.S.Symbol.means in
+    let d : Symbol = record { name = []; variable = false } in
+    let pairs = meant_pairs m c.args.self.now.pairs.now in
+    let n = c.loop-place.place in
+    let at = get_or pairs n (d, d) in
+    let there = slice_get-get_or pairs n (d, d) (omega (arith, length-map c.args.self.now.pairs.now (meant_pair m), c.loop-place-test.true)) in
+    let before = (λ i. comes_before (sym c.keys-wanted.ensures i) (sym (c.keys_at.ensures at there) i)) ∙ sym c.is_before.ensures ∙ c.if-is_before.true in (
+      λ t. absurd (false≢true t),
+      λ s. absurd (none_behind g.S.Kept.key_of pairs n at (m c.args.x.now) (m c.args.y.now) c.args.self.now.order there before c.loop-place.invariant s),
+    )
+
+pub returns-then-is_at : goal.returns-then-is_at
+returns-then-is_at g c =
+    let m = g.S.Symbol.means in
+    let d : Symbol = record { name = []; variable = false } in
+    let pairs = meant_pairs m c.args.self.now.pairs.now in
+    let n = c.loop-place.place in
+    let at = slice_get-get_or pairs n (d, d) (omega (arith, length-map c.args.self.now.pairs.now (meant_pair m), c.loop-place-test.true)) in
+    (λ _. pair_found pairs n (get_or pairs n (d, d)) (m c.args.x.now) (m c.args.y.now) at ((c.is_at.ensures (get_or pairs n (d, d)) at).0 c.if-is_at.true), λ _. refl)
+
+pub loop-place-preserved : goal.loop-place-preserved
+loop-place-preserved g c =
+    let m = g.S.Symbol.means in
+    let d : Symbol = record { name = []; variable = false } in
+    let pairs = meant_pairs m c.args.self.now.pairs.now in
+    let n = c.loop-place.place in
+    let at = get_or pairs n (d, d) in
+    let there = slice_get-get_or pairs n (d, d) (omega (arith, length-map c.args.self.now.pairs.now (meant_pair m), c.loop-place-test.true)) in
+    each_more (λ p. IsPair p (m c.args.x.now) (m c.args.y.now) → ⊥) pairs n at there (λ is. false≢true (sym c.if-is_at.false ∙ (c.is_at.ensures at there).1 is)) c.loop-place.invariant
+
+pub returns : goal.returns
+returns g c =
+    let m = g.S.Symbol.means in
+    let pairs = meant_pairs m c.args.self.now.pairs.now in (
+      λ t. absurd (false≢true t),
+      λ s. absurd (pair_nowhere pairs c.loop-place.place (m c.args.x.now) (m c.args.y.now) (omega (arith, length-map c.args.self.now.pairs.now (meant_pair m), c.loop-place-test.false)) c.loop-place.invariant s),
+    )

@@ -1,0 +1,6 @@
+use Rattle.mm_machine.specs.{Code.PairClause.{IsPair}, Language.CitedFrames.{meant_pairs}}
+use Rattle.mm_machine.proofs.lemmas.machine.ApartLemmas.{EachUpTo}
+use Rattle.mm_machine.proofs.active.Active.has.Given as goal
+
+abbrev pub invariant-loop-place : goal.invariant-loop-place
+invariant-loop-place g l = EachUpTo (λ p. IsPair p (g.S.Symbol.means l.x) (g.S.Symbol.means l.y) → ⊥) (meant_pairs g.S.Symbol.means l.self.pairs.now) l.place

@@ -1,0 +1,3 @@
+-- Lists, whatever they are of.
+
+pub mod Members

@@ -1,0 +1,115 @@
+-- The substitution that the entries of the mandatory `$f` give.
+use Rattle.std.proofs.Common.{◌≡◌, ◌≢◌, suc, Bool, true, false, Option, Some, None, List, [], ◌∷◌, length, map, drop, refl, sym, ◌∙◌, ap, subst, arith, inl, inr, slice_get, Contains, All, AllPairs}
+use Rattle.std.proofs.{lemmas.List.Elements.{All-head, All-tail}, Math.Decide.{map_dec}}
+use mathlib.Core.Bool.{Bool-discrete}
+use Rattle.mm_machine.specs.Language.{Frame.{Symbol, Mandatory}, Substitution.{substituted}, Typing.{IsTyping}, Faults.{AnyZip}}
+use Rattle.mm_machine.proofs.lemmas.lists.Members.{Contains-here, contains_there}
+use Rattle.mm_machine.proofs.lemmas.verdicts.{Unique.{substituted-typing}, Lines.{FloatsMatch}, Choices.{symbol_discrete, expression_discrete, both_of}}
+
+-- the hypothesis is a `$f` of this variable
+abbrev pub Types : Mandatory → Symbol → Type 0
+Types h v = (h.floating ≡ true) × (slice_get h.expression 1 ≡ Some v)
+
+dec_second : (o : Option Symbol) (v : Symbol) → Dec (o ≡ Some v)
+dec_second None v = no (λ e. (cc))
+dec_second (Some w) v = map_dec (λ e. ap Some e) (λ e. (cc)) (symbol_discrete w v)
+
+pub dec_types : (h : Mandatory) (v : Symbol) → Dec (Types h v)
+dec_types h v = both_of (Bool-discrete h.floating true) (dec_second (slice_get h.expression 1) v)
+
+pick : {P : Type 0} → Dec P → List Symbol → List Symbol → List Symbol
+pick (yes p) a b = a
+pick (no n) a b = b
+
+pick-yes : {P : Type 0} (d : Dec P) (a b : List Symbol) → P → pick d a b ≡ a
+unfolding pick
+pick-yes (yes p) a b h = refl
+pick-yes (no n) a b h = absurd (n h)
+
+pick-no : {P : Type 0} (d : Dec P) (a b : List Symbol) → (P → ⊥) → pick d a b ≡ b
+unfolding pick
+pick-no (yes p) a b h = absurd (h p)
+pick-no (no n) a b h = refl
+
+-- the entry after its typecode, of the first `$f` of the variable
+pub given_by : List Mandatory → List (List Symbol) → Symbol → List Symbol
+given_by (h ∷ hs) (e ∷ es) v = pick (dec_types h v) (drop 1 e) (given_by hs es v)
+given_by _ _ v = []
+
+given_here : (h : Mandatory) (hs : List Mandatory) (e : List Symbol) (es : List (List Symbol)) (v : Symbol) → Types h v → given_by (h ∷ hs) (e ∷ es) v ≡ drop 1 e
+unfolding given_by
+given_here h hs e es v t = pick-yes (dec_types h v) (drop 1 e) (given_by hs es v) t
+
+given_there : (h : Mandatory) (hs : List Mandatory) (e : List Symbol) (es : List (List Symbol)) (v : Symbol) → (Types h v → ⊥) → given_by (h ∷ hs) (e ∷ es) v ≡ given_by hs es v
+unfolding given_by
+given_there h hs e es v n = pick-no (dec_types h v) (drop 1 e) (given_by hs es v) n
+
+-- an entry that has the typecode of its `$f`
+entry_is : (f : Symbol → List Symbol) (h : Mandatory) (e : List Symbol) → IsTyping h.expression → slice_get h.expression 0 ≡ slice_get e 0 → ((v : Symbol) → slice_get h.expression 1 ≡ Some v → f v ≡ drop 1 e) → substituted f h.expression ≡ e
+entry_is f h [] t s g = let a = ap (λ w. slice_get w 0) t.2 in cc
+entry_is f h (x ∷ e) t s g =
+    let a = ap (λ w. slice_get w 0) t.2 in
+    let b = ap (λ w. slice_get w 1) t.2 in
+    let d = g t.1 b in
+    let whole = ap (substituted f) t.2 ∙ substituted-typing f t.0 t.1 t.3 t.4 in
+    cc
+
+typecode_of : {a b : Option Symbol} → ((a ≢ b) → ⊥) → Dec (a ≡ b) → a ≡ b
+typecode_of n (yes e) = e
+typecode_of n (no m) = absurd (n m)
+
+pub dec_option : (a b : Option Symbol) → Dec (a ≡ b)
+dec_option None None = yes refl
+dec_option (Some x) (Some y) = map_dec (λ e. ap Some e) (λ e. (cc)) (symbol_discrete x y)
+dec_option _ _ = no (λ e. (cc))
+
+abbrev pub IsOnce : List Mandatory → Type 0
+IsOnce hs = AllPairs (λ h g. h.floating ≡ true → g.floating ≡ true → slice_get h.expression 1 ≢ slice_get g.expression 1) hs
+
+once_tail : (h : Mandatory) (hs : List Mandatory) → IsOnce (h ∷ hs) → IsOnce hs
+once_tail h hs a = λ i j d l m. a (suc i) (suc j) d (omega arith) (omega arith)
+
+once_head : (h : Mandatory) (hs : List Mandatory) (v : Symbol) → IsOnce (h ∷ hs) → Types h v → (g : Mandatory) → Contains hs g → Types g v → ⊥
+once_head h hs v a t g c u =
+    let n = a 0 (suc c.0) g (omega arith) (omega arith) in
+    let m : slice_get h.expression 1 ≢ slice_get g.expression 1 = subst (λ (w : Mandatory). slice_get h.expression 1 ≢ slice_get w.expression 1) c.2 (n t.0 (subst (λ (w : Mandatory). w.floating ≡ true) (sym c.2) u.0)) in
+    m (t.1 ∙ sym u.1)
+
+-- no `$f` of another typecode
+abbrev pub OtherTypecode : Mandatory → List Symbol → Type 0
+OtherTypecode h e = (h.floating ≡ true) × (slice_get h.expression 0 ≢ slice_get e 0)
+
+-- a substitution that agrees with what the entries give matches each `$f`
+floats_match_by :
+    (f : Symbol → List Symbol) (hs : List Mandatory) (es : List (List Symbol)) → length hs ≡ length es →
+    All (λ h. h.floating ≡ true → IsTyping h.expression) hs → IsOnce hs → (AnyZip OtherTypecode hs es → ⊥) →
+    ((v : Symbol) (h : Mandatory) → Contains hs h → Types h v → f v ≡ given_by hs es v) → FloatsMatch f hs es
+floats_match_by f [] [] l t o n a = tt
+floats_match_by f (h ∷ hs) (e ∷ es) l t o n a = (
+  λ is. entry_is f h e (All-head (λ h. h.floating ≡ true → IsTyping h.expression) h hs t is) (typecode_of (λ m. n (inl (is, m)))
+      (dec_option (slice_get h.expression 0) (slice_get e 0))) (λ v s. a v h (Contains-here h hs) (is, s) ∙ given_here h hs e es v (is, s)),
+  floats_match_by f hs es (cc) (All-tail (λ h. h.floating ≡ true → IsTyping h.expression) h hs t) (once_tail h hs o) (λ z. n (inr z)) (λ v g c u. a v g (contains_there h hs g c) u ∙ given_there h hs e es v (λ w. once_head h hs v o w g c u)),
+)
+floats_match_by f _ _ l t o n a = cc
+
+pub floats_match : (hs : List Mandatory) (es : List (List Symbol)) → length hs ≡ length es → All (λ h. h.floating ≡ true → IsTyping h.expression) hs → IsOnce hs → (AnyZip OtherTypecode hs es → ⊥) → FloatsMatch (given_by hs es) hs es
+floats_match hs es l t o n = floats_match_by (given_by hs es) hs es l t o n (λ v h c u. refl)
+
+-- with each `$e` too, the whole matches
+pub all_match : (f : Symbol → List Symbol) (hs : List Mandatory) (es : List (List Symbol)) → length hs ≡ length es → FloatsMatch f hs es
+    → (AnyZip (λ h e. (h.floating ≡ false) × (substituted f h.expression ≢ e)) hs es → ⊥) → map (λ h. substituted f h.expression) hs ≡ es
+all_match f [] [] l m n = refl
+all_match f [] (e ∷ es) l m n = cc
+all_match f (h ∷ hs) [] l m n = cc
+all_match f (h ∷ hs) (e ∷ es) l m n =
+    let tail = all_match f hs es (cc) m.1 (λ z. n (inr z)) in
+    let head = one_matches f h e h.floating refl m.0 (λ k. n (inl k)) (expression_discrete (substituted f h.expression) e) in
+    cc
+  where
+    one_matches : (f : Symbol → List Symbol) (h : Mandatory) (e : List Symbol) (b : Bool) → h.floating ≡ b
+        → (h.floating ≡ true → substituted f h.expression ≡ e) → ((h.floating ≡ false) × (substituted f h.expression ≢ e) → ⊥)
+        → Dec (substituted f h.expression ≡ e) →
+        substituted f h.expression ≡ e
+    one_matches f h e true is m n d = m is
+    one_matches f h e false is m n (yes s) = s
+    one_matches f h e false is m n (no k) = absurd (n (is, k))

@@ -1,0 +1,290 @@
+-- Tasks of the code and steps of a proof.
+use Rattle.std.proofs.Common.{◌≡◌, ◌≢◌, ℕ, zero, suc, ◌+◌, ◌<◌, ◌≤◌, false, Option, Some, None, List, [], ◌∷◌, ◌++◌, length, take, drop, get_or, refl, sym, ◌∙◌, ap, subst, arith, append_assoc}
+use Rattle.std.proofs.Common.{zero-add, add-zero, length-append, slice_get, MatchOption, IfNone, map}
+use Rattle.std.proofs.Math.Decide.{ℕ_discrete}
+use Rattle.std.proofs.lemmas.List.{take_more, take-append-drop, drop_more, length-take-le, take_all, length-map, Sums.{sum_by-cons, sum_by-append}}
+use Rattle.std.proofs.lemmas.Option.{slice_get_within, get_or_from_slice_get, slice_get-get_or}
+use Rattle.std.specs.List.{AllZip}
+use Rattle.mm_machine.specs.Language.{Frame.{Symbol, Frame, Resolved, Hypothesis, Assertion, Setting, AreSameFrame, AreSamePairs}, Typing.{HasFrames}, Steps.{Cites, Moves}}
+use Rattle.mm_machine.specs.Language.{Expansion.{Step, Named, Saved, Save, NotKnown}, Machine.{State, Turns, AreAllKnown}, Faults.{LabelFails, IsLowest}, Reaches.{Reaches, IsStepFault}}
+use Rattle.mm_machine.specs.Language.{Run.{is_unknown, run_part, IsReached}, Verdict.{IsFirstUnknown}, NamedSteps.{meant, MeansUse, actions_mean, saves_by, saves_in}}
+use Rattle.mm_machine.specs.declared.{ProofNumber.{ProofNumber}, stepping.Task.{Task}, named.Use.{Use}, machine.Machine.{Machine}, step.ProofStep.{ProofStep}}
+use Rattle.mm_machine.specs.Code.{Citation.{IsLowestCiting}, MachineState.{state_of}, Ranges.{Saves}, Tasks.{HasState, MeansTask}, Flat.{read, read_all}}
+use Rattle.mm_machine.proofs.lemmas.verdicts.{Moving.{takes_moved, frame_back, label_moved}, Part.{known_one, one_known, part_one, part_none}}
+use Rattle.mm_machine.proofs.lemmas.machine.{Reaching.{Follows, follows_on, reached}, Running.{faulty}, FlatLemmas.{mapped_or_get}}
+use Rattle.mm_machine.specs.declared.stepping.Task.TheVariants as tasks
+use Rattle.mm_machine.specs.declared.named.Use.TheVariants as uses
+
+-- ---- one step
+
+-- what an assertion that is cited means
+pub means_cite :
+    (expressions : List (List Symbol)) (frames : List Frame) (place : Setting) (n : ℕ) (t : Task) (step : Step) → t ≡ tasks.Cite n → MeansTask expressions frames place t step →
+    (label : List ℕ) × (kept frame : Frame) × (step ≡ Named label) × (slice_get frames n ≡ Some kept) × (place.resolve label ≡ Assertion frame) × AreSameFrame kept frame
+means_cite expressions frames place n t step is m = by_step step (subst (λ (w : Task). MeansTask expressions frames place w step) is m)
+  where
+    by_step : (step : Step) → MeansTask expressions frames place (tasks.Cite n) step → (label : List ℕ) × (kept frame : Frame) × (step ≡ Named label) ×
+        (slice_get frames n ≡ Some kept) × (place.resolve label ≡ Assertion frame) × AreSameFrame kept frame
+    by_step (Named label) m = (label, m.0, m.1, refl, m.2, m.3, m.4)
+    by_step _ m = absurd m
+
+-- and a hypothesis
+pub means_push :
+    (expressions : List (List Symbol)) (frames : List Frame) (place : Setting) (n : ℕ) (t : Task) (step : Step) → t ≡ tasks.Push n → MeansTask expressions frames place t step →
+    (label : List ℕ) × (e : List Symbol) × (step ≡ Named label) × (slice_get expressions n ≡ Some e) × (place.resolve label ≡ Hypothesis e)
+means_push expressions frames place n t step is m = by_step step (subst (λ (w : Task). MeansTask expressions frames place w step) is m)
+  where
+    by_step : (step : Step) → MeansTask expressions frames place (tasks.Push n) step → (label : List ℕ) × (e : List Symbol) × (step ≡ Named label) × (slice_get expressions n ≡ Some e) × (place.resolve label ≡ Hypothesis e)
+    by_step (Named label) m = (label, m.0, refl, m.1, m.2)
+    by_step _ m = absurd m
+
+-- what is put again
+pub means_again : (expressions : List (List Symbol)) (frames : List Frame) (place : Setting) (n : ℕ) (t : Task) (step : Step) → t ≡ tasks.Again n → MeansTask expressions frames place t step → step ≡ Saved n
+means_again expressions frames place n t step is m = by_step step (subst (λ (w : Task). MeansTask expressions frames place w step) is m)
+  where
+    by_step : (step : Step) → MeansTask expressions frames place (tasks.Again n) step → step ≡ Saved n
+    by_step (Saved k) m = ap Saved (sym m)
+    by_step _ m = absurd m
+
+-- a save
+pub means_keep : (expressions : List (List Symbol)) (frames : List Frame) (place : Setting) (t : Task) (step : Step) → t ≡ tasks.Keep → MeansTask expressions frames place t step → step ≡ Save
+means_keep expressions frames place t step is m = by_step step (subst (λ (w : Task). MeansTask expressions frames place w step) is m)
+  where
+    by_step : (step : Step) → MeansTask expressions frames place tasks.Keep step → step ≡ Save
+    by_step Save m = refl
+    by_step _ m = absurd m
+
+-- no task means an unknown step
+pub means_known : (expressions : List (List Symbol)) (frames : List Frame) (place : Setting) (t : Task) (step : Step) → MeansTask expressions frames place t step → step ≢ NotKnown
+means_known expressions frames place t step m e = by_task t (subst (MeansTask expressions frames place t) e m)
+  where
+    by_task : (t : Task) → MeansTask expressions frames place t NotKnown → ⊥
+    by_task (tasks.Push n) m = m
+    by_task (tasks.Cite n) m = m
+    by_task (tasks.Again n) m = m
+    by_task tasks.Keep m = m
+
+cites_moved : (active others : List (Symbol × Symbol)) (a b : Frame) (stack next : List (List Symbol)) → AreSamePairs active others → AreSameFrame a b → Cites active a stack next → Cites others b stack next
+cites_moved active others a b stack next s f c = record { below = c.below; entries = c.entries; result = c.result; given = c.given; before = c.before; takes = takes_moved active others a b c.given c.entries c.result s f c.takes; after = c.after }
+
+-- citing the assertion that is kept is a turn by its label
+pub cite_turns :
+    (active : List (Symbol × Symbol)) (place : Setting) (label : List ℕ) (kept frame : Frame) (stack : List (List Symbol)) (before after : State) (found : Option ProofNumber) →
+    AreSamePairs active place.active → place.resolve label ≡ Assertion frame → AreSameFrame kept frame → stack ≡ before.stack → after.saved ≡ before.saved →
+    MatchOption found (Cites active kept stack after.stack) (IsLowestCiting active kept stack) →
+    MatchOption found (Turns place (Named label) before after) (IsLowest place (Named label) before.stack)
+cite_turns active place label kept frame stack before after None pairs at same is saved c =
+    let d = subst (λ w. Cites active kept w after.stack) is c in
+    (subst (λ (r : Resolved). Moves place.active r before.stack after.stack) (sym at) (cites_moved active place.active kept frame before.stack after.stack pairs same d), saved)
+cite_turns active place label kept frame stack before after (Some number) pairs at same is saved c =
+    let d = subst (λ w. IsLowestCiting active kept w number) is c in record {
+      holds = subst (λ (r : Resolved). LabelFails place.active r before.stack number) (sym at) (label_moved active place.active (Assertion kept) (Assertion frame) before.stack number pairs same d.0);
+      lowest = λ other p. d.1 other (label_moved place.active active (Assertion frame) (Assertion kept) before.stack other
+          (λ x y. ((pairs x y).1, (pairs x y).0)) (frame_back kept frame same) (subst (λ (r : Resolved). LabelFails place.active r before.stack other) at p));
+    }
+
+-- ---- after what is kept
+
+pub kept_at : {X : Type 0} (front back : List X) (n : ℕ) (x : X) → slice_get front n ≡ Some x → slice_get (front ++ back) n ≡ Some x
+kept_at [] back n x e = cc
+kept_at (y ∷ front) back zero x e = e
+kept_at (y ∷ front) back (suc n) x e = kept_at front back n x e
+
+pub saved_at : {X : Type 0} (front back : List X) (n : ℕ) → slice_get (front ++ back) (length front + n) ≡ slice_get back n
+saved_at [] back n = ap (slice_get back) (zero-add n)
+saved_at (y ∷ front) back n = ap (slice_get (y ∷ (front ++ back))) more ∙ saved_at front back n
+  where
+    more : length (y ∷ front) + n ≡ suc (length front + n)
+    more = omega arith
+
+-- ---- step after step
+
+-- no step before this one is unknown
+abbrev pub KnownUpTo : List Step → ℕ → Type 0
+KnownUpTo steps n = (k : ℕ) → k < n → slice_get steps k ≢ Some NotKnown
+
+behind : (x : Step) (steps : List Step) (n : ℕ) → KnownUpTo (x ∷ steps) (suc n) → KnownUpTo steps n
+behind x steps n known k l = known (suc k) (omega arith)
+
+first_known : (x : Step) (steps : List Step) (n : ℕ) → KnownUpTo (x ∷ steps) (suc n) → is_unknown x ≡ false
+first_known x steps n known = known_one x (λ e. known 0 (omega arith) (ap Some e))
+
+pub known_more : (steps : List Step) (n : ℕ) (x : Step) → slice_get steps n ≡ Some x → x ≢ NotKnown → KnownUpTo steps n → KnownUpTo steps (n + 1)
+known_more steps n x at other known k l e = by_case (ℕ_discrete k n)
+  where
+    by_case : Dec (k ≡ n) → ⊥
+    by_case (yes same) = other (some_same (sym at ∙ ap (slice_get steps) (sym same) ∙ e))
+      where
+        some_same : {a b : Step} → Some a ≡ Some b → a ≡ b
+        some_same f = cc
+    by_case (no m) = known k (omega arith) e
+
+-- what is run begins like the steps
+pub part_begins : (steps : List Step) (n : ℕ) → KnownUpTo steps n → take n (run_part steps) ≡ take n steps
+part_begins (x ∷ steps) (suc n) known = ap (take (suc n)) (part_one x steps (first_known x steps n known)) ∙ ap (λ w. x ∷ w) (part_begins steps n (behind x steps n known))
+part_begins _ _ known = refl
+
+-- and goes on with the next known step
+pub part_at : (steps : List Step) (n : ℕ) (x : Step) → KnownUpTo steps n → slice_get steps n ≡ Some x → x ≢ NotKnown → slice_get (run_part steps) n ≡ Some x
+part_at [] n x known at other = cc
+part_at (y ∷ steps) zero x known at other =
+    let same : y ≡ x = cc in
+    ap (λ w. slice_get w 0) (part_one y steps (known_one y (λ e. other (sym same ∙ e)))) ∙ at
+part_at (y ∷ steps) (suc n) x known at other = ap (λ w. slice_get w (suc n)) (part_one y steps (first_known y steps n known)) ∙ part_at steps n x (behind y steps n known) at other
+
+-- or ends at an unknown one
+pub part_ends : (steps : List Step) (n : ℕ) → KnownUpTo steps n → slice_get steps n ≡ Some NotKnown → run_part steps ≡ take n steps
+part_ends [] n known at = cc
+part_ends (y ∷ steps) zero known at = let same : y ≡ NotKnown = cc in part_none y steps (ap is_unknown same)
+part_ends (y ∷ steps) (suc n) known at = part_one y steps (first_known y steps n known) ∙ ap (λ w. y ∷ w) (part_ends steps n (behind y steps n known) at)
+
+-- all are known
+pub known_all : (steps : List Step) (n : ℕ) → length steps ≤ n → KnownUpTo steps n → AreAllKnown steps
+known_all [] n l known = tt
+known_all (x ∷ steps) zero l known = absurd (omega arith)
+known_all (x ∷ steps) (suc n) l known = (one_known x (first_known x steps n known), known_all steps n (omega arith) (behind x steps n known))
+
+pub follows_more : (place : Setting) (steps : List Step) (k : ℕ) (s : Step) (before after : State) → slice_get steps k ≡ Some s → Follows place (take k steps) before → Turns place s before after → Follows place (take (k + 1) steps) after
+follows_more place steps k s before after at f t = subst (λ (w : List Step). Follows place w after) (sym
+    (take_more steps k s (slice_get_within steps k s at) ∙ ap (λ w. take k steps ++ w ∷ []) (get_or_from_slice_get steps k s s at)))
+    (follows_on place (take k steps) s before after f t)
+
+fault_of : (place : Setting) → HasFrames place → (steps : List Step) (k : ℕ) (s : Step) (state : State) (number : ProofNumber) → slice_get steps k ≡ Some s
+    → Follows place (take k steps) state → IsLowest place s state.stack number → IsStepFault place steps k number
+fault_of place is steps k s state number at f low =
+    let l = slice_get_within steps k s at in
+    let whole : take k steps ++ s ∷ drop (k + 1) steps ≡ steps = ap (λ w. take k steps ++ w) (sym (drop_more steps k s l ∙ ap (λ w. w ∷ drop (k + 1) steps) (get_or_from_slice_get steps k s s at))) ∙ take-append-drop k steps in
+    let count : length (take k steps) ≡ k = length-take-le k steps (omega arith) in
+    subst (λ (w : List Step). IsStepFault place w k number) whole (subst (λ (n : ℕ). IsStepFault place (take k steps ++ s ∷ drop (k + 1) steps) n number)
+    count (faulty place is (take k steps) (drop (k + 1) steps) state s number f (low.holds, low.lowest)))
+
+-- the next step is at fault
+pub fault_here : (place : Setting) → HasFrames place → (steps : List Step) (k : ℕ) (s : Step) (state : State) (number : ProofNumber) → KnownUpTo steps k
+    → slice_get steps k ≡ Some s → s ≢ NotKnown → Follows place (take k steps) state → IsLowest place s state.stack number →
+    IsStepFault place (run_part steps) k number
+fault_here place is steps k s state number known at other f low =
+    fault_of place is (run_part steps) k s state number (part_at steps k s known at other) (subst (λ (w : List Step). Follows place w state) (sym (part_begins steps k known)) f) low
+
+-- or not known
+pub unknown_here : (place : Setting) (steps : List Step) (k : ℕ) (state : State) → KnownUpTo steps k → slice_get steps k ≡ Some NotKnown → Follows place (take k steps) state → IsFirstUnknown steps k × IsReached place steps
+unknown_here place steps k state known at f =
+    ((at, known), (state.stack, subst (λ (w : List Step). Reaches place w state.stack) (sym (part_ends steps k known at)) (reached place (take k steps) state f)))
+
+pub reached_all : (place : Setting) (steps : List Step) (k : ℕ) (state : State) → length steps ≤ k → Follows place (take k steps) state → Reaches place steps state.stack
+reached_all place steps k state l f = subst (λ (w : List Step). Reaches place w state.stack) (take_all k steps l) (reached place (take k steps) state f)
+
+-- one more of a list
+pub take_next : {X : Type 0} (xs : List X) (n : ℕ) (x : X) → slice_get xs n ≡ Some x → take (n + 1) xs ≡ take n xs ++ x ∷ []
+take_next xs n x at = take_more xs n x (slice_get_within xs n x at) ∙ ap (λ w. take n xs ++ w ∷ []) (get_or_from_slice_get xs n x x at)
+
+-- ---- what a task makes of the machine
+
+-- the machine has the state after a turn
+abbrev pub TurnsTo : {S : Type 0} → (S → Symbol) → List (List Symbol) → Machine S → Setting → Step → State → Type 0
+TurnsTo means expressions machine place step before = (after : State) × HasState means expressions machine after × Turns place step before after
+
+pub pushed_turns :
+    {S : Type 0} (means : S → Symbol) (expressions : List (List Symbol)) (place : Setting) (label : List ℕ) (step : Step) (e : List Symbol) (before : State) (old new : Machine S) →
+    step ≡ Named label → place.resolve label ≡ Hypothesis e → HasState means expressions old before →
+    (state_of means new).stack ≡ (state_of means old).stack ++ e ∷ [] → (state_of means new).saved ≡ (state_of means old).saved → TurnsTo means expressions new place step before
+pushed_turns means expressions place label step e before old new is at state stack saved =
+    let after : State = record { stack = before.stack ++ e ∷ []; saved = before.saved } in (
+      after,
+      record { stack = stack ∙ ap (λ w. w ++ e ∷ []) state.stack; saved = saved ∙ state.saved },
+      subst (λ (s : Step). Turns place s before after) (sym is) (subst (λ (r : Resolved). Moves place.active r before.stack after.stack) (sym at) refl, refl),
+    )
+
+pub again_turns :
+    {S : Type 0} (means : S → Symbol) (expressions : List (List Symbol)) (place : Setting) (n : ℕ) (step : Step) (e : List Symbol) (before : State) (old new : Machine S) →
+    step ≡ Saved n → slice_get before.saved n ≡ Some e → HasState means expressions old before →
+    (state_of means new).stack ≡ (state_of means old).stack ++ e ∷ [] → (state_of means new).saved ≡ (state_of means old).saved → TurnsTo means expressions new place step before
+again_turns means expressions place n step e before old new is at state stack saved =
+    let after : State = record { stack = before.stack ++ e ∷ []; saved = before.saved } in (
+      after,
+      record { stack = stack ∙ ap (λ w. w ++ e ∷ []) state.stack; saved = saved ∙ state.saved },
+      subst (λ (s : Step). Turns place s before after) (sym is) (e, at, refl, refl),
+    )
+
+pub kept_turns :
+    {S : Type 0} (means : S → Symbol) (expressions : List (List Symbol)) (place : Setting) (step : Step) (before : State) (old new : Machine S) →
+    step ≡ Save → HasState means expressions old before → Saves (state_of means old) (state_of means new) → TurnsTo means expressions new place step before
+kept_turns means expressions place step before old new is state saves =
+    let e = saves.1 in
+    let after : State = record { stack = before.stack; saved = before.saved ++ e ∷ [] } in (
+      after,
+      record {
+        stack = saves.3 ∙ state.stack;
+        saved = saves.4 ∙ ap (λ w. w ++ e ∷ []) state.saved ∙ append_assoc expressions before.saved (e ∷ []);
+      },
+      subst (λ (s : Step). Turns place s before after) (sym is) (saves.0, e, sym state.stack ∙ saves.2, refl, refl),
+    )
+
+pub cited_turns :
+    {S : Type 0} (means : S → Symbol) (expressions : List (List Symbol)) (place : Setting) (label : List ℕ) (before after : State) (new : Machine S) (found : Option ProofNumber) →
+    HasState means expressions new after → MatchOption found (Turns place (Named label) before after) (IsLowest place (Named label) before.stack) →
+    MatchOption found (TurnsTo means expressions new place (Named label) before) (IsLowest place (Named label) before.stack)
+cited_turns means expressions place label before after new None has t = (after, has, t)
+cited_turns means expressions place label before after new (Some number) has low = low
+
+-- ---- what the table's entries are used for
+
+pub used_at :
+    (expressions : List (List Symbol)) (frames : List Frame) (place : Setting) (all : List Use) (names : List Step) (k : ℕ) (used : Use) →
+    slice_get all k ≡ Some used → AllZip (MeansUse expressions frames place) all names → MeansUse expressions frames place used (get_or names k NotKnown)
+used_at expressions frames place [] names k used at zip = cc
+used_at expressions frames place (u ∷ all) [] k used at zip = absurd zip
+used_at expressions frames place (u ∷ all) (x ∷ names) zero used at zip = let same : u ≡ used = cc in subst (λ w. MeansUse expressions frames place w x) same zip.0
+used_at expressions frames place (u ∷ all) (x ∷ names) (suc k) used at zip = used_at expressions frames place all names k used at zip.1
+
+pub unused_at :
+    (expressions : List (List Symbol)) (frames : List Frame) (place : Setting) (all : List Use) (names : List Step) (k : ℕ) →
+    length all ≤ k → AllZip (MeansUse expressions frames place) all names → MeansUse expressions frames place uses.Nothing (get_or names k NotKnown)
+unused_at expressions frames place [] [] k l zip = tt
+unused_at expressions frames place (u ∷ all) (x ∷ names) zero l zip = absurd (omega arith)
+unused_at expressions frames place (u ∷ all) (x ∷ names) (suc k) l zip = unused_at expressions frames place all names k (omega arith) zip.1
+unused_at expressions frames place _ _ k l zip = absurd zip
+
+pub push_means : (expressions : List (List Symbol)) (frames : List Frame) (place : Setting) (n : ℕ) (step : Step) → MeansUse expressions frames place (uses.Hypothesis n) step → MeansTask expressions frames place (tasks.Push n) step
+push_means expressions frames place n (Named label) m = m
+push_means expressions frames place n _ m = absurd m
+
+pub cite_means : (expressions : List (List Symbol)) (frames : List Frame) (place : Setting) (n : ℕ) (step : Step) → MeansUse expressions frames place (uses.Assertion n) step → MeansTask expressions frames place (tasks.Cite n) step
+cite_means expressions frames place n (Named label) m = m
+cite_means expressions frames place n _ m = absurd m
+
+pub nothing_means : (expressions : List (List Symbol)) (frames : List Frame) (place : Setting) (step : Step) → MeansUse expressions frames place uses.Nothing step → step ≡ NotKnown
+nothing_means expressions frames place NotKnown m = refl
+nothing_means expressions frames place _ m = absurd m
+
+-- ---- the code's steps
+
+pub nothing_known : (steps : List Step) → KnownUpTo steps 0
+nothing_known steps k l = absurd (omega arith)
+
+-- what the step at a place means
+pub action_at : (names : List Step) (steps : List ProofStep) (k : ℕ) (d : ProofStep) → k < length steps → slice_get (actions_mean names steps) k ≡ Some (meant names (get_or steps k d).action)
+action_at names steps k d l = mapped_or_get (λ (step : ProofStep). meant names step.action) steps k d l
+
+-- one more may save
+pub saves_next : (steps : List ProofStep) (k : ℕ) (d : ProofStep) → k < length steps → saves_in (take (k + 1) steps) ≡ saves_in (take k steps) + saves_by (get_or steps k d).action
+saves_next steps k d l =
+    ap saves_in (take_next steps k (get_or steps k d) (slice_get-get_or steps k d l))
+    ∙ sum_by-append (λ (step : ProofStep). saves_by step.action) (take k steps) (get_or steps k d ∷ [])
+    ∙ ap (λ n. saves_in (take k steps) + n) (sum_by-cons (λ (step : ProofStep). saves_by step.action) (get_or steps k d) [] ∙ add-zero (saves_by (get_or steps k d).action))
+
+-- how much was saved
+pub saved_same : {S : Type 0} (means : S → Symbol) (old new : Machine S) → (state_of means new).saved ≡ (state_of means old).saved → length new.saved.items ≡ length old.saved.items
+saved_same means old new e =
+    sym (length-map new.saved.items (read (map means new.symbols.items))) ∙ ap length e ∙ length-map old.saved.items (read (map means old.symbols.items))
+
+pub saved_more : {S : Type 0} (means : S → Symbol) (old new : Machine S) → Saves (state_of means old) (state_of means new) → length new.saved.items ≡ length old.saved.items + 1
+saved_more means old new saves =
+    let before = read_all (map means old.symbols.items) old.saved.items in
+    sym (length-map new.saved.items (read (map means new.symbols.items)))
+    ∙ ap length saves.4
+    ∙ length-append before (saves.1 ∷ [])
+    ∙ ap (λ n. n + 1) (length-map old.saved.items (read (map means old.symbols.items)))
+
+pub if_none : {A : Type 0} (found : Option A) (P : Type 0) → P → IfNone found P
+if_none None P p = p
+if_none (Some x) P p = tt

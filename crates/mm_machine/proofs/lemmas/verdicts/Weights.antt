@@ -1,0 +1,180 @@
+-- What deriving lists weigh, and which part a save keeps.
+use Rattle.std.proofs.Common.{◌≡◌, ◌≢◌, ℕ, suc, ◌+◌, ◌≤◌, Bool, true, false, Option, Some, None, List, [], ◌∷◌, ◌++◌, length, refl, sym, ◌∙◌, ap, subst, arith, length-append, ℤ, pos, ◌-ℤ◌, ◌≤ℤ◌}
+use Rattle.std.proofs.Common.{if◌then◌else◌}
+use Rattle.std.proofs.lemmas.{Int.{ints}, Bool.Decides.{Decides-int_eq}, List.{length-map}}
+use Rattle.std.specs.Ordering.{int_eq}
+use Rattle.mm_machine.specs.Language.{Frame.{Symbol, Resolved, Hypothesis, Assertion, Setting}, Substitution.{substituted}}
+use Rattle.mm_machine.specs.Language.{Derivation.{Derives, DeriveInOrder, by_hypothesis, by_assertion, nothing, first_then}, Expansion.{taken_by, weight, last_part, or_else, IsLastPart}}
+
+-- what all the labels take
+abbrev pub taken : Setting → List (List ℕ) → ℕ
+taken place [] = 0
+taken place (label ∷ labels) = taken_by (place.resolve label) + taken place labels
+
+-- the weight by what is taken
+pub weight_is : (place : Setting) (labels : List (List ℕ)) → weight place labels ≡ pos (length labels) -ℤ pos (taken place labels)
+weight_is place [] = omega (arith, ints)
+weight_is place (label ∷ labels) = let e = weight_is place labels in omega (arith, ints)
+
+pub taken-append : (place : Setting) (a b : List (List ℕ)) → taken place (a ++ b) ≡ taken place a + taken place b
+taken-append place [] b = omega arith
+taken-append place (x ∷ a) b = let e = taken-append place a b in omega arith
+
+-- each shorter suffix, with one more, weighs at most n
+abbrev pub IsLight : Setting → ℕ → List (List ℕ) → Type 0
+IsLight place n [] = Unit {0}
+IsLight place n (label ∷ labels) = (length labels + 1 ≤ n + taken place labels) × IsLight place n labels
+
+lighter : (place : Setting) (n : ℕ) (a : List (List ℕ)) → IsLight place n a → IsLight place (suc n) a
+lighter place n [] l = l
+lighter place n (x ∷ a) l = (omega arith, lighter place n a l.1)
+
+light_append : (place : Setting) (n : ℕ) (a b : List (List ℕ)) → IsLight place 1 a → IsLight place n b → length b ≡ n + taken place b → IsLight place (suc n) (a ++ b)
+light_append place n [] b l m w = lighter place n b m
+light_append place n (x ∷ a) b l m w = (omega (arith, length-append a b, taken-append place a b), light_append place n a b l.1 m w)
+
+light_label : (place : Setting) (n : ℕ) (a : List (List ℕ)) (label : List ℕ) → taken_by (place.resolve label) ≡ n → IsLight place n a → IsLight place 1 (a ++ label ∷ [])
+light_label place n [] label t l = (omega arith, tt)
+light_label place n (x ∷ a) label t l = (omega (arith, length-append a (label ∷ []), taken-append place a (label ∷ [])), light_label place n a label t l.1)
+
+-- what a list weighs that derives n expressions in order
+pub record Weighs (place : Setting) (n : ℕ) (labels : List (List ℕ)) : Type 0 where
+  pub total : length labels ≡ n + taken place labels
+  pub light : IsLight place n labels
+
+weighs_label : (place : Setting) (n : ℕ) (a : List (List ℕ)) (label : List ℕ) → taken_by (place.resolve label) ≡ n → Weighs place n a → Weighs place 1 (a ++ label ∷ [])
+weighs_label place n a label t w = record { total = omega (arith, length-append a (label ∷ []), taken-append place a (label ∷ [])); light = light_label place n a label t w.light }
+
+weighs_join : (place : Setting) (n : ℕ) (a b : List (List ℕ)) → Weighs place 1 a → Weighs place n b → Weighs place (suc n) (a ++ b)
+weighs_join place n a b v w = record { total = omega (arith, length-append a b, taken-append place a b); light = light_append place n a b v.light w.light w.total }
+
+taken_at : (r q : Resolved) (n : ℕ) → r ≡ q → taken_by q ≡ n → taken_by r ≡ n
+taken_at r q n e t = ap taken_by e ∙ t
+
+mutual
+  pub derived_weighs : (place : Setting) {labels : List (List ℕ)} {e : List Symbol} → Derives place labels e → Weighs place 1 labels
+  derived_weighs place (by_hypothesis {label = label} {e = e} is) = weighs_label place 0 [] label (taken_at (place.resolve label) (Hypothesis e) 0 is refl) (record { total = refl; light = tt })
+  derived_weighs place (by_assertion {labels = labels} {label = label} {frame = frame} {given = given} {entries = entries} d is t) =
+      weighs_label place (length entries) labels label (taken_at (place.resolve label) (Assertion frame) (length entries) is
+      (sym (length-map frame.hypotheses (λ h. substituted given h.expression)) ∙ ap length t.entries_match)) (joined_weighs place d)
+
+  pub joined_weighs : (place : Setting) {labels : List (List ℕ)} {es : List (List Symbol)} → DeriveInOrder place labels es → Weighs place (length es) labels
+  joined_weighs place nothing = record { total = refl; light = tt }
+  joined_weighs place (first_then {first = first} {rest = rest} {es = es} h t) = weighs_join place (length es) first rest (derived_weighs place h) (joined_weighs place t)
+
+-- the test of a weight
+pub int_eq-same : (x y : ℤ) → x ≡ y → int_eq x y ≡ true
+int_eq-same x y e = grind (arith, Decides-int_eq x y)
+
+pub int_eq-other : (x y : ℤ) → x ≢ y → int_eq x y ≡ false
+int_eq-other x y e = grind (arith, Decides-int_eq x y)
+
+not_one : (place : Setting) (labels : List (List ℕ)) → length labels ≤ taken place labels → weight place labels ≢ pos 1
+not_one place labels h e = let w = weight_is place labels in omega (arith, ints)
+
+is_one : (place : Setting) (labels : List (List ℕ)) → length labels ≡ 1 + taken place labels → weight place labels ≡ pos 1
+is_one place labels h = let w = weight_is place labels in omega (arith, ints)
+
+part_of : (b : Bool) (xs : List (List ℕ)) → b ≡ true → (if b then Some xs else None) ≡ Some xs
+part_of true xs e = refl
+part_of false xs e = cc
+
+no_part_of : (b : Bool) (xs : List (List ℕ)) → b ≡ false → (if b then Some xs else None) ≡ None
+no_part_of false xs e = refl
+no_part_of true xs e = cc
+
+-- no suffix is kept if each is light
+no_part : (place : Setting) (x : List ℕ) (a : List (List ℕ)) → IsLight place 1 (x ∷ a) → last_part place a ≡ None
+no_part place x [] l = refl
+no_part place x (y ∷ a) l =
+    let none = no_part place y a l.1 in
+    let other = not_one place (y ∷ a) (omega arith) in
+    let test = no_part_of (int_eq (weight place (y ∷ a)) (pos 1)) (y ∷ a) (int_eq-other (weight place (y ∷ a)) (pos 1) other) in
+    ap (λ o. or_else o (if int_eq (weight place (y ∷ a)) (pos 1) then Some (y ∷ a) else None)) none ∙ test
+
+-- a list of weight one whose shorter suffixes are light is its own last part
+own_part : (place : Setting) (part : List (List ℕ)) → Weighs place 1 part → last_part place part ≡ Some part
+own_part place [] w = absurd (omega arith)
+own_part place (x ∷ a) w =
+    let none = no_part place x a w.light in
+    let one = is_one place (x ∷ a) w.total in
+    let test = part_of (int_eq (weight place (x ∷ a)) (pos 1)) (x ∷ a) (int_eq-same (weight place (x ∷ a)) (pos 1) one) in
+    ap (λ o. or_else o (if int_eq (weight place (x ∷ a)) (pos 1) then Some (x ∷ a) else None)) none ∙ test
+
+behind : (place : Setting) (front part : List (List ℕ)) (whole : List (List ℕ)) → last_part place part ≡ Some whole → last_part place (front ++ part) ≡ Some whole
+behind place [] part whole e = e
+behind place (x ∷ front) part whole e = ap (λ o. or_else o (if int_eq (weight place (x ∷ (front ++ part))) (pos 1) then Some (x ∷ (front ++ part)) else None)) (behind place front part whole e)
+
+-- a save keeps the list of the last entry
+pub last_part_is : (place : Setting) (front part : List (List ℕ)) (e : List Symbol) → Derives place part e → last_part place (front ++ part) ≡ Some part
+last_part_is place front part e d = behind place front part part (own_part place part (derived_weighs place d))
+
+-- the law on weights, in its own words
+pub weight_of_derived : (place : Setting) (labels : List (List ℕ)) (e : List Symbol) → Derives place labels e → weight place labels ≡ pos 1
+weight_of_derived place labels e d = let w = derived_weighs place d in is_one place labels w.total
+
+light_suffix : (place : Setting) (x : List ℕ) (front back : List (List ℕ)) → IsLight place 1 ((x ∷ front) ++ back) → length back ≤ taken place back
+light_suffix place x [] back l = omega arith
+light_suffix place x (y ∷ front) back l = light_suffix place y front back l.1
+
+pub weight_of_suffix : (place : Setting) (labels : List (List ℕ)) (e : List Symbol) → Derives place labels e → (front back : List (List ℕ)) → labels ≡ front ++ back → front ≢ [] → weight place back ≤ℤ pos 0
+weight_of_suffix place labels e d [] back is n = absurd (n refl)
+weight_of_suffix place labels e d (x ∷ front) back is n =
+    let w = derived_weighs place d in
+    let P : List (List ℕ) → Type 0 = λ l. IsLight place 1 l in
+    let h = light_suffix place x front back (subst P is w.light) in
+    let v = weight_is place back in
+    omega (arith, ints)
+
+-- the function and the words
+found_part : (place : Setting) (x : List ℕ) (labels part : List (List ℕ)) → IsLastPart place labels part → IsLastPart place (x ∷ labels) part
+found_part place x labels part p = record {
+  front = x ∷ p.front;
+  whole = ap (λ w. x ∷ w) p.whole;
+  weighs_one = p.weighs_one;
+  shortest = further;
+}
+  where
+    further : (ahead back : List (List ℕ)) → x ∷ labels ≡ ahead ++ back → weight place back ≡ pos 1 → length part ≤ length back
+    further [] back e w = let l = ap length p.whole in let m = ap length e in omega (arith, length-append p.front part)
+    further (y ∷ ahead) back e w = p.shortest ahead back (cc) w
+
+whole_part : (place : Setting) (x : List ℕ) (labels : List (List ℕ)) → weight place (x ∷ labels) ≡ pos 1 → ((front back : List (List ℕ)) → labels ≡ front ++ back → weight place back ≢ pos 1) → IsLastPart place (x ∷ labels) (x ∷ labels)
+whole_part place x labels w none = record {
+  front = [];
+  whole = refl;
+  weighs_one = w;
+  shortest = further;
+}
+  where
+    further : (ahead back : List (List ℕ)) → x ∷ labels ≡ ahead ++ back → weight place back ≡ pos 1 → length (x ∷ labels) ≤ length back
+    further [] back e v = let m = ap length e in omega arith
+    further (y ∷ ahead) back e v = absurd (none ahead back (cc) v)
+
+-- what the answer says
+abbrev PartSays : Setting → List (List ℕ) → Option (List (List ℕ)) → Type 0
+PartSays place labels (Some part) = IsLastPart place labels part
+PartSays place labels None = (front back : List (List ℕ)) → labels ≡ front ++ back → weight place back ≢ pos 1
+
+part_more : (place : Setting) (x : List ℕ) (labels : List (List ℕ)) (o : Option (List (List ℕ))) (b : Bool) → int_eq (weight place (x ∷ labels)) (pos 1) ≡ b
+    → PartSays place labels o → PartSays place (x ∷ labels) (or_else o (if b then Some (x ∷ labels) else None))
+part_more place x labels (Some part) b t p = found_part place x labels part p
+part_more place x labels None true t p = whole_part place x labels ((Decides-int_eq (weight place (x ∷ labels)) (pos 1)).0 t) p
+part_more place x labels None false t p = none_of
+  where
+    none_of : (front back : List (List ℕ)) → x ∷ labels ≡ front ++ back → weight place back ≢ pos 1
+    none_of [] back e w = let u = (Decides-int_eq (weight place (x ∷ labels)) (pos 1)).1 (ap (weight place) e ∙ w) in cc
+    none_of (y ∷ front) back e w = p front back (cc) w
+
+part_says : (place : Setting) (labels : List (List ℕ)) → PartSays place labels (last_part place labels)
+part_says place [] = none_of
+  where
+    none_of : (front back : List (List ℕ)) → [] ≡ front ++ back → weight place back ≢ pos 1
+    none_of [] [] e w = cc
+    none_of [] (y ∷ back) e w = cc
+    none_of (y ∷ front) back e w = cc
+part_says place (x ∷ labels) = part_more place x labels (last_part place labels) (int_eq (weight place (x ∷ labels)) (pos 1)) refl (part_says place labels)
+
+pub last_part_shortest : (place : Setting) (labels : List (List ℕ)) → ((part : List (List ℕ)) → last_part place labels ≡ Some part
+    → IsLastPart place labels part) × (last_part place labels ≡ None → (front back : List (List ℕ)) → labels ≡ front ++ back → weight place back ≢ pos 1)
+last_part_shortest place labels = (λ part e. subst (PartSays place labels) e (part_says place labels), λ e. subst (PartSays place labels) e (part_says place labels))

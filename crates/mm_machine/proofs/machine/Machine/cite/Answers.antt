@@ -1,0 +1,16 @@
+use Rattle.mm_machine.specs.Language.CitedFrames.{mandatory_of}
+use Rattle.mm_machine.proofs.lemmas.machine.FlatLemmas.{range_mapped}
+use Rattle.mm_machine.proofs.machine.Machine.cite.Goals as goal
+
+pub cite_frame-requires-clause-whole : goal.cite_frame-requires-clause-whole
+cite_frame-requires-clause-whole g c = c.requires.whole
+
+pub cite_frame-requires-clause-frame : goal.cite_frame-requires-clause-frame
+cite_frame-requires-clause-frame g c = rw (range_mapped (mandatory_of g.S.Symbol.means) c.args.cited.now.first c.args.cited.now.last c.args.mandatory.now) c.requires.frame.frame
+
+pub returns : goal.returns
+returns g c = record {
+  cites = rw (range_mapped (mandatory_of g.S.Symbol.means) c.args.cited.now.first c.args.cited.now.last c.args.mandatory.now) at c.cite_frame.ensures.cites;
+  whole = c.cite_frame.ensures.whole;
+  saved = c.cite_frame.ensures.saved;
+}

@@ -1,0 +1,65 @@
+use Rattle.std.proofs.{Common.{List, map, subst, arith}, lemmas.{List.{length-map}, Option.{slice_get_within}}}
+use Rattle.mm_machine.specs.{Language.{Frame.{Symbol}, Typing.{IsTyped}, CitedFrames.{meant_pairs, meant_pair, hypotheses_of}}, Code.PairClause.{EachApart, SomeNotApart, AtSlots, span_of}}
+use Rattle.mm_machine.proofs.lemmas.machine.{FlatLemmas.{mapped_get}, ApartLemmas.{each_more}, PairClauseLemmas.{mapped_all}}
+use Rattle.mm_machine.proofs.pairs.all_apart.Goals as goal
+
+pub variables_of-first-requires : goal.variables_of-first-requires
+variables_of-first-requires g c =
+    let m = g.S.Symbol.means in
+    let hs = hypotheses_of m c.args.taken.now.hypotheses.now in
+    record {
+      typed = (mapped_all (meant_pair m) (λ (p : Symbol × Symbol). IsTyped hs p.0 × IsTyped hs p.1) c.args.pairs.now c.loop-n.n c.index-pairs-n.result c.loop-n-test.true c.index-pairs-n.is c.requires.typed).0;
+      spans = c.requires.spans;
+      count = c.requires.count;
+    }
+
+pub variables_of-second-requires : goal.variables_of-second-requires
+variables_of-second-requires g c =
+    let m = g.S.Symbol.means in
+    let hs = hypotheses_of m c.args.taken.now.hypotheses.now in
+    record {
+      typed = (mapped_all (meant_pair m) (λ (p : Symbol × Symbol). IsTyped hs p.0 × IsTyped hs p.1) c.args.pairs.now c.loop-n.n c.index-pairs-n.result c.loop-n-test.true c.index-pairs-n.is c.requires.typed).1;
+      spans = c.requires.spans;
+      count = c.requires.count;
+    }
+
+pub loop-n-preserved : goal.loop-n-preserved
+loop-n-preserved g c =
+    let m = g.S.Symbol.means in
+    let hs = hypotheses_of m c.args.taken.now.hypotheses.now in
+    let variables = map m c.args.gathered.now.variables.items in
+    let spans = c.args.gathered.now.spans.items in
+    let active = meant_pairs m c.args.active.now.pairs.now in
+    let x = c.index-pairs-n.result in
+    let first = c.variables_of-first.ensures in
+    let second = c.variables_of-second.ensures in
+    let P : List Symbol → List Symbol → Type 0 = EachApart active in
+    each_more (λ (p : Symbol × Symbol). AtSlots P hs variables spans p) (meant_pairs m c.args.pairs.now) c.loop-n.n (meant_pair m x)
+    (mapped_get (meant_pair m) c.args.pairs.now c.loop-n.n x c.loop-n-test.true c.index-pairs-n.is)
+    (first.0, second.0, first.1, second.1, subst (λ w. P w (span_of variables spans second.0)) first.2 (subst (λ w. P (map m c.variables_of-first.result.now) w) second.2 c.if-not-are_apart.ensures))
+    c.loop-n.invariant
+
+pub returns-then-not-are_apart : goal.returns-then-not-are_apart
+returns-then-not-are_apart g c =
+    let m = g.S.Symbol.means in
+    let variables = map m c.args.gathered.now.variables.items in
+    let spans = c.args.gathered.now.spans.items in
+    let active = meant_pairs m c.args.active.now.pairs.now in
+    let x = c.index-pairs-n.result in
+    let first = c.variables_of-first.ensures in
+    let second = c.variables_of-second.ensures in
+    let P : List Symbol → List Symbol → Type 0 = SomeNotApart active in (
+      c.loop-n.n,
+      meant_pair m x,
+      mapped_get (meant_pair m) c.args.pairs.now c.loop-n.n x c.loop-n-test.true c.index-pairs-n.is,
+      (first.0, second.0, first.1, second.1, subst (λ w. P w (span_of variables spans second.0)) first.2 (subst (λ w. P (map m c.variables_of-first.result.now) w) second.2 c.if-not-are_apart.ensures)),
+    )
+
+pub returns : goal.returns
+returns g c k p at =
+    let m = g.S.Symbol.means in
+    let w = slice_get_within (meant_pairs m c.args.pairs.now) k p at in
+    c.loop-n.invariant k p (omega (arith, c.loop-n-test.false, length-map c.args.pairs.now (meant_pair m))) at
+
+pub loop-n-init : goal.loop-n-init
+loop-n-init g c k x l at = absurd (omega arith)

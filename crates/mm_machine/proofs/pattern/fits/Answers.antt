@@ -1,0 +1,75 @@
+use Rattle.std.proofs.Common.{◌≡◌, ◌≤◌, ◌+◌, ◌++◌, [], false, map, take, drop, length, get_or, sym, ◌∙◌, ap, arith}
+use Rattle.std.proofs.lemmas.{Bool.{false≢true, eqb-true, eq-eqb}, List.{length-map, take_all, length-drop}, Option.{slice_get-get_or}}
+use Rattle.mm_machine.specs.Language.{Frame.{Symbol}, Substitution.{substituted, replacement}}
+use Rattle.mm_machine.proofs.lemmas.machine.FlatLemmas.{put_more, fits_on, fits_next, fits_short, fits_part, fits_end, range_map}
+use Rattle.mm_machine.proofs.pattern.fits.Goals as goal
+
+pub returns-then-count-entry : goal.returns-then-count-entry
+returns-then-count-entry g c given slots =
+    let m = g.S.Symbol.means in
+    let expression = map m c.args.expression.now in
+    let entry = map m c.args.entry.now in
+    let d : Symbol = record { name = []; variable = false } in
+    let k = c.loop-place.place in
+    let s = get_or expression k d in
+    let here = slice_get-get_or expression k d (omega (arith, length-map c.args.expression.now m, c.loop-place-test.true)) in
+    let part = ap length (c.replacement_of-part.ensures given s slots here) in (
+      λ t. absurd (false≢true t),
+      λ whole.
+          let next = fits_next given expression k s entry c.loop-place.at here (c.loop-place.invariant.joined given slots) whole in
+          let short = fits_short (drop c.loop-place.at entry) (replacement given s) (substituted given (drop (k + 1) expression)) next in
+          absurd (omega (arith, c.if-count-entry.true, length-drop c.loop-place.at entry, length-map c.args.entry.now m, c.count-count.ensures)),
+    )
+
+pub returns-then-not-is : goal.returns-then-not-is
+returns-then-not-is g c given slots =
+    let m = g.S.Symbol.means in
+    let expression = map m c.args.expression.now in
+    let entry = map m c.args.entry.now in
+    let d : Symbol = record { name = []; variable = false } in
+    let k = c.loop-place.place in
+    let s = get_or expression k d in
+    let n = c.count-count.result in
+    let at = c.loop-place.at in
+    let here = slice_get-get_or expression k d (omega (arith, length-map c.args.expression.now m, c.loop-place-test.true)) in
+    let part = c.replacement_of-part.ensures given s slots here in (
+      λ t. absurd (false≢true t),
+      λ whole.
+          let next = fits_next given expression k s entry at here (c.loop-place.invariant.joined given slots) whole in
+          let same = fits_part (drop at entry) (replacement given s) (substituted given (drop (k + 1) expression)) n (sym (ap length part) ∙ sym c.count-count.ensures) next in
+          absurd (false≢true (sym c.if-not-is.true ∙ c.is.ensures.1 (part ∙ same ∙ sym (range_map m c.args.entry.now at n)))),
+    )
+
+pub loop-place-preserved : goal.loop-place-preserved
+loop-place-preserved g c = record {
+  low = omega (arith, c.if-count-entry.false, c.loop-place.invariant.low);
+  joined = λ given slots.
+      let m = g.S.Symbol.means in
+      let expression = map m c.args.expression.now in
+      let entry = map m c.args.entry.now in
+      let d : Symbol = record { name = []; variable = false } in
+      let k = c.loop-place.place in
+      let s = get_or expression k d in
+      let n = c.count-count.result in
+      let at = c.loop-place.at in
+      let here = slice_get-get_or expression k d (omega (arith, length-map c.args.expression.now m, c.loop-place-test.true)) in
+      let part = c.replacement_of-part.ensures given s slots here in
+      let front = substituted given (take k expression) in
+      let same = sym part ∙ c.is.ensures.0 c.if-not-is.false ∙ range_map m c.args.entry.now at n in
+      fits_on entry front (replacement given s) at n same (c.loop-place.invariant.joined given slots)
+      ∙ ap (λ w. w ++ drop (at + n) entry) (sym (put_more given expression k s here));
+}
+
+pub returns : goal.returns
+returns g c given slots =
+    let m = g.S.Symbol.means in
+    let expression = map m c.args.expression.now in
+    let entry = map m c.args.entry.now in
+    let at = c.loop-place.at in
+    let all = take_all c.loop-place.place expression (omega (arith, length-map c.args.expression.now m, c.loop-place-test.false)) in
+    let low : at ≤ length entry = omega (arith, c.loop-place.invariant.low, length-map c.args.entry.now m) in
+    let joined : entry ≡ substituted given expression ++ drop at entry = c.loop-place.invariant.joined given slots ∙ ap (λ w. substituted given w ++ drop at entry) all in
+    let both = fits_end (substituted given expression) entry at low joined in (
+      λ t. both.0 (eqb-true at (length c.args.entry.now) t ∙ sym (length-map c.args.entry.now m)),
+      λ e. eq-eqb at (length c.args.entry.now) (both.1 e ∙ length-map c.args.entry.now m),
+    )

@@ -1,0 +1,11 @@
+use Rattle.std.proofs.Common.{◌≡◌, ◌≤◌, List, length, map, take}
+use Rattle.mm_machine.specs.{Language.{Frame.{Symbol}, Substitution.{substituted}, CitedFrames.{hypotheses_of}}, Code.Citation.{GivesVariables, entries_of}}
+use Rattle.mm_machine.proofs.pattern.is_short.Given as goal
+
+abbrev pub invariant-loop-place : goal.invariant-loop-place
+invariant-loop-place g l = record {
+  low : l.count ≤ 1000000;
+  so_far : (given : Symbol → List Symbol) → GivesVariables given (hypotheses_of g.S.Symbol.means l.taken.hypotheses.now)
+      (entries_of g.S.Symbol.means l.taken) (map g.S.Symbol.means l.expression) → l.count ≡ length (substituted given
+      (take l.place (map g.S.Symbol.means l.expression)));
+}

@@ -1,0 +1,14 @@
+use Rattle.std.proofs.Common.{◌≡◌, ◌+◌, List, length, take}
+use Rattle.mm_machine.specs.Language.{Frame.{Setting, AreSamePairs}, Typing.{HasFrames}, Expansion.{Step}, Machine.{State}, CitedFrames.{meant_pairs}}
+use Rattle.mm_machine.specs.Language.NamedSteps.{AreUses, actions_mean, named_expressions, saves_in}
+use Rattle.mm_machine.specs.Code.{MachineState.{AreRanges}, Tasks.{HasState}}
+use Rattle.mm_machine.proofs.lemmas.machine.{Reaching.{Follows}, StepLemmas.{KnownUpTo}}
+use Rattle.mm_machine.proofs.stepping.run_through.Given as goal
+
+abbrev pub invariant-loop-place : goal.invariant-loop-place
+invariant-loop-place g l = record {
+  whole : AreRanges l.machine;
+  count : length l.machine.saved.items ≡ length l.named.hypotheses.items + saves_in (take l.place l.steps);
+  follows : (place : Setting) (names : List Step) → HasFrames place → AreSamePairs (meant_pairs g.S.Symbol.means l.active.pairs.now) place.active → AreUses g.S.Symbol.means l.named place names →
+      KnownUpTo (actions_mean names l.steps) l.place × (state : State) × HasState g.S.Symbol.means (named_expressions g.S.Symbol.means l.named) l.machine state × Follows place (take l.place (actions_mean names l.steps)) state;
+}

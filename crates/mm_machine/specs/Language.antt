@@ -1,0 +1,22 @@
+-- The language: what the contracts of public calls cite, all the way down.
+pub mod Names
+pub mod Frame
+pub mod Typing
+pub mod NumberedSymbols
+pub mod Substitution
+pub mod Derivation
+pub mod Steps
+pub mod Expansion
+pub mod Faults
+pub mod Reaches
+pub mod Machine
+pub mod Run
+pub mod Verdict
+pub mod SameProof
+pub mod Renaming
+pub mod Numbering
+pub mod Keys
+pub mod CitedFrames
+pub mod NamedSteps
+pub mod Laws
+pub mod RunLaws

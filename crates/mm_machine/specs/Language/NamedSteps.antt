@@ -1,0 +1,118 @@
+-- What the labels of a proof name, what its steps mean by that, and what a run of them comes to.
+use Rattle.std.specs.Prelude.{◌≡◌, ◌≢◌, ℕ, ◌<◌, Some, List, [], ◌∷◌, length, map, take, slice_get, slice_index_or, sum_by, All}
+use Rattle.std.specs.List.{AllZip}
+use Rattle.mm_machine.specs.Language.Frame.{Symbol, Frame, Hypothesis, Assertion, Setting, AreSameFrame}
+use Rattle.mm_machine.specs.Language.Expansion.{Step, Named, Saved, Save, NotKnown}
+use Rattle.mm_machine.specs.Language.Machine.{AreAllKnown}
+use Rattle.mm_machine.specs.Language.Reaches.{Reaches, IsStepFault}
+use Rattle.mm_machine.specs.Language.Run.{run_part, IsReached}
+use Rattle.mm_machine.specs.Language.Verdict.{IsFirstUnknown}
+use Rattle.mm_machine.specs.Language.CitedFrames.{IsCitable, frame_of, hypotheses_of}
+use Rattle.mm_machine.specs.declared.step.Action.{Action}
+use Rattle.mm_machine.specs.declared.step.Action.TheVariants as actions
+use Rattle.mm_machine.specs.declared.step.ProofStep.{ProofStep}
+use Rattle.mm_machine.specs.declared.stepping.Front.{Front}
+use Rattle.mm_machine.specs.declared.stepping.Front.TheVariants.{Stops, Leaves}
+use Rattle.mm_machine.specs.declared.stepping.Outcome.{Outcome}
+use Rattle.mm_machine.specs.declared.stepping.Outcome.TheVariants.{Proved, Fault, Unknown, NotOne, Other}
+use Rattle.mm_machine.specs.declared.named.Use.{Use}
+use Rattle.mm_machine.specs.declared.named.Use.TheVariants as uses
+use Rattle.mm_machine.specs.declared.named.Named.{Named as Listed}
+
+-- the expressions of the hypotheses that are named
+abbrev pub named_expressions : {S : Type 0} → (S → Symbol) → Listed S → List (List Symbol)
+named_expressions means named = map (λ e. map means e.now) named.hypotheses.items
+
+-- the frames of its assertions
+abbrev pub named_frames : {S : Type 0} → (S → Symbol) → Listed S → List Frame
+named_frames means named = map (frame_of means (hypotheses_of means named.mandatory.items)) named.assertions.items
+
+-- each of its assertions can be cited
+abbrev pub AreCitable : {S : Type 0} → (S → Symbol) → Listed S → Type 0
+AreCitable means named = All (IsCitable means (hypotheses_of means named.mandatory.items)) named.assertions.items
+
+-- at this place the step is a label that means this hypothesis, or an assertion with the same frame; or it is a `?`, which has no use
+abbrev pub MeansUse : List (List Symbol) → List Frame → Setting → Use → Step → Type 0
+MeansUse expressions frames place (uses.Hypothesis n) (Named label) = (e : List Symbol) × (slice_get expressions n ≡ Some e) ×
+    (place.resolve label ≡ Hypothesis e)
+MeansUse expressions frames place (uses.Assertion n) (Named label) =
+    (kept frame : Frame) × (slice_get frames n ≡ Some kept) × (place.resolve label ≡ Assertion frame) × AreSameFrame kept frame
+MeansUse expressions frames place uses.Nothing NotKnown = Unit {0}
+MeansUse expressions frames place _ _ = ⊥
+
+-- at this place the labels of a proof, with these uses, are these steps
+abbrev pub AreUses : {S : Type 0} → (S → Symbol) → Listed S → Setting → List Step → Type 0
+AreUses means named place names = AllZip (MeansUse (named_expressions means named) (named_frames means named) place) named.uses.items names
+
+-- the number of a use is in range
+abbrev pub IsUseWithin : ℕ → ℕ → Use → Type 0
+IsUseWithin hypotheses assertions (uses.Hypothesis n) = n < hypotheses
+IsUseWithin hypotheses assertions (uses.Assertion n) = n < assertions
+IsUseWithin hypotheses assertions uses.Nothing = Unit {0}
+
+-- the uses of all labels are in range
+abbrev pub AreUsesWithin : {S : Type 0} → Listed S → Type 0
+AreUsesWithin named = All (IsUseWithin (length named.hypotheses.items) (length named.assertions.items)) named.uses.items
+
+-- what is put again was saved, after this many saves
+abbrev pub IsSavedWithin : ℕ → Action → Type 0
+IsSavedWithin saves (actions.Saved n) = n < saves
+IsSavedWithin saves _ = Unit {0}
+
+-- how many expressions a step with this action saves
+abbrev pub saves_by : Action → ℕ
+saves_by actions.Save = 1
+saves_by _ = 0
+
+-- how many steps save
+abbrev pub saves_in : List ProofStep → ℕ
+saves_in steps = sum_by (λ step. saves_by step.action) steps
+
+-- what a step pushes again was saved by a step before it
+abbrev pub AreSavedBefore : List ProofStep → Type 0
+AreSavedBefore steps = (n : ℕ) (step : ProofStep) → slice_get steps n ≡ Some step → IsSavedWithin (saves_in (take n steps)) step.action
+
+-- the step that an action stands for, if the labels of the proof's table are these steps
+abbrev pub meant : List Step → Action → Step
+meant names (actions.Label k) = slice_index_or names k NotKnown
+meant names (actions.Saved n) = Saved n
+meant names actions.Save = Save
+meant names actions.Unknown = NotKnown
+
+-- what the steps mean, if the table of the proof has these names
+abbrev pub actions_mean : List Step → List ProofStep → List Step
+actions_mean names steps = map (λ step. meant names step.action) steps
+
+-- what a run says of the steps of a proof
+abbrev pub RunSays : Setting → List Step → List Symbol → Outcome → Type 0
+RunSays place steps statement Proved = AreAllKnown steps × Reaches place steps (statement ∷ [])
+RunSays place steps statement (Fault number n) = IsStepFault place (run_part steps) n number
+RunSays place steps statement (Unknown n) = IsFirstUnknown steps n × IsReached place steps
+RunSays place steps statement NotOne = AreAllKnown steps × (stack : List (List Symbol)) × Reaches place steps stack × (length stack ≢ 1)
+RunSays place steps statement Other = AreAllKnown steps × (e : List Symbol) × Reaches place steps (e ∷ []) × (e ≢ statement)
+
+-- the steps stop at one that is at fault or not known
+abbrev pub StopsAt : Setting → List Step → Outcome → Type 0
+StopsAt place steps (Fault number n) = IsStepFault place (run_part steps) n number
+StopsAt place steps (Unknown n) = IsFirstUnknown steps n × IsReached place steps
+StopsAt place steps _ = ⊥
+
+-- all steps are known, and reach the stack
+abbrev pub AreDoneTo : Setting → List Step → List (List Symbol) → Type 0
+AreDoneTo place steps stack = AreAllKnown steps × Reaches place steps stack
+
+-- what a run says of the first steps of a proof: they stop, or all are done and leave this many entries
+abbrev pub FrontSays : Setting → List Step → Front → Type 0
+FrontSays place steps (Stops outcome) = StopsAt place steps outcome
+FrontSays place steps (Leaves count) = (stack : List (List Symbol)) × AreDoneTo place steps stack × (length stack ≡ count)
+
+-- the step that an outcome names is one of this many
+abbrev pub IsOutcomeWithin : ℕ → Outcome → Type 0
+IsOutcomeWithin steps (Fault number n) = n < steps
+IsOutcomeWithin steps (Unknown n) = n < steps
+IsOutcomeWithin steps _ = Unit {0}
+
+-- the step at which the first steps stop is one of this many
+abbrev pub IsFrontWithin : ℕ → Front → Type 0
+IsFrontWithin steps (Stops outcome) = IsOutcomeWithin steps outcome
+IsFrontWithin steps (Leaves count) = Unit {0}

@@ -1,0 +1,2 @@
+pub mod Language
+pub mod Code

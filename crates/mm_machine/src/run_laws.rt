@@ -1,0 +1,31 @@
+//! The laws of steps that are run.
+
+ghost use Rattle.mm_machine.specs.Language.RunLaws.{LackStops, PartsAreRun, StopsStay, SureByCounting};
+
+/// Steps that stop do so whatever comes after them.
+///
+/// For a check of `mm_verdict`, which may run the first steps of a proof alone.
+pub fn stops_stay()
+    ensures { StopsStay }
+{}
+
+/// A step that cites an assertion with more hypotheses than there are entries is at fault.
+///
+/// For a check of `mm_verdict`, which may run the first steps of a proof alone.
+pub fn lack_stops()
+    ensures { LackStops }
+{}
+
+/// Which steps are run: all of them, or those before the first unknown one.
+///
+/// For a check of `mm_verdict`, which counts the steps that are done.
+pub fn parts_are_run()
+    ensures { PartsAreRun }
+{}
+
+/// Steps are as decoding leaves them exactly if this holds from step to step, with a count of the saves.
+///
+/// For the law `decodes_surely` of `mm_verdict`.
+pub fn sure_by_counting()
+    ensures { SureByCounting }
+{}

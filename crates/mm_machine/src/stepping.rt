@@ -1,0 +1,263 @@
+//! A run of the steps of a proof.
+
+ghost use Rattle.std.specs.Prelude.{◌≡◌, ◌+◌, ◌-◌, ◌≤◌, ◌↔◌, ◌∷◌, [], ℕ, List, All, IfOk, OnOk, IfNone, IsTrue, MatchOption, IfSome, length};
+ghost use Rattle.std.specs.Prelude.{map, slice_index_or};
+ghost use Rattle.std.specs.List.{AllZip};
+ghost use Rattle.mm_machine.specs.Language.Frame.{Symbol as Meaning, Frame, Setting, AreSamePairs};
+ghost use Rattle.mm_machine.specs.Language.Typing.{HasFrames};
+ghost use Rattle.mm_machine.specs.Language.Expansion.{Step, NotKnown};
+ghost use Rattle.mm_machine.specs.Language.Faults.{IsLowest};
+ghost use Rattle.mm_machine.specs.Language.Machine.{State, Turns, nothing_yet};
+ghost use Rattle.mm_machine.specs.Language.CitedFrames.{meant_pairs};
+ghost use Rattle.mm_machine.specs.Language.NamedSteps.{AreCitable, AreDoneTo, AreSavedBefore, AreUses, AreUsesWithin, FrontSays, IsFrontWithin};
+ghost use Rattle.mm_machine.specs.Language.NamedSteps.{IsOutcomeWithin, IsSavedWithin, IsUseWithin, MeansUse, RunSays, StopsAt, actions_mean, meant};
+ghost use Rattle.mm_machine.specs.Language.NamedSteps.{named_expressions, named_frames, saves_by};
+ghost use Rattle.mm_machine.specs.Code.Tasks.{HasState, IsTaskWithin, MeansTask, saves_of};
+ghost use Rattle.mm_machine.specs.Code.MachineState.{state_of, AreRanges};
+
+use crate::ProofNumber;
+use crate::active::Active;
+use crate::kept::Kept;
+use crate::machine::Machine;
+use crate::named::{Named, Use};
+use crate::pattern::are_same;
+use crate::step::{Action, ProofStep};
+use crate::symbol::Symbol;
+use std::alloc::{AllocError, Global};
+
+/// What the machine does at a known step.
+#[derive(Clone, Copy)]
+pub enum Task {
+    /// It pushes the hypothesis with this number.
+    Push(usize),
+    /// It cites the assertion with this number.
+    Cite(usize),
+    /// It pushes what was saved under this number.
+    Again(usize),
+    /// It saves the entry on top.
+    Keep,
+}
+
+/// What a run comes to.
+#[derive(Clone, Copy)]
+pub enum Outcome {
+    /// The one entry at the end is the statement.
+    Proved,
+    /// The step with this number, from 0, has this fault, one of P07 to P13.
+    Fault(ProofNumber, usize),
+    /// The step with this number, from 0, is the first that is not known.
+    Unknown(usize),
+    /// There is not one entry at the end.
+    NotOne,
+    /// The one entry at the end is not the statement.
+    Other,
+}
+
+/// What the first steps of a proof come to.
+#[derive(Clone, Copy)]
+pub enum Front {
+    /// They stop at a step that is at fault or not known.
+    Stops(Outcome),
+    /// All are done, and leave this many entries.
+    Leaves(usize),
+}
+
+/// What an entry of a proof's table is used for; nothing if there is no such entry.
+fn use_of(uses: &[Use], k: usize) -> Use
+    ensures means { (expressions : List (List Meaning)) (frames : List Frame) (place : Setting) (names : List Step)
+        → AllZip (MeansUse expressions frames place) uses.now names
+        → MeansUse expressions frames place result (slice_index_or names k NotKnown) }
+    ensures within { (hypotheses assertions : ℕ) → All (IsUseWithin hypotheses assertions) uses.now → IsUseWithin hypotheses assertions result }
+{
+    if k < uses.len() {
+        uses[k]
+    } else {
+        Use::Nothing
+    }
+}
+
+/// What the machine does at a step with this action; nothing if the step is not known.
+fn task_of<'a, S: Kept>(named: &Named<'a, S>, action: Action) -> Option<Task>
+    ensures means { (place : Setting) (names : List Step) → AreUses S.means named.now place names
+        → MatchOption result (meant names action ≡ NotKnown)
+        (λ task. MeansTask (named_expressions S.means named.now) (named_frames S.means named.now) place task (meant names action)) }
+    ensures within { (saves : ℕ) → AreUsesWithin named.now → IsSavedWithin saves action
+        → IfSome result (λ task. IsTaskWithin (length named.now.hypotheses.items) (length named.now.assertions.items) saves task) }
+    ensures saves { IfSome result (λ task. saves_of task ≡ saves_by action) }
+{
+    match action {
+        Action::Label(k) => match use_of(&named.uses, k) {
+            Use::Hypothesis(n) => Some(Task::Push(n)),
+            Use::Assertion(n) => Some(Task::Cite(n)),
+            Use::Nothing => None,
+        },
+        Action::Saved(n) => Some(Task::Again(n)),
+        Action::Save => Some(Task::Keep),
+        Action::Unknown => None,
+    }
+}
+
+/// Does one task. Answers the number of its fault, if it has one.
+fn do_task<'a, S: Kept>(
+    alloc: Global,
+    machine: &mut Machine<S>,
+    named: &Named<'a, S>,
+    active: &Active<'a, S>,
+    task: Task,
+) -> Result<Option<ProofNumber>, AllocError>
+    requires whole { AreRanges machine.old }
+    requires frames { AreCitable S.means named.now }
+    requires loaded { length named.now.hypotheses.items ≤ length machine.old.saved.items }
+    requires within { IsTaskWithin (length named.now.hypotheses.items) (length named.now.assertions.items)
+        (length machine.old.saved.items - length named.now.hypotheses.items) task }
+    ensures whole { OnOk result (AreRanges machine.new) }
+    ensures turns { IfOk result (λ found. (place : Setting) (step : Step) (before : State)
+        → AreSamePairs (meant_pairs S.means active.now.pairs.now) place.active
+        → HasState S.means (named_expressions S.means named.now) machine.old before
+        → MeansTask (named_expressions S.means named.now) (named_frames S.means named.now) place task step
+        → MatchOption found ((after : State) × HasState S.means (named_expressions S.means named.now) machine.new after × Turns place step before after)
+        (IsLowest place step before.stack)) }
+    ensures saves { IfOk result (λ found. IfNone found (length machine.new.saved.items ≡ length machine.old.saved.items + saves_of task)) }
+{
+    match task {
+        Task::Push(n) => {
+            machine.push_saved(n)?;
+            Ok(None)
+        }
+        Task::Cite(n) => {
+            let found = machine.cite(alloc, &named.mandatory, &named.assertions[n], &*active)?;
+            Ok(found)
+        }
+        Task::Again(n) => {
+            machine.push_saved(named.hypotheses.len() + n)?;
+            Ok(None)
+        }
+        Task::Keep => {
+            if machine.save()? {
+                Ok(None)
+            } else {
+                Ok(Some(ProofNumber::P13))
+            }
+        }
+    }
+}
+
+/// Whether the one entry is an expression.
+fn is_top<S: Kept>(machine: &Machine<S>, expression: &[S]) -> bool
+    requires whole { AreRanges machine.now }
+    requires one { length machine.now.stack.items ≡ 1 }
+    ensures { IsTrue result ↔ ((state_of S.means machine.now).stack ≡ map S.means expression.now ∷ []) }
+{
+    let entry = machine.stack[0];
+    are_same(&machine.symbols[entry.start..entry.end], expression)
+}
+
+/// Keeps the expressions of the hypotheses that are named.
+fn load<'a, S: Kept>(
+    alloc: Global,
+    machine: &mut Machine<S>,
+    named: &Named<'a, S>,
+) -> Result<(), AllocError>
+    requires whole { AreRanges machine.old }
+    requires nothing { state_of S.means machine.old ≡ nothing_yet }
+    ensures whole { OnOk result (AreRanges machine.new) }
+    ensures state { OnOk result (HasState S.means (named_expressions S.means named.now) machine.new nothing_yet) }
+{
+    for n in 0..named.hypotheses.len() {
+        let expression = named.hypotheses[n];
+        machine.load(alloc, expression)?;
+    }
+    Ok(())
+}
+
+/// Runs steps up to the first that is at fault or not known, and answers what they come to. If there is none, all are done,
+/// and it answers `None`.
+fn run_through<'a, S: Kept>(
+    alloc: Global,
+    machine: &mut Machine<S>,
+    named: &Named<'a, S>,
+    active: &Active<'a, S>,
+    steps: &[ProofStep],
+) -> Result<Option<Outcome>, AllocError>
+    requires frames { AreCitable S.means named.now }
+    requires within { AreUsesWithin named.now }
+    requires saved { AreSavedBefore steps.now }
+    ensures whole { OnOk result (AreRanges machine.new) }
+    ensures within { IfOk result (λ found. IfSome found (IsOutcomeWithin (length steps.now))) }
+    ensures says { IfOk result (λ found. (place : Setting) (names : List Step) → HasFrames place
+        → AreSamePairs (meant_pairs S.means active.now.pairs.now) place.active → AreUses S.means named.now place names
+        → MatchOption found (AreDoneTo place (actions_mean names steps.now) (state_of S.means machine.new).stack)
+        (StopsAt place (actions_mean names steps.now))) }
+{
+    machine.clear();
+    load(alloc, &mut *machine, &*named)?;
+    for place in 0..steps.len() {
+        let Some(task) = task_of(&*named, steps[place].action) else {
+            return Ok(Some(Outcome::Unknown(place)));
+        };
+        if let Some(number) = do_task(alloc, &mut *machine, &*named, &*active, task)? {
+            return Ok(Some(Outcome::Fault(number, place)));
+        }
+    }
+    Ok(None)
+}
+
+/// Runs the first steps of a proof, up to one that is at fault or not known, and answers whether they stop there or how many
+/// entries they leave. What the machine has from other runs does not count.
+///
+/// The assertions that are named can be cited, each number is in range, and what is pushed again was saved before. It takes
+/// time near linear in the symbols of the entries that are made and compared, and memory for these. The only error is out of
+/// memory, and the machine can be used again after it.
+pub fn run_counted<'a, S: Kept>(
+    alloc: Global,
+    machine: &mut Machine<S>,
+    named: &Named<'a, S>,
+    active: &Active<'a, S>,
+    steps: &[ProofStep],
+) -> Result<Front, AllocError>
+    requires frames { AreCitable S.means named.now }
+    requires within { AreUsesWithin named.now }
+    requires saved { AreSavedBefore steps.now }
+    ensures within { IfOk result (IsFrontWithin (length steps.now)) }
+    ensures says { IfOk result (λ front. (place : Setting) (names : List Step) → HasFrames place
+        → AreSamePairs (meant_pairs S.means active.now.pairs.now) place.active → AreUses S.means named.now place names
+        → FrontSays place (actions_mean names steps.now) front) }
+{
+    match run_through(alloc, &mut *machine, &*named, &*active, steps)? {
+        Some(outcome) => Ok(Front::Stops(outcome)),
+        None => Ok(Front::Leaves(machine.stack.len())),
+    }
+}
+
+/// Runs the steps of a proof of a statement, up to the first that is at fault or not known. What the machine has from
+/// other runs does not count.
+///
+/// It requires what [`run_counted`] does, and costs the same.
+pub fn run<'a, S: Kept>(
+    alloc: Global,
+    machine: &mut Machine<S>,
+    named: &Named<'a, S>,
+    active: &Active<'a, S>,
+    steps: &[ProofStep],
+    statement: &[S],
+) -> Result<Outcome, AllocError>
+    requires frames { AreCitable S.means named.now }
+    requires within { AreUsesWithin named.now }
+    requires saved { AreSavedBefore steps.now }
+    ensures within { IfOk result (IsOutcomeWithin (length steps.now)) }
+    ensures says { IfOk result (λ outcome. (place : Setting) (names : List Step) → HasFrames place
+        → AreSamePairs (meant_pairs S.means active.now.pairs.now) place.active
+        → AreUses S.means named.now place names → RunSays place (actions_mean names steps.now) (map S.means statement.now) outcome) }
+{
+    if let Some(outcome) = run_through(alloc, &mut *machine, &*named, &*active, steps)? {
+        return Ok(outcome);
+    }
+    if machine.stack.len() != 1 {
+        return Ok(Outcome::NotOne);
+    }
+    if is_top(&*machine, statement) {
+        Ok(Outcome::Proved)
+    } else {
+        Ok(Outcome::Other)
+    }
+}

@@ -1,0 +1,104 @@
+//! Symbols of expressions.
+
+ghost use Rattle.std.specs.Prelude.{◌≡◌, ◌↔◌, IsTrue, IfOk};
+ghost use Rattle.mm_machine.specs.Language.NumberedSymbols.{by_number, named_symbol};
+ghost use Rattle.mm_machine.specs.Language.Frame.{Symbol as Meaning};
+
+use std::alloc::{AllocError, Global};
+
+/// A symbol by the number of its name among some names, as a constant or as a variable.
+#[derive(Clone, Copy, Debug, PartialEq, Eq, PartialOrd, Ord)]
+pub struct NumberedSymbol {
+    /// The number of its name.
+    pub name: usize,
+    /// It is a variable, and else a constant.
+    pub variable: bool,
+}
+
+/// A name, as a constant or as a variable.
+#[derive(Drop)]
+pub struct NamedSymbol {
+    /// How it is spelled.
+    pub name: Vec<u8>,
+    /// It is a variable, and else a constant.
+    pub variable: bool,
+}
+
+impl NumberedSymbol {
+    /// Whether two symbols are the same, by one list of names: of one number, and both constants or both variables.
+    pub fn same(&self, other: &NumberedSymbol) -> bool
+        ensures { IsTrue result ↔ (self.now ≡ other.now) }
+    {
+        self.name == other.name && self.variable == other.variable
+    }
+}
+
+impl NamedSymbol {
+    /// Whether two symbols are the same: of one name, and both constants or both variables.
+    pub fn same(&self, other: &NamedSymbol) -> bool
+        ensures { IsTrue result ↔ (named_symbol self.now ≡ named_symbol other.now) }
+    {
+        self.variable == other.variable && self.name == other.name
+    }
+
+    /// The same symbol once more. It fails if there is no memory for the name.
+    pub fn copy(&self, alloc: Global) -> Result<NamedSymbol, AllocError>
+        ensures { IfOk result (λ copy. named_symbol copy ≡ named_symbol self.now) }
+    {
+        let name = Vec::from_slice(alloc, &self.name)?;
+        Ok(NamedSymbol {
+            name,
+            variable: self.variable,
+        })
+    }
+}
+
+/// A symbol of expressions, by its name or by a number.
+pub trait Symbol: Drop {
+    /// The name, and whether it is a variable.
+    ghost means: { Self → Meaning };
+
+    /// Whether the two are the same symbol.
+    fn same(&self, other: &Self) -> bool
+        ensures { IsTrue result ↔ (means self.now ≡ means other.now) };
+
+    /// Whether it is a variable.
+    fn is_variable(&self) -> bool
+        ensures { result ≡ (means self.now).variable };
+
+    /// The same symbol once more. It fails if there is no memory for a name; a symbol by a number takes none.
+    fn copy(&self, alloc: Global) -> Result<Self, AllocError>
+        ensures { IfOk result (λ copy. means copy ≡ means self.now) };
+}
+
+impl Symbol for NamedSymbol {
+    ghost means = { named_symbol };
+
+    fn same(&self, other: &Self) -> bool {
+        NamedSymbol::same(self, other)
+    }
+
+    fn is_variable(&self) -> bool {
+        self.variable
+    }
+
+    fn copy(&self, alloc: Global) -> Result<Self, AllocError> {
+        NamedSymbol::copy(self, alloc)
+    }
+}
+
+impl Symbol for NumberedSymbol {
+    ghost means = { by_number };
+
+    fn same(&self, other: &Self) -> bool {
+        NumberedSymbol::same(self, other)
+    }
+
+    fn is_variable(&self) -> bool {
+        self.variable
+    }
+
+    fn copy(&self, _alloc: Global) -> Result<Self, AllocError> {
+        Ok(*self)
+    }
+}

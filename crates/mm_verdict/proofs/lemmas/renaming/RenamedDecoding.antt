@@ -1,0 +1,50 @@
+-- A renaming of symbols, one to one, keeps what a proof decodes to and which of its words cite.
+use Rattle.std.proofs.Common.{◌≡◌, ℕ, ◌+◌, Result, Ok, Err, List, length, map, drop, refl, sym, ap, ◌∙◌, if◌then◌else◌, ◌&&◌, filter, bytes_eq, codes}
+use Rattle.std.specs.List.{list_any, before_first, after_first}
+use Rattle.mm_machine.specs.Language.{Frame.{Symbol, Resolved, Hypothesis, Assertion, Inactive, Unknown, Setting}, Expansion.{Step, NotKnown}, Verdict.{Decoded}, SameProof.{AreSameMeaning}}
+use Rattle.mm_machine.specs.Language.Renaming.{renamed_meaning, IsRenamedSetting}
+use Rattle.mm_machine.specs.declared.{Spot.{Spot}, ProofNumber.{ProofNumber, TheVariants.{P03}}, step.ProofFault.{ProofFault}}
+use Rattle.mm_verdict.specs.Language.Decoding.{Steps, in_order, usable, read_label, each_word, is_close, if_read, letter_steps, is_compressed, decoded, word_spot, decoding}
+use Rattle.mm_verdict.specs.Language.{Citing.{label_words, firsts, means_assertion, names_assertion, cites}, DecodingLaws.{RenamingKeepsDecoding}}
+
+-- what words decode to, by what their labels are read as
+abbrev steps_by : (List ℕ → Result Step ProofNumber) → List (List ℕ) → List (List ℕ) → Spot → Steps
+steps_by read mandatory words close =
+    if is_compressed words then (let listed = before_first is_close (drop 1 words) in
+    if_read (in_order (each_word read 1 listed))
+    (if list_any is_close (drop 1 words) then letter_steps mandatory listed (length listed + 2) (after_first is_close (drop 1 words)) close
+    else Err (record { number = P03; spot = close })))
+    else in_order (each_word (λ word. if bytes_eq word (codes "?") then Ok NotKnown else read word) 0 words)
+
+abbrev decoded_by : (List ℕ → Result Step ProofNumber) → List (List ℕ) → List (List ℕ) → Result Decoded ProofFault
+decoded_by read mandatory words = decoded (word_spot (length words)) (steps_by read mandatory words (word_spot (length words)))
+
+decoding_is : (place : Setting) (mandatory words : List (List ℕ)) → decoding place mandatory words ≡ decoded_by (read_label place) mandatory words
+decoding_is place mandatory words = refl
+
+usable_alike : (to : Symbol → Symbol) (label : List ℕ) (r s : Resolved) → AreSameMeaning (renamed_meaning to r) s → usable label r ≡ usable label s
+usable_alike to label (Hypothesis e) (Hypothesis f) m = refl
+usable_alike to label (Assertion a) (Assertion b) m = refl
+usable_alike to label Inactive Inactive m = refl
+usable_alike to label Unknown Unknown m = refl
+usable_alike to label _ _ m = absurd m
+
+means_alike : (to : Symbol → Symbol) (r s : Resolved) → AreSameMeaning (renamed_meaning to r) s → means_assertion r ≡ means_assertion s
+means_alike to (Hypothesis e) (Hypothesis f) m = refl
+means_alike to (Assertion a) (Assertion b) m = refl
+means_alike to Inactive Inactive m = refl
+means_alike to Unknown Unknown m = refl
+means_alike to _ _ m = absurd m
+
+decoding_renamed : (to : Symbol → Symbol) (place other : Setting) → IsRenamedSetting to place other → (mandatory words : List (List ℕ)) → decoding place mandatory words ≡ decoding other mandatory words
+decoding_renamed to place other s mandatory words =
+    let same : read_label place ≡ read_label other = λ i. λ label. usable_alike to label (place.resolve label) (other.resolve label) (s.resolve label) i in
+    decoding_is place mandatory words ∙ ap (λ (read : List ℕ → Result Step ProofNumber). decoded_by read mandatory words) same ∙ sym (decoding_is other mandatory words)
+
+cites_renamed : (to : Symbol → Symbol) (place other : Setting) → IsRenamedSetting to place other → (words : List (List ℕ)) (d : Result Decoded ProofFault) → cites place words d ≡ cites other words d
+cites_renamed to place other s words (Ok d) =
+    λ i. map (λ (word : ℕ × List ℕ). word.0) (filter (λ word. means_alike to (place.resolve word.1) (other.resolve word.1) (s.resolve word.1) i && list_any (names_assertion word.1) d.steps) (firsts (label_words words)))
+cites_renamed to place other s words (Err fault) = refl
+
+pub keeps_decoding : RenamingKeepsDecoding
+keeps_decoding to place other s mandatory words = (decoding_renamed to place other s mandatory words, cites_renamed to place other s words)

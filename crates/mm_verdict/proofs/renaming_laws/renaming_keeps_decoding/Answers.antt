@@ -1,5 +1,0 @@
-use Rattle.mm_verdict.proofs.lemmas.renaming.RenamingLemmas.{keeps_decoding}
-use Rattle.mm_verdict.proofs.renaming_laws.renaming_keeps_decoding.Goals as goal
-
-pub returns : goal.returns
-returns c = keeps_decoding

@@ -1,5 +1,0 @@
-use Rattle.mm_verdict.proofs.lemmas.renaming.RenamingLemmas.{keeps_verdicts}
-use Rattle.mm_verdict.proofs.renaming_laws.renaming_keeps_verdicts.Goals as goal
-
-pub returns : goal.returns
-returns c = keeps_verdicts

@@ -1,9 +1,0 @@
-use Rattle.std.proofs.Common.{◌≡◌, ◌<◌, drop}
-use Rattle.mm_verdict.specs.Code.Keys.{key_from}
-use Rattle.mm_verdict.proofs.symbol.NamedSymbolKept.key.Given as goal
-
-abbrev pub invariant-loop-byte : goal.invariant-loop-byte
-invariant-loop-byte l = record {
-  within : l.key < 4294967296;
-  rest : key_from l.key (drop l.byte-index l.self.name.items) ≡ key_from 0 l.self.name.items;
-}

@@ -1,5 +1,0 @@
-use Rattle.mm_verdict.proofs.lemmas.verdicts.Weights.{weight_of_derived}
-use Rattle.mm_verdict.proofs.verdict_laws.derived_weighs_one.Goals as goal
-
-pub returns : goal.returns
-returns c = weight_of_derived

@@ -1,5 +1,0 @@
-use Rattle.mm_verdict.proofs.lemmas.machine.Counting.{one_count}
-use Rattle.mm_verdict.proofs.verdict_laws.has_one_count.Goals as goal
-
-pub returns : goal.returns
-returns c = one_count

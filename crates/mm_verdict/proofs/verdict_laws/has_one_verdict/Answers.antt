@@ -1,5 +1,0 @@
-use Rattle.mm_verdict.proofs.lemmas.verdicts.OneVerdict.{same_verdict}
-use Rattle.mm_verdict.proofs.verdict_laws.has_one_verdict.Goals as goal
-
-pub returns : goal.returns
-returns c = same_verdict

@@ -1,5 +1,0 @@
-use Rattle.mm_verdict.proofs.lemmas.machine.Turning.{no_turn}
-use Rattle.mm_verdict.proofs.verdict_laws.never_turns_and_fails.Goals as goal
-
-pub returns : goal.returns
-returns c = λ place is s after step number t h. no_turn place is s after step number h t

@@ -1,5 +1,0 @@
-use Rattle.mm_verdict.proofs.lemmas.machine.Substituted.{only_mandatory}
-use Rattle.mm_verdict.proofs.verdict_laws.only_mandatory_count.Goals as goal
-
-pub returns : goal.returns
-returns c = only_mandatory

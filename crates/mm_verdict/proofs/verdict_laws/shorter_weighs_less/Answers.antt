@@ -1,5 +1,0 @@
-use Rattle.mm_verdict.proofs.lemmas.verdicts.Weights.{weight_of_suffix}
-use Rattle.mm_verdict.proofs.verdict_laws.shorter_weighs_less.Goals as goal
-
-pub returns : goal.returns
-returns c = weight_of_suffix
