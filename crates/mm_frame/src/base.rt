@@ -92,8 +92,8 @@ fn floats_among(alloc: Global, items: &[Item]) -> Result<Vec<bool>, AllocError>
 
 impl Base {
     /// Builds the base of the files from a top file on. `NoTop` comes if no file has the name `top`; any other
-    /// error is `Memory`. It reads each item once, in time near linear in the texts and in the lists of active pairs,
-    /// of which it makes one for each last active `$d` of a sound `$p`.
+    /// error is `Memory`. It reads each item once, in time near linear in the texts and in the lists of active pairs.
+    /// It makes one such list for each last active `$d` of a sound `$p`.
     ///
     /// A base has numbers in place of names of symbols, and is read through the names as they are afterwards, or through
     /// any that begin with these. New names come after those that were there, also if there is an error.
@@ -121,10 +121,10 @@ impl Base {
         })
     }
 
-    /// Builds the base of the files from a top file on as `build` does, with an older base whose items can still be read: of a
-    /// `$d`, `$e`, `$a` or `$p` that is the same bytes as an item of the older one, in the same order, the numbers of the
-    /// symbols are taken from there, and no symbol is read. As long as all items are the same ones, what is sound is not judged
-    /// again.
+    /// Builds the base of the files from a top file on as `build` does, with an older base whose items can still be read. A
+    /// `$d`, `$e`, `$a` or `$p` may be the same bytes as an item of the older base, in the same order. The numbers of its
+    /// symbols are then taken from there, and no symbol is read. As long as all items are the same ones, what is sound is not
+    /// judged again.
     ///
     /// The lists are made in the room that the older base has from the one before it, if it has any. The older base answers as
     /// before.

@@ -208,8 +208,8 @@ fn must_differ(kind: ItemKind) -> bool
     )
 }
 
-/// What is wrong with the n-th symbol, counted from 0, which has this number, if it is known whether it occurs earlier
-/// in the same statement, for a kind that forbids this.
+/// What is wrong with the n-th symbol, counted from 0, which has this number. For a kind that forbids a symbol twice it is
+/// known whether this one occurs earlier in the same statement.
 fn symbol_fault(
     scope: &Scope,
     statement: &Statement,
@@ -389,8 +389,8 @@ fn are_right(scope: &Scope, statement: &Statement, symbols: &[NumberedSymbol]) -
     true
 }
 
-/// Whether a statement is a `$e`, `$a` or `$p` that has no fault after the sound items of a scope, and each of its symbols,
-/// which are known, is a constant or a variable as its name is.
+/// Whether a statement is a `$e`, `$a` or `$p` that has no fault after the sound items of a scope. Its symbols are known, and
+/// each of them has to be a constant or a variable as its name is.
 ///
 /// It takes no memory, and time near linear in the symbols; no word is read.
 pub fn is_sound_as_known(

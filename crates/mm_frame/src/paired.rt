@@ -21,8 +21,8 @@ use std::alloc::{AllocError, Global};
 /// For each variable, by the number of its name, the numbers of the `$d` that have it, rising: of all that are active,
 /// and of some that are not.
 ///
-/// To take a `$d` takes time linear in its variables. Whether two variables are an active pair takes that of a search
-/// in the longer of their rows for each number in the shorter one, up to the first that both have; if both rows are
+/// To take a `$d` takes time linear in its variables. Whether two variables are an active pair is looked up in their rows.
+/// Each number in the shorter row is searched for in the longer one, up to the first that both have. If both rows are
 /// long, and the two were looked up before, no number is searched for again.
 #[derive(Drop)]
 pub struct PairTable {

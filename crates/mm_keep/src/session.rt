@@ -200,8 +200,8 @@ impl Session {
         }
     }
 
-    /// Does an edit of the files. Then it runs, in order, the proof of each sound `$p` of the edited files, unless the files
-    /// before had a sound `$p` of the same label with an equal view. The answer is the record of these runs.
+    /// Does an edit of the files. Then it runs, in order, the proofs of the sound `$p` of the edited files. A proof is not run
+    /// if the files before had a sound `$p` of the same label with an equal view. The answer is the record of these runs.
     ///
     /// The errors are those of [`Files::edit`], in its order; `Memory` can come in the place of each but the first two,
     /// and in the place of success. After any error the session is as before.
@@ -223,8 +223,8 @@ impl Session {
     }
 
     /// Does all these edits, one after another, each on the files after those before it, or none of them. Then it runs, in
-    /// order, the proof of each sound `$p` of the files after them all, unless the files before them all had a sound `$p` of
-    /// the same label with an equal view. So each proof is run once at most.
+    /// order, the proofs of the sound `$p` of the files after them all. A proof is not run if the files before them all had a
+    /// sound `$p` of the same label with an equal view. So each proof is run once at most.
     ///
     /// If an edit is refused, the error has its number, from 0, and the reason, which is never out of memory. After any
     /// error the session is as before. No edits are accepted, and run nothing.

@@ -17,9 +17,9 @@ use mm_frame::{
 use std::alloc::{AllocError, Global};
 use std::marker::Model;
 
-/// What stays of an item: the number of the sound item of the old base that has its label, whether both have the same
-/// frame, whether they are the same hypothesis, whether both have the same active pairs, and whether every label that is
-/// not listed as changed means the same at both.
+/// What stays of an item: the number of the sound item of the old base that has its label, and what is the same of both.
+/// That is their frame, their hypothesis, their active pairs, or the meaning at both of every label that is not listed as
+/// changed.
 #[derive(Clone, Copy)]
 struct Mark {
     old: Option<u32>,
@@ -382,8 +382,8 @@ impl Marks {
         }
     }
 
-    /// Whether the item `m` of the new base is a sound `$a` or `$p` before the item `j`, and the old base has one with its
-    /// label and the same frame before the item `i`.
+    /// Whether the item `m` of the new base is a sound `$a` or `$p` before the item `j`. The old base has to have one with
+    /// its label and the same frame before the item `i`.
     pub(crate) fn keeps(&self, m: usize, i: usize, j: usize) -> bool
         ensures { IsTrue result → ((mark_at self.now m).frame ≡ true) × (m < j) × ((k : ℕ) × ((mark_at self.now m).old ≡ Some k) × (k < i)) }
     {
@@ -404,8 +404,8 @@ impl Marks {
         }
     }
 
-    /// Whether every label that is not listed as changed means the same at the item `j` of the new base as at the one of the
-    /// old base with its label.
+    /// Whether every label that is not listed as changed means the same at the item `j` of the new base and at the one of
+    /// its label in the old base.
     pub(crate) fn in_step(&self, j: usize) -> bool
         ensures { result ≡ (mark_at self.now j).in_step }
     {

@@ -4,8 +4,8 @@ ghost use Rattle.mm_report.specs.Language.Laws.{OneReport};
 
 /// Files have one report at most from a top file on, which the keys of their pieces do not change.
 ///
-/// So the bytes that `write_report` writes depend on nothing but the names and the texts of the files, as they are
-/// cut into pieces, and the name of the top file.
+/// So the bytes that `write_report` writes depend on the names and the pieces of the files, and the name of the top file.
+/// They depend on nothing else.
 pub fn one_report()
     ensures { OneReport }
 {

@@ -6,8 +6,8 @@ use mm_keep::Session;
 
 /// A script has one list of answers and one end, and the files after it are the same but for the keys of their pieces.
 ///
-/// So what `run_script` writes depends on nothing but the script, the names and the texts of the files, as they are cut
-/// into pieces, and the name of the top file.
+/// So what `run_script` writes depends on the script, the names and the pieces of the files, and the name of the top file.
+/// It depends on nothing else.
 pub fn one_script_answer()
     ensures { OneScriptAnswer }
 {

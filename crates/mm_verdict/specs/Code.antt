@@ -14,5 +14,4 @@ pub mod MarkedLabels
 pub mod Judged
 pub mod DecodedProof
 pub mod NumberedBase
-pub mod Spelled
 pub mod ShortSteps

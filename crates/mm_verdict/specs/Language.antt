@@ -13,4 +13,5 @@ pub mod ItemLaws
 pub mod View
 pub mod Work
 pub mod ReadIn
+pub mod Programs
 pub mod Examples

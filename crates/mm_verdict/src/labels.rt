@@ -40,8 +40,8 @@ pub fn read_label(base: &Base, i: usize, label: &[u8], n: usize) -> Result<Resol
     }
 }
 
-/// Reads the list of labels after the `(` of a compressed proof, adds what they mean to the `labels`, and gives the
-/// number of the first `)`; the words after it are left. After an error some may have been added.
+/// Reads the list of labels after the `(` of a compressed proof, and adds what they mean to the `labels`. The answer is the
+/// number of the first `)`, and the words after it are left. After an error some may have been added.
 pub fn read_list(
     base: &Base,
     i: usize,

@@ -227,9 +227,9 @@ impl LetterReader {
     }
 }
 
-/// The steps of the letters of a proof, which are the words that are left, from the word with the number `from` on, where
-/// numbers name this many labels and then the saves; with marks for the labels. They are put in place of what the lists
-/// have.
+/// The steps of the letters of a proof, with marks for the labels. The letters are the words that are left, and the first
+/// of these has the number `from`. Numbers name this many labels, and then the saves. The steps are put in place of what
+/// the lists have.
 pub fn read_letters(
     room: MarkedSteps,
     words: &mut ProofWords,

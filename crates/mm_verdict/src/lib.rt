@@ -13,12 +13,9 @@ mod known;
 mod labels;
 mod letters;
 mod named;
+mod program;
 mod reading;
 mod short;
-#[cfg(test)]
-mod symbol_tests;
-#[cfg(test)]
-mod tests;
 mod undecoded;
 mod used;
 mod words;
@@ -40,6 +37,7 @@ pub use item_laws::{
 };
 pub use mm_frame::{Base, Files, Names, ProofWords, Resolved};
 pub use mm_machine::{Action, ProofFault, ProofNumber, ProofStep, Spot, Verdict};
+pub use program::{Program, program_of};
 pub use reading::{Decoding, decode};
 pub use undecoded::Undecoded;
 pub use words::{is_close, is_open, is_unknown};

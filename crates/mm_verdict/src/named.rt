@@ -178,8 +178,8 @@ impl<'a> Naming<'a> {
     }
 }
 
-/// What the labels of a proof's table name, in a base of which these assertions are known; what naming uses over again; and
-/// the numbers of the assertions that are known now.
+/// What the labels of a proof's table name, in a base of which these assertions are known. The others in the answer are what
+/// naming uses over again, and the numbers of the assertions that are known now.
 pub fn name_all<'a>(
     base: &'a Base,
     labels: &[Resolved],

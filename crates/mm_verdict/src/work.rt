@@ -117,8 +117,8 @@ impl Work {
         &self.runs
     }
 
-    /// How many steps were done in all runs, the ones at fault included: none for a proof with a decoding fault, and
-    /// those before the first unknown one for a proof that has one.
+    /// How many steps were done in all runs, the ones at fault included. For a proof with a decoding fault there are none.
+    /// For a proof with unknown steps there are those before the first one.
     pub fn steps(&self) -> u64
         ensures { result ≡ self.now.steps }
     {

@@ -4,11 +4,17 @@
 #[cfg(test)]
 mod bases;
 #[cfg(test)]
+mod checks;
+#[cfg(test)]
 mod edits;
 mod files;
+#[cfg(test)]
+mod machines;
 #[cfg(test)]
 mod streams;
 #[cfg(test)]
 mod texts;
+#[cfg(test)]
+mod theorems;
 #[cfg(test)]
 mod views;

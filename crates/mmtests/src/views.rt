@@ -5,6 +5,7 @@ ghost use Rattle.mm_proof.specs.mm_frame.Language.Answering.{IsBase};
 ghost use Rattle.mm_proof.specs.mm_frame.Language.Base.{BaseView, is_proof_at};
 ghost use Rattle.mm_proof.specs.mm_verdict.Language.ReadIn.{IsReadIn};
 
+use crate::theorems::theorem;
 use mm_proof::{Base, Files, Names, same_view};
 use std::alloc::Global;
 use std::mem;
@@ -113,18 +114,6 @@ ${ $d x z $. t $p |- x $= wx wz wx wz a1 b2 $. $}",
         same: false,
     },
 ];
-
-/// The number of the theorem with a label.
-fn theorem(base: &Base, label: &[u8]) -> Option<usize>
-    ensures { IfSome result (λ i. (view : BaseView) → IsBase view base.now → (i < length view.said) × (is_proof_at view i ≡ true)) }
-{
-    let i = base.find(label)?;
-    if i < base.count() && base.pairs(i).is_some() {
-        Some(i)
-    } else {
-        None
-    }
-}
 
 /// Whether the views of the theorems are the same or not, as it is wanted.
 fn is_compared(names: &Names, files: &Files, one: &Base, other: &Base, same: bool) -> bool

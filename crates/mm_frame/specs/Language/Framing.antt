@@ -1,4 +1,4 @@
--- Frames: the mandatory variables, hypotheses and pairs of an assertion, and what a label means (Metamath book, section 4.2).
+-- Frames: the mandatory variables, hypotheses and pairs of an assertion, and what a label means (Metamath book, section 4.2.7).
 use Rattle.std.specs.Prelude.{ℕ, Bool, ◌&&◌, ◌||◌, if◌then◌else◌, List, [], ◌∷◌, ◌++◌, take, map, filter, flat_map}
 use Rattle.mm_machine.specs.Language.Frame.{Symbol, Mandatory, Frame, Resolved, Hypothesis, Assertion, Inactive, Unknown, Setting}
 use Rattle.mm_statement.specs.Language.Item.{Item, is_disjoint, is_floating, is_essential, is_assertion, has, labels_of, variable_of}

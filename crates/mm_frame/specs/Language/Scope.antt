@@ -1,4 +1,4 @@
--- Scopes: what is declared, and what is active after a list of items (Metamath book, section 4.2).
+-- Scopes: what is declared, and what is active after a list of items (Metamath book, section 4.2.8).
 use Rattle.std.specs.Prelude.{ℕ, zero, suc, pred, Bool, true, false, ◌&&◌, if◌then◌else◌, ltb, List, [], ◌∷◌, filter, map, flat_map, count_by}
 use Rattle.mm_statement.specs.Language.Item.{Kind, BlockStart, BlockEnd, Item, is_constants, is_variables, is_floating, labels_of, variable_of}
 

@@ -1,4 +1,4 @@
--- Derivation: which lists of labels derive which expressions, by hypotheses, assertions and substitutions (Metamath book, section 4.1).
+-- Derivation: which lists of labels derive which expressions, by hypotheses, assertions and substitutions (Metamath book, section 4.1.4).
 use Rattle.std.specs.Prelude.{◌≡◌, ◌≢◌, ℕ, ◌≤◌, List, [], ◌∷◌, ◌++◌, length, map, All}
 use Rattle.mm_machine.specs.Language.Frame.{Symbol, Frame, Hypothesis, Assertion, Setting, ArePair, HasVariable}
 use Rattle.mm_machine.specs.Language.Substitution.{substituted}
@@ -12,9 +12,9 @@ pub record AreApart (active : List (Symbol × Symbol)) (xs ys : List Symbol) : T
   pub unshared : ShareVariable xs ys → ⊥
   pub paired : (x y : Symbol) → HasVariable xs x → HasVariable ys y → x ≢ y → ArePair active x y
 
--- By this substitution the frame takes these entries to this result. A substitution is given as a total function: only
--- what it gives for mandatory variables counts (the law `only_mandatory_count`), since each variable of a frame has a
--- mandatory `$f` (the law `places_have_frames` of mm_frame). So this says the same as with a finite map of these variables.
+-- By this substitution the frame takes these entries to this result. A substitution is given as a total function. Only
+-- what it gives for mandatory variables counts (the law `only_mandatory_count`). Each variable of a frame has a mandatory
+-- `$f` (the law `places_have_frames` of mm_frame). So this says the same as with a finite map of these variables.
 pub record Takes (active : List (Symbol × Symbol)) (frame : Frame) (given : Symbol → List Symbol)
     (entries : List (List Symbol)) (result : List Symbol) : Type 0 where
   pub entries_match : map (λ h. substituted given h.expression) frame.hypotheses ≡ entries

@@ -1,4 +1,4 @@
--- Symbols, mandatory hypotheses, frames, and what a label means at a statement (Metamath book, section 4.2).
+-- Symbols, mandatory hypotheses, frames, and what a label means at a statement (Metamath book, section 4.2.7).
 use Rattle.std.specs.Prelude.{◌≡◌, ◌↔◌, ℕ, Bool, true, ◌⊎◌, List, Contains}
 
 -- A symbol: a name, as a constant or as a variable.

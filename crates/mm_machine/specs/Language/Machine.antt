@@ -1,4 +1,4 @@
--- The stack machine that judges a proof: what a step does to the stack and the saved expressions (Metamath book, 4.1 and Appendix B).
+-- The stack machine that judges a proof: what a step does to the stack and the saved expressions (Metamath book, 4.1.4 and Appendix B).
 use Rattle.std.specs.Prelude.{◌≡◌, ◌≢◌, ℕ, ◌+◌, ◌<◌, Bool, true, false, Some, List, [], ◌∷◌, ◌++◌, length, take, count_by, slice_get}
 use Rattle.std.specs.List.{AllByRecursion}
 use Rattle.mm_machine.specs.Language.Frame.{Symbol, Resolved, Hypothesis, Assertion, Inactive, Unknown, Setting}

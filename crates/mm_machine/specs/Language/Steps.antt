@@ -1,4 +1,4 @@
--- One step: what a label does to the stack of expressions that the labels before it derive (Metamath book, section 4.1).
+-- One step: what a label does to the stack of expressions that the labels before it derive (Metamath book, section 4.1.4).
 use Rattle.std.specs.Prelude.{◌≡◌, List, [], ◌∷◌, ◌++◌}
 use Rattle.mm_machine.specs.Language.Frame.{Symbol, Frame, Resolved, Hypothesis, Assertion, Inactive, Unknown}
 use Rattle.mm_machine.specs.Language.Derivation.{Takes}

@@ -1,4 +1,4 @@
--- Substitution: each variable is replaced, all at once, and each constant is kept (Metamath book, section 4.1).
+-- Substitution: each variable is replaced, all at once, and each constant is kept (Metamath book, section 4.1.4).
 use Rattle.std.specs.Prelude.{if◌then◌else◌, List, [], ◌∷◌}
 use Rattle.std.specs.List.{flat_map}
 use Rattle.mm_machine.specs.Language.Frame.{Symbol}

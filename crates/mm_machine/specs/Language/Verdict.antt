@@ -27,8 +27,8 @@ IsFirstUnknown steps n = (slice_get steps n ≡ Some NotKnown) × ((k : ℕ) →
 abbrev pub StepsDerive : Setting → List Step → List Symbol → Type 0
 StepsDerive place steps statement = (x : Expanded) × (expansion place steps ≡ Some x) × Derives place x.labels statement
 
--- the proof is wrong by this number at this spot: at a step that is run; or, if all steps are known, at its end: P14 if they do not reach
--- exactly one expression, P15 if that is not the statement
+-- the proof is wrong by this number at this spot. It is a step that is run, or the end of the proof, if all steps are known: P14 if they
+-- do not reach exactly one expression, P15 if that is not the statement
 abbrev pub IsWrongBy : Setting → List Symbol → Decoded → ProofNumber → Spot → Type 0
 -- they do not reach one entry
 IsWrongBy place statement d P14 spot = AreAllKnown d.steps × (stack : List (List Symbol)) × Reaches place d.steps stack × (length stack ≢ 1) × (spot ≡ d.close)
@@ -37,8 +37,8 @@ IsWrongBy place statement d P15 spot = AreAllKnown d.steps × (e : List Symbol) 
 -- a step that is run is at fault
 IsWrongBy place statement d number spot = (n : ℕ) × IsStepFault place (run_part d.steps) n number × (slice_get d.spots n ≡ Some spot)
 
--- the verdict on the steps of a proof: Proved if all are known and they reach the statement alone; Incomplete at the first `?` if the
--- steps before it are without a fault; or else Wrong
+-- the verdict on the steps of a proof. It is Proved if all are known and they reach the statement alone. It is Incomplete at the first
+-- `?` if the steps before it are without a fault. Otherwise it is Wrong
 abbrev pub IsVerdictOnSteps : Setting → List Symbol → Decoded → Verdict → Type 0
 -- all are known, and reach the one entry that is the statement
 IsVerdictOnSteps place statement d Proved = AreAllKnown d.steps × Reaches place d.steps (statement ∷ [])

@@ -1,4 +1,4 @@
--- The items of a database: its statements, block beginnings and ends, and inclusions of missing files (Metamath book, section 4.2).
+-- The items of a database: its statements, block beginnings and ends, and inclusions of missing files (Metamath book, section 4.1.3).
 use Rattle.std.specs.Prelude.{ℕ, ◌+◌, ◌||◌, Bool, true, false, if◌then◌else◌, Option, None, List, [], length, bytes_eq, slice_index_or, option_to_list}
 use Rattle.std.specs.List.{list_any}
 

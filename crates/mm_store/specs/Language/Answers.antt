@@ -50,8 +50,9 @@ IsExpansionError error = (error ≡ NoTop) ⊎ (error ≡ Memory)
 abbrev pub TakesMemory : Asked → Type 0
 TakesMemory edit = edited_text edit ≢ None
 
--- why an edit is refused, the first that holds in this order: no file has its name; its file has only this many pieces, and the edit
--- names another; its text has a fault; its text is not one unit but this many; the files would have more bytes than they may; out of memory
+-- why an edit is refused. The first that holds in this order is the reason. No file has its name. Its file has only this many pieces, and
+-- the edit names another. Its text has a fault. Its text is not one unit but this many. The files would have more bytes than they may. Or
+-- memory runs out
 abbrev pub IsEditError : Asked → List File → EditError → Type 0
 IsEditError edit files edits.NoFile = file_number files (edited_name edit) ≡ None
 IsEditError edit files (edits.NoPiece count) = NamesNoMember edit files count

@@ -6,8 +6,8 @@ use Rattle.mm_store.specs.Language.Pieces.{Standing, with_state, IsParked, text_
 use Rattle.mm_store.specs.Language.Pieces as removal
 use Rattle.mm_store.specs.Language.FilesView.{KeyedFile, FilesView, plain, bytes_of}
 
--- what an edit did in its file: it put in a new member with this number; it put a new member in the place of the one with this number, or
--- took that one out, and the old piece is parked under this key; or it moved a member from the first number to the second
+-- what an edit did in its file. It inserted a new member with this number. Or it replaced the member with this number, or deleted it, and
+-- the old piece is parked under this key. Or it moved a member from the first number to the second
 pub data EditAction : Type 0 where
   Inserted : ℕ → EditAction
   Replaced : ℕ → ℕ → EditAction

@@ -3,8 +3,8 @@ use Rattle.std.specs.Prelude.{ℕ, ◌<◌, ◌≤◌, List, Option, Some, None}
 use Rattle.mm_text.specs.declared.edit.Edit.{Edit}
 use Rattle.mm_text.specs.declared.edit.Edit.TheVariants as code
 
--- an edit of the file with a name. A member is one of its pieces, by its number from 0. A text becomes a new member before the one with
--- this number, or takes its place; or a member is taken out; or it is taken out and put back with another number
+-- an edit of the file with a name. A member is one of its pieces, by its number from 0. Insert puts a text as a new member before the one
+-- with this number, and Replace puts it in the place of that one. Delete takes a member out, and Move puts it back with another number
 pub data Asked : Type 0 where
   Insert : List ℕ → ℕ → List ℕ → Asked
   Replace : List ℕ → ℕ → List ℕ → Asked

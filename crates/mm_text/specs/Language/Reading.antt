@@ -1,4 +1,4 @@
--- What a text means: words, and comments between them; or the first fault (the Metamath book, section 4.1).
+-- What a text means: words, and comments between them; or the first fault (the Metamath book, section 4.1.1).
 --
 -- A reading divides the runs of a text into words and comments. A text has the words of its reading. A text without
 -- a reading has a fault: at the first run with which no reading goes on, or at a comment that is not ended.

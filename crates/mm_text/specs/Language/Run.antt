@@ -1,4 +1,4 @@
--- The runs of a text: its maximal sequences of bytes without white space (the Metamath book, section 4.1).
+-- The runs of a text: its maximal sequences of bytes without white space (the Metamath book, section 4.1.1).
 use Rattle.std.specs.Prelude.{ℕ, ◌+◌, ◌==◌, Bool, true, not, ◌||◌, if◌then◌else◌, List, [], ◌∷◌}
 
 -- white space: a space, tab, carriage return, line feed or form feed

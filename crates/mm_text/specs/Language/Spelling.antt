@@ -1,4 +1,4 @@
--- How words and the marks of comments are spelled (the Metamath book, section 4.1).
+-- How words and the marks of comments are spelled (the Metamath book, section 4.1.1).
 use Rattle.std.specs.Prelude.{◌≡◌, ℕ, ◌+◌, List, ◌⊎◌, length, take, drop, Contains, codes}
 use Rattle.mm_text.specs.declared.word.Keyword.{Keyword}
 use Rattle.mm_text.specs.declared.word.Keyword.TheVariants.{BlockStart, BlockEnd, Constants, Variables, Floating, Essential, Disjoint, Axiom, Theorem}

@@ -4,5 +4,4 @@ pub mod LackLemmas
 pub mod MarkedLabels
 pub mod NamedLemmas
 pub mod RangeLemmas
-pub mod SpelledLemmas
 pub mod UsedLemmas

@@ -1,4 +1,4 @@
--- Decoding: the steps that the words of a proof stand for, or the first fault in reading order (Metamath book, section 4.1 and Appendix B).
+-- Decoding: the steps that the words of a proof stand for, or the first fault in reading order (Metamath book, section 4.1.4 and Appendix B).
 use Rattle.std.specs.Prelude.{ℕ, ◌+◌, ◌-◌, ◌==◌, Bool, false, if◌then◌else◌, Option, Some, None, Result, Ok, Err}
 use Rattle.std.specs.Prelude.{List, [], ◌∷◌, ◌++◌, length, map, drop, slice_get, bytes_eq, codes}
 use Rattle.std.specs.List.{list_any, enumerate_from, range_with_len, before_first, after_first}
@@ -112,13 +112,13 @@ abbrev pub if_read : Steps → Steps → Steps
 if_read (Ok steps) behind = behind
 if_read (Err fault) behind = Err fault
 
--- the steps that the letters of a compressed proof say, from word n on: numbers name the mandatory hypotheses, the listed labels, and what
--- was saved
+-- the steps that the letters of a compressed proof say, from word n on. Numbers name the mandatory hypotheses, then the listed labels,
+-- and then what was saved
 abbrev pub letter_steps : List (List ℕ) → List (List ℕ) → ℕ → List (List ℕ) → Spot → Steps
 letter_steps mandatory listed n words close = in_order (each_group (map Named (mandatory ++ listed)) close 0 (groups (letters_from n words)))
 
--- the steps of a compressed proof, by its words after the `(`: each label of the list has to be one that can be used; then the letters
--- count; P03 if no `)` ends the list
+-- the steps of a compressed proof, by its words after the `(`. Each label of the list has to be one that can be used. Then the letters
+-- count. P03 comes if no `)` ends the list
 abbrev pub compressed_steps : Setting → List (List ℕ) → List (List ℕ) → Spot → Steps
 compressed_steps place mandatory words close = let listed = before_first is_close words in
     if_read (in_order (each_word (read_label place) 1 listed))

@@ -1,0 +1,61 @@
+use Rattle.std.proofs.{Common.{refl, sym, subst, ℕ, List, All}, lemmas.Result.{err_from_is_err_and}}
+use Rattle.mm_frame.specs.declared.base.Resolved.{Resolved}
+use Rattle.mm_verdict.specs.{Language.{BaseLabels.{AreActive}, DecodedSteps.{decoded_steps, entry_steps}}, Code.NamedItems.{IsNamedBy}}
+use Rattle.mm_verdict.proofs.lemmas.{base.{FrameLemmas.{framed_proof}, SaysLemmas.{read_at, theorem_at}}, decoding.DecodedProofs.{decoded, decoded_saved, named_by}}
+use Rattle.mm_verdict.proofs.program.program_of.Goals as goal
+
+pub item-requires : goal.item-requires
+item-requires c = let has = c.requires.1 in (has.0, (c.requires.0, has.1.base), has.2)
+
+pub words_of_proof-proof-requires : goal.words_of_proof-proof-requires
+words_of_proof-proof-requires c = read_at c.requires.0 c.args.files.now c.args.base.now c.args.i c.item.result.now c.requires.1 c.item.ensures.found
+
+pub mandatory-mandatory-requires : goal.mandatory-mandatory-requires
+mandatory-mandatory-requires c = let has = c.requires.1 in (has.0, (c.requires.0, has.1.base), framed_proof has.0 c.args.i has.3)
+
+pub name_all-requires-clause-labels : goal.name_all-requires-clause-labels
+name_all-requires-clause-labels c =
+    let has = c.requires.1 in
+    let view = has.0 in
+    let theorem = theorem_at _ _ _ _ c.item.result.now _ view has.1 has.3 (c.item.ensures.found view (c.requires.0, has.1.base)) c.words_of_proof-proof.ensures.words in
+    let d = c.in_ok-decoding.decoding in
+    let is = decoded _ _ _ d _ view theorem c.mandatory-mandatory.ensures (c.mandatory_are_active.ensures view c.args.i theorem.said)
+    c.in_ok-decoding.ensures.ok c.in_ok-decoding.ensures.entries c.in_ok-decoding.ensures.table in
+    subst (λ (ls : List Resolved). All (IsNamedBy c.args.base.now) ls) (sym c.deref.ensures.value) (named_by c.args.base.now view c.args.i theorem.base has.2 d.labels.items is.entries)
+
+pub name_all-requires-clause-known : goal.name_all-requires-clause-known
+name_all-requires-clause-known c = c.new-3.ensures c.args.base.now
+
+pub returns-clause-saved : goal.returns-clause-saved
+returns-clause-saved c =
+    let has = c.requires.1 in
+    let view = has.0 in
+    let theorem = theorem_at _ _ _ _ c.item.result.now _ view has.1 has.3 (c.item.ensures.found view (c.requires.0, has.1.base)) c.words_of_proof-proof.ensures.words in
+    let d = c.in_ok-decoding.decoding in
+    let is = decoded _ _ _ d _ view theorem c.mandatory-mandatory.ensures (c.mandatory_are_active.ensures view c.args.i theorem.said)
+    c.in_ok-decoding.ensures.ok c.in_ok-decoding.ensures.entries c.in_ok-decoding.ensures.table in
+    decoded_saved c.mandatory_are_active.ensures c.decodes_surely.ensures c.args.base.now c.args.i c.words_of_proof-proof.result d view is
+
+pub returns-clause-means : goal.returns-clause-means
+returns-clause-means c names view read proof =
+    let theorem = theorem_at _ _ _ _ c.item.result.now _ view read proof (c.item.ensures.found view (names, read.base)) c.words_of_proof-proof.ensures.words in
+    let d = c.in_ok-decoding.decoding in
+    let is = decoded _ _ _ d _ view theorem c.mandatory-mandatory.ensures (c.mandatory_are_active.ensures view c.args.i theorem.said)
+    c.in_ok-decoding.ensures.ok c.in_ok-decoding.ensures.entries c.in_ok-decoding.ensures.table in
+    record {
+      labels = entry_steps view d.labels.items;
+      decoded = decoded_steps view d c.words_of_proof-proof.result;
+      decodes = is.decodes;
+      steps = refl;
+      uses = (rw c.deref.ensures.value at c.in_ok-named.ensures.means) names view read.base c.args.i is.entries;
+    }
+
+pub returns-in_err-decoding-clause-fault : goal.returns-in_err-decoding-clause-fault
+returns-in_err-decoding-clause-fault c =
+    let p = err_from_is_err_and c.from_residual.result c.from_residual.ensures.1 in
+    rw (p.1, p.2) (λ names view read proof.
+    let i = c.args.i in
+    let theorem = theorem_at names c.args.files.now c.args.base.now i c.item.result.now c.words_of_proof-proof.result view read proof (c.item.ensures.found view (names, read.base)) c.words_of_proof-proof.ensures.words in
+    let are = c.mandatory-mandatory.ensures view theorem.base (framed_proof view i theorem.is_sound) in
+    let there = subst (λ (ns : List ℕ). AreActive view i ns) (sym are) (c.mandatory_are_active.ensures view i theorem.said) in
+    rw (theorem.says, ← are) (c.in_err-decoding.ensures.err view theorem.base there))

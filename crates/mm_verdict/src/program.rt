@@ -1,0 +1,56 @@
+//! A proof as the machine runs it.
+
+ghost use Rattle.std.specs.Prelude.{ℕ, List, IfErr, IfOk};
+ghost use Rattle.mm_machine.specs.Language.NamedSteps.{AreCitable, AreSavedBefore, AreUsesWithin};
+ghost use Rattle.mm_machine.specs.Language.NumberedSymbols.{by_number};
+ghost use Rattle.mm_verdict.specs.Language.DecodedSteps.{TellsFault};
+ghost use Rattle.mm_verdict.specs.Language.Programs.{IsProgramAt};
+ghost use Rattle.mm_verdict.specs.Language.ReadIn.{HasTheorem, OfTheorem};
+ghost use Rattle.mm_verdict.specs.Language.VerdictAt.{decoding_at};
+
+use crate::checking::mandatory;
+use crate::decoding_laws::{decodes_surely, mandatory_are_active};
+use crate::known::Known;
+use crate::named::{NamingRoom, name_all};
+use crate::reading::{Decoding, decode};
+use crate::undecoded::Undecoded;
+use mm_frame::{Base, Files, words_of_proof};
+use mm_machine::{Named, NumberedSymbol, ProofStep};
+use std::alloc::Global;
+
+/// A proof as [`mm_machine::run`] takes it, with symbols by the numbers of their names.
+#[derive(Drop)]
+pub struct Program<'a> {
+    /// What the labels of the proof name, used or not.
+    pub named: Named<'a, NumberedSymbol>,
+    /// The steps, in order.
+    pub steps: Vec<ProofStep>,
+}
+
+/// The proof of the item with the number `i`, a sound `$p` of a base whose items can be read in these files, as a machine runs
+/// it. So a caller can run the first steps of a proof; for the verdict there is `check`.
+///
+/// The error is the first fault of decoding, or out of memory. It takes time near linear in the words of the proof and in the
+/// frames of the assertions that it names.
+pub fn program_of<'a>(
+    alloc: Global,
+    files: &Files,
+    base: &'a Base,
+    i: usize,
+) -> Result<Program<'a>, Undecoded>
+    requires { (names : List (List ℕ)) × HasTheorem names files.now base.now i }
+    ensures within { IfOk result (λ program. AreUsesWithin program.named) }
+    ensures frames { IfOk result (λ program. AreCitable by_number program.named) }
+    ensures saved { IfOk result (λ program. AreSavedBefore program.steps.items) }
+    ensures means { IfOk result (λ program. (names : List (List ℕ)) → OfTheorem names files.now base.now i (λ view. IsProgramAt names view i program)) }
+    ensures fault { IfErr result (λ error. (names : List (List ℕ)) → OfTheorem names files.now base.now i (λ view. TellsFault error (decoding_at view i))) }
+{
+    mandatory_are_active();
+    decodes_surely();
+    let proof = words_of_proof(files, base.item(i));
+    let mandatory = mandatory(base, i);
+    let decoding = decode(base, i, mandatory, &proof, Decoding::new(alloc))?;
+    let Decoding { labels, steps } = decoding;
+    let (named, _, _) = name_all(base, &labels, NamingRoom::new(alloc), Known::new(alloc))?;
+    Ok(Program { named, steps })
+}

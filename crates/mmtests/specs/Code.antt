@@ -1,0 +1,2 @@
+-- What the tests keep: private contracts and loop invariants cite it.
+pub mod Spelled
