@@ -1,8 +1,6 @@
 //! What calls answer of small databases: the verdict of a check, the words that cite, the run and its steps.
 
-ghost use Rattle.std.specs.Prelude.{◌≡◌, ◌<◌, true, IfSome, length};
-ghost use Rattle.mm_verdict.specs.mm_frame.Language.Base.{BaseView, is_proof_at};
-ghost use Rattle.mm_verdict.specs.mm_frame.Language.Answering.{IsBase};
+ghost use Rattle.mm_verdict.specs.mm_frame.Language.Base.{BaseView};
 ghost use Rattle.mm_verdict.specs.Language.ReadIn.{IsReadIn};
 
 use crate::machines::agrees;

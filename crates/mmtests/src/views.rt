@@ -1,8 +1,6 @@
 //! Whether two views are the same, of theorems of two databases.
 
-ghost use Rattle.std.specs.Prelude.{◌≡◌, ◌<◌, true, IfSome, length};
-ghost use Rattle.mm_proof.specs.mm_frame.Language.Answering.{IsBase};
-ghost use Rattle.mm_proof.specs.mm_frame.Language.Base.{BaseView, is_proof_at};
+ghost use Rattle.mm_proof.specs.mm_frame.Language.Base.{BaseView};
 ghost use Rattle.mm_proof.specs.mm_verdict.Language.ReadIn.{IsReadIn};
 
 use crate::theorems::theorem;
