@@ -36,7 +36,9 @@ pub use item_laws::{
     proved_is_derived_at, spots_are_in,
 };
 pub use mm_frame::{Base, Files, Names, ProofWords, Resolved};
-pub use mm_machine::{Action, ProofFault, ProofNumber, ProofStep, Spot, Verdict};
+pub use mm_machine::{
+    Action, Named, NumberedSymbol, ProofFault, ProofNumber, ProofStep, Spot, Verdict,
+};
 pub use program::{Program, program_of};
 pub use reading::{Decoding, decode};
 pub use undecoded::Undecoded;
