@@ -1,4 +1,4 @@
-use Rattle.std.proofs.Common.{Err, ap, ◌∙◌}
+use Rattle.std.proofs.Common.{Err, ap, ◌∙◌, rules}
 use Rattle.mm_report.proofs.AskedLemmas.{answered_ok, answered_stop, finds_base, found_is, unknown_is}
 use Rattle.mm_report.proofs.answer.write_found.Goals as goal
 
@@ -17,3 +17,6 @@ returns-in_ok-write_labels-in-Ok-clause-answers g c command finds lacks =
     let out = rw c.deref.ensures.value at (c.in_ok-write_labels-in-Ok.ensures base.0 base.1).ok in
     answered_ok g.W.Write.contents command session session c.args.to.now c.write_labels.new.to _ _
     (found_is session command c.in-Ok.numbers.items found base.0 base.1) out
+
+pub returns-in-Memory-clause-answers : goal.returns-in-Memory-clause-answers
+returns-in-Memory-clause-answers g c = search rules

@@ -1,3 +1,4 @@
+use Rattle.std.proofs.Common.{rules}
 use Rattle.mm_verdict.proofs.lemmas.{decoding.DecodedProofs.{decoded}, base.FrameLemmas.{framed_proof}}
 use Rattle.mm_verdict.proofs.checking.judge.Goals as goal
 
@@ -21,3 +22,6 @@ mandatory-mandatory-requires c = let has = c.requires.proof in (has.0, has.1.bas
 
 pub returns-in_ok-judged-in-Ok-clause-few : goal.returns-in_ok-judged-in-Ok-clause-few
 returns-in_ok-judged-in-Ok-clause-few c = c.in_ok-judged-in-Ok.ensures.few
+
+pub returns-in_ok-fault-in-Err-clause-says : goal.returns-in_ok-fault-in-Err-clause-says
+returns-in_ok-fault-in-Err-clause-says c = search rules

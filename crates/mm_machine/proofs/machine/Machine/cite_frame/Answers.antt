@@ -100,3 +100,18 @@ returns-in_default g c =
       whole = c.requires.whole;
       saved = refl;
     }
+
+pub overflow_sub-below : goal.overflow_sub-below
+overflow_sub-below g c = omega arith
+
+pub slice_bounds-entries-start : goal.slice_bounds-entries-start
+slice_bounds-entries-start g c = omega arith
+
+pub slice_bounds-entries-end : goal.slice_bounds-entries-end
+slice_bounds-entries-end g c = omega arith
+
+pub slice_bounds-entries-count : goal.slice_bounds-entries-count
+slice_bounds-entries-count g c = omega arith
+
+pub offset_bounds-deref-below : goal.offset_bounds-deref-below
+offset_bounds-deref-below g c = omega arith

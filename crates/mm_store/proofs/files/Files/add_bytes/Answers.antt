@@ -1,4 +1,4 @@
-use Rattle.std.proofs.Common.{◌≡◌, ℕ, List, length, map, sym, ap, ◌∙◌, subst, arith}
+use Rattle.std.proofs.Common.{◌≡◌, ℕ, List, length, map, sym, ap, ◌∙◌, subst, arith, rules}
 use Rattle.mm_text.specs.{declared.{pieces.DividedPiece.{DividedPiece}, fault.TextError.{TextError, TheVariants.{Fault, Memory}}}, Language.Reading.{IsTextErrorIn}}
 use Rattle.mm_store.specs.Language.{FilesView.{File, FilesView, plain, bytes_of}, Answers.{store_error_of, IsAddErrorIn}}
 use Rattle.mm_store.proofs.lemmas.{files.AddLemmas.{bytes_more}, edits.EditLemmas.{if_err}}
@@ -28,3 +28,6 @@ returns-clause-within c =
     let joined = ap length c.in_ok-cut.ensures.cut.joined in
     let more = bytes_more (plain c.args.self.now) file in
     grind (arith, ap bytes_of c.in_ok-put_last.ensures.ok, more, joined, held, (rw c.as_slice.ensures at c.ended_len-more.ensures), c.fits.ensures.0, c.fits.ensures.1)
+
+pub put_last-requires-clause-missing : goal.put_last-requires-clause-missing
+put_last-requires-clause-missing c = search rules
