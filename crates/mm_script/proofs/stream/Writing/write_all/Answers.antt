@@ -1,4 +1,4 @@
-use Rattle.std.proofs.{Common.{◌≡◌, ◌≤◌, ◌+◌, ℕ, min, take, arith}, lemmas.List.{take_rest}, Math.Seq.{take-add}, KnownBytes.{Appends-trans, Appends-kept}}
+use Rattle.std.proofs.{Common.{◌≡◌, ◌≤◌, ◌+◌, ℕ, min, take, arith, rules}, lemmas.List.{take_rest}, Math.Seq.{take-add}, KnownBytes.{Appends-trans, Appends-kept}}
 use Rattle.std.specs.Io.KnownBytes.{Appends}
 use Rattle.mm_script.proofs.stream.Writing.write_all.Goals.{in_default-via-in-Ok+else-n-gt0, in_default-via-in_default}
 use Rattle.mm_script.proofs.stream.Writing.write_all.Goals as goal
@@ -41,3 +41,6 @@ returns-in_default-clause-calls g c sound =
         each = omega (arith, k.2, taken.2);
       };
     }
+
+pub returns-then-self-clause-calls : goal.returns-then-self-clause-calls
+returns-then-self-clause-calls g c = search rules

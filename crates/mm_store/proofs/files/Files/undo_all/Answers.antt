@@ -1,4 +1,4 @@
-use Rattle.std.proofs.Common.{sym, ap, ◌∙◌, subst, arith}
+use Rattle.std.proofs.Common.{sym, ap, ◌∙◌, subst, arith, rules}
 use Rattle.mm_store.specs.Language.Batches.{CanUndoAll, undone_all}
 use Rattle.mm_store.proofs.lemmas.edits.BatchLemmas.{undo_last, undo_others, undone_last, undone_none}
 use Rattle.mm_store.proofs.files.Files.undo_all.Goals as goal
@@ -17,3 +17,6 @@ loop-undo-preserved c =
 
 pub returns : goal.returns
 returns c old spendable = c.restart_all.ensures ∙ sym (undone_none c.loop-undo.undos.items c.loop-undo.self (omega (arith, c.loop-undo.undos.ok.0, c.in_default.ensures.cases.0))) ∙ c.loop-undo.invariant.back ∙ spendable.back
+
+pub loop-undo-init : goal.loop-undo-init
+loop-undo-init c = search rules
