@@ -1,4 +1,4 @@
-use Rattle.std.proofs.{Common.{map, sym, ◌∙◌, arith, length, subst, Contains}, lemmas.{Bool.{false≢true}, List.{length-map}}}
+use Rattle.std.proofs.{Common.{map, sym, ◌∙◌, arith, length, subst, Contains}, lemmas.{Bool.{false≢true}, List.{length-map}, Grind.{common_steps}}}
 use Rattle.mm_machine.specs.Code.PairClause.{AreKeyPlaces, home_at}
 use Rattle.mm_machine.proofs.lemmas.machine.{FlatLemmas.{mapped_get}, ApartLemmas.{each_more, each_all}}
 use Rattle.mm_machine.proofs.active.share.Goals as goal
@@ -19,3 +19,6 @@ pub is_marked-requires : goal.is_marked-requires
 is_marked-requires g c =
     let xs = c.args.xs.now in
     subst (λ n. AreKeyPlaces (home_at g.S.Kept.key_of n) (map g.S.Symbol.means xs) c.mark.new.places (length xs)) (sym c.mark.ensures.count) c.mark.ensures.marks
+
+pub returns-then-is_marked : goal.returns-then-is_marked
+returns-then-is_marked g c = grind (arith, common_steps)

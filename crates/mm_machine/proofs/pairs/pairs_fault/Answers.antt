@@ -1,4 +1,4 @@
-use Rattle.std.proofs.{Common.{map, arith}, lemmas.List.{length-map}}
+use Rattle.std.proofs.{Common.{map, arith}, lemmas.{List.{length-map}, Grind.{common_steps}}}
 use Rattle.mm_machine.specs.{Code.Flat.{read_all}, Language.CitedFrames.{meant_pairs}}
 use Rattle.mm_machine.proofs.lemmas.machine.PairClauseLemmas.{apart_given, shared_given, none_shared, lack_given}
 use Rattle.mm_machine.proofs.pairs.pairs_fault.Goals as goal
@@ -44,3 +44,9 @@ gather_all-requires-clause-within g c = c.requires.within
 
 pub gather_all-requires-clause-count : goal.gather_all-requires-clause-count
 gather_all-requires-clause-count g c = c.requires.count
+
+pub all_apart-requires-clause-spans : goal.all_apart-requires-clause-spans
+all_apart-requires-clause-spans g c = grind (arith, common_steps)
+
+pub returns-then-is_empty : goal.returns-then-is_empty
+returns-then-is_empty g c = grind (arith, common_steps)

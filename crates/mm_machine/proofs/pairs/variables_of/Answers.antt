@@ -1,4 +1,4 @@
-use Rattle.std.proofs.{Common.{◌-◌, Some, map, take, drop, sym, ◌∙◌, ap, arith}, lemmas.{Option.{slice_get_within, slice_get-get_or}, List.{length-map}}}
+use Rattle.std.proofs.{Common.{◌-◌, Some, map, take, drop, sym, ◌∙◌, ap, arith}, lemmas.{Option.{slice_get_within, slice_get-get_or}, List.{length-map}, Grind.{elements}}}
 use Rattle.mm_machine.specs.{Code.{Flat.{read}, PairClause.{entry_or}}, Language.CitedFrames.{hypotheses_of, mandatory_of}}
 use Rattle.mm_machine.proofs.lemmas.machine.FlatLemmas.{entry_map}
 use Rattle.mm_machine.proofs.pairs.variables_of.Goals as goal
@@ -24,3 +24,15 @@ index-entry-requires g c =
     let slot = c.slot_of-slot.ensures c.requires.typed in
     let w = slice_get_within (hypotheses_of g.S.Symbol.means c.args.taken.now.hypotheses.now) c.slot_of-slot.result slot.0 slot.1 in
     omega (arith, w, c.requires.count, c.args.gathered.now.spans.ok, length-map c.args.taken.now.hypotheses.now (mandatory_of g.S.Symbol.means))
+
+pub offset_bounds-deref-entry : goal.offset_bounds-deref-entry
+offset_bounds-deref-entry g c = grind (arith, elements)
+
+pub slice_bounds-result-count : goal.slice_bounds-result-count
+slice_bounds-result-count g c = grind (arith, elements)
+
+pub slice_bounds-result-end : goal.slice_bounds-result-end
+slice_bounds-result-end g c = grind (arith, elements)
+
+pub slice_bounds-result-start : goal.slice_bounds-result-start
+slice_bounds-result-start g c = grind (arith, elements)

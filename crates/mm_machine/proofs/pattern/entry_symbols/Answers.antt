@@ -1,4 +1,4 @@
-use Rattle.std.proofs.Common.{map, drop, get_or, sym, ◌∙◌, ap}
+use Rattle.std.proofs.{Common.{map, drop, get_or, sym, ◌∙◌, ap, arith}, lemmas.Grind.{elements}}
 use Rattle.mm_machine.specs.{declared.pattern.Entry.{Entry}, Code.Flat.{read}}
 use Rattle.mm_machine.proofs.lemmas.machine.FlatLemmas.{mapped_or, behind_first}
 use Rattle.mm_machine.proofs.pattern.entry_symbols.Goals as goal
@@ -10,3 +10,9 @@ returns g c e is =
     let entry = get_or c.args.taken.now.entries.now c.args.slot d in
     behind_first g.S.Symbol.means symbols entry.start entry.end
     ∙ ap (λ w. drop 1 w) (sym (mapped_or (read (map g.S.Symbol.means symbols)) c.args.taken.now.entries.now c.args.slot d e c.if-slot-taken.false is))
+
+pub returns-then-entry : goal.returns-then-entry
+returns-then-entry g c = grind (arith, elements)
+
+pub returns-then-slot-taken : goal.returns-then-slot-taken
+returns-then-slot-taken g c = grind (arith, elements)

@@ -1,4 +1,4 @@
-use Rattle.std.proofs.Common.{◌≡◌, true, map, sym, ◌∙◌, ap, subst}
+use Rattle.std.proofs.{Common.{◌≡◌, true, map, sym, ◌∙◌, ap, subst, arith}, lemmas.Grind.{elements}}
 use Rattle.mm_machine.specs.{Language.{Frame.{Symbol}, Typing.{IsTyped}, CitedFrames.{hypotheses_of}}, Code.Citation.{IsSlot}}
 use Rattle.mm_machine.proofs.lemmas.{verdicts.Unique.{replacement-variable}, machine.{ApartLemmas.{contains_at}, FlatLemmas.{mapped_at, of_variable}}}
 use Rattle.mm_machine.proofs.pattern.replacement_of.Goals as goal
@@ -15,3 +15,6 @@ returns g c given s slots is =
     let found = c.slot_of-slot.ensures (subst (λ w. IsTyped hypotheses w) this typed) in
     let slot = slots.slots c.slot_of-slot.result s (subst (λ w. IsSlot hypotheses c.slot_of-slot.result w) (sym this) found) in
     of_variable _ _ _ kind ∙ c.entry_symbols.ensures slot.0 slot.1 ∙ sym slot.2 ∙ sym (replacement-variable given s variable)
+
+pub returns-then-not-is_variable : goal.returns-then-not-is_variable
+returns-then-not-is_variable g c = grind (arith, elements)

@@ -1,4 +1,4 @@
-use Rattle.std.proofs.{Common.{◌++◌, [], false, map, take, get_or, sym, ◌∙◌, ap, arith, append_assoc}, lemmas.{List.{length-map}, Option.{slice_get-get_or}}}
+use Rattle.std.proofs.{Common.{◌++◌, [], false, map, take, get_or, sym, ◌∙◌, ap, arith, append_assoc}, lemmas.{List.{length-map}, Option.{slice_get-get_or}, Grind.{common_steps}}}
 use Rattle.mm_machine.specs.Language.{Frame.{Symbol}, Substitution.{substituted, replacement}}
 use Rattle.mm_machine.proofs.lemmas.machine.FlatLemmas.{put_more}
 use Rattle.mm_machine.proofs.pattern.substitute.Goals as goal
@@ -20,3 +20,6 @@ loop-place-preserved g c = record {
       ∙ append_assoc (map m c.args.others.items) front part
       ∙ ap (λ w. map m c.args.others.items ++ w) (sym (put_more given expression k (get_or expression k d) here));
 }
+
+pub returns : goal.returns
+returns g c = grind (arith, common_steps)

@@ -1,4 +1,4 @@
-use Rattle.std.proofs.Common.{◌++◌, ◌∷◌, [], map, sym, ◌∙◌, ap, arith}
+use Rattle.std.proofs.{Common.{◌++◌, ◌∷◌, [], map, sym, ◌∙◌, ap, arith}, lemmas.Grind.{common_steps}}
 use Rattle.mm_machine.specs.Language.NamedSteps.{named_expressions}
 use Rattle.mm_machine.proofs.lemmas.machine.{FlatLemmas.{mapped_get}, StepLemmas.{take_next}}
 use Rattle.mm_machine.proofs.stepping.load.Goals as goal
@@ -16,3 +16,6 @@ loop-n-preserved g c =
           c.index-expression.result.now (omega (arith, c.loop-n-test.true, c.len-n-end.ensures, c.args.named.now.hypotheses.ok))
           c.index-expression.ensures));
     }
+
+pub returns-clause-state : goal.returns-clause-state
+returns-clause-state g c = grind (arith, common_steps)

@@ -1,4 +1,4 @@
-use Rattle.std.proofs.{Common.{◌+◌, ◌∷◌, [], ◌∙◌, ap, arith, sym, subst, inl, inr, refl, rules, ℕ, List, codes, decimal}, lemmas.Bool.{not-false, not-true}}
+use Rattle.std.proofs.{Common.{◌+◌, ◌∷◌, [], ◌∙◌, ap, arith, sym, subst, inl, inr, refl, rules, ℕ, List, codes, decimal}, lemmas.{Bool.{not-false, not-true}, Grind.{common_steps}}}
 use Rattle.std.specs.List.{join_with_byte}
 use Rattle.mm_text.specs.Language.Asked.{Asked}
 use Rattle.mm_script.specs.{Code.{Growing.{line_bytes}, Lines.{SaysEdit}}, Language.{Commands.{pending, bytes_of_part}, Script.{IsName}}}
@@ -149,3 +149,27 @@ overflow_add-line-in-Replace g c = omega (arith, c.requires.line.within, few_pen
 
 pub overflow_add-result-in-Replace : goal.overflow_add-result-in-Replace
 overflow_add-result-in-Replace g c = omega (arith, c.in_ok-text-in-Replace.ensures.within.0.within, few_pending c.read_text-in-Replace.new.input)
+
+pub behind-requires : goal.behind-requires
+behind-requires g c = grind (arith, common_steps)
+
+pub behind-requires-in-Move : goal.behind-requires-in-Move
+behind-requires-in-Move g c = grind (arith, common_steps)
+
+pub read_text-requires : goal.read_text-requires
+read_text-requires g c = grind (arith, common_steps)
+
+pub read_text-requires-in-Replace : goal.read_text-requires-in-Replace
+read_text-requires-in-Replace g c = grind (arith, common_steps)
+
+pub shifted-file-requires : goal.shifted-file-requires
+shifted-file-requires g c = grind (arith, common_steps)
+
+pub shifted-file-requires-in-Replace : goal.shifted-file-requires-in-Replace
+shifted-file-requires-in-Replace g c = grind (arith, common_steps)
+
+pub shifted-requires : goal.shifted-requires
+shifted-requires g c = grind (arith, common_steps)
+
+pub shifted-requires-in-Move : goal.shifted-requires-in-Move
+shifted-requires-in-Move g c = grind (arith, common_steps)

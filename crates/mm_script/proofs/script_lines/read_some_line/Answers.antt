@@ -1,4 +1,4 @@
-use Rattle.std.proofs.{Common.{◌≡◌, ◌≤◌, arith}, lemmas.Bool.{not-false}}
+use Rattle.std.proofs.{Common.{◌≡◌, ◌≤◌, arith}, lemmas.{Bool.{not-false}, Grind.{common_steps}}}
 use Rattle.mm_script.specs.Language.Commands.{pending}
 use Rattle.mm_script.proofs.GrowLemmas.{blank_line, blank_more, blanks_grown, grows_not, grows_then, no_blanks, same_error}
 use Rattle.mm_script.proofs.script_lines.read_some_line.Goals as goal
@@ -31,3 +31,15 @@ returns-then-line-clause-grows g c = grows_then _ _ _ _ _ _ c.loop-line.invarian
 
 pub returns-then-line-clause-fewer : goal.returns-then-line-clause-fewer
 returns-then-line-clause-fewer g c = omega (arith, c.loop-line.invariant.fewer, c.in_ok-line.ensures.fewer)
+
+pub loop-line-smaller : goal.loop-line-smaller
+loop-line-smaller g c = grind (arith, common_steps)
+
+pub overflow_add-start : goal.overflow_add-start
+overflow_add-start g c = grind (arith, common_steps)
+
+pub returns-in_err-line-clause-read : goal.returns-in_err-line-clause-read
+returns-in_err-line-clause-read g c = grind (arith, common_steps)
+
+pub returns-then-line-clause-start : goal.returns-then-line-clause-start
+returns-then-line-clause-start g c = grind (arith, common_steps)

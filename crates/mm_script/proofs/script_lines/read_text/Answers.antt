@@ -1,4 +1,4 @@
-use Rattle.std.proofs.Common.{arith}
+use Rattle.std.proofs.{Common.{arith}, lemmas.Grind.{common_steps}}
 use Rattle.mm_script.specs.Language.Commands.{pending}
 use Rattle.mm_script.proofs.GrowLemmas.{feed_behind, grows_not, grows_then, other_byte, rest_of}
 use Rattle.mm_script.proofs.script_lines.read_text.Goals as goal
@@ -21,3 +21,15 @@ returns-then-not-branch-clause-grows g c = grows_then _ _ _ _ _ _ c.loop-byte.in
 
 pub loop-byte-smaller : goal.loop-byte-smaller
 loop-byte-smaller g c = omega (arith, c.in_ok-read_on.ensures.more c.if-not-branch.false)
+
+pub loop-byte-preserved : goal.loop-byte-preserved
+loop-byte-preserved g c = grind (arith, common_steps)
+
+pub returns-in_err-read_on-clause-grows : goal.returns-in_err-read_on-clause-grows
+returns-in_err-read_on-clause-grows g c = grind (arith, common_steps)
+
+pub returns-in_err-read_on-clause-read : goal.returns-in_err-read_on-clause-read
+returns-in_err-read_on-clause-read g c = grind (arith, common_steps)
+
+pub returns-then-not-branch-clause-cut : goal.returns-then-not-branch-clause-cut
+returns-then-not-branch-clause-cut g c = grind (arith, common_steps)

@@ -1,5 +1,5 @@
 use Rattle.std.proofs.{Common.{◌≡◌, [], ◌∷◌, ◌++◌, All, map, length, drop, sym, ap, ◌∙◌, subst, append_assoc, arith}, Math.Seq.{drop-append_seam}}
-use Rattle.std.proofs.lemmas.List.{map-append, Elements.{All-nil, All-cons, All-append, All-drop}}
+use Rattle.std.proofs.lemmas.{List.{map-append, Elements.{All-nil, All-cons, All-append, All-drop}}, Grind.{common_steps}}
 use Rattle.std.specs.Vec.Iter.{into_iter_items}
 use Rattle.mm_text.specs.{declared.pieces.DividedPiece.{DividedPiece}, Language.Part.{HasOwnParts}}
 use Rattle.mm_store.specs.{declared.piece_text.PieceText.{PieceText}, Code.Inside.{IsPieceKept}}
@@ -30,3 +30,6 @@ loop-piece-preserved c =
           ∙ ap (λ t. map (λ piece. piece.text) at.yielded ++ t ∷ []) c.in_ok-kept_piece.ensures.text ∙ sym (map-append (λ piece. piece.text) at.yielded (piece ∷ []));
       each = subst (All IsPieceKept) (sym pushed) (All-append IsPieceKept at.kept.items (kept ∷ []) at.invariant.each (All-cons IsPieceKept kept [] c.in_ok-kept_piece.ensures.kept (All-nil IsPieceKept)));
     }
+
+pub returns-clause-texts : goal.returns-clause-texts
+returns-clause-texts c = grind (arith, common_steps)

@@ -1,4 +1,4 @@
-use Rattle.std.proofs.{Common.{◌≡◌, ℕ, All, map, List, [], ◌∷◌, ◌++◌, Option, Some, length, length-append, sym, ap, ◌∙◌, subst, arith}, lemmas.List.{append-nil}}
+use Rattle.std.proofs.{Common.{◌≡◌, ℕ, All, map, List, [], ◌∷◌, ◌++◌, Option, Some, length, length-append, sym, ap, ◌∙◌, subst, arith}, lemmas.{List.{append-nil}, Grind.{common_steps}}}
 use Rattle.std.specs.Option.{option_to_list}
 use Rattle.mm_text.specs.{declared.{pieces.DividedPiece.{DividedPiece}, fault.TextError.{TextError, TheVariants.{Fault, Memory}}}, Language.{Cut.{IsCut, IsCutError, ended}, Part.{HasOwnParts}}}
 use Rattle.mm_store.specs.{Language.Answers.{edit_error_of}, Code.Units.{IsUnitError}}
@@ -31,3 +31,6 @@ returns-clause-parts c = λ units has.
     let all : c.in_ok-text.text ≡ ended text = c.in_ok-text.ensures ∙ ap (λ (bs : List ℕ). bs ++ c.deref.result.now) c.as_slice.ensures ∙ ap (λ (bs : List ℕ). unit.text ++ bs) c.deref.ensures.value
     ∙ ap (λ (bs : List ℕ). bs ++ found.tail.items) (sym (append-nil unit.text)) ∙ cut.joined in
     parts 0 unit (omega arith) units (c.one_unit_of_cut.ensures.same text unit.text found.tail.items units cut (rw all at has)))
+
+pub returns-then-len-ne1-clause-err : goal.returns-then-len-ne1-clause-err
+returns-then-len-ne1-clause-err c = grind (arith, common_steps)

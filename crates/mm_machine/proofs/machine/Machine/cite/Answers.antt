@@ -1,3 +1,4 @@
+use Rattle.std.proofs.{Common.{arith}, lemmas.Grind.{common_steps}}
 use Rattle.mm_machine.specs.Language.CitedFrames.{mandatory_of}
 use Rattle.mm_machine.proofs.lemmas.machine.FlatLemmas.{range_mapped}
 use Rattle.mm_machine.proofs.machine.Machine.cite.Goals as goal
@@ -14,3 +15,9 @@ returns g c = record {
   whole = c.cite_frame.ensures.whole;
   saved = c.cite_frame.ensures.saved;
 }
+
+pub offset_bounds-mandatory-cited : goal.offset_bounds-mandatory-cited
+offset_bounds-mandatory-cited g c = grind (arith, common_steps)
+
+pub slice_bounds-cite_frame-end : goal.slice_bounds-cite_frame-end
+slice_bounds-cite_frame-end g c = grind (arith, common_steps)

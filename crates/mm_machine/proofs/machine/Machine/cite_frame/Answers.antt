@@ -1,4 +1,4 @@
-use Rattle.std.proofs.{Common.{◌≡◌, ◌-◌, ◌++◌, ◌∷◌, [], List, map, take, drop, length, sym, ◌∙◌, ap, subst, arith, refl}, lemmas.List.{length-map, length-drop, length-take}}
+use Rattle.std.proofs.{Common.{◌≡◌, ◌-◌, ◌++◌, ◌∷◌, [], List, map, take, drop, length, sym, ◌∙◌, ap, subst, arith, refl}, lemmas.{List.{length-map, length-drop, length-take}, Grind.{common_steps}}}
 use Rattle.mm_machine.specs.{Language.{Steps.{Cites}, Substitution.{substituted}, CitedFrames.{mandatory_of, meant_pairs}}, declared.pattern.Entry.{Entry}}
 use Rattle.mm_machine.specs.Code.{Flat.{read, read_all}, Citation.{frame_from}}
 use Rattle.mm_machine.proofs.lemmas.machine.{EntryFaults.{gives_all, hypotheses_known}, CitingFaults.{cited_by, says08}, StackLemmas.{entries_taken, slice_taken, all_taken}}
@@ -115,3 +115,9 @@ slice_bounds-entries-count g c = omega arith
 
 pub offset_bounds-deref-below : goal.offset_bounds-deref-below
 offset_bounds-deref-below g c = omega arith
+
+pub returns-then-len-count-clause-cites : goal.returns-then-len-count-clause-cites
+returns-then-len-count-clause-cites g c = grind (arith, common_steps)
+
+pub take_floats-requires-clause-within : goal.take_floats-requires-clause-within
+take_floats-requires-clause-within g c = grind (arith, common_steps)

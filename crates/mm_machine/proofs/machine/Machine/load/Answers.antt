@@ -1,4 +1,4 @@
-use Rattle.std.proofs.{Common.{map, length, sym, arith}, lemmas.List.{length-map}}
+use Rattle.std.proofs.{Common.{map, length, sym, arith}, lemmas.{List.{length-map}, Grind.{elements}}}
 use Rattle.mm_machine.specs.declared.pattern.Entry.{Entry}
 use Rattle.mm_machine.proofs.lemmas.machine.StackLemmas.{pushed_all, grown_all, wider}
 use Rattle.mm_machine.proofs.machine.Machine.load.Goals as goal
@@ -23,3 +23,6 @@ returns-clause-stack g c =
       length-map c.args.self.now.symbols.items
           m,
     )) c.requires.within
+
+pub returns-clause-whole : goal.returns-clause-whole
+returns-clause-whole g c = grind (arith, elements)

@@ -1,4 +1,4 @@
-use Rattle.std.proofs.{Common.{◌≡◌, List, Some, refl, sym, ap, ◌∙◌, length, Global, Vec, ℕ, slice_get}, lemmas.Option.{slice_get-map, slice_get_past, slice_get_read}}
+use Rattle.std.proofs.{Common.{◌≡◌, List, Some, refl, sym, ap, ◌∙◌, length, Global, Vec, ℕ, slice_get, arith}, lemmas.{Option.{slice_get-map, slice_get_past, slice_get_read}, Grind.{elements}}}
 use Rattle.std.specs.Option.{option_map}
 use Rattle.mm_store.specs.{declared.{file_text.FileText.{FileText}, files.{Files.TheInside.{Inside}, PieceKey.{PieceKey}}}, Language.FilesView.{FilesView, piece_view}}
 use Rattle.mm_store.specs.Code.Kept.{files_view, keyed_file}
@@ -34,3 +34,6 @@ returns-clause-held c =
     let there = in_view c.self.inside c.args.file c.self.view_is c.as_slice.ensures.entries c.in_ok-file.ensures.entry in
     let h = c.in_ok-at.ensures.item.3 in
     held_there c.args.self.now c.args.file c.args.piece _ key c.holds_pieces.ensures there (slice_get_read keys (length keys) c.args.piece key refl h.0 (h.1 key))
+
+pub returns-in_err-file-clause-is : goal.returns-in_err-file-clause-is
+returns-in_err-file-clause-is c = grind (arith, elements)
