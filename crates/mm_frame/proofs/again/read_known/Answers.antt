@@ -1,4 +1,4 @@
-use Rattle.std.proofs.{Common.{ℕ, List, sym, subst}, lemmas.{Bool.{MatchBool-at_false, MatchBool-at_true}, Result.{on_ok_weaker}}}
+use Rattle.std.proofs.{Common.{ℕ, List, sym, subst, arith}, lemmas.{Bool.{MatchBool-at_false, MatchBool-at_true}, Result.{on_ok_weaker}, Grind.{elements}}}
 use Rattle.mm_statement.specs.Language.Item.{Item}
 use Rattle.mm_frame.specs.Code.{KeptBase.{IsDraft}, Numbers.{AreNameNumbers}}
 use Rattle.mm_frame.proofs.lemmas.{base.NumbersAside.{numbers_aside}, reading.KnownItems.{numbers_on}}
@@ -36,3 +36,9 @@ returns c =
           (put names numbers) (put all (numbers_on names all _ statement.symbols more numbers)),
     ))
     c.add_numbered.ensures
+
+pub known-statement-requires-clause-count : goal.known-statement-requires-clause-count
+known-statement-requires-clause-count c = grind (arith, elements)
+
+pub take_known-requires : goal.take_known-requires
+take_known-requires c = grind (arith, elements)

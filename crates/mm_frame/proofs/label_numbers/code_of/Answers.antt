@@ -1,4 +1,4 @@
-use Rattle.std.proofs.Common.{◌≤◌, ◌<◌, ◌^◌, length, drop, slice_index_or, ◌-◌, suc, sym, ◌∙◌, arith, leb-true}
+use Rattle.std.proofs.{Common.{◌≤◌, ◌<◌, ◌^◌, length, drop, slice_index_or, ◌-◌, suc, sym, ◌∙◌, arith, leb-true}, lemmas.Grind.{common_steps}}
 use Rattle.mm_frame.specs.Code.KeptLabels.{label_code}
 use Rattle.mm_frame.proofs.lemmas.names.LabelCodes.{code_fits}
 use Rattle.mm_frame.proofs.label_numbers.code_of.Goals as goal
@@ -20,3 +20,9 @@ overflow_add-code c =
     let byte = slice_index_or label (c.loop-left.left - 1) 0 in
     let low : suc byte ≤ 128 = leb-true (suc byte) 128 (sym c.is_ascii.ensures ∙ c.if-not-is_ascii.false) in
     omega arith
+
+pub loop-left-init : goal.loop-left-init
+loop-left-init c = grind (arith, common_steps)
+
+pub loop-left-preserved : goal.loop-left-preserved
+loop-left-preserved c = grind (arith, common_steps)

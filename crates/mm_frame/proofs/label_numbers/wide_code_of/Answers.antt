@@ -1,4 +1,4 @@
-use Rattle.std.proofs.Common.{◌≤◌, ◌<◌, ◌^◌, length, drop, slice_index_or, ◌-◌, suc, sym, ◌∙◌, arith, leb-true}
+use Rattle.std.proofs.{Common.{◌≤◌, ◌<◌, ◌^◌, length, drop, slice_index_or, ◌-◌, suc, sym, ◌∙◌, arith, leb-true}, lemmas.Grind.{common_steps}}
 use Rattle.mm_frame.specs.Code.KeptLabels.{label_code}
 use Rattle.mm_frame.proofs.lemmas.names.LabelCodes.{code_fits, no_code}
 use Rattle.mm_frame.proofs.label_numbers.wide_code_of.Goals as goal
@@ -24,3 +24,9 @@ overflow_add-code c =
 pub returns-then-not-is_ascii : goal.returns-then-not-is_ascii
 returns-then-not-is_ascii c =
     no_code 18 (c.loop-left.left - 1) c.args.label.now (omega (arith, c.loop-left-test.true, c.loop-left.invariant.0)) (sym c.is_ascii.ensures ∙ c.if-not-is_ascii.true)
+
+pub loop-left-init : goal.loop-left-init
+loop-left-init c = grind (arith, common_steps)
+
+pub loop-left-preserved : goal.loop-left-preserved
+loop-left-preserved c = grind (arith, common_steps)

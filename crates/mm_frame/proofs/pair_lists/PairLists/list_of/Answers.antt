@@ -1,4 +1,4 @@
-use Rattle.std.proofs.{Common.{ℕ, [], Some, cond, nat_eq, List, take, drop, take-append-drop, append-nil, flat_map, sym, ap, subst, ◌∙◌}, lemmas.List.{take_rest}}
+use Rattle.std.proofs.{Common.{ℕ, [], Some, cond, nat_eq, List, take, drop, take-append-drop, append-nil, flat_map, sym, ap, subst, ◌∙◌, arith}, lemmas.{List.{take_rest}, Grind.{common_steps}}}
 use Rattle.std.specs.HashMap.{get}
 use Rattle.mm_frame.specs.{Language.Framing.{active_pairs}, declared.pair_lists.PairLists.{PairLists}, Code.{KeptPairLists.{KeepsLists, IsList, pairs_among}, KeptSymbols.{expression_kept}}}
 use Rattle.mm_machine.specs.Language.NumberedSymbols.{AreSamePairsRead}
@@ -42,3 +42,6 @@ returns-in-Some-clause-pairs c all before h a e m =
 
 pub returns-in-Some-clause-made : goal.returns-in-Some-clause-made
 returns-in-Some-clause-made c all before h a e m = m
+
+pub returns-clause-kept : goal.returns-clause-kept
+returns-clause-kept c = grind (arith, common_steps)

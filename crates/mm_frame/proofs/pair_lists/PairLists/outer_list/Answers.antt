@@ -1,4 +1,4 @@
-use Rattle.std.proofs.{Common.{ℕ, ◌++◌, Some, cond, nat_eq, List, take, drop, take-append-drop, append_assoc, flat_map, sym, ap, subst, ◌∙◌}, lemmas.List.{take_rest}}
+use Rattle.std.proofs.{Common.{ℕ, ◌++◌, Some, cond, nat_eq, List, take, drop, take-append-drop, append_assoc, flat_map, sym, ap, subst, ◌∙◌, arith}, lemmas.{List.{take_rest}, Grind.{common_steps}}}
 use Rattle.std.specs.HashMap.{get}
 use Rattle.mm_frame.specs.{Language.Framing.{active_pairs}, declared.pair_lists.PairLists.{PairLists}, Code.{KeptPairLists.{KeepsLists, pairs_among}, KeptSymbols.{expression_kept}}}
 use Rattle.mm_machine.specs.Language.NumberedSymbols.{AreSamePairsRead}
@@ -39,3 +39,6 @@ returns-in-Some-clause-pairs c all before rest h a e f m = (m c.args.count c.in-
 
 pub returns-in-Some-clause-made : goal.returns-in-Some-clause-made
 returns-in-Some-clause-made c all before rest h a e f m = m
+
+pub returns-clause-kept : goal.returns-clause-kept
+returns-clause-kept c = grind (arith, common_steps)
