@@ -68,7 +68,10 @@ fn with_runs(base: Base, ran: Result<Ran, AllocError>) -> Result<Next, AllocErro
 {
     match ran {
         Ok(ran) => Ok(Next { base, ran }),
-        Err(error) => Err(error),
+        Err(error) => {
+            drop(base);
+            Err(error)
+        }
     }
 }
 

@@ -82,8 +82,13 @@ fn first_with_top(
     ensures told { IfErr result IsExpansionError }
 {
     let next = first_of(alloc, names, files, top)?;
-    let top = Vec::from_slice(alloc, top)?;
-    Ok((top, next))
+    match Vec::from_slice(alloc, top) {
+        Ok(top) => Ok((top, next)),
+        Err(error) => {
+            drop(next);
+            Err(StoreError::from(error))
+        }
+    }
 }
 
 /// Puts what a session goes on with in the place of what it had, and drops the old pieces of the edits.
