@@ -134,10 +134,11 @@ fn run_front<'b>(
     let steps: &[ProofStep] = &proof.decoding.steps;
     let count = steps_before(proof.base, labels, steps);
     let front = &steps[..count];
+    let used = labels_used(alloc, labels, front)?;
     let room = mem::replace(&mut scratch.naming, NamingRoom::new(alloc));
     let before = mem::replace(known, Known::new(alloc));
-    let used = labels_used(alloc, labels, front)?;
     let (named, room, numbers) = name_all(proof.base, &used, room, before)?;
+    drop(used);
     scratch.naming = room;
     let active = Active::new(active(proof.base, proof.i));
     let came_to = run_counted(alloc, &mut scratch.machine, &named, &active, front)?;

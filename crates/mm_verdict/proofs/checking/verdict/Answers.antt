@@ -1,4 +1,4 @@
-use Rattle.std.proofs.{Common.{◌≡◌, ◌<◌, ℕ, Some, List, subst, length, map, refl, ◌∙◌, ap, arith, get_or, slice_get}, lemmas.Option.{slice_get-map, slice_get_read}}
+use Rattle.std.proofs.{Common.{◌≡◌, ◌<◌, ℕ, Some, List, subst, length, map, refl, ◌∙◌, ap, arith, get_or, slice_get}, lemmas.{Option.{slice_get-map, slice_get_read}, Grind.{elements}}}
 use Rattle.std.specs.Option.{option_map}
 use Rattle.mm_verdict.specs.Language.DecodedSteps.{decoded_steps}
 use Rattle.mm_machine.specs.{Language.NamedSteps.{IsOutcomeWithin, RunSays}, declared.step.ProofStep.{ProofStep}}
@@ -44,3 +44,6 @@ pub returns-in-Other : goal.returns-in-Other
 returns-in-Other c view place statement says =
     let run = subst (RunSays place (decoded_steps view c.args.decoding.now c.args.words).steps statement) c.in-Other.is says in
     (run.0, run.1, run.2, run.3, c.closing_spot-in-Other.ensures)
+
+pub returns-in-Fault : goal.returns-in-Fault
+returns-in-Fault c = grind (arith, elements)

@@ -1,4 +1,4 @@
-use Rattle.std.proofs.Common.{refl, sym}
+use Rattle.std.proofs.{Common.{refl, sym, arith}, lemmas.Grind.{common_steps}}
 use Rattle.mm_verdict.proofs.lemmas.decoding.ReaderLemmas.{step_rest, no_save}
 use Rattle.mm_verdict.proofs.letters.LetterReader.read.Goals as goal
 
@@ -12,3 +12,12 @@ returns-else-byte-eq90-clause-ok c = λ aim ls goes. record {
       c.args.self.now.saves (sym c.if-is_digit.ensures) (c.in-Ok.ensures.says aim.names goes.digits goes.labels_are goes.digits_are)
       c.push_reserved.ensures.items (no_save c.args.byte c.args.self.now.saves c.if-byte-eq90.false) goes.rest;
 }
+
+pub invariant_of-self-else-byte-eq90 : goal.invariant_of-self-else-byte-eq90
+invariant_of-self-else-byte-eq90 c = grind (arith, common_steps)
+
+pub invariant_of-self-then-byte-eq90 : goal.invariant_of-self-then-byte-eq90
+invariant_of-self-then-byte-eq90 c = grind (arith, common_steps)
+
+pub returns-then-byte-eq90-clause-ok : goal.returns-then-byte-eq90-clause-ok
+returns-then-byte-eq90-clause-ok c = grind (arith, common_steps)
