@@ -1,4 +1,4 @@
-use Rattle.std.proofs.Common.{◌∷◌, [], ◌++◌, ◌+◌, Some, length, map, ap, ◌∙◌, arith}
+use Rattle.std.proofs.{Common.{◌∷◌, [], ◌++◌, ◌+◌, Some, length, map, ap, ◌∙◌, arith}, lemmas.Grind.{elements}}
 use Rattle.mm_keep.specs.Code.KeptCheck.{judgement_at}
 use Rattle.mm_keep.proofs.CheckLemmas.{added, pushed}
 use Rattle.mm_keep.proofs.kept.Checks.add.Goals as goal
@@ -12,3 +12,12 @@ returns c =
     ap (λ xs. map (judgement_at xs) c.push.new.self.items) all ∙ ap (map (judgement_at (i.checks.items ++ one ∷ []))) c.in_ok-push.ensures.items
     ∙ added i.checks.items i.places.items one place c.self.invariant (omega (arith, c.len.ensures, c.reserve.new.self.ok.0, ap length c.reserve.ensures.items))
     ∙ ap (λ w. w ++ Some one ∷ []) c.self.view_is
+
+pub invariant_of-self-2 : goal.invariant_of-self-2
+invariant_of-self-2 c = grind (arith, elements)
+
+pub overflow_add-len : goal.overflow_add-len
+overflow_add-len c = grind (arith, elements)
+
+pub overflow_cast-len : goal.overflow_cast-len
+overflow_cast-len c = grind (arith, elements)
