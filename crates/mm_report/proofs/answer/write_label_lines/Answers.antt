@@ -1,4 +1,4 @@
-use Rattle.std.proofs.Common.{◌≡◌, ◌<◌, [], get_or, length, arith, unwrap_or}
+use Rattle.std.proofs.{Common.{◌≡◌, ◌<◌, [], get_or, length, arith, unwrap_or}, lemmas.Grind.{common_steps}}
 use Rattle.mm_keep.specs.mm_frame.Language.Base.{said_at}
 use Rattle.mm_report.proofs.{LabelLemmas.{lines_around}, StreamLemmas.{stops_behind, stops_front, writes_stop}, WrittenLemmas.{label_is}}
 use Rattle.mm_report.proofs.answer.write_label_lines.Goals as goal
@@ -13,3 +13,9 @@ returns-in_err-write_part g c base is =
     let line = rw name at c.in_err-write_part.ensures.err in
     rw (lines_around base items k within)
     (writes_stop c.from_residual.ensures.0 (stops_behind g.W.Write.contents c.args.to.now c.loop-i.to c.write_part.new.to _ _ (c.loop-i.invariant base is) (stops_front _ line)))
+
+pub loop-i-preserved : goal.loop-i-preserved
+loop-i-preserved g c = grind (arith, common_steps)
+
+pub returns : goal.returns
+returns g c = grind (arith, common_steps)

@@ -1,4 +1,4 @@
-use Rattle.std.proofs.Common.{◌≡◌, [], arith, unwrap_or}
+use Rattle.std.proofs.{Common.{◌≡◌, [], arith, unwrap_or}, lemmas.Grind.{elements}}
 use Rattle.mm_keep.specs.{mm_frame.Language.Base.{said_at}, Language.Findings.{counted, told}}
 use Rattle.mm_script.specs.Language.Stream.{written}
 use Rattle.mm_report.proofs.WrittenLemmas.{label_is, within_is, one_written, line_fails}
@@ -34,3 +34,6 @@ loop-i-preserved g c =
     (rw c.files.ensures.files at (c.in_ok-write_line.ensures (said_at base i) name)).ok)
     (λ all so. c.with-tally.ensures all so)
     c.loop-i.invariant
+
+pub write_line-requires : goal.write_line-requires
+write_line-requires g c = grind (arith, elements)
