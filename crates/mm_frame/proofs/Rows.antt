@@ -2,8 +2,8 @@
 use Rattle.std.proofs.Common.{◌≡◌, ℕ, true, false, Some, None, List, [], ◌∷◌, ◌++◌, refl, codes}
 use Rattle.mm_machine.specs.Language.Frame.{Symbol, Hypothesis, Assertion, Unknown, Inactive}
 use Rattle.mm_statement.specs.Language.Item.{Kind, Constants, Variables, Disjoint, Floating, Essential, Axiom, Theorem, BlockStart, BlockEnd, Item, item_at, has}
-use Rattle.mm_frame.specs.declared.FrameNumber.TheVariants.{F06, F08, F12}
-use Rattle.mm_frame.specs.Language.{Sound.{fault, sound_items}, Framing.{resolve, active_pairs, setting_of, before_of, expression, mandatory_numbers}, Scope.{active_variables}}
+use Rattle.mm_frame.specs.{declared.FrameNumber.TheVariants.{F06, F08, F12}, Language.Sound.{fault, sound_items}}
+use Rattle.mm_frame.specs.Language.{Framing.{resolve, active_pairs, setting_of, before_of, expression, mandatory_numbers}, Scope.{active_variables}}
 use Rattle.mm_frame.specs.Code.LastItems.{last_where, is_active_last, declares_variable, types, carries}
 
 abbrev plain : Kind → List (List ℕ) → Item

@@ -1,12 +1,11 @@
 -- What is carried so far.
-use Rattle.std.proofs.Common.{◌≡◌, ◌≢◌, ℕ, true, is_some, ◌<◌, ◌≤◌, ◌+◌, Option, Some, None, List, length, get_or, set, refl, sym, ◌∙◌, ap, subst, arith, length-set, get_or-set_other, get_or-set_same}
-use Rattle.std.proofs.Common.{slice_get}
-use Rattle.std.proofs.lemmas.{Bool.{false≢true}, Option.{get_or_from_slice_get, slice_get-get_or, slice_get_within}}
+use Rattle.std.proofs.lemmas.{Grind.{common_steps}, Bool.{false≢true}, Option.{get_or_from_slice_get, slice_get-get_or, slice_get_within}}
+use Rattle.std.proofs.Common.{rules, ◌≡◌, ◌≢◌, ℕ, true, is_some, ◌<◌, ◌≤◌, ◌+◌, Option, Some, None, List, length, get_or, set, refl, sym, ◌∙◌, ap, subst, arith, length-set, get_or-set_other}
+use Rattle.std.proofs.Common.{get_or-set_same, slice_get}
 use native.Mathlib.Decide.{dec_lt}
 use Rattle.mm_proof.specs.{mm_frame.Language.Base.{BaseView, is_proof_at}, mm_verdict.Language.{DecodingLaws.{LabelsAreOwn}, Work.{Judgement}}}
 use Rattle.mm_proof.specs.Language.ViewLaws.{SameViewSameVerdict, SameViewSameCites}
-use Rattle.mm_keep.specs.{Code.{KeptSession.{IsCheckedAt, AreChecked}, Planned.{IsRunBy, CanCarry}}, Language.Runs.{HasSameView}}
-use Rattle.mm_keep.proofs.PlanLemmas.{checked_same, kept_by_one}
+use Rattle.mm_keep.{specs.{Code.{KeptSession.{IsCheckedAt, AreChecked}, Planned.{IsRunBy, CanCarry}}, Language.Runs.{HasSameView}}, proofs.PlanLemmas.{checked_same, kept_by_one}}
 
 -- the first items of the new list are checked, the others are as the runs gave them, and what they keep is where it was
 pub record AreCarried (base copy : BaseView) (plan : List (Option ℕ)) (count : ℕ) (old new : List (Option Judgement)) : Type 0 where
@@ -19,10 +18,7 @@ pub carried_all : (base copy : BaseView) (old : List (Option Judgement)) (plan :
     → CanCarry base copy old plan new → (spent result : List (Option Judgement)) → AreCarried base copy plan (length plan) spent result
     → length result ≡ length new
     → AreChecked copy result
-carried_all base copy old plan new can spent result are long = record {
-  count = long ∙ can.count ∙ can.planned.count;
-  each = λ i one e. are.done i one (let w = slice_get_within result i one e in omega (arith, can.count)) e;
-}
+carried_all base copy old plan new can spent result are long = search (rules, slice_get_within) steps 500000
 
 -- an item that keeps nothing
 pub carried_past : (base copy : BaseView) (plan : List (Option ℕ)) (j : ℕ) (old new : List (Option Judgement)) → AreCarried base copy plan j old new → slice_get plan j ≡ Some None → AreCarried base copy plan (j + 1) old new
@@ -40,8 +36,7 @@ get_set_other : {X : Type 0} (xs : List X) (i k : ℕ) (x y : X) → i ≢ k →
 get_set_other xs i k x y ne e =
     let w = slice_get_within (set xs i y) k x e in
     let n = length-set xs i y in
-    let away : k ≢ i = λ f. ne (sym f) in
-    slice_get-get_or xs k x (omega arith) ∙ ap Some (sym (get_or-set_other xs i k y x away) ∙ get_or_from_slice_get (set xs i y) k x x e)
+    slice_get-get_or xs k x (omega arith) ∙ ap Some (sym (get_or-set_other xs i k y x (λ f. ne (sym f))) ∙ get_or_from_slice_get (set xs i y) k x x e)
 
 -- an item that keeps what was checked before
 pub carried_kept : LabelsAreOwn → SameViewSameVerdict → SameViewSameCites → (base copy : BaseView) (checked : List (Option Judgement)) (plan : List (Option ℕ)) (ran : List (Option Judgement)) → CanCarry base copy checked plan ran
@@ -73,11 +68,10 @@ pub old_some : (base copy : BaseView) (checked : List (Option Judgement)) (plan 
 old_some base copy checked plan ran can j i old new are there long =
     let kept : HasSameView base copy i j = can.planned.each j (Some i) there in
     let l : i < length old = omega (arith, kept.within, can.was.count) in
-    checked_some base i (get_or old i None) kept.was (are.left j i (get_or old i None) (omega arith) there (slice_get-get_or old i None l))
-  where
-    checked_some : (base : BaseView) (i : ℕ) (one : Option Judgement) → is_proof_at base i ≡ true → IsCheckedAt base i one → is_some one ≡ true
-    checked_some base i None was is = absurd (false≢true (sym is ∙ was))
-    checked_some base i (Some one) was is = refl
+    checked_some base i (get_or old i None) kept.was (are.left j i (get_or old i None) (omega arith) there (slice_get-get_or old i None l)) where
+      checked_some : (base : BaseView) (i : ℕ) (one : Option Judgement) → is_proof_at base i ≡ true → IsCheckedAt base i one → is_some one ≡ true
+      checked_some base i None was is = absurd (false≢true (sym is ∙ was))
+      checked_some base i (Some one) was is = refl
 
 pub new_some : (base copy : BaseView) (plan : List (Option ℕ)) (j i : ℕ) (old new : List (Option Judgement)) → AreCarried base copy plan j old new → slice_get plan j ≡ Some (Some i)
     → j < length new → is_some (get_or new j None) ≡ true
@@ -91,19 +85,13 @@ pub carried_one : LabelsAreOwn → SameViewSameVerdict → SameViewSameCites →
     → ((i : ℕ) → from ≡ Some i → (spent ≡ set old i (get_or new j None)) × (given ≡ set new j (get_or old i None)))
     → AreCarried base copy plan (j + 1) spent given
 carried_one own verdicts cites base copy checked plan ran can j old new spent given are l m None is bound nothing moved =
-    let e = nothing refl in
-    subst (λ (xs : List (Option Judgement)). AreCarried base copy plan (j + 1) spent xs) (sym e.1) (subst (λ (xs : List (Option Judgement)). AreCarried base copy plan (j + 1) xs new) (sym e.0)
-    (carried_past base copy plan j old new are (slice_get-get_or plan j None l ∙ ap Some is)))
+    grind (arith, common_steps, carried_past base copy plan j old new are (slice_get-get_or plan j None l ∙ ap Some is)) steps 200000
 carried_one own verdicts cites base copy checked plan ran can j old new spent given are l m (Some i) is bound nothing moved =
-    let e = moved i refl in
-    subst (λ (xs : List (Option Judgement)). AreCarried base copy plan (j + 1) spent xs) (sym e.1) (subst (λ (xs : List (Option Judgement)). AreCarried base copy plan (j + 1) xs (set new j (get_or old i None))) (sym e.0)
-    (carried_kept own verdicts cites base copy checked plan ran can j i old new are (slice_get-get_or plan j None l ∙ ap Some is) (bound i refl) m))
+    grind (arith, carried_kept own verdicts cites base copy checked plan ran can j i old new are (slice_get-get_or plan j None l ∙ ap Some is) (bound i refl) m) steps 200000
 
 -- as many items as before
 pub carried_lengths : (from : Option ℕ) (j : ℕ) (old new spent given : List (Option Judgement)) → (from ≡ None → (spent ≡ old) × (given ≡ new))
     → ((i : ℕ) → from ≡ Some i → (spent ≡ set old i (get_or new j None)) × (given ≡ set new j (get_or old i None)))
     → (length spent ≡ length old) × (length given ≡ length new)
 carried_lengths None j old new spent given nothing moved = let e = nothing refl in (ap length e.0, ap length e.1)
-carried_lengths (Some i) j old new spent given nothing moved =
-    let e = moved i refl in
-    (ap length e.0 ∙ length-set old i (get_or new j None), ap length e.1 ∙ length-set new j (get_or old i None))
+carried_lengths (Some i) j old new spent given nothing moved = grind (arith, common_steps, length-set old i (get_or new j None), length-set new j (get_or old i None)) steps 200000

@@ -1,6 +1,7 @@
 -- Chains of citations, and marks of the items to which they lead.
-use Rattle.std.proofs.Common.{◌≡◌, ◌<◌, ◌≤◌, ℕ, zero, suc, ◌+◌, Bool, true, false, List, [], ◌∷◌, ◌++◌, length, take, get_or, set, refl, sym, ap, ◌∙◌, subst, inl, inr, arith, replicate}
-use Rattle.std.proofs.{Math.{Decide.{dec_lt, ℕ_discrete}, ListN.{get_or-eq_default}}, lemmas.{Bool.{false≢true}, List.{get_or-replicate, get_or-set_same, get_or-set_other, length-replicate}}}
+use Rattle.std.proofs.lemmas.{Grind.{common_steps}, Bool.{false≢true}, List.{get_or-replicate, get_or-set_same, get_or-set_other, length-replicate}}
+use Rattle.std.proofs.Common.{◌≡◌, ◌<◌, ◌≤◌, ℕ, zero, suc, ◌+◌, Bool, true, false, List, [], ◌∷◌, ◌++◌, length, take, set, refl, sym, ap, ◌∙◌, subst, inl, inr, arith, replicate}
+use Rattle.std.proofs.Math.{Decide.{dec_lt}, ListN.{get_or-eq_default}}
 use Rattle.mm_proof.specs.mm_frame.Language.Base.{BaseView}
 use Rattle.mm_keep.specs.{Language.{Citations.{CitesItem, LeadsTo, none, step, IsAxiomOf}, Runs.{AreThose}, Told.{IsAxiom}}, Code.Cited.{IsMarked, MarksMore, MarksBehind}}
 use Rattle.mm_keep.proofs.{CitedItems.{cites_earlier}, RunLemmas.{those_moved}}
@@ -82,43 +83,34 @@ behind_all view before now behind = record {
 -- ---- fresh marks
 
 pub never_marked : (marks : List Bool) (n : ℕ) → marks ≡ replicate n false → (k : ℕ) → IsMarked marks k → ⊥
-never_marked marks n e k m = elim (dec_lt k n) [
-  | yes l ↦ false≢true (sym (get_or-replicate n k false false l) ∙ sym (ap (λ (w : List Bool). get_or w k false) e) ∙ m)
-  | no l ↦ (let w = marked_within marks k m in let count = ap length e ∙ length-replicate n false in absurd (omega (arith, l, w, count)))
-]
+never_marked marks n e k m = grind (arith, common_steps, dec_lt k n, marked_within marks k m, length-replicate n false, false≢true, get_or-replicate) steps 200000
 
 -- what is cited, by the marks
 pub cites_marked :
     (view : BaseView) (i : ℕ) (fresh marks : List Bool) (numbers : List ℕ) → i < length view.said → length fresh ≡ i → ((k : ℕ) → IsMarked fresh k → ⊥) →
     MarksMore (CitesItem view i) fresh marks → AreThose (IsMarked marks) (length marks) numbers → AreThose (CitesItem view i) (length view.said) numbers
 cites_marked view i fresh marks numbers within count empty more those =
-    let long = more.count in
     those_moved (IsMarked marks) (CitesItem view i) (length marks) (length view.said) numbers those
     (λ k l m. elim ((more.each k).0 m) [
       | inl f ↦ absurd (empty k f)
       | inr c ↦ (let e = cites_earlier view i k c in (omega (arith, e, within), c))
     ])
-    (λ k l c. let e = cites_earlier view i k c in (omega (arith, e, long, count), (more.each k).1 (inr c)))
+    (λ k l c. let e = cites_earlier view i k c in (omega (arith, e, more.count, count), (more.each k).1 (inr c)))
 
 -- the axioms, by the marks
 pub axioms_marked :
     (view : BaseView) (i : ℕ) (fresh marks : List Bool) (numbers : List ℕ) → i < length view.said → length fresh ≡ i + 1 → IsMarked fresh i → ((k : ℕ) → IsMarked fresh k → k ≡ i) →
     MarksBehind view fresh marks → AreThose (λ k. IsMarked marks k × IsAxiom view k) (length marks) numbers → AreThose (IsAxiomOf view i) (length view.said) numbers
 axioms_marked view i fresh marks numbers within count here only behind those =
-    let long = behind.count in
     those_moved (λ k. IsMarked marks k × IsAxiom view k) (IsAxiomOf view i) (length marks) (length view.said) numbers those
     (λ k l m.
     let from = (behind.each k).0 m.0 in
-    (omega (arith, l, long, count, within), record { is_axiom = m.1; leads = subst (λ x. LeadsTo view k x) (only from.0 from.1) from.2 }))
-    (λ k l a. let e = leads_earlier view k i a.leads in (omega (arith, e, long, count), ((behind.each k).1 (i, here, a.leads), a.is_axiom)))
+    (omega (arith, l, behind.count, count, within), record { is_axiom = m.1; leads = subst (λ x. LeadsTo view k x) (only from.0 from.1) from.2 }))
+    (λ k l a. let e = leads_earlier view k i a.leads in (omega (arith, e, behind.count, count), ((behind.each k).1 (i, here, a.leads), a.is_axiom)))
 
 -- the one that is marked first
 pub one_marked : (fresh : List Bool) (i : ℕ) → i < length fresh → ((k : ℕ) → IsMarked fresh k → ⊥) → IsMarked (set fresh i true) i × ((k : ℕ) → IsMarked (set fresh i true) k → k ≡ i)
-one_marked fresh i within empty = (get_or-set_same fresh i true false within, λ k m. by_place k m (ℕ_discrete k i))
-  where
-    by_place : (k : ℕ) → IsMarked (set fresh i true) k → Dec (k ≡ i) → k ≡ i
-    by_place k m (yes e) = e
-    by_place k m (no n) = absurd (empty k (sym (get_or-set_other fresh i k true false n) ∙ m))
+one_marked fresh i within empty = grind (arith, common_steps, get_or-set_other, get_or-set_same) steps 200000
 
 -- a whole list that is written over another of its length
 pub take_front : {X : Type 0} (xs ys : List X) (n : ℕ) → n ≡ length xs → take n (xs ++ ys) ≡ xs

@@ -1,22 +1,14 @@
 -- How a session goes on with edited files.
-use Rattle.std.proofs.Common.{◌≡◌, ℕ, Option, List, refl, sym, ◌∙◌, subst}
+use Rattle.std.proofs.{Common.{arith, rules, ◌≡◌, ℕ, Option, List, sym, ◌∙◌, subst}, lemmas.Grind.{common_steps}}
 use Rattle.mm_proof.specs.mm_store.Language.{Undoing.{UndoView}, Batches.{IsBatchOf, IsSpendable, KeepsReading, KeepsStanding}, FileFacts.{parked_in}, FilesView.{FilesView, files_in, plain}}
 use Rattle.mm_proof.specs.{mm_text.Language.Asked.{Asked}, mm_frame.{Language.{Base.{BaseView}, Older.{IsOlder}}, declared.base.Base.{Base}}, mm_verdict.Language.Work.{Judgement, Recorded}}
 use Rattle.mm_keep.specs.{declared.keeping.Next.{Next}, Code.{Changing.{CanTake, HasKept, WereKept, session_of}, KeptSession.{AreChecked}, Next.{IsBuilt, IsNextBase}, Planned.{CanCarry}}}
-use Rattle.mm_keep.specs.Language.Sessions.{IsChanged}
-use Rattle.mm_keep.proofs.KeepLemmas.{ItemsStand, KeepsNumbers, batch_top, expansion_top, base_settled, says_edited}
+use Rattle.mm_keep.{specs.Language.Sessions.{IsChanged}, proofs.KeepLemmas.{ItemsStand, KeepsNumbers, batch_top, expansion_top, base_settled, says_edited}}
 
 -- what is checked can be carried
 pub can_carry : (before after : FilesView) (undos : List UndoView) (top : List ℕ) (names : List (List ℕ)) (checked : List (Option Judgement)) (next : Next) → (can : CanTake before after undos top names checked next)
     → CanCarry can.old can.base checked next.ran.plan next.ran.checked
-can_carry before after undos top names checked next can = record {
-  old_said = (before, can.old_is.each);
-  new_said = (after, can.built.of_files.each);
-  planned = can.goes_on.planned;
-  was = can.old_checked;
-  ran_is = can.goes_on.ran;
-  count = can.goes_on.count;
-}
+can_carry before after undos top names checked next can = search rules steps 500000
 
 -- what is kept once the edits are settled
 pub kept_settled : ItemsStand → (before after settled : FilesView) (undos : List UndoView) (top : List ℕ) (names : List (List ℕ)) (checked : List (Option Judgement)) (next : Next) → (can : CanTake before after undos top names checked next)
@@ -35,9 +27,7 @@ kept_settled stand before after settled undos top names checked next can same ke
 pub changed_settled : ItemsStand → (before after settled : FilesView) (undos : List UndoView) (top : List ℕ) (names : List (List ℕ)) (checked : List (Option Judgement)) (next : Next) → (can : CanTake before after undos top names checked next)
     → files_in settled ≡ files_in after → KeepsStanding after settled → (work : Recorded) → work ≡ next.ran.work → IsChanged (session_of before top) (session_of settled top) work
 changed_settled stand before after settled undos top names checked next can same keeps work is =
-    let of_files = base_settled stand after settled top can.base same keeps can.built.of_files in
-    subst (λ (w : Recorded). IsChanged (session_of before top) (session_of settled top) w) (sym is)
-    (record { top = refl; runs = record { old = can.old; new = can.base; were = can.old_is; are = of_files; those = can.goes_on.runs }; base = can.base; of_files = of_files; steps = can.goes_on.steps })
+    search (rules, base_settled stand after settled top can.base same keeps can.built.of_files) steps 500000
 
 -- the old base can be read in edited files
 pub old_in : (before after : FilesView) (undos : List UndoView) (top : List ℕ) (names : List (List ℕ)) (code : Base) (checked : List (Option Judgement))
@@ -47,26 +37,10 @@ old_in before after undos top names code checked were = record { later = were.ke
 pub can_take : (before after : FilesView) (undos : List UndoView) (top : List ℕ) (names all : List (List ℕ)) (code : Base)
     (checked : List (Option Judgement)) (next : Next) → (were : WereKept before after undos top names code checked)
     → ((view : BaseView) → IsOlder names after code view → IsNextBase all after top view next) → CanTake before after undos top all checked next
-can_take before after undos top names all code checked next were goes =
-    let is = goes were.base (old_in before after undos top names code checked were) in
-    record {
-      spendable = were.spendable;
-      parked = were.kept.parked;
-      old = were.base;
-      old_is = were.kept.built.of_files;
-      old_checked = were.kept.checked_is;
-      base = is.base;
-      built = is.built;
-      goes_on = is.goes_on;
-    }
+can_take before after undos top names all code checked next were goes = grind (arith, old_in before after undos top names code checked were) steps 200000
 
 -- files that are edited, with what was kept of them before
 pub were_kept : KeepsNumbers → (before after : FilesView) (undos : List UndoView) (top : List ℕ) (names : List (List ℕ)) (code : Base) (checked : List (Option Judgement)) → HasKept before top names code checked
     → (edits : List Asked) → IsBatchOf edits (plain before) (plain after) → KeepsReading before after → IsSpendable before after undos → WereKept before after undos top names code checked
-were_kept keeps before after undos top names code checked has edits done reading spendable = record {
-  base = has.0;
-  kept = has.1;
-  reading = reading;
-  spendable = spendable;
-  has_top = batch_top keeps edits before after top done (expansion_top before top has.0.found has.1.built.of_files.expansion);
-}
+were_kept keeps before after undos top names code checked has edits done reading spendable =
+    grind (arith, common_steps, batch_top keeps edits before after top done (expansion_top before top has.0.found has.1.built.of_files.expansion)) steps 200000

@@ -1,8 +1,8 @@
 -- What checks said, by the places of items: one item more, and one check in the place of another.
+use Rattle.std.proofs.lemmas.{Grind.{common_steps}, Bool.{false≢true}, List.{length-map, length_push, get_or-map, get_or_append_left, get_or_past, map-append, same_lists}}
+use Rattle.std.proofs.lemmas.Option.{slice_get-get_or, slice_get_past}
 use Rattle.std.proofs.Common.{cond, Result, Ok, is_ok, ◌≡◌, ◌≢◌, ℕ, zero, suc, ◌<◌, ◌≤◌, ◌+◌, ◌-◌, true, Option, Some, None, List, [], ◌∷◌, ◌++◌, length, map, get_or, set, is_some, refl, sym, ◌∙◌, ap}
-use Rattle.std.proofs.Common.{subst, arith, length-set, get_or-set_other, get_or-set_same, slice_get}
-use Rattle.std.proofs.lemmas.{Bool.{false≢true}, List.{length-map, length_push, get_or-map, get_or_append_left, get_or_past, map-append, same_lists}, Option.{slice_get-get_or, slice_get_past}}
-use Rattle.std.proofs.Math.Seq.{get_or-append_seam}
+use Rattle.std.proofs.{Common.{subst, arith, length-set, get_or-set_other, get_or-set_same, slice_get}, Math.Seq.{get_or-append_seam}}
 use native.Mathlib.Decide.{dec_lt}
 use Rattle.mm_proof.specs.mm_verdict.Language.Work.{Judgement}
 use Rattle.mm_keep.specs.Code.KeptCheck.{IsPlaced, judgement_at}
@@ -73,10 +73,7 @@ pub placed : (checks : List Judgement) (places : List ℕ) (i place : ℕ) → p
     → (i < length places) × (place ≡ place - 1 + 1) × (place - 1 < length checks)
 placed checks places i place is some =
     elim (dec_lt i (length places)) [
-      | yes l ↦ (
-          let at = at_some checks place (ap (λ p. is_some (judgement_at checks p)) is ∙ ap is_some (sym (get_or-map (judgement_at checks) places i place None l)) ∙ some) in
-          (l, at.0, at.1)
-          )
+      | yes l ↦ grind (arith, common_steps, get_or-map (judgement_at checks) places i place None l, at_some) steps 200000
       | no n ↦ absurd (let long = length-map places (judgement_at checks) in false≢true (sym (ap is_some (get_or_past (map (judgement_at checks) places) i None (omega arith))) ∙ some))
     ]
 
@@ -106,24 +103,13 @@ exchanged checks places i place one is here some =
     ∙ sym (get_or-map (judgement_at checks) places k 0 d w) ∙ sym (get_or-set_other old i k (Some one) d ne) in
     elim (dec_lt k i) [
       | yes m ↦ away (omega arith)
-      | no m ↦
-          elim (dec_lt i k) [
-            | yes n ↦ away (omega arith)
-            | no n ↦ (
-                let same : i ≡ k = omega arith in
-                subst (λ j. get_or (map f places) j d ≡ get_or (set old i (Some one)) j d) same
-                (get_or-map f places i place d at.0 ∙ ap f (sym here) ∙ at_put checks (place - 1) one place at.1 at.2 ∙ sym (get_or-set_same old i (Some one) d (omega (arith, at.0))))
-                )
-          ]
-    ])
-  where
-    next : (n : ℕ) → n + 1 ≡ suc n
-    next n = omega arith
+      | no m ↦ grind (arith, common_steps, dec_lt i k, get_or-map f places i place d at.0, at_put checks (place - 1) one place at.1 at.2, get_or-set_same old i (Some one) d (omega (arith, at.0))) steps 200000
+    ]) where
+      next : (n : ℕ) → n + 1 ≡ suc n
+      next n = omega arith
 
 -- the same by what is answered: what the check of an item said is put in the place of what that of another item said
 pub exchanged_by : (checks : List Judgement) (places : List ℕ) (i place : ℕ) (now theirs : List (Option Judgement)) (j : ℕ) (one other : Judgement) → IsPlaced places (length checks)
     → place ≡ get_or places i place → is_some (get_or (map (judgement_at checks) places) i None) ≡ true → map (judgement_at checks) places ≡ now → one ≡ other → get_or theirs j None ≡ Some other
     → map (judgement_at (set checks (place - 1) one)) places ≡ set now i (get_or theirs j None)
-exchanged_by checks places i place now theirs j one other is here some same e there =
-    let old = map (judgement_at checks) places in
-    exchanged checks places i place one is here some ∙ ap (λ (x : Option Judgement). set old i x) (ap Some e ∙ sym there) ∙ ap (λ (xs : List (Option Judgement)). set xs i (get_or theirs j None)) same
+exchanged_by checks places i place now theirs j one other is here some same e there = grind (arith, common_steps, exchanged checks places i place one is here some) steps 200000

@@ -1,9 +1,8 @@
 -- Citations depend on what the items of files say, and on nothing else.
-use Rattle.std.proofs.{Common.{◌≡◌, ◌<◌, ℕ, true, List, length, refl, sym, ap, ◌∙◌, subst, Contains}, lemmas.Bool.{and_parts, false≢true}}
+use Rattle.std.proofs.{Common.{arith, rules, ◌≡◌, ℕ, true, List, length, refl, sym, ap, ◌∙◌, subst, Contains}, lemmas.{Grind.{common_steps}, Bool.{and_parts, false≢true}}}
 use Rattle.mm_proof.specs.{mm_frame.Language.{Base.{BaseView, IsOfFiles, said_at, is_proof_at, is_sound_at}, Laws.{AlikeFilesSayTheSame, HasOwnLabels}}, mm_statement.Language.Item.{Item, is_theorem}}
 use Rattle.mm_keep.specs.Language.{Citations.{CitesItem, LeadsTo, none, step, IsAxiomOf}, Laws.{OneListEach, IsOneList, AxiomsHaveThemselves}, Runs.{AreThose}, Sessions.{IsAssertion, AreNumbersOf}}
-use Rattle.mm_keep.specs.Language.Told.{IsAxiom}
-use Rattle.mm_keep.proofs.{CitedItems.{assertion_carries}, NumberLemmas.{one_rising}, RunLaws.{saying}}
+use Rattle.mm_keep.{specs.Language.Told.{IsAxiom}, proofs.{CitedItems.{assertion_carries}, NumberLemmas.{one_rising}, RunLaws.{saying}}}
 
 -- ---- two bases whose items say the same
 
@@ -13,13 +12,7 @@ cites_alike base other e i k c =
     let m = n.means in
     subst (λ (said : List Item). CitesItem (saying other.found said) i k) e (record {
       theorem = c.theorem;
-      names = record {
-        decoded = n.decoded;
-        decodes = n.decodes;
-        label = n.label;
-        named = n.named;
-        means = (record { earlier = m.0.earlier; carrier = record { shown = m.0.carrier.shown; label_is = m.0.carrier.label_is } }, m.1, m.2);
-      };
+      names = grind (arith, common_steps) steps 200000;
     })
 
 leads_alike : (base other : BaseView) → base.said ≡ other.said → (k i : ℕ) → LeadsTo base k i → LeadsTo other k i
@@ -27,10 +20,7 @@ leads_alike base other e k i none = none
 leads_alike base other e k i (step {j = j} c rest) = step (cites_alike base other e i j c) (leads_alike base other e k j rest)
 
 axioms_alike : (base other : BaseView) → base.said ≡ other.said → (i k : ℕ) → IsAxiomOf base i k → IsAxiomOf other i k
-axioms_alike base other e i k a = record {
-  is_axiom = subst (λ (said : List Item). IsAxiom (saying other.found said) k) e (record { sound = a.is_axiom.sound; kind = a.is_axiom.kind });
-  leads = leads_alike base other e k i a.leads;
-}
+axioms_alike base other e i k a = grind (arith, common_steps, leads_alike base other e k i a.leads, saying) steps 200000
 
 -- ---- one list
 
@@ -40,9 +30,7 @@ AreAlike stands = (base other : BaseView) → base.said ≡ other.said → (i k 
 one_side :
     (stands : BaseView → ℕ → ℕ → Type 0) → AreAlike stands → (base other : BaseView) → base.said ≡ other.said → (i : ℕ) (numbers copies : List ℕ) →
     AreThose (stands base i) (length base.said) numbers → AreThose (stands other i) (length other.said) copies → (k : ℕ) → Contains numbers k → Contains copies k
-one_side stands alike base other e i numbers copies a b k h =
-    let p = (a.each k).0 h in
-    (b.each k).1 (subst (λ (said : List Item). k < length said) e p.0, alike base other e i k p.1)
+one_side stands alike base other e i numbers copies a b k h = grind (arith, a.each k, b.each k) steps 200000
 
 one_list_of :
     AlikeFilesSayTheSame → HasOwnLabels → (stands : BaseView → ℕ → ℕ → Type 0) → AreAlike stands →
@@ -53,27 +41,19 @@ one_list_of say own stands alike session other label numbers copies files top a 
     let is_other = subst (λ (name : List ℕ). IsOfFiles other.files name copy) (sym top) b.1 in
     let e : base.said ≡ copy.said = (say session.files other.files session.top base copy (record { files = files; is_base = a.1; is_other = is_other })).1 in
     let mine = a.2.1 in
-    let yours = b.2.1 in
     let moved = subst (λ (said : List Item). IsAssertion (saying copy.found said) label a.2.0) e (record { within = mine.within; framed = mine.framed; label_is = mine.label_is }) in
-    let same : b.2.0 ≡ a.2.0 = own copy b.2.0 a.2.0 label (assertion_carries copy label b.2.0 yours) (assertion_carries copy label a.2.0 moved) in
+    let same : b.2.0 ≡ a.2.0 = own copy b.2.0 a.2.0 label (assertion_carries copy label b.2.0 b.2.1) (assertion_carries copy label a.2.0 moved) in
     let those = subst (λ i. AreThose (stands copy i) (length copy.said) copies) same b.2.2 in
-    one_rising numbers copies a.2.2.rising those.rising
-    (one_side stands alike base copy e a.2.0 numbers copies a.2.2 those)
-    (one_side stands alike copy base (sym e) a.2.0 copies numbers those a.2.2)
+    grind (arith, one_rising numbers copies a.2.2.rising those.rising (one_side stands alike base copy e a.2.0 numbers copies a.2.2 those) (one_side stands alike copy base (sym e) a.2.0 copies numbers those a.2.2)) steps 200000
 
 pub one_list_each : AlikeFilesSayTheSame → HasOwnLabels → OneListEach
-one_list_each say own = (
-  one_list_of say own (λ base i k. CitesItem base i k) cites_alike,
-  one_list_of say own (λ base i k. CitesItem base k i) (λ base other e i k c. cites_alike base other e k i c),
-  one_list_of say own (λ base i k. IsAxiomOf base i k) axioms_alike,
-)
+one_list_each say own = search (rules, one_list_of, cites_alike, axioms_alike) steps 500000
 
 -- ---- axioms
 
 no_theorem : (base : BaseView) (i : ℕ) → IsAxiom base i → is_proof_at base i ≡ true → ⊥
 no_theorem base i a proof =
-    let p = and_parts (is_sound_at base i) (is_theorem (said_at base i).kind) proof in
-    false≢true (sym (ap is_theorem a.kind) ∙ p.1)
+    grind (arith, and_parts (is_sound_at base i) (is_theorem (said_at base i).kind) proof, false≢true (sym (ap is_theorem a.kind) ∙ (and_parts (is_sound_at base i) (is_theorem (said_at base i).kind) proof).1)) steps 200000
 
 leads_itself : (base : BaseView) (i k : ℕ) → IsAxiom base i → LeadsTo base k i → k ≡ i
 leads_itself base i k a none = refl

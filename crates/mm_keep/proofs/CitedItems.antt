@@ -1,19 +1,16 @@
 -- The items that a theorem cites are those whose labels are words that cite.
-use Rattle.std.proofs.Common.{◌≡◌, ◌<◌, ◌⊎◌, ℕ, Bool, true, false, Option, Some, None, List, length, get_or, slice_get, refl, sym, ap, ◌∙◌, subst, inl, inr, arith, ◌↔◌, Contains, slice_index}
-use Rattle.std.proofs.lemmas.{Bool.{and_parts, and_from, false≢true}, List.{get_or_default}, Option.{same_Some, slice_get-get_or}}
+use Rattle.std.proofs.lemmas.{Grind.{common_steps}, Bool.{and_parts, and_from, false≢true}, List.{get_or_default}, Option.{same_Some, slice_get-get_or}}
+use Rattle.std.proofs.Common.{◌≡◌, ◌<◌, ◌⊎◌, ℕ, Bool, true, false, Option, Some, None, List, length, get_or, slice_get, sym, ap, ◌∙◌, subst, inl, inr, arith, ◌↔◌, Contains, slice_index}
 use Rattle.mm_proof.specs.mm_frame.Language.{Base.{BaseView, AreSaid, said_at, is_proof_at, is_sound_at}, Laws.{HasOwnLabels}, Resolving.{IsCarrier}}
-use Rattle.mm_proof.specs.mm_statement.Language.Item.{Kind, Axiom, Theorem, is_assertion, is_labelled}
-use Rattle.mm_proof.specs.mm_verdict.Language.{CitingLaws.{CitesNameAssertions, CitesTellAssertions, IsCiteOf}, BaseLabels.{setting_at}, DecodingLaws.{CitesRise}, VerdictAt.{cites_at, decoding_at}}
-use Rattle.mm_proof.specs.mm_verdict.Language.Work.{Judgement}
+use Rattle.mm_proof.specs.{mm_statement.Language.Item.{Kind, is_assertion, is_labelled}, mm_verdict.Language.{CitingLaws.{CitesNameAssertions, CitesTellAssertions, IsCiteOf}, BaseLabels.{setting_at}}}
+use Rattle.mm_proof.specs.mm_verdict.Language.{DecodingLaws.{CitesRise}, VerdictAt.{cites_at, decoding_at}, Work.{Judgement}}
 use Rattle.mm_keep.specs.{Language.{Citations.{CitesItem}, Sessions.{IsAssertion}}, Code.{Cited.{AreRising, HasLabelAmong, IsAmongCited, MarksMore, IsMarked}, KeptSession.{AreChecked, IsCheckedAt}}}
 use Rattle.mm_keep.proofs.CitedWords.{rise_pairs}
 
 -- ---- assertions have labels
 
 assertion_labelled : (kind : Kind) → is_assertion kind ≡ true → is_labelled kind ≡ true
-assertion_labelled Axiom e = refl
-assertion_labelled Theorem e = refl
-assertion_labelled _ e = absurd (false≢true e)
+assertion_labelled kind e = grind (arith, common_steps) steps 200000
 
 pub assertion_carries : (view : BaseView) (label : List ℕ) (i : ℕ) → IsAssertion view label i → IsCarrier view label i
 assertion_carries view label i a =
@@ -28,14 +25,10 @@ pub cites_earlier : (view : BaseView) (j k : ℕ) → CitesItem view j k → k <
 cites_earlier view j k c = c.names.means.0.earlier
 
 number_among : (words : List (List ℕ)) (cites : List ℕ) (n : ℕ) (label : List ℕ) → Contains cites n → slice_get words n ≡ Some label → IsAmongCited words cites (length cites) label
-number_among words cites n label c there =
-    let at : slice_index cites c.0 ≡ n = get_or_default cites c.0 0 n c.1 ∙ c.2 in
-    record { at = c.0; before = c.1; there = ap (slice_get words) at ∙ there }
+number_among words cites n label c there = grind (arith, common_steps, get_or_default cites c.0 0 n c.1) steps 200000
 
 among_number : (words : List (List ℕ)) (cites : List ℕ) (label : List ℕ) → IsAmongCited words cites (length cites) label → (n : ℕ) × Contains cites n × (slice_get words n ≡ Some label)
-among_number words cites label a =
-    let n = slice_index cites a.at in
-    (n, (a.at, a.before, get_or_default cites a.at n 0 a.before), a.there)
+among_number words cites label a = grind (arith, common_steps, get_or_default cites a.at (slice_index cites a.at) 0 a.before) steps 200000
 
 module _ (each : CitesNameAssertions) (tell : CitesTellAssertions) (own : HasOwnLabels) (view : BaseView) (said : AreSaid view) (j : ℕ) (proof : is_proof_at view j ≡ true) where
   -- the label of a cited item is among the words that cite
@@ -86,9 +79,7 @@ none_cited view j k none c = false≢true (sym none ∙ c.theorem)
 -- ---- what a check of an item says, as it is kept
 
 pub checked_at : (view : BaseView) (checked : List (Option Judgement)) (j : ℕ) (one : Option Judgement) → AreChecked view checked → j < length view.said → get_or checked j None ≡ one → IsCheckedAt view j one
-checked_at view checked j one are within e =
-    let count = are.count in
-    are.each j one (slice_get-get_or checked j None (omega (arith, within, count)) ∙ ap Some e)
+checked_at view checked j one are within e = grind (arith, common_steps, are.each j one (slice_get-get_or checked j None (omega (arith, within, are.count)) ∙ ap Some e)) steps 200000
 
 -- the numbers of its words rise
 pub cites_rising : CitesRise → (view : BaseView) (j : ℕ) (cites : List ℕ) → cites ≡ cites_at view j → AreRising cites

@@ -1,8 +1,7 @@
 -- The words of a proof that cite, one after another, and marks of the items that they are labels of.
-use Rattle.std.proofs.Common.{◌≡◌, ◌⊎◌, ◌<◌, ℕ, zero, suc, ◌+◌, Bool, true, false, Option, Some, None, List, [], ◌∷◌, length, drop, set, get_or, slice_get, refl, sym, ap, ◌∙◌, subst, inl, inr, arith}
-use Rattle.std.proofs.Common.{◌↔◌, MatchOption, slice_index}
-use Rattle.std.proofs.{Math.Decide.{dec_lt, ℕ_discrete}, lemmas.{List.{drop-drop, get_or-set_same, get_or-set_other, length-set}, Option.{same_Some, none-some}}}
-use Rattle.std.specs.{Option.{option_map}, List.{AllByRecursion}}
+use Rattle.std.proofs.lemmas.{Grind.{common_steps}, List.{drop-drop, get_or-set_same, get_or-set_other, length-set}, Option.{same_Some, none-some}}
+use Rattle.std.proofs.Common.{rules, ◌≡◌, ◌⊎◌, ◌<◌, ℕ, zero, suc, ◌+◌, Bool, true, Option, Some, None, List, [], ◌∷◌, length, drop, set, get_or, slice_get, refl, sym, ap, ◌∙◌, subst, inl, inr, arith}
+use Rattle.std.{proofs.{Common.{MatchOption, slice_index}, Math.Decide.{dec_lt}}, specs.{Option.{option_map}, List.{AllByRecursion}}}
 use Rattle.mm_proof.specs.{mm_frame.Language.{Base.{BaseView}, Resolving.{IsCarrier}}, mm_verdict.Language.DecodingLaws.{Rise}}
 use Rattle.mm_keep.specs.Code.Cited.{AreRising, HasLabelAmong, IsAmongCited, IsMarked, MarksMore, passed_words}
 
@@ -19,8 +18,7 @@ get_behind (x ∷ xs) (suc n) m (suc k) e = get_behind xs n m k (omega (arith, e
 
 -- a word that is read, and what is left
 pub next_left : {W : Type 0} (f : W → List ℕ) (r : Option W) (old new : List (List ℕ)) → MatchOption r ((old ≡ []) × (new ≡ [])) (λ w. old ≡ f w ∷ new) → (new ≡ drop 1 old) × (option_map f r ≡ slice_get old 0)
-next_left f None old new h = (h.1 ∙ sym (ap (drop 1) h.0), sym (ap (λ ws. slice_get ws 0) h.0))
-next_left f (Some w) old new h = (sym (ap (drop 1) h), sym (ap (λ ws. slice_get ws 0) h))
+next_left f r old new h = grind (arith, common_steps) steps 200000
 
 pub passed_next : (cites : List ℕ) (x : ℕ) → passed_words cites (x + 1) ≡ slice_index cites x + 1
 passed_next cites x = let e : x + 1 ≡ suc x = omega arith in ap (passed_words cites) e
@@ -43,37 +41,13 @@ pub marks_same : (P : ℕ → Type 0) (marks : List Bool) → ((k : ℕ) → P k
 marks_same P marks none = record { count = refl; each = λ k. (λ m. inl m, λ s. elim s [ inl m ↦ m | inr p ↦ absurd (none k p) ]) }
 
 pub mark_one : (P : ℕ → Type 0) (marks : List Bool) (k : ℕ) → k < length marks → P k → ((j : ℕ) → P j → j ≡ k) → MarksMore P marks (set marks k true)
-mark_one P marks k within holds one = record { count = length-set marks k true; each = each }
-  where
-    here : IsMarked (set marks k true) k
-    here = get_or-set_same marks k true false within
-
-    by_place : (j : ℕ) → Dec (j ≡ k) → IsMarked (set marks k true) j ↔ (IsMarked marks j ⊎ P j)
-    by_place j (yes e) = (λ m. inr (subst P (sym e) holds), λ s. subst (IsMarked (set marks k true)) (sym e) here)
-    by_place j (no n) =
-        let same = get_or-set_other marks k j true false n in
-        (λ m. inl (sym same ∙ m), λ s. elim s [ inl m ↦ same ∙ m | inr p ↦ absurd (n (one j p)) ])
-
-    each : (j : ℕ) → IsMarked (set marks k true) j ↔ (IsMarked marks j ⊎ P j)
-    each j = by_place j (ℕ_discrete j k)
+mark_one P marks k within holds one = grind (arith, common_steps, get_or-set_other, get_or-set_same, length-set) steps 200000
 
 -- ---- labels among the first words
 
-pub among_none : (words : List (List ℕ)) (cites : List ℕ) (label : List ℕ) → IsAmongCited words cites 0 label → ⊥
-among_none words cites label a = let l = a.before in omega (arith, l)
-
--- a label among more words
-longer : (words : List (List ℕ)) (cites : List ℕ) (x : ℕ) (label : List ℕ) → IsAmongCited words cites x label → IsAmongCited words cites (x + 1) label
-longer words cites x label a = let l = a.before in record { at = a.at; before = omega (arith, l); there = a.there }
-
 -- it is among those before, or the last
 pub last_or_before : (words : List (List ℕ)) (cites : List ℕ) (x : ℕ) (label : List ℕ) → IsAmongCited words cites (x + 1) label → IsAmongCited words cites x label ⊎ (slice_get words (slice_index cites x) ≡ Some label)
-last_or_before words cites x label a =
-    let l = a.before in
-    elim (dec_lt a.at x) [
-      | yes m ↦ inl (record { at = a.at; before = m; there = a.there })
-      | no n ↦ (let e : a.at ≡ x = omega (arith, l) in inr (subst (λ i. slice_get words (slice_index cites i) ≡ Some label) e a.there))
-    ]
+last_or_before words cites x label a = grind (arith, common_steps, dec_lt a.at x) steps 200000
 
 -- one word that cites more, which is the label of those of which this holds
 words_next : (view : BaseView) (words : List (List ℕ)) (cites : List ℕ) (x : ℕ) (Q : ℕ → Type 0) (before now after : List Bool)
@@ -82,10 +56,7 @@ words_next : (view : BaseView) (words : List (List ℕ)) (cites : List ℕ) (x :
 words_next view words cites x Q before now after one last first second = record { count = second.count ∙ first.count; each = λ k. (to k, from k) }
   where
     to : (k : ℕ) → IsMarked after k → IsMarked before k ⊎ HasLabelAmong view words cites (x + 1) k
-    to k m = elim ((second.each k).0 m) [
-      | inl n ↦ elim ((first.each k).0 n) [ inl b ↦ inl b | inr h ↦ inr (record { label = h.label; among = longer words cites x h.label h.among; carrier = h.carrier }) ]
-      | inr q ↦ inr (one k q)
-    ]
+    to k m = search (rules, second.each k, first.each k) steps 500000
 
     from : (k : ℕ) → IsMarked before k ⊎ HasLabelAmong view words cites (x + 1) k → IsMarked after k
     from k (inl m) = (second.each k).1 (inl ((first.each k).1 (inl m)))
@@ -104,8 +75,4 @@ words_more view words cites x label before now after there first second = words_
 pub words_skip :
     (view : BaseView) (words : List (List ℕ)) (cites : List ℕ) (x : ℕ) (before now : List Bool) → slice_get words (slice_index cites x) ≡ None →
     MarksMore (HasLabelAmong view words cites x) before now → MarksMore (HasLabelAmong view words cites (x + 1)) before now
-words_skip view words cites x before now none first =
-    words_next view words cites x (λ k. ⊥) before now now (λ k q. absurd q) (λ k h e. none-some h.label (sym none ∙ e)) first (marks_same (λ k. ⊥) now (λ k q. q))
-
-pub words_none : (view : BaseView) (words : List (List ℕ)) (cites : List ℕ) (marks : List Bool) → MarksMore (HasLabelAmong view words cites 0) marks marks
-words_none view words cites marks = marks_same (HasLabelAmong view words cites 0) marks (λ k h. among_none words cites h.label h.among)
+words_skip view words cites x before now none first = grind (arith, common_steps, words_next, none-some, marks_same) steps 200000

@@ -1,6 +1,5 @@
 -- Whether two views are equal is decided.
-use Rattle.std.proofs.{Common.{◌≡◌, List, [], ◌∷◌, subst, inl, inr, arith, Contains}, Math.Decide.{map_dec}}
-use Rattle.std.specs.List.{AllByRecursion}
+use Rattle.std.{proofs.{lemmas.Grind.{common_steps}, Common.{◌≡◌, List, [], ◌∷◌, subst, inl, inr, arith, Contains}, Math.Decide.{map_dec}}, specs.List.{AllByRecursion}}
 use Rattle.mm_proof.specs.mm_machine.Language.{Frame.{Symbol, Mandatory, Frame, Resolved, Hypothesis, Assertion, Inactive, Unknown, ArePair, AreSamePairs, AreSameFrame}, SameProof.{AreSameMeaning}}
 use Rattle.mm_proof.specs.mm_verdict.Language.View.{View, AreSameViews}
 use Rattle.mm_keep.proofs.DecidingLemmas.{dec_and, dec_or, dec_bool, dec_bytes, dec_list, dec_contains, dec_each, dec_zip, first_of_list, later_of_list, member_cases}
@@ -34,8 +33,7 @@ member_among (first ∷ pairs) others pair h c = elim (member_cases first pair p
 ]
 
 turned : (others : List (Symbol × Symbol)) (x y : Symbol) → ArePair others x y → ArePair others y x
-turned others x y (inl c) = inr c
-turned others x y (inr c) = inl c
+turned others x y h = grind (arith, common_steps) steps 200000
 
 pair_among : (pairs others : List (Symbol × Symbol)) (x y : Symbol) → AreAmong pairs others → ArePair pairs x y → ArePair others x y
 pair_among pairs others x y h (inl c) = member_among pairs others (x, y) h c

@@ -1,10 +1,8 @@
 -- What can be decided: lists, members, and numbers below a bound.
+use Rattle.std.proofs.lemmas.{Grind.{common_steps}, Bool.{false≢true}, Option.{none-some, same_Some}, Slice.Eq.{bytes_eq-Decides}}
 use Rattle.std.proofs.Common.{◌≡◌, ◌⊎◌, ◌<◌, ℕ, zero, suc, ◌+◌, Bool, true, false, Option, Some, None, List, [], ◌∷◌, ◌++◌, length, drop, get_or, Decides, refl, sym, ap, subst, inl, inr, arith}
-use Rattle.std.proofs.Common.{Contains}
-use Rattle.std.proofs.{Math.Decide.{dec_lt, map_dec}, lemmas.{Bool.{false≢true}, Option.{none-some, same_Some}, Slice.Eq.{bytes_eq-Decides}}}
-use Rattle.std.specs.{List.{AllByRecursion, AllZip}, Str.{bytes_eq}}
-use Rattle.mm_keep.specs.Language.Runs.{AreThose}
-use Rattle.mm_keep.proofs.RunLemmas.{those_none, those_skip, those_more}
+use Rattle.std.{proofs.{Common.{Contains}, Math.Decide.{dec_lt, map_dec}}, specs.{List.{AllByRecursion, AllZip}, Str.{bytes_eq}}}
+use Rattle.mm_keep.{specs.Language.Runs.{AreThose}, proofs.RunLemmas.{those_none, those_skip, those_more}}
 
 dec_from : {P : Type 0} (b : Bool) → Decides b P → Dec P
 dec_from true d = yes (d.0 refl)
@@ -52,11 +50,7 @@ later_of_list x k xs h = (suc h.0, by h.1, h.2)
     by l = omega arith
 
 pub member_cases : {X : Type 0} (x k : X) (xs : List X) → Contains (x ∷ xs) k → (x ≡ k) ⊎ Contains xs k
-member_cases x k xs h = by h.0 h.1 h.2
-  where
-    by : (i : ℕ) → i < length (x ∷ xs) → get_or (x ∷ xs) i k ≡ k → (x ≡ k) ⊎ Contains xs k
-    by zero l e = inl e
-    by (suc i) l e = inr (i, omega arith, e)
+member_cases x k xs h = grind (arith, common_steps) steps 200000
 
 module _ {X : Type 0} (same : (a b : X) → Dec (a ≡ b)) where
   both_same : (x y : X) (xs ys : List X) → Dec (x ≡ y) → Dec (xs ≡ ys) → Dec (x ∷ xs ≡ y ∷ ys)
@@ -96,10 +90,7 @@ dec_below P (suc n) d = by (d n (omega arith)) (dec_below P n (λ k l. d k (omeg
     by : Dec (P n) → Dec ((k : ℕ) × (k < n) × P k) → Dec ((k : ℕ) × (k < suc n) × P k)
     by (yes p) rest = yes (n, omega arith, p)
     by (no q) (yes h) = yes (h.0, omega (arith, h.1), h.2)
-    by (no q) (no r) = no (λ h. elim (dec_lt h.0 n) [
-      | yes l ↦ r (h.0, l, h.2)
-      | no m ↦ (let e : h.0 ≡ n = omega (arith, h.1, m) in q (subst P e h.2))
-    ])
+    by (no q) (no r) = grind (arith, common_steps, dec_lt) steps 200000
 
 -- those below a bound of which it holds
 pub have_those : (P : ℕ → Type 0) → ((k : ℕ) → Dec (P k)) → (n : ℕ) → (numbers : List ℕ) × AreThose P n numbers

@@ -1,14 +1,13 @@
 -- Something is rightly reported of each item of files: its fault at a word, or the verdict on its proof, each at a place that there is.
+use Rattle.std.proofs.lemmas.{Grind.{common_steps}, Option.{get_or_from_slice_get, slice_get_within}}
 use Rattle.std.proofs.Common.{◌≡◌, ◌<◌, ◌≤◌, ◌⊎◌, ℕ, zero, suc, ◌+◌, Some, None, Option, is_none, true, false, ◌&&◌, List, [], ◌∷◌, length, slice_get, refl, sym, ap, subst, inl, inr, arith, All}
-use Rattle.std.proofs.Common.{slice_range}
-use Rattle.std.proofs.lemmas.Option.{get_or_from_slice_get, slice_get_within}
-use Rattle.std.specs.List.{AllZip}
+use Rattle.std.{proofs.Common.{slice_range}, specs.List.{AllZip}}
 use Rattle.mm_proof.specs.{mm_text.Language.Place.{line_at, column_at}, mm_store.Language.{FilesView.{FilesView, plain_file, text_of}, FileFacts.{StandsIn, piece_offset}}}
 use Rattle.mm_proof.specs.mm_frame.{declared.FrameNumber.{FrameNumber}, Language.Base.{BaseView, said_at, fault_at, is_sound_at, is_proof_at}}
 use Rattle.mm_proof.specs.mm_statement.Language.{Item.{Kind, Axiom, Theorem, is_assertion, is_theorem, passed}, Statement.{Says}}
 use Rattle.mm_proof.specs.{mm_verdict.Language.{ItemLaws.{HasVerdictAt, SpotsAreIn, TellsSpotIn, IsSpotIn}, VerdictAt.{IsVerdictAt}}, mm_machine.declared.{Spot.{Spot}, Verdict.{Verdict}}}
-use Rattle.mm_keep.specs.{declared.finding.At.{At}, Code.{FoundKinds.{IsFoundAs, kind_of_verdict}, OfFiles.{IsPlaceIn}}}
-use Rattle.mm_keep.specs.Language.{Laws.{ItemsHaveFindings}, Told.{Told, Quiet, AnAxiom, Proved, Incomplete, Wrong, Fault, IsRightlyTold}, WordPlaces.{start_of, spelled, IsPlaceOfSpot, proof_word}}
+use Rattle.mm_keep.specs.{declared.finding.At.{At}, Code.{FoundKinds.{IsFoundAs, kind_of_verdict}, OfFiles.{IsPlaceIn}}, Language.Laws.{ItemsHaveFindings}}
+use Rattle.mm_keep.specs.Language.{Told.{Told, Quiet, AnAxiom, Proved, Incomplete, Wrong, Fault, IsRightlyTold}, WordPlaces.{start_of, spelled, IsPlaceOfSpot, proof_word}}
 use Rattle.mm_keep.proofs.{FoundLemmas.{ItemsStand}, SpotLemmas.{letter_in, letter_within, placed_in}, ZipLemmas.{zip_found}}
 use Rattle.mm_proof.specs.mm_store.declared.item.Item as store
 use Rattle.mm_proof.specs.mm_machine.declared.Verdict.TheVariants as verdicts
@@ -26,9 +25,7 @@ has_place files item stands byte less =
 
 -- a `$a`, a `$p`, or neither
 kind_of : (kind : Kind) → (kind ≡ Axiom) ⊎ (kind ≡ Theorem) ⊎ (is_assertion kind ≡ false)
-kind_of Axiom = inl refl
-kind_of Theorem = inr (inl refl)
-kind_of _ = inr (inr refl)
+kind_of kind = grind (arith, common_steps) steps 200000
 
 module _ (files : FilesView) (base : BaseView) (i : ℕ) (item : store.Item) (found : slice_get base.found i ≡ Some item) (says : Says files item (said_at base i)) (stands : StandsIn files item) where
   -- its fault, at a word

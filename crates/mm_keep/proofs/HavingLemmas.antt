@@ -1,15 +1,14 @@
 -- Sessions have answers: items, lists of runs, and what assertions cite.
+use Rattle.std.proofs.lemmas.{Grind.{common_steps}, List.{get_or_default}, Option.{none-some, same_Some}}
 use Rattle.std.proofs.Common.{◌≡◌, ◌≢◌, ◌⊎◌, ◌<◌, ℕ, zero, suc, Bool, true, false, Some, None, List, [], ◌∷◌, length, refl, sym, ◌∙◌, subst, inl, inr, arith, slice_range, All, slice_index}
-use Rattle.std.proofs.{Math.Decide.{dec_lt, ℕ_discrete, map_dec}, lemmas.{List.{get_or_default}, Option.{none-some, same_Some}}}
-use Rattle.std.specs.List.{AllZip}
+use Rattle.std.{proofs.Math.Decide.{dec_lt, ℕ_discrete, map_dec}, specs.List.{AllZip}}
 use Rattle.mm_proof.specs.mm_store.Language.{Expansion.{IsExpansion}, FileFacts.{CanBeRead, HoldsPieces}, FilesView.{FilesView, file_number, files_in, number_of, plain}, Holding.{HoldOneEach}}
-use Rattle.mm_proof.specs.mm_text.Language.Unit.{tokens_of}
-use Rattle.mm_proof.specs.mm_frame.Language.{Base.{BaseView, AreSaid, IsOfFiles, said_at, is_framed_at, is_proof_at, is_sound_at}, Laws.{FilesHaveOneBase, HasOwnLabels}, Resolving.{IsCarrier}}
-use Rattle.mm_proof.specs.mm_statement.Language.{Item.{Item, Kind, Axiom}, Statement.{Says, item_of, kind_of}}
+use Rattle.mm_proof.specs.{mm_text.Language.Unit.{tokens_of}, mm_frame.Language.Base.{BaseView, AreSaid, IsOfFiles, said_at, is_framed_at, is_proof_at, is_sound_at}}
+use Rattle.mm_proof.specs.{mm_frame.Language.{Laws.{FilesHaveOneBase, HasOwnLabels}, Resolving.{IsCarrier}}, mm_statement.Language.{Item.{Item, Kind, Axiom}, Statement.{Says, item_of, kind_of}}}
 use Rattle.mm_proof.specs.mm_verdict.Language.{CitingLaws.{CitesNameAssertions, CitesTellAssertions, IsCiteOf}, View.{view_at}, VerdictAt.{cites_at}}
 use Rattle.mm_keep.specs.Language.{Citations.{CitesItem, LeadsTo, none, step, IsAxiomOf}, Laws.{FilesGiveItems, HasListOfRuns, HasListOf, HasListEach, LabelsAreDecided}}
-use Rattle.mm_keep.specs.Language.{Runs.{HasSameView, HadView, IsRun}, Sessions.{IsAssertion, HasAssertion, AreNumbersOf}}
-use Rattle.mm_keep.proofs.{CitedItems.{cites_earlier, none_cited}, DecidedViews.{dec_views}, KeepLemmas.{number_plain}, DecidingLemmas.{dec_and, dec_not, dec_bool, dec_label, dec_below, have_those}}
+use Rattle.mm_keep.{specs.Language.{Runs.{HasSameView, HadView, IsRun}, Sessions.{IsAssertion, HasAssertion, AreNumbersOf}}, proofs.{CitedItems.{cites_earlier, none_cited}, DecidedViews.{dec_views}}}
+use Rattle.mm_keep.proofs.{KeepLemmas.{number_plain}, DecidingLemmas.{dec_and, dec_not, dec_bool, dec_label, dec_below, have_those}}
 use Rattle.mm_proof.specs.mm_store.declared.item.Item as store
 
 -- ---- items
@@ -27,8 +26,7 @@ each_says files [] h = ([], tt)
 each_says files (item ∷ items) h =
     let read : CanBeRead files item = h 0 item (omega arith) in
     let rest = each_says files items (λ k d l. h (suc k) d (omega (arith, l))) in
-    let says : Item = item_of (kind_of item.kind) (tokens_of (slice_range read.text item.start item.end) read.words) in
-    (says ∷ rest.0, (record { read = read; is = refl }, rest.1))
+    ((item_of (kind_of item.kind) (tokens_of (slice_range read.text item.start item.end) read.words)) ∷ rest.0, (record { read = read; is = refl }, rest.1))
 
 pub give_items : ItemsThere → ItemsRead → FilesGiveItems
 give_items there reads files top holds units = (from, to)
@@ -60,9 +58,7 @@ dec_run : (old new : BaseView) (j : ℕ) → Dec (IsRun old new j)
 dec_run old new j = map_dec (λ h. record { theorem = h.0; changed = h.1 }) (λ h. (h.theorem, h.changed)) (dec_and (dec_bool (is_proof_at new j) true) (dec_not (dec_had_view old new j)))
 
 pub has_runs : HasListOfRuns
-has_runs before after top old new were are =
-    let h = have_those (IsRun old new) (dec_run old new) (length new.said) in
-    (h.0, record { old = old; new = new; were = were; are = are; those = h.1 })
+has_runs before after top old new were are = grind (arith, common_steps, have_those (IsRun old new) (dec_run old new) (length new.said)) steps 200000
 
 -- ---- assertions
 

@@ -1,10 +1,9 @@
 -- What stays of files when they are edited and settled, and how a session goes on.
-use Rattle.std.proofs.Common.{◌≡◌, ℕ, ◌+◌, ◌⊎◌, Bool, not, cond, List, [], ◌∷◌, map, bytes_eq, refl, sym, ◌∙◌, ap, subst, inl, inr, All, position}
-use Rattle.std.proofs.lemmas.{List.{length-map, Elements.{recursion_from_All}}, Option.{none-some}}
-use Rattle.std.specs.List.{AllZip, AllByRecursion, position_or_len}
+use Rattle.std.proofs.{Common.{arith, ◌≡◌, ℕ, ◌+◌, ◌⊎◌, Bool, not, cond, List, [], ◌∷◌, map, bytes_eq, refl, sym, ◌∙◌, ap, inl, inr, All, position}, lemmas.{Grind.{common_steps}, List.{length-map}}}
+use Rattle.std.{proofs.lemmas.{List.Elements.{recursion_from_All}, Option.{none-some}}, specs.List.{AllZip, AllByRecursion, position_or_len}}
 use Rattle.mm_proof.specs.mm_store.Language.{Batches.{IsBatchOf, KeepsReading, KeepsStanding, ReadsAlike, StartsPlaced}, Edits.{IsEditOf}, Expansion.{IsExpansion}, FileFacts.{StandsIn}}
-use Rattle.mm_proof.specs.mm_store.Language.FilesView.{File, FilesView, FileView, file_number, file_view, files_in, number_of, plain, plain_file}
-use Rattle.mm_proof.specs.{mm_text.Language.Asked.{Asked}, mm_frame.Language.Base.{BaseView, IsOfFiles}, mm_statement.Language.{Item.{Item}, Statement.{Says}}}
+use Rattle.mm_proof.specs.{mm_store.Language.FilesView.{File, FilesView, file_number, file_view, files_in, number_of, plain, plain_file}, mm_text.Language.Asked.{Asked}}
+use Rattle.mm_proof.specs.{mm_frame.Language.Base.{BaseView, IsOfFiles}, mm_statement.Language.{Item.{Item}, Statement.{Says}}}
 use Rattle.mm_keep.specs.Code.Next.{HasTop}
 use Rattle.mm_proof.specs.mm_store.declared.item.Item as store
 
@@ -34,8 +33,7 @@ expansion_top files top items is none = none-some is.number (sym none ∙ is.is_
 
 -- and stays
 pub batch_top : KeepsNumbers → (edits : List Asked) (files after : FilesView) (top : List ℕ) → IsBatchOf edits (plain files) (plain after) → HasTop files top → HasTop after top
-batch_top keeps edits files after top batch has none =
-    has (sym (number_plain files top) ∙ sym (batch_numbers keeps edits (plain files) (plain after) top batch) ∙ number_plain after top ∙ none)
+batch_top keeps edits files after top batch has none = grind (arith, number_plain files top, batch_numbers keeps edits (plain files) (plain after) top batch, number_plain after top) steps 200000
 
 says_alike : (old new : FilesView) (item : store.Item) (said : Item) (says : Says old item said) → ReadsAlike old new item says.read → Says new item said
 says_alike old new item said says alike = record { read = alike.read; is = rw (alike.text, alike.words) says.is }
@@ -57,10 +55,8 @@ ItemsStand = (files : FilesView) (top : List ℕ) (items : List store.Item) → 
 
 -- files that are settled have the base of before
 pub base_settled : ItemsStand → (old new : FilesView) (top : List ℕ) (base : BaseView) → files_in new ≡ files_in old → KeepsStanding old new → IsOfFiles old top base → IsOfFiles new top base
-base_settled stand old new top base same keeps is = record {
-  expansion = subst (λ (files : List FileView). IsExpansion files top base.found) (sym same) is.expansion;
-  each = says_settled old new keeps base.found base.said (recursion_from_All (StandsIn old) base.found (stand old top base.found is.expansion)) is.each;
-}
+base_settled stand old new top base same keeps is =
+    grind (arith, common_steps, says_settled old new keeps base.found base.said (recursion_from_All (StandsIn old) base.found (stand old top base.found is.expansion)) is.each) steps 200000
 
 -- edits that are done start with one that names a file and members of it, if there are any
 pub batch_starts : (edits : List Asked) (files after : List File) → IsBatchOf edits files after → StartsPlaced edits files ⊎ (edits ≡ [])

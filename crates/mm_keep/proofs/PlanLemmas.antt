@@ -1,13 +1,10 @@
 -- What a plan says of an item, and what is carried by it.
-use Rattle.std.proofs.Common.{◌≡◌, ℕ, ◌<◌, ◌&&◌, Bool, true, false, Option, Some, None, List, [], ◌∷◌, ◌++◌, length, refl, sym, ◌∙◌, ap, subst, inl, inr, slice_get, unwrap_or}
+use Rattle.std.proofs.{Common.{arith, ◌≡◌, ℕ, ◌<◌, ◌&&◌, Bool, true, false, Option, Some, None, List, [], ◌∷◌, ◌++◌, length, refl, sym, ◌∙◌, ap, subst, slice_get}, lemmas.Grind.{common_steps}}
 use Rattle.std.proofs.lemmas.{Bool.{false≢true}, Option.{none-some, same_Some}}
-use Rattle.mm_proof.specs.mm_store.Language.FilesView.{FilesView}
-use Rattle.mm_proof.specs.mm_frame.{Language.{Base.{BaseView, said_at, is_sound_at, is_proof_at, is_shown_at}, Answering.{IsBaseBy}}, declared.base.Base.{Base}}
-use Rattle.mm_proof.specs.mm_statement.Language.Item.{Kind, Theorem, is_labelled, is_theorem}
-use Rattle.mm_proof.specs.Language.{BaseMarks.{ItemMark, MarksView, IsMark, mark_at}, ViewLaws.{SameViewSameVerdict, SameViewSameCites}}
-use Rattle.mm_proof.specs.mm_verdict.Language.{DecodingLaws.{LabelsAreOwn}, View.{view_at, AreSameViews}, Work.{Judgement}}
-use Rattle.mm_keep.specs.{Code.{KeptSession.{IsCheckedAt}, Planned.{AreBothRead, AreMarksBy, HasItemBothRead, IsPlanned, CanCarry}}, Language.Runs.{HasSameView}}
-use Rattle.mm_keep.proofs.RunLemmas.{get_front}
+use Rattle.mm_proof.specs.{mm_store.Language.FilesView.{FilesView}, mm_frame.Language.{Base.{BaseView, said_at, is_sound_at, is_proof_at, is_shown_at}, Answering.{IsBaseBy}}}
+use Rattle.mm_proof.specs.{mm_frame.declared.base.Base.{Base}, mm_statement.Language.Item.{Kind, Theorem, is_labelled, is_theorem}, Language.BaseMarks.{ItemMark, MarksView, IsMark, mark_at}}
+use Rattle.mm_proof.specs.{Language.ViewLaws.{SameViewSameVerdict, SameViewSameCites}, mm_verdict.Language.{DecodingLaws.{LabelsAreOwn}, View.{view_at, AreSameViews}, Work.{Judgement}}}
+use Rattle.mm_keep.{specs.{Code.{KeptSession.{IsCheckedAt}, Planned.{AreBothRead, AreMarksBy, HasItemBothRead, IsPlanned, CanCarry}}, Language.Runs.{HasSameView}}, proofs.RunLemmas.{get_front}}
 
 -- a theorem has a label
 theorem_shown : (sound : Bool) (kind : Kind) → (sound && is_theorem kind) ≡ true → (sound && is_labelled kind) ≡ true
@@ -55,8 +52,7 @@ checked_same verdicts cites base copy checked plan ran can i j same (Some judgem
 -- what was checked of one theorem is kept by one at most
 pub kept_by_one : LabelsAreOwn → (base copy : BaseView) (checked : List (Option Judgement)) (plan : List (Option ℕ)) (ran : List (Option Judgement))
     → CanCarry base copy checked plan ran → (i j k : ℕ) → HasSameView base copy i j → HasSameView base copy i k → j ≡ k
-kept_by_one own base copy checked plan ran can i j k a b =
-    own copy can.new_said j k (shown copy j a.is) (shown copy k b.is) (ap (λ (l : Option (List ℕ)). unwrap_or l []) (sym a.label ∙ b.label))
+kept_by_one own base copy checked plan ran can i j k a b = grind (arith, shown copy j a.is, shown copy k b.is) steps 200000
 
 -- what is marked of an item of the new base
 pub mark_here : (names : List (List ℕ)) (files : FilesView) (old new : Base) (marks : MarksView) (j : ℕ) → HasItemBothRead names files old new j → AreMarksBy names old new marks → (base copy : BaseView) → AreBothRead names files old new base copy
@@ -66,7 +62,4 @@ mark_here names files old new marks j has are base copy both =
 
 -- what holds of each element, and of one more
 pub each_more : {X : Type 0} (P : ℕ → X → Type 0) (xs ys : List X) (y : X) → ys ≡ xs ++ y ∷ [] → ((k : ℕ) (x : X) → slice_get xs k ≡ Some x → P k x) → P (length xs) y → (k : ℕ) (x : X) → slice_get ys k ≡ Some x → P k x
-each_more {X} P xs ys y e each last k x is = elim (get_front xs y k x (subst (λ (zs : List X). slice_get zs k ≡ Some x) e is)) [
-  | inl front ↦ each k x front.1
-  | inr p ↦ subst (P k) p.1 (subst (λ i. P i y) (sym p.0) last)
-]
+each_more {X} P xs ys y e each last k x is = grind (arith, common_steps, get_front) steps 200000

@@ -1,8 +1,7 @@
 -- Runs depend on what the items of files say, and on nothing else.
 use Rattle.std.proofs.Common.{◌≡◌, ℕ, ◌<◌, true, List, length, sym, subst, subst₂, Contains}
 use Rattle.mm_proof.specs.{mm_statement.Language.Item.{Item}, mm_frame.Language.{Base.{BaseView, is_proof_at}, Laws.{AlikeFilesSayTheSame}}}
-use Rattle.mm_keep.specs.Language.{Runs.{HadView, HasSameView, AreRuns}, Laws.{OneListOfRuns}}
-use Rattle.mm_keep.proofs.NumberLemmas.{one_rising}
+use Rattle.mm_keep.{specs.Language.{Runs.{HadView, HasSameView, AreRuns}, Laws.{OneListOfRuns}}, proofs.NumberLemmas.{one_rising}}
 use Rattle.mm_proof.specs.mm_store.declared.item.Item as store
 
 -- items that say this, found at these places

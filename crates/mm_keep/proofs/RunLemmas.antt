@@ -1,30 +1,18 @@
 -- Runs by a plan: one item more.
-use Rattle.std.proofs.Common.{◌≡◌, ℕ, ◌<◌, ◌≤◌, ◌+◌, ◌↔◌, ◌⊎◌, true, Option, Some, None, List, [], ◌∷◌, ◌++◌, length, get_or, replicate, refl, sym, ◌∙◌, ap, subst, arith, inl, inr, slice_get}
-use Rattle.std.proofs.Common.{Contains}
-use Rattle.std.proofs.lemmas.Bool.{false≢true}
-use Rattle.std.proofs.lemmas.List.{length-replicate, length_push, get_or_append_left, get_or-replicate}
+use Rattle.std.proofs.lemmas.{Grind.{common_steps}, Bool.{false≢true}, List.{length-replicate, length_push, get_or_append_left, get_or-replicate}}
 use Rattle.std.proofs.lemmas.List.{Elements.{Contains-get_or, Contains-append_left, Contains-push, Contains-push_cases}, Quantifiers.{all_pairs_push}, Sums.{sum_by_push}}
 use Rattle.std.proofs.lemmas.Option.{get_or_from_slice_get, slice_get-get_or, slice_get_within, same_Some}
-use Rattle.std.proofs.Math.Seq.{get_or-append_seam}
-use Rattle.std.specs.List.{AllZip}
+use Rattle.std.proofs.Common.{◌≡◌, ℕ, ◌<◌, ◌≤◌, ◌+◌, ◌↔◌, ◌⊎◌, true, Option, Some, None, List, [], ◌∷◌, ◌++◌, length, get_or, replicate, refl, sym, ◌∙◌, ap, subst, arith, inl, inr, slice_get}
+use Rattle.std.{proofs.{Common.{Contains}, Math.Seq.{get_or-append_seam}}, specs.List.{AllZip}}
 use native.Mathlib.Decide.{dec_lt}
 use Rattle.mm_proof.specs.{mm_frame.Language.Base.{BaseView, is_proof_at}, mm_verdict.Language.{VerdictAt.{AreDoneAt}, Work.{Recorded, Judgement}}}
-use Rattle.mm_keep.specs.Language.Runs.{AreThose, AreRuns, AreStepsOf, HadView, IsRun}
-use Rattle.mm_keep.specs.Code.{KeptSession.{AreChecked}, Planned.{IsPlanned, ArePlanned, IsRunBy, AreRunBy, RunsBy, AreRecorded, RecordsRun, RecordsIf}}
+use Rattle.mm_keep.specs.{Language.Runs.{AreThose, AreRuns, AreStepsOf, HadView, IsRun}, Code.KeptSession.{AreChecked}}
+use Rattle.mm_keep.specs.Code.Planned.{IsPlanned, ArePlanned, IsRunBy, AreRunBy, RunsBy, AreRecorded, RecordsRun, RecordsIf}
 
 -- an element is in the list with one more, and is the last or one before it
 pub get_front : {X : Type 0} (xs : List X) (y : X) (k : ℕ) (x : X) → slice_get (xs ++ y ∷ []) k ≡ Some x → ((k < length xs) × (slice_get xs k ≡ Some x)) ⊎ ((k ≡ length xs) × (y ≡ x))
 get_front xs y k x e =
-    let within = slice_get_within (xs ++ y ∷ []) k x e in
-    let long = length_push xs y in
-    let is : get_or (xs ++ y ∷ []) k y ≡ x = get_or_from_slice_get (xs ++ y ∷ []) k x y e in
-    elim (dec_lt k (length xs)) [
-      | yes l ↦ inl (l, slice_get-get_or xs k y l ∙ ap Some (sym (get_or_append_left xs (y ∷ []) y k l) ∙ is))
-      | no n ↦ (
-          let last : k ≡ length xs = omega arith in
-          inr (last, sym (get_or-append_seam xs y [] y) ∙ ap (λ i. get_or (xs ++ y ∷ []) i y) (sym last) ∙ is)
-          )
-    ]
+    grind (arith, slice_get_within (xs ++ y ∷ []) k x e, length_push xs y, get_or_from_slice_get (xs ++ y ∷ []) k x y e, dec_lt k (length xs), get_or-append_seam xs y [] y, slice_get-get_or, get_or_append_left) steps 200000
 
 pub zip_push : {A B : Type 0} (R : A → B → Type 0) (xs : List A) (ys : List B) (x : A) (y : B) → AllZip R xs ys → R x y → AllZip R (xs ++ x ∷ []) (ys ++ y ∷ [])
 zip_push R [] [] x y a r = (r, a)
@@ -81,11 +69,7 @@ those_more P n numbers those holds = record {
 
 -- the steps of one run more
 pub steps_more : (base : BaseView) (runs : List ℕ) (total j count : ℕ) → AreStepsOf base runs total → AreDoneAt base j count → AreStepsOf base (runs ++ j ∷ []) (total + count)
-steps_more base runs total j count steps done = record {
-  counts = steps.counts ++ count ∷ [];
-  each = zip_push (AreDoneAt base) runs steps.counts j count steps.each done;
-  total_is = ap (λ t. t + count) steps.total_is ∙ sym (sum_by_push (λ x. x) steps.counts count);
-}
+steps_more base runs total j count steps done = grind (arith, common_steps, zip_push (AreDoneAt base) runs steps.counts j count steps.each done, sum_by_push) steps 200000
 
 -- what one item more gives
 pub run_more : (new : BaseView) (plan : List (Option ℕ)) (checked : List (Option Judgement)) (from : Option ℕ) (one : Option Judgement)
@@ -96,10 +80,7 @@ run_more new plan checked from one ran there is = record {
   each = λ j other its e f.
       elim (get_front checked one j its f) [
         | inl front ↦ ran.each j other its e front.1
-        | inr last ↦ (
-            let same : from ≡ other = same_Some from other (sym there ∙ ap (slice_get plan) (sym last.0) ∙ e) in
-            subst (λ (x : Option Judgement). IsRunBy new other j x) last.1 (subst (λ i. IsRunBy new other i one) (sym last.0) (subst (λ (o : Option ℕ). IsRunBy new o (length checked) one) same is))
-            )
+        | inr last ↦ grind (arith, common_steps, same_Some from other (sym there ∙ ap (slice_get plan) (sym last.0) ∙ e)) steps 200000
       ];
 }
 
@@ -110,10 +91,8 @@ recorded_skip : (new : BaseView) (plan : List (Option ℕ)) (j : ℕ) (before af
 recorded_skip new plan j before after are not e = subst (λ (w : Recorded). AreRecorded new plan (j + 1) w) (sym e) (record { those = those_skip (RunsBy new plan) j before.runs are.those not; steps = are.steps })
 
 recorded_run : (new : BaseView) (plan : List (Option ℕ)) (j : ℕ) (before after : Recorded) → AreRecorded new plan j before → RunsBy new plan j → RecordsRun new j before after → AreRecorded new plan (j + 1) after
-recorded_run new plan j before after are runs run = record {
-  those = subst (λ (ns : List ℕ). AreThose (RunsBy new plan) (j + 1) ns) (sym run.runs) (those_more (RunsBy new plan) j before.runs are.those runs);
-  steps = subst (λ (ns : List ℕ). AreStepsOf new ns after.steps) (sym run.runs) (subst (λ t. AreStepsOf new (before.runs ++ j ∷ []) t) (sym run.steps) (steps_more new before.runs before.steps j run.count are.steps run.done));
-}
+recorded_run new plan j before after are runs run =
+    grind (arith, common_steps, those_more (RunsBy new plan) j before.runs are.those runs, steps_more new before.runs before.steps j run.count are.steps run.done) steps 200000
 
 -- one item more is recorded, if it runs
 pub recorded_more : (new : BaseView) (plan : List (Option ℕ)) (j : ℕ) (from : Option ℕ) (before after : Recorded) → slice_get plan j ≡ Some from → RecordsIf new from j before after → AreRecorded new plan j before → AreRecorded new plan (j + 1) after
@@ -123,9 +102,7 @@ recorded_more new plan j None before after there (inr p) are = recorded_skip new
 
 -- how much one item more takes of the room and of the steps
 pub takes : (new : BaseView) (from : Option ℕ) (j : ℕ) (before after : Recorded) → RecordsIf new from j before after → (after.steps ≤ before.steps + 4294967295) × (before.room ≤ after.room + 1)
-takes new (Some i) j before after e = let s = ap (λ (w : Recorded). w.steps) e in let r = ap (λ (w : Recorded). w.room) e in (omega arith, omega arith)
-takes new None j before after (inl p) = let run = p.1 in (omega (arith, run.steps, run.few), omega (arith, run.room))
-takes new None j before after (inr p) = let s = ap (λ (w : Recorded). w.steps) p.1 in let r = ap (λ (w : Recorded). w.room) p.1 in (omega arith, omega arith)
+takes new from j before after e = grind (arith, common_steps) steps 200000
 
 -- what holds of the same numbers below the count
 those_same : (P Q : ℕ → Type 0) (n : ℕ) (numbers : List ℕ) → AreThose P n numbers → ((k : ℕ) → k < n → P k ↔ Q k) → AreThose Q n numbers
@@ -169,8 +146,7 @@ planned_runs old base plan runs planned those =
         theorem = r.theorem;
         nothing = let w : k < length plan = omega (arith, planned.count) in let there = slice_get-get_or plan k None w in there ∙ ap Some (keeps_none old base k (get_or plan k None) (planned.each k (get_or plan k None) there) r.changed);
       },
-    ))
-  where
-    keeps_none : (old base : BaseView) (k : ℕ) (from : Option ℕ) → IsPlanned old base k from → ¬ HadView old base k → from ≡ None
-    keeps_none old base k None is not = refl
-    keeps_none old base k (Some i) is not = absurd (not (i, is))
+    )) where
+      keeps_none : (old base : BaseView) (k : ℕ) (from : Option ℕ) → IsPlanned old base k from → ¬ HadView old base k → from ≡ None
+      keeps_none old base k None is not = refl
+      keeps_none old base k (Some i) is not = absurd (not (i, is))

@@ -1,12 +1,10 @@
 -- Where the words of items are, and the spots of their proofs.
-use Rattle.std.proofs.Common.{◌≤◌, ◌≡◌, ℕ, zero, suc, ◌+◌, ◌-◌, Some, None, Option, List, [], ◌∷◌, ◌++◌, length, take, drop, slice_get, refl, sym, ap, ◌∙◌, subst, inl, inr, arith, slice_range}
-use Rattle.std.proofs.Common.{slice_index_or}
-use Rattle.std.proofs.lemmas.{Bool.{cases_Bool}, Option.{same_Some, slice_get-map}, List.{length-take, length-take-le, length-drop, length-map}}
+use Rattle.std.proofs.lemmas.{Grind.{common_steps}, Bool.{cases_Bool}, Option.{same_Some, slice_get-map}, List.{length-take-le, length-drop, length-map}}
+use Rattle.std.proofs.Common.{◌≤◌, ◌≡◌, ℕ, zero, suc, ◌+◌, ◌-◌, Some, Option, List, [], ◌∷◌, ◌++◌, length, take, drop, slice_get, refl, sym, ap, ◌∙◌, subst, arith, slice_range, slice_index_or}
 use Rattle.std.specs.{List.{AllByRecursion, flat_map, prefix_len}, Option.{option_map}}
-use Rattle.mm_proof.specs.mm_text.declared.word.Word.{Word}
-use Rattle.mm_proof.specs.mm_text.Language.{Place.{line_at, column_at}, Run.{Run, is_white, ends_run, with_front, runs_from}}
+use Rattle.mm_proof.specs.mm_text.{declared.word.Word.{Word}, Language.{Place.{line_at, column_at}, Run.{Run, is_white, ends_run, with_front, runs_from}}}
 use Rattle.mm_proof.specs.mm_text.Language.{Reading.{HasWords, Segment, Single, Comment, IsSegment, segment_runs, segment_words}, Unit.{Token, tokens_of}}
-use Rattle.mm_proof.specs.mm_store.Language.{Pieces.{HeldPiece, text_in, text_under}, FilesView.{FilesView, plain, plain_file, text_of}, FileFacts.{CanBeRead, StandsIn, IsByte, IsLive, piece_offset}}
+use Rattle.mm_proof.specs.mm_store.Language.{Pieces.{text_in, text_under}, FilesView.{FilesView, plain, plain_file, text_of}, FileFacts.{CanBeRead, StandsIn, IsByte, IsLive, piece_offset}}
 use Rattle.mm_proof.specs.mm_statement.Language.{Item.{Kind, Item}, Statement.{Says, kind_of, is_plain, token_names, symbols_from, symbols_in, proof_in, item_of}}
 use Rattle.mm_proof.specs.{mm_verdict.Language.ItemLaws.{IsSpotIn}, mm_machine.declared.Spot.{Spot}}
 use Rattle.mm_keep.specs.{declared.finding.At.{At}, Language.WordPlaces.{start_of, spelled, proof_word}, Code.OfFiles.{IsPlaceIn}}
@@ -22,8 +20,7 @@ abbrev WordsBegin : ℕ → List Word → Type 0
 WordsBegin bound words = AllByRecursion (λ (word : Word). word.start ≤ bound) words
 
 front_begins : (bound at b : ℕ) (rs : List Run) → at ≤ bound → RunsBegin bound rs → RunsBegin bound (with_front at b rs)
-front_begins bound at b [] h k = k
-front_begins bound at b (run ∷ rs) h k = (h, k.1)
+front_begins bound at b rs h k = grind (arith, common_steps) steps 200000
 
 -- the runs of bytes begin in them
 runs_begin : (bound at : ℕ) (text : List ℕ) → at + length text ≤ bound → RunsBegin bound (runs_from at text)
@@ -31,13 +28,7 @@ runs_begin bound at [] h = tt
 runs_begin bound at (b ∷ bytes) h =
     let here : at ≤ bound = omega (arith, h) in
     let rest = runs_begin bound (at + 1) bytes (omega (arith, h)) in
-    elim (cases_Bool (is_white b)) [
-      | inl white ↦ rw white rest
-      | inr solid ↦ rw solid (elim (cases_Bool (ends_run bytes)) [
-        | inl last ↦ rw last (here, rest)
-        | inr more ↦ rw more (front_begins bound at b (runs_from (at + 1) bytes) here rest)
-      ])
-    ]
+    grind (arith, common_steps, cases_Bool (is_white b), cases_Bool (ends_run bytes), front_begins bound at b (runs_from (at + 1) bytes) here rest) steps 200000
 
 behind_begin : (bound : ℕ) (front later : List Run) → RunsBegin bound (front ++ later) → RunsBegin bound later
 behind_begin bound [] later h = h
@@ -62,8 +53,7 @@ word_begins text words n has =
 
 -- a byte of a word, or its end, is in the text, or its end
 byte_within : (text : List ℕ) (word : Option Word) (letter : ℕ) → start_of word ≤ length text → letter ≤ length (spelled text word) → start_of word + letter ≤ length text
-byte_within text None letter begins less = omega (arith, less)
-byte_within text (Some word) letter begins less = omega (arith, begins, less, length-take (word.end - word.start) (drop word.start text), length-drop word.start text)
+byte_within text word letter begins less = grind (arith, common_steps) steps 200000
 
 -- ---- the byte of a word
 
@@ -106,17 +96,14 @@ module _ (files : FilesView) (item : store.Item) (read : CanBeRead files item) (
 
 -- there is one text under the key of an item
 pub own_text : (files : FilesView) (item : store.Item) → (read : CanBeRead files item) → IsTextOf files item read.text
-own_text files item read text live =
-    let same : read.live.piece ≡ live.piece = same_Some read.live.piece live.piece (sym read.live.held ∙ live.held) in
-    read.live.is_text ∙ ap (λ (piece : HeldPiece). piece.text) same ∙ sym live.is_text
+own_text files item read text live = grind (arith, common_steps, same_Some read.live.piece live.piece (sym read.live.held ∙ live.held)) steps 200000
 
 -- a byte of a word of an item is in the item, or its end
 pub letter_within : (files : FilesView) (item : store.Item) (read : CanBeRead files item) (word letter : ℕ) → letter ≤ length (spelled (slice_range read.text item.start item.end) (slice_get read.words word))
     → item.start + (start_of (slice_get read.words word) + letter) ≤ item.end
 letter_within files item read word letter less =
-    let bytes = slice_range read.text item.start item.end in
-    let long : length bytes ≡ item.end - item.start = length-take-le (item.end - item.start) (drop item.start read.text) (omega (arith, length-drop item.start read.text, read.within)) in
-    omega (arith, byte_within bytes (slice_get read.words word) letter (word_begins bytes read.words word read.has_words) less, long, read.some)
+    let long : length (slice_range read.text item.start item.end) ≡ item.end - item.start = length-take-le (item.end - item.start) (drop item.start read.text) (omega (arith, length-drop item.start read.text, read.within)) in
+    grind (arith, common_steps, byte_within (slice_range read.text item.start item.end) (slice_get read.words word) letter (word_begins (slice_range read.text item.start item.end) read.words word read.has_words) less) steps 200000
 
 -- so a byte of an item has a place
 pub placed_in : (files : FilesView) (item : store.Item) (stands : StandsIn files item) (byte : ℕ) (at : At) → at.file ≡ item.file
@@ -155,9 +142,7 @@ taken_less (suc p) (suc n) (token ∷ tokens) = taken_less p n tokens
 dropped_at : (m n : ℕ) (tokens : List Token) → slice_index_or (token_names (drop m tokens)) n [] ≡ slice_index_or (token_names tokens) (m + n) []
 dropped_at zero n tokens = let same : n ≡ 0 + n = omega arith in ap (λ k. slice_index_or (token_names tokens) k []) same
 dropped_at (suc m) n [] = refl
-dropped_at (suc m) n (token ∷ tokens) =
-    let next : suc (m + n) ≡ suc m + n = omega arith in
-    dropped_at m n tokens ∙ ap (λ k. slice_index_or (token_names (token ∷ tokens)) k []) next
+dropped_at (suc m) n (token ∷ tokens) = grind (arith, common_steps, dropped_at m n tokens) steps 200000
 
 -- the number of the first word of a proof
 abbrev proof_from : Kind → List Token → ℕ
@@ -172,14 +157,11 @@ pub letter_in : (files : FilesView) (item : store.Item) (said : Item) (spot : Sp
 letter_in files item said spot says is =
     let kind = kind_of item.kind in
     let bytes = slice_range says.read.text item.start item.end in
-    let words = says.read.words in
-    let tokens = tokens_of bytes words in
+    let tokens = tokens_of bytes says.read.words in
     let from = proof_from kind tokens in
     let proof : said.proof ≡ token_names (proof_in kind tokens) = ap (λ (one : Item). one.proof) says.is in
     let word : proof_word said spot.word ≡ from + spot.word = ap (λ (one : Item). proof_word one spot.word) says.is ∙ proof_word_is kind tokens spot.word in
     let first : length (slice_index_or said.proof spot.word []) ≡ length (slice_index_or (token_names (proof_in kind tokens)) spot.word []) = ap (λ (ws : List (List ℕ)). length (slice_index_or ws spot.word [])) proof in
     let less = taken_less (prefix_len is_plain (drop from tokens)) spot.word (drop from tokens) in
-    let behind = ap length (dropped_at from spot.word tokens) in
-    let whole = ap length (spelled_at bytes words (proof_word said spot.word)) in
-    let same = ap (λ k. length (slice_index_or (token_names tokens) k [])) word in
-    omega (arith, is.letter, first, less, behind, whole, same)
+    let whole = ap length (spelled_at bytes says.read.words (proof_word said spot.word)) in
+    omega (arith, is.letter, first, less, ap length (dropped_at from spot.word tokens), whole, ap (λ k. length (slice_index_or (token_names tokens) k [])) word)

@@ -1,10 +1,9 @@
 -- What a base and its files say of one item.
+use Rattle.std.proofs.lemmas.{Grind.{common_steps}, List.Sums.{sum_by_push}, Option.{get_or_from_slice_get, same_Some, slice_get_within}}
 use Rattle.std.proofs.Common.{◌≡◌, ◌⊎◌, ℕ, zero, suc, ◌+◌, Bool, cond, count_by, Some, List, [], ◌∷◌, ◌++◌, inl, inr, length-append, length, slice_get, refl, sym, ◌∙◌, ap, subst, arith}
-use Rattle.std.proofs.lemmas.{List.Sums.{sum_by_push}, Option.{get_or_from_slice_get, same_Some, slice_get_within}}
 use Rattle.mm_proof.specs.{mm_store.Language.{FilesView.{FilesView}, FileFacts.{CanBeRead, StandsIn}}, mm_frame.{Language.{Base.{BaseView, said_at}, Answering.{IsBase}}, declared.base.Base.{Base}}}
 use Rattle.mm_proof.specs.mm_statement.Language.{Item.{passed}, Statement.{Says}}
-use Rattle.mm_keep.specs.Code.{OfFiles.{IsOf, HasItemOf}, FoundKinds.{kind_told, one_more}}
-use Rattle.mm_keep.specs.Language.Told.{Told, Quiet, Counts, counts, is_axiom, is_proved, is_incomplete, is_wrong, is_fault, IsRightlyTold}
+use Rattle.mm_keep.specs.{Code.{OfFiles.{IsOf, HasItemOf}, FoundKinds.{kind_told, one_more}}, Language.Told.{Told, counts, is_axiom, is_proved, is_incomplete, is_wrong, is_fault, IsRightlyTold}}
 use Rattle.mm_keep.proofs.ZipLemmas.{zip_found}
 use Rattle.mm_proof.specs.mm_store.declared.item.Item as store
 
@@ -21,8 +20,7 @@ read_at names files code n item has e = (says_at names files code has.0 n item h
 -- that it is where it says
 pub stands_at : (names : List (List ℕ)) (files : FilesView) (code : Base) (n : ℕ) (item : store.Item) → HasItemOf names files code n → ((view : BaseView) → IsBase view code → slice_get view.found n ≡ Some item) → StandsIn files item
 stands_at names files code n item has e =
-    let there = e has.0 (names, has.1.read_in.base) in
-    subst (StandsIn files) (get_or_from_slice_get has.0.found n item item there) (has.1.stand n item (slice_get_within has.0.found n item there))
+    grind (arith, common_steps, get_or_from_slice_get has.0.found n item item (e has.0 (names, has.1.read_in.base)), has.1.stand n item (slice_get_within has.0.found n item (e has.0 (names, has.1.read_in.base)))) steps 200000
 
 -- ---- what is reported of the items, one after another
 
@@ -49,17 +47,13 @@ told_more files view n all one t f = record {
 
 -- ---- how one more is counted
 
-same_counts : (c d : Counts) → c.axioms ≡ d.axioms → c.theorems ≡ d.theorems → c.proved ≡ d.proved → c.incomplete ≡ d.incomplete → c.wrong ≡ d.wrong → c.faults ≡ d.faults → c ≡ d
-same_counts c d a t p n w f = λ i. record { axioms = a i; theorems = t i; proved = p i; incomplete = n i; wrong = w i; faults = f i }
-
 -- one of these is one more
 abbrev CountsOne : (Told → Bool) → List Told → Told → Type 0
 CountsOne test all one = count_by test (all ++ one ∷ []) ≡ count_by test all + cond (test one) 1 0
 
 one_by_kind : (all : List Told) (one : Told) → CountsOne is_axiom all one → CountsOne is_proved all one → CountsOne is_incomplete all one → CountsOne is_wrong all one → CountsOne is_fault all one
     → counts (all ++ one ∷ []) ≡ one_more (kind_told one) (counts all)
-one_by_kind all Quiet a p n w f = same_counts _ _ (omega arith) (omega arith) (omega arith) (omega arith) (omega arith) (omega arith)
-one_by_kind all _ a p n w f = same_counts _ _ (omega arith) (omega arith) (omega arith) (omega arith) (omega arith) (omega arith)
+one_by_kind all one a p n w f = grind (arith, common_steps) steps 200000
 
 counted_one : (test : Told → Bool) (all : List Told) (one : Told) → CountsOne test all one
 counted_one test all one = sum_by_push (λ told. cond (test told) 1 0) all one

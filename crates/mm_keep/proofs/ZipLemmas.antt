@@ -1,6 +1,5 @@
 -- Lists that are read by functions, place by place.
-use Rattle.std.proofs.Common.{◌≡◌, ℕ, zero, suc, Some, List, [], ◌∷◌, refl, subst, slice_get}
-use Rattle.std.specs.List.{AllZip}
+use Rattle.std.{proofs.Common.{◌≡◌, ℕ, zero, suc, Some, List, [], ◌∷◌, refl, subst, slice_get}, specs.List.{AllZip}}
 
 -- the element of the one list with that of the other
 pub zip_found : {A B : Type 0} (R : A → B → Type 0) (xs : List A) (ys : List B) (i : ℕ) (x : A) → AllZip R xs ys → slice_get xs i ≡ Some x → (y : B) × (slice_get ys i ≡ Some y) × R x y

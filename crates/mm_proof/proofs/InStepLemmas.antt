@@ -1,14 +1,12 @@
 -- How far two bases are in step, and what labels mean there.
-use Rattle.std.proofs.Common.{◌≡◌, ◌+◌, ◌<◌, ◌≤◌, ◌⊎◌, ◌++◌, ℕ, zero, suc, cond, Bool, true, false, Option, Some, None, List, [], ◌∷◌, length, refl, sym, ◌∙◌, ap, subst, inl, inr, arith}
-use Rattle.std.proofs.Common.{length-append, is_some, slice_get, slice_index, slice_index_or}
-use Rattle.std.proofs.{Math.Decide.{dec_lt}, lemmas.{Bool.{cases_Bool, false≢true}, Option.{same_Some, none-some}}}
-use Rattle.std.specs.Option.{option_map}
+use Rattle.std.proofs.lemmas.{Grind.{common_steps}, Bool.{cases_Bool, false≢true}, Option.{same_Some, none-some}}
+use Rattle.std.proofs.Common.{rules, ◌≡◌, ◌+◌, ◌<◌, ◌≤◌, ◌⊎◌, ◌++◌, ℕ, zero, suc, cond, Bool, true, false, Option, Some, None, List, [], ◌∷◌, length, refl, sym, ◌∙◌, ap, subst, inl, inr, arith}
+use Rattle.std.{proofs.{Common.{length-append, is_some, slice_get, slice_index, slice_index_or}, Math.Decide.{dec_lt}}, specs.Option.{option_map}}
 use Rattle.mm_frame.specs.Language.{Base.{BaseView, said_at, is_shown_at}, Resolving.{IsLabelOf, IsUpTo, Resolves}}
 use Rattle.mm_verdict.specs.{Language.{BaseLabels.{setting_at}, SameToDecode.{IsSameLabel}}, mm_machine.Language.SameProof.{AreSameMeaning}}
 use Rattle.mm_proof.specs.Language.BaseMarks.{ItemMark, MarksView, IsMark, IsToldChanged, HaveOneLabel, AreMarks, mark_at, no_mark}
 use Rattle.mm_proof.specs.Code.InStep.{ordinal, AreOrdinals, AreEndsAlike, AreInStep, EndsAt, HasAlike, HasLevel, IsTold, KeepsHypothesis, MeanOne, changed_behind}
-use Rattle.mm_proof.specs.Code.KeptMarks.{ShareFrame, stands_for}
-use Rattle.mm_proof.proofs.{MeaningLemmas.{means_same}, KeptMarkLemmas.{got_front}}
+use Rattle.mm_proof.{specs.Code.KeptMarks.{ShareFrame, stands_for}, proofs.{MeaningLemmas.{means_same}, KeptMarkLemmas.{got_front}}}
 use Rattle.mm_frame.specs.declared.base.Resolved as answer
 use Rattle.mm_frame.specs.declared.base.Resolved.TheVariants as answers
 use Rattle.mm_frame.specs.Language.Laws as frame
@@ -39,20 +37,11 @@ ordinal_less base m n e l = let here = shown_step base m e in let more = ordinal
 
 -- an item with a lesser ordinal comes before
 ordinal_back : (base : BaseView) (m n : ℕ) → ordinal base m < ordinal base n → m < n
-ordinal_back base m n l = by_order (dec_lt m n)
-  where
-    by_order : Dec (m < n) → m < n
-    by_order (yes a) = a
-    by_order (no a) = (let more = ordinal_more base n m (omega (arith, a)) in absurd (omega (arith, more, l)))
+ordinal_back base m n l = grind (arith, common_steps, dec_lt, ordinal_more) steps 200000
 
 -- no two items with labels have one ordinal
 one_ordinal : (base : BaseView) (m n : ℕ) → is_shown_at base m ≡ true → is_shown_at base n ≡ true → ordinal base m ≡ ordinal base n → m ≡ n
-one_ordinal base m n s t e = by_order (dec_lt m n) (dec_lt n m)
-  where
-    by_order : Dec (m < n) → Dec (n < m) → m ≡ n
-    by_order (yes a) b = (let less = ordinal_less base m n s a in absurd (omega (arith, less, e)))
-    by_order (no a) (yes b) = (let less = ordinal_less base n m t b in absurd (omega (arith, less, e)))
-    by_order (no a) (no b) = omega (arith, a, b)
+one_ordinal base m n s t e = search (rules, dec_lt, ordinal_less) steps 500000
 
 -- before an item there is one with a label of each lesser ordinal
 record HasOrdinal (base : BaseView) (n t : ℕ) : Type 0 where
@@ -176,11 +165,7 @@ got_end [] y = refl
 got_end (x ∷ xs) y = got_end xs y
 
 told_more : (base copy : BaseView) (changed : List ℕ) (j m : ℕ) → HasAlike base copy changed m → HasAlike base copy (changed ++ j ∷ []) m
-told_more base copy changed j m here shown = let found = here shown in (found.0, found.1, more found.0 found.2)
-  where
-    more : (i : ℕ) → IsTold changed m ⊎ MeanOne base copy i m → IsTold (changed ++ j ∷ []) m ⊎ MeanOne base copy i m
-    more i (inl t) = inl (t.0, got_front changed (j ∷ []) t.0 m t.1)
-    more i (inr s) = inr s
+told_more base copy changed j m here shown = search (rules, got_front) steps 500000
 
 in_step_changed : (base copy : BaseView) (changed : List ℕ) (j : ℕ) → AreInStep base copy changed j → HasLevel base copy j → AreInStep base copy (changed ++ j ∷ []) (j + 1)
 in_step_changed base copy changed j front level =
@@ -214,11 +199,8 @@ pub in_step_kept :
     (base copy : BaseView) (marks : MarksView) → AreMarks base copy marks → (i j : ℕ) → (mark_at marks j).old ≡ Some i → (mark_at marks j).in_step ≡ true → (label : List ℕ) →
     ¬ IsToldChanged copy marks.changed j label → IsSameLabel (setting_at base i) (setting_at copy j) label
 in_step_kept base copy marks are i j old told =
-    let count = are.count in
-    let here = marked_within marks.items j i old in
-    let within : j < length copy.said = omega (arith, here, count) in
-    let is = are.each j within in
-    are.in_step j within told i ((is.old_is i).0 old)
+    let within : j < length copy.said = omega (arith, (marked_within marks.items j i old), are.count) in
+    grind (arith, common_steps, marked_within marks.items j i old, are.each j within, are.in_step j within told i (((are.each j (omega (arith, (marked_within marks.items j i old), are.count))).old_is i).0 old)) steps 200000
 
 -- ---- what the code keeps
 
@@ -238,16 +220,7 @@ at_end [] y = refl
 at_end (x ∷ xs) y = at_end xs y
 
 pub ordinals_more : (base : BaseView) (n : ℕ) (xs : List ℕ) (x : ℕ) → AreOrdinals base n xs → x ≡ ordinal base n → AreOrdinals base (n + 1) (xs ++ x ∷ [])
-ordinals_more base n xs x are e = record {
-  count_is = length-append xs (x ∷ []) ∙ ap (λ k. k + 1) are.count_is;
-  each = λ k l. by_order k l (dec_lt k n);
-}
-  where
-    by_order : (k : ℕ) → k < n + 1 → Dec (k < n) → slice_index (xs ++ x ∷ []) k ≡ ordinal base k
-    by_order k l (yes a) = at_front xs (x ∷ []) k (omega (arith, a, are.count_is)) ∙ are.each k a
-    by_order k l (no a) = (
-        let z : n ≡ k = omega (arith, a, l) in
-        subst (λ m. slice_index (xs ++ x ∷ []) m ≡ ordinal base m) z (ap (slice_index (xs ++ x ∷ [])) (sym are.count_is) ∙ at_end xs x ∙ e))
+ordinals_more base n xs x are e = grind (arith, at_end, at_front, dec_lt, length-append) steps 200000
 
 pub ordinal_shown : (base : BaseView) (n : ℕ) → is_shown_at base n ≡ true → ordinal base n + 1 ≡ ordinal base (n + 1)
 ordinal_shown base n e = let z : suc n ≡ n + 1 = omega arith in let here = shown_step base n e in subst (λ k. ordinal base n + 1 ≡ ordinal base k) z (omega (arith, here))
@@ -259,5 +232,4 @@ ordinal_hidden base n e = let z : suc n ≡ n + 1 = omega arith in subst (λ k. 
 pub same_level :
     (base copy : BaseView) (mine yours : List ℕ) (i j : ℕ) → AreOrdinals base (suc (length base.said)) mine → AreOrdinals copy (suc (length copy.said)) yours →
     (i < length mine) × (j < length yours) × (slice_index mine i ≡ slice_index yours j) → ordinal base i ≡ ordinal copy j
-same_level base copy mine yours i j a b (l, m, e) =
-    sym (a.each i (subst (λ n. i < n) a.count_is l)) ∙ e ∙ b.each j (subst (λ n. j < n) b.count_is m)
+same_level base copy mine yours i j a b (l, m, e) = grind (arith, a.each, b.each) steps 200000

@@ -1,12 +1,11 @@
 -- What stays of an item of an old base in a new one.
+use Rattle.std.proofs.lemmas.{Grind.{common_steps}, Bool.{false≢true, and_parts}, Option.{none-some, same_Some}}
 use Rattle.std.proofs.Common.{◌≡◌, ◌<◌, ℕ, zero, suc, cond, slice_index_or, ◌+◌, Bool, true, false, ◌⊎◌, inl, inr, Option, Some, None, List, [], ◌∷◌, ◌++◌, length, map, slice_get, refl, sym, ◌∙◌, ap}
-use Rattle.std.proofs.Common.{subst, arith, length-append}
-use Rattle.std.proofs.{lemmas.{Bool.{false≢true, and_parts}, Option.{none-some, same_Some}}, Math.Decide.{ℕ_discrete}}
-use Rattle.std.specs.Prelude.{◌↔◌, is_some}
+use Rattle.std.{proofs.{Common.{subst, arith, length-append}, Math.Decide.{ℕ_discrete}}, specs.Prelude.{◌↔◌, is_some}}
 use Rattle.mm_frame.specs.{Language.{Base.{BaseView, said_at, is_shown_at, is_sound_at}, Resolving.{IsCarrier}, Answering.{IsBaseBy}}, mm_machine.Language.Frame.{Symbol, AreSamePairs}}
-use Rattle.mm_frame.specs.{mm_statement.Language.Item.{Item, passed, is_labelled}, declared.base.Base.{Base}}
-use Rattle.mm_proof.specs.Language.BaseMarks.{ItemMark, MarksView, IsMark, HaveOneLabel, KeepsLabels, AreMarks, no_mark, mark_at}
-use Rattle.mm_proof.specs.Code.{InStep.{changed_behind}, KeptMarks.{AreTheorems, ShareFrame, SharePairs, AreItemMarks, IsHypothesisMark, AreHypothesisMarks}}
+use Rattle.mm_frame.specs.{mm_statement.Language.Item.{is_labelled}, declared.base.Base.{Base}}
+use Rattle.mm_proof.specs.{Language.BaseMarks.{ItemMark, MarksView, IsMark, HaveOneLabel, KeepsLabels, AreMarks, no_mark, mark_at}, Code.InStep.{changed_behind}}
+use Rattle.mm_proof.specs.Code.KeptMarks.{AreTheorems, ShareFrame, SharePairs, AreItemMarks, IsHypothesisMark, AreHypothesisMarks}
 use Rattle.mm_proof.specs.declared.marks.Mark as code
 
 -- the same unordered pairs, the other way round and one after the other
@@ -27,12 +26,7 @@ told_again ps qs rs ss same h k l = (
 
 -- an item with a label is one of the items
 pub shown_within : (view : BaseView) (i : ℕ) → is_shown_at view i ≡ true → i < length view.said
-shown_within view i e = within view.said i (and_parts (is_sound_at view i) (is_labelled (said_at view i).kind) e).1
-  where
-    within : (items : List Item) (n : ℕ) → is_labelled (slice_index_or items n passed).kind ≡ true → n < length items
-    within [] n h = absurd (false≢true h)
-    within (x ∷ items) zero h = omega arith
-    within (x ∷ items) (suc n) h = let l = within items n h in omega (arith, l)
+shown_within view i e = grind (arith, common_steps, and_parts, false≢true) steps 200000
 
 got : {X : Type 0} (xs : List X) (n : ℕ) → n < length xs → (x : X) × (slice_get xs n ≡ Some x)
 got [] n l = absurd (omega (arith, l))
@@ -40,8 +34,7 @@ got (x ∷ xs) zero l = (x, refl)
 got (x ∷ xs) (suc n) l = got xs n (omega (arith, l))
 
 some_there : {X : Type 0} (o : Option X) → is_some o ≡ true → (x : X) × (o ≡ Some x)
-some_there (Some x) e = (x, refl)
-some_there None e = absurd (false≢true e)
+some_there o e = grind (arith, common_steps) steps 200000
 
 -- it has a label
 pub shown_label : (names : List (List ℕ)) (view : BaseView) (code : Base) (i : ℕ) → IsBaseBy names view code → is_shown_at view i ≡ true → (label : List ℕ) × ((said_at view i).label ≡ Some label)
@@ -54,10 +47,7 @@ shown_label names view code i is e =
 
 -- it is the item of the old base that carries the label
 pub one_label : (base copy : BaseView) (i j : ℕ) (label : List ℕ) → is_shown_at copy j ≡ true → (said_at copy j).label ≡ Some label → IsCarrier base label i ↔ HaveOneLabel base copy i j
-one_label base copy i j label shown e = (
-  λ c. record { within = shown_within base i c.shown; was = c.shown; is = shown; label = c.label_is ∙ sym e },
-  λ h. record { shown = h.was; label_is = h.label ∙ e },
-)
+one_label base copy i j label shown e = grind (arith, common_steps, shown_within) steps 200000
 
 -- the item is shown exactly when an expression is reported
 pub none_shown : (b : Bool) (e : List Symbol) → None ≡ cond b (Some e) None → b ≡ true → ⊥
@@ -74,11 +64,7 @@ no_number found i P e none = (λ h. cc, λ p. absurd (none p))
 
 -- nothing stays of an item whose label no old one has
 pub nothing_kept : (base copy : BaseView) (j : ℕ) → ((i : ℕ) → HaveOneLabel base copy i j → ⊥) → IsMark base copy j no_mark
-nothing_kept base copy j none = record {
-  old_is = λ i. (λ e. cc, λ h. absurd (none i h));
-  frame_is = (λ e. absurd (false≢true e), λ k. absurd (none k.i k.one_label));
-  pairs_is = (λ e. absurd (false≢true e), λ k. absurd (none k.i k.one_label));
-}
+nothing_kept base copy j none = grind (arith, false≢true) steps 200000
 
 -- what stays of one whose label an old one has
 pub some_kept :
@@ -143,11 +129,7 @@ keeps_less base copy changed more j keeps i h label unchanged =
 marked_less :
     (base copy : BaseView) (n : ℕ) (marks : List ItemMark) (changed more : List ℕ) → AreItemMarks base copy n (record { items = marks; changed = changed }) →
     AreItemMarks base copy n (record { items = marks; changed = changed ++ more })
-marked_less base copy n marks changed more are = record {
-  count_is = are.count_is;
-  each = are.each;
-  in_step = λ j l t. keeps_less base copy changed more j (are.in_step j l t);
-}
+marked_less base copy n marks changed more are = grind (arith, are.in_step, keeps_less) steps 200000
 
 pub marked_behind :
     (base copy : BaseView) (n : ℕ) (marks : List ItemMark) (changed : List ℕ) (j : ℕ) (here : Bool) → AreItemMarks base copy n (record { items = marks; changed = changed }) →
@@ -157,21 +139,14 @@ marked_behind base copy n marks changed j false are = are
 
 -- all are marked
 pub all_marked : (base copy : BaseView) (n : ℕ) (marks : MarksView) → AreItemMarks base copy n marks → n ≡ length copy.said → AreMarks base copy marks
-all_marked base copy n marks are e = record {
-  count = are.count_is ∙ e;
-  each = λ j l. are.each j (omega (arith, l, e));
-  in_step = λ j l. are.in_step j (omega (arith, l, e));
-}
+all_marked base copy n marks are e = grind arith steps 200000
 
 -- marks that say nothing, and one more
 got_last : {X : Type 0} (xs : List X) (y z : X) (m : ℕ) → slice_get (xs ++ y ∷ []) m ≡ Some z → (slice_get xs m ≡ Some z) ⊎ ((m ≡ length xs) × (y ≡ z))
 got_last [] y z zero e = inr (refl, same_Some y z e)
 got_last [] y z (suc m) e = absurd (none-some z e)
 got_last (x ∷ xs) y z zero e = inl e
-got_last (x ∷ xs) y z (suc m) e = elim (got_last xs y z m e) [
-  | inl g ↦ inl g
-  | inr p ↦ inr (ap suc p.0, p.1)
-]
+got_last (x ∷ xs) y z (suc m) e = grind (arith, common_steps, got_last xs y z m e) steps 200000
 
 pub kept_more : (old new : Base) (marks : List code.Mark) (mark : code.Mark) (n : ℕ) → length marks ≡ n → AreHypothesisMarks old new marks → IsHypothesisMark old new n mark → AreHypothesisMarks old new (marks ++ mark ∷ [])
 kept_more old new marks mark n count are is m other e = elim (got_last marks mark other m e) [
@@ -183,15 +158,8 @@ kept_more old new marks mark n count are is m other e = elim (got_last marks mar
 abbrev pub AreSameTo : {X : Type 0} → (ℕ → X) → (ℕ → X) → List ℕ → List ℕ → ℕ → Type 0
 AreSameTo {X} f g xs ys k = (m x y : ℕ) → m < k → slice_get xs m ≡ Some x → slice_get ys m ≡ Some y → f x ≡ g y
 
-same_at : (xs : List ℕ) (k x y : ℕ) → slice_get xs k ≡ Some x → slice_get xs k ≡ Some y → x ≡ y
-same_at xs k x y a b = same_Some x y (sym a ∙ b)
-
 pub same_more : {X : Type 0} (f g : ℕ → X) (xs ys : List ℕ) (k x y : ℕ) → AreSameTo f g xs ys k → slice_get xs k ≡ Some x → slice_get ys k ≡ Some y → f x ≡ g y → AreSameTo f g xs ys (k + 1)
-same_more {X} f g xs ys k x y h p q e n v w b c d = by_case (ℕ_discrete n k)
-  where
-    by_case : Dec (n ≡ k) → f v ≡ g w
-    by_case (yes z) = ap f (same_at xs k v x (subst (λ (i : ℕ). slice_get xs i ≡ Some v) z c) p) ∙ e ∙ ap g (same_at ys k y w q (subst (λ (i : ℕ). slice_get ys i ≡ Some w) z d))
-    by_case (no other) = h n v w (omega (arith, b, other)) c d
+same_more {X} f g xs ys k x y h p q e n v w b c d = grind (arith, common_steps, same_Some) steps 200000
 
 pub same_whole : {X : Type 0} (f g : ℕ → X) (xs ys : List ℕ) → AreSameTo f g xs ys (length xs) → length xs ≡ length ys → map f xs ≡ map g ys
 same_whole f g [] [] h l = refl

@@ -1,6 +1,5 @@
 -- What holds of each label that the words of a proof name, word by word.
-use Rattle.std.proofs.{Common.{◌≡◌, ℕ, false, List, ◌∷◌, sym, refl, ◌∙◌, ap, subst, ◌↔◌, IsTrue, one-add}, lemmas.Bool.{false≢true}}
-use Rattle.std.specs.List.{AllByRecursion, before_first}
+use Rattle.std.{proofs.{Common.{arith, ◌≡◌, ℕ, false, List, ◌∷◌, refl, ◌↔◌, IsTrue, one-add}, lemmas.{Grind.{common_steps}, Bool.{false≢true}}}, specs.List.{AllByRecursion, before_first}}
 use Rattle.mm_verdict.specs.Language.Decoding.{is_close}
 
 -- what holds of the labels that are listed before a `)`
@@ -20,6 +19,4 @@ before_one word words e = rw (e, one-add) refl
 
 -- the first of the labels that are listed, and the others
 pub one_listed : (P : List ℕ → Type 0) (words new : List (List ℕ)) (word : List ℕ) → words ≡ word ∷ new → is_close word ≡ false → OfListed P words ↔ (P word × OfListed P new)
-one_listed P words new word e c =
-    let same : before_first is_close words ≡ word ∷ before_first is_close new = ap (before_first is_close) e ∙ before_one word new c in
-    (λ a. subst (λ ws. AllByRecursion P ws) same a, λ b. subst (λ ws. AllByRecursion P ws) (sym same) b)
+one_listed P words new word e c = grind (arith, common_steps, before_one word new c) steps 200000

@@ -1,16 +1,13 @@
 -- What labels mean at two theorems of two bases.
+use Rattle.std.proofs.lemmas.{Grind.{common_steps}, Bool.{cases_Bool, false≢true, and_from}, Slice.Eq.{bytes_eq-Decides}, Option.{none-some, same_Some}}
 use Rattle.std.proofs.Common.{◌≡◌, ◌<◌, ℕ, zero, suc, cond, Bool, true, false, Option, Some, None, List, [], ◌∷◌, ◌++◌, length, take, refl, sym, ◌∙◌, ap, subst, inl, inr, arith, ◌↔◌, IsTrue, is_none}
-use Rattle.std.proofs.Common.{option_to_list, bytes_eq}
-use Rattle.std.proofs.{Math.{Decide.{dec_lt}, Seq.{take-suc}}, lemmas.{Bool.{cases_Bool, false≢true, and_from}, Slice.Eq.{bytes_eq-Decides}, Option.{none-some, same_Some}}}
-use Rattle.std.specs.List.{AllByRecursion}
-use Rattle.mm_frame.specs.declared.FrameNumber.{FrameNumber}
-use Rattle.mm_frame.specs.Language.{Base.{BaseView, said_at, before, is_sound_at, is_shown_at, is_framed_at, frame_at, fault_by}, Framing.{resolve, resolve_from}}
-use Rattle.mm_frame.specs.Language.{Resolving.{IsCarrier, IsMeaning, Resolves}, Sound.{fault, judged, sound_items}}
-use Rattle.mm_frame.specs.mm_machine.Language.Frame.{Resolved, Assertion, Unknown, AreSameFrame}
-use Rattle.mm_frame.specs.mm_statement.Language.Item.{Kind, Floating, Essential, Axiom, Theorem, Item, passed, is_labelled, labels_of, has}
+use Rattle.std.{proofs.{Common.{option_to_list, bytes_eq}, Math.{Decide.{dec_lt}, Seq.{take-suc}}}, specs.List.{AllByRecursion}}
+use Rattle.mm_frame.specs.{declared.FrameNumber.{FrameNumber}, Language.{Base.{BaseView, said_at, before, is_sound_at, is_shown_at, is_framed_at, frame_at, fault_by}, Framing.{resolve, resolve_from}}}
+use Rattle.mm_frame.specs.{Language.{Resolving.{IsCarrier, IsMeaning, Resolves}, Sound.{fault, judged, sound_items}}, mm_machine.Language.Frame.{Resolved, Assertion, Unknown, AreSameFrame}}
+use Rattle.mm_frame.specs.mm_statement.Language.Item.{Kind, Item, passed, is_labelled, labels_of, has}
 use Rattle.mm_proof.specs.{Code.KeptMarks.{AreTheorems, IsOneCarrier, IsShownItem, ShareHypotheses, SharePairs, stands_for}, Language.BaseMarks.{MarksView, AreMarks, mark_at}}
-use Rattle.mm_verdict.specs.{Language.{BaseLabels.{setting_at}, SameToDecode.{IsSameLabel}}, mm_machine.Language.SameProof.{AreSameMeaning}}
 use Rattle.mm_proof.proofs.{TheoremLemmas.{shown_proof}, KeptMarkLemmas.{shown_within, one_label}}
+use Rattle.mm_verdict.specs.{Language.{BaseLabels.{setting_at}, SameToDecode.{IsSameLabel}}, mm_machine.Language.SameProof.{AreSameMeaning}}
 use Rattle.mm_frame.specs.declared.base.Resolved as answer
 use Rattle.mm_frame.specs.declared.base.Resolved.TheVariants as answers
 use Rattle.mm_frame.specs.Language.Laws as frame
@@ -18,18 +15,11 @@ use Rattle.mm_frame.specs.Language.Laws as frame
 -- ---- a label that no item carries
 
 labelled : (b : Bool) (o : Option (List ℕ)) (label : List ℕ) → has (cond b (option_to_list o) []) label ≡ true → (b ≡ true) × (o ≡ Some label)
-labelled true (Some l) label h = elim (cases_Bool (bytes_eq label l)) [
-  | inl e ↦ (refl, ap Some (sym ((bytes_eq-Decides label l).0 e)))
-  | inr e ↦ absurd (false≢true (rw e at h))
-]
+labelled true (Some l) label h = grind (arith, common_steps, cases_Bool (bytes_eq label l), bytes_eq-Decides label l, false≢true) steps 200000
 labelled _ _ label h = absurd (false≢true h)
 
 sound_label : (kind : Kind) → is_labelled kind ≡ true → is_none (fault_by kind None) ≡ true
-sound_label Floating e = refl
-sound_label Essential e = refl
-sound_label Axiom e = refl
-sound_label Theorem e = refl
-sound_label _ e = absurd (false≢true e)
+sound_label kind e = grind (arith, common_steps) steps 200000
 
 joined : {X : Type 0} (P : X → Type 0) (xs ys : List X) → AllByRecursion P xs → AllByRecursion P ys → AllByRecursion P (xs ++ ys)
 joined P [] ys a b = b
@@ -80,9 +70,7 @@ module _ (view : BaseView) (label : List ℕ) (none : IsOneCarrier view label No
 -- ---- what two answers mean
 
 means : (base : BaseView) (i : ℕ) (label : List ℕ) (told : answer.Resolved) (m : Resolved) → IsMeaning base i label told m → (m ≡ stands_for base told) × IsShownItem base told
-means base i label (answers.Hypothesis n) m h = (h.1, h.0.carrier.shown)
-means base i label (answers.Assertion n) m h = (h.2, h.1)
-means base i label _ m h = (h, tt)
+means base i label told m h = grind (arith, common_steps) steps 200000
 
 moved : (same : Bool) (m n y z : Resolved) → m ≡ n → y ≡ z → IsTrue same ↔ AreSameMeaning n z → IsTrue same ↔ AreSameMeaning m y
 moved same m n y z e f s = subst (λ w. IsTrue same ↔ AreSameMeaning w y) (sym e) (subst (λ w. IsTrue same ↔ AreSameMeaning n w) (sym f) s)

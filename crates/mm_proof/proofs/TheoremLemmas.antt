@@ -1,31 +1,18 @@
 -- What a theorem of a base is: a statement with a label, an assertion, and what its item says.
-use Rattle.std.proofs.{Common.{◌≡◌, ℕ, zero, suc, true, Some, List, [], ◌∷◌, refl, subst, slice_get}, lemmas.{Bool.{false≢true, and_from, and_parts}, Option.{same_Some}}}
+use Rattle.std.proofs.{Common.{arith, ◌≡◌, ℕ, zero, suc, true, Some, List, [], ◌∷◌, subst, slice_get}, lemmas.{Grind.{common_steps}, Bool.{false≢true, and_from, and_parts}, Option.{same_Some}}}
 use Rattle.std.specs.List.{AllZip}
-use Rattle.mm_frame.specs.mm_store.Language.{FilesView.{FilesView}, FileFacts.{CanBeRead}}
-use Rattle.mm_frame.specs.mm_statement.Language.{Item.{Item, Kind, Theorem, is_theorem, is_assertion, is_labelled, item_at}, Statement.{Says}}
-use Rattle.mm_frame.specs.{Language.{Base.{BaseView, said_at, is_sound_at, is_shown_at, is_framed_at, is_proof_at}, Answering.{IsBase}}, declared.base.Base.{Base}}
+use Rattle.mm_frame.specs.{mm_store.Language.{FilesView.{FilesView}, FileFacts.{CanBeRead}}, mm_statement.Language.{Item.{Item, item_at}, Statement.{Says}}}
+use Rattle.mm_frame.specs.{Language.{Base.{BaseView, said_at, is_shown_at, is_framed_at, is_proof_at}, Answering.{IsBase}}, declared.base.Base.{Base}}
 use Rattle.mm_verdict.specs.Language.ReadIn.{HasTheorem, IsReadIn}
 use Rattle.mm_frame.specs.mm_store.declared.item.Item as store
 
 -- a sound theorem is a sound statement with a label
 pub shown_proof : (view : BaseView) (n : ℕ) → is_proof_at view n ≡ true → is_shown_at view n ≡ true
-shown_proof view n e =
-    let both = and_parts (is_sound_at view n) (is_theorem (said_at view n).kind) e in
-    and_from (is_sound_at view n) (is_labelled (said_at view n).kind) both.0 (theorem_labelled (said_at view n).kind both.1)
-  where
-    theorem_labelled : (kind : Kind) → is_theorem kind ≡ true → is_labelled kind ≡ true
-    theorem_labelled Theorem t = refl
-    theorem_labelled _ t = absurd (false≢true t)
+shown_proof view n e = grind (arith, common_steps, and_from, and_parts, false≢true) steps 200000
 
 -- and a sound assertion
 pub framed_proof : (view : BaseView) (n : ℕ) → is_proof_at view n ≡ true → is_framed_at view n ≡ true
-framed_proof view n e =
-    let both = and_parts (is_sound_at view n) (is_theorem (said_at view n).kind) e in
-    and_from (is_sound_at view n) (is_assertion (said_at view n).kind) both.0 (theorem_asserted (said_at view n).kind both.1)
-  where
-    theorem_asserted : (kind : Kind) → is_theorem kind ≡ true → is_assertion kind ≡ true
-    theorem_asserted Theorem t = refl
-    theorem_asserted _ t = absurd (false≢true t)
+framed_proof view n e = grind (arith, common_steps, and_from, and_parts, false≢true) steps 200000
 
 says_in : (files : FilesView) (found : List store.Item) (said : List Item) (n : ℕ) (item : store.Item) → AllZip (Says files) found said → slice_get found n ≡ Some item → Says files item (item_at said n)
 says_in files [] said n item h e = cc

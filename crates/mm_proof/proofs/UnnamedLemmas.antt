@@ -1,35 +1,22 @@
 -- Words of a proof that are no label that is listed as changed.
-use Rattle.std.proofs.Common.{◌≡◌, ◌<◌, ℕ, zero, suc, Bool, true, false, cond, not, Some, List, [], ◌∷◌, length, take, drop, filter, bytes_eq, refl, arith}
-use Rattle.std.proofs.lemmas.{Bool.{false≢true}, Option.{none-some}}
-use Rattle.std.specs.{Prelude.{◌≢◌, slice_get, codes}, List.{AllByRecursion, before_first, position_or_len}}
+use Rattle.std.proofs.lemmas.{Grind.{common_steps}, Bool.{false≢true}, Option.{none-some}}
+use Rattle.std.{proofs.Common.{◌≡◌, ◌<◌, ℕ, zero, suc, Bool, true, false, not, Some, List, [], ◌∷◌, length, take, filter, refl, arith}, specs.{Prelude.{◌≢◌, slice_get}, List.{AllByRecursion}}}
 use Rattle.mm_frame.specs.Language.Base.{BaseView}
 use Rattle.mm_proof.specs.Language.BaseMarks.{IsToldChanged}
-use Rattle.mm_verdict.specs.Language.{Decoding.{is_compressed, is_close}, SameToDecode.{labels_named}}
+use Rattle.mm_verdict.specs.Language.SameToDecode.{labels_named}
 
 -- what holds of each word of a proof holds of each label that it names
 all_filtered : (P : List ℕ → Type 0) (p : List ℕ → Bool) (words : List (List ℕ)) → AllByRecursion P words → AllByRecursion P (filter p words)
 all_filtered P p [] all = tt
-all_filtered P p (word ∷ words) all = by_case (p word) (all_filtered P p words all.1)
-  where
-    by_case : (b : Bool) → AllByRecursion P (filter p words) → AllByRecursion P (cond b (word ∷ filter p words) (filter p words))
-    by_case true rest = (all.0, rest)
-    by_case false rest = rest
+all_filtered P p (word ∷ words) all = grind (arith, common_steps, all_filtered P p words all.1) steps 200000
 
 all_taken : (P : List ℕ → Type 0) (n : ℕ) (words : List (List ℕ)) → AllByRecursion P words → AllByRecursion P (take n words)
 all_taken P zero words all = tt
 all_taken P (suc n) [] all = tt
 all_taken P (suc n) (word ∷ words) all = (all.0, all_taken P n words all.1)
 
-all_behind : (P : List ℕ → Type 0) (words : List (List ℕ)) → AllByRecursion P words → AllByRecursion P (drop 1 words)
-all_behind P [] all = tt
-all_behind P (word ∷ words) all = all.1
-
 pub all_named : (P : List ℕ → Type 0) (words : List (List ℕ)) → AllByRecursion P words → AllByRecursion P (labels_named words)
-all_named P words all = by_case (is_compressed words)
-  where
-    by_case : (b : Bool) → AllByRecursion P (cond b (before_first is_close (drop 1 words)) (filter (λ word. not (bytes_eq word (codes "?"))) words))
-    by_case true = all_taken P (position_or_len is_close (drop 1 words)) (drop 1 words) (all_behind P words all)
-    by_case false = all_filtered P (λ word. not (bytes_eq word (codes "?"))) words all
+all_named P words all = grind (arith, common_steps, all_filtered, all_taken) steps 200000
 
 -- what holds of some words leads to what holds of them
 pub all_with : (P Q : List ℕ → Type 0) → ((word : List ℕ) → P word → Q word) → (words : List (List ℕ)) → AllByRecursion P words → AllByRecursion Q words

@@ -1,12 +1,11 @@
 -- Equal views have equal verdicts, and their proofs cite by the same words.
-use Rattle.std.proofs.Common.{ℕ, Result, Ok, Err, List, [], ◌∷◌, map, sym, ◌∙◌, ap, subst}
-use Rattle.std.specs.List.{AllZip, AllByRecursion}
+use Rattle.std.{proofs.{Common.{arith, ℕ, Result, Ok, Err, List, [], ◌∷◌, map, sym, subst}, lemmas.Grind.{common_steps}}, specs.List.{AllZip, AllByRecursion}}
 use Rattle.mm_frame.specs.{Language.{Base.{BaseView, AreSaid, before, said_at, frame_at}, Framing.{resolve}}, mm_machine.Language.Frame.{Symbol, Mandatory, Setting, Resolved}}
 use Rattle.mm_proof.specs.{Code.KeptMarks.{ShareHypotheses, SharePairs, ShareProof}, Language.ViewLaws.{SameViewSameCites, SameViewSameVerdict}}
-use Rattle.mm_verdict.specs.Language.{BaseLabels.{setting_at}, Citing.{cites}, Decoding.{decoding}, DecodingLaws.{SameCitesSame, SameDecodesSame}, ItemLaws.{MandatoryLabelsMean, MeansHypothesis}}
+use Rattle.mm_verdict.specs.Language.{BaseLabels.{setting_at}, Decoding.{decoding}, DecodingLaws.{SameCitesSame, SameDecodesSame}, ItemLaws.{MandatoryLabelsMean, MeansHypothesis}}
 use Rattle.mm_verdict.specs.Language.{SameToDecode.{AreSameToDecode, IsSameHypothesis, labels_named}, VerdictAt.{mandatory_labels, statement_at, decoding_at}, View.{view_at, AreSameViews}}
-use Rattle.mm_verdict.specs.mm_machine.Language.{Laws.{SameProofSameVerdict}, SameProof.{AreSameMeaning, IsSameDecoding}, Verdict.{Decoded, IsVerdict}}
-use Rattle.mm_verdict.specs.mm_machine.declared.{Verdict.{Verdict}, step.ProofFault.{ProofFault}}
+use Rattle.mm_verdict.specs.mm_machine.{Language.{Laws.{SameProofSameVerdict}, SameProof.{AreSameMeaning, IsSameDecoding}, Verdict.{Decoded, IsVerdict}}, declared.Verdict.{Verdict}}
+use Rattle.mm_verdict.specs.mm_machine.declared.step.ProofFault.{ProofFault}
 
 -- labels that mean the same hypotheses, one by one
 same_hypotheses :
@@ -53,15 +52,10 @@ verdict_kept mean decodes same base copy i j f g v verdict h =
     let yours = mandatory_labels copy j in
     let here = decodes place other mine yours (said_at base i).proof (to_decode mean base copy i j f g v) in
     let there = subst (λ (words : List (List ℕ)). IsSameDecoding place other (decoding_at base i) (decoding other yours words)) v.proof here in
-    subst (λ (e : List Symbol). IsVerdict other e (decoding_at copy j) verdict) v.expression
-    (moved same place other (statement_at base i) (decoding_at base i) (decoding_at copy j) verdict there h)
+    grind (arith, common_steps, moved same place other (statement_at base i) (decoding_at base i) (decoding_at copy j) verdict there h) steps 200000
 
 pub cites_kept : MandatoryLabelsMean → SameCitesSame → SameViewSameCites
-cites_kept mean same base copy i j f g v =
-    let other = setting_at copy j in
-    let yours = mandatory_labels copy j in
-    same (setting_at base i) other (mandatory_labels base i) yours (said_at base i).proof (to_decode mean base copy i j f g v)
-    ∙ ap (λ (words : List (List ℕ)). cites other words (decoding other yours words)) v.proof
+cites_kept mean same base copy i j f g v = grind (arith, to_decode mean base copy i j f g v) steps 200000
 
 -- ---- what is compared of two views
 
@@ -70,24 +64,7 @@ zip_labels f g [] a = tt
 zip_labels f g (label ∷ labels) a = (a.0, zip_labels f g labels a.1)
 
 pub shared_view : (base copy : BaseView) (i j : ℕ) → ShareHypotheses base copy i j → SharePairs base copy i j → ShareProof base copy i j → AreSameViews (view_at base i) (view_at copy j)
-shared_view base copy i j h s p =
-    let mine = resolve (before base i) in
-    let yours = resolve (before copy j) in
-    record {
-      proof = p.words;
-      expression = h.expression;
-      hypotheses = h.hypotheses;
-      active = s;
-      meanings = subst (λ (words : List (List ℕ)). AllZip AreSameMeaning (map mine (labels_named words)) (map yours (labels_named (said_at copy j).proof))) (sym p.words)
-          (zip_labels mine yours (labels_named (said_at copy j).proof) p.labels);
-    }
+shared_view base copy i j h s p = grind (arith, common_steps, zip_labels (resolve (before base i)) (resolve (before copy j)) (labels_named (said_at copy j).proof) p.labels) steps 200000
 
 pub view_proof : (base copy : BaseView) (i j : ℕ) → AreSameViews (view_at base i) (view_at copy j) → ShareProof base copy i j
-view_proof base copy i j v =
-    let mine = resolve (before base i) in
-    let yours = resolve (before copy j) in
-    record {
-      words = v.proof;
-      labels = same_labels mine yours (labels_named (said_at copy j).proof)
-          (subst (λ (words : List (List ℕ)). AllZip AreSameMeaning (map mine (labels_named words)) (map yours (labels_named (said_at copy j).proof))) v.proof v.meanings);
-    }
+view_proof base copy i j v = grind (arith, common_steps, same_labels) steps 200000

@@ -1,14 +1,12 @@
 -- Sessions whose files mean the same have one report.
-use Rattle.std.proofs.Common.{◌≡◌, ℕ, ◌<◌, Bool, true, false, ◌&&◌, Option, is_none, List, length, take, get_or, Some, refl, sym, ◌∙◌, ap, subst, ext_get_or, arith}
-use Rattle.std.proofs.lemmas.Option.{slice_get-get_or, same_Some}
-use Rattle.mm_keep.specs.mm_store.Language.FilesView.{FilesView, File, plain}
-use Rattle.mm_keep.specs.mm_frame.{Language.{Base.{BaseView, IsOfFiles, told_fault, fault_at, is_sound_at, said_at}, Sound.{sound_items}}, declared.FrameNumber.{FrameNumber}}
-use Rattle.mm_keep.specs.{mm_statement.Language.Item.{Kind, Axiom, Theorem, Item, is_assertion, is_theorem, item_at}, mm_verdict.Language.VerdictAt.{IsVerdictAt}}
-use Rattle.mm_keep.specs.{mm_machine.declared.{ProofNumber.{ProofNumber}, Spot.{Spot}, Verdict.{Verdict}}, declared.finding.At.{At}}
+use Rattle.std.proofs.lemmas.{Grind.{common_steps}, Option.{slice_get-get_or, same_Some}}
+use Rattle.std.proofs.Common.{◌≡◌, ℕ, ◌<◌, Bool, true, false, ◌&&◌, is_none, List, length, take, get_or, refl, sym, ◌∙◌, ap, subst, ext_get_or, arith}
+use Rattle.mm_keep.specs.{mm_store.Language.FilesView.{FilesView, File, plain}, mm_frame.Language.{Base.{BaseView, IsOfFiles, told_fault, fault_at, is_sound_at, said_at}, Sound.{sound_items}}}
+use Rattle.mm_keep.specs.{mm_frame.declared.FrameNumber.{FrameNumber}, mm_statement.Language.Item.{Kind, Axiom, Theorem, Item, is_assertion, is_theorem, item_at}}
+use Rattle.mm_keep.specs.{mm_verdict.Language.VerdictAt.{IsVerdictAt}, mm_machine.declared.{ProofNumber.{ProofNumber}, Spot.{Spot}, Verdict.{Verdict}}, declared.finding.At.{At}}
 use Rattle.mm_keep.specs.Language.Sessions.{SessionView}
 use Rattle.mm_keep.specs.Language.Told.{Shown, Told, Quiet, AnAxiom, Proved, Incomplete, Wrong, Fault, IsRightlyTold, IsFaultOf, HasProofVerdict, HasVerdictShown, AreRightlyTold}
-use Rattle.mm_report.specs.Language.{Laws.{OneReport}, Report.{names_of, report, IsReport}}
-use Rattle.mm_report.proofs.DatabaseLemmas.{Laws, Database, same_items, same_spot_place, same_shown_word}
+use Rattle.mm_report.{specs.Language.{Laws.{OneReport}, Report.{IsReport}}, proofs.DatabaseLemmas.{Laws, Database, same_items, same_spot_place, same_shown_word}}
 use Rattle.mm_keep.specs.mm_machine.declared.Verdict.TheVariants as verdicts
 
 -- ---- what is reported of one item
@@ -42,15 +40,8 @@ theorem_class : (sound : Bool) (kind : Kind) → (sound && is_theorem kind) ≡ 
 theorem_class true Theorem e = refl
 theorem_class _ _ e = absurd (cc)
 
-fault_class : (fault : Option (ℕ × FrameNumber)) (kind : Kind) (one : ℕ × FrameNumber) → fault ≡ Some one → 0 ≡ class_of (is_none fault) kind
-fault_class fault kind one e = sym (ap (λ (f : Option (ℕ × FrameNumber)). class_of (is_none f) kind) e)
-
 told_class : (files : FilesView) (view : BaseView) (n : ℕ) (one : Told) → IsRightlyTold files view n one → class_told one ≡ class_at view n
-told_class files view n Quiet f = quiet_class (is_sound_at view n) (said_at view n).kind f.sound f.kind
-told_class files view n AnAxiom f = sym (λ i. class_of (f.sound i) (f.kind i))
-told_class files view n Proved f = theorem_class (is_sound_at view n) (said_at view n).kind f.proof
-told_class files view n (Fault number shown) f = fault_class (fault_at view n) (said_at view n).kind (f.word, number) f.fault
-told_class files view n _ f = theorem_class (is_sound_at view n) (said_at view n).kind f.has_verdict.proof
+told_class files view n one f = grind (arith, common_steps, quiet_class, theorem_class) steps 200000
 
 -- of two databases that mean the same
 
@@ -140,8 +131,4 @@ report_database {session} meaning top_is f = record {
 
 pub same_report : Laws → OneReport
 same_report laws session other bytes copy same tops f g =
-    let one : Database (plain other.files) other.top = report_database same tops f in
-    let two : Database (plain other.files) other.top = report_database refl refl g in
-    let items : f.base.said ≡ g.base.said = same_items laws one two in
-    let all : f.all ≡ g.all = same_all_told laws one two f.all g.all f.are_told g.are_told in
-    f.bytes_are ∙ (λ i. report (names_of (same i)) (items i) (all i)) ∙ sym g.bytes_are
+    grind (arith, same_items laws (report_database same tops f) (report_database refl refl g), same_all_told laws (report_database same tops f) (report_database refl refl g) f.all g.all f.are_told g.are_told) steps 200000

@@ -1,14 +1,13 @@
 -- What is answered, from what is written.
+use Rattle.std.proofs.lemmas.{Grind.{common_steps}, List.{length-map}, Option.{slice_get-map, slice_get_within, slice_get-get_or, same_Some}}
 use Rattle.std.proofs.Common.{◌≡◌, ◌⊎◌, ℕ, ◌<◌, Option, List, Result, Ok, Err, inl, inr, length, map, refl, sym, ap, ◌∙◌, subst, arith, take_all, Global, codes, IfErr, IfOk, IsErrOf, IsOk, IsTrue}
-use Rattle.std.proofs.Common.{OnOk, Bool, true, false, ◌↔◌, Some, Vec, get_or, slice_get}
-use Rattle.std.proofs.{lemmas.{List.{length-map}, Option.{slice_get-map, slice_get_within, slice_get-get_or, same_Some}}, KnownBytes.{Appends-kept}}
-use Rattle.std.specs.{Result.{IsErrAnd}, Io.KnownBytes.{Appends, Keeps}, Option.{option_map}}
-use Rattle.mm_keep.specs.{declared.answers.KeepError.{KeepError}, mm_verdict.Language.Work.{Recorded}, mm_frame.Language.Base.{BaseView, IsOfFiles}}
-use Rattle.mm_keep.specs.{mm_text.{declared.edit.Edit.{Edit}, Language.Asked.{Asked, asked}}, mm_store.{Language.{Batches.{IsRefusedAt}, FilesView.{plain}}, declared.edit.EditError.{EditError}}}
+use Rattle.std.{proofs.{Common.{OnOk, Bool, true, false, ◌↔◌, Some, Vec, get_or, slice_get}, KnownBytes.{Appends-kept}}, specs.{Result.{IsErrAnd}, Io.KnownBytes.{Appends, Keeps}, Option.{option_map}}}
+use Rattle.mm_keep.specs.{declared.answers.KeepError.{KeepError}, mm_verdict.Language.Work.{Recorded}, mm_frame.Language.Base.{BaseView, IsOfFiles}, mm_text.declared.edit.Edit.{Edit}}
+use Rattle.mm_keep.specs.{mm_text.Language.Asked.{Asked, asked}, mm_store.{Language.{Batches.{IsRefusedAt}, FilesView.{plain}}, declared.edit.EditError.{EditError}}}
 use Rattle.mm_keep.specs.Language.Sessions.{SessionView, AreAxiomsOf, IsChanged, HasAssertion}
-use Rattle.mm_script.specs.declared.{error.ScriptError.{ScriptError}, stream.Writing.{Writing}}
-use Rattle.mm_script.specs.Language.{Script.{Command, Listed, Batch, Axioms, Cites, Users}, Stream.{written, has_failed, AppendsPart, Stops}}
-use Rattle.mm_report.specs.{Code.Answered.{Answers, FailsSo, Finds, Lacks}, Language.Answers.{IsAnswer, IsBatchRefused, IsRunAnswer, batch_refusal_line, numbers_listed, unknown_line}}
+use Rattle.mm_script.specs.{declared.{error.ScriptError.{ScriptError}, stream.Writing.{Writing}}, Language.Script.{Command, Listed, Batch, Axioms, Cites, Users}}
+use Rattle.mm_script.specs.Language.Stream.{written, has_failed, AppendsPart, Stops}
+use Rattle.mm_report.specs.{Code.Answered.{Answers, Finds, Lacks}, Language.Answers.{IsAnswer, IsBatchRefused, IsRunAnswer, batch_refusal_line, numbers_listed, unknown_line}}
 use Rattle.mm_keep.specs.declared.answers.KeepError.TheVariants as keep
 use Rattle.mm_script.specs.declared.error.ScriptError.TheVariants as errors
 
@@ -20,9 +19,7 @@ answered_ok contents command old new a b done answer is out = record { ok = reco
 -- the write of an answer has failed
 pub answered_stop : {W T : Type 0} (contents : W → Option (List ℕ)) (command : Command) (old new : SessionView) (a b : Writing W) (r : Result T ScriptError) (answer : List ℕ)
     → IsErrAnd r (λ e. e ≡ errors.Write) → IsAnswer old command answer new → Stops contents a b answer → Answers contents command old new a b r
-answered_stop contents command old new a b (Ok done) answer err is s = absurd err
-answered_stop contents command old new a b (Err e) answer err is s =
-    record { ok = tt; err = subst (FailsSo contents command old new a b) (sym err) (s.failed, record { answer = answer; is = is; out = s.part }) }
+answered_stop contents command old new a b r answer err is s = grind (arith, common_steps) steps 200000
 
 -- ---- edits
 
@@ -56,16 +53,10 @@ finds_base session _ numbers finds = absurd finds
 
 pub found_is : (session : SessionView) (command : Command) (numbers : List ℕ) (finds : Finds session command numbers) (base : BaseView) → IsOfFiles session.files session.top base
     → IsAnswer session command (numbers_listed (codes "found") base numbers) session
-found_is session (Axioms label) numbers finds base is = (inr (numbers, finds, (base, is, refl)), refl)
-found_is session (Cites label) numbers finds base is = (inr (numbers, finds, (base, is, refl)), refl)
-found_is session (Users label) numbers finds base is = (inr (numbers, finds, (base, is, refl)), refl)
-found_is session _ numbers finds base is = absurd finds
+found_is session command numbers finds base is = grind (arith, common_steps) steps 200000
 
 pub unknown_is : (session : SessionView) (command : Command) → Lacks session command → IsAnswer session command unknown_line session
-unknown_is session (Axioms label) lacks = (inl (record { none = lacks; answer_is = refl }), refl)
-unknown_is session (Cites label) lacks = (inl (record { none = lacks; answer_is = refl }), refl)
-unknown_is session (Users label) lacks = (inl (record { none = lacks; answer_is = refl }), refl)
-unknown_is session _ lacks = absurd lacks
+unknown_is session command lacks = grind (arith, common_steps) steps 200000
 
 -- ---- the answers of a list of axioms
 
@@ -77,14 +68,11 @@ when_ok {r = Err e} so = tt
 pub when_stops : {W T : Type 0} {contents : W → Option (List ℕ)} {command : Command} {old new : SessionView} {a b : Writing W} {r : Result T ScriptError} → Answers contents command old new a b r
     → IsErrOf r errors.Write
     → (has_failed b ≡ true) × ((answer : List ℕ) × IsAnswer old command answer new × AppendsPart (written contents a) (written contents b) answer)
-when_stops {T = T} {contents = contents} {command = command} {old = old} {new = new} {a = a} {b = b} so e =
-    let fails = (subst (λ (s : Result T ScriptError). Answers contents command old new a b s) e so).err in
-    (fails.0, (fails.1.answer, fails.1.is, fails.1.out))
+when_stops {T = T} {contents = contents} {command = command} {old = old} {new = new} {a = a} {b = b} so e = grind (arith, common_steps) steps 200000
 
 pub when_lacks : {W T : Type 0} {contents : W → Option (List ℕ)} {command : Command} {old new : SessionView} {a b : Writing W} {r : Result T ScriptError} → Answers contents command old new a b r
     → IsErrOf r errors.Memory → b ≡ a
-when_lacks {T = T} {contents = contents} {command = command} {old = old} {new = new} {a = a} {b = b} so e =
-    (subst (λ (s : Result T ScriptError). Answers contents command old new a b s) e so).err.1
+when_lacks {T = T} {contents = contents} {command = command} {old = old} {new = new} {a = a} {b = b} so e = grind (arith, common_steps) steps 200000
 
 pub only_two : {W T : Type 0} {contents : W → Option (List ℕ)} {command : Command} {old new : SessionView} {a b : Writing W} {r : Result T ScriptError} → Answers contents command old new a b r
     → IfErr r (λ e. (e ≡ errors.Write) ⊎ (e ≡ errors.Memory))

@@ -1,18 +1,14 @@
 -- The assertion of a label depends on what the items say, and on nothing else.
-use Rattle.std.proofs.Common.{◌≡◌, ℕ, ◌<◌, Bool, true, false, ◌&&◌, List, [], length, sym, ap, ◌∙◌, subst}
-use Rattle.mm_keep.specs.mm_frame.Language.{Base.{BaseView, said_at, is_framed_at, is_sound_at}, Laws.{HasOwnLabels}, Resolving.{IsCarrier}}
-use Rattle.mm_keep.specs.{mm_statement.Language.Item.{Kind, Axiom, Theorem, Item, item_at, is_assertion, is_labelled}, Language.Sessions.{IsAssertion}}
+use Rattle.std.proofs.{Common.{arith, ◌≡◌, ℕ, Bool, true, false, ◌&&◌, List, []}, lemmas.Grind.{common_steps}}
+use Rattle.mm_keep.specs.mm_frame.Language.{Base.{BaseView, said_at, is_sound_at}, Laws.{HasOwnLabels}, Resolving.{IsCarrier}}
+use Rattle.mm_keep.specs.{mm_statement.Language.Item.{Kind, Axiom, Theorem, Item, is_assertion, is_labelled}, Language.Sessions.{IsAssertion}}
 
 -- items that say this, wherever they are
 abbrev pub saying : List Item → BaseView
 saying said = record { found = []; said = said }
 
 pub assertion_by_said : (base other : BaseView) (label : List ℕ) (i : ℕ) → base.said ≡ other.said → IsAssertion base label i → IsAssertion other label i
-assertion_by_said base other label i e a = record {
-  within = subst (λ (said : List Item). i < length said) e a.within;
-  framed = sym (ap (λ (said : List Item). is_framed_at (saying said) i) e) ∙ a.framed;
-  label_is = sym (ap (λ (said : List Item). (item_at said i).label) e) ∙ a.label_is;
-}
+assertion_by_said base other label i e a = grind (arith, common_steps) steps 200000
 
 shown_by : (sound : Bool) (kind : Kind) → (sound && is_assertion kind) ≡ true → (sound && is_labelled kind) ≡ true
 shown_by false kind e = cc

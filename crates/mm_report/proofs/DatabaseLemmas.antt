@@ -1,12 +1,10 @@
 -- Files that mean the same are one database: their items are the same but for keys, and say the same.
-use Rattle.std.proofs.{Common.{◌≡◌, ℕ, ◌+◌, List, Some, map, slice_get, slice_range, refl, sym, ap, ◌∙◌, subst, All}, lemmas.Option.{slice_get-map, slice_get_within, get_or_from_slice_get, same_Some}}
-use Rattle.std.specs.Option.{option_map}
-use Rattle.mm_keep.specs.mm_text.{declared.word.Word.{Word}, Language.{Reading.{HasWords}, Place.{line_at, column_at}}}
-use Rattle.mm_keep.specs.mm_store.Language.{Pieces.{text_in, text_under}, FilesView.{FilesView, File, files_in, plain, plain_file, text_of}, FileFacts.{CanBeRead, StandsIn, piece_offset}}
-use Rattle.mm_keep.specs.mm_store.Language.{Expansion.{IsExpansion}, Keyless.{keyless_item}}
-use Rattle.mm_keep.specs.{mm_frame.Language.{Base.{BaseView, IsOfFiles, said_at}, Laws.{AreAlikeBases}}, mm_statement.Language.Item.{item_at}, mm_verdict.Language.ItemLaws.{HasOneVerdictAt}}
-use Rattle.mm_keep.specs.{mm_machine.declared.Spot.{Spot}, declared.finding.At.{At}}
-use Rattle.mm_keep.specs.Language.{WordPlaces.{start_of, spelled, IsByteOfWord, HasPlace, IsPlaceOfSpot, proof_word}, Told.{Shown, IsShown}}
+use Rattle.std.proofs.{Common.{arith, ◌≡◌, ℕ, List, Some, map, slice_get, slice_range, refl, sym, ap, ◌∙◌, subst, All}, lemmas.Grind.{common_steps}}
+use Rattle.std.{proofs.lemmas.Option.{slice_get-map, slice_get_within, get_or_from_slice_get, same_Some}, specs.Option.{option_map}}
+use Rattle.mm_keep.specs.{mm_text.{declared.word.Word.{Word}, Language.Reading.{HasWords}}, mm_store.Language.{Pieces.{text_in, text_under}, FilesView.{FilesView, File, files_in, plain}}}
+use Rattle.mm_keep.specs.{mm_store.Language.{FileFacts.{CanBeRead, StandsIn}, Expansion.{IsExpansion}, Keyless.{keyless_item}}, mm_frame.Language.Base.{BaseView, IsOfFiles, said_at}}
+use Rattle.mm_keep.specs.{mm_frame.Language.Laws.{AreAlikeBases}, mm_statement.Language.Item.{item_at}, mm_verdict.Language.ItemLaws.{HasOneVerdictAt}, mm_machine.declared.Spot.{Spot}}
+use Rattle.mm_keep.specs.{declared.finding.At.{At}, Language.{WordPlaces.{spelled, IsByteOfWord, HasPlace, IsPlaceOfSpot, proof_word}, Told.{Shown, IsShown}}}
 use Rattle.mm_keep.specs.mm_store.declared.item.Item as store
 
 -- what is known of every text and of all files
@@ -42,13 +40,7 @@ same_file a b x y f g alike at there = same_Some f g (sym at ∙ (λ i. slice_ge
 
 -- their pieces have the same text
 same_piece : (a b : FilesView) (x y : store.Item) → AreAlike a b x y → text_under a.pieces x.key.at ≡ text_under b.pieces y.key.at
-same_piece a b x y alike =
-    let s = alike.first in
-    let t = alike.second in
-    let file : plain_file a.pieces s.file ≡ plain_file b.pieces t.file =
-    same_at (plain_file a.pieces) (plain_file b.pieces) a.keyed b.keyed x.file y.file s.file t.file alike.files (ap (λ (z : store.Item). z.file) alike.item) s.there t.there in
-    same_at (text_under a.pieces) (text_under b.pieces) s.file.keys t.file.keys x.piece y.piece x.key.at y.key.at
-    (ap (λ (f : File). f.pieces) file) (ap (λ (z : store.Item). z.piece) alike.item) s.is_key t.is_key
+same_piece a b x y alike = grind (arith, common_steps, same_at) steps 200000
 
 -- the text under the key of an item is the one that the item is read in
 read_under : (files : FilesView) (item : store.Item) → (r : CanBeRead files item) → r.text ≡ text_under files.pieces item.key.at
@@ -68,27 +60,14 @@ same_words laws a b x y alike s t = laws.words (bytes_in t.text y) s.words t.wor
 
 same_byte : Laws → (a b : FilesView) (x y : store.Item) (v w l m at there : ℕ) → AreAlike a b x y → v ≡ w → l ≡ m → IsByteOfWord a x v l at → IsByteOfWord b y w m there → at ≡ there
 same_byte laws a b x y v w l m at there alike number letter f g =
-    let piece : x.piece ≡ y.piece = ap (λ (z : store.Item). z.piece) alike.item in
-    let start : x.start ≡ y.start = ap (λ (z : store.Item). z.start) alike.item in
-    let words : f.read.words ≡ g.read.words = same_words laws a b x y alike f.read g.read in
-    let file : f.byte.file ≡ g.byte.file = same_file a b x y f.byte.file g.byte.file alike f.byte.there g.byte.there in
-    f.byte.is_offset ∙ (λ i. piece_offset (file i) (piece i) + (start i + (start_of (slice_get (words i) (number i)) + letter i))) ∙ sym g.byte.is_offset
+    grind (arith, common_steps, same_words laws a b x y alike f.read g.read, same_file a b x y f.byte.file g.byte.file alike f.byte.there g.byte.there) steps 200000
 
 -- ---- how a word is shown
-
-same_place_text : (a b : FilesView) (x y : store.Item) (v w l m at there : ℕ) → AreAlike a b x y → (f : IsByteOfWord a x v l at) (g : IsByteOfWord b y w m there) → f.text ≡ g.text
-same_place_text a b x y v w l m at there alike f g =
-    f.byte.is_text ∙ ap text_of (same_file a b x y f.byte.file g.byte.file alike f.byte.there g.byte.there) ∙ sym g.byte.is_text
 
 -- a byte of a word of an item has one place
 same_place : Laws → (a b : FilesView) (x y : store.Item) (v w l m : ℕ) (at other : At) → AreAlike a b x y → v ≡ w → l ≡ m → HasPlace a x v l at → HasPlace b y w m other → at ≡ other
 same_place laws a b x y v w l m at other alike number letter f g =
-    let offset : f.offset ≡ g.offset = same_byte laws a b x y v w l m f.offset g.offset alike number letter f.is_byte g.is_byte in
-    let text : f.is_byte.text ≡ g.is_byte.text = same_place_text a b x y v w l m f.offset g.offset alike f.is_byte g.is_byte in
-    let file : at.file ≡ other.file = f.in_file ∙ ap (λ (z : store.Item). z.file) alike.item ∙ sym g.in_file in
-    let row : at.line ≡ other.line = f.line ∙ (λ i. line_at (text i) (offset i)) ∙ sym g.line in
-    let column : at.column ≡ other.column = f.column ∙ (λ i. column_at (text i) (offset i)) ∙ sym g.column in
-    λ i. record { file = file i; line = row i; column = column i }
+    grind (arith, common_steps, same_byte laws a b x y v w l m f.offset g.offset alike number letter f.is_byte g.is_byte, same_file) steps 200000
 
 same_spelled : Laws → (a b : FilesView) (x y : store.Item) (v w : ℕ) → AreAlike a b x y → v ≡ w → (s : CanBeRead a x) (t : CanBeRead b y)
     → spelled (bytes_in s.text x) (slice_get s.words v) ≡ spelled (bytes_in t.text y) (slice_get t.words w)
@@ -98,9 +77,7 @@ same_spelled laws a b x y v w alike number s t =
 -- a word of an item is shown in one way
 same_shown : Laws → (a b : FilesView) (x y : store.Item) (v w : ℕ) (shown other : Shown) → AreAlike a b x y → v ≡ w → IsShown a x v shown → IsShown b y w other → shown ≡ other
 same_shown laws a b x y v w shown other alike number f g =
-    let place : shown.at ≡ other.at = same_place laws a b x y v w 0 0 shown.at other.at alike number refl f.has_place g.has_place in
-    let word : shown.word ≡ other.word = f.is_word ∙ same_spelled laws a b x y v w alike number f.has_place.is_byte.read g.has_place.is_byte.read ∙ sym g.is_word in
-    λ i. record { at = place i; word = word i }
+    grind (arith, same_place laws a b x y v w 0 0 shown.at other.at alike number refl f.has_place g.has_place, same_spelled laws a b x y v w alike number f.has_place.is_byte.read g.has_place.is_byte.read) steps 200000
 
 -- ---- two databases that mean the same
 

@@ -1,7 +1,6 @@
 -- Files by number: their names; and what is reported of an item names one of them.
-use Rattle.std.proofs.Common.{◌≡◌, ℕ, ◌<◌, List, [], Some, length, slice_get, sym, ap, ◌∙◌, subst, slice_index_or}
-use Rattle.std.proofs.lemmas.{Option.{slice_get-map, slice_get_within, get_or_from_slice_get}, Simd.{map-map}}
-use Rattle.std.specs.Option.{option_map}
+use Rattle.std.proofs.{Common.{arith, ◌≡◌, ℕ, ◌<◌, List, [], Some, length, slice_get, ap, ◌∙◌, slice_index_or}, lemmas.Grind.{common_steps}}
+use Rattle.std.{proofs.lemmas.{Option.{slice_get-map, slice_get_within, get_or_from_slice_get}, Simd.{map-map}}, specs.Option.{option_map}}
 use Rattle.mm_keep.specs.{mm_store.Language.FilesView.{KeyedFile, FilesView, File, plain, plain_file}, mm_frame.Language.Base.{BaseView}, declared.finding.At.{At}}
 use Rattle.mm_keep.specs.Language.{Told.{Told, Incomplete, Wrong, Fault, IsRightlyTold}, WordPlaces.{HasPlace}}
 use Rattle.mm_report.specs.{Code.InFiles.{IsInFiles}, Language.Report.{names_of}}
@@ -16,9 +15,7 @@ name_is files n name is =
 
 -- a place of a word of an item is in one of the files
 placed_in : (files : FilesView) (item : store.Item) (word letter : ℕ) (at : At) → HasPlace files item word letter at → at.file < length files.keyed
-placed_in files item word letter at place =
-    let stands = place.is_byte.stands in
-    subst (λ n. n < length files.keyed) (sym place.in_file) (slice_get_within files.keyed item.file stands.file stands.there)
+placed_in files item word letter at place = grind (arith, common_steps, slice_get_within files.keyed item.file place.is_byte.stands.file place.is_byte.stands.there) steps 200000
 
 -- so is what is rightly reported of an item
 pub told_in : (files : FilesView) (view : BaseView) (n : ℕ) (one : Told) → IsRightlyTold files view n one → IsInFiles (length files.keyed) one

@@ -1,10 +1,8 @@
 -- Each script has answers, in sessions as they are.
 use Rattle.std.proofs.Common.{◌≡◌, ◌≢◌, ◌⊎◌, ◌<◌, ℕ, zero, suc, Some, List, [], ◌∷◌, ◌++◌, length, refl, sym, ap, ◌∙◌, subst, inl, inr, arith, codes, map, slice_get}
 use Rattle.std.proofs.lemmas.Option.{none-some, same_Some}
-use Rattle.mm_keep.specs.mm_store.declared.edit.EditError.{EditError, TheVariants.{Memory}}
-use Rattle.mm_keep.specs.mm_store.Language.{Answers.{IsEditError}, Batches.{IsBatchOf, IsRefusedAt}, Edits.{IsEditOf}, FileFacts.{HoldsPieces}, FilesView.{File, FilesView, file_number, plain}}
-use Rattle.mm_keep.specs.mm_store.Language.Holding.{HoldOneEach}
-use Rattle.mm_keep.specs.mm_text.Language.Asked.{Asked}
+use Rattle.mm_keep.specs.mm_store.{declared.edit.EditError.{EditError, TheVariants.{Memory}}, Language.{Answers.{IsEditError}, Batches.{IsBatchOf, IsRefusedAt}, Edits.{IsEditOf}}}
+use Rattle.mm_keep.specs.{mm_store.Language.{FileFacts.{HoldsPieces}, FilesView.{File, FilesView, file_number, plain}, Holding.{HoldOneEach}}, mm_text.Language.Asked.{Asked}}
 use Rattle.mm_keep.specs.Language.Laws.{FilesGiveItems, HasListOf, HasListOfRuns, HasListEach, ItemsHaveFindings, LabelsAreDecided}
 use Rattle.mm_keep.specs.Language.{Sessions.{SessionView, HasAssertion, AreAxiomsOf, AreCitesOf, AreUsersOf}, Told.{Told, IsRightlyTold}}
 use Rattle.mm_report.specs.Language.Answers.{AreAnswers, IsAnswer, IsFound, IsRunAnswer, IsUnknown, IsVerdictAnswer, batch_refusal_line, numbers_listed, refusal_line, told_line, unknown_line}

@@ -1,16 +1,14 @@
 -- A script that is answered command by command.
-use Rattle.std.proofs.Common.{◌≡◌, ℕ, zero, suc, true, Option, Some, None, List, [], ◌∷◌, ◌++◌, inl, inr, drop, take, replicate, refl, sym, ap, ◌∙◌, subst, append_assoc, append-nil, ◌≢◌, Result, Ok}
-use Rattle.std.proofs.Common.{Err, IfErr, IfSome, IsErrOf}
-use Rattle.std.proofs.KnownBytes.{Appends-nil, Appends-trans, Consumes-nil, Consumes-trans}
-use Rattle.std.specs.{Result.{IsErrAnd}, Io.KnownBytes.{Consumes, IsAtEnd}}
+use Rattle.std.proofs.Common.{arith, ◌≡◌, ℕ, zero, suc, true, Option, Some, None, List, [], ◌∷◌, ◌++◌, inl, inr, drop, take, replicate, refl, sym, ap, ◌∙◌, subst, append_assoc, append-nil, ◌≢◌}
+use Rattle.std.{proofs.{Common.{Result, Err, IfErr, IfSome, IsErrOf}, lemmas.Grind.{common_steps}, KnownBytes.{Appends-nil, Appends-trans, Consumes-nil, Consumes-trans}}, specs.Result.{IsErrAnd}}
+use Rattle.std.specs.Io.KnownBytes.{Consumes, IsAtEnd}
 use Rattle.mm_script.specs.declared.{error.ScriptError.{ScriptError}, input.Input.{Input}, entry.{CommandAt.{CommandAt}, Complete.{Complete}}, stream.Writing.{Writing}, read_stream.Reading.{Reading}}
 use Rattle.mm_script.specs.Language.Commands.{pending, ReadsOn, IsNextCommand, IsWholeCommand, IsLast, IsWholeOrLast, HasNoEntry, StopsSo}
 use Rattle.mm_script.specs.Language.Script.{Command, End, Done, CutShort, BadLine, Entry, Blank, Given, AreGood, IsGood, AreRead, IsLongestReading, LacksFeed, entries_bytes, command_bytes}
-use Rattle.mm_script.specs.Language.Script.{commands_of}
-use Rattle.mm_script.specs.Language.{Stream.{cannot_read, unread, written}, ReadingLaws.{CommandsLeaveNothing, ReadingsJoin}}
+use Rattle.mm_script.specs.Language.{Script.{commands_of}, Stream.{cannot_read, unread, written}, ReadingLaws.{CommandsLeaveNothing, ReadingsJoin}}
 use Rattle.mm_keep.specs.Language.Sessions.{SessionView}
-use Rattle.mm_report.specs.Code.Answered.{IsAnswered, BeginsAnswer, FailsSo, AnswersSoFar, HasAnswered, StopsAnswering}
-use Rattle.mm_report.specs.Language.{Answers.{AreAnswers, IsAnswer}, Scripting.{AnswersScript, AnswersFirst, AnswersRead, AreFirst, BeginsAnswers}}
+use Rattle.mm_report.specs.{Code.Answered.{IsAnswered, BeginsAnswer, FailsSo, AnswersSoFar, HasAnswered, StopsAnswering}, Language.Answers.{AreAnswers, IsAnswer}}
+use Rattle.mm_report.specs.Language.Scripting.{AnswersScript, AnswersFirst, AnswersRead, AreFirst, BeginsAnswers}
 use Rattle.mm_script.specs.declared.error.ScriptError.TheVariants as errors
 
 -- ---- empty lines, and commands, after entries
@@ -248,8 +246,7 @@ module _ (joins : ReadingsJoin) (done : CommandsLeaveNothing) (old session : Ses
 
 -- what holds of an error that is passed on
 pub if_err_is : {T E : Type 0} (r : Result T E) (P : E → Type 0) (x : E) → IsErrAnd r (λ e. e ≡ x) → P x → IfErr r P
-if_err_is (Ok done) P x is h = absurd is
-if_err_is (Err e) P x is h = subst P (sym is) h
+if_err_is r P x is h = grind (arith, common_steps) steps 200000
 
 pub when_err : {T E : Type 0} (r : Result T E) (P : E → Type 0) (x : E) → IfErr r P → IsErrOf r x → P x
 when_err {T} {E} r P x h e = subst (λ (s : Result T E). IfErr s P) e h

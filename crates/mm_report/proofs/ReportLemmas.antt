@@ -1,7 +1,7 @@
 -- The lines of a report, one more at a time, and each part by part.
 use Rattle.std.proofs.Common.{◌≡◌, ℕ, List, [], ◌∷◌, ◌++◌, length, refl, sym, ◌∙◌, ap, append_assoc, append-nil, codes, decimal, slice_index_or}
-use Rattle.mm_keep.specs.{mm_statement.Language.Item.{Item}, mm_frame.declared.FrameNumber.{FrameNumber}, mm_machine.declared.ProofNumber.{ProofNumber}}
-use Rattle.mm_keep.specs.{declared.{finding.At.{At}, tally.Tally.{Tally}}, Language.{Findings.{counted}, Told.{Told}}}
+use Rattle.mm_keep.specs.{mm_statement.Language.Item.{Item}, mm_frame.declared.FrameNumber.{FrameNumber}, mm_machine.declared.ProofNumber.{ProofNumber}, declared.finding.At.{At}}
+use Rattle.mm_keep.specs.{declared.tally.Tally.{Tally}, Language.{Findings.{counted}, Told.{Told}}}
 use Rattle.mm_report.specs.Language.Report.{item_line, lines, place_in, fault_line, incomplete_line, wrong_line, code_of, proof_code, summary}
 
 -- ---- lines

@@ -1,18 +1,16 @@
 -- The answers of scripts are one, of sessions that are alike.
+use Rattle.std.proofs.lemmas.{Bool.{cases_lt}, List.Elements.{filter_map-append}, Option.{same_Some, slice_get_within}, Grind.{common_steps}}
 use Rattle.std.proofs.Common.{◌≡◌, ◌≢◌, ◌⊎◌, ℕ, zero, suc, ◌<◌, ◌≤◌, Some, List, [], ◌∷◌, ◌++◌, length, map, take, refl, sym, ap, ◌∙◌, subst, inl, inr, arith, append_assoc, codes, slice_get}
 use Rattle.std.proofs.Common.{append-nil, take_all}
-use Rattle.std.proofs.lemmas.{Bool.{cases_lt}, List.Elements.{filter_map-append}, Option.{same_Some, slice_get_within}}
-use Rattle.mm_keep.specs.mm_store.declared.edit.EditError.{EditError, TheVariants.{Memory}}
-use Rattle.mm_keep.specs.mm_store.Language.{Answers.{IsEditError}, Batches.{IsBatchOf, IsRefusedAt}, Edits.{IsEditOf}, FilesView.{File, plain}}
-use Rattle.mm_keep.specs.{mm_text.Language.Asked.{Asked}, mm_frame.Language.{Base.{BaseView, IsOfFiles}, Laws.{HasOwnLabels}}}
+use Rattle.mm_keep.specs.mm_store.{declared.edit.EditError.{EditError, TheVariants.{Memory}}, Language.{Answers.{IsEditError}, Batches.{IsBatchOf, IsRefusedAt}, Edits.{IsEditOf}}}
+use Rattle.mm_keep.specs.{mm_store.Language.FilesView.{File, plain}, mm_text.Language.Asked.{Asked}, mm_frame.Language.{Base.{BaseView, IsOfFiles}, Laws.{HasOwnLabels}}}
 use Rattle.mm_keep.specs.Language.{Citations.{CitesItem, IsAxiomOf}, Laws.{IsOneList, OneListEach, OneListOfRuns}, Runs.{AreRunsOf}, Sessions.{SessionView, AreNumbersOf, HasAssertion}}
 use Rattle.mm_keep.specs.Language.Told.{IsRightlyTold}
 use Rattle.mm_report.specs.Language.Answers.{AreAnswers, IsAnswer, IsBatchAnswer, IsEditAnswer, IsFound, IsRunAnswer, IsUnknown, IsVerdictAnswer, batch_refusal_line, numbers_listed, refusal_line}
-use Rattle.mm_report.specs.Language.Answers.{told_line}
-use Rattle.mm_report.specs.Language.{Report.{names_of}, ScriptLaws.{AnswersBegin, AreAlike, AreTheFirst, HasItems, OneScriptAnswer}}
+use Rattle.mm_report.{specs.Language.ScriptLaws.{AnswersBegin, AreAlike, AreTheFirst, HasItems, OneScriptAnswer}, proofs.AnswerLemmas.{same_report, same_told}}
+use Rattle.mm_report.proofs.{DatabaseLemmas.{Database, Laws, same_items}, AssertionLemmas.{assertion_by_said, one_assertion, saying}}
 use Rattle.mm_script.specs.Language.Script.{Command, Change, Batch, Report, Verdict, Axioms, Cites as CitesOf, Users, EndsSo, Entry, command_of, commands_of, entries_bytes, HasEntries}
 use Rattle.mm_script.specs.Language.ReadingLaws.{DivisionsAgree, OneEnd, OneReading}
-use Rattle.mm_report.proofs.{AnswerLemmas.{same_report, same_told}, DatabaseLemmas.{Database, Laws, same_items}, AssertionLemmas.{assertion_by_said, one_assertion, saying}}
 
 -- what is known of all files, their edits, runs and labels
 pub record AnswerLaws : Type 0 where
@@ -84,9 +82,7 @@ accepted : AnswerLaws → (edits : List Asked) (files before after : List File) 
     → (next : List File) × IsEditOf edit before next
 accepted laws [] files before after n m edit less there f g = absurd (let l : n < 0 = slice_get_within [] n edit there in omega arith)
 accepted laws (e ∷ edits) files before after n zero edit less there f g = absurd (omega arith)
-accepted laws (e ∷ edits) files before after zero (suc m) edit less there f g =
-    let same : e ≡ edit = same_Some e edit there in
-    (g.0, subst (λ (fs : List File). IsEditOf edit fs g.0) (sym f) (subst (λ (z : Asked). IsEditOf z files g.0) same g.1))
+accepted laws (e ∷ edits) files before after zero (suc m) edit less there f g = grind (arith, common_steps, same_Some e edit there) steps 200000
 accepted laws (e ∷ edits) files before after (suc n) (suc m) edit less there f g =
     let same : g.0 ≡ f.0 = laws.edits e files g.0 f.0 g.1 f.1 in
     accepted laws edits f.0 before after n m edit (omega arith) there f.2 (subst (λ (fs : List File). IsBatchOf (take m edits) fs after) same g.2)
@@ -105,11 +101,7 @@ same_refusal : AnswerLaws → (edits : List Asked) (files : List File) (n m : �
 same_refusal laws edits files n m a b f g = by (cases_lt n m) (cases_lt m n)
   where
     on : n ≡ m → batch_refusal_line n f.edit a ≡ batch_refusal_line m g.edit b
-    on e =
-        let edit : f.edit ≡ g.edit = same_Some f.edit g.edit (sym f.there ∙ ap (slice_get edits) e ∙ g.there) in
-        let before : f.before ≡ g.before = same_batch laws (take m edits) files f.before g.before (subst (λ (k : ℕ). IsBatchOf (take k edits) files f.before) e f.accepted) g.accepted in
-        let why : a ≡ b = laws.reason g.edit g.before a b f.told g.told (subst (λ (z : Asked). IsEditError z g.before a) edit (subst (λ (fs : List File). IsEditError f.edit fs a) before f.refused)) g.refused in
-        λ i. batch_refusal_line (e i) (edit i) (why i)
+    on e = grind (arith, same_Some f.edit g.edit (sym f.there ∙ ap (slice_get edits) e ∙ g.there), laws.reason, same_batch) steps 200000
 
     by : (n < m) ⊎ (m ≤ n) → (m < n) ⊎ (n ≤ m) → batch_refusal_line n f.edit a ≡ batch_refusal_line m g.edit b
     by (inl h) k = absurd (first_refused laws edits files g.before n m a h f g.accepted)
@@ -125,14 +117,7 @@ same_batch_answer laws s t new copy edits x y a (inr f) (inr g) = (by (plain t.f
   where
     by : (files : List File) → plain s.files ≡ files → (r : IsRefusedAt edits files g.n g.error) → y ≡ batch_refusal_line g.n r.edit g.error → x ≡ y
     by files e r k =
-        let q : IsRefusedAt edits (plain s.files) g.n g.error = record {
-          before = r.before;
-          accepted = subst (λ (fs : List File). IsBatchOf (take g.n edits) fs r.before) (sym e) r.accepted;
-          edit = r.edit;
-          there = r.there;
-          refused = r.refused;
-          told = r.told;
-        } in
+        let q : IsRefusedAt edits (plain s.files) g.n g.error = grind (arith, common_steps, accepted) steps 200000 in
         f.answer_is ∙ same_refusal laws edits (plain s.files) f.n g.n f.error g.error f.refused q ∙ sym k
 
 -- ---- questions
@@ -140,24 +125,21 @@ same_batch_answer laws s t new copy edits x y a (inr f) (inr g) = (by (plain t.f
 -- the label has an assertion in both
 has_too : AnswerLaws → (s t : SessionView) (label : List ℕ) → AreAlike s t → HasAssertion t label → HasAssertion s label
 has_too laws s t label a h =
-    let b = a.items.1 (h.0, h.1) in
-    (b.0, b.1, (h.2.0, assertion_by_said h.0 b.0 label h.2.0 (sym (same_said laws.database s t b.0 h.0 (one_of s t a) b.1 h.1)) h.2.1))
+    grind (arith, a.items.1 (h.0, h.1), assertion_by_said h.0 (a.items.1 (h.0, h.1)).0 label h.2.0 (sym (same_said laws.database s t (a.items.1 (h.0, h.1)).0 h.0 (one_of s t a) (a.items.1 (h.0, h.1)).1 h.1)) h.2.1) steps 200000
 
 has_there : AnswerLaws → (s t : SessionView) (label : List ℕ) → AreAlike s t → HasAssertion s label → HasAssertion t label
 has_there laws s t label a h =
-    let b = a.items.0 (h.0, h.1) in
-    (b.0, b.1, (h.2.0, assertion_by_said h.0 b.0 label h.2.0 (same_said laws.database s t h.0 b.0 (one_of s t a) h.1 b.1) h.2.1))
+    grind (arith, a.items.0 (h.0, h.1), assertion_by_said h.0 (a.items.0 (h.0, h.1)).0 label h.2.0 (same_said laws.database s t h.0 (a.items.0 (h.0, h.1)).0 (one_of s t a) h.1 (a.items.0 (h.0, h.1)).1) h.2.1) steps 200000
 
 same_verdict : AnswerLaws → (s t : SessionView) (label x y : List ℕ) → AreAlike s t → IsUnknown s label x ⊎ IsVerdictAnswer s label x → IsUnknown t label y ⊎ IsVerdictAnswer t label y → x ≡ y
 same_verdict laws s t label x y a (inl f) (inl g) = f.answer_is ∙ sym g.answer_is
 same_verdict laws s t label x y a (inl f) (inr g) = absurd (f.none (has_too laws s t label a (g.1.0, g.1.1, (g.1.2.0, g.1.2.1))))
 same_verdict laws s t label x y a (inr f) (inl g) = absurd (g.none (has_there laws s t label a (f.1.0, f.1.1, (f.1.2.0, f.1.2.1))))
 same_verdict laws s t label x y a (inr f) (inr g) =
-    let one = one_of s t a in
-    let said : f.1.0.said ≡ g.1.0.said = same_said laws.database s t f.1.0 g.1.0 one f.1.1 g.1.1 in
+    let said : f.1.0.said ≡ g.1.0.said = same_said laws.database s t f.1.0 g.1.0 (one_of s t a) f.1.1 g.1.1 in
     let number : f.1.2.0 ≡ g.1.2.0 = one_assertion laws.labels f.1.0 g.1.0 label f.1.2.0 g.1.2.0 said f.1.2.1 g.1.2.1 in
-    let told : f.0 ≡ g.0 = same_told laws.database (database s t f.1.0 one f.1.1) (itself t g.1.0 g.1.1) g.1.2.0 f.0 g.0 (subst (λ (i : ℕ). IsRightlyTold s.files f.1.0 i f.0) number f.1.2.2) g.1.2.2 in
-    f.2 ∙ (λ i. told_line (names_of (a.files i)) label (told i)) ∙ sym g.2
+    let told : f.0 ≡ g.0 = same_told laws.database (database s t f.1.0 (one_of s t a) f.1.1) (itself t g.1.0 g.1.1) g.1.2.0 f.0 g.0 (subst (λ (i : ℕ). IsRightlyTold s.files f.1.0 i f.0) number f.1.2.2) g.1.2.2 in
+    grind (arith, common_steps, one_of s t a, a.files) steps 200000
 
 -- the items in a relation to the assertion of a label, if they are one list
 same_found : AnswerLaws → (s t : SessionView) (label : List ℕ) (stands : BaseView → ℕ → ℕ → Type 0) (x y : List ℕ) → IsOneList (λ session label numbers. AreNumbersOf session label stands numbers)
@@ -184,9 +166,7 @@ same_answer laws s t new copy (Users label) x y a f g = (same_found laws s t lab
 pub same_answers : AnswerLaws → (s t new copy : SessionView) (commands : List Command) (x y : List ℕ) → AreAlike s t → AreAnswers s commands x new → AreAnswers t commands y copy → (x ≡ y) × AreAlike new copy
 same_answers laws s t new copy [] x y a f g = (f.0 ∙ sym g.0, unchanged s t new copy a f.1 g.1)
 same_answers laws s t new copy (command ∷ commands) x y a f g =
-    let first : (f.0 ≡ g.0) × AreAlike f.1 g.1 = same_answer laws s t f.1 g.1 command f.0 g.0 a f.3 g.3 in
-    let rest : (f.2 ≡ g.2) × AreAlike new copy = same_answers laws f.1 g.1 new copy commands f.2 g.2 first.1 f.4 g.4 in
-    (f.5 ∙ (λ i. first.0 i ++ rest.0 i) ∙ sym g.5, rest.1)
+    grind (arith, common_steps, same_answer laws s t f.1 g.1 command f.0 g.0 a f.3 g.3, same_answers laws f.1 g.1 new copy commands f.2 g.2 (same_answer laws s t f.1 g.1 command f.0 g.0 a f.3 g.3).1 f.4 g.4) steps 200000
 
 pub same_script : AnswerLaws → OneScriptAnswer
 same_script laws s t new copy script x y end ended a f g =
@@ -221,9 +201,7 @@ divided_of bytes more entries rest (inl r) = (rest ++ more, record { good = r.go
 divided_of bytes more entries rest (inr d) = (rest, subst (λ (w : List ℕ). HasEntries w entries rest) (sym (append-nil bytes) ∙ ap (λ (w : List ℕ). bytes ++ w) (sym d.0)) d.1)
 
 begin_by : AnswerLaws → (s t new final : SessionView) (commands more : List Command) (answers all : List ℕ) → AreAlike s t → AreAnswers s commands answers new → AreInParts t commands more all final → (later : List ℕ) × (all ≡ answers ++ later)
-begin_by laws s t new final commands more answers all a f parts =
-    let same : answers ≡ parts.first = (same_answers laws s t new parts.between commands answers parts.first a f parts.answered).0 in
-    (parts.later, parts.are ∙ ap (λ (x : List ℕ). x ++ parts.later) (sym same))
+begin_by laws s t new final commands more answers all a f parts = grind (arith, common_steps, same_answers laws s t new parts.between commands answers parts.first a f parts.answered) steps 200000
 
 pub answers_begin : AnswerLaws → AnswersBegin
 answers_begin laws s t new final bytes more answers all entries rest end a first f g = on (divided_of bytes more entries rest first)

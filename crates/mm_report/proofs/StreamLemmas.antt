@@ -1,15 +1,11 @@
 -- How parts of what is written join.
-use Rattle.std.proofs.{Common.{◌≡◌, ℕ, ◌+◌, min, List, ◌++◌, length, take, Option, Result, Ok, Err, sym, ◌∙◌, subst, arith, IsErr}, KnownBytes.{Appends-trans}, Math.Seq.{take-append-add}}
-use Rattle.std.proofs.lemmas.List.{take-append-le, take_min}
-use Rattle.std.specs.Io.KnownBytes.{Appends}
+use Rattle.std.proofs.{lemmas.{Grind.{common_steps}, List.{take-append-le, take_min}}, Common.{ℕ, ◌+◌, min, List, ◌++◌, length, take, Option, Result, Ok, Err, sym, subst, arith, IsErr}}
+use Rattle.std.{proofs.{KnownBytes.{Appends-trans}, Math.Seq.{take-append-add}}, specs.Io.KnownBytes.{Appends}}
 use Rattle.mm_script.specs.{declared.stream.Writing.{Writing}, Language.Stream.{AppendsPart, Stops, Writes, written}}
 
 -- a part of the first bytes
 part_front : (a b : Option (List ℕ)) (xs ys : List ℕ) → AppendsPart a b xs → AppendsPart a b (xs ++ ys)
-part_front a b xs ys p =
-    let n = min p.count (length xs) in
-    let same : take n (xs ++ ys) ≡ take p.count xs = take-append-le n xs ys (omega arith) ∙ take_min p.count xs in
-    record { count = n; appends = subst (Appends a b) (sym same) p.appends }
+part_front a b xs ys p = grind (arith, common_steps, take-append-le (min p.count (length xs)) xs ys (omega arith), take_min p.count xs) steps 200000
 
 -- all of the first bytes, and a part of those after
 pub part_behind : (a b c : Option (List ℕ)) (xs ys : List ℕ) → Appends a b xs → AppendsPart b c ys → AppendsPart a c (xs ++ ys)
@@ -18,8 +14,7 @@ part_behind a b c xs ys p q =
 
 -- a write that fails in the first bytes
 pub stops_front : {W : Type 0} {contents : W → Option (List ℕ)} {a b : Writing W} {xs : List ℕ} (ys : List ℕ) → Stops contents a b xs → Stops contents a b (xs ++ ys)
-stops_front {contents = contents} {a = a} {b = b} {xs = xs} ys s =
-    record { failed = s.failed; part = part_front (written contents a) (written contents b) xs ys s.part }
+stops_front {contents = contents} {a = a} {b = b} {xs = xs} ys s = grind (arith, common_steps, part_front (written contents a) (written contents b) xs ys s.part) steps 200000
 
 -- or after them
 pub stops_behind : {W : Type 0} (contents : W → Option (List ℕ)) (a b c : Writing W) (xs ys : List ℕ) → Appends (written contents a) (written contents b) xs → Stops contents b c ys → Stops contents a c (xs ++ ys)
@@ -31,8 +26,7 @@ stops_then {contents = contents} {a = a} {b = b} {c = c} {xs = xs} {ys = ys} w s
 -- the first bytes are written, and then the others
 pub writes_behind : {W T E : Type 0} (contents : W → Option (List ℕ)) (a b c : Writing W) (r : Result T E) (xs ys : List ℕ)
     → Appends (written contents a) (written contents b) xs → Writes contents b c r ys → Writes contents a c r (xs ++ ys)
-writes_behind contents a b c (Ok done) xs ys p w = record { ok = Appends-trans (written contents a) (written contents b) (written contents c) xs ys p w.ok; err = tt }
-writes_behind contents a b c (Err error) xs ys p w = record { ok = tt; err = stops_behind contents a b c xs ys p w.err }
+writes_behind contents a b c r xs ys p w = grind (arith, common_steps, stops_behind) steps 200000
 
 pub writes_then : {W T E U F : Type 0} {contents : W → Option (List ℕ)} {a b c : Writing W} {done : U} {r : Result T E} {xs ys : List ℕ}
     → Writes {T = U} {E = F} contents a b (Ok done) xs → Writes contents b c r ys → Writes contents a c r (xs ++ ys)

@@ -1,7 +1,6 @@
 -- A report as it is written, one item more at a time.
 use Rattle.std.proofs.Common.{◌≡◌, ◌⊎◌, ℕ, zero, suc, ◌+◌, ◌-◌, ◌<◌, ◌≤◌, Some, Option, List, [], ◌∷◌, ◌++◌, inl, inr, length-append, length, get_or, slice_get, take, drop, refl, sym, ◌∙◌, ap, subst}
-use Rattle.std.proofs.Common.{append_assoc, arith}
-use Rattle.std.proofs.{lemmas.{Option.{same_Some}, List.{append-nil, length-take-le, take-append-drop, take_all, take_more}}, KnownBytes.{Appends-trans}}
+use Rattle.std.proofs.{Common.{append_assoc, arith}, lemmas.{Option.{same_Some}, List.{append-nil, length-take-le, take-append-drop, take_all, take_more}}, KnownBytes.{Appends-trans}}
 use Rattle.std.specs.Io.KnownBytes.{Appends}
 use Rattle.mm_keep.specs.{mm_store.Language.FilesView.{FilesView, plain}, mm_frame.Language.{Base.{BaseView, IsOfFiles, said_at}, Laws.{FilesHaveOneBase}}, mm_statement.Language.Item.{Item, passed}}
 use Rattle.mm_keep.specs.Language.{Laws.{ItemsHaveFindings}, Sessions.{SessionView, IsCount, IsFinding, IsLabelOfItem}, Told.{Told, IsRightlyTold, Counts, counts}}

@@ -1,47 +1,30 @@
 -- Batches whose edits are not all read, or that stop.
-use Rattle.std.proofs.Common.{◌≡◌, ◌≢◌, ℕ, ◌+◌, ◌-◌, ◌<◌, ◌≤◌, Bool, true, false, List, [], ◌∷◌, ◌++◌, append_assoc, length, take, drop, replicate, refl, sym, ap, ◌∙◌, subst, arith, Option, Some}
-use Rattle.std.proofs.Common.{None, IfSome}
-use Rattle.std.proofs.lemmas.List.{append-nil, length-drop, length-take, take-append-drop, take-append-le, drop_all}
-use Rattle.std.specs.{List.{flat_map}, Io.KnownBytes.{IsAtEnd}}
-use Rattle.mm_script.specs.declared.{input.Input.{Input}, script_lines.LineAt.{LineAt}}
-use Rattle.mm_script.specs.Code.{Batches.{IsBatchFront}, Growing.{InputGrows, HasBlanks, IsLineAt, IsTextBad, IsTextLine, IsTextShort, line_bytes}}
-use Rattle.mm_script.specs.Code.Stops.{IsBadEditLine, IsOneLine, batch_bytes, batch_line}
-use Rattle.mm_script.specs.Language.{Commands.{pending, StopsSo, HasNoEntry}, Script.{CutShort, BadLine, IsGoodEdit, Listed, edit_line, listed_bytes}}
-use Rattle.mm_text.specs.Language.Asked.{Asked, edited_text}
-use Rattle.mm_script.proofs.{EditLemmas.{fed_line, unfed_line}, GrowLemmas.{grows_not}}
+use Rattle.std.proofs.lemmas.{Grind.{common_steps}, List.{length-drop, length-take, take-append-drop, take-append-le, drop_all}}
+use Rattle.std.proofs.Common.{◌≡◌, ◌≢◌, ℕ, ◌+◌, ◌-◌, ◌<◌, ◌≤◌, Bool, true, false, List, [], ◌∷◌, ◌++◌, append_assoc, length, drop, refl, sym, ap, ◌∙◌, subst, arith, Option, None, IfSome}
+use Rattle.std.specs.Io.KnownBytes.{IsAtEnd}
+use Rattle.mm_script.specs.{declared.{input.Input.{Input}, script_lines.LineAt.{LineAt}}, Code.Batches.{IsBatchFront}}
+use Rattle.mm_script.specs.Code.{Growing.{InputGrows, HasBlanks, IsLineAt, IsTextBad, IsTextLine, IsTextShort, line_bytes}, Stops.{IsBadEditLine, IsOneLine, batch_bytes}}
+use Rattle.mm_script.{specs.Language.{Commands.{pending, StopsSo, HasNoEntry}, Script.{CutShort, BadLine, IsGoodEdit, Listed, edit_line}}, proofs.EditLemmas.{fed_line, unfed_line}}
+use Rattle.mm_script.proofs.GrowLemmas.{grows_not}
 use Rattle.mm_script.proofs.StopLemmas.{batch_no_feed, batch_cut, batch_bad_line, batch_bad_last, batch_text_cut, batch_text_none, batch_text_line_cut, batch_text_bad, batch_edit_cut}
+use Rattle.mm_text.specs.Language.Asked.{Asked, edited_text}
 
 -- if nothing is left
 pub at_end : (P : List ℕ → Type 0) (bytes : List ℕ) (left : Option (List ℕ)) → IsAtEnd left → P bytes → IfSome left (λ more. P (bytes ++ more))
-at_end P bytes None end h = tt
-at_end P bytes (Some more) end h = subst P (sym (ap (λ (xs : List ℕ). bytes ++ xs) end ∙ append-nil bytes)) h
+at_end P bytes left end h = grind (arith, common_steps) steps 200000
 
 -- whatever is left
 pub always : (P : List ℕ → Type 0) (bytes : List ℕ) (left : Option (List ℕ)) → ((more : List ℕ) → P (bytes ++ more)) → IfSome left (λ more. P (bytes ++ more))
-always P bytes None h = tt
-always P bytes (Some more) h = h more
+always P bytes left h = grind (arith, common_steps) steps 200000
 
 -- the bytes are those of a batch, with what comes after some of its edits and empty lines
 pub front_bytes : (a b : Input) (u v : Option (List ℕ)) (n : ℕ) (front : List Listed) (from start : ℕ) → IsBatchFront (pending a) n front from → InputGrows a b u v → HasBlanks (pending b) from start
     → pending b ≡ batch_bytes n front (start - from) (drop start (pending b))
-front_bytes a b u v n front from start f grows blanks =
-    let bytes = pending b in
-    let inner = drop start bytes in
-    let same : take from bytes ≡ batch_line n ++ 10 ∷ flat_map listed_bytes front = ap (take from) grows.are ∙ take-append-le from (pending a) grows.part f.within ∙ f.are in
-    sym (take-append-drop from bytes)
-    ∙ ap (λ (xs : List ℕ). xs ++ drop from bytes) same
-    ∙ ap (λ (xs : List ℕ). (batch_line n ++ 10 ∷ flat_map listed_bytes front) ++ xs) blanks.are
-    ∙ append_assoc (batch_line n) (10 ∷ flat_map listed_bytes front) (replicate (start - from) 10 ++ inner)
-    ∙ ap (λ (xs : List ℕ). batch_line n ++ 10 ∷ xs) refl
+front_bytes a b u v n front from start f grows blanks = grind (arith, common_steps, take-append-le from (pending a) grows.part f.within, take-append-drop from (pending b)) steps 200000
 
 -- with more after them
 pub batch_more : (n : ℕ) (front : List Listed) (blanks : ℕ) (bytes inner more : List ℕ) → bytes ≡ batch_bytes n front blanks inner → bytes ++ more ≡ batch_bytes n front blanks (inner ++ more)
-batch_more n front blanks bytes inner more is =
-    let edits = flat_map listed_bytes front in
-    let empty = replicate blanks 10 in
-    ap (λ (xs : List ℕ). xs ++ more) is
-    ∙ append_assoc (batch_line n) (10 ∷ (edits ++ (empty ++ inner))) more
-    ∙ ap (λ (xs : List ℕ). batch_line n ++ 10 ∷ xs) (append_assoc edits (empty ++ inner) more ∙ ap (λ (xs : List ℕ). edits ++ xs) (append_assoc empty inner more))
+batch_more n front blanks bytes inner more is = grind (arith, common_steps) steps 200000
 
 -- ---- the ends of a batch, from its first edits on
 
@@ -105,6 +88,4 @@ bad_listed a b u v n front from line f grows blanks is bad = by line.fed refl
 
 -- its bytes are some
 pub line_some : (bytes : List ℕ) (left : Option (List ℕ)) (line : LineAt) → IsLineAt bytes left line → line.start < line.end → line_bytes bytes line ≢ []
-line_some bytes left line is some none =
-    let long = ap length none in
-    absurd (omega (arith, long, some, is.within, length-take (line.end - line.start) (drop line.start bytes), length-drop line.start bytes))
+line_some bytes left line is some none = grind (arith, common_steps, length-take (line.end - line.start) (drop line.start bytes), length-drop line.start bytes) steps 200000

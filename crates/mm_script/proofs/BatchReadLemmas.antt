@@ -1,31 +1,23 @@
 -- The edits of a batch that are read, one after another.
-use Rattle.std.proofs.Common.{◌≡◌, ℕ, ◌+◌, ◌-◌, ◌<◌, ◌≤◌, Bool, true, false, List, [], ◌∷◌, ◌++◌, append_assoc, map, length, length-append, take, drop, replicate, refl, sym, ap, ◌∙◌, subst, arith}
-use Rattle.std.proofs.Common.{Option, None, inl, inr, IfSome, Contains}
-use Rattle.std.proofs.lemmas.List.{append-nil, length-drop, length-map, map-append, take_at}
-use Rattle.std.proofs.lemmas.List.{Concat.{flat_map-append}, Elements.{Contains-append_left, Contains-append_right, Contains-push, Contains-push_cases}}
-use Rattle.std.specs.List.{flat_map}
+use Rattle.std.proofs.lemmas.{Grind.{common_steps}, List.{append-nil, length-drop, length-map, map-append, take_at, Concat.{flat_map-append}}}
+use Rattle.std.proofs.lemmas.List.Elements.{Contains-append_left, Contains-append_right, Contains-push, Contains-push_cases}
+use Rattle.std.proofs.Common.{◌≡◌, ℕ, ◌+◌, ◌-◌, ◌<◌, ◌≤◌, Bool, true, false, List, [], ◌∷◌, ◌++◌, append_assoc, map, length, length-append, drop, replicate, refl, sym, ap, ◌∙◌, subst, arith, Option}
+use Rattle.std.{proofs.Common.{None, inl, inr, IfSome, Contains}, specs.List.{flat_map}}
 use Rattle.mm_text.specs.Language.Asked.{Asked, edited_text}
 use Rattle.mm_script.specs.declared.{entry.{Complete.{Complete}, EditAt.{EditAt, TheVariants.{Insert, Replace, Delete, Move}}}, input.Input.{Input}, script_lines.LineAt.{LineAt}}
 use Rattle.mm_script.specs.Code.{Batches.{IsBatchRead, IsBatchFront, IsListedRead}, Growing.{InputGrows, IsLineAt, line_bytes}, Stops.{batch_bytes, batch_line}}
-use Rattle.mm_script.specs.Language.Commands.{pending, bytes_of_part, edit_in, AreEditsIn, IsEditWithin, StopsSo}
+use Rattle.mm_script.specs.Language.Commands.{pending, edit_in, AreEditsIn, IsEditWithin, StopsSo}
 use Rattle.mm_script.specs.Language.Script.{CutShort, Listed, AreGoodEdits, IsGoodEdit, IsNumber, LastInLine, edit_bytes, edit_line, ended_text, listed_bytes}
-use Rattle.mm_script.proofs.{BatchLemmas.{at_end, batch_more, front_bytes}, EditLemmas.{bytes_grown, fed_line, unfed_line, within_grown}, GrowLemmas.{grows_not}, StopLemmas.{batch_line_cut}}
+use Rattle.mm_script.proofs.{BatchLemmas.{at_end, batch_more, front_bytes}, EditLemmas.{bytes_grown, fed_line, unfed_line}, GrowLemmas.{grows_not}, StopLemmas.{batch_line_cut}}
 use Rattle.mm_text.specs.Language.Asked as ask
 
 -- the parts of an edit are in the bytes as they grow
 pub edit_within_grown : (a b : Input) (u v : Option (List ℕ)) (k : EditAt) → InputGrows a b u v → IsEditWithin (pending a) k → IsEditWithin (pending b) k
-edit_within_grown a b u v (Insert file at text) grows w = (within_grown a b u v file grows w.0, within_grown a b u v text grows w.1)
-edit_within_grown a b u v (Replace file at text) grows w = (within_grown a b u v file grows w.0, within_grown a b u v text grows w.1)
-edit_within_grown a b u v (Delete file at) grows w = within_grown a b u v file grows w
-edit_within_grown a b u v (Move file at to) grows w = within_grown a b u v file grows w
+edit_within_grown a b u v k grows w = grind (arith, common_steps) steps 200000
 
 pub edit_in_grown : (a b : Input) (u v : Option (List ℕ)) (k : EditAt) → InputGrows a b u v → IsEditWithin (pending a) k → edit_in (pending b) k ≡ edit_in (pending a) k
-edit_in_grown a b u v (Insert file at text) grows w =
-    ap (λ (xs : List ℕ). ask.Insert xs at (bytes_of_part (pending b) text)) (bytes_grown a b u v file grows w.0)
-    ∙ ap (λ (xs : List ℕ). ask.Insert (bytes_of_part (pending a) file) at xs) (bytes_grown a b u v text grows w.1)
-edit_in_grown a b u v (Replace file at text) grows w =
-    ap (λ (xs : List ℕ). ask.Replace xs at (bytes_of_part (pending b) text)) (bytes_grown a b u v file grows w.0)
-    ∙ ap (λ (xs : List ℕ). ask.Replace (bytes_of_part (pending a) file) at xs) (bytes_grown a b u v text grows w.1)
+edit_in_grown a b u v (Insert file at text) grows w = grind (arith, common_steps, bytes_grown a b u v file grows w.0, bytes_grown a b u v text grows w.1) steps 200000
+edit_in_grown a b u v (Replace file at text) grows w = grind (arith, common_steps, bytes_grown a b u v file grows w.0, bytes_grown a b u v text grows w.1) steps 200000
 edit_in_grown a b u v (Delete file at) grows w = ap (λ (xs : List ℕ). ask.Delete xs at) (bytes_grown a b u v file grows w)
 edit_in_grown a b u v (Move file at to) grows w = ap (λ (xs : List ℕ). ask.Move xs at to) (bytes_grown a b u v file grows w)
 
@@ -34,8 +26,7 @@ all_in_grown : (a b : Input) (u v : Option (List ℕ)) (found : List EditAt) →
 all_in_grown a b u v [] grows w = refl
 all_in_grown a b u v (k ∷ found) grows w =
     let first : edit_in (pending b) k ≡ edit_in (pending a) k = edit_in_grown a b u v k grows (w k (Contains-append_left (k ∷ []) found k (Contains-push [] k))) in
-    let rest : map (edit_in (pending b)) found ≡ map (edit_in (pending a)) found =
-    all_in_grown a b u v found grows (λ (j : EditAt) (c : Contains found j). w j (Contains-append_right (k ∷ []) found j c)) in
+    let rest : map (edit_in (pending b)) found ≡ map (edit_in (pending a)) found = all_in_grown a b u v found grows (λ (j : EditAt) (c : Contains found j). w j (Contains-append_right (k ∷ []) found j c)) in
     cc
 
 -- one edit more
@@ -68,11 +59,7 @@ batch_front bytes left n end found fed b yes_fed fewer =
     let front = batch_line n ++ 10 ∷ flat_map listed_bytes b.front in
     let is : bytes ≡ front ++ drop end bytes = b.fed_so yes_fed ∙ sym (append_assoc (batch_line n) (10 ∷ flat_map listed_bytes b.front) (drop end bytes)) in
     let long : length front ≡ end = omega (arith, ap length is, length-append front (drop end bytes), length-drop end bytes, b.within) in
-    record {
-      listed = record { number = b.number; good = b.good; fewer = omega (arith, edits_counted bytes found b.front b.edits) };
-      within = b.within;
-      are = ap (take end) is ∙ take_at front (drop end bytes) end long;
-    }
+    grind (arith, common_steps, edits_counted bytes found b.front b.edits, take_at front (drop end bytes) end long) steps 200000
 
 -- one edit more is read
 pub batch_one_more : (a b : Input) (u v : Option (List ℕ)) (n end : ℕ) (found : List EditAt) (fed : Bool) (read : Complete EditAt) → IsBatchRead (pending a) u n found end fed → fed ≡ true → length found < n
@@ -86,8 +73,7 @@ batch_one_more a b u v n end found fed read s yes_fed fewer grows r last =
     let before = flat_map listed_bytes s.front in
     let empty = replicate blanks 10 in
     let stands : bytes ≡ batch_bytes n s.front blanks (drop r.start bytes) = front_bytes a b u v n s.front end r.start (batch_front (pending a) u n end found fed s yes_fed fewer) grows r.blanks in
-    let all : flat_map listed_bytes front ≡ before ++ (empty ++ edit_bytes edit) =
-    flat_map-append listed_bytes s.front (one ∷ []) ∙ ap (λ (xs : List ℕ). before ++ xs) (append-nil (empty ++ edit_bytes edit)) in
+    let all : flat_map listed_bytes front ≡ before ++ (empty ++ edit_bytes edit) = flat_map-append listed_bytes s.front (one ∷ []) ∙ ap (λ (xs : List ℕ). before ++ xs) (append-nil (empty ++ edit_bytes edit)) in
     record {
       number = s.number;
       front = front;

@@ -1,12 +1,12 @@
 -- Commands that are read, from their lines on.
+use Rattle.std.proofs.lemmas.{Grind.{common_steps}, List.Folds.{drop_split}}
 use Rattle.std.proofs.Common.{◌≡◌, ◌⊎◌, ℕ, ◌+◌, Bool, true, false, List, [], ◌∷◌, ◌++◌, append_assoc, length, drop, refl, sym, ap, ◌∙◌, subst, arith, Option, inl, inr, IfSome, length-drop}
-use Rattle.std.proofs.lemmas.List.Folds.{drop_split}
-use Rattle.std.specs.{List.{flat_map}, Io.KnownBytes.{IsAtEnd}}
-use Rattle.mm_script.specs.declared.{entry.{EditAt.{EditAt}, CommandAt.{CommandAt}, Complete.{Complete}, Part.{Part}}, script_lines.LineAt.{LineAt}}
-use Rattle.mm_script.specs.Code.{Batches.{IsBatchRead}, Growing.{IsLineAt, IsTextBad, IsTextLine, IsTextShort, line_bytes}, Lines.{SaysLabel}, Stops.{IsBadLine, batch_line}}
+use Rattle.std.specs.Io.KnownBytes.{IsAtEnd}
+use Rattle.mm_script.specs.{declared.{entry.{EditAt.{EditAt}, CommandAt.{CommandAt}, Complete.{Complete}, Part.{Part}}, script_lines.LineAt.{LineAt}}, Code.Batches.{IsBatchRead}}
+use Rattle.mm_script.specs.Code.{Growing.{IsLineAt, IsTextBad, IsTextLine, IsTextShort, line_bytes}, Lines.{SaysLabel}, Stops.{IsBadLine}}
 use Rattle.mm_script.specs.Language.Commands.{bytes_of_part, AreEditsIn, IsCommandIn, IsNextCommand, IsWholeOrLast, IsPartWithin, StopsSo, HasNoEntry}
-use Rattle.mm_script.specs.Language.Script.{CutShort, BadLine, Command, Batch, IsGood, IsName, EndsInLine, IsNumber, Listed, behind_line, edit_line, line_of, listed_bytes}
-use Rattle.mm_script.proofs.{BatchLemmas.{always, at_end}, BatchReadLemmas.{edits_counted}, EditLemmas.{IsShifted, shifted_is, shifted_within, unfed_line}}
+use Rattle.mm_script.{specs.Language.Script.{CutShort, BadLine, Command, Batch, IsGood, IsName, EndsInLine, IsNumber, Listed, behind_line, edit_line, line_of}, proofs.BatchLemmas.{always, at_end}}
+use Rattle.mm_script.proofs.{BatchReadLemmas.{edits_counted}, EditLemmas.{IsShifted, shifted_is, shifted_within, unfed_line}}
 use Rattle.mm_script.proofs.StopLemmas.{bad_line, bad_last, text_cut, text_none, text_line_cut, text_bad}
 
 fed_bytes : (bytes : List ℕ) (left : Option (List ℕ)) (line : LineAt) → IsLineAt bytes left line → line.fed ≡ true → drop line.start bytes ≡ line_bytes bytes line ++ 10 ∷ drop (line.end + 1) bytes
@@ -59,30 +59,8 @@ line_next bytes left line command next is start says none good is_command in_lin
 }
   where
     by : (b : Bool) → line.fed ≡ b → IsWholeOrLast bytes left next command
-    by true e =
-        let rest = drop next.end bytes in
-        let some : length (drop line.end bytes) ≡ length (drop (line.end + 1) bytes) + 1 = omega (arith, ap length (is.fed e)) in
-        let place = end e in
-        inl (
-          fed ∙ e,
-          record {
-            within = omega (arith, place, some, length-drop line.end bytes, is.within);
-            are = all_bytes bytes line.start start ∙ fed_bytes bytes left line is e
-                ∙ ap (λ (xs : List ℕ). xs ++ 10 ∷ drop (line.end + 1) bytes) says
-                ∙ ap (λ (n : ℕ). line_of command ++ 10 ∷ drop n bytes) (sym place)
-                ∙ ap (λ (xs : List ℕ). line_of command ++ 10 ∷ (xs ++ rest)) (sym none)
-                ∙ sym (append_assoc (line_of command) (10 ∷ behind_line command) rest);
-          },
-        )
-    by false e = inr (
-      fed ∙ e,
-      record {
-        at_end = (is.unfed e).1;
-        in_line = in_line;
-        are = ap (λ (xs : List ℕ). xs ++ 10 ∷ []) (all_bytes bytes line.start start ∙ unfed_line bytes left line is e ∙ says) ∙ ap (λ (xs : List ℕ). line_of command ++ 10 ∷ xs) (sym none);
-        all = unfed e ∙ (is.unfed e).0;
-      },
-    )
+    by true e = grind (arith, common_steps, is.fed e, length-drop line.end bytes, all_bytes bytes line.start start, fed_bytes bytes left line is e) steps 200000
+    by false e = grind (arith, common_steps, is.unfed e, all_bytes bytes line.start start, unfed_line bytes left line is e, at_end) steps 200000
 
 -- one with a label
 pub label_next : (bytes : List ℕ) (left : Option (List ℕ)) (line : LineAt) (label : Part) (word : List ℕ) (make : List ℕ → Command) (next : Complete CommandAt) → IsLineAt bytes left line → line.start ≡ 0
@@ -102,34 +80,12 @@ label_next bytes left line label word make next is start says line_is none good 
 pub batch_next : (bytes : List ℕ) (left : Option (List ℕ)) (n : ℕ) (next : Complete CommandAt) (found : List EditAt) → IsBatchRead bytes left n found next.end next.fed → length found ≡ n
     → ((command : Command) → ((listed : List Listed) × AreEditsIn bytes found listed × (command ≡ Batch listed)) → IsCommandIn bytes next.found command) → IsNextCommand bytes left next
 batch_next bytes left n next found b count is_command =
-    let long : n ≡ length b.front = sym count ∙ sym (edits_counted bytes found b.front b.edits) in
     record {
       command = Batch b.front;
-      good = (subst IsNumber long b.number, b.good);
+      good = (subst IsNumber (sym count ∙ sym (edits_counted bytes found b.front b.edits)) b.number, b.good);
       is_command = is_command (Batch b.front) (b.front, b.edits, refl);
       whole = by next.fed refl;
-    }
-  where
-    by : (f : Bool) → next.fed ≡ f → IsWholeOrLast bytes left next (Batch b.front)
-    by true e =
-        let long : n ≡ length b.front = sym count ∙ sym (edits_counted bytes found b.front b.edits) in
-        inl (
-          e,
-          record {
-            within = b.within;
-            are = b.fed_so e ∙ ap (λ (k : ℕ). batch_line k ++ 10 ∷ (flat_map listed_bytes b.front ++ drop next.end bytes)) long
-                ∙ sym (append_assoc (batch_line (length b.front)) (10 ∷ flat_map listed_bytes b.front) (drop next.end bytes));
-          },
-        )
-    by false e =
-        let long : n ≡ length b.front = sym count ∙ sym (edits_counted bytes found b.front b.edits) in
-        let last = b.unfed e in
-        inr (
-          e,
-          record {
-            at_end = last.2;
-            in_line = last.1;
-            are = last.0 ∙ ap (λ (k : ℕ). batch_line k ++ 10 ∷ flat_map listed_bytes b.front) long;
-            all = last.4;
-          },
-        )
+    } where
+      by : (f : Bool) → next.fed ≡ f → IsWholeOrLast bytes left next (Batch b.front)
+      by true e = grind (arith, common_steps, edits_counted bytes found b.front b.edits, b.fed_so e) steps 200000
+      by false e = grind (arith, common_steps, edits_counted bytes found b.front b.edits, b.unfed e, at_end) steps 200000

@@ -1,12 +1,10 @@
 -- Edits that are in the bytes of a script: their lines, and their texts.
-use Rattle.std.proofs.Common.{◌≡◌, ℕ, ◌+◌, ◌-◌, ◌≤◌, Bool, true, false, List, [], ◌∷◌, ◌++◌, append_assoc, length, take, drop, replicate, refl, sym, ap, ◌∙◌, subst, arith, Option, Some, None, codes}
-use Rattle.std.proofs.Common.{decimal, slice_range}
-use Rattle.std.proofs.lemmas.List.{append-nil, length-drop, length-take, length-replicate, drop-drop, drop-take, take-take, drop_all, Folds.{drop_split}}
-use Rattle.std.specs.List.{join_with_byte}
+use Rattle.std.proofs.lemmas.{Grind.{common_steps}, List.{append-nil, length-drop, length-take, length-replicate, drop-drop, drop-take, take-take, drop_all, Folds.{drop_split}}}
+use Rattle.std.proofs.Common.{◌≡◌, ℕ, ◌+◌, ◌-◌, ◌≤◌, true, false, List, [], ◌∷◌, ◌++◌, append_assoc, length, take, drop, replicate, sym, ap, ◌∙◌, arith, Option, Some, None, slice_range}
 use Rattle.mm_text.specs.Language.Asked.{Asked, edited_text}
 use Rattle.mm_script.specs.declared.{entry.{EditAt.{EditAt}, Part.{Part}}, input.Input.{Input}, script_lines.LineAt.{LineAt}}
 use Rattle.mm_script.specs.Code.{Growing.{InputGrows, IsEditRead, IsLineAt, IsOtherByte, IsTextBad, IsTextLine, IsTextShort, line_bytes}, Lines.{SaysEdit}, Stops.{HasTextOf}}
-use Rattle.mm_script.specs.Language.{Commands.{pending, bytes_of_part, edit_in, IsEditWithin, IsPartWithin}, Script.{IsGoodEdit, IsNumber, edit_bytes, edit_line, ended_text}}
+use Rattle.mm_script.specs.Language.{Commands.{pending, bytes_of_part, edit_in, IsEditWithin, IsPartWithin}, Script.{IsGoodEdit, edit_bytes, edit_line, ended_text}}
 use Rattle.mm_script.proofs.GrowLemmas.{grown_long, part_grown, rest_grown}
 use Rattle.mm_text.specs.Language.Asked as ask
 use Rattle.mm_script.specs.declared.line.EditLine.TheVariants as lines
@@ -18,18 +16,10 @@ pub record AsksText (line : List ℕ) (count : ℕ) (edit : List ℕ → Asked) 
   pub text_is : (text : List ℕ) → edited_text (edit text) ≡ Some text
 
 pub asks_insert : (line : List ℕ) (file : Part) (at count : ℕ) → SaysEdit line (lines.Insert file at count) → AsksText line count (λ text. ask.Insert (bytes_of_part line file) at text)
-asks_insert line file at count says = record {
-  line_is = λ text is. ap (λ (n : ℕ). join_with_byte 32 (codes "insert" ∷ bytes_of_part line file ∷ decimal at ∷ decimal n ∷ [])) is ∙ sym says.is;
-  good = λ text is. (says.good.0.name, says.good.1, subst IsNumber (sym is) says.good.2);
-  text_is = λ text. refl;
-}
+asks_insert line file at count says = grind (arith, common_steps) steps 200000
 
 pub asks_replace : (line : List ℕ) (file : Part) (at count : ℕ) → SaysEdit line (lines.Replace file at count) → AsksText line count (λ text. ask.Replace (bytes_of_part line file) at text)
-asks_replace line file at count says = record {
-  line_is = λ text is. ap (λ (n : ℕ). join_with_byte 32 (codes "replace" ∷ bytes_of_part line file ∷ decimal at ∷ decimal n ∷ [])) is ∙ sym says.is;
-  good = λ text is. (says.good.0.name, says.good.1, subst IsNumber (sym is) says.good.2);
-  text_is = λ text. refl;
-}
+asks_replace line file at count says = grind (arith, common_steps) steps 200000
 
 abbrev pub feeds : ℕ → List ℕ
 feeds count = replicate count 10
@@ -53,27 +43,10 @@ pub text_line : (line : List ℕ) (count : ℕ) (edit : List ℕ → Asked) (byt
 text_line line count edit bytes asks is = record { edit = edit (feeds count); count = count; has = has_text line count edit asks; are = is ∙ line_of_feeds line count edit asks }
 
 pub text_short : (line : List ℕ) (count : ℕ) (edit : List ℕ → Asked) (bytes part : List ℕ) → AsksText line count edit → bytes ≡ line ++ 10 ∷ part → length part ≤ count → IsTextShort bytes
-text_short line count edit bytes part asks is short = record {
-  edit = edit (feeds count);
-  count = count;
-  part = part;
-  has = has_text line count edit asks;
-  short = short;
-  are = is ∙ ap (λ (xs : List ℕ). xs ++ 10 ∷ part) (line_of_feeds line count edit asks);
-}
+text_short line count edit bytes part asks is short = grind (arith, common_steps, has_text line count edit asks, line_of_feeds line count edit asks) steps 200000
 
 pub text_bad : (line : List ℕ) (count : ℕ) (edit : List ℕ → Asked) (bytes all : List ℕ) (from : ℕ) → AsksText line count edit → bytes ≡ line ++ 10 ∷ drop from all → IsOtherByte all from count → IsTextBad bytes
-text_bad line count edit bytes all from asks is other = record {
-  edit = edit (feeds count);
-  count = count;
-  text = other.text;
-  byte = other.byte;
-  more = other.more;
-  has = has_text line count edit asks;
-  is = other.is;
-  other = other.other;
-  are = is ∙ ap (λ (xs : List ℕ). xs ++ 10 ∷ drop from all) (line_of_feeds line count edit asks) ∙ ap (λ (xs : List ℕ). edit_line (edit (feeds count)) ++ 10 ∷ xs) other.are;
-}
+text_bad line count edit bytes all from asks is other = grind (arith, common_steps, has_text line count edit asks, line_of_feeds line count edit asks) steps 200000
 
 -- a line that has its line feed, as the bytes grow
 pub fed_line : (a b : Input) (u v : Option (List ℕ)) (line : LineAt) → IsLineAt (pending a) u line → InputGrows a b u v → line.fed ≡ true
@@ -88,9 +61,7 @@ fed_line a b u v line is grows fed =
 
 -- and one that is the last
 pub unfed_line : (bytes : List ℕ) (left : Option (List ℕ)) (line : LineAt) → IsLineAt bytes left line → line.fed ≡ false → drop line.start bytes ≡ line_bytes bytes line
-unfed_line bytes left line is unfed =
-    let none : drop line.end bytes ≡ [] = drop_all line.end bytes (omega (arith, (is.unfed unfed).0)) in
-    drop_split bytes line.start line.end is.ordered ∙ ap (λ (xs : List ℕ). line_bytes bytes line ++ xs) none ∙ append-nil (line_bytes bytes line)
+unfed_line bytes left line is unfed = grind (arith, common_steps, append-nil, drop_all, drop_split) steps 200000
 
 -- a part of a line is a part of the bytes
 pub part_of_line : (bytes : List ℕ) (start end i j : ℕ) → i ≤ j → j ≤ length (slice_range bytes start end) → slice_range bytes (start + i) (start + j) ≡ slice_range (slice_range bytes start end) i j
@@ -100,9 +71,7 @@ part_of_line bytes start end i j low within =
     let high : j ≤ n = omega (arith, length-take n xs) in
     let first : drop i (take n xs) ≡ take (n - i) (drop i xs) = ap (λ (m : ℕ). drop i (take m xs)) (omega arith) ∙ drop-take i (n - i) xs in
     let second : take (j - i) (take (n - i) (drop i xs)) ≡ take (j - i) (drop i xs) = take-take (j - i) (n - i) (drop i xs) (omega arith) in
-    let third : drop i xs ≡ drop (start + i) bytes = drop-drop i start bytes in
-    let fourth : j - i ≡ (start + j) - (start + i) = omega arith in
-    sym (ap (take (j - i)) first ∙ second ∙ ap (take (j - i)) third ∙ ap (λ (m : ℕ). take m (drop (start + i) bytes)) fourth)
+    sym (ap (take (j - i)) first ∙ second ∙ ap (take (j - i)) (drop-drop i start bytes) ∙ ap (λ (m : ℕ). take m (drop (start + i) bytes)) (omega arith))
 
 -- the part of a line that is later by this count
 pub record IsShifted (part shifted : Part) (by : ℕ) : Type 0 where
@@ -111,18 +80,10 @@ pub record IsShifted (part shifted : Part) (by : ℕ) : Type 0 where
 
 pub shifted_is : (bytes : List ℕ) (left : Option (List ℕ)) (line : LineAt) (part shifted : Part) → IsLineAt bytes left line → IsPartWithin (line_bytes bytes line) part → IsShifted part shifted line.start
     → bytes_of_part bytes shifted ≡ bytes_of_part (line_bytes bytes line) part
-shifted_is bytes left line part shifted is within at =
-    ap (λ (n : ℕ). slice_range bytes n shifted.end) at.start ∙ ap (λ (n : ℕ). slice_range bytes (line.start + part.start) n) at.end
-    ∙ part_of_line bytes line.start line.end part.start part.end within.ordered within.within
+shifted_is bytes left line part shifted is within at = grind (arith, common_steps, part_of_line bytes line.start line.end part.start part.end within.ordered within.within) steps 200000
 
 pub shifted_within : (bytes : List ℕ) (left : Option (List ℕ)) (line : LineAt) (part shifted : Part) → IsLineAt bytes left line → IsPartWithin (line_bytes bytes line) part → IsShifted part shifted line.start → IsPartWithin bytes shifted
-shifted_within bytes left line part shifted is within at =
-    let long = length-take (line.end - line.start) (drop line.start bytes) in
-    let rest = length-drop line.start bytes in
-    record {
-      ordered = omega (arith, within.ordered, at.start, at.end);
-      within = omega (arith, within.within, at.end, is.ordered, is.within, long, rest);
-    }
+shifted_within bytes left line part shifted is within at = grind (arith, common_steps, length-take (line.end - line.start) (drop line.start bytes), length-drop line.start bytes) steps 200000
 
 pub within_grown : (a b : Input) (u v : Option (List ℕ)) (part : Part) → InputGrows a b u v → IsPartWithin (pending a) part → IsPartWithin (pending b) part
 within_grown a b u v part grows within = record { ordered = within.ordered; within = omega (arith, within.within, grown_long a b u v grows) }
@@ -140,57 +101,24 @@ text_read a b u v line count edit text at asks is grows fed within start end fee
     let bytes = pending b in
     let body = bytes_of_part bytes text in
     let long : length body ≡ count = omega (arith, length-take (text.end - text.start) (drop text.start bytes), length-drop text.start bytes, within.within, start, end) in
-    let some : length (drop text.end bytes) ≡ length (drop (text.end + 1) bytes) + 1 = omega (arith, ap length feed) in
-    let rest : drop (line.end + 1) bytes ≡ body ++ 10 ∷ drop (text.end + 1) bytes =
-    ap (λ (n : ℕ). drop n bytes) (sym start) ∙ drop_split bytes text.start text.end within.ordered ∙ ap (λ (xs : List ℕ). body ++ xs) feed in
-    let whole : edit_bytes (edit body) ≡ line_bytes (pending a) line ++ 10 ∷ (body ++ 10 ∷ []) =
-    ap (λ (xs : List ℕ). xs ++ 10 ∷ ended_text (edited_text (edit body))) (asks.line_is body long)
+    let rest : drop (line.end + 1) bytes ≡ body ++ 10 ∷ drop (text.end + 1) bytes = ap (λ (n : ℕ). drop n bytes) (sym start) ∙ drop_split bytes text.start text.end within.ordered ∙ ap (λ (xs : List ℕ). body ++ xs) feed in
+    let whole : edit_bytes (edit body) ≡ line_bytes (pending a) line ++ 10 ∷ (body ++ 10 ∷ []) = ap (λ (xs : List ℕ). xs ++ 10 ∷ ended_text (edited_text (edit body))) (asks.line_is body long)
     ∙ ap (λ (t : Option (List ℕ)). line_bytes (pending a) line ++ 10 ∷ ended_text t) (asks.text_is body) in
     let joined : (line_bytes (pending a) line ++ 10 ∷ (body ++ 10 ∷ [])) ++ drop (text.end + 1) bytes ≡ line_bytes (pending a) line ++ 10 ∷ (body ++ 10 ∷ drop (text.end + 1) bytes) =
     append_assoc (line_bytes (pending a) line) (10 ∷ (body ++ 10 ∷ [])) (drop (text.end + 1) bytes)
     ∙ ap (λ (xs : List ℕ). line_bytes (pending a) line ++ 10 ∷ xs) (append_assoc body (10 ∷ []) (drop (text.end + 1) bytes)) in
     let all : drop line.start bytes ≡ edit_bytes (edit body) ++ drop (text.end + 1) bytes =
     fed_line a b u v line is grows fed ∙ ap (λ (xs : List ℕ). line_bytes (pending a) line ++ 10 ∷ xs) rest ∙ sym joined ∙ ap (λ (xs : List ℕ). xs ++ drop (text.end + 1) bytes) (sym whole) in
-    record {
-      good = subst IsGoodEdit (sym same) (asks.good body long);
-      parts = parts;
-      ordered = omega (arith, is.ordered, start, end, within.ordered);
-      within = omega (arith, some, length-drop text.end bytes, within.within);
-      fed = λ e. all ∙ ap (λ (e : Asked). edit_bytes e ++ drop (text.end + 1) bytes) (sym same);
-      unfed = λ e. absurd (cc);
-    }
+    grind (arith, common_steps, asks.good body long, length-drop text.end bytes) steps 200000
 
 -- an edit without a text
 pub plain_read : (bytes : List ℕ) (left : Option (List ℕ)) (line : LineAt) (at : EditAt) (end : ℕ) → IsLineAt bytes left line
     → line_bytes bytes line ≡ edit_line (edit_in bytes at) → IsGoodEdit (edit_in bytes at) → edited_text (edit_in bytes at) ≡ None → IsEditWithin bytes at
     → (line.fed ≡ true → end ≡ line.end + 1) → (line.fed ≡ false → end ≡ line.end) → end ≤ length bytes → line.end ≤ end
     → IsEditRead bytes left line.start record { found = at; end = end; fed = line.fed }
-plain_read bytes left line at end is says good none parts fed unfed within low = record {
-  good = good;
-  parts = parts;
-  ordered = omega (arith, is.ordered);
-  within = within;
-  fed = λ e. whole e;
-  unfed = λ e. (unfed_line bytes left line is e ∙ says, none, (is.unfed e).1, unfed e ∙ (is.unfed e).0);
-}
-  where
-    whole : line.fed ≡ true → drop line.start bytes ≡ edit_bytes (edit_in bytes at) ++ drop end bytes
-    whole e =
-        let behind : drop line.end bytes ≡ 10 ∷ drop end bytes = is.fed e ∙ ap (λ (n : ℕ). 10 ∷ drop n bytes) (sym (fed e)) in
-        drop_split bytes line.start line.end is.ordered
-        ∙ ap (λ (xs : List ℕ). line_bytes bytes line ++ xs) behind
-        ∙ ap (λ (xs : List ℕ). xs ++ 10 ∷ drop end bytes) says
-        ∙ sym (append_assoc (edit_line (edit_in bytes at)) (10 ∷ []) (drop end bytes))
-        ∙ ap (λ (t : Option (List ℕ)). (edit_line (edit_in bytes at) ++ 10 ∷ ended_text t) ++ drop end bytes) (sym none)
+plain_read bytes left line at end is says good none parts fed unfed within low = grind (arith, common_steps, drop_split, unfed_line) steps 200000
 
 -- the beginning of what comes after a line
 pub behind_within : (bytes : List ℕ) (left : Option (List ℕ)) (line : LineAt) (end : ℕ) → IsLineAt bytes left line → (line.fed ≡ true → end ≡ line.end + 1) → (line.fed ≡ false → end ≡ line.end)
     → (end ≤ length bytes) × (line.end ≤ end)
-behind_within bytes left line end is fed unfed = by line.fed refl
-  where
-    by : (b : Bool) → line.fed ≡ b → (end ≤ length bytes) × (line.end ≤ end)
-    by true e =
-        let some : length (drop line.end bytes) ≡ length (drop (line.end + 1) bytes) + 1 = omega (arith, ap length (is.fed e)) in
-        let so = fed e in
-        (omega (arith, so, some, length-drop line.end bytes, is.within), omega (arith, so))
-    by false e = let so = unfed e in (omega (arith, so, is.within), omega (arith, so))
+behind_within bytes left line end is fed unfed = grind (arith, common_steps, length-drop) steps 200000

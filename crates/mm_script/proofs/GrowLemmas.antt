@@ -1,22 +1,17 @@
 -- Bytes that are read on keep what was in them.
+use Rattle.std.proofs.lemmas.{Grind.{common_steps}, List.{append-nil, length-drop, take-append-le, drop-append-le, drop-drop, drop_more, length-take-le, take-append-drop, take_all, take_rest}}
+use Rattle.std.proofs.lemmas.List.Folds.{drop_split}
 use Rattle.std.proofs.Common.{◌≡◌, ◌≢◌, ℕ, zero, suc, ◌+◌, ◌-◌, ◌<◌, ◌≤◌, true, false, List, [], ◌∷◌, ◌++◌, append_assoc, length, length-append, take, drop, replicate, refl, sym, ap, ◌∙◌, subst}
-use Rattle.std.proofs.Common.{arith, Option, ◌⊎◌, inl, inr, get_or, Result, Ok, Err, eq-eqb, eqb-true, ◌==◌, slice_index, slice_range}
-use Rattle.std.proofs.KnownBytes.{Consumes-nil, Consumes-trans}
-use Rattle.std.proofs.lemmas.List.{append-nil, length-drop, take-append-le, drop-append-le, drop-drop, drop_more, length-take-le, take-append-drop, take_all, take_rest, Folds.{drop_split}}
-use Rattle.std.proofs.Math.Seq.{take-add}
+use Rattle.std.proofs.{Common.{arith, Option, ◌⊎◌, get_or, Result, Err, eq-eqb, eqb-true, ◌==◌, slice_index, slice_range}, KnownBytes.{Consumes-nil, Consumes-trans}, Math.Seq.{take-add}}
 use Rattle.std.specs.{Result.{IsErrAnd, IsErrOf}, Io.KnownBytes.{IsAtEnd}}
-use Rattle.mm_script.specs.declared.{script_lines.LineAt.{LineAt}, input.Input.{Input}, error.ScriptError.{ScriptError}}
-use Rattle.mm_script.specs.{Code.{Growing.{InputGrows, HasBlanks, IsLineAt, IsOtherByte}, Stops.{IsOneLine}}, Language.Commands.{pending, ReadsOn}}
+use Rattle.mm_script.specs.{declared.{script_lines.LineAt.{LineAt}, input.Input.{Input}, error.ScriptError.{ScriptError}}, Code.Growing.{InputGrows, HasBlanks, IsLineAt, IsOtherByte}}
+use Rattle.mm_script.specs.{Code.Stops.{IsOneLine}, Language.Commands.{pending, ReadsOn}}
 
 pub grows_not : (a : Input) (u : Option (List ℕ)) → InputGrows a a u u
 grows_not a u = record { part = []; consumes = Consumes-nil u; are = sym (append-nil (pending a)) }
 
 pub grows_then : (a b c : Input) (u v w : Option (List ℕ)) → InputGrows a b u v → InputGrows b c v w → InputGrows a c u w
-grows_then a b c u v w p q = record {
-  part = p.part ++ q.part;
-  consumes = Consumes-trans u v w p.part q.part p.consumes q.consumes;
-  are = q.are ∙ ap (λ (xs : List ℕ). xs ++ q.part) p.are ∙ append_assoc (pending a) p.part q.part;
-}
+grows_then a b c u v w p q = grind (arith, common_steps) steps 200000
 
 pub grown_long : (a b : Input) (u v : Option (List ℕ)) → InputGrows a b u v → length (pending a) ≤ length (pending b)
 grown_long a b u v p = omega (arith, ap length p.are, length-append (pending a) p.part)
@@ -27,10 +22,7 @@ few_pending input = omega (arith, input.bytes.ok.0, input.bytes.ok.1, input.byte
 
 -- a part of bytes that grow
 pub part_kept : (new old more : List ℕ) (i j : ℕ) → new ≡ old ++ more → i ≤ j → j ≤ length old → slice_range new i j ≡ slice_range old i j
-part_kept new old more i j is low within =
-    ap (λ (xs : List ℕ). slice_range xs i j) is
-    ∙ ap (take (j - i)) (drop-append-le i old more (omega arith))
-    ∙ take-append-le (j - i) (drop i old) more (omega (arith, length-drop i old))
+part_kept new old more i j is low within = grind (arith, common_steps, drop-append-le, length-drop, take-append-le) steps 200000
 
 pub part_grown : (a b : Input) (u v : Option (List ℕ)) (i j : ℕ) → InputGrows a b u v → i ≤ j → j ≤ length (pending a) → slice_range (pending b) i j ≡ slice_range (pending a) i j
 part_grown a b u v i j p low within = part_kept (pending b) (pending a) p.part i j p.are low within
@@ -40,12 +32,7 @@ rest_grown a b u v i p within = ap (drop i) p.are ∙ drop-append-le i (pending 
 
 -- a longer part
 pub part_more : (bytes : List ℕ) (i j more : ℕ) → i ≤ j → slice_range bytes i (j + more) ≡ slice_range bytes i j ++ take more (drop j bytes)
-part_more bytes i j more low =
-    let count : (j + more) - i ≡ (j - i) + more = omega arith in
-    let place : i + (j - i) ≡ j = omega arith in
-    ap (λ (n : ℕ). take n (drop i bytes)) count
-    ∙ take-add (j - i) more (drop i bytes)
-    ∙ ap (λ (xs : List ℕ). slice_range bytes i j ++ take more xs) (drop-drop (j - i) i bytes ∙ ap (λ (n : ℕ). drop n bytes) place)
+part_more bytes i j more low = grind (arith, common_steps, take-add (j - i) more (drop i bytes), drop-drop (j - i) i bytes) steps 200000
 
 pub one_line_more : (xs ys : List ℕ) → IsOneLine xs → IsOneLine ys → IsOneLine (xs ++ ys)
 one_line_more [] ys f g = g
@@ -71,13 +58,7 @@ found_line bytes hay left start end more is low within one none some found =
     let here : drop more hay ≡ 10 ∷ drop (more + 1) hay = drop_more hay more 0 some ∙ ap (λ (b : ℕ). b ∷ drop (more + 1) hay) feed in
     let there : drop more hay ≡ drop (end + more) bytes = ap (drop more) is ∙ drop-drop more end bytes in
     let behind : drop (more + 1) hay ≡ drop ((end + more) + 1) bytes = ap (drop (more + 1)) is ∙ drop-drop (more + 1) end bytes ∙ ap (λ (n : ℕ). drop n bytes) (omega arith) in
-    record {
-      ordered = omega arith;
-      within = omega (arith, long);
-      one_line = subst IsOneLine (sym (part_more bytes start end more low ∙ ap (λ (xs : List ℕ). slice_range bytes start end ++ xs) first)) (one_line_more _ _ one (none_found hay more none));
-      fed = λ yes. sym there ∙ here ∙ ap (λ (xs : List ℕ). 10 ∷ xs) behind;
-      unfed = λ no. absurd (cc);
-    }
+    grind (arith, common_steps, part_more bytes start end more low, one_line_more _ _ one (none_found hay more none)) steps 200000
 
 -- no line feed up to the end
 pub no_feed_left : (bytes hay : List ℕ) (start end : ℕ) → hay ≡ drop end bytes → start ≤ end → IsOneLine (slice_range bytes start end)
@@ -88,70 +69,35 @@ no_feed_left bytes hay start end is low one none =
 
 pub last_line : (bytes : List ℕ) (left : Option (List ℕ)) (start count : ℕ) → count ≡ length bytes → start ≤ count → IsOneLine (drop start bytes) → IsAtEnd left
     → IsLineAt bytes left record { start = start; end = count; fed = false }
-last_line bytes left start count is within one at_end = record {
-  ordered = within;
-  within = omega arith;
-  one_line = subst IsOneLine (sym (ap (slice_range bytes start) is ∙ take_rest bytes start)) one;
-  fed = λ yes. absurd (cc);
-  unfed = λ no. (is, at_end);
-}
+last_line bytes left start count is within one at_end = grind (arith, common_steps, take_rest bytes start) steps 200000
 
 -- another byte after this many
 pub other_byte : (bytes hay : List ℕ) (start count byte : ℕ) → hay ≡ drop start bytes → count < length hay → byte ≡ get_or hay count byte → byte ≢ 10 → IsOtherByte bytes start count
-other_byte bytes hay start count byte is some here other = record {
-  text = take count hay;
-  byte = byte;
-  more = drop (count + 1) hay;
-  is = length-take-le count hay (omega arith);
-  other = other;
-  are = sym is ∙ sym (take-append-drop count hay) ∙ ap (λ (xs : List ℕ). take count hay ++ xs) (drop_more hay count byte some ∙ ap (λ (b : ℕ). b ∷ drop (count + 1) hay) (sym here));
-}
+other_byte bytes hay start count byte is some here other = grind (arith, common_steps, length-take-le count hay (omega arith), take-append-drop count hay, drop_more hay count byte some) steps 200000
 
 -- a line feed after this many bytes
 pub feed_behind : (bytes hay : List ℕ) (start count byte : ℕ) → hay ≡ drop start bytes → count < length hay → byte ≡ get_or hay count byte → byte ≡ 10
     → drop (start + count) bytes ≡ 10 ∷ drop ((start + count) + 1) bytes
-feed_behind bytes hay start count byte is some here feed =
-    let first : drop count hay ≡ 10 ∷ drop (count + 1) hay = drop_more hay count byte some ∙ ap (λ (b : ℕ). b ∷ drop (count + 1) hay) (sym here ∙ feed) in
-    let there : drop count hay ≡ drop (start + count) bytes = ap (drop count) is ∙ drop-drop count start bytes in
-    let behind : drop (count + 1) hay ≡ drop ((start + count) + 1) bytes = ap (drop (count + 1)) is ∙ drop-drop (count + 1) start bytes ∙ ap (λ (n : ℕ). drop n bytes) (omega arith) in
-    sym there ∙ first ∙ ap (λ (xs : List ℕ). 10 ∷ xs) behind
+feed_behind bytes hay start count byte is some here feed = grind (arith, common_steps, drop_more hay count byte some, drop-drop count start bytes, drop-drop (count + 1) start bytes) steps 200000
 
 feeds : (n : ℕ) (xs : List ℕ) → replicate n 10 ++ 10 ∷ xs ≡ replicate (suc n) 10 ++ xs
 feeds zero xs = refl
 feeds (suc n) xs = ap (λ (ys : List ℕ). 10 ∷ ys) (feeds n xs)
-
-pub no_blanks : (bytes : List ℕ) (from : ℕ) → from ≤ length bytes → HasBlanks bytes from from
-no_blanks bytes from within =
-    let none : from - from ≡ 0 = omega arith in
-    record { ordered = omega arith; within = within; are = ap (λ (n : ℕ). replicate n 10 ++ drop from bytes) (sym none) }
 
 -- one empty line more
 pub blank_more : (bytes : List ℕ) (from to : ℕ) → HasBlanks bytes from to → drop to bytes ≡ 10 ∷ drop (to + 1) bytes → HasBlanks bytes from (to + 1)
 blank_more bytes from to b is =
     let count : (to + 1) - from ≡ suc (to - from) = omega (arith, b.ordered) in
     let some : length (drop to bytes) ≡ length (drop (to + 1) bytes) + 1 = omega (arith, ap length is) in
-    record {
-      ordered = omega (arith, b.ordered);
-      within = omega (arith, b.within, some, length-drop to bytes, length-drop (to + 1) bytes);
-      are = b.are ∙ ap (λ (xs : List ℕ). replicate (to - from) 10 ++ xs) is ∙ feeds (to - from) (drop (to + 1) bytes) ∙ ap (λ (n : ℕ). replicate n 10 ++ drop (to + 1) bytes) (sym count);
-    }
+    grind (arith, common_steps, length-drop to bytes, length-drop (to + 1) bytes, feeds (to - from) (drop (to + 1) bytes)) steps 200000
 
 pub blanks_grown : (a b : Input) (u v : Option (List ℕ)) (from to : ℕ) → InputGrows a b u v → HasBlanks (pending a) from to → HasBlanks (pending b) from to
-blanks_grown a b u v from to p h =
-    let first = rest_grown a b u v from p (omega (arith, h.ordered, h.within)) in
-    let last = rest_grown a b u v to p h.within in
-    record {
-      ordered = h.ordered;
-      within = omega (arith, h.within, grown_long a b u v p);
-      are = first ∙ ap (λ (xs : List ℕ). xs ++ p.part) h.are ∙ append_assoc (replicate (to - from) 10) (drop to (pending a)) p.part ∙ ap (λ (xs : List ℕ). replicate (to - from) 10 ++ xs) (sym last);
-    }
+blanks_grown a b u v from to p h = grind (arith, common_steps, rest_grown a b u v from p (omega (arith, h.ordered, h.within)), rest_grown a b u v to p h.within, grown_long a b u v p) steps 200000
 
 -- an empty line is where a line is fed and has no bytes
 pub blank_line : (bytes : List ℕ) (left : Option (List ℕ)) (line : LineAt) → IsLineAt bytes left line → line.fed ≡ true → line.end ≤ line.start
     → drop line.start bytes ≡ 10 ∷ drop (line.start + 1) bytes
-blank_line bytes left line is fed none =
-    let same : line.end ≡ line.start = omega (arith, is.ordered) in
-    subst (λ (n : ℕ). drop n bytes ≡ 10 ∷ drop (n + 1) bytes) same (is.fed fed)
+blank_line bytes left line is fed none = grind (arith, common_steps, is.fed fed) steps 200000
 
 -- reading on with nothing passed, and with empty lines passed
 pub reads_not : (a : Input) (u : Option (List ℕ)) → ReadsOn a a u u
@@ -176,12 +122,9 @@ reads_pass a b c u v p is = record {
 
 -- an error that is passed on is the same
 pub same_error : {T U E : Type 0} (r : Result U E) (x e : E) → IsErrAnd r (λ (y : E). y ≡ x) → r ≡ Err e → IsErrOf {T = T} (Err x) e
-same_error (Ok done) x e f h = absurd (cc)
-same_error (Err y) x e f h = cc
+same_error r x e f h = grind (arith, common_steps) steps 200000
 
 -- it is none but those that the call may answer
 pub other_error : {T U : Type 0} (r : Result U ScriptError) (call : Result T ScriptError) (x a b e : ScriptError) → IsErrAnd r (λ (y : ScriptError). y ≡ x)
     → call ≡ Err x → (call ≡ Err a) ⊎ (call ≡ Err b) → a ≢ e → b ≢ e → r ≡ Err e → ⊥
-other_error (Ok done) call x a b e f is told na nb h = absurd (cc)
-other_error (Err y) call x a b e f is (inl told) na nb h = na (cc)
-other_error (Err y) call x a b e f is (inr told) na nb h = nb (cc)
+other_error r call x a b e f is told na nb h = grind (arith, common_steps) steps 200000

@@ -1,17 +1,13 @@
 -- What is read of a script after commands and empty lines that are read.
+use Rattle.std.proofs.lemmas.{Grind.{common_steps}, Bool.{cases_lt}, List.Concat.{flat_map-append}}
 use Rattle.std.proofs.Common.{◌≡◌, ◌⊎◌, ℕ, ◌+◌, ◌<◌, ◌≤◌, List, [], ◌∷◌, ◌++◌, length, length-append, refl, sym, ap, ◌∙◌, subst, inl, inr, arith, append_assoc, append-nil}
-use Rattle.std.proofs.lemmas.{Bool.{cases_lt}, List.Concat.{flat_map-append}}
 use Rattle.mm_script.specs.Language.Commands.{HasNoEntry}
 use Rattle.mm_script.specs.Language.Script.{Command, Entry, Given, entry_bytes, entries_bytes, command_bytes, AreRead, HasEntries, IsLongestReading, IsReadSoFar, IsGood, EndsInLine}
 use Rattle.mm_script.proofs.ScriptLemmas.{IsBeginning, NoEntry, NoLast, blank_no, divisions_agree, entry_some, good_more, one_begins, read_less, read_more, reading_ended, reading_unended}
 
 -- entries after entries
 pub entries_behind : (bytes : List ℕ) (entries more : List Entry) (rest left : List ℕ) → AreRead bytes entries rest → AreRead rest more left → AreRead bytes (entries ++ more) left
-entries_behind bytes entries more rest left are after = record {
-  good = good_more entries more are.good after.good;
-  joined = are.joined ∙ ap (λ (w : List ℕ). entries_bytes entries ++ w) after.joined ∙ sym (append_assoc (entries_bytes entries) (entries_bytes more) left)
-      ∙ ap (λ (w : List ℕ). w ++ left) (sym (flat_map-append entry_bytes entries more));
-}
+entries_behind bytes entries more rest left are after = grind (arith, common_steps, good_more entries more are.good after.good, flat_map-append entry_bytes entries more) steps 200000
 
 -- what the rest is read as is what follows the commands before it
 pub reading_behind : (bytes : List ℕ) (entries more : List Entry) (rest left : List ℕ) → AreRead bytes entries rest → IsLongestReading rest more left
@@ -47,10 +43,7 @@ so_far_behind bytes entries rest are none = record { are = are; longest = longes
       where
         by : IsBeginning entries others rest left ⊎ IsBeginning others entries left rest → length others ≤ length entries
         by (inr w) = let l : length entries ≡ length others + length w.more = ap length (sym w.longer) ∙ length-append others w.more in omega arith
-        by (inl w) =
-            let l : length others ≡ length entries + length w.more = ap length (sym w.longer) ∙ length-append entries w.more in
-            let m : length w.more ≤ 0 = none.longest w.more left (record { good = w.good; joined = w.left }) in
-            omega arith
+        by (inl w) = grind (arith, common_steps, length-append entries w.more, none.longest w.more left (record { good = w.good; joined = w.left })) steps 200000
 
 no_entry : NoEntry []
 no_entry x left g e = let m : length (entry_bytes x) + length left ≡ 0 = sym (ap length e ∙ length-append (entry_bytes x) left) in omega (arith, entry_some x)

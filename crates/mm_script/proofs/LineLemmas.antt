@@ -1,13 +1,12 @@
 -- What a line asks for is known from its first space on.
-use Rattle.std.proofs.Common.{◌≡◌, ◌≢◌, ◌⊎◌, ℕ, Bool, true, false, not, List, [], ◌∷◌, ◌++◌, length, length-append, take, refl, sym, ap, ◌∙◌, subst, arith, Option, Some, None, Result, Ok, inl, inr}
-use Rattle.std.proofs.Common.{take_at, eqb-true, ne_eqb, ◌==◌, codes, decimal}
-use Rattle.std.proofs.lemmas.{Slice.Eq.{bytes_eq-Decides}, Str.{IsUtf8-from_ascii}, Fmt.{parse-decimal, IsAscii-decimal}, Bool.{and_from}}
-use Rattle.std.specs.{List.{list_all}, Str.{IsUtf8, bytes_eq, Parse.{ParsesUnsigned}}, Option.{is_some}}
+use Rattle.std.proofs.lemmas.{Grind.{common_steps}, Slice.Eq.{bytes_eq-Decides}, Str.{IsUtf8-from_ascii}, Fmt.{parse-decimal, IsAscii-decimal}, Bool.{and_from}}
+use Rattle.std.proofs.Common.{◌≡◌, ◌≢◌, ◌⊎◌, ℕ, Bool, true, false, not, List, [], ◌∷◌, ◌++◌, length, length-append, take, refl, sym, ap, ◌∙◌, subst, arith, Option, None, Result, Ok, inl, inr, take_at}
+use Rattle.std.{proofs.Common.{ne_eqb, ◌==◌, codes, decimal}, specs.{List.{list_all}, Str.{IsUtf8, bytes_eq, Parse.{ParsesUnsigned}}, Option.{is_some}}}
 use Rattle.mm_text.specs.Language.Asked.{Asked}
 use Rattle.mm_script.specs.declared.line.Verb.{Verb, TheVariants.{Insert, Replace, Delete, Move, Batch, Verdict, Axioms, Cites, Users}}
 use Rattle.mm_script.specs.Code.{Lines.{CutsAt, HasNoSpace, IsFileAnd, IsFileAndTwo, verb_word}, Stops.{IsOneLine}}
-use Rattle.mm_script.specs.Language.Script.{Command, Change, Report, IsName, IsNumber, edit_line, line_of, is_word_byte}
-use Rattle.mm_script.proofs.{SplitLemmas.{Lacks, split_at, solid_space}, WordLemmas.{solid_decimal, small_number, both_not}}
+use Rattle.mm_script.{specs.Language.Script.{Command, Change, Report, IsName, IsNumber, edit_line, line_of, is_word_byte}, proofs.SplitLemmas.{Lacks, split_at, solid_space}}
+use Rattle.mm_script.proofs.WordLemmas.{solid_decimal, small_number, both_not}
 use Rattle.mm_text.specs.Language.Asked as ask
 use Rattle.mm_script.specs.Language.Script as commands
 
@@ -40,12 +39,10 @@ head_line bytes head tail cut one = front_lacks 10 head (32 ∷ tail) (subst (La
 
 -- an answer that is none, by its test
 pub none_by : {X : Type 0} (found : Option X) (none : Bool) → is_some found ≡ not none → none ≡ true → found ≡ None
-none_by None none e h = refl
-none_by (Some x) none e h = let same : not none ≡ false = ap not h in absurd (cc (e, same))
+none_by found none e h = grind (arith, common_steps) steps 200000
 
 pub some_by : (xs : List ℕ) → false ≡ (length xs == 0) → xs ≢ []
-some_by [] e is = absurd (cc)
-some_by (x ∷ xs) e is = absurd (cc)
+some_by xs e = grind (arith, common_steps) steps 200000
 
 -- what std reads as a number that is written like this is the number
 pub read_so : {E : Type 0} (n : ℕ) (word text : List ℕ) (r : Result ℕ E) → IsNumber n → word ≡ decimal n → text ≡ word → ParsesUnsigned 32 10 text r → r ≡ Ok n
@@ -58,41 +55,23 @@ pub unequal : (xs ys : List ℕ) → false ≡ bytes_eq xs ys → xs ≡ ys → 
 unequal xs ys e is = let same : bytes_eq xs ys ≡ true = (bytes_eq-Decides xs ys).1 is in absurd (cc)
 
 pub empty_by : (xs : List ℕ) → true ≡ (length xs == 0) → xs ≡ []
-empty_by [] e = refl
-empty_by (x ∷ xs) e = let none : length (x ∷ xs) ≡ 0 = eqb-true (length (x ∷ xs)) 0 (sym e) in absurd (omega arith)
+empty_by xs e = grind (arith, common_steps) steps 200000
 
 front_of : (bytes head rest : List ℕ) → bytes ≡ head ++ rest → take (length head) bytes ≡ head
 front_of bytes head rest is = ap (take (length head)) is ∙ take_at head rest (length head) refl
 
 -- the name of a file and a number
 pub file_and : (bytes head tail : List ℕ) (n : ℕ) → CutsAt bytes head tail → head ≢ [] → IsOneLine bytes → IsNumber n → tail ≡ decimal n → IsFileAnd bytes (length head) n
-file_and bytes head tail n cut some one number is =
-    let front : take (length head) bytes ≡ head = front_of bytes head (32 ∷ tail) cut.is in
-    record {
-      name = subst IsName (sym front) (is_name_by head some cut.none (head_line bytes head tail cut one));
-      number = number;
-      within = omega (arith, ap length cut.is, length-append head (32 ∷ tail));
-      is = cut.is ∙ ap (λ (xs : List ℕ). xs ++ 32 ∷ tail) (sym front) ∙ ap (λ (xs : List ℕ). take (length head) bytes ++ 32 ∷ xs) is;
-    }
+file_and bytes head tail n cut some one number is = grind (arith, common_steps, front_of, head_line, is_name_by, length-append) steps 200000
 
 -- and another number
 pub file_and_two : (bytes head tail first second : List ℕ) (n m : ℕ) → CutsAt bytes head tail → CutsAt tail first second → head ≢ [] → IsOneLine bytes
     → IsNumber n → first ≡ decimal n → IsNumber m → second ≡ decimal m → IsFileAndTwo bytes (length head) n m
-file_and_two bytes head tail first second n m cut cut_more some one number is other other_is =
-    let front : take (length head) bytes ≡ head = front_of bytes head (32 ∷ tail) cut.is in
-    let numbers : tail ≡ decimal n ++ 32 ∷ decimal m = cut_more.is ∙ ap (λ (xs : List ℕ). xs ++ 32 ∷ second) is ∙ ap (λ (xs : List ℕ). decimal n ++ 32 ∷ xs) other_is in
-    record {
-      name = subst IsName (sym front) (is_name_by head some cut.none (head_line bytes head tail cut one));
-      number = number;
-      other = other;
-      within = omega (arith, ap length cut.is, length-append head (32 ∷ tail));
-      is = cut.is ∙ ap (λ (xs : List ℕ). xs ++ 32 ∷ tail) (sym front) ∙ ap (λ (xs : List ℕ). take (length head) bytes ++ 32 ∷ xs) numbers;
-    }
+file_and_two bytes head tail first second n m cut cut_more some one number is other other_is = grind (arith, common_steps, front_of, head_line, is_name_by, length-append) steps 200000
 
 -- the first words of lines of more words than one, and what comes after them
 pub verb_space : (verb : Verb) → HasNoSpace (verb_word verb)
-verb_space Insert = solid_space (verb_word Insert) refl
-verb_space verb = solid_space (verb_word verb) refl
+verb_space verb = grind (arith, common_steps) steps 200000
 
 -- the line of an edit has a verb
 pub record HasVerb (line : List ℕ) : Type 0 where

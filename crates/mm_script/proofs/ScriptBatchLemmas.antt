@@ -1,16 +1,13 @@
 -- A script that begins with the line of a batch and some of its edits.
+use Rattle.std.proofs.lemmas.{Grind.{common_steps}, Bool.{cases_lt}, Fmt.{decimal_injective}, List.{append-nil, length-replicate, Concat.{flat_map-append}}}
 use Rattle.std.proofs.Common.{◌≡◌, ◌≢◌, ◌⊎◌, ℕ, zero, suc, ◌+◌, ◌-◌, ◌<◌, ◌≤◌, List, [], ◌∷◌, ◌++◌, length, length-append, replicate, refl, sym, ap, ◌∙◌, subst, inl, inr, arith, append_assoc, codes}
-use Rattle.std.proofs.Common.{decimal}
-use Rattle.std.proofs.lemmas.{Bool.{cases_lt}, Fmt.{decimal_injective}, List.{append-nil, length-replicate, Concat.{flat_map-append}}}
-use Rattle.std.specs.List.{flat_map, join_with_byte}
+use Rattle.std.{proofs.Common.{decimal}, specs.List.{flat_map, join_with_byte}}
 use Rattle.mm_text.specs.Language.Asked.{Asked, Delete, edited_text}
 use Rattle.mm_script.specs.Code.Stops.{AreListed, batch_line, batch_bytes}
-use Rattle.mm_script.specs.Language.Script.{Listed, Command, Change, Batch, AreGoodEdits, EndsInLine, IsCutShort, IsGood, IsGoodEdit, IsNoneOrLine, IsNumber, MayBreak, MissesEdits, behind_line}
-use Rattle.mm_script.specs.Language.Script.{edit_bytes, edit_line, ended_text, line_of, listed_bytes, command_words}
-use Rattle.mm_script.proofs.SplitLemmas.{Lacks, join_lacks, not_inside}
+use Rattle.mm_script.specs.Language.Script.{Listed, Command, Batch, AreGoodEdits, EndsInLine, IsCutShort, IsGood, IsGoodEdit, IsNoneOrLine, IsNumber, MayBreak, MissesEdits, behind_line, edit_bytes}
+use Rattle.mm_script.{specs.Language.Script.{edit_line, ended_text, line_of, listed_bytes, command_words}, proofs.SplitLemmas.{Lacks, join_lacks, not_inside}}
 use Rattle.mm_script.proofs.WordLemmas.{AreSolid, BeginsEdits, edit_head, edit_tag, edits_begin, has_first, lack_feeds, listed_parts, same_blanks, same_words_by_line, small_number, solid_decimal, tag}
-use Rattle.mm_script.proofs.WordLemmas.{words_solid}
-use Rattle.mm_script.proofs.{ScriptLemmas.{NoEntry, NoLast}, ScriptLineLemmas.{no_entry_by, no_last_by, not_cut_by}}
+use Rattle.mm_script.proofs.{WordLemmas.{words_solid}, ScriptLemmas.{NoEntry, NoLast}, ScriptLineLemmas.{no_entry_by, no_last_by, not_cut_by}}
 
 -- ---- the line
 
@@ -34,20 +31,14 @@ pub record IsBatch (n : ℕ) (c : Command) : Type 0 where
   pub good : AreGoodEdits edits
 
 batch_by_words : (n : ℕ) → IsNumber n → (c : Command) → IsGood c → batch_words n ≡ command_words c → IsBatch n c
-batch_by_words n h (Batch edits) g e = let word : decimal n ≡ decimal (length edits) = cc in record { edits = edits; is = refl; count = decimal_injective n (length edits) (small_number n h) (small_number (length edits) g.0) word; good = g.1 }
-batch_by_words n h (Change edit) g e = absurd (omega (arith, edit_tag edit, ap tag e))
-batch_by_words n h _ g e = absurd (omega (arith, ap tag e))
+batch_by_words n h c g e = grind (arith, common_steps, decimal_injective, edit_tag, small_number, tag) steps 200000
 
 pub batch_by_line : (n : ℕ) → IsNumber n → (c : Command) → IsGood c → batch_line n ≡ line_of c → IsBatch n c
 batch_by_line n h c g e = batch_by_words n h c g (same_words_by_line (batch_words n) (command_words c) (codes "batch", decimal n ∷ [], refl) (has_first c) (batch_solid n h) (words_solid c g) e)
 
 -- an edit has some bytes
 pub listed_some : (x : Listed) (xs : List Listed) → 0 < length (flat_map listed_bytes (x ∷ xs))
-listed_some x xs = by x.blanks
-  where
-    by : (n : ℕ) → 0 < length ((replicate n 10 ++ edit_bytes x.edit) ++ flat_map listed_bytes xs)
-    by zero = let p = edit_head x.edit in subst (λ (line : List ℕ). 0 < length ((line ++ 10 ∷ ended_text (edited_text x.edit)) ++ flat_map listed_bytes xs)) (sym p.2) (omega arith)
-    by (suc n) = omega arith
+listed_some x xs = grind (arith, common_steps, edit_head) steps 200000
 
 -- ---- the edit after the whole ones
 
@@ -63,10 +54,7 @@ feeds_no_line m k e s q = let p = edit_head e in by m k p.0 (p.1 ++ 10 ∷ s) p.
 
 pub line_behind_feeds : (m k : ℕ) (line v : List ℕ) (e : Asked) (s : List ℕ) → line ≢ [] → Lacks 10 line → replicate m 10 ++ (line ++ v) ≡ replicate k 10 ++ (edit_line e ++ s) → (m ≡ k) × (line ++ v ≡ edit_line e ++ s)
 line_behind_feeds m k [] v e s some l q = absurd (some refl)
-line_behind_feeds m k (x ∷ line) v e s some l q =
-    let p = edit_head e in
-    let both = same_blanks m k x p.0 (line ++ v) (p.1 ++ s) l.0 p.3 (q ∙ ap (λ (w : List ℕ). replicate k 10 ++ (w ++ s)) p.2) in
-    (both.0, both.1 ∙ sym (ap (λ (w : List ℕ). w ++ s) p.2))
+line_behind_feeds m k (x ∷ line) v e s some l q = grind (arith, common_steps, edit_head e, same_blanks) steps 200000
 
 -- the next edit of a batch, after these
 pub record NextEdit (n : ℕ) (front : List Listed) (blanks : ℕ) (w t : List ℕ) (c : Command) : Type 0 where
@@ -87,14 +75,7 @@ next_edit n front blanks w t are c g e k = on (batch_by_line n are.number c g e)
   where
     by : (edits : List Listed) → c ≡ Batch edits → n ≡ length edits → AreGoodEdits edits → (later : List Listed) → edits ≡ front ++ later → replicate blanks 10 ++ w ≡ flat_map listed_bytes later ++ t → NextEdit n front blanks w t c
     by edits is count good [] p q = let l : length edits ≡ length front + 0 = ap length p ∙ length-append front [] in absurd (omega (arith, are.fewer))
-    by edits is count good (x ∷ xs) p q = record {
-      next = x;
-      later = xs;
-      is = is ∙ ap Batch p;
-      count = count ∙ ap length p;
-      good = (good_tail front (x ∷ xs) (subst AreGoodEdits p good)).0;
-      left = q ∙ append_assoc (listed_bytes x) (flat_map listed_bytes xs) t ∙ listed_parts x (flat_map listed_bytes xs ++ t);
-    }
+    by edits is count good (x ∷ xs) p q = grind (arith, common_steps, good_tail front (x ∷ xs) (subst AreGoodEdits p good), listed_parts x (flat_map listed_bytes xs ++ t)) steps 200000
 
     on : IsBatch n c → NextEdit n front blanks w t c
     on b =
@@ -189,10 +170,7 @@ pub no_break : (n : ℕ) (front : List Listed) (blanks : ℕ) (line : List ℕ) 
 no_break n front blanks line edits good goods some l none next later are m = by (cases_lt (length m.front) (length front))
   where
     same : inside front blanks line ≡ inside m.front m.blanks m.inner
-    same = cut_ten m.is
-      where
-        cut_ten : {xs ys : List ℕ} → 10 ∷ xs ≡ 10 ∷ ys → xs ≡ ys
-        cut_ten e = cc
+    same = grind (arith, common_steps) steps 200000
 
     mine : AreGoodEdits (m.front ++ m.next ∷ m.later)
     mine = subst AreGoodEdits m.are goods

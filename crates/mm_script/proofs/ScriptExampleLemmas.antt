@@ -1,9 +1,7 @@
 -- Some scripts are read by the definitions.
-use Rattle.std.proofs.Common.{◌≡◌, ◌≢◌, ℕ, ◌<◌, List, [], ◌∷◌, length, refl, ap, arith, codes, slice_index}
-use Rattle.std.specs.Fmt.{digits}
+use Rattle.std.{proofs.Common.{◌≡◌, ◌≢◌, ℕ, ◌<◌, List, [], ◌∷◌, length, refl, ap, arith, codes, slice_index}, specs.Fmt.{digits}}
 use Rattle.mm_text.specs.Language.Asked.{Asked, Insert, Replace, Delete}
-use Rattle.mm_script.specs.Code.Stops.{AreListed, HasTextOf}
-use Rattle.mm_script.specs.Language.Commands.{StopsSo}
+use Rattle.mm_script.specs.{Code.Stops.{AreListed, HasTextOf}, Language.Commands.{StopsSo}}
 use Rattle.mm_script.specs.Language.Script.{Command, Change, Batch, Report, Verdict, Axioms, Users, Blank, Given, End, CutShort, BadLine, IsGood, IsGoodEdit, IsName, edit_line, line_of}
 use Rattle.mm_script.specs.Language.{ScriptExamples.{ReadsText, ReadsBatch, ReadsLastEdit, CutsText, CutsFeed, CutsLine, CutsBatch, EndsInEdit, EndsAtLine, EndsAtText}, ReadingLaws.{IsReadSo}}
 use Rattle.mm_script.proofs.{JoinLemmas.{reading_behind, reading_done, reading_last}, StopLemmas.{bad_line, batch_bad_last, batch_cut, text_bad, text_cut, text_line_cut}}

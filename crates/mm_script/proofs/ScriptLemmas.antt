@@ -1,16 +1,14 @@
 -- How a script is divided: in one way; and when a division of it is its reading.
+use Rattle.std.proofs.lemmas.{Grind.{common_steps}, Bool.{cases_lt}, List.{append-nil, append_cancel_left, append_cancel_right, Concat.{flat_map-append}}}
 use Rattle.std.proofs.Common.{◌≡◌, ◌⊎◌, ℕ, ◌+◌, ◌<◌, ◌≤◌, Option, Some, None, List, [], ◌∷◌, ◌++◌, length, length-append, replicate, refl, sym, ap, ◌∙◌, subst, inl, inr, arith, append_assoc}
-use Rattle.std.proofs.lemmas.{Bool.{cases_lt}, List.{append-nil, append_cancel_left, append_cancel_right, Concat.{flat_map-append}}}
 use Rattle.std.specs.List.{flat_map}
 use Rattle.mm_text.specs.Language.Asked.{edited_text}
 use Rattle.mm_script.specs.Language.Script.{Listed, Command, Change, Batch, Entry, Blank, Given, listed_bytes, edit_line, entry_bytes, IsGoodEntry, AreGood, IsGood, entries_bytes, line_of, ended_text}
-use Rattle.mm_script.specs.Language.Script.{behind_line, command_bytes, EndsInLine, LacksFeed, HasEntries, IsLongestReading, AreRead, IsReadSoFar, IsCutShort, End, Done, CutShort, BadLine, EndsSo}
-use Rattle.mm_script.proofs.{SplitLemmas.{split_at}, WordLemmas.{line_lacks_feed, same_first, line_some}}
+use Rattle.mm_script.{specs.Language.Script.{command_bytes, EndsInLine, LacksFeed, HasEntries, IsLongestReading, AreRead, IsReadSoFar, End, EndsSo}, proofs.SplitLemmas.{split_at}}
+use Rattle.mm_script.proofs.WordLemmas.{line_lacks_feed, same_first, line_some}
 
 pub blank_no : (d : Command) (s t : List ℕ) → IsGood d → 10 ∷ s ≡ command_bytes d ++ t → ⊥
-blank_no d s t h e =
-    let both : ([] ≡ line_of d) × (s ≡ behind_line d ++ t) = split_at 10 [] (line_of d) s (behind_line d ++ t) tt (line_lacks_feed d h) (e ∙ append_assoc (line_of d) (10 ∷ behind_line d) t) in
-    line_some d (sym both.0)
+blank_no d s t h e = grind (arith, common_steps, line_lacks_feed, line_some, split_at) steps 200000
 
 pub same_entry : (x y : Entry) (s t : List ℕ) → IsGoodEntry x → IsGoodEntry y → entry_bytes x ++ s ≡ entry_bytes y ++ t → (x ≡ y) × (s ≡ t)
 same_entry Blank Blank s t g h e = (refl, cc)
@@ -31,11 +29,10 @@ one_begins (x ∷ a) [] s t g h e = inr (record { more = x ∷ a; good = g; long
 one_begins (x ∷ a) (y ∷ b) s t g h e =
     let both : (x ≡ y) × (entries_bytes a ++ s ≡ entries_bytes b ++ t) =
     same_entry x y (entries_bytes a ++ s) (entries_bytes b ++ t) g.0 h.0 (sym (append_assoc (entry_bytes x) (entries_bytes a) s) ∙ e ∙ append_assoc (entry_bytes y) (entries_bytes b) t) in
-    on both.0 (one_begins a b s t g.1 h.1 both.1)
-  where
-    on : x ≡ y → IsBeginning a b s t ⊎ IsBeginning b a t s → IsBeginning (x ∷ a) (y ∷ b) s t ⊎ IsBeginning (y ∷ b) (x ∷ a) t s
-    on p (inl w) = inl (record { more = w.more; good = w.good; longer = cc; left = w.left })
-    on p (inr w) = inr (record { more = w.more; good = w.good; longer = cc; left = w.left })
+    on both.0 (one_begins a b s t g.1 h.1 both.1) where
+      on : x ≡ y → IsBeginning a b s t ⊎ IsBeginning b a t s → IsBeginning (x ∷ a) (y ∷ b) s t ⊎ IsBeginning (y ∷ b) (x ∷ a) t s
+      on p (inl w) = inl (record { more = w.more; good = w.good; longer = cc; left = w.left })
+      on p (inr w) = inr (record { more = w.more; good = w.good; longer = cc; left = w.left })
 
 -- what comes after the entries in the script with one more line feed
 pub record IsTail (script : List ℕ) (entries : List Entry) (rest tail : List ℕ) : Type 0 where
@@ -50,64 +47,32 @@ has_tail script entries rest d = by d.joined
     by (inr l) = ([], record { joined = l.0.is ∙ sym (append-nil (entries_bytes entries)); is = inr (refl, l.1) })
 
 pub no_more : (a b more : List Entry) → a ++ more ≡ b → length b ≤ length a → more ≡ []
-no_more a b [] e h = refl
-no_more a b (x ∷ more) e h = let l : length a + length (x ∷ more) ≡ length b = sym (length-append a (x ∷ more)) ∙ ap length e in absurd (omega arith)
+no_more a b more e h = grind (arith, common_steps) steps 200000
 
 pub divisions_agree : (script : List ℕ) (a b : List Entry) (s t : List ℕ) → HasEntries script a s → HasEntries script b t → length a ≤ length b → (more : List Entry) × (a ++ more ≡ b)
 divisions_agree script a b s t d f h = by (has_tail script a s d) (has_tail script b t f)
   where
     on : (u v : List ℕ) → IsBeginning a b u v ⊎ IsBeginning b a v u → (more : List Entry) × (a ++ more ≡ b)
     on u v (inl w) = (w.more, w.longer)
-    on u v (inr w) =
-        let none : w.more ≡ [] = no_more b a w.more w.longer h in
-        let same : b ++ [] ≡ a = ap (λ (x : List Entry). b ++ x) (sym none) ∙ w.longer in
-        ([], append-nil a ∙ sym same ∙ append-nil b)
+    on u v (inr w) = grind (arith, common_steps, no_more b a w.more w.longer h, append-nil a, append-nil b) steps 200000
 
     by : (u : List ℕ) × IsTail script a s u → (v : List ℕ) × IsTail script b t v → (more : List Entry) × (a ++ more ≡ b)
     by u v = on u.0 v.0 (one_begins a b u.0 v.0 d.good f.good (sym u.1.joined ∙ v.1.joined))
 
 pub not_both : (bytes s : List ℕ) → (bytes ++ s) ++ 10 ∷ [] ≡ bytes → ⊥
-not_both bytes s e =
-    let l : length (bytes ++ s) + 1 ≡ length bytes = sym (length-append (bytes ++ s) (10 ∷ [])) ∙ ap length e in
-    let m : length (bytes ++ s) ≡ length bytes + length s = length-append bytes s in
-    omega arith
+not_both bytes s e = grind (arith, common_steps, length-append (bytes ++ s) (10 ∷ []), length-append bytes s) steps 200000
 
 same_rest : (script : List ℕ) (a b : List Entry) (s t : List ℕ) → a ≡ b → HasEntries script a s → HasEntries script b t → s ≡ t
-same_rest script a b s t p d f = by d.joined f.joined
-  where
-    same : entries_bytes a ≡ entries_bytes b
-    same = ap entries_bytes p
-
-    by : (script ≡ entries_bytes a ++ s) ⊎ (LacksFeed script a × (s ≡ [])) → (script ≡ entries_bytes b ++ t) ⊎ (LacksFeed script b × (t ≡ [])) → s ≡ t
-    by (inl e) (inl k) = append_cancel_left (entries_bytes a) s t (sym e ∙ k ∙ ap (λ (x : List ℕ). x ++ t) (sym same))
-    by (inl e) (inr k) = absurd (not_both (entries_bytes a) s (ap (λ (x : List ℕ). x ++ 10 ∷ []) (sym e) ∙ k.0.is ∙ sym same))
-    by (inr e) (inl k) = absurd (not_both (entries_bytes b) t (ap (λ (x : List ℕ). x ++ 10 ∷ []) (sym k) ∙ e.0.is ∙ same))
-    by (inr e) (inr k) = e.1 ∙ sym k.1
+same_rest script a b s t p d f = grind (arith, common_steps, append_cancel_left, not_both) steps 200000
 
 pub one_reading : (script : List ℕ) (a b : List Entry) (s t : List ℕ) → IsLongestReading script a s → IsLongestReading script b t → (a ≡ b) × (s ≡ t)
 one_reading script a b s t r q =
-    let longer : length a ≤ length b = q.longest a s r.divided in
-    let shorter : length b ≤ length a = r.longest b t q.divided in
-    let w = divisions_agree script a b s t r.divided q.divided longer in
-    let none : w.0 ≡ [] = no_more a b w.0 w.1 shorter in
-    let same : a ≡ b = sym (append-nil a) ∙ ap (λ (x : List Entry). a ++ x) (sym none) ∙ w.1 in
+    let w = divisions_agree script a b s t r.divided q.divided (q.longest a s r.divided) in
+    let same : a ≡ b = sym (append-nil a) ∙ ap (λ (x : List Entry). a ++ x) (sym (no_more a b w.0 w.1 (r.longest b t q.divided))) ∙ w.1 in
     (same, same_rest script a b s t same r.divided q.divided)
 
-cut_some : (rest : List ℕ) → rest ≡ [] → IsCutShort rest → ⊥
-cut_some rest e c = line_some c.command (by (line_of c.command) (sym c.is ∙ e))
-  where
-    by : (line : List ℕ) → line ++ c.part ≡ [] → line ≡ []
-    by [] h = refl
-    by (x ∷ line) h = cc
-
 pub one_end : (rest : List ℕ) (a b : End) → EndsSo rest a → EndsSo rest b → a ≡ b
-one_end rest Done CutShort f g = absurd (cut_some rest f g)
-one_end rest Done BadLine f g = absurd (g.0 f)
-one_end rest CutShort Done f g = absurd (cut_some rest g f)
-one_end rest CutShort BadLine f g = absurd (g.1 f)
-one_end rest BadLine Done f g = absurd (f.0 g)
-one_end rest BadLine CutShort f g = absurd (f.1 g)
-one_end rest _ _ f g = refl
+one_end rest a b f g = grind (arith, common_steps) steps 200000
 
 -- ---- what is read so far
 
@@ -119,13 +84,10 @@ goes_on bytes more entries all rest left r q =
 
 pub one_so_far : (bytes : List ℕ) (a b : List Entry) (s t : List ℕ) → IsReadSoFar bytes a s → IsReadSoFar bytes b t → (a ≡ b) × (s ≡ t)
 one_so_far bytes a b s t r q =
-    let longer : length a ≤ length b = q.longest a s r.are in
-    let shorter : length b ≤ length a = r.longest b t q.are in
     let d : HasEntries bytes a s = record { good = r.are.good; joined = inl r.are.joined } in
     let e : HasEntries bytes b t = record { good = q.are.good; joined = inl q.are.joined } in
-    let w = divisions_agree bytes a b s t d e longer in
-    let none : w.0 ≡ [] = no_more a b w.0 w.1 shorter in
-    let same : a ≡ b = sym (append-nil a) ∙ ap (λ (x : List Entry). a ++ x) (sym none) ∙ w.1 in
+    let w = divisions_agree bytes a b s t d e (q.longest a s r.are) in
+    let same : a ≡ b = sym (append-nil a) ∙ ap (λ (x : List Entry). a ++ x) (sym (no_more a b w.0 w.1 (r.longest b t q.are))) ∙ w.1 in
     (same, same_rest bytes a b s t same d e)
 
 -- the bytes end in a line feed
@@ -203,7 +165,8 @@ longer_no script rest a b left x xs is none plain good e d = by d.joined
         let tail : rest ++ 10 ∷ [] ≡ entry_bytes x ++ entries_bytes xs =
         append_cancel_left (entries_bytes a) (rest ++ 10 ∷ []) (entry_bytes x ++ entries_bytes xs) (sym (append_assoc (entries_bytes a) rest (10 ∷ [])) ∙ ap (λ (w : List ℕ). w ++ 10 ∷ []) (sym is) ∙ l.is ∙ more) in
         let f = entries_end y ys in
-        let split : rest ++ 10 ∷ [] ≡ (entry_bytes x ++ f.0) ++ 10 ∷ [] = tail ∙ ap (λ (zs : List Entry). entry_bytes x ++ entries_bytes zs) (sym s) ∙ ap (λ (w : List ℕ). entry_bytes x ++ w) f.1 ∙ sym (append_assoc (entry_bytes x) f.0 (10 ∷ [])) in
+        let split : rest ++ 10 ∷ [] ≡ (entry_bytes x ++ f.0) ++ 10 ∷ [] =
+        tail ∙ ap (λ (zs : List Entry). entry_bytes x ++ entries_bytes zs) (sym s) ∙ ap (λ (w : List ℕ). entry_bytes x ++ w) f.1 ∙ sym (append_assoc (entry_bytes x) f.0 (10 ∷ [])) in
         none x f.0 good (append_cancel_right rest (entry_bytes x ++ f.0) (10 ∷ []) split)
 
     by : (script ≡ entries_bytes b ++ left) ⊎ (LacksFeed script b × (left ≡ [])) → ⊥
@@ -230,17 +193,7 @@ reading_ended script a rest good is none plain =
     record { divided = d; longest = longest_by script a rest d (λ b left x xs g e f. longer_no script rest a b left x xs is none plain g e f) }
 
 feed_no : (script : List ℕ) (a b : List Entry) (left : List ℕ) (x : Entry) (xs : List Entry) → script ++ 10 ∷ [] ≡ entries_bytes a → a ++ x ∷ xs ≡ b → HasEntries script b left → ⊥
-feed_no script a b left x xs is e d = by d.joined
-  where
-    long : length script + 1 ≡ length (entries_bytes a)
-    long = sym (length-append script (10 ∷ [])) ∙ ap length is
-
-    longer : length (entries_bytes b) ≡ length (entries_bytes a) + (length (entry_bytes x) + length (entries_bytes xs))
-    longer = ap length (bytes_more a x xs b e) ∙ length-append (entries_bytes a) (entry_bytes x ++ entries_bytes xs) ∙ ap (λ (n : ℕ). length (entries_bytes a) + n) (length-append (entry_bytes x) (entries_bytes xs))
-
-    by : (script ≡ entries_bytes b ++ left) ⊎ (LacksFeed script b × (left ≡ [])) → ⊥
-    by (inl k) = let l : length script ≡ length (entries_bytes b) + length left = ap length k ∙ length-append (entries_bytes b) left in omega (arith, long, longer, entry_some x)
-    by (inr k) = let l : length script + 1 ≡ length (entries_bytes b) = sym (length-append script (10 ∷ [])) ∙ ap length k.0.is in omega (arith, long, longer, entry_some x)
+feed_no script a b left x xs is e d = grind (arith, common_steps, bytes_more, entry_some, length-append) steps 200000
 
 pub reading_unended : (script : List ℕ) (a : List Entry) → AreGood a → LacksFeed script a → IsLongestReading script a []
 reading_unended script a good l =

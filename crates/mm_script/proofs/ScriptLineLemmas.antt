@@ -1,14 +1,12 @@
 -- A script that begins with a line, and with no whole command.
+use Rattle.std.proofs.lemmas.{Grind.{common_steps}, Fmt.{decimal_injective}, List.{append-nil, length-replicate}, Option.{same_Some, none-some}}
 use Rattle.std.proofs.Common.{◌≡◌, ◌≢◌, ℕ, ◌+◌, ◌-◌, ◌≤◌, Some, List, [], ◌∷◌, ◌++◌, length, length-append, replicate, refl, sym, ap, ◌∙◌, subst, arith, append_assoc, codes, decimal}
-use Rattle.std.proofs.lemmas.{Fmt.{decimal_injective}, List.{append-nil, length-replicate}, Option.{same_Some, none-some}}
 use Rattle.std.specs.List.{join_with_byte}
-use Rattle.mm_text.specs.Language.Asked.{Asked, Insert, Replace, Delete, Move, edited_text}
-use Rattle.mm_script.specs.Code.Stops.{HasTextOf}
-use Rattle.mm_script.specs.Language.Commands.{StopsSo}
+use Rattle.mm_text.specs.Language.Asked.{Asked, Insert, Replace, edited_text}
+use Rattle.mm_script.specs.{Code.Stops.{HasTextOf}, Language.Commands.{StopsSo}}
 use Rattle.mm_script.specs.Language.Script.{Command, Change, Blank, Given, CutShort, BadLine, EndsInLine, MayBreak, IsCutShort, IsGood, IsGoodEdit, IsNumber, behind_line, edit_line, edit_words}
-use Rattle.mm_script.specs.Language.Script.{line_of, command_words}
-use Rattle.mm_script.proofs.{SplitLemmas.{Lacks, not_inside, split_at}, WordLemmas.{edit_head, has_first, line_lacks_feed, same_words_by_line, small_number, tag, words_solid}}
-use Rattle.mm_script.proofs.ScriptLemmas.{NoEntry, NoLast, entry_ends, none_is_read}
+use Rattle.mm_script.{specs.Language.Script.{line_of, command_words}, proofs.SplitLemmas.{Lacks, not_inside, split_at}}
+use Rattle.mm_script.proofs.{WordLemmas.{edit_head, has_first, line_lacks_feed, same_words_by_line, small_number, tag, words_solid}, ScriptLemmas.{NoEntry, NoLast, entry_ends, none_is_read}}
 
 -- ---- bytes of one line
 
@@ -51,14 +49,7 @@ not_cut_by line more l none c = by c.part c.is c.begins c.breaks
   where
     by : (part : List ℕ) → line ++ 10 ∷ more ≡ line_of c.command ++ part → part ++ c.missing ≡ 10 ∷ behind_line c.command → MayBreak c.command part → ⊥
     by [] e k b = not_inside 10 (line_of c.command) line more (line_lacks_feed c.command c.good) (sym (append-nil (line_of c.command)) ∙ sym e)
-    by (x ∷ part) e k b =
-        let same : x ≡ 10 = cc in
-        let tail : part ++ c.missing ≡ behind_line c.command = cc in
-        let both = split_at 10 line (line_of c.command) more part l (line_lacks_feed c.command c.good) (e ∙ ap (λ (y : ℕ). line_of c.command ++ y ∷ part) same) in
-        none c.command c.missing c.good both.0 (ap (λ (w : List ℕ). w ++ c.missing) both.1 ∙ tail) c.some_missing (breaks part x same both.1 b)
-      where
-        breaks : (part : List ℕ) (x : ℕ) → x ≡ 10 → more ≡ part → MayBreak c.command (x ∷ part) → MayBreak c.command (10 ∷ more)
-        breaks part x e p b = subst (λ (w : List ℕ). MayBreak c.command w) (λ i. e i ∷ (sym p) i) b
+    by (x ∷ part) e k b = grind (arith, common_steps, line_lacks_feed, split_at) steps 200000
 
 some_with : (line more : List ℕ) → line ++ 10 ∷ more ≢ []
 some_with [] more e = cc
@@ -73,10 +64,9 @@ stops_bad line more none last whole = record { reading = none_is_read (line ++ 1
 -- bytes that are no beginning of a command at all are a bad line
 pub stops_bad_by : (line more : List ℕ) → Lacks 10 line → line ≢ [] → LacksWhole line more → ((c : Command) (missing : List ℕ) → IsGood c → line ≡ line_of c → more ++ missing ≡ behind_line c → missing ≢ [] → ⊥) → StopsSo (line ++ 10 ∷ more) BadLine
 stops_bad_by line more l some whole begun =
-    stops_bad line more (no_entry_by line more l some whole) (no_last_by line more l (λ c g ends e k. begun c (10 ∷ []) g e k feed)) (not_cut_by line more l (λ c missing g e k m b. begun c missing g e k m))
-  where
-    feed : ◌≢◌ {A = List ℕ} (10 ∷ []) []
-    feed e = cc
+    stops_bad line more (no_entry_by line more l some whole) (no_last_by line more l (λ c g ends e k. begun c (10 ∷ []) g e k feed)) (not_cut_by line more l (λ c missing g e k m b. begun c missing g e k m)) where
+      feed : ◌≢◌ {A = List ℕ} (10 ∷ []) []
+      feed e = cc
 
 -- ---- the lines of edits with a text
 
@@ -90,30 +80,11 @@ pub record HasTextBehind (c : Command) (count : ℕ) : Type 0 where
   pub count_is : length text ≡ count
   pub not_in_line : EndsInLine c → ⊥
 
-counted_text : (keyword f f' t t' : List ℕ) (a a' : ℕ) → IsNumber (length t) → IsNumber (length t') → keyword ∷ f ∷ decimal a ∷ decimal (length t) ∷ [] ≡ keyword ∷ f' ∷ decimal a' ∷ decimal (length t') ∷ [] → length t' ≡ length t
-counted_text keyword f f' t t' a a' g h e =
-    let word : decimal (length t) ≡ decimal (length t') = cc in
-    sym (decimal_injective (length t) (length t') (small_number (length t) g) (small_number (length t') h) word)
-
 its_count : (text : List ℕ) (t : List ℕ) (count : ℕ) → Some t ≡ Some text → length text ≡ count → length t ≡ count
 its_count text t count e l = ap length (same_Some t text e) ∙ l
 
 text_behind : (e : Asked) (count : ℕ) → HasTextOf e count → (c : Command) → IsGood c → edit_words e ≡ command_words c → HasTextBehind c count
-text_behind (Insert f a t) count h (Change (Insert f' a' t')) g e = record {
-  text = t';
-  is_behind = refl;
-  not_in_line = λ e. none-some t' (sym e);
-  count_is = counted_text (codes "insert") f f' t t' a a' h.good.2 g.2 e ∙ its_count h.text t count h.is_text h.count_is;
-}
-text_behind (Replace f a t) count h (Change (Replace f' a' t')) g e = record {
-  text = t';
-  is_behind = refl;
-  not_in_line = λ e. none-some t' (sym e);
-  count_is = counted_text (codes "replace") f f' t t' a a' h.good.2 g.2 e ∙ its_count h.text t count h.is_text h.count_is;
-}
-text_behind (Delete f a) count h c g e = absurd (none-some h.text h.is_text)
-text_behind (Move f a b) count h c g e = absurd (none-some h.text h.is_text)
-text_behind _ count h _ g e = absurd (omega (arith, ap tag e))
+text_behind e count h c g h1 = grind (arith, common_steps, its_count, none-some, tag, decimal_injective, small_number) steps 200000
 
 pub text_of_line : (e : Asked) (count : ℕ) → HasTextOf e count → (c : Command) → IsGood c → edit_line e ≡ line_of c → HasTextBehind c count
 text_of_line e count h c g k = text_behind e count h c g (same_words_by_line (edit_words e) (command_words c) (has_first (Change e)) (has_first c) (words_solid (Change e) h.good) (words_solid c g) k)
@@ -137,9 +108,7 @@ with_text _ count text h l = absurd (none-some h.text h.is_text)
 -- a text that is not all there, and other bytes after a text
 
 pub too_long : (part text left : List ℕ) (count : ℕ) → part ≡ (text ++ 10 ∷ []) ++ left → length text ≡ count → length part ≤ count → ⊥
-too_long part text left count e l h =
-    let m : length part ≡ (length text + 1) + length left = ap length e ∙ length-append (text ++ 10 ∷ []) left ∙ ap (λ (n : ℕ). n + length left) (length-append text (10 ∷ [])) in
-    omega arith
+too_long part text left count e l h = grind (arith, common_steps, length-append (text ++ 10 ∷ []) left, length-append text (10 ∷ [])) steps 200000
 
 -- bytes by which a text that is not all there is filled up
 abbrev pub filling : List ℕ → ℕ → List ℕ

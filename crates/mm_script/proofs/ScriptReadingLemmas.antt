@@ -1,14 +1,11 @@
 -- Each script has a reading, and what is left of it ends it.
+use Rattle.std.proofs.lemmas.{Grind.{common_steps}, List.Concat.{flat_map-append}}
 use Rattle.std.proofs.Common.{◌≡◌, ◌≢◌, ◌⊎◌, ℕ, zero, suc, ◌+◌, ◌≤◌, Option, Some, None, List, [], ◌∷◌, ◌++◌, length, length-append, replicate, refl, sym, ap, ◌∙◌, subst, inl, inr, arith}
-use Rattle.std.proofs.Common.{append_assoc, append-nil}
-use Rattle.std.proofs.{lemmas.List.Concat.{flat_map-append}, Math.Decide.{ℕ_discrete}}
-use Rattle.std.specs.List.{flat_map}
+use Rattle.std.{proofs.{Common.{append_assoc, append-nil}, Math.Decide.{ℕ_discrete}}, specs.List.{flat_map}}
 use Rattle.mm_text.specs.Language.Asked.{Asked, edited_text}
-use Rattle.mm_script.specs.Code.Stops.{HasTextOf, AreListed, batch_line, batch_bytes}
-use Rattle.mm_script.specs.Language.Commands.{StopsSo}
+use Rattle.mm_script.specs.{Code.Stops.{HasTextOf, AreListed, batch_line, batch_bytes}, Language.Commands.{StopsSo}}
 use Rattle.mm_script.specs.Language.Script.{Listed, Command, Change, Batch, Entry, Blank, Given, End, Done, CutShort, BadLine, AreGoodEdits, AreRead, EndsInLine, IsGood, IsGoodEdit, IsGoodEntry}
-use Rattle.mm_script.specs.Language.Script.{IsNumber, command_bytes, edit_bytes, edit_line, ended_text, entry_bytes, line_of, listed_bytes}
-use Rattle.mm_script.specs.Language.ReadingLaws.{HasReading, IsReadSo}
+use Rattle.mm_script.specs.Language.{Script.{IsNumber, command_bytes, edit_bytes, edit_line, ended_text, entry_bytes, line_of, listed_bytes}, ReadingLaws.{HasReading, IsReadSo}}
 use Rattle.mm_script.proofs.{BatchReadLemmas.{good_more, last_in_line}, SplitLemmas.{Lacks}, WordDecidingLemmas.{IsCommandLine, IsEditLine, command_line_or_not, edit_line_or_not}}
 use Rattle.mm_script.proofs.{ScriptLemmas.{entry_some}, ScriptLineLemmas.{WithText, with_text}, JoinLemmas.{reading_behind, reading_done, reading_last}}
 use Rattle.mm_script.proofs.StopLemmas.{bad_last, bad_line, batch_bad_last, batch_bad_line, batch_cut, batch_edit_cut, batch_line_cut, batch_text_bad, batch_text_cut, batch_text_line_cut, text_bad}
@@ -110,25 +107,24 @@ stop_by bytes others end e s = a_stop end (subst (λ (w : List ℕ). StopsSo w e
 -- the last edit of a batch, without a text and without a line feed
 batch_last : (n : ℕ) (front : List Listed) (blanks : ℕ) (e : Asked) (bytes : List ℕ) → IsNumber n → AreGoodEdits front → IsGoodEdit e → edited_text e ≡ None → n ≡ length front + 1 → bytes ≡ batch_bytes n front blanks (edit_line e) → Begins bytes
 batch_last n front blanks e bytes number goods good none count is =
-    a_last (Batch all) (subst IsNumber long number, good_more front one goods good) (last_in_line front one none) (fed ∙ ap (λ (k : ℕ). batch_line k ++ 10 ∷ flat_map listed_bytes all) long)
-  where
-    one : Listed
-    one = record { blanks = blanks; edit = e }
+    a_last (Batch all) (subst IsNumber long number, good_more front one goods good) (last_in_line front one none) (fed ∙ ap (λ (k : ℕ). batch_line k ++ 10 ∷ flat_map listed_bytes all) long) where
+      one : Listed
+      one = record { blanks = blanks; edit = e }
 
-    all : List Listed
-    all = front ++ one ∷ []
+      all : List Listed
+      all = front ++ one ∷ []
 
-    long : n ≡ length all
-    long = count ∙ sym (length-append front (one ∷ []))
+      long : n ≡ length all
+      long = count ∙ sym (length-append front (one ∷ []))
 
-    inside : (flat_map listed_bytes front ++ (replicate blanks 10 ++ edit_line e)) ++ 10 ∷ [] ≡ flat_map listed_bytes all
-    inside = append_assoc (flat_map listed_bytes front) (replicate blanks 10 ++ edit_line e) (10 ∷ [])
-        ∙ ap (λ (w : List ℕ). flat_map listed_bytes front ++ w) (append_assoc (replicate blanks 10) (edit_line e) (10 ∷ []) ∙ ap (λ (o : Option (List ℕ)).
-        replicate blanks 10 ++ (edit_line e ++ 10 ∷ ended_text o)) (sym none) ∙ sym (append-nil (listed_bytes one)))
-        ∙ sym (flat_map-append listed_bytes front (one ∷ []))
+      inside : (flat_map listed_bytes front ++ (replicate blanks 10 ++ edit_line e)) ++ 10 ∷ [] ≡ flat_map listed_bytes all
+      inside = append_assoc (flat_map listed_bytes front) (replicate blanks 10 ++ edit_line e) (10 ∷ [])
+          ∙ ap (λ (w : List ℕ). flat_map listed_bytes front ++ w) (append_assoc (replicate blanks 10) (edit_line e) (10 ∷ []) ∙ ap (λ (o : Option (List ℕ)).
+          replicate blanks 10 ++ (edit_line e ++ 10 ∷ ended_text o)) (sym none) ∙ sym (append-nil (listed_bytes one)))
+          ∙ sym (flat_map-append listed_bytes front (one ∷ []))
 
-    fed : bytes ++ 10 ∷ [] ≡ batch_line n ++ 10 ∷ flat_map listed_bytes all
-    fed = ap (λ (w : List ℕ). w ++ 10 ∷ []) is ∙ append_assoc (batch_line n) (10 ∷ (flat_map listed_bytes front ++ (replicate blanks 10 ++ edit_line e))) (10 ∷ []) ∙ ap (λ (w : List ℕ). batch_line n ++ 10 ∷ w) inside
+      fed : bytes ++ 10 ∷ [] ≡ batch_line n ++ 10 ∷ flat_map listed_bytes all
+      fed = ap (λ (w : List ℕ). w ++ 10 ∷ []) is ∙ append_assoc (batch_line n) (10 ∷ (flat_map listed_bytes front ++ (replicate blanks 10 ++ edit_line e))) (10 ∷ []) ∙ ap (λ (w : List ℕ). batch_line n ++ 10 ∷ w) inside
 
 -- the next edit, whose line is not ended
 batch_unfed : (n k : ℕ) (front : List Listed) (blanks : ℕ) (inner bytes : List ℕ) → AreListed n front → length front + suc k ≡ n → inner ≢ [] → Lacks 10 inner → bytes ≡ batch_bytes n front blanks inner → Dec (IsEditLine inner) → Begins bytes
@@ -145,8 +141,7 @@ batch_unfed n k front blanks inner bytes are count some l is (yes e) = by (edite
     by (Some t) k p c = stop_by bytes (batch_bytes n front blanks (edit_line e.edit)) CutShort so (batch_text_line_cut n front blanks e.edit (length t) are (record { good = e.good; text = t; is_text = p; count_is = refl }))
 
 line_not_empty : (line tail more : List ℕ) (b : ℕ) → b ≢ 10 → b ∷ more ≡ line ++ 10 ∷ tail → line ≢ []
-line_not_empty [] tail more b n e = λ k. let same : b ≡ 10 = cc in n same
-line_not_empty (x ∷ line) tail more b n e = λ k. cc
+line_not_empty line tail more b n e = grind (arith, common_steps) steps 200000
 
 not_empty : (bytes more : List ℕ) (b : ℕ) → bytes ≡ b ∷ more → bytes ≢ []
 not_empty bytes more b e k = cc
@@ -257,12 +252,7 @@ joined_one : (bytes left : List ℕ) (x : Entry) → IsGoodEntry x → bytes ≡
 joined_one bytes left x g e = record { good = (g, tt); joined = e ∙ ap (λ (w : List ℕ). w ++ left) (sym (append-nil (entry_bytes x))) }
 
 one_more : (bytes left : List ℕ) (x : Entry) → IsGoodEntry x → bytes ≡ entry_bytes x ++ left → HasOne left → HasOne bytes
-one_more bytes left x g e r = record {
-  entries = x ∷ r.entries;
-  rest = r.rest;
-  end = r.end;
-  is = record { reading = reading_behind bytes (x ∷ []) r.entries left r.rest (joined_one bytes left x g e) r.is.reading; ends = r.is.ends };
-}
+one_more bytes left x g e r = grind (arith, common_steps, reading_behind bytes (x ∷ []) r.entries left r.rest (joined_one bytes left x g e) r.is.reading) steps 200000
 
 fewer : (bytes left : List ℕ) (x : Entry) (n : ℕ) → bytes ≡ entry_bytes x ++ left → length bytes ≤ suc n → length left ≤ n
 fewer bytes left x n e h = let m : length bytes ≡ length (entry_bytes x) + length left = ap length e ∙ length-append (entry_bytes x) left in omega (arith, entry_some x)

@@ -1,5 +1,5 @@
 -- Lists that are joined by a byte which none of them has.
-use Rattle.std.proofs.{Common.{◌≡◌, ◌≢◌, ℕ, Bool, true, false, not, ◌&&◌, List, [], ◌∷◌, ◌++◌, refl, sym, ap, ◌==◌, IsTrue}, lemmas.Bool.{and_parts}}
+use Rattle.std.proofs.{Common.{arith, ◌≡◌, ◌≢◌, ℕ, Bool, true, false, not, ◌&&◌, List, [], ◌∷◌, ◌++◌, refl, sym, ap, ◌==◌, IsTrue}, lemmas.{Grind.{common_steps}, Bool.{and_parts}}}
 use Rattle.std.specs.List.{AllByRecursion, list_all, join_with_byte}
 use Rattle.mm_script.specs.Language.Script.{is_word_byte}
 
@@ -11,10 +11,7 @@ pub split_at : (c : ℕ) (xs ys s t : List ℕ) → Lacks c xs → Lacks c ys �
 split_at c [] [] s t f g e = (refl, cc)
 split_at c [] (y ∷ ys) s t f g e = let same : y ≡ c = cc in absurd (g.0 same)
 split_at c (x ∷ xs) [] s t f g e = let same : x ≡ c = cc in absurd (f.0 same)
-split_at c (x ∷ xs) (y ∷ ys) s t f g e =
-    let rest : xs ++ c ∷ s ≡ ys ++ c ∷ t = cc in
-    let more : (xs ≡ ys) × (s ≡ t) = split_at c xs ys s t f.1 g.1 rest in
-    (cc, more.1)
+split_at c (x ∷ xs) (y ∷ ys) s t f g e = grind (arith, common_steps, split_at c xs ys s t f.1 g.1 cc) steps 200000
 
 pub not_inside : (c : ℕ) (xs ys s : List ℕ) → Lacks c xs → xs ≡ ys ++ c ∷ s → ⊥
 not_inside c [] [] s f e = cc
@@ -28,9 +25,7 @@ same_words c x y [] [] f g e = ap (λ (w : List ℕ). w ∷ []) e
 same_words c x y [] (z ∷ ys) f g e = absurd (not_inside c x y (join_with_byte c (z ∷ ys)) f.0 e)
 same_words c x y (z ∷ xs) [] f g e = absurd (not_inside c y x (join_with_byte c (z ∷ xs)) g.0 (sym e))
 same_words c x y (z ∷ xs) (w ∷ ys) f g e =
-    let both : (x ≡ y) × (join_with_byte c (z ∷ xs) ≡ join_with_byte c (w ∷ ys)) = split_at c x y (join_with_byte c (z ∷ xs)) (join_with_byte c (w ∷ ys)) f.0 g.0 e in
-    let rest : z ∷ xs ≡ w ∷ ys = same_words c z w xs ys f.1 g.1 both.1 in
-    cc
+    grind (arith, common_steps, same_words c z w xs ys f.1 g.1 (split_at c x y (join_with_byte c (z ∷ xs)) (join_with_byte c (w ∷ ys)) f.0 g.0 e).1, split_at) steps 200000
 
 lacks_more : (c : ℕ) (xs ys : List ℕ) → Lacks c xs → Lacks c ys → Lacks c (xs ++ ys)
 lacks_more c [] ys f g = g
@@ -47,15 +42,7 @@ space_or_feed b false false e f h = (refl, refl)
 space_or_feed b _ _ e f h = cc
 
 pub word_byte : (b : ℕ) → IsTrue (is_word_byte b) → (b ≢ 32) × (b ≢ 10)
-word_byte b h =
-    let both = space_or_feed b (b == 32) (b == 10) refl refl h in
-    (λ (e : b ≡ 32). no_space e both.0, λ (e : b ≡ 10). no_feed e both.1)
-  where
-    no_space : b ≡ 32 → (b == 32) ≡ false → ⊥
-    no_space e f = cc
-
-    no_feed : b ≡ 10 → (b == 10) ≡ false → ⊥
-    no_feed e f = cc
+word_byte b h = grind (arith, common_steps, space_or_feed) steps 200000
 
 pub solid_space : (xs : List ℕ) → list_all is_word_byte xs ≡ true → Lacks 32 xs
 solid_space [] h = tt

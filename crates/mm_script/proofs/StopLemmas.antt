@@ -1,18 +1,15 @@
 -- Where a script ends that begins with no whole command, and where it has to be read on.
+use Rattle.std.proofs.lemmas.{Grind.{common_steps}, List.{append-nil, length-replicate, replicate_more}}
 use Rattle.std.proofs.Common.{◌≡◌, ◌≢◌, ◌<◌, ◌≤◌, ◌+◌, ℕ, None, List, [], ◌∷◌, ◌++◌, length, length-append, replicate, refl, sym, ap, ◌∙◌, subst, inl, inr, arith, append_assoc}
-use Rattle.std.proofs.lemmas.List.{append-nil, length-replicate, replicate_more}
 use Rattle.std.specs.List.{flat_map}
 use Rattle.mm_text.specs.Language.Asked.{Asked, edited_text}
-use Rattle.mm_script.specs.Code.Stops.{IsOneLine, IsBadLine, IsBadEditLine, HasTextOf, AreListed, batch_line, batch_bytes}
-use Rattle.mm_script.specs.Language.Commands.{StopsSo, HasNoEntry}
+use Rattle.mm_script.specs.{Code.Stops.{IsOneLine, IsBadLine, IsBadEditLine, HasTextOf, AreListed, batch_line, batch_bytes}, Language.Commands.{StopsSo, HasNoEntry}}
 use Rattle.mm_script.specs.Language.Script.{Command, Batch, Change, Listed, CutShort, BadLine, EndsInLine, IsCutShort, IsGood, IsGoodEdit, IsNumber, LastInLine, MayBreak, behind_line, edit_bytes}
-use Rattle.mm_script.specs.Language.Script.{edit_line, ended_text, line_of, listed_bytes}
-use Rattle.mm_script.proofs.ScriptLemmas.{NoEntry, NoLast, none_is_read, none_so_far}
+use Rattle.mm_script.{specs.Language.Script.{edit_line, ended_text, line_of, listed_bytes}, proofs.ScriptLemmas.{NoEntry, NoLast, none_is_read, none_so_far}}
 use Rattle.mm_script.proofs.ScriptLineLemmas.{LacksWhole, HasTextBehind, WithText, edit_line_some, filled, filling, filling_ends, line_no_entry, line_no_last, line_not_cut, no_entry_by, no_last_by}
 use Rattle.mm_script.proofs.ScriptLineLemmas.{stops_bad, stops_bad_by, stops_cut, text_of_line, too_long, with_text}
 use Rattle.mm_script.proofs.ScriptBatchLemmas.{NextEdit, any_are_good, any_edit, any_good, any_listed, batch_by_line, batch_is_cut, batch_lacks, batch_no_entry, batch_no_last, batch_not_cut}
-use Rattle.mm_script.proofs.ScriptBatchLemmas.{feeds_no_line, inside, line_behind_feeds, listed_some, no_break}
-use Rattle.mm_script.proofs.{SplitLemmas.{not_inside, split_at}, WordLemmas.{edit_lacks_feed, same_front}}
+use Rattle.mm_script.proofs.{ScriptBatchLemmas.{feeds_no_line, inside, line_behind_feeds, listed_some, no_break}, SplitLemmas.{not_inside, split_at}, WordLemmas.{edit_lacks_feed, same_front}}
 
 -- a bad line, with its line feed or as the last
 pub bad_line : (line more : List ℕ) → IsBadLine line → StopsSo (line ++ 10 ∷ more) BadLine
@@ -83,10 +80,7 @@ pub text_bad : (edit : Asked) (count : ℕ) (text more : List ℕ) (byte : ℕ) 
 text_bad edit count text more byte has is other = stops_bad_by (edit_line edit) (text ++ byte ∷ more) (edit_lacks_feed edit has.good) (edit_line_some edit) whole begun
   where
     feed : (t s u : List ℕ) → length t ≡ count → text ++ byte ∷ s ≡ (t ++ 10 ∷ []) ++ u → ⊥
-    feed t s u l e =
-        let both : (text ≡ t) × (byte ∷ s ≡ 10 ∷ u) = same_front text t (byte ∷ s) (10 ∷ u) (is ∙ sym l) (e ∙ append_assoc t (10 ∷ []) u) in
-        let same : byte ≡ 10 = cc in
-        other same
+    feed t s u l e = grind (arith, common_steps, same_front text t (byte ∷ s) (10 ∷ u) (is ∙ sym l) (e ∙ append_assoc t (10 ∷ []) u)) steps 200000
 
     whole : LacksWhole (edit_line edit) (text ++ byte ∷ more)
     whole c left g e k = let t = text_of_line edit count has c g e in feed t.text more left t.count_is (k ∙ ap (λ (bytes : List ℕ). bytes ++ left) t.is_behind)
@@ -151,17 +145,11 @@ batch_cut n front blanks are = stops_cut (batch_bytes n front blanks []) (no_fee
 -- the line of the next edit is this one, and what comes after it is what is here
 next_line : (n : ℕ) (front : List Listed) (blanks : ℕ) (line more left : List ℕ) (c : Command) → line ≢ [] → IsOneLine line → (x : NextEdit n front blanks (line ++ 10 ∷ more) left c)
     → (line ≡ edit_line x.next.edit) × (more ≡ ended_text (edited_text x.next.edit) ++ (flat_map listed_bytes x.later ++ left))
-next_line n front blanks line more left c some l x =
-    let s = ended_text (edited_text x.next.edit) ++ (flat_map listed_bytes x.later ++ left) in
-    let both = line_behind_feeds blanks x.next.blanks line (10 ∷ more) x.next.edit (10 ∷ s) some l x.left in
-    split_at 10 line (edit_line x.next.edit) more s l (edit_lacks_feed x.next.edit x.good) both.1
+next_line n front blanks line more left c some l x = grind (arith, common_steps, edit_lacks_feed, line_behind_feeds, split_at) steps 200000
 
 next_line_more : (n : ℕ) (front : List Listed) (blanks : ℕ) (line more end left : List ℕ) (c : Command) → line ≢ [] → IsOneLine line → (x : NextEdit n front blanks ((line ++ 10 ∷ more) ++ end) left c)
     → (line ≡ edit_line x.next.edit) × (more ++ end ≡ ended_text (edited_text x.next.edit) ++ (flat_map listed_bytes x.later ++ left))
-next_line_more n front blanks line more end left c some l x =
-    let s = ended_text (edited_text x.next.edit) ++ (flat_map listed_bytes x.later ++ left) in
-    let both = line_behind_feeds blanks x.next.blanks line (10 ∷ (more ++ end)) x.next.edit (10 ∷ s) some l (ap (λ (w : List ℕ). replicate blanks 10 ++ w) (sym (append_assoc line (10 ∷ more) end)) ∙ x.left) in
-    split_at 10 line (edit_line x.next.edit) (more ++ end) s l (edit_lacks_feed x.next.edit x.good) both.1
+next_line_more n front blanks line more end left c some l x = grind (arith, common_steps, edit_lacks_feed, line_behind_feeds, split_at) steps 200000
 
 -- a batch with a bad line
 pub batch_bad_line : (n : ℕ) (front : List Listed) (blanks : ℕ) (line more : List ℕ) → AreListed n front → IsBadEditLine line

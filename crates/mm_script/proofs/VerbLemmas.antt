@@ -1,5 +1,5 @@
 -- The first words of lines that have more words.
-use Rattle.std.proofs.Common.{◌≢◌, ◌+◌, ◌<◌, ℕ, zero, suc, List, [], ◌∷◌, get_or, arith}
+use Rattle.std.proofs.Common.{◌≢◌, ◌<◌, ℕ, List, [], ◌∷◌, get_or, arith}
 use Rattle.mm_script.specs.{declared.line.Verb.{Verb, TheVariants.{Insert, Replace, Delete, Move, Batch, Verdict, Axioms, Cites, Users}}, Code.Lines.{verb_word}}
 
 -- all of them
@@ -17,10 +17,3 @@ none_of_all word none Verdict = none 5 (omega arith)
 none_of_all word none Axioms = none 6 (omega arith)
 none_of_all word none Cites = none 7 (omega arith)
 none_of_all word none Users = none 8 (omega arith)
-
--- one number more
-pub up_to : (P : ℕ → Type 0) (n k : ℕ) → ((i : ℕ) → i < n → P i) → P n → k < n + 1 → P k
-up_to P zero zero f p low = p
-up_to P zero (suc k) f p low = absurd (omega arith)
-up_to P (suc n) zero f p low = f 0 (omega arith)
-up_to P (suc n) (suc k) f p low = up_to (λ i. P (suc i)) n k (λ i l. f (suc i) (omega arith)) p (omega arith)

@@ -1,14 +1,12 @@
 -- Whether bytes are the line of an edit or of a command.
-use Rattle.std.proofs.Common.{◌≡◌, ◌≢◌, ◌⊎◌, ℕ, ◌<◌, ◌≤◌, true, false, List, [], ◌∷◌, length, replicate, refl, sym, ap, ◌∙◌, subst, inl, inr, arith, All, codes, decimal}
-use Rattle.std.proofs.Math.{Dec.{eqb}, Decide.{map_dec, ℕ_discrete}, Bool.{Bool-discrete}}
-use Rattle.std.proofs.lemmas.{Bool.{cases_lt, ne_eqb}, Fmt.{decimal_is_IsNumeral}}
-use Rattle.std.proofs.lemmas.List.{length-replicate, Elements.{All-from_recursion}, Splits.{join_with_byte-slice_split, slice_split_none, slice_split_at}}
-use Rattle.std.specs.{List.{AllByRecursion, list_all, join_with_byte, slice_split}, Str.Parse.{digits_value}}
+use Rattle.std.proofs.lemmas.{Grind.{common_steps}, Bool.{cases_lt, ne_eqb}, Fmt.{decimal_is_IsNumeral}, List.{length-replicate, Splits.{join_with_byte-slice_split, slice_split_none, slice_split_at}}}
+use Rattle.std.proofs.{Common.{◌≡◌, ◌≢◌, ◌⊎◌, ℕ, ◌<◌, ◌≤◌, true, false, List, [], ◌∷◌, length, replicate, refl, sym, ap, ◌∙◌, subst, inl, inr, arith, All, codes, decimal}, Math.Dec.{eqb}}
+use Rattle.std.{proofs.Math.{Decide.{map_dec, ℕ_discrete}, Bool.{Bool-discrete}}, specs.{List.{AllByRecursion, list_all, join_with_byte, slice_split}, Str.Parse.{digits_value}}}
 use mathlib.Core.List.{List-discrete}
 use Rattle.mm_text.specs.Language.Asked.{Asked, Insert, Replace, Delete, Move}
 use Rattle.mm_script.specs.Language.Script.{Command, Change, Batch, Report, Verdict, Axioms, Cites, Users, edit_line, edit_words, command_words, line_of, is_word_byte, IsName, IsNumber, IsGood}
-use Rattle.mm_script.specs.Language.Script.{IsGoodEdit}
-use Rattle.mm_script.proofs.{SplitLemmas.{Lacks}, WordLemmas.{words_solid, has_first, small_number, HasFirst, lack_spaces}, ScriptBatchLemmas.{any_are_good, any_listed}}
+use Rattle.mm_script.{specs.Language.Script.{IsGoodEdit}, proofs.{SplitLemmas.{Lacks}, WordLemmas.{words_solid, has_first, small_number, HasFirst, lack_spaces}}}
+use Rattle.mm_script.proofs.ScriptBatchLemmas.{any_are_good, any_listed}
 
 dec_and : {P Q : Type 0} → Dec P → Dec Q → Dec (P × Q)
 dec_and (yes p) (yes q) = yes (p, q)
@@ -70,19 +68,17 @@ asks_or_not keyword _ = no (λ a. cc)
 
 deletes_or_not : (words : List (List ℕ)) → Dec (Deletes words)
 deletes_or_not (w ∷ f ∷ n ∷ []) =
-    map_dec (λ b. record { file = f; name = b.1.0; at = b.1.1.number; small = b.1.1.small; is = λ i. b.0 i ∷ f ∷ b.1.1.is i ∷ [] }) back (dec_and (same_bytes w (codes "delete")) (dec_and (name_or_not f) (number_or_not n)))
-  where
-    back : Deletes (w ∷ f ∷ n ∷ []) → (w ≡ codes "delete") × (IsName f × Spells n)
-    back a = let h : a.file ≡ f = cc in (cc, (subst IsName h a.name, record { number = a.at; small = a.small; is = cc }))
+    map_dec (λ b. record { file = f; name = b.1.0; at = b.1.1.number; small = b.1.1.small; is = λ i. b.0 i ∷ f ∷ b.1.1.is i ∷ [] }) back (dec_and (same_bytes w (codes "delete")) (dec_and (name_or_not f) (number_or_not n))) where
+      back : Deletes (w ∷ f ∷ n ∷ []) → (w ≡ codes "delete") × (IsName f × Spells n)
+      back a = let h : a.file ≡ f = cc in (cc, (subst IsName h a.name, record { number = a.at; small = a.small; is = cc }))
 deletes_or_not _ = no (λ a. cc)
 
 counts_or_not : (keyword : List ℕ) (words : List (List ℕ)) → Dec (Counts keyword words)
 counts_or_not keyword (w ∷ f ∷ n ∷ c ∷ []) =
     map_dec (λ b. record { file = f; name = b.1.0; at = b.1.1.0.number; small = b.1.1.0.small; count = b.1.1.1.number; small_count = b.1.1.1.small; is = λ i. b.0 i ∷ f ∷ b.1.1.0.is i ∷ b.1.1.1.is i ∷ [] }) back
-    (dec_and (same_bytes w keyword) (dec_and (name_or_not f) (dec_and (number_or_not n) (number_or_not c))))
-  where
-    back : Counts keyword (w ∷ f ∷ n ∷ c ∷ []) → (w ≡ keyword) × (IsName f × (Spells n × Spells c))
-    back a = let h : a.file ≡ f = cc in (cc, (subst IsName h a.name, (record { number = a.at; small = a.small; is = cc }, record { number = a.count; small = a.small_count; is = cc })))
+    (dec_and (same_bytes w keyword) (dec_and (name_or_not f) (dec_and (number_or_not n) (number_or_not c)))) where
+      back : Counts keyword (w ∷ f ∷ n ∷ c ∷ []) → (w ≡ keyword) × (IsName f × (Spells n × Spells c))
+      back a = let h : a.file ≡ f = cc in (cc, (subst IsName h a.name, (record { number = a.at; small = a.small; is = cc }, record { number = a.count; small = a.small_count; is = cc })))
 counts_or_not keyword _ = no (λ a. cc)
 
 record Batches (words : List (List ℕ)) : Type 0 where
@@ -120,11 +116,7 @@ unfolding words_in
 joined line = join_with_byte-slice_split 32 line
 
 lacks_test : (xs : List ℕ) → Lacks 32 xs → All (λ x. eqb x 32 ≡ false) xs
-lacks_test xs f = All-from_recursion _ xs (by xs f)
-  where
-    by : (xs : List ℕ) → Lacks 32 xs → AllByRecursion (λ x. eqb x 32 ≡ false) xs
-    by [] f = tt
-    by (x ∷ xs) f = (ne_eqb x 32 f.0, by xs f.1)
+lacks_test xs f = grind (arith, common_steps, eqb, ne_eqb) steps 200000
 
 split_join : (w : List ℕ) (ws : List (List ℕ)) → AllByRecursion (Lacks 32) (w ∷ ws) → words_in (join_with_byte 32 (w ∷ ws)) ≡ w ∷ ws
 unfolding words_in
@@ -135,10 +127,7 @@ words_are : (c : Command) → IsGood c → (line : List ℕ) → line ≡ line_o
 words_are c g line e = by (command_words c) (has_first c) (lack_spaces (command_words c) (words_solid c g)) e
   where
     by : (words : List (List ℕ)) → HasFirst words → AllByRecursion (Lacks 32) words → line ≡ join_with_byte 32 words → words ≡ words_in line
-    by words f h k =
-        let h' : AllByRecursion (Lacks 32) (f.0 ∷ f.1) = subst (λ (x : List (List ℕ)). AllByRecursion (Lacks 32) x) f.2 h in
-        let k' : join_with_byte 32 (f.0 ∷ f.1) ≡ line = ap (λ (x : List (List ℕ)). join_with_byte 32 x) (sym f.2) ∙ sym k in
-        f.2 ∙ sym (split_join f.0 f.1 h') ∙ ap words_in k'
+    by words f h k = grind (arith, common_steps, split_join f.0 f.1 (subst (λ (x : List (List ℕ)). AllByRecursion (Lacks 32) x) f.2 h), words_in) steps 200000
 
 -- some text of this many bytes, and this many edits
 abbrev some_text : ℕ → List ℕ

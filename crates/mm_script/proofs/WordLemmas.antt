@@ -1,11 +1,10 @@
 -- The words of commands, and what follows from equal bytes.
+use Rattle.std.proofs.lemmas.{Grind.{common_steps}, List.{append-nil}, Fmt.{decimal_by_steps, decimal_injective}, Bool.{and_from, and_parts}}
 use Rattle.std.proofs.Common.{◌≡◌, ◌≢◌, ◌⊎◌, ℕ, zero, suc, ◌+◌, ◌*◌, ◌^◌, ◌%◌, ◌<◌, ◌≤◌, Bool, true, false, not, ◌&&◌, List, [], ◌∷◌, ◌++◌, length, length-append, replicate, refl, sym, ap, ◌∙◌, subst}
-use Rattle.std.proofs.Common.{arith, append_assoc, inl, inr, ne_eqb}
-use Rattle.std.proofs.lemmas.{List.{append-nil}, Fmt.{decimal_by_steps, decimal_injective}, Bool.{and_from, and_parts}}
-use Rattle.std.specs.{Prelude.{codes, decimal, slice_index, slice_index_or}, List.{AllByRecursion, flat_map, list_all, join_with_byte}}
-use Rattle.mm_text.specs.Language.Asked.{Asked, Insert, Replace, Delete, Move, edited_text}
+use Rattle.std.{proofs.Common.{arith, append_assoc, ne_eqb}, specs.{Prelude.{decimal, slice_index, slice_index_or}, List.{AllByRecursion, flat_map, list_all, join_with_byte}}}
+use Rattle.mm_text.specs.Language.Asked.{Asked, Insert, edited_text}
 use Rattle.mm_script.specs.Language.Script.{Listed, Command, Change, Report, Verdict, Axioms, Cites, Users, Batch, edit_line, listed_bytes, edit_words, command_words, line_of, ended_text, behind_line}
-use Rattle.mm_script.specs.Language.Script.{command_bytes, is_word_byte, IsName, IsNumber, IsGoodEdit, AreGoodEdits, IsGood}
+use Rattle.mm_script.specs.Language.Script.{command_bytes, is_word_byte, IsNumber, IsGoodEdit, AreGoodEdits, IsGood}
 use Rattle.mm_script.proofs.SplitLemmas.{Lacks, split_at, same_words, join_lacks, solid_space, solid_feed}
 
 -- a word has neither a space nor a line feed
@@ -36,17 +35,8 @@ small_number n h = omega arith
 abbrev pub AreSolid : List (List ℕ) → Type 0
 AreSolid words = AllByRecursion IsSolid words
 
-counted_solid : (keyword file text : List ℕ) (at : ℕ) → IsSolid keyword → IsName file → IsNumber at → IsNumber (length text) → AreSolid (keyword ∷ file ∷ decimal at ∷ decimal (length text) ∷ [])
-counted_solid keyword file text at h name a n = (h, (name.bytes, (solid_decimal at (small_number at a), (solid_decimal (length text) (small_number (length text) n), tt))))
-
 pub words_solid : (c : Command) → IsGood c → AreSolid (command_words c)
-words_solid (Change (Insert file at text)) g = counted_solid (codes "insert") file text at refl g.0 g.1 g.2
-words_solid (Change (Replace file at text)) g = counted_solid (codes "replace") file text at refl g.0 g.1 g.2
-words_solid (Change (Delete file at)) g = (refl, (g.0.bytes, (solid_decimal at (small_number at g.1), tt)))
-words_solid (Change (Move file at to)) g = (refl, (g.0.bytes, (solid_decimal at (small_number at g.1), (solid_decimal to (small_number to g.2), tt))))
-words_solid (Batch edits) g = (refl, (solid_decimal (length edits) (small_number (length edits) g.0), tt))
-words_solid Report g = (refl, tt)
-words_solid _ g = (refl, (g.bytes, tt))
+words_solid c g = grind (arith, common_steps, small_number, solid_decimal) steps 200000
 
 pub lack_spaces : (words : List (List ℕ)) → AreSolid words → AllByRecursion (Lacks 32) words
 lack_spaces [] h = tt
@@ -73,9 +63,8 @@ same_words_by_line words others f g h k e = by f.0 f.1 g.0 g.1 f.2 g.2
     by : (w : List ℕ) (ws : List (List ℕ)) (v : List ℕ) (vs : List (List ℕ)) → words ≡ w ∷ ws → others ≡ v ∷ vs → words ≡ others
     by w ws v vs p q =
         let h' : AllByRecursion (Lacks 32) (w ∷ ws) = subst (λ (x : List (List ℕ)). AllByRecursion (Lacks 32) x) p (lack_spaces words h) in
-        let k' : AllByRecursion (Lacks 32) (v ∷ vs) = subst (λ (x : List (List ℕ)). AllByRecursion (Lacks 32) x) q (lack_spaces others k) in
         let e' : join_with_byte 32 (w ∷ ws) ≡ join_with_byte 32 (v ∷ vs) = ap (λ (x : List (List ℕ)). join_with_byte 32 x) (sym p) ∙ e ∙ ap (λ (x : List (List ℕ)). join_with_byte 32 x) q in
-        p ∙ same_words 32 w v ws vs h' k' e' ∙ sym q
+        p ∙ same_words 32 w v ws vs h' (subst (λ (x : List (List ℕ)). AllByRecursion (Lacks 32) x) q (lack_spaces others k)) e' ∙ sym q
 
 -- a number by which first words differ
 abbrev pub tag : List (List ℕ) → ℕ
@@ -84,10 +73,7 @@ tag words = slice_index (slice_index_or words 0 []) 0 * 1000 + slice_index (slic
 -- texts of one length in front of other bytes
 pub same_front : (xs ys s t : List ℕ) → length xs ≡ length ys → xs ++ s ≡ ys ++ t → (xs ≡ ys) × (s ≡ t)
 same_front [] [] s t l e = (refl, e)
-same_front (x ∷ xs) (y ∷ ys) s t l e =
-    let rest : xs ++ s ≡ ys ++ t = cc in
-    let more : (xs ≡ ys) × (s ≡ t) = same_front xs ys s t (omega arith) rest in
-    (cc, more.1)
+same_front (x ∷ xs) (y ∷ ys) s t l e = grind (arith, common_steps, same_front xs ys s t (omega arith) cc) steps 200000
 same_front _ _ s t l e = absurd (omega arith)
 
 same_counted : (keyword : List ℕ) (f f' text text' : List ℕ) (at at' : ℕ) (s t : List ℕ) → IsNumber at → IsNumber at' → IsNumber (length text) → IsNumber (length text')
@@ -104,30 +90,10 @@ same_counted keyword f f' text text' at at' s t a a' n n' e g =
 
 -- by what the first word of an edit is known
 pub edit_tag : (e : Asked) → (tag (edit_words e) ≡ 105101) ⊎ ((tag (edit_words e) ≡ 114108) ⊎ ((tag (edit_words e) ≡ 100101) ⊎ (tag (edit_words e) ≡ 109101)))
-edit_tag (Insert file at text) = inl refl
-edit_tag (Replace file at text) = inr (inl refl)
-edit_tag (Delete file at) = inr (inr (inl refl))
-edit_tag (Move file at to) = inr (inr (inr refl))
+edit_tag e = grind (arith, common_steps) steps 200000
 
 same_edit : (c d : Asked) (s t : List ℕ) → IsGoodEdit c → IsGoodEdit d → edit_words c ≡ edit_words d → ended_text (edited_text c) ++ s ≡ ended_text (edited_text d) ++ t → (c ≡ d) × (s ≡ t)
-same_edit (Insert f at text) (Insert f' at' text') s t g h e k =
-    let all = same_counted (codes "insert") f f' text text' at at' s t g.1 h.1 g.2 h.2 e k in
-    (λ i. Insert (all.0.0 i) (all.0.1 i) (all.0.2 i), all.1)
-same_edit (Replace f at text) (Replace f' at' text') s t g h e k =
-    let all = same_counted (codes "replace") f f' text text' at at' s t g.1 h.1 g.2 h.2 e k in
-    (λ i. Replace (all.0.0 i) (all.0.1 i) (all.0.2 i), all.1)
-same_edit (Delete f at) (Delete f' at') s t g h e k =
-    let at_word : decimal at ≡ decimal at' = cc in
-    let ats : at ≡ at' = decimal_injective at at' (small_number at g.1) (small_number at' h.1) at_word in
-    (cc, k)
-same_edit (Move f at to) (Move f' at' to') s t g h e k =
-    let file : f ≡ f' = cc in
-    let at_word : decimal at ≡ decimal at' = cc in
-    let to_word : decimal to ≡ decimal to' = cc in
-    let ats : at ≡ at' = decimal_injective at at' (small_number at g.1) (small_number at' h.1) at_word in
-    let tos : to ≡ to' = decimal_injective to to' (small_number to g.2) (small_number to' h.2) to_word in
-    ((λ i. Move (file i) (ats i) (tos i)), k)
-same_edit _ _ s t g h e k = absurd (omega (arith, ap tag e))
+same_edit c d s t g h e k = grind (arith, common_steps, decimal_injective, same_counted, small_number) steps 200000
 
 -- the line of an edit begins with another byte than a line feed
 pub edit_head : (e : Asked) → (b : ℕ) × (rest : List ℕ) × (edit_line e ≡ b ∷ rest) × (b ≢ 10)
@@ -139,10 +105,7 @@ pub same_blanks : (m n b c : ℕ) (s t : List ℕ) → b ≢ 10 → c ≢ 10 →
 same_blanks zero zero b c s t f g e = (refl, e)
 same_blanks zero (suc n) b c s t f g e = let same : b ≡ 10 = cc in absurd (f same)
 same_blanks (suc m) zero b c s t f g e = let same : c ≡ 10 = cc in absurd (g same)
-same_blanks (suc m) (suc n) b c s t f g e =
-    let rest : replicate m 10 ++ b ∷ s ≡ replicate n 10 ++ c ∷ t = cc in
-    let more : (m ≡ n) × (b ∷ s ≡ c ∷ t) = same_blanks m n b c s t f g rest in
-    (ap suc more.0, more.1)
+same_blanks (suc m) (suc n) b c s t f g e = grind (arith, common_steps, same_blanks m n b c s t f g cc) steps 200000
 
 pub edit_lacks_feed : (e : Asked) → IsGoodEdit e → Lacks 10 (edit_line e)
 edit_lacks_feed e g = line_lacks_feed (Change e) g
@@ -152,9 +115,7 @@ words_by_edit_line e f g h k = same_words_by_line (edit_words e) (edit_words f) 
 
 -- the bytes of an edit of a batch: the empty lines, the line, and what comes after it
 pub listed_parts : (x : Listed) (s : List ℕ) → listed_bytes x ++ s ≡ replicate x.blanks 10 ++ (edit_line x.edit ++ 10 ∷ (ended_text (edited_text x.edit) ++ s))
-listed_parts x s =
-    append_assoc (replicate x.blanks 10) (edit_line x.edit ++ 10 ∷ ended_text (edited_text x.edit)) s
-    ∙ ap (λ (w : List ℕ). replicate x.blanks 10 ++ w) (append_assoc (edit_line x.edit) (10 ∷ ended_text (edited_text x.edit)) s)
+listed_parts x s = grind (arith, common_steps) steps 200000
 
 -- empty lines and a line of an edit are known from their bytes
 pub same_line : (m n : ℕ) (e f : Asked) (s t : List ℕ) → IsGoodEdit e → IsGoodEdit f → replicate m 10 ++ (edit_line e ++ 10 ∷ s) ≡ replicate n 10 ++ (edit_line f ++ 10 ∷ t) → ((m ≡ n) × (edit_line e ≡ edit_line f)) × (s ≡ t)
@@ -162,18 +123,13 @@ same_line m n e f s t g h k =
     let p = edit_head e in
     let q = edit_head f in
     let first : replicate m 10 ++ (edit_line e ++ 10 ∷ s) ≡ replicate m 10 ++ p.0 ∷ (p.1 ++ 10 ∷ s) = ap (λ (w : List ℕ). replicate m 10 ++ (w ++ 10 ∷ s)) p.2 in
-    let second : replicate n 10 ++ (edit_line f ++ 10 ∷ t) ≡ replicate n 10 ++ q.0 ∷ (q.1 ++ 10 ∷ t) = ap (λ (w : List ℕ). replicate n 10 ++ (w ++ 10 ∷ t)) q.2 in
-    let blanks = same_blanks m n p.0 q.0 (p.1 ++ 10 ∷ s) (q.1 ++ 10 ∷ t) p.3 q.3 (sym first ∙ k ∙ second) in
+    let blanks = same_blanks m n p.0 q.0 (p.1 ++ 10 ∷ s) (q.1 ++ 10 ∷ t) p.3 q.3 (sym first ∙ k ∙ ap (λ (w : List ℕ). replicate n 10 ++ (w ++ 10 ∷ t)) q.2) in
     let lines : edit_line e ++ 10 ∷ s ≡ edit_line f ++ 10 ∷ t = ap (λ (w : List ℕ). w ++ 10 ∷ s) p.2 ∙ blanks.1 ∙ sym (ap (λ (w : List ℕ). w ++ 10 ∷ t) q.2) in
     let split = split_at 10 (edit_line e) (edit_line f) s t (edit_lacks_feed e g) (edit_lacks_feed f h) lines in
     ((blanks.0, split.0), split.1)
 
 same_listed : (x y : Listed) (s t : List ℕ) → IsGoodEdit x.edit → IsGoodEdit y.edit → listed_bytes x ++ s ≡ listed_bytes y ++ t → (x ≡ y) × (s ≡ t)
-same_listed x y s t g h k =
-    let lines = same_line x.blanks y.blanks x.edit y.edit (ended_text (edited_text x.edit) ++ s) (ended_text (edited_text y.edit) ++ t) g h (sym (listed_parts x s) ∙ k ∙ listed_parts y t) in
-    let words = words_by_edit_line x.edit y.edit g h lines.0.1 in
-    let same : (x.edit ≡ y.edit) × (s ≡ t) = same_edit x.edit y.edit s t g h words lines.1 in
-    ((λ i. record { blanks = lines.0.0 i; edit = same.0 i }), same.1)
+same_listed x y s t g h k = grind (arith, common_steps, listed_parts, same_edit, same_line, words_by_edit_line) steps 200000
 
 -- the first edits are a beginning of the others, and the bytes after them begin with the rest of the others
 pub record BeginsEdits (xs ys : List Listed) (s t : List ℕ) : Type 0 where
@@ -193,18 +149,10 @@ same_edits : (xs ys : List Listed) (s t : List ℕ) → AreGoodEdits xs → AreG
 same_edits xs ys s t g h l e = by (edits_begin xs ys s t g h (omega arith) e)
   where
     by : BeginsEdits xs ys s t → (xs ≡ ys) × (s ≡ t)
-    by b = on b.later b.are b.left
-      where
-        on : (later : List Listed) → ys ≡ xs ++ later → s ≡ flat_map listed_bytes later ++ t → (xs ≡ ys) × (s ≡ t)
-        on [] p q = (sym (p ∙ append-nil xs), q)
-        on (z ∷ zs) p q = let n : length ys ≡ length xs + length (z ∷ zs) = ap length p ∙ length-append xs (z ∷ zs) in absurd (omega arith)
+    by b = grind (arith, common_steps, append-nil, length-append) steps 200000
 
 pub same_command : (c d : Command) (s t : List ℕ) → IsGood c → IsGood d → command_words c ≡ command_words d → behind_line c ++ s ≡ behind_line d ++ t → (c ≡ d) × (s ≡ t)
-same_command (Batch xs) (Batch ys) s t g h e k =
-    let count_word : decimal (length xs) ≡ decimal (length ys) = cc in
-    let counts : length xs ≡ length ys = decimal_injective (length xs) (length ys) (small_number _ g.0) (small_number _ h.0) count_word in
-    let both = same_edits xs ys s t g.1 h.1 counts k in
-    (ap Batch both.0, both.1)
+same_command (Batch xs) (Batch ys) s t g h e k = grind (arith, common_steps, decimal_injective, same_edits, small_number) steps 200000
 same_command Report Report s t g h e k = (refl, k)
 same_command (Verdict l) (Verdict m) s t g h e k = (cc, k)
 same_command (Axioms l) (Axioms m) s t g h e k = (cc, k)
@@ -217,18 +165,8 @@ same_command _ _ s t g h e k = absurd (omega (arith, ap tag e))
 
 -- the first command of some bytes is known, and what comes after it
 pub same_first : (c d : Command) (s t : List ℕ) → IsGood c → IsGood d → command_bytes c ++ s ≡ command_bytes d ++ t → (c ≡ d) × (s ≡ t)
-same_first c d s t g h e =
-    let lines : (line_of c ≡ line_of d) × (behind_line c ++ s ≡ behind_line d ++ t) = split_at 10 (line_of c) (line_of d) (behind_line c ++ s) (behind_line d ++ t) (line_lacks_feed c g) (line_lacks_feed d h)
-    (sym (append_assoc (line_of c) (10 ∷ behind_line c) s) ∙ e ∙ append_assoc (line_of d) (10 ∷ behind_line d) t) in
-    let words : command_words c ≡ command_words d = same_words_by_line (command_words c) (command_words d) (has_first c) (has_first d) (words_solid c g) (words_solid d h) lines.0 in
-    same_command c d s t g h words lines.1
-
-empty_line : (words : List (List ℕ)) → join_with_byte 32 words ≡ [] → slice_index (slice_index_or words 0 []) 0 ≡ 0
-empty_line (w ∷ []) e = ap (λ (x : List ℕ). slice_index x 0) e
-empty_line ((b ∷ w) ∷ v ∷ words) e = cc
-empty_line _ e = refl
+same_first c d s t g h e = grind (arith, common_steps, has_first, line_lacks_feed, same_command, same_words_by_line, split_at, words_solid) steps 200000
 
 -- no line of a command is empty
 pub line_some : (c : Command) → line_of c ≡ [] → ⊥
-line_some (Change (Insert file at text)) e = let n : slice_index (slice_index_or (command_words (Change (Insert file at text))) 0 []) 0 ≡ 0 = empty_line (command_words (Change (Insert file at text))) e in omega arith
-line_some c e = let n : slice_index (slice_index_or (command_words c) 0 []) 0 ≡ 0 = empty_line (command_words c) e in omega arith
+line_some c e = grind (arith, common_steps) steps 200000

@@ -1,13 +1,9 @@
 -- Bytes that occur in others, and words that are spelled by bytes of a text.
 use Rattle.std.proofs.Common.{◌≡◌, ℕ, ◌+◌, ◌-◌, Option, Some, None, List, [], ◌∷◌, length, map, take, drop, refl, sym, ◌∙◌, ap, subst, arith, slice_range, length-take, length-drop, get_or}
-use Rattle.std.proofs.Common.{get_or-take, get_or-drop}
-use Rattle.std.proofs.lemmas.Bool.{false≢true}
-use Rattle.std.specs.{Prelude.{◌≢◌, ◌↔◌, IsTrue, is_some}, List.{AllByRecursion}}
-use Rattle.memchr.specs.Find.{OccursAt, FindsNeedle}
+use Rattle.std.{proofs.{Common.{get_or-take, get_or-drop}, lemmas.Bool.{false≢true}}, specs.{Prelude.{◌≢◌, ◌↔◌, IsTrue, is_some}, List.{AllByRecursion}}}
+use Rattle.memchr.{specs.Find.{OccursAt, FindsNeedle}, proofs.lemmas.MatchLemmas.{OccursAt-part}}
 use Rattle.mm_store.specs.mm_text.{declared.word.Word.{Word}, Language.Unit.{tokens_of}}
-use Rattle.mm_statement.specs.{Language.{Item.{Kind}, Statement.{symbols_from, symbols_in, item_of}}, Code.PlainWords.{plain_words, word_bytes}}
-use Rattle.memchr.proofs.lemmas.MatchLemmas.{OccursAt-part}
-use Rattle.mm_statement.proofs.SpokenLemmas.{names_from}
+use Rattle.mm_statement.{specs.{Language.{Item.{Kind}, Statement.{symbols_from, symbols_in, item_of}}, Code.PlainWords.{plain_words, word_bytes}}, proofs.SpokenLemmas.{names_from}}
 
 -- where a search finds bytes, they occur
 found_stand : (text bytes : List ℕ) (k : ℕ) → OccursAt text bytes k → slice_range text k (k + length bytes) ≡ bytes

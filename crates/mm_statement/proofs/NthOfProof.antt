@@ -1,9 +1,8 @@
 -- The words of a proof by their numbers among all words of the item.
+use Rattle.std.proofs.lemmas.{Grind.{common_steps}, List.{drop-drop, length-map}}
 use Rattle.std.proofs.Common.{◌≡◌, ℕ, ◌+◌, ◌-◌, ◌≤◌, List, [], ◌∷◌, Option, Some, None, length, drop, slice_range, refl, sym, ◌∙◌, ap, arith, slice_get, MatchOption}
-use Rattle.std.proofs.lemmas.List.{drop-drop, length-map}
-use Rattle.mm_store.specs.{mm_text.{declared.word.Word.{Word}, Language.Unit.{Token, tokens_of}}, Language.FilesView.{FilesView}}
-use Rattle.mm_statement.specs.Language.{Item.{Item}, Statement.{Says, kind_of, symbols_from, symbols_in}}
-use Rattle.mm_statement.proofs.{ListLemmas.{get_drop}, PieceLemmas.{IsTextOf}, SpokenLemmas.{behind_one}}
+use Rattle.mm_store.specs.{mm_text.{declared.word.Word.{Word}, Language.Unit.{tokens_of}}, Language.FilesView.{FilesView}}
+use Rattle.mm_statement.{specs.Language.{Item.{Item}, Statement.{Says, kind_of, symbols_from, symbols_in}}, proofs.{ListLemmas.{get_drop}, PieceLemmas.{IsTextOf}, SpokenLemmas.{behind_one}}}
 use Rattle.mm_store.specs.declared.item.Item as store
 
 -- a word further
@@ -26,15 +25,11 @@ first_said files item piece is said says =
     let kind = kind_of item.kind in
     let symbols = symbols_in kind (tokens_of (slice_range says.read.text item.start item.end) says.read.words) in
     let same = is says.read.text says.read.live in
-    (λ i. symbols_from kind + length (symbols_in kind (tokens_of (slice_range (same i) item.start item.end) says.read.words)) + 1)
-    ∙ ap (λ k. symbols_from kind + k + 1) (sym (length-map symbols (λ (token : Token). token.bytes)))
-    ∙ sym (ap (λ (one : Item). symbols_from one.kind + length one.symbols + 1) says.is)
+    grind (arith, common_steps, length-map) steps 200000
 
 -- the word with a number in the proof
 pub nth_said : (files : FilesView) (item : store.Item) (piece : List ℕ) → IsTextOf files item piece → (said : Item) (says : Says files item said) → (rest : List Word) (n : ℕ)
     → rest ≡ drop (symbols_from (kind_of item.kind) + length (symbols_in (kind_of item.kind) (tokens_of (slice_range piece item.start item.end) says.read.words)) + 1) says.read.words
     → slice_get rest n ≡ slice_get says.read.words (symbols_from said.kind + length said.symbols + 1 + n)
 nth_said files item piece is said says rest n e =
-    let first = symbols_from said.kind + length said.symbols + 1 in
-    let at : rest ≡ drop first says.read.words = e ∙ ap (λ k. drop k says.read.words) (first_said files item piece is said says) in
-    ap (λ (l : List Word). slice_get l n) at ∙ get_drop says.read.words first n (first + n) refl
+    grind (arith, common_steps, first_said files item piece is said says, get_drop says.read.words (symbols_from said.kind + length said.symbols + 1) n ((symbols_from said.kind + length said.symbols + 1) + n) refl) steps 200000

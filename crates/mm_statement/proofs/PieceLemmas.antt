@@ -1,7 +1,7 @@
 -- What an item says is read from the text under its key, and items of one range of one piece say the same.
 use Rattle.std.proofs.Common.{◌≡◌, ℕ, ◌<◌, ◌≤◌, List, length, slice_range, sym, ap, ◌∙◌, subst}
-use Rattle.mm_store.specs.mm_text.{declared.word.Word.{Word}, Language.{Reading.{HasWords}, Unit.{tokens_of}}}
-use Rattle.mm_store.specs.Language.{FilesView.{FilesView}, FileFacts.{CanBeRead, IsLive}, Pieces.{text_in, text_under}}
+use Rattle.mm_store.specs.{mm_text.{declared.word.Word.{Word}, Language.{Reading.{HasWords}, Unit.{tokens_of}}}, Language.{FilesView.{FilesView}, FileFacts.{CanBeRead, IsLive}}}
+use Rattle.mm_store.specs.Language.Pieces.{text_in, text_under}
 use Rattle.mm_statement.specs.Language.{Item.{Item}, Statement.{AreOneRange, Says, kind_of, item_of}}
 use Rattle.mm_store.specs.declared.item.Item as store
 

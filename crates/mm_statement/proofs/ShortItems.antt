@@ -1,11 +1,9 @@
 -- A text of two bytes has one word at most, so a mark of a block that has no more has no symbol.
+use Rattle.std.proofs.lemmas.{Grind.{common_steps}, List.{length-map}, Bool.{false≢true}}
 use Rattle.std.proofs.Common.{◌≡◌, ℕ, ◌+◌, ◌-◌, ◌≤◌, Bool, true, false, Option, None, List, [], ◌∷◌, ◌++◌, length, drop, flat_map, refl, sym, ap, ◌∙◌, arith, slice_range, length-append, length-take}
-use Rattle.std.proofs.Common.{le_refl}
-use Rattle.std.proofs.lemmas.{List.{length-map}, Bool.{false≢true}}
-use Rattle.std.specs.Prelude.{if◌then◌else◌}
-use Rattle.mm_store.specs.mm_text.declared.word.Word.{Word}
-use Rattle.mm_store.specs.mm_text.Language.{Reading.{HasWords, Segment, Single, Comment, segment_runs, segment_words}, Run.{Run, runs, is_white, with_front}, Unit.{Token, token_of, tokens_of}}
-use Rattle.mm_store.specs.Language.FilesView.{FilesView}
+use Rattle.std.{proofs.Common.{le_refl}, specs.Prelude.{if◌then◌else◌}}
+use Rattle.mm_store.specs.mm_text.{declared.word.Word.{Word}, Language.{Reading.{HasWords, Segment, Single, Comment, segment_runs, segment_words}, Run.{Run, runs, is_white, with_front}}}
+use Rattle.mm_store.specs.{mm_text.Language.Unit.{Token, token_of, tokens_of}, Language.FilesView.{FilesView}}
 use Rattle.mm_statement.specs.Language.{Item.{Item, is_labelled}, Statement.{Says, kind_of, plain_from, token_names}}
 use Rattle.mm_store.specs.declared.item.Item as store
 
@@ -39,9 +37,7 @@ fewer (Single run word ∷ parts) = let rest = fewer parts in omega arith
 fewer (Comment first inside last ∷ parts) = let rest = fewer parts in omega (arith, length-append (first ∷ (inside ++ last ∷ [])) (flat_map segment_runs parts))
 
 one_word : (text : List ℕ) (words : List Word) → HasWords text words → length text ≤ 2 → length words ≤ 1
-one_word text words h l =
-    let are = h.words_are in
-    omega (arith, fewer are.parts, ap length are.reading.joined, ap length are.singles, short_runs text l)
+one_word text words h l = grind (arith, common_steps, fewer h.words_are.parts, short_runs text l) steps 200000
 
 -- no symbol comes after one word
 none_after : (labelled : Bool) (tokens : List Token) → length tokens ≤ 1 → token_names (plain_from (if labelled then 2 else 1) tokens) ≡ []

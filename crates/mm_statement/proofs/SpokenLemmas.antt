@@ -1,8 +1,7 @@
 -- The words of a statement between its keywords, read one by one.
+use Rattle.std.proofs.lemmas.{Grind.{common_steps}, List.{drop-map, drop-drop, take-map, append-nil, length-drop, length-map, length-take}, Simd.{map-map}}
 use Rattle.std.proofs.Common.{◌≡◌, ℕ, zero, suc, ◌+◌, ◌<◌, ◌≤◌, Bool, true, false, cond, if◌then◌else◌, List, [], ◌∷◌, ◌++◌, Option, Some, None, length, map, take, drop, refl, sym, ◌∙◌, ap, subst}
-use Rattle.std.proofs.Common.{arith, append_assoc, length-append}
-use Rattle.std.proofs.lemmas.{List.{drop-map, drop-drop, take-map, append-nil, length-drop, length-map, length-take}, Simd.{map-map}}
-use Rattle.std.specs.{Prelude.{slice_get, MatchOption}, Option.{option_map}, List.{AllByRecursion, flat_map, prefix_len}}
+use Rattle.std.{proofs.Common.{arith, length-append}, specs.{Prelude.{slice_get, MatchOption}, Option.{option_map}, List.{AllByRecursion, flat_map, prefix_len}}}
 use Rattle.mm_store.specs.mm_text.{declared.word.{Word.{Word}, WordKind.TheVariants.{Plain}}, Language.{WordsLeft.{SkipsPlainWords}, Unit.{Token, token_of, tokens_of, spellings}}}
 use Rattle.mm_statement.specs.Language.{Item.{Kind, Item, is_labelled}, Statement.{is_plain_kind, is_plain, token_names, plain_from, symbols_from, symbols_in, proof_in, label_in, item_of}}
 use Rattle.mm_statement.specs.Code.PlainWords.{AreFewWords, TakesLabel, word_bytes, plain_words, plain_bytes}
@@ -15,10 +14,7 @@ prefix_len-map f p (x ∷ xs) = ap (λ n. cond (p (f x)) (1 + n) 0) (prefix_len-
 
 -- a plain word is one of the words before the first keyword
 pub plain_more : (word : Word) (words : List Word) → is_plain_kind word.kind ≡ true → plain_words (word ∷ words) ≡ word ∷ plain_words words
-plain_more word words plain =
-    let n = prefix_len (λ (w : Word). is_plain_kind w.kind) words in
-    let one : 1 + n ≡ suc n = omega arith in
-    ap (λ b. take (cond b (1 + n) 0) (word ∷ words)) plain ∙ ap (λ k. take k (word ∷ words)) one
+plain_more word words plain = grind (arith, common_steps) steps 200000
 
 -- and a keyword ends them
 pub plain_end : (word : Word) (words : List Word) → is_plain_kind word.kind ≡ false → plain_words (word ∷ words) ≡ []
@@ -36,12 +32,7 @@ pub record Symbols (words left symbols : List Word) : Type 0 where
   pub behind : left ≡ drop (length symbols) words
 
 pub symbols_more : (words left new symbols : List Word) (word : Word) → Symbols words left symbols → left ≡ word ∷ new → is_plain_kind word.kind ≡ true → Symbols words new (symbols ++ word ∷ [])
-symbols_more words left new symbols word h e plain = record {
-  joined = h.joined ∙ ap (λ l. symbols ++ plain_words l) e ∙ ap (λ l. symbols ++ l) (plain_more word new plain) ∙ sym (append_assoc symbols (word ∷ []) (plain_words new));
-  behind =
-      let one : length symbols + 1 ≡ length (symbols ++ word ∷ []) = omega (arith, length-append symbols (word ∷ [])) in
-      ap (drop 1) (sym e ∙ h.behind) ∙ drop-drop 1 (length symbols) words ∙ ap (λ k. drop k words) one;
-}
+symbols_more words left new symbols word h e plain = grind (arith, common_steps, plain_more word new plain, length-append symbols (word ∷ []), drop-drop 1 (length symbols) words) steps 200000
 
 -- all symbols, and the words after the one that closes them
 pub record AllSymbols (words new symbols : List Word) : Type 0 where
@@ -49,26 +40,20 @@ pub record AllSymbols (words new symbols : List Word) : Type 0 where
   pub rest : new ≡ drop (length (plain_words words) + 1) words
 
 rest_is : (words left new symbols : List Word) → plain_words words ≡ symbols → left ≡ drop (length symbols) words → new ≡ drop 1 left → AllSymbols words new symbols
-rest_is words left new symbols all behind e = record {
-  are = sym all;
-  rest = e ∙ ap (drop 1) behind ∙ drop-drop 1 (length symbols) words ∙ ap (λ (l : List Word). drop (length l + 1) words) (sym all);
-}
+rest_is words left new symbols all behind e = grind (arith, common_steps, drop-drop 1 (length symbols) words) steps 200000
 
 pub symbols_closed : (words left new symbols : List Word) (word : Word) → Symbols words left symbols → left ≡ word ∷ new → is_plain_kind word.kind ≡ false → AllSymbols words new symbols
-symbols_closed words left new symbols word h e keyword =
-    rest_is words left new symbols (h.joined ∙ ap (λ l. symbols ++ plain_words l) e ∙ ap (λ l. symbols ++ l) (plain_end word new keyword) ∙ append-nil symbols) h.behind (ap (drop 1) (sym e))
+symbols_closed words left new symbols word h e keyword = grind (arith, common_steps, plain_end word new keyword, append-nil symbols, rest_is) steps 200000
 
 -- no word is left
 pub symbols_ended : (words left new symbols : List Word) → Symbols words left symbols → left ≡ [] → new ≡ [] → AllSymbols words new symbols
-symbols_ended words left new symbols h none e =
-    rest_is words left new symbols (h.joined ∙ ap (λ l. symbols ++ plain_words l) none ∙ append-nil symbols) h.behind (e ∙ ap (drop 1) (sym none))
+symbols_ended words left new symbols h none e = grind (arith, common_steps, append-nil symbols, rest_is) steps 200000
 
 -- plain words are symbols
 passed_more : (passed words left new symbols : List Word) → left ≡ passed ++ new → AllByRecursion (λ (word : Word). word.kind ≡ Plain) passed → Symbols words left symbols → Symbols words new (symbols ++ passed)
 passed_more [] words left new symbols e plain h = subst (λ s. Symbols words new s) (sym (append-nil symbols)) (subst (λ l. Symbols words l symbols) e h)
 passed_more (word ∷ passed) words left new symbols e plain h =
-    subst (λ s. Symbols words new s) (append_assoc symbols (word ∷ []) passed)
-    (passed_more passed words (passed ++ new) new (symbols ++ word ∷ []) refl plain.1 (symbols_more words left (passed ++ new) symbols word h e (ap is_plain_kind plain.0)))
+    grind (arith, common_steps, passed_more passed words (passed ++ new) new (symbols ++ word ∷ []) refl plain.1 (symbols_more words left (passed ++ new) symbols word h e (ap is_plain_kind plain.0)), passed) steps 200000
 
 pub symbols_passed : (words left new symbols : List Word) (skips : SkipsPlainWords left new) → Symbols words left symbols → Symbols words new (symbols ++ skips.passed)
 symbols_passed words left new symbols skips h = passed_more skips.passed words left new symbols skips.joined skips.plain h
@@ -77,15 +62,11 @@ symbols_passed words left new symbols skips h = passed_more skips.passed words l
 
 -- the words after one word
 pub behind_one : (old new : List Word) (word : Option Word) → MatchOption word ((old ≡ []) × (new ≡ [])) (λ w. old ≡ w ∷ new) → new ≡ drop 1 old
-behind_one old new None h = h.1 ∙ ap (drop 1) (sym h.0)
-behind_one old new (Some word) h = ap (drop 1) (sym h)
+behind_one old new word h = grind (arith, common_steps) steps 200000
 
 -- how plain words are spelled
 plain_names : (text : List ℕ) (words : List Word) → token_names (plain_from 0 (tokens_of text words)) ≡ plain_bytes text words
-plain_names text words =
-    ap (λ n. token_names (take n (tokens_of text words))) (prefix_len-map (token_of text) is_plain words)
-    ∙ ap token_names (take-map (token_of text) (prefix_len (λ (w : Word). is_plain_kind w.kind) words) words)
-    ∙ map-map (λ (token : Token). token.bytes) (token_of text) (plain_words words)
+plain_names text words = grind (arith, common_steps, prefix_len-map (token_of text) is_plain words, take-map, map-map) steps 200000
 
 -- from a place on
 pub names_from : (text : List ℕ) (words : List Word) (from : ℕ) → token_names (plain_from from (tokens_of text words)) ≡ plain_bytes text (drop from words)
@@ -168,8 +149,7 @@ bytes_behind (suc n) (name ∷ names) = omega (arith, bytes_behind n names, leng
 bytes_behind _ _ = omega arith
 
 bytes_before : (n : ℕ) (names : List (List ℕ)) → bytes_of (take n names) ≤ bytes_of names
-bytes_before (suc n) (name ∷ names) =
-    omega (arith, bytes_before n names, length-append name (flat_map (λ bytes. bytes) names), length-append name (flat_map (λ bytes. bytes) (take n names)))
+bytes_before (suc n) (name ∷ names) = grind (arith, common_steps, bytes_before n names, length-append) steps 200000
 bytes_before _ _ = omega arith
 
 -- the words of a proof are the first of those that are left

@@ -1,10 +1,8 @@
 -- The symbols of a statement by their numbers among all words.
 use Rattle.std.proofs.Common.{◌≡◌, ℕ, zero, suc, ◌+◌, ◌<◌, List, [], ◌∷◌, Some, length, take, drop, get_or, map, refl, sym, ◌∙◌, ap, arith, slice_get}
-use Rattle.std.proofs.lemmas.{List.{length-drop, length-map, length-take}, Option.{get_or_from_slice_get, slice_get-map}}
-use Rattle.std.specs.{Option.{option_map}, List.{prefix_len}}
+use Rattle.std.{proofs.lemmas.{List.{length-drop, length-map, length-take}, Option.{get_or_from_slice_get, slice_get-map}}, specs.{Option.{option_map}, List.{prefix_len}}}
 use Rattle.mm_store.specs.mm_text.{declared.word.Word.{Word}, Language.Unit.{tokens_of}}
-use Rattle.mm_statement.specs.{Language.Statement.{is_plain_kind, token_names, plain_from}, Code.PlainWords.{word_bytes}}
-use Rattle.mm_statement.proofs.{ListLemmas.{get_drop, front_get}, SpokenLemmas.{names_from}}
+use Rattle.mm_statement.{specs.{Language.Statement.{is_plain_kind, token_names, plain_from}, Code.PlainWords.{word_bytes}}, proofs.{ListLemmas.{get_drop, front_get}, SpokenLemmas.{names_from}}}
 
 -- each of the plain words has this spelling
 pub spelled_at : (text : List ℕ) (words : List Word) (n : ℕ) (word : Word) → slice_get words n ≡ Some word → word_bytes text word ≡ get_or (map (word_bytes text) words) n []

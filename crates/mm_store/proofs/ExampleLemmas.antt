@@ -1,11 +1,11 @@
 -- The worked examples of files, by computing.
 use Rattle.std.proofs.{Common.{◌≡◌, ℕ, ◌+◌, ◌==◌, true, not, List, [], ◌∷◌, length, get_or, None, refl, ◌∙◌, codes, Contains, inl, inr, arith, append-nil}, lemmas.List.Sums.{AllPass-from_list_all}}
 use Rattle.std.specs.{List.{flat_map, list_all}, Str.{bytes_eq}}
-use Rattle.mm_text.specs.declared.word.{Keyword.{Keyword, TheVariants.{Constants, Variables, StatementEnd, InclusionStart, InclusionEnd}}, Word.{Word}}
-use Rattle.mm_text.specs.Language.{Run.{Run, runs, is_white}, Spelling.{spelling}, Reading.{Segment, Single, segment_runs, HasWords, first_bad, is_allowed}}
+use Rattle.mm_text.specs.{declared.word.{Keyword.{Keyword, TheVariants.{Constants, Variables, StatementEnd, InclusionStart, InclusionEnd}}, Word.{Word}}, Language.Run.{Run, runs, is_white}}
+use Rattle.mm_text.specs.Language.{Spelling.{spelling}, Reading.{Segment, Single, segment_runs, HasWords, first_bad, is_allowed}}
 use Rattle.mm_text.specs.Language.{Unit.{token_of, tokens_of, Shape, Declaration, Inclusion, IsShape, shape_tokens, Nothing, Simple}, Part.{shape_part}}
-use Rattle.mm_store.specs.declared.item.Item.{Item}
-use Rattle.mm_store.specs.Language.{FilesView.{FileView, PieceView, key_of}, Expansion.{Placed, placed_part, included_name, ArePartsOf, ArePlaced, Expands, nothing, own, again, missing, included}}
+use Rattle.mm_store.specs.{declared.item.Item.{Item}, Language.FilesView.{FileView, PieceView, key_of}}
+use Rattle.mm_store.specs.Language.Expansion.{Placed, placed_part, included_name, ArePartsOf, ArePlaced, Expands, nothing, own, again, missing, included}
 use Rattle.mm_store.specs.Language.Examples.{piece, item, ring, RingGivesThree}
 use Rattle.mm_text.specs.declared.word.WordKind.TheVariants as kinds
 use Rattle.mm_text.specs.declared.part.PartKind.TheVariants as parts

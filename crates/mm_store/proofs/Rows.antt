@@ -1,5 +1,5 @@
 -- A small case of the definition: a file that includes another twice, a missing one twice, and itself.
-use Rattle.std.proofs.Common.{◌≡◌, ℕ, zero, suc, ◌<◌, List, [], ◌∷◌, length, get_or, refl, arith, Contains}
+use Rattle.std.proofs.{lemmas.Grind.{elements}, Common.{◌≡◌, ℕ, List, [], ◌∷◌, refl, arith, Contains}}
 use Rattle.mm_text.specs.declared.part.PartKind.{PartKind, TheVariants.{Inclusion, Axiom}}
 use Rattle.mm_store.specs.{declared.item.Item.{Item}, Language.{FilesView.{FileView}, Expansion.{Placed, placed_item, Expands, nothing, own, again, missing, included}}}
 
@@ -26,18 +26,10 @@ abbrev at_last : List (List ℕ)
 at_last = named 1 ∷ named 2 ∷ named 3 ∷ []
 
 new_other : ¬ Contains at_first (named 2)
-new_other there = by there.0 there.1 there.2
-  where
-    by : (k : ℕ) → k < length at_first → get_or at_first k (named 2) ≡ named 2 → ⊥
-    by zero h e = cc
-    by (suc k) h e = absurd (omega arith)
+new_other there = grind (arith, elements) steps 200000
 
 new_missing : ¬ Contains with_other (named 3)
-new_missing there = by there.0 there.1 there.2
-  where
-    by : (k : ℕ) → k < length with_other → get_or with_other k (named 3) ≡ named 3 → ⊥
-    by (suc (suc k)) h e = absurd (omega arith)
-    by _ h e = cc
+new_missing there = grind (arith, elements) steps 200000
 
 abbrev given : List Placed
 given = part Inclusion 0 2 ∷ part Inclusion 1 2 ∷ part Inclusion 2 3 ∷ part Inclusion 3 3 ∷ part Inclusion 4 1 ∷ part Axiom 5 4 ∷ []

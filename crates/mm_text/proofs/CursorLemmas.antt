@@ -1,10 +1,9 @@
 -- The words that are left to a cursor.
+use Rattle.std.proofs.lemmas.Grind.{common_steps}
 use Rattle.std.proofs.Common.{◌≡◌, ℕ, zero, suc, ◌+◌, ◌-◌, ◌<◌, ◌≤◌, List, [], ◌∷◌, ◌++◌, Some, None, Ok, Err, length, get_or, refl, sym, ap, ◌∙◌, append_assoc, arith, length-append, slice_get}
-use Rattle.std.proofs.Common.{slice_range, Option, IfNone, IfSome, MatchOption}
-use Rattle.std.specs.List.{AllByRecursion, flat_map}
-use Rattle.mm_text.specs.declared.{word.{Word.{Word}, WordKind.TheVariants.{Plain}}, fault.TextFault.{TextFault}}
-use Rattle.mm_text.specs.Language.{Reading.{AreWords, HasWords, LiesIn, AreWithin}, Unit.{spellings}, Run.{Run, runs}, WordsLeft.{SkipsPlainWords}}
-use Rattle.mm_text.specs.Code.{LeftToRight.{read_runs}, Reader.{runs_at, TakesWord, SkipsPlain}, Cursor.{words_read, words_from, AreLast}}
+use Rattle.std.{proofs.Common.{Option, IfNone, IfSome, MatchOption}, specs.List.{AllByRecursion, flat_map}}
+use Rattle.mm_text.specs.{declared.{word.{Word.{Word}, WordKind.TheVariants.{Plain}}, fault.TextFault.{TextFault}}, Language.{Reading.{AreWords, HasWords, LiesIn, AreWithin}, Unit.{spellings}}}
+use Rattle.mm_text.specs.{Language.{Run.{Run, runs}, WordsLeft.{SkipsPlainWords}}, Code.{LeftToRight.{read_runs}, Reader.{runs_at, TakesWord, SkipsPlain}, Cursor.{words_read, words_from, AreLast}}}
 use Rattle.mm_text.proofs.{ReadingLemmas.{read_words, read_whole}, SkipLemmas.{plain_words, are_plain_words, read_on}, ReaderLemmas.{slice_length, word_read}, NthLemmas.{first_word}}
 use Rattle.mm_text.proofs.PositionLemmas.{Lying, words_lie, are_within, nth_lies}
 
@@ -59,11 +58,6 @@ plain_passed text from to at skips =
       last = record { whole = at.whole; front = at.front ++ passed; has_words = at.has_words; divided = at.divided ∙ ap (λ l. at.front ++ l) joined ∙ sym (append_assoc at.front passed (words_from text to)); no_fault = more.1 ∙ ap Ok (sym rest) };
     }
 
-none_behind : (text : List ℕ) (from to : ℕ) → AreLast text from → words_from text from ≡ [] → runs_at text to ≡ [] → AreLast text to
-none_behind text from to at none end =
-    let left : words_from text to ≡ [] = ap (λ runs. words_read (read_runs None runs)) end in
-    record { whole = at.whole; front = at.front; has_words = at.has_words; divided = at.divided ∙ ap (λ l. at.front ++ l) (none ∙ sym left); no_fault = ap (read_runs None) end ∙ ap Ok (sym left) }
-
 -- a word is taken, or none is left
 pub record Went (text : List ℕ) (from : ℕ) (found : Option Word) (to : ℕ) : Type 0 where
   pub words : MatchOption found ((words_from text from ≡ []) × (words_from text to ≡ [])) (λ word. words_from text from ≡ word ∷ words_from text to)
@@ -71,10 +65,7 @@ pub record Went (text : List ℕ) (from : ℕ) (found : Option Word) (to : ℕ) 
   pub lies : IfSome found (LiesIn text)
 
 pub went : (text : List ℕ) (from : ℕ) (found : Option Word) (to : ℕ) → AreLast text from → MatchOption found (AreWords (runs_at text from) []) (λ word. TakesWord text from word to) → IfNone found (runs_at text to ≡ []) → Went text from found to
-went text from None to at none end =
-    let left = ap words_read (read_words _ [] none) in
-    let last = none_behind text from to at left end in
-    record { words = (left, ap (λ runs. words_read (read_runs None runs)) end); last = last; lies = tt }
+went text from None to at none end = grind (arith, common_steps, read_words _ [] none) steps 200000
 went text from (Some word) to at taken end = let took = one_taken text from word to at taken in record { words = took.words; last = took.last; lies = took.lies }
 
 -- a fault is not met
@@ -87,19 +78,12 @@ no_fault text from fault at e = cc
 begins_behind : (text : List ℕ) (words : List Word) (d : Word) → AreWithin text words → (n : ℕ) → n < length words → n ≤ (get_or words n d).start
 begins_behind text words d within zero less = omega arith
 begins_behind text words d within (suc n) less =
-    let before = begins_behind text words d within n (omega arith) in
-    let lies : LiesIn text (get_or words n d) = within.each n d (omega arith) in
-    let rises = within.rising n (suc n) d (omega arith) less in
-    omega (arith, before, lies.some, rises)
+    grind (arith, common_steps, begins_behind text words d within n (omega arith), within.each n d (omega arith), within.rising n (suc n) d (omega arith) less) steps 200000
 
 pub few_words : (text : List ℕ) (words : List Word) → HasWords text words → length words ≤ length text
 few_words text [] has = omega arith
 few_words text (word ∷ words) has =
-    let all = word ∷ words in
-    let within = are_within text all has in
-    let behind = begins_behind text all word within (length words) (omega arith) in
-    let lies : LiesIn text (get_or all (length words) word) = within.each (length words) word (omega arith) in
-    omega (arith, behind, lies.some, lies.within)
+    grind (arith, common_steps, are_within text (word ∷ words) has, begins_behind text (word ∷ words) word (are_within text (word ∷ words) has) (length words) (omega arith)) steps 200000
 
 -- ---- words have a byte each, and together no more bytes than the text
 
@@ -109,11 +93,7 @@ words_some text at (word ∷ words) h = (omega (arith, slice_length text word.st
 
 words_fit : (text : List ℕ) (at : ℕ) (words : List Word) → Lying text at words → length (flat_map (λ bytes. bytes) (spellings text words)) ≤ length text - at
 words_fit text at [] h = omega arith
-words_fit text at (word ∷ words) h =
-    let bytes = slice_range text word.start word.end in
-    let more = words_fit text (word.end + 1) words h.2 in
-    let both = length-append bytes (flat_map (λ bytes. bytes) (spellings text words)) in
-    omega (arith, h.0, h.1.some, h.1.within, slice_length text word.start word.end h.1.within, both, more)
+words_fit text at (word ∷ words) h = grind (arith, common_steps, words_fit text (word.end + 1) words h.2, slice_length text word.start word.end h.1.within, length-append) steps 200000
 
 pub some_bytes : (text : List ℕ) (words : List Word) → HasWords text words → AllByRecursion (λ bytes. 0 < length bytes) (spellings text words)
 some_bytes text words has = words_some text 0 words (words_lie text words has)

@@ -1,16 +1,13 @@
 -- A text has one cut at most, one first fault at most, and never both; and a text whose cut has one piece holds one unit.
-use Rattle.std.proofs.Common.{◌≡◌, ◌⊎◌, ℕ, zero, suc, Bool, ◌+◌, ◌-◌, ◌<◌, ◌≤◌, ◌||◌, true, List, [], ◌∷◌, ◌++◌, append_assoc, map, length, take, drop, get_or, slice_get, Some, None, Ok, Err, refl}
-use Rattle.std.proofs.Common.{sym, ap, ◌∙◌, subst, inl, inr, arith}
-use Rattle.std.proofs.Math.Seq.{take-append_seam, drop-append_seam}
-use Rattle.std.proofs.lemmas.{Bool.{false≢true}, List.{append-nil, map-append, append_cancel_left, take-append-le, drop-append-le, length-append, get_or-append_right, Elements.{All-take, All-append}}}
-use Rattle.std.proofs.lemmas.Option.{slice_get_within}
-use Rattle.std.specs.List.{concat, AllPass}
-use Rattle.mm_text.specs.declared.{word.Word.{Word}, fault.{TextFault.{TextFault}, TextNumber.{TextNumber, TheVariants.{T01, T02, T03, T04, T05, T07, T08}}}}
-use Rattle.mm_text.specs.Language.{Run.{Run, runs, runs_from, is_white, ends_run}, Reading.{is_allowed, first_bad, AreWords, HasWords, AreViableRuns, IsWordsFaultAt}}
+use Rattle.std.proofs.lemmas.{Grind.{common_steps}, Bool.{false≢true}, List.{append-nil, map-append, append_cancel_left, take-append-le, drop-append-le, length-append, get_or-append_right}}
+use Rattle.std.proofs.lemmas.{List.Elements.{All-take, All-append}, Option.{slice_get_within}}
+use Rattle.std.proofs.Common.{◌≡◌, ◌⊎◌, ℕ, zero, suc, ◌+◌, ◌-◌, ◌<◌, ◌≤◌, true, List, [], ◌∷◌, ◌++◌, append_assoc, map, length, drop, slice_get, Some, None, Ok, Err, refl, sym, ap, ◌∙◌, subst, inl}
+use Rattle.std.{proofs.{Common.{inr, arith}, Math.Seq.{take-append_seam, drop-append_seam}}, specs.List.{concat, AllPass}}
+use Rattle.mm_text.specs.{declared.{word.Word.{Word}, fault.{TextFault.{TextFault}, TextNumber.{TextNumber, TheVariants.{T01, T02, T03, T04, T05, T07, T08}}}}, Language.Run.{Run, runs, is_white}}
+use Rattle.mm_text.specs.Language.Reading.{is_allowed, first_bad, AreWords, HasWords, AreViableRuns, IsWordsFaultAt}
 use Rattle.mm_text.specs.Language.Unit.{Token, token_of, tokens_of, Shape, shape_tokens, Units, Nothing, Simple, Block, unit_tokens, AreUnits, IsViable, IsUnitFault}
 use Rattle.mm_text.specs.Language.Cut.{ends_white, ended, IsOne, end_of_words, HoldsOne, IsPiece, BeginsSolid, ArePieces, IsCut, HoldWords, StopsWords, StopsUnits, IsFirstFaultAt, IsFirstFault}
-use Rattle.mm_text.specs.Language.Part.{HasUnits}
-use Rattle.mm_text.specs.Code.LeftToRight.{Read, read_runs, with_words, words_fault_at, read_text}
+use Rattle.mm_text.specs.{Language.Part.{HasUnits}, Code.LeftToRight.{Read, read_runs, with_words, words_fault_at, read_text}}
 use Rattle.mm_text.proofs.{ReadingLemmas.{closer, closer_closes, close_step, read_whole, read_words, same_words, text_words, text_fault}, ReaderLemmas.{in_comment, words-append}}
 use Rattle.mm_text.proofs.{PositionLemmas.{Lying, words_lie}, UnitReadingLemmas.{run-append, run-IsViable, IsWhole-run, run-IsWhole}}
 use Rattle.mm_text.proofs.{UnitFaultLemmas.{cut_twice, viable_front, not_viable_all, block_viable, one_stop, one_unit_fault, whole_has_no_fault}, UnitDivisionLemmas.{one_division}}
@@ -22,9 +19,7 @@ use Rattle.mm_text.specs.Code.UnitReading as m
 -- ---- two texts, one after another
 
 runs_joined : (a b : List ℕ) → ends_white a ≡ true → runs (a ++ b) ≡ runs a ++ map (shift_run (length a)) (runs b)
-runs_joined a b white =
-    let place : 0 + length a ≡ length a + 0 = omega arith in
-    runs-append a b 0 (ap (λ (x : Bool). x || ends_run b) white) ∙ ap (λ (n : ℕ). runs a ++ runs_from n b) place ∙ ap (λ (rs : List Run). runs a ++ rs) (runs-shift (length a) 0 b)
+runs_joined a b white = grind (arith, common_steps, runs-shift (length a) 0 b, runs-append) steps 200000
 
 allowed_front : (a b : List ℕ) → first_bad (a ++ b) ≡ None → first_bad a ≡ None
 allowed_front a b h = all_allowed a (subst (λ (bs : List ℕ). AllPass is_allowed bs) (take-append_seam a b) (All-take (λ x. is_allowed x ≡ true) (length a) (a ++ b) (allowed_all (a ++ b) h)))
@@ -32,8 +27,7 @@ allowed_front a b h = all_allowed a (subst (λ (bs : List ℕ). AllPass is_allow
 join_words : (a b : List ℕ) (ws vs : List Word) → ends_white a ≡ true → HasWords a ws → HasWords b vs → HasWords (a ++ b) (ws ++ map (shift_word (length a)) vs)
 join_words a b ws vs white f g = record {
   allowed = all_allowed (a ++ b) (All-append (λ x. is_allowed x ≡ true) a b (allowed_all a f.allowed) (allowed_all b g.allowed));
-  words_are = subst (λ (rs : List Run). AreWords rs (ws ++ map (shift_word (length a)) vs)) (sym (runs_joined a b white))
-      (words-append (runs a) (map (shift_run (length a)) (runs b)) ws (map (shift_word (length a)) vs) f.words_are (words-shift (length a) (runs b) vs g.words_are));
+  words_are = grind (arith, common_steps, runs_joined, shift_run, shift_word, words-append, words-shift) steps 200000;
 }
 
 join_tokens : (a b : List ℕ) (ws vs : List Word) → HasWords a ws → HasWords b vs → map bare (tokens_of (a ++ b) (ws ++ map (shift_word (length a)) vs)) ≡ map bare (tokens_of a ws ++ tokens_of b vs)
@@ -132,17 +126,7 @@ abbrev Sorted : List ℕ → TextNumber → ℕ → Type 0
 Sorted text number at = (HasBadByte text number at) ⊎ ((MeetsWords text number at) ⊎ ((MeetsUnits text number at) ⊎ (EndsEarly text number at)))
 
 meets : (text : List ℕ) (number : TextNumber) (at : ℕ) → first_bad text ≡ None → IsWordsFaultAt text number at → StopsWords text number at → MeetsWords text number at
-meets text number at allowed fault h = record {
-  allowed = allowed;
-  fault = fault;
-  front = h.stop.front;
-  rest = h.stop.run ∷ h.stop.rest;
-  joined = h.stop.joined;
-  found = h.found;
-  held = h.read;
-  viable = h.viable;
-  stuck = λ run more e. (let same : h.stop.run ≡ run = cc in subst (λ (r : Run). ¬ AreViableRuns (h.stop.front ++ r ∷ [])) same h.stop.stops);
-}
+meets text number at allowed fault h = grind (arith, common_steps) steps 200000
 
 sorted : (text : List ℕ) (number : TextNumber) (at : ℕ) → IsFirstFaultAt text number at → Sorted text number at
 sorted text T01 at h = inl (refl, h)
@@ -195,17 +179,7 @@ slice_get-front (x ∷ a) b (suc n) token e = slice_get-front a b n token e
 stop_more : (a b : List Token) (number : TextNumber) (word : ℕ) (h : units.StopsAtWord a number word) → units.StopsAtWord (a ++ b) number word
 stop_more a b number word h =
     let within : word < length a = slice_get_within a word h.token h.there in
-    let front : take word a ≡ take word (a ++ b) = sym (take-append-le word a b (omega arith)) in
-    record {
-      token = h.token;
-      there = slice_get-front a b word h.token h.there;
-      goes_on = subst (λ (ts : List Token). IsViable ts) front h.goes_on;
-      stops = subst (λ (ts : List Token). ¬ IsViable ts) (sym (take-append-le (word + 1) a b (omega arith))) h.stops;
-      is_number = subst (λ (ts : List Token). units.IsUnitNumber number ts h.token) front h.is_number;
-    }
-
-same_place : (tokens : List Token) (v w : ℕ) (a b : Token) → slice_get tokens v ≡ Some a → slice_get tokens w ≡ Some b → v ≡ w → a.start ≡ b.start
-same_place tokens v w a b f g same = let is : a ≡ b = cc in ap (λ (t : Token). t.start) is
+    grind (arith, common_steps, slice_get-front a b word h.token h.there, take-append-le (word + 1) a b (omega arith)) steps 200000
 
 -- after more runs
 later_stop : (text : List ℕ) (a b : TextNumber) (i j : ℕ) (f : StopsUnits text a i) (g : StopsUnits text b j) (zs : List Run) → g.front ≡ f.front ++ zs → (a ≡ b) × (i ≡ j)
@@ -213,12 +187,8 @@ later_stop text a b i j f g zs is =
     let more = longer f.front zs f.found g.found f.read (inl (subst (λ (rs : List Run). AreWords rs g.found) is g.read)) in
     let tokens : tokens_of text f.found ++ tokens_of text more.0 ≡ tokens_of text g.found = sym (map-append (token_of text) f.found more.0) ∙ ap (tokens_of text) (sym more.1) in
     let stop : units.StopsAtWord (tokens_of text f.found ++ tokens_of text more.0) b g.word = subst (λ (ts : List Token). units.StopsAtWord ts b g.word) (sym tokens) g.stop in
-    let one = one_stop (tokens_of text f.found ++ tokens_of text more.0) a b f.word g.word (stop_more (tokens_of text f.found) (tokens_of text more.0) a f.word f.stop) stop in (
-      one.0,
-      f.place ∙ same_place (tokens_of text g.found) f.word g.word f.stop.token g.stop.token (subst (λ (ts : List Token). slice_get ts f.word ≡ Some f.stop.token) tokens
-          (slice_get-front (tokens_of text f.found) (tokens_of text more.0) f.word f.stop.token f.stop.there)) g.stop.there one.1
-          ∙ sym g.place,
-    )
+    let one = one_stop (tokens_of text f.found ++ tokens_of text more.0) a b f.word g.word (stop_more (tokens_of text f.found) (tokens_of text more.0) a f.word f.stop) stop in
+    grind (arith, common_steps) steps 200000
 
 one_stop_of : (text : List ℕ) (a b : TextNumber) (i j : ℕ) → StopsUnits text a i → StopsUnits text b j → (a ≡ b) × (i ≡ j)
 one_stop_of text a b i j f g = by_cut (cut_twice f.front f.rest g.front g.rest (sym f.joined ∙ g.joined)) where
@@ -227,17 +197,10 @@ one_stop_of text a b i j f g = by_cut (cut_twice f.front f.rest g.front g.rest (
   by_cut (inr h) = later_stop text a b i j f g h.0 h.1
 
 one_end : (text : List ℕ) (a b : TextNumber) (i j : ℕ) → EndsEarly text a i → EndsEarly text b j → (a ≡ b) × (i ≡ j)
-one_end text a b i j f g =
-    let tokens : tokens_of text g.found ≡ tokens_of text f.found = ap (tokens_of text) (same_words (runs text) g.found f.found g.has_words.words_are f.has_words.words_are) in
-    let one = one_unit_fault (tokens_of text f.found) a b f.word g.word f.fault (subst (λ (ts : List Token). IsUnitFault ts b g.word) tokens g.fault) in
-    (one.0, f.place ∙ same_place (tokens_of text f.found) f.word g.word f.token g.token f.there (subst (λ (ts : List Token). slice_get ts g.word ≡ Some g.token) tokens g.there) one.1 ∙ sym g.place)
+one_end text a b i j f g = grind (arith, common_steps, same_words (runs text) g.found f.found g.has_words.words_are f.has_words.words_are, one_unit_fault) steps 200000
 
 one_word_fault : (text : List ℕ) (a b : TextNumber) (i j : ℕ) → IsWordsFaultAt text a i → IsWordsFaultAt text b j → (a ≡ b) × (i ≡ j)
-one_word_fault text a b i j f g =
-    let x : read_text text ≡ Err (words_fault_at a i) = text_fault text a i f in
-    let y : read_text text ≡ Err (words_fault_at b j) = text_fault text b j g in
-    let same : words_fault_at a i ≡ words_fault_at b j = cc in
-    (ap (λ (t : TextFault). t.number) same, ap (λ (t : TextFault). t.at) same)
+one_word_fault text a b i j f g = grind (arith, common_steps, text_fault text a i f, text_fault text b j g) steps 200000
 
 one_bad : (text : List ℕ) (a b : TextNumber) (i j : ℕ) → HasBadByte text a i → HasBadByte text b j → (a ≡ b) × (i ≡ j)
 one_bad text a b i j f g = (f.0 ∙ sym g.0, cc)
@@ -261,9 +224,7 @@ same_fault text a b i j (inr (inr (inr f))) (inr (inr (inl g))) = absurd (units_
 same_fault text a b i j (inr (inr (inr f))) (inr (inr (inr g))) = one_end text a b i j f g
 
 pub one_first_fault : (text : List ℕ) (a b : TextFault) → IsFirstFault text a → IsFirstFault text b → a ≡ b
-one_first_fault text a b f g =
-    let same = same_fault text a.number b.number a.at b.at (sorted text a.number a.at f) (sorted text b.number b.at g) in
-    ap (λ (n : TextNumber). words_fault_at n a.at) same.0 ∙ ap (words_fault_at b.number) same.1
+one_first_fault text a b f g = grind (arith, common_steps, same_fault text a.number b.number a.at b.at (sorted text a.number a.at f) (sorted text b.number b.at g)) steps 200000
 
 pub cut_has_no_fault : (text : List ℕ) (pieces : List (List ℕ)) (tail : List ℕ) (fault : TextFault) → IsCut text pieces tail → IsFirstFault text fault → ⊥
 cut_has_no_fault text pieces tail fault f g = none (sorted text fault.number fault.at g) where
@@ -309,11 +270,7 @@ end_within text at (w ∷ []) h = h.1.within
 end_within text at (w ∷ v ∷ ws) h = end_within text (w.end + 1) (v ∷ ws) h.2
 
 passes_at : (xs ys : List ℕ) (z : ℕ) → AllPass is_white (xs ++ z ∷ ys) → is_white z ≡ true
-passes_at xs ys z h =
-    let long : length (xs ++ z ∷ ys) ≡ length xs + length (z ∷ ys) = length-append xs (z ∷ ys) in
-    let none : length xs - length xs ≡ 0 = omega arith in
-    let there : get_or (xs ++ z ∷ ys) (length xs) z ≡ z = get_or-append_right xs (z ∷ ys) (length xs) (length xs) z refl (omega arith) ∙ ap (λ (n : ℕ). get_or (z ∷ ys) n z) none in
-    subst (λ (b : ℕ). is_white b ≡ true) there (h (length xs) z (omega arith))
+passes_at xs ys z h = grind (arith, length-append xs (z ∷ ys), get_or-append_right xs (z ∷ ys) (length xs) (length xs) z refl (omega arith)) steps 200000
 
 no_words_left : (text : List ℕ) (us : List Word) → tokens_of text us ≡ [] → us ≡ []
 no_words_left text [] e = refl
@@ -393,15 +350,7 @@ tokens_front : (piece tail : List ℕ) (h : IsPiece piece) → tokens_of (piece 
 tokens_front piece tail h = tokens-front piece tail h.words 0 (words_lie piece h.words h.has_words)
 
 holds_front : (piece tail : List ℕ) → IsPiece piece → HasWords tail [] → ends_white (piece ++ tail) ≡ true → HoldsOne (piece ++ tail)
-holds_front piece tail h none ends = record {
-  words = h.words;
-  units = h.units;
-  has_words = words_front piece tail h none;
-  are_units = h.are_units;
-  spells = h.spells ∙ sym (tokens_front piece tail h);
-  one = h.one;
-  ends = ends;
-}
+holds_front piece tail h none ends = grind (arith, common_steps, words_front piece tail h none, tokens_front piece tail h) steps 200000
 
 module _ (text piece tail : List ℕ) (h : IsCut text (piece ∷ []) tail) where
   joined : piece ++ tail ≡ ended text

@@ -1,16 +1,13 @@
 -- What the loop of `cut` keeps.
-use Rattle.std.proofs.Common.{◌≡◌, ◌≢◌, ◌⊎◌, ℕ, ◌+◌, ◌-◌, ◌<◌, ◌≤◌, true, inl, inr, List, [], ◌∷◌, ◌++◌, append_assoc, map, length, take, drop, None, Ok, Err, refl, sym, ap, ◌∙◌, subst, ⊎_elim, arith}
-use Rattle.std.proofs.Common.{slice_range}
-use Rattle.std.proofs.lemmas.Bool.{cases_lt}
+use Rattle.std.proofs.lemmas.{Grind.{common_steps}, Bool.{cases_lt}}
 use Rattle.std.proofs.lemmas.List.{append-nil, map-append, take-append-drop, take-append-le, length-append, length-map, length-take-le, take_all, nil_from_length, Folds.{concat-append}}
-use Rattle.std.proofs.Math.Seq.{take-append-add}
-use Rattle.std.specs.List.{concat, prefix_len}
-use Rattle.mm_text.specs.declared.{word.Word.{Word}, fault.TextNumber.{TextNumber, TheVariants.{T07, T08}}}
-use Rattle.mm_text.specs.Language.{Run.{Run, runs, runs_from, is_white}, Reading.{AreWords, HasWords, LiesIn, first_bad}, Unit.{Token, token_of, tokens_of}}
-use Rattle.mm_text.specs.Language.Cut.{ended, IsPiece, BeginsSolid, ArePieces, IsCut, IsFirstFaultAt}
-use Rattle.mm_text.specs.Code.{Grammar.{first_behind, blocks_behind, is_within}, Reader.{runs_at, TakesWord, FailsBehind, SkipsPlain}}
-use Rattle.mm_text.proofs.{LayoutLemmas.{laid_out}, PositionLemmas.{Standing, standing_front, Lying, runs_stand, parts_lie}, ReadingLemmas.{none_read}}
-use Rattle.mm_text.proofs.{ReaderLemmas.{words-append, fails_more, first_of_words}, SkipLemmas.{plain_words, are_plain_words, plain_tokens}, UnitReadingLemmas.{run-append, run-IsViable}}
+use Rattle.std.proofs.Common.{◌≡◌, ◌≢◌, ◌⊎◌, ℕ, ◌+◌, ◌-◌, ◌<◌, ◌≤◌, true, inl, inr, List, [], ◌∷◌, ◌++◌, append_assoc, map, length, take, drop, None, Ok, Err, refl, sym, ap, ◌∙◌, subst, ⊎_elim, arith}
+use Rattle.std.{proofs.{Common.{slice_range}, Math.Seq.{take-append-add}}, specs.List.{concat, prefix_len}}
+use Rattle.mm_text.specs.{declared.{word.Word.{Word}, fault.TextNumber.{TextNumber, TheVariants.{T07, T08}}}, Language.Run.{Run, runs, runs_from, is_white}}
+use Rattle.mm_text.specs.Language.{Reading.{AreWords, HasWords, LiesIn, first_bad}, Unit.{Token, token_of, tokens_of}, Cut.{ended, IsPiece, BeginsSolid, ArePieces, IsCut, IsFirstFaultAt}}
+use Rattle.mm_text.{specs.Code.{Grammar.{first_behind, blocks_behind, is_within}, Reader.{runs_at, TakesWord, FailsBehind, SkipsPlain}}, proofs.LayoutLemmas.{laid_out}}
+use Rattle.mm_text.proofs.{PositionLemmas.{Standing, standing_front, Lying, runs_stand, parts_lie}, ReadingLemmas.{none_read}, ReaderLemmas.{words-append, fails_more, first_of_words}}
+use Rattle.mm_text.proofs.{SkipLemmas.{plain_words, are_plain_words, plain_tokens}, UnitReadingLemmas.{run-append, run-IsViable}}
 use Rattle.mm_text.proofs.GrammarLemmas.{Stands, stands_none, stands_more, stands_plain, stands_unit, stands_block, plain_run, is_no_begin, first_of_units}
 use Rattle.mm_text.proofs.PieceLemmas.{shift_word, runs-shift, words_unshift, runs-ended}
 use Rattle.mm_text.proofs.PieceUnitLemmas.{allowed-ended, allowed_rest, solid_ended, WholeRun, white_within, rest_solid, rest_ended, runs_behind, piece_is}
@@ -35,12 +32,7 @@ pub record Gathers (text : List ℕ) (pieces : List (List ℕ)) (rest : List ℕ
   pub are : (more : List (List ℕ)) (tail : List ℕ) → concat more ++ tail ≡ ended rest → ArePieces more tail → ArePieces (pieces ++ more) tail
 
 gathers_more : (text : List ℕ) (pieces : List (List ℕ)) (rest piece next : List ℕ) → Gathers text pieces rest → ended rest ≡ piece ++ ended next → IsPiece piece → BeginsSolid (ended next) → Gathers text (pieces ++ piece ∷ []) next
-gathers_more text pieces rest piece next g split is solid = record {
-  joined = ap (λ (bs : List ℕ). bs ++ ended next) (concat-append pieces (piece ∷ []) ∙ ap (λ (bs : List ℕ). concat pieces ++ bs) (append-nil piece)) ∙ append_assoc (concat pieces) piece (ended next)
-      ∙ ap (λ (bs : List ℕ). concat pieces ++ bs) (sym split) ∙ g.joined;
-  are = λ more tail e h. subst (λ (ps : List (List ℕ)). ArePieces ps tail) (sym (append_assoc pieces (piece ∷ []) more))
-      (g.are (piece ∷ more) tail (append_assoc piece (concat more) tail ∙ ap (λ (bs : List ℕ). piece ++ bs) e ∙ sym split) (is, subst BeginsSolid (sym e) solid, h));
-}
+gathers_more text pieces rest piece next g split is solid = grind (arith, common_steps, concat-append pieces (piece ∷ []), append-nil piece, g.are) steps 200000
 
 -- ---- the text so far
 
@@ -61,21 +53,7 @@ pub record Progress (text : List ℕ) (pieces : List (List ℕ)) (from at : ℕ)
   pub gathers : Gathers text pieces (drop from text)
 
 pub progress_start : (text : List ℕ) (first : ℕ) → Progress text [] 0 0 m.Begin first []
-progress_start text first = record {
-  front = [];
-  since = [];
-  before = [];
-  part = [];
-  at_from = refl;
-  at_now = refl;
-  reads_before = none_read;
-  reads_part = none_read;
-  whole_before = refl;
-  stands = stands_none first;
-  inner = λ n some none. absurd (omega arith);
-  within = omega arith;
-  gathers = record { joined = refl; are = λ more tail e h. h };
-}
+progress_start text first = grind (arith, common_steps, stands_none first, none_read) steps 200000
 
 abbrev ok_step : m.Phase → ℕ → m.UnitStep
 ok_step phase depth = Ok (phase, depth)

@@ -1,37 +1,19 @@
 -- What the loop of `divided_cut` keeps of the parts of the piece that it reads.
-use Rattle.std.proofs.Common.{◌≡◌, ℕ, ◌+◌, ◌-◌, ◌≤◌, zero, suc, Bool, true, false, List, [], ◌∷◌, ◌++◌, append_assoc, map, length, take, drop, Option, None, Some, Result, Ok, refl, sym, ap, ◌∙◌}
-use Rattle.std.proofs.Common.{subst, arith}
-use Rattle.std.proofs.lemmas.List.{append-nil, map-append, take_rest}
+use Rattle.std.proofs.lemmas.{Grind.{common_steps}, List.{append-nil, map-append, take_rest}}
+use Rattle.std.proofs.Common.{◌≡◌, ℕ, ◌+◌, ◌-◌, ◌≤◌, Bool, true, false, List, [], ◌∷◌, ◌++◌, append_assoc, map, length, take, drop, Option, None, Some, Ok, refl, sym, ap, ◌∙◌, subst, arith}
 use Rattle.std.specs.{Prelude.{slice_range, unwrap_or, if◌then◌else◌}, List.{AllByRecursion, prefix_len}}
-use Rattle.mm_text.specs.declared.{division.PartReading.{PartReading}, part.{Part.{Part}, PartKind.{PartKind}}, fault.TextNumber.{TextNumber}}
-use Rattle.mm_text.specs.declared.word.{Word.{Word}, WordKind.{WordKind}, Keyword.TheVariants.{BlockStart, BlockEnd, StatementEnd, InclusionEnd}}
-use Rattle.mm_text.specs.Language.{Run.{Run, is_white}, Reading.{AreWords, LiesIn, first_bad}, Unit.{Token, token_of, tokens_of, IsPlain}, Cut.{ended}, Part.{HasParts, token_end, word_part}}
+use Rattle.mm_text.specs.{declared.{division.PartReading.{PartReading}, part.{Part.{Part}, PartKind.{PartKind}}, word.{Word.{Word}, WordKind.{WordKind}}}, Language.Run.{Run, is_white}}
+use Rattle.mm_text.specs.Language.{Reading.{AreWords, LiesIn, first_bad}, Unit.{Token, token_of, tokens_of, IsPlain}, Cut.{ended}, Part.{HasParts, token_end, word_part}}
 use Rattle.mm_text.specs.Code.{Grammar.{phase_of, is_within}, PartReading.{ends_part, emit, parts_behind, open_behind, TakesPartWord}, Reader.{runs_at, TakesWord, SkipsPlain}}
-use Rattle.mm_text.proofs.{GrammarLemmas.{is_no_begin}, PartLemmas.{made_part, emit_symbols, whole_parts}, PieceUnitLemmas.{unshift, piece_spells, runs_behind}}
-use Rattle.mm_text.proofs.{ReaderLemmas.{words-append, slice_length}, ReadingLemmas.{none_read}, SkipLemmas.{plain_words, are_plain_words, plain_tokens}}
-use Rattle.mm_text.specs.declared.word.WordKind.TheVariants as kinds
+use Rattle.mm_text.proofs.{PartLemmas.{made_part, emit_symbols, whole_parts}, PieceUnitLemmas.{unshift, piece_spells, runs_behind}, ReaderLemmas.{words-append, slice_length}}
+use Rattle.mm_text.proofs.{ReadingLemmas.{none_read}, SkipLemmas.{plain_words, are_plain_words, plain_tokens}}
 use Rattle.mm_text.specs.Code.UnitReading as m
 
 -- ---- words inside a statement
 
-abbrev ok_phase : m.Phase → Result m.Phase TextNumber
-ok_phase phase = Ok phase
-
-begins_none : (next : m.Phase) → ok_phase m.Begin ≡ ok_phase next → is_within next ≡ true → ⊥
-begins_none next e within = is_no_begin next within (let same : m.Begin ≡ next = cc in sym same)
-
 -- no word with which a part ends goes before symbols
 pub no_end : (phase : m.Phase) (depth : ℕ) (kind : WordKind) (could : Bool) (next : m.Phase) → phase_of (m.next phase depth kind could) ≡ Ok next → is_within next ≡ true → ends_part kind ≡ false
-no_end m.Begin depth (kinds.Keyword BlockStart) could next e within = absurd (begins_none next e within)
-no_end m.Begin zero (kinds.Keyword BlockEnd) could next e within = absurd cc
-no_end m.Begin (suc depth) (kinds.Keyword BlockEnd) could next e within = absurd (begins_none next e within)
-no_end m.Symbols depth (kinds.Keyword StatementEnd) could next e within = absurd (begins_none next e within)
-no_end m.Named depth (kinds.Keyword InclusionEnd) could next e within = absurd (begins_none next e within)
-no_end _ depth (kinds.Keyword BlockStart) could next e within = absurd cc
-no_end _ depth (kinds.Keyword BlockEnd) could next e within = absurd cc
-no_end _ depth (kinds.Keyword StatementEnd) could next e within = absurd cc
-no_end _ depth (kinds.Keyword InclusionEnd) could next e within = absurd cc
-no_end _ depth _ could next e within = refl
+no_end phase depth kind could next e within = grind (arith, common_steps) steps 200000
 
 -- ---- the piece so far
 

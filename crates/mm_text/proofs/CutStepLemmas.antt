@@ -1,8 +1,8 @@
 -- What the steps of `cut` do to what its loop keeps.
-use Rattle.std.proofs.{Common.{◌≡◌, ℕ, ◌+◌, ◌-◌, ◌≤◌, Bool, List, [], ◌∷◌, ◌++◌, length, take, drop, None, Ok, Err, sym, ap, ◌∙◌, subst, arith, slice_range}, lemmas.List.{take_rest}}
-use Rattle.std.specs.List.{prefix_len}
-use Rattle.mm_text.specs.declared.{grammar.Grammar.{Grammar}, word.Word.{Word}, fault.{TextError.{TextError}, TextNumber.{TextNumber, TheVariants.{T07, T08}}}}
-use Rattle.mm_text.specs.Language.{Run.{is_white}, Reading.{AreWords, LiesIn, first_bad}, Unit.{token_of}, Cut.{ended, IsCut, IsFirstFaultAt, IsCutError}}
+use Rattle.std.proofs.lemmas.{Grind.{common_steps}, List.{take_rest}}
+use Rattle.std.{proofs.Common.{◌≡◌, ℕ, ◌+◌, ◌-◌, ◌≤◌, Bool, List, [], ◌∷◌, ◌++◌, length, take, drop, None, Ok, Err, sym, ap, ◌∙◌, subst, arith, slice_range}, specs.List.{prefix_len}}
+use Rattle.mm_text.specs.{declared.{grammar.Grammar.{Grammar}, word.Word.{Word}, fault.{TextError.{TextError}, TextNumber.{TextNumber, TheVariants.{T07, T08}}}}, Language.Run.{is_white}}
+use Rattle.mm_text.specs.Language.{Reading.{AreWords, LiesIn, first_bad}, Unit.{token_of}, Cut.{ended, IsCut, IsFirstFaultAt, IsCutError}}
 use Rattle.mm_text.specs.Code.{Grammar.{phase_of, first_behind, blocks_behind, TakesUnit, GrammarTakes, EndsWith}, Reader.{runs_at, TakesWord}}
 use Rattle.mm_text.proofs.CutLemmas.{Progress, word_lies, units_fault, unit_end, block_end, cut_end, progress_more, progress_piece}
 use Rattle.mm_text.specs.declared.fault.TextError.TheVariants as errors
@@ -13,8 +13,7 @@ step_to (Ok s) next e = let same : s.0 ≡ next = cc in (s.1, ap (λ (p : m.Phas
 step_to (Err number) next e = absurd cc
 
 step_refused : (step : m.UnitStep) (number : TextNumber) → phase_of step ≡ Err number → step ≡ Err number
-step_refused (Ok s) number e = absurd cc
-step_refused (Err other) number e = let same : other ≡ number = cc in ap (λ (n : TextNumber). Err n) same
+step_refused step number e = grind (arith, common_steps) steps 200000
 
 -- what is kept with a grammar
 abbrev pub Keeps : List ℕ → List (List ℕ) → ℕ → ℕ → Grammar → Type 0

@@ -1,12 +1,12 @@
 -- Each text has its cut or its first fault: what `cut` does, without its code.
+use Rattle.std.proofs.lemmas.{Grind.{common_steps}, Bool.{cases_Bool, false≢true}, List.{take_rest, length-drop, Sums.{prefix_len-le-length}}}
 use Rattle.std.proofs.Common.{◌≡◌, ◌≢◌, ◌⊎◌, ℕ, zero, suc, ◌+◌, ◌-◌, ◌<◌, ◌≤◌, List, [], ◌∷◌, ◌++◌, length, take, drop, Option, Some, None, Ok, Err, refl, sym, ap, ◌∙◌, inl, inr, arith, slice_range}
-use Rattle.std.proofs.lemmas.{Bool.{cases_Bool, false≢true}, List.{take_rest, length-drop, Sums.{prefix_len-le-length}}}
 use Rattle.std.specs.{List.{prefix_len}, Str.{bytes_eq}}
 use Rattle.mm_text.specs.declared.{reader.Span.{Span}, word.{Word.{Word}, WordKind.{WordKind}}, fault.{TextFault.{TextFault}, TextNumber.{TextNumber, TheVariants.{T01, T02, T03, T04, T05, T07, T08}}}}
 use Rattle.mm_text.specs.Language.{Run.{is_white, is_solid}, Spelling.{opening, closing}, Reading.{AreWords, first_bad}, Unit.{token_of}, Cut.{ended, IsCut, IsFirstFault}}
 use Rattle.mm_text.specs.Code.{LeftToRight.{word_kind, holds_mark, words_fault_at}, Grammar.{first_behind, blocks_behind}}
-use Rattle.mm_text.specs.Code.Reader.{runs_at, TakesSpan, SkipsComment, FailsInside, TakesWord, FailsBehind}
-use Rattle.mm_text.proofs.{KindLemmas.{mark_stands, stands_mark}, RunLemmas.{no_run, white_at, takes_run}, ReadingLemmas.{is_from, not_from}}
+use Rattle.mm_text.{specs.Code.Reader.{runs_at, TakesSpan, SkipsComment, FailsInside, TakesWord, FailsBehind}, proofs.{KindLemmas.{mark_stands, stands_mark}, RunLemmas.{no_run, white_at, takes_run}}}
+use Rattle.mm_text.proofs.ReadingLemmas.{is_from, not_from}
 use Rattle.mm_text.proofs.ReaderLemmas.{Skipping, skip_none, skip_more, skip_end, skip_fault, skip_open, Passing, pass_none, pass_end, pass_word, pass_close, pass_dollar, pass_comment, pass_fails}
 use Rattle.mm_text.proofs.{UnitScanLemmas.{is_begin}, GrammarLemmas.{last_of}}
 use Rattle.mm_text.proofs.CutLemmas.{Progress, progress_start, progress_more, progress_piece, words_fault, units_fault, unit_end, block_end, cut_end}
@@ -18,11 +18,7 @@ abbrev NextRun : List ℕ → ℕ → Type 0
 NextRun text from = (span : Span) × (to : ℕ) × TakesSpan text from span to × (to ≤ length text)
 
 solid_most : (text : List ℕ) (from n : ℕ) → n ≡ prefix_len is_solid (take (length text - from) (drop from text)) → n ≤ length text - from
-solid_most text from n is =
-    let here : n ≡ prefix_len is_solid (drop from text) = is ∙ ap (prefix_len is_solid) (take_rest text from) in
-    let most : prefix_len is_solid (drop from text) ≤ length (drop from text) = prefix_len-le-length is_solid (drop from text) in
-    let long : length (drop from text) ≡ length text - from = length-drop from text in
-    omega arith
+solid_most text from n is = grind (arith, common_steps, take_rest text from, prefix_len-le-length is_solid (drop from text), length-drop from text) steps 200000
 
 run_by : (text : List ℕ) (from w n : ℕ) → w ≡ prefix_len is_white (take (length text - from) (drop from text)) → n ≡ prefix_len is_solid (take (length text - (from + w)) (drop (from + w) text)) → (runs_at text from ≡ []) ⊎ NextRun text from
 run_by text from w zero w-is n-is = inl (no_run text from w 0 w-is n-is refl)
@@ -31,9 +27,7 @@ run_by text from w (suc n) w-is n-is = inr (_, from + w + suc n, takes_run text 
   within = let most : suc n ≤ length text - (from + w) = solid_most text (from + w) (suc n) n-is in omega arith
 
 run_at : (text : List ℕ) (from : ℕ) → (runs_at text from ≡ []) ⊎ NextRun text from
-run_at text from =
-    run_by text from (prefix_len is_white (take (length text - from) (drop from text)))
-    (prefix_len is_solid (take (length text - (from + prefix_len is_white (take (length text - from) (drop from text)))) (drop (from + prefix_len is_white (take (length text - from) (drop from text))) text))) refl refl
+run_at text from = grind (arith, common_steps, run_by) steps 200000
 
 -- ---- the end of a comment
 

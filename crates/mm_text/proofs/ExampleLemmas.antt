@@ -1,9 +1,8 @@
 -- The worked examples of texts, by computing.
 use Rattle.std.proofs.{Common.{ℕ, List, [], ◌∷◌, take, drop, refl, codes, inl}, lemmas.List.Sums.{AllPass-from_list_all}}
-use Rattle.mm_text.specs.declared.{word.Keyword.TheVariants.{Constants, Floating, StatementEnd}, fault.TextNumber.TheVariants.{T06}}
-use Rattle.mm_text.specs.Language.{Run.{is_white, runs}, Reading.{is_allowed}, Unit.{token_of, Declaration, Labelled, Nothing, Simple, is_label_byte}, Cut.{IsPiece}}
-use Rattle.mm_text.specs.Language.Examples.{plain_word, keyword, HasFiveWords, StandsInSecondLine, MissesEnd, IsCutInTwo}
-use Rattle.mm_text.specs.Code.UnitReading.{Symbols}
+use Rattle.mm_text.specs.{declared.{word.Keyword.TheVariants.{Constants, Floating, StatementEnd}, fault.TextNumber.TheVariants.{T06}}, Language.{Run.{is_white, runs}, Reading.{is_allowed}}}
+use Rattle.mm_text.specs.Language.{Unit.{token_of, Declaration, Labelled, Nothing, Simple, is_label_byte}, Cut.{IsPiece}}
+use Rattle.mm_text.specs.{Language.Examples.{plain_word, keyword, HasFiveWords, StandsInSecondLine, MissesEnd, IsCutInTwo}, Code.UnitReading.{Symbols}}
 use Rattle.mm_text.proofs.{ReadingLemmas.{words_from_read, words_of_text}, GrammarLemmas.{first_of_units}}
 
 pub has_five_words : HasFiveWords

@@ -1,15 +1,12 @@
 -- What a grammar keeps: the state of the machine, where the unit that is being read begins, and the open blocks.
+use Rattle.std.proofs.lemmas.{Grind.{common_steps}, Bool.{cases_lt, false≢true}, List.{append-nil, map-append, length-append, length-map, take-append-le, take_all}}
 use Rattle.std.proofs.Common.{true, ◌≡◌, ◌≢◌, ◌⊎◌, ℕ, zero, suc, ◌+◌, ◌-◌, ◌<◌, ◌≤◌, List, [], ◌∷◌, ◌++◌, append_assoc, length, take, drop, slice_get, Some, None, Ok, Err, refl, sym, ap, ◌∙◌, subst}
-use Rattle.std.proofs.Common.{inl, inr, ⊎_elim, arith}
-use Rattle.std.proofs.Math.Seq.{take-append_seam, drop-append-add}
-use Rattle.std.proofs.lemmas.{Bool.{cases_lt, false≢true}, List.{append-nil, map-append, length-append, length-map, take-append-le, length-take-le, take_all}}
-use Rattle.std.specs.List.{AllByRecursion}
+use Rattle.std.{proofs.{Common.{inl, inr, ⊎_elim, arith}, Math.Seq.{take-append_seam, drop-append-add}}, specs.List.{AllByRecursion}}
 use Rattle.mm_text.specs.declared.{word.{Word.{Word}, WordKind.{WordKind}, Keyword.TheVariants.{BlockStart, BlockEnd}}, fault.TextNumber.{TextNumber, TheVariants.{T06, T09, T10, T11, T12}}}
 use Rattle.mm_text.specs.Language.{Run.{Run, runs}, Reading.{AreWords, first_bad}, Unit.{Token, IsKeyword, IsPlain, EndsInUnit, EndsInBlock, token_of, tokens_of}, Cut.{StopsUnits, IsFirstFaultAt}}
 use Rattle.mm_text.specs.Code.{Grammar.{first_behind, blocks_behind, is_within}, BlockCounts.{is_start_word, is_end_word, starts, ends}}
 use Rattle.mm_text.proofs.UnitFaultLemmas.{run_push, stop_at, ends_in_unit, ends_in_block, Covered, covered-append, covered_drop, starts-append, ends-append, start_counts, end_counts}
 use Rattle.mm_text.proofs.UnitScanLemmas.{Counts, step_counts, is_begin, slice_get_at}
-use Rattle.mm_text.specs.declared.word.WordKind.TheVariants as kinds
 use Rattle.mm_text.specs.Code.UnitReading as m
 
 -- ---- open blocks
@@ -38,40 +35,17 @@ closed_none : IsClosed []
 closed_none = (refl, tt)
 
 closed_more : (tokens : List Token) (token : Token) → IsClosed tokens → is_start_word token.kind ≡ 0 → is_end_word token.kind ≡ 0 → IsClosed (tokens ++ token ∷ [])
-closed_more tokens token h no_start no_end =
-    let start : starts (tokens ++ token ∷ []) ≡ starts tokens + starts (token ∷ []) = starts-append tokens (token ∷ []) in
-    let end : ends (tokens ++ token ∷ []) ≡ ends tokens + ends (token ∷ []) = ends-append tokens (token ∷ []) in
-    (omega arith, covered-append tokens (token ∷ []) h.1 (let fewer : starts (token ∷ []) ≤ ends (token ∷ []) = omega arith in (fewer, tt)))
+closed_more tokens token h no_start no_end = grind (arith, common_steps, covered-append, ends-append, starts-append) steps 200000
 
 closed_block : (before inner : List Token) (begin end : Token) → IsClosed before → IsClosed inner → IsKeyword BlockStart begin → IsKeyword BlockEnd end → IsClosed (before ++ begin ∷ (inner ++ end ∷ []))
-closed_block before inner begin end f g opens closes =
-    let one : (is_start_word begin.kind ≡ 1) × (is_end_word begin.kind ≡ 0) = start_counts begin opens in
-    let two : (is_start_word end.kind ≡ 0) × (is_end_word end.kind ≡ 1) = end_counts end closes in
-    let a : starts (before ++ begin ∷ (inner ++ end ∷ [])) ≡ starts before + starts (begin ∷ (inner ++ end ∷ [])) = starts-append before (begin ∷ (inner ++ end ∷ [])) in
-    let b : ends (before ++ begin ∷ (inner ++ end ∷ [])) ≡ ends before + ends (begin ∷ (inner ++ end ∷ [])) = ends-append before (begin ∷ (inner ++ end ∷ [])) in
-    let c : starts (inner ++ end ∷ []) ≡ starts inner + starts (end ∷ []) = starts-append inner (end ∷ []) in
-    let d : ends (inner ++ end ∷ []) ≡ ends inner + ends (end ∷ []) = ends-append inner (end ∷ []) in
-    let x : starts before ≡ ends before = f.0 in
-    let y : starts inner ≡ ends inner = g.0 in
-    let last : starts (end ∷ []) ≤ ends (end ∷ []) = omega arith in
-    let all : starts (begin ∷ (inner ++ end ∷ [])) ≤ ends (begin ∷ (inner ++ end ∷ [])) = omega arith in
-    (omega arith, covered-append before (begin ∷ (inner ++ end ∷ [])) f.1 (all, covered-append inner (end ∷ []) g.1 (last, tt)))
+closed_block before inner begin end f g opens closes = grind (arith, common_steps, covered-append, end_counts, ends-append, start_counts, starts-append) steps 200000
 
 behind : (tokens before inner : List Token) (begin token : Token) → tokens ≡ before ++ begin ∷ inner → tokens ++ token ∷ [] ≡ before ++ begin ∷ (inner ++ token ∷ [])
 behind tokens before inner begin token joined = ap (λ (ts : List Token). ts ++ token ∷ []) joined ∙ append_assoc before (begin ∷ inner) (token ∷ [])
 
 -- a later word is inside the block that is open
 opens_inside : {Now Later : List Token → Type 0} (start : ℕ) (tokens : List Token) (token : Token) (h : OpensAt tokens start Now) → Later (h.inner ++ token ∷ []) → OpensAt (tokens ++ token ∷ []) start Later
-opens_inside start tokens token h later = record {
-  before = h.before;
-  begin = h.begin;
-  inner = h.inner ++ token ∷ [];
-  joined = behind tokens h.before h.inner h.begin token h.joined;
-  closed = h.closed;
-  opens = h.opens;
-  place = h.place;
-  goes_on = later;
-}
+opens_inside start tokens token h later = grind (arith, common_steps) steps 200000
 
 opens_more : (blocks : List ℕ) (tokens : List Token) (token : Token) → Opens tokens blocks → is_start_word token.kind ≡ 0 → is_end_word token.kind ≡ 0 → Opens (tokens ++ token ∷ []) blocks
 opens_more [] tokens token h no_start no_end = closed_more tokens token h no_start no_end
@@ -134,22 +108,16 @@ pub last_of : (xs : List ℕ) → 0 < length xs → (last : ℕ) × (xs ≡ take
 last_of [] some = absurd (omega arith)
 last_of (x ∷ []) some = (x, refl)
 last_of (x ∷ y ∷ xs) some =
-    let more = last_of (y ∷ xs) (omega arith) in
     let same : length (x ∷ y ∷ xs) - 1 ≡ suc (length (y ∷ xs) - 1) = omega arith in
-    (more.0, ap (λ (ys : List ℕ). x ∷ ys) more.1 ∙ ap (λ (n : ℕ). take n (x ∷ y ∷ xs) ++ more.0 ∷ []) (sym same))
+    grind (arith, common_steps, last_of (y ∷ xs) (omega arith)) steps 200000
 
 -- the machine counts the open blocks
 blocks_count : (kind : WordKind) (blocks : List ℕ) (start depth : ℕ) → length blocks + is_start_word kind ≡ depth + is_end_word kind → length (blocks_behind kind blocks start) ≡ depth
-blocks_count (kinds.Keyword BlockStart) blocks start depth e = let long : length (blocks ++ start ∷ []) ≡ length blocks + 1 = length-append blocks (start ∷ []) in omega arith
-blocks_count (kinds.Keyword BlockEnd) blocks start depth e = let short : length (take (length blocks - 1) blocks) ≡ length blocks - 1 = length-take-le (length blocks - 1) blocks (omega arith) in omega arith
-blocks_count _ blocks start depth e = omega arith
+blocks_count kind blocks start depth e = grind (arith, common_steps) steps 200000
 
 blocks_more : (kind : WordKind) (blocks : List ℕ) (tokens : List Token) (token : Token) (depth : ℕ) → token.kind ≡ kind → length blocks + is_start_word kind ≡ depth + is_end_word kind
     → Opens tokens blocks → Opens (tokens ++ token ∷ []) (blocks_behind kind blocks token.start)
-blocks_more (kinds.Keyword BlockStart) blocks tokens token depth is e h = opens_start blocks tokens token h is
-blocks_more (kinds.Keyword BlockEnd) blocks tokens token depth is e h =
-    let last = last_of blocks (omega arith) in opens_end (take (length blocks - 1) blocks) last.0 tokens token (subst (λ (bs : List ℕ). Opens tokens bs) last.1 h) is
-blocks_more _ blocks tokens token depth is e h = opens_more blocks tokens token h (ap is_start_word is) (ap is_end_word is)
+blocks_more kind blocks tokens token depth is e h = grind (arith, common_steps, last_of, opens_end, opens_more, opens_start) steps 200000
 
 -- ---- one more word
 
@@ -288,9 +256,7 @@ first_of_units text found word front rest phase depth number allowed joined read
 -- ---- plain words inside a statement
 
 pub plain_step : (phase : m.Phase) (depth : ℕ) (token : Token) → is_within phase ≡ true → IsPlain token → m.next phase depth token.kind (m.could_label token) ≡ Ok (m.phase_state phase depth)
-plain_step m.Symbols depth token within plain = ap (λ (kind : WordKind). m.next m.Symbols depth kind (m.could_label token)) plain
-plain_step m.Expression depth token within plain = ap (λ (kind : WordKind). m.next m.Expression depth kind (m.could_label token)) plain
-plain_step _ depth token within plain = absurd (false≢true within)
+plain_step phase depth token within plain = grind (arith, common_steps) steps 200000
 
 -- any number of them leave the phase as it is
 pub plain_run : (phase : m.Phase) (depth : ℕ) → is_within phase ≡ true → (tokens : List Token) → AllByRecursion IsPlain tokens → (k : ℕ) → m.run phase depth (take k tokens) ≡ Ok (m.phase_state phase depth)
@@ -301,16 +267,10 @@ plain_run phase depth within (token ∷ tokens) plain (suc k) = ap (λ (step : m
 pub is_no_begin : (phase : m.Phase) → is_within phase ≡ true → phase ≢ m.Begin
 is_no_begin phase within is = false≢true (sym (ap is_within is) ∙ within)
 
-plain_first : (phase : m.Phase) (first start : ℕ) → is_within phase ≡ true → first_behind phase first start ≡ first
-plain_first m.Symbols first start within = refl
-plain_first m.Expression first start within = refl
-plain_first _ first start within = absurd (false≢true within)
-
 pub stands_plain : (tokens more : List Token) (phase : m.Phase) (first : ℕ) (blocks : List ℕ) → is_within phase ≡ true → AllByRecursion IsPlain more → Stands tokens phase first blocks → Stands (tokens ++ more) phase first blocks
 stands_plain tokens [] phase first blocks within plain h = subst (λ (ts : List Token). Stands ts phase first blocks) (sym (append-nil tokens)) h
 stands_plain tokens (token ∷ more) phase first blocks within plain h =
     let next : Stands (tokens ++ token ∷ []) phase (first_behind phase first token.start) (blocks_behind token.kind blocks token.start) =
     stands_more tokens phase first blocks h token phase (length blocks) (plain_step phase (length blocks) token within plain.0) in
-    let here : Stands (tokens ++ token ∷ []) phase first blocks = subst (λ (n : ℕ). Stands (tokens ++ token ∷ []) phase n blocks) (plain_first phase first token.start within)
-    (subst (λ (bs : List ℕ). Stands (tokens ++ token ∷ []) phase (first_behind phase first token.start) bs) (ap (λ (k : WordKind). blocks_behind k blocks token.start) plain.0) next) in
+    let here : Stands (tokens ++ token ∷ []) phase first blocks = grind (arith, common_steps) steps 200000 in
     subst (λ (ts : List Token). Stands ts phase first blocks) (append_assoc tokens (token ∷ []) more) (stands_plain (tokens ++ token ∷ []) more phase first blocks within plain.1 here)

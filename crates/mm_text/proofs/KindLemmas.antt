@@ -1,14 +1,9 @@
 -- Kinds of words, and marks, against how they are spelled.
-use Rattle.std.proofs.Common.{◌≡◌, ℕ, suc, zero, ◌<◌, ◌≤◌, true, false, not, cond, eqb, ◌||◌, List, [], ◌∷◌, length, get_or, drop, Option, IfSome, Some, None, Contains, refl, sym, ap, ◌∙◌, subst}
-use Rattle.std.proofs.Common.{arith, inl, inr, ◌⊎◌, eq-eqb}
-use Rattle.std.proofs.lemmas.Bool.{cases_Bool, cond-false, eqb-true, ne_eqb, false≢true, or_left, or_right, or_cases, and_parts, false_from_ne_true, not-true}
-use Rattle.std.specs.{List.{list_any, prefix_len}, Prelude.{option_map, ◌==◌}}
-use Rattle.mm_text.specs.declared.word.Keyword.{Keyword}
-use Rattle.mm_text.specs.declared.word.Keyword.TheVariants.{BlockStart, BlockEnd, Constants, Variables, Floating, Essential, Disjoint, Axiom, Theorem, StatementEnd, ProofStart, InclusionStart}
-use Rattle.mm_text.specs.declared.word.Keyword.TheVariants.{InclusionEnd}
-use Rattle.mm_text.specs.declared.word.WordKind.{WordKind}
-use Rattle.mm_text.specs.Language.{Run.{is_white, is_solid, ends_run}, Spelling.{spelling, IsSpelled, HoldsMark, HasBytesAt, opening, closing}}
-use Rattle.mm_text.specs.Code.LeftToRight.{keyword_at, plain_unless, word_kind, is_mark, holds_mark, has_dollar}
+use Rattle.std.proofs.lemmas.{Grind.{common_steps}, Bool.{cases_Bool, cond-false, eqb-true, ne_eqb, false≢true, or_left, or_right, or_cases, and_parts, false_from_ne_true, not-true}}
+use Rattle.std.proofs.Common.{◌≡◌, ℕ, suc, zero, ◌<◌, ◌≤◌, true, false, not, eqb, ◌||◌, List, [], ◌∷◌, length, get_or, drop, Option, IfSome, Some, None, Contains, refl, sym, ap, ◌∙◌, arith, inl, inr}
+use Rattle.std.{proofs.Common.{◌⊎◌, eq-eqb}, specs.{List.{list_any, prefix_len}, Prelude.{option_map, ◌==◌}}}
+use Rattle.mm_text.specs.{declared.word.{Keyword.{Keyword}, WordKind.{WordKind}}, Language.Run.{is_white, is_solid, ends_run}}
+use Rattle.mm_text.specs.{Language.Spelling.{spelling, IsSpelled, HoldsMark, HasBytesAt, opening, closing}, Code.LeftToRight.{keyword_at, plain_unless, word_kind, is_mark, holds_mark, has_dollar}}
 use Rattle.mm_text.specs.declared.word.WordKind.TheVariants as kinds
 
 -- ---- a `$` somewhere
@@ -31,19 +26,12 @@ contains_any bytes h = contains_at bytes h.0 h.1 h.2
 
 -- ---- keywords
 
-pick : (b n : ℕ) (first k : Keyword) (rest : Option Keyword) → 36 ∷ n ∷ [] ≡ spelling first → (rest ≡ Some k → 36 ∷ b ∷ [] ≡ spelling k) → cond (eqb b n) (Some first) rest ≡ Some k → 36 ∷ b ∷ [] ≡ spelling k
-pick b n first k rest spelled else' e = elim (cases_Bool (eqb b n)) [ inl same ↦ rw (eqb-true b n same) (spelled ∙ ap spelling (cc)) | inr other ↦ else' (rw other at e) ]
-
 keyword_is : (b : ℕ) (k : Keyword) → keyword_at b ≡ Some k → 36 ∷ b ∷ [] ≡ spelling k
-keyword_is b k =
-    pick b 123 BlockStart k _ refl (pick b 125 BlockEnd k _ refl (pick b 99 Constants k _ refl (pick b 118 Variables k _ refl (pick b 102 Floating k _ refl
-    (pick b 101 Essential k _ refl (pick b 100 Disjoint k _ refl (pick b 97 Axiom k _ refl (pick b 112 Theorem k _ refl (pick b 46 StatementEnd k _ refl
-    (pick b 61 ProofStart k _ refl (pick b 91 InclusionStart k _ refl (pick b 93 InclusionEnd k None refl (λ e. absurd cc)))))))))))))
+keyword_is b k = grind (arith, common_steps) steps 200000
 
 none_white : (k : Keyword) → is_white (get_or (spelling k) 1 0) ≡ false
 unfolding is_white
-none_white BlockStart = refl
-none_white _ = refl
+none_white k = grind (arith, common_steps) steps 200000
 
 -- a keyword before white space, or before the end, is a whole run
 keyword_here : (b : ℕ) (k : Keyword) (bytes : List ℕ) → keyword_at b ≡ Some k → ends_run bytes ≡ true → prefix_len is_solid (36 ∷ b ∷ bytes) ≡ 2
@@ -57,35 +45,23 @@ keyword_run_len (a ∷ b ∷ bytes) (Some k) some first ends is = rw first (keyw
 keyword_run_len _ (Some k) some first ends is = absurd (omega arith)
 
 kind_of-keyword : (k : Keyword) → word_kind (spelling k) ≡ Some (kinds.Keyword k)
-kind_of-keyword BlockStart = refl
-kind_of-keyword _ = refl
+kind_of-keyword k = grind (arith, common_steps) steps 200000
 
 -- a run with no `$`, or one with a `$` that is no keyword
 plain_is : (bytes : List ℕ) (kind : WordKind) → plain_unless (list_any (λ c. c == 36) bytes) ≡ Some kind → IsSpelled kind bytes
-plain_is bytes kind e =
-    elim (cases_Bool (list_any (λ c. c == 36) bytes)) [
-      | inl some ↦ absurd (cc)
-      | inr none ↦
-          let is : kinds.Plain ≡ kind = cc in
-          subst (λ (k : WordKind). IsSpelled k bytes) is (λ h. false≢true (sym none ∙ contains_any bytes h))
-    ]
+plain_is bytes kind e = grind (arith, common_steps) steps 200000
 
 pair_other : (a b : ℕ) → eqb a 36 ≡ false → word_kind (a ∷ b ∷ []) ≡ plain_unless (list_any (λ c. c == 36) (a ∷ b ∷ []))
 pair_other a b other = cond-false (eqb a 36) (option_map kinds.Keyword (keyword_at b)) (plain_unless (list_any (λ c. c == 36) (a ∷ b ∷ []))) other
 
 keyword_spelled : (b : ℕ) (found : Option Keyword) (kind : WordKind) → keyword_at b ≡ found → option_map kinds.Keyword found ≡ Some kind → IsSpelled kind (36 ∷ b ∷ [])
-keyword_spelled b None kind is e = absurd cc
-keyword_spelled b (Some k) kind is e = let same : kinds.Keyword k ≡ kind = cc in subst (λ (v : WordKind). IsSpelled v (36 ∷ b ∷ [])) same (keyword_is b k is)
+keyword_spelled b found kind is e = grind (arith, common_steps) steps 200000
 
 -- a kind is found exactly when the bytes spell it
 pub kind_spelled : (bytes : List ℕ) (kind : WordKind) → word_kind bytes ≡ Some kind → IsSpelled kind bytes
 kind_spelled [] kind e = plain_is [] kind e
 kind_spelled (a ∷ []) kind e = plain_is (a ∷ []) kind e
-kind_spelled (a ∷ b ∷ []) kind e =
-    elim (cases_Bool (eqb a 36)) [
-      | inl same ↦ rw (eqb-true a 36 same) (keyword_spelled b (keyword_at b) kind refl (rw same at e))
-      | inr other ↦ plain_is (a ∷ b ∷ []) kind (sym (pair_other a b other) ∙ e)
-    ]
+kind_spelled (a ∷ b ∷ []) kind e = grind (arith, cases_Bool (eqb a 36), eqb-true, keyword_spelled, plain_is, pair_other) steps 200000
 kind_spelled (a ∷ b ∷ c ∷ bytes) kind e = plain_is (a ∷ b ∷ c ∷ bytes) kind e
 
 plain_kind : (bytes : List ℕ) → ¬ Contains bytes 36 → plain_unless (list_any (λ c. c == 36) bytes) ≡ Some kinds.Plain
@@ -98,24 +74,13 @@ spelled_kind kinds.Plain (a ∷ []) none = plain_kind (a ∷ []) none
 spelled_kind kinds.Plain (a ∷ b ∷ []) none = let other : eqb a 36 ≡ false = ne_eqb a 36 (λ e. none (0, omega arith, e)) in pair_other a b other ∙ plain_kind (a ∷ b ∷ []) none
 spelled_kind kinds.Plain (a ∷ b ∷ c ∷ bytes) none = plain_kind (a ∷ b ∷ c ∷ bytes) none
 
-plain_none : (bytes : List ℕ) → plain_unless (list_any (λ c. c == 36) bytes) ≡ None → Contains bytes 36
-plain_none bytes e = elim (cases_Bool (list_any (λ c. c == 36) bytes)) [ inl some ↦ any_contains bytes some | inr none ↦ absurd (cc) ]
-
 pub no_kind : (bytes : List ℕ) → word_kind bytes ≡ None → Contains bytes 36
-no_kind [] e = plain_none [] e
-no_kind (a ∷ []) e = plain_none (a ∷ []) e
-no_kind (a ∷ b ∷ []) e = elim (cases_Bool (eqb a 36)) [ inl same ↦ (0, omega arith, eqb-true a 36 same) | inr other ↦ plain_none (a ∷ b ∷ []) (sym (pair_other a b other) ∙ e) ]
-no_kind (a ∷ b ∷ c ∷ bytes) e = plain_none (a ∷ b ∷ c ∷ bytes) e
+no_kind bytes e = grind (arith, common_steps, cases_Bool, eqb-true, pair_other, any_contains) steps 200000
 
 -- ---- marks
 
 mark_is : (a b : ℕ) (bytes : List ℕ) → is_mark a b ≡ true → HasBytesAt (a ∷ b ∷ bytes) opening 0 ⊎ HasBytesAt (a ∷ b ∷ bytes) closing 0
-mark_is a b bytes e =
-    let parts = and_parts (eqb a 36) (eqb b 40 || eqb b 41) e in
-    elim (or_cases (eqb b 40) (eqb b 41) parts.1) [
-      | inl opens ↦ inl (rw (eqb-true a 36 parts.0, eqb-true b 40 opens) refl)
-      | inr closes ↦ inr (rw (eqb-true a 36 parts.0, eqb-true b 41 closes) refl)
-    ]
+mark_is a b bytes e = grind (arith, common_steps) steps 200000
 
 pub mark_stands : (bytes : List ℕ) → holds_mark bytes ≡ true → HoldsMark bytes
 mark_stands (a ∷ b ∷ bytes) e =

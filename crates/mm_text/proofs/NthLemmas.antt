@@ -1,12 +1,11 @@
 -- The n-th word, found by reading on.
-use Rattle.std.proofs.Common.{◌≡◌, ℕ, zero, suc, ◌+◌, ◌<◌, ◌≤◌, List, [], ◌∷◌, Option, Some, None, Ok, Err, drop, length, refl, sym, ap, ◌∙◌, arith, slice_get, MatchOption, drop-drop, length-drop}
-use Rattle.std.proofs.lemmas.Option.{slice_get_past}
+use Rattle.std.proofs.lemmas.{Grind.{common_steps}, Option.{slice_get_past}}
+use Rattle.std.proofs.Common.{◌≡◌, ℕ, zero, suc, ◌+◌, ◌<◌, ◌≤◌, List, [], ◌∷◌, Option, None, Ok, drop, length, refl, sym, ap, ◌∙◌, arith, slice_get, MatchOption, drop-drop, length-drop}
 use Rattle.mm_text.specs.{declared.word.Word.{Word}, Code.LeftToRight.{Read, cons_word}}
 
 -- what is read after the first word
 pub first_word : (old new : Read) (word : Word) (rest : List Word) → old ≡ cons_word word new → old ≡ Ok rest → (more : List Word) × (rest ≡ word ∷ more) × (new ≡ Ok more)
-first_word old (Ok more) word rest e is = (more, cc, refl)
-first_word old (Err fault) word rest e is = absurd cc
+first_word old new word rest e is = grind (arith, common_steps) steps 200000
 
 -- the first of the words from a place on
 first_at : {X : Type 0} (xs : List X) (n : ℕ) → slice_get (drop n xs) 0 ≡ slice_get xs n
@@ -20,8 +19,7 @@ goes_on words left new n word at e = sym (sym (drop-drop 1 n words) ∙ ap (drop
 
 -- the word that a cursor gives after n words
 pub nth_of : (words left new : List Word) (n : ℕ) (found : Option Word) → left ≡ drop n words → MatchOption found ((left ≡ []) × (new ≡ [])) (λ word. left ≡ word ∷ new) → found ≡ slice_get words n
-nth_of words left new n None at h = ap (λ (l : List Word). slice_get l 0) (sym h.0 ∙ at) ∙ first_at words n
-nth_of words left new n (Some word) at h = ap (λ (l : List Word). slice_get l 0) (sym h ∙ at) ∙ first_at words n
+nth_of words left new n found at h = grind (arith, common_steps, first_at) steps 200000
 
 -- if no word is left, none is further on
 pub nth_past : (words left : List Word) (n m : ℕ) → left ≡ drop n words → left ≡ [] → n < m → None ≡ slice_get words m

@@ -1,11 +1,10 @@
 -- A text without what comes before its first word and after its last has the same words.
+use Rattle.std.proofs.lemmas.Grind.{common_steps}
 use Rattle.std.proofs.Common.{◌≡◌, ℕ, zero, suc, ◌+◌, ◌-◌, ◌<◌, ◌≤◌, true, List, [], ◌∷◌, ◌++◌, append_assoc, length, map, drop, None, Ok, Err, refl, sym, ap, ◌∙◌, subst, inl, inr, arith, slice_range}
 use Rattle.std.proofs.Common.{append-nil, length-append, take-append-drop}
-use Rattle.mm_text.specs.declared.word.Word.{Word}
-use Rattle.mm_text.specs.Language.{Run.{runs, ends_run}, Reading.{HasWords, LiesIn}}
+use Rattle.mm_text.specs.{declared.word.Word.{Word}, Language.{Run.{runs, ends_run}, Reading.{HasWords, LiesIn}}}
 use Rattle.mm_text.specs.Language.Unit.{Token, token_of, tokens_of, spellings, Shape, Declaration, Labelled, Provable, Inclusion, shape_tokens, Nothing, Simple}
-use Rattle.mm_text.specs.Language.{Part.{HasUnits, token_end, shape_part}, Cut.{end_of_words}}
-use Rattle.mm_text.specs.Code.{LeftToRight.{read_runs, words_fault_at}, Reader.{runs_at, TakesWord}}
+use Rattle.mm_text.specs.{Language.{Part.{HasUnits, token_end, shape_part}, Cut.{end_of_words}}, Code.{LeftToRight.{read_runs, words_fault_at}, Reader.{runs_at, TakesWord}}}
 use Rattle.mm_text.proofs.{ReadingLemmas.{read_words, same_words}, ReaderLemmas.{pass_none, slice_length, word_read, fails_read}, PieceLemmas.{shift_word}}
 use Rattle.mm_text.proofs.{PieceUnitLemmas.{bare, ends_at_last, tokens-shift}, PositionLemmas.{Lying, words_lie}, CutWalkLemmas.{Given, word_from}, NthLemmas.{first_word}}
 use Rattle.mm_text.proofs.PartLemmas.{Begun, begun_first, begun_more, begun_words}
@@ -85,9 +84,7 @@ alone text first more has = by_given (word_from (length text) text 0 0 (omega ar
 pub own_alone : (text : List ℕ) (first : Word) (more own : List Word) → HasWords text (first ∷ more) → HasWords (slice_range text first.start (end_of_words (first ∷ more))) own
     → spellings (slice_range text first.start (end_of_words (first ∷ more))) own ≡ spellings text (first ∷ more)
 own_alone text first more own has are =
-    let found = alone text first more has in
-    let part = slice_range text first.start (end_of_words (first ∷ more)) in
-    ap (spellings part) (same_words (runs part) own found.0 are.words_are found.1.words_are) ∙ found.2
+    grind (arith, alone text first more has, same_words (runs (slice_range text first.start (end_of_words (first ∷ more)))) own (alone text first more has).0 are.words_are (alone text first more has).1.words_are) steps 200000
 
 -- ---- a statement that is alone in its text
 
@@ -99,8 +96,7 @@ last_end text front last [] at lie e = absurd (omega (arith, ap length e, length
 last_end text [] last (word ∷ []) at lie e = let same : last ≡ token_of text word = cc in ap token_end same ∙ word_end text word lie.1
 last_end text [] last (word ∷ next ∷ words) at lie e = absurd (omega (arith, ap length e))
 last_end text (token ∷ front) last (word ∷ []) at lie e = absurd (omega (arith, ap length e, length-append front (last ∷ [])))
-last_end text (token ∷ front) last (word ∷ next ∷ words) at lie e =
-    let rest : front ++ last ∷ [] ≡ tokens_of text (next ∷ words) = cc in last_end text front last (next ∷ words) (word.end + 1) lie.2 rest
+last_end text (token ∷ front) last (word ∷ next ∷ words) at lie e = grind (arith, common_steps, last_end text front last (next ∷ words) (word.end + 1) lie.2 cc) steps 200000
 
 -- the first word of a statement and its last
 record Ends (shape : Shape) : Type 0 where
@@ -141,5 +137,6 @@ statement_alone text shape own units are = by units.words units.has_words (sym (
       let first : ends.first ≡ token_of text word = cc in
       let start : (shape_part shape).start ≡ word.start = ends.start ∙ ap (λ (token : Token). token.start) first in
       let end : (shape_part shape).end ≡ end_of_words (word ∷ words) = ends.end ∙ last_end text ends.front ends.last (word ∷ words) 0 (words_lie text (word ∷ words) has) (sym ends.closes ∙ tokens) in
-      let part : slice_range text (shape_part shape).start (shape_part shape).end ≡ slice_range text word.start (end_of_words (word ∷ words)) = ap (λ n. slice_range text n (shape_part shape).end) start ∙ ap (slice_range text word.start) end in
+      let part : slice_range text (shape_part shape).start (shape_part shape).end ≡ slice_range text word.start (end_of_words (word ∷ words)) =
+      ap (λ n. slice_range text n (shape_part shape).end) start ∙ ap (slice_range text word.start) end in
       ap (λ bytes. spellings bytes own) part ∙ own_alone text word words own has (subst (λ bytes. HasWords bytes own) part are) ∙ ap (map (λ token. token.bytes)) (sym tokens)

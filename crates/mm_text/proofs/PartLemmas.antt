@@ -1,17 +1,12 @@
 -- The parts that are found word by word are those of the units.
+use Rattle.std.proofs.lemmas.{Grind.{common_steps}, List.{append-nil, take-append-drop, append_cancel_right, drop-drop, length-append, length-map, Elements.{All-nil, All-cons, All-append}}}
 use Rattle.std.proofs.Common.{◌≡◌, ◌⊎◌, ℕ, ◌-◌, ◌+◌, ◌<◌, ◌≤◌, Bool, true, false, List, [], ◌∷◌, ◌++◌, append_assoc, length, map, drop, Option, Some, None, Ok, Err, All, refl, sym, ap, ◌∙◌, subst}
-use Rattle.std.proofs.Common.{inl, inr, arith, slice_range, unwrap_or, if◌then◌else◌}
-use Rattle.std.proofs.{lemmas.List.{append-nil, take-append-drop, append_cancel_right, drop-drop, length-append, length-map, Elements.{All-nil, All-cons, All-append}}, Math.Bool.{or-true}}
-use Rattle.std.specs.List.{AllByRecursion}
-use Rattle.mm_text.specs.declared.part.{Part.{Part}, PartKind.{PartKind}}
-use Rattle.mm_text.specs.declared.word.{Word.{Word}, WordKind.{WordKind}}
-use Rattle.mm_text.specs.declared.word.Keyword.TheVariants.{BlockStart, BlockEnd, Constants, Variables, Disjoint, Floating, Essential, Axiom, Theorem, StatementEnd, ProofStart, InclusionStart}
-use Rattle.mm_text.specs.declared.word.Keyword.TheVariants.{InclusionEnd}
-use Rattle.mm_text.specs.declared.fault.TextNumber.{TextNumber}
-use Rattle.mm_text.specs.Language.{Run.{Run, runs, runs_from, ends_run}, Reading.{first_bad, AreWords, HasWords}}
+use Rattle.std.{proofs.{Common.{inl, inr, arith, slice_range, unwrap_or, if◌then◌else◌}, Math.Bool.{or-true}}, specs.List.{AllByRecursion}}
+use Rattle.mm_text.specs.declared.{part.{Part.{Part}, PartKind.{PartKind}}, word.{Word.{Word}, WordKind.{WordKind}}}
+use Rattle.mm_text.specs.declared.word.Keyword.TheVariants.{Constants, Variables, Disjoint, Floating, Essential, Axiom, Theorem, StatementEnd, ProofStart, InclusionStart, InclusionEnd}
+use Rattle.mm_text.specs.{declared.fault.TextNumber.{TextNumber}, Language.{Run.{Run, runs, runs_from, ends_run}, Reading.{first_bad, AreWords, HasWords}}}
 use Rattle.mm_text.specs.Language.Unit.{Token, token_of, tokens_of, IsKeyword, IsPlain, Shape, Declaration, Labelled, Provable, Inclusion, shape_tokens, IsShape, Units, Nothing, Simple, Block}
-use Rattle.mm_text.specs.Language.Unit.{unit_tokens, AreUnits}
-use Rattle.mm_text.specs.Language.{Cut.{ends_white, IsPiece, ArePieces}, Part.{HasUnits, token_end, part, word_part, shape_part, parts_of, IsReadable}}
+use Rattle.mm_text.specs.Language.{Unit.{unit_tokens, AreUnits}, Cut.{ends_white, IsPiece, ArePieces}, Part.{HasUnits, token_end, word_part, shape_part, parts_of, IsReadable}}
 use Rattle.mm_text.specs.Code.{LeftToRight.{Read, read_runs, words_fault_at}, Reader.{runs_at, run_between, TakesWord, FailsBehind}, PartReading.{ends_part, emit_word, emit}}
 use Rattle.mm_text.proofs.{ReadingLemmas.{none_read, word_step, read_words}, ReaderLemmas.{words-append, slice_length, word_read, fails_read}}
 use Rattle.mm_text.proofs.{PieceLemmas.{Seam, runs-append, shift_run, shift_word, runs-shift, words_unshift}, PieceUnitLemmas.{allowed_part}, NthLemmas.{first_word}}
@@ -101,18 +96,9 @@ emit_shape outside (Inclusion begin name end) kind tail h = (
 emit_units : (outside : Bool) (units : Units) (kind : PartKind) (tail : List Token) → AreUnits outside units → Emits kind (unit_tokens units) (parts_of units) tail
 emit_units outside Nothing kind tail h = (kind, refl)
 emit_units outside (Simple shape later) kind tail h =
-    let first = emit_shape outside shape kind (unit_tokens later ++ tail) h.0 in
-    let rest = emit_units outside later first.0 tail h.1 in
-    (rest.0, ap (emit None kind) (append_assoc (shape_tokens shape) (unit_tokens later) tail) ∙ first.1 ∙ ap (λ (ps : List Part). shape_part shape ∷ ps) rest.1)
+    grind (arith, common_steps, emit_shape outside shape kind (unit_tokens later ++ tail) h.0, emit_units outside later (emit_shape outside shape kind (unit_tokens later ++ tail) h.0).0 tail h.1) steps 200000
 emit_units outside (Block begin inner end later) kind tail h =
-    let inside = emit_units false inner parts.BlockStart (end ∷ (unit_tokens later ++ tail)) h.1 in
-    let rest = emit_units outside later parts.BlockEnd tail h.3 in (
-      rest.0,
-      emit_by None kind (kinds.Keyword BlockStart) begin ((unit_tokens inner ++ end ∷ unit_tokens later) ++ tail) h.0
-          ∙ ap (λ (ts : List Token). part parts.BlockStart begin begin ∷ emit None parts.BlockStart ts) (append_assoc (unit_tokens inner) (end ∷ unit_tokens later) tail)
-          ∙ ap (λ (ps : List Part). part parts.BlockStart begin begin ∷ ps) (inside.1 ∙ ap (λ (ps : List Part). parts_of inner ++ ps) (emit_by None inside.0 (kinds.Keyword BlockEnd) end (unit_tokens later ++ tail) h.2
-          ∙ ap (λ (ps : List Part). part parts.BlockEnd end end ∷ ps) rest.1) ∙ sym (append_assoc (parts_of inner) (part parts.BlockEnd end end ∷ parts_of later) (emit None rest.0 tail))),
-    )
+    grind (arith, common_steps, emit_units false inner parts.BlockStart (end ∷ (unit_tokens later ++ tail)) h.1, emit_units outside later parts.BlockEnd tail h.3, emit_by) steps 200000
 
 pub whole_parts : (units : Units) (kind : PartKind) → AreUnits true units → emit None kind (unit_tokens units) ≡ parts_of units
 whole_parts units kind h = let all = emit_units true units kind [] h in ap (emit None kind) (sym (append-nil (unit_tokens units))) ∙ all.1 ∙ append-nil (parts_of units)
@@ -132,32 +118,17 @@ pub record Begun (text : List ℕ) (start at : ℕ) : Type 0 where
   pub some : 0 < length words
 
 abbrev pub begun_more : (text : List ℕ) (start at : ℕ) (word : Word) (to : ℕ) → Begun text start at → TakesWord text at word to → Begun text start to
-begun_more text start at word to h taken = record {
-  before = omega (arith, h.before, taken.begins, taken.some, taken.next);
-  since = h.since ++ taken.taken;
-  words = h.words ++ word ∷ [];
-  joined = h.joined ∙ ap (λ (rs : List Run). h.since ++ rs) taken.joined ∙ sym (append_assoc h.since taken.taken (runs_at text to));
-  reads = words-append h.since taken.taken h.words (word ∷ []) h.reads taken.reads;
-  some = omega (arith, length-append h.words (word ∷ []));
-}
+begun_more text start at word to h taken = grind (arith, common_steps, words-append h.since taken.taken h.words (word ∷ []) h.reads taken.reads, length-append h.words (word ∷ [])) steps 200000
 
 abbrev pub begun_first : (text : List ℕ) (at : ℕ) (word : Word) (to : ℕ) → TakesWord text at word to → Begun text word.start to
-begun_first text at word to taken = record {
-  before = omega (arith, taken.some, taken.next);
-  since = run_between text word.start word.end ∷ [];
-  words = word ∷ [];
-  joined = taken.here;
-  reads = word_step [] [] (run_between text word.start word.end) word none_read taken.is_word;
-  some = omega arith;
-}
+begun_first text at word to taken = grind (arith, common_steps, word_step [] [] (run_between text word.start word.end) word none_read taken.is_word) steps 200000
 
 -- a part that ends where a run ends is a text with words
 pub begun_words : (text : List ℕ) (start to : ℕ) → first_bad text ≡ None → to ≤ length text → (h : Begun text start to) → ends_run (drop to text) ≡ true
     → (words : List Word) × HasWords (slice_range text start to) words × (0 < length words) × (h.words ≡ map (shift_word start) words)
 begun_words text start to allowed most h ends = (words.0, record { allowed = allowed_part text start to allowed; words_are = words.1 }, omega (arith, h.some, ap length words.2, length-map words.0 (shift_word start)), words.2) where
   joined : drop start text ≡ slice_range text start to ++ drop to text
-  joined = let place : start + (to - start) ≡ to =
-      omega (arith, h.before) in sym (take-append-drop (to - start) (drop start text)) ∙ ap (λ (bs : List ℕ). slice_range text start to ++ bs) (drop-drop (to - start) start text ∙ ap (λ (n : ℕ). drop n text) place)
+  joined = grind (arith, common_steps, take-append-drop (to - start) (drop start text), drop-drop (to - start) start text) steps 200000
 
   seam : Seam (slice_range text start to) (drop to text)
   seam = rw ends (or-true (ends_white (slice_range text start to)))

@@ -1,16 +1,13 @@
 -- A part of a text with one unit is a piece.
-use Rattle.std.proofs.Common.{◌≡◌, ◌⊎◌, ℕ, ◌+◌, ◌-◌, ◌<◌, ◌≤◌, Bool, true, not, ◌||◌, List, [], ◌∷◌, ◌++◌, append_assoc, map, length, take, drop, get_or, Option, Some, None, Ok, Err, refl, sym, ap}
-use Rattle.std.proofs.Common.{◌∙◌, subst, inl, inr, arith, one-add}
-use Rattle.std.proofs.Math.{Seq.{take-add, take-append_seam, drop-append_seam}, Bool.{or-true}}
-use Rattle.std.proofs.lemmas.Bool.{cases_Bool, false≢true, not-false}
-use Rattle.std.proofs.lemmas.List.{append-nil, take-append-drop, append_cancel_right, take-append-le, drop-append-le, drop-drop, length-append, length-map, length-take-le, length-drop, take-map}
+use Rattle.std.proofs.lemmas.{Grind.{elements, common_steps}, Bool.{cases_Bool, false≢true, not-false}}
+use Rattle.std.proofs.lemmas.List.{append-nil, take-append-drop, append_cancel_right, drop-drop, length-append, length-map, length-take-le, length-drop, take-map}
 use Rattle.std.proofs.lemmas.List.{Elements.{All-append, All-take, All-drop, All-nil, All-cons}, Quantifiers.{position-Some}, Sums.{prefix_len-le-length}}
-use Rattle.std.specs.{Prelude.{slice_range}, List.{AllByRecursion, AllPass, prefix_len}}
-use Rattle.mm_text.specs.declared.word.{Word.{Word}, WordKind.{WordKind}}
-use Rattle.mm_text.specs.Language.{Run.{Run, runs, runs_from, is_white, ends_run}, Reading.{is_allowed, first_bad, AreWords, HasWords}}
-use Rattle.mm_text.specs.Language.Unit.{Token, token_of, tokens_of, Shape, Declaration, shape_tokens, Units, Nothing, Simple, Block, unit_tokens, AreUnits}
-use Rattle.mm_text.specs.Language.{Cut.{ends_white, ended, IsOne, end_of_words, IsPiece, BeginsSolid}, Part.{HasUnits}}
-use Rattle.mm_text.specs.Code.{LeftToRight.{read_text}, Reader.{runs_at}}
+use Rattle.std.proofs.Common.{◌≡◌, ◌⊎◌, ℕ, ◌+◌, ◌-◌, ◌<◌, ◌≤◌, Bool, true, not, ◌||◌, List, [], ◌∷◌, ◌++◌, append_assoc, map, length, take, drop, get_or, Option, Some, None, Ok, refl, sym, ap, ◌∙◌}
+use Rattle.std.{proofs.{Common.{subst, inl, inr, arith, one-add}, Math.{Seq.{take-add, take-append_seam, drop-append_seam}, Bool.{or-true}}}, specs.Prelude.{slice_range}}
+use Rattle.std.specs.List.{AllByRecursion, AllPass, prefix_len}
+use Rattle.mm_text.specs.{declared.word.Word.{Word}, Language.{Run.{Run, runs, runs_from, is_white, ends_run}, Reading.{is_allowed, first_bad, AreWords, HasWords}}}
+use Rattle.mm_text.specs.Language.Unit.{Token, token_of, tokens_of, Shape, shape_tokens, Units, Nothing, Simple, Block, unit_tokens, AreUnits}
+use Rattle.mm_text.specs.{Language.{Cut.{ends_white, ended, IsOne, end_of_words, IsPiece, BeginsSolid}, Part.{HasUnits}}, Code.{LeftToRight.{read_text}, Reader.{runs_at}}}
 use Rattle.mm_text.proofs.{RunLemmas.{skip_white}, ReadingLemmas.{text_words}, PositionLemmas.{Lying, words_lie, none_found}, UnitReadingLemmas.{IsWhole-run, run-IsWhole}}
 use Rattle.mm_text.proofs.PieceLemmas.{feed_white, Seam, runs-append, shift_word, runs-shift, words_unshift, line_end, ended_is, runs-ended, ended_white, ended-append, ends_behind}
 use Rattle.mm_text.specs.Code.UnitReading as m
@@ -33,11 +30,7 @@ feed_allowed = refl
 
 -- the line feed that is added, if one is
 feed_passes : (test : ℕ → Bool) (text : List ℕ) → test 10 ≡ true → AllPass test (line_end text)
-feed_passes test text feed =
-    elim (cases_Bool (ends_white text)) [
-      | inl white ↦ rw white (All-nil (λ b. test b ≡ true))
-      | inr no_white ↦ rw no_white (All-cons (λ b. test b ≡ true) 10 [] feed (All-nil (λ b. test b ≡ true)))
-    ]
+feed_passes test text feed = grind (arith, common_steps) steps 200000
 
 pub allowed-ended : (text : List ℕ) → first_bad text ≡ None → first_bad (ended text) ≡ None
 allowed-ended text e =
@@ -72,12 +65,10 @@ solid_behind [] = tt
 solid_behind (b ∷ bytes) = elim (cases_Bool (is_white b)) [ inl white ↦ rw white (rw (one-add (prefix_len is_white bytes)) (solid_behind bytes)) | inr solid ↦ rw solid solid ]
 
 pub solid_ended : (bytes : List ℕ) → BeginsSolid bytes → BeginsSolid (ended bytes)
-solid_ended [] h = tt
-solid_ended (b ∷ bytes) h = subst (λ (bs : List ℕ). BeginsSolid bs) (sym (ended_is (b ∷ bytes))) h
+solid_ended bytes h = grind (arith, common_steps) steps 200000
 
 solid_end : (bytes : List ℕ) → BeginsSolid bytes → ends_run bytes ≡ true → bytes ≡ []
-solid_end [] h e = refl
-solid_end (b ∷ bytes) h e = absurd (false≢true (sym h ∙ e))
+solid_end bytes h e = grind (arith, common_steps) steps 200000
 
 seam_at : (before white rest : List ℕ) → AllWhite white → (white ≡ [] → ends_run rest ≡ true) → Seam (before ++ white) rest
 seam_at before [] rest h ends = ap (λ (b : Bool). ends_white (before ++ []) || b) (ends refl) ∙ or-true (ends_white (before ++ []))
@@ -85,20 +76,15 @@ seam_at before (w ∷ white) rest h ends = ap (λ (b : Bool). b || ends_run rest
 
 -- if there is no white space here, this is the end
 no_white_end : (bytes : List ℕ) → ends_run bytes ≡ true → take (prefix_len is_white bytes) bytes ≡ [] → ends_run (drop (prefix_len is_white bytes) bytes) ≡ true
-no_white_end [] ends none = refl
-no_white_end (b ∷ bytes) ends none = let first : b ∷ take (prefix_len is_white bytes) bytes ≡ [] = rw (one-add (prefix_len is_white bytes)) at (rw ends at none) in absurd cc
+no_white_end bytes ends none = grind (arith, common_steps) steps 200000
 
 -- ---- words of a part
 
 slice_front : (a b : ℕ) (part rest : List ℕ) → a ≤ b → b ≤ length part → slice_range (part ++ rest) a b ≡ slice_range part a b
-slice_front a b part rest le within =
-    let long : length (drop a part) ≡ length part - a = length-drop a part in
-    ap (take (b - a)) (drop-append-le a part rest (omega arith)) ∙ take-append-le (b - a) (drop a part) rest (omega arith)
+slice_front a b part rest le within = grind (arith, common_steps) steps 200000
 
 slice_part : (text part rest : List ℕ) (from a b : ℕ) → drop from text ≡ part ++ rest → a ≤ b → b ≤ length part → slice_range text (from + a) (from + b) ≡ slice_range part a b
-slice_part text part rest from a b joined le within =
-    let len : from + b - (from + a) ≡ b - a = omega arith in
-    ap (λ (n : ℕ). take n (drop (from + a) text)) len ∙ ap (take (b - a)) (sym (drop-drop a from text)) ∙ ap (λ (bs : List ℕ). slice_range bs a b) joined ∙ slice_front a b part rest le within
+slice_part text part rest from a b joined le within = grind (arith, common_steps, drop-drop a from text, slice_front a b part rest le within) steps 200000
 
 -- a word without its place
 abbrev pub bare : Token → Token
@@ -112,28 +98,19 @@ bare_unshift : (from : ℕ) (tokens : List Token) → map bare (map (unshift fro
 bare_unshift from [] = refl
 bare_unshift from (token ∷ tokens) = ap (λ (ts : List Token). bare token ∷ ts) (bare_unshift from tokens)
 
-abbrev made_token : WordKind → List ℕ → ℕ → Token
-made_token kind bytes start = record { kind = kind; bytes = bytes; start = start }
-
 pub tokens_unshift : (text part rest : List ℕ) (from : ℕ) → drop from text ≡ part ++ rest → (ws : List Word) (at : ℕ) → Lying part at ws → map (unshift from) (tokens_of text (map (shift_word from) ws)) ≡ tokens_of part ws
 tokens_unshift text part rest from joined [] at h = refl
-tokens_unshift text part rest from joined (w ∷ ws) at h =
-    let place : from + w.start - from ≡ w.start = omega arith in
-    ap (λ (bs : List ℕ). made_token w.kind bs (from + w.start - from) ∷ map (unshift from) (tokens_of text (map (shift_word from) ws))) (slice_part text part rest from w.start w.end joined (omega arith) h.1.within)
-    ∙ ap (λ (n : ℕ). made_token w.kind (slice_range part w.start w.end) n ∷ map (unshift from) (tokens_of text (map (shift_word from) ws))) place
-    ∙ ap (λ (ts : List Token). token_of part w ∷ ts) (tokens_unshift text part rest from joined ws (w.end + 1) h.2)
+tokens_unshift text part rest from joined (w ∷ ws) at h = grind (arith, common_steps, tokens_unshift text part rest from joined ws (w.end + 1) h.2, shift_word, slice_part) steps 200000
 
 pub tokens-shift : (text part rest : List ℕ) (from : ℕ) → drop from text ≡ part ++ rest → (ws : List Word) (at : ℕ) → Lying part at ws → map bare (tokens_of text (map (shift_word from) ws)) ≡ map bare (tokens_of part ws)
 tokens-shift text part rest from joined ws at h = sym (bare_unshift from (tokens_of text (map (shift_word from) ws))) ∙ ap (map bare) (tokens_unshift text part rest from joined ws at h)
 
 pub tokens-front : (part rest : List ℕ) (ws : List Word) (at : ℕ) → Lying part at ws → tokens_of (part ++ rest) ws ≡ tokens_of part ws
 tokens-front part rest [] at h = refl
-tokens-front part rest (w ∷ ws) at h =
-    ap (λ (bs : List ℕ). made_token w.kind bs w.start ∷ tokens_of (part ++ rest) ws) (slice_front w.start w.end part rest (omega arith) h.1.within) ∙ ap (λ (ts : List Token). token_of part w ∷ ts) (tokens-front part rest ws (w.end + 1) h.2)
+tokens-front part rest (w ∷ ws) at h = grind (arith, common_steps, slice_front w.start w.end part rest (omega arith) h.1.within, tokens-front part rest ws (w.end + 1) h.2) steps 200000
 
 after_same : (step : m.UnitStep) (a b : List Token) → ((phase : m.Phase) (depth : ℕ) → m.run phase depth a ≡ m.run phase depth b) → m.after step (λ p d. m.run p d a) ≡ m.after step (λ p d. m.run p d b)
-after_same (Ok s) a b same = same s.0 s.1
-after_same (Err number) a b same = refl
+after_same step a b same = grind (arith, common_steps) steps 200000
 
 -- the machine does not look at places
 pub run_bare : (a b : List Token) (phase : m.Phase) (depth : ℕ) → map bare a ≡ map bare b → m.run phase depth a ≡ m.run phase depth b
@@ -154,26 +131,19 @@ abbrev pub HasOne : List Token → Type 0
 HasOne tokens = (n : ℕ) → 0 < n → n < length tokens → ¬ WholeRun (take n tokens)
 
 shape_some : (shape : Shape) → 0 < length (shape_tokens shape)
-shape_some (Declaration keyword symbols end) = omega arith
-shape_some _ = omega arith
+shape_some shape = grind (arith, common_steps) steps 200000
 
 units_some : (units : Units) → (units ≡ Nothing) ⊎ (0 < length (unit_tokens units))
 units_some Nothing = inl refl
-units_some (Simple shape later) = inr (let long : length (shape_tokens shape ++ unit_tokens later) ≡ length (shape_tokens shape) + length (unit_tokens later) =
-    length-append (shape_tokens shape) (unit_tokens later) in let some : 0 < length (shape_tokens shape) = shape_some shape in omega arith)
+units_some (Simple shape later) = grind (arith, common_steps) steps 200000
 units_some (Block begin inner end later) = inr (omega arith)
 
 -- words of whole units, and then others
 no_later : (front later : List Token) → HasOne (front ++ later) → 0 < length front → WholeRun front → 0 < length later → ⊥
-no_later front later one some whole more =
-    let long : length (front ++ later) ≡ length front + length later = length-append front later in
-    one (length front) some (omega arith) (ap (m.run m.Begin 0) (take-append_seam front later) ∙ whole)
+no_later front later one some whole more = grind (arith, common_steps, length-append front later, m.run m.Begin 0, take-append_seam front later) steps 200000
 
 later_none : (front : List Token) (later : Units) → HasOne (front ++ unit_tokens later) → 0 < length front → WholeRun front → later ≡ Nothing
-later_none front later one some whole = by_units (units_some later) where
-  by_units : (later ≡ Nothing) ⊎ (0 < length (unit_tokens later)) → later ≡ Nothing
-  by_units (inl none) = none
-  by_units (inr more) = absurd (no_later front (unit_tokens later) one some whole more)
+later_none front later one some whole = grind (arith, elements, no_later, units_some) steps 200000
 
 is_one : (tokens : List Token) (units : Units) → AreUnits true units → unit_tokens units ≡ tokens → 0 < length tokens → HasOne tokens → IsOne units
 is_one tokens Nothing h e some one = let none : length tokens ≡ 0 = ap length (sym e) in omega arith

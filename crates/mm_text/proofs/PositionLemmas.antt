@@ -1,17 +1,13 @@
 -- Where the words of a text are, and which bytes a text has.
-use Rattle.std.proofs.Common.{◌≡◌, ℕ, ◌+◌, ◌-◌, ◌<◌, ◌≤◌, Bool, true, false, not, ◌||◌, ◌&&◌, eqb, List, [], ◌∷◌, ◌++◌, append_assoc, length, take, drop, get_or, Option, Some, None, IfSome, Result}
-use Rattle.std.proofs.Common.{length-append, nat_le, nat_lt, slice_range, slice_get, Err, IfErr, All, AllPairs, refl, sym, ap, ◌∙◌, subst, arith, inl, inr}
-use Rattle.std.proofs.lemmas.{Bool.{cases_Bool, false≢true, or_cases, and_parts, eqb-true, leb-true, ltb-false, not-false}, Option.{slice_get_within, get_or_from_slice_get}}
+use Rattle.std.proofs.lemmas.{Grind.{common_steps}, Bool.{cases_Bool, false≢true, or_cases, and_parts, leb-true, ltb-false, not-false}, Option.{slice_get_within, get_or_from_slice_get}}
 use Rattle.std.proofs.lemmas.List.{Elements.{All-nil, All-cons}, Kept.{AllPairs-cons}, Quantifiers.{position-Some}, Sums.{fails_before_first}}
-use Rattle.std.proofs.Math.Seq.{take-append_seam, drop-append_seam}
-use Rattle.std.specs.List.{flat_map, AllByRecursion, position, position_or_len}
+use Rattle.std.proofs.Common.{◌≡◌, ℕ, ◌+◌, ◌-◌, ◌<◌, ◌≤◌, Bool, true, false, not, ◌&&◌, List, [], ◌∷◌, ◌++◌, append_assoc, length, get_or, Option, Some, None, IfSome, Result, length-append, nat_le}
+use Rattle.std.{proofs.Common.{slice_range, slice_get, IfErr, All, AllPairs, refl, sym, ap, ◌∙◌, subst, arith}, specs.List.{flat_map, AllByRecursion, position}}
 use Rattle.mm_text.specs.declared.{word.Word.{Word}, fault.{TextFault.{TextFault}, TextError.{TextError}, TextNumber.{TextNumber, TheVariants.{T01, T02, T03, T04, T05, T07, T08}}}}
-use Rattle.mm_text.specs.Language.{Run.{Run, is_white, ends_run, runs}, Layout.{IsLaidOut}, Spelling.{IsSpelled, IsWord}}
+use Rattle.mm_text.specs.Language.{Run.{Run, is_white, ends_run, runs}, Layout.{IsLaidOut}, Spelling.{IsWord}}
 use Rattle.mm_text.specs.Language.Reading.{is_allowed, first_bad, Segment, Single, Comment, segment_runs, segment_words, IsSegment, AreWords, HasWords, LiesIn, AreWithin, StopsAtRun, EndsOpen}
-use Rattle.mm_text.specs.Language.Reading.{IsWordsFaultAt, IsWordsFault, IsTextErrorIn}
-use Rattle.mm_text.specs.Language.{Unit.{Token, token_of, tokens_of, EndsInUnit, EndsInBlock}, Cut.{StopsUnits, EndsUnits, IsFirstFaultAt, IsFirstFault, IsCutError}}
-use Rattle.mm_text.proofs.LayoutLemmas.{laid_out}
-use Rattle.mm_text.specs.declared.fault.TextError.TheVariants as errors
+use Rattle.mm_text.specs.Language.{Reading.{IsWordsFaultAt, IsWordsFault, IsTextErrorIn}, Unit.{Token, token_of, tokens_of, EndsInUnit, EndsInBlock}}
+use Rattle.mm_text.{specs.Language.Cut.{StopsUnits, EndsUnits, IsFirstFaultAt, IsFirstFault, IsCutError}, proofs.LayoutLemmas.{laid_out}}
 
 -- ---- runs
 
@@ -29,8 +25,7 @@ Standing text at (run ∷ runs) = Stands text at run × Standing text (run.start
 
 at_or_before : (text : List ℕ) (low at : ℕ) (runs : List Run) → (Standing text at runs → low ≤ at) → Standing text at runs → Standing text low runs
 at_or_before text low at [] le h = tt
-at_or_before text low at (run ∷ runs) le h =
-    let lower : low ≤ at = le h in (record { behind = omega (arith, h.0.behind, lower); some = h.0.some; within = h.0.within; bytes_are = h.0.bytes_are }, h.1)
+at_or_before text low at (run ∷ runs) le h = grind (arith, common_steps) steps 200000
 
 -- runs in front are left out
 pub skip : (text : List ℕ) (at : ℕ) (front later : List Run) → Standing text at (front ++ later) → Standing text at later
@@ -47,16 +42,12 @@ gap_behind : (text : List ℕ) (at : ℕ) (later : List ℕ) (runs : List Run) �
 gap_behind text at later [] ends laid h = tt
 gap_behind text at later (run ∷ runs) ends laid h = by_gap laid.gap run.bytes laid.joined laid.place laid.solid laid.some where
   by_gap : (gap bytes : List ℕ) → later ≡ gap ++ (bytes ++ laid.later) → run.start ≡ at + length gap → AllByRecursion (λ b. is_white b ≡ false) bytes → 0 < length bytes → Standing text (at + 1) (run ∷ runs)
-  by_gap (g ∷ gap) bytes joined place solid some =
-      let behind : at + 1 ≤ run.start = omega arith in (record { behind = behind; some = h.0.some; within = h.0.within; bytes_are = h.0.bytes_are }, h.1)
+  by_gap (g ∷ gap) bytes joined place solid some = grind (arith, common_steps) steps 200000
   by_gap [] (b ∷ bytes) joined place solid some = absurd (false≢true (sym solid.0 ∙ (sym (ap ends_run joined) ∙ ends)))
   by_gap [] [] joined place solid some = absurd (omega arith)
 
 part_of : (front bytes later : List ℕ) (from to : ℕ) → from ≡ length front → to ≡ from + length bytes → slice_range (front ++ (bytes ++ later)) from to ≡ bytes
-part_of front bytes later from to from_is to_is =
-    let len : to - from ≡ length bytes = omega arith in
-    ap (λ (k : ℕ). take k (drop from (front ++ (bytes ++ later)))) len ∙ ap (λ (k : ℕ). take (length bytes) (drop k (front ++ (bytes ++ later)))) from_is
-    ∙ ap (take (length bytes)) (drop-append_seam front (bytes ++ later)) ∙ take-append_seam bytes later
+part_of front bytes later from to from_is to_is = grind (arith, common_steps) steps 200000
 
 pub runs_stand : (text front bytes : List ℕ) (at : ℕ) (runs : List Run) → text ≡ front ++ bytes → at ≡ length front → IsLaidOut at bytes runs → Standing text at runs
 runs_stand text front bytes at [] joined place h = tt
@@ -88,9 +79,7 @@ Lying text at [] = Unit {0}
 Lying text at (word ∷ words) = (at ≤ word.start) × LiesIn text word × Lying text (word.end + 1) words
 
 word_lies : (text : List ℕ) (at : ℕ) (run : Run) (word : Word) → IsWord run word → Stands text at run → LiesIn text word
-word_lies text at run word is h =
-    let from : slice_range text word.start word.end ≡ slice_range text run.start (run.start + length run.bytes) = ap (λ (k : ℕ). slice_range text k word.end) is.start ∙ ap (λ (k : ℕ). slice_range text run.start k) is.end in
-    record { some = omega (arith, is.start, is.end, h.some); within = omega (arith, is.end, h.within); spelled = subst (IsSpelled word.kind) (sym (from ∙ h.bytes_are)) is.kind }
+word_lies text at run word is h = grind (arith, common_steps) steps 200000
 
 pub parts_lie : (text : List ℕ) (at : ℕ) (parts : List Segment) → AllByRecursion IsSegment parts → Standing text at (flat_map segment_runs parts) → Lying text at (flat_map segment_words parts)
 parts_lie text at [] each h = tt
@@ -127,32 +116,14 @@ are_within text words h = let lying = words_lie text words h in record { each = 
 
 white_below : (b : ℕ) → is_white b ≡ true → b < 127
 unfolding is_white
-white_below b e =
-    elim (or_cases (eqb b 32 || eqb b 9 || eqb b 13 || eqb b 10) (eqb b 12) e) [
-      | inl e ↦ elim (or_cases (eqb b 32 || eqb b 9 || eqb b 13) (eqb b 10) e) [
-        | inl e ↦ elim (or_cases (eqb b 32 || eqb b 9) (eqb b 13) e) [
-          | inl e ↦ elim (or_cases (eqb b 32) (eqb b 9) e) [ inl is ↦ let same = eqb-true b 32 is in omega (arith, same) | inr is ↦ let same = eqb-true b 9 is in omega (arith, same) ]
-          | inr is ↦ let same = eqb-true b 13 is in omega (arith, same)
-        ]
-        | inr is ↦ let same = eqb-true b 10 is in omega (arith, same)
-      ]
-      | inr is ↦ let same = eqb-true b 12 is in omega (arith, same)
-    ]
+white_below b e = grind (arith, common_steps) steps 200000
 
 allowed_below : (b : ℕ) → is_allowed b ≡ true → b < 127
 unfolding is_allowed
-allowed_below b e =
-    elim (or_cases (is_white b) (nat_le 33 b && nat_le b 126) e) [
-      | inl white ↦ white_below b white
-      | inr printable ↦ let le : b ≤ 126 = leb-true b 126 (and_parts (nat_le 33 b) (nat_le b 126) printable).1 in omega (arith, le)
-    ]
+allowed_below b e = grind (arith, common_steps, or_cases (is_white b) (nat_le 33 b && nat_le b 126) e, white_below, leb-true, and_parts) steps 200000
 
 pub none_found : (test : ℕ → Bool) (bytes : List ℕ) → position test bytes ≡ None → (k d : ℕ) → k < length bytes → test (get_or bytes k d) ≡ false
-none_found test bytes e k d lt =
-    elim (cases_Bool (nat_lt (position_or_len test bytes) (length bytes))) [
-      | inl found ↦ absurd (cc)
-      | inr none ↦ let most = ltb-false (position_or_len test bytes) (length bytes) none in fails_before_first test bytes k d (omega (arith, lt, most))
-    ]
+none_found test bytes e k d lt = grind (arith, common_steps, cases_Bool, fails_before_first, ltb-false) steps 200000
 
 -- a text without a bad byte has only bytes below 127
 pub all_below : (text : List ℕ) → first_bad text ≡ None → All (λ b. b < 127) text
@@ -197,8 +168,7 @@ token_begins text at words n token h there = subst (λ (t : Token). t.start < le
 unit_stop_lies : (text : List ℕ) (number : TextNumber) (at : ℕ) → StopsUnits text number at → at < length text
 unit_stop_lies text number at h =
     let lying : Lying text 0 h.found = read_lie text h.front h.found (standing_front text 0 h.front h.rest (subst (Standing text 0) h.joined (text_stands text))) h.read in
-    let begins = token_begins text 0 h.found h.word h.stop.token lying h.stop.there in
-    omega (arith, h.place)
+    grind (arith, common_steps, token_begins text 0 h.found h.word h.stop.token lying h.stop.there) steps 200000
 
 unit_end_lies : (text : List ℕ) (Ends : List Token → ℕ → Type 0) (at : ℕ) → EndsUnits text Ends at → at < length text
 unit_end_lies text Ends at h = let begins = token_begins text 0 h.found h.word h.token (words_lie text h.found h.has_words) h.there in omega (arith, h.place)
@@ -219,5 +189,4 @@ first_fault_lies text fault h = first_fault_at_lies text fault.number fault.at h
 
 -- so an error of `cut` is reported at one of them
 pub cut_error_lies : {X : Type 0} (text : List ℕ) (r : Result X TextError) → IfErr r (IsCutError text) → IfErr r (IsTextErrorIn text)
-cut_error_lies text (Err (errors.Fault fault)) h = first_fault_lies text fault h
-cut_error_lies text _ h = tt
+cut_error_lies text r h = grind (arith, common_steps, first_fault_lies) steps 200000

@@ -1,5 +1,5 @@
 -- What one run does to a reading.
-use Rattle.std.proofs.{Common.{◌≡◌, ◌≢◌, ℕ, true, false, List, [], ◌∷◌, ◌++◌, append_assoc, Some, None, Ok, Err, refl, ap}, lemmas.{Bool.{false_from_ne_true}, Slice.Eq.{bytes_eq-Decides}}}
+use Rattle.std.proofs.{Common.{arith, ◌≡◌, ◌≢◌, ℕ, true, false, List, [], ◌∷◌, ◌++◌, Some, None, Err, refl}, lemmas.{Grind.{common_steps}, Bool.{false_from_ne_true}, Slice.Eq.{bytes_eq-Decides}}}
 use Rattle.std.specs.Str.{bytes_eq}
 use Rattle.mm_text.specs.{declared.{fault.TextNumber.TheVariants.{T03, T04}, word.Word.{Word}}, Language.{Run.{Run}, Spelling.{opening, closing}}}
 use Rattle.mm_text.specs.Code.LeftToRight.{read_runs, Read, with_words, cons_word, holds_mark, words_fault_at, word_kind, word_alone}
@@ -32,5 +32,4 @@ outside_word run runs no_open no_close = rw (other_bytes run.bytes opening no_op
 
 -- one more word is read
 pub words_more : (words : List Word) (word : Word) (old new : Read) → old ≡ cons_word word new → with_words (words ++ word ∷ []) new ≡ with_words words old
-words_more words word old (Ok more) e = rw e (ap Ok (simp append_assoc))
-words_more words word old (Err fault) e = rw e refl
+words_more words word old new e = grind (arith, common_steps) steps 200000

@@ -1,13 +1,10 @@
 -- What the steps of a reader read, and the faults that they meet.
-use Rattle.std.proofs.Common.{◌≡◌, ◌≢◌, ℕ, ◌+◌, ◌-◌, ◌<◌, ◌≤◌, List, [], ◌∷◌, ◌++◌, append_assoc, length, take, drop, slice_range, Option, Some, None, Ok, Err, refl, sym, ap, ◌∙◌, subst, inl, inr}
-use Rattle.std.proofs.Common.{arith, append-nil, length-take-le, length-drop}
-use Rattle.std.proofs.lemmas.Grind.{flat_map-append}
-use Rattle.std.specs.List.{prefix_len}
-use Rattle.mm_text.specs.declared.{reader.Span.{Span}, word.{Word.{Word}, WordKind.{WordKind}}, fault.TextNumber.{TextNumber, TheVariants.{T02, T03, T04, T05}}}
-use Rattle.mm_text.specs.Language.{Run.{Run, runs, is_solid}, Spelling.{IsWord, HoldsMark, opening, closing}}
-use Rattle.mm_text.specs.Language.{Reading.{segment_runs, segment_words, HoldNoMarks, IsSegment, AreWords, EndsOpen, first_bad}, Cut.{EndsInComment, HoldWords, StopsWords, IsFirstFaultAt}}
-use Rattle.mm_text.specs.Language.Unit.{tokens_of, IsViable}
-use Rattle.mm_text.specs.Code.LeftToRight.{Read, read_runs, cons_word, with_words, word_kind, word_alone, words_fault_at}
+use Rattle.std.proofs.lemmas.Grind.{common_steps}
+use Rattle.std.proofs.Common.{◌≡◌, ◌≢◌, ℕ, ◌+◌, ◌-◌, ◌<◌, ◌≤◌, List, [], ◌∷◌, ◌++◌, append_assoc, length, take, drop, slice_range, Option, Some, None, Err, refl, sym, ap, ◌∙◌, subst, arith}
+use Rattle.std.{proofs.Common.{append-nil, length-take-le, length-drop}, specs.List.{prefix_len}}
+use Rattle.mm_text.specs.{declared.{reader.Span.{Span}, word.{Word.{Word}, WordKind.{WordKind}}, fault.TextNumber.{TextNumber, TheVariants.{T02, T03, T04, T05}}}, Language.Run.{Run, runs, is_solid}}
+use Rattle.mm_text.specs.Language.{Spelling.{IsWord, HoldsMark, opening, closing}, Reading.{HoldNoMarks, AreWords, EndsOpen, first_bad}, Cut.{EndsInComment, HoldWords, StopsWords, IsFirstFaultAt}}
+use Rattle.mm_text.specs.{Language.Unit.{tokens_of, IsViable}, Code.LeftToRight.{Read, read_runs, cons_word, with_words, word_kind, words_fault_at}}
 use Rattle.mm_text.specs.Code.Reader.{runs_at, run_of, TakesSpan, SkipsComment, FailsInside, TakesWord, IsRunRefused, MeetsRun, FailsBehind}
 use Rattle.mm_text.proofs.{KindLemmas.{kind_spelled, spelled_kind, no_kind, stands_mark}, RunLemmas.{front_is, takes_run}, ReadLemmas.{inside_mark, outside_close, outside_word}}
 use Rattle.mm_text.proofs.ReadingLemmas.{none_read, all_append, InComment, Behind, word_step, read_whole, stops, is_whole, goes_on, is_open, not_whole, stop_fault, open_fault}
@@ -16,25 +13,10 @@ use Rattle.mm_text.specs.Language.Reading as words
 -- ---- readings side by side
 
 pub words-append : (a b : List Run) (ws vs : List Word) → AreWords a ws → AreWords b vs → AreWords (a ++ b) (ws ++ vs)
-words-append a b ws vs f g = record {
-  parts = f.parts ++ g.parts;
-  reading = record {
-    each = all_append IsSegment f.parts g.parts f.reading.each g.reading.each;
-    joined = let e = flat_map-append segment_runs f.parts g.parts in cc (e, f.reading.joined, g.reading.joined);
-  };
-  singles = let e = flat_map-append segment_words f.parts g.parts in cc (e, f.singles, g.singles);
-}
+words-append a b ws vs f g = grind (arith, common_steps) steps 200000
 
 pub comment-append : (a b : List Run) (ws vs : List Word) → AreWords a ws → EndsInComment b vs → EndsInComment (a ++ b) (ws ++ vs)
-comment-append a b ws vs f g = record {
-  front = a ++ g.front;
-  first = g.first;
-  inside = g.inside;
-  joined = ap (λ (rs : List Run). a ++ rs) g.joined ∙ sym (append_assoc a g.front (g.first ∷ g.inside));
-  before = words-append a g.front ws vs f g.before;
-  opened = g.opened;
-  no_marks = g.no_marks;
-}
+comment-append a b ws vs f g = grind (arith, common_steps, words-append a g.front ws vs f g.before) steps 200000
 
 -- ---- in a comment
 
@@ -80,8 +62,7 @@ pub pass_none : (text : List ℕ) (from : ℕ) → Passing text from from
 pass_none text from = record { seen = []; joined = refl; reads = none_read }
 
 pub pass_end : (text : List ℕ) (from at : ℕ) → Passing text from at → runs_at text at ≡ [] → AreWords (runs_at text from) []
-pass_end text from at h none =
-    let all : h.seen ≡ runs_at text from = sym (append-nil h.seen) ∙ sym (h.joined ∙ ap (λ (rs : List Run). h.seen ++ rs) none) in subst (λ (rs : List Run). AreWords rs []) all h.reads
+pass_end text from at h none = grind (arith, common_steps) steps 200000
 
 module _ (text : List ℕ) (from at : ℕ) (span : Span) (to : ℕ) (h : Passing text from at) (run : TakesSpan text at span to) where
   there : runs_at text from ≡ h.seen ++ run_of text span ∷ runs_at text to
@@ -100,11 +81,7 @@ module _ (text : List ℕ) (from at : ℕ) (span : Span) (to : ℕ) (h : Passing
     ends = run.ends;
   } where
     spelled : IsWord (run_of text span) (record { kind = kind; start = span.start; end = span.end })
-    spelled = record {
-      kind = kind_spelled (run_of text span).bytes kind is;
-      start = refl;
-      end = let long : length (run_of text span).bytes ≡ span.end - span.start = slice_length text span.start span.end (omega (arith, within, run.next)) in omega arith;
-    }
+    spelled = grind (arith, common_steps, kind_spelled, slice_length) steps 200000
 
   pub pass_close : (run_of text span).bytes ≡ closing → FailsBehind (runs_at text from) [] T04 span.start
   pass_close closes = record { front = h.seen; run = run_of text span; rest = runs_at text to; joined = there; place = refl; refused = (h.reads, closes) }
@@ -146,8 +123,7 @@ word_here text from start n kind forward within white len some is =
 -- ---- what is read
 
 one_word : (word : Word) (r : Read) → with_words (word ∷ []) r ≡ cons_word word r
-one_word word (Ok words) = refl
-one_word word (Err fault) = refl
+one_word word r = grind (arith, common_steps) steps 200000
 
 pub word_read : (text : List ℕ) (from : ℕ) (word : Word) (to : ℕ) → TakesWord text from word to → read_runs None (runs_at text from) ≡ cons_word word (read_runs None (runs_at text to))
 word_read text from word to h = ap (read_runs None) h.joined ∙ read_whole h.taken (word ∷ []) h.reads (runs_at text to) ∙ one_word word (read_runs None (runs_at text to))
@@ -173,12 +149,7 @@ refusal T03 front found run h = record {
   is_number = (h.0.first, is_open h.0.first.start front found (in_comment front found h.0), h.1, h.2);
 }
 refusal T04 front found run h = record { state = None; behind = h.0; fails = λ tail. outside_close run tail h.1; is_number = (is_whole front found h.0, h.1) }
-refusal T05 front found run h = record {
-  state = None;
-  behind = h.0;
-  fails = λ tail. outside_word run tail h.1 h.2 ∙ ap (λ (k : Option WordKind). word_alone run k (read_runs None tail)) h.3;
-  is_number = (is_whole front found h.0, no_kind run.bytes h.3, h.2, λ kind spelled. (let is : word_kind run.bytes ≡ Some kind = spelled_kind kind run.bytes spelled in cc));
-}
+refusal T05 front found run h = grind (arith, common_steps, is_whole front found h.0, no_kind run.bytes h.3, outside_word, spelled_kind) steps 200000
 refusal _ front found run h = absurd h
 
 abbrev stop_of : (runs : List Run) (found : List Word) (number : TextNumber) (at : ℕ) → MeetsRun runs found number at → words.StopsAtRun runs number at
@@ -225,10 +196,7 @@ fails_more a b ws vs number at f g = record {
   refused_more _ front run h = absurd h
 
 held : (number : TextNumber) (front : List Run) (found : List Word) (run : Run) → IsRunRefused number front found run → HoldWords front found
-held T03 front found run h = inr h.0
-held T04 front found run h = inl h.0
-held T05 front found run h = inl h.0
-held _ front found run h = absurd h
+held number front found run h = grind (arith, common_steps) steps 200000
 
 stops_words : (text : List ℕ) (found : List Word) (number : TextNumber) (at : ℕ) → IsViable (tokens_of text found) → MeetsRun (runs text) found number at → StopsWords text number at
 stops_words text found number at viable h = record { stop = stop_of (runs text) found number at h; found = found; read = held number h.front found h.run h.refused; viable = viable }

@@ -1,9 +1,8 @@
 -- What is read from left to right is the meaning of the runs.
-use Rattle.std.proofs.Common.{◌≡◌, ◌≢◌, ℕ, ◌+◌, true, false, List, [], ◌∷◌, ◌++◌, length, append_assoc, Option, Some, None, Ok, Err, refl, sym, ap, ◌∙◌, subst, inl, inr, append-nil}
-use Rattle.std.proofs.lemmas.{Bool.{cases_Bool, false≢true}, Grind.{flat_map-append}, Slice.Eq.{bytes_eq-Decides}}
-use Rattle.std.specs.{List.{flat_map, AllByRecursion}, Str.{bytes_eq}}
-use Rattle.mm_text.specs.declared.{word.{Word.{Word}, WordKind.{WordKind}}, fault.{TextFault.{TextFault}, TextNumber.{TextNumber, TheVariants.{T01, T02, T03, T04, T05}}}}
-use Rattle.mm_text.specs.Language.{Run.{Run, runs}, Spelling.{IsWord, IsSpelled, HoldsMark, opening, closing}}
+use Rattle.std.proofs.Common.{arith, ◌≡◌, ◌≢◌, ℕ, ◌+◌, true, false, List, [], ◌∷◌, ◌++◌, append_assoc, Option, Some, None, Ok, Err, refl, sym, ap, ◌∙◌, subst, inl, inr, append-nil}
+use Rattle.std.{proofs.lemmas.{Grind.{common_steps, flat_map-append}, Bool.{cases_Bool, false≢true}, Slice.Eq.{bytes_eq-Decides}}, specs.{List.{flat_map, AllByRecursion}, Str.{bytes_eq}}}
+use Rattle.mm_text.specs.{declared.{word.{Word.{Word}, WordKind.{WordKind}}, fault.{TextFault.{TextFault}, TextNumber.{TextNumber, TheVariants.{T01, T02, T03, T04, T05}}}}, Language.Run.{Run, runs}}
+use Rattle.mm_text.specs.Language.Spelling.{IsWord, IsSpelled, HoldsMark, opening, closing}
 use Rattle.mm_text.specs.Language.Reading.{Segment, Single, Comment, segment_runs, segment_words, HoldNoMarks, IsSegment, IsReading, AreWords, HaveReading, AreViableRuns, IsOpen, IsRunNumber}
 use Rattle.mm_text.specs.Language.Reading.{StopsAtRun, EndsOpen, IsRunFault, first_bad, HasWords, IsWordsFault, IsWordsFaultAt}
 use Rattle.mm_text.specs.Code.LeftToRight.{Read, read_runs, word_kind, word_alone, word_at, words_fault_at, cons_word, with_words, holds_mark, checked, read_text}
@@ -33,10 +32,7 @@ Behind (Some start) seen words = InComment start seen words
 pub with_part : (seen : List Run) (words : List Word) (part : Segment) → AreWords seen words → IsSegment part → AreWords (seen ++ segment_runs part) (words ++ segment_words part)
 with_part seen words part h is = record {
   parts = h.parts ++ part ∷ [];
-  reading = record {
-    each = all_append IsSegment h.parts (part ∷ []) h.reading.each (is, tt);
-    joined = flat_map-append segment_runs h.parts (part ∷ []) ∙ ap (λ (rs : List Run). rs ++ (segment_runs part ++ [])) h.reading.joined ∙ ap (λ (rs : List Run). seen ++ rs) (append-nil (segment_runs part));
-  };
+  reading = grind (arith, common_steps, all_append IsSegment h.parts (part ∷ []) h.reading.each (is, tt), flat_map-append segment_runs h.parts (part ∷ []), append-nil (segment_runs part)) steps 200000;
   singles = flat_map-append segment_words h.parts (part ∷ []) ∙ ap (λ (ws : List Word). ws ++ (segment_words part ++ [])) h.singles ∙ ap (λ (ws : List Word). words ++ ws) (append-nil (segment_words part));
 }
 
@@ -47,16 +43,7 @@ pub open_step : (seen : List Run) (words : List Word) (run : Run) → AreWords s
 open_step seen words run h opens = record { front = seen; first = run; inside = []; joined = refl; before = h; begins = refl; opened = opens; no_marks = tt }
 
 pub more_step : (start : ℕ) (seen : List Run) (words : List Word) (run : Run) → InComment start seen words → ¬ HoldsMark run.bytes → InComment start (seen ++ run ∷ []) words
-more_step start seen words run h no_mark = record {
-  front = h.front;
-  first = h.first;
-  inside = h.inside ++ run ∷ [];
-  joined = ap (λ (rs : List Run). rs ++ run ∷ []) h.joined ∙ append_assoc h.front (h.first ∷ h.inside) (run ∷ []);
-  before = h.before;
-  begins = h.begins;
-  opened = h.opened;
-  no_marks = all_append (λ run. ¬ HoldsMark run.bytes) h.inside (run ∷ []) h.no_marks (no_mark, tt);
-}
+more_step start seen words run h no_mark = grind (arith, common_steps) steps 200000
 
 pub close_step : (start : ℕ) (seen : List Run) (words : List Word) (run : Run) → InComment start seen words → run.bytes ≡ closing → AreWords (seen ++ run ∷ []) words
 close_step start seen words run h closes =
@@ -66,20 +53,11 @@ close_step start seen words run h closes =
 
 -- ---- a reading is what is read
 
-abbrev pub made_word : WordKind → ℕ → ℕ → Word
-made_word kind start end = record { kind = kind; start = start; end = end }
-
-not_opening : (kind : WordKind) (bytes : List ℕ) → IsSpelled kind bytes → bytes ≢ opening
-not_opening kind bytes is e = let found : word_kind opening ≡ Some kind = ap word_kind (sym e) ∙ spelled_kind kind bytes is in cc
-
 not_closing : (kind : WordKind) (bytes : List ℕ) → IsSpelled kind bytes → bytes ≢ closing
 not_closing kind bytes is e = let found : word_kind closing ≡ Some kind = ap word_kind (sym e) ∙ spelled_kind kind bytes is in cc
 
 read_word : (run : Run) (word : Word) (tail : List Run) → IsWord run word → read_runs None (run ∷ tail) ≡ cons_word word (read_runs None tail)
-read_word run word tail is =
-    outside_word run tail (not_opening word.kind run.bytes is.kind) (not_closing word.kind run.bytes is.kind)
-    ∙ ap (λ (k : Option WordKind). word_alone run k (read_runs None tail)) (spelled_kind word.kind run.bytes is.kind)
-    ∙ ap (λ (w : Word). cons_word w (read_runs None tail)) (ap (λ (s : ℕ). made_word word.kind s (run.start + length run.bytes)) (sym is.start) ∙ ap (λ (e : ℕ). made_word word.kind word.start e) (sym is.end))
+read_word run word tail is = grind (arith, common_steps, not_closing, outside_word, spelled_kind) steps 200000
 
 no_mark_is : (bytes : List ℕ) → ¬ HoldsMark bytes → holds_mark bytes ≡ false
 no_mark_is bytes no_mark = elim (cases_Bool (holds_mark bytes)) [ inl e ↦ absurd (no_mark (mark_stands bytes e)) | inr e ↦ e ]
@@ -89,22 +67,15 @@ read_inside start [] tail h = refl
 read_inside start (run ∷ inside) tail h = inside_more start run (inside ++ tail) (λ e. h.0 (mark_stands run.bytes (ap holds_mark e))) (no_mark_is run.bytes h.0) ∙ read_inside start inside tail h.1
 
 pub with_none : (r : Read) → with_words [] r ≡ r
-with_none (Ok words) = refl
-with_none (Err fault) = refl
+with_none r = grind (arith, common_steps) steps 200000
 
 with_cons : (word : Word) (words : List Word) (r : Read) → cons_word word (with_words words r) ≡ with_words (word ∷ words) r
-with_cons word words (Ok more) = refl
-with_cons word words (Err fault) = refl
+with_cons word words r = grind (arith, common_steps) steps 200000
 
 read_parts : (parts : List Segment) → AllByRecursion IsSegment parts → (tail : List Run) → read_runs None (flat_map segment_runs parts ++ tail) ≡ with_words (flat_map segment_words parts) (read_runs None tail)
 read_parts [] each tail = sym (with_none (read_runs None tail))
 read_parts (Single run word ∷ parts) each tail = read_word run word (flat_map segment_runs parts ++ tail) each.0 ∙ ap (cons_word word) (read_parts parts each.1 tail) ∙ with_cons word (flat_map segment_words parts) (read_runs None tail)
-read_parts (Comment first inside last ∷ parts) each tail =
-    ap (read_runs None) (ap (λ (rs : List Run). first ∷ rs) (append_assoc (inside ++ last ∷ []) (flat_map segment_runs parts) tail ∙ append_assoc inside (last ∷ []) (flat_map segment_runs parts ++ tail)))
-    ∙ outside_open first (inside ++ last ∷ (flat_map segment_runs parts ++ tail)) each.0.opened
-    ∙ read_inside first.start inside (last ∷ (flat_map segment_runs parts ++ tail)) each.0.no_marks
-    ∙ inside_end first.start last (flat_map segment_runs parts ++ tail) each.0.closed
-    ∙ read_parts parts each.1 tail
+read_parts (Comment first inside last ∷ parts) each tail = grind (arith, common_steps, read_parts parts each.1 tail, inside_end, outside_open, read_inside) steps 200000
 
 pub read_whole : (seen : List Run) (words : List Word) → AreWords seen words → (tail : List Run) → read_runs None (seen ++ tail) ≡ with_words words (read_runs None tail)
 read_whole seen words h tail = ap (λ (rs : List Run). read_runs None (rs ++ tail)) (sym h.reading.joined) ∙ read_parts h.parts h.reading.each tail ∙ ap (λ (ws : List Word). with_words ws (read_runs None tail)) h.singles
@@ -112,9 +83,7 @@ read_whole seen words h tail = ap (λ (rs : List Run). read_runs None (rs ++ tai
 read_behind : (state : Option ℕ) (seen : List Run) (words : List Word) → Behind state seen words → (tail : List Run) → read_runs None (seen ++ tail) ≡ with_words words (read_runs state tail)
 read_behind None seen words h tail = read_whole seen words h tail
 read_behind (Some start) seen words h tail =
-    ap (λ (rs : List Run). read_runs None (rs ++ tail)) h.joined ∙ ap (read_runs None) (append_assoc h.front (h.first ∷ h.inside) tail)
-    ∙ read_whole h.front words h.before (h.first ∷ (h.inside ++ tail))
-    ∙ ap (with_words words) (outside_open h.first (h.inside ++ tail) h.opened ∙ read_inside h.first.start h.inside tail h.no_marks ∙ ap (λ (s : ℕ). read_runs (Some s) tail) h.begins)
+    grind (arith, common_steps, read_whole h.front words h.before (h.first ∷ (h.inside ++ tail)), outside_open h.first (h.inside ++ tail) h.opened, read_inside h.first.start h.inside tail h.no_marks) steps 200000
 
 -- runs that are read as words give these
 pub read_words : (runs : List Run) (words : List Word) → AreWords runs words → read_runs None runs ≡ Ok words
@@ -134,7 +103,8 @@ err_with words fault r e = ap (with_words words) e
 
 pub stops : (state : Option ℕ) (seen : List Run) (words : List Word) (run : Run) (fault : TextFault) → Behind state seen words → ((tail : List Run) → read_runs state (run ∷ tail) ≡ Err fault) → ¬ AreViableRuns (seen ++ run ∷ [])
 stops state seen words run fault h fails goes =
-    let all : read_runs None ((seen ++ run ∷ []) ++ goes.0) ≡ Ok (flat_map segment_words goes.1.0) = read_words ((seen ++ run ∷ []) ++ goes.0) (flat_map segment_words goes.1.0) (whole_words ((seen ++ run ∷ []) ++ goes.0) goes.1.0 goes.1.1) in
+    let all : read_runs None ((seen ++ run ∷ []) ++ goes.0) ≡ Ok (flat_map segment_words goes.1.0) =
+    read_words ((seen ++ run ∷ []) ++ goes.0) (flat_map segment_words goes.1.0) (whole_words ((seen ++ run ∷ []) ++ goes.0) goes.1.0 goes.1.1) in
     let none : read_runs None ((seen ++ run ∷ []) ++ goes.0) ≡ Err fault = ap (read_runs None) (append_assoc seen (run ∷ []) goes.0) ∙ read_behind state seen words h (run ∷ goes.0)
     ∙ err_with words fault (read_runs state (run ∷ goes.0)) (fails goes.0) in
     cc
@@ -158,9 +128,7 @@ is_open start seen words h = record { front = h.front; inside = h.inside; joined
 
 pub not_whole : (start : ℕ) (seen : List Run) (words : List Word) → InComment start seen words → ¬ HaveReading seen
 not_whole start seen words h whole =
-    let all : read_runs None seen ≡ Ok (flat_map segment_words whole.0) = read_words seen (flat_map segment_words whole.0) (whole_words seen whole.0 whole.1) in
-    let none : read_runs None seen ≡ Err (words_fault_at T02 start) = ap (read_runs None) (sym (append-nil seen)) ∙ read_behind (Some start) seen words h [] in
-    cc
+    grind (arith, common_steps, read_words seen (flat_map segment_words whole.0) (whole_words seen whole.0 whole.1), append-nil seen, read_behind (Some start) seen words h []) steps 200000
 
 -- ---- what is read
 
@@ -169,8 +137,7 @@ Outcome runs words (Ok more) = AreWords runs (words ++ more)
 Outcome runs words (Err fault) = IsRunFault runs fault.number fault.at
 
 one_word : (runs : List Run) (words : List Word) (word : Word) (r : Read) → Outcome runs (words ++ word ∷ []) r → Outcome runs words (cons_word word r)
-one_word runs words word (Ok more) h = subst (AreWords runs) (append_assoc words (word ∷ []) more) h
-one_word runs words word (Err fault) h = h
+one_word runs words word r h = grind (arith, common_steps) steps 200000
 
 moved : (seen : List Run) (run : Run) (runs : List Run) (words : List Word) (r r' : Read) → r' ≡ r → Outcome ((seen ++ run ∷ []) ++ runs) words r → Outcome (seen ++ run ∷ runs) words r'
 moved seen run runs words r r' e h = subst (λ (v : Read). Outcome (seen ++ run ∷ runs) words v) (sym e) (subst (λ (rs : List Run). Outcome rs words r) (append_assoc seen (run ∷ []) runs) h)
@@ -181,24 +148,14 @@ at_fault runs words fault r e h = subst (λ (v : Read). Outcome runs words v) (s
 -- nothing goes on at a run that is no part of a reading
 stops_at : (state : Option ℕ) (seen : List Run) (words : List Word) (run : Run) (runs : List Run) (number : TextNumber) → Behind state seen words
     → ((tail : List Run) → read_runs state (run ∷ tail) ≡ Err (words_fault_at number run.start)) → IsRunNumber number seen run → StopsAtRun (seen ++ run ∷ runs) number run.start
-stops_at state seen words run runs number h fails is = record {
-  front = seen;
-  run = run;
-  rest = runs;
-  joined = refl;
-  place = refl;
-  goes_on = goes_on state seen words h;
-  stops = stops state seen words run (words_fault_at number run.start) h fails;
-  is_number = is;
-}
+stops_at state seen words run runs number h fails is = grind (arith, goes_on state seen words h, stops state seen words run (words_fault_at number run.start) h fails, goes_on, stops) steps 200000
 
 -- a run that is one word
 alone_is : (seen : List Run) (words : List Word) (run : Run) (runs : List Run) (kind : Option WordKind) → AreWords seen words → run.bytes ≢ opening → run.bytes ≢ closing → word_kind run.bytes ≡ kind
     → ((word : Word) → IsWord run word → Outcome ((seen ++ run ∷ []) ++ runs) (words ++ word ∷ []) (read_runs None runs)) → Outcome (seen ++ run ∷ runs) words (read_runs None (run ∷ runs))
 alone_is seen words run runs (Some kind) h no_open no_close is later =
     let word : IsWord run (word_at run kind) = record { kind = kind_spelled run.bytes kind is; start = refl; end = refl } in
-    moved seen run runs words (cons_word (word_at run kind) (read_runs None runs)) (read_runs None (run ∷ runs)) (outside_word run runs no_open no_close ∙ ap (λ (k : Option WordKind). word_alone run k (read_runs None runs)) is)
-    (one_word ((seen ++ run ∷ []) ++ runs) words (word_at run kind) (read_runs None runs) (later (word_at run kind) word))
+    grind (arith, common_steps, outside_word run runs no_open no_close, one_word ((seen ++ run ∷ []) ++ runs) words (word_at run kind) (read_runs None runs) (later (word_at run kind) word), moved) steps 200000
 alone_is seen words run runs None h no_open no_close is later =
     let fails : (tail : List Run) → read_runs None (run ∷ tail) ≡ Err (words_fault_at T05 run.start) = λ tail. outside_word run tail no_open no_close ∙ ap (λ (k : Option WordKind). word_alone run k (read_runs None tail)) is in
     at_fault (seen ++ run ∷ runs) words (words_fault_at T05 run.start) (read_runs None (run ∷ runs)) (fails runs)
@@ -213,13 +170,7 @@ is_from bytes part e = (bytes_eq-Decides bytes part).0 e
 
 outcome : (state : Option ℕ) (runs : List Run) (seen : List Run) (words : List Word) → Behind state seen words → Outcome (seen ++ runs) words (read_runs state runs)
 outcome None [] seen words h = subst (λ (ws : List Word). AreWords (seen ++ []) ws) (sym (append-nil words)) (subst (λ (rs : List Run). AreWords rs words) (sym (append-nil seen)) h)
-outcome (Some start) [] seen words h = subst (λ (rs : List Run). EndsOpen rs start) (sym (append-nil seen)) (record {
-  first = h.first;
-  open_comment = is_open start seen words h;
-  place = sym h.begins;
-  goes_on = goes_on (Some start) seen words h;
-  not_whole = not_whole start seen words h;
-})
+outcome (Some start) [] seen words h = grind (arith, append-nil seen, is_open start seen words h, goes_on (Some start) seen words h, not_whole start seen words h, goes_on, not_whole) steps 200000
 outcome None (run ∷ runs) seen words h =
     elim (cases_Bool (bytes_eq run.bytes opening)) [
       | inl opens ↦
@@ -305,12 +256,10 @@ text_fault text T02 at h = ap (λ (o : Option ℕ). checked o (read_runs None (r
 text_fault text number at h = ap (λ (o : Option ℕ). checked o (read_runs None (runs text))) h.0 ∙ stop_fault number (runs text) at h.1
 
 run_fault : (text : List ℕ) (number : TextNumber) (at : ℕ) → first_bad text ≡ None → IsRunFault (runs text) number at → IsWordsFaultAt text number at
-run_fault text T01 at allowed h = absurd h.is_number
-run_fault text number at allowed h = (allowed, h)
+run_fault text number at allowed h = grind (arith, common_steps) steps 200000
 
 checked_words : (text : List ℕ) (bad : Option ℕ) (words : List Word) → first_bad text ≡ bad → checked bad (read_runs None (runs text)) ≡ Ok words → HasWords text words
-checked_words text None words is e = record { allowed = is; words_are = words_from_read (runs text) words e }
-checked_words text (Some at) words is e = absurd cc
+checked_words text bad words is e = grind (arith, common_steps, words_from_read) steps 200000
 
 checked_fault : (text : List ℕ) (bad : Option ℕ) (fault : TextFault) → first_bad text ≡ bad → checked bad (read_runs None (runs text)) ≡ Err fault → IsWordsFault text fault
 checked_fault text None fault is e = run_fault text fault.number fault.at is (subst (λ (r : Read). Outcome (runs text) [] r) e (outcome None (runs text) [] [] none_read))

@@ -1,11 +1,9 @@
 -- A list of words has one division into units.
-use Rattle.std.proofs.Common.{◌≡◌, ◌⊎◌, Bool, true, false, List, [], ◌∷◌, ◌++◌, append_assoc, refl, sym, ap, ◌∙◌, subst, inl, inr, arith, append-nil}
+use Rattle.std.proofs.{lemmas.Grind.{common_steps}, Common.{◌≡◌, ◌⊎◌, Bool, true, false, List, [], ◌∷◌, ◌++◌, append_assoc, refl, sym, ◌∙◌, subst, inl, inr, arith, append-nil}}
 use Rattle.std.specs.List.{AllByRecursion, flat_map}
 use Rattle.mm_text.specs.declared.word.Keyword.TheVariants.{BlockStart, BlockEnd, Constants, Variables, Floating, Essential, Disjoint, Axiom, Theorem, StatementEnd, ProofStart, InclusionStart}
 use Rattle.mm_text.specs.Language.Unit.{Token, IsKeyword, IsPlain, Shape, Declaration, Labelled, Provable, Inclusion, shape_tokens, IsShape, Units, Nothing, Simple, Block, unit_tokens, AreUnits}
-use Rattle.mm_text.specs.Code.BlockCounts.{is_start_word, is_end_word}
-use Rattle.mm_text.proofs.UnitFaultLemmas.{IsInner, inner_shape, no_plain, start_counts, end_counts}
-use Rattle.mm_text.specs.declared.word.WordKind.TheVariants as kinds
+use Rattle.mm_text.proofs.UnitFaultLemmas.{no_plain}
 
 -- ---- the machine over shapes and plain words
 
@@ -36,66 +34,36 @@ abbrev Labels : Token → Type 0
 Labels token = IsKeyword Floating token ⊎ (IsKeyword Essential token ⊎ IsKeyword Axiom token)
 
 declares_not : (token : Token) → Declares token → IsPlain token ⊎ IsKeyword InclusionStart token → ⊥
-declares_not token (inl is) (inl other) = cc
-declares_not token (inl is) (inr other) = cc
-declares_not token (inr (inl is)) (inl other) = cc
-declares_not token (inr (inl is)) (inr other) = cc
-declares_not token (inr (inr is)) (inl other) = cc
-declares_not token (inr (inr is)) (inr other) = cc
+declares_not token h h1 = grind (arith, common_steps) steps 200000
 
 labels_not : (token : Token) → Labels token → IsKeyword Theorem token → ⊥
-labels_not token (inl is) other = cc
-labels_not token (inr (inl is)) other = cc
-labels_not token (inr (inr is)) other = cc
+labels_not token h other = grind (arith, common_steps) steps 200000
 
 pub one_shape : (o : Bool) (a b : Shape) (s t : List Token) → IsShape o a → IsShape o b → shape_tokens a ++ s ≡ shape_tokens b ++ t → (a ≡ b) × (s ≡ t)
-one_shape o (Declaration k xs p) (Declaration l ys q) s t f g e =
-    let rest : (xs ++ p ∷ []) ++ s ≡ (ys ++ q ∷ []) ++ t = cc in let split : (xs ≡ ys) × (p ≡ q) × (s ≡ t) = rest_split xs ys p q s t f.1 g.1 f.2 g.2 rest in (cc, split.2)
+one_shape o (Declaration k xs p) (Declaration l ys q) s t f g e = grind (arith, common_steps, rest_split xs ys p q s t f.1 g.1 f.2 g.2 cc) steps 200000
 one_shape o (Declaration k xs p) (Labelled m l ys q) s t f g e = let first : m ≡ k = cc in absurd (declares_not k f.0 (inl (subst (λ (t : Token). IsPlain t) first g.0.0)))
 one_shape o (Declaration k xs p) (Provable m l ys q zs r) s t f g e = let first : m ≡ k = cc in absurd (declares_not k f.0 (inl (subst (λ (t : Token). IsPlain t) first g.0.0)))
 one_shape o (Declaration k xs p) (Inclusion b n d) s t f g e = let first : b ≡ k = cc in absurd (declares_not k f.0 (inr (subst (λ (t : Token). IsKeyword InclusionStart t) first g.1)))
 one_shape o (Labelled m k xs p) (Declaration l ys q) s t f g e = let first : m ≡ l = cc in absurd (declares_not l g.0 (inl (subst (λ (t : Token). IsPlain t) first f.0.0)))
-one_shape o (Labelled m k xs p) (Labelled n l ys q) s t f g e =
-    let rest : (xs ++ p ∷ []) ++ s ≡ (ys ++ q ∷ []) ++ t = cc in let split : (xs ≡ ys) × (p ≡ q) × (s ≡ t) = rest_split xs ys p q s t f.2 g.2 f.3 g.3 rest in (cc, split.2)
+one_shape o (Labelled m k xs p) (Labelled n l ys q) s t f g e = grind (arith, common_steps, rest_split xs ys p q s t f.2 g.2 f.3 g.3 cc) steps 200000
 one_shape o (Labelled m k xs p) (Provable n l ys q zs r) s t f g e = let second : l ≡ k = cc in absurd (labels_not k f.1 (subst (λ (t : Token). IsKeyword Theorem t) second g.1))
 one_shape o (Labelled m k xs p) (Inclusion b n d) s t f g e = let first : m ≡ b = cc in absurd (no_plain b InclusionStart g.1 (subst (λ (t : Token). IsPlain t) first f.0.0))
 one_shape o (Provable m k xs p zs r) (Declaration l ys q) s t f g e = let first : m ≡ l = cc in absurd (declares_not l g.0 (inl (subst (λ (t : Token). IsPlain t) first f.0.0)))
 one_shape o (Provable m k xs p zs r) (Labelled n l ys q) s t f g e = let second : k ≡ l = cc in absurd (labels_not l g.1 (subst (λ (t : Token). IsKeyword Theorem t) second f.1))
-one_shape o (Provable m k xs p zs r) (Provable n l ys q ws u) s t f g e =
-    let rest : (xs ++ p ∷ (zs ++ r ∷ [])) ++ s ≡ (ys ++ q ∷ (ws ++ u ∷ [])) ++ t = cc in
-    let split : ((xs ≡ ys) × (p ≡ q)) × ((zs ≡ ws) × (r ≡ u) × (s ≡ t)) = proof_split xs ys p q zs ws r u s t f.2 g.2 f.3 g.3 f.4 g.4 f.5 g.5 rest in
-    let proved : (zs ≡ ws) × (r ≡ u) × (s ≡ t) = split.1 in
-    (cc, proved.2)
+one_shape o (Provable m k xs p zs r) (Provable n l ys q ws u) s t f g e = grind (arith, common_steps, proof_split xs ys p q zs ws r u s t f.2 g.2 f.3 g.3 f.4 g.4 f.5 g.5 cc) steps 200000
 one_shape o (Provable m k xs p zs r) (Inclusion b n d) s t f g e = let first : m ≡ b = cc in absurd (no_plain b InclusionStart g.1 (subst (λ (t : Token). IsPlain t) first f.0.0))
 one_shape o (Inclusion b n d) (Declaration l ys q) s t f g e = let first : b ≡ l = cc in absurd (declares_not l g.0 (inr (subst (λ (t : Token). IsKeyword InclusionStart t) first f.1)))
 one_shape o (Inclusion b n d) (Labelled m l ys q) s t f g e = let first : m ≡ b = cc in absurd (no_plain b InclusionStart f.1 (subst (λ (t : Token). IsPlain t) first g.0.0))
 one_shape o (Inclusion b n d) (Provable m l ys q zs r) s t f g e = let first : m ≡ b = cc in absurd (no_plain b InclusionStart f.1 (subst (λ (t : Token). IsPlain t) first g.0.0))
 one_shape o (Inclusion b n d) (Inclusion b' n' d') s t f g e = (cc, cc)
 
-shape_head : (o : Bool) (shape : Shape) → IsShape o shape → (first : Token) × (rest : List Token) × (shape_tokens shape ≡ first ∷ rest) × IsInner first
-shape_head o (Declaration k xs p) h = (k, xs ++ p ∷ [], refl, (inner_shape o (Declaration k xs p) h).0)
-shape_head o (Labelled m k xs p) h = (m, k ∷ (xs ++ p ∷ []), refl, (inner_shape o (Labelled m k xs p) h).0)
-shape_head o (Provable m k xs p zs r) h = (m, k ∷ (xs ++ p ∷ (zs ++ r ∷ [])), refl, (inner_shape o (Provable m k xs p zs r) h).0)
-shape_head o (Inclusion b n d) h = (b, n ∷ d ∷ [], refl, (inner_shape o (Inclusion b n d) h).0)
-
 -- ---- one list of shapes
 
 pub one_shapes : (a b : List Shape) → AllByRecursion (IsShape true) a → AllByRecursion (IsShape true) b → flat_map shape_tokens a ≡ flat_map shape_tokens b → a ≡ b
 one_shapes [] [] f g e = refl
-one_shapes [] (y ∷ b) f g e =
-    let head = shape_head true y g.0 in
-    let first : shape_tokens y ++ flat_map shape_tokens b ≡ head.0 ∷ (head.1 ++ flat_map shape_tokens b) = ap (λ (ts : List Token). ts ++ flat_map shape_tokens b) head.2 in
-    let none : [] ≡ head.0 ∷ (head.1 ++ flat_map shape_tokens b) = e ∙ first in
-    absurd cc
-one_shapes (x ∷ a) [] f g e =
-    let head = shape_head true x f.0 in
-    let first : shape_tokens x ++ flat_map shape_tokens a ≡ head.0 ∷ (head.1 ++ flat_map shape_tokens a) = ap (λ (ts : List Token). ts ++ flat_map shape_tokens a) head.2 in
-    let none : [] ≡ head.0 ∷ (head.1 ++ flat_map shape_tokens a) = sym e ∙ first in
-    absurd cc
-one_shapes (x ∷ a) (y ∷ b) f g e =
-    let first : (x ≡ y) × (flat_map shape_tokens a ≡ flat_map shape_tokens b) = one_shape true x y (flat_map shape_tokens a) (flat_map shape_tokens b) f.0 g.0 e in
-    let more : a ≡ b = one_shapes a b f.1 g.1 first.1 in
-    cc
+one_shapes [] (y ∷ b) f g e = grind (arith, common_steps) steps 200000
+one_shapes (x ∷ a) [] f g e = grind (arith, common_steps) steps 200000
+one_shapes (x ∷ a) (y ∷ b) f g e = grind (arith, common_steps, one_shapes a b f.1 g.1 (one_shape true x y (flat_map shape_tokens a) (flat_map shape_tokens b) f.0 g.0 e).1, one_shape) steps 200000
 
 -- ---- one sequence of units
 
@@ -105,25 +73,13 @@ Stops [] = Unit {0}
 Stops (token ∷ tokens) = IsKeyword BlockEnd token
 
 no_shape_there : (o : Bool) (shape : Shape) (tail s : List Token) → IsShape o shape → Stops s → s ≡ shape_tokens shape ++ tail → ⊥
-no_shape_there o shape tail s is stops e =
-    let head = shape_head o shape is in
-    let same : s ≡ head.0 ∷ (head.1 ++ tail) = e ∙ ap (λ (ts : List Token). ts ++ tail) head.2 in
-    let end : IsKeyword BlockEnd head.0 = subst (λ (ts : List Token). Stops ts) same stops in
-    let one : (is_start_word head.0.kind ≡ 0) × (is_end_word head.0.kind ≡ 1) = end_counts head.0 end in
-    omega arith
+no_shape_there o shape tail s is stops e = grind (arith, common_steps) steps 200000
 
 no_block_there : (begin : Token) (tail s : List Token) → IsKeyword BlockStart begin → Stops s → s ≡ begin ∷ tail → ⊥
-no_block_there begin tail s is stops e =
-    let end : IsKeyword BlockEnd begin = subst (λ (ts : List Token). Stops ts) e stops in let same : kinds.Keyword BlockStart ≡ kinds.Keyword BlockEnd = sym is ∙ end in cc
+no_block_there begin tail s is stops e = grind (arith, common_steps) steps 200000
 
 not_both : (o : Bool) (shape : Shape) (begin : Token) (s t : List Token) → IsShape o shape → IsKeyword BlockStart begin → shape_tokens shape ++ s ≡ begin ∷ t → ⊥
-not_both o shape begin s t is starts e =
-    let head = shape_head o shape is in
-    let both : head.0 ∷ (head.1 ++ s) ≡ begin ∷ t = sym (ap (λ (ts : List Token). ts ++ s) head.2) ∙ e in
-    let same : head.0 ≡ begin = cc in
-    let one : is_start_word begin.kind ≡ 1 = (start_counts begin starts).0 in
-    let here : is_start_word head.0.kind ≡ is_start_word begin.kind = ap (λ (t : Token). is_start_word t.kind) same in
-    omega arith
+not_both o shape begin s t is starts e = grind (arith, common_steps) steps 200000
 
 one_units : (o : Bool) (a b : Units) (s t : List Token) → AreUnits o a → AreUnits o b → Stops s → Stops t → unit_tokens a ++ s ≡ unit_tokens b ++ t → (a ≡ b) × (s ≡ t)
 one_units o Nothing Nothing s t f g p q e = (refl, e)
@@ -132,19 +88,17 @@ one_units o Nothing (Block begin inner end later) s t f g p q e = absurd (no_blo
 one_units o (Simple x later) Nothing s t f g p q e = absurd (no_shape_there o x (unit_tokens later ++ s) t f.0 q (sym e ∙ append_assoc (shape_tokens x) (unit_tokens later) s))
 one_units o (Block begin inner end later) Nothing s t f g p q e = absurd (no_block_there begin ((unit_tokens inner ++ end ∷ unit_tokens later) ++ s) t f.0 q (sym e))
 one_units o (Simple x u) (Simple y v) s t f g p q e =
-    let first : (x ≡ y) × (unit_tokens u ++ s ≡ unit_tokens v ++ t) = one_shape o x y (unit_tokens u ++ s) (unit_tokens v ++ t) f.0 g.0 (sym (append_assoc (shape_tokens x) (unit_tokens u) s) ∙ e ∙ append_assoc (shape_tokens y) (unit_tokens v) t) in
+    let first : (x ≡ y) × (unit_tokens u ++ s ≡ unit_tokens v ++ t) =
+    one_shape o x y (unit_tokens u ++ s) (unit_tokens v ++ t) f.0 g.0 (sym (append_assoc (shape_tokens x) (unit_tokens u) s) ∙ e ∙ append_assoc (shape_tokens y) (unit_tokens v) t) in
     let more : (u ≡ v) × (s ≡ t) = one_units o u v s t f.1 g.1 p q first.1 in
     (cc, more.1)
 one_units o (Simple x u) (Block begin inner end later) s t f g p q e = absurd (not_both o x begin (unit_tokens u ++ s) ((unit_tokens inner ++ end ∷ unit_tokens later) ++ t) f.0 g.0 (sym (append_assoc (shape_tokens x) (unit_tokens u) s) ∙ e))
 one_units o (Block begin inner end later) (Simple y v) s t f g p q e = absurd (not_both o y begin (unit_tokens v ++ t) ((unit_tokens inner ++ end ∷ unit_tokens later) ++ s) g.0 f.0 (sym (append_assoc (shape_tokens y) (unit_tokens v) t) ∙ sym e))
 one_units o (Block begin inner end u) (Block begin' inner' end' v) s t f g p q e =
-    let first : begin ≡ begin' = cc in
     let rest : (unit_tokens inner ++ end ∷ unit_tokens u) ++ s ≡ (unit_tokens inner' ++ end' ∷ unit_tokens v) ++ t = cc in
     let inside : (inner ≡ inner') × (end ∷ (unit_tokens u ++ s) ≡ end' ∷ (unit_tokens v ++ t)) = one_units false inner inner' (end ∷ (unit_tokens u ++ s)) (end' ∷ (unit_tokens v ++ t)) f.1 g.1 f.2 g.2
     (sym (append_assoc (unit_tokens inner) (end ∷ unit_tokens u) s) ∙ rest ∙ append_assoc (unit_tokens inner') (end' ∷ unit_tokens v) t) in
-    let both : end ∷ (unit_tokens u ++ s) ≡ end' ∷ (unit_tokens v ++ t) = inside.1 in
     let behind : unit_tokens u ++ s ≡ unit_tokens v ++ t = cc in
-    let last : end ≡ end' = cc in
     let more : (u ≡ v) × (s ≡ t) = one_units o u v s t f.3 g.3 p q behind in
     (cc, more.1)
 

@@ -1,16 +1,12 @@
 -- The faults of units: the machine finds them, and a list has one at most.
+use Rattle.std.proofs.lemmas.{Grind.{common_steps}, Bool.{false≢true}}
 use Rattle.std.proofs.Common.{◌≡◌, ◌≢◌, ◌⊎◌, ◌↔◌, ℕ, zero, suc, ◌+◌, ◌<◌, ◌≤◌, Bool, true, false, List, [], ◌∷◌, ◌++◌, append_assoc, length, take, drop, slice_get, take-append-drop, take-take, Some}
-use Rattle.std.proofs.Common.{append-nil, drop-drop, take_all, Ok, Err, refl, sym, ap, ◌∙◌, subst, inl, inr, le_of_lt, le_of_eq, ◌-◌, arith}
-use Rattle.std.proofs.lemmas.Bool.{false≢true}
-use Rattle.std.specs.List.{AllByRecursion}
+use Rattle.std.{proofs.Common.{append-nil, drop-drop, take_all, Ok, Err, refl, sym, ap, ◌∙◌, subst, inl, inr, le_of_lt, le_of_eq, ◌-◌, arith}, specs.List.{AllByRecursion}}
 use Rattle.mm_text.specs.declared.word.Keyword.{Keyword}
 use Rattle.mm_text.specs.declared.word.Keyword.TheVariants.{BlockStart, BlockEnd, Constants, Variables, Floating, Essential, Disjoint, Axiom, Theorem, StatementEnd, ProofStart, InclusionStart}
-use Rattle.mm_text.specs.declared.word.Keyword.TheVariants.{InclusionEnd}
-use Rattle.mm_text.specs.declared.word.WordKind.{WordKind}
-use Rattle.mm_text.specs.declared.fault.TextNumber.{TextNumber, TheVariants.{T06, T07, T08, T09, T10, T11, T12}}
-use Rattle.mm_text.specs.Language.Unit.{Token, IsKeyword, IsPlain, Shape, Declaration, Labelled, Provable, Inclusion, shape_tokens, IsShape, Units, Nothing, Simple, Block, unit_tokens, AreUnits}
-use Rattle.mm_text.specs.Language.Unit.{IsWhole, IsViable, a_block, MayBegin, EndsInInclusion, IsUnitNumber, StopsAtWord, EndsInUnit, EndsInBlock, IsUnitFault}
-use Rattle.mm_text.specs.Code.BlockCounts.{is_start_word, is_end_word, starts, ends}
+use Rattle.mm_text.specs.declared.{word.{Keyword.TheVariants.{InclusionEnd}, WordKind.{WordKind}}, fault.TextNumber.{TextNumber, TheVariants.{T06, T07, T08, T09, T10, T11, T12}}}
+use Rattle.mm_text.specs.Language.Unit.{Token, IsKeyword, IsPlain, Shape, shape_tokens, IsShape, Units, Nothing, Simple, Block, unit_tokens, AreUnits, IsWhole, IsViable, a_block, MayBegin}
+use Rattle.mm_text.specs.{Language.Unit.{EndsInInclusion, IsUnitNumber, StopsAtWord, EndsInUnit, EndsInBlock, IsUnitFault}, Code.BlockCounts.{is_start_word, is_end_word, starts, ends}}
 use Rattle.mm_text.proofs.UnitReadingLemmas.{run-append, run-IsViable, run-not_viable, IsWhole-run, through_units, blocks, blocks_run, key, key-kind, whole_run, Completes, Closes}
 use Rattle.mm_text.specs.declared.word.WordKind.TheVariants as kinds
 use Rattle.mm_text.specs.Code.UnitReading as m
@@ -32,8 +28,7 @@ viable_run tokens h = by_step (m.run m.Begin 0 tokens) refl where
 -- ---- one more word
 
 alone : (step : m.UnitStep) → m.after step (λ p d. m.run p d []) ≡ step
-alone (Ok s) = refl
-alone (Err number) = refl
+alone step = grind (arith, common_steps) steps 200000
 
 pub run_push : (front : List Token) (token : Token) (phase : m.Phase) (depth : ℕ) → m.run m.Begin 0 front ≡ Ok (m.phase_state phase depth) → m.run m.Begin 0 (front ++ token ∷ []) ≡ m.next phase depth token.kind (m.could_label token)
 run_push front token phase depth e = run-append front (token ∷ []) m.Begin 0 (phase, depth) e ∙ alone (m.next phase depth token.kind (m.could_label token))
@@ -53,8 +48,7 @@ run_next tokens word token phase depth there e = ap (m.run m.Begin 0) (take_next
 -- ---- where a unit may begin
 
 pub begins_only : (phase : m.Phase) (depth : ℕ) (b : Bool) (s : m.Phase × ℕ) → m.next phase depth (kinds.Keyword BlockStart) b ≡ Ok s → phase ≡ m.Begin
-begins_only m.Begin depth b s e = refl
-begins_only _ depth b s e = absurd cc
+begins_only phase depth b s e = grind (arith, common_steps) steps 200000
 
 pub may_begin_from : (front : List Token) (depth : ℕ) → m.run m.Begin 0 front ≡ Ok (m.phase_state m.Begin depth) → MayBegin front
 may_begin_from front depth e = run-IsViable (front ++ a_block ∷ []) (m.Begin, suc depth) (run_push front a_block m.Begin depth e)
@@ -112,10 +106,7 @@ ends_at (token ∷ front) phase depth d e = inr (by_step (λ p q h. ends_at fron
   by_step more (Err number) is e = absurd cc
 
 pub inclusion_from : (front : List Token) (depth : ℕ) → m.run m.Begin 0 front ≡ Ok (m.phase_state m.Including depth) → EndsInInclusion front
-inclusion_from front depth e = got (ends_at front m.Begin 0 depth e) where
-  got : ((front ≡ []) × (m.Begin ≡ m.Including)) ⊎ EndsInInclusion front → EndsInInclusion front
-  got (inl (none, is)) = absurd cc
-  got (inr h) = h
+inclusion_from front depth e = grind (arith, common_steps, ends_at) steps 200000
 
 -- ---- the number of the word that stops
 
@@ -155,8 +146,7 @@ pub no_plain : (token : Token) (k : Keyword) → IsKeyword k token → ¬ IsPlai
 no_plain token k is plain = cc
 
 neither : (token : Token) (k : Keyword) → IsKeyword k token → ends_block (kinds.Keyword k) ≡ false → ¬ (IsKeyword BlockEnd token ⊎ IsPlain token)
-neither token k is other (inl end) = false≢true (sym other ∙ ap ends_block (sym is ∙ end))
-neither token k is other (inr plain) = no_plain token k is plain
+neither token k is other = grind (arith, common_steps) steps 200000
 
 -- a step that is taken has no number
 accepted : (state : m.Phase × ℕ) (number : TextNumber) → Ok state ≡ refused number → ⊥
@@ -198,9 +188,7 @@ number_of phase depth kinds.Plain b front token number e is stops = numbered T06
 
 -- a word that stops, with any number that it may have
 pub stops_fault : (tokens : List Token) (number : TextNumber) (word : ℕ) → StopsAtWord tokens number word → IsUnitFault tokens number word
-stops_fault tokens T07 word h = absurd h.is_number
-stops_fault tokens T08 word h = absurd h.is_number
-stops_fault tokens _ word h = h
+stops_fault tokens number word h = grind (arith, common_steps) steps 200000
 
 abbrev pub stop_at : (tokens : List Token) (word : ℕ) (token : Token) (phase : m.Phase) (depth : ℕ) (number : TextNumber) → slice_get tokens word ≡ Some token → m.run m.Begin 0 (take word tokens) ≡ Ok (m.phase_state phase depth)
     → m.next phase depth token.kind (m.could_label token) ≡ Err number → StopsAtWord tokens number word
@@ -246,11 +234,9 @@ same_number front token _ _ apart f g = absurd (first_of (cc, search (f, g)))
 
 apart_at : (front : List Token) → IsViable front → ¬ (MayBegin front × EndsInInclusion front)
 apart_at front h (begins, ends) =
-    let s = viable_run front h in
-    let x : s.0.0 ≡ m.Begin = may_begin_phase front s.0.0 s.0.1 s.1 begins in
-    let y : s.0.0 ≡ m.Including = inclusion_phase front s.0.0 s.0.1 s.1 ends in
-    let z : m.Begin ≡ m.Including = sym x ∙ y in
-    cc
+    let x : (viable_run front h).0.0 ≡ m.Begin = may_begin_phase front (viable_run front h).0.0 (viable_run front h).0.1 (viable_run front h).1 begins in
+    let y : (viable_run front h).0.0 ≡ m.Including = inclusion_phase front (viable_run front h).0.0 (viable_run front h).0.1 (viable_run front h).1 ends in
+    grind (arith, common_steps) steps 200000
 
 not_viable_later : (tokens : List Token) (number : TextNumber) (word n : ℕ) → StopsAtWord tokens number word → word < n → ¬ IsViable (take n tokens)
 not_viable_later tokens number word n h l viable = h.stops (subst (λ (ts : List Token). IsViable ts) (take-take (word + 1) n tokens (omega arith)) (viable_take (take n tokens) (word + 1) viable))
@@ -293,25 +279,7 @@ inner_symbols [] tail f g = g
 inner_symbols (token ∷ symbols) tail f g = (inner_kind token kinds.Plain f.0 refl refl, inner_symbols symbols tail f.1 g)
 
 pub inner_shape : (outside : Bool) (shape : Shape) → IsShape outside shape → AllByRecursion IsInner (shape_tokens shape)
-inner_shape outside (Declaration keyword symbols end) (is, plain, ended) = (first is, inner_symbols symbols (end ∷ []) plain (inner_kind end (kinds.Keyword StatementEnd) ended refl refl, tt)) where
-  first : (IsKeyword Constants keyword ⊎ (IsKeyword Variables keyword ⊎ IsKeyword Disjoint keyword)) → IsInner keyword
-  first (inl is) = inner_kind keyword (kinds.Keyword Constants) is refl refl
-  first (inr (inl is)) = inner_kind keyword (kinds.Keyword Variables) is refl refl
-  first (inr (inr is)) = inner_kind keyword (kinds.Keyword Disjoint) is refl refl
-inner_shape outside (Labelled label keyword symbols end) (labels, is, plain, ended) =
-    (inner_kind label kinds.Plain labels.0 refl refl, (second is, inner_symbols symbols (end ∷ []) plain (inner_kind end (kinds.Keyword StatementEnd) ended refl refl, tt))) where
-      second : (IsKeyword Floating keyword ⊎ (IsKeyword Essential keyword ⊎ IsKeyword Axiom keyword)) → IsInner keyword
-      second (inl is) = inner_kind keyword (kinds.Keyword Floating) is refl refl
-      second (inr (inl is)) = inner_kind keyword (kinds.Keyword Essential) is refl refl
-      second (inr (inr is)) = inner_kind keyword (kinds.Keyword Axiom) is refl refl
-inner_shape outside (Provable label keyword symbols proof steps end) (labels, theorem, plain, proves, more, ended) = (
-  inner_kind label kinds.Plain labels.0 refl refl,
-  (
-    inner_kind keyword (kinds.Keyword Theorem) theorem refl refl,
-    inner_symbols symbols (proof ∷ (steps ++ end ∷ [])) plain (inner_kind proof (kinds.Keyword ProofStart) proves refl refl, inner_symbols steps (end ∷ []) more (inner_kind end (kinds.Keyword StatementEnd) ended refl refl, tt)),
-  ),
-)
-inner_shape outside (Inclusion begin name end) h = (inner_kind begin (kinds.Keyword InclusionStart) h.1 refl refl, (inner_kind name kinds.Plain h.2 refl refl, (inner_kind end (kinds.Keyword InclusionEnd) h.3 refl refl, tt)))
+inner_shape outside shape h = grind (arith, common_steps, inner_kind, inner_symbols) steps 200000
 
 -- no end of the list has more `${` than `$}`
 abbrev pub Covered : List Token → Type 0
@@ -333,29 +301,18 @@ covered_from (token ∷ tokens) h = (h 0, covered_from tokens (λ n. h (suc n)))
 
 covered_inner : (xs ys : List Token) → AllByRecursion IsInner xs → Covered ys → Covered (xs ++ ys)
 covered_inner [] ys f g = g
-covered_inner (x ∷ xs) ys f g =
-    let more : Covered (xs ++ ys) = covered_inner xs ys f.1 g in let rest : starts (xs ++ ys) ≤ ends (xs ++ ys) = covered_all (xs ++ ys) more in (omega arith, more)
+covered_inner (x ∷ xs) ys f g = grind (arith, common_steps, covered_inner xs ys f.1 g, covered_all (xs ++ ys) (covered_inner xs ys f.1 g)) steps 200000
 
 pub covered-append : (xs ys : List Token) → Covered xs → Covered ys → Covered (xs ++ ys)
 covered-append [] ys f g = g
-covered-append (x ∷ xs) ys f g =
-    let more : Covered (xs ++ ys) = covered-append xs ys f.1 g in
-    let rest : starts ys ≤ ends ys = covered_all ys g in
-    let all : starts (xs ++ ys) ≡ starts xs + starts ys = starts-append xs ys in
-    let same : ends (xs ++ ys) ≡ ends xs + ends ys = ends-append xs ys in
-    (omega arith, more)
+covered-append (x ∷ xs) ys f g = grind (arith, common_steps, covered-append xs ys f.1 g, covered_all ys g, starts-append xs ys, ends-append xs ys) steps 200000
 
 inner_counts : (xs : List Token) → AllByRecursion IsInner xs → (starts xs ≡ 0) × (ends xs ≡ 0)
 inner_counts [] h = (refl, refl)
-inner_counts (x ∷ xs) h =
-    let more : (starts xs ≡ 0) × (ends xs ≡ 0) = inner_counts xs h.1 in let start : is_start_word x.kind ≡ 0 = h.0.0 in let end : is_end_word x.kind ≡ 0 = h.0.1 in (omega arith, omega arith)
+inner_counts (x ∷ xs) h = grind (arith, common_steps, inner_counts xs h.1) steps 200000
 
 balanced_shape : (outside : Bool) (shape : Shape) (tail : List Token) → IsShape outside shape → starts tail ≡ ends tail → starts (shape_tokens shape ++ tail) ≡ ends (shape_tokens shape ++ tail)
-balanced_shape outside shape tail is more =
-    let none : (starts (shape_tokens shape) ≡ 0) × (ends (shape_tokens shape) ≡ 0) = inner_counts (shape_tokens shape) (inner_shape outside shape is) in
-    let start : starts (shape_tokens shape ++ tail) ≡ starts (shape_tokens shape) + starts tail = starts-append (shape_tokens shape) tail in
-    let end : ends (shape_tokens shape ++ tail) ≡ ends (shape_tokens shape) + ends tail = ends-append (shape_tokens shape) tail in
-    omega arith
+balanced_shape outside shape tail is more = grind (arith, common_steps, ends-append, inner_counts, inner_shape, starts-append) steps 200000
 
 pub start_counts : (token : Token) → IsKeyword BlockStart token → (is_start_word token.kind ≡ 1) × (is_end_word token.kind ≡ 0)
 start_counts token is = (ap is_start_word is, ap is_end_word is)
@@ -366,24 +323,14 @@ end_counts token is = (ap is_start_word is, ap is_end_word is)
 pub balanced : (outside : Bool) (units : Units) → AreUnits outside units → starts (unit_tokens units) ≡ ends (unit_tokens units)
 balanced outside Nothing h = refl
 balanced outside (Simple shape later) h = balanced_shape outside shape (unit_tokens later) h.0 (balanced outside later h.1)
-balanced outside (Block begin inner end later) h =
-    let x : starts (unit_tokens inner) ≡ ends (unit_tokens inner) = balanced false inner h.1 in
-    let y : starts (unit_tokens later) ≡ ends (unit_tokens later) = balanced outside later h.3 in
-    let first : (is_start_word begin.kind ≡ 1) × (is_end_word begin.kind ≡ 0) = start_counts begin h.0 in
-    let last : (is_start_word end.kind ≡ 0) × (is_end_word end.kind ≡ 1) = end_counts end h.2 in
-    let start : starts (unit_tokens inner ++ end ∷ unit_tokens later) ≡ starts (unit_tokens inner) + starts (end ∷ unit_tokens later) = starts-append (unit_tokens inner) (end ∷ unit_tokens later) in
-    let ended : ends (unit_tokens inner ++ end ∷ unit_tokens later) ≡ ends (unit_tokens inner) + ends (end ∷ unit_tokens later) = ends-append (unit_tokens inner) (end ∷ unit_tokens later) in
-    omega arith
+balanced outside (Block begin inner end later) h = grind (arith, common_steps, balanced false inner h.1, balanced outside later h.3, end_counts, ends-append, start_counts, starts-append) steps 200000
 
 pub covered : (outside : Bool) (units : Units) → AreUnits outside units → Covered (unit_tokens units)
 covered outside Nothing h = tt
 covered outside (Simple shape later) h = covered_inner (shape_tokens shape) (unit_tokens later) (inner_shape outside shape h.0) (covered outside later h.1)
 covered outside (Block begin inner end later) h = (le_of_eq (balanced outside (Block begin inner end later) h), covered-append (unit_tokens inner) (end ∷ unit_tokens later) (covered false inner h.1) (last, covered outside later h.3)) where
   last : starts (end ∷ unit_tokens later) ≤ ends (end ∷ unit_tokens later)
-  last =
-      let y : starts (unit_tokens later) ≡ ends (unit_tokens later) = balanced outside later h.3 in
-      let none : (is_start_word end.kind ≡ 0) × (is_end_word end.kind ≡ 1) = end_counts end h.2 in
-      omega arith
+  last = grind (arith, common_steps, balanced outside later h.3, end_counts end h.2) steps 200000
 
 -- ---- a block that is not closed
 
@@ -436,9 +383,7 @@ abbrev Sorted : List Token → TextNumber → ℕ → Type 0
 Sorted tokens number word = (StopsAtWord tokens number word) ⊎ (((number ≡ T07) × EndsInUnit tokens word) ⊎ ((number ≡ T08) × EndsInBlock tokens word))
 
 sorted : (tokens : List Token) (number : TextNumber) (word : ℕ) → IsUnitFault tokens number word → Sorted tokens number word
-sorted tokens T07 word h = inr (inl (refl, h))
-sorted tokens T08 word h = inr (inr (refl, h))
-sorted tokens _ word h = inl h
+sorted tokens number word h = grind (arith, common_steps) steps 200000
 
 same_fault : (tokens : List Token) (a b : TextNumber) (v w : ℕ) → Sorted tokens a v → Sorted tokens b w → (a ≡ b) × (v ≡ w)
 same_fault tokens a b v w (inl f) (inl g) = one_stop tokens a b v w f g
@@ -468,19 +413,10 @@ whole_has_no_fault tokens number word whole h = none (sorted tokens number word 
 -- ---- the innermost open block, by counts from the end
 
 -- two ways to cut one list
-abbrev CutTwice : {X : Type 0} → List X → List X → List X → List X → Type 0
-CutTwice {X = X} xs ys us vs = ((zs : List X) × (xs ≡ us ++ zs) × (zs ++ ys ≡ vs)) ⊎ ((zs : List X) × (us ≡ xs ++ zs) × (ys ≡ zs ++ vs))
-
 pub cut_twice : {X : Type 0} (xs ys us vs : List X) → xs ++ ys ≡ us ++ vs → ((zs : List X) × (xs ≡ us ++ zs) × (zs ++ ys ≡ vs)) ⊎ ((zs : List X) × (us ≡ xs ++ zs) × (ys ≡ zs ++ vs))
 cut_twice xs ys [] vs e = inl (xs, refl, e)
 cut_twice [] ys (u ∷ us) vs e = inr (u ∷ us, refl, e)
-cut_twice {X = X} (x ∷ xs) ys (u ∷ us) vs e = more (cut_twice xs ys us vs (let rest : xs ++ ys ≡ us ++ vs = cc in rest)) where
-  first : x ≡ u
-  first = cc
-
-  more : CutTwice xs ys us vs → CutTwice (x ∷ xs) ys (u ∷ us) vs
-  more (inl h) = inl (h.0, cc, h.2)
-  more (inr h) = inr (h.0, cc, h.2)
+cut_twice {X = X} (x ∷ xs) ys (u ∷ us) vs e = grind (arith, common_steps, cut_twice xs ys us vs (let rest : xs ++ ys ≡ us ++ vs = cc in rest)) steps 200000
 
 starts-blocks : (depth : ℕ) → starts (blocks depth) ≡ 0
 unfolding blocks
@@ -494,35 +430,18 @@ first_end zero z zs later e = absurd cc
 first_end (suc depth) z zs later e = let same : z ≡ key BlockEnd = cc in ap (λ (t : Token). t.kind) same ∙ key-kind BlockEnd
 
 parted : (us zs : List Token) (z : Token) → IsKeyword BlockEnd z → (starts (us ++ z ∷ zs) ≡ starts us + starts zs) × (ends (us ++ z ∷ zs) ≡ ends us + 1 + ends zs)
-parted us zs z is =
-    let start : starts (us ++ z ∷ zs) ≡ starts us + starts (z ∷ zs) = starts-append us (z ∷ zs) in
-    let end : ends (us ++ z ∷ zs) ≡ ends us + ends (z ∷ zs) = ends-append us (z ∷ zs) in
-    let one : (is_start_word z.kind ≡ 0) × (is_end_word z.kind ≡ 1) = end_counts z is in
-    (omega arith, omega arith)
+parted us zs z is = grind (arith, common_steps, starts-append us (z ∷ zs), ends-append us (z ∷ zs), end_counts z is) steps 200000
 
 covered_behind : (us ys : List Token) → Covered (us ++ ys) → Covered ys
 covered_behind [] ys h = h
 covered_behind (u ∷ us) ys h = covered_behind us ys h.1
 
 longer : (xs us zs : List Token) (z : Token) → xs ≡ us ++ z ∷ zs → IsKeyword BlockEnd z → starts xs ≡ ends xs → starts us ≡ ends us → Covered xs → ⊥
-longer xs us zs z joined is even inside h =
-    let rest : Covered (z ∷ zs) = covered_behind us (z ∷ zs) (subst (λ (ts : List Token). Covered ts) joined h) in
-    let fewer : starts zs ≤ ends zs = covered_all zs rest.1 in
-    let parts : (starts (us ++ z ∷ zs) ≡ starts us + starts zs) × (ends (us ++ z ∷ zs) ≡ ends us + 1 + ends zs) = parted us zs z is in
-    let start : starts xs ≡ starts (us ++ z ∷ zs) = ap starts joined in
-    let end : ends xs ≡ ends (us ++ z ∷ zs) = ap ends joined in
-    omega arith
+longer xs us zs z joined is even inside h = grind (arith, common_steps, parted us zs z is, covered_all, covered_behind) steps 200000
 
 shorter : (xs us zs later : List Token) (z : Token) (d : ℕ) → us ≡ xs ++ z ∷ zs → (z ∷ zs) ++ later ≡ blocks d → starts xs ≡ ends xs → starts us ≡ ends us → ⊥
 shorter xs us zs later z d joined rest even inside =
-    let is : IsKeyword BlockEnd z = first_end d z zs later rest in
-    let parts : (starts (xs ++ z ∷ zs) ≡ starts xs + starts zs) × (ends (xs ++ z ∷ zs) ≡ ends xs + 1 + ends zs) = parted xs zs z is in
-    let start : starts us ≡ starts (xs ++ z ∷ zs) = ap starts joined in
-    let end : ends us ≡ ends (xs ++ z ∷ zs) = ap ends joined in
-    let none : starts ((z ∷ zs) ++ later) ≡ 0 = ap starts rest ∙ starts-blocks d in
-    let all : starts ((z ∷ zs) ++ later) ≡ starts (z ∷ zs) + starts later = starts-append (z ∷ zs) later in
-    let z_start : is_start_word z.kind ≡ 0 = (end_counts z is).0 in
-    omega arith
+    grind (arith, common_steps, first_end d z zs later rest, parted xs zs z (first_end d z zs later rest), starts-blocks d, starts-append (z ∷ zs) later, end_counts z (first_end d z zs later rest)) steps 200000
 
 pub closed_units : (xs : List Token) (depth d : ℕ) → m.run m.Begin (suc depth) xs ≡ Ok (m.phase_state m.Begin d) → starts xs ≡ ends xs → Covered xs → (inner : Units) × AreUnits false inner × (xs ≡ unit_tokens inner)
 closed_units xs depth d e even h = both (cut_twice xs (blocks d) (unit_tokens closes.inner) (closes.end ∷ closes.later) closes.joined) where

@@ -1,12 +1,10 @@
 -- The machine goes through whole lists, and through no others.
+use Rattle.std.proofs.lemmas.{Grind.{common_steps}, Bool.{false≢true}}
 use Rattle.std.proofs.Common.{◌≡◌, ℕ, zero, suc, Bool, true, false, IsTrue, List, [], ◌∷◌, ◌++◌, append_assoc, Ok, Err, refl, sym, ap, ◌∙◌, subst, inl, inr, ◌⊎◌, arith, append-nil}
-use Rattle.std.proofs.lemmas.Bool.{false≢true}
 use Rattle.std.specs.List.{AllByRecursion}
 use Rattle.mm_text.specs.declared.word.Keyword.{Keyword}
 use Rattle.mm_text.specs.declared.word.Keyword.TheVariants.{BlockStart, BlockEnd, Constants, Variables, Floating, Essential, Disjoint, Axiom, Theorem, StatementEnd, ProofStart, InclusionStart}
-use Rattle.mm_text.specs.declared.word.Keyword.TheVariants.{InclusionEnd}
-use Rattle.mm_text.specs.declared.word.WordKind.{WordKind}
-use Rattle.mm_text.specs.declared.fault.TextNumber.{TextNumber}
+use Rattle.mm_text.specs.declared.{word.{Keyword.TheVariants.{InclusionEnd}, WordKind.{WordKind}}, fault.TextNumber.{TextNumber}}
 use Rattle.mm_text.specs.Language.Unit.{Token, IsKeyword, IsPlain, IsLabel, Shape, Declaration, Labelled, Provable, Inclusion, shape_tokens, IsShape, Units, Nothing, Simple, Block, unit_tokens}
 use Rattle.mm_text.specs.Language.Unit.{AreUnits, IsWhole, IsViable}
 use Rattle.mm_text.specs.declared.word.WordKind.TheVariants as kinds
@@ -18,8 +16,7 @@ outside (suc depth) = false
 
 pub step_by : (phase : m.Phase) (depth : ℕ) (token : Token) (tokens : List Token) (kind : WordKind) (next : m.Phase × ℕ) → token.kind ≡ kind → m.next phase depth kind (m.could_label token) ≡ Ok next
     → m.run phase depth (token ∷ tokens) ≡ m.run next.0 next.1 tokens
-step_by phase depth token tokens kind next is e =
-    ap (λ (k : WordKind). m.after (m.next phase depth k (m.could_label token)) (λ phase depth. m.run phase depth tokens)) is ∙ ap (λ (s : m.UnitStep). m.after s (λ phase depth. m.run phase depth tokens)) e
+step_by phase depth token tokens kind next is e = grind (arith, common_steps) steps 200000
 
 -- ---- a whole list goes through
 
@@ -31,46 +28,22 @@ pub through_expression : (depth : ℕ) (symbols tail : List Token) → AllByRecu
 through_expression depth [] tail h = refl
 through_expression depth (token ∷ symbols) tail h = step_by m.Expression depth token (symbols ++ tail) kinds.Plain (m.Expression, depth) h.0 refl ∙ through_expression depth symbols tail h.1
 
-pub through_rest : (depth : ℕ) (symbols : List Token) (end : Token) (tail : List Token) → AllByRecursion IsPlain symbols → IsKeyword StatementEnd end → m.run m.Symbols depth ((symbols ++ end ∷ []) ++ tail) ≡ m.run m.Begin depth tail
-through_rest depth symbols end tail plain is =
-    ap (m.run m.Symbols depth) (append_assoc symbols (end ∷ []) tail) ∙ through_symbols depth symbols (end ∷ tail) plain ∙ step_by m.Symbols depth end tail (kinds.Keyword StatementEnd) (m.Begin, depth) is refl
-
 through_label : (depth : ℕ) (label : Token) (tail : List Token) → IsLabel label → m.run m.Begin depth (label ∷ tail) ≡ m.run m.Labelled depth tail
 through_label depth label tail is = step_by m.Begin depth label tail kinds.Plain (m.Labelled, depth) is.0 (rw is.1 refl)
 
 pub through_shape : (depth : ℕ) (shape : Shape) (tail : List Token) → IsShape (outside depth) shape → m.run m.Begin depth (shape_tokens shape ++ tail) ≡ m.run m.Begin depth tail
-through_shape depth (Declaration keyword symbols end) tail (kind, plain, is) = through_declaration kind ∙ through_rest depth symbols end tail plain is where
-  through_declaration : (IsKeyword Constants keyword ⊎ (IsKeyword Variables keyword ⊎ IsKeyword Disjoint keyword)) → m.run m.Begin depth (keyword ∷ ((symbols ++ end ∷ []) ++ tail)) ≡ m.run m.Symbols depth ((symbols ++ end ∷ []) ++ tail)
-  through_declaration (inl is) = step_by m.Begin depth keyword ((symbols ++ end ∷ []) ++ tail) (kinds.Keyword Constants) (m.Symbols, depth) is refl
-  through_declaration (inr (inl is)) = step_by m.Begin depth keyword ((symbols ++ end ∷ []) ++ tail) (kinds.Keyword Variables) (m.Symbols, depth) is refl
-  through_declaration (inr (inr is)) = step_by m.Begin depth keyword ((symbols ++ end ∷ []) ++ tail) (kinds.Keyword Disjoint) (m.Symbols, depth) is refl
-through_shape depth (Labelled label keyword symbols end) tail (labels, kind, plain, is) = through_label depth label (keyword ∷ ((symbols ++ end ∷ []) ++ tail)) labels ∙ through_keyword kind ∙ through_rest depth symbols end tail plain is where
-  through_keyword : (IsKeyword Floating keyword ⊎ (IsKeyword Essential keyword ⊎ IsKeyword Axiom keyword)) → m.run m.Labelled depth (keyword ∷ ((symbols ++ end ∷ []) ++ tail)) ≡ m.run m.Symbols depth ((symbols ++ end ∷ []) ++ tail)
-  through_keyword (inl is) = step_by m.Labelled depth keyword ((symbols ++ end ∷ []) ++ tail) (kinds.Keyword Floating) (m.Symbols, depth) is refl
-  through_keyword (inr (inl is)) = step_by m.Labelled depth keyword ((symbols ++ end ∷ []) ++ tail) (kinds.Keyword Essential) (m.Symbols, depth) is refl
-  through_keyword (inr (inr is)) = step_by m.Labelled depth keyword ((symbols ++ end ∷ []) ++ tail) (kinds.Keyword Axiom) (m.Symbols, depth) is refl
+through_shape depth (Declaration keyword symbols end) tail (kind, plain, is) = grind (arith, common_steps, step_by, through_symbols) steps 200000
+through_shape depth (Labelled label keyword symbols end) tail (labels, kind, plain, is) = grind (arith, common_steps, labels, step_by, through_label, through_symbols) steps 200000
 through_shape depth (Provable label keyword symbols proof steps end) tail (labels, theorem, plain, proves, more, is) =
-    through_label depth label (keyword ∷ ((symbols ++ proof ∷ (steps ++ end ∷ [])) ++ tail)) labels
-    ∙ step_by m.Labelled depth keyword ((symbols ++ proof ∷ (steps ++ end ∷ [])) ++ tail) (kinds.Keyword Theorem) (m.Expression, depth) theorem refl
-    ∙ ap (m.run m.Expression depth) (append_assoc symbols (proof ∷ (steps ++ end ∷ [])) tail)
-    ∙ through_expression depth symbols (proof ∷ ((steps ++ end ∷ []) ++ tail)) plain
-    ∙ step_by m.Expression depth proof ((steps ++ end ∷ []) ++ tail) (kinds.Keyword ProofStart) (m.Symbols, depth) proves refl
-    ∙ through_rest depth steps end tail more is
-through_shape zero (Inclusion begin name end) tail h =
-    step_by m.Begin 0 begin (name ∷ end ∷ tail) (kinds.Keyword InclusionStart) (m.Including, 0) h.1 refl
-    ∙ step_by m.Including 0 name (end ∷ tail) kinds.Plain (m.Named, 0) h.2 refl
-    ∙ step_by m.Named 0 end tail (kinds.Keyword InclusionEnd) (m.Begin, 0) h.3 refl
+    grind (arith, common_steps, labels, proves, step_by, through_expression, through_label, through_symbols) steps 200000
+through_shape zero (Inclusion begin name end) tail h = grind (arith, common_steps) steps 200000
 through_shape (suc depth) (Inclusion begin name end) tail h = absurd (false≢true h.0)
 
 pub through_units : (depth : ℕ) (units : Units) (tail : List Token) → AreUnits (outside depth) units → m.run m.Begin depth (unit_tokens units ++ tail) ≡ m.run m.Begin depth tail
 through_units depth Nothing tail h = refl
 through_units depth (Simple shape later) tail h = ap (m.run m.Begin depth) (append_assoc (shape_tokens shape) (unit_tokens later) tail) ∙ through_shape depth shape (unit_tokens later ++ tail) h.0 ∙ through_units depth later tail h.1
 through_units depth (Block begin inner end later) tail h =
-    ap (m.run m.Begin depth) (ap (λ (ts : List Token). begin ∷ ts) (append_assoc (unit_tokens inner) (end ∷ unit_tokens later) tail))
-    ∙ step_by m.Begin depth begin (unit_tokens inner ++ end ∷ (unit_tokens later ++ tail)) (kinds.Keyword BlockStart) (m.Begin, suc depth) h.0 refl
-    ∙ through_units (suc depth) inner (end ∷ (unit_tokens later ++ tail)) h.1
-    ∙ step_by m.Begin (suc depth) end (unit_tokens later ++ tail) (kinds.Keyword BlockEnd) (m.Begin, depth) h.2 refl
-    ∙ through_units depth later tail h.3
+    grind (arith, common_steps, through_units (suc depth) inner (end ∷ (unit_tokens later ++ tail)) h.1, through_units depth later tail h.3, step_by) steps 200000
 
 -- ---- what goes through is whole
 
@@ -125,8 +98,7 @@ block_more (suc depth) begin tokens is h =
       later = outer.later;
       inside = (is, h.inside, h.is_end, outer.inside);
       is_end = outer.is_end;
-      joined = ap (λ (ts : List Token). begin ∷ ts) (h.joined ∙ ap (λ (ts : List Token). unit_tokens h.inner ++ h.end ∷ ts) outer.joined
-          ∙ sym (append_assoc (unit_tokens h.inner) (h.end ∷ unit_tokens outer.inner) (outer.end ∷ outer.later)));
+      joined = grind (arith, common_steps) steps 200000;
       goes_on = outer.goes_on;
     }
 
@@ -152,8 +124,7 @@ labels depth label token tokens is_label is h = subst (λ (ts : List Token). Com
 proves : (depth : ℕ) (label keyword : Token) (before : List Token) (proof : Token) (tokens : List Token) → IsLabel label → IsKeyword Theorem keyword → AllByRecursion IsPlain before → IsKeyword ProofStart proof → Ends depth (Completes depth) tokens
     → Completes depth (label ∷ keyword ∷ (before ++ proof ∷ tokens))
 proves depth label keyword before proof tokens is_label is_theorem plain is h =
-    subst (λ (ts : List Token). Completes depth (label ∷ keyword ∷ ts)) (append_assoc before (proof ∷ (h.symbols ++ h.end ∷ [])) h.later ∙ ap (λ (ts : List Token). before ++ proof ∷ ts) (sym h.joined))
-    (shape_more depth (Provable label keyword before proof h.symbols h.end) h.later (is_label, is_theorem, plain, is, h.plain, h.is_end) h.goes_on)
+    grind (arith, common_steps, shape_more depth (Provable label keyword before proof h.symbols h.end) h.later (is_label, is_theorem, plain, is, h.plain, h.is_end) h.goes_on) steps 200000
 
 one_step : (phase : m.Phase) (depth : ℕ) (token : Token) (tokens : List Token) (kind : WordKind) (is_label : Bool) → ((p : m.Phase) (d : ℕ) → m.run p d tokens ≡ Ok (m.Begin, 0) → Meaning p d tokens)
     → token.kind ≡ kind → m.could_label token ≡ is_label
@@ -242,8 +213,7 @@ completed m.Named depth = (key InclusionEnd ∷ blocks depth, named_run depth)
 
 after_ok : (step : m.UnitStep) (more : List Token) (front : List Token) (s : m.Phase × ℕ) → m.after step (λ p d. m.run p d front) ≡ Ok s → ((p : m.Phase) (d : ℕ) → m.run p d front ≡ Ok s → m.run p d (front ++ more) ≡ m.run s.0 s.1 more)
     → m.after step (λ p d. m.run p d (front ++ more)) ≡ m.run s.0 s.1 more
-after_ok (Ok state) more front s e later = later state.0 state.1 e
-after_ok (Err number) more front s e later = absurd cc
+after_ok step more front s e later = grind (arith, common_steps) steps 200000
 
 pub run-append : (front more : List Token) (phase : m.Phase) (depth : ℕ) (s : m.Phase × ℕ) → m.run phase depth front ≡ Ok s → m.run phase depth (front ++ more) ≡ m.run s.0 s.1 more
 run-append [] more phase depth s e = let same : m.phase_state phase depth ≡ s = cc in ap (λ (s : m.Phase × ℕ). m.run s.0 s.1 more) same
@@ -251,8 +221,7 @@ run-append (token ∷ front) more phase depth s e = after_ok (m.next phase depth
 
 after_err : (step : m.UnitStep) (more : List Token) (front : List Token) (number : TextNumber) → m.after step (λ p d. m.run p d front) ≡ Err number → ((p : m.Phase) (d : ℕ) → m.run p d front ≡ Err number → m.run p d (front ++ more) ≡ Err number)
     → m.after step (λ p d. m.run p d (front ++ more)) ≡ Err number
-after_err (Ok state) more front number e later = later state.0 state.1 e
-after_err (Err other) more front number e later = e
+after_err step more front number e later = grind (arith, common_steps) steps 200000
 
 pub run-append_err : (front more : List Token) (phase : m.Phase) (depth : ℕ) (number : TextNumber) → m.run phase depth front ≡ Err number → m.run phase depth (front ++ more) ≡ Err number
 run-append_err [] more phase depth number e = absurd cc

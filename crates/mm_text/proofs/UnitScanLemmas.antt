@@ -1,11 +1,10 @@
 -- Every list of words is whole or has a fault, and what loops that look for the fault keep.
-use Rattle.std.proofs.Common.{rules, ◌≡◌, ◌≢◌, ◌⊎◌, ℕ, zero, suc, ◌+◌, ◌<◌, ◌≤◌, Bool, true, List, [], ◌∷◌, ◌++◌, append_assoc, length, take, drop, slice_get, drop_of_length-le, Some, Ok, Err, refl}
-use Rattle.std.proofs.Common.{sym, ap, ◌∙◌, subst, inl, inr, ⊎_elim, ◌-◌, arith}
-use Rattle.std.proofs.lemmas.{Bool.{cases_lt}, List.{take_all, take_at}}
-use Rattle.mm_text.specs.declared.word.{Keyword.TheVariants.{BlockStart, BlockEnd, Floating, InclusionStart, InclusionEnd}, WordKind.{WordKind}}
-use Rattle.mm_text.specs.declared.fault.TextNumber.{TextNumber, TheVariants.{T07, T08}}
-use Rattle.mm_text.specs.{Language.Unit.{Token, IsKeyword, IsWhole, IsViable, IsUnitFault}, Code.BlockCounts.{is_start_word, is_end_word, starts, ends}}
-use Rattle.mm_text.proofs.UnitReadingLemmas.{run-IsViable, run-IsWhole}
+use Rattle.std.proofs.lemmas.{Grind.{common_steps}, Bool.{cases_lt}, List.{take_all, take_at}}
+use Rattle.std.proofs.Common.{rules, ◌≡◌, ◌≢◌, ◌⊎◌, ℕ, zero, suc, ◌+◌, ◌<◌, ◌≤◌, Bool, true, List, [], ◌∷◌, ◌++◌, append_assoc, length, take, drop, slice_get, Some, Ok, Err, refl, sym, ap, ◌∙◌, subst}
+use Rattle.std.proofs.Common.{inl, inr, ⊎_elim, ◌-◌, arith}
+use Rattle.mm_text.specs.declared.{word.{Keyword.TheVariants.{BlockStart, BlockEnd, Floating, InclusionStart, InclusionEnd}, WordKind.{WordKind}}, fault.TextNumber.{TextNumber}}
+use Rattle.mm_text.specs.{declared.fault.TextNumber.TheVariants.{T07, T08}, Language.Unit.{Token, IsKeyword, IsWhole, IsViable, IsUnitFault}}
+use Rattle.mm_text.{specs.Code.BlockCounts.{is_start_word, is_end_word, starts, ends}, proofs.UnitReadingLemmas.{run-IsViable, run-IsWhole}}
 use Rattle.mm_text.proofs.UnitFaultLemmas.{viable_take, viable_run, run_push, may_begin_from, may_begin_phase, stops_at, ends_in_unit, start_counts, end_counts, counts_next, ends_in_block}
 use Rattle.mm_text.specs.declared.word.WordKind.TheVariants as kinds
 use Rattle.mm_text.specs.Code.UnitReading as m
@@ -43,33 +42,11 @@ pub record Scan (tokens : List Token) (from level : ℕ) : Type 0 where
   pub fewer : (n : ℕ) → from ≤ n → starts (drop n tokens) ≤ ends (drop n tokens)
 
 pub scan_none : (tokens : List Token) → Scan tokens (length tokens) 0
-scan_none tokens = record { even = even; fewer = fewer } where
-  past : (n : ℕ) → length tokens ≤ n → drop n tokens ≡ []
-  past n l = drop_of_length-le tokens l
-
-  even : 0 + starts (drop (length tokens) tokens) ≡ ends (drop (length tokens) tokens)
-  even = let none : drop (length tokens) tokens ≡ [] = past (length tokens) (omega arith) in rw none (omega arith)
-
-  fewer : (n : ℕ) → length tokens ≤ n → starts (drop n tokens) ≤ ends (drop n tokens)
-  fewer n l = let none : drop n tokens ≡ [] = past n l in rw none (omega arith)
+scan_none tokens = grind (arith, common_steps) steps 200000
 
 -- one word more at the front
 scan_more : (tokens : List Token) (word level next : ℕ) (token : Token) → slice_get tokens word ≡ Some token → next + is_start_word token.kind ≡ level + is_end_word token.kind → Scan tokens (word + 1) level → Scan tokens word next
-scan_more tokens word level next token there step h = record { even = even; fewer = fewer } where
-  more : (starts (drop word tokens) ≡ is_start_word token.kind + starts (drop (word + 1) tokens)) × (ends (drop word tokens) ≡ is_end_word token.kind + ends (drop (word + 1) tokens))
-  more = counts_next tokens word token there
-
-  behind : level + starts (drop (word + 1) tokens) ≡ ends (drop (word + 1) tokens)
-  behind = h.even
-
-  even : next + starts (drop word tokens) ≡ ends (drop word tokens)
-  even = omega (arith, more.0, more.1, behind, step)
-
-  here : (n : ℕ) → word ≡ n → starts (drop n tokens) ≤ ends (drop n tokens)
-  here n same = subst (λ (k : ℕ). starts (drop k tokens) ≤ ends (drop k tokens)) same (omega (arith, even))
-
-  fewer : (n : ℕ) → word ≤ n → starts (drop n tokens) ≤ ends (drop n tokens)
-  fewer n l = ⊎_elim (λ less. h.fewer n (omega arith)) (λ most. here n (omega arith)) (cases_lt word n)
+scan_more tokens word level next token there step h = search (rules, cases_lt, counts_next) steps 500000
 
 pub scan_end : (tokens : List Token) (word level : ℕ) (token : Token) → slice_get tokens word ≡ Some token → IsKeyword BlockEnd token → Scan tokens (word + 1) level → Scan tokens word (level + 1)
 scan_end tokens word level token there is h = let counts : (is_start_word token.kind ≡ 0) × (is_end_word token.kind ≡ 1) = end_counts token is in scan_more tokens word level (level + 1) token there (omega arith) h
@@ -78,9 +55,7 @@ pub scan_start : (tokens : List Token) (word level : ℕ) (token : Token) → sl
 scan_start tokens word level token there is some h = let counts : (is_start_word token.kind ≡ 1) × (is_end_word token.kind ≡ 0) = start_counts token is in scan_more tokens word level (level - 1) token there (omega arith) h
 
 other_counts : (token : Token) (kind : WordKind) → token.kind ≡ kind → ¬ IsKeyword BlockStart token → ¬ IsKeyword BlockEnd token → (is_start_word kind ≡ 0) × (is_end_word kind ≡ 0)
-other_counts token (kinds.Keyword BlockStart) is f g = absurd (f is)
-other_counts token (kinds.Keyword BlockEnd) is f g = absurd (g is)
-other_counts token _ is f g = (refl, refl)
+other_counts token kind is f g = grind (arith, common_steps) steps 200000
 
 pub scan_other : (tokens : List Token) (word level : ℕ) (token : Token) → slice_get tokens word ≡ Some token → ¬ IsKeyword BlockStart token → ¬ IsKeyword BlockEnd token → Scan tokens (word + 1) level → Scan tokens word level
 scan_other tokens word level token there f g h = let counts : (is_start_word token.kind ≡ 0) × (is_end_word token.kind ≡ 0) = other_counts token token.kind refl f g in scan_more tokens word level level token there (omega arith) h
@@ -158,8 +133,7 @@ last_more tokens n phase depth e other h = record { word = h.word; depth = h.dep
   later k l g = ⊎_elim (λ above. here k (omega arith)) (λ below. h.later k l below) (cases_lt n k)
 
 pub is_begin : (phase : m.Phase) → (phase ≡ m.Begin) ⊎ (phase ≢ m.Begin)
-is_begin m.Begin = inl refl
-is_begin _ = inr (λ e. cc)
+is_begin phase = grind (arith, common_steps) steps 200000
 
 last_begin : (tokens : List Token) (n : ℕ) → IsViable tokens → LastBegin tokens n
 last_begin tokens zero viable = last_here tokens 0 0 refl

@@ -1,9 +1,7 @@
 -- A report is clean: it has no line before its summary.
 use Rattle.std.proofs.{Common.{◌≡◌, ℕ, Bool, false, cond, zero-add, IsTrue, ◌+◌, List, [], ◌∷◌, length, refl, sym, ◌∙◌, ap, arith, nat_eq, count_by, eqb-true, eq-eqb}, lemmas.List.Sums.{sum_by-cons}}
-use Rattle.mm_report.specs.mm_statement.Language.Item.{Item}
-use Rattle.mm_report.specs.mm_keep.declared.tally.Tally.{Tally}
-use Rattle.mm_report.specs.mm_keep.Language.{Findings.{counted}, Told.{Told, Quiet, AnAxiom, Proved, Incomplete, Wrong, Fault, Counts, counts, is_incomplete, is_wrong, is_fault}}
-use Rattle.mm_report.specs.Language.Report.{lines}
+use Rattle.mm_report.specs.{mm_statement.Language.Item.{Item}, mm_keep.{declared.tally.Tally.{Tally}, Language.Findings.{counted}}}
+use Rattle.mm_report.specs.{mm_keep.Language.Told.{Told, Quiet, AnAxiom, Proved, Incomplete, Wrong, Fault, Counts, counts, is_incomplete, is_wrong, is_fault}, Language.Report.{lines}}
 
 -- ---- counts
 

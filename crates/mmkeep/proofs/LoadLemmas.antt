@@ -1,10 +1,8 @@
 -- Files that are loaded: none is parked, those that are there stay, and a walk goes on among them.
 use Rattle.std.proofs.Common.{◌≡◌, ◌≢◌, ℕ, ◌+◌, ◌<◌, suc, Bool, true, false, not, cond, List, [], ◌∷◌, ◌++◌, ◌⊎◌, Option, Some, None, Result, Ok, Err, OnOk, IfErr, IsErrOf, length, map, sym, ap, ◌∙◌}
-use Rattle.std.proofs.Common.{subst, refl, inl, inr, arith, Contains, position}
-use Rattle.std.proofs.lemmas.{Bool.{lt-ltb, ltb-true}, List.{length-map, nil_from_length}, Option.{none-some}, Slice.Eq.{bytes_eq-Decides}}
+use Rattle.std.proofs.{Common.{subst, refl, inl, inr, arith, Contains, position}, lemmas.{Bool.{lt-ltb, ltb-true}, List.{length-map, nil_from_length}, Option.{none-some}, Slice.Eq.{bytes_eq-Decides}}}
 use Rattle.std.specs.{List.{position_or_len, sum_by}, Str.{bytes_eq}, Ordering.{nat_cmp}}
-use Rattle.mm_report.specs.mm_store.declared.{error.StoreError.{StoreError, TheVariants.{Memory, NoTop}}, item.Item.{Item}}
-use Rattle.mm_report.specs.mm_store.Language.{Answers.{IsExpansionError}, FileFacts.{IsAdded, parked_in}}
+use Rattle.mm_report.specs.mm_store.{declared.{error.StoreError.{StoreError, TheVariants.{Memory, NoTop}}, item.Item.{Item}}, Language.{Answers.{IsExpansionError}, FileFacts.{IsAdded, parked_in}}}
 use Rattle.mm_report.specs.mm_store.Language.{FilesView.{File, FilesView, file_number, file_view, files_in, no_files, number_of, plain, plain_file}, Keyless.{bare, bare_file}}
 use Rattle.mm_report.specs.mm_store.Language.{Pieces.{HeldPiece, parked_state}, Walking.{WalkView, IsWalk, FindsMissing}}
 use Rattle.mmkeep.specs.Code.Loaded.{AddsIfOpened, AddsOpened, HasFile, HasWalked, KeepsFiles}

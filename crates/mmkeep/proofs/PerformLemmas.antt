@@ -1,8 +1,7 @@
 -- What a command has done, by what its parts have done.
-use Rattle.std.proofs.{Common.{◌≡◌, ◌⊎◌, ℕ, List, Option, Result, Ok, Err, IfErr, sym, subst, inl, inr}, KnownBytes.{Keeps-refl}}
-use Rattle.std.specs.Io.KnownBytes.{Appends, Keeps}
-use Rattle.mm_report.specs.mm_keep.Language.Sessions.{SessionView, HasAssertion}
-use Rattle.mm_report.specs.{mm_script.{declared.{error.ScriptError.{ScriptError}, stream.Writing.{Writing}}, Language.Stream.{AppendsPart, written}}, Language.Answers.{IsAnswer}}
+use Rattle.std.{proofs.{Common.{◌≡◌, ◌⊎◌, ℕ, List, Option, Result, Ok, Err, IfErr, sym, subst, inl, inr}, KnownBytes.{Keeps-refl}}, specs.Io.KnownBytes.{Appends, Keeps}}
+use Rattle.mm_report.specs.{mm_keep.Language.Sessions.{SessionView, HasAssertion}, mm_script.declared.{error.ScriptError.{ScriptError}, stream.Writing.{Writing}}}
+use Rattle.mm_report.specs.{mm_script.Language.Stream.{AppendsPart, written}, Language.Answers.{IsAnswer}}
 use Rattle.mmkeep.specs.{declared.outcome.Outcome.TheVariants.{Clean}, Language.Performing.{ListsAxioms, StopsAxioms}}
 use Rattle.mm_report.specs.mm_script.declared.error.ScriptError.TheVariants as errors
 use Rattle.mm_report.specs.mm_script.Language.Script as script

@@ -1,9 +1,8 @@
 -- What is kept in another way: frames and orders that are the same, for the tests of the machine.
-use Rattle.std.proofs.Common.{◌≡◌, ℕ, List, get_or, length, map, sym, ◌∙◌, ap, subst, arith, All}
-use Rattle.std.proofs.lemmas.{List.{length-map, get_or-map, Elements.{All-map}}, Option.{get_or_from_slice_get, slice_get_within}}
+use Rattle.std.proofs.{Common.{◌≡◌, ℕ, List, get_or, length, map, sym, ◌∙◌, ap, subst, arith, All}, lemmas.List.{length-map, get_or-map, Elements.{All-map}}}
+use Rattle.std.proofs.lemmas.Option.{get_or_from_slice_get, slice_get_within}
 use Rattle.mm_machine.specs.Language.{Frame.{Frame, Mandatory, Symbol}, NumberedSymbols.{named_symbol}, CitedFrames.{IsCitable, frame_of, meant_pair, meant_pairs}, Keys.{AreInKeyOrder, key_by_number}}
-use Rattle.mm_machine.specs.Language.NamedSteps.{IsUseWithin}
-use Rattle.mm_machine.specs.declared.{symbol.NamedSymbol.{NamedSymbol}, assertion.Cited.{Cited}, named.Use.{Use}}
+use Rattle.mm_machine.specs.{Language.NamedSteps.{IsUseWithin}, declared.{symbol.NamedSymbol.{NamedSymbol}, assertion.Cited.{Cited}, named.Use.{Use}}}
 use Rattle.mmtests.specs.Code.Spelled.{HasOneKey, IsRanged, key_by_name, ranged}
 
 alike : {X Y Z : Type 0} (P : Z → Type 0) (f : X → Z) (g : Y → Z) (xs : List X) (ys : List Y) → map f xs ≡ map g ys → All (λ y. P (g y)) ys → All (λ x. P (f x)) xs

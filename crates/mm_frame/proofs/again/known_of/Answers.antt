@@ -1,13 +1,12 @@
-use Rattle.std.proofs.Common.{ap, ◌∙◌, sym, subst}
+use Rattle.std.proofs.{Common.{arith, ap, ◌∙◌, sym, subst}, lemmas.Grind.{common_steps}}
 use Rattle.mm_statement.specs.Language.{Item.{Item, is_read}, Statement.{kind_of}}
-use Rattle.mm_frame.specs.{Language.Base.{before, said_at}, Code.{KnownItem.{numbers_of}, Numbers.{AreNameNumbers}}}
-use Rattle.mm_frame.proofs.lemmas.{frames.FrameNumbers.{kind_at}, reading.KnownItems.{same_again, numbers_known}}
+use Rattle.mm_frame.{specs.{Language.Base.{before, said_at}, Code.{KnownItem.{numbers_of}, Numbers.{AreNameNumbers}}}, proofs.lemmas.frames.FrameNumbers.{kind_at}}
+use Rattle.mm_frame.proofs.lemmas.reading.KnownItems.{same_again, numbers_known}
 use Rattle.mm_frame.proofs.again.known_of.Goals as goal
 
 pub returns-in-Some-clause-known : goal.returns-in-Some-clause-known
 returns-in-Some-clause-known c names files base by each =
     let i = c.args.i in
-    let kept = c.in-Some.symbols.now in
     let again = c.is_again.ensures c.if-not-is_again.false base (names, by) in
     let same = same_again files base.found base.said i c.args.item.now c.one_range_says_one.ensures each again in
     record {
@@ -15,8 +14,8 @@ returns-in-Some-clause-known c names files base by each =
       symbols = λ said says.
           let kind = ap (λ (x : Item). is_read x.kind) (same said says ∙ says.is) in
           let told = c.in-Some.ensures.symbols names base by (kind ∙ c.needs_no_names.ensures c.if-not-needs_no_names.false) in
-          let numbers = numbers_known names (before base i) (said_at base i).symbols kept told (c.in-Some.ensures.numbered names base by) in
-          subst (λ (x : Item). AreNameNumbers names (numbers_of kept) x.symbols) (same said says) numbers;
+          let numbers = numbers_known names (before base i) (said_at base i).symbols c.in-Some.symbols.now told (c.in-Some.ensures.numbered names base by) in
+          subst (λ (x : Item). AreNameNumbers names (numbers_of c.in-Some.symbols.now) x.symbols) (same said says) numbers;
     }
 
 pub returns-in-Some-clause-sound : goal.returns-in-Some-clause-sound
@@ -24,10 +23,4 @@ returns-in-Some-clause-sound c names base by =
     let again = c.is_again.ensures c.if-not-is_again.false base (names, by) in
     let kind = kind_at base.found base.said c.args.i again.was by.kinds again.there in
     let read = sym (ap is_read kind) ∙ ap (λ k. is_read (kind_of k)) again.same.kind ∙ c.needs_no_names.ensures c.if-not-needs_no_names.false in
-    record {
-      again = again;
-      sound = sym (c.in-Some.ensures.sound base (names, by));
-      read = read;
-      symbols = c.in-Some.ensures.symbols names base by read;
-      numbered = c.in-Some.ensures.numbered names base by;
-    }
+    grind (arith, common_steps, c.in-Some.ensures.sound base (names, by), c.in-Some.ensures.symbols names base by read, c.in-Some.ensures.numbered names base by) steps 200000

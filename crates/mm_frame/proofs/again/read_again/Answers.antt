@@ -1,20 +1,15 @@
 use Rattle.std.proofs.Common.{ℕ, List}
 use Rattle.mm_statement.specs.Language.Item.{Item}
-use Rattle.mm_frame.specs.Code.KeptBase.{IsDraft}
-use Rattle.mm_frame.proofs.lemmas.{base.NumbersAside.{numbers_aside}, names.NumberLemmas.{begins_on}}
+use Rattle.mm_frame.{specs.Code.KeptBase.{IsDraft}, proofs.lemmas.{base.NumbersAside.{numbers_aside}, names.NumberLemmas.{begins_on}}}
 use Rattle.mm_frame.proofs.again.read_again.Goals as goal
 
 pub read_known-requires-clause-known : goal.read_known-requires-clause-known
 read_known-requires-clause-known c =
-    let names = c.args.names.now in
     let older = c.requires.older in
-    c.in-Some.ensures.known names c.args.files.now older.0 (older.1.later names c.distinct.ensures (λ n name there. there)) older.1.each
+    c.in-Some.ensures.known c.args.names.now c.args.files.now older.0 (older.1.later c.args.names.now c.distinct.ensures (λ n name there. there)) older.1.each
 
 pub place_behind-next-requires : goal.place_behind-next-requires
-place_behind-next-requires c =
-    let names = c.args.names.now in
-    let older = c.requires.older in
-    (older.0, (names, older.1.later names c.distinct.ensures (λ n name there. there)))
+place_behind-next-requires c = (c.requires.older.0, (c.args.names.now, c.requires.older.1.later c.args.names.now c.distinct.ensures (λ n name there. there)))
 
 pub returns-clause-read : goal.returns-clause-read
 returns-clause-read c =

@@ -1,11 +1,7 @@
-use Rattle.std.proofs.Common.{◌≡◌, ◌∷◌, ◌++◌, [], suc, ◌+◌, take, take_all, refl, subst, arith}
-use Rattle.std.specs.List.{AllZip}
+use Rattle.std.{proofs.{lemmas.Grind.{common_steps}, Common.{◌≡◌, ◌∷◌, ◌++◌, [], suc, ◌+◌, take, subst, arith}}, specs.List.{AllZip}}
 use Rattle.mm_statement.specs.Language.Statement.{Says}
 use Rattle.mm_frame.proofs.lemmas.{names.NumberLemmas.{begins_on}, base.BaseLemmas.{zip_more}, reading.KnownItems.{older_on}}
 use Rattle.mm_frame.proofs.again.read_each_again.Goals as goal
-
-pub loop-item-init : goal.loop-item-init
-loop-item-init c = (λ n name there. there, [], tt, λ stands. (stands, λ same base found each. refl))
 
 pub loop-item-preserved : goal.loop-item-preserved
 loop-item-preserved c =
@@ -23,14 +19,7 @@ loop-item-preserved c =
     )
 
 pub returns-clause-read : goal.returns-clause-read
-returns-clause-read c =
-    let files = c.args.files.now in
-    let items = c.args.items.now in
-    let so_far = c.loop-item.invariant in
-    λ stands. (so_far.1, subst (λ w. AllZip (Says files) w so_far.1) (take_all c.loop-item.item-index items c.loop-item-test.false) so_far.2, (so_far.3 stands).0)
-
-pub returns-in_err-reached-clause-grows : goal.returns-in_err-reached-clause-grows
-returns-in_err-reached-clause-grows c = begins_on _ _ _ c.loop-item.invariant.0 c.read_next.ensures.grows
+returns-clause-read c = grind (arith, common_steps, c.loop-item.invariant.3) steps 200000
 
 pub read_next-requires-clause-older : goal.read_next-requires-clause-older
 read_next-requires-clause-older c = older_on _ _ c.args.files.now c.args.old.now c.loop-item.invariant.0 c.requires.older

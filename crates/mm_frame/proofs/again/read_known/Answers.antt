@@ -1,7 +1,6 @@
 use Rattle.std.proofs.{Common.{ℕ, List, sym, subst, arith}, lemmas.{Bool.{MatchBool-at_false, MatchBool-at_true}, Result.{on_ok_weaker}, Grind.{elements}}}
 use Rattle.mm_statement.specs.Language.Item.{Item}
-use Rattle.mm_frame.specs.Code.{KeptBase.{IsDraft}, Numbers.{AreNameNumbers}}
-use Rattle.mm_frame.proofs.lemmas.{base.NumbersAside.{numbers_aside}, reading.KnownItems.{numbers_on}}
+use Rattle.mm_frame.{specs.Code.{KeptBase.{IsDraft}, Numbers.{AreNameNumbers}}, proofs.lemmas.{base.NumbersAside.{numbers_aside}, reading.KnownItems.{numbers_on}}}
 use Rattle.mm_frame.proofs.again.read_known.Goals as goal
 
 pub returns-then-branch : goal.returns-then-branch
@@ -21,8 +20,7 @@ pub returns : goal.returns
 returns c =
     let names = c.args.names.now in
     let statement = c.known-statement.result in
-    let says = c.known-statement.ensures.says in
-    let numbers = c.requires.known.symbols statement says in
+    let numbers = c.requires.known.symbols statement c.known-statement.ensures.says in
     let same = MatchBool-at_false _ _ c.if-branch.false c.in_ok-take_known.ensures in
     let aside = λ (all : List (List ℕ)) (said : List Item) (d : IsDraft all said c.args.draft.now).
     numbers_aside all said c.take_known.new.self c.put_numbers.new.numbers (subst (IsDraft all said) (sym same) d) in
@@ -30,7 +28,7 @@ returns c =
     on_ok_weaker c.add_numbered.result
     (λ takes. (
       statement,
-      says,
+      c.known-statement.ensures.says,
       λ said stands all distinct more.
           takes all said (aside names said (stands names c.distinct.ensures (λ n name there. there))) (aside all said (stands all distinct more))
           (put names numbers) (put all (numbers_on names all _ statement.symbols more numbers)),

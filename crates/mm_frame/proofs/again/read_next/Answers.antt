@@ -1,6 +1,5 @@
 use Rattle.std.proofs.Common.{refl, ◌∙◌, subst}
-use Rattle.mm_frame.specs.Code.KnownItem.{IsSoundAgain}
-use Rattle.mm_frame.proofs.lemmas.base.TakenOverLemmas.{first_after}
+use Rattle.mm_frame.{specs.Code.KnownItem.{IsSoundAgain}, proofs.lemmas.base.TakenOverLemmas.{first_after}}
 use Rattle.mm_frame.proofs.again.read_next.Goals as goal
 
 pub take_over_known-requires-clause-known : goal.take_over_known-requires-clause-known

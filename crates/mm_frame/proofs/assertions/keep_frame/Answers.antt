@@ -1,6 +1,5 @@
 use Rattle.std.proofs.Common.{Some, None, ◌++◌, ◌∷◌, [], ◌∙◌, ap, sym, subst}
-use Rattle.mm_frame.specs.{Language.{Sound.{sound_items}, Answering.{AreRows, numbers_if}}, Code.KeptAssertions.{TellsFrame}}
-use Rattle.mm_frame.proofs.lemmas.base.BaseLemmas.{rows_more}
+use Rattle.mm_frame.{specs.{Language.{Sound.{sound_items}, Answering.{AreRows, numbers_if}}, Code.KeptAssertions.{TellsFrame}}, proofs.lemmas.base.BaseLemmas.{rows_more}}
 use Rattle.mm_frame.proofs.assertions.keep_frame.Goals as goal
 
 pub returns-then-not-framed-clause-frames : goal.returns-then-not-framed-clause-frames

@@ -1,14 +1,12 @@
-use Rattle.std.proofs.Common.{Some, None, ◌++◌, ◌∷◌, [], ◌∙◌, sym, subst}
-use Rattle.mm_frame.specs.{Language.{Sound.{sound_items}, Answering.{AreRows}}, Code.KeptAssertions.{TellsPairs}}
-use Rattle.mm_frame.proofs.lemmas.{base.BaseLemmas.{kept_are_sound}, pairs.PairListLemmas.{pairs_more, keeps_all, no_number, some_number}}
+use Rattle.std.proofs.{Common.{arith, Some, None, ◌++◌, ◌∷◌, [], ◌∙◌, sym, subst}, lemmas.Grind.{common_steps}}
+use Rattle.mm_frame.{specs.{Language.{Sound.{sound_items}, Answering.{AreRows}}, Code.KeptAssertions.{TellsPairs}}, proofs.lemmas.base.BaseLemmas.{kept_are_sound}}
+use Rattle.mm_frame.proofs.lemmas.pairs.PairListLemmas.{pairs_more, keeps_all, no_number, some_number}
 use Rattle.mm_frame.proofs.assertions.keep_pairs.Goals as goal
 
 pub returns-then-not-proof-clause-pairs : goal.returns-then-not-proof-clause-pairs
 returns-then-not-proof-clause-pairs c all said item a d m e rows =
     let lists = c.args.pair_lists.now in
-    subst (λ w. AreRows (TellsPairs all lists) (said ++ item ∷ []) w) (sym c.in_ok-pass.ensures)
-    (pairs_more all said item lists lists c.args.pairs.now None (keeps_all lists) rows (no_number all lists (sound_items said) item
-    (sym c.if-not-proof.true ∙ e)))
+    grind (arith, common_steps, pairs_more all said item lists lists c.args.pairs.now None (keeps_all lists) rows (no_number all lists (sound_items said) item (sym c.if-not-proof.true ∙ e))) steps 500000
 
 pub returns-clause-pairs : goal.returns-clause-pairs
 returns-clause-pairs c all said item a d m e rows =

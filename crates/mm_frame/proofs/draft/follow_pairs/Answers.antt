@@ -1,7 +1,7 @@
 use Rattle.std.proofs.{Common.{◌++◌, ◌∷◌, [], ◌∙◌, ap, sym, subst}, lemmas.Bool.{false≢true}}
 use Rattle.mm_statement.specs.Language.Item.{is_disjoint}
-use Rattle.mm_frame.specs.Code.{KeptPairTable.{KnowsPairs}, KeptScope.{taken}}
-use Rattle.mm_frame.proofs.{lemmas.pairs.PairTableLemmas.{pairs_passed, pairs_taken}, draft.follow_pairs.Goals.{else-sound-via-then-sound+else-is_disjoint, else-sound-via-else-sound}}
+use Rattle.mm_frame.{specs.Code.{KeptPairTable.{KnowsPairs}, KeptScope.{taken}}, proofs.lemmas.pairs.PairTableLemmas.{pairs_passed, pairs_taken}}
+use Rattle.mm_frame.proofs.draft.follow_pairs.Goals.{else-sound-via-then-sound+else-is_disjoint, else-sound-via-else-sound}
 use Rattle.mm_frame.proofs.draft.follow_pairs.Goals as goal
 
 pub returns-else-sound : goal.returns-else-sound

@@ -1,10 +1,6 @@
-use Rattle.std.proofs.{Common.{◌+◌, refl, take_all, subst, arith}, lemmas.List.{length_push}}
-use Rattle.mm_frame.specs.Code.Numbers.{AreNameNumbers}
-use Rattle.mm_frame.proofs.lemmas.{names.NumberLemmas.{begins_on}, base.BaseLemmas.{numbers_more, numbers_none}}
+use Rattle.std.proofs.{Common.{◌+◌, take_all, subst, arith}, lemmas.List.{length_push}}
+use Rattle.mm_frame.{specs.Code.Numbers.{AreNameNumbers}, proofs.lemmas.{names.NumberLemmas.{begins_on}, base.BaseLemmas.{numbers_more}}}
 use Rattle.mm_frame.proofs.draft.number_all.Goals as goal
-
-pub loop-n-init : goal.loop-n-init
-loop-n-init c = rw (c.clear.ensures.items) (λ n name there. there, refl, λ all more. numbers_none all)
 
 pub loop-n-preserved : goal.loop-n-preserved
 loop-n-preserved c =
@@ -26,12 +22,3 @@ returns c = record {
   numbers = λ all more. subst (AreNameNumbers all c.loop-n.numbers.items) (take_all c.loop-n.n c.args.statement.now.symbols (omega (arith, c.symbol_count-n-end.ensures, c.loop-n-test.false))) (c.loop-n.invariant.2 all more);
   grows = c.loop-n.invariant.0;
 }
-
-pub returns-in_err-number-clause-grows : goal.returns-in_err-number-clause-grows
-returns-in_err-number-clause-grows c = begins_on _ _ _ c.loop-n.invariant.0 c.intern.ensures.grows
-
-pub returns-in_err-push-clause-grows : goal.returns-in_err-push-clause-grows
-returns-in_err-push-clause-grows c = begins_on _ _ _ c.loop-n.invariant.0 c.intern.ensures.grows
-
-pub symbol-requires : goal.symbol-requires
-symbol-requires c = omega (arith, c.symbol_count-n-end.ensures)

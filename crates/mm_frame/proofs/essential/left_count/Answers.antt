@@ -1,6 +1,5 @@
 use Rattle.std.proofs.Common.{◌≡◌, suc, ◌-◌, ◌<◌, false, drop, arith, refl, sym, subst, inl, inr, Contains}
-use Rattle.mm_frame.specs.declared.essential.EssentialVariable.{EssentialVariable}
-use Rattle.mm_frame.proofs.lemmas.frames.VariableLemmas.{one_gone}
+use Rattle.mm_frame.{specs.declared.essential.EssentialVariable.{EssentialVariable}, proofs.lemmas.frames.VariableLemmas.{one_gone}}
 use Rattle.mm_frame.proofs.essential.left_count.Goals as goal
 
 pub loop-count-preserved : goal.loop-count-preserved

@@ -1,10 +1,7 @@
-use Rattle.std.proofs.Common.{rules, ◌≡◌, ◌<◌, ◌≤◌, ◌+◌, length, map, take_all, get_or, refl, [], sym, ◌∙◌, subst, arith}
-use Rattle.mm_frame.specs.Code.{KeptSymbols.{symbol_by}, KnownItem.{numbers_of}}
-use Rattle.mm_frame.proofs.lemmas.{faults.FaultLemmas.{none_left, passes_more, expression_is}, names.KnownSymbols.{named_number, sorts_more}}
+use Rattle.std.proofs.{lemmas.Grind.{common_steps}, Common.{◌<◌, ◌+◌, length, get_or, [], sym, ◌∙◌, arith}}
+use Rattle.mm_frame.{specs.Code.{KeptSymbols.{symbol_by}, KnownItem.{numbers_of}}, proofs.lemmas.faults.FaultLemmas.{none_left, passes_more, expression_is}}
+use Rattle.mm_frame.proofs.lemmas.names.KnownSymbols.{named_number, sorts_more}
 use Rattle.mm_frame.proofs.judge.are_right.Goals as goal
-
-pub loop-n-init : goal.loop-n-init
-loop-n-init c = (search rules, refl)
 
 pub loop-n-preserved : goal.loop-n-preserved
 loop-n-preserved c =
@@ -20,11 +17,7 @@ loop-n-preserved c =
 
 pub returns-clause-faults : goal.returns-clause-faults
 returns-clause-faults c t =
-    let symbols = c.args.symbols.now in
-    let past : length c.args.statement.now.symbols ≤ c.loop-n.n = omega (arith, c.loop-n-test.false, c.requires.count) in
-    none_left c.args.statement.now (numbers_of symbols) c.loop-n.n past c.loop-n.invariant.0
+    none_left c.args.statement.now (numbers_of c.args.symbols.now) c.loop-n.n (omega (arith, c.loop-n-test.false, c.requires.count)) c.loop-n.invariant.0
 
 pub returns-clause-sorts : goal.returns-clause-sorts
-returns-clause-sorts c t =
-    let symbols = c.args.symbols.now in
-    subst (λ w. map (symbol_by c.args.scope.now.tables) (numbers_of w) ≡ w) (take_all c.loop-n.n symbols c.loop-n-test.false) c.loop-n.invariant.1
+returns-clause-sorts c t = grind (arith, common_steps) steps 200000

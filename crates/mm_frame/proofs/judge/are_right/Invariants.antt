@@ -1,6 +1,5 @@
 use Rattle.std.proofs.Common.{◌≡◌, map, take}
-use Rattle.mm_frame.specs.Code.{KeptSymbols.{symbol_by}, KnownItem.{numbers_of}}
-use Rattle.mm_frame.proofs.lemmas.faults.FaultLemmas.{Passes}
+use Rattle.mm_frame.{specs.Code.{KeptSymbols.{symbol_by}, KnownItem.{numbers_of}}, proofs.lemmas.faults.FaultLemmas.{Passes}}
 use Rattle.mm_frame.proofs.judge.are_right.Given as goal
 
 abbrev pub invariant-loop-n : goal.invariant-loop-n

@@ -1,11 +1,6 @@
 use Rattle.std.proofs.Common.{◌≡◌, ◌<◌, ◌+◌, suc, length, get_or, refl, sym, ◌∙◌, ap, arith}
-use Rattle.mm_statement.specs.Language.Item.{is_expression}
-use Rattle.mm_frame.specs.Code.FaultInOrder.{must_differ}
-use Rattle.mm_frame.proofs.lemmas.{names.NumberLemmas.{number_at}, faults.FaultLemmas.{none_left, fault_there, passes_more, repeated_by_number, sees_next}}
+use Rattle.mm_frame.{specs.Code.FaultInOrder.{must_differ}, proofs.lemmas.{names.NumberLemmas.{number_at}, faults.FaultLemmas.{none_left, fault_there, passes_more, repeated_by_number, sees_next}}}
 use Rattle.mm_frame.proofs.judge.symbols_fault.Goals as goal
-
-pub expression_symbols_fault-requires-clause-expression : goal.expression_symbols_fault-requires-clause-expression
-expression_symbols_fault-requires-clause-expression c = sym (c.has_expression.ensures ∙ ap is_expression c.kind.ensures.kind) ∙ c.if-has_expression.true
 
 pub returns-in-Some : goal.returns-in-Some
 returns-in-Some c =

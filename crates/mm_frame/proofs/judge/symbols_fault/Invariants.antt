@@ -1,6 +1,5 @@
 use Rattle.std.proofs.Common.{◌≡◌, true, take}
-use Rattle.mm_frame.specs.Code.SeenNumbers.{HasSeen}
-use Rattle.mm_frame.proofs.lemmas.faults.FaultLemmas.{Passes}
+use Rattle.mm_frame.{specs.Code.SeenNumbers.{HasSeen}, proofs.lemmas.faults.FaultLemmas.{Passes}}
 use Rattle.mm_frame.proofs.judge.symbols_fault.Given as goal
 
 abbrev pub invariant-loop-n : goal.invariant-loop-n

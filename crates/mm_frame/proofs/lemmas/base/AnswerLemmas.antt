@@ -1,28 +1,27 @@
 -- What a base says, from what is kept, and that it is right.
-use Rattle.std.proofs.Common.{◌≡◌, ◌↔◌, ℕ, zero, suc, ◌≤◌, Bool, true, false, ◌&&◌, Option, Some, None, List, [], ◌∷◌, length, map, take, slice_get, nat_eq, is_none, is_some, refl, sym, ◌∙◌, ap}
-use Rattle.std.proofs.Common.{subst, arith, inl, inr, All, IfSome}
-use Rattle.std.proofs.lemmas.{List.{length-map, Elements.{All-nil}}, Bool.{false≢true, and_from, and_parts, Decides.{Decides-eqb}}, Option.{slice_get-map, slice_get_within, slice_get_cases}}
-use Rattle.std.specs.{Borrow.{Bor}, Option.{option_map, option_eq}, List.{AllZip}}
-use Rattle.mm_frame.specs.declared.{FrameNumber.{FrameNumber}, draft.{Frame.{Frame}, Parts.{Parts}}, base.Base.TheInside.{Inside}, pair_lists.PairLists.{PairLists}}
-use Rattle.mm_frame.specs.Language.{Sound.{sound_items}, Framing.{active_pairs, expression, frame}, Base.{BaseView, before, said_at, told_fault, fault_at, is_sound_at, is_proof_at}}
-use Rattle.mm_frame.specs.Language.{Resolving.{IsCarrier}, Answering.{AreRows, IsLabelTold, IsExpressionTold, IsFrameTold, AreActiveTold, BaseAnswers, IsBaseBy, is_told_proof}}
+use Rattle.std.proofs.lemmas.{Grind.{common_steps}, List.{length-map, Elements.{All-nil}}, Bool.{false≢true, and_from, and_parts, Decides.{Decides-eqb}}}
+use Rattle.std.proofs.lemmas.Option.{slice_get-map, slice_get_within, slice_get_cases}
+use Rattle.std.proofs.Common.{◌≡◌, ◌↔◌, ℕ, zero, suc, ◌≤◌, true, false, ◌&&◌, Option, Some, None, List, [], ◌∷◌, length, map, take, slice_get, nat_eq, is_none, is_some, refl, sym, ◌∙◌, ap, subst}
+use Rattle.std.{proofs.Common.{arith, All, IfSome}, specs.{Borrow.{Bor}, Option.{option_map, option_eq}, List.{AllZip}}}
+use Rattle.mm_frame.specs.{declared.{FrameNumber.{FrameNumber}, draft.{Frame.{Frame}, Parts.{Parts}}, base.Base.TheInside.{Inside}, pair_lists.PairLists.{PairLists}}, Language.Sound.{sound_items}}
+use Rattle.mm_frame.specs.Language.{Framing.{active_pairs, expression, frame}, Base.{BaseView, before, said_at, fault_at, is_sound_at, is_proof_at}, Resolving.{IsCarrier}}
+use Rattle.mm_frame.specs.Language.Answering.{AreRows, IsLabelTold, IsExpressionTold, IsFrameTold, AreActiveTold, BaseAnswers, IsBaseBy, is_told_proof}
 use Rattle.mm_frame.specs.Code.{KeptSymbols.{AreSymbols, expression_kept, kept_or_none}, KeptTables.{table_label}, KeptPairLists.{list_kept}, BaseInside.{answers_of}}
 use Rattle.mm_frame.specs.Code.{KeptRows.{rows_of, row_label, row_fault, is_shown_in}, KeptAssertions.{TellsFrame, TellsPairs}, KeptBase.{AreParts, is_float_item, frame_told, list_told}}
 use Rattle.mm_frame.specs.Code.KeptSparse.{value_or_none, value_kept}
-use Rattle.mm_machine.specs.declared.symbol.NumberedSymbol.{NumberedSymbol}
-use Rattle.mm_machine.specs.Language.{Names.{AreDistinct}, Frame.{Symbol, AreSamePairs}, NumberedSymbols.{symbols_of, kept_pairs, IsNumbered, ArePairsRead}}
-use Rattle.mm_statement.specs.Language.Item.{Item, passed, is_floating, is_labelled, is_read, item_at}
 use Rattle.mm_frame.proofs.lemmas.base.BaseLemmas.{row_none, item_beyond, fault_beyond, frame_beyond, shown_is, not_shown, kept_count, symbols_there, read_there, labelled_there}
-use Rattle.mm_frame.proofs.lemmas.base.ResolvingLemmas.{carrier_found, found_carrier}
-use Rattle.mm_frame.proofs.lemmas.{frames.FrameNumbers.{HasKind}, pairs.{PairListLemmas.{list_read, list_in_order}, SharedPairs.{same_turned, same_joined}}}
+use Rattle.mm_frame.proofs.lemmas.{base.ResolvingLemmas.{carrier_found, found_carrier}, frames.FrameNumbers.{HasKind}, pairs.PairListLemmas.{list_read, list_in_order}}
+use Rattle.mm_frame.proofs.lemmas.pairs.SharedPairs.{same_turned, same_joined}
+use Rattle.mm_machine.specs.{declared.symbol.NumberedSymbol.{NumberedSymbol}, Language.{Names.{AreDistinct}, Frame.{Symbol, AreSamePairs}}}
+use Rattle.mm_machine.specs.Language.NumberedSymbols.{symbols_of, kept_pairs, IsNumbered, ArePairsRead}
+use Rattle.mm_statement.specs.Language.Item.{Item, is_floating, is_labelled, is_read, item_at}
 use Rattle.mm_store.specs.declared.item.Item as store
 
 -- ---- rows that are reported, from rows that are kept
 
 -- what is lent gives what is kept
 pub lent_told : {L X Y : Type 0} (now : L → X) (f : X → Y) (lent : Option L) (kept : Option X) → option_map now lent ≡ kept → option_map (λ l. f (now l)) lent ≡ option_map f kept
-lent_told now f None kept e = ap (option_map f) e
-lent_told now f (Some l) kept e = ap (option_map f) e
+lent_told now f lent kept e = grind (arith, common_steps) steps 200000
 
 -- an element that is reported is one that is kept
 told_from : {X Y : Type 0} (f : X → Y) (xs : List X) (n : ℕ) (y : Y) → slice_get (map f xs) n ≡ Some y → (x : X) × (slice_get xs n ≡ Some x) × (f x ≡ y)
@@ -32,19 +31,14 @@ told_from f (x ∷ xs) (suc n) y e = told_from f xs n y e
 
 rows_told : {X Y : Type 0} (f : X → Y) (tells : List Item → Item → X → Type 0) (told : List Item → Item → Y → Type 0) → ((front : List Item) (item : Item) (x : X) → tells front item x → told front item (f x))
     → (said : List Item) (rows : List X) → AreRows tells said rows → AreRows told said (map f rows)
-rows_told f tells told step said rows are = record {
-  count = length-map rows f ∙ are.count;
-  each = λ n y e. (let r = told_from f rows n y e in subst (told (sound_items (take n said)) (item_at said n)) r.2 (step (sound_items (take n said)) (item_at said n) r.0 (are.each n r.0 r.1)));
-}
+rows_told f tells told step said rows are = grind (arith, common_steps, length-map rows f, are.each, told_from) steps 200000
 
 -- the frame
 pub hypotheses_told : (kept : Option Frame) → option_map (λ it. it.0) (frame_told kept) ≡ option_map (λ (frame : Frame). frame.hypotheses.items) kept
-hypotheses_told None = refl
-hypotheses_told (Some kept) = refl
+hypotheses_told kept = grind (arith, common_steps) steps 200000
 
 frames_told : (all : List (List ℕ)) (front : List Item) (item : Item) (kept : Option Frame) → TellsFrame all front item kept → IsFrameTold all front item (frame_told kept)
-frames_told all front item None t = record { hypotheses = t.hypotheses; pairs = tt }
-frames_told all front item (Some kept) t = record { hypotheses = t.hypotheses; pairs = t.pairs }
+frames_told all front item kept t = grind (arith, common_steps) steps 200000
 
 -- all active pairs
 actives_told : (all : List (List ℕ)) (lists : PairLists) (front : List Item) (item : Item) (number : Option ℕ) → TellsPairs all lists front item number → AreActiveTold all front item (list_told lists number)
@@ -65,12 +59,7 @@ expressions_told all base expressions are = record {
 -- ---- what is reported at a number
 
 row_there : {X : Type 0} (tells : List Item → Item → X → Type 0) (said : List Item) (rows : List X) (i : ℕ) → AreRows tells said rows → slice_get said i ≡ Some (item_at said i) → (row : X) × (slice_get rows i ≡ Some row)
-row_there tells said rows i are t =
-    let within = slice_get_within said i (item_at said i) t in
-    elim (slice_get_cases rows i).1 [
-      | inl there ↦ (there.0, there.2)
-      | inr past ↦ (absurd (omega arith))
-    ]
+row_there tells said rows i are t = grind (arith, common_steps, slice_get_within said i (item_at said i) t, slice_get_cases rows i) steps 200000
 
 -- the symbols that are kept of a sound item
 pub expression_read : (all : List (List ℕ)) (base : BaseView) (expressions : List (List NumberedSymbol)) (i : ℕ) → AreRows (IsExpressionTold all) base.said expressions → (is_sound_at base i && is_read (said_at base i).kind) ≡ true
@@ -89,16 +78,11 @@ expression_numbered all said expressions i are = by (slice_get expressions i) re
 -- the pairs of a frame that is lent
 pub order_told : (all : List (List ℕ)) (pairs : List (Symbol × Symbol)) (lent : Option (Bor Frame)) (kept : Option Frame) → option_map (λ frame. frame.now) lent ≡ kept → IfSome (frame_told kept) (λ it. ArePairsRead all pairs it.1)
     → IfSome lent (λ frame. ArePairsRead all pairs frame.now.pairs.items)
-order_told all pairs None kept e told = tt
-order_told all pairs (Some frame) kept e told = subst (λ o. IfSome (frame_told o) (λ it. ArePairsRead all pairs it.1)) (sym e) told
+order_told all pairs lent kept e told = grind (arith, common_steps) steps 200000
 
 -- all active pairs at an item, by the number of their list
 proof_beyond : (front said : List Item) (n : ℕ) → length said ≤ n → is_told_proof front (item_at said n) ≡ false
-proof_beyond front said n l = ap (is_told_proof front) (item_beyond said n l) ∙ and_false (is_none (told_fault front passed))
-  where
-    and_false : (b : Bool) → (b && false) ≡ false
-    and_false true = refl
-    and_false false = refl
+proof_beyond front said n l = grind (arith, common_steps, item_beyond) steps 200000
 
 -- what is kept of an item is right of it, if the answer for no row is right past the last item
 told_at : {X Y : Type 0} (f : Option X → Y) (told : List Item → Item → Y → Type 0) (said : List Item) (kept : List (Option X)) → AreRows told said (map f kept) → (i : ℕ) → (length said ≤ i → told (sound_items (take i said)) (item_at said i) (f None))
@@ -128,8 +112,7 @@ pub shared_told : (all : List (List ℕ)) (lists : PairLists) (base : BaseView) 
 shared_told all lists base i j None yours a b s e = absurd (false≢true (a.some ∙ s))
 shared_told all lists base i j (Some k) None a b s e = absurd (false≢true e)
 shared_told all lists base i j (Some k) (Some l) a b s e =
-    let same : k ≡ l = (Decides-eqb k l).0 e in
-    let mine = subst (λ n. AreSamePairs (kept_pairs all (list_kept lists n)) (active_pairs (before base i))) same a.pairs.pairs in
+    let mine = subst (λ n. AreSamePairs (kept_pairs all (list_kept lists n)) (active_pairs (before base i))) ((Decides-eqb k l).0 e) a.pairs.pairs in
     same_joined (active_pairs (before base i)) (kept_pairs all (list_kept lists l)) (active_pairs (before base j)) (same_turned (kept_pairs all (list_kept lists l)) (active_pairs (before base i)) mine) b.pairs.pairs
 
 -- past the last item none is a `$f`
@@ -142,8 +125,7 @@ float_none _ _ i z e = absurd z
 -- ---- the item that carries a label
 
 none_is : {X : Type 0} (o : Option X) → is_none o ≡ true → o ≡ None
-none_is None e = refl
-none_is (Some x) e = absurd (false≢true e)
+none_is o e = grind (arith, common_steps) steps 200000
 
 pub carrier_told : (base : BaseView) (rows : List (Option (List ℕ) × Option (ℕ × FrameNumber))) → AreRows IsLabelTold base.said rows → (label : List ℕ) (j : ℕ) → (slice_get rows j ≡ Some (Some label, None)) ↔ IsCarrier base label j
 carrier_told base rows are label j = (to, from)
@@ -163,8 +145,7 @@ carrier_told base rows are label j = (to, from)
 -- the tables know it
 pub labels_told : (all : List (List ℕ)) (base : BaseView) (parts : Parts) → AreParts all base.said parts → (label : List ℕ) (j : ℕ) → (table_label parts.tables label ≡ Some j) ↔ (slice_get (rows_of parts.rows) j ≡ Some (Some label, None))
 labels_told all base parts are label j =
-    let told = carrier_told base (rows_of parts.rows) are.rows label j in
-    (λ e. told.1 (found_carrier base label j (sym (are.labels label) ∙ e)), λ t. are.labels label ∙ carrier_found base label j (told.0 t))
+    grind (arith, common_steps, carrier_told base (rows_of parts.rows) are.rows label j, are.labels label, (carrier_told base (rows_of parts.rows) are.rows label j).0, found_carrier, carrier_found) steps 200000
 
 -- the label and the fault of an item, and whether it is a sound one that has a label
 pub label_told : (base : BaseView) (rows : List (Option (List ℕ) × Option (ℕ × FrameNumber))) → AreRows IsLabelTold base.said rows → (i : ℕ) → row_label (slice_get rows i) ≡ (said_at base i).label

@@ -1,21 +1,17 @@
 -- Rows kept of the items, one more item, and what a base answers.
-use Rattle.std.proofs.Common.{◌≡◌, ℕ, zero, suc, ◌<◌, ◌≤◌, Bool, true, Option, Some, None, List, [], ◌∷◌, ◌++◌, length, take, drop, slice_get, append_assoc, IfSome, All, append-nil, ◌&&◌, ◌||◌, cond}
-use Rattle.std.proofs.Common.{get_or, is_none, is_some, not, false, refl, sym, ◌∙◌, ap, subst, arith, inl, inr}
-use Rattle.std.proofs.lemmas.{Bool.{false≢true, and_from, and_parts}, List.{length_push, get_or_push, take-append-le, length-take-le, Elements.{All-nil}}}
+use Rattle.std.proofs.lemmas.{Grind.{common_steps}, Bool.{false≢true, and_from, and_parts}, List.{length_push, get_or_push, take-append-le, length-take-le, Elements.{All-nil}}}
 use Rattle.std.proofs.lemmas.Option.{slice_get_within, slice_get_cases, none-some}
-use Rattle.std.proofs.Math.{ListN.{get_or-append}, Seq.{take-suc}}
-use Rattle.std.specs.{Option.{option_map}, List.{AllZip}}
-use Rattle.mm_frame.specs.declared.FrameNumber.{FrameNumber}
-use Rattle.mm_frame.specs.Language.{Sound.{IsSound, AreSound, fault, judged, sound_items, sound_items_after}, Framing.{expression}, Scope.{Mark, Closes, mark_of, closes, active_numbers}}
-use Rattle.mm_frame.specs.Language.Base.{BaseView, before, said_at, fault_by, told_fault, is_sound_at, expression_at, is_framed_at, frame_at}
-use Rattle.mm_frame.specs.Language.Answering.{told_numbers, numbers_if, AreRows, pairs_in_order}
-use Rattle.mm_frame.specs.Code.{Numbers.{IsNameNumber, AreNameNumbers}, KeptSymbols.{expression_kept, kept_or_none, AreSymbols}, LastItems.{IsSort}, KeptScope.{taken}}
-use Rattle.mm_frame.specs.Code.KeptActiveItems.{changes_active}
+use Rattle.std.proofs.Common.{◌≡◌, ℕ, zero, suc, ◌<◌, ◌≤◌, Bool, true, Option, Some, None, List, [], ◌∷◌, ◌++◌, length, take, drop, slice_get, IfSome, All, append-nil, ◌&&◌, ◌||◌, cond, get_or}
+use Rattle.std.{proofs.{Common.{is_none, is_some, not, false, refl, sym, ◌∙◌, ap, subst, arith, inl, inr}, Math.{ListN.{get_or-append}, Seq.{take-suc}}}, specs.{Option.{option_map}, List.{AllZip}}}
+use Rattle.mm_frame.specs.{declared.FrameNumber.{FrameNumber}, Language.{Sound.{IsSound, AreSound, fault, judged, sound_items, sound_items_after}, Framing.{expression}}}
+use Rattle.mm_frame.specs.Language.{Scope.{Mark, Closes, mark_of, closes, active_numbers}, Base.{BaseView, before, said_at, fault_by, told_fault, is_sound_at, expression_at, is_framed_at, frame_at}}
+use Rattle.mm_frame.specs.{Language.Answering.{told_numbers, AreRows, pairs_in_order}, Code.{Numbers.{IsNameNumber, AreNameNumbers}, KeptSymbols.{expression_kept, kept_or_none, AreSymbols}}}
+use Rattle.mm_frame.{specs.Code.{LastItems.{IsSort}, KeptScope.{taken}, KeptActiveItems.{changes_active}}, proofs.lemmas.frames.{Frames.{essential_neither}, HypothesisNumbers.{active_numbers_more}}}
+use Rattle.mm_frame.proofs.lemmas.pairs.{FramePairs.{same_pairs}, ActivePairLemmas.{disjoint_neither, get_between}}
+use Rattle.mm_frame.proofs.lemmas.{faults.FoundFaults.{no_fault_sound, sound_found, passed_sound, kept_is_sound, kept_next, kept_after_append}, scope.SoundItems.{kept_sound, split_at}}
+use Rattle.mm_frame.proofs.lemmas.{scope.{TableLemmas.{item_between, take_between}, BlockLemmas.{get_cases, get_last}}, names.NamedLemmas.{get_before}}
 use Rattle.mm_machine.specs.{declared.symbol.NumberedSymbol.{NumberedSymbol}, Language.{NumberedSymbols.{symbols_of, kept_pairs, IsNumbered, IsPairNumbered, ArePairsRead}, Frame.{AreSamePairs}}}
-use Rattle.mm_statement.specs.Language.Item.{Kind, Disjoint, Essential, Axiom, Theorem, BlockEnd, Missing, Item, passed, is_labelled, is_disjoint, is_read, is_assertion, is_essential, item_at}
-use Rattle.mm_frame.proofs.lemmas.{frames.{Frames.{essential_neither}, HypothesisNumbers.{active_numbers_more}}, pairs.{FramePairs.{same_pairs}, ActivePairLemmas.{disjoint_neither, get_between}}}
-use Rattle.mm_frame.proofs.lemmas.faults.FoundFaults.{no_fault_sound, sound_found, passed_sound, kept_is_sound, kept_next, kept_after_append}
-use Rattle.mm_frame.proofs.lemmas.{scope.{SoundItems.{kept_sound, split_at}, TableLemmas.{item_between, take_between}, BlockLemmas.{get_cases, get_last}}, names.NamedLemmas.{get_before}}
+use Rattle.mm_statement.specs.Language.Item.{Kind, Disjoint, Essential, BlockEnd, Missing, Item, passed, is_labelled, is_disjoint, is_read, is_assertion, is_essential, item_at}
 
 pub item_before : (said : List Item) (item : Item) (n : ℕ) → n < length said → item_at (said ++ item ∷ []) n ≡ item_at said n
 item_before [] item n l = absurd (omega arith)
@@ -58,12 +54,10 @@ kept_are_sound said = kept_sound (sound_items said) (kept_is_sound said)
 -- an item is kept as it is if no fault was found
 pub kept_taken : {X : Type 0} (told : X → ℕ × FrameNumber) (said : List Item) (item : Item) (found : Option X)
     → option_map told found ≡ fault (sound_items said) item → sound_items said ++ taken (is_none found) item ∷ [] ≡ sound_items (said ++ item ∷ [])
-kept_taken told said item None e = ap (λ o. sound_items said ++ judged item o ∷ []) e ∙ sym (kept_next said item)
-kept_taken told said item (Some f) e = ap (λ o. sound_items said ++ judged item o ∷ []) e ∙ sym (kept_next said item)
+kept_taken told said item found e = grind (arith, common_steps, kept_next) steps 200000
 
 pub sound_found_none : {X : Type 0} (told : X → ℕ × FrameNumber) (before : List Item) (item : Item) (found : Option X) → option_map told found ≡ fault before item → is_none found ≡ true → IsSound before item
-sound_found_none told before item None e t = no_fault_sound before item (sym e)
-sound_found_none told before item (Some f) e t = absurd (false≢true t)
+sound_found_none told before item found e t = grind (arith, common_steps, false≢true, no_fault_sound) steps 200000
 
 -- past the last item there is no fault
 pub fault_beyond : (before said : List Item) (n : ℕ) → length said ≤ n → told_fault before (item_at said n) ≡ None
@@ -78,13 +72,7 @@ zip_more R (x ∷ xs) _ _ d y l z r = absurd z
 
 -- if there is no row there is no item
 pub row_none : {X : Type 0} (tells : List Item → Item → X → Type 0) (said : List Item) (rows : List X) (n : ℕ) → AreRows tells said rows → slice_get rows n ≡ None → length said ≤ n
-row_none tells said rows n a e = let w = none_beyond rows n e in omega arith
-  where
-    none_beyond : {Y : Type 0} (ys : List Y) (k : ℕ) → slice_get ys k ≡ None → length ys ≤ k
-    none_beyond ys k e = elim (slice_get_cases ys k).1 [
-      | inl there ↦ absurd (none-some there.0 (sym e ∙ there.2))
-      | inr past ↦ past.0
-    ]
+row_none tells said rows n a e = grind (arith, common_steps, none-some, slice_get_cases) steps 200000
 
 pub none_found : {X : Type 0} (found : Option X) (none : Bool) → is_some found ≡ not none → is_none found ≡ none
 none_found found true e = ap not e
@@ -92,12 +80,7 @@ none_found found false e = ap not e
 
 -- if none is found, none is reported
 pub none_is_told : {X Y : Type 0} (told : X → Y) (found : Option X) (other : Option Y) → option_map told found ≡ other → is_some found ≡ false → is_none other ≡ true
-none_is_told told None other e n = ap is_none (sym e)
-none_is_told told (Some x) other e n = absurd (false≢true (sym n))
-
-pub some_is_told : {X Y : Type 0} (told : X → Y) (found : Option X) (other : Option Y) → option_map told found ≡ other → is_some found ≡ true → is_none other ≡ false
-some_is_told told None other e n = absurd (false≢true n)
-some_is_told told (Some x) other e n = ap is_none (sym e)
+none_is_told told found other e n = grind (arith, common_steps) steps 200000
 
 -- one more item, with the symbols that are kept for it
 pub symbols_more : (all : List (List ℕ)) (before : List Item) (item : Item) (expressions : List (List NumberedSymbol)) (symbols : List NumberedSymbol) → AreSymbols all before expressions → All (IsNumbered all) symbols
@@ -106,8 +89,7 @@ symbols_more all before item expressions symbols a numbers new = record {
   count = (let p = length_push expressions symbols in let q = length_push before item in omega arith);
   numbered = λ n. by_place n (slice_get (expressions ++ symbols ∷ []) n) refl;
   each = λ n x e t. elim (get_cases before item x n e) [
-    | inl there ↦ (let w = slice_get_within before n x there in
-        ap (λ o. symbols_of all (kept_or_none o)) (get_before expressions symbols n (omega arith)) ∙ a.each n x there t ∙ ap (λ (w : List Item). expression w x) (sym (take-append-le n before (item ∷ []) (omega arith))))
+    | inl there ↦ grind (arith, common_steps, get_before, slice_get_within, take-append-le) steps 200000
     | inr last ↦ (let z = last.0 in
         ap (λ k. symbols_of all (expression_kept (expressions ++ symbols ∷ []) k)) (z ∙ sym a.count) ∙ ap (λ o. symbols_of all (kept_or_none o)) (get_last expressions symbols (length expressions) refl)
         ∙ new (ap (λ (w : Item). is_read w.kind) last.1 ∙ t) ∙ (λ i. expression (sym (ap (λ k. take k (before ++ item ∷ [])) z ∙ take_between before item []) i) (last.1 i)))
@@ -129,10 +111,7 @@ symbols_taken all before item symbols false h t = absurd (false≢true t)
 -- where an item is among what is kept
 kept_after_front : (before items : List Item) → (rest : List Item) × (sound_items_after before items ≡ before ++ rest) × (length rest ≡ length items)
 kept_after_front before [] = ([], sym (append-nil before), refl)
-kept_after_front before (item ∷ items) =
-    let one = judged item (fault before item) in
-    let r = kept_after_front (before ++ one ∷ []) items in
-    (one ∷ r.0, r.1 ∙ append_assoc before (one ∷ []) r.0, ap suc r.2)
+kept_after_front before (item ∷ items) = grind (arith, common_steps, kept_after_front (before ++ (judged item (fault before item)) ∷ []) items) steps 200000
 
 pub kept_count : (said : List Item) → length (sound_items said) ≡ length said
 kept_count said = let r = kept_after_front [] said in ap length r.1 ∙ r.2
@@ -146,45 +125,29 @@ pub kept_at : (said : List Item) (i : ℕ) (item : Item) → slice_get said i �
 kept_at said i item e =
     let front = take i said in
     let back = drop (suc i) said in
-    let one = judged item (fault (sound_items front) item) in
-    let r = kept_after_front (sound_items front ++ one ∷ []) back in
+    let r = kept_after_front (sound_items front ++ (judged item (fault (sound_items front) item)) ∷ []) back in
     let w = slice_get_within said i item e in
-    record {
-      rest = r.0;
-      whole = ap sound_items (split_at said i item e) ∙ kept_after_append [] front (item ∷ back) ∙ r.1 ∙ append_assoc (sound_items front) (one ∷ []) r.0;
-      number = kept_count front ∙ length-take-le i said (omega arith);
-    }
+    grind (arith, common_steps, split_at said i item e, kept_after_append [] front (item ∷ back), kept_count front, length-take-le i said (omega arith)) steps 200000
 
 pub kept_front_at : (said : List Item) (i : ℕ) (item : Item) → slice_get said i ≡ Some item → take i (sound_items said) ≡ sound_items (take i said)
 kept_front_at said i item e =
-    let k = kept_at said i item e in
-    ap (take i) k.whole ∙ ap (λ n. take n (sound_items (take i said) ++ judged item (fault (sound_items (take i said)) item) ∷ k.rest)) (sym k.number) ∙
-    take_between (sound_items (take i said)) (judged item (fault (sound_items (take i said)) item)) k.rest
+    grind (arith, common_steps, kept_at said i item e, take_between (sound_items (take i said)) (judged item (fault (sound_items (take i said)) item)) (kept_at said i item e).rest) steps 200000
 
 pub kept_item_at : (said : List Item) (i : ℕ) (item : Item) → slice_get said i ≡ Some item → fault (sound_items (take i said)) item ≡ None → slice_get (sound_items said) i ≡ Some item
-kept_item_at said i item e f =
-    let k = kept_at said i item e in
-    ap (λ n. slice_get (sound_items said) n) (sym k.number) ∙ ap (λ w. slice_get w (length (sound_items (take i said)))) (k.whole ∙ ap (λ o. sound_items (take i said) ++ judged item o ∷ k.rest) f) ∙ get_between (sound_items (take i said)) item k.rest
+kept_item_at said i item e f = grind (arith, common_steps, kept_at said i item e, get_between (sound_items (take i said)) item (kept_at said i item e).rest) steps 200000
 
 -- if a label is reported, no fault is reported exactly for a sound item
 pub none_told : (kind : Kind) (f : Option (ℕ × FrameNumber)) → is_none (fault_by kind f) ≡ true → f ≡ None
-none_told Missing f e = absurd (false≢true e)
-none_told _ None e = refl
-none_told _ (Some x) e = absurd (false≢true e)
+none_told kind f e = grind (arith, common_steps) steps 200000
 
 pub is_none_map : {X Y : Type 0} (f : X → Y) (o : Option X) → is_none (option_map f o) ≡ is_none o
-is_none_map f None = refl
-is_none_map f (Some x) = refl
+is_none_map f o = grind (arith, common_steps) steps 200000
 
 pub shown_is : (base : BaseView) (i : ℕ) (fault : Bool) (label : Bool) → fault ≡ is_sound_at base i → label ≡ is_labelled (said_at base i).kind → (fault && label) ≡ (is_sound_at base i && is_labelled (said_at base i).kind)
 shown_is base i fault label e g = λ j. e j && g j
 
 pub not_shown : (base : BaseView) (i : ℕ) → length base.said ≤ i → false ≡ (is_sound_at base i && is_labelled (said_at base i).kind)
-not_shown base i l = sym (ap (λ (w : Item). is_none (told_fault (before base i) w) && is_labelled w.kind) (item_beyond base.said i l) ∙ and_false (is_none (told_fault (before base i) passed)))
-  where
-    and_false : (b : Bool) → (b && false) ≡ false
-    and_false true = refl
-    and_false false = refl
+not_shown base i l = grind (arith, common_steps, item_beyond) steps 200000
 
 pub labelled_there : (said : List Item) (i : ℕ) → is_labelled (item_at said i).kind ≡ true → slice_get said i ≡ Some (item_at said i)
 labelled_there [] i e = absurd (false≢true e)
@@ -222,19 +185,14 @@ numbers_same test before item c e = sym (active_numbers_more test before item (n
 
 -- a test of kinds that a missing inclusion does not pass says of a sound item what it says of one with no fault
 told_kind : (test : Kind → Bool) → test Missing ≡ false → (kind : Kind) (f : Option (ℕ × FrameNumber)) → (is_none f && test kind) ≡ (is_none (fault_by kind f) && test kind)
-told_kind test e Missing None = e
-told_kind test e _ _ = refl
+told_kind test e kind f = grind (arith, common_steps) steps 200000
 
 pub told_as : (test : Kind → Bool) → test Missing ≡ false → (before : List Item) (item : Item) (flag kept : Bool) (kind : Kind) → kind ≡ item.kind → kept ≡ (flag && test kind)
     → is_none (fault before item) ≡ flag → kept ≡ (is_none (told_fault before item) && test item.kind)
 told_as test missing before item flag kept kind k e n = e ∙ (λ i. sym n i && test (k i)) ∙ told_kind test missing item.kind (fault before item)
 
 pub frame_beyond : (before said : List Item) (n : ℕ) → length said ≤ n → told_numbers before (item_at said n) ≡ None
-frame_beyond before said n l = ap (told_numbers before) (item_beyond said n l) ∙ none (is_none (told_fault before passed))
-  where
-    none : (b : Bool) → numbers_if (b && false) before passed ≡ None
-    none true = refl
-    none false = refl
+frame_beyond before said n l = grind (arith, common_steps, item_beyond) steps 200000
 
 pub numbers_still : (test : Kind → Bool) → IsSort test → (before : List Item) (item : Item) (sound : Bool) → (sound ≡ true → (test item.kind ≡ false) × (closes (mark_of item.kind) ≡ false))
     → active_numbers (λ i. test i.kind) before ≡ active_numbers (λ i. test i.kind) (before ++ taken sound item ∷ [])
@@ -261,9 +219,7 @@ none_fault told before item found e = ap is_none (sym e) ∙ is_none_map told fo
 
 -- what has a frame is sound, and an assertion, whose symbols are read
 assertion_read : (kind : Kind) → is_assertion kind ≡ true → is_read kind ≡ true
-assertion_read Axiom e = refl
-assertion_read Theorem e = refl
-assertion_read _ e = absurd (false≢true e)
+assertion_read kind e = grind (arith, common_steps) steps 200000
 
 pub framed_parts : (flag : Bool) (kind item_kind : Kind) → kind ≡ item_kind → (flag && is_assertion kind) ≡ true → (flag ≡ true) × (is_assertion item_kind ≡ true) × (is_read item_kind ≡ true)
 framed_parts flag kind item_kind k e = let p = and_parts flag (is_assertion kind) e in let a = sym (ap is_assertion k) ∙ p.1 in (p.0, a, assertion_read item_kind a)
@@ -283,24 +239,16 @@ ordered_pairs all kept base i (Some x) s e = subst (λ w. AreSamePairs w (frame_
 
 pub ordered_numbered : {X : Type 0} (all : List (List ℕ)) (kept : X → List (NumberedSymbol × NumberedSymbol)) (base : BaseView) (i : ℕ) (found : Option X)
     → IfSome found (λ x. ArePairsRead all (pairs_in_order (frame_at base i)) (kept x)) → IfSome found (λ x. All (IsPairNumbered all) (kept x))
-ordered_numbered all kept base i None e = tt
-ordered_numbered all kept base i (Some x) e = e.numbered
+ordered_numbered all kept base i found e = grind (arith, common_steps) steps 200000
 
 -- one more name with its number
 numbers_push : (all : List (List ℕ)) (numbers : List ℕ) (names : List (List ℕ)) (number : ℕ) (name : List ℕ) → AreNameNumbers all numbers names → IsNameNumber all number name → AreNameNumbers all (numbers ++ number ∷ []) (names ++ name ∷ [])
 numbers_push all numbers names number name a there = record {
   count = (let p = length_push numbers number in let q = length_push names name in omega arith);
-  each = λ i n e. elim (get_cases numbers number n i e) [
-    | inl old ↦ (let w = slice_get_within numbers i n old in subst (IsNameNumber all n) (sym (get_or-append names (name ∷ []) [] i (omega arith))) (a.each i n old))
-    | inr last ↦ (let here = get_or_push names name [] i (sym (last.0 ∙ a.count)) in subst (λ k. IsNameNumber all k (get_or (names ++ name ∷ []) i [])) last.1 (subst (IsNameNumber all number) (sym here) there))
-  ];
+  each = grind (arith, a.each, get_cases, slice_get_within, get_or-append, get_or_push) steps 200000;
 }
 
 pub numbers_more : (all : List (List ℕ)) (numbers : List ℕ) (names : List (List ℕ)) (n more number : ℕ) (name : List ℕ) → more ≡ suc n → n < length names
     → name ≡ get_or names n [] → AreNameNumbers all numbers (take n names) → IsNameNumber all number name
     → AreNameNumbers all (numbers ++ number ∷ []) (take more names)
-numbers_more all numbers names n more number name m l e a there =
-    subst (AreNameNumbers all (numbers ++ number ∷ [])) (sym (ap (λ k. take k names) m ∙ take-suc names n [] l ∙ ap (λ x. take n names ++ x ∷ []) (sym e))) (numbers_push all numbers (take n names) number name a there)
-
-pub numbers_none : (all : List (List ℕ)) → AreNameNumbers all [] []
-numbers_none all = record { count = refl; each = λ i n e. cc }
+numbers_more all numbers names n more number name m l e a there = grind (arith, common_steps, take-suc names n [] l, numbers_push all numbers (take n names) number name a there) steps 200000

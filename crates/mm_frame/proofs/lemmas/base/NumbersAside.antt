@@ -1,5 +1,5 @@
 -- The symbols of the last statement and their numbers, which a draft has aside.
-use Rattle.std.proofs.Common.{ℕ, List, OnOk, Result, Ok, Err}
+use Rattle.std.proofs.{Common.{arith, ℕ, List, OnOk, Result}, lemmas.Grind.{common_steps}}
 use Rattle.mm_frame.specs.{declared.draft.Draft.{Draft}, Code.{KeptAssertions.{AreAssertions}, KeptBase.{IsDraft, IsDraftApart}}}
 use Rattle.mm_statement.specs.Language.Item.{Item}
 
@@ -20,5 +20,4 @@ with_assertions all said draft d a = record { scope = d.scope; kept = d.kept; ro
 
 -- what two clauses of a call give together
 pub on_ok_both : {X Y P Q R : Type 0} (r : Result X Y) → (P → Q → R) → OnOk r P → OnOk r Q → OnOk r R
-on_ok_both (Ok x) f p q = f p q
-on_ok_both (Err y) f p q = p
+on_ok_both r f p q = grind (arith, common_steps) steps 200000

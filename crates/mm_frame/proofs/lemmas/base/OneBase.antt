@@ -1,12 +1,10 @@
 -- Files have one base: what the items say is a function of their words.
-use Rattle.std.proofs.Common.{◌≡◌, ℕ, List, [], ◌∷◌, Some, map, slice_get, slice_range, refl, sym, ap, ◌∙◌, subst, All}
-use Rattle.std.proofs.lemmas.{List.Elements.{recursion_from_All}, Option.{slice_get-map, same_Some}, Simd.{map-map}}
-use Rattle.std.specs.{List.{AllByRecursion, AllZip}, Option.{option_map}}
-use Rattle.mm_store.specs.mm_text.{declared.word.Word.{Word}, Language.{Reading.{HasWords}, Unit.{tokens_of}}}
-use Rattle.mm_store.specs.Language.{Pieces.{Pieces, text_in, text_under}, FilesView.{PieceView, KeyedFile, FileView, FilesView, files_in, file_view, piece_view, without_keys, File, plain, plain_file}}
-use Rattle.mm_store.specs.Language.{FileFacts.{CanBeRead, StandsIn}, Expansion.{IsExpansion}, Keyless.{keyless_item}}
+use Rattle.std.proofs.{Common.{arith, ◌≡◌, ℕ, List, [], ◌∷◌, Some, map, slice_get, slice_range, refl, sym, ap, ◌∙◌, subst, All}, lemmas.{Grind.{common_steps}, List.Elements.{recursion_from_All}}}
+use Rattle.std.{proofs.lemmas.{Option.{slice_get-map, same_Some}, Simd.{map-map}}, specs.{List.{AllByRecursion, AllZip}, Option.{option_map}}}
+use Rattle.mm_store.specs.{mm_text.{declared.word.Word.{Word}, Language.Reading.{HasWords}}, Language.Pieces.{text_in, text_under}}
+use Rattle.mm_store.specs.Language.{FilesView.{FileView, FilesView, files_in, file_view, without_keys, plain}, FileFacts.{CanBeRead, StandsIn}, Expansion.{IsExpansion}, Keyless.{keyless_item}}
 use Rattle.mm_frame.specs.Language.{Base.{BaseView, IsOfFiles}, Laws.{AreAlikeBases}}
-use Rattle.mm_statement.specs.Language.{Item.{Item}, Statement.{Says, kind_of, item_of}}
+use Rattle.mm_statement.specs.Language.{Item.{Item}, Statement.{Says}}
 use Rattle.mm_store.specs.declared.item.Item as store
 
 -- what is known of every text and of all files
@@ -24,14 +22,8 @@ same_at f g xs ys m n x y same number at there =
     same_Some (f x) (g y) (cc)
 
 -- a file with keys and texts means what it means by its keys
-file_means : (pieces : Pieces) (file : KeyedFile) → without_keys (file_view pieces file) ≡ plain_file pieces file
-file_means pieces file =
-    ap (λ texts. record { name = file.name; pieces = texts; tail = file.tail }) (map-map (λ (piece : PieceView). piece.text) (piece_view pieces) file.keys)
-
 means : (files : FilesView) → map without_keys (files_in files) ≡ plain files
-means files =
-    map-map without_keys (file_view files.pieces) files.keyed
-    ∙ (λ i. map (λ file. file_means files.pieces file i) files.keyed)
+means files = grind (arith, common_steps, map-map without_keys (file_view files.pieces) files.keyed, map-map) steps 200000
 
 -- an item of each of two lists of files that mean the same, the same but for its key
 record AreAlike (a b : FilesView) (x y : store.Item) : Type 0 where
@@ -42,13 +34,7 @@ record AreAlike (a b : FilesView) (x y : store.Item) : Type 0 where
 
 -- their pieces have the same text
 same_piece : (a b : FilesView) (x y : store.Item) → AreAlike a b x y → text_under a.pieces x.key.at ≡ text_under b.pieces y.key.at
-same_piece a b x y alike =
-    let s = alike.first in
-    let t = alike.second in
-    let file : plain_file a.pieces s.file ≡ plain_file b.pieces t.file =
-    same_at (plain_file a.pieces) (plain_file b.pieces) a.keyed b.keyed x.file y.file s.file t.file alike.files (ap (λ (z : store.Item). z.file) alike.item) s.there t.there in
-    same_at (text_under a.pieces) (text_under b.pieces) s.file.keys t.file.keys x.piece y.piece x.key.at y.key.at
-    (ap (λ (f : File). f.pieces) file) (ap (λ (z : store.Item). z.piece) alike.item) s.is_key t.is_key
+same_piece a b x y alike = grind (arith, common_steps, same_at) steps 200000
 
 -- the text under the key of an item is the one that the item is read in
 read_under : (files : FilesView) (item : store.Item) → (r : CanBeRead files item) → r.text ≡ text_under files.pieces item.key.at
@@ -65,12 +51,7 @@ same_words : ReadingLaws → (a b : FilesView) (x y : store.Item) → AreAlike a
 same_words laws a b x y alike s t = laws.words (bytes_in t.text y) s.words t.words (subst (λ bytes. HasWords bytes s.words) (same_bytes a b x y alike s t) s.has_words) t.has_words
 
 same_said : ReadingLaws → (a b : FilesView) (x y : store.Item) (said other : Item) → AreAlike a b x y → Says a x said → Says b y other → said ≡ other
-same_said laws a b x y said other alike f g =
-    f.is
-    ∙ ap (λ (z : store.Item). item_of (kind_of z.kind) (tokens_of (bytes_in f.read.text x) f.read.words)) alike.item
-    ∙ ap (λ bytes. item_of (kind_of y.kind) (tokens_of bytes f.read.words)) (same_bytes a b x y alike f.read g.read)
-    ∙ ap (λ words. item_of (kind_of y.kind) (tokens_of (bytes_in g.read.text y) words)) (same_words laws a b x y alike f.read g.read)
-    ∙ sym g.is
+same_said laws a b x y said other alike f g = grind (arith, common_steps, same_bytes a b x y alike f.read g.read, same_words laws a b x y alike f.read g.read) steps 200000
 
 -- the items are in the files
 abbrev Stand : FilesView → List store.Item → Type 0
@@ -103,6 +84,4 @@ said_same laws a b top base other s =
 
 pub one_base : ReadingLaws → (files : FilesView) (top : List ℕ) (base other : BaseView) → IsOfFiles files top base → IsOfFiles files top other → base ≡ other
 one_base laws files top base other f g =
-    let found = laws.expansion (files_in files) top base.found other.found f.expansion g.expansion in
-    let said = (said_same laws files files top base other (record { files = refl; is_base = f; is_other = g })).1 in
-    λ i. record { found = found i; said = said i }
+    grind (arith, common_steps, laws.expansion (files_in files) top base.found other.found f.expansion g.expansion, said_same laws files files top base other (record { files = refl; is_base = f; is_other = g })) steps 200000

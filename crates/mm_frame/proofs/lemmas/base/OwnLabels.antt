@@ -1,23 +1,19 @@
 -- A label belongs to one sound item, and a mandatory hypothesis is found by its label.
-use Rattle.std.proofs.{Common.{◌≡◌, ◌<◌, ◌⊎◌, ℕ, Bool, true, false, ◌&&◌, ◌||◌, Option, Some, None, List, refl, sym, ◌∙◌, inl, inr, arith}, lemmas.{Option.{none-some}, Bool.{false≢true, and_right}}}
+use Rattle.std.proofs.lemmas.{Grind.{common_steps}, Option.{none-some}, Bool.{and_right}}
+use Rattle.std.proofs.Common.{◌≡◌, ◌<◌, ◌⊎◌, ℕ, Bool, true, false, ◌&&◌, ◌||◌, Option, Some, None, List, refl, sym, ◌∙◌, inl, inr, arith}
 use native.Mathlib.Decide.{dec_lt}
-use Rattle.mm_statement.specs.Language.Item.{Kind, Axiom, Theorem, is_assertion, is_essential, is_floating, has, variable_of}
-use Rattle.mm_frame.specs.Code.{BlockMarks.{block_marks}, KeptBase.{find_in}}
-use Rattle.mm_frame.specs.Language.{Sound.{sound_items}, Framing.{mandatory_variables}, Base.{BaseView, before, said_at, is_sound_at, is_framed_at, IsMandatoryAt}}
-use Rattle.mm_frame.specs.Language.Resolving.{IsCarrier, IsLabelOf, Resolves}
+use Rattle.mm_statement.specs.Language.Item.{Kind, is_assertion, is_essential, is_floating, has, variable_of}
+use Rattle.mm_frame.specs.{Code.{BlockMarks.{block_marks}, KeptBase.{find_in}}, Language.{Sound.{sound_items}, Framing.{mandatory_variables}}}
+use Rattle.mm_frame.specs.Language.{Base.{BaseView, before, said_at, is_sound_at, is_framed_at, IsMandatoryAt}, Resolving.{IsCarrier, IsLabelOf, Resolves}}
 use Rattle.mm_frame.proofs.lemmas.base.ResolvingLemmas.{carrier_found, found_carrier, active_by, active_means, assertion_means, later_means, unknown_means}
 use Rattle.mm_frame.specs.declared.base.Resolved.TheVariants as answers
 
 -- two sound items with one label are one
 pub own_label : (base : BaseView) (j k : ℕ) (label : List ℕ) → IsCarrier base label j → IsCarrier base label k → j ≡ k
-own_label base j k label a b =
-    let e : Some j ≡ Some k = sym (carrier_found base label j a) ∙ carrier_found base label k b in
-    cc
+own_label base j k label a b = grind (arith, common_steps, carrier_found base label j a, carrier_found base label k b) steps 200000
 
 hypothesis_kind : (kind : Kind) (b : Bool) → (is_essential kind || (is_floating kind && b)) ≡ true → is_assertion kind ≡ false
-hypothesis_kind Axiom b e = absurd (false≢true e)
-hypothesis_kind Theorem b e = absurd (false≢true e)
-hypothesis_kind _ b e = refl
+hypothesis_kind kind b e = grind (arith, common_steps) steps 200000
 
 -- a mandatory hypothesis is what its label means
 pub mandatory_means : (base : BaseView) (i n : ℕ) (label : List ℕ) → IsCarrier base label n → IsMandatoryAt base i n → Resolves base i label (answers.Hypothesis n)

@@ -1,12 +1,10 @@
 -- The labels and faults of items: how many there are, each of them, and one more.
-use Rattle.std.proofs.Common.{◌≡◌, ℕ, zero, suc, ◌+◌, ◌<◌, ◌≤◌, Bool, true, false, cond, ◌&&◌, Option, Some, None, List, [], ◌∷◌, ◌++◌, length, slice_get, get_or, refl, sym, ◌∙◌, ap, arith}
-use Rattle.std.proofs.Common.{length-append, is_some, is_none}
-use Rattle.std.proofs.{Math.Seq.{get_or-append_seam}, lemmas.{Bool.{false≢true}, List.{get_or_append_left}, Option.{slice_get_past}}}
-use Rattle.std.specs.{List.{slice_range}, Option.{option_map}}
+use Rattle.std.proofs.lemmas.{Grind.{common_steps}, Bool.{false≢true}, List.{get_or_append_left}, Option.{slice_get_past}}
+use Rattle.std.proofs.Common.{◌≡◌, ℕ, zero, suc, ◌+◌, ◌<◌, ◌≤◌, Bool, true, false, cond, ◌&&◌, Option, Some, None, List, [], ◌∷◌, ◌++◌, length, slice_get, get_or, refl, ◌∙◌, ap, arith, length-append}
+use Rattle.std.{proofs.{Common.{is_some, is_none}, Math.Seq.{get_or-append_seam}}, specs.{List.{slice_range}, Option.{option_map}}}
 use native.Mathlib.Decide.{dec_lt}
-use Rattle.mm_frame.specs.declared.{judge.FrameFault.{FrameFault}, item_rows.Rows.{Rows}}
-use Rattle.mm_frame.specs.Code.KeptParts.{cut_from, start_at}
-use Rattle.mm_frame.specs.Code.KeptRows.{bytes_or_none, fault_or_none, fault_kept, fault_told, row_told, rows_from, rows_of, row_label, row_fault, is_shown_in, AreRowsKept}
+use Rattle.mm_frame.specs.{declared.{judge.FrameFault.{FrameFault}, item_rows.Rows.{Rows}}, Code.KeptParts.{cut_from, start_at}}
+use Rattle.mm_frame.specs.Code.KeptRows.{bytes_or_none, fault_kept, fault_told, row_told, rows_from, rows_of, row_label, row_fault, is_shown_in, AreRowsKept}
 use Rattle.mm_frame.proofs.lemmas.names.ExpressionLemmas.{cut_length, cut_there, cut_added}
 
 rows_length : (n : ℕ) (labels : List (List ℕ)) (flags : List Bool) (faults : List (Option FrameFault)) → length (rows_from n labels flags faults) ≡ length labels
@@ -54,20 +52,11 @@ label_none rows k f = elim (dec_lt k (length rows.ends)) [
 ]
 
 pub fault_there : (rows : Rows) → AreRowsKept rows → (k : ℕ) → row_fault (slice_get (rows_of rows) k) ≡ fault_told (fault_kept rows.faults.items k)
-fault_there rows kept k = elim (dec_lt k (length rows.ends)) [
-  | yes l ↦ ap row_fault (row_at rows k l)
-  | no m ↦ (
-      let few = kept.faults in
-      ap row_fault (no_row rows k (omega arith)) ∙ sym (ap (λ o. fault_told (fault_or_none o)) (slice_get_past rows.faults.items k (omega arith)))
-      )
-]
+fault_there rows kept k = grind (arith, common_steps, dec_lt, no_row, row_at, slice_get_past) steps 200000
 
 pub shown_none : (rows : Rows) (k : ℕ) → get_or rows.labelled.items k false ≡ false → is_shown_in (slice_get (rows_of rows) k) ≡ false
 shown_none rows k f = elim (dec_lt k (length rows.ends)) [
-  | yes l ↦ (
-      let row = row_told rows.labelled.items rows.faults.items k (slice_range rows.bytes.items (start_at 0 rows.ends k) (get_or rows.ends k 0)) in
-      ap is_shown_in (row_at rows k l) ∙ ap (λ b. is_none row.1 && is_some (cond b (Some (slice_range rows.bytes.items (start_at 0 rows.ends k) (get_or rows.ends k 0))) None)) f ∙ never (is_none row.1)
-      )
+  | yes l ↦ grind (arith, common_steps, row_at rows k l) steps 200000
   | no m ↦ ap is_shown_in (no_row rows k (omega arith))
 ]
   where
@@ -76,15 +65,7 @@ shown_none rows k f = elim (dec_lt k (length rows.ends)) [
     never false = refl
 
 pub shown_some : (rows : Rows) → AreRowsKept rows → (k : ℕ) → get_or rows.labelled.items k false ≡ true → is_shown_in (slice_get (rows_of rows) k) ≡ is_none (fault_kept rows.faults.items k)
-shown_some rows kept k t =
-    let l = flag_within rows.labelled.items k t in
-    let same = kept.flags in
-    let row = row_told rows.labelled.items rows.faults.items k (slice_range rows.bytes.items (start_at 0 rows.ends k) (get_or rows.ends k 0)) in
-    ap is_shown_in (row_at rows k (omega arith)) ∙ ap (λ b. is_none row.1 && is_some (cond b (Some (slice_range rows.bytes.items (start_at 0 rows.ends k) (get_or rows.ends k 0))) None)) t ∙ always (fault_kept rows.faults.items k)
-  where
-    always : (o : Option FrameFault) → (is_none (fault_told o) && true) ≡ is_none o
-    always None = refl
-    always (Some f) = refl
+shown_some rows kept k t = grind (arith, common_steps, flag_within, row_at) steps 200000
 
 -- one more
 rows_same : (n : ℕ) (labels : List (List ℕ)) (flags other : List Bool) (faults more : List (Option FrameFault))
@@ -105,8 +86,7 @@ rows_last n (x ∷ labels) bytes flags faults =
     ap (λ w. row_told flags faults n x ∷ w) (rows_last (suc n) labels bytes flags faults ∙ (λ i. rows_from (suc n) labels flags faults ++ row_told flags faults (z i) bytes ∷ []))
 
 labelled_told : (label : Option (List ℕ)) → cond (is_some label) (Some (bytes_or_none label)) None ≡ label
-labelled_told None = refl
-labelled_told (Some label) = refl
+labelled_told label = grind (arith, common_steps) steps 200000
 
 -- what is added for one more item
 pub record AddsRow (old : Rows) (label : Option (List ℕ)) (fault : Option FrameFault) (new : Rows) : Type 0 where
@@ -118,40 +98,23 @@ pub record AddsRow (old : Rows) (label : Option (List ℕ)) (fault : Option Fram
   pub within : length new.faults.items ≤ length old.ends + 1
 
 pub some_lent : {L X : Type 0} (now : L → X) (lent : Option L) → is_some (option_map now lent) ≡ is_some lent
-some_lent now None = refl
-some_lent now (Some x) = refl
+some_lent now lent = grind (arith, common_steps) steps 200000
 
 -- by the count of the items before it
 pub adds_row : (old new : Rows) (label : Option (List ℕ)) (fault : Option FrameFault) (count : ℕ) → count ≡ length old.ends → AreRowsKept old → new.bytes.items ≡ old.bytes.items ++ bytes_or_none label
     → new.ends ≡ old.ends ++ length new.bytes.items ∷ [] → new.labelled.items ≡ old.labelled.items ++ is_some label ∷ []
     → (length old.faults.items ≤ count → (n : ℕ) → n < count → fault_kept new.faults.items n ≡ fault_kept old.faults.items n) → (length old.faults.items ≤ count → fault_kept new.faults.items count ≡ fault)
     → (length old.faults.items ≤ count → length new.faults.items ≤ count + 1) → AddsRow old label fault new
-adds_row old new label fault count e kept bytes ends flags same here within =
-    let few = kept.faults in
-    let l : length old.faults.items ≤ count = omega arith in
-    let most = within l in
-    record {
-      bytes = bytes;
-      ends = ends;
-      flags = flags;
-      same = λ n m. same l n (omega arith);
-      here = ap (fault_kept new.faults.items) (sym e) ∙ here l;
-      within = omega arith;
-    }
+adds_row old new label fault count e kept bytes ends flags same here within = grind (arith, common_steps) steps 200000
 
 pub kept_more : (old new : Rows) (label : Option (List ℕ)) (fault : Option FrameFault) → AreRowsKept old → AddsRow old label fault new → AreRowsKept new
 kept_more old new label fault k a =
-    let count = length-append old.ends (length new.bytes.items ∷ []) in
     let ends = ap length a.ends in
     let flags = ap length a.flags in
     let marks = length-append old.labelled.items (is_some label ∷ []) in
     let same = k.flags in
     let within = a.within in
-    record {
-      cut = (cut_added old.bytes.items (bytes_or_none label) new.bytes.items old.ends new.ends (length new.bytes.items) k.cut a.bytes refl a.ends).0;
-      flags = omega arith;
-      faults = omega arith;
-    }
+    grind (arith, common_steps, cut_added old.bytes.items (bytes_or_none label) new.bytes.items old.ends new.ends (length new.bytes.items) k.cut a.bytes refl a.ends) steps 200000
 
 pub rows_more : (old new : Rows) (label : Option (List ℕ)) (fault : Option FrameFault) → AreRowsKept old → AddsRow old label fault new → rows_of new ≡ rows_of old ++ (label, fault_told fault) ∷ []
 rows_more old new label fault k a =
@@ -166,6 +129,4 @@ rows_more old new label fault k a =
     let y : 0 + length labels ≡ length old.ends = omega arith in
     let flag = ap (λ n. get_or new.labelled.items n false) z ∙ ap (λ w. get_or w (length old.labelled.items) false) a.flags ∙ get_or-append_seam old.labelled.items (is_some label) [] false in
     let told : cond (get_or new.labelled.items (0 + length labels) false) (Some bytes) None ≡ label = ap (λ b. cond b (Some bytes) None) flag ∙ labelled_told label in
-    ap (λ w. rows_from 0 w new.labelled.items new.faults.items) cut
-    ∙ rows_last 0 labels bytes new.labelled.items new.faults.items
-    ∙ (λ i. rows_same 0 labels new.labelled.items old.labelled.items new.faults.items old.faults.items flags faults i ++ (told i, (ap (λ n. fault_told (fault_kept new.faults.items n)) y ∙ ap fault_told a.here) i) ∷ [])
+    grind (arith, common_steps, rows_last 0 labels bytes new.labelled.items new.faults.items, rows_same) steps 200000

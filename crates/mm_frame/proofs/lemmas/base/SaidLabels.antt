@@ -1,21 +1,14 @@
 -- Each sound item of a kind that has a label has one, since it has symbols.
-use Rattle.std.proofs.Common.{◌≡◌, ℕ, zero, suc, true, cond, ◌&&◌, ◌==◌, Some, None, List, [], ◌∷◌, length, slice_range, refl, sym, ◌∙◌, ap}
-use Rattle.std.proofs.lemmas.Bool.{false≢true, or_parts, and_parts, and_from, eq-eqb}
-use Rattle.std.specs.List.{AllZip}
+use Rattle.std.proofs.{Common.{arith, ◌≡◌, ℕ, zero, suc, true, cond, ◌&&◌, ◌==◌, Some, None, List, [], ◌∷◌, length, slice_range, refl, sym, ◌∙◌, ap}, lemmas.Grind.{common_steps}}
+use Rattle.std.{proofs.lemmas.Bool.{false≢true, or_parts, and_parts, and_from, eq-eqb}, specs.List.{AllZip}}
 use Rattle.mm_store.specs.{mm_text.Language.Unit.{Token, tokens_of}, Language.FilesView.{FilesView}}
-use Rattle.mm_frame.specs.declared.FrameNumber.TheVariants.{F01}
-use Rattle.mm_frame.specs.Language.{Sound.{closing_word, at_symbol, is_third, is_short, fault, IsSound}, Base.{BaseView, AreSaid, before, said_at, is_sound_at, is_shown_at}}
-use Rattle.mm_statement.specs.Language.Item.{Kind, Floating, Essential, Axiom, Theorem, Item, is_floating, is_labelled, item_at}
-use Rattle.mm_statement.specs.Language.Statement.{kind_of, token_names, symbols_in, label_in, item_of, Says}
-use Rattle.mm_frame.proofs.lemmas.{faults.FoundFaults.{no_fault_sound}, base.BaseLemmas.{none_told}}
+use Rattle.mm_frame.specs.{declared.FrameNumber.TheVariants.{F01}, Language.Sound.{closing_word, at_symbol, is_third, is_short, fault, IsSound}}
+use Rattle.mm_frame.{specs.Language.Base.{BaseView, AreSaid, before, said_at, is_sound_at, is_shown_at}, proofs.lemmas.{faults.FoundFaults.{no_fault_sound}, base.BaseLemmas.{none_told}}}
+use Rattle.mm_statement.specs.Language.{Item.{Kind, Item, is_floating, is_labelled, item_at}, Statement.{kind_of, token_names, symbols_in, label_in, item_of, Says}}
 use Rattle.mm_store.specs.declared.item.Item as store
 
 short_kind : (kind : Kind) → is_labelled kind ≡ true → is_short kind 0 ≡ true
-short_kind Floating t = refl
-short_kind Essential t = refl
-short_kind Axiom t = refl
-short_kind Theorem t = refl
-short_kind _ t = absurd (false≢true t)
+short_kind kind t = grind (arith, common_steps) steps 200000
 
 -- a sound one has symbols
 has_symbols : (before : List Item) (item : Item) → IsSound before item → is_labelled item.kind ≡ true → item.symbols ≡ [] → ⊥
@@ -25,11 +18,7 @@ has_symbols before item s t e =
     false≢true (sym few ∙ and_from (is_short item.kind (length item.symbols)) (word == word) (ap (λ xs. is_short item.kind (length xs)) e ∙ short_kind item.kind t) (eq-eqb word word refl))
 
 no_words : (kind : Kind) → is_labelled kind ≡ true → token_names (symbols_in kind []) ≡ []
-no_words Floating t = refl
-no_words Essential t = refl
-no_words Axiom t = refl
-no_words Theorem t = refl
-no_words _ t = absurd (false≢true t)
+no_words kind t = grind (arith, common_steps) steps 200000
 
 -- if there are symbols there is a first word
 label_there : (kind : Kind) (tokens : List Token) → is_labelled kind ≡ true → (token_names (symbols_in kind tokens) ≡ [] → ⊥) → (label : List ℕ) × (label_in kind tokens ≡ Some label)

@@ -1,16 +1,14 @@
 -- The items so far are the first ones of an older base: what it says of its next item is right of the next item.
-use Rattle.std.proofs.Common.{◌≡◌, ℕ, zero, suc, ◌<◌, Bool, true, Option, Some, None, List, [], ◌∷◌, ◌++◌, length, take, drop, slice_get, nat_eq, is_some, refl, sym, ◌∙◌, ap, subst, arith, take-suc}
-use Rattle.std.proofs.Common.{take-append-drop}
-use Rattle.std.proofs.lemmas.{Bool.{false≢true}, List.{length_push, take-append-le}, Option.{slice_get_within, get_or_from_slice_get}}
-use Rattle.std.specs.{HashMap.{get}, List.{AllZip}}
+use Rattle.std.proofs.lemmas.{Grind.{common_steps}, Bool.{false≢true}, List.{length_push, take-append-le}, Option.{slice_get_within, get_or_from_slice_get}}
+use Rattle.std.proofs.Common.{◌≡◌, ℕ, zero, suc, ◌<◌, Bool, true, Option, Some, List, [], ◌∷◌, ◌++◌, length, take, drop, slice_get, nat_eq, refl, sym, ◌∙◌, ap, subst, arith, take-suc}
+use Rattle.std.{proofs.Common.{take-append-drop}, specs.{HashMap.{get}, List.{AllZip}}}
 use Rattle.mm_store.specs.Language.FilesView.{FilesView}
-use Rattle.mm_frame.specs.declared.pair_lists.PairLists.{PairLists}
-use Rattle.mm_frame.specs.Language.{Sound.{sound_items}, Framing.{active_pairs}, Base.{BaseView, before, said_at, is_proof_at}, Answering.{AreRows, BaseAnswers, is_told_proof}}
-use Rattle.mm_frame.specs.Code.{KeptAssertions.{TellsPairs}, KeptPairLists.{AreMade, IsList, KeepsLists}, KeptSparse.{value_kept, value_or_none}, KnownItem.{IsAgain}}
-use Rattle.mm_frame.specs.Code.TakenOver.{AreFirst, AreFirstIf, IsNextOf}
+use Rattle.mm_frame.specs.{declared.pair_lists.PairLists.{PairLists}, Language.{Sound.{sound_items}, Framing.{active_pairs}, Base.{BaseView, before, said_at, is_proof_at}}}
+use Rattle.mm_frame.specs.{Language.Answering.{AreRows, BaseAnswers, is_told_proof}, Code.{KeptAssertions.{TellsPairs}, KeptPairLists.{AreMade, IsList, KeepsLists}, KeptSparse.{value_kept}}}
+use Rattle.mm_frame.{specs.Code.{KnownItem.{IsAgain}, TakenOver.{AreFirst, AreFirstIf, IsNextOf}}, proofs.lemmas.pairs.{PairListLemmas.{list_stays}, SharedPairs.{same_joined}}}
+use Rattle.mm_frame.proofs.lemmas.reading.KnownItems.{same_again}
 use Rattle.mm_machine.specs.Language.{Frame.{Symbol, AreSamePairs}, NumberedSymbols.{kept_pairs}}
 use Rattle.mm_statement.specs.Language.{Item.{Item, item_at}, Statement.{OneRangeSaysOne, Says}}
-use Rattle.mm_frame.proofs.lemmas.{pairs.{PairListLemmas.{list_stays}, SharedPairs.{same_joined}}, reading.KnownItems.{same_again}}
 use Rattle.mm_store.specs.declared.item.Item as store
 
 -- ---- the first items
@@ -64,11 +62,7 @@ first_after same other files answers base said item i one law found number again
 -- ---- the lists of active pairs
 
 value_there : {X : Type 0} (kept : List (Option X)) (j : ℕ) (x : X) → Some x ≡ value_kept kept j → slice_get kept j ≡ Some (Some x)
-value_there kept j x e = by (slice_get kept j) refl
-  where
-    by : (o : Option (Option _)) → slice_get kept j ≡ o → slice_get kept j ≡ Some (Some x)
-    by None t = absurd (false≢true (ap is_some (sym (e ∙ ap value_or_none t))))
-    by (Some o) t = t ∙ ap Some (sym (e ∙ ap value_or_none t))
+value_there kept j x e = grind (arith, common_steps, false≢true) steps 200000
 
 -- a list that is shared
 list_shared : (all : List (List ℕ)) (lists : PairLists) (k : ℕ) (pairs others : List (Symbol × Symbol)) → IsList all lists k pairs → AreSamePairs pairs others → IsList all lists k others
@@ -95,8 +89,7 @@ list_here all lists base said numbers j i k front number rows e shared =
 -- more lists, and none is made for other counts
 pub made_stays : (all : List (List ℕ)) (before : List Item) (old new : PairLists) → KeepsLists old new → new.made ≡ old.made → AreMade all before old → AreMade all before new
 made_stays all before old new keeps same made count k e =
-    let made_old = made count k (ap (λ w. get nat_eq w count) (sym same) ∙ e) in
-    record { within = made_old.within; list = list_stays all old new k (active_pairs (take count before)) keeps made_old.list }
+    grind (arith, common_steps, list_stays all old new k (active_pairs (take count before)) keeps (made count k (ap (λ w. get nat_eq w count) (sym same) ∙ e)).list) steps 200000
 
 -- the same lists
 pub list_kept_on : (all : List (List ℕ)) (old new : PairLists) (k : ℕ) (pairs : List (Symbol × Symbol)) → new.lists ≡ old.lists → IsList all old k pairs → IsList all new k pairs

@@ -1,19 +1,15 @@
 -- What the code that looks for a fault rests on.
+use Rattle.std.proofs.lemmas.{Grind.{common_steps}, Bool.{false≢true}, Slice.Eq.{bytes_eq-Decides}, Option.{same_Some, slice_get-get_or}, List.{drop_all, Folds.{list_any-append}}}
 use Rattle.std.proofs.Common.{◌≡◌, ℕ, zero, nat_eq, slice_get, suc, ◌+◌, ◌<◌, ◌≤◌, Bool, true, false, not, cond, ◌==◌, ◌&&◌, ◌||◌, Option, Some, None, is_some, List, [], ◌∷◌, ◌++◌, length, take, drop}
-use Rattle.std.proofs.Common.{get_or, bytes_eq, refl, sym, ◌∙◌, ap, subst, arith}
-use Rattle.std.proofs.Math.Seq.{take-suc}
-use Rattle.std.proofs.lemmas.{Bool.{false≢true, Decides.{Decides-eqb}}, Slice.Eq.{bytes_eq-Decides}, Option.{same_Some, slice_get-get_or}, List.{drop_all, Folds.{list_any-append}}}
-use Rattle.std.specs.{Prelude.{is_none}, Option.{option_or}, HashSet.{HashSet, Updates}}
-use Rattle.mm_statement.specs.Language.Item.{first_symbol, Kind, Essential, Axiom, Theorem, Item, has, is_expression}
-use Rattle.mm_frame.specs.Language.{Scope.{constants, active_variables, typed}, Sound.{closing_word, fault_or, fault, AreSound, is_short}}
-use Rattle.mm_frame.specs.Code.{Numbers.{IsNameNumber, AreNameNumbers}, KeptScope.{ScopeHolds}, KeptTables.{declared_at, declared_in, variable_at}}
-use Rattle.mm_frame.specs.Code.LastItems.{last_where, declares_variable, types, is_active_last}
-use Rattle.mm_frame.specs.Code.FaultInOrder.{front_fault, end_fault, first_fault, symbol_fault_of, symbol_fault, symbols_fault, typecode_fault, expression_fault, later_fault}
-use Rattle.mm_frame.specs.Code.SeenNumbers.{HasSeen, has_number}
-use Rattle.mm_frame.specs.declared.{scope.Scope.{Scope}, tables.Declared.{Declared, TheVariants.{Constant, Variable}}, FrameNumber.{FrameNumber, TheVariants.{F01, F10, F11}}}
+use Rattle.std.{proofs.{Common.{get_or, bytes_eq, refl, sym, ◌∙◌, ap, subst, arith}, Math.Seq.{take-suc}}, specs.{Prelude.{is_none}, Option.{option_or}, HashSet.{HashSet, Updates}}}
+use Rattle.mm_statement.specs.Language.Item.{first_symbol, Kind, Item, has, is_expression}
+use Rattle.mm_frame.specs.{Language.{Scope.{constants, active_variables, typed}, Sound.{closing_word, fault_or, fault, AreSound}}, Code.Numbers.{IsNameNumber, AreNameNumbers}}
+use Rattle.mm_frame.specs.Code.{KeptScope.{ScopeHolds}, KeptTables.{declared_at, declared_in, variable_at}, LastItems.{last_where, declares_variable, types, is_active_last}}
+use Rattle.mm_frame.specs.Code.{FaultInOrder.{front_fault, end_fault, first_fault, symbol_fault_of, symbol_fault, symbols_fault, expression_fault, later_fault}, SeenNumbers.{HasSeen, has_number}}
+use Rattle.mm_frame.specs.declared.{scope.Scope.{Scope}, tables.Declared.{Declared, TheVariants.{Constant, Variable}}, FrameNumber.{FrameNumber, TheVariants.{F10, F11}}}
+use Rattle.mm_frame.proofs.lemmas.{faults.FaultReading.{first_fault_at, fault_is}, frames.Frames.{from_typed, float_of}, lists.Members.{has_in}, scope.SoundItems.{sound_kept}}
+use Rattle.mm_frame.proofs.lemmas.scope.{KnownLemmas.{constant_no_variable, known_at}, TableLemmas.{active_variable_last, typed_last}}
 use Rattle.mm_machine.specs.Language.Names.{AreDistinct}
-use Rattle.mm_frame.proofs.lemmas.{faults.FaultReading.{first_fault_at, fault_is}, frames.Frames.{from_typed, float_of}, lists.Members.{has_in}}
-use Rattle.mm_frame.proofs.lemmas.scope.{SoundItems.{sound_kept}, KnownLemmas.{constant_no_variable, known_at}, TableLemmas.{active_variable_last, typed_last}}
 
 -- whether a name with this declaration may come after a typecode
 abbrev pub may_follow_as : List Item → Option Declared → Bool
@@ -35,19 +31,18 @@ later_as constant active typed = cond (not (constant || active)) (Some F10) (con
 pub follows_later : (before : List Item) → AreSound before → (name : List ℕ) → may_follow_as before (declared_in before name) ≡ is_none (later_fault before name)
 follows_later before h name =
     by_test (has (constants before) name) (last_where (declares_variable name) before) (last_where (types name) before) (has (active_variables before) name) (has (typed before) name)
-    (active_variable_last before h name) (typed_last before h name) (constant_no_variable before h name) (typed_active before h name)
-  where
-    both : (active typed : Bool) → (typed ≡ true → active ≡ true) → typed ≡ is_none (later_as false active typed)
-    both true true e = refl
-    both true false e = refl
-    both false false e = refl
-    both false true e = absurd (false≢true (e refl))
+    (active_variable_last before h name) (typed_last before h name) (constant_no_variable before h name) (typed_active before h name) where
+      both : (active typed : Bool) → (typed ≡ true → active ≡ true) → typed ≡ is_none (later_as false active typed)
+      both true true e = refl
+      both true false e = refl
+      both false false e = refl
+      both false true e = absurd (false≢true (e refl))
 
-    by_test : (c : Bool) (v t : Option ℕ) (active typed : Bool) → active ≡ is_active_last before v → typed ≡ is_active_last before t → (c ≡ true → v ≡ None) → (typed ≡ true → active ≡ true)
-        → may_follow_as before (cond c (Some Constant) (variable_at v t)) ≡ is_none (later_as c active typed)
-    by_test true v t active typed a b n e = let inactive : active ≡ false = a ∙ ap (is_active_last before) (n refl) in rw inactive refl
-    by_test false None t active typed a b n e = rw a refl
-    by_test false (Some d) t active typed a b n e = rw (← b) (both active typed e)
+      by_test : (c : Bool) (v t : Option ℕ) (active typed : Bool) → active ≡ is_active_last before v → typed ≡ is_active_last before t → (c ≡ true → v ≡ None) → (typed ≡ true → active ≡ true)
+          → may_follow_as before (cond c (Some Constant) (variable_at v t)) ≡ is_none (later_as c active typed)
+      by_test true v t active typed a b n e = let inactive : active ≡ false = a ∙ ap (is_active_last before) (n refl) in rw inactive refl
+      by_test false None t active typed a b n e = rw a refl
+      by_test false (Some d) t active typed a b n e = rw (← b) (both active typed e)
 
 -- the same by what the tables of a scope say of the name
 pub follows_told : (scope : Scope) (n : ℕ) (found given : Option Declared) (all : List (List ℕ)) (before : List Item) (name : List ℕ)
@@ -63,27 +58,12 @@ same_test false true f g = absurd (false≢true (g refl))
 same_test false false f g = refl
 
 -- one more number is seen
-nat_turned : (a b : ℕ) → nat_eq a b ≡ nat_eq b a
-nat_turned a b = same_test (nat_eq a b) (nat_eq b a) (λ t. (Decides-eqb b a).1 (sym ((Decides-eqb a b).0 t))) (λ t. (Decides-eqb a b).1 (sym ((Decides-eqb b a).0 t)))
-
 pub sees_more : {S : Type 0} (numbers : List ℕ) (number : ℕ) (old new : HashSet ℕ S) → HasSeen numbers old → Updates nat_eq old new number true → HasSeen (numbers ++ number ∷ []) new
-sees_more numbers number old new h u other =
-    u.0 other
-    ∙ (λ i. cond (nat_turned number other i) true (h other i))
-    ∙ either (nat_eq other number) (has_number numbers other)
-    ∙ sym (list_any-append (nat_eq other) numbers (number ∷ []))
-  where
-    either : (a b : Bool) → cond a true b ≡ (b || (a || false))
-    either true true = refl
-    either true false = refl
-    either false true = refl
-    either false false = refl
+sees_more numbers number old new h u other = grind (arith, common_steps, list_any-append, same_test) steps 200000
 
 -- two numbers are the same exactly when their names are
 same_number : (all : List (List ℕ)) (m n : ℕ) (x y : List ℕ) → AreDistinct all → IsNameNumber all m x → IsNameNumber all n y → nat_eq m n ≡ bytes_eq x y
-same_number all m n x y distinct a b = same_test (nat_eq m n) (bytes_eq x y)
-    (λ t. (bytes_eq-Decides x y).1 (same_Some x y (sym a ∙ ap (slice_get all) ((Decides-eqb m n).0 t) ∙ b)))
-    (λ t. (Decides-eqb m n).1 (distinct m n x a (b ∙ ap Some (sym ((bytes_eq-Decides x y).0 t)))))
+same_number all m n x y distinct a b = grind (arith, common_steps, bytes_eq-Decides x y, same_test, same_Some) steps 200000
 
 among_names : (all : List (List ℕ)) (n : ℕ) (numbers : List ℕ) (names : List (List ℕ)) (number : ℕ) (name : List ℕ) → AreDistinct all → IsNameNumber all number name
     → ((i m : ℕ) → slice_get numbers i ≡ Some m → IsNameNumber all m (get_or names i [])) → length numbers ≡ length names
@@ -147,36 +127,18 @@ passes_more item numbers n more m l p none = record {
 
 -- a symbol that may come after a typecode has no fault there
 pub passed_later : (before : List Item) (n : ℕ) (name : List ℕ) → 0 < n → is_none (later_fault before name) ≡ true → None ≡ expression_fault before n name
-passed_later before n name l e = by_test (n == 0) refl
-  where
-    no_fault : (o : Option FrameNumber) → is_none o ≡ true → None ≡ o
-    no_fault None e = refl
-    no_fault (Some f) e = absurd (false≢true e)
-
-    by_test : (b : Bool) → (n == 0) ≡ b → None ≡ cond b (typecode_fault before name) (later_fault before name)
-    by_test true t = let z : n ≡ 0 = (Decides-eqb n 0).0 t in absurd (omega arith)
-    by_test false t = no_fault (later_fault before name) e
+passed_later before n name l e = grind (arith, common_steps, false≢true) steps 200000
 
 -- what is wrong with a symbol of a `$e`, `$a` or `$p`
 pub expression_is : (kind : Kind) → is_expression kind ≡ true → (before : List Item) (item : Item) (n : ℕ) (name : List ℕ) → expression_fault before n name ≡ symbol_fault_of kind before item n name
-expression_is Essential e before item n name = refl
-expression_is Axiom e before item n name = refl
-expression_is Theorem e before item n name = refl
-expression_is _ e before item n name = absurd (false≢true e)
+expression_is kind e before item n name = grind (arith, common_steps) steps 200000
 
 pub none_there : {X : Type 0} (found : Option X) → is_some found ≡ false → None ≡ found
-none_there None e = refl
-none_there (Some x) e = absurd (false≢true (sym e))
+none_there found e = grind (arith, common_steps) steps 200000
 
 -- a `$e`, `$a` or `$p` with a symbol has enough of them
 pub enough_symbols : (item : Item) → is_expression item.kind ≡ true → (length item.symbols == 0) ≡ false → None ≡ fault_or (closing_word item) (end_fault item) None
-enough_symbols item e l = ap (λ b. fault_or (closing_word item) (cond b (Some F01) None) None) (sym (short_if item.kind e ∙ l))
-  where
-    short_if : (kind : Kind) → is_expression kind ≡ true → is_short kind (length item.symbols) ≡ (length item.symbols == 0)
-    short_if Essential e = refl
-    short_if Axiom e = refl
-    short_if Theorem e = refl
-    short_if _ e = absurd (false≢true e)
+enough_symbols item e l = grind (arith, common_steps, false≢true) steps 200000
 
 -- the fault of a statement, found at the first word, among the symbols, or at neither
 pub at_front : (before : List Item) (item : Item) (number : FrameNumber) → Some number ≡ front_fault before item → ◌≡◌ {A = Option (ℕ × FrameNumber)} (Some (0, number)) (fault before item)

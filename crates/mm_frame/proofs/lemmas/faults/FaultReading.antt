@@ -1,12 +1,10 @@
 -- The fault of a statement is the one that is read from left to right.
-use Rattle.std.proofs.Common.{◌≡◌, ℕ, zero, suc, ◌+◌, ◌-◌, ◌≤◌, ◌<◌, Bool, true, false, cond, ◌&&◌, ◌||◌, ltb, leb, ◌==◌, Option, Some, None, List, [], ◌∷◌, length, drop, find, slice_get, refl, sym}
-use Rattle.std.proofs.Common.{◌∙◌, ap, subst, arith, option_to_list}
-use Rattle.std.proofs.{Math.Bool.{or-false}, lemmas.{Bool.{false≢true, and_left, and_right, le-leb, lt-ltb, eq-eqb, ne_eqb}, Option.{slice_get_past, slice_get_within}}}
-use Rattle.std.specs.{Option.{option_or}, List.{list_any}}
-use Rattle.mm_statement.specs.Language.Item.{first_symbol, Kind, Constants, Disjoint, Floating, Essential, Axiom, Theorem, Item, is_constants, is_variables, is_disjoint, is_floating, is_declaring}
-use Rattle.mm_statement.specs.Language.Item.{is_expression, is_labelled, labels_of}
+use Rattle.std.proofs.lemmas.{Grind.{common_steps}, Bool.{false≢true, and_left, and_right, le-leb, lt-ltb, eq-eqb, ne_eqb}, Option.{slice_get_past, slice_get_within}}
+use Rattle.std.proofs.Common.{◌≡◌, ℕ, zero, suc, ◌+◌, ◌-◌, ◌≤◌, ◌<◌, Bool, true, false, cond, ◌&&◌, ◌||◌, ltb, ◌==◌, Option, Some, None, List, [], ◌∷◌, length, drop, find, slice_get, refl, ◌∙◌, ap}
+use Rattle.std.{proofs.{Common.{arith}, Math.Bool.{or-false}}, specs.{Option.{option_or}, List.{list_any}}}
+use Rattle.mm_statement.specs.Language.Item.{first_symbol, Kind, Floating, Item, is_constants, is_variables, is_disjoint, is_floating, is_declaring, is_expression, is_labelled, labels_of}
 use Rattle.mm_frame.specs.Language.Scope.{is_inside}
-use Rattle.mm_frame.specs.Language.Sound.{closing_word, passes, at_symbol, each, first, second, later, is_third, is_repeated, is_declared, is_active_symbol, is_label, is_no_constant, is_no_variable}
+use Rattle.mm_frame.specs.Language.Sound.{closing_word, at_symbol, each, first, second, later, is_third, is_repeated, is_declared, is_active_symbol, is_label, is_no_constant, is_no_variable}
 use Rattle.mm_frame.specs.Language.Sound.{is_no_active_symbol, is_untyped, is_typed, is_typed_otherwise, is_short, numbers, number_at, fault_or, fault_from, fault}
 use Rattle.mm_frame.specs.declared.FrameNumber.{FrameNumber, TheVariants.{F01, F02, F03, F04, F05, F06, F07, F08, F09, F10, F11, F12, F13, F14}}
 use Rattle.mm_frame.specs.Code.FaultInOrder.{first_fault, typecode_fault, typed_fault, floating_fault, symbol_fault_of, labels_fault, front_fault, end_fault, symbols_fault, fault_by_kind}
@@ -50,13 +48,11 @@ at_name n name test = test n name
 -- at word 0, by the kind of the statement
 start_of : (kind : Kind) (before : List Item) (item : Item)
     → number_of kind before item false true nothing ≡ cond (is_constants kind && is_inside before) (Some F02) (cond (list_any (is_label before) (labels_of item)) (Some F06) (cond (list_any (is_declared before) (labels_of item)) (Some F07) None))
-start_of Constants before item = refl
-start_of _ before item = refl
+start_of kind before item = grind (arith, common_steps) steps 200000
 
 -- at a keyword after a label
 keyword_of : (kind : Kind) (before : List Item) (item : Item) → number_of kind before item false false nothing ≡ None
-keyword_of Constants before item = refl
-keyword_of _ before item = refl
+keyword_of kind before item = grind (arith, common_steps) steps 200000
 
 -- after the last symbol
 end_of : (kind : Kind) (before : List Item) (item : Item) (ends : Bool) → number_of kind before item ends false nothing ≡ cond ends (Some F01) None
@@ -73,25 +69,12 @@ third_is : (n : ℕ) (x y z w : Bool)
 third_is zero x y z w = refl
 third_is (suc zero) x y z w = refl
 third_is (suc (suc zero)) x y z w = refl
-third_is (suc (suc (suc n))) x y z w = same (suc (suc (suc n)) == 0) (suc (suc (suc n)) == 1) (suc (suc (suc n)) == 2)
-    (ne_eqb (suc (suc (suc n))) 0 (λ e. omega arith)) (ne_eqb (suc (suc (suc n))) 1 (λ e. omega arith)) (ne_eqb (suc (suc (suc n))) 2 (λ e. omega arith))
-  where
-    same : (a b c : Bool) → a ≡ false → b ≡ false → c ≡ false
-        → cond c (Some F01) (cond (a && x) (Some F08) (cond (b && y) (Some F09) (cond (b && z) (Some F12) (cond (b && w) (Some F13) None)))) ≡ cond a
-        (cond x (Some F08) None) (cond b (cond y (Some F09) (cond z (Some F12) (cond w (Some F13) None))) (cond c (Some F01) None))
-    same a b c p q r = (λ i. cond (r i) (Some F01) (cond (p i && x) (Some F08) (cond (q i && y) (Some F09) (cond (q i && z) (Some F12) (cond (q i && w) (Some F13) None)))))
-        ∙ sym (λ i. cond (p i) (cond x (Some F08) None) (cond (q i) (cond y (Some F09) (cond z (Some F12) (cond w (Some F13) None))) (cond (r i) (Some F01) None)))
+third_is (suc (suc (suc n))) x y z w = grind (arith, common_steps, ne_eqb) steps 200000
 
 -- at a symbol of a `$e`, `$a` or `$p`
 expression_is : (n : ℕ) (x y z : Bool) → cond (n == 0 && x) (Some F08) (cond (ltb 0 n && y) (Some F10) (cond (ltb 0 n && z) (Some F11) None)) ≡ cond (n == 0) (cond x (Some F08) None) (cond y (Some F10) (cond z (Some F11) None))
-expression_is zero x y z = by_first x
-  where
-    by_first : (b : Bool) → cond b (Some F08) None ≡ cond b (Some F08) None
-    by_first b = refl
-expression_is (suc n) x y z = same (suc n == 0) (ltb 0 (suc n)) (ne_eqb (suc n) 0 (λ e. omega arith)) (lt-ltb 0 (suc n) (omega arith))
-  where
-    same : (a b : Bool) → a ≡ false → b ≡ true → cond (a && x) (Some F08) (cond (b && y) (Some F10) (cond (b && z) (Some F11) None)) ≡ cond a (cond x (Some F08) None) (cond y (Some F10) (cond z (Some F11) None))
-    same a b p q = (λ i. cond (p i && x) (Some F08) (cond (q i && y) (Some F10) (cond (q i && z) (Some F11) None))) ∙ sym (λ i. cond (p i) (cond x (Some F08) None) (cond y (Some F10) (cond z (Some F11) None)))
+expression_is zero x y z = grind (arith, common_steps) steps 200000
+expression_is (suc n) x y z = grind (arith, common_steps, lt-ltb, ne_eqb) steps 200000
 
 -- what is wrong with a symbol; only the third one of a `$f` is one too many
 abbrev symbol_number : Kind → List Item → Item → ℕ → List ℕ → Option FrameNumber
@@ -99,31 +82,18 @@ symbol_number Floating before item n name = third_fault before item n name
 symbol_number kind before item n name = symbol_fault_of kind before item n name
 
 symbol_of : (kind : Kind) (before : List Item) (item : Item) (n : ℕ) (name : List ℕ) → number_of kind before item false false (at_name n name) ≡ symbol_number kind before item n name
-symbol_of Constants before item n name = λ i. cond (is_repeated item n name) (Some F03) (cond (or-false (is_declared before name) i) (Some F04) (cond (is_label before name) (Some F05) None))
-symbol_of Disjoint before item n name = λ i. cond (is_repeated item n name) (Some F03) (cond (or-false (is_no_variable before name) i) (Some F09) None)
-symbol_of Floating before item n name = third_is n (is_no_constant before name) (is_no_variable before name) (is_typed before name) (is_typed_otherwise before item name)
-symbol_of Essential before item n name = expression_is n (is_no_constant before name) (is_no_active_symbol before name) (is_untyped before name)
-symbol_of Axiom before item n name = expression_is n (is_no_constant before name) (is_no_active_symbol before name) (is_untyped before name)
-symbol_of Theorem before item n name = expression_is n (is_no_constant before name) (is_no_active_symbol before name) (is_untyped before name)
-symbol_of _ before item n name = refl
+symbol_of kind before item n name = grind (arith, common_steps, expression_is, or-false, third_is) steps 200000
 
 -- where no symbol is
 before_symbols : (test : ℕ → List ℕ → Bool) (item : Item) (word : ℕ) → word < first_symbol item → at_symbol test item word ≡ false
-before_symbols test item word l = and_left (leb (first_symbol item) word) _ (by_test (leb (first_symbol item) word) refl)
-  where
-    by_test : (b : Bool) → leb (first_symbol item) word ≡ b → b ≡ false
-    by_test false e = refl
-    by_test true e = let h = Rattle.std.proofs.lemmas.Bool.leb-true (first_symbol item) word e in absurd (omega arith)
+before_symbols test item word l = grind (arith, common_steps, and_left) steps 200000
 
 at_closing : (test : ℕ → List ℕ → Bool) (item : Item) → at_symbol test item (closing_word item) ≡ false
-at_closing test item = and_right (leb (first_symbol item) (closing_word item)) (passes (test (closing_word item - first_symbol item)) (slice_get item.symbols (closing_word item - first_symbol item)))
-    (subst (λ o. passes (test (closing_word item - first_symbol item)) o ≡ false) (sym (slice_get_past item.symbols (closing_word item - first_symbol item) (omega arith))) refl)
+at_closing test item = grind (arith, common_steps, slice_get_past item.symbols (closing_word item - first_symbol item) (omega arith), and_right) steps 200000
 
 -- where a symbol is
 at_place : (test : ℕ → List ℕ → Bool) (item : Item) (n : ℕ) (name : List ℕ) → slice_get item.symbols n ≡ Some name → at_symbol test item (first_symbol item + n) ≡ test n name
-at_place test item n name g =
-    let d : first_symbol item + n - first_symbol item ≡ n = omega arith in
-    (λ i. le-leb (first_symbol item) (first_symbol item + n) (omega arith) i && passes (test (d i)) (slice_get item.symbols (d i))) ∙ ap (passes (test n)) g
+at_place test item n name g = grind (arith, common_steps, le-leb) steps 200000
 
 not_closing : (item : Item) (word : ℕ) → (word ≡ closing_word item → ⊥) → (is_short item.kind (length item.symbols) && word == closing_word item) ≡ false
 not_closing item word n = and_right (is_short item.kind (length item.symbols)) (word == closing_word item) (ne_eqb word (closing_word item) n)
@@ -157,27 +127,17 @@ is_one_at_most (x ∷ []) = true
 is_one_at_most _ = false
 
 one_label : (item : Item) → is_one_at_most (labels_of item) ≡ true
-one_label item = by_label (is_labelled item.kind) item.label
-  where
-    by_label : (b : Bool) (label : Option (List ℕ)) → is_one_at_most (cond b (option_to_list label) []) ≡ true
-    by_label true None = refl
-    by_label true (Some name) = refl
-    by_label false label = refl
+one_label item = grind (arith, common_steps) steps 200000
 
 label_is : (before : List Item) (labels : List (List ℕ)) → is_one_at_most labels ≡ true → cond (list_any (is_label before) labels) (Some F06) (cond (list_any (is_declared before) labels) (Some F07) None) ≡ labels_fault before labels
-label_is before [] h = refl
-label_is before (label ∷ []) h = λ i. cond (or-false (is_label before label) i) (Some F06) (cond (or-false (is_declared before label) i) (Some F07) None)
-label_is before (label ∷ other ∷ labels) h = absurd (false≢true h)
+label_is before labels h = grind (arith, common_steps, false≢true, or-false) steps 200000
 
 front_is : (before : List Item) (item : Item) → number_at before item 0 ≡ front_fault before item
 front_is before item = start_is before item ∙ start_of item.kind before item ∙ ap (λ w. cond (is_constants item.kind && is_inside before) (Some F02) w) (label_is before (labels_of item) (one_label item))
 
 -- words at which nothing is found are passed over
 pass_over : (before : List Item) (item : Item) (start gap more : ℕ) → ((word : ℕ) → start ≤ word → word < start + gap → number_at before item word ≡ None) → fault_from before item start (gap + more) ≡ fault_from before item (start + gap) more
-pass_over before item start zero more h =
-    let none : 0 + more ≡ more = omega arith in
-    let here : start ≡ start + 0 = omega arith in
-    λ i. fault_from before item (here i) (none i)
+pass_over before item start zero more h = grind (arith, common_steps) steps 200000
 pass_over before item start (suc gap) more h =
     let next : suc gap + more ≡ suc (gap + more) = omega arith in
     let there : suc start + gap ≡ start + suc gap = omega arith in
@@ -194,11 +154,10 @@ from_symbol before item test word n (name ∷ symbols) h =
     let i = from_symbol before item test (suc word) (suc n) symbols (λ k other g. ap (number_at before item) (omega arith) ∙ h (suc k) other g ∙ ap (λ w. test w other) (omega arith)) in
     let f : number_at before item word ≡ test n name = ap (number_at before item) (omega arith) ∙ h 0 name refl ∙ ap (λ w. test w name) (omega arith) in
     ap (fault_from before item word) e ∙ (λ j. fault_or word (f j) (i j)) ∙ joined (test n name) word (first_fault test (suc word) (suc n) symbols) (fault_or (suc word + length symbols) (number_at before item (suc word + length symbols)) None)
-    ∙ ap (λ w. option_or (first_fault test word n (name ∷ symbols)) (fault_or w (number_at before item w) None)) (omega arith)
-  where
-    joined : (o : Option FrameNumber) (w : ℕ) (a b : Option (ℕ × FrameNumber)) → fault_or w o (option_or a b) ≡ option_or (fault_or w o a) b
-    joined None w a b = refl
-    joined (Some m) w a b = refl
+    ∙ ap (λ w. option_or (first_fault test word n (name ∷ symbols)) (fault_or w (number_at before item w) None)) (omega arith) where
+      joined : (o : Option FrameNumber) (w : ℕ) (a b : Option (ℕ × FrameNumber)) → fault_or w o (option_or a b) ≡ option_or (fault_or w o a) b
+      joined None w a b = refl
+      joined (Some m) w a b = refl
 
 -- after a third symbol of a `$f` nothing is looked at
 third_first : (before : List Item) (item : Item) (word : ℕ) (symbols : List (List ℕ)) → first_fault (third_fault before item) word 0 symbols ≡ first_fault (floating_fault before item) word 0 symbols

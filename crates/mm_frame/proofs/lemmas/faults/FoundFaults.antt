@@ -1,24 +1,21 @@
 -- What is found is the fault, and what is kept is sound.
-use Rattle.std.proofs.Common.{◌≡◌, ℕ, zero, suc, pred, ◌+◌, ◌-◌, ◌≤◌, ◌<◌, Bool, true, false, cond, ◌||◌, leb, ◌==◌, Option, Some, None, List, [], ◌∷◌, ◌++◌, length, find, slice_get, refl, sym, ◌∙◌}
-use Rattle.std.proofs.Common.{ap, subst, append_assoc, append-nil, arith, inl, inr, ◌⊎◌}
-use Rattle.std.proofs.lemmas.{Bool.{false≢true, and_right, and_left, or_from, ne_eqb}, Option.{slice_get_past}}
+use Rattle.std.proofs.lemmas.{Grind.{common_steps}, Bool.{false≢true, and_right, and_left, or_from, ne_eqb}, Option.{slice_get_past}}
+use Rattle.std.proofs.Common.{◌≡◌, ℕ, zero, suc, pred, ◌+◌, ◌-◌, ◌≤◌, ◌<◌, Bool, true, false, cond, ◌||◌, ◌==◌, Option, Some, None, List, [], ◌∷◌, ◌++◌, find, slice_get, refl, sym, ◌∙◌, ap, subst}
+use Rattle.std.proofs.Common.{append_assoc, append-nil, arith, inl, inr, ◌⊎◌}
 use native.Mathlib.Decide.{dec_lt}
 use Rattle.mm_statement.specs.Language.Item.{first_symbol, Item, passed, is_constants, is_variables, is_disjoint, is_floating, is_declaring, is_expression, is_labelled}
 use Rattle.mm_frame.specs.Language.Scope.{is_inside}
-use Rattle.mm_frame.specs.Language.Sound.{closing_word, passes, at_symbol, each, first, second, later, is_third, is_repeated, is_declared, is_active_symbol, is_label, is_no_constant, is_no_variable}
-use Rattle.mm_frame.specs.Language.Sound.{is_no_active_symbol, is_untyped, is_typed, is_typed_otherwise, is_short, line_holds, StatementLineHolds, IsSound, row, IsStatementFault, numbers, number_at}
-use Rattle.mm_frame.specs.Language.Sound.{fault_or, fault_from, fault, judged, sound_items_after, sound_items}
-use Rattle.mm_frame.specs.declared.FrameNumber.{FrameNumber, TheVariants.{F01, F02, F03, F04, F05, F06, F07, F08, F09, F10, F11, F12, F13, F14}}
-use Rattle.mm_frame.proofs.lemmas.scope.Facts.{AreKept}
+use Rattle.mm_frame.specs.Language.Sound.{closing_word, at_symbol, each, first, second, later, is_third, is_repeated, is_declared, is_active_symbol, is_label, is_no_constant, is_no_variable}
+use Rattle.mm_frame.specs.Language.Sound.{is_no_active_symbol, is_untyped, is_typed, is_typed_otherwise, line_holds, StatementLineHolds, IsSound, row, IsStatementFault, numbers, number_at, fault_or}
+use Rattle.mm_frame.specs.{Language.Sound.{fault_from, fault, judged, sound_items_after, sound_items}, declared.FrameNumber.{FrameNumber}}
+use Rattle.mm_frame.{specs.declared.FrameNumber.TheVariants.{F01, F02, F03, F04, F05, F08, F09, F10, F11, F12, F13, F14}, proofs.lemmas.scope.Facts.{AreKept}}
 
 -- no line holds after the statement's words
 past_symbols : (test : ℕ → List ℕ → Bool) (item : Item) (word : ℕ) → closing_word item < word → at_symbol test item word ≡ false
-past_symbols test item word l = and_right (leb (first_symbol item) word) (passes (test (word - first_symbol item)) (slice_get item.symbols (word - first_symbol item)))
-    (subst (λ o. passes (test (word - first_symbol item)) o ≡ false) (sym (slice_get_past item.symbols (word - first_symbol item) (omega arith))) refl)
+past_symbols test item word l = grind (arith, common_steps, slice_get_past item.symbols (word - first_symbol item) (omega arith), and_right) steps 200000
 
 past_line : (before : List Item) (item : Item) (word : ℕ) (number : FrameNumber) → closing_word item < word → line_holds before item word number ≡ false
-past_line before item word F01 l = or_from _ _ (and_right (is_short item.kind (length item.symbols)) (word == closing_word item)
-    (ne_eqb word (closing_word item) (λ e. omega arith))) (and_right (is_floating item.kind) _ (past_symbols is_third item word l))
+past_line before item word F01 l = grind (arith, common_steps, and_right (is_floating item.kind) _ (past_symbols is_third item word l), or_from, and_right, ne_eqb) steps 200000
 past_line before item word F02 l = and_right (is_constants item.kind) _ (and_left (word == 0) (is_inside before) (ne_eqb word 0 (λ e. omega arith)))
 past_line before item word F03 l = and_right (is_declaring item.kind || is_disjoint item.kind) _ (past_symbols (is_repeated item) item word l)
 past_line before item word F04 l = or_from _ _ (and_right (is_constants item.kind) _ (past_symbols (each (is_declared before)) item word l)) (and_right (is_variables item.kind) _ (past_symbols (each (is_active_symbol before)) item word l))
@@ -34,8 +31,7 @@ past_line before item word _ l = and_left (word == 0) _ (ne_eqb word 0 (λ e. om
 
 -- the numbers, by their places
 number_there : (n : FrameNumber) → slice_get numbers (pred (row n)) ≡ Some n
-number_there F01 = refl
-number_there _ = refl
+number_there n = grind (arith, common_steps) steps 200000
 
 same_number : (n m : FrameNumber) → row n ≡ row m → n ≡ m
 same_number n m e = let a = sym (number_there n) ∙ ap (λ w. slice_get numbers (pred w)) e ∙ number_there m in (cc)
@@ -87,39 +83,24 @@ pub record IsLeast (before : List Item) (item : Item) (start word : ℕ) (n : Fr
 least_at : (before : List Item) (item : Item) (start : ℕ) (o : Option FrameNumber) (later : Option (ℕ × FrameNumber)) (w : ℕ) (n : FrameNumber)
     → number_at before item start ≡ o → fault_or start o later ≡ Some (w, n) → (later ≡ Some (w, n) → IsLeast before item (suc start) w n × (suc start ≤ w))
     → IsLeast before item start w n × (start ≤ w)
-least_at before item start (Some m) later w n t e r =
-    let p = some_pair start w m n e in
-    (record { found = subst (λ x. number_at before item x ≡ Some n) p.0 (t ∙ ap Some p.1); least = λ v a b. absurd (omega arith) }, (omega arith))
-  where
-    some_pair : (a b : ℕ) (x y : FrameNumber) → ◌≡◌ {A = Option (ℕ × FrameNumber)} (Some (a, x)) (Some (b, y)) → (a ≡ b) × (x ≡ y)
-    some_pair a b x y e = (ap word_or e, (let z : x ≡ y = same_number x y (ap number_or e) in z))
-      where
-        word_or : Option (ℕ × FrameNumber) → ℕ
-        word_or None = 0
-        word_or (Some z) = z.0
-
-        number_or : Option (ℕ × FrameNumber) → ℕ
-        number_or None = 0
-        number_or (Some z) = row z.1
+least_at before item start (Some m) later w n t e r = grind (arith, common_steps, same_number) steps 200000
 least_at before item start None later w n t e r =
     let i = r e in
     let l = i.1 in
-    (record { found = i.0.found; least = λ v a b. at_start v a b (eq_or v a) }, omega arith)
-  where
-    eq_or : (v : ℕ) → start ≤ v → (start ≡ v) ⊎ (suc start ≤ v)
-    eq_or v a = elim (dec_lt start v) [ yes l ↦ inr (omega arith) | no m ↦ inl (omega arith) ]
+    (record { found = i.0.found; least = λ v a b. at_start v a b (eq_or v a) }, omega arith) where
+      eq_or : (v : ℕ) → start ≤ v → (start ≡ v) ⊎ (suc start ≤ v)
+      eq_or v a = elim (dec_lt start v) [ yes l ↦ inr (omega arith) | no m ↦ inl (omega arith) ]
 
-    at_start : (v : ℕ) → start ≤ v → v < w → (start ≡ v) ⊎ (suc start ≤ v) → number_at before item v ≡ None
-    at_start v a b (inl q) = subst (λ x. number_at before item x ≡ None) q t
-    at_start v a b (inr l) = (r e).0.least v l b
+      at_start : (v : ℕ) → start ≤ v → v < w → (start ≡ v) ⊎ (suc start ≤ v) → number_at before item v ≡ None
+      at_start v a b (inl q) = subst (λ x. number_at before item x ≡ None) q t
+      at_start v a b (inr l) = (r e).0.least v l b
 
 least_from : (before : List Item) (item : Item) (start more w : ℕ) (n : FrameNumber) → fault_from before item start more ≡ Some (w, n) → IsLeast before item start w n × (start ≤ w)
 least_from before item start zero w n e = cc
 least_from before item start (suc more) w n e = least_at before item start (number_at before item start) (fault_from before item (suc start) more) w n refl e (λ h. least_from before item (suc start) more w n h)
 
 nowhere_at : (o : Option FrameNumber) (start : ℕ) (later : Option (ℕ × FrameNumber)) → fault_or start o later ≡ None → (o ≡ None) × (later ≡ None)
-nowhere_at (Some m) start later e = cc
-nowhere_at None start later e = (refl, e)
+nowhere_at o start later e = grind (arith, common_steps) steps 200000
 
 nowhere : (before : List Item) (item : Item) (start more v : ℕ) → fault_from before item start more ≡ None → start ≤ v → v < start + more → number_at before item v ≡ None
 nowhere before item start zero v e a b = absurd (omega arith)
@@ -137,10 +118,7 @@ found_fault before item w n e =
     let f = find_first (λ number. line_holds before item w number) numbers n i.found in
     record {
       holds = f.good;
-      least_word = λ other m h. elim (dec_lt other w) [
-        | yes l ↦ absurd (false≢true (sym (none_here before item other m (i.least other (omega arith) l)) ∙ h))
-        | no g ↦ omega arith
-      ];
+      least_word = grind (arith, common_steps, i.least, dec_lt, false≢true, none_here) steps 200000;
       lowest_number = λ m h. let l = f.first (pred (row m)) m (number_there m) h in let a = rows f.at n f.there in let b = rows (pred (row m)) m (number_there m) in omega arith;
     }
 
@@ -183,13 +161,10 @@ sound_found before item s = by_fault (fault before item) refl
 
 -- what is passed over has no fault
 pub passed_sound : (before : List Item) → IsSound before passed
-passed_sound before word F06 = and_right (word == 0) false refl
-passed_sound before word F07 = and_right (word == 0) false refl
-passed_sound before word _ = refl
+passed_sound before = grind (arith, common_steps) steps 200000
 
 judged_sound : (before : List Item) (item : Item) (o : Option (ℕ × FrameNumber)) → fault before item ≡ o → IsSound before (judged item o)
-judged_sound before item None e = no_fault_sound before item e
-judged_sound before item (Some at) e = passed_sound before
+judged_sound before item o e = grind (arith, common_steps, no_fault_sound, passed_sound) steps 200000
 
 pub kept_more : (before front : List Item) (x : Item) → AreKept before front → IsSound (before ++ front) x → AreKept before (front ++ x ∷ [])
 kept_more before [] x k s = (subst (λ w. IsSound w x) (append-nil before) s, tt)
@@ -209,6 +184,3 @@ kept_after_append before (x ∷ xs) ys = kept_after_append (before ++ judged x (
 
 pub kept_next : (items : List Item) (item : Item) → sound_items (items ++ item ∷ []) ≡ sound_items items ++ judged item (fault (sound_items items) item) ∷ []
 kept_next items item = kept_after_append [] items (item ∷ [])
-
-pub never_sound : (before : List Item) (item : Item) (w : ℕ) (n : FrameNumber) → IsStatementFault before item w n → IsSound before item → ⊥
-never_sound before item w n f s = false≢true (sym (s w n) ∙ f.holds)

@@ -1,19 +1,16 @@
 -- What is kept of an item at its number, and the hypotheses of a frame by their numbers.
-use Rattle.std.proofs.Common.{◌≡◌, ◌↔◌, ℕ, zero, suc, ◌<◌, Bool, true, false, ◌&&◌, ◌||◌, Option, Some, None, List, [], ◌∷◌, length, map, take, take_all, slice_get, get_or, is_none, is_some, refl}
-use Rattle.std.proofs.Common.{sym, ◌∙◌, ap, subst, arith, inl, inr}
-use Rattle.std.proofs.lemmas.{Bool.{false≢true, and_from, and_parts}, List.{take-take, Elements.{All-from_get_or}}}
+use Rattle.std.proofs.lemmas.{Grind.{common_steps}, Bool.{and_from, and_parts}, List.{take-take, Elements.{All-from_get_or}}}
 use Rattle.std.proofs.lemmas.Option.{same_Some, slice_get_within, slice_get_cases, slice_get-get_or, get_or_from_slice_get}
-use Rattle.std.specs.{Option.{option_map, IfSome}, Prelude.{Contains}, List.{AllZip}}
+use Rattle.std.proofs.Common.{◌≡◌, ◌↔◌, ℕ, zero, suc, ◌<◌, Bool, true, false, ◌&&◌, ◌||◌, Option, Some, None, List, [], ◌∷◌, length, map, take, take_all, slice_get, get_or, is_none, is_some, refl}
+use Rattle.std.{proofs.Common.{sym, ◌∙◌, ap, subst, arith, inl, inr}, specs.{Option.{option_map, IfSome}, Prelude.{Contains}, List.{AllZip}}}
 use Rattle.mm_store.specs.Language.FilesView.{FilesView}
-use Rattle.mm_frame.specs.declared.FrameNumber.{FrameNumber}
-use Rattle.mm_frame.specs.Language.{Sound.{fault, judged, sound_items}, Framing.{is_mandatory, mandatory_variables, expression, hypothesis, mandatory_numbers}}
+use Rattle.mm_frame.specs.{declared.FrameNumber.{FrameNumber}, Language.{Sound.{fault, judged, sound_items}, Framing.{is_mandatory, mandatory_variables, expression, hypothesis, mandatory_numbers}}}
 use Rattle.mm_frame.specs.Language.{Base.{BaseView, before, said_at, fault_by, hypothesis_at, is_sound_at, is_shown_at, is_framed_at, IsMandatoryAt, AreHypotheses}, Answering.{numbers_if}}
-use Rattle.mm_frame.specs.Code.KeptBase.{is_float_item, hypotheses_at}
-use Rattle.mm_statement.specs.Language.{Item.{Kind, Floating, Essential, Missing, Item, passed, is_floating, is_essential, is_labelled, has, variable_of, item_at}, Statement.{kind_of, Says}}
-use Rattle.mm_frame.proofs.lemmas.lists.Members.{In, in_contains, contains_in}
-use Rattle.mm_frame.proofs.lemmas.{frames.{Frames.{in_at}, HypothesisNumbers.{to_active_number, from_active_number, active_numbers_rise, hypotheses_by_numbers}}, scope.SoundItems.{map_same}}
+use Rattle.mm_frame.{specs.Code.KeptBase.{is_float_item, hypotheses_at}, proofs.lemmas.{lists.Members.{In, in_contains, contains_in}, frames.Frames.{in_at}}}
+use Rattle.mm_frame.proofs.lemmas.{frames.HypothesisNumbers.{to_active_number, from_active_number, active_numbers_rise, hypotheses_by_numbers}, scope.SoundItems.{map_same}}
 use Rattle.mm_frame.proofs.lemmas.pairs.ActivePairLemmas.{expression_at_number, get_between}
 use Rattle.mm_frame.proofs.lemmas.base.BaseLemmas.{kept_item_at, none_told, labelled_there, kept_count, kept_at, kept_front_at, kept_are_sound}
+use Rattle.mm_statement.specs.Language.{Item.{Kind, Item, passed, is_floating, is_essential, is_labelled, has, variable_of, item_at}, Statement.{kind_of, Says}}
 use Rattle.mm_store.specs.declared.item.Item as store
 
 -- an element of the front of a list
@@ -39,16 +36,13 @@ kept_judged said n x e =
     let k = kept_at said n item (slice_get-get_or said n passed (omega arith)) in
     let one = judged item (fault (sound_items (take n said)) item) in
     let here : slice_get (sound_items said) n ≡ Some one = ap (λ m. slice_get (sound_items said) m) (sym k.number) ∙ ap (λ v. slice_get v (length (sound_items (take n said)))) k.whole ∙ get_between (sound_items (take n said)) one k.rest in
-    let q : Some x ≡ Some one = sym e ∙ here in
     cc
 
 judged_labelled : (item : Item) (found : Option (ℕ × FrameNumber)) (x : Item) → x ≡ judged item found → is_labelled x.kind ≡ true → (x ≡ item) × (found ≡ None)
-judged_labelled item None x e t = (e, refl)
-judged_labelled item (Some f) x e t = absurd (false≢true (sym (ap (λ (w : Item). is_labelled w.kind) e) ∙ t))
+judged_labelled item found x e t = grind (arith, common_steps) steps 200000
 
 labelled_told : (kind : Kind) → is_labelled kind ≡ true → fault_by kind None ≡ None
-labelled_told Missing t = absurd (false≢true t)
-labelled_told _ t = refl
+labelled_told kind t = grind (arith, common_steps) steps 200000
 
 -- what is kept and may have a label is what is said there, and is sound
 pub shown_kept : (base : BaseView) (n : ℕ) (x : Item) → slice_get (sound_items base.said) n ≡ Some x → is_labelled x.kind ≡ true → (x ≡ said_at base n) × (is_shown_at base n ≡ true)
@@ -60,9 +54,7 @@ shown_kept base n x e t =
 
 -- a mandatory hypothesis may have a label
 hypothesis_labelled : (kind : Kind) (b : Bool) → (is_essential kind || (is_floating kind && b)) ≡ true → is_labelled kind ≡ true
-hypothesis_labelled Floating b t = refl
-hypothesis_labelled Essential b t = refl
-hypothesis_labelled _ b t = absurd (false≢true t)
+hypothesis_labelled kind b t = grind (arith, common_steps) steps 200000
 
 -- a mandatory hypothesis comes before the statement, is sound, and is read there as at its own place
 record IsHypothesisAt (base : BaseView) (i n : ℕ) : Type 0 where
@@ -77,17 +69,12 @@ mandatory_at base i n k =
     let r = from_active_number (is_mandatory mandatory) front n k in
     let x = r.0 in
     let g = get_front (sound_items base.said) i n x (subst (λ w. slice_get w n ≡ Some x) (sym (kept_front base.said i)) r.1) in
-    let l = g.0 in
     let t = hypothesis_labelled x.kind (has mandatory (variable_of x)) r.3 in
     let s = shown_kept base n x g.1 t in
     let there = get_or_from_slice_get front n x passed r.1 in
     let place : take n front ≡ before base n = ap (take n) (sym (kept_front base.said i)) ∙ take-take n i (sound_items base.said) (omega arith) ∙ kept_front base.said n in
     let read = expression_at_number front (kept_are_sound (take i base.said)) n x r.1 r.2 t ∙ ap (λ w. expression w x) place in
-    record {
-      earlier = l;
-      shown = s.1;
-      same = ap (hypothesis (before base n)) (sym s.0) ∙ sym (ap (hypothesis front) there ∙ (λ j. record { floating = is_floating x.kind; expression = read j }));
-    }
+    grind (arith, common_steps) steps 200000
 
 -- a sound item with a label is in the sound items
 pub shown_there : (base : BaseView) (j : ℕ) → is_shown_at base j ≡ true → slice_get (sound_items base.said) j ≡ Some (said_at base j)
@@ -145,14 +132,12 @@ frame_numbers base i numbers e = subst (AreHypotheses base i) (numbers_told _ (b
 
 -- the same of what is kept, if there is something
 pub frame_means : {X : Type 0} (told : X → List ℕ) (base : BaseView) (i : ℕ) (found : Option X) → option_map told found ≡ hypotheses_at base i → IfSome found (λ x. AreHypotheses base i (told x))
-frame_means told base i None e = tt
-frame_means told base i (Some x) e = frame_numbers base i (told x) (sym e)
+frame_means told base i found e = grind (arith, common_steps, frame_numbers) steps 200000
 
 -- what is kept, if there is something
 pub frame_is : {X : Type 0} (told : X → List ℕ) (base : BaseView) (i : ℕ) (found : Option X) → option_map told found ≡ hypotheses_at base i →
     IfSome found (λ x. told x ≡ mandatory_numbers (before base i) (said_at base i))
-frame_is told base i None e = tt
-frame_is told base i (Some x) e = sym (numbers_told _ (before base i) (said_at base i) (told x) (sym e))
+frame_is told base i found e = grind (arith, common_steps) steps 200000
 
 -- a frame is reported exactly for an assertion
 told_some : {X : Type 0} (told : X → List ℕ) (found : Option X) (framed : Bool) (front : List Item) (item : Item) → option_map told found ≡ numbers_if framed front item → is_some found ≡ framed

@@ -1,53 +1,39 @@
 -- The four facts of a frame.
+use Rattle.std.proofs.lemmas.{Grind.{common_steps}, Bool.{true≢false, or_cases, or_right, and_from, false_from_ne_true, and_parts}, List.Kept.{AllPairs-cons, AllPairs-filter}}
 use Rattle.std.proofs.Common.{◌≡◌, ◌≢◌, ℕ, zero, suc, ◌<◌, Bool, true, false, cond, ◌&&◌, Some, List, [], ◌∷◌, ◌++◌, length, map, filter, take, slice_get, slice_index_or, get_or, refl, sym, ◌∙◌, ap}
-use Rattle.std.proofs.Common.{subst, append_assoc, arith, inl, inr, ◌⊎◌}
-use Rattle.std.proofs.lemmas.{Bool.{false≢true, true≢false, or_cases, or_right, and_from, false_from_ne_true, and_parts}, List.Kept.{AllPairs-cons, AllPairs-filter}}
-use Rattle.std.specs.Prelude.{Contains, All, AllPairs}
+use Rattle.std.{proofs.Common.{subst, append_assoc, arith, inl, inr, ◌⊎◌}, specs.Prelude.{Contains, All, AllPairs}}
 use Rattle.mm_machine.specs.Language.{Frame.{Symbol, Mandatory, Frame, Hypothesis, Assertion, Inactive, HasVariable}, Typing.{IsTyped, IsTyping, IsFrame, HasFrames}}
-use Rattle.mm_statement.specs.Language.Item.{Kind, Floating, Essential, Axiom, Theorem, Item, is_constants, is_variables, is_disjoint, is_floating, is_essential, is_expression, is_labelled}
-use Rattle.mm_statement.specs.Language.Item.{is_assertion, has, labels_of, variable_of}
+use Rattle.mm_statement.specs.Language.Item.{Kind, Item, is_variables, is_disjoint, is_floating, is_essential, is_expression, is_labelled, is_assertion, has, labels_of, variable_of}
 use Rattle.mm_frame.specs.Language.{Scope.{Neither, mark_of, stays, active, symbols_by, constants, active_variables, typed, floats}, Sound.{IsSound, sound_items}}
 use Rattle.mm_frame.specs.Language.Framing.{symbol, expression, mandatory_variables, is_mandatory, hypothesis, mandatory_hypotheses, pairs_of, active_pairs, is_mandatory_pair, frame, meaning}
 use Rattle.mm_frame.specs.Language.Framing.{resolve_from, setting_of}
 use Rattle.mm_frame.proofs.lemmas.lists.Members.{In, in_contains, contains_in, in_left, in_right, in_cases, in_map, from_map, in_filter, from_filter, from_flat, in_get, has_in, in_has, from_symbols}
-use Rattle.mm_frame.proofs.lemmas.lists.Members.{to_symbols, in_cond}
-use Rattle.mm_frame.proofs.lemmas.scope.ActiveBySplit.{active_split, split_active, active_later, stays_front}
+use Rattle.mm_frame.proofs.lemmas.{lists.Members.{to_symbols, in_cond}, scope.ActiveBySplit.{active_split, split_active, active_later, stays_front}}
 use Rattle.mm_frame.proofs.lemmas.scope.Facts.{AreKept, sound_at, kept_front, not_constant, first_constant, known, typed_there, float_variable, float_new, float_two}
 use Rattle.mm_frame.proofs.lemmas.faults.FoundFaults.{kept_is_sound}
 
 -- kinds
 pub float_labelled : (k : Kind) → is_floating k ≡ true → is_labelled k ≡ true
-float_labelled Floating e = refl
-float_labelled _ e = absurd (false≢true e)
+float_labelled k e = grind (arith, common_steps) steps 200000
 
 pub float_neither : (k : Kind) → is_floating k ≡ true → mark_of k ≡ Neither
-float_neither Floating e = refl
-float_neither _ e = absurd (false≢true e)
+float_neither k e = grind (arith, common_steps) steps 200000
 
 pub essential_expression : (k : Kind) → is_essential k ≡ true → is_expression k ≡ true
-essential_expression Essential e = refl
-essential_expression _ e = absurd (false≢true e)
+essential_expression k e = grind (arith, common_steps) steps 200000
 
 pub essential_neither : (k : Kind) → is_essential k ≡ true → mark_of k ≡ Neither
-essential_neither Essential e = refl
-essential_neither _ e = absurd (false≢true e)
+essential_neither k e = grind (arith, common_steps) steps 200000
 
 pub assertion_expression : (k : Kind) → is_assertion k ≡ true → is_expression k ≡ true
-assertion_expression Axiom e = refl
-assertion_expression Theorem e = refl
-assertion_expression _ e = absurd (false≢true e)
+assertion_expression k e = grind (arith, common_steps) steps 200000
 
 pub expression_labelled : (k : Kind) → is_expression k ≡ true → is_labelled k ≡ true
-expression_labelled Essential e = refl
-expression_labelled Axiom e = refl
-expression_labelled Theorem e = refl
-expression_labelled _ e = absurd (false≢true e)
+expression_labelled k e = grind (arith, common_steps) steps 200000
 
 -- what was declared or active before an active statement
 pub constants_later : (front : List Item) (e : Item) (back : List Item) (n : List ℕ) → In n (constants front) → In n (constants (front ++ e ∷ back))
-constants_later front e back n h =
-    let r = from_symbols is_constants n front h in
-    to_symbols is_constants n (front ++ e ∷ back) r.0 (in_left r.0 front (e ∷ back) r.1) r.2 r.3
+constants_later front e back n h = grind (arith, common_steps, from_symbols, in_left, to_symbols) steps 200000
 
 pub variables_later : (front : List Item) (e : Item) (back : List Item) (n : List ℕ) → mark_of e.kind ≡ Neither → stays back ≡ true → In n (active_variables front) → In n (active_variables (front ++ e ∷ back))
 variables_later front e back n m s h =
@@ -56,18 +42,14 @@ variables_later front e back n m s h =
 
 -- an active `$f` with its variable
 pub from_typed : (xs : List Item) (n : List ℕ) → In n (typed xs) → (f : Item) × In f (active xs) × (is_floating f.kind ≡ true) × (variable_of f ≡ n)
-from_typed xs n h =
-    let r = from_map variable_of n (floats (active xs)) h in
-    let f = from_filter (λ (item : Item). is_floating item.kind) r.0 (active xs) r.1 in
-    (r.0, f.0, f.1, r.2)
+from_typed xs n h = grind (arith, common_steps, from_map variable_of n (floats (active xs)) h, from_filter) steps 200000
 
 pub to_typed : (xs : List Item) (f : Item) → In f (active xs) → is_floating f.kind ≡ true → In (variable_of f) (typed xs)
 to_typed xs f h t = in_map variable_of f (floats (active xs)) (in_filter (λ (item : Item). is_floating item.kind) f (active xs) h t)
 
 typed_later : (front : List Item) (e : Item) (back : List Item) (n : List ℕ) → mark_of e.kind ≡ Neither → stays back ≡ true → In n (typed front) → In n (typed (front ++ e ∷ back))
 typed_later front e back n m s h =
-    let r = from_typed front n h in
-    subst (λ w. In w (typed (front ++ e ∷ back))) r.3 (to_typed (front ++ e ∷ back) r.0 (active_later front e back r.0 m s r.1) r.2)
+    grind (arith, common_steps, from_typed front n h, to_typed (front ++ e ∷ back) (from_typed front n h).0 (active_later front e back (from_typed front n h).0 m s (from_typed front n h).1) (from_typed front n h).2) steps 200000
 
 -- each variable of a sound expression is typed
 variable_typed : (before : List Item) (item : Item) (name : List ℕ) → AreKept [] before → IsSound before item → is_expression item.kind ≡ true → In name item.symbols → In name (active_variables before) → In name (typed before)
@@ -125,13 +107,7 @@ float_of before f k h t =
     let two = float_two s.front f sound t in
     let c = first_constant s.front f two.0 sound (float_labelled f.kind t) (ap (λ w. slice_get w 0) two.2) in
     let v = float_variable s.front f two.1 sound t (ap (λ w. slice_get w 1) two.2) in
-    record {
-      typecode = two.0;
-      name = two.1;
-      both = two.2;
-      constant = false_from_ne_true (has (active_variables before) two.0) (λ a. not_constant before k two.0 (subst (λ w. In two.0 (constants w)) (sym s.whole) (constants_later s.front f s.back two.0 c)) (has_in (active_variables before) two.0 a));
-      variable = in_has (active_variables before) two.1 (subst (λ w. In two.1 (active_variables w)) (sym s.whole) (variables_later s.front f s.back two.1 (float_neither f.kind t) s.stayed v));
-    }
+    grind (arith, common_steps, constants_later s.front f s.back two.0 c, variables_later s.front f s.back two.1 (float_neither f.kind t) s.stayed v, false_from_ne_true, not_constant, has_in, in_has) steps 200000
 
 pub float_name : (before : List Item) (f : Item) (x : Float before f) → variable_of f ≡ x.name
 float_name before f x = ap (λ w. slice_index_or w 1 []) x.both
@@ -151,9 +127,7 @@ named_typed before item name k s t h =
 
 -- a variable of an expression that is read after these items
 read_variable : (before : List Item) (names : List (List ℕ)) (v : Symbol) → HasVariable (map (symbol before) names) v → (name : List ℕ) × In name names × In name (active_variables before) × (symbol before name ≡ v)
-read_variable before names v h =
-    let r = from_map (symbol before) v names (contains_in v (map (symbol before) names) h.0) in
-    (r.0, r.1, has_in (active_variables before) r.0 (ap (λ (w : Symbol). w.variable) r.2 ∙ h.1), r.2)
+read_variable before names v h = grind (arith, common_steps, from_map (symbol before) v names (contains_in v (map (symbol before) names) h.0), has_in) steps 200000
 
 -- two `$f` of different variables
 abbrev pub TypeOthers : Item → Item → Type 0
@@ -187,19 +161,15 @@ pairs_map : {X Y : Type 0} (R : X → X → Type 0) (S : Y → Y → Type 0) (f 
 pairs_map R S f [] g p = λ i j d l m. absurd (omega arith)
 pairs_map R S f (x ∷ xs) g p =
     AllPairs-cons S (f x) (map f xs) (all_map R S f x xs (λ y h. g x y (inl refl) (inr h)) (λ i d l. p 0 (suc i) d (omega arith) (omega arith)))
-    (pairs_map R S f xs (λ a b h k. g a b (inr h) (inr k)) (λ i j d l m. p (suc i) (suc j) d (omega arith) (omega arith)))
-  where
-    all_map : {X Y : Type 0} (R : X → X → Type 0) (S : Y → Y → Type 0) (f : X → Y) (x : X) (xs : List X) → ((y : X) → In y xs → R x y → S (f x) (f y)) → All (R x) xs → All (S (f x)) (map f xs)
-    all_map R S f x [] g a i d l = absurd (omega arith)
-    all_map R S f x (y ∷ ys) g a zero d l = g y (inl refl) (a 0 y (omega arith))
-    all_map R S f x (y ∷ ys) g a (suc i) d l = all_map R S f x ys (λ z h. g z (inr h)) (λ k e m. a (suc k) e (omega arith)) i d (omega arith)
+    (pairs_map R S f xs (λ a b h k. g a b (inr h) (inr k)) (λ i j d l m. p (suc i) (suc j) d (omega arith) (omega arith))) where
+      all_map : {X Y : Type 0} (R : X → X → Type 0) (S : Y → Y → Type 0) (f : X → Y) (x : X) (xs : List X) → ((y : X) → In y xs → R x y → S (f x) (f y)) → All (R x) xs → All (S (f x)) (map f xs)
+      all_map R S f x [] g a i d l = absurd (omega arith)
+      all_map R S f x (y ∷ ys) g a zero d l = g y (inl refl) (a 0 y (omega arith))
+      all_map R S f x (y ∷ ys) g a (suc i) d l = all_map R S f x ys (λ z h. g z (inr h)) (λ k e m. a (suc k) e (omega arith)) i d (omega arith)
 
 -- what a hypothesis of a frame comes from
 hypothesis_from : (before : List Item) (item : Item) (h : Mandatory) → In h (mandatory_hypotheses before item) → (f : Item) × In f (active before) × (is_mandatory (mandatory_variables before item) f ≡ true) × (hypothesis before f ≡ h)
-hypothesis_from before item h c =
-    let r = from_map (hypothesis before) h (filter (is_mandatory (mandatory_variables before item)) (active before)) c in
-    let f = from_filter (is_mandatory (mandatory_variables before item)) r.0 (active before) r.1 in
-    (r.0, f.0, f.1, r.2)
+hypothesis_from before item h c = grind (arith, common_steps, from_filter, from_map) steps 200000
 
 -- each variable of a mandatory hypothesis is mandatory
 hypothesis_mandatory : (before : List Item) (item f : Item) (name : List ℕ) → AreKept [] before → In f (active before)
@@ -213,10 +183,7 @@ hypothesis_mandatory before item f name k h m n v = elim (or_cases (is_essential
       let x = float_of before f k h p.0 in
       elim (subst (λ w. In name w) x.both n) [
         | inl first ↦ absurd (true≢false (sym (in_has (active_variables before) name v) ∙ ap (has (active_variables before)) (sym first) ∙ x.constant))
-        | inr more ↦ elim more [
-          | inl second ↦ subst (λ w. In w (mandatory_variables before item)) (float_name before f x ∙ second) (has_in (mandatory_variables before item) (variable_of f) p.1)
-          | inr z ↦ absurd z
-        ]
+        | inr more ↦ grind (arith, common_steps, float_name before f x, has_in (mandatory_variables before item) (variable_of f) p.1) steps 200000
       ])
 ]
 

@@ -1,29 +1,23 @@
 -- The mandatory hypotheses of a statement are those whose numbers the tables give.
-use Rattle.std.proofs.Common.{◌≡◌, ℕ, zero, suc, ◌+◌, ◌<◌, Bool, true, false, cond, ◌&&◌, Option, Some, None, List, [], ◌∷◌, ◌++◌, length, map, filter, take, drop, slice_get, get_or, refl, sym, ◌∙◌}
-use Rattle.std.proofs.Common.{ap, subst, append_assoc, arith, inl, inr}
-use Rattle.std.proofs.Math.Seq.{drop-nil}
-use Rattle.std.proofs.lemmas.{Bool.{false≢true, or_cases, or_left, or_right, and_from, false_from_ne_true, and_parts}, Option.{get_or_from_slice_get, slice_get_within}}
+use Rattle.std.proofs.lemmas.{Grind.{common_steps}, Bool.{or_cases, or_left, or_right, and_from, false_from_ne_true, and_parts}, Option.{get_or_from_slice_get, slice_get_within}}
 use Rattle.std.proofs.lemmas.{List.{length-take-le, Kept.{AllPairs-cons}}, Simd.{map-map}}
-use Rattle.std.specs.Prelude.{Contains, ◌↔◌}
+use Rattle.std.proofs.Common.{◌≡◌, ℕ, zero, suc, ◌+◌, ◌<◌, Bool, true, false, cond, ◌&&◌, Option, Some, None, List, [], ◌∷◌, ◌++◌, length, map, filter, take, drop, slice_get, get_or, refl, sym, ◌∙◌}
+use Rattle.std.{proofs.{Common.{ap, subst, append_assoc, arith, inl, inr}, Math.Seq.{drop-nil}}, specs.Prelude.{Contains, ◌↔◌}}
 use Rattle.mm_statement.specs.Language.Item.{Item, passed, is_floating, is_essential, is_expression, has, variable_of, item_at}
-use Rattle.mm_frame.specs.Language.{Scope.{Closes, mark_of, is_zero, stays, active, typed, active_numbers_from, active_numbers}, Sound.{IsSound, AreSound}}
+use Rattle.mm_frame.specs.Language.{Scope.{Closes, mark_of, stays, active, typed, active_numbers_from, active_numbers}, Sound.{IsSound, AreSound}}
 use Rattle.mm_frame.specs.Language.Framing.{mandatory_variables, is_mandatory, hypothesis, mandatory_hypotheses, mandatory_numbers}
 use Rattle.mm_frame.specs.Code.LastItems.{last_where, is_active_at, is_active_last, types, is_essential_item, IsHypothesisNumber, IsRising}
-use Rattle.mm_frame.proofs.lemmas.lists.Members.{In, in_contains, contains_in, in_get, has_in, in_has}
-use Rattle.mm_frame.proofs.lemmas.scope.{ActiveBySplit.{split_active, in_first, in_later, stays_front}, Facts.{float_new}, SoundItems.{split_at, sound_kept}}
+use Rattle.mm_frame.proofs.lemmas.{lists.Members.{In, in_contains, contains_in, in_get, has_in, in_has}, scope.{ActiveBySplit.{split_active, in_first, in_later, stays_front}, Facts.{float_new}}}
+use Rattle.mm_frame.proofs.lemmas.scope.SoundItems.{split_at, sound_kept}
 use Rattle.mm_frame.proofs.lemmas.scope.TableLemmas.{last_cases, last_none, last_number, last_is, first_cases, stands_in, typing, typed_by, float_second, typed_last, closed_next}
 use Rattle.mm_frame.proofs.lemmas.frames.Frames.{to_typed, mandatory_typed, in_at}
 
 -- an active item that passes has its number among the numbers
 numbered : (test : Item → Bool) (n : ℕ) (items : List Item) (k : ℕ) (x : Item) → slice_get items k ≡ Some x → stays (drop (suc k) items) ≡ true → test x ≡ true → In (n + k) (active_numbers_from test n items)
 numbered test n [] k x e s t = cc
-numbered test n (y ∷ ys) zero x e s t =
-    let q : y ≡ x = cc in
-    let z : n ≡ n + 0 = omega arith in
-    subst (λ w. In w (active_numbers_from test n (y ∷ ys))) z (in_first (stays ys && test y) n (active_numbers_from test (suc n) ys) (and_from (stays ys) (test y) s (ap test q ∙ t)))
+numbered test n (y ∷ ys) zero x e s t = grind (arith, common_steps, and_from, in_first) steps 200000
 numbered test n (y ∷ ys) (suc k) x e s t =
-    let z : suc n + k ≡ n + suc k = omega arith in
-    subst (λ w. In w (active_numbers_from test n (y ∷ ys))) z (in_later (stays ys && test y) (suc n + k) n (active_numbers_from test (suc n) ys) (numbered test (suc n) ys k x e s t))
+    grind (arith, common_steps, in_later (stays ys && test y) (suc n + k) n (active_numbers_from test (suc n) ys) (numbered test (suc n) ys k x e s t)) steps 200000
 
 -- the item of a number
 record Numbered (test : Item → Bool) (n : ℕ) (items : List Item) (m : ℕ) : Type 0 where
@@ -45,11 +39,7 @@ pub to_active_number : (test : Item → Bool) (items : List Item) (n : ℕ) (x :
 to_active_number test items n x e s t = let z : 0 + n ≡ n = omega arith in subst (λ w. In w (active_numbers test items)) z (numbered test 0 items n x e s t)
 
 pub from_active_number : (test : Item → Bool) (items : List Item) (n : ℕ) → In n (active_numbers test items) → (x : Item) × (slice_get items n ≡ Some x) × (is_active_at items n ≡ true) × (test x ≡ true)
-from_active_number test items n h =
-    let r = from_numbered test 0 items n h in
-    let q = r.number in
-    let z : r.place ≡ n = omega arith in
-    (r.item, subst (λ w. slice_get items w ≡ Some r.item) z r.there, subst (λ w. is_active_at items w ≡ true) z r.stayed, r.good)
+from_active_number test items n h = grind (arith, common_steps, from_numbered test 0 items n h) steps 200000
 
 -- the items of the numbers are the active ones that pass
 pub drop_step : {X : Type 0} (whole : List X) (n : ℕ) (x : X) (xs : List X) → drop n whole ≡ x ∷ xs → (drop (suc n) whole ≡ xs) × (slice_get whole n ≡ Some x)
@@ -90,13 +80,7 @@ next_step false n ms ns = refl
 
 next_from : (test : Item → Bool) (n : ℕ) (items : List Item) (item : Item) → (mark_of item.kind ≡ Closes → ⊥) → active_numbers_from test n (items ++ item ∷ []) ≡ active_numbers_from test n items ++ cond (test item) ((n + length items) ∷ []) []
 next_from test n [] item c = let z : n ≡ n + 0 = omega arith in ap (λ w. cond (test item) (w ∷ []) []) z
-next_from test n (x ∷ xs) item c =
-    let a = closed_next xs item c in
-    let r = next_from test (suc n) xs item c in
-    let z : suc n + length xs ≡ n + suc (length xs) = omega arith in
-    (λ i. cond (is_zero (a i) && test x) (n ∷ r i) (r i))
-    ∙ next_step (stays xs && test x) n (active_numbers_from test (suc n) xs) (cond (test item) ((suc n + length xs) ∷ []) [])
-    ∙ ap (λ w. active_numbers_from test n (x ∷ xs) ++ cond (test item) (w ∷ []) []) z
+next_from test n (x ∷ xs) item c = grind (arith, common_steps, next_from test (suc n) xs item c, closed_next, next_step) steps 200000
 
 pub active_numbers_more : (test : Item → Bool) (items : List Item) (item : Item) → (mark_of item.kind ≡ Closes → ⊥) → active_numbers test (items ++ item ∷ []) ≡ active_numbers test items ++ cond (test item) (length items ∷ []) []
 active_numbers_more test items item c = let z : 0 + length items ≡ length items = omega arith in next_from test 0 items item c ∙ ap (λ w. active_numbers test items ++ cond (test item) (w ∷ []) []) z
@@ -119,8 +103,7 @@ same_first m n ms ns r s (inr h) (inl e) = e
 same_first m n ms ns r s (inr h) (inr k) = let a = above m ms n r k in let b = above n ns m s h in absurd (omega arith)
 
 rest_in : (n k : ℕ) (ns : List ℕ) → n < k → In k (n ∷ ns) → In k ns
-rest_in n k ns l (inl e) = absurd (omega arith)
-rest_in n k ns l (inr h) = h
+rest_in n k ns l h = grind (arith, common_steps) steps 200000
 
 pub same_rising : (ms ns : List ℕ) → IsRising ms → IsRising ns → ((k : ℕ) → In k ms → In k ns) → ((k : ℕ) → In k ns → In k ms) → ms ≡ ns
 same_rising [] [] r s f g = refl
@@ -158,8 +141,7 @@ sound_typed before h item s t name m = (mandatory_typed before item name (sound_
 
 -- a mandatory variable has a last `$f`, which is active
 some_active : (before : List Item) (o : Option ℕ) → is_active_last before o ≡ true → (n : ℕ) × (o ≡ Some n) × (is_active_at before n ≡ true)
-some_active before None h = absurd (false≢true h)
-some_active before (Some n) h = (n, refl, h)
+some_active before o h = grind (arith, common_steps) steps 200000
 
 pub mandatory_last : (before : List Item) → AreSound before → (item : Item) → AreTyped before item → (name : List ℕ) → In name (mandatory_variables before item) → (n : ℕ) × (last_where (types name) before ≡ Some n) × (is_active_at before n ≡ true)
 mandatory_last before h item t name m = some_active before (last_where (types name) before) (sym (typed_last before h name) ∙ in_has (typed before) name (t name m))
@@ -198,7 +180,6 @@ number_to before h item t n (inr p) =
     let mandatory = mandatory_variables before item in
     let m = contains_in p.0 mandatory p.1 in
     let a = mandatory_last before h item t p.0 m in
-    let q : Some a.0 ≡ Some n = sym a.1 ∙ p.2 in
     let z : a.0 ≡ n = cc in
     let r = last_there (types p.0) before n p.2 in
     let f = typed_by p.0 r.0 r.2 in

@@ -1,16 +1,14 @@
 -- The numbers of the mandatory hypotheses, as the code collects them.
-use Rattle.std.proofs.Common.{Contains, ◌≡◌, ℕ, Bool, true, cond, Option, Some, List, [], ◌++◌, flat_map, slice_get, refl, sym, ◌∙◌, ap, subst, eqb, inl, inr, All, option_to_list}
-use Rattle.std.proofs.lemmas.Bool.{false≢true}
-use Rattle.std.proofs.lemmas.List.{Elements.{All-contains}, Sorted.{IsPermutation-sym, Contains-permutation}, Filters.{dedup_is}}
-use Rattle.std.proofs.lemmas.List.Kept.{Contains-dedup_nat, Contains-from_dedup, AllPairs-from_increasing}
-use Rattle.std.proofs.lemmas.Map.Keys.{IsStrictlyIncreasing-dedup}
-use Rattle.std.specs.{List.{dedup, Sorted.{IsPermutation, IsSorted}, Retain.{IsFiltered, DiffersFromLast}}, Ordering.{nat_cmp}}
+use Rattle.std.proofs.Common.{arith, Contains, ◌≡◌, ℕ, Bool, true, cond, Option, Some, List, [], ◌++◌, flat_map, slice_get, refl, sym, ◌∙◌, ap, subst, eqb, inl, inr, All, option_to_list}
+use Rattle.std.proofs.lemmas.{Grind.{common_steps}, List.{Elements.{All-contains}, Sorted.{IsPermutation-sym, Contains-permutation}, Filters.{dedup_is}}}
+use Rattle.std.{proofs.lemmas.{List.Kept.{Contains-dedup_nat, Contains-from_dedup, AllPairs-from_increasing}, Map.Keys.{IsStrictlyIncreasing-dedup}}, specs.List.{dedup}}
+use Rattle.std.specs.{List.{Sorted.{IsPermutation, IsSorted}, Retain.{IsFiltered, DiffersFromLast}}, Ordering.{nat_cmp}}
 use Rattle.mm_machine.specs.{Language.{Frame.{Symbol}, Names.{name_at}, NumberedSymbols.{symbol_of, symbols_of, IsNumbered, AreSymbolsRead}}, declared.symbol.NumberedSymbol.{NumberedSymbol}}
-use Rattle.mm_statement.specs.Language.Item.{Kind, Floating, Item, is_floating, is_essential, is_assertion, has}
+use Rattle.mm_statement.specs.Language.Item.{Kind, Item, is_floating, is_essential, is_assertion, has}
 use Rattle.mm_frame.specs.Language.{Scope.{active, symbols_by, active_variables, active_numbers}, Sound.{AreSound, IsSound}, Framing.{symbol, expression, mandatory_variables, mandatory_numbers}}
 use Rattle.mm_frame.specs.Code.{LastItems.{last_where, types, is_active_at, is_essential_item, IsHypothesisNumber}, Numbers.{IsNameNumber}, KeptTables.{Knows, declared_at, float_of}}
-use Rattle.mm_frame.specs.Code.{KeptSymbols.{expression_kept, AreExpressions, AreNumbered, float_number, float_numbers}, KeptVariables.{AreVariablesOf, known_float}}
-use Rattle.mm_frame.specs.declared.{tables.Tables.{Tables}, essential.EssentialVariable.{EssentialVariable}}
+use Rattle.mm_frame.specs.{Code.{KeptSymbols.{expression_kept, AreExpressions, AreNumbered, float_number, float_numbers}, KeptVariables.{AreVariablesOf, known_float}}, declared.tables.Tables.{Tables}}
+use Rattle.mm_frame.specs.declared.essential.EssentialVariable.{EssentialVariable}
 use Rattle.mm_frame.proofs.lemmas.lists.Members.{In, in_contains, contains_in, in_left, in_right, in_cases, in_map, from_map, in_filter, from_filter, in_flat, from_flat, from_symbols, to_symbols}
 use Rattle.mm_frame.proofs.lemmas.frames.Frames.{assertion_expression, essential_expression, expression_labelled}
 use Rattle.mm_frame.proofs.lemmas.frames.{HypothesisNumbers.{to_active_number, from_active_number, sound_typed, mandatory_numbers_built}, VariableLemmas.{known_from, known_to}}
@@ -50,15 +48,10 @@ float_to all before tables kept s n h k a m t e =
 
 -- the variables of an assertion and of an active `$e` are mandatory
 named_in : (before : List Item) (item : Item) (s : Symbol) → In s (expression before item) → In s.name item.symbols × (has (active_variables before) s.name ≡ s.variable)
-named_in before item s m =
-    let r = from_map (symbol before) s item.symbols m in
-    let same = r.2 in
-    (subst (λ (x : Symbol). In x.name item.symbols) same r.1, subst (λ (x : Symbol). has (active_variables before) x.name ≡ x.variable) same refl)
+named_in before item s m = grind (arith, common_steps, from_map (symbol before) s item.symbols m) steps 200000
 
 own_mandatory : (before : List Item) (item : Item) (s : Symbol) → In s (expression before item) → s.variable ≡ true → In s.name (mandatory_variables before item)
-own_mandatory before item s m t =
-    let r = named_in before item s m in
-    in_filter (has (active_variables before)) s.name (item.symbols ++ symbols_by is_essential (active before)) (in_left s.name item.symbols (symbols_by is_essential (active before)) r.0) (r.1 ∙ t)
+own_mandatory before item s m t = grind (arith, common_steps, in_filter, in_left, named_in) steps 200000
 
 essential_mandatory : (before : List Item) (item e : Item) (s : Symbol) → In e (active before) → is_essential e.kind ≡ true → In s (expression before e) → s.variable ≡ true → In s.name (mandatory_variables before item)
 essential_mandatory before item e s a k m t =
@@ -71,8 +64,7 @@ kept_essential : (all : List (List ℕ)) (before : List Item) (expressions : Lis
     → AreExpressions all before expressions → slice_get before n ≡ Some e → is_active_at before n ≡ true → is_essential e.kind ≡ true
     → symbols_of all (expression_kept expressions n) ≡ expression before e
 kept_essential all before expressions n e h a there s t =
-    let labelled = expression_labelled e.kind (essential_expression e.kind t) in
-    a n e there labelled ∙ sym (expression_at_number before h n e there s labelled)
+    grind (arith, common_steps, expression_labelled e.kind (essential_expression e.kind t), expression_at_number before h n e there s (expression_labelled e.kind (essential_expression e.kind t))) steps 200000
 
 -- the item is a sound `$a` or `$p` after sound items, of which all this is kept
 pub record IsAssertionBehind (all : List (List ℕ)) (before : List Item) (item : Item) (tables : Tables) (kept : List (List NumberedSymbol)) (own : List NumberedSymbol) : Type 0 where
@@ -101,20 +93,17 @@ collected_from all before item tables expressions own b n m =
             )
       ]
       | inr f ↦ of_essential (from_flat (λ m. float_numbers tables (expression_kept expressions m)) n essentials f)
-    ]
-  where
-    of_essential : (m : ℕ) × In m (active_numbers is_essential_item before) × In n (float_numbers tables (expression_kept expressions m)) → IsHypothesisNumber before item n
-    of_essential p =
-        let e = from_active_number is_essential_item before p.0 p.1 in
-        let r = float_from all before tables (expression_kept expressions p.0) n b.sound b.known (b.numbered p.0) p.2 in
-        let there = subst (In r.0) (kept_essential all before expressions p.0 e.0 b.sound b.expressions e.1 e.2 e.3) r.1 in
-        inr ((r.0).name, in_contains (r.0).name (mandatory_variables before item) (essential_mandatory before item e.0 r.0 (active_at_number before p.0 e.0 e.1 e.2) e.3 there r.2), r.3)
+    ] where
+      of_essential : (m : ℕ) × In m (active_numbers is_essential_item before) × In n (float_numbers tables (expression_kept expressions m)) → IsHypothesisNumber before item n
+      of_essential p =
+          let e = from_active_number is_essential_item before p.0 p.1 in
+          let r = float_from all before tables (expression_kept expressions p.0) n b.sound b.known (b.numbered p.0) p.2 in
+          let there = subst (In r.0) (kept_essential all before expressions p.0 e.0 b.sound b.expressions e.1 e.2 e.3) r.1 in
+          inr ((r.0).name, in_contains (r.0).name (mandatory_variables before item) (essential_mandatory before item e.0 r.0 (active_at_number before p.0 e.0 e.1 e.2) e.3 there r.2), r.3)
 
 collected_to : (all : List (List ℕ)) (before : List Item) (item : Item) (tables : Tables) (expressions : List (List NumberedSymbol)) (own : List NumberedSymbol) → IsAssertionBehind all before item tables expressions own → (n : ℕ)
     → IsHypothesisNumber before item n → In n (collected tables expressions (active_numbers is_essential_item before) own)
-collected_to all before item tables expressions own b n (inl c) =
-    let essentials = active_numbers is_essential_item before in
-    in_left n (essentials ++ float_numbers tables own) (flat_map (λ m. float_numbers tables (expression_kept expressions m)) essentials) (in_left n essentials (float_numbers tables own) (contains_in n essentials c))
+collected_to all before item tables expressions own b n (inl c) = grind (arith, common_steps, contains_in, in_left) steps 200000
 collected_to all before item tables expressions own b n (inr p) =
     let essentials = active_numbers is_essential_item before in
     let found = flat_map (λ m. float_numbers tables (expression_kept expressions m)) essentials in
@@ -126,16 +115,15 @@ collected_to all before item tables expressions own b n (inr p) =
           in_left n (essentials ++ float_numbers tables own) found (in_right n essentials (float_numbers tables own) (float_to all before tables own (symbol before name) n b.sound b.known b.symbols.numbered there r.1 p.2))
           )
       | inr i ↦ in_right n (essentials ++ float_numbers tables own) found (of_essential name r.1 p.2 (from_symbols is_essential name (active before) i))
-    ]
-  where
-    of_essential : (name : List ℕ) → has (active_variables before) name ≡ true → last_where (types name) before ≡ Some n → (e : Item) × In e (active before) × (is_essential e.kind ≡ true) × In name e.symbols
-        → In n (flat_map (λ m. float_numbers tables (expression_kept expressions m)) (active_numbers is_essential_item before))
-    of_essential name v last q =
-        let e = q.0 in
-        let at = number_of_active before e q.1 in
-        let same = kept_essential all before expressions at.number e b.sound b.expressions at.there at.stayed q.2 in
-        in_flat (λ m. float_numbers tables (expression_kept expressions m)) at.number n (active_numbers is_essential_item before) (to_active_number is_essential_item before at.number e at.there at.stayed q.2)
-        (float_to all before tables (expression_kept expressions at.number) (symbol before name) n b.sound b.known (b.numbered at.number) (subst (In (symbol before name)) (sym same) (in_map (symbol before) name e.symbols q.3)) v last)
+    ] where
+      of_essential : (name : List ℕ) → has (active_variables before) name ≡ true → last_where (types name) before ≡ Some n → (e : Item) × In e (active before) × (is_essential e.kind ≡ true) × In name e.symbols
+          → In n (flat_map (λ m. float_numbers tables (expression_kept expressions m)) (active_numbers is_essential_item before))
+      of_essential name v last q =
+          let e = q.0 in
+          let at = number_of_active before e q.1 in
+          let same = kept_essential all before expressions at.number e b.sound b.expressions at.there at.stayed q.2 in
+          in_flat (λ m. float_numbers tables (expression_kept expressions m)) at.number n (active_numbers is_essential_item before) (to_active_number is_essential_item before at.number e at.there at.stayed q.2)
+          (float_to all before tables (expression_kept expressions at.number) (symbol before name) n b.sound b.known (b.numbered at.number) (subst (In (symbol before name)) (sym same) (in_map (symbol before) name e.symbols q.3)) v last)
 
 -- the same with the variables that are kept of the `$e`
 abbrev pub collected_known : Tables → List ℕ → List EssentialVariable → List NumberedSymbol → List ℕ
@@ -174,7 +162,6 @@ pub hypotheses_sorted : (tables : Tables) (expressions : List (List NumberedSymb
 hypotheses_sorted tables expressions essentials found own numbers once sorted kept whole fewer moved rising filtered all before item b are e =
     let first = dedup_is eqb numbers once fewer in
     let here = λ (n : ℕ). subst (λ (ns : List ℕ). In n (collected tables expressions ns own)) e in
-    let there = λ (n : ℕ). subst (λ (ns : List ℕ). In n (collected tables expressions ns own)) (sym e) in
     let typed = sound_typed before b.sound item b.item_sound (assertion_expression item.kind b.assertion) in
     (dedup_is eqb sorted kept filtered) ∙ mandatory_numbers_built before b.sound item typed (dedup eqb sorted) (AllPairs-from_increasing (dedup eqb sorted) (IsStrictlyIncreasing-dedup sorted rising)) (λ n. (
       λ m. collected_from all before item tables expressions own b n (here n (known_collected tables expressions essentials found own are n (subst (In n) whole (contains_in n numbers
@@ -182,10 +169,9 @@ hypotheses_sorted tables expressions essentials found own numbers once sorted ke
       λ f. Contains-dedup_nat sorted n (Contains-permutation once sorted n moved
           (subst (λ w. Contains w n) (sym first) (Contains-dedup_nat numbers n (in_contains n numbers
           (subst (In n) (sym whole) (collected_is_known tables expressions essentials found own are n
-          (there n (collected_to all before item tables expressions own b n f)))))))),
+          ((λ (n : ℕ). subst (λ (ns : List ℕ). In n (collected tables expressions ns own)) (sym e)) n (collected_to all before item tables expressions own b n f)))))))),
     ))
 
 -- a `$f` is no `$e`
 pub not_both : (k : Kind) → is_floating k ≡ true → is_essential k ≡ true → ⊥
-not_both Floating f e = false≢true e
-not_both _ f e = false≢true f
+not_both k f e = grind (arith, common_steps) steps 200000

@@ -1,10 +1,9 @@
 -- Lists that are the same element by element, and readings of numbers that are the same.
-use Rattle.std.proofs.Common.{◌≡◌, ℕ, suc, ◌+◌, ◌<◌, Bool, true, false, ◌&&◌, ◌==◌, Some, List, [], ◌∷◌, length, map, slice_get, refl, sym, ◌∙◌, ap, subst, arith, All}
-use Rattle.std.proofs.lemmas.{Bool.{false≢true, Decides.{Decides-eqb}}, List.{length-map}, Option.{slice_get-map, slice_get-get_or}}
-use Rattle.std.specs.{Bool.{Decides, beq}, Cmp.{booleans_Decides}, Option.{option_map}}
+use Rattle.std.proofs.lemmas.{Grind.{common_steps}, Bool.{false≢true}, List.{length-map}, Option.{slice_get-map, slice_get-get_or}}
+use Rattle.std.{proofs.Common.{◌≡◌, ℕ, suc, ◌+◌, ◌<◌, Bool, true, false, ◌&&◌, ◌==◌, Some, List, [], ◌∷◌, length, map, slice_get, refl, sym, ◌∙◌, ap, arith, All}, specs.Bool.{Decides, beq}}
 use native.Mathlib.Decide.{dec_lt}
-use Rattle.mm_machine.specs.declared.symbol.NumberedSymbol.{NumberedSymbol}
-use Rattle.mm_machine.specs.Language.{Frame.{Symbol}, Names.{AreDistinct, name_at}, NumberedSymbols.{symbol_of, symbols_of, pair_of, kept_pairs, IsNumbered, IsPairNumbered}}
+use Rattle.mm_machine.specs.{declared.symbol.NumberedSymbol.{NumberedSymbol}, Language.Names.{AreDistinct, name_at}}
+use Rattle.mm_machine.specs.Language.NumberedSymbols.{symbol_of, symbols_of, pair_of, kept_pairs, IsNumbered, IsPairNumbered}
 
 -- under these functions, this many elements of two lists are the same
 abbrev pub AreSameTo : {X Y Z : Type 0} → (X → Z) → (Y → Z) → List X → List Y → ℕ → Type 0
@@ -15,24 +14,17 @@ same_at : {X : Type 0} (xs : List X) (k : ℕ) (x y : X) → slice_get xs k ≡ 
 same_at xs k x y a b = let q : Some x ≡ Some y = sym a ∙ b in cc
 
 pub same_more : {X Y Z : Type 0} (f : X → Z) (g : Y → Z) (xs : List X) (ys : List Y) (k : ℕ) (x : X) (y : Y) → AreSameTo f g xs ys k → slice_get xs k ≡ Some x → slice_get ys k ≡ Some y → f x ≡ g y → AreSameTo f g xs ys (k + 1)
-same_more {X} {Y} f g xs ys k x y h p q e n v w b c d = elim (dec_lt n k) [
-  | yes l ↦ h n v w l c d
-  | no m ↦ (let z : n ≡ k = omega arith in
-      ap f (same_at xs k v x (subst (λ (i : ℕ). slice_get xs i ≡ Some v) z c) p) ∙ e ∙ ap g (same_at ys k y w q (subst (λ (i : ℕ). slice_get ys i ≡ Some w) z d)))
-]
+same_more {X} {Y} f g xs ys k x y h p q e n v w b c d = grind (arith, common_steps, dec_lt n k, same_at) steps 200000
 
 pub same_whole : {X Y Z : Type 0} (f : X → Z) (g : Y → Z) (xs : List X) (ys : List Y) → AreSameTo f g xs ys (length xs) → length xs ≡ length ys → map f xs ≡ map g ys
 same_whole f g [] [] h l = refl
 same_whole f g (x ∷ xs) (y ∷ ys) h l =
-    let a = h 0 x y (omega arith) refl refl in
-    λ i. a i ∷ (same_whole f g xs ys (λ m v w n c d. h (suc m) v w (omega arith) c d) (omega arith)) i
+    λ i. (h 0 x y (omega arith) refl refl) i ∷ (same_whole f g xs ys (λ m v w n c d. h (suc m) v w (omega arith) c d) (omega arith)) i
 same_whole f g _ _ h l = absurd (omega arith)
 
 -- if all are, each is
 pub same_each : {X Y Z : Type 0} (f : X → Z) (g : Y → Z) (xs : List X) (ys : List Y) (k : ℕ) (x : X) (y : Y) → map f xs ≡ map g ys → slice_get xs k ≡ Some x → slice_get ys k ≡ Some y → f x ≡ g y
-same_each f g xs ys k x y e p q =
-    let z : Some (f x) ≡ Some (g y) = sym (ap (option_map f) p) ∙ sym (slice_get-map f xs k) ∙ ap (λ w. slice_get w k) e ∙ slice_get-map g ys k ∙ ap (option_map g) q in
-    cc
+same_each f g xs ys k x y e p q = grind (arith, common_steps, slice_get-map f xs k, slice_get-map g ys k) steps 200000
 
 pub same_long : {X Y Z : Type 0} (f : X → Z) (g : Y → Z) (xs : List X) (ys : List Y) → map f xs ≡ map g ys → length xs ≡ length ys
 same_long f g xs ys e = sym (length-map xs f) ∙ ap length e ∙ length-map ys g
@@ -46,23 +38,18 @@ number_from_reading all distinct x y p q e =
 pub numbers_from_readings : (all : List (List ℕ)) → AreDistinct all → (xs ys : List NumberedSymbol) → All (IsNumbered all) xs → All (IsNumbered all) ys → symbols_of all xs ≡ symbols_of all ys → xs ≡ ys
 numbers_from_readings all distinct [] [] p q e = refl
 numbers_from_readings all distinct (x ∷ xs) (y ∷ ys) p q e =
-    let head : symbol_of all x ≡ symbol_of all y = cc in
-    let rest : symbols_of all xs ≡ symbols_of all ys = cc in
-    let a = number_from_reading all distinct x y (p 0 x (omega arith)) (q 0 y (omega arith)) head in
-    λ i. a i ∷ (numbers_from_readings all distinct xs ys (λ k d h. p (suc k) d (omega (arith, h))) (λ k d h. q (suc k) d (omega (arith, h))) rest) i
+    let a = number_from_reading all distinct x y (p 0 x (omega arith)) (q 0 y (omega arith)) cc in
+    λ i. a i ∷ (numbers_from_readings all distinct xs ys (λ k d h. p (suc k) d (omega (arith, h))) (λ k d h. q (suc k) d (omega (arith, h))) cc) i
 numbers_from_readings all distinct _ _ p q e = cc
 
 pub pair_from_reading : (all : List (List ℕ)) → AreDistinct all → (x y : NumberedSymbol × NumberedSymbol) → IsPairNumbered all x → IsPairNumbered all y → pair_of all x ≡ pair_of all y → x ≡ y
-pair_from_reading all distinct x y m n e =
-    λ i. ((number_from_reading all distinct x.0 y.0 m.0 n.0 (ap (λ (w : Symbol × Symbol). w.0) e)) i, (number_from_reading all distinct x.1 y.1 m.1 n.1 (ap (λ (w : Symbol × Symbol). w.1) e)) i)
+pair_from_reading all distinct x y m n e = grind (arith, common_steps, number_from_reading) steps 200000
 
 pub pairs_from_readings : (all : List (List ℕ)) → AreDistinct all → (xs ys : List (NumberedSymbol × NumberedSymbol)) → All (IsPairNumbered all) xs → All (IsPairNumbered all) ys → kept_pairs all xs ≡ kept_pairs all ys → xs ≡ ys
 pairs_from_readings all distinct [] [] p q e = refl
 pairs_from_readings all distinct (x ∷ xs) (y ∷ ys) p q e =
-    let head : pair_of all x ≡ pair_of all y = cc in
-    let rest : kept_pairs all xs ≡ kept_pairs all ys = cc in
-    let a = pair_from_reading all distinct x y (p 0 x (omega arith)) (q 0 y (omega arith)) head in
-    λ i. a i ∷ (pairs_from_readings all distinct xs ys (λ k d h. p (suc k) d (omega (arith, h))) (λ k d h. q (suc k) d (omega (arith, h))) rest) i
+    let a = pair_from_reading all distinct x y (p 0 x (omega arith)) (q 0 y (omega arith)) cc in
+    λ i. a i ∷ (pairs_from_readings all distinct xs ys (λ k d h. p (suc k) d (omega (arith, h))) (λ k d h. q (suc k) d (omega (arith, h))) cc) i
 pairs_from_readings all distinct _ _ p q e = cc
 
 -- two tests together
@@ -73,13 +60,9 @@ both_decide false r p q = (λ t. absurd (false≢true t), λ e. absurd (false≢
 
 -- two symbols are equal exactly when their numbers and their sorts are
 pub symbols_decide : (a b : NumberedSymbol) → Decides ((a.name == b.name) && (beq a.variable b.variable)) (a ≡ b)
-symbols_decide a b =
-    let both = both_decide (a.name == b.name) (beq a.variable b.variable) (Decides-eqb a.name b.name) (booleans_Decides a.variable b.variable) in
-    (λ t. (let e = both.0 t in λ i. record { name = e.0 i; variable = e.1 i }), λ e. both.1 (ap (λ (w : NumberedSymbol). w.name) e, ap (λ (w : NumberedSymbol). w.variable) e))
+symbols_decide a b = grind (arith, common_steps, both_decide) steps 200000
 
 -- two pairs are equal exactly when their parts are
 pub pairs_decide : (a b : NumberedSymbol × NumberedSymbol)
     → Decides (((a.0.name == b.0.name) && (beq a.0.variable b.0.variable)) && ((a.1.name == b.1.name) && (beq a.1.variable b.1.variable))) (a ≡ b)
-pairs_decide a b =
-    let both = both_decide ((a.0.name == b.0.name) && (beq a.0.variable b.0.variable)) ((a.1.name == b.1.name) && (beq a.1.variable b.1.variable)) (symbols_decide a.0 b.0) (symbols_decide a.1 b.1) in
-    (λ t. (let e = both.0 t in λ i. (e.0 i, e.1 i)), λ e. both.1 (ap (λ (w : NumberedSymbol × NumberedSymbol). w.0) e, ap (λ (w : NumberedSymbol × NumberedSymbol). w.1) e))
+pairs_decide a b = grind (arith, common_steps, both_decide, symbols_decide) steps 200000

@@ -1,16 +1,16 @@
 -- The variables of the active `$e`: after one more item, and what numbers they give.
 use Rattle.std.proofs.Common.{◌≡◌, ℕ, zero, suc, ◌+◌, ◌<◌, ◌≤◌, Bool, true, false, cond, Some, List, [], ◌∷◌, ◌++◌, length, flat_map, take, drop, slice_get, Contains, get_or, refl, sym, ◌∙◌, ap}
-use Rattle.std.proofs.Common.{subst, take-append-drop, append_assoc, append-nil, length-append, arith, inl, inr, ◌⊎◌}
-use Rattle.std.proofs.lemmas.{Bool.{false≢true}, List.{take_more, Elements.{Contains-append_left, Contains-append_right, Contains-append_cases}}, Option.{slice_get_within}}
+use Rattle.std.proofs.{Common.{subst, take-append-drop, append_assoc, length-append, arith, inl, inr, ◌⊎◌}, lemmas.{Bool.{false≢true}, List.{take_more}}}
+use Rattle.std.proofs.lemmas.{List.Elements.{Contains-append_left, Contains-append_right, Contains-append_cases}, Option.{slice_get_within}}
 use native.Mathlib.Decide.{dec_lt}
 use Rattle.mm_frame.specs.{declared.{essential.EssentialVariable.{EssentialVariable}, tables.Tables.{Tables}}, Language.Scope.{Mark, Neither, Closes, mark_of, active_numbers}}
 use Rattle.mm_frame.specs.Code.{LastItems.{is_active_at, is_essential_item}, KeptSymbols.{expression_kept, kept_or_none, float_number, float_numbers}}
 use Rattle.mm_frame.specs.Code.{KeptVariables.{by_essential, AddsOne, AddsAll, IsKeptVariable, AreVariablesOf, IsKeptBy, known_float}, PairOrder.{is_among}}
+use Rattle.mm_frame.proofs.lemmas.frames.{Frames.{essential_neither}, HypothesisNumbers.{to_active_number, from_active_number, active_numbers_more}}
+use Rattle.mm_frame.proofs.lemmas.{lists.{Members.{In, in_contains, contains_in, in_left, in_flat, from_flat, in_cond}, Rising.{among_in, in_among}}, scope.BlockLemmas.{get_front, get_cases}}
+use Rattle.mm_frame.proofs.lemmas.{scope.EndLemmas.{active_at_front}, names.NamedLemmas.{get_before}, pairs.AskedLemmas.{active_below}}
 use Rattle.mm_machine.specs.declared.symbol.NumberedSymbol.{NumberedSymbol}
 use Rattle.mm_statement.specs.Language.Item.{Item}
-use Rattle.mm_frame.proofs.lemmas.frames.{Frames.{essential_neither}, HypothesisNumbers.{to_active_number, from_active_number, active_numbers_more}}
-use Rattle.mm_frame.proofs.lemmas.lists.{Members.{In, in_contains, contains_in, in_left, in_flat, from_flat, in_cond}, Rising.{among_in, in_among}}
-use Rattle.mm_frame.proofs.lemmas.{scope.{BlockLemmas.{get_front, get_cases}, EndLemmas.{active_at_front}}, names.NamedLemmas.{get_before}, pairs.AskedLemmas.{active_below}}
 
 -- ---- those that are left, and those that are added
 
@@ -19,14 +19,6 @@ pub one_gone : (found : List EssentialVariable) (m : ℕ) (v d : EssentialVariab
 one_gone [] m v d within c = absurd (omega arith)
 one_gone (x ∷ found) zero v d within c = elim (contains_in v (x ∷ found) c) [ inl e ↦ inl (sym e) | inr h ↦ inr (in_contains v found h) ]
 one_gone (x ∷ found) (suc m) v d within c = one_gone found m v d (omega arith) c
-
-pub adds_none : (essentials : List ℕ) (number : ℕ) (found : List EssentialVariable) → AddsAll essentials number [] found found
-adds_none essentials number found = record {
-  more = [];
-  whole = sym (append-nil found);
-  own = λ v c. absurd (contains_in v [] c);
-  there = λ s c t. absurd (contains_in s [] c);
-}
 
 pub adds_more : (essentials : List ℕ) (number : ℕ) (symbols : List NumberedSymbol) (k : ℕ) (d : NumberedSymbol) (old mid new : List EssentialVariable) → k < length symbols → AddsAll essentials number (take k symbols) old mid
     → AddsOne essentials number (get_or symbols k d) mid new → AddsAll essentials number (take (k + 1) symbols) old new

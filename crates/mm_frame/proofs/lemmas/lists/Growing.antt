@@ -1,6 +1,6 @@
 -- Lists to which a loop adds what each element of another one gives.
-use Rattle.std.proofs.Common.{◌≡◌, ℕ, ◌+◌, ◌<◌, List, [], ◌∷◌, ◌++◌, length, map, flat_map, take, get_or, sym, ◌∙◌, ap, append_assoc, append-nil}
-use Rattle.std.proofs.lemmas.{Grind.{flat_map-append}, List.{map_more, take_more}}
+use Rattle.std.proofs.{Common.{◌≡◌, ℕ, ◌+◌, ◌<◌, List, [], ◌∷◌, ◌++◌, length, map, flat_map, take, get_or, sym, ◌∙◌, ap, append_assoc, append-nil}, lemmas.Grind.{flat_map-append}}
+use Rattle.std.proofs.lemmas.List.{map_more, take_more}
 
 -- one thing for one more element
 pub map_grows : {X Y : Type 0} (f : X → Y) (xs : List X) (n : ℕ) (d : X) (front old new : List Y) → n < length xs

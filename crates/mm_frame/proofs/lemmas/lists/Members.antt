@@ -1,7 +1,7 @@
 -- What is in a list, by recursion, and what tests find.
+use Rattle.std.proofs.lemmas.{Grind.{common_steps}, Bool.{or_cases, false≢true, or_left, or_right}, Slice.Eq.{bytes_eq-Decides}}
 use Rattle.std.proofs.Common.{◌≡◌, ℕ, zero, suc, ◌<◌, Bool, true, false, cond, Some, List, [], ◌∷◌, ◌++◌, length, map, filter, flat_map, get_or, bytes_eq, slice_get, refl, sym, ◌∙◌, ap, subst, arith}
 use Rattle.std.proofs.Common.{inl, inr, ◌⊎◌, Contains}
-use Rattle.std.proofs.lemmas.{Bool.{or_cases, false≢true, or_left, or_right}, Slice.Eq.{bytes_eq-Decides}}
 use Rattle.mm_statement.specs.Language.Item.{Kind, Item, has}
 use Rattle.mm_frame.specs.Language.Scope.{symbols_by}
 
@@ -110,10 +110,7 @@ in_cond true n names h = (refl, h)
 in_cond false n names h = absurd h
 
 pub from_symbols : (test : Kind → Bool) (n : List ℕ) (items : List Item) → In n (symbols_by test items) → (i : Item) × In i items × (test i.kind ≡ true) × In n i.symbols
-from_symbols test n items h =
-    let r = from_flat (λ (item : Item). cond (test item.kind) item.symbols []) n items h in
-    let c = in_cond (test r.0.kind) n r.0.symbols r.2 in
-    (r.0, r.1, c.0, c.1)
+from_symbols test n items h = grind (arith, common_steps, from_flat, in_cond) steps 200000
 
 pub to_symbols : (test : Kind → Bool) (n : List ℕ) (items : List Item) (i : Item) → In i items → test i.kind ≡ true → In n i.symbols → In n (symbols_by test items)
 to_symbols test n items i h t k = in_flat (λ (item : Item). cond (test item.kind) item.symbols []) i n items h (subst (λ b. In n (cond b i.symbols [])) (sym t) k)

@@ -1,13 +1,10 @@
 -- Numbers that rise: the beginning of them, one more after them, and what a search among them finds.
-use Rattle.std.proofs.Common.{◌≡◌, ℕ, zero, suc, ◌+◌, ◌-◌, ◌<◌, ◌≤◌, true, false, Some, Result, Ok, Err, List, [], ◌∷◌, ◌++◌, length, drop, slice_get, get_or, refl, sym, ◌∙◌, ap, subst, arith, inl}
-use Rattle.std.proofs.Common.{inr, ◌⊎◌, length-append, Contains, is_ok, eqb-true}
-use Rattle.std.proofs.Math.Seq.{get_or-append_seam}
-use Rattle.std.proofs.lemmas.{Bool.{false_from_ne_true, eqb-true}, List.{get_or_append_left, length_push, Sorted.{searched}}, Map.Views.{list_any-from_Contains, Contains-from_any}}
-use Rattle.std.proofs.lemmas.Option.{get_or_from_slice_get, slice_get_within, slice_get-get_or}
-use Rattle.std.specs.{List.Sorted.{IsBinarySearchResult}, Ordering.{nat_cmp}, Cmp.{nat_eq_equiv}}
+use Rattle.std.proofs.lemmas.{Grind.{common_steps}, Bool.{false_from_ne_true, eqb-true}, List.{get_or_append_left, length_push, Sorted.{searched}}}
+use Rattle.std.proofs.lemmas.{Map.Views.{list_any-from_Contains, Contains-from_any}, Option.{get_or_from_slice_get, slice_get_within, slice_get-get_or}}
+use Rattle.std.proofs.Common.{◌≡◌, ℕ, zero, suc, ◌+◌, ◌-◌, ◌<◌, ◌≤◌, true, false, Some, Result, Ok, Err, List, [], ◌∷◌, ◌++◌, length, drop, slice_get, get_or, refl, ◌∙◌, ap, subst, arith, inr, ◌⊎◌}
+use Rattle.std.{proofs.{Common.{length-append, Contains, is_ok, eqb-true}, Math.Seq.{get_or-append_seam}}, specs.{List.Sorted.{IsBinarySearchResult}, Ordering.{nat_cmp}, Cmp.{nat_eq_equiv}}}
 use native.Mathlib.Decide.{dec_lt}
-use Rattle.mm_frame.specs.Code.{LastItems.{IsRising}, PairOrder.{is_among}}
-use Rattle.mm_frame.proofs.lemmas.{lists.Members.{In, in_contains, contains_in, in_get, get_in}, frames.Frames.{in_at}}
+use Rattle.mm_frame.{specs.Code.{LastItems.{IsRising}, PairOrder.{is_among}}, proofs.lemmas.{lists.Members.{In, in_contains, contains_in, in_get, get_in}, frames.Frames.{in_at}}}
 
 -- the beginning of rising numbers rises, and so do they with a larger one after them
 pub rising_front : (kept gone : List ℕ) → IsRising (kept ++ gone) → IsRising kept
@@ -17,12 +14,7 @@ rising_front kept gone r i j d l m =
 
 pub rising_more : (numbers : List ℕ) (n : ℕ) → IsRising numbers → ((m : ℕ) → In m numbers → m < n) → IsRising (numbers ++ n ∷ [])
 rising_more numbers n r h i j d l m = elim (dec_lt j (length numbers)) [
-  | yes k ↦ (
-      let a = get_or_append_left numbers (n ∷ []) d i (omega arith) in
-      let b = get_or_append_left numbers (n ∷ []) d j k in
-      let c = r i j d l k in
-      omega arith
-      )
+  | yes k ↦ grind (arith, get_or_append_left numbers (n ∷ []) d i (omega arith), get_or_append_left numbers (n ∷ []) d j k) steps 200000
   | no k ↦ (
       let long = length_push numbers n in
       let last : j ≡ length numbers = omega arith in
@@ -41,9 +33,7 @@ not_falling xs h i j l m = elim (dec_lt i j) [
 ]
 
 found_or_not : (xs : List ℕ) (x : ℕ) (r : Result ℕ ℕ) → IsBinarySearchResult (λ y. nat_cmp y x) xs r → IsRising xs → ((is_ok r ≡ true) × In x xs) ⊎ ((is_ok r ≡ false) × (In x xs → ⊥))
-found_or_not xs x (Ok place) s h =
-    let m = searched xs x (Ok place) s (not_falling xs h) in
-    inl (refl, subst (λ w. In w xs) m.1 (in_at xs place 0 m.0))
+found_or_not xs x (Ok place) s h = grind (arith, common_steps, searched xs x (Ok place) s (not_falling xs h), in_at xs place 0 (searched xs x (Ok place) s (not_falling xs h)).0) steps 200000
 found_or_not xs x (Err place) s h =
     let m = searched xs x (Err place) s (not_falling xs h) in
     inr (
@@ -65,22 +55,15 @@ pub among_in : (numbers : List ℕ) (n : ℕ) → is_among numbers n ≡ true �
 among_in numbers n t = contains_in n numbers (Contains-from_any eqb-true n numbers t)
 
 pub among_found : (numbers : List ℕ) (n : ℕ) (r : Result ℕ ℕ) → IsBinarySearchResult (λ y. nat_cmp y n) numbers r → IsRising numbers → is_ok r ≡ is_among numbers n
-among_found numbers n r s h = elim (found_or_not numbers n r s h) [
-  | inl p ↦ p.0 ∙ sym (in_among numbers n p.1)
-  | inr p ↦ p.0 ∙ sym (false_from_ne_true (is_among numbers n) (λ t. p.1 (among_in numbers n t)))
-]
+among_found numbers n r s h = grind (arith, common_steps, found_or_not numbers n r s h, in_among, false_from_ne_true, among_in) steps 200000
 
 -- a number of a rising list that comes no earlier than another is no less
 pub rising_least : (row : List ℕ) (k at n : ℕ) → IsRising row → k < length row → slice_get row at ≡ Some n → (at < k → ⊥) → get_or row k 0 ≤ n
 rising_least row k at n rising within e later =
-    let w = slice_get_within row at n e in
     let there : get_or row at 0 ≡ n = get_or_from_slice_get row at n 0 e in
     elim (dec_lt k at) [
-      | yes l ↦ (let less : get_or row k 0 < get_or row at 0 = rising k at 0 l w in omega arith)
-      | no m ↦ elim (dec_lt at k) [
-        | yes l ↦ absurd (later l)
-        | no r ↦ (let z : k ≡ at = omega arith in let same : get_or row k 0 ≡ get_or row at 0 = ap (λ j. get_or row j 0) z in omega arith)
-      ]
+      | yes l ↦ (let less : get_or row k 0 < get_or row at 0 = rising k at 0 l (slice_get_within row at n e) in omega arith)
+      | no m ↦ grind (arith, common_steps, dec_lt at k) steps 200000
     ]
 
 -- an element after the first ones

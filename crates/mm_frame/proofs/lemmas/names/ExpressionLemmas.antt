@@ -1,6 +1,6 @@
 -- The parts of one list by their ends: how many there are, each of them, and one more.
-use Rattle.std.proofs.Common.{◌≡◌, ℕ, zero, suc, ◌+◌, ◌-◌, ◌<◌, ◌≤◌, Some, None, List, [], ◌∷◌, ◌++◌, length, map, take, drop, get_or, slice_get, refl, sym, ◌∙◌, ap, subst, arith, length-append}
-use Rattle.std.proofs.lemmas.{Option.{slice_get-map, slice_get_past}, List.{take-append-le, drop-append-le, take_all, length-drop, length-map}}
+use Rattle.std.proofs.lemmas.{Grind.{common_steps}, Option.{slice_get-map, slice_get_past}, List.{take-append-le, drop-append-le, take_all, length-drop, length-map}}
+use Rattle.std.proofs.Common.{◌≡◌, ℕ, zero, suc, ◌+◌, ◌-◌, ◌<◌, ◌≤◌, Some, None, List, [], ◌∷◌, ◌++◌, length, map, take, drop, get_or, slice_get, refl, ◌∙◌, ap, arith, length-append}
 use Rattle.std.specs.{List.{slice_range}, Option.{option_map}}
 use native.Mathlib.Decide.{dec_lt}
 use Rattle.mm_frame.specs.Code.{KeptParts.{cut_from, EndsFrom, start_at}, KeptSparse.{first_of, value_or_none, value_kept}}
@@ -41,18 +41,10 @@ end_within ends last n e = elim (dec_lt 0 (get_or ends n 0)) [
 
 -- one more part
 range_front : {X : Type 0} (symbols more : List X) (from end : ℕ) → from ≤ end → end ≤ length symbols → slice_range (symbols ++ more) from end ≡ slice_range symbols from end
-range_front symbols more from end l m =
-    let d = length-drop from symbols in
-    ap (take (end - from)) (drop-append-le from symbols more (omega arith)) ∙ take-append-le (end - from) (drop from symbols) more (omega arith)
+range_front symbols more from end l m = grind (arith, common_steps, drop-append-le, length-drop, take-append-le) steps 200000
 
 range_back : {X : Type 0} (symbols more : List X) (from end : ℕ) → from ≡ length symbols → end ≡ length symbols + length more → slice_range (symbols ++ more) from end ≡ more
-range_back symbols more from end e m =
-    ap (take (end - from)) (drop_behind symbols more from e) ∙ take_all (end - from) more (omega arith)
-  where
-    drop_behind : {X : Type 0} (xs ys : List X) (n : ℕ) → n ≡ length xs → drop n (xs ++ ys) ≡ ys
-    drop_behind [] ys zero e = refl
-    drop_behind (x ∷ xs) ys (suc n) e = drop_behind xs ys n (omega arith)
-    drop_behind _ ys _ e = absurd (omega arith)
+range_back symbols more from end e m = grind (arith, common_steps, take_all) steps 200000
 
 cut_more : {X : Type 0} (symbols more : List X) (from : ℕ) (ends : List ℕ) (end : ℕ) → EndsFrom from ends (length symbols) → end ≡ length symbols + length more
     → cut_from (symbols ++ more) from (ends ++ end ∷ []) ≡ cut_from symbols from ends ++ more ∷ []
@@ -67,11 +59,7 @@ ends_more from (x ∷ ends) last end e l = (e.0, ends_more x ends last end e.1 l
 -- one more part, with its end
 pub cut_added : {X : Type 0} (symbols own all : List X) (ends new : List ℕ) (end : ℕ) → EndsFrom 0 ends (length symbols) → all ≡ symbols ++ own → end ≡ length all → new ≡ ends ++ end ∷ []
     → EndsFrom 0 new (length all) × (cut_from all 0 new ≡ cut_from symbols 0 ends ++ own ∷ [])
-cut_added symbols own all ends new end e a l n =
-    let count = ap length a ∙ length-append symbols own in (
-      subst (λ w. EndsFrom 0 w (length all)) (sym n) (subst (EndsFrom 0 (ends ++ end ∷ [])) l (ends_more 0 ends (length symbols) end e (omega arith))),
-      (λ k. cut_from (a k) 0 (n k)) ∙ cut_more symbols own 0 ends end e (omega arith),
-    )
+cut_added symbols own all ends new end e a l n = grind (arith, common_steps, cut_more, ends_more, length-append) steps 200000
 
 -- the first of a part
 first_there : {X : Type 0} (xs : List X) (start end : ℕ) → start < end → first_of (slice_range xs start end) ≡ slice_get xs start
@@ -94,15 +82,7 @@ kept : {X : Type 0} (values : List X) (ends : List ℕ) (n : ℕ) → n < length
 kept values ends n l = ap value_or_none (slice_get-map first_of (cut_from values 0 ends) n ∙ ap (option_map first_of) (cut_there values 0 ends n l))
 
 pub value_there : {X : Type 0} (values : List X) (ends : List ℕ) (n start end : ℕ) → start ≡ start_at 0 ends n → end ≡ get_or ends n 0 → start < end → slice_get values start ≡ value_kept (map first_of (cut_from values 0 ends)) n
-value_there values ends n start end s e l =
-    sym (kept values ends n (end_there ends n (omega (arith, e, l))) ∙ (λ i. first_of (slice_range values (sym s i) (sym e i))) ∙ first_there values start end l)
+value_there values ends n start end s e l = grind (arith, common_steps, kept values ends n (end_there ends n (omega (arith, e, l))), first_there values start end l) steps 200000
 
 pub value_missing : {X : Type 0} (values : List X) (ends : List ℕ) (n start end : ℕ) → start ≡ start_at 0 ends n → end ≡ get_or ends n 0 → end ≤ start → None ≡ value_kept (map first_of (cut_from values 0 ends)) n
-value_missing values ends n start end s e l = elim (dec_lt n (length ends)) [
-  | yes w ↦ sym (kept values ends n w ∙ (λ i. first_of (slice_range values (sym s i) (sym e i))) ∙ first_past values start end l)
-  | no m ↦ (
-      let parts = cut_from values 0 ends in
-      let count = length-map parts first_of ∙ cut_length values 0 ends in
-      sym (ap value_or_none (slice_get_past (map first_of parts) n (omega (arith, count, m))))
-      )
-]
+value_missing values ends n start end s e l = grind (arith, common_steps, dec_lt n (length ends), first_past values start end l, kept, cut_length, length-map, slice_get_past) steps 500000

@@ -1,8 +1,8 @@
 -- Short labels have codes of their own, which fit into 64 bits, and middle ones into 128; what is kept of labels after one more.
+use Rattle.std.proofs.lemmas.{Grind.{common_steps}, Bool.{false≢true, cases_Bool, cond-true, cond-false, leb-true, and_parts, false_from_ne_true}, Slice.Eq.{bytes_eq-Decides}}
 use Rattle.std.proofs.Common.{◌≡◌, ℕ, zero, suc, ◌*◌, ◌-◌, ◌^◌, ◌<◌, ◌≤◌, Bool, true, false, cond, not, Option, Some, List, [], ◌∷◌, length, drop, length-drop, slice_index_or, ◌&&◌, nat_eq, nat_le}
-use Rattle.std.proofs.Common.{nat_lt, bytes_eq, Vec, Global, inl, inr, refl, sym, ◌∙◌, ap, subst, arith}
-use Rattle.std.proofs.lemmas.{Bool.{false≢true, cases_Bool, cond-true, cond-false, leb-true, and_parts, false_from_ne_true, Decides.{Decides-eqb}}, Slice.Eq.{bytes_eq-Decides}}
-use Rattle.std.specs.{HashMap.{HashMap, UpdatesBy, get_by}, Map.{KeepsOthers, IsKeyTest, AreApart, lookup}, Cmp.Lexicographic.{nat_list_eq_equiv}}
+use Rattle.std.{proofs.Common.{nat_lt, bytes_eq, Vec, Global, refl, sym, ◌∙◌, ap, arith}, specs.{HashMap.{HashMap, UpdatesBy, get_by}, Map.{KeepsOthers, IsKeyTest, AreApart, lookup}}}
+use Rattle.std.specs.Cmp.Lexicographic.{nat_list_eq_equiv}
 use Rattle.mm_frame.specs.{declared.label_numbers.LabelNumbers.{LabelNumbers}, Code.KeptLabels.{are_ascii, label_code, is_coded, is_wide_coded, later_number, label_number}}
 
 code_positive : (bs : List ℕ) → 1 ≤ label_code bs
@@ -19,35 +19,22 @@ one_code (x ∷ xs) (y ∷ ys) s t e =
     let b = and_parts (nat_lt y 128) (are_ascii ys) t in
     let l : suc x ≤ 128 = leb-true (suc x) 128 a.0 in
     let m : suc y ≤ 128 = leb-true (suc y) 128 b.0 in
-    let h : x ≡ y = omega arith in
-    let k : label_code xs ≡ label_code ys = omega arith in
-    ap (λ z. z ∷ xs) h ∙ ap (λ zs. y ∷ zs) (one_code xs ys a.1 b.1 k)
+    ap (λ z. z ∷ xs) (omega arith) ∙ ap (λ zs. y ∷ zs) (one_code xs ys a.1 b.1 (omega arith))
 
 -- the code of a few bytes is small
 pub code_below : (n : ℕ) (bs : List ℕ) → length bs ≤ n → are_ascii bs ≡ true → label_code bs < 2 * 128 ^ n
 code_below zero [] k f = omega arith
 code_below (suc n) [] k f = let p = code_below n [] (omega arith) refl in omega arith
 code_below zero (b ∷ bs) k f = omega arith
-code_below (suc n) (b ∷ bs) k f =
-    let both = and_parts (nat_lt b 128) (are_ascii bs) f in
-    let low : suc b ≤ 128 = leb-true (suc b) 128 both.0 in
-    let p = code_below n bs (omega arith) both.1 in
-    omega arith
+code_below (suc n) (b ∷ bs) k f = grind (arith, common_steps, code_below n bs (omega arith) (and_parts (nat_lt b 128) (are_ascii bs) f).1, and_parts, leb-true) steps 200000
 
 -- labels of few bytes have one code exactly when they are one
 same_code : (xs ys : List ℕ) → are_ascii xs ≡ true → are_ascii ys ≡ true → nat_eq (label_code xs) (label_code ys) ≡ bytes_eq xs ys
-same_code xs ys s t = elim (cases_Bool (bytes_eq xs ys)) [
-  | inl y ↦ (Decides-eqb (label_code xs) (label_code ys)).1 (ap label_code ((bytes_eq-Decides xs ys).0 y)) ∙ sym y
-  | inr n ↦ false_from_ne_true (nat_eq (label_code xs) (label_code ys)) (λ e. false≢true (sym n ∙ (bytes_eq-Decides xs ys).1 (one_code xs ys s t ((Decides-eqb (label_code xs) (label_code ys)).0 e)))) ∙ sym n
-]
+same_code xs ys s t = grind (arith, common_steps, cases_Bool (bytes_eq xs ys), bytes_eq-Decides xs ys, false_from_ne_true, false≢true, one_code) steps 200000
 
 -- a label that a test tells from another is not that one
 other_test : (test : List ℕ → Bool) (xs ys : List ℕ) (b : Bool) → test xs ≡ b → test ys ≡ not b → bytes_eq xs ys ≡ false
-other_test test xs ys b s t = false_from_ne_true (bytes_eq xs ys) (λ e. apart b (sym s ∙ ap test ((bytes_eq-Decides xs ys).0 e) ∙ t))
-  where
-    apart : (b : Bool) → b ≡ not b → ⊥
-    apart true e = false≢true (sym e)
-    apart false e = false≢true e
+other_test test xs ys b s t = grind (arith, common_steps, bytes_eq-Decides, false_from_ne_true, false≢true) steps 200000
 
 apart : (bs cs ks : List ℕ) → bytes_eq bs cs ≡ false → bytes_eq bs ks ≡ true → bytes_eq cs ks ≡ false
 apart bs cs ks n y = nat_list_eq_equiv.symm cs ks ∙ sym (nat_list_eq_equiv.congr bs ks cs y) ∙ n
@@ -56,21 +43,11 @@ other_entries : {K X : Type 0} (eq : K → K → Bool) (test : K → Bool) (old 
 unfolding KeepsOthers
 other_entries eq test old new h = h
 
--- the look-ups by bytes after a write at one key
-written : {X S : Type 0} (bs : List ℕ) (m n : HashMap (Vec ℕ Global) X S) (x : X) → UpdatesBy (λ a b. bytes_eq a.items b.items) (λ k. bytes_eq bs k.items) m
-    n (Some x) → (cs : List ℕ) → get_by (λ k. bytes_eq cs k.items) n ≡ cond (bytes_eq bs cs) (Some x) (get_by (λ k. bytes_eq cs k.items) m)
-written bs m n x h cs = elim (cases_Bool (bytes_eq bs cs)) [
-  | inl y ↦ subst (λ (l : List ℕ). get_by (λ k. bytes_eq l k.items) n ≡ Some x) ((bytes_eq-Decides bs cs).0 y) h.1 ∙ sym (cond-true (bytes_eq bs cs) (Some x) (get_by (λ k. bytes_eq cs k.items) m) y)
-  | inr e ↦ other_entries (λ a b. bytes_eq a.items b.items) (λ k. bytes_eq bs k.items) m.entries n.entries h.3 (λ k. bytes_eq cs k.items) (λ a b. nat_list_eq_equiv.congr cs a.items b.items) (λ k. apart bs cs k.items e)
-      ∙ sym (cond-false (bytes_eq bs cs) (Some x) (get_by (λ k. bytes_eq cs k.items) m) e)
-]
-
 -- the look-ups after an `insert`, with the bytes of the key by an equation
 pub inserted : {X S : Type 0} (ks bs : List ℕ) (m n : HashMap (Vec ℕ Global) X S) (x : X) → ks ≡ bs
     → UpdatesBy (λ a b. bytes_eq a.items b.items) (λ k. bytes_eq ks k.items) m n (Some x) → (cs : List ℕ)
     → get_by (λ k. bytes_eq cs k.items) n ≡ cond (bytes_eq bs cs) (Some x) (get_by (λ k. bytes_eq cs k.items) m)
-inserted ks bs m n x e h cs =
-    written ks m n x h cs ∙ ap (λ l. cond (bytes_eq l cs) (Some x) (get_by (λ k. bytes_eq cs k.items) m)) e
+inserted ks bs m n x e h cs = grind (arith, common_steps, apart, bytes_eq-Decides, cases_Bool, cond-false, cond-true, other_entries) steps 200000
 
 -- the look-ups of two sorts of labels after one more of the first sort
 put_first : (test : List ℕ → Bool) (old new old_rest new_rest : List ℕ → Option ℕ) (label other : List ℕ) (number : ℕ) → test label ≡ true
@@ -150,7 +127,4 @@ no_code most n bs k e = and_false (nat_le (length bs) most) (are_ascii bs) (not_
 -- there is room for one more, in a code of so many digits and one more
 pub code_fits : (most left : ℕ) (bs : List ℕ) → 0 < left → left ≤ length bs → length bs ≤ suc most → are_ascii (drop left bs) ≡ true
     → label_code (drop left bs) < 2 * 128 ^ most
-code_fits most left bs k h m f = code_below most (drop left bs) (short (length-drop left bs)) f
-  where
-    short : length (drop left bs) ≡ length bs - left → length (drop left bs) ≤ most
-    short e = omega arith
+code_fits most left bs k h m f = grind (arith, common_steps, code_below, length-drop) steps 200000

@@ -1,7 +1,6 @@
 -- Lists of symbols by their numbers: a list by its part, a list that is there, and lists that keep their numbers.
-use Rattle.std.proofs.Common.{◌≡◌, ℕ, ◌-◌, ◌<◌, ◌≤◌, Some, List, [], ◌∷◌, ◌++◌, length, map, take, drop, slice_get, get_or, refl, sym, ◌∙◌, ap, arith, All}
-use Rattle.std.proofs.lemmas.{Option.{slice_get-get_or, slice_get_past}, List.{map-append, Elements.{All-head, All-tail}}}
-use Rattle.std.specs.List.{slice_range}
+use Rattle.std.proofs.lemmas.{Grind.{common_steps}, Option.{slice_get-get_or, slice_get_past}, List.{map-append, Elements.{All-head, All-tail}}}
+use Rattle.std.{proofs.Common.{◌≡◌, ℕ, ◌-◌, ◌<◌, ◌≤◌, Some, List, [], ◌∷◌, ◌++◌, length, map, slice_get, get_or, refl, sym, ◌∙◌, ap, arith, All}, specs.List.{slice_range}}
 use native.Mathlib.Decide.{dec_lt}
 use Rattle.mm_machine.specs.declared.symbol.NumberedSymbol.{NumberedSymbol}
 use Rattle.mm_frame.specs.Code.{KeptSymbols.{kept_or_none, expression_kept}, KeptExpressions.{KeepsExpressions}, KeptParts.{cut_from, start_at}}
@@ -9,17 +8,10 @@ use Rattle.mm_frame.proofs.lemmas.names.ExpressionLemmas.{cut_length, cut_there,
 
 -- a list by its part of the symbols
 pub part_told : (symbols : List NumberedSymbol) (ends : List ℕ) (n start end : ℕ) → start ≡ start_at 0 ends n → end ≡ get_or ends n 0 → start < end → slice_range symbols start end ≡ expression_kept (cut_from symbols 0 ends) n
-part_told symbols ends n start end s e l =
-    (λ i. slice_range symbols (s i) (e i)) ∙ sym (ap kept_or_none (cut_there symbols 0 ends n (end_there ends n (omega (arith, e, l)))))
-
-range_none : (symbols : List NumberedSymbol) (start end : ℕ) → end ≤ start → slice_range symbols start end ≡ []
-range_none symbols start end l = let none : end - start ≡ 0 = omega arith in ap (λ n. take n (drop start symbols)) none
+part_told symbols ends n start end s e l = grind (arith, common_steps, cut_there symbols 0 ends n (end_there ends n (omega (arith, e, l)))) steps 200000
 
 pub none_told : (symbols : List NumberedSymbol) (ends : List ℕ) (n start end : ℕ) → start ≡ start_at 0 ends n → end ≡ get_or ends n 0 → end ≤ start → [] ≡ expression_kept (cut_from symbols 0 ends) n
-none_told symbols ends n start end s e l = elim (dec_lt n (length ends)) [
-  | yes w ↦ sym (ap kept_or_none (cut_there symbols 0 ends n w) ∙ (λ i. slice_range symbols (sym s i) (sym e i)) ∙ range_none symbols start end l)
-  | no m ↦ let count = cut_length symbols 0 ends in sym (ap kept_or_none (slice_get_past (cut_from symbols 0 ends) n (omega (arith, count, m))))
-]
+none_told symbols ends n start end s e l = grind (arith, common_steps, dec_lt n (length ends), cut_length symbols 0 ends, cut_there, slice_get_past) steps 200000
 
 -- a list that is there
 there : (lists : List (List NumberedSymbol)) (n : ℕ) → n < length lists → slice_get lists n ≡ Some (expression_kept lists n)
@@ -37,5 +29,4 @@ still_told old new (n ∷ numbers) k a =
 -- one more number
 pub told_more : (old new : List (List NumberedSymbol)) (numbers all : List ℕ) (n : ℕ) (symbols : List NumberedSymbol) → KeepsExpressions old new → All (λ n. n < length old) numbers
     → slice_get new n ≡ Some symbols → all ≡ numbers ++ n ∷ [] → map (expression_kept new) all ≡ map (expression_kept old) numbers ++ symbols ∷ []
-told_more old new numbers all n symbols k a t e =
-    ap (map (expression_kept new)) e ∙ map-append (expression_kept new) numbers (n ∷ []) ∙ (λ i. still_told old new numbers k a i ++ kept_or_none (t i) ∷ [])
+told_more old new numbers all n symbols k a t e = grind (arith, common_steps, map-append (expression_kept new) numbers (n ∷ []), still_told) steps 200000

@@ -4,9 +4,9 @@ use Rattle.std.proofs.lemmas.{Bool.{false_from_ne_true}, List.Elements.{All-map}
 use Rattle.mm_statement.specs.Language.Item.{Item, is_labelled, is_disjoint, has}
 use Rattle.mm_frame.specs.{Language.{Scope.{constants, active_variables}, Sound.{IsSound, AreSound}, Framing.{symbol, expression}}, declared.tables.Tables.{Tables}}
 use Rattle.mm_frame.specs.Code.{Numbers.{IsNameNumber, AreNameNumbers}, KeptTables.{declared_at, is_constant_as, Knows}, KeptSymbols.{by_constants, symbol_by, variable_by}}
-use Rattle.mm_machine.specs.{Language.{Frame.{Symbol}, NumberedSymbols.{symbol_of, symbols_of, as_variable, IsNumbered}}, declared.symbol.NumberedSymbol.{NumberedSymbol}}
 use Rattle.mm_frame.proofs.lemmas.{lists.Members.{In, has_in, in_has}, scope.{Facts.{not_constant}, SoundItems.{map_same, named, sound_kept}, KnownLemmas.{known_at, constant_in}}}
 use Rattle.mm_frame.proofs.lemmas.{pairs.ActivePairLemmas.{disjoint_named}, names.NumberLemmas.{name_read, number_at}}
+use Rattle.mm_machine.specs.{Language.{Frame.{Symbol}, NumberedSymbols.{symbol_of, symbols_of, as_variable, IsNumbered}}, declared.symbol.NumberedSymbol.{NumberedSymbol}}
 
 -- a symbol of a sound `$f`, `$e`, `$a` or `$p` is a variable if it is no declared constant
 by_constants_is : (before : List Item) (item : Item) (name : List ℕ) → AreSound before → IsSound before item → is_labelled item.kind ≡ true → In name item.symbols → by_constants before name ≡ symbol before name
@@ -36,10 +36,9 @@ pub read_all : (all : List (List ℕ)) (tables : Tables) (before : List Item) (i
     → symbols_of all (map (symbol_by tables) numbers) ≡ expression before item
 read_all all tables before item numbers h k a s t =
     each_read all (symbol_by tables) (by_constants before) (λ n name there. let same = ap not (known_as n name there) in λ i. record { name = name_read all n name there i; variable = same i }) numbers item.symbols a
-    ∙ map_same (by_constants before) (symbol before) item.symbols (λ name m. by_constants_is before item name h s t m)
-  where
-    known_as : (n : ℕ) (name : List ℕ) → IsNameNumber all n name → is_constant_as (declared_at tables n) ≡ has (constants before) name
-    known_as n name there = ap is_constant_as (known_at all before tables n name k there) ∙ constant_in before name
+    ∙ map_same (by_constants before) (symbol before) item.symbols (λ name m. by_constants_is before item name h s t m) where
+      known_as : (n : ℕ) (name : List ℕ) → IsNameNumber all n name → is_constant_as (declared_at tables n) ≡ has (constants before) name
+      known_as n name there = ap is_constant_as (known_at all before tables n name k there) ∙ constant_in before name
 
 -- the symbols of a sound `$d` are read as variables
 pub variables_read_all : (all : List (List ℕ)) (before : List Item) (item : Item) (numbers : List ℕ) → AreNameNumbers all numbers item.symbols

@@ -1,9 +1,8 @@
 -- Names by their numbers, and lists of names that grow.
+use Rattle.std.proofs.lemmas.{Grind.{common_steps}, Bool.{false≢true, ltb-true, ltb-false, Decides.{Decides-eqb, eqb_tells}}, Slice.Eq.{bytes_eq-Decides}, List.{map_push, length-map}}
+use Rattle.std.proofs.lemmas.{Map.Keys.{apart_from_distinct}, Option.{same_Some, slice_get_within, slice_get-get_or, get_or_from_slice_get}}
 use Rattle.std.proofs.Common.{◌≡◌, ℕ, zero, suc, ◌+◌, ◌<◌, nat_eq, Option, inl, inr, Bool, true, false, not, ◌||◌, cond, Some, None, List, [], ◌∷◌, ◌++◌, length, map, get_or, refl, sym, ap, ◌∙◌}
-use Rattle.std.proofs.Common.{subst, arith, slice_get, position, Vec, if◌then◌else◌, nat_lt, Result, Ok, Err, IfOk, OnErr}
-use Rattle.std.proofs.lemmas.{Bool.{false≢true, ltb-true, ltb-false, Decides.{Decides-eqb, eqb_tells}}, Slice.Eq.{bytes_eq-Decides}, List.{map_push, length-map}, Map.Keys.{apart_from_distinct}}
-use Rattle.std.proofs.lemmas.Option.{same_Some, slice_get_within, slice_get-get_or, get_or_from_slice_get}
-use Rattle.std.specs.{List.{IsDistinct, list_any, position_or_len}, Str.{bytes_eq}}
+use Rattle.std.{proofs.Common.{arith, slice_get, position, Vec, if◌then◌else◌, Result, IfOk, OnErr}, specs.{List.{IsDistinct, list_any, position_or_len}, Str.{bytes_eq}}}
 use native.Mathlib.Decide.{dec_lt}
 use Rattle.indexmap.specs.IndexSet.{insert_key}
 use Rattle.mm_machine.specs.Language.Names.{Begins, AreDistinct, name_at}
@@ -77,17 +76,11 @@ first_found name (x ∷ names) h = by (bytes_eq name x) refl h (λ l. first_foun
     by : (b : Bool) → bytes_eq name x ≡ b → cond (not b) (1 + position_or_len (bytes_eq name) names) 0 < suc (length names) → (position_or_len (bytes_eq name) names < length names → slice_get names (position_or_len (bytes_eq name) names) ≡ Some name)
         → slice_get (x ∷ names) (cond (not b) (1 + position_or_len (bytes_eq name) names) 0) ≡ Some name
     by true e h rest = ap Some (sym ((bytes_eq-Decides name x).0 e))
-    by false e h rest =
-        let next : suc (position_or_len (bytes_eq name) names) ≡ 1 + position_or_len (bytes_eq name) names = omega arith in
-        subst (λ (k : ℕ). slice_get (x ∷ names) k ≡ Some name) next (rest (omega (arith, h)))
+    by false e h rest = grind (arith, common_steps) steps 200000
 
 -- a number that is found is that of the name
 pub number_names : (names : List (List ℕ)) (name : List ℕ) (n : ℕ) → number_in names name ≡ Some n → slice_get names n ≡ Some name
-number_names names name n h = by (nat_lt (position_or_len (bytes_eq name) names) (length names)) refl h
-  where
-    by : (b : Bool) → nat_lt (position_or_len (bytes_eq name) names) (length names) ≡ b → cond b (Some (position_or_len (bytes_eq name) names)) None ≡ Some n → slice_get names n ≡ Some name
-    by true e h = subst (λ (k : ℕ). slice_get names k ≡ Some name) (same_Some _ n h) (first_found name names (ltb-true _ _ e))
-    by false e h = cc
+number_names names name n h = grind (arith, common_steps, first_found, ltb-true, same_Some) steps 200000
 
 -- a test of names by their keys
 pub any_by_keys : {Y : Type 0} (name : List ℕ) (keys : List (Vec ℕ Y)) → list_any (bytes_eq name) (map (λ key. key.items) keys) ≡ list_any (λ key. bytes_eq name key.items) keys
@@ -96,33 +89,19 @@ any_by_keys name (x ∷ keys) = ap (λ r. bytes_eq name x.items || r) (any_by_ke
 
 -- what a new name after the others leaves
 pub added_named : {E : Type 0} (r : Result ℕ E) (old new : List (List ℕ)) (name : List ℕ) → IfOk r (λ n. (n ≡ length old) × (new ≡ old ++ name ∷ [])) → IfOk r (λ n. slice_get new n ≡ Some name)
-added_named (Ok n) old new name h = rw (h.0, h.1) (last_at old name)
-added_named (Err e) old new name h = h
+added_named r old new name h = grind (arith, common_steps, last_at) steps 200000
 
 pub added_grows : {E : Type 0} (r : Result ℕ E) (old new : List (List ℕ)) (name : List ℕ) → IfOk r (λ n. (n ≡ length old) × (new ≡ old ++ name ∷ [])) → OnErr r (new ≡ old) → Begins old new
-added_grows (Ok n) old new name h e = subst (Begins old) (sym h.1) (begins_more old (name ∷ []))
-added_grows (Err x) old new name h e = subst (Begins old) (sym e) (λ n name p. p)
+added_grows r old new name h e = grind (arith, common_steps, begins_more) steps 200000
 
 first_within : (name : List ℕ) (names : List (List ℕ)) (n : ℕ) → slice_get names n ≡ Some name → position_or_len (bytes_eq name) names < length names
 first_within name [] n h = cc
-first_within name (x ∷ names) zero h = by (bytes_eq name x) ((bytes_eq-Decides name x).1 (sym (same_Some x name h)))
-  where
-    by : (b : Bool) → b ≡ true → cond (not b) (1 + position_or_len (bytes_eq name) names) 0 < suc (length names)
-    by true e = omega arith
-    by false e = absurd (false≢true e)
-first_within name (x ∷ names) (suc n) h = by (bytes_eq name x) (first_within name names n h)
-  where
-    by : (b : Bool) → position_or_len (bytes_eq name) names < length names → cond (not b) (1 + position_or_len (bytes_eq name) names) 0 < suc (length names)
-    by true l = omega arith
-    by false l = omega (arith, l)
+first_within name (x ∷ names) zero h = grind (arith, common_steps, bytes_eq-Decides, false≢true, same_Some) steps 200000
+first_within name (x ∷ names) (suc n) h = grind (arith, common_steps, first_within name names n h) steps 200000
 
 -- a name that is at a place has a number
 named_somewhere : (names : List (List ℕ)) (name : List ℕ) (n : ℕ) → slice_get names n ≡ Some name → number_in names name ≡ None → ⊥
-named_somewhere names name n there none = by (nat_lt (position_or_len (bytes_eq name) names) (length names)) refl none
-  where
-    by : (b : Bool) → nat_lt (position_or_len (bytes_eq name) names) (length names) ≡ b → cond b (Some (position_or_len (bytes_eq name) names)) None ≡ None → ⊥
-    by true e h = cc
-    by false e h = let l = ltb-false _ _ e in let m = first_within name names n there in omega (arith, l, m)
+named_somewhere names name n there none = grind (arith, common_steps, first_within, ltb-false) steps 200000
 
 -- if names are distinct, it is that place
 pub number_of_named : (names : List (List ℕ)) (name : List ℕ) (n : ℕ) → AreDistinct names → slice_get names n ≡ Some name → number_in names name ≡ Some n

@@ -1,20 +1,20 @@
 -- Active pairs: they grow by those of each `$d`, an active statement reads at its own place as after all items, and which `$d` has a pair.
+use Rattle.std.proofs.lemmas.{Grind.{common_steps}, Bool.{false≢true, or_cases, or_left, or_right, or_parts, and_from, false_from_ne_true, not-false, and_parts}, Option.{get_or_from_slice_get}}
+use Rattle.std.proofs.lemmas.Slice.Eq.{bytes_eq-Decides}
 use Rattle.std.proofs.Common.{◌≡◌, ◌≢◌, ℕ, zero, suc, ◌+◌, ◌<◌, Bool, true, false, cond, ◌&&◌, ◌||◌, Some, List, [], ◌∷◌, ◌++◌, length, map, filter, flat_map, take, drop, slice_get, get_or, bytes_eq}
 use Rattle.std.proofs.Common.{refl, sym, ◌∙◌, ap, subst, arith, inl, inr, ◌⊎◌}
-use Rattle.std.proofs.lemmas.{Bool.{false≢true, or_cases, or_left, or_right, or_parts, and_from, false_from_ne_true, not-false, and_parts}, Option.{get_or_from_slice_get}, Slice.Eq.{bytes_eq-Decides}}
 use Rattle.mm_machine.specs.Language.Frame.{Symbol}
-use Rattle.mm_statement.specs.Language.Item.{Kind, Disjoint, Item, passed, is_declaring, is_disjoint, is_labelled, has, item_at}
+use Rattle.mm_statement.specs.Language.Item.{Kind, Item, passed, is_declaring, is_disjoint, is_labelled, has, item_at}
 use Rattle.mm_frame.specs.Language.{Scope.{Neither, mark_of, stays, active, active_variables, active_numbers}, Sound.{each, is_no_variable, is_repeated, IsSound, AreSound}}
-use Rattle.mm_frame.specs.Language.{Framing.{symbol, expression, pairs_of, active_pairs}, Answering.{are_paired}}
-use Rattle.mm_frame.specs.{declared.FrameNumber.TheVariants.{F03, F09}, Code.LastItems.{is_active_at, is_disjoint_item}}
+use Rattle.mm_frame.specs.{Language.{Framing.{symbol, expression, pairs_of, active_pairs}, Answering.{are_paired}}, declared.FrameNumber.TheVariants.{F03, F09}}
+use Rattle.mm_frame.specs.Code.LastItems.{is_active_at, is_disjoint_item}
 use Rattle.mm_frame.proofs.lemmas.lists.Members.{In, in_left, in_right, in_cases, in_map, from_map, in_flat, from_flat, in_get, has_in, in_has, in_cond}
 use Rattle.mm_frame.proofs.lemmas.scope.{ActiveBySplit.{active_split, split_active}, Facts.{no_symbol_of}, SoundItems.{split_at, map_same, expression_stays}, TableLemmas.{active_between}}
 use Rattle.mm_frame.proofs.lemmas.frames.{Frames.{variables_later}, HypothesisNumbers.{from_active_number, active_number_items}}
 
 -- a `$d` opens and closes no block
 pub disjoint_neither : (k : Kind) → is_disjoint k ≡ true → mark_of k ≡ Neither
-disjoint_neither Disjoint e = refl
-disjoint_neither _ e = absurd (false≢true e)
+disjoint_neither k e = grind (arith, common_steps) steps 200000
 
 -- each symbol of a sound `$d` is an active variable
 pub disjoint_named : (before : List Item) (item : Item) (name : List ℕ) → IsSound before item → is_disjoint item.kind ≡ true → In name item.symbols → In name (active_variables before)
@@ -74,13 +74,12 @@ pub active_pairs_by_numbers : (before : List Item) → AreSound before → activ
 active_pairs_by_numbers before h =
     let said = λ (y : Item). pairs_of (expression before y) in
     disjoint_only before (active before) ∙ ap (flat_map said) (sym (active_number_items is_disjoint_item before)) ∙ flat_of_map said (item_at before)
-    (active_numbers is_disjoint_item before) ∙ flat_same (λ n. said (item_at before n)) (pairs_at before) (active_numbers is_disjoint_item before) same
-  where
-    same : (n : ℕ) → In n (active_numbers is_disjoint_item before) → pairs_of (expression before (item_at before n)) ≡ pairs_at before n
-    same n k =
-        let r = from_active_number is_disjoint_item before n k in
-        let there = get_or_from_slice_get before n r.0 passed r.1 in
-        ap (λ w. pairs_of (expression before w)) there ∙ ap pairs_of (disjoint_at_number before h n r.0 r.1 r.2 r.3) ∙ ap (λ w. pairs_of (expression (take n before) w)) (sym there)
+    (active_numbers is_disjoint_item before) ∙ flat_same (λ n. said (item_at before n)) (pairs_at before) (active_numbers is_disjoint_item before) same where
+      same : (n : ℕ) → In n (active_numbers is_disjoint_item before) → pairs_of (expression before (item_at before n)) ≡ pairs_at before n
+      same n k =
+          let r = from_active_number is_disjoint_item before n k in
+          let there = get_or_from_slice_get before n r.0 passed r.1 in
+          ap (λ w. pairs_of (expression before w)) there ∙ ap pairs_of (disjoint_at_number before h n r.0 r.1 r.2 r.3) ∙ ap (λ w. pairs_of (expression (take n before) w)) (sym there)
 
 -- an active item and its number
 pub active_at_number : (before : List Item) (n : ℕ) (item : Item) → slice_get before n ≡ Some item → is_active_at before n ≡ true → In item (active before)
@@ -98,11 +97,7 @@ get_between (x ∷ front) item back = get_between front item back
 pub number_of_active : (before : List Item) (item : Item) → In item (active before) → ActiveNumber before item
 number_of_active before item a =
     let s = active_split before item a in
-    record {
-      number = length s.front;
-      there = ap (λ w. slice_get w (length s.front)) s.whole ∙ get_between s.front item s.back;
-      stayed = ap (λ w. is_active_at w (length s.front)) s.whole ∙ active_between s.front item s.back ∙ s.stayed;
-    }
+    grind (arith, common_steps, get_between s.front item s.back, active_between s.front item s.back) steps 200000
 
 -- a variable with each of some others
 abbrev pub pairs_with : Symbol → List Symbol → List (Symbol × Symbol)
@@ -138,10 +133,7 @@ in_order x y [] n h k = absurd h
 in_order x y (z ∷ xs) n (inl a) (inl b) = absurd (n (sym a ∙ b))
 in_order x y (z ∷ xs) n (inl a) (inr k) = inl (in_left (x, y) (pairs_with z xs) (pairs_of xs) (with_first x y z xs a k))
 in_order x y (z ∷ xs) n (inr h) (inl b) = inr (in_left (y, x) (pairs_with z xs) (pairs_of xs) (with_first y x z xs b h))
-in_order x y (z ∷ xs) n (inr h) (inr k) = elim (in_order x y xs n h k) [
-  | inl a ↦ inl (in_right (x, y) (pairs_with z xs) (pairs_of xs) a)
-  | inr b ↦ inr (in_right (y, x) (pairs_with z xs) (pairs_of xs) b)
-]
+in_order x y (z ∷ xs) n (inr h) (inr k) = grind (arith, common_steps, in_order x y xs n h k, in_right) steps 200000
 
 -- the names of a pair, in one order or the other
 abbrev pub is_pair : Symbol × Symbol → Symbol × Symbol → Bool
@@ -150,14 +142,8 @@ is_pair named pair = (bytes_eq pair.0.name named.0.name && bytes_eq pair.1.name 
 abbrev pub SameNames : Symbol × Symbol → Symbol × Symbol → Type 0
 SameNames named pair = ((pair.0.name ≡ named.0.name) × (pair.1.name ≡ named.1.name)) ⊎ ((pair.0.name ≡ named.1.name) × (pair.1.name ≡ named.0.name))
 
-both_names : (a b c d : List ℕ) → (bytes_eq a b && bytes_eq c d) ≡ true → (a ≡ b) × (c ≡ d)
-both_names a b c d t = let p = and_parts (bytes_eq a b) (bytes_eq c d) t in ((bytes_eq-Decides a b).0 p.0, (bytes_eq-Decides c d).0 p.1)
-
 pub same_names : (named pair : Symbol × Symbol) → is_pair named pair ≡ true → SameNames named pair
-same_names named pair t = elim (or_cases (bytes_eq pair.0.name named.0.name && bytes_eq pair.1.name named.1.name) (bytes_eq pair.0.name named.1.name && bytes_eq pair.1.name named.0.name) t) [
-  | inl a ↦ inl (both_names pair.0.name named.0.name pair.1.name named.1.name a)
-  | inr b ↦ inr (both_names pair.0.name named.1.name pair.1.name named.0.name b)
-]
+same_names named pair t = grind (arith, common_steps, or_cases, and_parts, bytes_eq-Decides) steps 200000
 
 pub found_pair : (named : Symbol × Symbol) (pairs : List (Symbol × Symbol)) → are_paired pairs named ≡ true → (pair : Symbol × Symbol) × In pair pairs × SameNames named pair
 found_pair named [] t = absurd (false≢true t)
@@ -205,10 +191,7 @@ apart_names before (x ∷ names) u pair h = elim (in_cases pair (pairs_with (sym
         false≢true (sym (u (suc g.0) s.0 g.1) ∙ in_has (x ∷ take g.0 names) s.0 (inl same))
 
 pub from_active_pairs : (before : List Item) (pair : Symbol × Symbol) → In pair (active_pairs before) → (item : Item) × In item (active before) × (is_disjoint item.kind ≡ true) × In pair (pairs_of (expression before item))
-from_active_pairs before pair m =
-    let r = from_flat (item_pairs before) pair (active before) m in
-    let d = in_cond (is_disjoint (r.0).kind) pair (pairs_of (expression before r.0)) r.2 in
-    (r.0, r.1, d.0, d.1)
+from_active_pairs before pair m = grind (arith, common_steps, from_flat, in_cond) steps 200000
 
 pub to_active_pairs : (before : List Item) (pair : Symbol × Symbol) (item : Item) → In item (active before) → is_disjoint item.kind ≡ true → In pair (pairs_of (expression before item)) → In pair (active_pairs before)
 to_active_pairs before pair item a d m = in_flat (item_pairs before) item pair (active before) a (subst (λ b. In pair (cond b (pairs_of (expression before item)) [])) (sym d) m)

@@ -1,53 +1,38 @@
 -- What was found for pairs that were looked up: after one more item, and what it says of active pairs.
-use Rattle.std.proofs.Common.{◌≡◌, ℕ, zero, suc, ◌<◌, ◌≤◌, Bool, true, false, Option, Some, None, List, [], ◌∷◌, ◌++◌, length, take, drop, get_or, refl, sym, ◌∙◌, ap, subst, take-append-drop}
-use Rattle.std.proofs.Common.{append_assoc, length-append, arith, inl, inr}
-use Rattle.std.proofs.lemmas.{Bool.{false≢true}, List.{drop-append-le}, Option.{slice_get_within}}
-use Rattle.std.specs.Prelude.{Contains, IfSome, IfNone, is_some}
+use Rattle.std.proofs.lemmas.{Grind.{common_steps}, Bool.{false≢true}, List.{drop-append-le}, Option.{slice_get_within}}
+use Rattle.std.proofs.Common.{◌≡◌, ℕ, zero, suc, ◌<◌, ◌≤◌, Bool, true, false, Option, Some, None, List, [], ◌∷◌, ◌++◌, length, take, drop, get_or, refl, sym, ◌∙◌, ap, take-append-drop, length-append}
+use Rattle.std.{proofs.Common.{arith}, specs.Prelude.{Contains, IfSome, IfNone, is_some}}
 use native.Mathlib.Decide.{dec_lt}
-use Rattle.mm_frame.specs.{declared.{asked.AskedPairs.{AskedPairs}, paired.PairTable.{PairTable}}, Language.{Scope.{Mark, stays}, Framing.{active_pairs}, Answering.{are_paired}}}
-use Rattle.mm_frame.specs.Code.{BlockMarks.{stays_by}, LastItems.{is_active_at}, Numbers.{IsNameNumber}, KeptPairTable.{row_at, IsDisjointAt, IsCommon, ReadsPairs}}
-use Rattle.mm_frame.specs.Code.KeptAsked.{IsFoundBefore, IsPairAnswer, KnowsAsked}
-use Rattle.mm_statement.specs.Language.Item.{Item}
-use Rattle.mm_machine.specs.Language.NumberedSymbols.{as_variable}
+use Rattle.mm_frame.specs.{declared.{asked.AskedPairs.{AskedPairs}, paired.PairTable.{PairTable}}, Language.{Scope.{Mark}, Framing.{active_pairs}, Answering.{are_paired}}, Code.BlockMarks.{stays_by}}
+use Rattle.mm_frame.specs.Code.{LastItems.{is_active_at}, Numbers.{IsNameNumber}, KeptPairTable.{row_at, IsDisjointAt, IsCommon, ReadsPairs}, KeptAsked.{IsFoundBefore, IsPairAnswer, KnowsAsked}}
 use Rattle.mm_frame.proofs.lemmas.scope.ActiveBySplit.{stays_join, stays_front}
 use Rattle.mm_frame.proofs.lemmas.pairs.PairTableLemmas.{disjoint_front, disjoint_cases, active_before, HavePair, paired_from, paired_to, active_at_marks}
+use Rattle.mm_statement.specs.Language.Item.{Item}
+use Rattle.mm_machine.specs.Language.NumberedSymbols.{as_variable}
 
 -- ---- what is there, of what there is
 
 pub some_weaker : {P Q : ℕ → Type 0} (o : Option ℕ) → ((n : ℕ) → P n → Q n) → IfSome o P → IfSome o Q
-some_weaker None f h = tt
-some_weaker (Some n) f h = f n h
+some_weaker o f h = grind (arith, common_steps) steps 200000
 
 pub none_weaker : {P Q : Type 0} (o : Option ℕ) → (P → Q) → IfNone o P → IfNone o Q
-none_weaker None f h = f h
-none_weaker (Some n) f h = tt
+none_weaker o f h = grind (arith, common_steps) steps 200000
 
 -- ---- one more item
 
 -- what was active before an active item is active
 drop_on : {X : Type 0} (xs : List X) (m n : ℕ) → m ≤ n → (front : List X) × (drop m xs ≡ front ++ drop n xs)
 drop_on xs zero n l = (take n xs, sym (take-append-drop n xs))
-drop_on [] (suc m) n l = ([], sym (nothing n))
-  where
-    nothing : {X : Type 0} (n : ℕ) → drop {A = X} n [] ≡ []
-    nothing zero = refl
-    nothing (suc n) = refl
+drop_on [] (suc m) n l = grind (arith, common_steps) steps 200000
 drop_on (x ∷ xs) (suc m) zero l = absurd (omega arith)
 drop_on (x ∷ xs) (suc m) (suc n) l = drop_on xs m n (omega arith)
 
 pub active_below : (before : List Item) (item : Item) (m n : ℕ) → m ≤ n → n < length before → is_active_at before m ≡ true → is_active_at (before ++ item ∷ []) n ≡ true → is_active_at (before ++ item ∷ []) m ≡ true
 active_below before item m n l within first later =
-    let cut = drop_on before (suc m) (suc n) (omega arith) in
-    let front = stays_front cut.0 (drop (suc n) before) (subst (λ w. stays w ≡ true) cut.1 first) in
-    let rest = subst (λ w. stays w ≡ true) (drop-append-le (suc n) before (item ∷ []) (omega arith)) later in
-    let both = stays_join cut.0 (drop (suc n) before ++ item ∷ []) front rest in
-    ap stays (drop-append-le (suc m) before (item ∷ []) (omega arith) ∙ ap (λ w. w ++ item ∷ []) cut.1 ∙ append_assoc cut.0 (drop (suc n) before) (item ∷ [])) ∙ both
+    grind (arith, common_steps, drop_on before (suc m) (suc n) (omega arith), drop-append-le (suc n) before (item ∷ []) (omega arith), drop-append-le (suc m) before (item ∷ []) (omega arith), stays_join, stays_front) steps 500000
 
 disjoint_back : (before : List Item) (item : Item) (name : List ℕ) (n : ℕ) → n < length before → IsDisjointAt (before ++ item ∷ []) name n → IsDisjointAt before name n
-disjoint_back before item name n l d = elim (disjoint_cases before item name n d) [
-  | inl old ↦ old
-  | inr new ↦ (let e = new.0 in absurd (omega arith))
-]
+disjoint_back before item name n l d = grind (arith, common_steps, disjoint_cases before item name n d) steps 200000
 
 answer_more : (before : List Item) (item : Item) (x y : List ℕ) (upto : ℕ) (common : Option ℕ) → IsPairAnswer before x y upto common → IsPairAnswer (before ++ item ∷ []) x y upto common
 answer_more before item x y upto common a =
@@ -80,8 +65,7 @@ common_pair all before table blocks first second x y k a b n common = record {
 
 pair_common : (all : List (List ℕ)) (before : List Item) (table : PairTable) (blocks : List Mark) (first second : ℕ) (x y : List ℕ) → ReadsPairs all before table blocks → IsNameNumber all first x → IsNameNumber all second y → (n : ℕ)
     → HavePair before x y n → IsCommon blocks (row_at table first) (row_at table second) n
-pair_common all before table blocks first second x y k a b n have =
-    ((k.knows first x a).cover n have.first have.stayed, (k.knows second y b).cover n have.second have.stayed, sym (active_at_marks before blocks n k.marks) ∙ have.stayed)
+pair_common all before table blocks first second x y k a b n have = grind (arith, common_steps, k.knows first x a, k.knows second y b, active_at_marks before blocks n k.marks) steps 200000
 
 pub names_apart : (all : List (List ℕ)) (first second : ℕ) (x y : List ℕ) (before : List Item) (table : PairTable) (blocks : List Mark)
     → ReadsPairs all before table blocks → IsNameNumber all first x → IsNameNumber all second y → (first ≡ second → ⊥) → x ≡ y → ⊥
@@ -106,13 +90,7 @@ active_told all before table blocks first second x y upto common k a b apart ans
 later_common : (all : List (List ℕ)) (before : List Item) (table : PairTable) (blocks : List Mark) (first second : ℕ) (x y : List ℕ) (upto : ℕ)
     (common : Option ℕ) → ReadsPairs all before table blocks → IsNameNumber all first x → IsNameNumber all second y
     → IsPairAnswer before x y upto common → IsEnded blocks common → (n : ℕ) → HavePair before x y n → upto ≤ n
-later_common all before table blocks first second x y upto common k a b answer ended n have = elim (dec_lt n upto) [
-  | yes l ↦ (
-      let found = answer.cover n l have.first have.second have.stayed in
-      absurd (false≢true (sym (ended found.first found.found) ∙ sym (active_at_marks before blocks found.first k.marks) ∙ found.active))
-      )
-  | no m ↦ omega arith
-]
+later_common all before table blocks first second x y upto common k a b answer ended n have = grind (arith, common_steps, active_at_marks, dec_lt, false≢true) steps 200000
 
 -- the first from there on, if there is one
 pub record IsFirstFrom (blocks : List Mark) (row other : List ℕ) (from : ℕ) (common : Option ℕ) : Type 0 where
@@ -148,10 +126,7 @@ next_answer all before table blocks first second x y upto end known common k a b
       let have : HavePair before x y n = record { first = p; second = q; stayed = active } in
       by_common common f (later_common all before table blocks first second x y upto known k a b answer ended n have) (pair_common all before table blocks first second x y k a b n have)
       );
-  there = λ n e. (
-      let some = subst (λ o. IfSome o (IsCommon blocks (row_at table first) (row_at table second))) e f.some in
-      ((k.knows first x a).there n some.0, (k.knows second y b).there n some.1)
-      );
+  there = grind (arith, k.knows first x a, k.knows second y b) steps 200000;
 }
   where
     by_common : (o : Option ℕ) → IsFirstFrom blocks (row_at table first) (row_at table second) upto o → {n : ℕ} → upto ≤ n → IsCommon blocks (row_at table first) (row_at table second) n → IsFoundBefore before o n

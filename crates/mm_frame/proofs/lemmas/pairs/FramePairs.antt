@@ -1,27 +1,20 @@
 -- The pairs of a frame: those of its variables, in order, that an active `$d` has.
+use Rattle.std.proofs.lemmas.{Grind.{common_steps, flat_map-append}, Bool.{or_cases, and_from, false_from_ne_true, and_parts}, List.{map-append, map_push}}
+use Rattle.std.proofs.lemmas.{List.Elements.{All-contains, All-push, filter-append}, Map.Views.{any-filter_same}, Option.{same_Some, get_or_from_slice_get}}
 use Rattle.std.proofs.Common.{◌≡◌, ℕ, suc, ◌+◌, ◌<◌, ◌≤◌, Bool, true, false, cond, ◌&&◌, Some, None, List, [], ◌∷◌, ◌++◌, length, map, filter, flat_map, All, option_to_list, take, drop, slice_get}
-use Rattle.std.proofs.Common.{get_or, refl, sym, ◌∙◌, ap, subst, append_assoc, append-nil, take-suc, arith, inl, inr, ◌⊎◌}
-use Rattle.std.proofs.lemmas.{Bool.{or_cases, and_from, false_from_ne_true, and_parts}, Grind.{flat_map-append}, List.{map-append, map_push, Elements.{All-contains, All-push, filter-append}}}
-use Rattle.std.proofs.lemmas.{Map.Views.{any-filter_same}, Option.{same_Some, get_or_from_slice_get}}
-use Rattle.mm_machine.specs.declared.symbol.NumberedSymbol.{NumberedSymbol}
-use Rattle.mm_machine.specs.Language.{Frame.{Symbol, Mandatory, ArePair, AreSamePairs}, Typing.{IsTyped}, Names.{name_at}}
+use Rattle.std.proofs.Common.{get_or, refl, sym, ◌∙◌, ap, subst, append-nil, take-suc, arith, inl, inr, ◌⊎◌}
+use Rattle.mm_machine.specs.{declared.symbol.NumberedSymbol.{NumberedSymbol}, Language.{Frame.{Symbol, Mandatory, ArePair, AreSamePairs}, Typing.{IsTyped}, Names.{name_at}}}
 use Rattle.mm_machine.specs.Language.NumberedSymbols.{symbol_of, symbols_of, pair_of, IsNumbered, IsPairNumbered, ArePairsRead}
-use Rattle.mm_frame.specs.declared.paired.PairTable.{PairTable}
-use Rattle.mm_frame.specs.Language.{Scope.{Mark, active, active_numbers}, Sound.{IsSound, AreSound}}
+use Rattle.mm_frame.specs.{declared.paired.PairTable.{PairTable}, Language.{Scope.{Mark, active, active_numbers}, Sound.{IsSound, AreSound}}}
 use Rattle.mm_frame.specs.Language.Framing.{symbol, expression, mandatory_variables, is_mandatory, hypothesis, mandatory_hypotheses, pairs_of, active_pairs, is_mandatory_pair, frame}
-use Rattle.mm_frame.specs.Language.Framing.{mandatory_numbers}
-use Rattle.mm_frame.specs.Language.Answering.{are_paired, typed_variables, pairs_in_order}
-use Rattle.mm_frame.specs.Code.{LastItems.{is_active_at, is_essential_item}, KeptSymbols.{expression_kept, AreExpressions, AreNumbered}, KeptPairTable.{row_at, ReadsPairs}}
-use Rattle.mm_frame.specs.Code.PairOrder.{is_among, float_variable, float_variables}
-use Rattle.mm_statement.specs.Language.Item.{Item, passed, is_floating, is_essential, is_assertion, has, variable_of, item_at}
-use Rattle.mm_frame.proofs.lemmas.lists.{Members.{In, in_contains, contains_in, get_in, from_map, in_filter, from_filter, in_flat, from_flat}, Rising.{in_among, among_in}}
-use Rattle.mm_frame.proofs.lemmas.scope.{Facts.{float_two}, SoundItems.{split_at, filter_same, sound_kept}}
-use Rattle.mm_frame.proofs.lemmas.frames.Frames.{in_at, float_of, float_name, float_labelled, from_pairs, pairs_typed_at, assertion_expression}
-use Rattle.mm_frame.proofs.lemmas.frames.{HypothesisNumbers.{to_active_number, from_active_number, hypotheses_by_numbers}, MandatoryLemmas.{not_both}}
-use Rattle.mm_frame.proofs.lemmas.names.NumberLemmas.{name_there}
+use Rattle.mm_frame.specs.{Language.{Framing.{mandatory_numbers}, Answering.{are_paired, typed_variables, pairs_in_order}}, Code.LastItems.{is_active_at, is_essential_item}}
+use Rattle.mm_frame.specs.Code.{KeptSymbols.{expression_kept, AreExpressions, AreNumbered}, KeptPairTable.{row_at, ReadsPairs}, PairOrder.{is_among, float_variable, float_variables}}
+use Rattle.mm_frame.proofs.lemmas.{lists.{Members.{In, in_contains, contains_in, get_in, from_map, in_filter, from_filter, in_flat, from_flat}, Rising.{in_among, among_in}}, scope.Facts.{float_two}}
+use Rattle.mm_frame.proofs.lemmas.{scope.SoundItems.{split_at, filter_same, sound_kept}, frames.Frames.{in_at, float_of, float_name, float_labelled, from_pairs, pairs_typed_at, assertion_expression}}
+use Rattle.mm_frame.proofs.lemmas.{frames.{HypothesisNumbers.{to_active_number, from_active_number, hypotheses_by_numbers}, MandatoryLemmas.{not_both}}, names.NumberLemmas.{name_there}}
 use Rattle.mm_frame.proofs.lemmas.pairs.ActivePairLemmas.{expression_at_number, flat_same, flat_of_map, pairs_with, row_last, all_more, in_order, is_pair, SameNames, same_names, found_pair, to_paired}
-use Rattle.mm_frame.proofs.lemmas.pairs.ActivePairLemmas.{pair_here, pair_turned, apart_active}
-use Rattle.mm_frame.proofs.lemmas.pairs.PairTableLemmas.{none_told}
+use Rattle.mm_frame.proofs.lemmas.pairs.{ActivePairLemmas.{pair_here, pair_turned, apart_active}, PairTableLemmas.{none_told}}
+use Rattle.mm_statement.specs.Language.Item.{Item, passed, is_floating, is_essential, is_assertion, has, variable_of, item_at}
 
 -- the variables of the mandatory `$f`
 abbrev variables_if : Bool → List Symbol → List Symbol
@@ -37,33 +30,32 @@ variables_at : (all : List (List ℕ)) (before : List Item) (item : Item) (expre
 variables_at all before item expressions n h a m =
     let r = from_active_number (is_mandatory (mandatory_variables before item)) before n m in
     let whole = λ (x : Item). variables_if (is_floating x.kind) (expression before x) in
-    by_kind r.0 r.1 r.2 (or_cases (is_essential (r.0).kind) (is_floating (r.0).kind && has (mandatory_variables before item) (variable_of r.0)) r.3) ∙ ap whole (sym (get_or_from_slice_get before n r.0 passed r.1))
-  where
-    essentials : List ℕ
-    essentials = active_numbers is_essential_item before
+    by_kind r.0 r.1 r.2 (or_cases (is_essential (r.0).kind) (is_floating (r.0).kind && has (mandatory_variables before item) (variable_of r.0)) r.3) ∙ ap whole (sym (get_or_from_slice_get before n r.0 passed r.1)) where
+      essentials : List ℕ
+      essentials = active_numbers is_essential_item before
 
-    no_float : (x : Item) → is_essential x.kind ≡ true → is_floating x.kind ≡ false
-    no_float x e = false_from_ne_true (is_floating x.kind) (λ f. not_both x.kind f e)
+      no_float : (x : Item) → is_essential x.kind ≡ true → is_floating x.kind ≡ false
+      no_float x e = false_from_ne_true (is_floating x.kind) (λ f. not_both x.kind f e)
 
-    no_essential : (x : Item) → slice_get before n ≡ Some x → is_floating x.kind ≡ true → is_among essentials n ≡ false
-    no_essential x there f = false_from_ne_true (is_among essentials n) (λ t.
-        let r = from_active_number is_essential_item before n (among_in essentials n t) in
-        not_both x.kind f (ap (λ (y : Item). is_essential y.kind) (same_Some x r.0 (sym there ∙ r.1)) ∙ r.3))
+      no_essential : (x : Item) → slice_get before n ≡ Some x → is_floating x.kind ≡ true → is_among essentials n ≡ false
+      no_essential x there f = false_from_ne_true (is_among essentials n) (λ t.
+          let r = from_active_number is_essential_item before n (among_in essentials n t) in
+          not_both x.kind f (ap (λ (y : Item). is_essential y.kind) (same_Some x r.0 (sym there ∙ r.1)) ∙ r.3))
 
-    by_kind : (x : Item) → slice_get before n ≡ Some x → is_active_at before n ≡ true → (is_essential x.kind ≡ true) ⊎ ((is_floating x.kind && has (mandatory_variables before item) (variable_of x)) ≡ true)
-        → symbols_of all (float_variable essentials expressions n) ≡ variables_if (is_floating x.kind) (expression before x)
-    by_kind x there stayed (inl e) =
-        ap (λ b. symbols_of all (cond b [] (option_to_list (slice_get (expression_kept expressions n) 1)))) (in_among essentials n (to_active_number is_essential_item before n x there stayed e))
-        ∙ sym (ap (λ b. variables_if b (expression before x)) (no_float x e))
-    by_kind x there stayed (inr b) =
-        let f = (and_parts (is_floating x.kind) (has (mandatory_variables before item) (variable_of x)) b).0 in
-        let labelled = float_labelled x.kind f in
-        let two = float_two (take n before) x (h (take n before) x (drop (suc n) before) (split_at before n x there)) f in
-        let symbols : expression before x ≡ symbol before two.0 ∷ symbol before two.1 ∷ [] = ap (map (symbol before)) two.2 in
-        ap (λ b. symbols_of all (cond b [] (option_to_list (slice_get (expression_kept expressions n) 1)))) (no_essential x there f)
-        ∙ second_read all (expression_kept expressions n)
-        ∙ ap (λ w. option_to_list (slice_get w 1)) ((a n x there labelled ∙ sym (expression_at_number before h n x there stayed labelled)) ∙ symbols)
-        ∙ sym (ap (λ b. variables_if b (expression before x)) f ∙ ap (drop 1) symbols)
+      by_kind : (x : Item) → slice_get before n ≡ Some x → is_active_at before n ≡ true → (is_essential x.kind ≡ true) ⊎ ((is_floating x.kind && has (mandatory_variables before item) (variable_of x)) ≡ true)
+          → symbols_of all (float_variable essentials expressions n) ≡ variables_if (is_floating x.kind) (expression before x)
+      by_kind x there stayed (inl e) =
+          ap (λ b. symbols_of all (cond b [] (option_to_list (slice_get (expression_kept expressions n) 1)))) (in_among essentials n (to_active_number is_essential_item before n x there stayed e))
+          ∙ sym (ap (λ b. variables_if b (expression before x)) (no_float x e))
+      by_kind x there stayed (inr b) =
+          let f = (and_parts (is_floating x.kind) (has (mandatory_variables before item) (variable_of x)) b).0 in
+          let labelled = float_labelled x.kind f in
+          let two = float_two (take n before) x (h (take n before) x (drop (suc n) before) (split_at before n x there)) f in
+          let symbols : expression before x ≡ symbol before two.0 ∷ symbol before two.1 ∷ [] = ap (map (symbol before)) two.2 in
+          ap (λ b. symbols_of all (cond b [] (option_to_list (slice_get (expression_kept expressions n) 1)))) (no_essential x there f)
+          ∙ second_read all (expression_kept expressions n)
+          ∙ ap (λ w. option_to_list (slice_get w 1)) ((a n x there labelled ∙ sym (expression_at_number before h n x there stayed labelled)) ∙ symbols)
+          ∙ sym (ap (λ b. variables_if b (expression before x)) f ∙ ap (drop 1) symbols)
 
 read_each : {X : Type 0} (all : List (List ℕ)) (f : X → List NumberedSymbol) (xs : List X) → symbols_of all (flat_map f xs) ≡ flat_map (λ x. symbols_of all (f x)) xs
 read_each all f [] = refl
@@ -107,24 +99,17 @@ typed_variable before item v h m =
     let s = from_map (hypothesis before) r.0 (filter (is_mandatory (mandatory_variables before item)) (active before)) r.1 in
     let t = from_filter (is_mandatory (mandatory_variables before item)) s.0 (active before) s.1 in
     let u = floating_in (r.0).floating v (r.0).expression r.2 in
-    of_float s.0 t.0 t.1 (ap (λ (x : Mandatory). x.floating) s.2 ∙ u.0) (subst (λ (x : Mandatory). In v (drop 1 x.expression)) (sym s.2) u.1)
-  where
-    of_float : (f : Item) → In f (active before) → is_mandatory (mandatory_variables before item) f ≡ true → is_floating f.kind ≡ true → In v (drop 1 (expression before f)) → TypedVariable before item v
-    of_float f a t e k =
-        let x = float_of before f (sound_kept before h) a e in
-        elim (subst (λ w. In v (drop 1 (map (symbol before) w))) x.both k) [
-          | inl q ↦ record {
-            variable = ap (λ (s : Symbol). s.variable) (sym q) ∙ x.variable;
-            mandatory = ap (λ (s : Symbol). has (mandatory_variables before item) s.name) (sym q) ∙ ap (has (mandatory_variables before item)) (sym (float_name before f x)) ∙ (has_name f t e);
-          }
-          | inr z ↦ absurd z
-        ]
-      where
-        has_name : (f : Item) → is_mandatory (mandatory_variables before item) f ≡ true → is_floating f.kind ≡ true → has (mandatory_variables before item) (variable_of f) ≡ true
-        has_name f t e = elim (or_cases (is_essential f.kind) (is_floating f.kind && has (mandatory_variables before item) (variable_of f)) t) [
-          | inl q ↦ absurd (not_both f.kind e q)
-          | inr b ↦ (and_parts (is_floating f.kind) (has (mandatory_variables before item) (variable_of f)) b).1
-        ]
+    of_float s.0 t.0 t.1 (ap (λ (x : Mandatory). x.floating) s.2 ∙ u.0) (subst (λ (x : Mandatory). In v (drop 1 x.expression)) (sym s.2) u.1) where
+      of_float : (f : Item) → In f (active before) → is_mandatory (mandatory_variables before item) f ≡ true → is_floating f.kind ≡ true → In v (drop 1 (expression before f)) → TypedVariable before item v
+      of_float f a t e k =
+          let x = float_of before f (sound_kept before h) a e in
+          elim (subst (λ w. In v (drop 1 (map (symbol before) w))) x.both k) [
+            | inl q ↦ grind (arith, common_steps, float_name before f x) steps 200000
+            | inr z ↦ absurd z
+          ]
+        where
+          has_name : (f : Item) → is_mandatory (mandatory_variables before item) f ≡ true → is_floating f.kind ≡ true → has (mandatory_variables before item) (variable_of f) ≡ true
+          has_name f t e = grind (arith, common_steps, or_cases (is_essential f.kind) (is_floating f.kind && has (mandatory_variables before item) (variable_of f)) t, not_both, and_parts) steps 200000
 
 -- mandatory variables are a pair of the frame exactly when they are an active pair
 paired_same : (mandatory : List (List ℕ)) (pairs : List (Symbol × Symbol)) (named : Symbol × Symbol) → has mandatory named.0.name ≡ true
@@ -151,23 +136,15 @@ nothing false = refl
 
 -- nor has one of the active `$e`, wherever it is among them
 pub no_variable : (essentials : List ℕ) (expressions : List (List NumberedSymbol)) (n place : ℕ) → slice_get essentials place ≡ Some n → float_variable essentials expressions n ≡ []
-no_variable essentials expressions n place e =
-    ap (λ b. cond b [] (option_to_list (slice_get (expression_kept expressions n) 1))) (in_among essentials n (get_in n essentials place e))
+no_variable essentials expressions n place e = grind (arith, common_steps, in_among essentials n (get_in n essentials place e)) steps 200000
 
 pub nothing_second : (essentials : List ℕ) (expressions : List (List NumberedSymbol)) (n : ℕ) (symbols so_far : List NumberedSymbol)
     → symbols ≡ expression_kept expressions n → length symbols ≤ 1 → so_far ≡ so_far ++ float_variable essentials expressions n
-nothing_second essentials expressions n symbols so_far e l =
-    sym (append-nil so_far)
-    ∙ ap (λ w. so_far ++ w) (sym (ap (λ o. cond (is_among essentials n) [] (option_to_list o)) (ap (λ w. slice_get w 1) (sym e) ∙ no_second symbols l) ∙ nothing (is_among essentials n)))
+nothing_second essentials expressions n symbols so_far e l = grind (arith, common_steps, append-nil so_far, no_second symbols l, nothing (is_among essentials n)) steps 200000
 
 pub variables_more : (essentials : List ℕ) (expressions : List (List NumberedSymbol)) (numbers : List ℕ) (n : ℕ) → n < length numbers
     → float_variables essentials expressions (take (n + 1) numbers) ≡ float_variables essentials expressions (take n numbers) ++ float_variable essentials expressions (get_or numbers n 0)
-variables_more essentials expressions numbers n l =
-    let z : n + 1 ≡ suc n = omega arith in
-    ap (λ k. float_variables essentials expressions (take k numbers)) z
-    ∙ ap (float_variables essentials expressions) (take-suc numbers n 0 l)
-    ∙ flat_map-append (float_variable essentials expressions) (take n numbers) (get_or numbers n 0 ∷ [])
-    ∙ ap (λ w. float_variables essentials expressions (take n numbers) ++ w) (append-nil (float_variable essentials expressions (get_or numbers n 0)))
+variables_more essentials expressions numbers n l = grind (arith, common_steps, append-nil, flat_map-append, take-suc) steps 200000
 
 -- a pair that is kept if it passes a test
 pub pair_added : (all : List (List ℕ)) (test : Symbol × Symbol → Bool) (said : List (Symbol × Symbol)) (kept : List (NumberedSymbol × NumberedSymbol))
@@ -189,9 +166,8 @@ pub with_more : (all : List (List ℕ)) (test : Symbol × Symbol → Bool) (s : 
     → ArePairsRead all ((said ++ filter test (pairs_with s (symbols_of all (take n later)))) ++ filter test ((s, symbol_of all (get_or later n d)) ∷ []))
     kept → ArePairsRead all (said ++ filter test (pairs_with s (symbols_of all (take (n + 1) later)))) kept
 with_more all test s later n d said kept l r =
-    let so_far = pairs_with s (symbols_of all (take n later)) in
     let one : List (Symbol × Symbol) = (s, symbol_of all (get_or later n d)) ∷ [] in
-    subst (λ w. ArePairsRead all w kept) (append_assoc said (filter test so_far) (filter test one) ∙ ap (λ w. said ++ w) (sym (filter-append test so_far one) ∙ ap (filter test) (sym (row_last (symbol_of all) s later n d l)))) r
+    grind (arith, common_steps, pairs_with s (symbols_of all (take n later)), filter-append test (pairs_with s (symbols_of all (take n later))) one, row_last (symbol_of all) s later n d l) steps 200000
 
 no_pairs : (test : Symbol × Symbol → Bool) (s : Symbol) (others : List Symbol) → ((y : Symbol) → test (s, y) ≡ false) → filter test (pairs_with s others) ≡ []
 no_pairs test s [] h = refl
@@ -208,10 +184,7 @@ with_none all before table blocks x others said kept k a e r =
 pub among_more : (all : List (List ℕ)) (test : Symbol × Symbol → Bool) (variables : List NumberedSymbol) (n : ℕ) (d : NumberedSymbol)
     (said whole : List (Symbol × Symbol)) → n < length variables → said ++ filter test (pairs_of (symbols_of all (drop n variables))) ≡ whole
     → (said ++ filter test (pairs_with (symbol_of all (get_or variables n d)) (symbols_of all (drop (n + 1) variables)))) ++ filter test (pairs_of (symbols_of all (drop (n + 1) variables))) ≡ whole
-among_more all test variables n d said whole l so_far =
-    let row = pairs_with (symbol_of all (get_or variables n d)) (symbols_of all (drop (n + 1) variables)) in
-    let rest = pairs_of (symbols_of all (drop (n + 1) variables)) in
-    append_assoc said (filter test row) (filter test rest) ∙ ap (λ w. said ++ w) (sym (filter-append test row rest) ∙ ap (filter test) (sym (all_more (symbol_of all) variables n d l))) ∙ so_far
+among_more all test variables n d said whole l so_far = grind (arith, common_steps, all_more, filter-append, pairs_with) steps 500000
 
 -- the pairs in order are those of the frame
 pair_same : (a b c d : Symbol) → a ≡ b → c ≡ d → ◌≡◌ {A = Symbol × Symbol} (a, c) (b, d)
@@ -221,8 +194,7 @@ symbol_same : (a b : Symbol) → a.name ≡ b.name → a.variable ≡ true → b
 symbol_same a b e s t = let f = s ∙ sym t in λ i. record { name = e i; variable = f i }
 
 pub swapped : (pairs : List (Symbol × Symbol)) (x y : Symbol) → ArePair pairs x y → ArePair pairs y x
-swapped pairs x y (inl a) = inr a
-swapped pairs x y (inr b) = inl b
+swapped pairs x y h = grind (arith, common_steps) steps 200000
 
 pub same_pairs : (before : List Item) (item : Item) → AreSound before → IsSound before item → is_assertion item.kind ≡ true → AreSamePairs (pairs_in_order (frame before item)) (frame before item).pairs
 same_pairs before item h s a = λ x y. (both_from x y, both_to x y)

@@ -1,27 +1,23 @@
 -- The active pairs are those after the items up to the last active `$d`, and the lists that are made of them.
+use Rattle.std.proofs.lemmas.{Grind.{common_steps, flat_map-append}, Simd.{map-map}, List.{map-append, take-append-le, drop-append-le, take-append-drop}}
+use Rattle.std.proofs.lemmas.List.Elements.{Contains-append_right, Contains-append_cases, All-nil, All-append, All-map, All-contains, All-contains_itself}
+use Rattle.std.proofs.lemmas.{List.{Sorted.{IsPermutation-sym, Contains-permutation}, Filters.{dedup_is}, Kept.{Contains-dedup, Contains-from_dedup}}, Bool.{false≢true, Decides.{eqb_tells}}}
+use Rattle.std.proofs.lemmas.Option.{get_or_from_slice_get, slice_get_within, slice_get-get_or, none-some}
 use Rattle.std.proofs.Common.{◌≡◌, ℕ, zero, suc, ◌+◌, ◌-◌, ◌<◌, ◌≤◌, Bool, true, false, cond, ◌&&◌, ◌||◌, Option, Some, None, List, [], ◌∷◌, ◌++◌, length, All, Contains, Decides, ◌⊎◌, ◌↔◌, leb, map}
-use Rattle.std.proofs.Common.{flat_map, take, drop, slice_get, get_or, nat_eq, refl, sym, ◌∙◌, ap, subst, append-nil, arith, length-append, length-take-le, inl, inr}
-use Rattle.std.proofs.lemmas.Simd.{map-map}
-use Rattle.std.proofs.lemmas.List.{map-append, take-append-le, drop-append-le, take-append-drop}
-use Rattle.std.proofs.lemmas.List.Elements.{Contains-append_left, Contains-append_right, Contains-append_cases, All-nil, All-append, All-map, All-contains, All-contains_itself}
-use Rattle.std.proofs.lemmas.List.{Sorted.{IsPermutation-sym, Contains-permutation}, Filters.{dedup_is}, Kept.{Contains-dedup, Contains-from_dedup}}
-use Rattle.std.proofs.lemmas.{Grind.{flat_map-append}, Bool.{false≢true, Decides.{eqb_tells, Decides-and}}, Option.{get_or_from_slice_get, slice_get_within, slice_get-get_or, none-some}}
-use Rattle.std.proofs.Math.Bool.{beq}
-use Rattle.std.specs.{Cmp.{decided, unsigned_Decides, booleans_Decides}, List.{dedup, Sorted.{IsPermutation}, Retain.{IsFiltered, DiffersFromLast}}}
+use Rattle.std.{proofs.{Common.{flat_map, take, drop, slice_get, get_or, nat_eq, refl, sym, ◌∙◌, ap, subst, append-nil, arith, length-take-le, inl, inr}, Math.Bool.{beq}}, specs.Cmp.{decided}}
+use Rattle.std.specs.List.{dedup, Sorted.{IsPermutation}, Retain.{IsFiltered, DiffersFromLast}}
 use native.Mathlib.Decide.{dec_lt}
-use Rattle.mm_machine.specs.declared.symbol.NumberedSymbol.{NumberedSymbol}
-use Rattle.mm_machine.specs.Language.Frame.{Symbol, ArePair, AreSamePairs}
+use Rattle.mm_machine.specs.{declared.symbol.NumberedSymbol.{NumberedSymbol}, Language.Frame.{Symbol, ArePair, AreSamePairs}}
 use Rattle.mm_machine.specs.Language.NumberedSymbols.{symbol_of, symbols_of, pair_of, kept_pairs, IsNumbered, IsPairNumbered, ArePairsRead, AreSamePairsRead, AreInOrder}
-use Rattle.mm_frame.specs.declared.pair_lists.PairLists.{PairLists}
-use Rattle.mm_frame.specs.Language.{Scope.{stays, active_numbers}, Sound.{AreSound, sound_items}, Framing.{expression, pairs_of, active_pairs}, Answering.{AreRows, is_told_proof}}
-use Rattle.mm_frame.specs.Code.{LastItems.{is_active_at, is_disjoint_item, IsRising}, KeptSymbols.{expression_kept, AreSymbols, AreNumbered}}
+use Rattle.mm_frame.specs.{declared.pair_lists.PairLists.{PairLists}, Language.{Scope.{stays, active_numbers}, Sound.{AreSound, sound_items}, Framing.{expression, pairs_of, active_pairs}}}
+use Rattle.mm_frame.specs.{Language.Answering.{AreRows, is_told_proof}, Code.{LastItems.{is_active_at, is_disjoint_item, IsRising}, KeptSymbols.{expression_kept, AreSymbols, AreNumbered}}}
 use Rattle.mm_frame.specs.Code.KeptPairLists.{pairs_among, with_low_first, pairs_or_none, list_kept, IsThere, IsList, list_made, IsMadeFor, AreMade, KeepsLists, AreFrontNumbers, HasEach, HasSame}
-use Rattle.mm_frame.specs.Code.KeptAssertions.{TellsPairs}
-use Rattle.mm_statement.specs.Language.Item.{Item, passed, is_labelled, is_disjoint}
-use Rattle.mm_frame.proofs.lemmas.frames.{FrameNumbers.{front_get}, HypothesisNumbers.{to_active_number, from_active_number, active_numbers_rise, same_rising, above, behind}}
-use Rattle.mm_frame.proofs.lemmas.pairs.{FramePairs.{swapped}, ActivePairLemmas.{pairs_at, flat_same, active_pairs_by_numbers}}
+use Rattle.mm_frame.{specs.Code.KeptAssertions.{TellsPairs}, proofs.lemmas.frames.FrameNumbers.{front_get}}
+use Rattle.mm_frame.proofs.lemmas.{frames.HypothesisNumbers.{to_active_number, from_active_number, active_numbers_rise, same_rising, above, behind}, pairs.FramePairs.{swapped}}
+use Rattle.mm_frame.proofs.lemmas.pairs.ActivePairLemmas.{pairs_at, flat_same, active_pairs_by_numbers}
 use Rattle.mm_frame.proofs.lemmas.lists.{Members.{In, in_left, in_right, in_cases, in_get, get_in, in_contains, contains_in, in_map, from_map}, Rising.{rising_front}}
 use Rattle.mm_frame.proofs.lemmas.{scope.{ActiveBySplit.{stays_join, stays_front}, SoundItems.{sound_take}}, base.BaseLemmas.{rows_more}}
+use Rattle.mm_statement.specs.Language.Item.{Item, passed, is_labelled, is_disjoint}
 
 -- the last of rising numbers is the greatest
 at_most_last : (numbers : List ℕ) (n : ℕ) → IsRising numbers → slice_get numbers (length numbers - 1) ≡ Some n → (m : ℕ) → In m numbers → m ≤ n
@@ -114,10 +110,8 @@ pairs_of_front : (a d : List Item) (m : ℕ) → In m (active_numbers is_disjoin
 pairs_of_front a d m h =
     let r = from_active_number is_disjoint_item a m h in
     let w = slice_get_within a m r.0 r.1 in
-    let here = get_or_from_slice_get a m r.0 passed r.1 in
     let there = get_or_from_slice_get (a ++ d) m r.0 passed (get_join a d m r.0 r.1) in
-    let same = here ∙ sym there in
-    λ i. pairs_of (expression (sym (take-append-le m a d (omega arith)) i) (same i))
+    λ i. pairs_of (expression (sym (take-append-le m a d (omega arith)) i) ((get_or_from_slice_get a m r.0 passed r.1 ∙ sym there) i))
 
 -- the active pairs after this many of the items are those of their active `$d`
 pub front_pairs : (before : List Item) (numbers : List ℕ) (count : ℕ) → AreSound before → AreFrontNumbers before numbers count → active_pairs (take count before) ≡ flat_map (pairs_at before) numbers
@@ -142,22 +136,14 @@ number_there before numbers rest n e last =
     slice_get_within before n r.0 r.1
 
 pub count_of_last : (before : List Item) (numbers rest : List ℕ) (n count : ℕ) → numbers ++ rest ≡ active_numbers is_disjoint_item before → number_last numbers ≡ Some n → count ≡ n + 1 → AreFrontNumbers before numbers count
-count_of_last before numbers rest n count e last c =
-    let w = number_there before numbers rest n e last in
-    let z : suc n ≡ count = omega arith in
-    record {
-      within = omega arith;
-      active = sym (front_numbers is_disjoint_item before numbers rest n e last) ∙ ap (λ k. active_numbers is_disjoint_item (take k before)) z;
-    }
+count_of_last before numbers rest n count e last c = grind (arith, common_steps, number_there before numbers rest n e last, front_numbers is_disjoint_item before numbers rest n e last) steps 200000
 
 pub count_of_none : (before : List Item) (numbers : List ℕ) → number_last numbers ≡ None → AreFrontNumbers before numbers 0
 count_of_none before numbers last = record { within = omega arith; active = none_last numbers last }
 
 pub number_within : (all : List (List ℕ)) (before : List Item) (expressions : List (List NumberedSymbol)) (numbers rest : List ℕ) (n : ℕ)
     → AreSymbols all before expressions → numbers ++ rest ≡ active_numbers is_disjoint_item before → number_last numbers ≡ Some n → n < length expressions
-number_within all before expressions numbers rest n a e last =
-    let w = number_there before numbers rest n e last in
-    omega arith
+number_within all before expressions numbers rest n a e last = grind (arith, common_steps, number_there before numbers rest n e last) steps 200000
 
 -- each symbol with each later one, in turn, and the pairs that are read of these
 abbrev in_turn : List NumberedSymbol → List (NumberedSymbol × NumberedSymbol)
@@ -276,14 +262,10 @@ abbrev pub is_same_pair : NumberedSymbol × NumberedSymbol → NumberedSymbol ×
 is_same_pair p q = is_same_symbol p.0 q.0 && is_same_symbol p.1 q.1
 
 pub symbol_decides : (x y : NumberedSymbol) → Decides (is_same_symbol x y) (x ≡ y)
-symbol_decides x y =
-    let d = Decides-and (nat_eq x.name y.name) (beq x.variable y.variable) (unsigned_Decides x.name y.name) (booleans_Decides x.variable y.variable) in
-    (λ t. let r = d.0 t in let name = r.0 in let variable = r.1 in λ i. record { name = name i; variable = variable i }, λ e. d.1 (ap (λ (s : NumberedSymbol). s.name) e, ap (λ (s : NumberedSymbol). s.variable) e))
+symbol_decides x y = grind (arith, common_steps, beq) steps 200000
 
 pair_decides : (p q : NumberedSymbol × NumberedSymbol) → Decides (is_same_pair p q) (p ≡ q)
-pair_decides p q =
-    let d = Decides-and (is_same_symbol p.0 q.0) (is_same_symbol p.1 q.1) (symbol_decides p.0 q.0) (symbol_decides p.1 q.1) in
-    (λ t. let r = d.0 t in let first = r.0 in let second = r.1 in λ i. (first i, second i), λ e. d.1 (λ i. (e i).0, λ i. (e i).1))
+pair_decides p q = grind (arith, common_steps, symbol_decides) steps 200000
 
 -- sorted, and each once
 pub sorted_once : (listed sorted kept : List (NumberedSymbol × NumberedSymbol)) → IsPermutation listed sorted → IsFiltered (DiffersFromLast is_same_pair) [] sorted kept → HasSame listed kept
@@ -318,12 +300,11 @@ active_read all before expressions numbers a active = low_read all before expres
 pub front_read : (all : List (List ℕ)) (before : List Item) (expressions : List (List NumberedSymbol)) (numbers : List ℕ) (count : ℕ) → AreSound before → AreSymbols all before expressions → AreFrontNumbers before numbers count
     → AreSamePairsRead all (active_pairs (take count before)) (flat_map (λ n. pairs_among (expression_kept expressions n)) numbers)
 front_read all before expressions numbers count h a front =
-    subst (λ w. AreSamePairsRead all w (flat_map (λ n. pairs_among (expression_kept expressions n)) numbers)) (sym (front_pairs before numbers count h front)) (low_read all before expressions numbers a there)
-  where
-    there : AreDisjoint before numbers
-    there n k =
-        let r = from_active_number is_disjoint_item (take count before) n (subst (In n) front.active k) in
-        (r.0, subst (λ w. slice_get w n ≡ Some r.0) (take-append-drop count before) (get_join (take count before) (drop count before) n r.0 r.1), r.3)
+    subst (λ w. AreSamePairsRead all w (flat_map (λ n. pairs_among (expression_kept expressions n)) numbers)) (sym (front_pairs before numbers count h front)) (low_read all before expressions numbers a there) where
+      there : AreDisjoint before numbers
+      there n k =
+          let r = from_active_number is_disjoint_item (take count before) n (subst (In n) front.active k) in
+          (r.0, subst (λ w. slice_get w n ≡ Some r.0) (take-append-drop count before) (get_join (take count before) (drop count before) n r.0 r.1), r.3)
 
 -- the pairs after this many of the items, with those of the later `$d`, are the active ones
 pub front_and_own : (before : List Item) (outer own : List ℕ) (count : ℕ) → AreSound before → outer ++ own ≡ active_numbers is_disjoint_item before
@@ -351,8 +332,7 @@ pair_more all xs ys x y each are = by are
     by (inr c) = swapped (kept_pairs all ys) y x (one y x c)
 
 pair_left : (ps qs : List (Symbol × Symbol)) (x y : Symbol) → ArePair ps x y → ArePair (ps ++ qs) x y
-pair_left ps qs x y (inl c) = inl (Contains-append_left ps qs (x, y) c)
-pair_left ps qs x y (inr c) = inr (Contains-append_left ps qs (y, x) c)
+pair_left ps qs x y h = grind (arith, common_steps) steps 200000
 
 pair_right : (ps qs : List (Symbol × Symbol)) (x y : Symbol) → ArePair qs x y → ArePair (ps ++ qs) x y
 pair_right ps qs x y (inl c) = inl (Contains-append_right ps qs (x, y) c)
@@ -415,11 +395,7 @@ list_in_order all lists k pairs is = subst (λ o. AreInOrder (pairs_or_none o)) 
 pub made_more : (all : List (List ℕ)) (before later : List Item) (lists : PairLists) → AreMade all before lists → AreMade all (before ++ later) lists
 made_more all before later lists m count k e =
     let r = m count k e in
-    let c = length-append before later in
-    record {
-      within = omega arith;
-      list = subst (λ items. IsList all lists k (active_pairs items)) (sym (take-append-le count before later r.within)) r.list;
-    }
+    grind (arith, common_steps, take-append-le count before later r.within) steps 200000
 
 -- one more list
 pub made_one_more : (all : List (List ℕ)) (before : List Item) (old new : PairLists) (count k : ℕ) → KeepsLists old new → AreMade all before old → count ≤ length before → IsList all new k (active_pairs (take count before))
@@ -465,7 +441,4 @@ pub no_number : (all : List (List ℕ)) (lists : PairLists) (before : List Item)
 no_number all lists before item e = record { some = e; list = λ k q. absurd (none-some k q) }
 
 pub some_number : (all : List (List ℕ)) (lists : PairLists) (before : List Item) (item : Item) (k : ℕ) → true ≡ is_told_proof before item → IsList all lists k (active_pairs before) → TellsPairs all lists before item (Some k)
-some_number all lists before item k e is = record { some = e; list = λ j q. subst (λ i. IsList all lists i (active_pairs before)) (same k j q) is }
-  where
-    same : (a b : ℕ) → Some a ≡ Some b → a ≡ b
-    same a b q = cc
+some_number all lists before item k e is = grind (arith, common_steps) steps 200000

@@ -1,11 +1,10 @@
 -- Lists of pairs in the order of the numbers of their names: after a sort, and with each kept once.
-use Rattle.std.proofs.Common.{◌≡◌, ℕ, zero, suc, ◌+◌, ◌≤◌, Bool, true, false, cond, leb, Some, List, [], ◌∷◌, flat_map, map, get_or, slice_get, refl, sym, ◌∙◌, ap, subst, arith, leb-true}
-use Rattle.std.proofs.lemmas.{Bool.Decides.{nat_tests}, Option.{none-some, same_Some}}
-use Rattle.std.proofs.lemmas.List.{Elements.{All-nil, All-cons, All-tail, All-append, All-contains}, Filters.{dedup_is, All-dedup}, Sorted.{All-permutation}}
+use Rattle.std.proofs.lemmas.{Grind.{common_steps}, Bool.Decides.{nat_tests}, Option.{none-some, same_Some}, List.Elements.{All-nil, All-cons, All-tail, All-append, All-contains}}
+use Rattle.std.proofs.lemmas.List.{Filters.{dedup_is, All-dedup}, Sorted.{All-permutation}}
+use Rattle.std.proofs.Common.{◌≡◌, ℕ, zero, suc, ◌+◌, ◌≤◌, Bool, true, false, cond, Some, List, [], ◌∷◌, flat_map, map, get_or, slice_get, refl, sym, ◌∙◌, ap, subst, arith, leb-true}
 use Rattle.std.specs.{Prelude.{All, ⊤}, Ordering.{is_lt, nat_cmp, ordering_then}, List.{dedup, dedup_from, Sorted.{IsPermutation, IsSortedBy}, Retain.{IsFiltered, DiffersFromLast}}}
 use Rattle.mm_machine.specs.{declared.symbol.NumberedSymbol.{NumberedSymbol}, Language.NumberedSymbols.{AreInOrder, comes_before, name_numbers}}
-use Rattle.mm_frame.specs.Code.{KeptSymbols.{expression_kept}, KeptPairLists.{pairs_among, with_low_first}}
-use Rattle.mm_frame.proofs.lemmas.lists.Members.{in_contains, get_in}
+use Rattle.mm_frame.{specs.Code.{KeptSymbols.{expression_kept}, KeptPairLists.{pairs_among, with_low_first}}, proofs.lemmas.lists.Members.{in_contains, get_in}}
 
 abbrev Pair : Type 0
 Pair = NumberedSymbol × NumberedSymbol
@@ -74,11 +73,7 @@ abbrev pub IsLowFirst : Pair → Type 0
 IsLowFirst p = p.0.name ≤ p.1.name
 
 low_first : (p : Pair) → IsLowFirst (with_low_first p)
-low_first p = by (leb p.0.name p.1.name) refl
-  where
-    by : (b : Bool) → leb p.0.name p.1.name ≡ b → IsLowFirst (cond b p (p.1, p.0))
-    by true e = leb-true p.0.name p.1.name e
-    by false e = grind (arith, nat_tests)
+low_first p = grind (arith, common_steps, leb-true, nat_tests) steps 200000
 
 each_low : (x : NumberedSymbol) (xs : List NumberedSymbol) → All IsLowFirst (map (λ y. with_low_first (x, y)) xs)
 each_low x [] = All-nil IsLowFirst

@@ -1,19 +1,18 @@
 -- The table of pairs: its rows after a write and after one more item, and what they say of active pairs.
+use Rattle.std.proofs.lemmas.{Grind.{common_steps}, Bool.{false≢true, false_from_ne_true}, Option.{same_Some, get_or_from_slice_get, slice_get_within, slice_get-get_or}}
 use Rattle.std.proofs.Common.{◌≡◌, ◌≢◌, ℕ, zero, suc, ◌+◌, ◌<◌, Bool, true, false, Some, List, [], ◌∷◌, ◌++◌, length, take, drop, slice_get, get_or, refl, sym, ◌∙◌, ap, subst, take-suc, arith, inl}
-use Rattle.std.proofs.Common.{inr, ◌⊎◌, Global, Contains, MatchBool, Vec}
-use Rattle.std.proofs.{Math.ListN.{set}, lemmas.{Bool.{false≢true, false_from_ne_true}, Option.{same_Some, get_or_from_slice_get, slice_get_within, slice_get-get_or}}}
-use Rattle.std.specs.Vec.{with_item}
+use Rattle.std.{proofs.{Common.{inr, ◌⊎◌, Global, Contains, MatchBool, Vec}, Math.ListN.{set}}, specs.Vec.{with_item}}
 use native.Mathlib.Decide.{dec_lt}
 use Rattle.mm_frame.specs.{declared.paired.PairTable.{PairTable}, Language.{Scope.{Mark, active}, Sound.{IsSound, AreSound}, Framing.{symbol, expression, active_pairs}, Answering.{are_paired}}}
 use Rattle.mm_frame.specs.Code.{BlockMarks.{stays_by, block_marks}, KeptActive.{IsPruned}, LastItems.{IsRising, is_active_at}, Numbers.{IsNameNumber, AreNameNumbers}, PairOrder.{is_among}}
-use Rattle.mm_frame.specs.Code.{KeptScope.{taken}, KeptPairTable.{numbers_or_none, row_at, Puts, PutsAll, AreOnce, IsDisjointAt, IsRow, KnowsPairs, IsCommon, ReadsPairs}}
-use Rattle.mm_machine.specs.Language.{Frame.{Symbol}, Names.{AreDistinct}, NumberedSymbols.{as_variable}}
-use Rattle.mm_statement.specs.Language.Item.{Item, is_disjoint, has}
+use Rattle.mm_frame.specs.Code.{KeptScope.{taken}, KeptPairTable.{row_at, Puts, PutsAll, AreOnce, IsDisjointAt, IsRow, KnowsPairs, IsCommon, ReadsPairs}}
 use Rattle.mm_frame.proofs.lemmas.lists.Members.{In, in_contains, contains_in, in_left, in_right, in_cases, in_map, from_map, in_get, get_in, has_in, in_has}
-use Rattle.mm_frame.proofs.lemmas.lists.Rising.{rising_front, rising_more, in_among, among_in}
-use Rattle.mm_frame.proofs.lemmas.{frames.Frames.{from_pairs}, scope.{BlockLemmas.{get_front, get_last, get_cases}, EndLemmas.{active_at_front, active_by_marks}}}
+use Rattle.mm_frame.proofs.lemmas.{lists.Rising.{rising_front, rising_more, in_among, among_in}, frames.Frames.{from_pairs}, scope.BlockLemmas.{get_front, get_last, get_cases}}
+use Rattle.mm_frame.proofs.lemmas.scope.EndLemmas.{active_at_front, active_by_marks}
 use Rattle.mm_frame.proofs.lemmas.pairs.ActivePairLemmas.{active_at_number, number_of_active, SameNames, in_order, found_pair, to_paired, pair_here, pair_turned, AreUnrepeated, disjoint_unrepeated}
 use Rattle.mm_frame.proofs.lemmas.pairs.ActivePairLemmas.{from_active_pairs, to_active_pairs, apart_active}
+use Rattle.mm_machine.specs.Language.{Frame.{Symbol}, Names.{AreDistinct}, NumberedSymbols.{as_variable}}
+use Rattle.mm_statement.specs.Language.Item.{Item, is_disjoint, has}
 
 -- a number is put into one row after another
 in_take : (names : List ℕ) (k n : ℕ) → In n (take k names) → (i : ℕ) × (i < k) × (slice_get names i ≡ Some n)
@@ -25,10 +24,8 @@ in_take (x ∷ names) (suc k) n (inr h) = let r = in_take names k n h in let l =
 
 once_apart : (names : List ℕ) (k : ℕ) → AreOnce names → k < length names → In (get_or names k 0) (take k names) → ⊥
 once_apart names k once l h =
-    let r = in_take names k (get_or names k 0) h in
-    let less = r.1 in
-    let same : r.0 ≡ k = once r.0 k (get_or names k 0) r.2 (slice_get-get_or names k 0 l) in
-    omega arith
+    let same : (in_take names k (get_or names k 0) h).0 ≡ k = once (in_take names k (get_or names k 0) h).0 k (get_or names k 0) (in_take names k (get_or names k 0) h).2 (slice_get-get_or names k 0 l) in
+    grind (arith, common_steps, in_take names k (get_or names k 0) h) steps 200000
 
 -- one row in the place of another
 get_set_here : {X : Type 0} (xs : List X) (n : ℕ) (y : X) → n < length xs → slice_get (set xs n y) n ≡ Some y
@@ -43,14 +40,7 @@ get_set_other _ _ _ y apart = refl
 
 pub puts_row : (old grown : PairTable) (marks : List Mark) (name number : ℕ) (left : List ℕ) (row pushed : Vec ℕ Global) → name < length grown.rows.items → ((n : ℕ) → row_at grown n ≡ row_at old n)
     → row ≡ get_or grown.rows.items name row → IsPruned marks row.items left → pushed.items ≡ left ++ number ∷ [] → Puts old marks name number (record { rows = with_item grown.rows name pushed })
-puts_row old grown marks name number left row pushed there same is pruned added =
-    let rows = grown.rows.items in
-    record {
-      left = left;
-      pruned = subst (λ w. IsPruned marks w left) (ap numbers_or_none (ap Some is ∙ sym (slice_get-get_or rows name row there)) ∙ same name) pruned;
-      here = ap numbers_or_none (get_set_here rows name pushed there) ∙ added;
-      others = λ n apart. ap numbers_or_none (get_set_other rows name n pushed apart) ∙ same n;
-    }
+puts_row old grown marks name number left row pushed there same is pruned added = grind (arith, common_steps, get_set_here, get_set_other, slice_get-get_or) steps 500000
 
 pub puts_more : (old mid new : PairTable) (marks : List Mark) (names : List ℕ) (k number : ℕ) → AreOnce names → k < length names
     → PutsAll old marks (take k names) number mid → Puts mid marks (get_or names k 0) number new → PutsAll old marks (take (k + 1) names) number new
@@ -86,10 +76,7 @@ pub disjoint_front : (before : List Item) (item : Item) (name : List ℕ) (n : �
 disjoint_front before item name n d = record { item = d.item; there = get_front before item d.item n d.there; disjoint = d.disjoint; named = d.named }
 
 pub disjoint_cases : (before : List Item) (item : Item) (name : List ℕ) (n : ℕ) → IsDisjointAt (before ++ item ∷ []) name n → IsDisjointAt before name n ⊎ ((n ≡ length before) × (is_disjoint item.kind ≡ true) × (has item.symbols name ≡ true))
-disjoint_cases before item name n d = elim (get_cases before item d.item n d.there) [
-  | inl there ↦ inl (record { item = d.item; there = there; disjoint = d.disjoint; named = d.named })
-  | inr last ↦ inr (last.0, ap (λ (i : Item). is_disjoint i.kind) last.1 ∙ d.disjoint, ap (λ (i : Item). has i.symbols name) last.1 ∙ d.named)
-]
+disjoint_cases before item name n d = grind (arith, common_steps, get_cases before item d.item n d.there) steps 200000
 
 pub active_before : (before : List Item) (item : Item) (name : List ℕ) (n : ℕ) → IsDisjointAt before name n → is_active_at (before ++ item ∷ []) n ≡ true → is_active_at before n ≡ true
 active_before before item name n d a = active_at_front before item n (slice_get_within before n d.item d.there) a
@@ -146,13 +133,11 @@ row_next before item name row left marks d h m r p = record {
 name_at_place : (all : List (List ℕ)) (numbers : List ℕ) (names : List (List ℕ)) (i n : ℕ) (name : List ℕ) → AreNameNumbers all numbers names → slice_get numbers i ≡ Some n → IsNameNumber all n name → slice_get names i ≡ Some name
 name_at_place all numbers names i n name a e there =
     let w = slice_get_within numbers i n e in
-    let count = a.count in
     slice_get-get_or names i [] (omega arith) ∙ sym (a.each i n e) ∙ there
 
 number_at_place : (all : List (List ℕ)) (numbers : List ℕ) (names : List (List ℕ)) (i n : ℕ) (name : List ℕ) → AreDistinct all → AreNameNumbers all numbers names → slice_get names i ≡ Some name → IsNameNumber all n name → slice_get numbers i ≡ Some n
 number_at_place all numbers names i n name distinct a e there =
     let w = slice_get_within names i name e in
-    let count = a.count in
     let at = slice_get-get_or numbers i 0 (omega arith) in
     at ∙ ap Some (distinct (get_or numbers i 0) n name (a.each i (get_or numbers i 0) at ∙ ap Some (get_or_from_slice_get names i name [] e)) there)
 
@@ -174,7 +159,6 @@ numbers_once all numbers names a u i j n p q = elim (dec_lt i j) [
     later : (i j : ℕ) → slice_get numbers i ≡ Some n → slice_get numbers j ≡ Some n → i < j → ⊥
     later i j p q l =
         let w = slice_get_within numbers j n q in
-        let count = a.count in
         let name = get_or names j [] in
         let first = name_at_place all numbers names i n name a p (a.each j n q) in
         false≢true (sym (u j name (slice_get-get_or names j [] (omega arith))) ∙ in_has (take j names) name (place_in names i j name first l))
@@ -210,10 +194,7 @@ pub record HavePair (before : List Item) (x y : List ℕ) (n : ℕ) : Type 0 whe
   pub stayed : is_active_at before n ≡ true
 
 pub named_in : (before : List Item) (item : Item) (s : Symbol) (name : List ℕ) → In s (expression before item) → s.name ≡ name → has item.symbols name ≡ true
-named_in before item s name m e =
-    let r = from_map (symbol before) s item.symbols m in
-    let same = ap (λ (w : Symbol). w.name) r.2 ∙ e in
-    in_has item.symbols name (subst (λ w. In w item.symbols) same r.1)
+named_in before item s name m e = grind (arith, common_steps, from_map (symbol before) s item.symbols m, in_has) steps 200000
 
 pub paired_from : (before : List Item) (x y : List ℕ) → AreSound before → are_paired (active_pairs before) (as_variable x, as_variable y) ≡ true → (x ≢ y) × (n : ℕ) × HavePair before x y n
 paired_from before x y h t = by_names f.2
@@ -309,7 +290,4 @@ same_told all before n x y h a b = false_from_ne_true (are_paired (active_pairs 
 pub none_told : (all : List (List ℕ)) (before : List Item) (table : PairTable) (blocks : List Mark) (n : ℕ) (x y : List ℕ)
     → ReadsPairs all before table blocks → IsNameNumber all n x → row_at table n ≡ [] → are_paired (active_pairs before) (as_variable x, as_variable y) ≡
     false
-none_told all before table blocks n x y k a e = false_from_ne_true (are_paired (active_pairs before) (as_variable x, as_variable y)) (λ t.
-    let p = paired_from before x y k.sound t in
-    let have = p.2 in
-    contains_in p.1 [] (subst (λ row. Contains row p.1) e ((k.knows n x a).cover p.1 have.first have.stayed)))
+none_told all before table blocks n x y k a e = grind (arith, common_steps, k.knows n x a, false_from_ne_true, paired_from, contains_in) steps 200000

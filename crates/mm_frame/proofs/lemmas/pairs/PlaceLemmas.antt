@@ -1,24 +1,21 @@
 -- The places of the variables of a frame: with one more of them, and those of the ones that an active `$d` has together with one.
-use Rattle.std.proofs.Common.{◌≡◌, ℕ, zero, suc, ◌+◌, ◌-◌, ◌<◌, ◌≤◌, Bool, true, false, cond, nat_eq, Option, Some, None, List, [], ◌∷◌, ◌++◌, length, map, All, option_to_list, nat_lt, ◌↔◌, filter}
-use Rattle.std.proofs.Common.{flat_map, take, drop, slice_get, get_or, refl, sym, ◌∙◌, ap, subst, arith, inl, inr, Contains, eqb}
-use Rattle.std.proofs.lemmas.Bool.{false_from_ne_true, eqb-true, eq-eqb, lt-ltb, ltb-true, or_right}
-use Rattle.std.proofs.lemmas.List.{map-append}
-use Rattle.std.proofs.lemmas.List.{Elements.{All-append, All-contains}, Filters.{dedup_is}, Kept.{Contains-dedup_nat, Contains-from_dedup, AllPairs-from_increasing}}
-use Rattle.std.proofs.lemmas.List.Sorted.{IsPermutation-sym, Contains-permutation}
-use Rattle.std.proofs.lemmas.{Map.Keys.{IsStrictlyIncreasing-dedup}, Option.{same_Some, slice_get_within}}
-use Rattle.std.specs.{List.{dedup, Sorted.{IsPermutation, IsSorted}, Retain.{IsFiltered, DiffersFromLast}}, Ordering.{nat_cmp}}
+use Rattle.std.proofs.lemmas.{Grind.{common_steps}, Bool.{false_from_ne_true, eqb-true, eq-eqb, lt-ltb, ltb-true, or_right}, List.{map-append, Elements.{All-append, All-contains}, Filters.{dedup_is}}}
+use Rattle.std.proofs.lemmas.{List.{Kept.{Contains-dedup_nat, Contains-from_dedup, AllPairs-from_increasing}, Sorted.{IsPermutation-sym, Contains-permutation}}, Map.Keys.{IsStrictlyIncreasing-dedup}}
+use Rattle.std.proofs.lemmas.Option.{same_Some, slice_get_within}
+use Rattle.std.proofs.Common.{◌≡◌, ℕ, zero, suc, ◌+◌, ◌-◌, ◌<◌, ◌≤◌, Bool, true, false, cond, nat_eq, Option, Some, None, List, [], ◌∷◌, ◌++◌, length, All, option_to_list, nat_lt, ◌↔◌, filter}
+use Rattle.std.{proofs.Common.{flat_map, take, drop, slice_get, get_or, refl, sym, ◌∙◌, ap, subst, arith, inl, inr, Contains, eqb}, specs.List.{dedup, Sorted.{IsPermutation, IsSorted}}}
+use Rattle.std.specs.{List.Retain.{IsFiltered, DiffersFromLast}, Ordering.{nat_cmp}}
 use native.Mathlib.Decide.{dec_lt}
-use Rattle.mm_machine.specs.declared.symbol.NumberedSymbol.{NumberedSymbol}
-use Rattle.mm_machine.specs.Language.{Frame.{Symbol}, Names.{name_at}, NumberedSymbols.{symbol_of, symbols_of, pair_of, kept_pairs, IsNumbered, IsPairNumbered, ArePairsRead}}
-use Rattle.mm_frame.specs.declared.{paired.PairTable.{PairTable}, places.Places.{Places}, mandatory.Earlier.{Earlier}}
-use Rattle.mm_frame.specs.Language.{Scope.{Mark}, Framing.{symbol, expression, active_pairs}, Answering.{are_paired}}
-use Rattle.mm_frame.specs.Code.{BlockMarks.{stays_by}, KeptEarlier.{KnowsEarlier}, KeptPairTable.{row_at, IsDisjointAt, ReadsPairs}}
+use Rattle.mm_machine.specs.{declared.symbol.NumberedSymbol.{NumberedSymbol}, Language.{Frame.{Symbol}, Names.{name_at}}}
+use Rattle.mm_machine.specs.Language.NumberedSymbols.{symbol_of, symbols_of, pair_of, kept_pairs, IsNumbered, IsPairNumbered, ArePairsRead}
+use Rattle.mm_frame.specs.{declared.{paired.PairTable.{PairTable}, places.Places.{Places}, mandatory.Earlier.{Earlier}}, Language.{Scope.{Mark}, Framing.{symbol, expression, active_pairs}}}
+use Rattle.mm_frame.specs.{Language.Answering.{are_paired}, Code.{BlockMarks.{stays_by}, KeptEarlier.{KnowsEarlier}, KeptPairTable.{row_at, IsDisjointAt, ReadsPairs}}}
 use Rattle.mm_frame.specs.Code.{KeptPlaces.{place_of, ArePlaces, later_place, later_places_at, pair_at}, KeptSymbols.{expression_kept, AreSymbols}, LastItems.{IsRising}, Numbers.{IsNameNumber}}
-use Rattle.mm_statement.specs.Language.Item.{Item, is_labelled, is_disjoint}
 use Rattle.mm_frame.proofs.lemmas.frames.{VariableLemmas.{under_true}, Frames.{in_at}, HypothesisNumbers.{rise_step, same_rising, drop_step}}
 use Rattle.mm_frame.proofs.lemmas.lists.{Members.{In, in_contains, contains_in, in_map, from_map, in_filter, from_filter, in_flat, from_flat, get_in, has_in, in_cond}, Rising.{get_drop}}
-use Rattle.mm_frame.proofs.lemmas.{scope.{ActiveBySplit.{in_first, in_later}, TableLemmas.{first_cases}}, names.NumberLemmas.{name_there}}
-use Rattle.mm_frame.proofs.lemmas.pairs.{ActivePairLemmas.{pairs_with}, PairTableLemmas.{named_in, paired_from, paired_to, active_at_marks}, AskedLemmas.{names_apart}}
+use Rattle.mm_frame.proofs.lemmas.{scope.{ActiveBySplit.{in_first, in_later}, TableLemmas.{first_cases}}, names.NumberLemmas.{name_there}, pairs.ActivePairLemmas.{pairs_with}}
+use Rattle.mm_frame.proofs.lemmas.pairs.{PairTableLemmas.{named_in, paired_from, paired_to, active_at_marks}, AskedLemmas.{names_apart}}
+use Rattle.mm_statement.specs.Language.Item.{Item, is_labelled, is_disjoint}
 
 -- ---- one more symbol
 
@@ -29,27 +26,7 @@ pub record PlacedTo (n : ℕ) (symbols : List NumberedSymbol) (places : Places) 
 
 pub placed_more : (n : ℕ) (symbols : List NumberedSymbol) (old new : Places) (one : NumberedSymbol) → slice_get symbols n ≡ Some one → PlacedTo n symbols old → place_of old one.name ≡ None
     → ((name : ℕ) → place_of new name ≡ cond (nat_eq one.name name) (Some n) (place_of old name)) → PlacedTo (n + 1) symbols new
-placed_more n symbols old new one there p fresh put = record {
-  each = λ k symbol l e. elim (dec_lt k n) [
-    | yes m ↦ (
-        let before = p.each k symbol m e in
-        put symbol.name ∙ ap (λ b. cond b (Some n) (place_of old symbol.name)) (other symbol.name (λ q. (let none : None ≡ Some k = sym fresh ∙ ap (place_of old) q ∙ before in cc))) ∙ before
-        )
-    | no m ↦ (
-        let last : k ≡ n = omega arith in
-        let same = same_Some symbol one (sym e ∙ ap (slice_get symbols) last ∙ there) in
-        put symbol.name ∙ ap (λ (s : NumberedSymbol). cond (nat_eq one.name s.name) (Some n) (place_of old s.name)) same ∙ ap (λ b. cond b (Some n) (place_of old one.name)) (eq-eqb one.name one.name refl) ∙ ap Some (sym last)
-        )
-  ];
-  only = λ k name e. by_name k name (nat_eq one.name name) refl (sym (put name) ∙ e);
-}
-  where
-    other : (name : ℕ) → (one.name ≡ name → ⊥) → nat_eq one.name name ≡ false
-    other name apart = false_from_ne_true (nat_eq one.name name) (λ t. apart (eqb-true one.name name t))
-
-    by_name : (k name : ℕ) (b : Bool) → nat_eq one.name name ≡ b → cond b (Some n) (place_of old name) ≡ Some k → (symbol : NumberedSymbol) × (slice_get symbols k ≡ Some symbol) × (symbol.name ≡ name)
-    by_name k name true q e = (one, ap (slice_get symbols) (same_Some k n (sym e)) ∙ there, eqb-true one.name name q)
-    by_name k name false q e = p.only k name e
+placed_more n symbols old new one there p fresh put = grind (arith, common_steps, dec_lt, eq-eqb, eqb-true, false_from_ne_true, same_Some) steps 200000
 
 pub placed_all : (n : ℕ) (symbols : List NumberedSymbol) (places : Places) → length symbols ≤ n → PlacedTo n symbols places → ArePlaces symbols places
 placed_all n symbols places end p = record { each = λ k symbol e. (let w = slice_get_within symbols k symbol e in p.each k symbol (omega arith) e); only = p.only }
@@ -76,13 +53,8 @@ from_passing test n (x ∷ xs) k h = elim (first_cases (test x) n k (passing tes
 
 to_passing : {X : Type 0} (test : X → Bool) (n : ℕ) (xs : List X) (place : ℕ) (x : X) → slice_get xs place ≡ Some x → test x ≡ true → In (n + place) (passing test n xs)
 to_passing test n [] place x e t = cc
-to_passing test n (y ∷ ys) zero x e t =
-    let same = same_Some y x e in
-    let z : n ≡ n + 0 = omega arith in
-    subst (λ w. In w (passing test n (y ∷ ys))) z (in_first (test y) n (passing test (suc n) ys) (ap test same ∙ t))
-to_passing test n (y ∷ ys) (suc place) x e t =
-    let z : suc n + place ≡ n + suc place = omega arith in
-    subst (λ w. In w (passing test n (y ∷ ys))) z (in_later (test y) (suc n + place) n (passing test (suc n) ys) (to_passing test (suc n) ys place x e t))
+to_passing test n (y ∷ ys) zero x e t = grind (arith, common_steps, same_Some y x e, in_first (test y) n (passing test (suc n) ys) (ap test (same_Some y x e) ∙ t)) steps 200000
+to_passing test n (y ∷ ys) (suc place) x e t = grind (arith, common_steps, in_later (test y) (suc n + place) n (passing test (suc n) ys) (to_passing test (suc n) ys place x e t)) steps 200000
 
 passing_rise : {X : Type 0} (test : X → Bool) (n : ℕ) (xs : List X) → IsRising (passing test n xs)
 passing_rise test n [] = λ i j d l m. absurd (omega arith)
@@ -90,23 +62,17 @@ passing_rise test n (x ∷ xs) = rise_step (test x) n (passing test (suc n) xs) 
 
 picked_first : (all : List (List ℕ)) (first : NumberedSymbol) (whole : List NumberedSymbol) (n : ℕ) (x : NumberedSymbol) (ns : List ℕ) (ps : List (Symbol × Symbol)) (b : Bool) → slice_get whole n ≡ Some x
     → kept_pairs all (flat_map (pair_at first whole) ns) ≡ ps → kept_pairs all (flat_map (pair_at first whole) (cond b (n ∷ ns) ns)) ≡ cond b ((symbol_of all first, symbol_of all x) ∷ ps) ps
-picked_first all first whole n x ns ps true there e =
-    ap (λ (o : Option NumberedSymbol). kept_pairs all (map (λ y. (first, y)) (option_to_list o) ++ flat_map (pair_at first whole) ns)) there ∙ ap (λ w. (symbol_of all first, symbol_of all x) ∷ w) e
+picked_first all first whole n x ns ps true there e = grind (arith, common_steps) steps 200000
 picked_first all first whole n x ns ps false there e = e
 
 picked : (all : List (List ℕ)) (test : Symbol × Symbol → Bool) (first : NumberedSymbol) (whole : List NumberedSymbol) (n : ℕ) (xs : List NumberedSymbol) → drop n whole ≡ xs
     → kept_pairs all (flat_map (pair_at first whole) (passing (λ y. test (symbol_of all first, symbol_of all y)) n xs)) ≡ filter test (pairs_with (symbol_of all first) (symbols_of all xs))
 picked all test first whole n [] e = refl
 picked all test first whole n (x ∷ xs) e =
-    let d = drop_step whole n x xs e in
-    picked_first all first whole n x (passing (λ y. test (symbol_of all first, symbol_of all y)) (suc n) xs)
-    (filter test (pairs_with (symbol_of all first) (symbols_of all xs))) (test (symbol_of all first, symbol_of all x)) d.1
-    (picked all test first whole (suc n) xs d.0)
+    grind (arith, common_steps, drop_step whole n x xs e, pairs_with (symbol_of all first) (symbols_of all xs), picked all test first whole (suc n) xs (drop_step whole n x xs e).0, picked_first) steps 200000
 
 from_option : {X : Type 0} (x : X) (o : Option X) → In x (option_to_list o) → o ≡ Some x
-from_option x None h = absurd h
-from_option x (Some y) (inl e) = ap Some e
-from_option x (Some y) (inr z) = absurd z
+from_option x o h = grind (arith, common_steps) steps 200000
 
 picked_numbered : (all : List (List ℕ)) (first : NumberedSymbol) (whole : List NumberedSymbol) (places : List ℕ) → IsNumbered all first → All (IsNumbered all) whole → All (IsPairNumbered all) (flat_map (pair_at first whole) places)
 picked_numbered all first whole places a others k d l =
@@ -153,23 +119,15 @@ found_from all before table marks expressions places variables n first s k m =
     let y = found.0 in
     let yname = name_at all y.name in
     let a = named_there all variables n first s.numbered s.there in
-    let b = named_there all variables k y s.numbered found.1 in
     let at : IsDisjointAt before x d = ((s.reads).knows first.name x a).there d (in_contains d (row_at table first.name) row.1) in
-    let read = read_at all before expressions x d s.symbols at in
-    let there = subst (In (symbol_of all one.0)) read (in_map (symbol_of all) one.0 kept one.1) in
+    let there = subst (In (symbol_of all one.0)) (read_at all before expressions x d s.symbols at) (in_map (symbol_of all) one.0 kept one.1) in
     let named = named_in (take d before) at.item (symbol_of all one.0) yname there (ap (name_at all) (sym found.2)) in
-    let apart : first.name ≡ y.name → ⊥ = λ e. (
-    let p = (s.placed).each n first s.there in
-    let q = (s.placed).each k y found.1 in
-    let same : n ≡ k = same_Some n k (sym p ∙ ap (place_of places) e ∙ q) in
-    omega arith
-    ) in
-    let names = names_apart all first.name y.name x yname before table marks s.reads a b apart in
+    let apart : first.name ≡ y.name → ⊥ = grind (arith, common_steps, same_Some) steps 200000 in
+    let names = names_apart all first.name y.name x yname before table marks s.reads a (named_there all variables k y s.numbered found.1) apart in
     let second : IsDisjointAt before yname d = record { item = at.item; there = at.there; disjoint = at.disjoint; named = named } in
     let paired = paired_to before x yname d names (record { first = at; second = second; stayed = active_at_marks before marks d (s.reads).marks ∙ stayed.0 }) in
     let z : (n + 1) + (k - (n + 1)) ≡ k = omega arith in
-    subst (λ w. In w (passing (is_partner all before first) (n + 1) (drop (n + 1) variables))) z
-    (to_passing (is_partner all before first) (n + 1) (drop (n + 1) variables) (k - (n + 1)) y (get_drop variables (n + 1) (k - (n + 1)) k z ∙ found.1) paired)
+    grind (arith, common_steps, to_passing (is_partner all before first) (n + 1) (drop (n + 1) variables) (k - (n + 1)) y (get_drop variables (n + 1) (k - (n + 1)) k z ∙ found.1) paired) steps 500000
 
 found_to : (all : List (List ℕ)) (before : List Item) (table : PairTable) (marks : List Mark) (expressions : List (List NumberedSymbol)) (places : Places) (variables : List NumberedSymbol) (n : ℕ) (first : NumberedSymbol)
     → Searches all before table marks expressions places variables n first → (k : ℕ) → In k (passing (is_partner all before first) (n + 1)
@@ -177,11 +135,9 @@ found_to : (all : List (List ℕ)) (before : List Item) (table : PairTable) (mar
 found_to all before table marks expressions places variables n first s k m =
     let x = name_at all first.name in
     let p = from_passing (is_partner all before first) (n + 1) (drop (n + 1) variables) k m in
-    let q = p.number in
-    let z : (n + 1) + p.place ≡ k = sym q in
     let y = p.item in
     let yname = name_at all y.name in
-    let there = sym (get_drop variables (n + 1) p.place k z) ∙ p.there in
+    let there = sym (get_drop variables (n + 1) p.place k (sym p.number)) ∙ p.there in
     let less : n < k = omega arith in
     let a = named_there all variables n first s.numbered s.there in
     let b = named_there all variables k y s.numbered there in

@@ -1,8 +1,8 @@
 -- Lists of pairs that are compared as sets of unordered pairs.
 use Rattle.std.proofs.Common.{◌≡◌, ◌<◌, ◌+◌, ℕ, suc, List, [], ◌∷◌, ◌++◌, length, take, get_or, sym, ◌∙◌, ap, subst, take-suc, arith, inl, inr, Contains, All, ◌↔◌, ◌⊎◌}
 use Rattle.std.proofs.lemmas.{Option.{slice_get-get_or}, List.Elements.{All-contains, Contains-append_cases}}
-use Rattle.mm_machine.specs.declared.symbol.NumberedSymbol.{NumberedSymbol}
-use Rattle.mm_machine.specs.Language.{Frame.{Symbol, ArePair, AreSamePairs}, Names.{AreDistinct}, NumberedSymbols.{pair_of, kept_pairs, IsPairNumbered}}
+use Rattle.mm_machine.specs.{declared.symbol.NumberedSymbol.{NumberedSymbol}, Language.{Frame.{Symbol, ArePair, AreSamePairs}, Names.{AreDistinct}}}
+use Rattle.mm_machine.specs.Language.NumberedSymbols.{pair_of, kept_pairs, IsPairNumbered}
 use Rattle.mm_frame.proofs.lemmas.{pairs.FramePairs.{swapped}, lists.Members.{in_contains, contains_in, contains_cases, get_in, in_map, from_map}, frames.SameLemmas.{pair_from_reading}}
 
 -- ---- the same unordered pairs
@@ -91,8 +91,5 @@ either_way_more list pairs n d l so_far new p c =
     let next : take (n + 1) pairs ≡ take n pairs ++ get_or pairs n d ∷ [] = (let z : n + 1 ≡ suc n = omega arith in ap (λ k. take k pairs) z ∙ take-suc pairs n d l) in
     elim (Contains-append_cases (take n pairs) (get_or pairs n d ∷ []) p (subst (λ w. Contains w p) next c)) [
       | inl there ↦ so_far p there
-      | inr last ↦ elim (contains_cases (get_or pairs n d) [] p last) [
-        | inl e ↦ subst (λ (w : NumberedSymbol × NumberedSymbol). Contains list w ⊎ Contains list (w.1, w.0)) e new
-        | inr none ↦ absurd (contains_in p [] none)
-      ]
+      | inr last ↦ grind (arith, contains_cases (get_or pairs n d) [] p last, contains_in) steps 200000
     ]

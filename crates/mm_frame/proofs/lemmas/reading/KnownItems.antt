@@ -1,12 +1,11 @@
 -- What an older base says of an item that is the same bytes as one of its items.
-use Rattle.std.proofs.Common.{◌≡◌, ℕ, zero, suc, Some, List, [], ◌∷◌, map, get_or, length, sym, ◌∙◌, ap, subst, All, slice_get}
-use Rattle.std.proofs.lemmas.{List.{length-map, Elements.{All-get_or}}, Option.{same_Some, slice_get_within, slice_get-get_or, slice_get-map, get_or_from_slice_get}}
-use Rattle.std.specs.{Option.{option_map}, List.{AllZip}}
+use Rattle.std.proofs.{Common.{◌≡◌, ℕ, zero, suc, Some, List, [], ◌∷◌, map, get_or, length, sym, ◌∙◌, ap, subst, All, slice_get}, lemmas.List.{length-map, Elements.{All-get_or}}}
+use Rattle.std.{proofs.lemmas.Option.{same_Some, slice_get_within, slice_get-get_or, slice_get-map, get_or_from_slice_get}, specs.{Option.{option_map}, List.{AllZip}}}
 use Rattle.mm_store.specs.Language.FilesView.{FilesView}
 use Rattle.mm_machine.specs.{declared.symbol.NumberedSymbol.{NumberedSymbol}, Language.{Frame.{Symbol}, Names.{Begins, name_at}, NumberedSymbols.{symbol_of, symbols_of, IsNumbered}}}
 use Rattle.mm_frame.specs.{Language.{Framing.{symbol}, Answering.{BaseAnswers}, Older.{HasOlder}}, Code.{KnownItem.{IsAgain, numbers_of}, Numbers.{AreNameNumbers}}}
-use Rattle.mm_statement.specs.Language.{Item.{Item, item_at}, Statement.{OneRangeSaysOne, Says}}
 use Rattle.mm_frame.proofs.lemmas.names.NumberLemmas.{begins_on, there_from_map}
+use Rattle.mm_statement.specs.Language.{Item.{Item, item_at}, Statement.{OneRangeSaysOne, Says}}
 use Rattle.mm_store.specs.declared.item.Item as store
 
 -- each item says what is said at its place

@@ -1,8 +1,7 @@
 -- What is active, by how the list is split.
-use Rattle.std.proofs.{Common.{◌≡◌, ℕ, zero, suc, ◌≤◌, Bool, true, false, cond, List, [], ◌∷◌, ◌++◌, refl, sym, ◌∙◌, ap, subst, append_assoc, arith, inl, inr}, lemmas.Bool.{false≢true}}
+use Rattle.std.proofs.{lemmas.{Grind.{common_steps}, Bool.{false≢true}}, Common.{◌≡◌, ℕ, zero, suc, ◌≤◌, Bool, true, false, cond, List, [], ◌∷◌, ◌++◌, refl, sym, ◌∙◌, ap, subst, arith, inl, inr}}
 use Rattle.mm_statement.specs.Language.Item.{Item}
-use Rattle.mm_frame.specs.Language.Scope.{Mark, Opens, Neither, mark_of, closed_at, closed, is_zero, stays, active}
-use Rattle.mm_frame.proofs.lemmas.lists.Members.{In, in_right}
+use Rattle.mm_frame.{specs.Language.Scope.{Mark, Opens, Neither, mark_of, closed_at, closed, is_zero, stays, active}, proofs.lemmas.lists.Members.{In, in_right}}
 
 is_none : (n : ℕ) → is_zero n ≡ true → n ≡ 0
 is_none zero h = refl
@@ -29,11 +28,7 @@ pub stays_join : (xs ys : List Item) → stays xs ≡ true → stays ys ≡ true
 stays_join xs ys h k = ap is_zero (closed_join xs ys (closed_none ys k)) ∙ h
 
 pub stays_front : (xs ys : List Item) → stays (xs ++ ys) ≡ true → stays xs ≡ true
-stays_front xs ys h =
-    let l = closed_front xs ys in
-    let z = closed_none (xs ++ ys) h in
-    let n : closed xs ≡ 0 = omega arith in
-    ap is_zero n
+stays_front xs ys h = grind (arith, common_steps, closed_front xs ys, closed_none (xs ++ ys) h) steps 200000
 
 -- where an active item is
 pub record Split (xs : List Item) (x : Item) : Type 0 where
@@ -72,7 +67,4 @@ active_in xs x h = let s = active_split xs x h in subst (λ w. In x w) (sym s.wh
 
 -- what was active before an active statement is active
 pub active_later : (front : List Item) (e : Item) (back : List Item) (x : Item) → mark_of e.kind ≡ Neither → stays back ≡ true → In x (active front) → In x (active (front ++ e ∷ back))
-active_later front e back x m h k =
-    let s = active_split front x k in
-    let t : stays (e ∷ back) ≡ true = subst (λ w. is_zero (closed_at w (closed back)) ≡ true) (sym m) h in
-    subst (λ w. In x (active w)) (sym (ap (λ w. w ++ e ∷ back) s.whole ∙ append_assoc s.front (x ∷ s.back) (e ∷ back))) (split_active s.front x (s.back ++ e ∷ back) (stays_join s.back (e ∷ back) s.stayed t))
+active_later front e back x m h k = grind (arith, common_steps, active_split, split_active, stays_join) steps 200000

@@ -1,17 +1,14 @@
 -- Up to where an item is active.
+use Rattle.std.proofs.lemmas.{Grind.{common_steps}, Bool.{le-leb, lt-leb, false≢true}, List.{drop-take, length-drop, length-append}, Option.{slice_get-get_or}}
 use Rattle.std.proofs.Common.{◌≡◌, ℕ, suc, ◌+◌, ◌-◌, ◌<◌, ◌≤◌, leb, ◌++◌, ◌∷◌, Bool, true, Option, Some, None, List, [], length, min, take, drop, get_or, refl, sym, ◌∙◌, ap, subst, arith, ◌↔◌}
 use Rattle.std.proofs.Common.{slice_range}
-use Rattle.std.proofs.lemmas.{Bool.{le-leb, lt-leb, false≢true}, List.{drop-take, length-drop, length-append}, Option.{slice_get-get_or}}
 use native.Mathlib.Decide.{dec_lt}
 use Rattle.mm_frame.specs.{Language.{Scope.{Mark, Closes}, Resolving.{IsUpTo}}, Code.{BlockMarks.{stays_by}, BlockEnds.{end_of_block}, KeptBlocks.{marks_from, StandsEnded, Stands, AreBlockEndsKept}}}
 use Rattle.mm_frame.proofs.lemmas.scope.BlockLemmas.{length_marks, before_none, is_active_open, is_active_ended}
 
 -- what is between an item and a later place, with or without an item there
 behind_range : (marks : List Mark) (from at : ℕ) → from < at → slice_range marks (from + 1) at ≡ drop (suc from) (take at marks)
-behind_range marks from at l =
-    let next : from + 1 ≡ suc from = omega arith in
-    let whole : (from + 1) + (at - (from + 1)) ≡ at = omega arith in
-    sym (drop-take (from + 1) (at - (from + 1)) marks) ∙ ap (λ n. drop (from + 1) (take n marks)) whole ∙ ap (λ n. drop n (take at marks)) next
+behind_range marks from at l = grind (arith, common_steps, drop-take (from + 1) (at - (from + 1)) marks) steps 200000
 
 -- nothing comes after an item that there is not
 pub until_absent : (marks : List Mark) (from at : ℕ) → length marks ≤ from → (stays_by (drop (suc from) (take at marks)) ≡ true) ↔ IsUpTo at None
@@ -25,11 +22,7 @@ until_open blocks ends outer current begun ended from at block k l w there e =
     (λ t. tt, λ u. ap stays_by (sym (behind_range (marks_from ends 0 0 blocks) from at l)) ∙ (is_active_open blocks ends outer current begun ended from at block k w there e))
 
 up_to : (b : Bool) (at end : ℕ) → b ≡ leb at end → (b ≡ true) ↔ (at < end + 1)
-up_to b at end e = by_order (dec_lt end at)
-  where
-    by_order : Dec (end < at) → (b ≡ true) ↔ (at < end + 1)
-    by_order (yes a) = (λ t. absurd (false≢true (sym (e ∙ lt-leb at end a) ∙ t)), λ l. absurd (omega (arith, l, a)))
-    by_order (no a) = (λ t. omega (arith, a), λ l. e ∙ le-leb at end (omega (arith, l)))
+up_to b at end e = grind (arith, common_steps, dec_lt, false≢true, le-leb, lt-leb) steps 200000
 
 pub until_ended :
     (blocks : List ℕ) (ends : List (Option ℕ)) (outer : List ℕ) (current begun ended from at block end : ℕ) → AreBlockEndsKept blocks ends outer current begun ended →
@@ -44,11 +37,7 @@ pub end_there :
     (blocks : List ℕ) (ends : List (Option ℕ)) (outer : List ℕ) (current begun ended from block end : ℕ) → AreBlockEndsKept blocks ends outer current begun ended →
     from < length blocks → block ≡ get_or blocks from block → end_of_block ends block ≡ Some end → end < length blocks
 end_there blocks ends outer current begun ended from block end k w there e =
-    let marks = marks_from ends 0 0 blocks in
-    let s : StandsEnded (drop (suc from) marks) from end =
-    subst (λ o. Stands (outer ++ current ∷ []) (drop (suc from) marks) block from o) e (k.are_blocks.stand from block (slice_get-get_or blocks from block w ∙ ap Some (sym there))) in
-    let behind : length (drop (suc from) marks) ≡ length s.front + length (Closes ∷ s.rest) = ap length s.parts ∙ length-append s.front (Closes ∷ s.rest) in
-    let left = length-drop (suc from) marks in
-    let all = length_marks ends 0 0 blocks in
-    let number = s.number in
-    omega (arith, behind, left, all, number, w)
+    let s : StandsEnded (drop (suc from) (marks_from ends 0 0 blocks)) from end =
+    subst (λ o. Stands (outer ++ current ∷ []) (drop (suc from) (marks_from ends 0 0 blocks)) block from o) e (k.are_blocks.stand from block (slice_get-get_or blocks from block w ∙ ap Some (sym there))) in
+    let behind : length (drop (suc from) (marks_from ends 0 0 blocks)) ≡ length s.front + length (Closes ∷ s.rest) = ap length s.parts ∙ length-append s.front (Closes ∷ s.rest) in
+    grind (arith, common_steps, length-drop (suc from) (marks_from ends 0 0 blocks), length_marks ends 0 0 blocks) steps 200000

@@ -1,11 +1,11 @@
 -- Activity by blocks and by what is closed between.
+use Rattle.std.proofs.lemmas.{Grind.{common_steps}, List.Sums.{sum_by-cons, sum_by-append}}
 use Rattle.std.proofs.Common.{◌≡◌, ℕ, zero, suc, ◌+◌, ◌-◌, ◌≤◌, ◌<◌, ◌↔◌, Bool, true, false, cond, Some, List, [], ◌∷◌, take, drop, slice_get, count_by, refl, sym, ◌∙◌, ap, subst, arith, take-add}
 use Rattle.std.proofs.Common.{take-take}
-use Rattle.std.proofs.lemmas.List.Sums.{sum_by-cons, sum_by-append}
 use native.Mathlib.Decide.{dec_lt}
 use Rattle.mm_statement.specs.Language.Item.{Item}
-use Rattle.mm_frame.specs.Language.{Scope.{Mark, Closes, Neither, mark_of, stays, opens, closes, is_start, is_end}, Numbered.{IsEven, IsEndOf, HoldsItem, IsActive, between}}
-use Rattle.mm_frame.proofs.lemmas.scope.{Stack.{stays_by_counts}, Heights.{IsHeight, EndsAt, Around, from_height, to_height}}
+use Rattle.mm_frame.{specs.Language.{Scope.{Neither, mark_of, stays, is_start, is_end}, Numbered.{IsEven, IsEndOf, HoldsItem, IsActive, between}}, proofs.lemmas.scope.Stack.{stays_by_counts}}
+use Rattle.mm_frame.proofs.lemmas.scope.Heights.{IsHeight, EndsAt, Around, from_height, to_height}
 
 cons_count : (p : Item → Bool) (x : Item) (xs : List Item) → count_by p (x ∷ xs) ≡ cond (p x) 1 0 + count_by p xs
 cons_count p x xs = sum_by-cons (λ i. cond (p i) 1 0) x xs
@@ -28,10 +28,7 @@ count_one p (x ∷ xs) (suc k) = let a = cons_count p x (take k xs) in let b = c
 
 count_at : (p : Item → Bool) (xs : List Item) (k : ℕ) (x : Item) → slice_get xs k ≡ Some x → count_by p (take (suc k) xs) ≡ count_by p (take k xs) + cond (p x) 1 0
 count_at p [] k x e = cc
-count_at p (y ∷ xs) zero x e = let q : y ≡ x = cc in cons_count p y [] ∙ ap (λ w. cond (p w) 1 0 + 0) q ∙ plain (cond (p x) 1 0)
-  where
-    plain : (n : ℕ) → n + 0 ≡ 0 + n
-    plain n = omega arith
+count_at p (y ∷ xs) zero x e = grind (arith, common_steps, cons_count) steps 200000
 count_at p (y ∷ xs) (suc k) x e = let a = cons_count p y (take k xs) in let b = cons_count p y (take (suc k) xs) in let c = count_at p xs k x e in omega arith
 
 found_case : (p : Item → Bool) (x : Item) (b : Bool) → p x ≡ b → 0 < cond b 1 0 → p x ≡ true
@@ -55,30 +52,17 @@ nested : (items : List Item) → stays items ≡ true → (k : ℕ) → count_by
 nested items h = (stays_by_counts items).0 h
 
 is_height : (items : List Item) → stays items ≡ true → IsHeight (height items)
-is_height items h = record {
-  base = refl;
-  up = λ k. (let a = nested items h k in let b = count_one is_start items k in let c = count_more is_end items k in omega arith);
-  down = λ k. (let a = nested items h (suc k) in let b = count_more is_start items k in let c = count_one is_end items k in omega arith);
-}
+is_height items h = grind (arith, common_steps, nested, count_one, count_more) steps 200000
 
 even_height : (items : List Item) → stays items ≡ true → (b e : ℕ) → b < e → IsEven items b e → height items (suc e) ≡ height items b
 even_height items h b e l v =
-    let n = e + 1 - b in
-    let q : b + n ≡ suc e = omega arith in
-    let s = subst (λ w. count_by is_start (take w items) ≡ count_by is_start (take b items) + count_by is_start (take n (drop b items))) q (count_split is_start items b n) in
-    let t = subst (λ w. count_by is_end (take w items) ≡ count_by is_end (take b items) + count_by is_end (take n (drop b items))) q (count_split is_end items b n) in
-    let x = nested items h b in
-    omega arith
+    let q : b + (e + 1 - b) ≡ suc e = omega arith in
+    grind (arith, common_steps, count_split is_start items b (e + 1 - b), count_split is_end items b (e + 1 - b), nested items h b) steps 200000
 
 height_even : (items : List Item) → stays items ≡ true → (b e : ℕ) → b < e → height items (suc e) ≡ height items b → IsEven items b e
 height_even items h b e l v =
-    let n = e + 1 - b in
-    let q : b + n ≡ suc e = omega arith in
-    let s = subst (λ w. count_by is_start (take w items) ≡ count_by is_start (take b items) + count_by is_start (take n (drop b items))) q (count_split is_start items b n) in
-    let t = subst (λ w. count_by is_end (take w items) ≡ count_by is_end (take b items) + count_by is_end (take n (drop b items))) q (count_split is_end items b n) in
-    let x = nested items h b in
-    let y = nested items h (suc e) in
-    omega arith
+    let q : b + (e + 1 - b) ≡ suc e = omega arith in
+    grind (arith, common_steps, count_split is_start items b (e + 1 - b), count_split is_end items b (e + 1 - b), nested items h b, nested items h (suc e)) steps 200000
 
 to_ends : (items : List Item) → stays items ≡ true → (b e : ℕ) → IsEndOf items b e → EndsAt (height items) b e
 to_ends items h b e d = record { behind = d.behind; even = even_height items h b e d.behind d.even; first = λ k x y z. d.first k x y (height_even items h b k x z) }
@@ -86,29 +70,11 @@ to_ends items h b e d = record { behind = d.behind; even = even_height items h b
 from_ends : (items : List Item) → stays items ≡ true → (b e : ℕ) → EndsAt (height items) b e → IsEndOf items b e
 from_ends items h b e d = record { behind = d.behind; even = height_even items h b e d.behind d.even; first = λ k x y z. d.first k x y (even_height items h b k x z) }
 
-abbrev unit : Bool → ℕ
-unit b = cond b 1 0
-
 flat_at : (items : List Item) (i : ℕ) (x : Item) → slice_get items i ≡ Some x → mark_of x.kind ≡ Neither → height items (suc i) ≡ height items i
-flat_at items i x e m =
-    let a = count_at is_start items i x e in
-    let b = count_at is_end items i x e in
-    let c : unit (is_start x) ≡ 0 = ap (λ w. unit (opens w)) m in
-    let d : unit (is_end x) ≡ 0 = ap (λ w. unit (closes w)) m in
-    omega arith
-
-start_end : (m : Mark) → opens m ≡ true → closes m ≡ false
-start_end Closes e = absurd (Rattle.std.proofs.lemmas.Bool.false≢true e)
-start_end _ e = refl
+flat_at items i x e m = grind (arith, common_steps, count_at is_start items i x e, count_at is_end items i x e) steps 200000
 
 rises_at : (items : List Item) → stays items ≡ true → (b : ℕ) (s : Item) → slice_get items b ≡ Some s → is_start s ≡ true → height items (suc b) ≡ suc (height items b)
-rises_at items h b s e t =
-    let a = count_at is_start items b s e in
-    let c = count_at is_end items b s e in
-    let d : unit (is_start s) ≡ 1 = ap unit t in
-    let f : unit (is_end s) ≡ 0 = ap unit (start_end (mark_of s.kind) t) in
-    let n = nested items h b in
-    omega arith
+rises_at items h b s e t = grind (arith, common_steps, count_at is_start items b s e, count_at is_end items b s e, nested items h b) steps 200000
 
 -- the heights between
 stay_heights : (items : List Item) → stays items ≡ true → (i j : ℕ) → stays (between items i j) ≡ true → (k : ℕ) → i < k → k ≤ j → height items (suc i) ≤ height items k
@@ -129,14 +95,7 @@ heights_stay : (items : List Item) → stays items ≡ true → (i j : ℕ) → 
 heights_stay items h i j l f = (stays_by_counts (between items i j)).1 (λ k. by_length k (dec_lt k (j - (i + 1))))
   where
     inside_of : (n : ℕ) → n ≤ j - (i + 1) → count_by is_end (take n (drop (i + 1) items)) ≤ count_by is_start (take n (drop (i + 1) items))
-    inside_of n a =
-        let r : suc i ≡ i + 1 = omega arith in
-        let c = subst (λ w. height items w ≤ height items (i + 1 + n)) r (f (i + 1 + n) (omega arith) (omega arith)) in
-        let u = count_split is_start items (i + 1) n in
-        let v = count_split is_end items (i + 1) n in
-        let x = nested items h (i + 1) in
-        let y = nested items h (i + 1 + n) in
-        omega arith
+    inside_of n a = grind (arith, common_steps, count_split is_start items (i + 1) n, count_split is_end items (i + 1) n, nested items h (i + 1), nested items h (i + 1 + n)) steps 200000
 
     by_length : (k : ℕ) → Dec (k < j - (i + 1)) → count_by is_end (take k (between items i j)) ≤ count_by is_start (take k (between items i j))
     by_length k (yes a) =

@@ -1,17 +1,14 @@
 -- Blocks by marks: what ties marks to items, and what one more mark makes of the block numbers.
+use Rattle.std.proofs.lemmas.{Grind.{common_steps}, Bool.{eq-eqb, ne_eqb, le-leb, lt-leb}}
+use Rattle.std.proofs.lemmas.List.{length_push, take-append-drop, drop-append-le, length-drop, length-take, take_min, drop-take, drop_all, take_rest, take-append-le, length-set, get_or-set_same}
+use Rattle.std.proofs.lemmas.{List.{get_or-set_other, Sums.{sum_by_push, count_by-le-length}}, Option.{slice_get_within, slice_get-get_or, same_Some}}
 use Rattle.std.proofs.Common.{◌≡◌, ◌≢◌, ℕ, zero, suc, pred, ◌+◌, ◌-◌, ◌≤◌, ◌<◌, ◌==◌, leb, Bool, true, false, cond, Option, Some, None, List, [], ◌∷◌, ◌++◌, Result, Ok, is_ok, IsSome, slice_range}
 use Rattle.std.proofs.Common.{unwrap_or, option_to_list, length, min, take, drop, get_or, set, count_by, slice_get, refl, sym, ◌∙◌, ap, subst, append_assoc, append-nil, arith, ◌⊎◌, inl, inr}
-use Rattle.std.proofs.lemmas.Bool.{eq-eqb, ne_eqb, le-leb, lt-leb, false≢true}
-use Rattle.std.proofs.lemmas.List.{length_push, take-append-drop, drop-append-le, length-drop, length-take, take_min, drop-take, drop_all, take_rest, take-append-le, length-set, get_or-set_same}
-use Rattle.std.proofs.lemmas.List.{get_or-set_other}
-use Rattle.std.proofs.lemmas.List.Sums.{sum_by_push, count_by-le-length}
-use Rattle.std.proofs.lemmas.Option.{slice_get_within, slice_get-get_or, same_Some}
 use Rattle.std.proofs.Math.Seq.{take-append-add}
 use native.Mathlib.Decide.{dec_lt}
 use Rattle.mm_statement.specs.Language.Item.{Item}
-use Rattle.mm_frame.specs.Language.Scope.{Mark, Opens, Closes, Neither, mark_of, closed_at, closed, is_zero, stays, opens, closes}
-use Rattle.mm_frame.specs.Code.{BlockMarks.{closed_by, stays_by, block_marks}, BlockEnds.{end_of_block}}
-use Rattle.mm_frame.specs.Code.KeptBlocks.{is_at, mark_between, marks_from, last_block, LeavesOpen, StandsOpen, StandsEnded, Stands, AreBlocks, AreBlockEndsKept}
+use Rattle.mm_frame.specs.{Language.Scope.{Mark, Opens, Closes, Neither, mark_of, closed_at, closed, is_zero, stays, opens, closes}, Code.BlockMarks.{closed_by, stays_by, block_marks}}
+use Rattle.mm_frame.specs.Code.{BlockEnds.{end_of_block}, KeptBlocks.{is_at, mark_between, marks_from, last_block, LeavesOpen, StandsOpen, StandsEnded, Stands, AreBlocks, AreBlockEndsKept}}
 use Rattle.mm_frame.proofs.lemmas.scope.ActiveBySplit.{closed_more}
 
 -- marks and items
@@ -72,18 +69,9 @@ last_push before [] behind = refl
 last_push before (block ∷ blocks) behind = last_push block blocks behind
 
 -- what marks leave open
-leaves_nothing : LeavesOpen [] 0
-leaves_nothing later = omega arith
-
-leaves_neither : (marks : List Mark) (d e : ℕ) → e ≡ d → LeavesOpen marks d → LeavesOpen (marks ++ Neither ∷ []) e
-leaves_neither marks d e q h later = ap closed_by (append_assoc marks (Neither ∷ []) later) ∙ h (Neither ∷ later) ∙ ap (λ w. closed_by later - w) (sym q)
-
 one_less : (c d e : ℕ) → e ≡ suc d → pred c - d ≡ c - e
 one_less zero d e q = omega arith
 one_less (suc c) d e q = omega arith
-
-leaves_more : (marks : List Mark) (d e : ℕ) → e ≡ suc d → LeavesOpen marks d → LeavesOpen (marks ++ Opens ∷ []) e
-leaves_more marks d e q h later = ap closed_by (append_assoc marks (Opens ∷ []) later) ∙ h (Opens ∷ later) ∙ one_less (closed_by later) d e q
 
 one_more : (c d e : ℕ) → d ≡ suc e → suc c - d ≡ c - e
 one_more c d e q = omega arith
@@ -117,64 +105,34 @@ stays_before : (front rest : List Mark) (n : ℕ) → LeavesOpen front 0 → n �
 stays_before front rest n h l = ap stays_by (take-append-le n front (Closes ∷ rest) l) ∙ stays_open front 0 n h
 
 stays_not : (front rest : List Mark) (k n : ℕ) → LeavesOpen front 0 → n ≡ length front + suc k → stays_by (take n (front ++ Closes ∷ rest)) ≡ false
-stays_not front rest k n h q =
-    let e = h (Closes ∷ take k rest) in
-    ap (λ w. stays_by (take w (front ++ Closes ∷ rest))) q ∙ ap stays_by (take-append-add front (Closes ∷ rest) (suc k)) ∙ some_closed (closed_by (front ++ Closes ∷ take k rest)) (omega arith)
+stays_not front rest k n h q = grind (arith, common_steps, take-append-add front (Closes ∷ rest) (suc k), some_closed (closed_by (front ++ Closes ∷ take k rest)) (omega arith)) steps 200000
 
 active_open : (marks : List Mark) (from at d : ℕ) → LeavesOpen (drop (suc from) marks) d → stays_by (slice_range marks (from + 1) at) ≡ true
-active_open marks from at d h =
-    let q : suc from ≡ from + 1 = omega arith in
-    subst (λ n. stays_by (take (at - n) (drop n marks)) ≡ true) q (stays_open (drop (suc from) marks) d (at - suc from) h)
+active_open marks from at d h = grind (arith, common_steps, stays_open (drop (suc from) marks) d (at - suc from) h) steps 200000
 
 active_ended : (marks : List Mark) (from at end : ℕ) → from < at → StandsEnded (drop (suc from) marks) from end → stays_by (slice_range marks (from + 1) at) ≡ leb at end
 active_ended marks from at end l s =
     let q : suc from ≡ from + 1 = omega arith in
-    subst (λ n. stays_by (take (at - n) (drop n marks)) ≡ leb at end) q (subst (λ w. stays_by (take (at - suc from) w) ≡ leb at end) (sym s.parts) (by_order (dec_lt end at)))
-  where
-    by_order : Dec (end < at) → stays_by (take (at - suc from) (s.front ++ Closes ∷ s.rest)) ≡ leb at end
-    by_order (yes a) = (stays_not s.front s.rest (at - suc end) (at - suc from) s.leaves (omega arith) ∙ sym (lt-leb at end a))
-    by_order (no a) = (stays_before s.front s.rest (at - suc from) s.leaves (omega arith) ∙ sym (le-leb at end (omega arith)))
+    subst (λ n. stays_by (take (at - n) (drop n marks)) ≡ leb at end) q (subst (λ w. stays_by (take (at - suc from) w) ≡ leb at end) (sym s.parts) (by_order (dec_lt end at))) where
+      by_order : Dec (end < at) → stays_by (take (at - suc from) (s.front ++ Closes ∷ s.rest)) ≡ leb at end
+      by_order (yes a) = (stays_not s.front s.rest (at - suc end) (at - suc from) s.leaves (omega arith) ∙ sym (lt-leb at end a))
+      by_order (no a) = (stays_before s.front s.rest (at - suc from) s.leaves (omega arith) ∙ sym (le-leb at end (omega arith)))
 
 -- an entry more among the ends
-entered : (blocks : List ℕ) (ends more : List (Option ℕ)) (outer : List ℕ) (current : ℕ) (marks : List Mark)
-    → ((block : ℕ) → end_of_block more block ≡ end_of_block ends block) → length ends ≤ length more → AreBlocks blocks ends outer current marks
-    → AreBlocks blocks more outer current marks
-entered blocks ends more outer current marks h l k = record {
-  stand = λ item block there. subst (λ end. Stands (outer ++ current ∷ []) (drop (suc item) marks) block item end) (sym (h block)) (k.stand item block there);
-  unended = λ level block there. h block ∙ k.unended level block there;
-  distinct = k.distinct;
-  numbered = λ level block there. (let a = k.numbered level block there in omega arith);
-  newest = (omega arith);
-  last = k.last;
-}
-
 pub entered_marks : (ends more : List (Option ℕ)) (blocks : List ℕ) → ((block : ℕ) → end_of_block more block ≡ end_of_block ends block) → marks_from more 0 0 blocks ≡ marks_from ends 0 0 blocks
 entered_marks ends more blocks h = marks_same ends more 0 0 blocks (λ block n l. ap (λ end. is_at end n) (h block))
 
 -- one more mark after an item
 more_ended : (behind : List Mark) (mark : Mark) (item end : ℕ) → StandsEnded behind item end → StandsEnded (behind ++ mark ∷ []) item end
-more_ended behind mark item end s = record {
-  front = s.front;
-  rest = s.rest ++ mark ∷ [];
-  parts = ap (λ w. w ++ mark ∷ []) s.parts ∙ append_assoc s.front (Closes ∷ s.rest) (mark ∷ []);
-  number = s.number;
-  leaves = s.leaves;
-}
+more_ended behind mark item end s = grind (arith, common_steps) steps 200000
 
 stand_more : (old stack : List ℕ) (behind : List Mark) (mark : Mark) (block item : ℕ) (end : Option ℕ) → Stands old behind block item end
     → (StandsOpen old behind block → StandsOpen stack (behind ++ mark ∷ []) block) → Stands stack (behind ++ mark ∷ []) block item end
-stand_more old stack behind mark block item None s f = f s
-stand_more old stack behind mark block item (Some end) s f = more_ended behind mark item end s
+stand_more old stack behind mark block item end s f = grind (arith, common_steps) steps 200000
 
 -- the last item is in the innermost block
 stand_last : (outer : List ℕ) (behind : List Mark) (block item : ℕ) (end : Option ℕ) → end ≡ None → behind ≡ [] → Stands (outer ++ block ∷ []) behind block item end
-stand_last outer behind block item end e q =
-    let z : 0 ≡ length (outer ++ block ∷ []) - suc (length outer) = omega (arith, length_push outer block) in
-    subst (λ o. Stands (outer ++ block ∷ []) behind block item o) (sym e) (record {
-      level = length outer;
-      there = get_last outer block (length outer) refl;
-      leaves = subst (λ w. LeavesOpen w (length (outer ++ block ∷ []) - suc (length outer))) (sym q) (subst (λ n. LeavesOpen [] n) z leaves_nothing);
-    })
+stand_last outer behind block item end e q = grind (arith, common_steps, length_push outer block, get_last outer block (length outer) refl) steps 200000
 
 -- the blocks of all items, if those of the earlier ones are known
 stands_all : (blocks : List ℕ) (ends : List (Option ℕ)) (outer : List ℕ) (next : ℕ) (marks : List Mark) (mark : Mark) → length marks ≡ length blocks → end_of_block ends next ≡ None
@@ -193,13 +151,7 @@ abbrev pub IsDistinct : List ℕ → Type 0
 IsDistinct xs = (one other x : ℕ) → slice_get xs one ≡ Some x → slice_get xs other ≡ Some x → one ≡ other
 
 distinct_more : (xs : List ℕ) (y : ℕ) → IsDistinct xs → ((n x : ℕ) → slice_get xs n ≡ Some x → x ≢ y) → IsDistinct (xs ++ y ∷ [])
-distinct_more xs y h f one other x a b = by_cases (get_cases xs y x one a) (get_cases xs y x other b)
-  where
-    by_cases : ((slice_get xs one ≡ Some x) ⊎ ((one ≡ length xs) × (y ≡ x))) → ((slice_get xs other ≡ Some x) ⊎ ((other ≡ length xs) × (y ≡ x))) → one ≡ other
-    by_cases (inl p) (inl q) = h one other x p q
-    by_cases (inl p) (inr q) = absurd (f one x p (sym q.1))
-    by_cases (inr p) (inl q) = absurd (f other x q (sym p.1))
-    by_cases (inr p) (inr q) = p.0 ∙ sym q.0
+distinct_more xs y h f one other x a b = grind (arith, common_steps, get_cases) steps 200000
 
 -- an item that neither begins nor ends a block
 passed : (blocks : List ℕ) (ends : List (Option ℕ)) (outer : List ℕ) (current : ℕ) (marks : List Mark) → length marks ≡ length blocks
@@ -214,12 +166,10 @@ passed blocks ends outer current marks count k = record {
 }
   where
     earlier : (item block : ℕ) → slice_get blocks item ≡ Some block → Stands (outer ++ current ∷ []) (drop (suc item) marks ++ Neither ∷ []) block item (end_of_block ends block)
-    earlier item block there = stand_more (outer ++ current ∷ []) (outer ++ current ∷ []) (drop (suc item) marks) Neither block item (end_of_block ends block) (k.stand item block there)
-        (λ s. record { level = s.level; there = s.there; leaves = leaves_neither (drop (suc item) marks) (length (outer ++ current ∷ []) - suc s.level) (length (outer ++ current ∷ []) - suc s.level) refl s.leaves })
+    earlier item block there = grind (arith, common_steps, k.stand item block there, stand_more) steps 200000
 
 mark_neither : (ends : List (Option ℕ)) (item before current : ℕ) → before ≡ current → end_of_block ends current ≡ None → mark_between ends item before current ≡ Neither
-mark_neither ends item before current e z = subst (λ w. mark_between ends item w current ≡ Neither) (sym e)
-    (ap (λ end. cond (is_at end item) Closes (cond (current == current) Neither Opens)) z ∙ ap (λ w. cond w Neither Opens) (eq-eqb current current refl))
+mark_neither ends item before current e z = grind (arith, common_steps, eq-eqb current current refl) steps 200000
 
 pub passed_marks : (blocks : List ℕ) (ends : List (Option ℕ)) (outer : List ℕ) (current : ℕ) (marks : List Mark) → AreBlocks blocks ends outer current marks → marks_from ends 0 0 (blocks ++ current ∷ []) ≡ marks_from ends 0 0 blocks ++ Neither ∷ []
 passed_marks blocks ends outer current marks k =
@@ -246,9 +196,7 @@ begun blocks ends outer current next marks count l q k = record {
     earlier item block there = stand_more (outer ++ current ∷ []) ((outer ++ current ∷ []) ++ next ∷ []) (drop (suc item) marks) Opens block item (end_of_block ends block) (k.stand item block there) (λ s. record {
       level = s.level;
       there = get_front (outer ++ current ∷ []) next block s.level s.there;
-      leaves = leaves_more (drop (suc item) marks) (length (outer ++ current ∷ []) - suc s.level) (length ((outer ++ current ∷ []) ++ next ∷ []) - suc
-          s.level) (let w = slice_get_within (outer ++ current ∷ []) s.level block s.there in let p = length_push (outer ++ current ∷ []) next in omega arith)
-          s.leaves;
+      leaves = grind (arith, common_steps, length_push, slice_get_within, one_less) steps 200000;
     })
 
 mark_opens : (ends : List (Option ℕ)) (item before current next : ℕ) → before ≡ current → end_of_block ends current ≡ None → current ≢ next → mark_between ends item before next ≡ Opens
@@ -257,36 +205,25 @@ mark_opens ends item before current next e z n = subst (λ w. mark_between ends 
 pub begun_marks : (blocks : List ℕ) (ends : List (Option ℕ)) (outer : List ℕ) (current next : ℕ) (marks : List Mark) → current < length ends
     → next ≡ length ends → AreBlocks blocks ends outer current marks → marks_from ends 0 0 (blocks ++ next ∷ []) ≡ marks_from ends 0 0 blocks ++ Opens ∷ []
 begun_marks blocks ends outer current next marks l q k =
-    let n : current ≢ next = λ e. (omega arith) in
-    marks_push ends 0 0 blocks next (length blocks) (omega arith) ∙ ap (λ m. marks_from ends 0 0 blocks ++ m ∷ [])
-    (mark_opens ends (length blocks) (last_block 0 blocks) current next k.last (k.unended (length outer) current
-    (get_last outer current (length outer) refl)) n)
+    grind (arith, common_steps, marks_push ends 0 0 blocks next (length blocks) (omega arith), k.unended (length outer) current (get_last outer current (length outer) refl), mark_opens) steps 500000
 
 -- what is left of the outer blocks when the innermost one ends, and the block that is innermost then
 abbrev pub Popped : List ℕ → List ℕ → ℕ → ℕ → Type 0
 Popped outer rest next fresh = (outer ≡ rest ++ next ∷ []) ⊎ ((outer ≡ []) × (rest ≡ []) × (next ≡ fresh))
 
 pub popped_is : (outer rest : List ℕ) (next fresh : ℕ) (popped : Option ℕ) → outer ≡ rest ++ option_to_list popped → (0 < length outer → IsSome popped) → next ≡ unwrap_or popped fresh → Popped outer rest next fresh
-popped_is outer rest next fresh (Some block) e v q = inl (e ∙ ap (λ w. rest ++ w ∷ []) (sym q))
-popped_is [] rest next fresh None e v q = inr (refl, sym (e ∙ append-nil rest), q)
-popped_is (block ∷ outer) rest next fresh None e v q = absurd (false≢true (v (omega arith)))
+popped_is outer rest next fresh popped e v q = grind (arith, common_steps) steps 200000
 
 no_element : (level block : ℕ) → slice_get [] level ≡ Some block → ⊥
 no_element level block there = cc
 
 -- an open block that is not the innermost is where it was
 stays_put : (outer rest : List ℕ) (next fresh level block : ℕ) → Popped outer rest next fresh → slice_get outer level ≡ Some block → (slice_get (rest ++ next ∷ []) level ≡ Some block) × (length (rest ++ next ∷ []) ≡ length outer)
-stays_put outer rest next fresh level block (inl e) there = (subst (λ w. slice_get w level ≡ Some block) e there, ap length (sym e))
-stays_put outer rest next fresh level block (inr e) there = absurd (no_element level block (subst (λ w. slice_get w level ≡ Some block) (e.0) there))
+stays_put outer rest next fresh level block h there = grind (arith, common_steps) steps 200000
 
 -- an open block was among the outer ones, or is the only one, and new
 stood_there : (outer rest : List ℕ) (next fresh level block : ℕ) → Popped outer rest next fresh → slice_get (rest ++ next ∷ []) level ≡ Some block → (slice_get outer level ≡ Some block) ⊎ ((outer ≡ []) × (level ≡ 0) × (block ≡ fresh))
-stood_there outer rest next fresh level block (inl e) there = inl (subst (λ w. slice_get w level ≡ Some block) (sym e) there)
-stood_there outer rest next fresh level block (inr e) there = (let h = the_only level (subst (λ w. slice_get (w ++ next ∷ []) level ≡ Some block) (e.1) there) in inr (e.0, h.0, h.1))
-  where
-    the_only : (level : ℕ) → slice_get (next ∷ []) level ≡ Some block → (level ≡ 0) × (block ≡ fresh)
-    the_only zero h = (refl, sym (same_Some next block h) ∙ e.2)
-    the_only (suc level) h = absurd (cc)
+stood_there outer rest next fresh level block h there = grind (arith, common_steps) steps 200000
 
 -- the ends after an item that ends a block
 abbrev pub closing : List (Option ℕ) → ℕ → ℕ → List (Option ℕ)
@@ -299,10 +236,7 @@ end_of_other : (ends : List (Option ℕ)) (block item other : ℕ) → other ≢
 end_of_other ends block item other n = get_or-set_other ends block other (Some item) None n
 
 same_or_not : (a b : ℕ) → (a ≡ b) ⊎ (a ≢ b)
-same_or_not a b = elim (dec_lt a b) [
-  | yes l ↦ inr (λ e. omega arith)
-  | no l ↦ elim (dec_lt b a) [ yes m ↦ inr (λ e. omega arith) | no m ↦ inl (omega arith) ]
-]
+same_or_not a b = grind (arith, common_steps, dec_lt a b, dec_lt b a) steps 200000
 
 -- an item that ends a block
 module _ (blocks : List ℕ) (ends : List (Option ℕ)) (outer rest : List ℕ) (current next : ℕ) (marks : List Mark) (l : current < length ends) (p : Popped outer rest next (length ends)) (k : AreBlocks blocks ends outer current marks) where
@@ -412,19 +346,12 @@ module _ (blocks : List ℕ) (ends : List (Option ℕ)) (outer rest : List ℕ) 
 
 pub kept_moved : (blocks others : List ℕ) (ends more : List (Option ℕ)) (outer around : List ℕ) (current begun ended : ℕ) → others ≡ blocks → more ≡ ends
     → around ≡ outer → AreBlockEndsKept blocks ends outer current begun ended → AreBlockEndsKept others more around current begun ended
-kept_moved blocks others ends more outer around current begun ended a b d k =
-    subst (λ w. AreBlockEndsKept w more around current begun ended) (sym a) (subst (λ w. AreBlockEndsKept blocks w around current begun ended) (sym b) (subst (λ w. AreBlockEndsKept blocks ends w current begun ended) (sym d) k))
+kept_moved blocks others ends more outer around current begun ended a b d k = grind (arith, common_steps, begun) steps 200000
 
 pub kept_entered : (blocks : List ℕ) (ends more : List (Option ℕ)) (outer : List ℕ) (current begun ended : ℕ)
     → ((block : ℕ) → end_of_block more block ≡ end_of_block ends block) → length ends ≤ length more → AreBlockEndsKept blocks ends outer current begun ended
     → AreBlockEndsKept blocks more outer current begun ended
-kept_entered blocks ends more outer current begun ended h l k =
-    let same = entered_marks ends more blocks h in
-    record {
-      are_blocks = subst (λ marks. AreBlocks blocks more outer current marks) (sym same) (entered blocks ends more outer current (marks_from ends 0 0 blocks) h l k.are_blocks);
-      begun_is = k.begun_is ∙ ap (count_by opens) (sym same);
-      ended_is = k.ended_is ∙ ap (count_by closes) (sym same);
-    }
+kept_entered blocks ends more outer current begun ended h l k = grind (arith, common_steps, entered_marks) steps 200000
 
 same_count : (test : Mark → Bool) (marks more : List Mark) (mark : Mark) (n m : ℕ) → more ≡ marks ++ mark ∷ [] → n ≡ count_by test marks → m ≡ n + cond (test mark) 1 0 → m ≡ count_by test more
 same_count test marks more mark n m e q r = r ∙ ap (λ w. w + cond (test mark) 1 0) q ∙ sym (sum_by_push (λ m. cond (test m) 1 0) marks mark) ∙ ap (count_by test) (sym e)
@@ -474,9 +401,7 @@ marks_count ends blocks marks e = sym (ap length e) ∙ length_marks ends 0 0 bl
 
 -- what comes after an item up to the last one
 pub behind_item : (marks : List Mark) (from count : ℕ) → count ≡ length marks → slice_range marks (from + 1) count ≡ drop (suc from) marks
-behind_item marks from count e =
-    let next : from + 1 ≡ suc from = omega arith in
-    ap (slice_range marks (from + 1)) e ∙ take_rest marks (from + 1) ∙ ap (λ n. drop n marks) next
+behind_item marks from count e = grind (arith, common_steps, take_rest marks (from + 1)) steps 200000
 
 -- nothing comes after an item that is yet to come
 pub behind_none : (marks : List Mark) (from : ℕ) → length marks ≤ from → stays_by (drop (suc from) marks) ≡ true
@@ -488,13 +413,7 @@ end_within ends blocks marks at count end v c e = e ∙ ap (min at) (c ∙ sym (
 
 -- what comes after an item before another
 pub behind_before : (marks : List Mark) (from at end : ℕ) → end ≡ min at (length marks) → from < end → slice_range marks (from + 1) end ≡ drop (suc from) (take at marks)
-behind_before marks from at end e l =
-    let next : from + 1 ≡ suc from = omega arith in
-    let whole : (from + 1) + (end - (from + 1)) ≡ end = omega arith in
-    sym (drop-take (from + 1) (end - (from + 1)) marks)
-    ∙ ap (λ n. drop (from + 1) (take n marks)) (whole ∙ e)
-    ∙ ap (drop (from + 1)) (take_min at marks)
-    ∙ ap (λ n. drop n (take at marks)) next
+behind_before marks from at end e l = grind (arith, common_steps, drop-take (from + 1) (end - (from + 1)) marks, take_min at marks) steps 200000
 
 pub before_none : (marks : List Mark) (from at end : ℕ) → end ≡ min at (length marks) → end ≤ from → stays_by (drop (suc from) (take at marks)) ≡ true
 before_none marks from at end e l = let c = length-take at marks in ap stays_by (drop_all (suc from) (take at marks) (omega arith))
@@ -504,18 +423,16 @@ pub is_active_open : (blocks : List ℕ) (ends : List (Option ℕ)) (outer : Lis
     → AreBlockEndsKept blocks ends outer current begun ended → from < length blocks → block ≡ get_or blocks from block → end_of_block ends block ≡ None
     → stays_by (slice_range (marks_from ends 0 0 blocks) (from + 1) at) ≡ true
 is_active_open blocks ends outer current begun ended from at block k l there e =
-    let marks = marks_from ends 0 0 blocks in
-    let s : StandsOpen (outer ++ current ∷ []) (drop (suc from) marks) block = subst (λ end. Stands (outer ++ current ∷ []) (drop (suc from) marks) block
+    let s : StandsOpen (outer ++ current ∷ []) (drop (suc from) (marks_from ends 0 0 blocks)) block = subst (λ end. Stands (outer ++ current ∷ []) (drop (suc from) (marks_from ends 0 0 blocks)) block
     from end) e (k.are_blocks.stand from block (slice_get-get_or blocks from block l ∙ ap Some (sym there))) in
-    active_open marks from at (length (outer ++ current ∷ []) - suc s.level) s.leaves
+    grind (arith, common_steps, active_open (marks_from ends 0 0 blocks) from at (length (outer ++ current ∷ []) - suc s.level) s.leaves) steps 200000
 
 pub is_active_ended : (blocks : List ℕ) (ends : List (Option ℕ)) (outer : List ℕ) (current begun ended from at block end : ℕ)
     → AreBlockEndsKept blocks ends outer current begun ended → from < at → from < length blocks → block ≡ get_or blocks from block
     → end_of_block ends block ≡ Some end
     → stays_by (slice_range (marks_from ends 0 0 blocks) (from + 1) at) ≡ leb at end
 is_active_ended blocks ends outer current begun ended from at block end k f l there e =
-    let marks = marks_from ends 0 0 blocks in
-    active_ended marks from at end f (subst (λ end. Stands (outer ++ current ∷ []) (drop (suc from) marks) block from end) e (k.are_blocks.stand from block (slice_get-get_or blocks from block l ∙ ap Some (sym there))))
+    grind (arith, common_steps, k.are_blocks.stand from block (slice_get-get_or blocks from block l ∙ ap Some (sym there)), active_ended) steps 200000
 
 -- what a push that went well made
 pub pushed : {X E : Type 0} (result : Result (Unit {0}) E) (done : Unit {0}) (new whole old : List X) → result ≡ Ok done → new ≡ cond (is_ok result) whole old → new ≡ whole

@@ -1,13 +1,11 @@
 -- What a `$}` leaves of the numbers of active items: the last of them are dropped.
+use Rattle.std.proofs.lemmas.{Grind.{common_steps}, Bool.{false≢true}, Option.{get_or_from_slice_get, slice_get_within, same_Some, none-some}}
+use Rattle.std.proofs.lemmas.List.{drop-append-le, drop-map, length_push, get_or_append_left}
 use Rattle.std.proofs.Common.{◌≡◌, ℕ, zero, suc, ◌+◌, ◌-◌, ◌<◌, Bool, true, false, cond, Option, Some, None, List, [], ◌∷◌, ◌++◌, length, take, drop, slice_get, get_or, refl, sym, ◌∙◌, ap, subst}
-use Rattle.std.proofs.Common.{append_assoc, arith, inl, inr, ◌⊎◌}
-use Rattle.std.proofs.lemmas.{Bool.{false≢true}, Option.{get_or_from_slice_get, slice_get_within, same_Some, none-some}, List.{drop-append-le, drop-map, length_push, get_or_append_left}}
-use Rattle.std.proofs.Math.Seq.{get_or-append_seam, drop-nil}
-use Rattle.std.specs.Prelude.{Contains, option_to_list}
+use Rattle.std.{proofs.{Common.{append_assoc, arith, inl, inr, ◌⊎◌}, Math.Seq.{get_or-append_seam, drop-nil}}, specs.Prelude.{Contains, option_to_list}}
 use Rattle.mm_statement.specs.Language.Item.{Item}
-use Rattle.mm_frame.specs.Language.Scope.{Mark, Neither, mark_of, closed_at, closed, is_zero, stays, active_numbers}
-use Rattle.mm_frame.specs.Code.{BlockMarks.{stays_by, block_marks}, LastItems.{is_active_at, IsRising}, KeptActive.{IsPruned}}
-use Rattle.mm_frame.proofs.lemmas.lists.{Members.{In, in_contains, contains_in, in_left, in_right, in_cases, in_get}, Rising.{rising_front, get_drop}}
+use Rattle.mm_frame.specs.{Language.Scope.{Mark, Neither, mark_of, closed_at, closed, is_zero, stays, active_numbers}, Code.{BlockMarks.{stays_by, block_marks}, LastItems.{is_active_at, IsRising}}}
+use Rattle.mm_frame.{specs.Code.KeptActive.{IsPruned}, proofs.lemmas.lists.{Members.{In, in_contains, contains_in, in_left, in_right, in_cases, in_get}, Rising.{rising_front, get_drop}}}
 use Rattle.mm_frame.proofs.lemmas.scope.{ActiveBySplit.{closed_none, stays_front}, SoundItems.{split_at}, TableLemmas.{not_closing}, BlockLemmas.{get_front, get_cases, get_last, stays_of}}
 use Rattle.mm_frame.proofs.lemmas.frames.HypothesisNumbers.{to_active_number, from_active_number, active_numbers_rise, active_numbers_more, same_rising}
 
@@ -34,7 +32,8 @@ active_at_earlier before item m n x l e h k =
     let next : suc m + suc gap ≡ suc n = omega arith in
     let middle = take gap (drop (suc m) before) in
     let back = drop (suc n) before in
-    let parts : drop (suc m) before ≡ middle ++ x ∷ back = split_at (drop (suc m) before) gap x (get_drop before (suc m) gap n (sym at) ∙ e) ∙ ap (λ ys. middle ++ x ∷ ys) (drop_drop before (suc m) (suc gap) ∙ ap (λ p. drop p before) next) in
+    let parts : drop (suc m) before ≡ middle ++ x ∷ back =
+    split_at (drop (suc m) before) gap x (get_drop before (suc m) gap n (sym at) ∙ e) ∙ ap (λ ys. middle ++ x ∷ ys) (drop_drop before (suc m) (suc gap) ∙ ap (λ p. drop p before) next) in
     let later : stays (back ++ item ∷ []) ≡ true = subst (λ ys. stays ys ≡ true) (drop-append-le (suc n) before (item ∷ []) (omega arith)) k in
     let none = closed_none (back ++ item ∷ []) later ∙ sym (closed_none back (stays_front back (item ∷ []) later)) in
     let same : closed (middle ++ x ∷ (back ++ item ∷ [])) ≡ closed (middle ++ x ∷ back) = closed_same middle (x ∷ (back ++ item ∷ [])) (x ∷ back) (ap (closed_at (mark_of x.kind)) none) in
@@ -77,42 +76,36 @@ pruned_numbers test before item kept gone t e ended last =
     (λ n h. let p = number_before test before item t n h in elim (in_cases n kept gone (subst (In n) e p.0)) [
       | inl a ↦ a
       | inr b ↦ absurd (false≢true (sym (ended n b) ∙ p.1))
-    ])
-  where
-    there : (n : ℕ) → In n kept → In n (active_numbers test before)
-    there n h = subst (In n) (sym e) (in_left n kept gone h)
+    ]) where
+      there : (n : ℕ) → In n kept → In n (active_numbers test before)
+      there n h = subst (In n) (sym e) (in_left n kept gone h)
 
-    below : (front : List ℕ) (m n : ℕ) → kept ≡ front ++ n ∷ [] → In m front → m < n
-    below front m n q h =
-        let rising = subst IsRising q (rising_front kept gone (subst IsRising e (active_numbers_rise test before))) in
-        let g = in_get m front h in
-        let w = slice_get_within front g.0 m g.1 in
-        let long = length_push front n in
-        let first : get_or (front ++ n ∷ []) g.0 0 ≡ m = get_or_append_left front (n ∷ []) 0 g.0 w ∙ get_or_from_slice_get front g.0 m 0 g.1 in
-        let second : get_or (front ++ n ∷ []) (length front) 0 ≡ n = get_or-append_seam front n [] 0 in
-        let less : get_or (front ++ n ∷ []) g.0 0 < get_or (front ++ n ∷ []) (length front) 0 = rising g.0 (length front) 0 w (omega arith) in
-        omega arith
+      below : (front : List ℕ) (m n : ℕ) → kept ≡ front ++ n ∷ [] → In m front → m < n
+      below front m n q h =
+          let rising = subst IsRising q (rising_front kept gone (subst IsRising e (active_numbers_rise test before))) in
+          let g = in_get m front h in
+          let w = slice_get_within front g.0 m g.1 in
+          let long = length_push front n in
+          let first : get_or (front ++ n ∷ []) g.0 0 ≡ m = get_or_append_left front (n ∷ []) 0 g.0 w ∙ get_or_from_slice_get front g.0 m 0 g.1 in
+          let second : get_or (front ++ n ∷ []) (length front) 0 ≡ n = get_or-append_seam front n [] 0 in
+          let less : get_or (front ++ n ∷ []) g.0 0 < get_or (front ++ n ∷ []) (length front) 0 = rising g.0 (length front) 0 w (omega arith) in
+          omega arith
 
-    earlier : (front : List ℕ) (m n : ℕ) → kept ≡ front ++ n ∷ [] → In m front → is_active_at (before ++ item ∷ []) m ≡ true
-    earlier front m n q h =
-        let s = from_active_number test before n (there n (subst (In n) (sym q) (in_right n front (n ∷ []) (inl refl)))) in
-        active_at_earlier before item m n s.0 (below front m n q h) s.1 (from_active_number test before m (there m (subst (In m) (sym q) (in_left m front (n ∷ []) h)))).2 (last front n q)
+      earlier : (front : List ℕ) (m n : ℕ) → kept ≡ front ++ n ∷ [] → In m front → is_active_at (before ++ item ∷ []) m ≡ true
+      earlier front m n q h =
+          let s = from_active_number test before n (there n (subst (In n) (sym q) (in_right n front (n ∷ []) (inl refl)))) in
+          active_at_earlier before item m n s.0 (below front m n q h) s.1 (from_active_number test before m (there m (subst (In m) (sym q) (in_left m front (n ∷ []) h)))).2 (last front n q)
 
-    all_active : (m : ℕ) → In m kept → IsEmptyOrEnds kept → is_active_at (before ++ item ∷ []) m ≡ true
-    all_active m h (inl q) = absurd (subst (In m) q h)
-    all_active m h (inr (front, n, q)) = elim (in_cases m front (n ∷ []) (subst (In m) q h)) [
-      | inl a ↦ earlier front m n q a
-      | inr b ↦ elim b [
-        | inl same ↦ subst (λ k. is_active_at (before ++ item ∷ []) k ≡ true) same (last front n q)
-        | inr z ↦ absurd z
+      all_active : (m : ℕ) → In m kept → IsEmptyOrEnds kept → is_active_at (before ++ item ∷ []) m ≡ true
+      all_active m h (inl q) = absurd (subst (In m) q h)
+      all_active m h (inr (front, n, q)) = elim (in_cases m front (n ∷ []) (subst (In m) q h)) [
+        | inl a ↦ earlier front m n q a
+        | inr b ↦ grind (arith, common_steps) steps 200000
       ]
-    ]
 
 -- activity by the marks of the items
 pub active_by_marks : (items : List Item) (n : ℕ) → is_active_at items n ≡ stays_by (drop (n + 1) (block_marks items))
-active_by_marks items n =
-    let z : suc n ≡ n + 1 = omega arith in
-    stays_of (drop (suc n) items) ∙ ap stays_by (sym (drop-map (λ (i : Item). mark_of i.kind) (suc n) items)) ∙ ap (λ k. stays_by (drop k (block_marks items))) z
+active_by_marks items n = grind (arith, common_steps, stays_of (drop (suc n) items), drop-map) steps 200000
 
 pub pruned_by_marks : (marks : List Mark) (old new : List ℕ) → IsPruned marks old new → (test : Item → Bool) (before : List Item) (item : Item)
     → test item ≡ false → marks ≡ block_marks (before ++ item ∷ []) → old ≡ active_numbers test before → new ≡ active_numbers test (before ++ item ∷ [])
@@ -128,36 +121,17 @@ pub record Dropped (marks : List Mark) (old new : List ℕ) : Type 0 where
   pub ended : (n : ℕ) → Contains gone n → stays_by (drop (n + 1) marks) ≡ false
 
 pub dropped_more : (marks : List Mark) (old now new : List ℕ) (number : ℕ) → Dropped marks old now → now ≡ new ++ number ∷ [] → stays_by (drop (number + 1) marks) ≡ false → Dropped marks old new
-dropped_more marks old now new number d e f = record {
-  gone = number ∷ d.gone;
-  parts = d.parts ∙ ap (λ w. w ++ d.gone) e ∙ append_assoc new (number ∷ []) d.gone;
-  ended = λ n c. elim (contains_in n (number ∷ d.gone) c) [
-    | inl q ↦ subst (λ k. stays_by (drop (k + 1) marks) ≡ false) q f
-    | inr h ↦ d.ended n (in_contains n d.gone h)
-  ];
-}
+dropped_more marks old now new number d e f = grind (arith, common_steps, contains_in, in_contains) steps 200000
 
 -- nothing more is dropped if the last number that is left is that of an active item, or none is left
 last_number : (numbers front : List ℕ) (n : ℕ) → numbers ≡ front ++ n ∷ [] → slice_get numbers (length numbers - 1) ≡ Some n
-last_number numbers front n e =
-    let long : length numbers - 1 ≡ length front = (let p = length_push front n in let q = ap length e in omega arith) in
-    ap (slice_get numbers) long ∙ ap (λ w. slice_get w (length front)) e ∙ get_last front n (length front) refl
+last_number numbers front n e = grind (arith, common_steps, length_push front n, get_last front n (length front) refl) steps 200000
 
 pub dropped_to_active : (marks : List Mark) (old new : List ℕ) (number : ℕ) → Dropped marks old new → slice_get new (length new - 1) ≡ Some number → stays_by (drop (number + 1) marks) ≡ true → IsPruned marks old new
-dropped_to_active marks old new number d there active = record {
-  gone = d.gone;
-  parts = d.parts;
-  ended = d.ended;
-  last = λ front n e. subst (λ k. stays_by (drop (k + 1) marks) ≡ true) (same_Some number n (sym there ∙ last_number new front n e)) active;
-}
+dropped_to_active marks old new number d there active = grind (arith, common_steps, same_Some, last_number) steps 200000
 
 pub dropped_to_none : (marks : List Mark) (old new : List ℕ) → Dropped marks old new → slice_get new (length new - 1) ≡ None → IsPruned marks old new
-dropped_to_none marks old new d none = record {
-  gone = d.gone;
-  parts = d.parts;
-  ended = d.ended;
-  last = λ front n e. absurd (none-some n (sym none ∙ last_number new front n e));
-}
+dropped_to_none marks old new d none = grind (arith, common_steps, none-some, last_number) steps 200000
 
 -- what a `pop` takes is the last number
 pub popped_last : (now new : List ℕ) (popped : Option ℕ) (n len : ℕ) → now ≡ new ++ option_to_list popped

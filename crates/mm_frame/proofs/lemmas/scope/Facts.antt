@@ -1,12 +1,11 @@
 -- What soundness gives.
+use Rattle.std.proofs.lemmas.{Grind.{common_steps}, Bool.{false≢true, or_parts, or_cases, le-leb, lt-ltb, not-false}}
 use Rattle.std.proofs.Common.{◌≡◌, ℕ, suc, ◌+◌, ◌-◌, ◌≤◌, Bool, true, false, not, ◌&&◌, ltb, leb, ◌==◌, Some, List, [], ◌∷◌, ◌++◌, length, slice_get, refl, sym, ◌∙◌, subst, append_assoc, append-nil}
 use Rattle.std.proofs.Common.{arith, inl, inr, ◌⊎◌}
-use Rattle.std.proofs.lemmas.Bool.{false≢true, or_parts, or_cases, le-leb, lt-ltb, not-false}
-use Rattle.mm_statement.specs.Language.Item.{first_symbol, Kind, Constants, Floating, Item, is_constants, is_variables, is_floating, is_expression, is_labelled, has}
+use Rattle.mm_statement.specs.Language.Item.{first_symbol, Kind, Item, is_constants, is_variables, is_floating, is_expression, is_labelled, has}
 use Rattle.mm_frame.specs.Language.Scope.{active, symbols_by, constants, variables, active_variables, typed}
 use Rattle.mm_frame.specs.Language.Sound.{closing_word, passes, at_symbol, each, first, second, later, is_third, is_declared, is_active_symbol, is_no_constant, is_no_variable, is_no_active_symbol}
-use Rattle.mm_frame.specs.Language.Sound.{is_untyped, is_typed, is_short, IsSound}
-use Rattle.mm_frame.specs.declared.FrameNumber.TheVariants.{F01, F04, F08, F09, F10, F11, F12}
+use Rattle.mm_frame.specs.{Language.Sound.{is_untyped, is_typed, is_short, IsSound}, declared.FrameNumber.TheVariants.{F01, F04, F08, F09, F10, F11, F12}}
 use Rattle.mm_frame.proofs.lemmas.{lists.Members.{In, in_cases, in_get, has_in, in_has, from_symbols, to_symbols}, scope.ActiveBySplit.{active_in}}
 
 pub and_rest : (x y : Bool) → (x && y) ≡ false → x ≡ true → y ≡ false
@@ -16,8 +15,7 @@ and_rest false y h e = absurd (false≢true e)
 -- a test that fails at all words fails at each symbol
 test_fails : (first word k : ℕ) (test : ℕ → List ℕ → Bool) (symbols : List (List ℕ)) (name : List ℕ) → first ≤ word → word - first ≡ k
     → slice_get symbols k ≡ Some name → (leb first word && passes (test (word - first)) (slice_get symbols (word - first))) ≡ false → test k name ≡ false
-test_fails first word k test symbols name l d s h =
-    subst (λ o. passes (test k) o ≡ false) s (subst (λ n. passes (test n) (slice_get symbols n) ≡ false) d (and_rest (leb first word) (passes (test (word - first)) (slice_get symbols (word - first))) h (le-leb first word l)))
+test_fails first word k test symbols name l d s h = grind (arith, common_steps, and_rest, le-leb) steps 200000
 
 pub no_symbol : (test : ℕ → List ℕ → Bool) (item : Item) → ((word : ℕ) → at_symbol test item word ≡ false) → (k : ℕ) (name : List ℕ) → slice_get item.symbols k ≡ Some name → test k name ≡ false
 no_symbol test item h k name s = test_fails (first_symbol item) (first_symbol item + k) k test item.symbols name (omega arith) (omega arith) s (h (first_symbol item + k))
@@ -48,15 +46,11 @@ snoc_symbols test n before x h =
     let r = from_symbols test n (before ++ x ∷ []) h in
     elim (in_cases r.0 before (x ∷ []) r.1) [
       | inl a ↦ inl (to_symbols test n before r.0 a r.2 r.3)
-      | inr b ↦ elim b [
-        | inl e ↦ inr (subst (λ (w : Item). test w.kind ≡ true) (sym e) r.2, subst (λ (w : Item). In n w.symbols) (sym e) r.3)
-        | inr z ↦ absurd z
-      ]
+      | inr b ↦ grind (arith, common_steps) steps 200000
     ]
 
 not_both_kinds : (k : Kind) → is_constants k ≡ true → is_variables k ≡ true → ⊥
-not_both_kinds Constants a b = false≢true b
-not_both_kinds _ a b = false≢true a
+not_both_kinds k a b = grind (arith, common_steps) steps 200000
 
 new_constant : (before : List Item) (x : Item) (n : List ℕ) → IsSound before x → is_constants x.kind ≡ true → In n x.symbols → In n (variables before) → ⊥
 new_constant before x n s t h v =
@@ -122,8 +116,7 @@ float_new before item name s t g h =
 
 -- a `$f` has two symbols
 float_kind : (k : Kind) (n : ℕ) → is_floating k ≡ true → is_short k n ≡ ltb n 2
-float_kind Floating n e = refl
-float_kind _ n e = absurd (false≢true e)
+float_kind k n e = grind (arith, common_steps) steps 200000
 
 two_of : (symbols : List (List ℕ)) → ltb (length symbols) 2 ≡ false → ((name : List ℕ) → slice_get symbols 2 ≡ Some name → ⊥) → (a : List ℕ) × (b : List ℕ) × (symbols ≡ a ∷ b ∷ [])
 two_of (a ∷ b ∷ []) l h = (a, b, refl)
@@ -137,8 +130,7 @@ pub float_two : (before : List Item) (item : Item) → IsSound before item → i
 float_two before item s t =
     let few = (or_parts (is_short item.kind (length item.symbols) && closing_word item == closing_word item) (is_floating item.kind && at_symbol is_third item (closing_word item)) (s (closing_word item) F01)).0 in
     two_of item.symbols (sym (float_kind item.kind (length item.symbols) t) ∙ and_short (is_short item.kind (length item.symbols)) (closing_word item == closing_word item) few (eqb_self (closing_word item)))
-    (λ name g. false≢true (sym (no_symbol_of (is_floating item.kind) is_third item (λ word. (or_parts _ _ (s word F01)).1) t 2 name g)))
-  where
-    and_short : (x y : Bool) → (x && y) ≡ false → y ≡ true → x ≡ false
-    and_short true y h e = absurd (false≢true (sym h ∙ e))
-    and_short false y h e = refl
+    (λ name g. false≢true (sym (no_symbol_of (is_floating item.kind) is_third item (λ word. (or_parts _ _ (s word F01)).1) t 2 name g))) where
+      and_short : (x y : Bool) → (x && y) ≡ false → y ≡ true → x ≡ false
+      and_short true y h e = absurd (false≢true (sym h ∙ e))
+      and_short false y h e = refl

@@ -1,5 +1,5 @@
 -- Blocks by the height of the items before each number.
-use Rattle.std.proofs.Common.{◌≡◌, ℕ, zero, suc, ◌+◌, ◌-◌, ◌≤◌, ◌<◌, sym, ◌∙◌, ap, subst, arith}
+use Rattle.std.proofs.{lemmas.Grind.{common_steps}, Common.{◌≡◌, ℕ, zero, suc, ◌+◌, ◌-◌, ◌≤◌, ◌<◌, sym, ◌∙◌, ap, subst, arith}}
 use native.Mathlib.Decide.{dec_lt}
 
 -- heights that change by one at most from one number to the next
@@ -15,24 +15,17 @@ pub record EndsAt (high : ℕ → ℕ) (b e : ℕ) : Type 0 where
 
 -- inside a block it is higher than before it
 inside_at : (high : ℕ → ℕ) → IsHeight high → (b e k : ℕ) → EndsAt high b e → high (suc b) ≡ suc (high b) → k < e - b → high b < high (suc (b + k))
-inside_at high h b e zero d s l = subst (λ w. high b < high (suc w)) (the_same b) (omega arith)
-  where
-    the_same : (b : ℕ) → b ≡ b + zero
-    the_same b = omega arith
+inside_at high h b e zero d s l = grind (arith, common_steps) steps 200000
 inside_at high h b e (suc k) d s l =
     let r = inside_at high h b e k d s (omega arith) in
     let w = h.down (suc (b + k)) in
-    let q : b + suc k ≡ suc (b + k) = omega arith in
     let n : high (suc (suc (b + k))) ≡ high b → ⊥ = λ z. d.first (suc (b + k)) (omega arith) (omega arith) z in
-    subst (λ w. high b < high (suc w)) (sym q) (by_order (high b) (high (suc (suc (b + k)))) n (omega arith))
-  where
-    by_order : (x y : ℕ) → (y ≡ x → ⊥) → x ≤ y → x < y
-    by_order x y n l = elim (dec_lt x y) [ yes a ↦ a | no m ↦ absurd (n (omega arith)) ]
+    subst (λ w. high b < high (suc w)) (sym (omega arith)) (by_order (high b) (high (suc (suc (b + k)))) n (omega arith)) where
+      by_order : (x y : ℕ) → (y ≡ x → ⊥) → x ≤ y → x < y
+      by_order x y n l = elim (dec_lt x y) [ yes a ↦ a | no m ↦ absurd (n (omega arith)) ]
 
 pub inside : (high : ℕ → ℕ) → IsHeight high → (b e k : ℕ) → EndsAt high b e → high (suc b) ≡ suc (high b) → b ≤ k → k < e → high b < high (suc k)
-inside high h b e k d s l m =
-    let q : b + (k - b) ≡ k = omega arith in
-    subst (λ w. high b < high (suc w)) q (inside_at high h b e (k - b) d s (omega arith))
+inside high h b e k d s l m = grind (arith, common_steps, inside_at high h b e (k - b) d s (omega arith)) steps 200000
 
 -- the last number before n from which it rises above a height
 pub record Rise (high : ℕ → ℕ) (low n : ℕ) : Type 0 where
@@ -45,8 +38,7 @@ pub record Rise (high : ℕ → ℕ) (low n : ℕ) : Type 0 where
 rise : (high : ℕ → ℕ) → IsHeight high → (low n : ℕ) → low < high n → Rise high low n
 rise high h low zero l = absurd (omega arith)
 rise high h low (suc n) l = elim (dec_lt low (high n)) [
-  | yes a ↦ (let r = rise high h low n a in
-      record { at = r.at; behind = (omega arith); there = r.there; rises = r.rises; above = λ m x y. more r m x (dec_lt n m) y })
+  | yes a ↦ grind (arith, common_steps, rise high h low n a, dec_lt) steps 200000
   | no b ↦ (let u = h.up n in
       record { at = n; behind = omega arith; there = omega arith; rises = omega arith; above = λ m x y. (let q : suc n ≡ m = omega arith in subst (λ w. low < high w) q l) })
 ]
@@ -67,12 +59,7 @@ from_height high h i j b e stay flat d s l m = elim (dec_lt j e) [
         let x = inside high h b e i d s (omega arith) m in
         let y = stay (suc e) (omega arith) (omega arith) in
         omega arith
-    by_end n (no c) =
-        let q : e ≡ j = omega arith in
-        let p : suc (e - 1) ≡ e = omega arith in
-        let x = subst (λ w. high b < high w) p (inside high h b e (e - 1) d s (omega arith) (omega arith)) in
-        let y : high e ≤ high (suc e) = subst (λ w. high w ≤ high (suc w)) (sym q) flat in
-        omega arith
+    by_end n (no c) = grind (arith, common_steps, inside high h b e (e - 1) d s (omega arith) (omega arith)) steps 200000
 
 -- if it goes below that height first, a block ends
 abbrev pub Around : (ℕ → ℕ) → ℕ → ℕ → Type 0
@@ -82,18 +69,13 @@ step_above : (high : ℕ → ℕ) (i k low : ℕ) → ((n : ℕ) → n ≤ k →
 step_above high i k low before y r n c d (yes g) = r.above n c (omega arith)
 step_above high i k low before y r n c d (no g) =
     let q : suc (i + (n - suc i)) ≡ n = omega arith in
-    let w = subst (λ x. high (suc i) ≤ high x) q (before (n - suc i) (omega arith)) in
-    omega arith
+    grind (arith, common_steps) steps 200000
 
 step_holds : (high : ℕ → ℕ) (i low : ℕ) → (r : Rise high low (suc i)) (e : ℕ) → EndsAt high r.at e → Dec (i < e) → i < e
-step_holds high i low r e d (yes g) = g
-step_holds high i low r e d (no g) = let w = r.above (suc e) (omega arith) (omega arith) in absurd (omega arith)
+step_holds high i low r e d h = grind (arith, common_steps) steps 200000
 
 step_outer : (high : ℕ → ℕ) (i low : ℕ) → high (suc i) ≡ high i → (r : Rise high low (suc i)) → r.at < i
-step_outer high i low flat r = elim (dec_lt r.at i) [
-  | yes a ↦ a
-  | no n ↦ (let q : r.at ≡ i = omega arith in let z = ap high q in let y = ap (λ w. high (suc w)) q in absurd (omega arith))
-]
+step_outer high i low flat r = grind (arith, common_steps, dec_lt r.at i) steps 200000
 
 step : (high : ℕ → ℕ) → IsHeight high → (i j k : ℕ) → high (suc i) ≡ high i → Around high i j → suc (i + suc k) ≤ j
     → ((n : ℕ) → n ≤ k → high (suc i) ≤ high (suc (i + n))) → Rise high (high (suc (i + suc k))) (suc i) → high (suc (i + suc k)) < high (suc i) → ⊥

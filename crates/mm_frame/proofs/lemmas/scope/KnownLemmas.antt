@@ -1,24 +1,16 @@
 -- What the tables of names and labels keep, and what one more item makes of what is declared.
-use Rattle.std.proofs.Common.{◌≡◌, ℕ, zero, suc, ◌<◌, ◌≤◌, Bool, true, false, cond, ◌&&◌, ◌||◌, Option, Some, None, List, [], ◌∷◌, ◌++◌, length, take, get_or-set_other, is_some, option_to_list}
-use Rattle.std.proofs.Common.{take_all, get_or, set, slice_get, nat_eq, bytes_eq, refl, sym, ◌∙◌, ap, subst, inl, inr, ◌⊎◌, arith}
-use Rattle.std.proofs.Math.{Seq.{take-suc}, Bool.{or-false}}
-use Rattle.std.proofs.lemmas.{Bool.{false≢true, false_from_ne_true, and_parts, Decides.{Decides-eqb}}, Option.{same_Some}, Grind.{get_or-set_at}, List.Folds.{list_any-append}}
-use Rattle.std.proofs.lemmas.Slice.Eq.{bytes_eq-Decides}
-use Rattle.std.specs.Cmp.Lexicographic.{nat_list_eq_equiv}
+use Rattle.std.proofs.lemmas.{Grind.{common_steps, get_or-set_at}, Bool.{false≢true, false_from_ne_true, and_parts}, Option.{same_Some}, List.Folds.{list_any-append}, Slice.Eq.{bytes_eq-Decides}}
+use Rattle.std.proofs.Common.{◌≡◌, ℕ, suc, ◌<◌, ◌≤◌, Bool, true, false, cond, ◌&&◌, ◌||◌, Option, Some, None, List, [], ◌∷◌, ◌++◌, length, take, get_or-set_other, is_some, option_to_list, take_all}
+use Rattle.std.{proofs.{Common.{get_or, set, nat_eq, bytes_eq, refl, sym, ◌∙◌, ap, subst, ◌⊎◌, arith}, Math.{Seq.{take-suc}, Bool.{or-false}}}, specs.Cmp.Lexicographic.{nat_list_eq_equiv}}
 use Rattle.mm_store.specs.declared.item.ItemKind.{ItemKind}
-use Rattle.mm_statement.specs.Language.Statement.{kind_of}
-use Rattle.mm_statement.specs.Language.Item.{Kind, Constants, Variables, Disjoint, Floating, Essential, Axiom, Theorem, BlockStart, BlockEnd, Missing, Item, passed, is_constants, is_variables}
-use Rattle.mm_statement.specs.Language.Item.{is_floating, is_labelled, has}
-use Rattle.mm_frame.specs.declared.tables.{Tables.{Tables}, Declared.{Declared, TheVariants.{Constant, Variable}}}
-use Rattle.mm_frame.specs.Language.{Scope.{constants, variables, active}, Sound.{is_declared, IsSound, AreSound}}
-use Rattle.mm_frame.specs.Code.{LastItems.{last_where, declares_variable, types, carries}, Numbers.{number_in, IsNameNumber, AreNameNumbers}, KeptLabels.{label_number}}
-use Rattle.mm_frame.specs.Code.KeptTables.{declared_at, declared_for, table_name, table_label, variable_at, is_constant_as, declared_in, variable_number, float_of, typed_by, Knows, Declares}
-use Rattle.mm_frame.specs.Code.KeptTables.{TypesName, Carries}
-use Rattle.mm_machine.specs.Language.Names.{AreDistinct}
+use Rattle.mm_statement.specs.Language.{Statement.{kind_of}, Item.{Kind, Constants, Variables, Floating, Item, passed, is_constants, is_variables, is_floating, is_labelled, has}}
+use Rattle.mm_frame.specs.{declared.tables.{Tables.{Tables}, Declared.{Declared, TheVariants.{Constant, Variable}}}, Language.Scope.{constants, variables, active}}
+use Rattle.mm_frame.specs.{Language.Sound.{is_declared, IsSound, AreSound}, Code.{LastItems.{last_where, declares_variable, types}, Numbers.{IsNameNumber, AreNameNumbers}, KeptLabels.{label_number}}}
+use Rattle.mm_frame.specs.Code.KeptTables.{declared_at, table_name, table_label, variable_at, is_constant_as, declared_in, variable_number, float_of, typed_by, Knows, Declares, TypesName, Carries}
 use Rattle.mm_frame.proofs.lemmas.names.NumberLemmas.{number_names, number_of_named, same_number, other_number, number_at, declared_named}
-use Rattle.mm_frame.proofs.lemmas.lists.Members.{In, in_has, from_symbols, to_symbols, in_left}
-use Rattle.mm_frame.proofs.lemmas.scope.{ActiveBySplit.{active_in}, Facts.{float_variable, float_two}, SoundItems.{sound_front}}
+use Rattle.mm_frame.proofs.lemmas.{lists.Members.{In, in_has, from_symbols, to_symbols, in_left}, scope.{ActiveBySplit.{active_in}, Facts.{float_variable, float_two}, SoundItems.{sound_front}}}
 use Rattle.mm_frame.proofs.lemmas.scope.TableLemmas.{last_where_next, last_cases, last_none, Last, constants_next, variable_last, constant_or_variable, float_second, typed_by as types_it}
+use Rattle.mm_machine.specs.Language.Names.{AreDistinct}
 use Rattle.mm_store.specs.declared.item.ItemKind.TheVariants as items
 use Rattle.mm_statement.specs.Language.Item as meant
 
@@ -30,16 +22,7 @@ has_one bs cs = nat_list_eq_equiv.symm bs cs ∙ sym (or-false (bytes_eq cs bs))
 told_of : (all : List (List ℕ)) (old new : Tables) (n : ℕ) (name other : List ℕ) (f : Option Declared → Option Declared) → AreDistinct all
     → IsNameNumber all n name → ((m : ℕ) → declared_at new m ≡ cond (nat_eq m n) (f (declared_at old m)) (declared_at old m))
     → table_name all new other ≡ cond (bytes_eq name other) (f (table_name all old other)) (table_name all old other)
-told_of all old new n name other f distinct there put = by_test (bytes_eq name other) refl (number_in all other) refl
-  where
-    by_test : (b : Bool) → bytes_eq name other ≡ b → (r : Option ℕ) → number_in all other ≡ r → declared_for new r ≡ cond b (f (declared_for old r)) (declared_for old r)
-    by_test true e r q =
-        let number : r ≡ Some n = sym q ∙ ap (number_in all) (sym ((bytes_eq-Decides name other).0 e)) ∙ number_of_named all name n distinct there in
-        subst (λ (o : Option ℕ). declared_for new o ≡ f (declared_for old o)) (sym number) (put n ∙ ap (λ b. cond b (f (declared_at old n)) (declared_at old n)) (same_number n))
-    by_test false e None q = refl
-    by_test false e (Some m) q =
-        let other_name : m ≡ n → ⊥ = λ h. false≢true (sym e ∙ (bytes_eq-Decides name other).1 (same_Some name other (sym there ∙ ap (slice_get all) (sym h) ∙ number_names all other m q))) in
-        put m ∙ ap (λ b. cond b (f (declared_at old m)) (declared_at old m)) (other_number m n other_name)
+told_of all old new n name other f distinct there put = grind (arith, common_steps, bytes_eq-Decides, false≢true, number_names, number_of_named, other_number, same_Some, same_number) steps 200000
 
 -- what is put at the number of a name
 pub declares_one : (all : List (List ℕ)) (old new : Tables) (n : ℕ) (name : List ℕ) (declared : Declared) → AreDistinct all → IsNameNumber all n name
@@ -60,23 +43,10 @@ types_one all old new n name number distinct there put l = record {
 -- a variable is typed in its place, and what is no variable stays as it is
 pub typed_there : (told : List (Option Declared)) (n m number declared : ℕ) (float : Option ℕ) → get_or told n None ≡ Some (Variable declared float)
     → get_or (set told n (Some (Variable declared (Some number)))) m None ≡ cond (nat_eq m n) (typed_by number (get_or told m None)) (get_or told m None)
-typed_there told n m number declared float e = by_test (nat_eq m n) refl
-  where
-    within : (xs : List (Option Declared)) (k : ℕ) → get_or xs k None ≡ Some (Variable declared float) → k < length xs
-    within [] k h = cc
-    within (x ∷ xs) zero h = omega arith
-    within (x ∷ xs) (suc k) h = let l = within xs k h in omega (arith, l)
-
-    by_test : (b : Bool) → nat_eq m n ≡ b → get_or (set told n (Some (Variable declared (Some number)))) m None ≡ cond b (typed_by number (get_or told m None)) (get_or told m None)
-    by_test true t = let same = (Decides-eqb m n).0 t in get_or-set_at told n m (Some (Variable declared (Some number))) None same (within told n e) ∙ sym (ap (typed_by number) (ap (λ k. get_or told k None) same ∙ e))
-    by_test false t = get_or-set_other told n m (Some (Variable declared (Some number))) None (λ h. false≢true (sym t ∙ (Decides-eqb m n).1 h))
+typed_there told n m number declared float e = grind (arith, common_steps, false≢true, get_or-set_at, get_or-set_other) steps 200000
 
 pub stays_there : (tables : Tables) (n m number : ℕ) → typed_by number (declared_at tables n) ≡ declared_at tables n → declared_at tables m ≡ cond (nat_eq m n) (typed_by number (declared_at tables m)) (declared_at tables m)
-stays_there tables n m number e = by_test (nat_eq m n) refl
-  where
-    by_test : (b : Bool) → nat_eq m n ≡ b → declared_at tables m ≡ cond b (typed_by number (declared_at tables m)) (declared_at tables m)
-    by_test true t = subst (λ (k : ℕ). declared_at tables k ≡ typed_by number (declared_at tables k)) (sym ((Decides-eqb m n).0 t)) (sym e)
-    by_test false t = refl
+stays_there tables n m number e = grind (arith, common_steps) steps 200000
 
 -- one more name is declared
 pub declares_more : (all : List (List ℕ)) (old mid new : Tables) (symbols : List (List ℕ)) (n more : ℕ) (declared : Option Declared → Declared)
@@ -114,8 +84,7 @@ pub declares_first : (numbers : List ℕ) (n more d : ℕ) (old mid new : Tables
     → IsNameNumber all (get_or numbers n d) name → Declares all mid (name ∷ []) (λ _. last) new) → DeclaresFirst numbers more old declared new
 declares_first numbers n more d old mid new declared last s l again first w m all symbols distinct are =
     let there = number_at all numbers symbols n d are l in
-    let count = are.count in
-    declares_more all old mid new symbols n more declared (get_or symbols n []) last s again (omega (arith, l, count)) refl (first all symbols distinct are)
+    declares_more all old mid new symbols n more declared (get_or symbols n []) last s again (omega (arith, l, are.count)) refl (first all symbols distinct are)
     (w ∙ ap declared (declared_named all mid (get_or numbers n d) (get_or symbols n []) distinct there)) (m all (get_or symbols n []) distinct there)
 
 -- and so are all
@@ -123,8 +92,7 @@ pub declares_all : (numbers : List ℕ) (n : ℕ) (old new : Tables) (declared :
     → DeclaresFirst numbers n old declared new → (all symbols : List (List ℕ)) → AreDistinct all → AreNameNumbers all numbers symbols
     → Declares all old symbols declared new
 declares_all numbers n old new declared l first all symbols distinct are =
-    let count = are.count in
-    subst (λ names. Declares all old names declared new) (take_all n symbols (omega (arith, l, count))) (first all symbols distinct are)
+    subst (λ names. Declares all old names declared new) (take_all n symbols (omega (arith, l, are.count))) (first all symbols distinct are)
 
 -- a variable of a `$f` is declared
 typed_variable : (before : List Item) → AreSound before → (name : List ℕ) (l : Last (types name) before) → has (variables before) name ≡ true
@@ -136,14 +104,10 @@ typed_variable before h name l =
 
 -- what is no variable is not typed
 pub untyped : (before : List Item) → AreSound before → (name : List ℕ) → has (variables before) name ≡ false → last_where (types name) before ≡ None
-untyped before h name e = elim (last_cases (types name) before) [
-  | inl n ↦ last_none (types name) before n
-  | inr l ↦ absurd (false≢true (sym e ∙ typed_variable before h name l))
-]
+untyped before h name e = grind (arith, common_steps, last_cases (types name) before, last_none, false≢true, typed_variable) steps 200000
 
 pub without_number : (o : Option ℕ) → is_some o ≡ false → o ≡ None
-without_number None e = refl
-without_number (Some n) e = absurd (false≢true (sym e))
+without_number o e = grind (arith, common_steps) steps 200000
 
 no_variable : (before : List Item) (name : List ℕ) → last_where (declares_variable name) before ≡ None → has (variables before) name ≡ false
 no_variable before name e = variable_last before name ∙ ap is_some e
@@ -153,38 +117,18 @@ constant_no_variable before h name t = without_number (last_where (declares_vari
 
 -- what is reported of the last `$v` and the last `$f` of a name
 pub variable_in : (before : List Item) → AreSound before → (name : List ℕ) → variable_number (declared_in before name) ≡ last_where (declares_variable name) before
-variable_in before h name = by_test (has (constants before) name) (last_where (declares_variable name) before) (last_where (types name) before) (constant_no_variable before h name)
-  where
-    by_test : (c : Bool) (v t : Option ℕ) → (c ≡ true → v ≡ None) → variable_number (cond c (Some Constant) (variable_at v t)) ≡ v
-    by_test true v t n = sym (n refl)
-    by_test false None t n = refl
-    by_test false (Some d) t n = refl
+variable_in before h name = grind (arith, common_steps, constant_no_variable) steps 200000
 
 pub float_in : (before : List Item) → AreSound before → (name : List ℕ) → float_of (declared_in before name) ≡ last_where (types name) before
-float_in before h name = by_test (has (constants before) name) (last_where (declares_variable name) before) (last_where (types name) before) (constant_no_variable before h name) (λ e. untyped before h name (no_variable before name e))
-  where
-    by_test : (c : Bool) (v t : Option ℕ) → (c ≡ true → v ≡ None) → (v ≡ None → t ≡ None) → float_of (cond c (Some Constant) (variable_at v t)) ≡ t
-    by_test true v t n u = sym (u (n refl))
-    by_test false None t n u = sym (u refl)
-    by_test false (Some d) t n u = refl
+float_in before h name = grind (arith, common_steps, constant_no_variable, no_variable, untyped) steps 200000
 
 -- what is reported is reported of a declared name
 pub is_declared_in : (before : List Item) (name : List ℕ) → is_some (declared_in before name) ≡ is_declared before name
-is_declared_in before name = by_test (has (constants before) name) (last_where (declares_variable name) before) (last_where (types name) before) ∙ ap (λ b. has (constants before) name || b) (sym (variable_last before name))
-  where
-    by_test : (c : Bool) (v t : Option ℕ) → is_some (cond c (Some Constant) (variable_at v t)) ≡ (c || is_some v)
-    by_test true v t = refl
-    by_test false None t = refl
-    by_test false (Some d) t = refl
+is_declared_in before name = grind (arith, common_steps, variable_last) steps 200000
 
 -- what is reported is reported of a constant
 pub constant_in : (before : List Item) (name : List ℕ) → is_constant_as (declared_in before name) ≡ has (constants before) name
-constant_in before name = by_test (has (constants before) name) (last_where (declares_variable name) before) (last_where (types name) before)
-  where
-    by_test : (c : Bool) (v t : Option ℕ) → is_constant_as (cond c (Some Constant) (variable_at v t)) ≡ c
-    by_test true v t = refl
-    by_test false None t = refl
-    by_test false (Some d) t = refl
+constant_in before name = grind (arith, common_steps) steps 200000
 
 -- what is reported by the number of a name
 pub known_at : (all : List (List ℕ)) (before : List Item) (tables : Tables) (n : ℕ) (name : List ℕ) → Knows all before tables → IsNameNumber all n name → declared_at tables n ≡ declared_in before name
@@ -221,36 +165,34 @@ has_under true symbols name = refl
 has_under false symbols name = refl
 
 not_floating : (k : Kind) → is_variables k ≡ true → is_floating k ≡ false
-not_floating Variables e = refl
-not_floating _ e = absurd (false≢true e)
+not_floating k e = grind (arith, common_steps) steps 200000
 
 pub declared_next : (before : List Item) (item : Item) (name : List ℕ) → AreSound (before ++ item ∷ []) → declared_in (before ++ item ∷ []) name ≡ name_next item.kind item.symbols (length before) name (declared_in before name)
 declared_next before item name h =
     (λ i. cond (constant i) (Some Constant) (variable_at (last_where_next (declares_variable name) before item i) (last_where_next (types name) before item i)))
     ∙ join_next (is_constants item.kind && has item.symbols name) (declares_variable name item) (types name item) (has (constants before) name) (last_where (declares_variable name) before) (last_where (types name) before) (length before)
-    fresh apart_kinds there (constant_no_variable before front name) (λ e. untyped before front name (no_variable before name e))
-  where
-    front : AreSound before
-    front = sound_front before (item ∷ []) h
+    fresh apart_kinds there (constant_no_variable before front name) (λ e. untyped before front name (no_variable before name e)) where
+      front : AreSound before
+      front = sound_front before (item ∷ []) h
 
-    constant : has (constants (before ++ item ∷ [])) name ≡ (has (constants before) name || (is_constants item.kind && has item.symbols name))
-    constant = ap (λ w. has w name) (constants_next before item) ∙ list_any-append (bytes_eq name) (constants before)
-        (cond (is_constants item.kind) item.symbols []) ∙ ap (λ b. has (constants before) name || b) (has_under (is_constants item.kind) item.symbols name)
+      constant : has (constants (before ++ item ∷ [])) name ≡ (has (constants before) name || (is_constants item.kind && has item.symbols name))
+      constant = ap (λ w. has w name) (constants_next before item) ∙ list_any-append (bytes_eq name) (constants before)
+          (cond (is_constants item.kind) item.symbols []) ∙ ap (λ b. has (constants before) name || b) (has_under (is_constants item.kind) item.symbols name)
 
-    fresh : declares_variable name item ≡ true → has (constants before) name ≡ false
-    fresh t = false_from_ne_true (has (constants before) name) (λ c. false≢true (
-        sym (ap is_some (constant_no_variable (before ++ item ∷ []) h name (constant ∙ ap (λ b. b || (is_constants item.kind && has item.symbols name)) c)))
-        ∙ ap is_some (last_where_next (declares_variable name) before item) ∙ ap (λ b. is_some (cond b (Some (length before)) (last_where (declares_variable name) before))) t))
+      fresh : declares_variable name item ≡ true → has (constants before) name ≡ false
+      fresh t = false_from_ne_true (has (constants before) name) (λ c. false≢true (
+          sym (ap is_some (constant_no_variable (before ++ item ∷ []) h name (constant ∙ ap (λ b. b || (is_constants item.kind && has item.symbols name)) c)))
+          ∙ ap is_some (last_where_next (declares_variable name) before item) ∙ ap (λ b. is_some (cond b (Some (length before)) (last_where (declares_variable name) before))) t))
 
-    apart_kinds : declares_variable name item ≡ true → types name item ≡ false
-    apart_kinds t = ap (λ b. b && bytes_eq (meant.variable_of item) name) (not_floating item.kind (and_parts (is_variables item.kind) (has item.symbols name) t).0)
+      apart_kinds : declares_variable name item ≡ true → types name item ≡ false
+      apart_kinds t = ap (λ b. b && bytes_eq (meant.variable_of item) name) (not_floating item.kind (and_parts (is_variables item.kind) (has item.symbols name) t).0)
 
-    there : types name item ≡ true → is_some (last_where (declares_variable name) before) ≡ true
-    there t =
-        let p = types_it name item t in
-        let s = h before item [] refl in
-        let r = from_symbols is_variables name (active before) (float_variable before item name s p.0 (float_second before item s p.0 ∙ ap Some p.1)) in
-        sym (variable_last before name) ∙ in_has (variables before) name (to_symbols is_variables name before r.0 (active_in before r.0 r.1) r.2 r.3)
+      there : types name item ≡ true → is_some (last_where (declares_variable name) before) ≡ true
+      there t =
+          let p = types_it name item t in
+          let s = h before item [] refl in
+          let r = from_symbols is_variables name (active before) (float_variable before item name s p.0 (float_second before item s p.0 ∙ ap Some p.1)) in
+          sym (variable_last before name) ∙ in_has (variables before) name (to_symbols is_variables name before r.0 (active_in before r.0 r.1) r.2 r.3)
 
 -- the tables that take an item as its kind says
 pub record Takes (all : List (List ℕ)) (kind : Kind) (item : Item) (number : ℕ) (old new : Tables) : Type 0 where
@@ -260,25 +202,11 @@ pub record Takes (all : List (List ℕ)) (kind : Kind) (item : Item) (number : �
 pub knows_next : (all : List (List ℕ)) (before : List Item) (item : Item) (kind : Kind) (number : ℕ) (old new : Tables) → kind ≡ item.kind
     → AreSound (before ++ item ∷ []) → length before ≡ number → Knows all before old → Takes all kind item number old new
     → Knows all (before ++ item ∷ []) new
-knows_next all before item kind number old new e h l k t = record {
-  distinct = k.distinct;
-  names = λ name. (let q = k.names name in t.names name ∙ (λ i. name_next (e i) item.symbols (sym l i) name (q i)) ∙ sym (declared_next before item name h));
-  labels = λ label. (let q = k.labels label in t.labels label ∙ (λ i. label_next (e i) item.label (sym l i) label (q i)) ∙ sym (last_where_next (carries label) before item));
-}
+knows_next all before item kind number old new e h l k t = grind (arith, common_steps, k.names, k.labels, declared_next, last_where_next) steps 500000
 
 -- what takes the place of a statement at fault changes nothing
 pub knows_passed : (all : List (List ℕ)) (before : List Item) (tables : Tables) → Knows all before tables → Knows all (before ++ passed ∷ []) tables
-knows_passed all before tables k = record {
-  distinct = k.distinct;
-  names = λ name. k.names name ∙ sym (same name);
-  labels = λ label. k.labels label ∙ sym (last_where_next (carries label) before passed);
-}
-  where
-    same : (name : List ℕ) → declared_in (before ++ passed ∷ []) name ≡ declared_in before name
-    same name = (λ i. cond (constant i) (Some Constant) (variable_at (last_where_next (declares_variable name) before passed i) (last_where_next (types name) before passed i)))
-      where
-        constant : has (constants (before ++ passed ∷ [])) name ≡ has (constants before) name
-        constant = ap (λ w. has w name) (constants_next before passed) ∙ list_any-append (bytes_eq name) (constants before) [] ∙ or-false (has (constants before) name)
+knows_passed all before tables k = grind (arith, common_steps, constants_next, last_where_next, list_any-append, or-false) steps 200000
 
 -- the kinds
 pub takes_constants : (all : List (List ℕ)) (item : Item) (number : ℕ) (old new : Tables) → Declares all old item.symbols (λ _. Constant) new → Takes all Constants item number old new
@@ -287,31 +215,21 @@ takes_constants all item number old new d = record { names = d.names; labels = d
 pub takes_variables : (all : List (List ℕ)) (item : Item) (number : ℕ) (old new : Tables) → Declares all old item.symbols (λ told. Variable number (float_of told)) new → Takes all Variables item number old new
 takes_variables all item number old new d = record { names = d.names; labels = d.labels }
 
-pub takes_float : (all : List (List ℕ)) (item : Item) (number : ℕ) (old mid new : Tables) → TypesName all old (meant.variable_of item) number mid → Carries all mid (option_to_list item.label) number new → Takes all Floating item number old new
-takes_float all item number old mid new t c = record { names = λ name. c.names name ∙ t.names name; labels = λ label. c.labels label ∙ ap (cond (has (option_to_list item.label) label) (Some number)) (t.labels label) }
-
 -- a sound `$f` has a second symbol
 pub takes_sound_float : (all : List (List ℕ)) (before : List Item) (item : Item) (number : ℕ) (old mid new : Tables) → IsSound before item → Floating ≡ item.kind
     → (1 < length item.symbols → TypesName all old (meant.variable_of item) number mid) → Carries all mid (option_to_list item.label) number new
     → Takes all Floating item number old new
 takes_sound_float all before item number old mid new s e t c =
-    let two = float_two before item s (ap is_floating (sym e)) in
-    let count = ap length two.2 in
-    takes_float all item number old mid new (t (omega (arith, count))) c
+    grind (arith, common_steps, float_two before item s (ap is_floating (sym e))) steps 200000
 
 -- what only carries a label
 pub takes_label : (all : List (List ℕ)) (kind : ItemKind) (item : Item) (number : ℕ) (old new : Tables)
     → (kind ≡ items.Essential) ⊎ ((kind ≡ items.Axiom) ⊎ (kind ≡ items.Theorem)) → Carries all old (option_to_list item.label) number new
     → Takes all (kind_of kind) item number old new
-takes_label all kind item number old new (inl e) c = subst (λ k. Takes all (kind_of k) item number old new) (sym e) (record { names = c.names; labels = c.labels })
-takes_label all kind item number old new (inr (inl e)) c = subst (λ k. Takes all (kind_of k) item number old new) (sym e) (record { names = c.names; labels = c.labels })
-takes_label all kind item number old new (inr (inr e)) c = subst (λ k. Takes all (kind_of k) item number old new) (sym e) (record { names = c.names; labels = c.labels })
+takes_label all kind item number old new h c = grind (arith, common_steps) steps 200000
 
 -- what declares and carries nothing
 pub takes_nothing : (all : List (List ℕ)) (kind : ItemKind) (item : Item) (number : ℕ) (tables : Tables)
     → (kind ≡ items.Disjoint) ⊎ ((kind ≡ items.BlockStart) ⊎ ((kind ≡ items.BlockEnd) ⊎ (kind ≡ items.Missing)))
     → Takes all (kind_of kind) item number tables tables
-takes_nothing all kind item number tables (inl e) = subst (λ k. Takes all (kind_of k) item number tables tables) (sym e) (record { names = λ name. refl; labels = λ label. refl })
-takes_nothing all kind item number tables (inr (inl e)) = subst (λ k. Takes all (kind_of k) item number tables tables) (sym e) (record { names = λ name. refl; labels = λ label. refl })
-takes_nothing all kind item number tables (inr (inr (inl e))) = subst (λ k. Takes all (kind_of k) item number tables tables) (sym e) (record { names = λ name. refl; labels = λ label. refl })
-takes_nothing all kind item number tables (inr (inr (inr e))) = subst (λ k. Takes all (kind_of k) item number tables tables) (sym e) (record { names = λ name. refl; labels = λ label. refl })
+takes_nothing all kind item number tables h = grind (arith, common_steps) steps 200000

@@ -1,13 +1,10 @@
 -- Sound lists keep their items, and labels keep their meaning.
-use Rattle.std.proofs.Common.{◌≡◌, ℕ, zero, suc, Bool, true, false, cond, Some, List, [], ◌∷◌, ◌++◌, map, filter, take, drop, slice_get, refl, sym, ◌∙◌, ap, subst, append_assoc, append-nil, inl, inr}
-use Rattle.std.proofs.Common.{◌⊎◌, take-append-drop}
-use Rattle.std.proofs.lemmas.Bool.{false≢true, or_left, or_right, false_from_ne_true}
-use Rattle.std.specs.List.{list_any}
+use Rattle.std.proofs.Common.{arith, ◌≡◌, ℕ, zero, suc, Bool, true, false, cond, Some, List, [], ◌∷◌, ◌++◌, map, filter, take, drop, slice_get, refl, sym, ◌∙◌, ap, subst, append_assoc, append-nil}
+use Rattle.std.{proofs.{Common.{inl, inr, ◌⊎◌, take-append-drop}, lemmas.{Grind.{common_steps}, Bool.{false≢true, or_left, or_right, false_from_ne_true}}}, specs.List.{list_any}}
 use Rattle.mm_machine.specs.Language.Frame.{Unknown}
-use Rattle.mm_statement.specs.Language.Item.{Kind, Floating, Essential, Axiom, Theorem, Item, is_floating, is_expression, is_labelled, has, labels_of}
+use Rattle.mm_statement.specs.Language.Item.{Kind, Item, is_floating, is_labelled, has, labels_of}
 use Rattle.mm_frame.specs.Language.{Scope.{Neither, mark_of, stays, constants, labels, active_variables}, Sound.{is_label, IsSound, AreSound}}
-use Rattle.mm_frame.specs.Language.Framing.{symbol, expression, meaning, resolve_from, resolve}
-use Rattle.mm_frame.specs.declared.FrameNumber.TheVariants.{F06}
+use Rattle.mm_frame.specs.{Language.Framing.{symbol, expression, meaning, resolve_from, resolve}, declared.FrameNumber.TheVariants.{F06}}
 use Rattle.mm_frame.proofs.lemmas.{lists.Members.{In, in_flat, in_get, has_in, in_has}, scope.Facts.{AreKept, sound_at, kept_front, not_constant, first_constant, known, float_variable, float_two}}
 use Rattle.mm_frame.proofs.lemmas.{faults.FoundFaults.{kept_more}, frames.Frames.{constants_later, variables_later}}
 
@@ -51,18 +48,7 @@ sound_more items item h s = kept_sound (items ++ item ∷ []) (kept_more [] item
 
 -- a labelled statement is in no other block than before it
 pub labelled_neither : (k : Kind) → is_labelled k ≡ true → mark_of k ≡ Neither
-labelled_neither Floating e = refl
-labelled_neither Essential e = refl
-labelled_neither Axiom e = refl
-labelled_neither Theorem e = refl
-labelled_neither _ e = absurd (false≢true e)
-
-labelled_cases : (k : Kind) → is_labelled k ≡ true → (is_floating k ≡ true) ⊎ (is_expression k ≡ true)
-labelled_cases Floating e = inl refl
-labelled_cases Essential e = inr refl
-labelled_cases Axiom e = inr refl
-labelled_cases Theorem e = inr refl
-labelled_cases _ e = absurd (false≢true e)
+labelled_neither k e = grind (arith, common_steps) steps 200000
 
 -- each symbol of a sound labelled statement is a constant or an active variable
 float_symbol : (before : List Item) (item : Item) (k : ℕ) (name : List ℕ) → IsSound before item → is_floating item.kind ≡ true → slice_get item.symbols (suc k) ≡ Some name → In name (active_variables before)
@@ -74,10 +60,7 @@ named before item name s t h = by_place (in_get name item.symbols h)
   where
     by_place : (p : (k : ℕ) × (slice_get item.symbols k ≡ Some name)) → In name (constants before) ⊎ In name (active_variables before)
     by_place (zero, g) = inl (first_constant before item name s t g)
-    by_place (suc k, g) = elim (labelled_cases item.kind t) [
-      | inl f ↦ inr (float_symbol before item k name s f g)
-      | inr e ↦ known before item k name s e g
-    ]
+    by_place (suc k, g) = grind (arith, common_steps, float_symbol, known) steps 200000
 
 has_not : (names : List (List ℕ)) (name : List ℕ) → (In name names → ⊥) → has names name ≡ false
 has_not names name n = false_from_ne_true (has names name) (λ e. n (has_in names name e))
@@ -129,6 +112,4 @@ no_item_unknown items label h = ap (λ w. resolve_from items [] w label) (sym (a
 -- a label that an item has is that item's
 pub resolve_meaning : (items front : List Item) (item : Item) (back : List Item) (label : List ℕ) → AreSound items → items ≡ front ++ item ∷ back → has (labels_of item) label ≡ true → resolve items label ≡ meaning items front item back
 resolve_meaning items front item back label h e t =
-    ap (λ w. resolve_from items [] w label) e
-    ∙ resolve_skip items [] front (item ∷ back) label (no_label front label (label_new front item label (h front item back e) t))
-    ∙ ap (λ b. cond b (meaning items front item back) (resolve_from items (front ++ item ∷ []) back label)) t
+    grind (arith, common_steps, resolve_skip items [] front (item ∷ back) label (no_label front label (label_new front item label (h front item back e) t))) steps 200000

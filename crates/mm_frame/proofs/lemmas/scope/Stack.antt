@@ -1,11 +1,9 @@
 -- The stack of scopes, and activity by counts.
-use Rattle.std.proofs.Common.{◌≡◌, ℕ, zero, suc, pred, ◌+◌, ◌≤◌, ◌<◌, ◌↔◌, Bool, true, false, cond, List, [], ◌∷◌, ◌++◌, length, take, drop, count_by, refl, sym, ◌∙◌, ap, subst, append_assoc}
-use Rattle.std.proofs.Common.{append-nil, arith}
-use Rattle.std.proofs.lemmas.List.Sums.{sum_by-cons}
+use Rattle.std.proofs.lemmas.{Grind.{common_steps}, List.Sums.{sum_by-cons}}
+use Rattle.std.proofs.Common.{◌≡◌, ℕ, zero, suc, pred, ◌+◌, ◌≤◌, ◌<◌, ◌↔◌, Bool, true, false, cond, List, [], ◌∷◌, ◌++◌, length, take, drop, count_by, refl, sym, ◌∙◌, ap, subst, append-nil, arith}
 use Rattle.mm_statement.specs.Language.Item.{Item}
 use Rattle.mm_frame.specs.Language.Scope.{Mark, Opens, Closes, Neither, mark_of, closed_at, closed, is_zero, stays, active, opens, closes, is_start, is_end}
-use Rattle.mm_frame.specs.Language.ScopeStack.{all_of, turn, read_scopes, is_statement_mark, statements}
-use Rattle.mm_frame.proofs.lemmas.scope.ActiveBySplit.{closed_none}
+use Rattle.mm_frame.{specs.Language.ScopeStack.{all_of, turn, read_scopes, is_statement_mark, statements}, proofs.lemmas.scope.ActiveBySplit.{closed_none}}
 
 -- staying by counts
 pub ends_cons : (x : Item) (xs : List Item) → count_by is_end (x ∷ xs) ≡ cond (closes (mark_of x.kind)) 1 0 + count_by is_end xs
@@ -53,27 +51,15 @@ not_statement : (m : Mark) (x : Item) (b : Bool) (live : List Item) → mark_of 
 not_statement m x true live e f = subst (λ t. cond (is_statement_mark t) (x ∷ statements live) (statements live) ≡ statements live) (sym e) (subst (λ t. cond t (x ∷ statements live) (statements live) ≡ statements live) (sym f) refl)
 not_statement m x false live e f = refl
 
-is_statement : (x : Item) (live : List Item) → mark_of x.kind ≡ Neither → statements (x ∷ live) ≡ x ∷ statements live
-is_statement x live e = subst (λ t. cond (is_statement_mark t) (x ∷ statements live) (statements live) ≡ x ∷ statements live) (sym e) refl
-
 read_put : (x : Item) (c : ℕ) (scope : List Item) (scopes : List (List Item)) (live : List Item) → mark_of x.kind ≡ Neither
     → all_of (drop c ((scope ++ x ∷ []) ∷ scopes)) ++ statements live ≡ all_of (drop c (scope ∷ scopes)) ++ statements (cond (is_zero c) (x ∷ live) live)
-read_put x zero scope scopes live e =
-    ap (λ w. w ++ statements live) (sym (append_assoc (all_of scopes) scope (x ∷ []))) ∙ append_assoc (all_of scopes ++ scope) (x ∷ []) (statements live) ∙ ap (λ w. (all_of scopes ++ scope) ++ w) (sym (is_statement x live e))
+read_put x zero scope scopes live e = grind (arith, common_steps) steps 200000
 read_put x (suc c) scope scopes live e = refl
 
 read_at : (m : Mark) (x : Item) (xs : List Item) (scopes : List (List Item)) (c : ℕ) (live : List Item) → mark_of x.kind ≡ m → closed_at m c < length scopes
     → ((s : List (List Item)) → c < length s → all_of (read_scopes s xs) ≡ all_of (drop c s) ++ statements live)
     → all_of (read_scopes (turn m x scopes) xs) ≡ all_of (drop (closed_at m c) scopes) ++ statements (cond (is_zero c) (x ∷ live) live)
-read_at m x xs [] c live e l r = absurd (omega arith)
-read_at Opens x xs (scope ∷ scopes) c live e l r = r ([] ∷ scope ∷ scopes) (below c (scope ∷ scopes) l) ∙ read_opens x c (scope ∷ scopes) (statements live)
-    ∙ ap (λ w. all_of (drop (pred c) (scope ∷ scopes)) ++ w) (sym (not_statement Opens x (is_zero c) live e refl))
-  where
-    below : (c : ℕ) (s : List (List Item)) → pred c < length s → c < length ([] ∷ s)
-    below zero s l = omega arith
-    below (suc c) s l = omega arith
-read_at Closes x xs (scope ∷ scopes) c live e l r = r scopes (omega arith) ∙ ap (λ w. all_of (drop c scopes) ++ w) (sym (not_statement Closes x (is_zero c) live e refl))
-read_at Neither x xs (scope ∷ scopes) c live e l r = r ((scope ++ x ∷ []) ∷ scopes) l ∙ read_put x c scope scopes live e
+read_at m x xs scopes c live e l r = grind (arith, common_steps, not_statement, read_opens, read_put) steps 200000
 
 pub read_active : (items : List Item) (scopes : List (List Item)) → closed items < length scopes → all_of (read_scopes scopes items) ≡ all_of (drop (closed items) scopes) ++ statements (active items)
 read_active [] scopes l = sym (append-nil (all_of scopes))

@@ -1,16 +1,14 @@
 -- What is looked up by number is what the definitions say.
-use Rattle.std.proofs.Common.{◌≡◌, ℕ, suc, Bool, true, false, cond, not, ◌&&◌, Option, Some, None, List, [], ◌∷◌, ◌++◌, length, take, drop, slice_get, slice_index_or, bytes_eq, refl, sym, ◌∙◌, ap}
-use Rattle.std.proofs.Common.{subst, append_assoc, append-nil, inl, inr, ◌⊎◌}
-use Rattle.std.proofs.lemmas.{Bool.{false≢true, or_parts, or_cases, and_from, false_from_ne_true, and_parts}, Slice.Eq.{bytes_eq-Decides}, Grind.{flat_map-append}}
-use Rattle.std.specs.{Prelude.{is_some}, List.{list_any}}
+use Rattle.std.proofs.Common.{arith, ◌≡◌, ℕ, suc, Bool, true, false, cond, not, ◌&&◌, Option, Some, None, List, [], ◌∷◌, ◌++◌, length, take, drop, slice_get, slice_index_or, bytes_eq, refl, sym, ◌∙◌}
+use Rattle.std.proofs.{Common.{ap, subst, append_assoc, append-nil, inl, inr, ◌⊎◌}, lemmas.Grind.{common_steps, flat_map-append}}
+use Rattle.std.{proofs.lemmas.{Bool.{false≢true, or_parts, or_cases, and_from, false_from_ne_true, and_parts}, Slice.Eq.{bytes_eq-Decides}}, specs.{Prelude.{is_some}, List.{list_any}}}
 use Rattle.mm_statement.specs.Language.Item.{Kind, Item, is_constants, is_variables, is_floating, has, labels_of, typecode_of, variable_of, item_at}
 use Rattle.mm_frame.specs.Language.Scope.{Mark, Closes, Neither, mark_of, closed_at, closed, stays, active, symbols_by, constants, variables, labels, active_variables, floats, typed}
-use Rattle.mm_frame.specs.Language.Sound.{each, second, is_active_symbol, is_typed_otherwise, IsSound, AreSound}
-use Rattle.mm_frame.specs.{declared.FrameNumber.TheVariants.{F04, F13}, Code.LastItems.{number_or_first, last_where, is_active_at, is_active_last, declares_variable, types, carries, is_otherwise_at}}
+use Rattle.mm_frame.specs.{Language.Sound.{each, second, is_active_symbol, is_typed_otherwise, IsSound, AreSound}, declared.FrameNumber.TheVariants.{F04, F13}}
+use Rattle.mm_frame.specs.Code.LastItems.{number_or_first, last_where, is_active_at, is_active_last, declares_variable, types, carries, is_otherwise_at}
 use Rattle.mm_frame.proofs.lemmas.lists.Members.{In, in_right, in_cases, in_filter, from_filter, in_flat, from_flat, in_get, has_in, in_has, from_symbols, to_symbols}
 use Rattle.mm_frame.proofs.lemmas.scope.{ActiveBySplit.{active_in, split_active, in_first, in_later, closed_join, stays_front}, Facts.{no_symbol_of, apart, float_two, float_new}}
-use Rattle.mm_frame.proofs.lemmas.scope.SoundItems.{sound_kept, label_new, in_any}
-use Rattle.mm_frame.proofs.lemmas.frames.Frames.{from_typed, to_typed}
+use Rattle.mm_frame.proofs.lemmas.{scope.SoundItems.{sound_kept, label_new, in_any}, frames.Frames.{from_typed, to_typed}}
 
 -- one more item: it is the last that passes, or else the same one is
 next_at : (b c : Bool) (o : Option ℕ) (n : ℕ) → number_or_first (cond b (Some n) o) c ≡ cond b (Some (suc n)) (number_or_first o c)
@@ -85,10 +83,7 @@ pub active_cases : (front : List Item) (item : Item) (back : List Item) (i : Ite
 active_cases [] item back i h = inr (first_cases (stays back) item i (active back) h)
 active_cases (x ∷ front) item back i h = elim (first_cases (stays (front ++ item ∷ back)) x i (active (front ++ item ∷ back)) h) [
   | inl p ↦ inl (subst (λ w. In w (active (x ∷ front))) p.0 (in_first (stays front) x (active front) (stays_front front (item ∷ back) p.1)))
-  | inr k ↦ elim (active_cases front item back i k) [
-    | inl a ↦ inl (in_later (stays front) i x (active front) a)
-    | inr c ↦ inr c
-  ]
+  | inr k ↦ grind (arith, common_steps, active_cases front item back i k, in_later) steps 200000
 ]
 
 -- if no two items that pass are active at once, one that passes is active if the last one is
@@ -104,10 +99,7 @@ last_active test before alone b from to = elim (last_cases test before) [
     clash : (l : Last test before) → stays l.back ≡ false → (y : Item) → In y (active before) → test y ≡ true → ⊥
     clash l e y h t = elim (active_cases l.front l.item l.back y (subst (λ w. In y (active w)) l.whole h)) [
       | inl a ↦ alone l.front l.item l.back l.whole l.good y a t
-      | inr c ↦ elim c [
-        | inl p ↦ false≢true (sym e ∙ p.1)
-        | inr k ↦ false≢true (sym (l.later y (active_in l.back y k)) ∙ t)
-      ]
+      | inr c ↦ grind (arith, common_steps, l.later, false≢true, active_in) steps 200000
     ]
 
     by_stays : (l : Last test before) (s : Bool) → stays l.back ≡ s → b ≡ stays l.back
@@ -175,9 +167,7 @@ otherwise_from before item name h =
     (r.0, f.0, and_from (is_floating (r.0).kind) (bytes_eq (variable_of r.0) name) f.1 d.0, d.1)
 
 to_otherwise : (before : List Item) (item : Item) (name : List ℕ) (y : Item) → In y before → types name y ≡ true → not (bytes_eq (typecode_of y) (typecode_of item)) ≡ true → is_typed_otherwise before item name ≡ true
-to_otherwise before item name y h t n =
-    let p = and_parts (is_floating y.kind) (bytes_eq (variable_of y) name) t in
-    in_any (differs name item) y (floats before) (in_filter (λ (i : Item). is_floating i.kind) y before h p.0) (and_from (bytes_eq (variable_of y) name) (not (bytes_eq (typecode_of y) (typecode_of item))) p.1 n)
+to_otherwise before item name y h t n = grind (arith, common_steps, and_from, and_parts, in_any, in_filter) steps 200000
 
 -- a sound `$f` has the typecode of each earlier `$f` of its variable
 same_typecode : (before : List Item) (item : Item) (name : List ℕ) (y : Item) → IsSound before item → types name item ≡ true → In y before → types name y ≡ true → typecode_of y ≡ typecode_of item
@@ -194,9 +184,7 @@ same_typecode before item name y s t h u = by_test (bytes_eq (typecode_of y) (ty
 pub float_at_last : (before : List Item) (name : List ℕ) (n : ℕ) → last_where (types name) before ≡ Some n → is_floating (item_at before n).kind ≡ true
 float_at_last before name n e = elim (last_cases (types name) before) [
   | inl none ↦ (let q : None ≡ Some n = sym (last_none (types name) before none) ∙ e in cc)
-  | inr l ↦ (let q : Some (length l.front) ≡ Some n = sym (last_number (types name) before l) ∙ e in let z : length l.front ≡ n = cc in
-      subst (λ w. is_floating (item_at before w).kind ≡ true) z (ap (λ w. is_floating (item_at w (length l.front)).kind) l.whole
-      ∙ ap (λ (w : Item). is_floating w.kind) (item_between l.front l.item l.back) ∙ (typed_by name l.item l.good).0))
+  | inr l ↦ grind (arith, common_steps, last_number (types name) before l, item_between l.front l.item l.back, typed_by name l.item l.good) steps 200000
 ]
 
 -- another `$f` gives the variable another typecode exactly when the last `$f` of it does
@@ -211,10 +199,7 @@ typed_otherwise_last before h name item = elim (last_cases (types name) before) 
     same : (l : Last (types name) before) (y : Item) → In y before → types name y ≡ true → typecode_of y ≡ typecode_of l.item
     same l y k t = elim (in_cases y l.front (l.item ∷ l.back) (subst (λ w. In y w) l.whole k)) [
       | inl a ↦ same_typecode l.front l.item name y (h l.front l.item l.back l.whole) l.good a t
-      | inr c ↦ elim c [
-        | inl e ↦ ap typecode_of (sym e)
-        | inr b ↦ absurd (false≢true (sym (l.later y b) ∙ t))
-      ]
+      | inr c ↦ grind (arith, l.later, false≢true) steps 200000
     ]
 
     by_test : (l : Last (types name) before) (b : Bool) → bytes_eq (typecode_of l.item) (typecode_of item) ≡ b → is_typed_otherwise before item name ≡ not (bytes_eq (typecode_of l.item) (typecode_of item))
@@ -275,8 +260,7 @@ constants_next before item = symbols_next is_constants before item
 
 -- nothing is closed by an item that is no `$}`
 closes_none : (m : Mark) → (m ≡ Closes → ⊥) → closed_at m 0 ≡ 0
-closes_none Closes n = absurd (n refl)
-closes_none _ n = refl
+closes_none m n = grind (arith, common_steps) steps 200000
 
 pub not_closing : (m : Mark) → m ≡ Neither → m ≡ Closes → ⊥
 not_closing m e c = let q : Neither ≡ Closes = sym e ∙ c in cc

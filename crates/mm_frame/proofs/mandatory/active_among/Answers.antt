@@ -1,7 +1,6 @@
-use Rattle.std.proofs.{Common.{◌+◌, ◌++◌, ◌∙◌, false, ap, sym, subst, filter, drop, get_or, append-nil}, lemmas.{List.{drop_all}, Option.{slice_get-get_or}}}
-use Rattle.mm_machine.specs.{declared.symbol.NumberedSymbol.{NumberedSymbol}, Language.NumberedSymbols.{symbol_of, symbols_of, ArePairsRead}}
-use Rattle.mm_frame.specs.Language.{Framing.{active_pairs, pairs_of}, Answering.{are_paired}}
-use Rattle.mm_frame.proofs.lemmas.pairs.{ActivePairLemmas.{pairs_with}, FramePairs.{among_more}}
+use Rattle.std.proofs.{Common.{arith, ◌+◌, ◌++◌, false, filter, drop, get_or, append-nil}, lemmas.{Grind.{common_steps}, List.{drop_all}, Option.{slice_get-get_or}}}
+use Rattle.mm_machine.specs.{declared.symbol.NumberedSymbol.{NumberedSymbol}, Language.NumberedSymbols.{symbol_of, symbols_of}}
+use Rattle.mm_frame.{specs.Language.{Framing.{active_pairs, pairs_of}, Answering.{are_paired}}, proofs.lemmas.pairs.{ActivePairLemmas.{pairs_with}, FramePairs.{among_more}}}
 use Rattle.mm_frame.proofs.mandatory.active_among.Goals as goal
 
 pub loop-n-preserved : goal.loop-n-preserved
@@ -25,6 +24,4 @@ loop-n-preserved c = record {
 
 pub returns-clause-pairs : goal.returns-clause-pairs
 returns-clause-pairs c all before reads m numbered =
-    let so_far = c.loop-n.invariant.pairs all before reads m numbered in
-    let whole = sym (append-nil so_far.0) ∙ ap (λ w. so_far.0 ++ filter (are_paired (active_pairs before)) (pairs_of (symbols_of all w))) (sym (drop_all c.loop-n.n c.args.variables.now c.loop-n-test.false)) ∙ so_far.1 in
-    subst (λ w. ArePairsRead all w c.in_ok-kept.kept.items) whole (subst (ArePairsRead all so_far.0) (sym (c.in_ok-kept.ensures ∙ c.deref.ensures.value)) so_far.2)
+    grind (arith, common_steps, c.loop-n.invariant.pairs all before reads m numbered, append-nil (c.loop-n.invariant.pairs all before reads m numbered).0, drop_all c.loop-n.n c.args.variables.now c.loop-n-test.false) steps 200000

@@ -1,7 +1,6 @@
 use Rattle.std.proofs.Common.{◌++◌, false, subst, filter, take, take_all}
 use Rattle.mm_machine.specs.{declared.symbol.NumberedSymbol.{NumberedSymbol}, Language.NumberedSymbols.{symbol_of, symbols_of, ArePairsRead}}
-use Rattle.mm_frame.specs.Language.{Framing.{active_pairs}, Answering.{are_paired}}
-use Rattle.mm_frame.proofs.lemmas.pairs.{ActivePairLemmas.{pairs_with}, FramePairs.{with_more, with_none}}
+use Rattle.mm_frame.{specs.Language.{Framing.{active_pairs}, Answering.{are_paired}}, proofs.lemmas.pairs.{ActivePairLemmas.{pairs_with}, FramePairs.{with_more, with_none}}}
 use Rattle.mm_frame.proofs.mandatory.add_active_with.Goals as goal
 
 pub returns-then-not-has-clause-pairs : goal.returns-then-not-has-clause-pairs

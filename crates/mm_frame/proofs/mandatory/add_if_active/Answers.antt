@@ -1,7 +1,6 @@
 use Rattle.std.proofs.Common.{◌++◌, ◌∷◌, [], ◌∙◌, sym, subst, filter}
 use Rattle.mm_machine.specs.Language.{Names.{name_at}, NumberedSymbols.{symbol_of, ArePairsRead}}
-use Rattle.mm_frame.specs.Language.{Framing.{active_pairs}, Answering.{are_paired}}
-use Rattle.mm_frame.proofs.lemmas.{names.NumberLemmas.{name_there}, pairs.FramePairs.{pair_added, pair_left}}
+use Rattle.mm_frame.{specs.Language.{Framing.{active_pairs}, Answering.{are_paired}}, proofs.lemmas.{names.NumberLemmas.{name_there}, pairs.FramePairs.{pair_added, pair_left}}}
 use Rattle.mm_frame.proofs.mandatory.add_if_active.Goals as goal
 
 pub returns-in_ok-push-clause-pairs : goal.returns-in_ok-push-clause-pairs

@@ -1,12 +1,10 @@
 use Rattle.std.proofs.Common.{false, ◌++◌, flat_map, take_all, ap, ◌∙◌}
-use Rattle.mm_frame.specs.{declared.essential.EssentialVariable.{EssentialVariable}, Code.KeptVariables.{known_float}}
-use Rattle.mm_frame.proofs.lemmas.lists.Growing.{flat_map_grows}
+use Rattle.mm_frame.{specs.Code.KeptVariables.{known_float}, proofs.lemmas.lists.Growing.{flat_map_grows}}
 use Rattle.mm_frame.proofs.mandatory.add_known_floats.Goals as goal
 
 pub loop-variable-preserved : goal.loop-variable-preserved
 loop-variable-preserved c rising =
-    let none : EssentialVariable = record { number = 0; symbol = record { name = 0; variable = false } } in
-    flat_map_grows (known_float c.args.tables.now c.args.essentials.now) c.args.variables.now c.loop-variable.variable-index none
+    flat_map_grows (known_float c.args.tables.now c.args.essentials.now) c.args.variables.now c.loop-variable.variable-index (record { number = 0; symbol = record { name = 0; variable = false } })
     c.args.numbers.now.items c.loop-variable.numbers.items c.add_known_float.new.numbers.items c.loop-variable-test.true (c.loop-variable.invariant rising) (c.in_ok-add_known_float.ensures rising)
 
 pub returns : goal.returns

@@ -1,7 +1,7 @@
 use Rattle.std.proofs.{Common.{◌+◌, ◌++◌, false, sym, subst, filter, All, IfSome}, lemmas.{List.{take_rest, Elements.{All-contains, All-drop}}, Option.{get_or_from_slice_get}, Result.{on_ok_weaker}}}
 use Rattle.mm_machine.specs.{declared.symbol.NumberedSymbol.{NumberedSymbol}, Language.NumberedSymbols.{symbol_of, symbols_of, IsNumbered, ArePairsRead}}
-use Rattle.mm_frame.specs.{Language.{Framing.{active_pairs}, Answering.{are_paired}}, Code.KeptPlaces.{ArePlaces}}
-use Rattle.mm_frame.proofs.lemmas.{lists.Members.{in_contains, get_in}, pairs.{ActivePairLemmas.{pairs_with}, PlaceLemmas.{reads_earlier}}}
+use Rattle.mm_frame.{specs.{Language.{Framing.{active_pairs}, Answering.{are_paired}}, Code.KeptPlaces.{ArePlaces}}, proofs.lemmas.lists.Members.{in_contains, get_in}}
+use Rattle.mm_frame.proofs.lemmas.pairs.{ActivePairLemmas.{pairs_with}, PlaceLemmas.{reads_earlier}}
 use Rattle.mm_frame.proofs.mandatory.add_pairs_with_later.Goals as goal
 
 pub returns-then-are_short-clause-pairs : goal.returns-then-are_short-clause-pairs

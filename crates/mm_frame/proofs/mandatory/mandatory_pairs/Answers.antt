@@ -1,7 +1,7 @@
 use Rattle.std.proofs.{Common.{◌∙◌, ap, sym, subst, filter, All}, lemmas.Result.{IfOk-weaker}}
 use Rattle.mm_frame.specs.{Language.{Framing.{pairs_of, active_pairs}, Answering.{are_paired}}, Code.LastItems.{is_essential_item, IsRising}}
-use Rattle.mm_machine.specs.Language.NumberedSymbols.{symbols_of, IsNumbered, ArePairsRead}
 use Rattle.mm_frame.proofs.lemmas.{frames.HypothesisNumbers.{active_numbers_rise}, pairs.FramePairs.{variables_are, variables_numbered, active_in_order}}
+use Rattle.mm_machine.specs.Language.NumberedSymbols.{symbols_of, IsNumbered, ArePairsRead}
 use Rattle.mm_frame.proofs.mandatory.mandatory_pairs.Goals as goal
 
 pub returns-clause-pairs : goal.returns-clause-pairs

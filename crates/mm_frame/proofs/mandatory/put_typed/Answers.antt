@@ -1,6 +1,5 @@
 use Rattle.std.proofs.Common.{◌∙◌, ◌++◌, ap, sym, get_or, take_all}
-use Rattle.mm_frame.specs.Code.PairOrder.{float_variable, float_variables}
-use Rattle.mm_frame.proofs.lemmas.pairs.FramePairs.{variables_more}
+use Rattle.mm_frame.{specs.Code.PairOrder.{float_variable, float_variables}, proofs.lemmas.pairs.FramePairs.{variables_more}}
 use Rattle.mm_frame.proofs.mandatory.put_typed.Goals as goal
 
 pub loop-number-preserved : goal.loop-number-preserved

@@ -1,7 +1,6 @@
 use Rattle.std.proofs.Common.{◌∷◌, [], ◌++◌, map, take_all, ap, ◌∙◌}
 use Rattle.mm_machine.specs.declared.symbol.NumberedSymbol.{NumberedSymbol}
-use Rattle.mm_frame.specs.Code.KeptPairLists.{with_low_first}
-use Rattle.mm_frame.proofs.lemmas.lists.Growing.{map_grows}
+use Rattle.mm_frame.{specs.Code.KeptPairLists.{with_low_first}, proofs.lemmas.lists.Growing.{map_grows}}
 use Rattle.mm_frame.proofs.pair_lists.add_with_each.Goals as goal
 
 pub loop-other-preserved : goal.loop-other-preserved

@@ -1,5 +1,4 @@
-use Rattle.std.proofs.Common.{◌<◌, sym, ap, subst, ◌∙◌}
-use Rattle.std.specs.Option.{option_copied}
+use Rattle.std.{proofs.Common.{◌<◌, sym, ap, subst, ◌∙◌}, specs.Option.{option_copied}}
 use Rattle.mm_frame.proofs.lemmas.pairs.PairListLemmas.{count_of_last, count_of_none, number_within}
 use Rattle.mm_frame.proofs.pair_lists.count_to_last.Goals as goal
 

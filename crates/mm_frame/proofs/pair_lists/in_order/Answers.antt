@@ -1,7 +1,6 @@
 use Rattle.std.proofs.{Common.{◌≡◌, sym, subst, rules}, lemmas.Fn.{always_returns_same}}
 use Rattle.mm_machine.specs.Language.NumberedSymbols.{AreInOrder, name_numbers}
-use Rattle.mm_frame.specs.Code.KeptPairLists.{HasSame}
-use Rattle.mm_frame.proofs.lemmas.pairs.{PairListLemmas.{sorted_once, is_same_pair}, PairOrderLemmas.{sorted_in_order}}
+use Rattle.mm_frame.{specs.Code.KeptPairLists.{HasSame}, proofs.lemmas.pairs.{PairListLemmas.{sorted_once, is_same_pair}, PairOrderLemmas.{sorted_in_order}}}
 use Rattle.mm_frame.proofs.pair_lists.in_order.Goals as goal
 
 pub returns-clause-same : goal.returns-clause-same

@@ -1,6 +1,5 @@
 use Rattle.std.proofs.Common.{[], flat_map, take_all, ap, ◌∙◌}
-use Rattle.mm_frame.specs.Code.{KeptSymbols.{expression_kept}, KeptPairLists.{pairs_among}}
-use Rattle.mm_frame.proofs.lemmas.lists.Growing.{flat_map_grows}
+use Rattle.mm_frame.{specs.Code.{KeptSymbols.{expression_kept}, KeptPairLists.{pairs_among}}, proofs.lemmas.lists.Growing.{flat_map_grows}}
 use Rattle.mm_frame.proofs.pair_lists.pairs_at.Goals as goal
 
 pub loop-number-preserved : goal.loop-number-preserved

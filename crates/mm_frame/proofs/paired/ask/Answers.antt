@@ -1,6 +1,5 @@
 use Rattle.std.proofs.Common.{ℕ, List, ◌<◌, ◌≤◌, sym, subst, ◌∙◌, Contains}
-use Rattle.mm_frame.specs.Code.{LastItems.{IsRising}, Numbers.{IsNameNumber}, KeptPairTable.{row_at}}
-use Rattle.mm_frame.proofs.lemmas.pairs.AskedLemmas.{IsFirstFrom, active_told, ended_told, next_answer}
+use Rattle.mm_frame.{specs.Code.{LastItems.{IsRising}, Numbers.{IsNameNumber}, KeptPairTable.{row_at}}, proofs.lemmas.pairs.AskedLemmas.{IsFirstFrom, active_told, ended_told, next_answer}}
 use Rattle.mm_frame.proofs.paired.ask.Goals as goal
 
 pub returns-then-is_active_number-clause-value : goal.returns-then-is_active_number-clause-value

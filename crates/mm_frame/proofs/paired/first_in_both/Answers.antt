@@ -1,14 +1,9 @@
-use Rattle.std.proofs.{Common.{sym, ◌∙◌, subst, get_or, arith}, lemmas.Option.{get_or_from_slice_get, slice_get_within}}
-use Rattle.mm_frame.specs.Code.KeptPairTable.{IsCommon}
-use Rattle.mm_frame.proofs.lemmas.{lists.{Members.{in_contains, contains_in, in_get}, Rising.{among_in, rising_least}}, frames.Frames.{in_at}}
+use Rattle.std.proofs.{lemmas.{Grind.{common_steps}, Option.{get_or_from_slice_get, slice_get_within}}, Common.{sym, subst, arith}}
+use Rattle.mm_frame.{specs.Code.KeptPairTable.{IsCommon}, proofs.lemmas.{lists.{Members.{in_contains, contains_in, in_get}, Rising.{among_in, rising_least}}, frames.Frames.{in_at}}}
 use Rattle.mm_frame.proofs.paired.first_in_both.Goals as goal
 
 pub returns-then-is_active_now-clause-some : goal.returns-then-is_active_now-clause-some
-returns-then-is_active_now-clause-some c rising =
-    let row = c.args.row.now in
-    let other = c.args.other.now in
-    let n = get_or row c.loop-k.k 0 in
-    (in_contains n row (in_at row c.loop-k.k 0 c.loop-k-test.true), in_contains n other (among_in other n (sym (c.is_among.ensures rising) ∙ c.if-is_among.true)), sym c.is_active_now.ensures ∙ c.if-is_active_now.true)
+returns-then-is_active_now-clause-some c rising = grind (arith, common_steps, among_in, in_at, in_contains) steps 200000
 
 pub returns-then-is_active_now-clause-least : goal.returns-then-is_active_now-clause-least
 returns-then-is_active_now-clause-least c rising others n common =

@@ -17,6 +17,7 @@ returns c = on_ok_weaker c.add_partners_at.result (λ added all before said firs
     let reached = λ (row : List ℕ). flat_map (later_places_at c.args.places.now marks expressions c.args.n) row in
     let same = subst (λ w. (k : ℕ) → Contains found k ↔ Contains (reached w) k) (c.row-row.ensures ∙ ap (λ (s : NumberedSymbol). row_at table s.name) here) c.in_ok-found.ensures.same in
     let whole = added ∙ (λ i. c.args.pairs.now.items ++ flat_map (pair_at (here i) variables) (c.deref.ensures.value i)) in
-    let searches : Searches all before table marks expressions c.args.places.now variables c.args.n first = record { reads = reads_earlier all before earlier known; symbols = known.symbols; placed = places; numbered = numbered; there = there } in
+    let searches : Searches all before table marks expressions c.args.places.now variables c.args.n first =
+    record { reads = reads_earlier all before earlier known; symbols = known.symbols; placed = places; numbered = numbered; there = there } in
     let full = partners_added all before table marks expressions c.args.places.now variables c.args.n first searches found c.in_ok-found.ensures.rising same said c.args.pairs.now.items r in
     subst (ArePairsRead all (said ++ filter (are_paired (active_pairs before)) (pairs_with (symbol_of all first) (symbols_of all (drop (c.args.n + 1) variables))))) (sym whole) full) c.add_partners_at.ensures

@@ -1,6 +1,5 @@
 use Rattle.std.proofs.Common.{◌++◌, flat_map, take_all, ap, ◌∙◌}
-use Rattle.mm_frame.specs.Code.KeptPlaces.{pair_at}
-use Rattle.mm_frame.proofs.lemmas.lists.Growing.{flat_map_grows}
+use Rattle.mm_frame.{specs.Code.KeptPlaces.{pair_at}, proofs.lemmas.lists.Growing.{flat_map_grows}}
 use Rattle.mm_frame.proofs.partners.add_partners_at.Goals as goal
 
 pub loop-place-preserved : goal.loop-place-preserved

@@ -1,7 +1,7 @@
 use Rattle.std.proofs.{Common.{IsTrue, ◌&&◌, ◌↔◌, ◌∙◌, ap, sym, subst}, lemmas.Bool.{false≢true}}
-use Rattle.mm_frame.specs.Language.{Base.{frame_at}, Answering.{pairs_in_order}}
+use Rattle.mm_frame.{specs.Language.{Base.{frame_at}, Answering.{pairs_in_order}}, proofs.lemmas.{base.BaseLemmas.{framed_in_order}, frames.SameFrames.{framed_shown, same_by_parts}}}
+use Rattle.mm_frame.proofs.lemmas.frames.SameLemmas.{pairs_from_readings}
 use Rattle.mm_machine.specs.Language.{Frame.{AreSameFrame}, NumberedSymbols.{kept_pairs, ArePairsRead}}
-use Rattle.mm_frame.proofs.lemmas.{base.BaseLemmas.{framed_in_order}, frames.{SameFrames.{framed_shown, same_by_parts}, SameLemmas.{pairs_from_readings}}}
 use Rattle.mm_frame.proofs.same.same_but_hypotheses.Goals as goal
 
 pub returns-then-same_expression : goal.returns-then-same_expression

@@ -1,6 +1,5 @@
 use Rattle.std.proofs.{Common.{IsTrue, sym, ◌∙◌, subst}, lemmas.Bool.{false≢true}}
-use Rattle.mm_frame.specs.Language.Base.{AreHypotheses}
-use Rattle.mm_frame.proofs.lemmas.frames.SameFrames.{framed_shown, same_by_numbers, all_shown}
+use Rattle.mm_frame.{specs.Language.Base.{AreHypotheses}, proofs.lemmas.frames.SameFrames.{framed_shown, same_by_numbers, all_shown}}
 use Rattle.mm_frame.proofs.same.same_but_pairs.Goals as goal
 
 pub returns-then-same_expression : goal.returns-then-same_expression

@@ -1,6 +1,5 @@
 use Rattle.std.proofs.{Common.{◌≡◌, true, get_or, refl, ◌∙◌, sym, arith}, lemmas.{Bool.{false≢true}, List.Elements.{All-get_or}, Option.{slice_get-get_or}}}
-use Rattle.mm_frame.specs.Language.Base.{is_shown_at, hypothesis_at}
-use Rattle.mm_frame.proofs.lemmas.frames.SameLemmas.{same_more, same_whole, same_each, same_long}
+use Rattle.mm_frame.{specs.Language.Base.{is_shown_at, hypothesis_at}, proofs.lemmas.frames.SameLemmas.{same_more, same_whole, same_each, same_long}}
 use Rattle.mm_frame.proofs.same.same_hypotheses.Goals as goal
 
 pub returns-then-mine-yours : goal.returns-then-mine-yours

@@ -1,6 +1,5 @@
 use Rattle.std.proofs.Common.{◌≡◌, ℕ, List, true, All}
-use Rattle.mm_frame.specs.Language.{Base.{BaseView, is_shown_at, hypothesis_at}, Answering.{IsBaseBy}}
-use Rattle.mm_frame.proofs.lemmas.frames.SameLemmas.{AreSameTo}
+use Rattle.mm_frame.{specs.Language.{Base.{BaseView, is_shown_at, hypothesis_at}, Answering.{IsBaseBy}}, proofs.lemmas.frames.SameLemmas.{AreSameTo}}
 use Rattle.mm_frame.proofs.same.same_hypotheses.Given as goal
 
 abbrev pub invariant-loop-k : goal.invariant-loop-k

@@ -1,6 +1,5 @@
 use Rattle.std.proofs.Common.{[], map, take_all, ap, ◌∙◌}
-use Rattle.mm_frame.specs.Code.KeptSymbols.{variable_by}
-use Rattle.mm_frame.proofs.lemmas.lists.Growing.{map_grows}
+use Rattle.mm_frame.{specs.Code.KeptSymbols.{variable_by}, proofs.lemmas.lists.Growing.{map_grows}}
 use Rattle.mm_frame.proofs.symbol.put_variables.Goals as goal
 
 pub loop-number-preserved : goal.loop-number-preserved

@@ -1,5 +1,4 @@
-use Rattle.mm_frame.specs.Language.{Sound.{sound_items}, Framing.{active_pairs}}
-use Rattle.mm_frame.proofs.lemmas.pairs.PairListLemmas.{is_list}
+use Rattle.mm_frame.{specs.Language.{Sound.{sound_items}, Framing.{active_pairs}}, proofs.lemmas.pairs.PairListLemmas.{is_list}}
 use Rattle.mm_frame.proofs.take_over.copied_list.Goals as goal
 
 pub returns-clause-list : goal.returns-clause-list

@@ -1,15 +1,14 @@
-use Rattle.std.proofs.Common.{Some, None, ◌++◌, ◌∷◌, [], ◌∙◌, sym, subst}
+use Rattle.std.proofs.{Common.{arith, Some, None, ◌++◌, ◌∷◌, [], ◌∙◌, sym, subst}, lemmas.Grind.{common_steps}}
 use Rattle.mm_frame.specs.{Language.{Sound.{sound_items}, Framing.{active_pairs}, Answering.{AreRows}}, Code.KeptAssertions.{TellsPairs}}
-use Rattle.mm_machine.specs.Language.{Frame.{AreSamePairs}, NumberedSymbols.{AreSamePairsRead, kept_pairs}}
 use Rattle.mm_frame.proofs.lemmas.{base.TakenOverLemmas.{before_next, proof_next}, pairs.PairListLemmas.{pairs_more, keeps_all, no_number, some_number}}
+use Rattle.mm_machine.specs.Language.{Frame.{AreSamePairs}, NumberedSymbols.{AreSamePairsRead, kept_pairs}}
 use Rattle.mm_frame.proofs.take_over.copy_pairs.Goals as goal
 
 pub returns-in_default-clause-pairs : goal.returns-in_default-clause-pairs
 returns-in_default-clause-pairs c all base said item next number symbols disjoints made rows =
     let lists = c.args.lists.now in
     let none = c.in_default.ensures.some base (all, next.by) ∙ proof_next all c.args.old.base.now base said item c.args.old.number next number in
-    subst (λ w. AreRows (TellsPairs all lists) (said ++ item ∷ []) w) (sym c.in_ok-pass.ensures)
-    (pairs_more all said item lists lists c.args.numbers.now None (keeps_all lists) rows (no_number all lists (sound_items said) item none))
+    grind (arith, common_steps, pairs_more all said item lists lists c.args.numbers.now None (keeps_all lists) rows (no_number all lists (sound_items said) item none)) steps 500000
 
 pub returns-clause-made : goal.returns-clause-made
 returns-clause-made c all base said item next number symbols disjoints rows made =

@@ -1,5 +1,4 @@
-use Rattle.mm_frame.specs.Language.{Sound.{sound_items}, Framing.{active_pairs}}
-use Rattle.mm_frame.proofs.lemmas.base.{BaseLemmas.{kept_are_sound}, TakenOverLemmas.{made_stays, list_kept_on}}
+use Rattle.mm_frame.{specs.Language.{Sound.{sound_items}, Framing.{active_pairs}}, proofs.lemmas.base.{BaseLemmas.{kept_are_sound}, TakenOverLemmas.{made_stays, list_kept_on}}}
 use Rattle.mm_frame.proofs.take_over.list_again.Goals as goal
 
 pub returns-in-Some-clause-list : goal.returns-in-Some-clause-list

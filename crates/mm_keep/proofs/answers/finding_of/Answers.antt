@@ -1,5 +1,4 @@
-use Rattle.std.proofs.Common.{◌<◌, Some, None, length, sym, ap, ◌∙◌, subst, arith}
-use Rattle.std.specs.Option.{option_map}
+use Rattle.std.{proofs.Common.{◌<◌, Some, None, length, sym, ap, ◌∙◌, subst, arith}, specs.Option.{option_map}}
 use Rattle.mm_proof.specs.{mm_frame.Language.Base.{said_at, fault_at, is_sound_at}, mm_statement.Language.Item.{is_theorem}, mm_verdict.Language.VerdictAt.{IsVerdictAt}}
 use Rattle.mm_keep.proofs.{CitedItems.{checked_at}, ToldLemmas.{read_at, stands_at}, FoundLemmas.{sound_none, no_theorem}}
 use Rattle.mm_keep.proofs.answers.finding_of.Goals as goal

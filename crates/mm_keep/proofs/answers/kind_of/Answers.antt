@@ -1,9 +1,7 @@
-use Rattle.std.proofs.Common.{◌≡◌, Some, None, sym, ap, ◌∙◌, subst}
-use Rattle.std.specs.Option.{option_map}
+use Rattle.std.{proofs.Common.{◌≡◌, Some, None, sym, ap, ◌∙◌, subst}, specs.Option.{option_map}}
 use Rattle.mm_proof.specs.{mm_frame.{declared.judge.FrameFault.{FrameFault}, Language.Base.{said_at, fault_at, is_sound_at}}, mm_statement.Language.Item.{is_theorem}}
 use Rattle.mm_proof.specs.mm_verdict.Language.VerdictAt.{IsVerdictAt}
-use Rattle.mm_keep.specs.Code.FoundKinds.{IsFoundAs}
-use Rattle.mm_keep.proofs.{CitedItems.{checked_at}, FindingLaws.{fault_told, item_at, verdict_told}, FoundLemmas.{sound_none, no_theorem}}
+use Rattle.mm_keep.{specs.Code.FoundKinds.{IsFoundAs}, proofs.{CitedItems.{checked_at}, FindingLaws.{fault_told, item_at, verdict_told}, FoundLemmas.{sound_none, no_theorem}}}
 use Rattle.mm_keep.proofs.answers.kind_of.Goals as goal
 
 pub returns-in-Some : goal.returns-in-Some

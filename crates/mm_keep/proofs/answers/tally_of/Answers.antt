@@ -1,20 +1,15 @@
-use Rattle.std.proofs.Common.{[], ◌∷◌, ◌++◌, sym, ◌∙◌, arith}
-use Rattle.mm_keep.specs.Code.FoundKinds.{one_more}
-use Rattle.mm_keep.proofs.ToldLemmas.{counts_more, told_more}
+use Rattle.std.proofs.{lemmas.Grind.{common_steps}, Common.{[], ◌∷◌, ◌++◌, sym, ◌∙◌, arith}}
+use Rattle.mm_keep.{specs.Code.FoundKinds.{one_more}, proofs.ToldLemmas.{counts_more, told_more}}
 use Rattle.mm_keep.proofs.answers.tally_of.Goals as goal
 
 pub kind_of-requires : goal.kind_of-requires
 kind_of-requires c =
-    let r = c.requires in
-    let h = r.1 in
-    (r.0, (h.0, h.1, h.2, h.3, omega (arith, c.loop-i-test.true, c.count-i-end.ensures.count h.1 (h.0, h.2.read_in.base))))
+    let h = c.requires.1 in
+    (c.requires.0, (h.0, h.1, h.2, h.3, omega (arith, c.loop-i-test.true, c.count-i-end.ensures.count h.1 (h.0, h.2.read_in.base))))
 
 pub with_kind-tally-requires : goal.with_kind-tally-requires
 with_kind-tally-requires c =
-    let r = c.requires in
-    let h = r.1 in
-    let t = c.loop-i.invariant h.0 r.0 h.1 h.2 h.3 in
-    (t.0, t.2, omega (arith, t.1.count, c.loop-i-test.true, c.count-i-end.ensures.few h.1 (h.0, h.2.read_in.base)))
+    grind (arith, common_steps, c.loop-i.invariant c.requires.1.0 c.requires.0 c.requires.1.1 c.requires.1.2 c.requires.1.3, c.count-i-end.ensures.few c.requires.1.1 (c.requires.1.0, c.requires.1.2.read_in.base)) steps 200000
 
 pub loop-i-preserved : goal.loop-i-preserved
 loop-i-preserved c names files view is checked =
@@ -23,6 +18,4 @@ loop-i-preserved c names files view is checked =
     (t.0 ++ one.0 ∷ [], told_more files view c.loop-i.i t.0 one.0 one.1 t.1, c.with_kind-tally.ensures ∙ (λ i. one_more (sym one.2 i) (t.2 i)) ∙ sym (counts_more t.0 one.0))
 
 pub returns : goal.returns
-returns c names files view is checked =
-    let t = c.loop-i.invariant names files view is checked in
-    (t.0, record { count = omega (arith, t.1.count, c.loop-i-test.false, c.loop-i.auto.i-end, c.count-i-end.ensures.count view (names, is.read_in.base)); each = t.1.each }, t.2)
+returns c names files view is checked = grind (arith, common_steps, c.loop-i.invariant names files view is checked, c.count-i-end.ensures.count view (names, is.read_in.base)) steps 200000

@@ -1,7 +1,6 @@
 use Rattle.std.proofs.Common.{◌≡◌, ℕ, List}
 use Rattle.mm_proof.specs.{mm_store.Language.FilesView.{FilesView}, mm_frame.Language.Base.{BaseView}}
-use Rattle.mm_keep.specs.{Language.{Findings.{counted}, Told.{Told, counts}}, Code.{KeptSession.{AreChecked}, OfFiles.{IsOf}}}
-use Rattle.mm_keep.proofs.ToldLemmas.{ToldUpTo}
+use Rattle.mm_keep.{specs.{Language.{Findings.{counted}, Told.{Told, counts}}, Code.{KeptSession.{AreChecked}, OfFiles.{IsOf}}}, proofs.ToldLemmas.{ToldUpTo}}
 use Rattle.mm_keep.proofs.answers.tally_of.Given as goal
 
 abbrev pub invariant-loop-i : goal.invariant-loop-i

@@ -1,14 +1,12 @@
-use Rattle.std.proofs.Common.{◌≡◌, ◌<◌, ℕ, Some, None, List, length, sym, ap, ◌∙◌, subst₂, arith}
-use Rattle.std.specs.Option.{option_map}
+use Rattle.std.{proofs.{lemmas.Grind.{common_steps}, Common.{◌≡◌, ◌<◌, ℕ, Some, None, List, length, sym, ap, ◌∙◌, subst₂, arith}}, specs.Option.{option_map}}
 use Rattle.mm_proof.specs.{mm_frame.Language.Base.{said_at}, mm_verdict.Language.VerdictAt.{cites_at}}
-use Rattle.mm_keep.specs.{Language.Citations.{CitesItem}, Code.Cited.{HasLabelAmong, MarksMore}}
-use Rattle.mm_keep.proofs.{CitedItems.{among_earlier, checked_at, cites_rising, marks_cited, none_cited}, CitedWords.{marks_same}, ToldLemmas.{read_at, says_at}}
+use Rattle.mm_keep.{specs.{Language.Citations.{CitesItem}, Code.Cited.{HasLabelAmong, MarksMore}}, proofs.CitedItems.{among_earlier, checked_at, cites_rising, marks_cited, none_cited}}
+use Rattle.mm_keep.proofs.{CitedWords.{marks_same}, ToldLemmas.{read_at, says_at}}
 use Rattle.mm_keep.proofs.cited.mark_cites.Goals as goal
 
 pub words_of_proof-words-requires : goal.words_of_proof-words-requires
 words_of_proof-words-requires c =
-    let r = c.requires.item in
-    read_at r.0 c.args.files.now c.args.base.now c.args.j c.item.result.now (r.1, r.2, r.4) c.item.ensures.found
+    grind (arith, common_steps, read_at c.requires.item.0 c.args.files.now c.args.base.now c.args.j c.item.result.now (c.requires.item.1, c.requires.item.2, c.requires.item.4) c.item.ensures.found) steps 200000
 
 pub mark_words-requires-clause-rise : goal.mark_words-requires-clause-rise
 mark_words-requires-clause-rise c =
@@ -22,16 +20,14 @@ mark_words-requires-clause-places c =
     let view = r.1 in
     let j = c.args.j in
     let k = checked_at view c.args.checked.now j (Some c.in-Some.check.now) r.3 r.4 (sym c.get.ensures ∙ ap (option_map (λ one. one.now)) c.in-Some.is) in
-    let cites : c.in-Some.check.now.cites ≡ cites_at view j = k.2 in
     let says = says_at r.0 c.args.files.now c.args.base.now view j c.item.result.now r.2 (c.item.ensures.found view (r.0, r.2.read_in.base)) in
     let words = c.words_of_proof-words.ensures.words (said_at view j) says in
-    let early = among_earlier c.cites_tell.ensures.each c.cites_tell.ensures.tell c.has_own_labels.ensures view (c.args.files.now, r.2.read_in.each) j k.0 in
-    let few = c.requires.places in (
+    let early = among_earlier c.cites_tell.ensures.each c.cites_tell.ensures.tell c.has_own_labels.ensures view (c.args.files.now, r.2.read_in.each) j k.0 in (
       view,
       (r.0, r.2.read_in.base),
       λ n has.
-          let l = early n (subst₂ (λ (ws : List (List ℕ)) (ns : List ℕ). HasLabelAmong view ws ns (length ns) n) words cites has) in
-          omega (arith, l, few),
+          let l = early n (subst₂ (λ (ws : List (List ℕ)) (ns : List ℕ). HasLabelAmong view ws ns (length ns) n) words k.2 has) in
+          omega (arith, l, c.requires.places),
     )
 
 pub returns-in-Some : goal.returns-in-Some

@@ -1,7 +1,6 @@
-use Rattle.std.proofs.Common.{◌≡◌, ◌<◌, ℕ, length, sym, subst, refl, arith}
+use Rattle.std.proofs.Common.{◌<◌, ℕ, length, sym, subst, arith}
 use Rattle.mm_proof.specs.mm_frame.Language.Resolving.{IsCarrier}
-use Rattle.mm_keep.specs.Code.Cited.{HasLabelAmong, IsAmongCited, MarksMore}
-use Rattle.mm_keep.proofs.{CitedWords.{words_none, words_more, words_skip}, cited.mark_words.Goals.{in-Some, in_default}}
+use Rattle.mm_keep.{specs.Code.Cited.{HasLabelAmong, IsAmongCited, MarksMore}, proofs.{CitedWords.{words_more, words_skip}, cited.mark_words.Goals.{in-Some, in_default}}}
 use Rattle.mm_keep.proofs.cited.mark_words.Goals as goal
 
 pub mark-requires : goal.mark-requires
@@ -9,14 +8,10 @@ mark-requires c =
     let r = c.requires.places in
     let cites = c.args.check.now.cites in
     let there = sym (c.in-Some.ensures.word c.args.words c.loop-x.invariant.left) in
-    let within : length c.loop-x.marks ≡ length c.args.marks.now = (c.loop-x.invariant.marks r.0 r.1).count in
     let before : c.loop-x.x < length cites = omega (arith, c.loop-x-test.true, c.count-x-end.ensures) in
     let among : IsAmongCited c.args.words cites (length cites) c.in-Some.word.now = record { at = c.loop-x.x; before = before; there = there } in
     let has : (k : ℕ) → IsCarrier r.0 c.in-Some.word.now k → HasLabelAmong r.0 c.args.words cites (length cites) k = λ k carrier. record { label = c.in-Some.word.now; among = among; carrier = carrier } in
-    (r.0, r.1, λ k carrier. let l = r.2 k (has k carrier) in omega (arith, l, within))
-
-pub loop-x-init : goal.loop-x-init
-loop-x-init c = record { left = refl; marks = λ view is. words_none view c.args.words c.args.check.now.cites c.args.marks.now }
+    (r.0, r.1, λ k carrier. let l = r.2 k (has k carrier) in omega (arith, l, ((c.loop-x.invariant.marks r.0 r.1).count)))
 
 pub loop-x-preserved : goal.loop-x-preserved
 loop-x-preserved c = record {
@@ -34,6 +29,4 @@ loop-x-preserved c = record {
 }
 
 pub returns : goal.returns
-returns c view is =
-    let e : c.loop-x.x ≡ length c.args.check.now.cites = omega (arith, c.loop-x-test.false, c.loop-x.auto.x-end) in
-    subst (λ x. MarksMore (HasLabelAmong view c.args.words c.args.check.now.cites x) c.args.marks.now c.loop-x.marks) e (c.loop-x.invariant.marks view is)
+returns c view is = grind (arith, c.loop-x.invariant.marks view is) steps 200000

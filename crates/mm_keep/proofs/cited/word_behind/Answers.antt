@@ -1,11 +1,9 @@
-use Rattle.std.proofs.Common.{◌+◌, ap, ◌∙◌, drop, slice_get, arith}
+use Rattle.std.proofs.{lemmas.Grind.{common_steps}, Common.{◌+◌, ap, ◌∙◌, drop, slice_get, arith}}
 use Rattle.mm_keep.proofs.CitedWords.{drop_more, get_behind, next_left}
 use Rattle.mm_keep.proofs.cited.word_behind.Goals as goal
 
 pub loop-i-preserved : goal.loop-i-preserved
-loop-i-preserved c =
-    let n = next_left (λ word. word.now) c.next_word.result c.loop-i.words c.next_word.new.self c.next_word.ensures in
-    n.0 ∙ ap (drop 1) c.loop-i.invariant ∙ drop_more c.args.words.now c.loop-i._i 1 (c.loop-i._i + 1) (omega arith)
+loop-i-preserved c = grind (arith, common_steps, drop_more c.args.words.now c.loop-i._i 1 (c.loop-i._i + 1) (omega arith), next_left) steps 200000
 
 pub returns : goal.returns
 returns c =

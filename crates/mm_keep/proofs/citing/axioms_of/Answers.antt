@@ -1,6 +1,5 @@
 use Rattle.std.proofs.{Common.{◌<◌, Bool, true, List, drop, length, set, sym, ◌∙◌, subst₂, arith, length-set}, lemmas.Result.{IfOk-weaker}}
-use Rattle.mm_keep.specs.Code.Cited.{MarksBehind}
-use Rattle.mm_keep.proofs.ChainLemmas.{axioms_marked, one_marked, take_front}
+use Rattle.mm_keep.{specs.Code.Cited.{MarksBehind}, proofs.ChainLemmas.{axioms_marked, one_marked, take_front}}
 use Rattle.mm_keep.proofs.citing.axioms_of.Goals as goal
 
 pub returns : goal.returns

@@ -1,10 +1,6 @@
-use Rattle.std.proofs.{Common.{◌<◌, Bool, List, drop, length, sym, ap, ◌∙◌, subst₂, arith}, lemmas.Result.{IfOk-weaker}}
-use Rattle.mm_keep.specs.{Language.Citations.{CitesItem}, Code.Cited.{MarksMore}}
-use Rattle.mm_keep.proofs.ChainLemmas.{cites_marked, take_front}
+use Rattle.std.proofs.{Common.{◌<◌, Bool, List, drop, length, sym, ◌∙◌, subst₂, arith}, lemmas.Result.{IfOk-weaker}}
+use Rattle.mm_keep.{specs.{Language.Citations.{CitesItem}, Code.Cited.{MarksMore}}, proofs.ChainLemmas.{cites_marked, take_front}}
 use Rattle.mm_keep.proofs.citing.cites_of.Goals as goal
-
-pub mark_cites-requires-clause-places : goal.mark_cites-requires-clause-places
-mark_cites-requires-clause-places c = let count = ap length c.deref_mut.ensures.value ∙ c.in_ok-marks.ensures.count in omega (arith, count)
 
 pub returns : goal.returns
 returns c = IfOk-weaker c.marked.result _ _ (λ numbers those names view is are.

@@ -1,18 +1,10 @@
 use Rattle.std.proofs.{Common.{◌≡◌, ◌+◌, ◌-◌, List, Bool, length, sym, subst, ◌∙◌, arith}, lemmas.Bool.{false≢true}}
-use Rattle.mm_keep.specs.{Language.Citations.{CitesItem}, Code.Cited.{IsMarked, MarksMore}}
-use Rattle.mm_keep.proofs.{ChainLemmas.{AreBehind, behind_none, behind_skip, behind_more, behind_all}, citing.mark_behind.Goals.{then-marks-j, else-marks-j}}
+use Rattle.mm_keep.{specs.{Language.Citations.{CitesItem}, Code.Cited.{IsMarked, MarksMore}}, proofs.ChainLemmas.{AreBehind, behind_none, behind_skip, behind_more, behind_all}}
+use Rattle.mm_keep.proofs.citing.mark_behind.Goals.{then-marks-j, else-marks-j}
 use Rattle.mm_keep.proofs.citing.mark_behind.Goals as goal
 
 pub loop-n-init : goal.loop-n-init
 loop-n-init c names view is are front e = behind_none view c.args.marks.now front (omega (arith, e))
-
-pub mark_cites-requires-clause-item : goal.mark_cites-requires-clause-item
-mark_cites-requires-clause-item c =
-    let r = c.requires in
-    (r.0, r.1, r.2, r.3, omega (arith, r.4, c.loop-n.auto.marks, c.loop-n-test.true))
-
-pub mark_cites-requires-clause-places : goal.mark_cites-requires-clause-places
-mark_cites-requires-clause-places c = omega arith
 
 pub loop-n-preserved : goal.loop-n-preserved
 loop-n-preserved c names view is are front e =

@@ -1,6 +1,5 @@
 use Rattle.std.proofs.Common.{◌≡◌, ◌+◌, ℕ, length}
-use Rattle.mm_keep.specs.Code.Cited.{OfChecks}
-use Rattle.mm_keep.proofs.ChainLemmas.{AreBehind}
+use Rattle.mm_keep.{specs.Code.Cited.{OfChecks}, proofs.ChainLemmas.{AreBehind}}
 use Rattle.mm_keep.proofs.citing.mark_behind.Given as goal
 
 abbrev pub invariant-loop-n : goal.invariant-loop-n

@@ -1,14 +1,7 @@
 use Rattle.std.proofs.{Common.{◌≡◌, ◌+◌, ℕ, length, sym, ap, subst, ◌∙◌, arith}, lemmas.Bool.{false≢true}}
-use Rattle.mm_keep.specs.{Language.{Runs.{AreThose}, Told.{IsAxiom}}, Code.Cited.{IsMarked}}
-use Rattle.mm_keep.proofs.RunLemmas.{those_none, those_skip, those_more}
+use Rattle.mm_keep.{specs.{Language.{Runs.{AreThose}, Told.{IsAxiom}}, Code.Cited.{IsMarked}}, proofs.RunLemmas.{those_skip, those_more}}
 use Rattle.mm_keep.proofs.citing.marked_axioms.Goals.{then-marks-k+then-is_axiom+in_ok-push, else-marks-k, else-marks-k-via-then-marks-k+else-is_axiom, else-marks-k-via-else-marks-k}
 use Rattle.mm_keep.proofs.citing.marked_axioms.Goals as goal
-
-pub is_axiom-requires : goal.is_axiom-requires
-is_axiom-requires c = let r = c.requires in (r.0, r.1, omega (arith, r.2, c.loop-k-test.true))
-
-pub loop-k-init : goal.loop-k-init
-loop-k-init c view is = subst (AreThose (λ k. IsMarked c.args.marks.now k × IsAxiom view k) 0) (sym c.new-numbers.ensures.items) (those_none (λ k. IsMarked c.args.marks.now k × IsAxiom view k))
 
 pub loop-k-preserved : goal.loop-k-preserved
 loop-k-preserved c view is =

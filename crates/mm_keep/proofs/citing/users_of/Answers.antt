@@ -1,16 +1,6 @@
-use Rattle.std.proofs.{Common.{◌≡◌, ◌+◌, ◌<◌, ℕ, length, sym, ap, subst, ◌∙◌, arith}, lemmas.Bool.{false≢true}}
-use Rattle.mm_proof.specs.mm_frame.Language.Base.{BaseView}
-use Rattle.mm_keep.specs.Language.{Citations.{CitesItem}, Runs.{AreThose}}
-use Rattle.mm_keep.proofs.{CitedItems.{cites_earlier}, RunLemmas.{those_behind, those_skip, those_more}, citing.users_of.Goals.{then-cites_label+in_ok-push, else-cites_label}}
+use Rattle.std.proofs.{Common.{◌≡◌, ◌+◌, ℕ, length, sym, ap, subst, ◌∙◌, arith}, lemmas.Bool.{false≢true}}
+use Rattle.mm_keep.{specs.Language.{Citations.{CitesItem}, Runs.{AreThose}}, proofs.{RunLemmas.{those_skip, those_more}, citing.users_of.Goals.{then-cites_label+in_ok-push, else-cites_label}}}
 use Rattle.mm_keep.proofs.citing.users_of.Goals as goal
-
--- an item cites no later one
-none_before : (view : BaseView) (i k : ℕ) → k < i + 1 → CitesItem view k i → ⊥
-none_before view i k l cites = let m = cites_earlier view k i cites in omega (arith, l, m)
-
-pub loop-j-init : goal.loop-j-init
-loop-j-init c names view is are label =
-    subst (AreThose (λ k. CitesItem view k c.args.i) (c.args.i + 1)) (sym c.new-numbers.ensures.items) (those_behind (λ k. CitesItem view k c.args.i) (c.args.i + 1) (none_before view c.args.i))
 
 pub loop-j-preserved : goal.loop-j-preserved
 loop-j-preserved c names view is are label =
@@ -29,11 +19,5 @@ loop-j-preserved c names view is are label =
 pub returns : goal.returns
 returns c names view is are label =
     let count = c.count-j-end.ensures.count view (names, is.read_in.base) in
-    let within = label.within in
-    let e : c.loop-j.j ≡ length view.said = omega (arith, c.loop-j-test.false, c.loop-j.auto.j-end, count, within) in
+    let e : c.loop-j.j ≡ length view.said = omega (arith, c.loop-j-test.false, c.loop-j.auto.j-end, count, label.within) in
     subst (λ n. AreThose (λ k. CitesItem view k c.args.i) n c.loop-j.numbers.items) e (c.loop-j.invariant names view is are label)
-
-pub cites_label-requires : goal.cites_label-requires
-cites_label-requires c =
-    let r = c.requires in
-    (r.0, r.1, r.2, r.3, omega (arith, c.loop-j-test.true, c.count-j-end.ensures.count r.1 (r.0, r.2.read_in.base)))

@@ -1,3 +1,4 @@
+use Rattle.std.proofs.Common.{rules}
 use Rattle.mm_keep.proofs.RunLemmas.{planned_runs}
 use Rattle.mm_keep.proofs.keeping.keep_and_run.Goals as goal
 
@@ -6,10 +7,4 @@ returns c view copy both =
     let planned = c.in_ok-plan.ensures view copy both in
     let ran = c.in_ok-checked.ensures.checked copy both.new_is in
     let recorded = c.in_ok-checked.ensures.work copy both.new_is in
-    record {
-      planned = planned;
-      ran = ran.0;
-      count = ran.1;
-      runs = planned_runs view copy c.in_ok-plan.plan c.in_ok-checked.work.runs planned recorded.those;
-      steps = recorded.steps;
-    }
+    search (rules, planned_runs view copy c.in_ok-plan.plan c.in_ok-checked.work.runs planned recorded.those) steps 500000

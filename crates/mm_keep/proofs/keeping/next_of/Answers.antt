@@ -1,7 +1,6 @@
 use Rattle.std.proofs.{Common.{◌≡◌, Ok, sym, subst}, lemmas.Result.{IfOk-weaker}}
 use Rattle.mm_proof.specs.mm_frame.declared.base.Base.{Base}
-use Rattle.mm_keep.specs.Code.{Next.{IsBuilt}, Planned.{AreBothRead}}
-use Rattle.mm_keep.proofs.NextLemmas.{both_read}
+use Rattle.mm_keep.{specs.Code.{Next.{IsBuilt}, Planned.{AreBothRead}}, proofs.NextLemmas.{both_read}}
 use Rattle.mm_keep.proofs.keeping.next_of.Goals as goal
 
 pub keep_and_run-ran-requires : goal.keep_and_run-ran-requires

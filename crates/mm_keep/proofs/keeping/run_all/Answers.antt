@@ -1,4 +1,4 @@
-use Rattle.std.proofs.{Common.{◌∙◌, None, length, ap}, lemmas.List.{length-replicate}}
+use Rattle.std.proofs.{Common.{arith, ◌∙◌, None, length, ap}, lemmas.List.{length-replicate}}
 use Rattle.mm_keep.proofs.RunLemmas.{begun_runs, begun_checked, keeps_nothing}
 use Rattle.mm_keep.proofs.keeping.run_all.Goals as goal
 
@@ -9,8 +9,4 @@ returns c view is =
     let recorded = c.in_ok-checked.ensures.work view is in
     let count = ap length c.nothing-plan.ensures ∙ length-replicate c.count.result None ∙ c.count.ensures.count view (c.args.names.now, is.base) in
     let nothing = keeps_nothing plan c.count.result c.nothing-plan.ensures in
-    record {
-      checked = begun_checked view plan c.in_ok-checked.checked count nothing ran.0 ran.1;
-      runs = begun_runs view plan c.in_ok-checked.work.runs count nothing recorded.those;
-      steps = recorded.steps;
-    }
+    grind (arith, begun_checked view plan c.in_ok-checked.checked count nothing ran.0 ran.1, begun_runs view plan c.in_ok-checked.work.runs count nothing recorded.those) steps 200000

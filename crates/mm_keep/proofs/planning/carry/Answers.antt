@@ -5,9 +5,8 @@ use Rattle.mm_keep.proofs.planning.carry.Goals as goal
 pub carry_one-requires-clause-from : goal.carry_one-requires-clause-from
 carry_one-requires-clause-from c i e =
     let can = c.requires.2 in
-    let l : c.loop-j.j < length c.args.plan.now = omega (arith, can.count, c.loop-j-test.true) in
     old_some c.requires.0 c.requires.1 c.args.old.now c.args.plan.now c.args.new.now can c.loop-j.j i c.loop-j.old c.loop-j.new (c.loop-j.invariant.carried c.requires.0 c.requires.1 can)
-    (slice_get-get_or c.args.plan.now c.loop-j.j None l ∙ ap Some (sym c.at.ensures ∙ e)) c.loop-j.invariant.count
+    (slice_get-get_or c.args.plan.now c.loop-j.j None (omega (arith, can.count, c.loop-j-test.true)) ∙ ap Some (sym c.at.ensures ∙ e)) c.loop-j.invariant.count
 
 pub carry_one-requires-clause-item : goal.carry_one-requires-clause-item
 carry_one-requires-clause-item c i e =

@@ -1,7 +1,6 @@
 use Rattle.std.proofs.Common.{◌≡◌, length}
 use Rattle.mm_proof.specs.mm_frame.Language.Base.{BaseView}
-use Rattle.mm_keep.specs.Code.Planned.{CanCarry}
-use Rattle.mm_keep.proofs.CarryLemmas.{AreCarried}
+use Rattle.mm_keep.{specs.Code.Planned.{CanCarry}, proofs.CarryLemmas.{AreCarried}}
 use Rattle.mm_keep.proofs.planning.carry.Given as goal
 
 abbrev pub invariant-loop-j : goal.invariant-loop-j

@@ -1,7 +1,6 @@
 use Rattle.std.proofs.{Common.{ℕ, Option, sym, ◌∙◌, ap, subst, is_some}, lemmas.Bool.{false≢true}}
 use Rattle.mm_proof.specs.Language.BaseMarks.{mark_at}
-use Rattle.mm_keep.specs.Code.Planned.{IsPlanned}
-use Rattle.mm_keep.proofs.PlanLemmas.{mark_here, plans_unmarked, plans_no_theorem, plans_kept, plans_changed}
+use Rattle.mm_keep.{specs.Code.Planned.{IsPlanned}, proofs.PlanLemmas.{mark_here, plans_unmarked, plans_no_theorem, plans_kept, plans_changed}}
 use Rattle.mm_keep.proofs.planning.old_with_same_view.Goals as goal
 
 pub returns-in_err-i : goal.returns-in_err-i

@@ -1,8 +1,7 @@
-use Rattle.std.proofs.Common.{◌≡◌, ◌<◌, ◌+◌, ◌∷◌, [], ℕ, Option, Some, None, length, map, sym, ◌∙◌, ap, subst, subst₂, arith}
-use Rattle.std.proofs.lemmas.{Option.{none-some, same_Some}, List.{length-map, length_push, map-append}}
+use Rattle.std.proofs.{Common.{◌≡◌, ◌<◌, ◌+◌, ◌∷◌, [], ℕ, Option, Some, None, length, map, sym, ◌∙◌, ap, subst, subst₂, arith}, lemmas.Option.{none-some, same_Some}}
+use Rattle.std.proofs.lemmas.List.{length-map, length_push, map-append}
 use Rattle.mm_proof.specs.mm_frame.Language.Base.{BaseView}
-use Rattle.mm_keep.specs.Code.{KeptPlan.{number_planned}, Planned.{ArePlanned, IsPlanned}}
-use Rattle.mm_keep.proofs.PlanLemmas.{each_more}
+use Rattle.mm_keep.{specs.Code.{KeptPlan.{number_planned}, Planned.{ArePlanned, IsPlanned}}, proofs.PlanLemmas.{each_more}}
 use Rattle.mm_keep.proofs.planning.planned.Goals as goal
 
 -- what is kept is of an item of the old base

@@ -1,11 +1,7 @@
-use Rattle.std.proofs.{Common.{◌≡◌, ◌+◌, Option, Some, None, List, length, sym, ◌∙◌, ap, subst, arith, slice_get}, lemmas.{List.{length_push}, Option.{slice_get-get_or}}}
+use Rattle.std.proofs.{lemmas.{Grind.{common_steps}, List.{length_push}, Option.{slice_get-get_or}}, Common.{◌≡◌, ◌+◌, Option, Some, None, List, length, sym, ◌∙◌, ap, subst, arith, slice_get}}
 use Rattle.mm_proof.specs.mm_verdict.Language.Work.{Judgement}
-use Rattle.mm_keep.specs.Code.Planned.{AreRunBy, AreRecorded, IsRunBy}
-use Rattle.mm_keep.proofs.RunLemmas.{run_more, recorded_more, takes}
+use Rattle.mm_keep.{specs.Code.Planned.{AreRunBy, IsRunBy}, proofs.RunLemmas.{run_more, recorded_more, takes}}
 use Rattle.mm_keep.proofs.planning.run_rest.Goals as goal
-
-pub push-requires : goal.push-requires
-push-requires c = let has = c.requires.read in omega (arith, c.loop-j.invariant.count, c.loop-j-test.true, c.count-count.ensures.few has.0 (c.args.names.now, has.1.base))
 
 pub loop-j-preserved : goal.loop-j-preserved
 loop-j-preserved c =
@@ -29,15 +25,7 @@ loop-j-preserved c =
       recorded = λ view is. recorded_more view plan j from c.loop-j.work c.run_of.new.work there (c.in_ok-run_of.ensures.work view is) (c.loop-j.invariant.recorded view is);
     }
 
-pub returns-clause-checked : goal.returns-clause-checked
-returns-clause-checked c view is =
-    let has = c.requires.read in
-    let count = c.count-count.ensures.count has.0 (c.args.names.now, has.1.base) in
-    (c.loop-j.invariant.checked view is, omega (arith, count, has.2, c.loop-j.invariant.count))
-
 pub returns-clause-work : goal.returns-clause-work
 returns-clause-work c view is =
-    let has = c.requires.read in
-    let count = c.count-count.ensures.count has.0 (c.args.names.now, has.1.base) in
-    let e : c.loop-j.j ≡ length c.args.plan.now = omega (arith, count, has.2) in
-    subst (λ n. AreRecorded view c.args.plan.now n c.loop-j.work) e (c.loop-j.invariant.recorded view is)
+    let e : c.loop-j.j ≡ length c.args.plan.now = omega (arith, (c.count-count.ensures.count c.requires.read.0 (c.args.names.now, c.requires.read.1.base)), c.requires.read.2) in
+    grind (arith, common_steps, c.count-count.ensures.count c.requires.read.0 (c.args.names.now, c.requires.read.1.base), c.loop-j.invariant.recorded view is) steps 200000

@@ -1,13 +1,11 @@
-use Rattle.std.proofs.Common.{◌+◌, ◌∙◌, sym, ap, arith}
+use Rattle.std.proofs.{lemmas.Grind.{common_steps}, Common.{◌+◌, ◌∙◌, sym, ap, arith}}
 use Rattle.mm_proof.specs.mm_frame.Language.Base.{said_at}
-use Rattle.mm_keep.specs.Language.WordPlaces.{proof_word, start_of}
-use Rattle.mm_keep.proofs.{ToldLemmas.{read_at, stands_at, says_at}, SpotLemmas.{letter_in, letter_within}}
+use Rattle.mm_keep.{specs.Language.WordPlaces.{proof_word, start_of}, proofs.{ToldLemmas.{read_at, stands_at, says_at}, SpotLemmas.{letter_in, letter_within}}}
 use Rattle.mm_keep.proofs.seen.place_of_spot.Goals as goal
 
 pub nth_of_proof-word-requires : goal.nth_of_proof-word-requires
 nth_of_proof-word-requires c =
-    let r = c.requires in
-    read_at r.0 c.args.files.now c.args.base.now c.args.number c.item-item.result.now (r.1, r.2, r.3) c.item-item.ensures.found
+    grind (arith, common_steps, read_at c.requires.0 c.args.files.now c.args.base.now c.args.number c.item-item.result.now (c.requires.1, c.requires.2, c.requires.3) c.item-item.ensures.found) steps 200000
 
 pub place_in-requires : goal.place_in-requires
 place_in-requires c =

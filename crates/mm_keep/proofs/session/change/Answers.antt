@@ -1,6 +1,5 @@
-use Rattle.std.proofs.Common.{map, sym, subst}
-use Rattle.mm_proof.specs.{mm_store.{declared.batch.BatchError.{BatchError}, Language.FilesView.{plain}}, mm_text.Language.Asked.{asked}}
-use Rattle.mm_keep.specs.Code.Changing.{IsChangeError}
+use Rattle.std.proofs.{Common.{arith, map}, lemmas.Grind.{common_steps}}
+use Rattle.mm_proof.specs.{mm_store.Language.FilesView.{plain}, mm_text.Language.Asked.{asked}}
 use Rattle.mm_keep.proofs.{KeepLemmas.{batch_starts}, ChangeLemmas.{were_kept}}
 use Rattle.mm_keep.proofs.session.change.Goals as goal
 
@@ -28,9 +27,7 @@ returns-in-Err-go_on-clause-kept c =
     c.args.names.now c.args.base.now _ c.requires (map asked c.args.edits.now) e.ok e.reading e.spendable)
 
 pub returns-in-Err-go_on-clause-refused : goal.returns-in-Err-go_on-clause-refused
-returns-in-Err-go_on-clause-refused c =
-    let edits = map asked c.args.edits.now in
-    subst (λ (error : BatchError). IsChangeError edits (plain c.args.files.now) error) (sym c.from.ensures) (batch_starts edits (plain c.args.files.now) (plain c.edit_all.new.self) c.in-Ok.ensures.ok)
+returns-in-Err-go_on-clause-refused c = grind (arith, common_steps, batch_starts (map asked c.args.edits.now) (plain c.args.files.now) (plain c.edit_all.new.self) c.in-Ok.ensures.ok) steps 200000
 
 pub returns-in-Err-go_on-clause-unchanged : goal.returns-in-Err-go_on-clause-unchanged
 returns-in-Err-go_on-clause-unchanged c =

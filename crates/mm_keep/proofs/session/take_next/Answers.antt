@@ -1,11 +1,9 @@
-use Rattle.std.proofs.Common.{refl}
+use Rattle.std.proofs.{Common.{arith, refl}, lemmas.Grind.{common_steps}}
 use Rattle.mm_keep.proofs.ChangeLemmas.{can_carry, kept_settled, changed_settled}
 use Rattle.mm_keep.proofs.session.take_next.Goals as goal
 
 pub carry-requires : goal.carry-requires
-carry-requires c =
-    let can = c.requires.3 in
-    (can.old, can.base, can_carry c.requires.0 c.args.files.now c.args.undos c.requires.1 c.requires.2 c.args.checked.now c.args.next can)
+carry-requires c = grind (arith, common_steps, can_carry c.requires.0 c.args.files.now c.args.undos c.requires.1 c.requires.2 c.args.checked.now c.args.next c.requires.3) steps 200000
 
 pub returns-clause-kept : goal.returns-clause-kept
 returns-clause-kept c before top names can =

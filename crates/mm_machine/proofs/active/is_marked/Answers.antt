@@ -1,6 +1,5 @@
-use Rattle.std.proofs.{Common.{Some, map, length, get_or, refl, sym, ◌∙◌, ap, arith, slice_get, slice_index}, lemmas.{Bool.{false≢true}, List.{length-map}, Option.{slice_get_within}}}
-use Rattle.mm_machine.specs.Code.PairClause.{home_at}
-use Rattle.mm_machine.proofs.lemmas.machine.{FlatLemmas.{mapped_get, mapped_at}, ApartLemmas.{contains_at}, MarkLemmas.{marked_found}}
+use Rattle.std.proofs.{Common.{rules, Some, map, length, get_or, sym, ◌∙◌, ap, arith, slice_get, slice_index}, lemmas.{Bool.{false≢true}, List.{length-map}, Option.{slice_get_within}}}
+use Rattle.mm_machine.{specs.Code.PairClause.{home_at}, proofs.lemmas.machine.{FlatLemmas.{mapped_get, mapped_at}, ApartLemmas.{contains_at}, MarkLemmas.{marked_found}}}
 use Rattle.mm_machine.proofs.active.is_marked.Goals as goal
 
 pub returns-then-place-xs : goal.returns-then-place-xs
@@ -18,14 +17,12 @@ returns-then-place-xs g c =
 pub returns-then-home_of-at : goal.returns-then-home_of-at
 returns-then-home_of-at g c =
     let m = g.S.Symbol.means in
-    let key = home_at g.S.Kept.key_of (length c.args.places.now) in
-    let x = c.index-xs-place.result in
-    let place = get_or c.args.places.now c.home_of-at.result 0 in (
+    let key = home_at g.S.Kept.key_of (length c.args.places.now) in (
       λ t. absurd (false≢true t),
       λ s.
           let f = marked_found key (map m c.args.xs.now) c.args.places.now (length c.args.xs.now) (m c.args.y.now) (omega (arith, length-map c.args.xs.now m)) c.requires s (omega (arith, c.home_of-at.ensures, c.if-at-places.false)) in
           let k = ap (slice_index c.args.places.now) c.home_of-at.ensures in
-          let same = mapped_at m c.args.xs.now place x f.0 (omega (arith, c.if-place-xs.false)) c.index-xs-place.is (ap (slice_get (map m c.args.xs.now)) k ∙ f.1) in
+          let same = mapped_at m c.args.xs.now (get_or c.args.places.now c.home_of-at.result 0) c.index-xs-place.result f.0 (omega (arith, c.if-place-xs.false)) c.index-xs-place.is (ap (slice_get (map m c.args.xs.now)) k ∙ f.1) in
           absurd (c.if-home_of-at.true (c.home_of.ensures ∙ ap key (sym same) ∙ f.2 ∙ sym c.home_of-at.ensures)),
     )
 
@@ -33,7 +30,5 @@ pub returns-then-same : goal.returns-then-same
 returns-then-same g c =
     let m = g.S.Symbol.means in
     let x = c.index-xs-place.result in
-    let place = get_or c.args.places.now c.home_of-at.result 0 in (
-      λ _. contains_at (map m c.args.xs.now) place (m c.args.y.now) (mapped_get m c.args.xs.now place x (omega (arith, c.if-place-xs.false)) c.index-xs-place.is ∙ ap Some (c.same.ensures.0 c.if-same.true)),
-      λ _. refl,
-    )
+    let place = get_or c.args.places.now c.home_of-at.result 0 in
+    search (rules, contains_at (map m c.args.xs.now) place (m c.args.y.now) (mapped_get m c.args.xs.now place x (omega (arith, c.if-place-xs.false)) c.index-xs-place.is ∙ ap Some (c.same.ensures.0 c.if-same.true))) steps 500000

@@ -1,6 +1,5 @@
 use Rattle.std.proofs.Common.{map, length, ◌∙◌, ap, arith, refl, subst, ◌≡◌, slice_set, length-set}
-use Rattle.mm_machine.specs.Code.PairClause.{AreKeyPlaces, home, home_at}
-use Rattle.mm_machine.proofs.lemmas.machine.{FlatLemmas.{mapped_get}, MarkLemmas.{marked_more}}
+use Rattle.mm_machine.{specs.Code.PairClause.{AreKeyPlaces, home, home_at}, proofs.lemmas.machine.{FlatLemmas.{mapped_get}, MarkLemmas.{marked_more}}}
 use Rattle.mm_machine.proofs.active.mark.Goals as goal
 
 pub loop-i-preserved : goal.loop-i-preserved

@@ -1,6 +1,5 @@
 use Rattle.std.proofs.{Common.{map, sym, ◌∙◌, arith, length, subst, Contains}, lemmas.{Bool.{false≢true}, List.{length-map}, Grind.{common_steps}}}
-use Rattle.mm_machine.specs.Code.PairClause.{AreKeyPlaces, home_at}
-use Rattle.mm_machine.proofs.lemmas.machine.{FlatLemmas.{mapped_get}, ApartLemmas.{each_more, each_all}}
+use Rattle.mm_machine.{specs.Code.PairClause.{AreKeyPlaces, home_at}, proofs.lemmas.machine.{FlatLemmas.{mapped_get}, ApartLemmas.{each_more, each_all}}}
 use Rattle.mm_machine.proofs.active.share.Goals as goal
 
 pub loop-i-preserved : goal.loop-i-preserved

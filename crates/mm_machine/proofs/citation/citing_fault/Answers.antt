@@ -1,6 +1,6 @@
 use Rattle.std.proofs.Common.{map}
-use Rattle.mm_machine.specs.{Code.{Flat.{read_all}, Citation.{frame_from}}, Language.CitedFrames.{meant_pairs}}
-use Rattle.mm_machine.proofs.lemmas.machine.{EntryFaults.{gives_all, hypotheses_known, count_of}, CitingFaults.{says09, says_pairs, says12}}
+use Rattle.mm_machine.{specs.{Code.{Flat.{read_all}, Citation.{frame_from}}, Language.CitedFrames.{meant_pairs}}, proofs.lemmas.machine.EntryFaults.{gives_all, hypotheses_known, count_of}}
+use Rattle.mm_machine.proofs.lemmas.machine.CitingFaults.{says09, says_pairs, says12}
 use Rattle.mm_machine.proofs.citation.citing_fault.Goals as goal
 
 pub pairs_fault-requires : goal.pairs_fault-requires
@@ -40,14 +40,12 @@ returns-then-not-is_short g c =
 
 pub returns : goal.returns
 returns g c =
-    let m = g.S.Symbol.means in
-    let frame = frame_from m c.args.taken.now.hypotheses.now c.args.expression.now c.args.pairs.now in
-    let es = read_all (map m c.args.taken.now.symbols.now) c.args.taken.now.entries.now in
-    let pairs = rw c.in_default.is at c.in_ok-number.ensures in (
+    let frame = frame_from g.S.Symbol.means c.args.taken.now.hypotheses.now c.args.expression.now c.args.pairs.now in
+    let es = read_all (map g.S.Symbol.means c.args.taken.now.symbols.now) c.args.taken.now.entries.now in (
       c.requires.typecodes,
       λ given gives. (
         c.if-not-essentials_fit.ensures given gives,
-        pairs given gives,
+        (rw c.in_default.is at c.in_ok-number.ensures) given gives,
         c.if-not-is_short.ensures given (gives_all frame.hypotheses given es frame.expression (hypotheses_known frame c.requires.frame) gives c.requires.frame.expression_typed),
       ),
     )

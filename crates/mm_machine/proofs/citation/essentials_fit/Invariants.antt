@@ -1,6 +1,5 @@
 use Rattle.std.proofs.Common.{List, map}
-use Rattle.mm_machine.specs.{Language.{Frame.{Symbol}, CitedFrames.{hypotheses_of}}, Code.{Flat.{read_all}, Citation.{GivesEntries, OtherEssential}}}
-use Rattle.mm_machine.proofs.lemmas.machine.EntryFaults.{NoneUpTo}
+use Rattle.mm_machine.{specs.{Language.{Frame.{Symbol}, CitedFrames.{hypotheses_of}}, Code.{Flat.{read_all}, Citation.{GivesEntries, OtherEssential}}}, proofs.lemmas.machine.EntryFaults.{NoneUpTo}}
 use Rattle.mm_machine.proofs.citation.essentials_fit.Given as goal
 
 abbrev pub invariant-loop-place : goal.invariant-loop-place

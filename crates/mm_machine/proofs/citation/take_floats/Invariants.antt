@@ -1,6 +1,5 @@
 use Rattle.std.proofs.Common.{◌≡◌, ◌<◌, ℕ, true, Some, map, slice_get}
-use Rattle.mm_machine.specs.{Language.{Frame.{Mandatory}, CitedFrames.{hypotheses_of}}, Code.{Flat.{read_all}, Citation.{OtherTypecode}}}
-use Rattle.mm_machine.proofs.lemmas.machine.EntryFaults.{NoneUpTo}
+use Rattle.mm_machine.{specs.{Language.{Frame.{Mandatory}, CitedFrames.{hypotheses_of}}, Code.{Flat.{read_all}, Citation.{OtherTypecode}}}, proofs.lemmas.machine.EntryFaults.{NoneUpTo}}
 use Rattle.mm_machine.proofs.citation.take_floats.Given as goal
 
 abbrev pub invariant-loop-place : goal.invariant-loop-place

@@ -1,6 +1,5 @@
 use Rattle.std.proofs.{Common.{map, ℕ, subst, arith}, lemmas.{List.{length-map}, Grind.{common_steps}}}
-use Rattle.mm_machine.specs.Code.PairClause.{GathersOne}
-use Rattle.mm_machine.proofs.lemmas.machine.{FlatLemmas.{mapped_get}, ApartLemmas.{gathered_more}}
+use Rattle.mm_machine.{specs.Code.PairClause.{GathersOne}, proofs.lemmas.machine.{FlatLemmas.{mapped_get}, ApartLemmas.{gathered_more}}}
 use Rattle.mm_machine.proofs.gather.gather.Goals as goal
 
 pub loop-i-preserved : goal.loop-i-preserved
@@ -16,8 +15,7 @@ loop-i-preserved g c =
     }
 
 pub gather_one-requires : goal.gather_one-requires
-gather_one-requires g c =
-    omega (arith, c.loop-i.invariant.begin, c.loop-i.invariant.so_far.long, length-map c.loop-i.variables.items g.S.Symbol.means)
+gather_one-requires g c = grind (arith, common_steps, length-map c.loop-i.variables.items g.S.Symbol.means) steps 200000
 
 pub loop-i-init : goal.loop-i-init
 loop-i-init g c = grind (arith, common_steps)

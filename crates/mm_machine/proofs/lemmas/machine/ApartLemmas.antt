@@ -1,24 +1,18 @@
 -- Elements of lists, one after another, and which of them are apart.
-use Rattle.std.proofs.Common.{◌≡◌, ℕ, zero, suc, ◌+◌, ◌-◌, ◌<◌, ◌≤◌, Bool, true, Some, List, [], ◌∷◌, ◌++◌, length, map, take, drop, get_or, refl, sym, ◌∙◌, ap, subst, arith, inl, inr, ◌⊎◌}
-use Rattle.std.proofs.Common.{length-append, slice_get, Contains}
-use Rattle.std.proofs.Math.Decide.{ℕ_discrete}
-use Rattle.std.proofs.lemmas.Option.{slice_get_within, get_or_from_slice_get, slice_get-get_or, same_Some}
+use Rattle.std.proofs.lemmas.{Grind.{common_steps}, Option.{slice_get_within, get_or_from_slice_get, slice_get-get_or, same_Some}}
 use Rattle.std.proofs.lemmas.List.{length-drop, get_or-drop, get_or_at, take_rest, drop-map, take_all, take_more, drop-append-le, take-append-le, take-append-drop}
 use Rattle.std.proofs.lemmas.List.Elements.{Contains-append_left, Contains-append_right, Contains-append_cases}
-use Rattle.mm_machine.specs.{Language.Frame.{Symbol, ArePair, HasVariable}, declared.{pattern.Entry.{Entry}, assertion.Hypothesis.{Hypothesis}}}
-use Rattle.mm_machine.specs.Code.{Flat.{read, IsEntryWithin}, PairClause.{IsPair, GatheredUpTo, GathersOne, GathersEntry, Gathers}}
-use Rattle.mm_machine.proofs.lemmas.lists.Members.{contains_cases}
+use Rattle.std.proofs.Common.{◌≡◌, ℕ, zero, suc, ◌+◌, ◌-◌, ◌<◌, ◌≤◌, Bool, true, Some, List, [], ◌∷◌, ◌++◌, length, map, take, drop, refl, sym, ◌∙◌, ap, subst, arith, inl, inr, ◌⊎◌, length-append}
+use Rattle.std.proofs.Common.{slice_get, Contains}
+use Rattle.mm_machine.specs.{Language.Frame.{Symbol, ArePair, HasVariable}, declared.{pattern.Entry.{Entry}, assertion.Hypothesis.{Hypothesis}}, Code.Flat.{read, IsEntryWithin}}
+use Rattle.mm_machine.{specs.Code.PairClause.{IsPair, GatheredUpTo, GathersOne, GathersEntry, Gathers}, proofs.lemmas.lists.Members.{contains_cases}}
 
 -- it is said of each element up to a place
 abbrev pub EachUpTo : {X : Type 0} → (X → Type 0) → List X → ℕ → Type 0
 EachUpTo {X} P xs n = (k : ℕ) (x : X) → k < n → slice_get xs k ≡ Some x → P x
 
 pub each_more : {X : Type 0} (P : X → Type 0) (xs : List X) (n : ℕ) (x : X) → slice_get xs n ≡ Some x → P x → EachUpTo P xs n → EachUpTo P xs (n + 1)
-each_more P xs n x at p f k y l b = by_case (ℕ_discrete k n)
-  where
-    by_case : Dec (k ≡ n) → P y
-    by_case (yes e) = subst P (same_Some x y (sym at ∙ ap (slice_get xs) (sym e) ∙ b)) p
-    by_case (no m) = f k y (omega arith) b
+each_more P xs n x at p f k y l b = grind (arith, common_steps, same_Some) steps 200000
 
 pub contains_get : {X : Type 0} (xs : List X) (x : X) → (c : Contains xs x) → slice_get xs c.0 ≡ Some x
 contains_get xs x c = slice_get-get_or xs c.0 x c.1 ∙ ap Some c.2
@@ -31,8 +25,7 @@ each_all P xs n l f x c = f c.0 x (omega arith) (contains_get xs x c)
 
 -- the pair of two symbols, at a place and nowhere
 pub pair_found : (pairs : List (Symbol × Symbol)) (k : ℕ) (p : Symbol × Symbol) (x y : Symbol) → slice_get pairs k ≡ Some p → IsPair p x y → ArePair pairs x y
-pair_found pairs k p x y at (inl s) = inl (contains_at pairs k (x, y) (at ∙ ap Some (λ i. (s.0 i, s.1 i))))
-pair_found pairs k p x y at (inr s) = inr (contains_at pairs k (y, x) (at ∙ ap Some (λ i. (s.0 i, s.1 i))))
+pair_found pairs k p x y at h = grind (arith, common_steps, contains_at) steps 200000
 
 pub pair_nowhere : (pairs : List (Symbol × Symbol)) (n : ℕ) (x y : Symbol) → length pairs ≤ n → EachUpTo (λ p. IsPair p x y → ⊥) pairs n → ArePair pairs x y → ⊥
 pair_nowhere pairs n x y l f (inl c) = each_all (λ (p : Symbol × Symbol). IsPair p x y → ⊥) pairs n l f (x, y) c (inl (refl, refl))
@@ -42,9 +35,7 @@ pair_nowhere pairs n x y l f (inr c) = each_all (λ (p : Symbol × Symbol). IsPa
 
 pub contains_behind : (all : List Symbol) (start place : ℕ) (s : Symbol) → start ≤ place → slice_get all place ≡ Some s → Contains (drop start all) s
 contains_behind all start place s l at =
-    let w = slice_get_within all place s at in
-    let e : start + (place - start) ≡ place = omega arith in
-    (place - start, omega (arith, length-drop start all), get_or-drop start all (place - start) s ∙ ap (λ k. get_or all k s) e ∙ get_or_from_slice_get all place s s at)
+    grind (arith, common_steps, slice_get_within all place s at, length-drop start all, get_or-drop start all (place - start) s, get_or_from_slice_get all place s s at) steps 200000
 
 pub contains_rest : {S : Type 0} (f : S → Symbol) (xs : List S) (start : ℕ) (s : Symbol) → Contains (map f (take (length xs - start) (drop start xs))) s → Contains (drop start (map f xs)) s
 contains_rest f xs start s c = subst (λ w. Contains w s) (ap (map f) (take_rest xs start) ∙ sym (drop-map f start xs)) c
@@ -96,36 +87,29 @@ front_at (x ∷ xs) ys (suc k) l = front_at xs ys k (omega arith)
 -- one more entry
 pub read_kept : (before after : List Symbol) (s : Entry) → take (length before) after ≡ before → s.end ≤ length before → read after s ≡ read before s
 read_kept before after s kept l =
-    by_cases (ℕ_cases s.start s.end)
-  where
-    ℕ_cases : (a b : ℕ) → (a ≤ b) ⊎ (b < a)
-    ℕ_cases a b = grind arith
+    by_cases (ℕ_cases s.start s.end) where
+      ℕ_cases : (a b : ℕ) → (a ≤ b) ⊎ (b < a)
+      ℕ_cases a b = grind arith
 
-    rest : List Symbol
-    rest = drop (length before) after
+      rest : List Symbol
+      rest = drop (length before) after
 
-    whole : after ≡ before ++ rest
-    whole = sym (take-append-drop (length before) after) ∙ ap (λ w. w ++ rest) kept
+      whole : after ≡ before ++ rest
+      whole = sym (take-append-drop (length before) after) ∙ ap (λ w. w ++ rest) kept
 
-    by_cases : (s.start ≤ s.end) ⊎ (s.end < s.start) → read after s ≡ read before s
-    by_cases (inl o) =
-        let low : s.start ≤ length before = omega arith in
-        let room : s.end - s.start ≤ length (drop s.start before) = omega (arith, length-drop s.start before) in
-        ap (λ w. take (s.end - s.start) (drop s.start w)) whole
-        ∙ ap (take (s.end - s.start)) (drop-append-le s.start before rest low)
-        ∙ take-append-le (s.end - s.start) (drop s.start before) rest room
-    by_cases (inr o) =
-        let none : s.end - s.start ≡ 0 = omega arith in
-        ap (λ k. take k (drop s.start after)) none ∙ ap (λ k. take k (drop s.start before)) (sym none)
+      by_cases : (s.start ≤ s.end) ⊎ (s.end < s.start) → read after s ≡ read before s
+      by_cases (inl o) =
+          let low : s.start ≤ length before = omega arith in
+          let room : s.end - s.start ≤ length (drop s.start before) = omega (arith, length-drop s.start before) in
+          ap (λ w. take (s.end - s.start) (drop s.start w)) whole
+          ∙ ap (take (s.end - s.start)) (drop-append-le s.start before rest low)
+          ∙ take-append-le (s.end - s.start) (drop s.start before) rest room
+      by_cases (inr o) =
+          let none : s.end - s.start ≡ 0 = omega arith in
+          ap (λ k. take k (drop s.start after)) none ∙ ap (λ k. take k (drop s.start before)) (sym none)
 
 read_last : (before after : List Symbol) (s : Entry) → s.start ≡ length before → s.end ≡ length after → read after s ≡ drop (length before) after
-read_last before after s a b =
-    ap (λ k. take (s.end - s.start) (drop k after)) a
-    ∙ ap (λ k. take k (drop (length before) after)) count
-    ∙ take_rest after (length before)
-  where
-    count : s.end - s.start ≡ length after - length before
-    count = omega arith
+read_last before after s a b = grind (arith, common_steps, take_rest) steps 200000
 
 pub gathers_step : {S : Type 0} (hypotheses : List (Hypothesis S)) (es : List (List Symbol)) (before after : List Symbol) (spans more : List Entry) (n : ℕ)
     (h : Hypothesis S) (e : List Symbol) → slice_get hypotheses n ≡ Some h → slice_get es n ≡ Some e →
@@ -148,19 +132,7 @@ gathers_step {S = S} hypotheses es before after spans more n h e at_h at_e a f =
 }
   where
     at_or_before : (k : ℕ) (s : Entry) → slice_get more k ≡ Some s → ((k < n) × (slice_get spans k ≡ Some s)) ⊎ ((k ≡ n) × (a.span ≡ s))
-    at_or_before k s at = by_case (ℕ_discrete k n)
-      where
-        within_more : k < n + 1
-        within_more =
-            let w = slice_get_within more k s at in
-            let x = ap length a.added in
-            omega (arith, length-append spans (a.span ∷ []))
-
-        by_case : Dec (k ≡ n) → ((k < n) × (slice_get spans k ≡ Some s)) ⊎ ((k ≡ n) × (a.span ≡ s))
-        by_case (yes e) = inr (e, same_Some a.span s (sym (last_at spans a.span k (e ∙ sym f.count)) ∙ ap (λ w. slice_get w k) (sym a.added) ∙ at))
-        by_case (no m) =
-            let l : k < n = omega (arith, within_more) in
-            inl (l, sym (front_at spans (a.span ∷ []) k (omega arith)) ∙ ap (λ w. slice_get w k) (sym a.added) ∙ at)
+    at_or_before k s at = grind (arith, common_steps, front_at, last_at, length-append, same_Some, slice_get_within) steps 200000
 
 -- one entry, by what was gathered of it
 pub entry_gathered : (xs before after e : List Symbol) (n start end : ℕ) (paired : Bool) (spans more : List Entry) → xs ≡ drop 1 e → length xs ≤ n → GatheredUpTo xs before after n → start ≡ length before → end ≡ length after →

@@ -1,16 +1,12 @@
 -- The lowest number that holds when an assertion is cited.
-use Rattle.std.proofs.Common.{◌≡◌, ℕ, ◌-◌, ◌<◌, ◌≤◌, Some, None, List, [], ◌∷◌, ◌++◌, length, take, sym, ◌∙◌, subst, arith, All, Any}
+use Rattle.std.proofs.{lemmas.Grind.{elements}, Common.{◌≡◌, ◌-◌, ◌<◌, ◌≤◌, Some, None, List, [], ◌∷◌, ◌++◌, length, take, sym, ◌∙◌, subst, arith, All, Any}}
 use Rattle.mm_machine.specs.Language.{Frame.{Symbol, Frame}, Typing.{IsFrame}, Substitution.{substituted}, Derivation.{AreApart, ShareVariable}, Steps.{Cites}}
-use Rattle.mm_machine.specs.Language.Faults.{AnyZip, CitingFails, entries_for, row_of, LackPair}
-use Rattle.mm_machine.specs.declared.ProofNumber.{ProofNumber, TheVariants.{P07, P08, P09, P10, P11, P12}}
+use Rattle.mm_machine.specs.{Language.Faults.{AnyZip, CitingFails, entries_for, row_of, LackPair}, declared.ProofNumber.{ProofNumber, TheVariants.{P07, P08, P09, P10, P11, P12}}}
 use Rattle.mm_machine.specs.Code.{Citation.{GivesEntries, OtherTypecode, OtherEssential, CitingSays, IsLowestCiting}, PairClause.{PairsSay}}
 use Rattle.mm_machine.proofs.lemmas.machine.{Given.{given_by, floats_match, all_match}, Turning.{NoneBelow, none_more, none_first, cites_by}}
 
 lowest : (P : ProofNumber → Type 0) (number : ProofNumber) → NoneBelow P (row_of number) → P number → P number × ((other : ProofNumber) → P other → row_of number ≤ row_of other)
-lowest P number below p = (p, λ other q. at_least (row_of number) (row_of other) (below other q))
-  where
-    at_least : (a b : ℕ) → (b < a → ⊥) → a ≤ b
-    at_least a b n = omega arith
+lowest P number below p = grind (arith, elements) steps 200000
 
 -- there are too few entries
 pub says07 : (active : List (Symbol × Symbol)) (frame : Frame) (stack : List (List Symbol)) → length stack < length frame.hypotheses → IsLowestCiting active frame stack P07

@@ -1,11 +1,9 @@
 -- What is found wrong with entries, place by place.
-use Rattle.std.proofs.{Common.{◌≡◌, ℕ, zero, suc, ◌+◌, ◌<◌, ◌≤◌, true, Some, List, [], ◌∷◌, length, drop, refl, sym, ◌∙◌, ap, subst, arith, inl, inr, slice_get}, Math.Decide.{ℕ_discrete}}
-use Rattle.std.proofs.lemmas.{List.{length-map, Elements.{All-contains}}, Option.{slice_get_within, get_or_from_slice_get, same_Some}}
-use Rattle.std.specs.List.{AllZip}
+use Rattle.std.proofs.{Common.{rules, ◌≡◌, ℕ, zero, suc, ◌+◌, ◌<◌, ◌≤◌, true, Some, List, [], ◌∷◌, length, drop, refl, sym, ◌∙◌, ap, subst, arith, inl, inr, slice_get}, lemmas.Grind.{elements}}
+use Rattle.std.{proofs.lemmas.{List.{length-map, Elements.{All-contains}}, Option.{slice_get_within, get_or_from_slice_get, same_Some}}, specs.List.{AllZip}}
 use Rattle.mm_machine.specs.Language.{Frame.{Symbol, Mandatory, Frame, HasVariable}, Typing.{IsFrame, IsTyping, IsTyped}, Substitution.{substituted}, Faults.{AnyZip}}
-use Rattle.mm_machine.specs.Language.CitedFrames.{hypotheses_of, mandatory_of}
-use Rattle.mm_machine.specs.{declared.{pattern.Entry.{Entry}, assertion.Hypothesis.{Hypothesis}}, Code.{Flat.{read, read_all}, Citation.{IsSlot, GivesVariables, GivesEntries, AreAllTyped}}}
-use Rattle.mm_machine.proofs.lemmas.verdicts.Unique.{substituted-typing}
+use Rattle.mm_machine.specs.{Language.CitedFrames.{hypotheses_of, mandatory_of}, declared.{pattern.Entry.{Entry}, assertion.Hypothesis.{Hypothesis}}, Code.Flat.{read, read_all}}
+use Rattle.mm_machine.{specs.Code.Citation.{IsSlot, GivesVariables, GivesEntries, AreAllTyped}, proofs.lemmas.verdicts.Unique.{substituted-typing}}
 
 -- it holds at this place
 pub record AreAt {A B : Type 0} (R : A → B → Type 0) (xs : List A) (ys : List B) (k : ℕ) : Type 0 where
@@ -20,20 +18,10 @@ abbrev pub NoneUpTo : {A B : Type 0} → (A → B → Type 0) → List A → Lis
 NoneUpTo R xs ys n = (k : ℕ) → k < n → AreAt R xs ys k → ⊥
 
 pub none_more : {A B : Type 0} (R : A → B → Type 0) (xs : List A) (ys : List B) (n : ℕ) (x : A) (y : B) → slice_get xs n ≡ Some x → slice_get ys n ≡ Some y → (R x y → ⊥) → NoneUpTo R xs ys n → NoneUpTo R xs ys (n + 1)
-none_more R xs ys n x y a b r f k l at = by_case (ℕ_discrete k n)
-  where
-    by_case : Dec (k ≡ n) → ⊥
-    by_case (yes e) =
-        let first : at.x ≡ x = same_Some at.x x (sym at.first ∙ ap (slice_get xs) e ∙ a) in
-        let second : at.y ≡ y = same_Some at.y y (sym at.second ∙ ap (slice_get ys) e ∙ b) in
-        r (subst (λ z. R z y) first (subst (R at.x) second at.holds))
-    by_case (no m) = f k (omega arith) at
+none_more R xs ys n x y a b r f k l at = search (rules, same_Some) steps 500000
 
 pub any_at : {A B : Type 0} (R : A → B → Type 0) (xs : List A) (ys : List B) (k : ℕ) (x : A) (y : B) → slice_get xs k ≡ Some x → slice_get ys k ≡ Some y → R x y → AnyZip R xs ys
-any_at R (a ∷ xs) (b ∷ ys) zero x y e f r =
-    let first : a ≡ x = cc in
-    let second : b ≡ y = cc in
-    inl (subst (λ w. R w b) (sym first) (subst (R x) (sym second) r))
+any_at R (a ∷ xs) (b ∷ ys) zero x y e f r = grind (arith, elements) steps 200000
 any_at R (a ∷ xs) (b ∷ ys) (suc k) x y e f r = inr (any_at R xs ys k x y e f r)
 any_at R _ _ k x y e f r = cc
 
@@ -58,18 +46,11 @@ zip_at R _ _ n x a e = absurd a
 -- what is given for the variable of a slot
 pub slot_gives : (hs : List Mandatory) (given : Symbol → List Symbol) (es : List (List Symbol)) → AreAllTyped hs → GivesEntries given hs es → (j : ℕ) (v : Symbol) → IsSlot hs j v → (e : List Symbol) × (slice_get es j ≡ Some e) × (given v ≡ drop 1 e)
 slot_gives hs given es is gives j v slot =
-    let R : Mandatory → List Symbol → Type 0 = λ h e. h.floating ≡ true → substituted given h.expression ≡ e in
     let h = slot.0 in
-    let z = zip_at R hs es j h gives slot.1 in
+    let z = zip_at (λ h e. h.floating ≡ true → substituted given h.expression ≡ e) hs es j h gives slot.1 in
     let l = slice_get_within hs j h slot.1 in
-    let P : Mandatory → Type 0 = λ h. h.floating ≡ true → IsTyping h.expression in
-    let t = All-contains P hs h is.typings (j, l, get_or_from_slice_get hs j h h slot.1) slot.2 in
-    let second = ap (λ w. slice_get w 1) t.2 in
-    let same : t.1 ≡ v = cc in
-    let whole = ap (substituted given) t.2 ∙ substituted-typing given t.0 t.1 t.3 t.4 in
-    let entry = z.2 slot.2 in
-    let joined : z.0 ≡ t.0 ∷ given t.1 = sym entry ∙ whole in
-    (z.0, z.1, ap given (sym same) ∙ sym (ap (λ w. drop 1 w) joined))
+    let t = All-contains (λ h. h.floating ≡ true → IsTyping h.expression) hs h is.typings (j, l, get_or_from_slice_get hs j h h slot.1) slot.2 in
+    (z.0, z.1, ap given (sym cc) ∙ sym (ap (λ w. drop 1 w) (sym (z.2 slot.2) ∙ (ap (substituted given) t.2 ∙ substituted-typing given t.0 t.1 t.3 t.4))))
 
 -- of an expression whose variables are typed
 pub gives_all : (hs : List Mandatory) (given : Symbol → List Symbol) (es : List (List Symbol)) (expression : List Symbol) → AreAllTyped hs

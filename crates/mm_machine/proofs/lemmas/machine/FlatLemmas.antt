@@ -1,20 +1,17 @@
 -- Ranges of a flat list, and the expressions under what they give.
-use Rattle.std.proofs.Common.{Bool, true, false, ◌≡◌, ℕ, zero, suc, ◌+◌, ◌-◌, ◌<◌, ◌≤◌, Some, List, [], ◌∷◌, ◌++◌, length, map, take, drop, get_or, refl, sym, ◌∙◌, ap, append_assoc, length-append}
-use Rattle.std.proofs.Common.{◌↔◌, arith, slice_get, if◌then◌else◌}
+use Rattle.std.proofs.lemmas.Grind.{common_steps, elements, flat_map-append}
 use Rattle.std.proofs.lemmas.List.{append-nil, take_more, take-append-drop, take-map, drop-map, length-map, drop_all, drop-drop, get_or-map, get_or_default, append_cancel_left, take_at}
-use Rattle.std.proofs.lemmas.{Grind.{flat_map-append}, Option.{slice_get_within, get_or_from_slice_get, slice_get-get_or}}
+use Rattle.std.proofs.lemmas.Option.{slice_get_within, get_or_from_slice_get, slice_get-get_or}
+use Rattle.std.proofs.Common.{Bool, true, false, ◌≡◌, ℕ, zero, suc, ◌+◌, ◌-◌, ◌<◌, ◌≤◌, Some, List, [], ◌∷◌, ◌++◌, length, map, take, drop, get_or, sym, ◌∙◌, ap, length-append, ◌↔◌, arith, slice_get}
+use Rattle.std.proofs.Common.{if◌then◌else◌}
 use Rattle.mm_machine.specs.{Language.{Frame.{Symbol}, Substitution.{substituted, replacement}, CitedFrames.{range_of}}, declared.pattern.Entry.{Entry}, Code.Flat.{read}}
 
 -- what is at a place of a list that is mapped
 pub mapped_at : {X Y : Type 0} (f : X → Y) (xs : List X) (n : ℕ) (x : X) (y : Y) → n < length xs → x ≡ get_or xs n x → slice_get (map f xs) n ≡ Some y → y ≡ f x
-mapped_at f xs n x y l is e =
-    let a = get_or_from_slice_get (map f xs) n y (f x) e in
-    sym a ∙ get_or-map f xs n x (f x) l ∙ ap f (sym is)
+mapped_at f xs n x y l is e = grind (arith, common_steps, get_or_from_slice_get (map f xs) n y (f x) e, get_or-map f xs n x (f x) l) steps 200000
 
 pub mapped_get : {X Y : Type 0} (f : X → Y) (xs : List X) (n : ℕ) (x : X) → n < length xs → x ≡ get_or xs n x → slice_get (map f xs) n ≡ Some (f x)
-mapped_get f xs n x l is =
-    let in_map : n < length (map f xs) = omega (arith, length-map xs f) in
-    slice_get-get_or (map f xs) n (f x) in_map ∙ ap Some (get_or-map f xs n x (f x) l ∙ ap f (sym is))
+mapped_get f xs n x l is = grind (arith, common_steps, length-map xs f, slice_get-get_or (map f xs) n (f x) (omega (arith, length-map xs f)), get_or-map f xs n x (f x) l) steps 200000
 
 -- the same at any default
 pub mapped_or : {X Y : Type 0} (f : X → Y) (xs : List X) (n : ℕ) (d : X) (y : Y) → n < length xs → slice_get (map f xs) n ≡ Some y → y ≡ f (get_or xs n d)
@@ -22,38 +19,18 @@ mapped_or f xs n d y l e = mapped_at f xs n (get_or xs n d) y l (get_or_default 
 
 -- after the first symbol of a range
 drop_one_take : {X : Type 0} (m : ℕ) (xs : List X) → drop 1 (take m xs) ≡ take (m - 1) (drop 1 xs)
-drop_one_take zero [] = ap (λ k. take k []) none
-  where
-    none : zero ≡ zero - 1
-    none = omega arith
-drop_one_take zero (x ∷ xs) = ap (λ k. take k xs) none
-  where
-    none : zero ≡ zero - 1
-    none = omega arith
-drop_one_take (suc m) [] = sym (take_nil (suc m - 1))
-  where
-    take_nil : {X : Type 0} (k : ℕ) → take {A = X} k [] ≡ []
-    take_nil zero = refl
-    take_nil (suc k) = refl
-drop_one_take (suc m) (x ∷ xs) = ap (λ k. take k xs) one_less
-  where
-    one_less : m ≡ suc m - 1
-    one_less = omega arith
+drop_one_take zero [] = grind (arith, elements) steps 200000
+drop_one_take zero (x ∷ xs) = grind (arith, elements) steps 200000
+drop_one_take (suc m) [] = grind (arith, elements) steps 200000
+drop_one_take (suc m) (x ∷ xs) = grind (arith, elements) steps 200000
 
 pub behind_first : {X Y : Type 0} (f : X → Y) (xs : List X) (a b : ℕ) → map f (take (b - (a + 1)) (drop (a + 1) xs)) ≡ drop 1 (take (b - a) (drop a (map f xs)))
-behind_first f xs a b =
-    let n : b - (a + 1) ≡ (b - a) - 1 = omega arith in
-    sym (take-map f (b - (a + 1)) (drop (a + 1) xs))
-    ∙ ap (take (b - (a + 1))) (sym (drop-map f (a + 1) xs))
-    ∙ ap (take (b - (a + 1))) (sym (drop-drop 1 a (map f xs)))
-    ∙ ap (λ k. take k (drop 1 (drop a (map f xs)))) n
-    ∙ sym (drop_one_take (b - a) (drop a (map f xs)))
+behind_first f xs a b = grind (arith, common_steps, take-map f (b - (a + 1)) (drop (a + 1) xs), drop-map f (a + 1) xs, drop-drop 1 a (map f xs), drop_one_take (b - a) (drop a (map f xs))) steps 200000
 
 -- an expression, symbol by symbol
 pub put_more : (given : Symbol → List Symbol) (expression : List Symbol) (k : ℕ) (s : Symbol) → slice_get expression k ≡ Some s → substituted given (take (k + 1) expression) ≡ substituted given (take k expression) ++ replacement given s
 put_more given expression k s e =
-    let l = slice_get_within expression k s e in
-    ap (substituted given) (take_more expression k s l)
+    ap (substituted given) (take_more expression k s (slice_get_within expression k s e))
     ∙ flat_map-append (replacement given) (take k expression) (get_or expression k s ∷ [])
     ∙ ap (λ w. substituted given (take k expression) ++ w) (append-nil (replacement given (get_or expression k s)))
     ∙ ap (λ w. substituted given (take k expression) ++ replacement given w) (get_or_from_slice_get expression k s s e)
@@ -67,26 +44,17 @@ of_variable variable xs ys e = ap (λ (b : Bool). if b then xs else ys) e
 
 -- if the lists mean the same, so do their elements
 pub same_at : {S M : Type 0} (f : S → M) (xs ys : List S) (i : ℕ) (x y : S) → x ≡ get_or xs i x → y ≡ get_or ys i y → i < length xs → i < length ys → map f xs ≡ map f ys → f x ≡ f y
-same_at f xs ys i x y at_x at_y in_xs in_ys e =
-    ap f at_x ∙ sym (get_or-map f xs i x (f x) in_xs) ∙ ap (λ ms. get_or ms i (f x)) e ∙ get_or-map f ys i y (f x) in_ys ∙ sym (ap f at_y)
+same_at f xs ys i x y at_x at_y in_xs in_ys e = grind (arith, common_steps, get_or-map f xs i x (f x) in_xs, get_or-map f ys i y (f x) in_ys) steps 200000
 
 -- the whole expression, by the symbols so far, one more, and the rest
 pub put_rest : (given : Symbol → List Symbol) (expression : List Symbol) (k : ℕ) (s : Symbol) → slice_get expression k ≡ Some s
     → substituted given expression ≡ substituted given (take k expression) ++ (replacement given s ++ substituted given (drop (k + 1) expression))
 put_rest given expression k s e =
-    ap (substituted given) (sym (take-append-drop (k + 1) expression))
-    ∙ flat_map-append (replacement given) (take (k + 1) expression) (drop (k + 1) expression)
-    ∙ ap (λ w. w ++ substituted given (drop (k + 1) expression)) (put_more given expression k s e)
-    ∙ append_assoc (substituted given (take k expression)) (replacement given s) (substituted given (drop (k + 1) expression))
+    grind (arith, common_steps, take-append-drop (k + 1) expression, flat_map-append (replacement given) (take (k + 1) expression) (drop (k + 1) expression), put_more given expression k s e) steps 200000
 
 -- a list goes on with a part
 pub fits_on : (entry front part : List Symbol) (at n : ℕ) → part ≡ take n (drop at entry) → entry ≡ front ++ drop at entry → entry ≡ (front ++ part) ++ drop (at + n) entry
-fits_on entry front part at n p e =
-    e
-    ∙ ap (λ w. front ++ w) (sym (take-append-drop n (drop at entry)))
-    ∙ ap (λ w. front ++ (take n (drop at entry) ++ w)) (drop-drop n at entry)
-    ∙ ap (λ w. front ++ (w ++ drop (at + n) entry)) (sym p)
-    ∙ sym (append_assoc front part (drop (at + n) entry))
+fits_on entry front part at n p e = grind (arith, common_steps, take-append-drop n (drop at entry), drop-drop n at entry) steps 200000
 
 -- if the expression gives the whole entry, the entry's next part is that of the next symbol
 pub fits_next : (given : Symbol → List Symbol) (expression : List Symbol) (k : ℕ) (s : Symbol) (entry : List Symbol) (at : ℕ)
@@ -107,16 +75,11 @@ none_left (suc n) (x ∷ xs) e = let h = none_left n xs e in omega arith
 none_left _ [] e = omega arith
 
 pub fits_end : (whole entry : List Symbol) (at : ℕ) → at ≤ length entry → entry ≡ whole ++ drop at entry → (at ≡ length entry) ↔ (whole ≡ entry)
-fits_end whole entry at l e = (
-  λ n. sym (e ∙ ap (λ w. whole ++ w) (drop_all at entry (omega arith)) ∙ append-nil whole),
-  λ s. (let none = append_cancel_left entry (drop at entry) [] (ap (λ w. w ++ drop at entry) (sym s) ∙ sym e ∙ sym (append-nil entry)) in let k = none_left at entry none in omega arith),
-)
+fits_end whole entry at l e = grind (arith, common_steps, append-nil, append_cancel_left, drop_all, none_left) steps 200000
 
 -- a range, before and after the map
 pub range_map : {X Y : Type 0} (f : X → Y) (xs : List X) (at n : ℕ) → map f (take (at + n - at) (drop at xs)) ≡ take n (drop at (map f xs))
-range_map f xs at n =
-    let e : at + n - at ≡ n = omega arith in
-    ap (λ k. map f (take k (drop at xs))) e ∙ sym (take-map f n (drop at xs)) ∙ ap (take n) (sym (drop-map f at xs))
+range_map f xs at n = grind (arith, common_steps, take-map f n (drop at xs), drop-map f at xs) steps 200000
 
 -- an entry, before and after the map
 pub entry_map : {X : Type 0} (f : X → Symbol) (xs : List X) (e : Entry) → map f (take (e.end - e.start) (drop e.start xs)) ≡ read (map f xs) e

@@ -1,10 +1,10 @@
 -- The substitution that the entries of the mandatory `$f` give.
+use Rattle.std.proofs.lemmas.{Grind.{common_steps}, List.Elements.{All-head, All-tail}}
 use Rattle.std.proofs.Common.{◌≡◌, ◌≢◌, suc, Bool, true, false, Option, Some, None, List, [], ◌∷◌, length, map, drop, refl, sym, ◌∙◌, ap, subst, arith, inl, inr, slice_get, Contains, All, AllPairs}
-use Rattle.std.proofs.{lemmas.List.Elements.{All-head, All-tail}, Math.Decide.{map_dec}}
+use Rattle.std.proofs.Math.Decide.{map_dec}
 use mathlib.Core.Bool.{Bool-discrete}
-use Rattle.mm_machine.specs.Language.{Frame.{Symbol, Mandatory}, Substitution.{substituted}, Typing.{IsTyping}, Faults.{AnyZip}}
-use Rattle.mm_machine.proofs.lemmas.lists.Members.{Contains-here, contains_there}
-use Rattle.mm_machine.proofs.lemmas.verdicts.{Unique.{substituted-typing}, Lines.{FloatsMatch}, Choices.{symbol_discrete, expression_discrete, both_of}}
+use Rattle.mm_machine.{specs.Language.{Frame.{Symbol, Mandatory}, Substitution.{substituted}, Typing.{IsTyping}, Faults.{AnyZip}}, proofs.lemmas.lists.Members.{Contains-here, contains_there}}
+use Rattle.mm_machine.proofs.lemmas.verdicts.{Lines.{FloatsMatch}, Choices.{symbol_discrete, expression_discrete, both_of}}
 
 -- the hypothesis is a `$f` of this variable
 abbrev pub Types : Mandatory → Symbol → Type 0
@@ -23,13 +23,11 @@ pick (no n) a b = b
 
 pick-yes : {P : Type 0} (d : Dec P) (a b : List Symbol) → P → pick d a b ≡ a
 unfolding pick
-pick-yes (yes p) a b h = refl
-pick-yes (no n) a b h = absurd (n h)
+pick-yes d a b h = grind (arith, common_steps) steps 200000
 
 pick-no : {P : Type 0} (d : Dec P) (a b : List Symbol) → (P → ⊥) → pick d a b ≡ b
 unfolding pick
-pick-no (yes p) a b h = absurd (h p)
-pick-no (no n) a b h = refl
+pick-no d a b h = grind (arith, common_steps) steps 200000
 
 -- the entry after its typecode, of the first `$f` of the variable
 pub given_by : List Mandatory → List (List Symbol) → Symbol → List Symbol
@@ -46,17 +44,10 @@ given_there h hs e es v n = pick-no (dec_types h v) (drop 1 e) (given_by hs es v
 
 -- an entry that has the typecode of its `$f`
 entry_is : (f : Symbol → List Symbol) (h : Mandatory) (e : List Symbol) → IsTyping h.expression → slice_get h.expression 0 ≡ slice_get e 0 → ((v : Symbol) → slice_get h.expression 1 ≡ Some v → f v ≡ drop 1 e) → substituted f h.expression ≡ e
-entry_is f h [] t s g = let a = ap (λ w. slice_get w 0) t.2 in cc
-entry_is f h (x ∷ e) t s g =
-    let a = ap (λ w. slice_get w 0) t.2 in
-    let b = ap (λ w. slice_get w 1) t.2 in
-    let d = g t.1 b in
-    let whole = ap (substituted f) t.2 ∙ substituted-typing f t.0 t.1 t.3 t.4 in
-    cc
+entry_is f h e t s g = grind (arith, common_steps) steps 200000
 
 typecode_of : {a b : Option Symbol} → ((a ≢ b) → ⊥) → Dec (a ≡ b) → a ≡ b
-typecode_of n (yes e) = e
-typecode_of n (no m) = absurd (n m)
+typecode_of n h = grind (arith, common_steps) steps 200000
 
 pub dec_option : (a b : Option Symbol) → Dec (a ≡ b)
 dec_option None None = yes refl
@@ -104,12 +95,11 @@ all_match f (h ∷ hs) [] l m n = cc
 all_match f (h ∷ hs) (e ∷ es) l m n =
     let tail = all_match f hs es (cc) m.1 (λ z. n (inr z)) in
     let head = one_matches f h e h.floating refl m.0 (λ k. n (inl k)) (expression_discrete (substituted f h.expression) e) in
-    cc
-  where
-    one_matches : (f : Symbol → List Symbol) (h : Mandatory) (e : List Symbol) (b : Bool) → h.floating ≡ b
-        → (h.floating ≡ true → substituted f h.expression ≡ e) → ((h.floating ≡ false) × (substituted f h.expression ≢ e) → ⊥)
-        → Dec (substituted f h.expression ≡ e) →
-        substituted f h.expression ≡ e
-    one_matches f h e true is m n d = m is
-    one_matches f h e false is m n (yes s) = s
-    one_matches f h e false is m n (no k) = absurd (n (is, k))
+    cc where
+      one_matches : (f : Symbol → List Symbol) (h : Mandatory) (e : List Symbol) (b : Bool) → h.floating ≡ b
+          → (h.floating ≡ true → substituted f h.expression ≡ e) → ((h.floating ≡ false) × (substituted f h.expression ≢ e) → ⊥)
+          → Dec (substituted f h.expression ≡ e) →
+          substituted f h.expression ≡ e
+      one_matches f h e true is m n d = m is
+      one_matches f h e false is m n (yes s) = s
+      one_matches f h e false is m n (no k) = absurd (n (is, k))

@@ -1,11 +1,9 @@
 -- Pairs in the order of their keys: which of them may be that of two symbols.
-use Rattle.std.proofs.Common.{◌≡◌, ℕ, ◌<◌, ◌≤◌, Bool, true, false, leb, Option, Some, None, List, length, refl, sym, ◌∙◌, ap, arith, inl, inr, cond, slice_get}
-use Rattle.std.proofs.lemmas.{Bool.{false≢true, leb-true, Decides.{nat_tests}}, List.Elements.{All-contains}, Option.{slice_get-map, none-some, same_Some}}
-use Rattle.std.specs.Option.{option_map}
+use Rattle.std.proofs.lemmas.{Grind.{common_steps}, Bool.{false≢true, Decides.{nat_tests}}, List.Elements.{All-contains}, Option.{slice_get-map, none-some, same_Some}}
+use Rattle.std.{proofs.Common.{◌≡◌, ℕ, ◌<◌, ◌≤◌, true, false, Option, Some, None, List, length, refl, sym, ◌∙◌, ap, arith, slice_get}, specs.Option.{option_map}}
 use native.Mathlib.Decide.{dec_lt}
 use Rattle.mm_machine.specs.Language.{Frame.{Symbol, ArePair}, NumberedSymbols.{AreInOrder, by_number, comes_before, name_numbers}, CitedFrames.{meant_pair, meant_pairs}}
-use Rattle.mm_machine.specs.Language.Keys.{AreInKeyOrder, key_by_number, lower_first, pair_keys}
-use Rattle.mm_machine.specs.{declared.symbol.NumberedSymbol.{NumberedSymbol}, Code.PairClause.{IsPair}}
+use Rattle.mm_machine.specs.{Language.Keys.{AreInKeyOrder, key_by_number, pair_keys}, declared.symbol.NumberedSymbol.{NumberedSymbol}, Code.PairClause.{IsPair}}
 use Rattle.mm_machine.proofs.lemmas.machine.ApartLemmas.{EachUpTo, contains_at, pair_nowhere}
 
 -- what does not come before it comes before what it comes before
@@ -16,27 +14,13 @@ not_itself : (a : ℕ × ℕ) → comes_before a a ≡ false
 not_itself a = grind (arith, nat_tests)
 
 -- the keys of a pair are those of its symbols in either order
-pub turned_keys : (a b : ℕ) → lower_first a b ≡ lower_first b a
-turned_keys a b = by (leb a b) (leb b a) refl refl
-  where
-    by : (p q : Bool) → leb a b ≡ p → leb b a ≡ q → cond {A = ℕ × ℕ} p (a, b) (b, a) ≡ cond {A = ℕ × ℕ} q (b, a) (a, b)
-    by true true e f = let l = leb-true a b e in let m = leb-true b a f in let same : a ≡ b = omega arith in λ i. (same i, sym same i)
-    by true false e f = refl
-    by false true e f = refl
-    by false false e f = absurd (neither e f)
-      where
-        neither : leb a b ≡ false → leb b a ≡ false → ⊥
-        neither e f = grind (arith, nat_tests)
-
 keys_of_pair : (key : Symbol → ℕ) (p : Symbol × Symbol) (x y : Symbol) → IsPair p x y → pair_keys key p ≡ pair_keys key (x, y)
-keys_of_pair key p x y (inl e) = λ i. lower_first (key (e.0 i)) (key (e.1 i))
-keys_of_pair key p x y (inr e) = (λ i. lower_first (key (e.0 i)) (key (e.1 i))) ∙ turned_keys (key y) (key x)
+keys_of_pair key p x y h = grind (arith, common_steps) steps 200000
 
 -- no pair whose keys come before is that of the two symbols
 pub none_before : (key : Symbol → ℕ) (pairs : List (Symbol × Symbol)) (n : ℕ) (x y : Symbol)
     → ((k : ℕ) (p : Symbol × Symbol) → k < n → slice_get pairs k ≡ Some p → comes_before (pair_keys key p) (pair_keys key (x, y)) ≡ true) → EachUpTo (λ p. IsPair p x y → ⊥) pairs n
-none_before key pairs n x y before k p l e is =
-    false≢true (sym (not_itself (pair_keys key (x, y))) ∙ ap (λ w. comes_before w (pair_keys key (x, y))) (sym (keys_of_pair key p x y is)) ∙ before k p l e)
+none_before key pairs n x y before k p l e is = grind (arith, common_steps, not_itself (pair_keys key (x, y)), keys_of_pair key p x y is, false≢true) steps 200000
 
 -- and none from a pair on that they come before
 pub none_behind : (key : Symbol → ℕ) (pairs : List (Symbol × Symbol)) (n : ℕ) (at : Symbol × Symbol) (x y : Symbol) → AreInKeyOrder key pairs → slice_get pairs n ≡ Some at
@@ -55,14 +39,7 @@ none_behind key pairs n at x y order there before front = pair_nowhere pairs (le
 
 -- in the order of the numbers of their names, pairs are in the order of the keys of numbered symbols
 low_keys : (p : NumberedSymbol × NumberedSymbol) → p.0.name ≤ p.1.name → pair_keys key_by_number (meant_pair by_number p) ≡ name_numbers p
-low_keys p l = by (leb p.0.name p.1.name) refl
-  where
-    by : (b : Bool) → leb p.0.name p.1.name ≡ b → cond {A = ℕ × ℕ} b (name_numbers p) (p.1.name, p.0.name) ≡ name_numbers p
-    by true e = refl
-    by false e = absurd (not_so e)
-      where
-        not_so : leb p.0.name p.1.name ≡ false → ⊥
-        not_so e = grind (arith, nat_tests)
+low_keys p l = grind (arith, common_steps, nat_tests) steps 200000
 
 pub numbered_in_order : (kept : List (NumberedSymbol × NumberedSymbol)) → AreInOrder kept → AreInKeyOrder key_by_number (meant_pairs by_number kept)
 numbered_in_order kept in_order i j p q l e f = by (slice_get kept i) (slice_get kept j) refl refl

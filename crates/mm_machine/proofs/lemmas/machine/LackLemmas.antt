@@ -1,26 +1,19 @@
 -- Steps that stop before one that lacks an entry, or at it.
-use Rattle.std.proofs.Common.{◌≡◌, ◌≢◌, ℕ, ◌+◌, ◌<◌, ◌≤◌, Some, List, [], ◌∷◌, ◌++◌, length, refl, sym, ◌∙◌, ap, subst, arith, inl, inr, slice_get}
-use Rattle.std.proofs.lemmas.{Bool.{cases_Bool}, List.{take-append-le}, Option.{slice_get_within}}
+use Rattle.std.proofs.lemmas.{Grind.{common_steps}, Bool.{cases_Bool}, List.{take-append-le}, Option.{slice_get_within}}
+use Rattle.std.proofs.Common.{◌≡◌, ◌≢◌, ℕ, ◌+◌, ◌<◌, ◌≤◌, Some, List, [], ◌∷◌, ◌++◌, length, refl, sym, ◌∙◌, ap, subst, arith, slice_get}
 use Rattle.mm_machine.specs.Language.{Frame.{Symbol, Frame, Resolved, Assertion, Setting}, Typing.{HasFrames}, Expansion.{Step, Named, NotKnown}, Faults.{LabelFails, StepLineHolds, row_of}}
-use Rattle.mm_machine.specs.Language.{Machine.{AreAllKnown}, Reaches.{Reaches, IsStepFault}, Run.{is_unknown, run_part}, NamedSteps.{AreDoneTo, RunSays, StopsAt}}
-use Rattle.mm_machine.specs.declared.{ProofNumber.{ProofNumber, TheVariants.{P07}}, stepping.Outcome.{Outcome, TheVariants.{Fault, Unknown}}}
-use Rattle.mm_machine.proofs.lemmas.machine.{ApartLemmas.{front_at}, CitingFaults.{says07}, Reaching.{at_start}, Running.{faulty, runs_reach, runs_follow}, StepLemmas.{kept_at, part_ends}}
-use Rattle.mm_machine.proofs.lemmas.verdicts.Part.{part_one, part_none, known_one}
+use Rattle.mm_machine.specs.{Language.{Machine.{AreAllKnown}, Reaches.{Reaches, IsStepFault}, Run.{is_unknown, run_part}, NamedSteps.{AreDoneTo, RunSays, StopsAt}}, declared.ProofNumber.{ProofNumber}}
+use Rattle.mm_machine.{specs.declared.{ProofNumber.TheVariants.{P07}, stepping.Outcome.{Outcome, TheVariants.{Fault, Unknown}}}, proofs.lemmas.machine.{ApartLemmas.{front_at}, CitingFaults.{says07}}}
+use Rattle.mm_machine.proofs.lemmas.{machine.{Reaching.{at_start}, Running.{faulty, runs_reach, runs_follow}, StepLemmas.{kept_at, part_ends}}, verdicts.Part.{part_one, part_none, known_one}}
 
 -- if steps stop, a run says so, whatever the statement is
 pub stopped_says : (place : Setting) (steps : List Step) (statement : List Symbol) (outcome : Outcome) → StopsAt place steps outcome → RunSays place steps statement outcome
-stopped_says place steps statement (Fault number n) s = s
-stopped_says place steps statement (Unknown n) s = s
-stopped_says place steps statement _ s = absurd s
+stopped_says place steps statement outcome s = grind (arith, common_steps) steps 200000
 
 -- what is run of more steps begins like what is run of the first of them
 part_longer : (front behind : List Step) → (rest : List Step) × (run_part (front ++ behind) ≡ run_part front ++ rest)
 part_longer [] behind = (run_part behind, refl)
-part_longer (x ∷ front) behind = elim (cases_Bool (is_unknown x)) [
-  | inl e ↦ ([], part_none x (front ++ behind) e ∙ sym (ap (λ (w : List Step). w ++ []) (part_none x front e)))
-  | inr e ↦ (let more = part_longer front behind in
-      (more.0, part_one x (front ++ behind) e ∙ ap (λ (w : List Step). x ∷ w) more.1 ∙ sym (ap (λ (w : List Step). w ++ more.0) (part_one x front e))))
-]
+part_longer (x ∷ front) behind = grind (arith, cases_Bool (is_unknown x), part_longer front behind, part_none, part_one) steps 200000
 
 fault_longer : (place : Setting) (steps rest : List Step) (n : ℕ) (number : ProofNumber) → IsStepFault place steps n number → IsStepFault place (steps ++ rest) n number
 fault_longer place steps rest n number f =
@@ -35,9 +28,7 @@ fault_longer place steps rest n number f =
 
 -- if the first steps stop, all stop
 pub stops_on : (place : Setting) (front behind : List Step) (outcome : Outcome) → StopsAt place front outcome → StopsAt place (front ++ behind) outcome
-stops_on place front behind (Fault number n) s =
-    let more = part_longer front behind in
-    subst (λ (w : List Step). IsStepFault place w n number) (sym more.1) (fault_longer place (run_part front) more.0 n number s)
+stops_on place front behind (Fault number n) s = grind (arith, common_steps, part_longer front behind, fault_longer place (run_part front) (part_longer front behind).0 n number s) steps 200000
 stops_on place front behind (Unknown n) s =
     let within = slice_get_within front n NotKnown s.0.0 in
     let at = kept_at front behind n NotKnown s.0.0 in
@@ -57,9 +48,7 @@ pub lacks_entry :
 lacks_entry place is front behind label frame stack done at few =
     let runs = (runs_reach place is front stack).1 done.1 in
     let follows = runs_follow place [] front _ runs.0 (at_start place) runs.1 in
-    let short : length runs.0.stack < length frame.hypotheses = subst (λ (w : List (List Symbol)). length w < length frame.hypotheses) (sym runs.2) few in
-    let says = says07 place.active frame runs.0.stack short in
+    let says = says07 place.active frame runs.0.stack (subst (λ (w : List (List Symbol)). length w < length frame.hypotheses) (sym runs.2) few) in
     let holds = subst (λ (r : Resolved). LabelFails place.active r runs.0.stack P07) (sym at) says.0 in
     let lowest : (other : ProofNumber) → StepLineHolds place (Named label) runs.0.stack other → row_of P07 ≤ row_of other = λ other p. says.1 other (subst (λ (r : Resolved). LabelFails place.active r runs.0.stack other) at p) in
-    subst (λ (w : List Step). IsStepFault place w (length front) P07) (sym (known_longer front (Named label) behind done.0 (λ e. cc)))
-    (faulty place is front (run_part behind) runs.0 (Named label) P07 follows (holds, lowest))
+    grind (arith, common_steps, faulty place is front (run_part behind) runs.0 (Named label) P07 follows (holds, lowest), known_longer) steps 200000

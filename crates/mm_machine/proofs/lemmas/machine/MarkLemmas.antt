@@ -1,8 +1,7 @@
 -- A table by the keys of a list's symbols.
 use Rattle.std.proofs.Common.{◌≡◌, ◌≢◌, ℕ, ◌+◌, ◌<◌, ◌≤◌, Some, List, length, get_or, sym, ◌∙◌, ap, arith, length-set, get_or-set_same, get_or-set_other, slice_get, slice_index, slice_set, Contains}
 use Rattle.std.proofs.{Math.Decide.{ℕ_discrete}, lemmas.Option.{same_Some}}
-use Rattle.mm_machine.specs.{Language.Frame.{Symbol}, Code.PairClause.{AreKeyPlaces}}
-use Rattle.mm_machine.proofs.lemmas.machine.ApartLemmas.{contains_get}
+use Rattle.mm_machine.{specs.{Language.Frame.{Symbol}, Code.PairClause.{AreKeyPlaces}}, proofs.lemmas.machine.ApartLemmas.{contains_get}}
 
 pub marked_more : (key : Symbol → ℕ) (xs : List Symbol) (before after : List ℕ) (n : ℕ) (x : Symbol) → slice_get xs n ≡ Some x → after ≡ slice_set before (key x) n → AreKeyPlaces key xs before n → AreKeyPlaces key xs after (n + 1)
 marked_more key xs before after n x at e f i y l at_y room = by_case (ℕ_discrete (key y) (key x))

@@ -1,10 +1,10 @@
 -- What is gathered, and the pair clause.
-use Rattle.std.proofs.Common.{◌≡◌, ℕ, zero, suc, ◌<◌, Some, List, [], ◌∷◌, length, map, get_or, refl, sym, ◌∙◌, ap, subst, arith, inl, inr, ◌↔◌, slice_get, Contains, All, Any}
+use Rattle.std.proofs.Common.{rules, ◌≡◌, ℕ, zero, suc, ◌<◌, Some, List, [], ◌∷◌, length, map, get_or, refl, sym, ◌∙◌, ap, subst, arith, inl, inr, ◌↔◌, slice_get, Contains, All, Any}
 use Rattle.std.proofs.lemmas.{List.Elements.{All-contains}, Option.{slice_get_within, get_or_from_slice_get, slice_get-get_or}}
 use Rattle.mm_machine.specs.Language.{Frame.{Symbol, Mandatory, HasVariable}, Derivation.{AreApart, ShareVariable}, Faults.{LackPair}, CitedFrames.{hypotheses_of, mandatory_of}}
-use Rattle.mm_machine.specs.declared.{pattern.Entry.{Entry}, assertion.Hypothesis.{Hypothesis}}
-use Rattle.mm_machine.specs.Code.{Flat.{read}, Citation.{IsSlot, AreAllTyped, GivesEntries}, PairClause.{EachApart, SomeNotApart, SomeShared, AtSlots, span_of, entry_or, Gathers}}
-use Rattle.mm_machine.proofs.lemmas.machine.{ApartLemmas.{contains_at}, FlatLemmas.{mapped_get}, EntryFaults.{slot_gives}}
+use Rattle.mm_machine.specs.{declared.{pattern.Entry.{Entry}, assertion.Hypothesis.{Hypothesis}}, Code.Citation.{IsSlot, AreAllTyped, GivesEntries}}
+use Rattle.mm_machine.{specs.Code.PairClause.{EachApart, SomeNotApart, SomeShared, AtSlots, span_of, Gathers}, proofs.lemmas.machine.{ApartLemmas.{contains_at}, FlatLemmas.{mapped_get}}}
+use Rattle.mm_machine.proofs.lemmas.machine.EntryFaults.{slot_gives}
 
 -- an element of a list that is mapped
 pub unmapped : {X Y : Type 0} (f : X → Y) (xs : List X) (n : ℕ) (y : Y) → slice_get (map f xs) n ≡ Some y → (x : X) × (slice_get xs n ≡ Some x) × (f x ≡ y)
@@ -25,10 +25,7 @@ module _ {S : Type 0} (means : S → Symbol) (hypotheses : List (Hypothesis S)) 
       let at = slice_get-get_or spans j d (omega arith) in
       let s = get_or spans j d in
       let r = gathers.right j s x.0 e.0 at x.1 floating e.1 z in
-      let same : span_of all spans j ≡ read all s = ap (λ o. read all (entry_or o)) at in (
-        λ h. subst (λ w. Contains w z) (sym same) (r.0 (subst (λ w. HasVariable w z) e.2 h)),
-        λ h. subst (λ w. HasVariable w z) (sym e.2) (r.1 (subst (λ w. Contains w z) same h)),
-      )
+      search (rules, r.0, r.1) steps 500000
 
   pub apart_given : (active pairs : List (Symbol × Symbol)) → ((k : ℕ) (p : Symbol × Symbol) → slice_get pairs k ≡ Some p
       → AtSlots (EachApart active) (hypotheses_of means hypotheses) all spans p) → All (λ pair. AreApart active (given pair.0) (given pair.1)) pairs

@@ -1,11 +1,9 @@
 -- The machine and what is reached.
-use Rattle.std.proofs.Common.{◌≡◌, ℕ, zero, suc, Option, Some, None, List, [], ◌∷◌, ◌++◌, length, refl, sym, ◌∙◌, ap, subst, arith, length-append, slice_get}
-use Rattle.std.proofs.lemmas.List.{append-nil, same_from_push}
-use Rattle.std.specs.List.{AllZip}
+use Rattle.std.proofs.lemmas.{Grind.{common_steps}, List.{append-nil, same_from_push}}
+use Rattle.std.{proofs.Common.{◌≡◌, ℕ, zero, suc, Option, Some, None, List, [], ◌∷◌, ◌++◌, length, refl, sym, ◌∙◌, ap, subst, arith, length-append, slice_get}, specs.List.{AllZip}}
 use Rattle.mm_machine.specs.Language.{Frame.{Symbol, Setting}, Derivation.{Derives, DeriveInOrder, nothing, first_then}, Typing.{HasFrames}, Steps.{Moves}}
 use Rattle.mm_machine.specs.Language.{Expansion.{Step, Named, Saved, Save, NotKnown, Expanded, expand_one, expand_from, expansion, last_part, with_saved, with_again}, Reaches.{Reaches}}
-use Rattle.mm_machine.specs.Language.Machine.{State, Turns}
-use Rattle.mm_machine.proofs.lemmas.verdicts.{Joins.{join, alone, cut}, Unique.{go_on, last_of, same_stack}, Weights.{last_part_is}}
+use Rattle.mm_machine.{specs.Language.Machine.{State, Turns}, proofs.lemmas.verdicts.{Joins.{join, alone, cut}, Unique.{go_on, last_of, same_stack}, Weights.{last_part_is}}}
 
 -- one more step of an expansion
 pub expand_more : (place : Setting) (x : Expanded) (so_far : Option Expanded) (steps : List Step) (step : Step) → expand_from place so_far steps ≡ Some x → expand_from place so_far (steps ++ step ∷ []) ≡ expand_one place x step
@@ -61,29 +59,9 @@ top_of {place} {labels} below e stack d is =
 
 -- the machine goes on as the expansion does
 pub follows_on : (place : Setting) (steps : List Step) (step : Step) (before after : State) → Follows place steps before → Turns place step before after → Follows place (steps ++ step ∷ []) after
-follows_on place steps (Named label) before after f t =
-    record {
-      expanded = record f.expanded { labels = f.expanded.labels ++ label ∷ [] };
-      expands = expand_more place f.expanded _ steps (Named label) f.expands;
-      in_order = go_on label (place.resolve label) refl f.in_order t.0;
-      of_saved = subst (λ s. AllZip (λ part e. Derives place part e) f.expanded.saved s) (sym t.1) f.of_saved;
-    }
-follows_on place steps (Saved n) before after f t =
-    let z = zip_at (λ part e. Derives place part e) f.expanded.saved before.saved n t.0 f.of_saved t.1 in
-    record {
-      expanded = record f.expanded { labels = f.expanded.labels ++ z.0 };
-      expands = expand_more place f.expanded _ steps (Saved n) f.expands ∙ ap (λ o. with_again f.expanded o) z.1;
-      in_order = subst (λ s. DeriveInOrder place (f.expanded.labels ++ z.0) s) (sym t.2) (join f.in_order (alone z.2));
-      of_saved = subst (λ s. AllZip (λ part e. Derives place part e) f.expanded.saved s) (sym t.3) f.of_saved;
-    }
-follows_on place steps Save before after f t =
-    let z = top_of t.0 t.1 before.stack f.in_order t.2 in
-    record {
-      expanded = record f.expanded { saved = f.expanded.saved ++ z.0 ∷ [] };
-      expands = expand_more place f.expanded _ steps Save f.expands ∙ ap (λ o. with_saved f.expanded o) z.2;
-      in_order = subst (λ s. DeriveInOrder place f.expanded.labels s) (sym t.3) f.in_order;
-      of_saved = subst (λ s. AllZip (λ part e. Derives place part e) (f.expanded.saved ++ z.0 ∷ []) s) (sym t.4) (zip_push (λ part e. Derives place part e) f.expanded.saved before.saved z.0 t.1 f.of_saved z.1);
-    }
+follows_on place steps (Named label) before after f t = grind (arith, expand_more place f.expanded _ steps (Named label) f.expands, go_on label (place.resolve label) refl f.in_order t.0) steps 200000
+follows_on place steps (Saved n) before after f t = grind (arith, common_steps, expand_more place f.expanded _ steps (Saved n) f.expands, join, alone, zip_at) steps 200000
+follows_on place steps Save before after f t = grind (arith, common_steps, top_of t.0 t.1 before.stack f.in_order t.2, expand_more place f.expanded _ steps Save f.expands, zip_push) steps 200000
 follows_on place steps NotKnown before after f t = absurd t
 
 -- a join of no expressions is of no labels
@@ -108,17 +86,14 @@ one_stack place is {a = a} xs ys e d d' = same_stack place is (length a) xs ys (
 
 goes_label : (place : Setting) → HasFrames place → (label : List ℕ) (before : State) (next : List (List Symbol)) (labels : List (List ℕ))
     → DeriveInOrder place labels before.stack → DeriveInOrder place (labels ++ label ∷ []) next → Goes place (Named label) before next
-goes_label place is label before [] labels d d' =
-    let e = ap length (no_stack d' refl) in
-    absurd (omega (arith, length-append labels (label ∷ [])))
+goes_label place is label before [] labels d d' = grind (arith, common_steps, no_stack d' refl, length-append labels (label ∷ [])) steps 200000
 goes_label place is label before (x ∷ xs) labels d d' =
     let l = last_of d' in
     let s = same_from_push labels l.labels label l.label l.whole in
-    let stacks = one_stack place is l.stack before.stack (sym s.0) l.of_labels d in
     let P : List ℕ → List (List Symbol) → Type 0 = λ w k. Moves place.active (place.resolve w) k (x ∷ xs) in
     record {
       after = record before { stack = x ∷ xs };
-      turns = (subst (λ w. P w before.stack) (sym s.1) (subst (P l.label) stacks l.moves), refl);
+      turns = (subst (λ w. P w before.stack) (sym s.1) (subst (P l.label) (one_stack place is l.stack before.stack (sym s.0) l.of_labels d) l.moves), refl);
       is_next = refl;
     }
 
@@ -141,9 +116,7 @@ goes_save :
     last_part place so_far.labels ≡ o → with_saved so_far o ≡ Some expanded → stack ≡ before.stack → DeriveInOrder place so_far.labels stack →
     DeriveInOrder place expanded.labels next → Goes place Save before next
 goes_save place is before next stack so_far expanded None at e s d d' = cc
-goes_save place is before next [] so_far expanded (Some part) at e s d d' =
-    let none = ap (λ l. last_part place l) (no_stack d refl) in
-    cc
+goes_save place is before next [] so_far expanded (Some part) at e s d d' = grind (arith, common_steps, no_stack d refl) steps 200000
 goes_save place is before next (x ∷ xs) so_far expanded (Some part) at e s d d' =
     let l = last_entry x xs in
     let labels : so_far.labels ≡ expanded.labels = cc in
@@ -155,19 +128,14 @@ goes_save place is before next (x ∷ xs) so_far expanded (Some part) at e s d d
 
 -- if one more step reaches something, the machine does it
 pub goes : (place : Setting) → HasFrames place → (steps : List Step) (step : Step) (before : State) (next : List (List Symbol)) → Follows place steps before → Reaches place (steps ++ step ∷ []) next → Goes place step before next
-goes place is steps (Named label) before next f r =
-    let e = sym (expand_more place f.expanded _ steps (Named label) f.expands) ∙ r.expands in
-    let labels : f.expanded.labels ++ label ∷ [] ≡ r.expanded.labels = cc in
-    goes_label place is label before next f.expanded.labels f.in_order (subst (λ l. DeriveInOrder place l next) (sym labels) r.in_order)
+goes place is steps (Named label) before next f r = grind (arith, common_steps, expand_more place f.expanded _ steps (Named label) f.expands, goes_label) steps 200000
 goes place is steps (Saved n) before next f r =
     let e = sym (expand_more place f.expanded _ steps (Saved n) f.expands) ∙ r.expands in
     goes_saved place is n before next f.expanded r.expanded (slice_get f.expanded.saved n) refl e f.in_order f.of_saved r.in_order
 goes place is steps Save before next f r =
     let e = sym (expand_more place f.expanded _ steps Save f.expands) ∙ r.expands in
     goes_save place is before next before.stack f.expanded r.expanded (last_part place f.expanded.labels) refl e refl f.in_order r.in_order
-goes place is steps NotKnown before next f r =
-    let e = sym (expand_more place f.expanded _ steps NotKnown f.expands) ∙ r.expands in
-    cc
+goes place is steps NotKnown before next f r = grind (arith, common_steps, expand_more place f.expanded _ steps NotKnown f.expands) steps 200000
 
 -- what is followed is reached
 pub reached : (place : Setting) (steps : List Step) (state : State) → Follows place steps state → Reaches place steps state.stack

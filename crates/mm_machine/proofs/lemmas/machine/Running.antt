@@ -1,10 +1,9 @@
 -- Whole runs of the machine: what it ends with is what is reached, and its first fault is the step at fault.
+use Rattle.std.proofs.lemmas.{Grind.{common_steps}, Option.{slice_get_within}}
 use Rattle.std.proofs.Common.{◌≡◌, ◌≢◌, ℕ, ◌+◌, ◌≤◌, ◌<◌, Some, Result, Ok, Err, List, [], ◌∷◌, ◌++◌, length, take, refl, sym, ◌∙◌, ap, subst, append_assoc, arith, length-append, slice_get, ◌↔◌}
 use Rattle.std.proofs.Common.{append-nil, take_at, take_all}
-use Rattle.std.proofs.lemmas.Option.{slice_get_within}
-use Rattle.mm_machine.specs.Language.{Frame.{Symbol, Setting}, Typing.{HasFrames}, Expansion.{Step, Named, Saved, Save, NotKnown, Expanded}, Faults.{StepLineHolds, row_of}}
-use Rattle.mm_machine.specs.Language.{Reaches.{Reaches, IsStepFault}, Machine.{State, Turns, IsReady, Runs, nothing_yet, AreAllKnown, AreDecodedAfter}}
-use Rattle.mm_machine.specs.declared.ProofNumber.{ProofNumber}
+use Rattle.mm_machine.specs.Language.{Frame.{Symbol, Setting}, Typing.{HasFrames}, Expansion.{Step, NotKnown}, Faults.{StepLineHolds, row_of}, Reaches.{Reaches, IsStepFault}}
+use Rattle.mm_machine.specs.{Language.Machine.{State, Turns, IsReady, Runs, nothing_yet, AreAllKnown, AreDecodedAfter}, declared.ProofNumber.{ProofNumber}}
 use Rattle.mm_machine.proofs.lemmas.machine.{Reaching.{Follows, follows_on, goes, reached, at_start, one_stack}, Turning.{turn, turn_says, no_turn, Says, same_number}}
 use Rattle.mm_machine.proofs.lemmas.verdicts.Fronts.{reached_earlier, reached_front}
 
@@ -47,10 +46,7 @@ faulty place is done rest s step number f p = record {
 pub decoded_on : (place : Setting) (s after : State) (step : Step) (rest : List Step) → step ≢ NotKnown
     → AreDecodedAfter place (length s.saved) (step ∷ rest) → IsReady place s step × (Turns place step s after
     → AreDecodedAfter place (length after.saved) rest)
-decoded_on place s after (Named label) rest k d = (d.0, λ t. subst (λ l. AreDecodedAfter place l rest) (ap length (sym t.1)) d.1)
-decoded_on place s after (Saved n) rest k d = (d.0, λ t. subst (λ l. AreDecodedAfter place l rest) (ap length (sym t.3)) d.1)
-decoded_on place s after Save rest k d = (tt, λ t. subst (λ l. AreDecodedAfter place l rest) (sym (length-append s.saved (t.1 ∷ [])) ∙ ap length (sym t.4)) d)
-decoded_on place s after NotKnown rest k d = absurd (k refl)
+decoded_on place s after step rest k d = grind (arith, common_steps) steps 200000
 
 run_case :
     (place : Setting) → HasFrames place → (done rest : List Step) (s : State) (step : Step) (r : Result State ProofNumber) → Follows place done s →
@@ -73,11 +69,7 @@ run_says place is done s (step ∷ rest) f d k =
 
 -- one stack is reached
 pub same_reached : (place : Setting) → HasFrames place → (steps : List Step) (xs ys : List (List Symbol)) → Reaches place steps xs → Reaches place steps ys → xs ≡ ys
-same_reached place is steps xs ys r q =
-    let e = sym r.expands ∙ q.expands in
-    let x : r.expanded ≡ q.expanded = cc in
-    let labels = ap (λ (w : Expanded). w.labels) x in
-    one_stack place is xs ys labels r.in_order q.in_order
+same_reached place is steps xs ys r q = grind (arith, common_steps, one_stack) steps 200000
 
 within_steps : (steps : List Step) (n : ℕ) (step : Step) → slice_get steps n ≡ Some step → n + 1 ≤ length steps
 within_steps steps n step e = let l = slice_get_within steps n step e in omega arith
@@ -97,13 +89,10 @@ no_earlier place steps n m a b f g l =
 
 same_row : (place : Setting) → HasFrames place → (steps : List Step) (n m : ℕ) (a b : ProofNumber) → n ≡ m → IsStepFault place steps n a → IsStepFault place steps m b → row_of a ≡ row_of b
 same_row place is steps n m a b e f g =
-    let at = ap (λ k. slice_get steps k) e in
     let steps_same : g.step ≡ f.step = cc in
     let stacks = same_reached place is (take n steps) g.stack f.stack (subst (λ k. Reaches place (take k steps) g.stack) (sym e) g.reached) f.reached in
     let h : StepLineHolds place f.step f.stack b = subst (λ w. StepLineHolds place w f.stack b) steps_same (subst (λ k. StepLineHolds place g.step k b) stacks g.number_is.holds) in
     let i : StepLineHolds place g.step g.stack a = subst (λ w. StepLineHolds place w g.stack a) (sym steps_same) (subst (λ k. StepLineHolds place f.step k a) (sym stacks) f.number_is.holds) in
-    let p = f.number_is.lowest b h in
-    let q = g.number_is.lowest a i in
     omega arith
 
 pub same_fault : (place : Setting) → HasFrames place → (steps : List Step) (n m : ℕ) (a b : ProofNumber) → IsStepFault place steps n a → IsStepFault place steps m b → (n ≡ m) × (a ≡ b)

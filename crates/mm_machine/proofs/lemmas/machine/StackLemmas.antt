@@ -1,12 +1,10 @@
 -- Entries, when the list of symbols grows or is cut.
-use Rattle.std.proofs.Common.{◌≡◌, ℕ, ◌+◌, ◌-◌, ◌<◌, ◌≤◌, Some, List, [], ◌∷◌, ◌++◌, length, map, take, drop, get_or, refl, sym, ◌∙◌, ap, subst, arith, inl, inr, ◌⊎◌, length-append, slice_get, All}
+use Rattle.std.proofs.Common.{rules, ◌≡◌, ℕ, ◌+◌, ◌-◌, ◌<◌, ◌≤◌, Some, List, [], ◌∷◌, ◌++◌, length, map, take, drop, get_or, refl, sym, ◌∙◌, ap, subst, arith, inl, inr, ◌⊎◌, length-append, slice_get}
+use Rattle.std.proofs.{Common.{All}, lemmas.Grind.{common_steps, elements}}
 use Rattle.std.proofs.lemmas.List.{length-map, length-take, length-take-le, take_more, map-append, take-map, take_at, take_all, drop_at, get_or-take, drop-map, take_rest}
-use Rattle.std.proofs.lemmas.List.Elements.{All-head, All-tail, All-append, All-cons, All-take, All-drop}
-use Rattle.std.proofs.lemmas.Option.{slice_get_within, get_or_from_slice_get, slice_get-get_or, same_Some}
-use Rattle.std.proofs.Math.Decide.{ℕ_discrete}
-use Rattle.mm_machine.specs.{Language.{Frame.{Symbol}, Faults.{entries_for}, CitedFrames.{mandatory_of}}, declared.{pattern.Entry.{Entry}, assertion.Hypothesis.{Hypothesis}}}
-use Rattle.mm_machine.specs.Code.{Flat.{read, read_all, IsEntryWithin}, Ranges.{AreOrderedRanges}, Citation.{frame_from}}
-use Rattle.mm_machine.proofs.lemmas.machine.ApartLemmas.{read_kept, last_at, front_at}
+use Rattle.std.proofs.lemmas.{List.Elements.{All-head, All-tail}, Option.{slice_get_within, get_or_from_slice_get, slice_get-get_or, same_Some}}
+use Rattle.mm_machine.specs.{Language.{Frame.{Symbol}, Faults.{entries_for}}, declared.{pattern.Entry.{Entry}, assertion.Hypothesis.{Hypothesis}}, Code.Flat.{read, read_all, IsEntryWithin}}
+use Rattle.mm_machine.{specs.Code.{Ranges.{AreOrderedRanges}, Citation.{frame_from}}, proofs.lemmas.machine.ApartLemmas.{read_kept, last_at, front_at}}
 
 -- entries that are in the front read the same
 pub read_all_kept : (before after : List Symbol) (es : List Entry) → All (λ e. e.end ≤ length before) es → take (length before) after ≡ before → read_all after es ≡ read_all before es
@@ -25,29 +23,13 @@ grown_all before more after n es e l all = read_all_kept before after es (ends_o
 pub wider : (n m : ℕ) (es : List Entry) → n ≤ m → All (IsEntryWithin n) es → All (IsEntryWithin m) es
 wider n m es l all k d i = let w = all k d i in (w.0, omega arith)
 
--- this holds with one more
-one_more : (P : Entry → Type 0) (es : List Entry) (new : Entry) → All P es → P new → All P (es ++ new ∷ [])
-one_more P es new all p = All-append P es (new ∷ []) all (All-cons P new [] p (λ k d i. absurd (omega arith)))
-
 pub pushed_all : (before more after : List Symbol) (n : ℕ) (es next : List Entry) (new : Entry) → after ≡ before ++ more → n ≡ length before
     → All (IsEntryWithin n) es → next ≡ es ++ new ∷ [] → new.start ≡ length before → new.end ≡ length after
     → read_all after next ≡ read_all before es ++ more ∷ []
-pushed_all before more after n es next new e l all s a b =
-    let last : read after new ≡ more =
-    ap (λ k. take (new.end - new.start) (drop k after)) a
-    ∙ ap (λ w. take (new.end - new.start) (drop (length before) w)) e
-    ∙ ap (take (new.end - new.start)) (drop_at before more (length before) refl)
-    ∙ take_all (new.end - new.start) more (let c = ap length e in omega (arith, length-append before more)) in
-    ap (read_all after) s
-    ∙ map-append (read after) es (new ∷ [])
-    ∙ ap (λ w. w ++ read after new ∷ []) (grown_all before more after n es e (omega arith) all)
-    ∙ ap (λ w. read_all before es ++ w ∷ []) last
+pushed_all before more after n es next new e l all s a b = grind (arith, common_steps, map-append (read after) es (new ∷ []), grown_all before more after n es e (omega arith) all) steps 200000
 
 pub top_of : {X Y : Type 0} (f : X → Y) (es : List X) (n : ℕ) (x : X) → n < length es → length es ≤ n + 1 → x ≡ get_or es n x → map f es ≡ map f (take n es) ++ f x ∷ []
-top_of f es n x l m is =
-    ap (map f) (sym (take_all (n + 1) es m) ∙ take_more es n x l)
-    ∙ map-append f (take n es) (get_or es n x ∷ [])
-    ∙ ap (λ w. map f (take n es) ++ f w ∷ []) (sym is)
+top_of f es n x l m is = grind (arith, common_steps, take_all (n + 1) es m, take_more es n x l, map-append f (take n es) (get_or es n x ∷ [])) steps 200000
 
 -- the front reads the same after a cut at its end
 cut_kept : (symbols : List Symbol) (f : ℕ) (es : List Entry) → f ≤ length symbols → All (λ e. e.end ≤ f) es → read_all (take f symbols) es ≡ read_all symbols es
@@ -55,50 +37,18 @@ cut_kept symbols f es l all = sym (read_all_kept (take f symbols) symbols es (λ
 
 pub cut_all : (symbols more after : List Symbol) (f : ℕ) (es : List Entry) → after ≡ take f symbols ++ more → f ≤ length symbols → All (λ e. e.end ≤ f) es → read_all after es ≡ read_all symbols es
 cut_all symbols more after f es e l all =
-    let c = length-take-le f symbols l in
-    read_all_kept (take f symbols) after es (λ k d i. let w = all k d i in omega arith) (ap (take (length (take f symbols))) e ∙ take_at (take f symbols) more (length (take f symbols)) refl)
-    ∙ cut_kept symbols f es l all
+    grind (arith, length-take-le f symbols l, take_at (take f symbols) more (length (take f symbols)) refl, cut_kept symbols f es l all, read_all_kept) steps 200000
 
 pub replaced_all : (symbols more after : List Symbol) (f below : ℕ) (es next : List Entry) (new : Entry) → after ≡ take f symbols ++ more
     → f ≤ length symbols → ((i : ℕ) (e : Entry) → i < below → slice_get es i ≡ Some e → e.end ≤ f) → next ≡ take below es ++ new ∷ [] → new.start ≡ f →
     new.end ≡ length after → read_all after next ≡ take below (read_all symbols es) ++ more ∷ []
 replaced_all symbols more after f below es next new e l all s a b =
-    let c = length-take-le f symbols l in
-    let last : read after new ≡ more =
-    ap (λ k. take (new.end - new.start) (drop k after)) (a ∙ sym c)
-    ∙ ap (λ w. take (new.end - new.start) (drop (length (take f symbols)) w)) e
-    ∙ ap (take (new.end - new.start)) (drop_at (take f symbols) more (length (take f symbols)) refl)
-    ∙ take_all (new.end - new.start) more (let n = ap length e in omega (arith, length-append (take f symbols) more)) in
-    ap (read_all after) s
-    ∙ map-append (read after) (take below es) (new ∷ [])
-    ∙ ap (λ w. read_all after (take below es) ++ w ∷ []) last
-    ∙ ap (λ w. w ++ more ∷ []) (cut_all symbols more after f (take below es) e l front ∙ sym (take-map (read symbols) below es))
-  where
-    front : All (λ e. e.end ≤ f) (take below es)
-    front k d i =
-        let n = length-take below es in
-        let low : k < below = omega arith in
-        let high : k < length es = omega arith in
-        subst (λ (w : Entry). w.end ≤ f) (sym (get_or-take below es k d low)) (all k (get_or es k d) low (slice_get-get_or es k d high))
+    search (rules, cut_all, drop_at, get_or-take, length-append, length-take, length-take-le, map-append, slice_get-get_or, take-map, take_all) steps 500000
 
 -- what is at a place of entries that were cut and got one more
 cut_or_last : (es : List Entry) (below k : ℕ) (new s : Entry) → below ≤ length es → slice_get (take below es ++ new ∷ []) k ≡ Some s → ((k < below) × (slice_get es k ≡ Some s)) ⊎ ((k ≡ below) × (new ≡ s))
-cut_or_last es below k new s l at = by_case (ℕ_discrete k below)
-  where
-    count : length (take below es) ≡ below
-    count = length-take-le below es l
-
-    within : k < below + 1
-    within = let w = slice_get_within (take below es ++ new ∷ []) k s at in let c = count in omega (arith, length-append (take below es) (new ∷ []))
-
-    by_case : Dec (k ≡ below) → ((k < below) × (slice_get es k ≡ Some s)) ⊎ ((k ≡ below) × (new ≡ s))
-    by_case (yes e) = inr (e, same_Some new s (sym (last_at (take below es) new k (e ∙ sym count)) ∙ at))
-    by_case (no m) =
-        let low : k < below = omega (arith, within) in
-        let c = count in
-        let in_front : slice_get (take below es) k ≡ Some s = sym (front_at (take below es) (new ∷ []) k (omega arith)) ∙ at in
-        let high : k < length es = omega arith in
-        inl (low, slice_get-get_or es k s high ∙ ap Some (sym (get_or-take below es k s low) ∙ get_or_from_slice_get (take below es) k s s in_front))
+cut_or_last es below k new s l at =
+    grind (arith, elements, front_at, get_or-take, get_or_from_slice_get, last_at, length-append, length-take-le, same_Some, slice_get-get_or, slice_get_within) steps 200000
 
 pub whole_replaced : (n m kept f below : ℕ) (es saved next : List Entry) (new : Entry) → AreOrderedRanges n kept es saved → below ≤ length es → kept ≤ f
     → f ≤ m → ((i : ℕ) (e : Entry) → i < below → slice_get es i ≡ Some e → (e.end ≤ f) × (e.floor ≤ f)) → next ≡ take below es ++ new ∷ [] →
@@ -138,25 +88,17 @@ whole_replaced n m kept f below es saved next new whole l low high front e a b c
 -- the entries that an assertion takes
 pub entries_taken : {S : Type 0} (means : S → Symbol) (hs : List (Hypothesis S)) (expression : List S) (pairs : List (S × S)) (symbols : List Symbol) (es : List Entry) (below : ℕ) →
     below + length hs ≡ length es → entries_for (frame_from means hs expression pairs) (read_all symbols es) ≡ read_all symbols (drop below es)
-entries_taken means hs expression pairs symbols es below e =
-    ap (λ k. drop k (read_all symbols es)) count ∙ drop-map (read symbols) below es
-  where
-    count : length (read_all symbols es) - length (frame_from means hs expression pairs).hypotheses ≡ below
-    count = omega (arith, e, length-map es (read symbols), length-map hs (mandatory_of means))
+entries_taken means hs expression pairs symbols es below e = grind (arith, common_steps, drop-map, length-map) steps 200000
 
 pub slice_taken : {X : Type 0} (read_symbols symbols : List X) (f : X → Symbol) (read_es es : List Entry) (below : ℕ) → read_symbols ≡ symbols
     → read_es ≡ es → read_all (map f read_symbols) (take (length read_es - below) (drop below read_es)) ≡ read_all (map f symbols) (drop below es)
-slice_taken read_symbols symbols f read_es es below a b =
-    ap (read_all (map f read_symbols)) (take_rest read_es below ∙ ap (drop below) b) ∙ ap (λ w. read_all (map f w) (drop below es)) a
+slice_taken read_symbols symbols f read_es es below a b = grind (arith, common_steps, take_rest read_es below) steps 200000
 
 -- the entries that are taken are within the symbols
 pub all_taken :
     {S : Type 0} (symbols seen : List S) (es known : List Entry) (k : ℕ) → seen ≡ symbols → known ≡ es → All (IsEntryWithin (length symbols)) es →
     All (IsEntryWithin (length seen)) (take (length known - k) (drop k known))
-all_taken {S = S} symbols seen es known k a b h =
-    let P = IsEntryWithin (length seen) in
-    let all = subst (All P) (sym b) (subst (λ (w : List S). All (IsEntryWithin (length w)) es) (sym a) h) in
-    All-take P (length known - k) (drop k known) (All-drop P k known all)
+all_taken {S = S} symbols seen es known k a b h = grind (arith, elements) steps 200000
 
 -- the ranges with one entry more, which owns no symbols
 pub whole_pushed :

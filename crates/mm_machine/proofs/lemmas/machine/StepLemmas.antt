@@ -1,17 +1,14 @@
 -- Tasks of the code and steps of a proof.
-use Rattle.std.proofs.Common.{◌≡◌, ◌≢◌, ℕ, zero, suc, ◌+◌, ◌<◌, ◌≤◌, false, Option, Some, None, List, [], ◌∷◌, ◌++◌, length, take, drop, get_or, refl, sym, ◌∙◌, ap, subst, arith, append_assoc}
-use Rattle.std.proofs.Common.{zero-add, add-zero, length-append, slice_get, MatchOption, IfNone, map}
-use Rattle.std.proofs.Math.Decide.{ℕ_discrete}
-use Rattle.std.proofs.lemmas.List.{take_more, take-append-drop, drop_more, length-take-le, take_all, length-map, Sums.{sum_by-cons, sum_by-append}}
-use Rattle.std.proofs.lemmas.Option.{slice_get_within, get_or_from_slice_get, slice_get-get_or}
-use Rattle.std.specs.List.{AllZip}
+use Rattle.std.proofs.Common.{rules, ◌≡◌, ◌≢◌, ℕ, zero, suc, ◌+◌, ◌<◌, ◌≤◌, false, Option, Some, None, List, [], ◌∷◌, ◌++◌, length, take, drop, get_or, refl, sym, ◌∙◌, ap, subst, arith, append_assoc}
+use Rattle.std.proofs.{Common.{zero-add, add-zero, length-append, slice_get, MatchOption, IfNone, map}, lemmas.Grind.{common_steps, elements}}
+use Rattle.std.proofs.lemmas.List.{take_more, take-append-drop, drop_more, take_all, length-map, Sums.{sum_by-cons, sum_by-append}}
+use Rattle.std.{proofs.lemmas.Option.{slice_get_within, get_or_from_slice_get, slice_get-get_or}, specs.List.{AllZip}}
 use Rattle.mm_machine.specs.Language.{Frame.{Symbol, Frame, Resolved, Hypothesis, Assertion, Setting, AreSameFrame, AreSamePairs}, Typing.{HasFrames}, Steps.{Cites, Moves}}
 use Rattle.mm_machine.specs.Language.{Expansion.{Step, Named, Saved, Save, NotKnown}, Machine.{State, Turns, AreAllKnown}, Faults.{LabelFails, IsLowest}, Reaches.{Reaches, IsStepFault}}
 use Rattle.mm_machine.specs.Language.{Run.{is_unknown, run_part, IsReached}, Verdict.{IsFirstUnknown}, NamedSteps.{meant, MeansUse, actions_mean, saves_by, saves_in}}
-use Rattle.mm_machine.specs.declared.{ProofNumber.{ProofNumber}, stepping.Task.{Task}, named.Use.{Use}, machine.Machine.{Machine}, step.ProofStep.{ProofStep}}
-use Rattle.mm_machine.specs.Code.{Citation.{IsLowestCiting}, MachineState.{state_of}, Ranges.{Saves}, Tasks.{HasState, MeansTask}, Flat.{read, read_all}}
-use Rattle.mm_machine.proofs.lemmas.verdicts.{Moving.{takes_moved, frame_back, label_moved}, Part.{known_one, one_known, part_one, part_none}}
-use Rattle.mm_machine.proofs.lemmas.machine.{Reaching.{Follows, follows_on, reached}, Running.{faulty}, FlatLemmas.{mapped_or_get}}
+use Rattle.mm_machine.specs.{declared.{ProofNumber.{ProofNumber}, stepping.Task.{Task}, named.Use.{Use}, machine.Machine.{Machine}, step.ProofStep.{ProofStep}}, Code.Citation.{IsLowestCiting}}
+use Rattle.mm_machine.{specs.Code.{MachineState.{state_of}, Ranges.{Saves}, Tasks.{HasState, MeansTask}, Flat.{read}}, proofs.lemmas.verdicts.Moving.{takes_moved, frame_back, label_moved}}
+use Rattle.mm_machine.proofs.lemmas.{verdicts.Part.{known_one, one_known, part_one, part_none}, machine.{Reaching.{Follows, follows_on, reached}, Running.{faulty}, FlatLemmas.{mapped_or_get}}}
 use Rattle.mm_machine.specs.declared.stepping.Task.TheVariants as tasks
 use Rattle.mm_machine.specs.declared.named.Use.TheVariants as uses
 
@@ -21,48 +18,25 @@ use Rattle.mm_machine.specs.declared.named.Use.TheVariants as uses
 pub means_cite :
     (expressions : List (List Symbol)) (frames : List Frame) (place : Setting) (n : ℕ) (t : Task) (step : Step) → t ≡ tasks.Cite n → MeansTask expressions frames place t step →
     (label : List ℕ) × (kept frame : Frame) × (step ≡ Named label) × (slice_get frames n ≡ Some kept) × (place.resolve label ≡ Assertion frame) × AreSameFrame kept frame
-means_cite expressions frames place n t step is m = by_step step (subst (λ (w : Task). MeansTask expressions frames place w step) is m)
-  where
-    by_step : (step : Step) → MeansTask expressions frames place (tasks.Cite n) step → (label : List ℕ) × (kept frame : Frame) × (step ≡ Named label) ×
-        (slice_get frames n ≡ Some kept) × (place.resolve label ≡ Assertion frame) × AreSameFrame kept frame
-    by_step (Named label) m = (label, m.0, m.1, refl, m.2, m.3, m.4)
-    by_step _ m = absurd m
+means_cite expressions frames place n t step is m = grind (arith, elements) steps 200000
 
 -- and a hypothesis
 pub means_push :
     (expressions : List (List Symbol)) (frames : List Frame) (place : Setting) (n : ℕ) (t : Task) (step : Step) → t ≡ tasks.Push n → MeansTask expressions frames place t step →
     (label : List ℕ) × (e : List Symbol) × (step ≡ Named label) × (slice_get expressions n ≡ Some e) × (place.resolve label ≡ Hypothesis e)
-means_push expressions frames place n t step is m = by_step step (subst (λ (w : Task). MeansTask expressions frames place w step) is m)
-  where
-    by_step : (step : Step) → MeansTask expressions frames place (tasks.Push n) step → (label : List ℕ) × (e : List Symbol) × (step ≡ Named label) × (slice_get expressions n ≡ Some e) × (place.resolve label ≡ Hypothesis e)
-    by_step (Named label) m = (label, m.0, refl, m.1, m.2)
-    by_step _ m = absurd m
+means_push expressions frames place n t step is m = grind (arith, elements) steps 200000
 
 -- what is put again
 pub means_again : (expressions : List (List Symbol)) (frames : List Frame) (place : Setting) (n : ℕ) (t : Task) (step : Step) → t ≡ tasks.Again n → MeansTask expressions frames place t step → step ≡ Saved n
-means_again expressions frames place n t step is m = by_step step (subst (λ (w : Task). MeansTask expressions frames place w step) is m)
-  where
-    by_step : (step : Step) → MeansTask expressions frames place (tasks.Again n) step → step ≡ Saved n
-    by_step (Saved k) m = ap Saved (sym m)
-    by_step _ m = absurd m
+means_again expressions frames place n t step is m = grind (arith, elements) steps 200000
 
 -- a save
 pub means_keep : (expressions : List (List Symbol)) (frames : List Frame) (place : Setting) (t : Task) (step : Step) → t ≡ tasks.Keep → MeansTask expressions frames place t step → step ≡ Save
-means_keep expressions frames place t step is m = by_step step (subst (λ (w : Task). MeansTask expressions frames place w step) is m)
-  where
-    by_step : (step : Step) → MeansTask expressions frames place tasks.Keep step → step ≡ Save
-    by_step Save m = refl
-    by_step _ m = absurd m
+means_keep expressions frames place t step is m = grind (arith, elements) steps 200000
 
 -- no task means an unknown step
 pub means_known : (expressions : List (List Symbol)) (frames : List Frame) (place : Setting) (t : Task) (step : Step) → MeansTask expressions frames place t step → step ≢ NotKnown
-means_known expressions frames place t step m e = by_task t (subst (MeansTask expressions frames place t) e m)
-  where
-    by_task : (t : Task) → MeansTask expressions frames place t NotKnown → ⊥
-    by_task (tasks.Push n) m = m
-    by_task (tasks.Cite n) m = m
-    by_task (tasks.Again n) m = m
-    by_task tasks.Keep m = m
+means_known expressions frames place t step m e = grind (arith, elements) steps 200000
 
 cites_moved : (active others : List (Symbol × Symbol)) (a b : Frame) (stack next : List (List Symbol)) → AreSamePairs active others → AreSameFrame a b → Cites active a stack next → Cites others b stack next
 cites_moved active others a b stack next s f c = record { below = c.below; entries = c.entries; result = c.result; given = c.given; before = c.before; takes = takes_moved active others a b c.given c.entries c.result s f c.takes; after = c.after }
@@ -73,9 +47,7 @@ pub cite_turns :
     AreSamePairs active place.active → place.resolve label ≡ Assertion frame → AreSameFrame kept frame → stack ≡ before.stack → after.saved ≡ before.saved →
     MatchOption found (Cites active kept stack after.stack) (IsLowestCiting active kept stack) →
     MatchOption found (Turns place (Named label) before after) (IsLowest place (Named label) before.stack)
-cite_turns active place label kept frame stack before after None pairs at same is saved c =
-    let d = subst (λ w. Cites active kept w after.stack) is c in
-    (subst (λ (r : Resolved). Moves place.active r before.stack after.stack) (sym at) (cites_moved active place.active kept frame before.stack after.stack pairs same d), saved)
+cite_turns active place label kept frame stack before after None pairs at same is saved c = search (rules, cites_moved) steps 500000
 cite_turns active place label kept frame stack before after (Some number) pairs at same is saved c =
     let d = subst (λ w. IsLowestCiting active kept w number) is c in record {
       holds = subst (λ (r : Resolved). LabelFails place.active r before.stack number) (sym at) (label_moved active place.active (Assertion kept) (Assertion frame) before.stack number pairs same d.0);
@@ -92,10 +64,7 @@ kept_at (y ∷ front) back (suc n) x e = kept_at front back n x e
 
 pub saved_at : {X : Type 0} (front back : List X) (n : ℕ) → slice_get (front ++ back) (length front + n) ≡ slice_get back n
 saved_at [] back n = ap (slice_get back) (zero-add n)
-saved_at (y ∷ front) back n = ap (slice_get (y ∷ (front ++ back))) more ∙ saved_at front back n
-  where
-    more : length (y ∷ front) + n ≡ suc (length front + n)
-    more = omega arith
+saved_at (y ∷ front) back n = grind (arith, common_steps, saved_at front back n) steps 200000
 
 -- ---- step after step
 
@@ -110,14 +79,7 @@ first_known : (x : Step) (steps : List Step) (n : ℕ) → KnownUpTo (x ∷ step
 first_known x steps n known = known_one x (λ e. known 0 (omega arith) (ap Some e))
 
 pub known_more : (steps : List Step) (n : ℕ) (x : Step) → slice_get steps n ≡ Some x → x ≢ NotKnown → KnownUpTo steps n → KnownUpTo steps (n + 1)
-known_more steps n x at other known k l e = by_case (ℕ_discrete k n)
-  where
-    by_case : Dec (k ≡ n) → ⊥
-    by_case (yes same) = other (some_same (sym at ∙ ap (slice_get steps) (sym same) ∙ e))
-      where
-        some_same : {a b : Step} → Some a ≡ Some b → a ≡ b
-        some_same f = cc
-    by_case (no m) = known k (omega arith) e
+known_more steps n x at other known k l e = grind (arith, elements) steps 200000
 
 -- what is run begins like the steps
 pub part_begins : (steps : List Step) (n : ℕ) → KnownUpTo steps n → take n (run_part steps) ≡ take n steps
@@ -127,9 +89,7 @@ part_begins _ _ known = refl
 -- and goes on with the next known step
 pub part_at : (steps : List Step) (n : ℕ) (x : Step) → KnownUpTo steps n → slice_get steps n ≡ Some x → x ≢ NotKnown → slice_get (run_part steps) n ≡ Some x
 part_at [] n x known at other = cc
-part_at (y ∷ steps) zero x known at other =
-    let same : y ≡ x = cc in
-    ap (λ w. slice_get w 0) (part_one y steps (known_one y (λ e. other (sym same ∙ e)))) ∙ at
+part_at (y ∷ steps) zero x known at other = grind (arith, common_steps, part_one, known_one) steps 200000
 part_at (y ∷ steps) (suc n) x known at other = ap (λ w. slice_get w (suc n)) (part_one y steps (first_known y steps n known)) ∙ part_at steps n x (behind y steps n known) at other
 
 -- or ends at an unknown one
@@ -145,30 +105,25 @@ known_all (x ∷ steps) zero l known = absurd (omega arith)
 known_all (x ∷ steps) (suc n) l known = (one_known x (first_known x steps n known), known_all steps n (omega arith) (behind x steps n known))
 
 pub follows_more : (place : Setting) (steps : List Step) (k : ℕ) (s : Step) (before after : State) → slice_get steps k ≡ Some s → Follows place (take k steps) before → Turns place s before after → Follows place (take (k + 1) steps) after
-follows_more place steps k s before after at f t = subst (λ (w : List Step). Follows place w after) (sym
-    (take_more steps k s (slice_get_within steps k s at) ∙ ap (λ w. take k steps ++ w ∷ []) (get_or_from_slice_get steps k s s at)))
-    (follows_on place (take k steps) s before after f t)
+follows_more place steps k s before after at f t =
+    grind (arith, common_steps, take_more steps k s (slice_get_within steps k s at), get_or_from_slice_get steps k s s at, follows_on place (take k steps) s before after f t) steps 200000
 
 fault_of : (place : Setting) → HasFrames place → (steps : List Step) (k : ℕ) (s : Step) (state : State) (number : ProofNumber) → slice_get steps k ≡ Some s
     → Follows place (take k steps) state → IsLowest place s state.stack number → IsStepFault place steps k number
 fault_of place is steps k s state number at f low =
     let l = slice_get_within steps k s at in
     let whole : take k steps ++ s ∷ drop (k + 1) steps ≡ steps = ap (λ w. take k steps ++ w) (sym (drop_more steps k s l ∙ ap (λ w. w ∷ drop (k + 1) steps) (get_or_from_slice_get steps k s s at))) ∙ take-append-drop k steps in
-    let count : length (take k steps) ≡ k = length-take-le k steps (omega arith) in
-    subst (λ (w : List Step). IsStepFault place w k number) whole (subst (λ (n : ℕ). IsStepFault place (take k steps ++ s ∷ drop (k + 1) steps) n number)
-    count (faulty place is (take k steps) (drop (k + 1) steps) state s number f (low.holds, low.lowest)))
+    grind (arith, common_steps, faulty place is (take k steps) (drop (k + 1) steps) state s number f (low.holds, low.lowest)) steps 200000
 
 -- the next step is at fault
 pub fault_here : (place : Setting) → HasFrames place → (steps : List Step) (k : ℕ) (s : Step) (state : State) (number : ProofNumber) → KnownUpTo steps k
     → slice_get steps k ≡ Some s → s ≢ NotKnown → Follows place (take k steps) state → IsLowest place s state.stack number →
     IsStepFault place (run_part steps) k number
-fault_here place is steps k s state number known at other f low =
-    fault_of place is (run_part steps) k s state number (part_at steps k s known at other) (subst (λ (w : List Step). Follows place w state) (sym (part_begins steps k known)) f) low
+fault_here place is steps k s state number known at other f low = search (rules, part_at steps k s known at other, part_begins steps k known, fault_of) steps 500000
 
 -- or not known
 pub unknown_here : (place : Setting) (steps : List Step) (k : ℕ) (state : State) → KnownUpTo steps k → slice_get steps k ≡ Some NotKnown → Follows place (take k steps) state → IsFirstUnknown steps k × IsReached place steps
-unknown_here place steps k state known at f =
-    ((at, known), (state.stack, subst (λ (w : List Step). Reaches place w state.stack) (sym (part_ends steps k known at)) (reached place (take k steps) state f)))
+unknown_here place steps k state known at f = grind (arith, common_steps, part_ends steps k known at, reached place (take k steps) state f) steps 200000
 
 pub reached_all : (place : Setting) (steps : List Step) (k : ℕ) (state : State) → length steps ≤ k → Follows place (take k steps) state → Reaches place steps state.stack
 reached_all place steps k state l f = subst (λ (w : List Step). Reaches place w state.stack) (take_all k steps l) (reached place (take k steps) state f)
@@ -223,8 +178,7 @@ pub cited_turns :
     {S : Type 0} (means : S → Symbol) (expressions : List (List Symbol)) (place : Setting) (label : List ℕ) (before after : State) (new : Machine S) (found : Option ProofNumber) →
     HasState means expressions new after → MatchOption found (Turns place (Named label) before after) (IsLowest place (Named label) before.stack) →
     MatchOption found (TurnsTo means expressions new place (Named label) before) (IsLowest place (Named label) before.stack)
-cited_turns means expressions place label before after new None has t = (after, has, t)
-cited_turns means expressions place label before after new (Some number) has low = low
+cited_turns means expressions place label before after new found has t = grind (arith, common_steps) steps 200000
 
 -- ---- what the table's entries are used for
 
@@ -245,16 +199,13 @@ unused_at expressions frames place (u ∷ all) (x ∷ names) (suc k) l zip = unu
 unused_at expressions frames place _ _ k l zip = absurd zip
 
 pub push_means : (expressions : List (List Symbol)) (frames : List Frame) (place : Setting) (n : ℕ) (step : Step) → MeansUse expressions frames place (uses.Hypothesis n) step → MeansTask expressions frames place (tasks.Push n) step
-push_means expressions frames place n (Named label) m = m
-push_means expressions frames place n _ m = absurd m
+push_means expressions frames place n step m = grind (arith, common_steps) steps 200000
 
 pub cite_means : (expressions : List (List Symbol)) (frames : List Frame) (place : Setting) (n : ℕ) (step : Step) → MeansUse expressions frames place (uses.Assertion n) step → MeansTask expressions frames place (tasks.Cite n) step
-cite_means expressions frames place n (Named label) m = m
-cite_means expressions frames place n _ m = absurd m
+cite_means expressions frames place n step m = grind (arith, common_steps) steps 200000
 
 pub nothing_means : (expressions : List (List Symbol)) (frames : List Frame) (place : Setting) (step : Step) → MeansUse expressions frames place uses.Nothing step → step ≡ NotKnown
-nothing_means expressions frames place NotKnown m = refl
-nothing_means expressions frames place _ m = absurd m
+nothing_means expressions frames place step m = grind (arith, common_steps) steps 200000
 
 -- ---- the code's steps
 
@@ -267,24 +218,14 @@ action_at names steps k d l = mapped_or_get (λ (step : ProofStep). meant names 
 
 -- one more may save
 pub saves_next : (steps : List ProofStep) (k : ℕ) (d : ProofStep) → k < length steps → saves_in (take (k + 1) steps) ≡ saves_in (take k steps) + saves_by (get_or steps k d).action
-saves_next steps k d l =
-    ap saves_in (take_next steps k (get_or steps k d) (slice_get-get_or steps k d l))
-    ∙ sum_by-append (λ (step : ProofStep). saves_by step.action) (take k steps) (get_or steps k d ∷ [])
-    ∙ ap (λ n. saves_in (take k steps) + n) (sum_by-cons (λ (step : ProofStep). saves_by step.action) (get_or steps k d) [] ∙ add-zero (saves_by (get_or steps k d).action))
+saves_next steps k d l = grind (arith, common_steps, add-zero, slice_get-get_or, sum_by-append, sum_by-cons, take_next) steps 200000
 
 -- how much was saved
 pub saved_same : {S : Type 0} (means : S → Symbol) (old new : Machine S) → (state_of means new).saved ≡ (state_of means old).saved → length new.saved.items ≡ length old.saved.items
-saved_same means old new e =
-    sym (length-map new.saved.items (read (map means new.symbols.items))) ∙ ap length e ∙ length-map old.saved.items (read (map means old.symbols.items))
+saved_same means old new e = grind (arith, common_steps, length-map new.saved.items (read (map means new.symbols.items)), length-map old.saved.items (read (map means old.symbols.items))) steps 200000
 
 pub saved_more : {S : Type 0} (means : S → Symbol) (old new : Machine S) → Saves (state_of means old) (state_of means new) → length new.saved.items ≡ length old.saved.items + 1
-saved_more means old new saves =
-    let before = read_all (map means old.symbols.items) old.saved.items in
-    sym (length-map new.saved.items (read (map means new.symbols.items)))
-    ∙ ap length saves.4
-    ∙ length-append before (saves.1 ∷ [])
-    ∙ ap (λ n. n + 1) (length-map old.saved.items (read (map means old.symbols.items)))
+saved_more means old new saves = grind (arith, common_steps, length-append, length-map) steps 200000
 
 pub if_none : {A : Type 0} (found : Option A) (P : Type 0) → P → IfNone found P
-if_none None P p = p
-if_none (Some x) P p = tt
+if_none found P p = grind (arith, common_steps) steps 200000

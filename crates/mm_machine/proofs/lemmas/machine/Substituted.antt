@@ -8,10 +8,7 @@ same_entries :
     ((h : Mandatory) → Contains hs h → substituted given h.expression ≡ substituted other h.expression) →
     map (λ h. substituted given h.expression) hs ≡ map (λ h. substituted other h.expression) hs
 same_entries given other [] each = refl
-same_entries given other (h ∷ hs) each =
-    let first = each h (Contains-here h hs) in
-    let rest = same_entries given other hs (λ g c. each g (contains_there h hs g c)) in
-    λ i. first i ∷ rest i
+same_entries given other (h ∷ hs) each = λ i. (each h (Contains-here h hs)) i ∷ (same_entries given other hs (λ g c. each g (contains_there h hs g c))) i
 
 pub only_mandatory :
     (active : List (Symbol × Symbol)) (frame : Frame) → IsFrame frame → (given other : Symbol → List Symbol) →

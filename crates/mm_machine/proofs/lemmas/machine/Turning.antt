@@ -1,25 +1,23 @@
 -- The machine as a function: what it answers is a turn, or the lowest line that holds.
-use Rattle.std.proofs.Common.{◌≡◌, ◌≢◌, ℕ, suc, ◌-◌, ◌≤◌, ◌<◌, true, false, Option, Some, None, Result, Ok, Err, List, [], ◌∷◌, ◌++◌, length, map, take, get_or, refl, sym, ◌∙◌, ap, subst, arith, inl}
-use Rattle.std.proofs.Common.{inr, ◌⊎◌, length-append, slice_get, Contains, All, Any}
-use Rattle.std.proofs.lemmas.{List.{take-append-drop, length-drop, get_or_default}, Option.{slice_get-get_or}}
+use Rattle.std.proofs.Common.{rules, ◌≡◌, ◌≢◌, ℕ, suc, ◌-◌, ◌≤◌, ◌<◌, true, false, Option, Some, None, Result, Ok, Err, List, [], ◌∷◌, ◌++◌, length, map, take, get_or, refl, sym, ◌∙◌, ap, subst}
+use Rattle.std.proofs.{Common.{arith, inl, inr, ◌⊎◌, length-append, slice_get, Contains, All, Any}, lemmas.{Grind.{common_steps, elements}, List.{take-append-drop, length-drop, get_or_default}}}
+use Rattle.std.proofs.lemmas.Option.{slice_get-get_or}
 use native.Mathlib.Decide.{dec_lt}
 use mathlib.Core.Bool.{Bool-discrete}
 use Rattle.mm_machine.specs.Language.{Frame.{Symbol, Frame, Resolved, Hypothesis, Assertion, Inactive, Unknown, Setting}, Substitution.{substituted}, Derivation.{ShareVariable, AreApart}}
 use Rattle.mm_machine.specs.Language.{Typing.{IsFrame, HasFrames}, Steps.{Cites, Moves}, Expansion.{Step, Named, Saved, Save, NotKnown}}
 use Rattle.mm_machine.specs.Language.{Faults.{AnyZip, entries_for, LackPair, CitingFails, LabelFails, SaveFails, StepLineHolds, row_of, IsLowest}, Machine.{State, Turns, IsUsable, IsReady}}
 use Rattle.mm_machine.specs.declared.ProofNumber.{ProofNumber, TheVariants.{P01, P02, P03, P04, P05, P06, P07, P08, P09, P10, P11, P12, P13, P14, P15}}
-use Rattle.mm_machine.proofs.lemmas.lists.Members.{Contains-here, contains_there}
-use Rattle.mm_machine.proofs.lemmas.verdicts.{Unique.{same_substituted}, Lines.{FloatsMatch, agree, IsTypedPair, not_cited}}
-use Rattle.mm_machine.proofs.lemmas.verdicts.Choices.{both_of, not_of, expression_discrete, dec_any, dec_any_zip, dec_share, dec_lack, are_apart}
-use Rattle.mm_machine.proofs.lemmas.machine.{Reaching.{last_entry}, Given.{given_by, floats_match, all_match, OtherTypecode, dec_option}}
+use Rattle.mm_machine.proofs.lemmas.{lists.Members.{Contains-here, contains_there}, verdicts.{Unique.{same_substituted}, Lines.{FloatsMatch, agree, IsTypedPair, not_cited}}}
+use Rattle.mm_machine.proofs.lemmas.{verdicts.Choices.{both_of, not_of, expression_discrete, dec_any, dec_any_zip, dec_share, dec_lack, are_apart}, machine.Reaching.{last_entry}}
+use Rattle.mm_machine.proofs.lemmas.machine.Given.{given_by, floats_match, all_match, OtherTypecode, dec_option}
 
 -- the numbers in the order of their rows
 abbrev number_at : ℕ → ProofNumber
 number_at n = get_or (P01 ∷ P01 ∷ P02 ∷ P03 ∷ P04 ∷ P05 ∷ P06 ∷ P07 ∷ P08 ∷ P09 ∷ P10 ∷ P11 ∷ P12 ∷ P13 ∷ P14 ∷ P15 ∷ []) n P01
 
 number_at_row : (number : ProofNumber) → number_at (row_of number) ≡ number
-number_at_row P01 = refl
-number_at_row _ = refl
+number_at_row number = grind (arith, common_steps) steps 200000
 
 -- two numbers of one row are one
 pub same_number : (a b : ProofNumber) → row_of a ≡ row_of b → a ≡ b
@@ -30,13 +28,7 @@ abbrev pub NoneBelow : (ProofNumber → Type 0) → ℕ → Type 0
 NoneBelow P n = (other : ProofNumber) → P other → row_of other < n → ⊥
 
 pub none_more : (P : ProofNumber → Type 0) (number : ProofNumber) → NoneBelow P (row_of number) → (P number → ⊥) → NoneBelow P (suc (row_of number))
-none_more P number below n other p l = elim (cases_le (row_of other) (row_of number)) [
-  | inl lt ↦ below other p lt
-  | inr ge ↦ n (subst P (same_number other number (omega arith)) p)
-]
-  where
-    cases_le : (a b : ℕ) → (a < b) ⊎ (b ≤ a)
-    cases_le a b = grind arith
+none_more P number below n other p l = grind (arith, common_steps, same_number) steps 200000
 
 -- what an answer says: it is right, or it is the lowest number that holds
 abbrev pub Says : {X : Type 0} → (X → Type 0) → (ProofNumber → Type 0) → Result X ProofNumber → Type 0
@@ -51,21 +43,12 @@ choose_says :
     {Q X : Type 0} (Right : X → Type 0) (P : ProofNumber → Type 0) (number : ProofNumber) (rest : Result X ProofNumber) (d : Dec Q) → (Q → P number) →
     (P number → Q) → NoneBelow P (row_of number) → ((Q → ⊥) → NoneBelow P (suc (row_of number)) → Says Right P rest) → Says Right P (choose d number rest)
 unfolding choose
-choose_says Right P number rest (yes q) to from below go = (to q, λ other p. at_least (row_of number) (row_of other) (below other p))
-  where
-    at_least : (a b : ℕ) → (b < a → ⊥) → a ≤ b
-    at_least a b n = omega arith
+choose_says Right P number rest (yes q) to from below go = grind (arith, elements) steps 200000
 choose_says Right P number rest (no n) to from below go = go n (none_more P number below (λ p. n (from p)))
 
 -- the lines below P07 say nothing of a citation
 pub none_first : (active : List (Symbol × Symbol)) (frame : Frame) (stack : List (List Symbol)) → NoneBelow (CitingFails active frame stack) 7
-none_first active frame stack P07 p l = omega arith
-none_first active frame stack P08 p l = omega arith
-none_first active frame stack P09 p l = omega arith
-none_first active frame stack P10 p l = omega arith
-none_first active frame stack P11 p l = omega arith
-none_first active frame stack P12 p l = omega arith
-none_first active frame stack _ p l = p
+none_first active frame stack = grind (arith, common_steps) steps 200000
 
 -- what a citation makes of a stack
 pub cite : List (Symbol × Symbol) → Frame → List (List Symbol) → Result (List (List Symbol)) ProofNumber
@@ -101,8 +84,7 @@ pairs_by R frame is f g es a b any =
     let pair = any.1 in
     let t = subst (IsTypedPair frame.hypotheses) any.3 (is.pairs_typed any.0 any.1 any.2) in
     let first = agree f g frame.hypotheses es pair.0 a b t.0 t.2 in
-    let second = agree f g frame.hypotheses es pair.1 a b t.1 t.3 in
-    (any.0, any.1, any.2, any.3, subst (λ w. R w (g pair.1)) first (subst (R (f pair.0)) second any.4))
+    (any.0, any.1, any.2, any.3, subst (λ w. R w (g pair.1)) first (subst (R (f pair.0)) (agree f g frame.hypotheses es pair.1 a b t.1 t.3) any.4))
 
 long_by : (frame : Frame) → IsFrame frame → (f g : Symbol → List Symbol) (es : List (List Symbol)) → FloatsMatch f frame.hypotheses es
     → FloatsMatch g frame.hypotheses es → 1000000 < length (substituted f frame.expression) → 1000000 < length (substituted g frame.expression)
@@ -116,15 +98,7 @@ pub cites_by :
     (length stack < length frame.hypotheses → ⊥) → map (λ h. substituted given h.expression) frame.hypotheses ≡ entries_for frame stack →
     All (λ pair. AreApart active (given pair.0) (given pair.1)) frame.pairs → (1000000 < length (substituted given frame.expression) → ⊥) →
     Cites active frame stack (take (length stack - length frame.hypotheses) stack ++ substituted given frame.expression ∷ [])
-cites_by active frame stack given few m a long = record {
-  below = take (length stack - length frame.hypotheses) stack;
-  entries = entries_for frame stack;
-  result = substituted given frame.expression;
-  given = given;
-  before = sym (take-append-drop (length stack - length frame.hypotheses) stack);
-  takes = record { entries_match = m; result_matches = refl; apart = a; short = omega arith };
-  after = refl;
-}
+cites_by active frame stack given few m a long = grind (arith, common_steps, take-append-drop (length stack - length frame.hypotheses) stack) steps 200000
 
 apart_by :
     (active : List (Symbol × Symbol)) (given : Symbol → List Symbol) (pairs : List (Symbol × Symbol)) →
@@ -133,10 +107,9 @@ apart_by :
 apart_by active given pairs share lack k d l =
     let pair = get_or pairs k d in
     let same = within pairs k d l in
-    are_apart active (given pair.0) (given pair.1) (λ s. share (k, pair, l, same, s)) (λ s. lack (k, pair, l, same, s))
-  where
-    within : (pairs : List (Symbol × Symbol)) (k : ℕ) (d : Symbol × Symbol) → k < length pairs → get_or pairs k (get_or pairs k d) ≡ get_or pairs k d
-    within pairs k d l = get_or_default pairs k (get_or pairs k d) d l
+    are_apart active (given pair.0) (given pair.1) (λ s. share (k, pair, l, same, s)) (λ s. lack (k, pair, l, same, s)) where
+      within : (pairs : List (Symbol × Symbol)) (k : ℕ) (d : Symbol × Symbol) → k < length pairs → get_or pairs k (get_or pairs k d) ≡ get_or pairs k d
+      within pairs k d l = get_or_default pairs k (get_or pairs k d) d l
 
 -- a citation's answer is right
 pub cite_says : (active : List (Symbol × Symbol)) (frame : Frame) (stack : List (List Symbol)) → IsFrame frame → Says (Cites active frame stack) (CitingFails active frame stack) (cite active frame stack)
@@ -189,12 +162,7 @@ label_says :
     Says (λ (after : State). Moves place.active r s.stack after.stack × (after.saved ≡ s.saved)) (LabelFails place.active r s.stack) (with_stack s (label_turn place.active r s.stack))
 unfolding with_stack label_turn
 label_says place is label (Hypothesis e) s at u = (refl, refl)
-label_says place is label (Assertion frame) s at u = answer (cite place.active frame s.stack) (cite_says place.active frame s.stack (is label frame at))
-  where
-    answer : (r : Result (List (List Symbol)) ProofNumber) → Says (Cites place.active frame s.stack) (CitingFails place.active frame s.stack) r →
-        Says (λ (after : State). Cites place.active frame s.stack after.stack × (after.saved ≡ s.saved)) (CitingFails place.active frame s.stack) (with_stack s r)
-    answer (Ok next) p = (p, refl)
-    answer (Err number) p = p
+label_says place is label (Assertion frame) s at u = search (rules, cite, cite_says, with_stack) steps 500000
 label_says place is label Inactive s at u = absurd u
 label_says place is label Unknown s at u = absurd u
 
@@ -205,12 +173,7 @@ saved_says place s n None at l = absurd (let f = slice_get-get_or s.saved n [] l
 
 save_says : (place : Setting) (s : State) (stack : List (List Symbol)) → s.stack ≡ stack → Says (λ after. Turns place Save s after) (SaveFails stack) (saved_top s stack)
 unfolding saved_top
-save_says place s [] e = (refl, least)
-  where
-    least : (other : ProofNumber) → SaveFails [] other → 13 ≤ row_of other
-    least P13 h = omega arith
-    least _ h = absurd h
-save_says place s (x ∷ xs) e = let l = last_entry x xs in (l.0, l.1, e ∙ l.2, refl, refl)
+save_says place s stack e = grind (arith, common_steps) steps 200000
 
 -- each answer of the machine is right
 pub turn_says : (place : Setting) → HasFrames place → (s : State) (step : Step) → IsReady place s step → Says (λ after. Turns place step s after) (StepLineHolds place step s.stack) (turn place s step)
@@ -222,25 +185,16 @@ turn_says place is s NotKnown r = absurd r
 
 -- if a line holds, the machine has no turn
 pub no_turn : (place : Setting) → HasFrames place → (s after : State) (step : Step) (number : ProofNumber) → StepLineHolds place step s.stack number → Turns place step s after → ⊥
-no_turn place is s after (Named label) number h t = label_none (place.resolve label) refl h t.0
-  where
-    label_none : (r : Resolved) → place.resolve label ≡ r → LabelFails place.active r s.stack number → Moves place.active r s.stack after.stack → ⊥
-    label_none (Hypothesis e) at h m = h
-    label_none (Assertion frame) at h m = not_cited place.active frame s.stack after.stack number (is label frame at) m h
-    label_none Inactive at h m = h
-    label_none Unknown at h m = h
+no_turn place is s after (Named label) number h t = search (rules, not_cited) steps 500000
 no_turn place is s after (Saved n) number h t = h
-no_turn place is s after Save P13 h t =
-    let e = ap length (sym h ∙ t.2) in
-    omega (arith, length-append t.0 (t.1 ∷ []))
+no_turn place is s after Save P13 h t = grind (arith, common_steps, length-append t.0 (t.1 ∷ [])) steps 200000
 no_turn place is s after Save _ h t = h
 no_turn place is s after NotKnown number h t = h
 
 -- a step has a turn, or a lowest line
 answer_of : (place : Setting) (s : State) (step : Step) (r : Result State ProofNumber) → Says (λ after. Turns place step s after)
     (StepLineHolds place step s.stack) r → ((after : State) × Turns place step s after) ⊎ ((number : ProofNumber) × IsLowest place step s.stack number)
-answer_of place s step (Ok after) p = inl (after, p)
-answer_of place s step (Err number) p = inr (number, record { holds = p.0; lowest = p.1 })
+answer_of place s step r p = grind (arith, common_steps) steps 200000
 
 pub turns_or_fails : (place : Setting) → HasFrames place → (s : State) (step : Step) → IsReady place s step → ((after : State) × Turns place step s after) ⊎ ((number : ProofNumber) × IsLowest place step s.stack number)
 turns_or_fails place is s step r = answer_of place s step (turn place s step) (turn_says place is s step r)

@@ -1,80 +1,48 @@
 -- Numbers for names are a renaming.
-use Rattle.std.proofs.Common.{◌≡◌, ◌≢◌, ℕ, zero, suc, ◌+◌, Bool, true, false, Some, List, [], ◌∷◌, map, refl, sym, ap, ap₂, ◌∙◌, arith, inl, inr, slice_get, bytes_eq, All}
-use Rattle.std.proofs.lemmas.{Bool.{cases_Bool, false≢true}, List.Elements.{All-head, All-tail}, Option.{slice_get-get_or}, Slice.Eq.{bytes_eq-Decides}}
-use Rattle.mm_machine.specs.declared.symbol.NumberedSymbol.{NumberedSymbol}
-use Rattle.mm_machine.specs.Language.{Names.{AreDistinct, name_at}, NumberedSymbols.{symbol_of, symbols_of, pair_of, kept_pairs, IsNumbered, IsPairNumbered, by_number, all_by_number}}
+use Rattle.std.proofs.lemmas.{Grind.{common_steps}, Bool.{cases_Bool, false≢true}, List.Elements.{All-head, All-tail}, Option.{slice_get-get_or}, Slice.Eq.{bytes_eq-Decides}}
+use Rattle.std.proofs.Common.{◌≡◌, ◌≢◌, ℕ, zero, suc, ◌+◌, Bool, true, false, Some, List, [], ◌∷◌, map, refl, sym, ap, ap₂, ◌∙◌, arith, slice_get, bytes_eq, All}
+use Rattle.mm_machine.specs.{declared.symbol.NumberedSymbol.{NumberedSymbol}, Language.Names.{AreDistinct, name_at}}
+use Rattle.mm_machine.specs.Language.NumberedSymbols.{symbol_of, symbols_of, pair_of, kept_pairs, IsNumbered, IsPairNumbered, by_number, all_by_number}
 use Rattle.mm_machine.specs.Language.{Renaming.{IsRenaming, renamed_pair, renamed_pairs}, CitedFrames.{meant_pairs}, Numbering.{exchanged, named_from, numbered_from, naming, unnaming}}
 
 same_names : (a b : List ℕ) → a ≡ b → bytes_eq a b ≡ true
 same_names a b e = (bytes_eq-Decides a b).1 e
 
 other_names : (a b : List ℕ) → a ≢ b → bytes_eq a b ≡ false
-other_names a b n = elim (cases_Bool (bytes_eq a b)) [
-  | inl e ↦ absurd (n ((bytes_eq-Decides a b).0 e))
-  | inr e ↦ e
-]
+other_names a b n = grind (arith, common_steps, cases_Bool (bytes_eq a b), bytes_eq-Decides a b) steps 200000
 
 -- an exchange gives the one, the other, and any third
 exchanged_first : (a b name : List ℕ) → name ≡ a → exchanged a b name ≡ b
 exchanged_first a b name e = rw (same_names name a e) refl
 
-exchanged_second : (a b name : List ℕ) → name ≡ b → exchanged a b name ≡ a
-exchanged_second a b name e = elim (cases_Bool (bytes_eq name a)) [
-  | inl f ↦ rw f (sym e ∙ (bytes_eq-Decides name a).0 f)
-  | inr f ↦ rw (f, same_names name b e) refl
-]
-
 exchanged_third : (a b name : List ℕ) → name ≢ a → name ≢ b → exchanged a b name ≡ name
 exchanged_third a b name n m = rw (other_names name a n, other_names name b m) refl
 
 exchanged_back : (a b name : List ℕ) → exchanged a b (exchanged a b name) ≡ name
-exchanged_back a b name = elim (cases_Bool (bytes_eq name a)) [
-  | inl e ↦ let is = (bytes_eq-Decides name a).0 e in ap (exchanged a b) (exchanged_first a b name is) ∙ exchanged_second a b b refl ∙ sym is
-  | inr e ↦ elim (cases_Bool (bytes_eq name b)) [
-    | inl f ↦ let is = (bytes_eq-Decides name b).0 f in ap (exchanged a b) (exchanged_second a b name is) ∙ exchanged_first a b a refl ∙ sym is
-    | inr f ↦
-        let third = exchanged_third a b name (λ is. false≢true (sym e ∙ same_names name a is)) (λ is. false≢true (sym f ∙ same_names name b is)) in
-        ap (exchanged a b) third ∙ third
-  ]
-]
+exchanged_back a b name = grind (arith, common_steps, bytes_eq-Decides, cases_Bool, exchanged_first, exchanged_third, false≢true, same_names) steps 200000
 
 -- both ways
 numbered_named : (n : ℕ) (names : List (List ℕ)) (number : List ℕ) → numbered_from n names (named_from n names number) ≡ number
 numbered_named n [] number = refl
-numbered_named n (name ∷ names) number =
-    ap (numbered_from (n + 1) names) (exchanged_back (named_from (n + 1) names (n ∷ [])) name (named_from (n + 1) names number))
-    ∙ numbered_named (n + 1) names number
+numbered_named n (name ∷ names) number = grind (arith, common_steps, numbered_named (n + 1) names number, exchanged_back) steps 200000
 
 named_numbered : (n : ℕ) (names : List (List ℕ)) (name : List ℕ) → named_from n names (numbered_from n names name) ≡ name
 named_numbered n [] name = refl
-named_numbered n (first ∷ names) name =
-    let a = named_from (n + 1) names (n ∷ []) in
-    ap (exchanged a first) (named_numbered (n + 1) names (exchanged a first name)) ∙ exchanged_back a first name
+named_numbered n (first ∷ names) name = grind (arith, common_steps, named_numbered (n + 1) names (exchanged (named_from (n + 1) names (n ∷ [])) first name), exchanged_back) steps 200000
 
 pub naming_is_renaming : (names : List (List ℕ)) → IsRenaming (naming names) (unnaming names)
-naming_is_renaming names = record {
-  there = λ s. λ i. record { name = numbered_named 0 names s.name i; variable = s.variable };
-  again = λ s. λ i. record { name = named_numbered 0 names s.name i; variable = s.variable };
-  kinds = λ s. refl;
-}
+naming_is_renaming names = grind (arith, common_steps, numbered_named, named_numbered) steps 200000
 
 -- two numbers have different names
 named_apart : (n : ℕ) (names : List (List ℕ)) (a b : ℕ) → a ≢ b → named_from n names (a ∷ []) ≢ named_from n names (b ∷ [])
-named_apart n names a b other e =
-    let same : a ∷ [] ≡ b ∷ [] = sym (numbered_named n names (a ∷ [])) ∙ ap (numbered_from n names) e ∙ numbered_named n names (b ∷ []) in
-    let is : a ≡ b = cc in
-    other is
+named_apart n names a b other e = grind (arith, common_steps, numbered_named n names (a ∷ []), numbered_named n names (b ∷ [])) steps 200000
 
 named_at : (n : ℕ) (names : List (List ℕ)) → AreDistinct names → (k : ℕ) (name : List ℕ) → slice_get names k ≡ Some name → named_from n names ((n + k) ∷ []) ≡ name
 named_at n [] distinct k name e = cc
-named_at n (first ∷ names) distinct zero name e =
-    let none : n + 0 ≡ n = omega arith in
-    let is : first ≡ name = cc in
-    exchanged_first (named_from (n + 1) names (n ∷ [])) first (named_from (n + 1) names ((n + 0) ∷ [])) (ap (λ (w : ℕ). named_from (n + 1) names (w ∷ [])) none) ∙ is
+named_at n (first ∷ names) distinct zero name e = grind (arith, common_steps, exchanged_first) steps 200000
 named_at n (first ∷ names) distinct (suc k) name e =
-    let next : n + suc k ≡ n + 1 + k = omega arith in
     let rest = named_at (n + 1) names (λ i j word f g. let more = distinct (suc i) (suc j) word f g in omega arith) k name e in
-    let is : named_from (n + 1) names ((n + suc k) ∷ []) ≡ name = ap (λ (w : ℕ). named_from (n + 1) names (w ∷ [])) next ∙ rest in
+    let is : named_from (n + 1) names ((n + suc k) ∷ []) ≡ name = ap (λ (w : ℕ). named_from (n + 1) names (w ∷ [])) (omega arith) ∙ rest in
     exchanged_third
     (named_from (n + 1) names (n ∷ [])) first (named_from (n + 1) names ((n + suc k) ∷ []))
     (named_apart (n + 1) names (n + suc k) n (λ same. omega arith))
@@ -83,10 +51,7 @@ named_at n (first ∷ names) distinct (suc k) name e =
 
 -- the symbol with a number has the name with this number
 naming_names : (names : List (List ℕ)) → AreDistinct names → (n : ℕ) (name : List ℕ) (v : Bool) → slice_get names n ≡ Some name → naming names (record { name = n ∷ []; variable = v }) ≡ record { name = name; variable = v }
-naming_names names distinct n name v e =
-    let none : 0 + n ≡ n = omega arith in
-    let is = ap (λ (w : ℕ). named_from 0 names (w ∷ [])) (sym none) ∙ named_at 0 names distinct n name e in
-    λ i. record { name = is i; variable = v }
+naming_names names distinct n name v e = grind (arith, common_steps, named_at 0 names distinct n name e) steps 200000
 
 -- and the symbol with the name has the number again
 unnaming_numbers : (names : List (List ℕ)) → AreDistinct names → (n : ℕ) (name : List ℕ) (v : Bool) → slice_get names n ≡ Some name → unnaming names (record { name = name; variable = v }) ≡ record { name = n ∷ []; variable = v }

@@ -1,27 +1,20 @@
 -- Frames and settings whose symbols are renamed.
+use Rattle.std.proofs.lemmas.{Grind.{common_steps}, List.{length-map, get_or-map, Elements.{All-map}}, Option.{slice_get-map}}
 use Rattle.std.proofs.Common.{◌≡◌, ◌≢◌, ℕ, true, List, map, get_or, refl, sym, ap, ◌∙◌, subst, subst₂, arith, slice_get, All, AllPairs}
-use Rattle.std.proofs.lemmas.{List.{length-map, get_or-map, Elements.{All-map}}, Option.{slice_get-map}}
-use Rattle.std.specs.Option.{option_map}
-use Rattle.mm_machine.specs.Language.{Frame.{Symbol, Mandatory, Frame, Resolved, Hypothesis, Assertion, Setting, ArePair, AreSamePairs}, Typing.{IsTyped, IsTyping, IsFrame, HasFrames}}
-use Rattle.mm_machine.specs.Language.SameProof.{AreSameMeaning}
+use Rattle.mm_machine.specs.Language.{Frame.{Symbol, Mandatory, Frame, Resolved, Assertion, Setting, ArePair, AreSamePairs}, Typing.{IsTyped, IsTyping, IsFrame, HasFrames}, SameProof.{AreSameMeaning}}
 use Rattle.mm_machine.specs.Language.{Renaming.{IsRenaming, renamed_pair, renamed_pairs, renamed_mandatory, renamed_frame, renamed_meaning, IsRenamedSetting, renamed_setting}, Names.{AreDistinct}}
 use Rattle.mm_machine.specs.Language.{NumberedSymbols.{kept_pairs, IsPairNumbered, by_number}, Expansion.{Step}, CitedFrames.{meant_pairs}, NamedSteps.{RunSays}, Numbering.{naming, unnaming}}
-use Rattle.mm_machine.specs.declared.{symbol.NumberedSymbol.{NumberedSymbol}, stepping.Outcome.{Outcome}}
-use Rattle.mm_machine.proofs.lemmas.renaming.NumberingLemmas.{naming_is_renaming, pairs_numbered}
+use Rattle.mm_machine.{specs.declared.{symbol.NumberedSymbol.{NumberedSymbol}, stepping.Outcome.{Outcome}}, proofs.lemmas.renaming.NumberingLemmas.{naming_is_renaming, pairs_numbered}}
 use Rattle.mm_machine.proofs.lemmas.renaming.RenamingLemmas.{map_back, contains_map, contains_back, pair_there, pair_back, renaming_back, mandatory_there, has_there, has_back, setting_back}
 use Rattle.mm_machine.proofs.lemmas.renaming.RenamingLemmas.{run_renamed}
 
 -- what means the same means the same when renamed
 same_there : (r : Resolved) → AreSameMeaning r r
-same_there (Hypothesis e) = refl
-same_there (Assertion frame) = record { expression = refl; hypotheses = refl; pairs = λ x y. (λ are. are, λ are. are) }
-same_there _ = tt
+same_there r = grind (arith, common_steps) steps 200000
 
 -- a symbol after another renamed
 second_own : (f : Symbol → Symbol) (g : Symbol → Symbol) → ((s : Symbol) → g (f s) ≡ s) → (xs ys : List Symbol) → slice_get (map f xs) 1 ≡ slice_get (map f ys) 1 → slice_get xs 1 ≡ slice_get ys 1
-second_own f g e xs ys same =
-    ap (λ (l : List Symbol). slice_get l 1) (sym (map_back f g e xs)) ∙ slice_get-map g (map f xs) 1
-    ∙ ap (option_map g) same ∙ sym (slice_get-map g (map f ys) 1) ∙ ap (λ (l : List Symbol). slice_get l 1) (map_back f g e ys)
+second_own f g e xs ys same = grind (arith, common_steps, map_back f g e xs, slice_get-map g (map f xs) 1, slice_get-map g (map f ys) 1, map_back f g e ys) steps 200000
 
 module _ (to back : Symbol → Symbol) (is : IsRenaming to back) where
   typed_renamed : (hs : List Mandatory) (v : Symbol) → IsTyped hs v → IsTyped (map (renamed_mandatory to) hs) (to v)

@@ -1,18 +1,15 @@
 -- A renaming of symbols, one to one, keeps verdicts.
-use Rattle.std.proofs.Common.{◌≡◌, ◌≢◌, ℕ, ◌+◌, ◌-◌, ◌<◌, Bool, true, false, Option, Some, None, Ok, Err, List, [], ◌∷◌, ◌++◌, length, map, take, drop, get_or, refl, sym, ap, ap₂, ◌∙◌, subst, subst₂}
-use Rattle.std.proofs.Common.{arith, inl, inr, slice_get, Contains, All, Any, pos, if◌then◌else◌}
-use Rattle.std.proofs.lemmas.List.{length-map, get_or-map, map-append, drop-map, Elements.{All-map}}
-use Rattle.std.specs.{List.{AllZip}, Ordering.{int_eq}}
+use Rattle.std.proofs.lemmas.{Grind.{common_steps}, List.{length-map, get_or-map, map-append, drop-map, Elements.{All-map}}}
+use Rattle.std.proofs.Common.{◌≡◌, ◌≢◌, ℕ, ◌+◌, ◌-◌, ◌<◌, Bool, true, false, Option, Some, None, List, [], ◌∷◌, ◌++◌, length, map, take, drop, get_or, refl, sym, ap, ap₂, ◌∙◌, subst, subst₂, arith}
+use Rattle.std.{proofs.Common.{inl, inr, slice_get, Contains, All, Any, pos, if◌then◌else◌}, specs.{List.{AllZip}, Ordering.{int_eq}}}
 use Rattle.mm_machine.specs.Language.Frame.{Symbol, Mandatory, Frame, Resolved, Hypothesis, Assertion, Inactive, Unknown, Setting, ArePair, HasVariable, AreSamePairs}
 use Rattle.mm_machine.specs.Language.{Substitution.{replacement, substituted}, Derivation.{Derives, DeriveInOrder, by_hypothesis, by_assertion, nothing, first_then, Takes, AreApart, ShareVariable}}
-use Rattle.mm_machine.specs.Language.Expansion.{Step, Named, Saved, Save, Expanded, expand_one, expand_from, last_part, or_else, weight, taken_by, with_saved}
+use Rattle.mm_machine.specs.Language.Expansion.{Step, Named, Save, Expanded, expand_one, expand_from, last_part, or_else, weight, taken_by}
 use Rattle.mm_machine.specs.Language.{Faults.{AnyZip, UnderGiven, LackPair, entries_for, CitingFails, LabelFails, SaveFails, StepLineHolds}, Reaches.{Reaches, IsStepFault}, Run.{run_part}}
 use Rattle.mm_machine.specs.Language.{Verdict.{Decoded, IsWrongBy, IsVerdictOnSteps}, SameProof.{AreSameMeaning, IsSameStep}}
 use Rattle.mm_machine.specs.Language.Renaming.{IsRenaming, renamed_pair, renamed_pairs, renamed_mandatory, renamed_frame, renamed_meaning, IsRenamedSetting, renamed_setting}
-use Rattle.mm_machine.specs.Language.{Laws.{RenamingKeepsVerdict}, NamedSteps.{RunSays}}
-use Rattle.mm_machine.specs.declared.{Spot.{Spot}, ProofNumber.{ProofNumber, TheVariants.{P07, P08, P09, P10, P11, P12, P13, P14, P15}}, Verdict.{Verdict, TheVariants.{Proved, Incomplete, Wrong}}}
-use Rattle.mm_machine.specs.declared.stepping.Outcome.{Outcome}
-use Rattle.mm_machine.proofs.lemmas.verdicts.Moving.{reached_moved, line_moved}
+use Rattle.mm_machine.specs.{Language.{Laws.{RenamingKeepsVerdict}, NamedSteps.{RunSays}}, declared.{Spot.{Spot}, ProofNumber.{ProofNumber, TheVariants.{P07, P08, P09, P10, P11, P12, P13, P14, P15}}}}
+use Rattle.mm_machine.{specs.declared.{Verdict.{Verdict, TheVariants.{Proved, Incomplete, Wrong}}, stepping.Outcome.{Outcome}}, proofs.lemmas.verdicts.Moving.{reached_moved, line_moved}}
 use Rattle.mm_machine.specs.declared.stepping.Outcome.TheVariants as outcomes
 
 -- a list under a map, and under its inverse
@@ -24,18 +21,13 @@ map_own : {X Y : Type 0} (f : X → Y) (g : Y → X) → ((x : X) → g (f x) �
 map_own f g e xs ys same = sym (map_back f g e xs) ∙ ap (map g) same ∙ map_back f g e ys
 
 pub contains_map : {X Y : Type 0} (f : X → Y) (xs : List X) (x : X) → Contains xs x → Contains (map f xs) (f x)
-contains_map f xs x c =
-    let long = length-map xs f in
-    let within = c.1 in
-    (c.0, omega arith, get_or-map f xs c.0 x (f x) within ∙ ap f c.2)
+contains_map f xs x c = grind (arith, common_steps, length-map xs f, get_or-map f xs c.0 x (f x) c.1) steps 200000
 
 pub contains_back : {X Y : Type 0} (f : X → Y) (g : Y → X) → ((x : X) → g (f x) ≡ x) → (xs : List X) (y : Y) → Contains (map f xs) y → Contains xs (g y)
 contains_back f g e xs y c = subst (λ l. Contains l (g y)) (map_back f g e xs) (contains_map g (map f xs) y c)
 
 any_map : {X Y : Type 0} (P : X → Type 0) (Q : Y → Type 0) (f : X → Y) (xs : List X) → ((x : X) → P x → Q (f x)) → Any P xs → Any Q (map f xs)
-any_map P Q f xs each a =
-    let c = contains_map f xs a.1 (a.0, a.2, a.3) in
-    (c.0, f a.1, c.1, c.2, each a.1 a.4)
+any_map P Q f xs each a = grind (arith, common_steps, contains_map) steps 200000
 
 any_zip_map : {A B C D : Type 0} (R : A → B → Type 0) (S : C → D → Type 0) (f : A → C) (g : B → D) (xs : List A) (ys : List B) → ((x : A) (y : B) → R x y → S (f x) (g y)) → AnyZip R xs ys → AnyZip S (map f xs) (map g ys)
 any_zip_map R S f g (x ∷ xs) (y ∷ ys) each a = elim a [
@@ -51,10 +43,7 @@ all_zip_map R S f g _ _ each a = absurd a
 
 -- pairs, there and back
 pub pair_there : (f : Symbol → Symbol) (pairs : List (Symbol × Symbol)) (x y : Symbol) → ArePair pairs x y → ArePair (renamed_pairs f pairs) (f x) (f y)
-pair_there f pairs x y are = elim are [
-  | inl c ↦ inl (contains_map (renamed_pair f) pairs (x, y) c)
-  | inr c ↦ inr (contains_map (renamed_pair f) pairs (y, x) c)
-]
+pair_there f pairs x y are = grind (arith, common_steps, contains_map) steps 200000
 
 pair_inverse : (f g : Symbol → Symbol) → ((s : Symbol) → g (f s) ≡ s) → (pair : Symbol × Symbol) → renamed_pair g (renamed_pair f pair) ≡ pair
 pair_inverse f g e pair = λ i. (e pair.0 i, e pair.1 i)
@@ -64,16 +53,11 @@ pair_back f g e pairs x y are = subst (λ ps. ArePair ps (g x) (g y)) (map_back 
 
 -- a renaming the other way round
 pub renaming_back : (to back : Symbol → Symbol) → IsRenaming to back → IsRenaming back to
-renaming_back to back is = record {
-  there = is.again;
-  again = is.there;
-  kinds = λ s. sym (is.kinds (back s)) ∙ ap (λ (w : Symbol). w.variable) (is.again s);
-}
+renaming_back to back is = grind (arith, common_steps, is.kinds, is.again) steps 200000
 
 -- what steps expand to knows no symbols
 taken_renamed : (to : Symbol → Symbol) (r : Resolved) → taken_by (renamed_meaning to r) ≡ taken_by r
-taken_renamed to (Assertion frame) = length-map frame.hypotheses (renamed_mandatory to)
-taken_renamed to _ = refl
+taken_renamed to r = grind (arith, common_steps) steps 200000
 
 weight_renamed : (to : Symbol → Symbol) (place : Setting) (labels : List (List ℕ)) → weight (renamed_setting to place) labels ≡ weight place labels
 weight_renamed to place [] = refl
@@ -84,15 +68,10 @@ part_renamed to place [] = refl
 part_renamed to place (label ∷ labels) =
     λ i. or_else (part_renamed to place labels i) (if int_eq (weight_renamed to place (label ∷ labels) i) (pos 1) then Some (label ∷ labels) else None)
 
-one_renamed : (to : Symbol → Symbol) (place : Setting) (x : Expanded) (step : Step) → expand_one (renamed_setting to place) x step ≡ expand_one place x step
-one_renamed to place x Save = ap (with_saved x) (part_renamed to place x.labels)
-one_renamed to place x _ = refl
-
 from_renamed : (to : Symbol → Symbol) (place : Setting) (o : Option Expanded) (steps : List Step) → expand_from (renamed_setting to place) o steps ≡ expand_from place o steps
 from_renamed to place o [] = refl
 from_renamed to place None (step ∷ steps) = refl
-from_renamed to place (Some x) (step ∷ steps) =
-    ap (λ (w : Option Expanded). expand_from (renamed_setting to place) w steps) (one_renamed to place x step) ∙ from_renamed to place (expand_one place x step) steps
+from_renamed to place (Some x) (step ∷ steps) = grind (arith, common_steps, from_renamed to place (expand_one place x step) steps, part_renamed) steps 200000
 
 module _ (to back : Symbol → Symbol) (is : IsRenaming to back) where
   -- a substitution, renamed
@@ -283,26 +262,18 @@ mandatory_there to back is h = λ i. record { floating = h.floating; expression 
 
 meaning_back : (to back : Symbol → Symbol) → IsRenaming to back → (r s : Resolved) → AreSameMeaning (renamed_meaning to r) s → AreSameMeaning (renamed_meaning back s) r
 meaning_back to back is (Hypothesis e) (Hypothesis f) m = ap (map back) (sym m) ∙ map_back to back is.there e
-meaning_back to back is (Assertion a) (Assertion b) m = record {
-  expression = ap (map back) (sym m.expression) ∙ map_back to back is.there a.expression;
-  hypotheses = ap (map (renamed_mandatory back)) (sym m.hypotheses) ∙ map_back (renamed_mandatory to) (renamed_mandatory back) (mandatory_there to back is) a.hypotheses;
-  pairs = pairs_back to back is a.pairs b.pairs m.pairs;
-}
+meaning_back to back is (Assertion a) (Assertion b) m =
+    grind (arith, map_back to back is.there a.expression, map_back (renamed_mandatory to) (renamed_mandatory back) (mandatory_there to back is) a.hypotheses, pairs_back to back is a.pairs b.pairs m.pairs) steps 200000
 meaning_back to back is Inactive Inactive m = m
 meaning_back to back is Unknown Unknown m = m
 meaning_back to back is _ _ m = absurd m
 
 pub setting_back : (to back : Symbol → Symbol) → IsRenaming to back → (place other : Setting) → IsRenamedSetting to place other → IsRenamedSetting back other place
-setting_back to back is place other s = record {
-  resolve = λ label. meaning_back to back is (place.resolve label) (other.resolve label) (s.resolve label);
-  active = pairs_back to back is place.active other.active s.active;
-}
+setting_back to back is place other s = grind (arith, common_steps, place.resolve, other.resolve, s.resolve, pairs_back to back is place.active other.active s.active, meaning_back) steps 200000
 
 -- a step means the same if its label does
 step_alike : (to : Symbol → Symbol) (place other : Setting) → IsRenamedSetting to place other → (step : Step) → IsSameStep (renamed_setting to place) other step step
-step_alike to place other s (Named label) = s.resolve label
-step_alike to place other s (Saved n) = refl
-step_alike to place other s _ = tt
+step_alike to place other s step = grind (arith, common_steps) steps 200000
 
 steps_alike : (to : Symbol → Symbol) (place other : Setting) → IsRenamedSetting to place other → (steps : List Step) → AllZip (IsSameStep (renamed_setting to place) other) steps steps
 steps_alike to place other s [] = tt
@@ -350,18 +321,15 @@ pub run_renamed :
     (steps : List Step) (statement : List Symbol) (outcome : Outcome) → RunSays place steps statement outcome → RunSays other steps (map to statement) outcome
 run_renamed to back is place other s steps statement outcomes.Proved r = (r.0, reached_there to back is place other s steps (statement ∷ []) r.1)
 run_renamed to back is place other s steps statement (outcomes.Fault number n) r = fault_there to back is place other s (run_part steps) n number r
-run_renamed to back is place other s steps statement (outcomes.Unknown n) r =
-    (r.0, (map (map to) r.1.0, reached_there to back is place other s (run_part steps) r.1.0 r.1.1))
-run_renamed to back is place other s steps statement outcomes.NotOne r =
-    (r.0, map (map to) r.1, reached_there to back is place other s steps r.1 r.2, other_length to r.1 r.3)
+run_renamed to back is place other s steps statement (outcomes.Unknown n) r = grind (arith, common_steps, reached_there to back is place other s (run_part steps) r.1.0 r.1.1) steps 200000
+run_renamed to back is place other s steps statement outcomes.NotOne r = grind (arith, common_steps, reached_there to back is place other s steps r.1 r.2, other_length to r.1 r.3) steps 200000
 run_renamed to back is place other s steps statement outcomes.Other r =
     (r.0, map to r.1, reached_there to back is place other s steps (r.1 ∷ []) r.2, λ e. r.3 (map_own to back is.there r.1 statement e))
 
 wrong_renamed :
     (to back : Symbol → Symbol) → IsRenaming to back → (place other : Setting) → IsRenamedSetting to place other →
     (statement : List Symbol) (d : Decoded) (number : ProofNumber) (spot : Spot) → IsWrongBy place statement d number spot → IsWrongBy other (map to statement) d number spot
-wrong_renamed to back is place other s statement d P14 spot w =
-    (w.0, map (map to) w.1, reached_there to back is place other s d.steps w.1 w.2, other_length to w.1 w.3, w.4)
+wrong_renamed to back is place other s statement d P14 spot w = grind (arith, common_steps, reached_there to back is place other s d.steps w.1 w.2, other_length to w.1 w.3) steps 200000
 wrong_renamed to back is place other s statement d P15 spot w =
     (w.0, map to w.1, reached_there to back is place other s d.steps (w.1 ∷ []) w.2, (λ e. w.3 (map_own to back is.there w.1 statement e)), w.4)
 wrong_renamed to back is place other s statement d number spot w = (w.0, fault_there to back is place other s (run_part d.steps) w.0 number w.1, w.2)
@@ -370,10 +338,8 @@ verdict_renamed :
     (to back : Symbol → Symbol) → IsRenaming to back → (place other : Setting) → IsRenamedSetting to place other →
     (statement : List Symbol) (d : Decoded) (v : Verdict) → IsVerdictOnSteps place statement d v → IsVerdictOnSteps other (map to statement) d v
 verdict_renamed to back is place other s statement d Proved v = (v.0, reached_there to back is place other s d.steps (statement ∷ []) v.1)
-verdict_renamed to back is place other s statement d (Incomplete spot) v =
-    (v.0, v.1, v.2, (map (map to) v.3.0, reached_there to back is place other s (run_part d.steps) v.3.0 v.3.1))
+verdict_renamed to back is place other s statement d (Incomplete spot) v = grind (arith, common_steps, reached_there to back is place other s (run_part d.steps) v.3.0 v.3.1) steps 200000
 verdict_renamed to back is place other s statement d (Wrong number spot) v = wrong_renamed to back is place other s statement d number spot v
 
 pub keeps_verdicts : RenamingKeepsVerdict
-keeps_verdicts to back is place other s statement (Ok d) v w = verdict_renamed to back is place other s statement d v w
-keeps_verdicts to back is place other s statement (Err fault) v w = w
+keeps_verdicts = grind (arith, common_steps, verdict_renamed) steps 200000

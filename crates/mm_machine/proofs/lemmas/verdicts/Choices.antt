@@ -1,8 +1,7 @@
 -- What can be decided: equal symbols, some element, some pair.
-use Rattle.std.proofs.{Common.{◌≡◌, ◌≢◌, true, List, [], ◌∷◌, refl, sym, ap, subst, arith, inl, inr, ◌⊎◌, Contains, Any}, Math.Decide.{map_dec}}
+use Rattle.std.proofs.{lemmas.Grind.{common_steps}, Common.{◌≡◌, ◌≢◌, true, List, [], ◌∷◌, refl, sym, ap, subst, arith, inl, inr, ◌⊎◌, Contains, Any}, Math.Decide.{map_dec}}
 use native.Mathlib.Decide.{ℕ_discrete}
-use mathlib.Core.Bool.{Bool-discrete}
-use mathlib.Core.List.{List-discrete}
+use mathlib.Core.{Bool.{Bool-discrete}, List.{List-discrete}}
 use Rattle.mm_machine.specs.Language.{Frame.{Symbol, ArePair, HasVariable}, Derivation.{AreApart, ShareVariable}, Faults.{AnyZip, LackPair}}
 use Rattle.mm_machine.proofs.lemmas.lists.Members.{contains_cases, contains_there, Contains-here}
 
@@ -17,8 +16,7 @@ either_of (no p) (yes q) = yes (inr q)
 either_of (no p) (no q) = no (λ s. elim s [ inl x ↦ p x | inr y ↦ q y ])
 
 pub not_of : {P : Type 0} → Dec P → Dec (P → ⊥)
-not_of (yes p) = no (λ n. n p)
-not_of (no p) = yes p
+not_of h = grind (arith, common_steps) steps 200000
 
 pub symbol_discrete : (x y : Symbol) → Dec (x ≡ y)
 symbol_discrete x y = map_dec (λ b. λ i. record { name = b.0 i; variable = b.1 i }) (λ e. (ap (λ (s : Symbol). s.name) e, ap (λ (s : Symbol). s.variable) e)) (both_of (List-discrete ℕ_discrete x.name y.name) (Bool-discrete x.variable y.variable))

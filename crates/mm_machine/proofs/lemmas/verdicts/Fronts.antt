@@ -1,9 +1,8 @@
 -- What is reached by some steps was reached by fewer.
-use Rattle.std.proofs.Common.{◌≡◌, ℕ, zero, suc, ◌≤◌, Option, Some, None, List, [], ◌∷◌, ◌++◌, length, take, drop, refl, sym, ◌∙◌, ap, subst, append_assoc, arith, length-append, slice_get}
-use Rattle.std.proofs.lemmas.List.{append-nil, same_from_push, take-take, take-append-drop}
-use Rattle.mm_machine.specs.Language.{Frame.{Symbol, Setting}, Derivation.{DeriveInOrder}, Expansion.{Step, Named, Saved, Save, NotKnown, Expanded, expand_one, last_part, with_saved, with_again}}
-use Rattle.mm_machine.specs.Language.Reaches.{Reaches}
-use Rattle.mm_machine.proofs.lemmas.{verdicts.Unique.{last_of}, machine.Reaching.{expand_less, no_stack}}
+use Rattle.std.proofs.lemmas.{Grind.{common_steps}, List.{append-nil, same_from_push, take-take, take-append-drop}}
+use Rattle.std.proofs.Common.{◌≡◌, ℕ, zero, suc, ◌≤◌, Some, List, [], ◌∷◌, ◌++◌, length, take, drop, refl, sym, ◌∙◌, ap, subst, append_assoc, arith, length-append}
+use Rattle.mm_machine.{specs.Language.{Frame.{Symbol, Setting}, Derivation.{DeriveInOrder}, Expansion.{Step, Expanded, expand_one}, Reaches.{Reaches}}, proofs.lemmas.verdicts.Unique.{last_of}}
+use Rattle.mm_machine.proofs.lemmas.machine.Reaching.{expand_less, no_stack}
 
 -- a last element, if there is one
 pub last_element : {X : Type 0} (x : X) (xs : List X) → (below : List X) × (e : X) × (x ∷ xs ≡ below ++ e ∷ [])
@@ -23,19 +22,8 @@ front_of place (suc n) a (x ∷ b) (y ∷ ys) bound e d =
     front_of place n a z.0 l.stack (omega (arith, length-append z.0 (z.1 ∷ []))) s.0 l.of_labels
 
 -- a step only adds labels
-grows_saved : (so_far x : Expanded) (o : Option (List (List ℕ))) → with_saved so_far o ≡ Some x → (more : List (List ℕ)) × (x.labels ≡ so_far.labels ++ more)
-grows_saved so_far x None e = cc
-grows_saved so_far x (Some part) e = let f : so_far.labels ≡ x.labels = cc in ([], sym f ∙ sym (append-nil so_far.labels))
-
-grows_again : (so_far x : Expanded) (o : Option (List (List ℕ))) → with_again so_far o ≡ Some x → (more : List (List ℕ)) × (x.labels ≡ so_far.labels ++ more)
-grows_again so_far x None e = cc
-grows_again so_far x (Some part) e = let f : so_far.labels ++ part ≡ x.labels = cc in (part, sym f)
-
 grows : (place : Setting) (so_far x : Expanded) (step : Step) → expand_one place so_far step ≡ Some x → (more : List (List ℕ)) × (x.labels ≡ so_far.labels ++ more)
-grows place so_far x (Named label) e = let f : so_far.labels ++ label ∷ [] ≡ x.labels = cc in (label ∷ [], sym f)
-grows place so_far x (Saved n) e = grows_again so_far x (slice_get so_far.saved n) e
-grows place so_far x Save e = grows_saved so_far x (last_part place so_far.labels) e
-grows place so_far x NotKnown e = cc
+grows place so_far x step e = grind (arith, common_steps) steps 200000
 
 -- something was reached before the last step
 pub reached_before : (place : Setting) (steps : List Step) (step : Step) (next : List (List Symbol)) → Reaches place (steps ++ step ∷ []) next → (stack : List (List Symbol)) × Reaches place steps stack
@@ -51,8 +39,7 @@ reached_front place n a [] next bound r = (next, subst (λ l. Reaches place l ne
 reached_front place zero a (x ∷ b) next bound r = absurd (omega arith)
 reached_front place (suc n) a (x ∷ b) next bound r =
     let z = last_element x b in
-    let e = ap (λ w. a ++ w) z.2 ∙ sym (append_assoc a z.0 (z.1 ∷ [])) in
-    let f = reached_before place (a ++ z.0) z.1 next (subst (λ l. Reaches place l next) e r) in
+    let f = reached_before place (a ++ z.0) z.1 next (subst (λ l. Reaches place l next) (ap (λ w. a ++ w) z.2 ∙ sym (append_assoc a z.0 (z.1 ∷ []))) r) in
     let l = ap length z.2 in
     reached_front place n a z.0 f.0 (omega (arith, length-append z.0 (z.1 ∷ []))) f.1
 

@@ -1,10 +1,9 @@
 -- If a fault of a step holds, nothing is reached by it.
-use Rattle.std.proofs.Common.{◌≡◌, ◌≢◌, ◌-◌, ◌<◌, true, false, List, [], ◌∷◌, length, map, drop, refl, sym, ◌∙◌, ap, subst, arith, length-append, inl, inr, slice_get, Contains, All, Any}
-use Rattle.std.proofs.lemmas.List.{length-map, drop_at, Elements.{All-contains}}
+use Rattle.std.proofs.lemmas.{Grind.{common_steps}, List.{length-map, drop_at, Elements.{All-contains}}}
+use Rattle.std.proofs.Common.{◌≡◌, ◌≢◌, ◌-◌, ◌<◌, true, false, List, [], ◌∷◌, length, map, refl, sym, ◌∙◌, ap, subst, arith, length-append, inl, inr, slice_get, Contains, All, Any}
 use Rattle.std.specs.List.{AllZip}
 use Rattle.mm_machine.specs.Language.{Frame.{Symbol, Mandatory, Frame}, Substitution.{substituted}, Derivation.{AreApart, ShareVariable}, Typing.{IsTyped, IsFrame, IsTyping}, Steps.{Cites}}
-use Rattle.mm_machine.specs.Language.Faults.{AnyZip, entries_for, LackPair, CitingFails}
-use Rattle.mm_machine.specs.declared.ProofNumber.{ProofNumber, TheVariants.{P07, P08, P09, P10, P11, P12}}
+use Rattle.mm_machine.specs.{Language.Faults.{AnyZip, entries_for, LackPair, CitingFails}, declared.ProofNumber.{ProofNumber, TheVariants.{P07, P08, P09, P10, P11, P12}}}
 use Rattle.mm_machine.proofs.lemmas.{lists.Members.{Contains-here, contains_cases, contains_there}, verdicts.Unique.{substituted-typing, same_substituted}}
 
 -- some place of a list and what a function makes of it
@@ -42,30 +41,17 @@ agree f g hs es v a b is t =
 
 -- the entries that a citation takes
 pub entries_are : (active : List (Symbol × Symbol)) (frame : Frame) (stack next : List (List Symbol)) → (m : Cites active frame stack next) → entries_for frame stack ≡ m.entries
-entries_are active frame stack next m =
-    let l = ap length (sym m.takes.entries_match) ∙ length-map frame.hypotheses (λ h. substituted m.given h.expression) in
-    let s = ap length m.before in
-    let at : length m.below ≡ length stack - length frame.hypotheses = omega (arith, length-append m.below m.entries) in
-    ap (λ w. drop (length stack - length frame.hypotheses) w) m.before ∙ drop_at m.below m.entries (length stack - length frame.hypotheses) at
+entries_are active frame stack next m = grind (arith, common_steps, drop_at, length-append, length-map) steps 200000
 
 floats_of : (active : List (Symbol × Symbol)) (frame : Frame) (stack next : List (List Symbol)) → (m : Cites active frame stack next) → FloatsMatch m.given frame.hypotheses m.entries
 floats_of active frame stack next m = all_zip_map (λ h e. h.floating ≡ true → substituted m.given h.expression ≡ e) (λ h. substituted m.given h.expression) frame.hypotheses m.entries m.takes.entries_match (λ h _. refl)
 
 -- if a line holds, the assertion is not cited
 no_typecode : (f : Symbol → List Symbol) (h : Mandatory) → IsTyping h.expression → slice_get h.expression 0 ≡ slice_get (substituted f h.expression) 0
-no_typecode f h t =
-    let e = t.2 in
-    let s = substituted-typing f t.0 t.1 t.3 t.4 in
-    let a : substituted f h.expression ≡ t.0 ∷ f t.1 = ap (substituted f) e ∙ s in
-    let x = ap (λ w. slice_get w 0) e in
-    let y = ap (λ w. slice_get w 0) a in
-    cc
+no_typecode f h t = grind (arith, common_steps, substituted-typing f t.0 t.1 t.3 t.4) steps 200000
 
 not_P07 : (active : List (Symbol × Symbol)) (frame : Frame) (stack next : List (List Symbol)) → Cites active frame stack next → length stack < length frame.hypotheses → ⊥
-not_P07 active frame stack next m h =
-    let l = ap length (sym m.takes.entries_match) ∙ length-map frame.hypotheses (λ h. substituted m.given h.expression) in
-    let s = ap length m.before in
-    omega (arith, length-append m.below m.entries)
+not_P07 active frame stack next m h = grind (arith, common_steps, length-append m.below m.entries, length-map) steps 200000
 
 -- an element of which one is said, and of all the other
 any_all : {X : Type 0} (P Q : X → Type 0) (xs : List X) → Any P xs → All Q xs → (x : X) × P x × Q x
@@ -83,9 +69,7 @@ pair_at :
 pair_at P Q f g hs es pairs a b typed any all =
     let z = any_all (λ pair. P (f pair.0) (f pair.1)) (λ pair. (IsTypedPair hs pair) × Q (g pair.0) (g pair.1)) pairs any (λ k d l. (typed k d l, all k d l)) in
     let t = z.2.0 in
-    let first = agree f g hs es z.0.0 a b t.0 t.2 in
-    let second = agree f g hs es z.0.1 a b t.1 t.3 in
-    (g z.0.0, g z.0.1, subst (λ w. P w (g z.0.1)) first (subst (P (f z.0.0)) second z.1), z.2.1)
+    (g z.0.0, g z.0.1, subst (λ w. P w (g z.0.1)) (agree f g hs es z.0.0 a b t.0 t.2) (subst (P (f z.0.0)) (agree f g hs es z.0.1 a b t.1 t.3) z.1), z.2.1)
 
 -- each fault of a citation
 pub not_cited : (active : List (Symbol × Symbol)) (frame : Frame) (stack next : List (List Symbol)) (number : ProofNumber) → IsFrame frame → Cites active frame stack next → CitingFails active frame stack number → ⊥

@@ -1,14 +1,12 @@
 -- A verdict depends on what the labels mean alone.
-use Rattle.std.proofs.Common.{◌≡◌, ◌≢◌, ℕ, zero, suc, ◌+◌, Bool, true, false, Option, Some, None, List, [], ◌∷◌, ◌++◌, length, map, take, get_or, refl, sym, ◌∙◌, ap, subst, inl, inr, slice_get, All}
-use Rattle.std.proofs.Common.{Any, pos, if◌then◌else◌}
-use Rattle.std.proofs.lemmas.List.{get_or_default, Elements.{All-contains}}
-use Rattle.std.specs.{List.{AllZip}, Ordering.{int_eq}}
-use Rattle.mm_machine.specs.Language.{Frame.{Symbol, Mandatory, Frame, Resolved, Hypothesis, Assertion, Inactive, Unknown, Setting, ArePair, AreSamePairs, AreSameFrame}, Substitution.{substituted}}
+use Rattle.std.proofs.Common.{arith, ◌≡◌, ℕ, zero, suc, ◌+◌, Bool, true, false, Option, Some, None, List, [], ◌∷◌, ◌++◌, take, get_or, refl, sym, ◌∙◌, ap, subst, inl, inr, slice_get, All, Any}
+use Rattle.std.{proofs.{Common.{if◌then◌else◌}, lemmas.{Grind.{common_steps}, List.{get_or_default, Elements.{All-contains}}}}, specs.List.{AllZip}}
+use Rattle.mm_machine.specs.Language.Frame.{Symbol, Mandatory, Frame, Resolved, Hypothesis, Assertion, Inactive, Unknown, Setting, ArePair, AreSamePairs, AreSameFrame}
 use Rattle.mm_machine.specs.Language.Derivation.{Derives, DeriveInOrder, by_hypothesis, by_assertion, nothing, first_then, Takes, AreApart, ShareVariable}
-use Rattle.mm_machine.specs.Language.Expansion.{Step, Named, Saved, Save, NotKnown, Expanded, expand_one, expand_from, expansion, last_part, or_else, weight, taken_by, with_saved, with_again}
+use Rattle.mm_machine.specs.Language.Expansion.{Step, NotKnown, Expanded, expand_one, expand_from, expansion, last_part, weight, with_again}
 use Rattle.mm_machine.specs.Language.{Faults.{LackPair, CitingFails, LabelFails, StepLineHolds}, Reaches.{Reaches, IsStepFault}, Machine.{AreAllKnown}, Run.{run_part}}
-use Rattle.mm_machine.specs.Language.{Verdict.{Decoded, IsFirstUnknown, IsWrongBy, IsVerdictOnSteps}, SameProof.{AreSameMeaning, IsSameStep, IsSameProof}}
-use Rattle.mm_machine.specs.declared.{Spot.{Spot}, ProofNumber.{ProofNumber, TheVariants.{P07, P08, P09, P10, P11, P12, P14, P15}}, Verdict.{Verdict, TheVariants.{Proved, Incomplete, Wrong}}}
+use Rattle.mm_machine.specs.{Language.{Verdict.{Decoded, IsFirstUnknown, IsWrongBy, IsVerdictOnSteps}, SameProof.{AreSameMeaning, IsSameStep, IsSameProof}}, declared.Spot.{Spot}}
+use Rattle.mm_machine.specs.declared.{ProofNumber.{ProofNumber, TheVariants.{P07, P08, P09, P10, P11, P12, P14, P15}}, Verdict.{Verdict, TheVariants.{Proved, Incomplete, Wrong}}}
 use Rattle.mm_machine.proofs.lemmas.verdicts.Part.{part_same}
 
 -- the lists of labels mean the same, one by one
@@ -36,9 +34,7 @@ both_joined R (x ∷ xs) ys (z ∷ zs) ws a b = (a.0, both_joined R xs ys zs ws 
 both_joined R _ ys _ ws a b = absurd a
 
 alone_beside : {A B : Type 0} (R : A → B → Type 0) (x : A) (zs : List B) → AllZip R (x ∷ []) zs → (z : B) × (zs ≡ z ∷ []) × R x z
-alone_beside R x [] a = absurd a
-alone_beside R x (z ∷ []) a = (z, refl, a.0)
-alone_beside R x (z ∷ (w ∷ zs)) a = absurd a.1
+alone_beside R x zs a = grind (arith, common_steps) steps 200000
 
 flipped : {A B : Type 0} (R : A → B → Type 0) (S : B → A → Type 0) (xs : List A) (ys : List B) → ((x : A) (y : B) → R x y → S y x) → AllZip R xs ys → AllZip S ys xs
 flipped R S [] [] f a = a
@@ -64,11 +60,7 @@ meaning_back Unknown Unknown m = m
 meaning_back _ _ m = absurd m
 
 step_back : (p q : Setting) (a b : Step) → IsSameStep p q a b → IsSameStep q p b a
-step_back p q (Named a) (Named b) s = meaning_back (p.resolve a) (q.resolve b) s
-step_back p q (Saved n) (Saved m) s = sym s
-step_back p q Save Save s = s
-step_back p q NotKnown NotKnown s = s
-step_back p q _ _ s = absurd s
+step_back p q a b s = grind (arith, common_steps, meaning_back) steps 200000
 
 -- pairs, in one order or the other
 pair_back : (pairs : List (Symbol × Symbol)) (x y : Symbol) → ArePair pairs x y → ArePair pairs y x
@@ -90,33 +82,21 @@ all_apart : (active others : List (Symbol × Symbol)) (a b : Frame) (given : Sym
     → All (λ pair. AreApart active (given pair.0) (given pair.1)) a.pairs → All (λ pair. AreApart others (given pair.0) (given pair.1)) b.pairs
 all_apart active others a b given s f all k d l =
     let pair = get_or b.pairs k d in
-    let in_a = (f.pairs pair.0 pair.1).1 (inl (k, l, get_or_default b.pairs k pair d l)) in
-    apart_moved active others (given pair.0) (given pair.1) s (elim in_a [
+    apart_moved active others (given pair.0) (given pair.1) s (elim ((f.pairs pair.0 pair.1).1 (inl (k, l, get_or_default b.pairs k pair d l))) [
       | inl c ↦ All-contains (λ pair. AreApart active (given pair.0) (given pair.1)) a.pairs (pair.0, pair.1) all c
       | inr c ↦ apart_back active (given pair.1) (given pair.0) (All-contains (λ pair. AreApart active (given pair.0) (given pair.1)) a.pairs (pair.1, pair.0) all c)
     ])
 
 pub takes_moved : (active others : List (Symbol × Symbol)) (a b : Frame) (given : Symbol → List Symbol) (entries : List (List Symbol))
     (result : List Symbol) → AreSamePairs active others → AreSameFrame a b → Takes active a given entries result → Takes others b given entries result
-takes_moved active others a b given entries result s f t = record {
-  entries_match = ap (λ hs. map (λ (h : Mandatory). substituted given h.expression) hs) (sym f.hypotheses) ∙ t.entries_match;
-  result_matches = ap (substituted given) (sym f.expression) ∙ t.result_matches;
-  apart = all_apart active others a b given s f t.apart;
-  short = t.short;
-}
+takes_moved active others a b given entries result s f t = grind (arith, common_steps, all_apart active others a b given s f t.apart) steps 200000
 
 -- what a label with the same meaning means
 same_hypothesis : (r s : Resolved) (e : List Symbol) → AreSameMeaning r s → r ≡ Hypothesis e → s ≡ Hypothesis e
-same_hypothesis (Hypothesis f) (Hypothesis g) e m is = cc
-same_hypothesis (Assertion f) s e m is = cc
-same_hypothesis Inactive s e m is = cc
-same_hypothesis Unknown s e m is = cc
-same_hypothesis (Hypothesis f) _ e m is = absurd m
+same_hypothesis r s e m is = grind (arith, common_steps) steps 200000
 
 same_assertion : (r s : Resolved) (a : Frame) → AreSameMeaning r s → r ≡ Assertion a → (b : Frame) × (s ≡ Assertion b) × AreSameFrame a b
-same_assertion (Assertion f) (Assertion g) a m is = let h : f ≡ a = cc in (g, refl, subst (λ w. AreSameFrame w g) h m)
-same_assertion (Assertion f) _ a m is = absurd m
-same_assertion _ s a m is = cc
+same_assertion r s a m is = grind (arith, common_steps) steps 200000
 
 mutual
   -- what a list derives, a list of the same meaning derives
@@ -145,14 +125,7 @@ BothOrNone R None (Some y) = ⊥
 BothOrNone R (Some x) None = ⊥
 
 there : {A B : Type 0} (R : A → B → Type 0) (x : A) (o : Option A) (r : Option B) → o ≡ Some x → BothOrNone R o r → (y : B) × (r ≡ Some y) × R x y
-there R x (Some w) (Some y) e b = let f : w ≡ x = cc in (y, refl, subst (λ v. R v y) f b)
-there R x (Some w) None e b = absurd b
-there R x None r e b = cc
-
-either_there : {A B : Type 0} (R : A → B → Type 0) (o t : Option A) (o' t' : Option B) → BothOrNone R o o' → BothOrNone R t t' → BothOrNone R (or_else o t) (or_else o' t')
-either_there R None t None t' b c = c
-either_there R (Some x) t (Some y) t' b c = b
-either_there R _ t _ t' b c = absurd b
+there R x o r e b = grind (arith, common_steps) steps 200000
 
 tested : {A B : Type 0} (R : A → B → Type 0) (b c : Bool) (x : A) (y : B) → b ≡ c → R x y → BothOrNone R (if b then Some x else None) (if c then Some y else None)
 tested R true true x y e r = r
@@ -165,49 +138,25 @@ found_beside R (x ∷ xs) (y ∷ ys) zero a = a.0
 found_beside R (x ∷ xs) (y ∷ ys) (suc n) a = found_beside R xs ys n a.1
 found_beside R _ _ n a = absurd a
 
-same_taken : (r s : Resolved) → AreSameMeaning r s → taken_by r ≡ taken_by s
-same_taken (Hypothesis e) (Hypothesis f) m = refl
-same_taken (Assertion a) (Assertion b) m = ap length m.hypotheses
-same_taken Inactive Inactive m = refl
-same_taken Unknown Unknown m = refl
-same_taken _ _ m = absurd m
-
 same_weight : (p q : Setting) (xs ys : List (List ℕ)) → AreSameLabels p q xs ys → weight p xs ≡ weight q ys
 same_weight p q [] [] a = refl
-same_weight p q (x ∷ xs) (y ∷ ys) a =
-    let t = same_taken (p.resolve x) (q.resolve y) a.0 in
-    let w = same_weight p q xs ys a.1 in
-    cc
+same_weight p q (x ∷ xs) (y ∷ ys) a = grind (arith, common_steps, same_weight p q xs ys a.1) steps 200000
 same_weight p q _ _ a = absurd a
 
 same_part : (p q : Setting) (xs ys : List (List ℕ)) → AreSameLabels p q xs ys → BothOrNone (AreSameLabels p q) (last_part p xs) (last_part q ys)
 same_part p q [] [] a = tt
-same_part p q (x ∷ xs) (y ∷ ys) a =
-    either_there (AreSameLabels p q) (last_part p xs) _ (last_part q ys) _ (same_part p q xs ys a.1)
-    (tested (AreSameLabels p q) (int_eq (weight p (x ∷ xs)) (pos 1)) (int_eq (weight q (y ∷ ys)) (pos 1)) (x ∷ xs) (y ∷ ys) (ap (λ w. int_eq w (pos 1)) (same_weight p q (x ∷ xs) (y ∷ ys) a)) a)
+same_part p q (x ∷ xs) (y ∷ ys) a = grind (arith, common_steps, same_part p q xs ys a.1, same_weight p q (x ∷ xs) (y ∷ ys) a, tested) steps 200000
 same_part p q _ _ a = absurd a
 
 pub record AreSameExpanded (p q : Setting) (x y : Expanded) : Type 0 where
   pub labels : AreSameLabels p q x.labels y.labels
   pub saved : AllZip (AreSameLabels p q) x.saved y.saved
 
-same_save : (p q : Setting) (x y : Expanded) (o r : Option (List (List ℕ))) → AreSameExpanded p q x y → BothOrNone (AreSameLabels p q) o r → BothOrNone (AreSameExpanded p q) (with_saved x o) (with_saved y r)
-same_save p q x y None None s b = tt
-same_save p q x y (Some a) (Some c) s b = record { labels = s.labels; saved = both_joined (AreSameLabels p q) x.saved (a ∷ []) y.saved (c ∷ []) s.saved (b, tt) }
-same_save p q x y _ _ s b = absurd b
-
 same_again : (p q : Setting) (x y : Expanded) (o r : Option (List (List ℕ))) → AreSameExpanded p q x y → BothOrNone (AreSameLabels p q) o r → BothOrNone (AreSameExpanded p q) (with_again x o) (with_again y r)
-same_again p q x y None None s b = tt
-same_again p q x y (Some a) (Some c) s b = record { labels = both_joined (λ a b. AreSameMeaning (p.resolve a) (q.resolve b)) x.labels a y.labels c s.labels b; saved = s.saved }
-same_again p q x y _ _ s b = absurd b
+same_again p q x y o r s b = grind (arith, common_steps, both_joined) steps 200000
 
 same_one : (p q : Setting) (x y : Expanded) (a b : Step) → AreSameExpanded p q x y → IsSameStep p q a b → BothOrNone (AreSameExpanded p q) (expand_one p x a) (expand_one q y b)
-same_one p q x y (Named a) (Named b) s m = record { labels = both_joined (λ a b. AreSameMeaning (p.resolve a) (q.resolve b)) x.labels (a ∷ []) y.labels (b ∷ []) s.labels (m, tt); saved = s.saved }
-same_one p q x y (Saved n) (Saved k) s m = same_again p q x y (slice_get x.saved n) (slice_get y.saved k) s
-    (subst (λ j. BothOrNone (AreSameLabels p q) (slice_get x.saved n) (slice_get y.saved j)) m (found_beside (AreSameLabels p q) x.saved y.saved n s.saved))
-same_one p q x y Save Save s m = same_save p q x y (last_part p x.labels) (last_part q y.labels) s (same_part p q x.labels y.labels s.labels)
-same_one p q x y NotKnown NotKnown s m = tt
-same_one p q x y _ _ s m = absurd m
+same_one p q x y a b s m = grind (arith, common_steps, both_joined, found_beside, same_again, same_part) steps 200000
 
 same_from : (p q : Setting) (o r : Option Expanded) (xs ys : List Step) → BothOrNone (AreSameExpanded p q) o r → AllZip (IsSameStep p q) xs ys → BothOrNone (AreSameExpanded p q) (expand_from p o xs) (expand_from q r ys)
 same_from p q o r [] [] s a = s
@@ -247,16 +196,15 @@ pairs_moved :
     AreSamePairs active others → AreSamePairs pairs b.pairs → expression ≡ b.expression → hypotheses ≡ b.hypotheses →
     CitingFails active (record { expression = expression; hypotheses = hypotheses; pairs = pairs }) stack number → CitingFails others b stack number
 pairs_moved active others expression hypotheses pairs b stack number s f e h c =
-    by_number number (subst (λ (w : Frame). CitingFails active w stack number) (λ i. record { expression = e i; hypotheses = h i; pairs = pairs }) c)
-  where
-    by_number : (number : ProofNumber) → CitingFails active (record b { pairs = pairs }) stack number → CitingFails others b stack number
-    by_number P07 c = c
-    by_number P08 c = c
-    by_number P09 c = c
-    by_number P10 c = (c.0, c.1, any_moved (λ x y. ShareVariable (c.0 x) (c.0 y)) pairs b.pairs (λ x y z. (z.0, z.2, z.1)) f c.2)
-    by_number P11 c = (c.0, c.1, any_moved (λ x y. LackPair others (c.0 x) (c.0 y)) pairs b.pairs (λ x y z. lack_back others (c.0 x) (c.0 y) z) f (c.2.0, c.2.1, c.2.2, c.2.3, lack_moved active others (c.0 c.2.1.0) (c.0 c.2.1.1) s c.2.4))
-    by_number P12 c = c
-    by_number _ c = absurd c
+    by_number number (subst (λ (w : Frame). CitingFails active w stack number) (λ i. record { expression = e i; hypotheses = h i; pairs = pairs }) c) where
+      by_number : (number : ProofNumber) → CitingFails active (record b { pairs = pairs }) stack number → CitingFails others b stack number
+      by_number P07 c = c
+      by_number P08 c = c
+      by_number P09 c = c
+      by_number P10 c = (c.0, c.1, any_moved (λ x y. ShareVariable (c.0 x) (c.0 y)) pairs b.pairs (λ x y z. (z.0, z.2, z.1)) f c.2)
+      by_number P11 c = (c.0, c.1, any_moved (λ x y. LackPair others (c.0 x) (c.0 y)) pairs b.pairs (λ x y z. lack_back others (c.0 x) (c.0 y) z) f (c.2.0, c.2.1, c.2.2, c.2.3, lack_moved active others (c.0 c.2.1.0) (c.0 c.2.1.1) s c.2.4))
+      by_number P12 c = c
+      by_number _ c = absurd c
 
 pub label_moved : (active others : List (Symbol × Symbol)) (r t : Resolved) (stack : List (List Symbol)) (number : ProofNumber) → AreSamePairs active others → AreSameMeaning r t → LabelFails active r stack number → LabelFails others t stack number
 label_moved active others (Assertion a) (Assertion b) stack number s m c = pairs_moved active others a.expression a.hypotheses a.pairs b stack number s m.pairs m.expression m.hypotheses c
@@ -264,11 +212,7 @@ label_moved active others (Assertion a) _ stack number s m c = absurd m
 label_moved active others _ t stack number s m c = absurd c
 
 pub line_moved : (p q : Setting) (a b : Step) (stack : List (List Symbol)) (number : ProofNumber) → AreSamePairs p.active q.active → IsSameStep p q a b → StepLineHolds p a stack number → StepLineHolds q b stack number
-line_moved p q (Named a) (Named b) stack number s m c = label_moved p.active q.active (p.resolve a) (q.resolve b) stack number s m c
-line_moved p q Save Save stack number s m c = c
-line_moved p q (Named a) _ stack number s m c = absurd m
-line_moved p q Save _ stack number s m c = absurd m
-line_moved p q _ b stack number s m c = absurd c
+line_moved p q a b stack number s m c = grind (arith, common_steps, label_moved) steps 200000
 
 steps_back : (p q : Setting) (xs ys : List Step) → AllZip (IsSameStep p q) xs ys → AllZip (IsSameStep q p) ys xs
 steps_back p q xs ys a = flipped (IsSameStep p q) (IsSameStep q p) xs ys (step_back p q) a
@@ -283,31 +227,17 @@ fault_moved p q s xs ys n number a f =
       reached = reached_moved p q s (take n xs) (take n ys) f.stack (taken_beside (IsSameStep p q) n xs ys a) f.reached;
       at_fault = z.1;
       nothing_after = λ next r. f.nothing_after next (reached_moved q p back (take (n + 1) ys) (take (n + 1) xs) next (taken_beside (IsSameStep q p) (n + 1) ys xs (steps_back p q xs ys a)) r);
-      number_is = record {
-        holds = line_moved p q f.step z.0 f.stack number s z.2 f.number_is.holds;
-        lowest = λ other l. f.number_is.lowest other (line_moved q p z.0 f.step f.stack other back (step_back p q f.step z.0 z.2) l);
-      };
+      number_is = grind (arith, common_steps, line_moved p q f.step z.0 f.stack number s z.2 f.number_is.holds, step_back p q f.step z.0 z.2, line_moved) steps 200000;
     }
 
 known_moved : (p q : Setting) (xs ys : List Step) → AllZip (IsSameStep p q) xs ys → AreAllKnown xs → AreAllKnown ys
 known_moved p q [] [] a k = k
 known_moved p q [] (y ∷ ys) a k = absurd a
 known_moved p q (x ∷ xs) [] a k = absurd a
-known_moved p q (x ∷ xs) (y ∷ ys) a k = (one x y a.0 k.0, known_moved p q xs ys a.1 k.1)
-  where
-    one : (x y : Step) → IsSameStep p q x y → x ≢ NotKnown → y ≢ NotKnown
-    one (Named a) NotKnown s k e = s
-    one (Saved n) NotKnown s k e = s
-    one Save NotKnown s k e = s
-    one NotKnown y s k e = k refl
-    one x (Named b) s k e = cc
-    one x (Saved n) s k e = cc
-    one x Save s k e = cc
+known_moved p q (x ∷ xs) (y ∷ ys) a k = grind (arith, common_steps, known_moved p q xs ys a.1 k.1) steps 200000
 
 unknown_at : (p q : Setting) (x y : Option Step) → BothOrNone (IsSameStep p q) x y → x ≡ Some NotKnown → y ≡ Some NotKnown
-unknown_at p q (Some NotKnown) (Some NotKnown) b e = refl
-unknown_at p q (Some NotKnown) _ b e = absurd b
-unknown_at p q _ y b e = cc
+unknown_at p q x y b e = grind (arith, common_steps) steps 200000
 
 first_unknown_moved : (p q : Setting) (xs ys : List Step) (n : ℕ) → AllZip (IsSameStep p q) xs ys → IsFirstUnknown xs n → IsFirstUnknown ys n
 first_unknown_moved p q xs ys n a f = (
@@ -318,19 +248,11 @@ first_unknown_moved p q xs ys n a f = (
 wrong_moved : (p q : Setting) (statement : List Symbol) (c d : Decoded) (number : ProofNumber) (spot : Spot) → IsSameProof p q c d → IsWrongBy p statement c number spot → IsWrongBy q statement d number spot
 wrong_moved p q statement c d P14 spot s w = (known_moved p q c.steps d.steps s.steps w.0, w.1, reached_moved p q s.active c.steps d.steps w.1 s.steps w.2, w.3, w.4 ∙ s.close)
 wrong_moved p q statement c d P15 spot s w = (known_moved p q c.steps d.steps s.steps w.0, w.1, reached_moved p q s.active c.steps d.steps (w.1 ∷ []) s.steps w.2, w.3, w.4 ∙ s.close)
-wrong_moved p q statement c d number spot s w = (
-  w.0,
-  fault_moved p q s.active (run_part c.steps) (run_part d.steps) w.0 number (part_same p q c.steps d.steps s.steps) w.1,
-  ap (λ l. slice_get l w.0) (sym s.spots) ∙ w.2,
-)
+wrong_moved p q statement c d number spot s w = grind (arith, fault_moved p q s.active (run_part c.steps) (run_part d.steps) w.0 number (part_same p q c.steps d.steps s.steps) w.1) steps 200000
 
 -- the same proof has the same verdict
 pub verdict_moved : (p q : Setting) (statement : List Symbol) (c d : Decoded) (v : Verdict) → IsSameProof p q c d → IsVerdictOnSteps p statement c v → IsVerdictOnSteps q statement d v
 verdict_moved p q statement c d Proved s v = (known_moved p q c.steps d.steps s.steps v.0, reached_moved p q s.active c.steps d.steps (statement ∷ []) s.steps v.1)
-verdict_moved p q statement c d (Incomplete spot) s v = (
-  v.0,
-  first_unknown_moved p q c.steps d.steps v.0 s.steps v.1,
-  ap (λ l. slice_get l v.0) (sym s.spots) ∙ v.2,
-  (v.3.0, reached_moved p q s.active (run_part c.steps) (run_part d.steps) v.3.0 (part_same p q c.steps d.steps s.steps) v.3.1),
-)
+verdict_moved p q statement c d (Incomplete spot) s v =
+    grind (arith, common_steps, first_unknown_moved p q c.steps d.steps v.0 s.steps v.1, reached_moved p q s.active (run_part c.steps) (run_part d.steps) v.3.0 (part_same p q c.steps d.steps s.steps) v.3.1) steps 200000
 verdict_moved p q statement c d (Wrong number spot) s v = wrong_moved p q statement c d number spot s v

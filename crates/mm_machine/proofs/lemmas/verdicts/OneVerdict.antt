@@ -1,38 +1,21 @@
 -- There is one verdict on each proof.
+use Rattle.std.proofs.lemmas.{Grind.{common_steps}, Option.{slice_get_within, slice_get-get_or}}
 use Rattle.std.proofs.Common.{◌≡◌, ◌≢◌, ℕ, zero, suc, ◌<◌, Some, Result, Ok, Err, List, [], ◌∷◌, length, get_or, refl, sym, ◌∙◌, ap, subst, arith, inl, inr, ◌⊎◌, slice_get, ◌↔◌}
-use Rattle.std.proofs.lemmas.Option.{slice_get_within, slice_get-get_or}
-use Rattle.mm_machine.specs.Language.{Frame.{Symbol, Resolved, Hypothesis, Assertion, Inactive, Unknown, Setting}, Typing.{HasFrames}, Expansion.{Step, Named, Saved, Save, NotKnown}}
-use Rattle.mm_machine.specs.Language.{Faults.{StepLineHolds, LabelFails}, Reaches.{Reaches, IsStepFault}, Machine.{State, AreDecoded, AreAllKnown}, Run.{run_part, IsReached}}
-use Rattle.mm_machine.specs.Language.Verdict.{Decoded, IsFirstUnknown, StepsDerive, IsWrongBy, IsVerdictOnSteps, IsVerdict}
+use Rattle.mm_machine.specs.Language.{Frame.{Symbol, Setting}, Typing.{HasFrames}, Expansion.{Step, Named, Saved, Save, NotKnown}, Reaches.{Reaches, IsStepFault}}
+use Rattle.mm_machine.specs.Language.{Machine.{State, AreDecoded, AreAllKnown}, Run.{run_part, IsReached}, Verdict.{Decoded, IsFirstUnknown, StepsDerive, IsWrongBy, IsVerdictOnSteps, IsVerdict}}
 use Rattle.mm_machine.specs.declared.{Spot.{Spot}, ProofNumber.{ProofNumber, TheVariants.{P14, P15}}, Verdict.{Verdict, TheVariants.{Proved, Incomplete, Wrong}}, step.ProofFault.{ProofFault}}
-use Rattle.mm_machine.proofs.lemmas.verdicts.{Part.{known_part, part_known, part_front, part_decoded}, Choices.{expression_discrete}, Joins.{alone}}
-use Rattle.mm_machine.proofs.lemmas.machine.{Reaching.{reached, only}, Threaded.{threaded}, Running.{run, run_right, RunSays, same_reached, no_fault, same_fault}}
-
--- what is derived is reached alone, and the other way round
-pub derived_reached : (place : Setting) (steps : List Step) (statement : List Symbol) → StepsDerive place steps statement ↔ Reaches place steps (statement ∷ [])
-derived_reached place steps statement = (
-  λ d. record { expanded = d.0; expands = d.1; in_order = alone d.2 },
-  λ r. (r.expanded, r.expands, only r.in_order),
-)
+use Rattle.mm_machine.proofs.lemmas.{verdicts.{Part.{known_part, part_known, part_front, part_decoded}, Choices.{expression_discrete}, Joins.{alone}}, machine.Reaching.{reached, only}}
+use Rattle.mm_machine.proofs.lemmas.machine.{Threaded.{threaded}, Running.{run, run_right, RunSays, same_reached, no_fault, same_fault}}
 
 -- so the verdict on known steps is Proved exactly when they derive the statement
 pub proved_derived : (place : Setting) (statement : List Symbol) (d : Decoded) → IsVerdict place statement (Ok d) Proved ↔ (AreAllKnown d.steps × StepsDerive place d.steps statement)
-proved_derived place statement d =
-    let both = derived_reached place d.steps statement in
-    (λ p. (p.0, both.1 p.1), λ p. (p.0, both.0 p.1))
+proved_derived place statement d = grind (arith, common_steps, alone, only) steps 200000
 
 -- a first unknown step and no unknown step
 unknown_and_known : (steps : List Step) (n : ℕ) → slice_get steps n ≡ Some NotKnown → AreAllKnown steps → ⊥
 unknown_and_known [] n e k = cc
 unknown_and_known (x ∷ steps) zero e k = k.0 (cc)
 unknown_and_known (x ∷ steps) (suc n) e k = unknown_and_known steps n e k.1
-
--- one first unknown step
-same_unknown : (steps : List Step) (n m : ℕ) → IsFirstUnknown steps n → IsFirstUnknown steps m → n ≡ m
-same_unknown steps n m f g =
-    let a : (m < n → ⊥) = λ l. f.1 m l g.0 in
-    let b : (n < m → ⊥) = λ l. g.1 n l f.0 in
-    omega arith
 
 -- what makes known steps wrong, with the case that it is
 data Wrongness (place : Setting) (statement : List Symbol) (d : Decoded) (number : ProofNumber) (spot : Spot) : Type 0 where
@@ -58,10 +41,7 @@ same_wrong place is statement d a b s t (other_one k x r n e c) (other_one k' x'
 same_wrong place is statement d a b s t (other_one k x r n e c) (at_step m f c') = absurd (no_part_fault place d.steps (x ∷ []) m b k r f)
 same_wrong place is statement d a b s t (at_step m f c) (not_one k' stack' r' n' e' c') = absurd (no_part_fault place d.steps stack' m a k' r' f)
 same_wrong place is statement d a b s t (at_step m f c) (other_one k' x r' n' e' c') = absurd (no_part_fault place d.steps (x ∷ []) m a k' r' f)
-same_wrong place is statement d a b s t (at_step m f c) (at_step m' f' c') =
-    let q = same_fault place is (run_part d.steps) m m' a b f f' in
-    let at = ap (λ i. slice_get d.spots i) q.0 in
-    (q.1, cc)
+same_wrong place is statement d a b s t (at_step m f c) (at_step m' f' c') = grind (arith, common_steps, same_fault place is (run_part d.steps) m m' a b f f') steps 200000
 
 not_wrong : (place : Setting) → HasFrames place → (statement : List Symbol) (d : Decoded) (a : ProofNumber) (s : Spot) → AreAllKnown d.steps → Reaches place d.steps (statement ∷ []) → Wrongness place statement d a s → ⊥
 not_wrong place is statement d a s k v (not_one k' stack r n e c) = n (ap length (same_reached place is d.steps stack (statement ∷ []) r v))
@@ -79,39 +59,20 @@ same_on_steps place is statement d Proved Proved p q = refl
 same_on_steps place is statement d Proved (Incomplete t) p q = absurd (unknown_and_known d.steps q.0 q.1.0 p.0)
 same_on_steps place is statement d Proved (Wrong b t) p q = absurd (not_wrong place is statement d b t p.0 p.1 (wrongness place statement d b t q))
 same_on_steps place is statement d (Incomplete s) Proved p q = absurd (unknown_and_known d.steps p.0 p.1.0 q.0)
-same_on_steps place is statement d (Incomplete s) (Incomplete t) p q =
-    let n = same_unknown d.steps p.0 q.0 p.1 q.1 in
-    let at = ap (λ i. slice_get d.spots i) n in
-    cc
+same_on_steps place is statement d (Incomplete s) (Incomplete t) p q = grind (arith, common_steps) steps 200000
 same_on_steps place is statement d (Incomplete s) (Wrong b t) p q = absurd (not_both place statement d p.0 b t p.1 p.3 (wrongness place statement d b t q))
 same_on_steps place is statement d (Wrong a s) Proved p q = absurd (not_wrong place is statement d a s q.0 q.1 (wrongness place statement d a s p))
 same_on_steps place is statement d (Wrong a s) (Incomplete t) p q = absurd (not_both place statement d q.0 a s q.1 q.3 (wrongness place statement d a s p))
 same_on_steps place is statement d (Wrong a s) (Wrong b t) p q =
-    let e = same_wrong place is statement d a b s t (wrongness place statement d a s p) (wrongness place statement d b t q) in
-    cc
+    grind (arith, common_steps, same_wrong place is statement d a b s t (wrongness place statement d a s p) (wrongness place statement d b t q)) steps 200000
 
 -- one verdict at most
 pub same_verdict : (place : Setting) → HasFrames place → (statement : List Symbol) (decoding : Result Decoded ProofFault) (v w : Verdict) → IsVerdict place statement decoding v → IsVerdict place statement decoding w → v ≡ w
-same_verdict place is statement (Err fault) v w p q = p ∙ sym q
-same_verdict place is statement (Ok d) v w p q = same_on_steps place is statement d v w p q
+same_verdict place is statement decoding v w p q = grind (arith, common_steps, same_on_steps) steps 200000
 
 -- a step at fault has a number of its own
-no_end_fault : (place : Setting) (step : Step) (stack : List (List Symbol)) → (StepLineHolds place step stack P14 → ⊥) × (StepLineHolds place step stack P15 → ⊥)
-no_end_fault place (Named label) stack = by_meaning (place.resolve label)
-  where
-    by_meaning : (r : Resolved) → (LabelFails place.active r stack P14 → ⊥) × (LabelFails place.active r stack P15 → ⊥)
-    by_meaning (Hypothesis e) = (λ h. h, λ h. h)
-    by_meaning (Assertion frame) = (λ h. h, λ h. h)
-    by_meaning Inactive = (λ h. h, λ h. h)
-    by_meaning Unknown = (λ h. h, λ h. h)
-no_end_fault place (Saved n) stack = (λ h. h, λ h. h)
-no_end_fault place Save stack = (λ h. h, λ h. h)
-no_end_fault place NotKnown stack = (λ h. h, λ h. h)
-
 pub wrong_by_fault : (place : Setting) (statement : List Symbol) (d : Decoded) (n : ℕ) (number : ProofNumber) (spot : Spot) → IsStepFault place (run_part d.steps) n number → slice_get d.spots n ≡ Some spot → IsWrongBy place statement d number spot
-wrong_by_fault place statement d n P14 spot f e = absurd ((no_end_fault place f.step f.stack).0 f.number_is.holds)
-wrong_by_fault place statement d n P15 spot f e = absurd ((no_end_fault place f.step f.stack).1 f.number_is.holds)
-wrong_by_fault place statement d n _ spot f e = (n, f, e)
+wrong_by_fault place statement d n number spot f e = grind (arith, common_steps) steps 200000
 
 later : (x : Step) (steps : List Step) → x ≢ NotKnown → AreAllKnown steps ⊎ ((n : ℕ) × IsFirstUnknown steps n) → AreAllKnown (x ∷ steps) ⊎ ((n : ℕ) × IsFirstUnknown (x ∷ steps) n)
 later x steps k u = elim u [

@@ -1,6 +1,6 @@
 -- One label at the end of a join, and that a list derives at most one expression.
-use Rattle.std.proofs.Common.{◌≡◌, ℕ, zero, suc, ◌≤◌, Bool, true, false, List, [], ◌∷◌, ◌++◌, length, map, get_or, refl, sym, ◌∙◌, ap, subst, append_assoc, arith, length-append, Contains}
-use Rattle.std.proofs.lemmas.List.{append-nil, same_from_push, length-map, get_or-map, Elements.{Contains-append_right}}
+use Rattle.std.proofs.lemmas.{Grind.{common_steps}, List.{append-nil, same_from_push, length-map, get_or-map, Elements.{Contains-append_right}}}
+use Rattle.std.proofs.Common.{◌≡◌, ℕ, zero, suc, ◌≤◌, Bool, true, false, List, [], ◌∷◌, ◌++◌, length, map, refl, sym, ◌∙◌, ap, subst, arith, length-append, Contains}
 use Rattle.mm_machine.specs.Language.{Frame.{Symbol, Mandatory, Frame, Resolved, Hypothesis, Assertion, Inactive, Unknown, Setting, HasVariable}, Substitution.{substituted, replacement}}
 use Rattle.mm_machine.specs.Language.{Derivation.{Derives, DeriveInOrder, by_hypothesis, by_assertion, nothing, first_then}, Typing.{IsTyped, IsFrame, HasFrames}, Steps.{Cites, Moves}}
 use Rattle.mm_machine.proofs.lemmas.{machine.FlatLemmas.{of_constant, of_variable}, lists.Members.{Contains-here}, verdicts.Joins.{join, alone, cut}}
@@ -8,14 +8,9 @@ use Rattle.mm_machine.proofs.lemmas.{machine.FlatLemmas.{of_constant, of_variabl
 -- a label goes on from a join
 pub go_on : {place : Setting} {labels : List (List ℕ)} {stack next : List (List Symbol)} (label : List ℕ) (r : Resolved) → place.resolve label ≡ r
     → DeriveInOrder place labels stack → Moves place.active r stack next → DeriveInOrder place (labels ++ label ∷ []) next
-go_on {place} {labels} label (Hypothesis e) is d m =
-    let P : List (List Symbol) → Type 0 = λ s. DeriveInOrder place (labels ++ label ∷ []) s in
-    subst P (sym m) (join d (alone (by_hypothesis is)))
+go_on {place} {labels} label (Hypothesis e) is d m = grind (arith, common_steps, join d (alone (by_hypothesis is))) steps 200000
 go_on {place} {labels} {stack} label (Assertion frame) is d m =
-    let c = cut m.below m.entries stack d m.before in
-    let P : List (List Symbol) → Type 0 = λ s. DeriveInOrder place (labels ++ label ∷ []) s in
-    let Q : List (List ℕ) → Type 0 = λ l. DeriveInOrder place l (m.below ++ m.result ∷ []) in
-    subst P (sym m.after) (subst Q (sym (append_assoc c.front c.back (label ∷ [])) ∙ ap (λ l. l ++ label ∷ []) (sym c.whole)) (join c.of_front (alone (by_assertion c.of_back is m.takes))))
+    grind (arith, common_steps, cut m.below m.entries stack d m.before, join (cut m.below m.entries stack d m.before).of_front (alone (by_assertion (cut m.below m.entries stack d m.before).of_back is m.takes))) steps 200000
 go_on label Inactive is d m = absurd m
 go_on label Unknown is d m = absurd m
 
@@ -49,8 +44,7 @@ last_label {place} {first} {e = e} h (first_then {first = f} {rest = r} {e = x} 
       labels = first ++ l.labels;
       label = l.label;
       stack = e ∷ l.stack;
-      whole = ap (λ s. first ++ s) l.whole ∙ sym
-          (append_assoc first l.labels (l.label ∷ []));
+      whole = grind (arith, common_steps) steps 200000;
       of_labels = first_then h l.of_labels;
       moves = under place.active e (place.resolve l.label) l.stack
           (x ∷ xs) l.moves;
@@ -58,13 +52,7 @@ last_label {place} {first} {e = e} h (first_then {first = f} {rest = r} {e = x} 
 
 -- two substitutions that give the same at each hypothesis give each typed variable the same
 same_at : (f g : Mandatory → List Symbol) (xs : List Mandatory) (x : Mandatory) → map f xs ≡ map g xs → Contains xs x → f x ≡ g x
-same_at f g xs x e c =
-    let a = get_or-map f xs c.0 x (f x) c.1 in
-    let b = get_or-map g xs c.0 x (f x) c.1 in
-    let m = ap (λ l. get_or l c.0 (f x)) e in
-    let at_f = ap f c.2 in
-    let at_g = ap g c.2 in
-    cc
+same_at f g xs x e c = grind (arith, common_steps, get_or-map f xs c.0 x (f x) c.1, get_or-map g xs c.0 x (f x) c.1) steps 200000
 
 -- what takes the place of a variable, and of a constant
 pub replacement-variable : (f : Symbol → List Symbol) (s : Symbol) → s.variable ≡ true → replacement f s ≡ f s
@@ -75,11 +63,7 @@ replacement-constant f s e = of_constant s.variable (f s) (s ∷ []) e
 
 -- the expression of a `$f`
 pub substituted-typing : (f : Symbol → List Symbol) (c v : Symbol) → c.variable ≡ false → v.variable ≡ true → substituted f (c ∷ v ∷ []) ≡ c ∷ f v
-substituted-typing f c v constant variable =
-    let a = replacement-constant f c constant in
-    let b = replacement-variable f v variable in
-    let n = append-nil (replacement f v) in
-    cc
+substituted-typing f c v constant variable = grind (arith, common_steps, replacement-constant f c constant, replacement-variable f v variable, append-nil (replacement f v)) steps 200000
 
 pub same_typed : (f g : Symbol → List Symbol) (hs : List Mandatory) (v : Symbol) → v.variable ≡ true → map (λ h. substituted f h.expression) hs ≡ map (λ h. substituted g h.expression) hs → IsTyped hs v → f v ≡ g v
 same_typed f g hs v is e t =
@@ -106,9 +90,7 @@ pub same_cut : {X : Type 0} (a b c d : List X) → a ++ b ≡ c ++ d → length 
 same_cut [] b [] d e l = (refl, e)
 same_cut [] b (x ∷ c) d e l = absurd (let n = ap length e in omega (arith, length-append c d))
 same_cut (x ∷ a) b [] d e l = absurd (let n = ap length e in omega (arith, length-append a b))
-same_cut (x ∷ a) b (y ∷ c) d e l =
-    let r = same_cut a b c d (cc) l in
-    (cc, r.1)
+same_cut (x ∷ a) b (y ∷ c) d e l = grind (arith, common_steps, same_cut a b c d (cc) l) steps 200000
 
 -- citing a frame gives one result
 pub same_result : (active : List (Symbol × Symbol)) (frame : Frame) (stack next next' : List (List Symbol)) → IsFrame frame → Cites active frame stack next → Cites active frame stack next' → next ≡ next'
@@ -119,22 +101,17 @@ same_result active frame stack next next' is m n =
     let c = same_cut m.below m.entries n.below n.entries (sym m.before ∙ n.before) (ml ∙ sym nl) in
     let matches : map (λ h. substituted m.given h.expression) hs ≡ map (λ h. substituted n.given h.expression) hs = m.takes.entries_match ∙ c.1 ∙ sym n.takes.entries_match in
     let s = same_substituted m.given n.given frame.expression (λ v w. same_typed m.given n.given hs v w.1 matches (is.expression_typed v w)) in
-    let results : m.result ≡ n.result = sym m.takes.result_matches ∙ s ∙ n.takes.result_matches in
     cc
 
 -- a label has one outcome
 pub same_next : (active : List (Symbol × Symbol)) (r : Resolved) (stack next next' : List (List Symbol)) → ((frame : Frame) → r ≡ Assertion frame → IsFrame frame) → Moves active r stack next → Moves active r stack next' → next ≡ next'
-same_next active (Hypothesis e) stack next next' is m n = m ∙ sym n
-same_next active (Assertion frame) stack next next' is m n = same_result active frame stack next next' (is frame refl) m n
-same_next active _ stack next next' is m n = absurd m
+same_next active r stack next next' is m n = grind (arith, common_steps, same_result) steps 200000
 
 -- a join of no labels is of no expressions
 pub no_labels : {place : Setting} {labels : List (List ℕ)} (stack : List (List Symbol)) → DeriveInOrder place labels stack → labels ≡ [] → stack ≡ []
 no_labels [] d e = refl
 no_labels {place} (x ∷ xs) (first_then {first = first} {rest = rest} h t) e =
-    let l = last_label h t in
-    let n = ap length (sym l.whole ∙ e) in
-    absurd (omega (arith, length-append l.labels (l.label ∷ [])))
+    grind (arith, common_steps, last_label h t, length-append (last_label h t).labels ((last_label h t).label ∷ [])) steps 200000
 
 pub last_of : {place : Setting} {labels : List (List ℕ)} {x : List Symbol} {xs : List (List Symbol)} → DeriveInOrder place labels (x ∷ xs) → LastLabel place labels (x ∷ xs)
 last_of (first_then h t) = last_label h t
@@ -143,29 +120,21 @@ last_of (first_then h t) = last_label h t
 same_by_last : (place : Setting) → HasFrames place → {a b : List (List ℕ)} {xs ys : List (List Symbol)} → a ≡ b → (l : LastLabel place a xs) → (m : LastLabel place b ys) → (l.labels ≡ m.labels → l.stack ≡ m.stack) → xs ≡ ys
 same_by_last place is {xs = xs} {ys = ys} e l m same =
     let s = same_from_push l.labels m.labels l.label m.label (sym l.whole ∙ e ∙ m.whole) in
-    let stacks = same s.0 in
-    let labels = s.1 in
     let P : List ℕ → List (List Symbol) → Type 0 = λ w k. Moves place.active (place.resolve w) k ys in
-    let moved : Moves place.active (place.resolve l.label) l.stack ys = subst (λ w. P w l.stack) (sym labels) (subst (P m.label) (sym stacks) m.moves) in
+    let moved : Moves place.active (place.resolve l.label) l.stack ys = subst (λ w. P w l.stack) (sym s.1) (subst (P m.label) (sym (same s.0)) m.moves) in
     same_next place.active (place.resolve l.label) l.stack xs ys (is l.label) l.moves moved
 
 -- a list is a join in at most one way
 pub same_stack : (place : Setting) → HasFrames place → (n : ℕ) {a b : List (List ℕ)} (xs ys : List (List Symbol)) → length a ≤ n → a ≡ b → DeriveInOrder place a xs → DeriveInOrder place b ys → xs ≡ ys
 same_stack place is n [] ys bound e nothing d' = sym (no_labels ys d' (sym e))
 same_stack place is n (x ∷ xs) [] bound e d nothing = absurd (let f = no_labels (x ∷ xs) d e in (cc))
-same_stack place is zero (x ∷ xs) (y ∷ ys) bound e d d' =
-    let l = last_of d in
-    let s = ap length l.whole in
-    absurd (omega (arith, length-append l.labels (l.label ∷ [])))
+same_stack place is zero (x ∷ xs) (y ∷ ys) bound e d d' = grind (arith, common_steps, last_of d, length-append (last_of d).labels ((last_of d).label ∷ [])) steps 200000
 same_stack place is (suc n) (x ∷ xs) (y ∷ ys) bound e d d' =
     let l = last_of d in
     let m = last_of d' in
     let s = ap length l.whole in
-    let shorter : length l.labels ≤ n = omega (arith, length-append l.labels (l.label ∷ [])) in
-    same_by_last place is e l m (λ f. same_stack place is n l.stack m.stack shorter f l.of_labels m.of_labels)
+    same_by_last place is e l m (λ f. same_stack place is n l.stack m.stack (omega (arith, length-append l.labels (l.label ∷ []))) f l.of_labels m.of_labels)
 
 -- a list derives at most one expression
 pub same_derived : (place : Setting) → HasFrames place → (labels : List (List ℕ)) (e f : List Symbol) → Derives place labels e → Derives place labels f → e ≡ f
-same_derived place is labels e f d d' =
-    let s = same_stack place is (length labels) (e ∷ []) (f ∷ []) (omega arith) refl (alone d) (alone d') in
-    cc
+same_derived place is labels e f d d' = grind (arith, common_steps, same_stack place is (length labels) (e ∷ []) (f ∷ []) (omega arith) refl (alone d) (alone d')) steps 200000

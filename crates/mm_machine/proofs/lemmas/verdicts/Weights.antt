@@ -1,8 +1,7 @@
 -- What deriving lists weigh, and which part a save keeps.
+use Rattle.std.proofs.lemmas.{Grind.{common_steps}, Int.{ints}, Bool.Decides.{Decides-int_eq}, List.{length-map}}
 use Rattle.std.proofs.Common.{◌≡◌, ◌≢◌, ℕ, suc, ◌+◌, ◌≤◌, Bool, true, false, Option, Some, None, List, [], ◌∷◌, ◌++◌, length, refl, sym, ◌∙◌, ap, subst, arith, length-append, ℤ, pos, ◌-ℤ◌, ◌≤ℤ◌}
-use Rattle.std.proofs.Common.{if◌then◌else◌}
-use Rattle.std.proofs.lemmas.{Int.{ints}, Bool.Decides.{Decides-int_eq}, List.{length-map}}
-use Rattle.std.specs.Ordering.{int_eq}
+use Rattle.std.{proofs.Common.{if◌then◌else◌}, specs.Ordering.{int_eq}}
 use Rattle.mm_machine.specs.Language.{Frame.{Symbol, Resolved, Hypothesis, Assertion, Setting}, Substitution.{substituted}}
 use Rattle.mm_machine.specs.Language.{Derivation.{Derives, DeriveInOrder, by_hypothesis, by_assertion, nothing, first_then}, Expansion.{taken_by, weight, last_part, or_else, IsLastPart}}
 
@@ -87,19 +86,13 @@ no_part_of true xs e = cc
 no_part : (place : Setting) (x : List ℕ) (a : List (List ℕ)) → IsLight place 1 (x ∷ a) → last_part place a ≡ None
 no_part place x [] l = refl
 no_part place x (y ∷ a) l =
-    let none = no_part place y a l.1 in
-    let other = not_one place (y ∷ a) (omega arith) in
-    let test = no_part_of (int_eq (weight place (y ∷ a)) (pos 1)) (y ∷ a) (int_eq-other (weight place (y ∷ a)) (pos 1) other) in
-    ap (λ o. or_else o (if int_eq (weight place (y ∷ a)) (pos 1) then Some (y ∷ a) else None)) none ∙ test
+    grind (arith, common_steps, no_part_of (int_eq (weight place (y ∷ a)) (pos 1)) (y ∷ a) (int_eq-other (weight place (y ∷ a)) (pos 1) (not_one place (y ∷ a) (omega arith))), no_part place y a l.1) steps 200000
 
 -- a list of weight one whose shorter suffixes are light is its own last part
 own_part : (place : Setting) (part : List (List ℕ)) → Weighs place 1 part → last_part place part ≡ Some part
 own_part place [] w = absurd (omega arith)
 own_part place (x ∷ a) w =
-    let none = no_part place x a w.light in
-    let one = is_one place (x ∷ a) w.total in
-    let test = part_of (int_eq (weight place (x ∷ a)) (pos 1)) (x ∷ a) (int_eq-same (weight place (x ∷ a)) (pos 1) one) in
-    ap (λ o. or_else o (if int_eq (weight place (x ∷ a)) (pos 1) then Some (x ∷ a) else None)) none ∙ test
+    grind (arith, no_part place x a w.light, is_one place (x ∷ a) w.total, part_of (int_eq (weight place (x ∷ a)) (pos 1)) (x ∷ a) (int_eq-same (weight place (x ∷ a)) (pos 1) (is_one place (x ∷ a) w.total))) steps 200000
 
 behind : (place : Setting) (front part : List (List ℕ)) (whole : List (List ℕ)) → last_part place part ≡ Some whole → last_part place (front ++ part) ≡ Some whole
 behind place [] part whole e = e
@@ -120,11 +113,7 @@ light_suffix place x (y ∷ front) back l = light_suffix place y front back l.1
 pub weight_of_suffix : (place : Setting) (labels : List (List ℕ)) (e : List Symbol) → Derives place labels e → (front back : List (List ℕ)) → labels ≡ front ++ back → front ≢ [] → weight place back ≤ℤ pos 0
 weight_of_suffix place labels e d [] back is n = absurd (n refl)
 weight_of_suffix place labels e d (x ∷ front) back is n =
-    let w = derived_weighs place d in
-    let P : List (List ℕ) → Type 0 = λ l. IsLight place 1 l in
-    let h = light_suffix place x front back (subst P is w.light) in
-    let v = weight_is place back in
-    omega (arith, ints)
+    grind (arith, common_steps, light_suffix place x front back (subst (λ l. IsLight place 1 l) is (derived_weighs place d).light), weight_is place back, ints) steps 200000
 
 -- the function and the words
 found_part : (place : Setting) (x : List ℕ) (labels part : List (List ℕ)) → IsLastPart place labels part → IsLastPart place (x ∷ labels) part

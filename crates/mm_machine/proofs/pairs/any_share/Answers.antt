@@ -29,12 +29,11 @@ loop-n-preserved g c =
     let hs = hypotheses_of m c.args.taken.now.hypotheses.now in
     let variables = map m c.args.gathered.now.variables.items in
     let spans = c.args.gathered.now.spans.items in
-    let x = c.index-pairs-n.result in
     let first = c.variables_of-first.ensures in
     let second = c.variables_of-second.ensures in
     let P : List Symbol → List Symbol → Type 0 = λ xs ys. SomeShared xs ys → ⊥ in
-    each_more (λ (p : Symbol × Symbol). AtSlots P hs variables spans p) (meant_pairs m c.args.pairs.now) c.loop-n.n (meant_pair m x)
-    (mapped_get (meant_pair m) c.args.pairs.now c.loop-n.n x c.loop-n-test.true c.index-pairs-n.is)
+    each_more (λ (p : Symbol × Symbol). AtSlots P hs variables spans p) (meant_pairs m c.args.pairs.now) c.loop-n.n (meant_pair m c.index-pairs-n.result)
+    (mapped_get (meant_pair m) c.args.pairs.now c.loop-n.n c.index-pairs-n.result c.loop-n-test.true c.index-pairs-n.is)
     (first.0, second.0, first.1, second.1, subst (λ w. P w (span_of variables spans second.0)) first.2 (subst (λ w. P (map m c.variables_of-first.result.now) w) second.2 c.if-share.ensures))
     c.loop-n.invariant
 
@@ -55,9 +54,8 @@ returns-then-share g c =
 
 pub returns : goal.returns
 returns g c k p at =
-    let m = g.S.Symbol.means in
-    let w = slice_get_within (meant_pairs m c.args.pairs.now) k p at in
-    c.loop-n.invariant k p (omega (arith, c.loop-n-test.false, length-map c.args.pairs.now (meant_pair m))) at
+    let w = slice_get_within (meant_pairs g.S.Symbol.means c.args.pairs.now) k p at in
+    c.loop-n.invariant k p (omega (arith, c.loop-n-test.false, length-map c.args.pairs.now (meant_pair g.S.Symbol.means))) at
 
 pub loop-n-init : goal.loop-n-init
 loop-n-init g c k x l at = absurd (omega arith)

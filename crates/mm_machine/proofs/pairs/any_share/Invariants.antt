@@ -1,6 +1,5 @@
 use Rattle.std.proofs.Common.{map}
-use Rattle.mm_machine.specs.{Language.{Frame.{Symbol}, CitedFrames.{meant_pairs, hypotheses_of}}, Code.PairClause.{SomeShared, AtSlots}}
-use Rattle.mm_machine.proofs.lemmas.machine.ApartLemmas.{EachUpTo}
+use Rattle.mm_machine.{specs.{Language.{Frame.{Symbol}, CitedFrames.{meant_pairs, hypotheses_of}}, Code.PairClause.{SomeShared, AtSlots}}, proofs.lemmas.machine.ApartLemmas.{EachUpTo}}
 use Rattle.mm_machine.proofs.pairs.any_share.Given as goal
 
 abbrev pub invariant-loop-n : goal.invariant-loop-n

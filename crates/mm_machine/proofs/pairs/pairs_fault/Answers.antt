@@ -1,6 +1,5 @@
 use Rattle.std.proofs.{Common.{map, arith}, lemmas.{List.{length-map}, Grind.{common_steps}}}
-use Rattle.mm_machine.specs.{Code.Flat.{read_all}, Language.CitedFrames.{meant_pairs}}
-use Rattle.mm_machine.proofs.lemmas.machine.PairClauseLemmas.{apart_given, shared_given, none_shared, lack_given}
+use Rattle.mm_machine.{specs.{Code.Flat.{read_all}, Language.CitedFrames.{meant_pairs}}, proofs.lemmas.machine.PairClauseLemmas.{apart_given, shared_given, none_shared, lack_given}}
 use Rattle.mm_machine.proofs.pairs.pairs_fault.Goals as goal
 
 pub any_share-requires : goal.any_share-requires

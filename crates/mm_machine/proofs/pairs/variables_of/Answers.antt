@@ -1,6 +1,5 @@
-use Rattle.std.proofs.{Common.{◌-◌, Some, map, take, drop, sym, ◌∙◌, ap, arith}, lemmas.{Option.{slice_get_within, slice_get-get_or}, List.{length-map}, Grind.{elements}}}
-use Rattle.mm_machine.specs.{Code.{Flat.{read}, PairClause.{entry_or}}, Language.CitedFrames.{hypotheses_of, mandatory_of}}
-use Rattle.mm_machine.proofs.lemmas.machine.FlatLemmas.{entry_map}
+use Rattle.std.proofs.{lemmas.{Grind.{common_steps, elements}, Option.{slice_get_within, slice_get-get_or}, List.{length-map}}, Common.{◌-◌, arith}}
+use Rattle.mm_machine.{specs.Language.CitedFrames.{hypotheses_of, mandatory_of}, proofs.lemmas.machine.FlatLemmas.{entry_map}}
 use Rattle.mm_machine.proofs.pairs.variables_of.Goals as goal
 
 pub returns : goal.returns
@@ -8,16 +7,9 @@ returns g c =
     let m = g.S.Symbol.means in
     let e = c.index-entry.result.now in
     let variables = c.args.gathered.now.variables.items in
-    let spans = c.args.gathered.now.spans.items in
-    let n = c.slot_of-slot.result in
     let slot = c.slot_of-slot.ensures c.requires.typed in
-    let w = slice_get_within (hypotheses_of m c.args.taken.now.hypotheses.now) n slot.0 slot.1 in (
-      n,
-      slot,
-      ap (λ w. map m (take (e.end - e.start) (drop e.start w))) c.deref.ensures.value
-          ∙ entry_map m variables e
-          ∙ ap (λ o. read (map m variables) (entry_or o)) (sym (slice_get-get_or spans n e (omega (arith, w, c.requires.count, length-map c.args.taken.now.hypotheses.now (mandatory_of m))) ∙ ap Some (sym c.index-entry.ensures))),
-    )
+    let w = slice_get_within (hypotheses_of m c.args.taken.now.hypotheses.now) c.slot_of-slot.result slot.0 slot.1 in
+    grind (arith, common_steps, entry_map m variables e, length-map c.args.taken.now.hypotheses.now (mandatory_of m), slice_get-get_or) steps 200000
 
 pub index-entry-requires : goal.index-entry-requires
 index-entry-requires g c =

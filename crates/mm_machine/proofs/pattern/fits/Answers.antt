@@ -1,5 +1,5 @@
-use Rattle.std.proofs.Common.{◌≡◌, ◌≤◌, ◌+◌, ◌++◌, [], false, map, take, drop, length, get_or, sym, ◌∙◌, ap, arith}
-use Rattle.std.proofs.lemmas.{Bool.{false≢true, eqb-true, eq-eqb}, List.{length-map, take_all, length-drop}, Option.{slice_get-get_or}}
+use Rattle.std.proofs.lemmas.{Grind.{common_steps}, Bool.{false≢true, eqb-true, eq-eqb}, List.{length-map, take_all, length-drop}, Option.{slice_get-get_or}}
+use Rattle.std.proofs.Common.{◌+◌, ◌++◌, [], false, map, take, drop, length, get_or, sym, ◌∙◌, ap, arith}
 use Rattle.mm_machine.specs.Language.{Frame.{Symbol}, Substitution.{substituted, replacement}}
 use Rattle.mm_machine.proofs.lemmas.machine.FlatLemmas.{put_more, fits_on, fits_next, fits_short, fits_part, fits_end, range_map}
 use Rattle.mm_machine.proofs.pattern.fits.Goals as goal
@@ -61,15 +61,4 @@ loop-place-preserved g c = record {
 }
 
 pub returns : goal.returns
-returns g c given slots =
-    let m = g.S.Symbol.means in
-    let expression = map m c.args.expression.now in
-    let entry = map m c.args.entry.now in
-    let at = c.loop-place.at in
-    let all = take_all c.loop-place.place expression (omega (arith, length-map c.args.expression.now m, c.loop-place-test.false)) in
-    let low : at ≤ length entry = omega (arith, c.loop-place.invariant.low, length-map c.args.entry.now m) in
-    let joined : entry ≡ substituted given expression ++ drop at entry = c.loop-place.invariant.joined given slots ∙ ap (λ w. substituted given w ++ drop at entry) all in
-    let both = fits_end (substituted given expression) entry at low joined in (
-      λ t. both.0 (eqb-true at (length c.args.entry.now) t ∙ sym (length-map c.args.entry.now m)),
-      λ e. eq-eqb at (length c.args.entry.now) (both.1 e ∙ length-map c.args.entry.now m),
-    )
+returns g c given slots = grind (arith, common_steps, eq-eqb, eqb-true, fits_end, length-map, take_all) steps 200000

@@ -1,7 +1,7 @@
-use Rattle.std.proofs.Common.{◌≤◌, ◌+◌, ◌++◌, [], false, map, take, drop, length, get_or, ◌∙◌, ap, arith, length-append}
-use Rattle.std.proofs.lemmas.{List.{length-map, take_all}, Nat.{mul-le}, Option.{slice_get-get_or}}
-use Rattle.mm_machine.specs.Language.{Frame.{Symbol}, Substitution.{substituted, replacement}, CitedFrames.{hypotheses_of}}
-use Rattle.mm_machine.proofs.lemmas.machine.{BoundLemmas.{short_by, given_short}, FlatLemmas.{put_more, put_rest}}
+use Rattle.std.proofs.lemmas.{Grind.{common_steps}, List.{length-map, take_all}, Nat.{mul-le}, Option.{slice_get-get_or}}
+use Rattle.std.proofs.Common.{◌≤◌, ◌+◌, ◌++◌, [], false, map, take, drop, length, get_or, ap, arith, length-append}
+use Rattle.mm_machine.{specs.Language.{Frame.{Symbol}, Substitution.{substituted, replacement}, CitedFrames.{hypotheses_of}}, proofs.lemmas.machine.BoundLemmas.{short_by, given_short}}
+use Rattle.mm_machine.proofs.lemmas.machine.FlatLemmas.{put_more, put_rest}
 use Rattle.mm_machine.proofs.pattern.is_short.Goals as goal
 
 pub returns-then-taken-lt10000 : goal.returns-then-taken-lt10000
@@ -12,8 +12,7 @@ returns-then-taken-lt10000 g c given slots =
     let n = length (map m symbols) + 1 in
     let short = short_by given n expression (given_short given (hypotheses_of m c.args.taken.now.hypotheses.now) (map m symbols) c.args.taken.now.entries.now expression slots) in
     let low : length expression ≤ 100 = omega (arith, length-map c.args.expression.now m, c.if-expression-le100.true) in
-    let few : n ≤ 10000 = omega (arith, length-map symbols m, c.if-taken-lt10000.true) in
-    omega (arith, short, mul-le (length expression) n 100 10000 low few)
+    omega (arith, short, mul-le (length expression) n 100 10000 low (omega (arith, length-map symbols m, c.if-taken-lt10000.true)))
 
 pub returns-then-saturating_mul-half : goal.returns-then-saturating_mul-half
 returns-then-saturating_mul-half g c given slots =
@@ -28,17 +27,13 @@ returns-then-saturating_mul-half g c given slots =
 
 pub returns-then-more-count : goal.returns-then-more-count
 returns-then-more-count g c given slots =
-    let m = g.S.Symbol.means in
-    let expression = map m c.args.expression.now in
+    let expression = map g.S.Symbol.means c.args.expression.now in
     let d : Symbol = record { name = []; variable = false } in
     let k = c.loop-place.place in
     let s = get_or expression k d in
-    let here = slice_get-get_or expression k d (omega (arith, length-map c.args.expression.now m, c.loop-place-test.true)) in
+    let here = slice_get-get_or expression k d (omega (arith, length-map c.args.expression.now g.S.Symbol.means, c.loop-place-test.true)) in
     let whole = ap length (put_rest given expression k s here) in
-    let so_far = c.loop-place.invariant.so_far given slots in
     let part = ap length (c.replacement_of.ensures given s slots here) in
-    let over = c.if-more-count.true in
-    let low = c.loop-place.invariant.low in
     omega (arith, length-append (substituted given (take k expression)) (replacement given s ++ substituted given (drop (k + 1) expression)), length-append (replacement given s) (substituted given (drop (k + 1) expression)), c.count-more.ensures)
 
 pub loop-place-preserved : goal.loop-place-preserved
@@ -58,9 +53,4 @@ loop-place-preserved g c = record {
 }
 
 pub returns : goal.returns
-returns g c given slots =
-    let m = g.S.Symbol.means in
-    let expression = map m c.args.expression.now in
-    let e = c.loop-place.invariant.so_far given slots ∙ ap (λ w. length (substituted given w)) (take_all c.loop-place.place expression (omega (arith, length-map c.args.expression.now m, c.loop-place-test.false))) in
-    let low = c.loop-place.invariant.low in
-    omega arith
+returns g c given slots = grind (arith, common_steps, length-map, take_all) steps 200000

@@ -1,6 +1,5 @@
 use Rattle.std.proofs.{Common.{◌++◌, [], false, map, take, get_or, sym, ◌∙◌, ap, arith, append_assoc}, lemmas.{List.{length-map}, Option.{slice_get-get_or}, Grind.{common_steps}}}
-use Rattle.mm_machine.specs.Language.{Frame.{Symbol}, Substitution.{substituted, replacement}}
-use Rattle.mm_machine.proofs.lemmas.machine.FlatLemmas.{put_more}
+use Rattle.mm_machine.{specs.Language.{Frame.{Symbol}, Substitution.{substituted, replacement}}, proofs.lemmas.machine.FlatLemmas.{put_more}}
 use Rattle.mm_machine.proofs.pattern.substitute.Goals as goal
 
 pub loop-place-preserved : goal.loop-place-preserved

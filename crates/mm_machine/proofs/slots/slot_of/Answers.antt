@@ -1,6 +1,6 @@
 use Rattle.std.proofs.{Common.{sym, ◌∙◌, arith}, lemmas.{Bool.{false≢true}, List.{length-map}}}
-use Rattle.mm_machine.specs.{Language.CitedFrames.{mandatory_of, hypotheses_of}, Code.Citation.{IsTypingOf}}
-use Rattle.mm_machine.proofs.lemmas.machine.{FlatLemmas.{mapped_get}, ApartLemmas.{each_more}, SlotLemmas.{not_typed}}
+use Rattle.mm_machine.{specs.{Language.CitedFrames.{mandatory_of, hypotheses_of}, Code.Citation.{IsTypingOf}}, proofs.lemmas.machine.{FlatLemmas.{mapped_get}, ApartLemmas.{each_more}}}
+use Rattle.mm_machine.proofs.lemmas.machine.SlotLemmas.{not_typed}
 use Rattle.mm_machine.proofs.slots.slot_of.Goals as goal
 
 pub returns-then-is_float_of : goal.returns-then-is_float_of

@@ -1,5 +1,4 @@
-use Rattle.mm_machine.specs.{Language.CitedFrames.{hypotheses_of}, Code.Citation.{IsTypingOf}}
-use Rattle.mm_machine.proofs.lemmas.machine.ApartLemmas.{EachUpTo}
+use Rattle.mm_machine.{specs.{Language.CitedFrames.{hypotheses_of}, Code.Citation.{IsTypingOf}}, proofs.lemmas.machine.ApartLemmas.{EachUpTo}}
 use Rattle.mm_machine.proofs.slots.slot_of.Given as goal
 
 abbrev pub invariant-loop-place : goal.invariant-loop-place

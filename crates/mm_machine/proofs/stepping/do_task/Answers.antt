@@ -1,8 +1,7 @@
 use Rattle.std.proofs.{Common.{◌≡◌, ◌+◌, ◌-◌, ◌++◌, map, length, get_or, refl, sym, ◌∙◌, ap, subst, arith, MatchOption, slice_get}, lemmas.List.{length-map}}
 use Rattle.mm_machine.specs.Language.{Frame.{Frame, AreSameFrame}, Expansion.{Step}, Faults.{IsLowest}, Machine.{State}, CitedFrames.{frame_of, hypotheses_of, meant_pairs}}
-use Rattle.mm_machine.specs.Language.NamedSteps.{named_expressions, named_frames}
-use Rattle.mm_machine.specs.{declared.{pattern.Entry.{Entry}, stepping.Task.{Task}}, Code.{Flat.{read}, MachineState.{state_of}, Tasks.{HasState, IsTaskWithin, saves_of}}}
-use Rattle.mm_machine.proofs.lemmas.machine.FlatLemmas.{mapped_or, mapped_or_get}
+use Rattle.mm_machine.specs.{Language.NamedSteps.{named_expressions, named_frames}, declared.{pattern.Entry.{Entry}, stepping.Task.{Task}}, Code.{Flat.{read}, MachineState.{state_of}}}
+use Rattle.mm_machine.{specs.Code.Tasks.{HasState, IsTaskWithin, saves_of}, proofs.lemmas.machine.FlatLemmas.{mapped_or, mapped_or_get}}
 use Rattle.mm_machine.proofs.lemmas.machine.StepLemmas.{means_push, means_cite, means_again, means_keep, cite_turns, kept_at, saved_at, TurnsTo, pushed_turns, again_turns, kept_turns, cited_turns}
 use Rattle.mm_machine.proofs.lemmas.machine.StepLemmas.{saved_same, saved_more, if_none}
 use Rattle.mm_machine.proofs.stepping.do_task.Goals as goal

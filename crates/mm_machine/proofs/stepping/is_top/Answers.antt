@@ -1,6 +1,5 @@
-use Rattle.std.proofs.Common.{◌≡◌, ◌-◌, ◌∷◌, [], map, take, drop, get_or, sym, ◌∙◌, ap, arith}
-use Rattle.mm_machine.specs.Code.Flat.{read, read_all}
-use Rattle.mm_machine.proofs.lemmas.machine.{FlatLemmas.{entry_map}, StackLemmas.{top_of}}
+use Rattle.std.proofs.{lemmas.Grind.{common_steps}, Common.{◌≡◌, ◌-◌, ◌∷◌, [], map, take, drop, ◌∙◌, ap, arith}}
+use Rattle.mm_machine.{specs.Code.Flat.{read, read_all}, proofs.lemmas.machine.{FlatLemmas.{entry_map}, StackLemmas.{top_of}}}
 use Rattle.mm_machine.proofs.stepping.is_top.Goals as goal
 
 pub returns : goal.returns
@@ -9,9 +8,6 @@ returns g c =
     let symbols = map m c.args.machine.now.symbols.items in
     let es = c.args.machine.now.stack.items in
     let x = c.index-entry.result.now in
-    let one = c.requires.one in
     let top : read_all symbols es ≡ read symbols x ∷ [] = top_of (read symbols) es 0 x (omega arith) (omega arith) c.index-entry.ensures in
-    let is = ap (λ w. map m (take (x.end - x.start) (drop x.start w))) c.deref.ensures.value ∙ entry_map m c.args.machine.now.symbols.items x in (
-      λ t. top ∙ ap (λ w. w ∷ []) (sym is ∙ c.are_same.ensures.0 t),
-      λ e. c.are_same.ensures.1 (is ∙ ap (λ w. get_or w 0 []) (sym top ∙ e)),
-    )
+    let is = ap (λ w. map m (take (x.end - x.start) (drop x.start w))) c.deref.ensures.value ∙ entry_map m c.args.machine.now.symbols.items x in
+    grind (arith, common_steps, c.are_same.ensures.0) steps 200000

@@ -1,13 +1,11 @@
-use Rattle.std.proofs.{Common.{◌≡◌, ◌<◌, ◌∷◌, [], map, length, get_or, refl, ◌∙◌, ap, subst, arith}, lemmas.{Bool.{false≢true}, List.{length-map, get_or_default}}}
+use Rattle.std.proofs.{lemmas.{Grind.{common_steps}, Bool.{false≢true}, List.{length-map, get_or_default}}, Common.{◌≡◌, ◌<◌, ◌∷◌, [], map, length, get_or, refl, ◌∙◌, subst, arith}}
 use Rattle.mm_machine.specs.{Language.{Reaches.{Reaches}, NamedSteps.{actions_mean}}, declared.pattern.Entry.{Entry}, Code.{Flat.{read, read_all}, MachineState.{state_of}}}
 use Rattle.mm_machine.proofs.lemmas.machine.{StackLemmas.{top_of}, LackLemmas.{stopped_says}}
 use Rattle.mm_machine.proofs.stepping.run.Goals as goal
 
 pub returns-in-Some-clause-says : goal.returns-in-Some-clause-says
 returns-in-Some-clause-says g c place names is pairs all =
-    let steps = actions_mean names c.args.steps.now in
-    let stops = rw c.in-Some.is at c.in_ok-outcome.ensures.says in
-    stopped_says place steps (map g.S.Symbol.means c.args.statement.now) c.in-Some.outcome (stops place names is pairs all)
+    grind (arith, stopped_says place (actions_mean names c.args.steps.now) (map g.S.Symbol.means c.args.statement.now) c.in-Some.outcome ((rw c.in-Some.is at c.in_ok-outcome.ensures.says) place names is pairs all)) steps 200000
 
 pub returns-then-len-ne1-clause-says : goal.returns-then-len-ne1-clause-says
 returns-then-len-ne1-clause-says g c place names is pairs all =
@@ -19,9 +17,8 @@ returns-then-len-ne1-clause-says g c place names is pairs all =
 
 pub returns-then-is_top-clause-says : goal.returns-then-is_top-clause-says
 returns-then-is_top-clause-says g c place names is pairs all =
-    let steps = actions_mean names c.args.steps.now in
     let done = (rw c.in_default.is at c.in_ok-outcome.ensures.says) place names is pairs all in
-    (done.0, subst (λ w. Reaches place steps w) (c.if-is_top.ensures.0 refl) done.1)
+    (done.0, subst (λ w. Reaches place (actions_mean names c.args.steps.now) w) (c.if-is_top.ensures.0 refl) done.1)
 
 pub returns-else-is_top-clause-says : goal.returns-else-is_top-clause-says
 returns-else-is_top-clause-says g c place names is pairs all =
@@ -35,12 +32,8 @@ returns-else-is_top-clause-says g c place names is pairs all =
     let e = read symbols (get_or machine.stack.items 0 d) in
     let some : 0 < length machine.stack.items = omega (arith, l, c.if-len-ne1.false, c.len.ensures) in
     let top : read_all symbols machine.stack.items ≡ e ∷ [] = top_of (read symbols) machine.stack.items 0 (get_or machine.stack.items 0 d) some
-    (omega (arith, l, c.if-len-ne1.false, c.len.ensures)) (get_or_default machine.stack.items 0 d (get_or machine.stack.items 0 d) some) in (
-      done.0,
-      e,
-      subst (λ w. Reaches place steps w) top done.1,
-      λ same. false≢true (c.if-is_top.ensures.1 (top ∙ ap (λ w. w ∷ []) same)),
-    )
+    (omega (arith, l, c.if-len-ne1.false, c.len.ensures)) (get_or_default machine.stack.items 0 d (get_or machine.stack.items 0 d) some) in
+    grind (arith, common_steps, c.if-is_top.ensures.1, false≢true) steps 200000
 
 pub is_top-requires-clause-whole : goal.is_top-requires-clause-whole
 is_top-requires-clause-whole g c = c.in_ok-outcome.ensures.whole

@@ -1,7 +1,6 @@
 use Rattle.std.proofs.{Common.{◌≡◌, ◌≤◌, length-append, ◌-◌, ◌<◌, [], ℕ, Some, map, length, take, get_or, sym, ◌∙◌, ap, subst, arith}, lemmas.{List.{length-map}, Option.{slice_get-get_or}}}
-use Rattle.mm_machine.specs.Language.{Machine.{nothing_yet}, Reaches.{Reaches}, NamedSteps.{meant, IsSavedWithin, actions_mean, named_expressions, named_frames, saves_in}}
-use Rattle.mm_machine.specs.{declared.step.ProofStep.{ProofStep}, Code.Flat.{read}}
-use Rattle.mm_machine.proofs.lemmas.machine.Reaching.{at_start}
+use Rattle.mm_machine.specs.{Language.{Reaches.{Reaches}, NamedSteps.{meant, IsSavedWithin, actions_mean, named_expressions, named_frames, saves_in}}, declared.step.ProofStep.{ProofStep}}
+use Rattle.mm_machine.{specs.Code.Flat.{read}, proofs.lemmas.machine.Reaching.{at_start}}
 use Rattle.mm_machine.proofs.lemmas.machine.StepLemmas.{nothing_known, known_more, known_all, follows_more, fault_here, unknown_here, reached_all, means_known, action_at, saves_next}
 use Rattle.mm_machine.specs.declared.step.Action.TheVariants as actions
 use Rattle.mm_machine.proofs.stepping.run_through.Goals as goal
@@ -14,21 +13,14 @@ pub loop-place-init : goal.loop-place-init
 loop-place-init g c =
     let m = g.S.Symbol.means in
     let expressions = named_expressions m c.args.named.now in
-    let state = c.in_ok-load.ensures.state in
     let machine = c.load.new.machine in
-    let e = ap length state.saved in
-    record {
-      whole = c.in_ok-load.ensures.whole;
-      count = omega (arith, length-map machine.saved.items (read (map m machine.symbols.items)), length-append expressions [], length-map c.args.named.now.hypotheses.items (λ e. map m e.now));
-      follows = λ place names is pairs all. (nothing_known (actions_mean names c.args.steps.now), nothing_yet, state, at_start place);
-    }
+    grind (arith, length-map machine.saved.items (read (map m machine.symbols.items)), length-append expressions [], length-map, nothing_known, at_start) steps 200000
 
 pub do_task-requires : goal.do_task-requires
 do_task-requires g c =
     let steps = c.args.steps.now in
     let k = c.loop-place.place in
-    let h = length c.args.named.now.hypotheses.items in
-    let n = length c.loop-place.machine.saved.items - h in
+    let n = length c.loop-place.machine.saved.items - (length c.args.named.now.hypotheses.items) in
     let count : saves_in (take k steps) ≡ n = omega (arith, c.loop-place.invariant.count) in
     record {
       within = c.in-Some.ensures.within n c.requires.within
@@ -40,16 +32,14 @@ do_task-requires g c =
 
 pub returns-in_default-clause-says : goal.returns-in_default-clause-says
 returns-in_default-clause-says g c place names is pairs all =
-    let steps = actions_mean names c.args.steps.now in
     let k = c.loop-place.place in
     let f = c.loop-place.invariant.follows place names is pairs all in
     let at = action_at names c.args.steps.now k nowhere (omega (arith, c.loop-place-test.true)) ∙ ap Some (c.in_default.ensures.means place names all) in
-    unknown_here place steps k f.1 f.0 at f.3
+    unknown_here place (actions_mean names c.args.steps.now) k f.1 f.0 at f.3
 
 pub returns-in-Some-2-clause-says : goal.returns-in-Some-2-clause-says
 returns-in-Some-2-clause-says g c place names is pairs all =
     let m = g.S.Symbol.means in
-    let steps = actions_mean names c.args.steps.now in
     let k = c.loop-place.place in
     let step = meant names (get_or c.args.steps.now k nowhere).action in
     let f = c.loop-place.invariant.follows place names is pairs all in
@@ -57,14 +47,13 @@ returns-in-Some-2-clause-says g c place names is pairs all =
     let means = c.in-Some.ensures.means place names all in
     let known = means_known (named_expressions m c.args.named.now) (named_frames m c.args.named.now) place c.in-Some.task step means in
     let turns = rw c.in-Some-2.is at c.in_ok-number.ensures.turns in
-    fault_here place is steps k step f.1 c.in-Some-2.number f.0 at known f.3 (turns place step f.1 pairs f.2 means)
+    fault_here place is (actions_mean names c.args.steps.now) k step f.1 c.in-Some-2.number f.0 at known f.3 (turns place step f.1 pairs f.2 means)
 
 pub loop-place-preserved : goal.loop-place-preserved
 loop-place-preserved g c =
     let m = g.S.Symbol.means in
     let k = c.loop-place.place in
     let within : k < length c.args.steps.now = omega (arith, c.loop-place-test.true) in
-    let turns = rw c.in_default-2.is at c.in_ok-number.ensures.turns in
     let saves = rw c.in_default-2.is at c.in_ok-number.ensures.saves in
     record {
       whole = c.in_ok-number.ensures.whole;
@@ -76,7 +65,7 @@ loop-place-preserved g c =
           let at = action_at names c.args.steps.now k nowhere within in
           let means = c.in-Some.ensures.means place names all in
           let known = means_known (named_expressions m c.args.named.now) (named_frames m c.args.named.now) place c.in-Some.task step means in
-          let t = turns place step f.1 pairs f.2 means in
+          let t = (rw c.in_default-2.is at c.in_ok-number.ensures.turns) place step f.1 pairs f.2 means in
           (known_more steps k step at known f.0, t.0, t.1, follows_more place steps k step f.1 t.0 at f.3 t.2);
     }
 

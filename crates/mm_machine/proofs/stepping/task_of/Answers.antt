@@ -1,8 +1,6 @@
-use Rattle.std.proofs.Common.{◌≡◌, ℕ, List, length, get_or, sym, subst, All}
-use Rattle.std.specs.List.{AllZip}
+use Rattle.std.{proofs.{Common.{arith, ◌≡◌, ℕ, List, length, get_or, sym, subst, All}, lemmas.Grind.{elements}}, specs.List.{AllZip}}
 use Rattle.mm_machine.specs.Language.{Frame.{Symbol, Frame, Setting}, Expansion.{Step, NotKnown}, NamedSteps.{meant, IsUseWithin, MeansUse, named_expressions, named_frames}}
-use Rattle.mm_machine.specs.declared.{step.Action.{Action}, named.Use.{Use}}
-use Rattle.mm_machine.proofs.lemmas.machine.StepLemmas.{push_means, cite_means, nothing_means}
+use Rattle.mm_machine.{specs.declared.{step.Action.{Action}, named.Use.{Use}}, proofs.lemmas.machine.StepLemmas.{push_means, cite_means, nothing_means}}
 use Rattle.mm_machine.specs.declared.step.Action.TheVariants as actions
 use Rattle.mm_machine.proofs.stepping.task_of.Goals as goal
 
@@ -12,9 +10,7 @@ of_action :
     action ≡ actions.Label k → used ≡ found → read ≡ kept → AllZip (MeansUse expressions frames place) kept names →
     (AllZip (MeansUse expressions frames place) read names → MeansUse expressions frames place used (get_or names k NotKnown)) →
     MeansUse expressions frames place found (meant names action)
-of_action expressions frames place names action k used found kept read is same deref all means =
-    let all' = subst (λ us. AllZip (MeansUse expressions frames place) us names) (sym deref) all in
-    subst (λ (a : Action). MeansUse expressions frames place found (meant names a)) (sym is) (subst (λ w. MeansUse expressions frames place w (get_or names k NotKnown)) same (means all'))
+of_action expressions frames place names action k used found kept read is same deref all means = grind (arith, elements) steps 200000
 
 pub returns-in-Hypothesis-clause-means : goal.returns-in-Hypothesis-clause-means
 returns-in-Hypothesis-clause-means g c place names all =

@@ -1,6 +1,5 @@
 use Rattle.mm_frame.specs.{Language.Base.{hypothesis_at}, declared.base.Base.{Base}}
-use Rattle.mm_proof.specs.Code.KeptMarks.{OfBases, AreHypothesisMarks}
-use Rattle.mm_proof.proofs.KeptMarkLemmas.{AreSameTo}
+use Rattle.mm_proof.{specs.Code.KeptMarks.{OfBases, AreHypothesisMarks}, proofs.KeptMarkLemmas.{AreSameTo}}
 use Rattle.mm_proof.proofs.marks.are_marked.Given as goal
 
 abbrev pub invariant-loop-k : goal.invariant-loop-k

@@ -1,12 +1,10 @@
-use Rattle.std.proofs.{Common.{inl, inr, sym, ◌∙◌, ap, subst}, lemmas.Option.{none-some, same_Some}}
+use Rattle.std.proofs.{Common.{arith, inr, sym, ◌∙◌, ap, subst}, lemmas.{Grind.{common_steps}, Option.{none-some, same_Some}}}
 use Rattle.mm_frame.specs.mm_machine.Language.Frame.{Mandatory}
-use Rattle.mm_proof.specs.Code.{InStep.{MeanOne}, KeptMarks.{kept_mark}}
-use Rattle.mm_proof.proofs.InStepLemmas.{frame_kept}
+use Rattle.mm_proof.{specs.Code.{InStep.{MeanOne}, KeptMarks.{kept_mark}}, proofs.InStepLemmas.{frame_kept}}
 use Rattle.mm_proof.proofs.marks.is_alike.Goals as goal
 
 pub returns-then-mark : goal.returns-then-mark
-returns-then-mark c t kept names base copy f g is i h =
-    inl (frame_kept base copy i c.args.j (kept_mark c.args.mark) is ((is.old_is i).1 h) c.if-mark.true)
+returns-then-mark c t kept names base copy f g is i h = grind (arith, common_steps, frame_kept base copy i c.args.j (kept_mark c.args.mark) is ((is.old_is i).1 h) c.if-mark.true) steps 200000
 
 pub returns-then-mark-2 : goal.returns-then-mark-2
 returns-then-mark-2 c t kept names base copy f g is i h =

@@ -1,6 +1,5 @@
 use Rattle.std.proofs.{Common.{false, Some, refl, sym, ◌∙◌, subst, arith}, lemmas.{Bool.{false≢true}, Option.{same_Some}}}
-use Rattle.mm_proof.specs.{Language.BaseMarks.{IsMark}, Code.KeptMarks.{IsOneHypothesis}}
-use Rattle.mm_proof.proofs.KeptMarkLemmas.{nothing_kept, some_kept}
+use Rattle.mm_proof.{specs.{Language.BaseMarks.{IsMark}, Code.KeptMarks.{IsOneHypothesis}}, proofs.KeptMarkLemmas.{nothing_kept, some_kept}}
 use Rattle.mm_proof.proofs.marks.mark_of.Goals as goal
 
 pub returns-in_default-clause-mark : goal.returns-in_default-clause-mark

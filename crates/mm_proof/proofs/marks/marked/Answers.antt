@@ -1,6 +1,5 @@
-use Rattle.std.proofs.{Common.{◌≡◌, true, inl, inr, sym, ◌∙◌, subst}, lemmas.{Bool.{false≢true}, Option.{same_Some}}}
-use Rattle.mm_proof.specs.Code.InStep.{ordinal}
-use Rattle.mm_proof.proofs.InStepLemmas.{in_step_behind, in_step_labels, stepped}
+use Rattle.std.proofs.{Common.{arith, ◌≡◌, true, inl, inr, sym, ◌∙◌, subst}, lemmas.{Grind.{common_steps}, Bool.{false≢true}, Option.{same_Some}}}
+use Rattle.mm_proof.{specs.Code.InStep.{ordinal}, proofs.InStepLemmas.{in_step_behind, in_step_labels, stepped}}
 use Rattle.mm_proof.proofs.marks.marked.Goals.{then-step, else-step, then-placed, else-placed, then-placed-2, else-placed-2, then-not-alike, else-not-alike, then-alike, else-alike}
 use Rattle.mm_proof.proofs.marks.marked.Goals as goal
 
@@ -25,19 +24,10 @@ returns-clause-labels c t names base copy f g i h label unchanged = elim c.if-st
 
 -- what is listed as changed has its place, and so has what is alike
 is_placed : (c : goal.After-next_expected) → c.if-not-alike.here ≡ true → c.if-step.placed ≡ true
-is_placed c e = elim c.if-not-alike.branch [
-  | then-not-alike w ↦ elim c.if-placed-2.branch [
-    | then-placed-2 v ↦ v.if-placed-2.true
-    | else-placed-2 v ↦ absurd (false≢true (sym (v.value-is ∙ v.if-placed-2.false) ∙ w.if-not-alike.true))
-  ]
-  | else-not-alike w ↦ absurd (false≢true (sym (w.here-is ∙ w.if-not-alike.false) ∙ e))
-]
+is_placed c e = grind (arith, common_steps, then-not-alike, then-placed-2, else-placed-2, false≢true, else-not-alike) steps 200000
 
 alike_placed : (c : goal.After-next_expected) → c.if-placed.alike ≡ true → c.if-step.placed ≡ true
-alike_placed c e = elim c.if-placed.branch [
-  | then-placed w ↦ w.if-placed.true
-  | else-placed w ↦ absurd (false≢true (sym (w.alike-is ∙ w.if-placed.false) ∙ e))
-]
+alike_placed c e = grind (arith, common_steps, then-placed, else-placed, false≢true) steps 200000
 
 pub returns-clause-step : goal.returns-clause-step
 returns-clause-step c = record {

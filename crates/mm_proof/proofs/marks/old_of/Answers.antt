@@ -1,14 +1,10 @@
-use Rattle.std.proofs.Common.{sym, ◌∙◌}
+use Rattle.std.proofs.{Common.{arith, sym, ◌∙◌}, lemmas.Grind.{common_steps}}
 use Rattle.mm_frame.specs.Language.{Base.{before, said_at, is_shown_at}, Framing.{expression}}
-use Rattle.mm_proof.specs.Language.BaseMarks.{HaveOneLabel}
-use Rattle.mm_proof.proofs.KeptMarkLemmas.{shown_label, one_label, none_shown, some_shown, no_number}
+use Rattle.mm_proof.{specs.Language.BaseMarks.{HaveOneLabel}, proofs.KeptMarkLemmas.{shown_label, one_label, none_shown, some_shown, no_number}}
 use Rattle.mm_proof.proofs.marks.old_of.Goals as goal
 
 pub returns-in_err-expression : goal.returns-in_err-expression
-returns-in_err-expression c names base copy f g i =
-    let j = c.args.j in
-    no_number c.from_residual.result i (HaveOneLabel base copy i j) c.from_residual.ensures
-    (λ h. none_shown (is_shown_at copy j) (expression (before copy j) (said_at copy j)) (c.in_err-expression.ensures.symbols names copy g) h.is)
+returns-in_err-expression c names base copy f g i = grind (arith, common_steps, c.in_err-expression.ensures.symbols names copy g, no_number, none_shown) steps 200000
 
 pub returns-in_err-label : goal.returns-in_err-label
 returns-in_err-label c names base copy f g i =

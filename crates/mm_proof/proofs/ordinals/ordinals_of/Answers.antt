@@ -1,7 +1,6 @@
 use Rattle.std.proofs.Common.{◌≡◌, ◌+◌, ℕ, suc, List, length, sym, ◌∙◌, ap, subst, arith}
 use Rattle.mm_frame.specs.Language.{Base.{BaseView}, Answering.{IsBase}}
-use Rattle.mm_proof.specs.Code.InStep.{AreOrdinals}
-use Rattle.mm_proof.proofs.{InStepLemmas.{ordinals_more, ordinal_shown, ordinal_hidden}, ordinals.ordinals_of.Goals.{then-is_labelled, else-is_labelled}}
+use Rattle.mm_proof.{specs.Code.InStep.{AreOrdinals}, proofs.{InStepLemmas.{ordinals_more, ordinal_shown, ordinal_hidden}, ordinals.ordinals_of.Goals.{then-is_labelled, else-is_labelled}}}
 use Rattle.mm_proof.proofs.ordinals.ordinals_of.Goals as goal
 
 pub loop-n-preserved : goal.loop-n-preserved

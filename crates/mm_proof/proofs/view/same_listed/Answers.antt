@@ -1,6 +1,5 @@
 use Rattle.std.proofs.Common.{refl, sym}
-use Rattle.mm_proof.specs.Code.TwoTheorems.{MeansSame}
-use Rattle.mm_proof.proofs.LabelLoops.{OfListed, one_listed, one_more, not_first}
+use Rattle.mm_proof.{specs.Code.TwoTheorems.{MeansSame}, proofs.LabelLoops.{OfListed, one_listed, one_more, not_first}}
 use Rattle.mm_proof.proofs.view.same_listed.Goals as goal
 
 pub returns-then-not-same_label : goal.returns-then-not-same_label

@@ -1,5 +1,4 @@
-use Rattle.std.proofs.Common.{length}
-use Rattle.std.specs.List.{before_first}
+use Rattle.std.{proofs.Common.{length}, specs.List.{before_first}}
 use Rattle.mm_verdict.specs.Language.Decoding.{is_close}
 use Rattle.mm_proof.specs.Code.TwoTheorems.{LeavesLabels}
 use Rattle.mm_proof.proofs.view.same_listed.Given as goal

@@ -1,8 +1,7 @@
 use Rattle.std.proofs.Common.{◌≡◌, List, inl, map, sym, ap, ◌∙◌, subst}
 use Rattle.mm_keep.specs.{Language.{Refusals.{IsBatchRefusal}, Sessions.{SessionView}}, mm_store.Language.{Batches.{IsBatchOf}, FilesView.{plain}}, mm_text.Language.Asked.{Asked, asked}}
-use Rattle.mm_report.specs.Code.Answered.{Answers}
+use Rattle.mm_report.{specs.Code.Answered.{Answers}, proofs.AskedLemmas.{answered_ok, answered_stop, ran_base, ran_is}}
 use Rattle.mm_script.specs.Language.Script.{Batch, Listed}
-use Rattle.mm_report.proofs.AskedLemmas.{answered_ok, answered_stop, ran_base, ran_is}
 use Rattle.mm_report.proofs.answer.answer_batch.Goals as goal
 
 pub returns-in_err-write_labels-in-Ok : goal.returns-in_err-write_labels-in-Ok

@@ -1,6 +1,5 @@
-use Rattle.std.proofs.Common.{inl, sym, subst}
-use Rattle.mm_keep.specs.{Language.Sessions.{SessionView}, mm_text.Language.Asked.{asked}}
-use Rattle.mm_report.specs.Code.Answered.{Answers}
+use Rattle.std.proofs.{Common.{arith, inl}, lemmas.Grind.{common_steps}}
+use Rattle.mm_keep.specs.mm_text.Language.Asked.{asked}
 use Rattle.mm_script.specs.Language.Script.{Change}
 use Rattle.mm_report.proofs.AskedLemmas.{answered_ok, answered_stop, ran_base, ran_is}
 use Rattle.mm_report.proofs.answer.answer_edit.Goals as goal
@@ -26,6 +25,4 @@ returns-in_ok-write_labels-in-Ok g c =
     (inl (c.in-Ok.ensures.files, ran_is old new c.in-Ok.work changed)) out
 
 pub returns-in-Err : goal.returns-in-Err
-returns-in-Err g c =
-    subst (λ (new : SessionView). Answers g.W.Write.contents (Change (asked c.args.edit.now)) c.args.session.now new c.args.to.now c.write_refusal.new.to c.write_refusal.result)
-    (sym c.in-Err.ensures.unchanged) (c.write_refusal.ensures c.args.session.now c.in-Err.ensures.refused)
+returns-in-Err g c = grind (arith, common_steps, c.write_refusal.ensures c.args.session.now c.in-Err.ensures.refused) steps 200000

@@ -1,7 +1,6 @@
 use Rattle.std.proofs.Common.{◌≡◌, sym, ap, ◌∙◌, subst}
-use Rattle.mm_report.specs.Code.Answered.{Answers}
+use Rattle.mm_report.{specs.Code.Answered.{Answers}, proofs.AskedLemmas.{answered_stop}}
 use Rattle.mm_script.specs.Language.Script.{Command, Verdict, Axioms, Cites, Users}
-use Rattle.mm_report.proofs.AskedLemmas.{answered_stop}
 use Rattle.mm_report.proofs.answer.ask.Goals as goal
 
 pub returns-in_err-write_verdict-in-Verdict : goal.returns-in_err-write_verdict-in-Verdict

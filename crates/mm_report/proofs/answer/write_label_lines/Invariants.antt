@@ -1,5 +1,4 @@
-use Rattle.std.proofs.Common.{take}
-use Rattle.std.specs.Io.KnownBytes.{Appends}
+use Rattle.std.{proofs.Common.{take}, specs.Io.KnownBytes.{Appends}}
 use Rattle.mm_keep.specs.mm_frame.Language.Base.{BaseView, IsOfFiles}
 use Rattle.mm_script.specs.Language.Stream.{written}
 use Rattle.mm_report.proofs.LabelLemmas.{lines_of}

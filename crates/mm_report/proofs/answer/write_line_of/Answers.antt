@@ -1,3 +1,4 @@
+use Rattle.std.proofs.{Common.{arith}, lemmas.Grind.{common_steps}}
 use Rattle.mm_report.proofs.StreamLemmas.{stops_front, writes_then, writes_stop}
 use Rattle.mm_report.proofs.answer.write_line_of.Goals as goal
 
@@ -6,5 +7,4 @@ returns-in_err-write_part g c =
     writes_stop c.from_residual.ensures.0 (stops_front _ c.in_err-write_part.ensures.err)
 
 pub returns : goal.returns
-returns g c =
-    writes_then c.in_ok-write_part.ensures c.write_all.ensures.writes
+returns g c = grind (arith, common_steps, writes_then c.in_ok-write_part.ensures c.write_all.ensures.writes) steps 200000

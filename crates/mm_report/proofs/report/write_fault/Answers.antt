@@ -1,6 +1,5 @@
 use Rattle.mm_keep.specs.mm_store.Language.FilesView.{plain}
-use Rattle.mm_report.specs.Language.Report.{names_of}
-use Rattle.mm_report.proofs.{ReportLemmas.{fault_parts}, StreamLemmas.{stops_front, stops_then, writes_then, writes_stop}}
+use Rattle.mm_report.{specs.Language.Report.{names_of}, proofs.{ReportLemmas.{fault_parts}, StreamLemmas.{stops_front, stops_then, writes_then, writes_stop}}}
 use Rattle.mm_report.proofs.report.write_fault.Goals as goal
 
 pub returns-in_err-write_all : goal.returns-in_err-write_all

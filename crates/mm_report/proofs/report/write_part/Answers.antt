@@ -1,10 +1,9 @@
+use Rattle.std.proofs.{Common.{arith}, lemmas.Grind.{common_steps}}
 use Rattle.mm_report.proofs.StreamLemmas.{stops_front, writes_then, writes_stop}
 use Rattle.mm_report.proofs.report.write_part.Goals as goal
 
 pub returns-in_err-write_all : goal.returns-in_err-write_all
-returns-in_err-write_all g c =
-    writes_stop c.from_residual.ensures.0 (stops_front _ c.in_err-write_all.ensures.writes.err)
+returns-in_err-write_all g c = grind (arith, common_steps, stops_front, writes_stop) steps 200000
 
 pub returns : goal.returns
-returns g c =
-    writes_then c.in_ok-write_all.ensures.writes c.write_all-2.ensures.writes
+returns g c = grind (arith, common_steps, writes_then c.in_ok-write_all.ensures.writes c.write_all-2.ensures.writes) steps 200000

@@ -1,7 +1,7 @@
-use Rattle.std.proofs.Common.{◌≡◌, sym, ap, subst, ◌∙◌, drop, true}
+use Rattle.std.proofs.Common.{arith, ◌≡◌, sym, subst, drop, true}
 use Rattle.mm_script.specs.Language.{Commands.{pending, IsCommandIn}, Stream.{unread, written}}
-use Rattle.mm_report.specs.Code.Answered.{StopsAnswering}
-use Rattle.mm_report.proofs.{LoopLemmas.{answer_stops, done_answered, goes_on, if_err_is, next_stops, reads_on}, script.answer_next.Goals.{then-next, else-next}}
+use Rattle.mm_report.{specs.Code.Answered.{StopsAnswering}, proofs.LoopLemmas.{answer_stops, done_answered, goes_on, if_err_is, next_stops, reads_on}}
+use Rattle.mm_report.proofs.script.answer_next.Goals.{then-next, else-next}
 use Rattle.mm_report.proofs.script.answer_next.Goals as goal
 
 pub returns-in_err-next-clause-err : goal.returns-in_err-next-clause-err
@@ -46,11 +46,7 @@ returns-clause-ok g c begun all before so =
     c.args.input.now next.new.input next.ensures.reads so in
     let is = rw c.in-Some.is at c.in_ok-next.ensures.found in
     let command = subst (λ bytes. IsCommandIn bytes c.in-Some.next.found is.command) (sym c.pending.ensures) is.is_command in
-    let passed : c.in-Some.next.fed ≡ true → pending c.if-next.input ≡ drop c.in-Some.next.end (pending next.new.input) =
-    elim c.if-next.branch [
-      | then-next w ↦ λ fed. ap pending w.input-is ∙ w.pass.ensures
-      | else-next w ↦ λ fed. cc
-    ] in
+    let passed : c.in-Some.next.fed ≡ true → pending c.if-next.input ≡ drop c.in-Some.next.end (pending next.new.input) = grind (arith, then-next, else-next) steps 200000 in
     goes_on c.readings_join.ensures c.commands_leave_nothing.ensures g.R.Read.remaining g.W.Write.contents begun c.args.session.now all before
     next.new.input next.new.reading c.args.writing.now c.in-Some.next is c.answer.new.session c.answer.new.to c.if-next.input had
     (c.in_ok-answer.ensures is.command command).ok passed

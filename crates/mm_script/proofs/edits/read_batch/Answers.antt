@@ -1,7 +1,6 @@
-use Rattle.std.proofs.{Common.{◌≡◌, ◌<◌, ◌+◌, ◌++◌, ◌∷◌, [], ◌∙◌, ap, sym, subst, arith, length, length-append, true, false, rules, List}, lemmas.Bool.{not-false, not-true}}
-use Rattle.mm_script.specs.{declared.entry.EditAt.{EditAt}, Code.Batches.{IsBatchRead}, Language.Commands.{pending}}
-use Rattle.mm_script.proofs.{GrowLemmas.{grows_not, grows_then, same_error}, EditLemmas.{behind_within}}
-use Rattle.mm_script.proofs.BatchReadLemmas.{batch_begun, batch_front, batch_line_last, batch_one_more, edits_counted, fed_by}
+use Rattle.std.proofs.{lemmas.{Grind.{common_steps}, Bool.{not-false, not-true}}, Common.{◌≡◌, ◌<◌, ◌+◌, ◌++◌, ◌∷◌, [], ◌∙◌, ap, sym, subst, arith, length, length-append, false, rules, List}}
+use Rattle.mm_script.{specs.{declared.entry.EditAt.{EditAt}, Code.Batches.{IsBatchRead}, Language.Commands.{pending}}, proofs.GrowLemmas.{grows_not, grows_then, same_error}}
+use Rattle.mm_script.proofs.{EditLemmas.{behind_within}, BatchReadLemmas.{batch_begun, batch_front, batch_line_last, batch_one_more, edits_counted, fed_by}}
 use Rattle.mm_script.proofs.edits.read_batch.Goals.{else-not-line-via-then-not-line+else-count-gt0, else-not-line-via-else-not-line}
 use Rattle.mm_script.proofs.edits.read_batch.Goals as goal
 
@@ -11,10 +10,7 @@ returns-then-count-gt0-clause-cut g c = λ cut.
 
 pub loop-input-init : goal.loop-input-init
 loop-input-init g c =
-    let none : c.args.line.fed ≡ false → 0 ≡ c.args.count = λ e. elim c.else-not-line.branch [
-      | else-not-line-via-then-not-line+else-count-gt0 w ↦ omega arith
-      | else-not-line-via-else-not-line w ↦ let fed : c.args.line.fed ≡ true = not-false _ w.if-not-line.false in absurd (cc)
-    ] in
+    let none : c.args.line.fed ≡ false → 0 ≡ c.args.count = grind (arith, common_steps, else-not-line-via-then-not-line+else-count-gt0, else-not-line-via-else-not-line, not-false) steps 200000 in
     let long = behind_within (pending c.args.input.now) _ c.args.line c.behind-end.result c.requires.line c.behind-end.ensures.fed c.behind-end.ensures.unfed in
     let begun = batch_begun c.args.input.now _ c.args.line c.args.count c.behind-end.result c.requires.line c.requires.start c.requires.number c.requires.says c.behind-end.ensures.fed c.behind-end.ensures.unfed long.0 none in
     record {

@@ -1,8 +1,7 @@
 use Rattle.std.proofs.{Common.{◌+◌, ◌∷◌, [], ◌∙◌, ap, arith, sym, subst, inl, inr, refl, rules, ℕ, List, codes, decimal}, lemmas.{Bool.{not-false, not-true}, Grind.{common_steps}}}
 use Rattle.std.specs.List.{join_with_byte}
 use Rattle.mm_text.specs.Language.Asked.{Asked}
-use Rattle.mm_script.specs.{Code.{Growing.{line_bytes}, Lines.{SaysEdit}}, Language.{Commands.{pending, bytes_of_part}, Script.{IsName}}}
-use Rattle.mm_script.proofs.GrowLemmas.{few_pending, same_error}
+use Rattle.mm_script.{specs.{Code.{Growing.{line_bytes}, Lines.{SaysEdit}}, Language.{Commands.{pending, bytes_of_part}, Script.{IsName}}}, proofs.GrowLemmas.{few_pending, same_error}}
 use Rattle.mm_script.proofs.EditLemmas.{AsksText, IsShifted, asks_insert, asks_replace, behind_within, bytes_grown, fed_line, plain_read, shifted_is, shifted_within, text_bad, text_line, text_read}
 use Rattle.mm_script.proofs.EditLemmas.{text_short, unfed_line, within_grown}
 use Rattle.mm_text.specs.Language.Asked as ask
@@ -100,11 +99,10 @@ returns-in_ok-text-in-Replace-clause-edit g c =
     let name = shifted_is (pending c.args.input.now) _ c.args.line c.in-Replace.file file c.requires.line says.good.0.within shifted in
     let inside = shifted_within (pending c.args.input.now) _ c.args.line c.in-Replace.file file c.requires.line says.good.0.within shifted in
     let grows = c.in_ok-text-in-Replace.ensures.grows in
-    let later = bytes_grown c.args.input.now c.read_text-in-Replace.new.input _ _ file grows inside in
     let text = c.in_ok-text-in-Replace.text in
     text_read c.args.input.now c.read_text-in-Replace.new.input _ _ c.args.line c.in-Replace.count edit text (found.Replace file c.in-Replace.at text) asks c.requires.line grows (not-false _ c.if-not-line-2.false)
     c.in_ok-text-in-Replace.ensures.within.0 c.in_ok-text-in-Replace.ensures.within.1 c.in_ok-text-in-Replace.ensures.within.2 c.in_ok-text-in-Replace.ensures.feed
-    (ap (λ xs. ask.Replace xs c.in-Replace.at (bytes_of_part (pending c.read_text-in-Replace.new.input) text)) (later ∙ name)) (
+    (ap (λ xs. ask.Replace xs c.in-Replace.at (bytes_of_part (pending c.read_text-in-Replace.new.input) text)) (bytes_grown c.args.input.now c.read_text-in-Replace.new.input _ _ file grows inside ∙ name)) (
       within_grown c.args.input.now c.read_text-in-Replace.new.input _ _ file
           grows inside,
       c.in_ok-text-in-Replace.ensures.within.0,

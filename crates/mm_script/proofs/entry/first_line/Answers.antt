@@ -1,6 +1,5 @@
-use Rattle.std.proofs.{Common.{◌≡◌, ◌≤◌, ◌∷◌, ◌∙◌, ap, sym, arith, length, drop}, lemmas.Bool.{not-false}}
-use Rattle.mm_script.specs.Language.Commands.{pending}
-use Rattle.mm_script.proofs.GrowLemmas.{blank_line, reads_not, reads_pass, reads_then}
+use Rattle.std.proofs.{Common.{◌≡◌, ◌∷◌, ◌∙◌, ap, sym, arith, length}, lemmas.Bool.{not-false}}
+use Rattle.mm_script.{specs.Language.Commands.{pending}, proofs.GrowLemmas.{blank_line, reads_not, reads_pass, reads_then}}
 use Rattle.mm_script.proofs.entry.first_line.Goals as goal
 
 pub loop-line-init : goal.loop-line-init
@@ -15,10 +14,8 @@ returns-then-line-gt0-clause-reads g c = reads_then _ _ _ _ _ _ c.loop-line.inva
 pub loop-line-preserved : goal.loop-line-preserved
 loop-line-preserved g c =
     let start : c.in_ok-line.line.start ≡ 0 = c.in_ok-line.ensures.start in
-    let empty : c.in_ok-line.line.end ≤ c.in_ok-line.line.start = omega arith in
-    let here = blank_line (pending c.read_line.new.input) _ c.in_ok-line.line c.in_ok-line.ensures.line (not-false _ c.if-not-line.false) empty in
-    let first : pending c.read_line.new.input ≡ 10 ∷ drop 1 (pending c.read_line.new.input) = rw start at here in
-    let passed : pending c.read_line.new.input ≡ 10 ∷ pending c.pass.new.self = first ∙ ap (λ xs. 10 ∷ xs) (sym c.pass.ensures) in
+    let here = blank_line (pending c.read_line.new.input) _ c.in_ok-line.line c.in_ok-line.ensures.line (not-false _ c.if-not-line.false) (omega arith) in
+    let passed : pending c.read_line.new.input ≡ 10 ∷ pending c.pass.new.self = (rw start at here) ∙ ap (λ xs. 10 ∷ xs) (sym c.pass.ensures) in
     record {
       reads = reads_pass _ _ _ _ _ (reads_then _ _ _ _ _ _ c.loop-line.invariant.reads c.in_ok-line.ensures.grows) passed;
       fewer = omega (arith, c.in_ok-line.ensures.fewer, ap length passed);

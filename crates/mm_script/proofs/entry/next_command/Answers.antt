@@ -1,10 +1,9 @@
-use Rattle.mm_script.specs.Language.Commands.{pending}
+use Rattle.std.proofs.{Common.{arith}, lemmas.Grind.{common_steps}}
 use Rattle.mm_script.proofs.{GrowLemmas.{reads_then, same_error}, StopLemmas.{no_feed}}
 use Rattle.mm_script.proofs.entry.next_command.Goals as goal
 
 pub returns-in_err-line-clause-read : goal.returns-in_err-line-clause-read
-returns-in_err-line-clause-read g c = λ stop.
-    no_feed (pending c.first_line.new.input) (c.in_err-line.ensures.read (same_error c.from_residual.result c.in_err-line.field-0.0 _ c.from_residual.ensures.1 stop))
+returns-in_err-line-clause-read g c = grind (arith, common_steps, c.in_err-line.ensures.read, no_feed, same_error) steps 200000
 
 pub returns-in_err-read_command-clause-reads : goal.returns-in_err-read_command-clause-reads
 returns-in_err-read_command-clause-reads g c = reads_then _ _ _ _ _ _ c.in_ok-line.ensures.reads c.in_err-read_command.ensures.grows

@@ -1,13 +1,12 @@
-use Rattle.std.proofs.Common.{◌≡◌, ◌<◌, ◌∙◌, ap, sym, subst, arith, refl, List, ℕ, codes, slice_range}
+use Rattle.std.proofs.{lemmas.Grind.{common_steps}, Common.{◌≡◌, ◌<◌, ◌∙◌, ap, sym, subst, arith, refl, List, ℕ, codes, slice_range}}
 use Rattle.mm_script.specs.{declared.{line.CommandLine.{CommandLine}, script_lines.LineAt.{LineAt}}, Code.{Growing.{line_bytes}, Lines.{SaysLine}, Stops.{IsBadLine}}}
-use Rattle.mm_script.specs.Language.{Commands.{pending, bytes_of_part, IsCommandIn}, Script.{Report, Verdict, Axioms, Cites, Users}}
-use Rattle.mm_script.proofs.{BatchLemmas.{line_some}, GrowLemmas.{same_error}, CommandLemmas.{bad_first, bad_edit, cut_edit, held_edit, batch_next, label_next, line_next}}
+use Rattle.mm_script.{specs.Language.{Commands.{pending, bytes_of_part, IsCommandIn}, Script.{Report, Verdict, Axioms, Cites, Users}}, proofs.{BatchLemmas.{line_some}, GrowLemmas.{same_error}}}
+use Rattle.mm_script.proofs.CommandLemmas.{bad_first, bad_edit, cut_edit, held_edit, batch_next, label_next, line_next}
 use Rattle.mm_script.proofs.entry.read_command.Goals as goal
 
 -- what the bytes of a line say is what was found in them
 said_line : (seen bytes : List ℕ) (line : LineAt) (found is : CommandLine) → seen ≡ bytes → SaysLine (slice_range seen line.start line.end) found → found ≡ is → SaysLine (line_bytes bytes line) is
-said_line seen bytes line found is same says e =
-    subst (λ (xs : List ℕ). SaysLine (slice_range xs line.start line.end) is) same (subst (SaysLine (slice_range seen line.start line.end)) e says)
+said_line seen bytes line found is same says e = grind (arith, common_steps) steps 200000
 
 pub returns-in_default-clause-bad : goal.returns-in_default-clause-bad
 returns-in_default-clause-bad g c = λ cut.

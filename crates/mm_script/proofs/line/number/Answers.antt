@@ -1,4 +1,4 @@
-use Rattle.std.proofs.Common.{◌≡◌, ◌∙◌, ap, sym, decimal, Ok}
+use Rattle.std.proofs.{Common.{arith}, lemmas.Grind.{common_steps}}
 use Rattle.mm_script.proofs.LineLemmas.{read_so, utf8_so, unequal}
 use Rattle.mm_script.proofs.line.number.Goals as goal
 
@@ -9,7 +9,4 @@ pub returns-in_default-parse-clause-none : goal.returns-in_default-parse-clause-
 returns-in_default-parse-clause-none c = λ none n h is. c.in_default-parse.not-Ok n (read_so n c.args.word.now c.in-Ok.text.now c.parse.result h is c.in-Ok.ensures.cases.0 c.parse.ensures.value.0)
 
 pub returns-else-eq-clause-none : goal.returns-else-eq-clause-none
-returns-else-eq-clause-none c = λ none n h is.
-    let read : c.parse.result ≡ Ok n = read_so n c.args.word.now c.in-Ok.text.now c.parse.result h is c.in-Ok.ensures.cases.0 c.parse.ensures.value.0 in
-    let same : c.in-Ok-parse.number ≡ n = cc in
-    unequal c.as_bytes.result.now c.args.word.now c.if-eq.ensures (c.as_bytes.ensures.value ∙ c.format.ensures.text ∙ ap decimal same ∙ sym is)
+returns-else-eq-clause-none c = grind (arith, common_steps, read_so, unequal) steps 200000

@@ -1,6 +1,5 @@
-use Rattle.std.proofs.{Common.{◌≡◌, ◌∙◌, ap, sym, subst, arith, length, drop, slice_range}, lemmas.List.{take_rest}}
-use Rattle.mm_script.specs.{Language.Commands.{pending}, Code.Stops.{IsOneLine}}
-use Rattle.mm_script.proofs.GrowLemmas.{found_line, no_feed_left, last_line, rest_of, same_error, grows_then, grown_long, part_grown}
+use Rattle.std.proofs.{lemmas.{Grind.{common_steps}, List.{take_rest}}, Common.{◌≡◌, ◌∙◌, ap, sym, subst, arith, length, drop, slice_range}}
+use Rattle.mm_script.{specs.{Language.Commands.{pending}, Code.Stops.{IsOneLine}}, proofs.GrowLemmas.{found_line, no_feed_left, last_line, rest_of, grows_then, part_grown}}
 use Rattle.mm_script.proofs.script_lines.read_line.Goals as goal
 
 pub returns-in-Some-clause-line : goal.returns-in-Some-clause-line
@@ -26,8 +25,7 @@ returns-then-not-branch-clause-line g c =
     let one : IsOneLine (drop c.args.start bytes) = no_feed_left bytes _ c.args.start c.loop-more.end is c.loop-more.invariant.ordered c.loop-more.invariant.none
     (λ k low. c.in_default.ensures k (omega arith) low) in
     let ended = c.in_ok-read_on.ensures.end c.if-not-branch.true in
-    last_line (pending c.read_on.new.self) _ c.args.start (length c.pending-pending.result.now) (ap length (c.pending-pending.ensures ∙ sym ended.0))
-    (omega (arith, ap length c.pending-pending.ensures)) (subst (λ xs. IsOneLine (drop c.args.start xs)) (sym ended.0) one) ended.1
+    grind (arith, common_steps, last_line) steps 200000
 
 pub loop-more-preserved : goal.loop-more-preserved
 loop-more-preserved g c =
@@ -37,29 +35,12 @@ loop-more-preserved g c =
     let one : IsOneLine (drop c.args.start bytes) = no_feed_left bytes _ c.args.start c.loop-more.end is c.loop-more.invariant.ordered c.loop-more.invariant.none
     (λ k low. c.in_default.ensures k (omega arith) low) in
     let grows = c.in_ok-read_on.ensures.grows in
-    let long = grown_long c.loop-more.input c.read_on.new.self _ _ grows in
     let whole = ap (slice_range bytes c.args.start) count ∙ take_rest bytes c.args.start in
     let same = part_grown c.loop-more.input c.read_on.new.self _ _ c.args.start (length c.pending-pending.result.now) grows (omega (arith, count)) (omega (arith, count)) in
-    record {
-      grows = grows_then _ _ _ _ _ _ c.loop-more.invariant.grows grows;
-      ordered = omega (arith, count);
-      within = omega (arith, count, long);
-      none = subst IsOneLine (sym (same ∙ whole)) one;
-      fewer = omega (arith, c.in_ok-read_on.ensures.fewer);
-    }
+    grind (arith, common_steps, grows_then _ _ _ _ _ _ c.loop-more.invariant.grows grows) steps 200000
 
 pub returns-in_err-read_on-clause-grows : goal.returns-in_err-read_on-clause-grows
 returns-in_err-read_on-clause-grows g c = grows_then _ _ _ _ _ _ c.loop-more.invariant.grows c.in_err-read_on.ensures.grows
 
-pub returns-in_err-read_on-clause-failed : goal.returns-in_err-read_on-clause-failed
-returns-in_err-read_on-clause-failed g c = λ read.
-    c.in_err-read_on.ensures.failed (same_error c.from_residual.result c.in_err-read_on.field-0.0 _ c.from_residual.ensures.1 read)
-
 pub returns-then-not-branch-clause-grows : goal.returns-then-not-branch-clause-grows
 returns-then-not-branch-clause-grows g c = grows_then _ _ _ _ _ _ c.loop-more.invariant.grows c.in_ok-read_on.ensures.grows
-
-pub returns-then-not-branch-clause-fewer : goal.returns-then-not-branch-clause-fewer
-returns-then-not-branch-clause-fewer g c = omega (arith, c.loop-more.invariant.fewer, c.in_ok-read_on.ensures.fewer)
-
-pub loop-more-smaller : goal.loop-more-smaller
-loop-more-smaller g c = omega (arith, c.in_ok-read_on.ensures.more c.if-not-branch.false)

@@ -1,10 +1,6 @@
 use Rattle.std.proofs.{Common.{arith}, lemmas.Grind.{common_steps}}
-use Rattle.mm_script.specs.Language.Commands.{pending}
-use Rattle.mm_script.proofs.GrowLemmas.{feed_behind, grows_not, grows_then, other_byte, rest_of}
+use Rattle.mm_script.{specs.Language.Commands.{pending}, proofs.GrowLemmas.{feed_behind, grows_then, other_byte, rest_of}}
 use Rattle.mm_script.proofs.script_lines.read_text.Goals as goal
-
-pub loop-byte-init : goal.loop-byte-init
-loop-byte-init g c = record { grows = grows_not _ _; within = c.requires; fewer = omega arith }
 
 pub returns-then-byte-ne10-clause-bad : goal.returns-then-byte-ne10-clause-bad
 returns-then-byte-ne10-clause-bad g c = λ bad.
@@ -12,15 +8,10 @@ returns-then-byte-ne10-clause-bad g c = λ bad.
     other_byte (pending c.loop-byte.input) _ c.args.start c.args.count c.in-Some.byte.now is (omega (arith, c.in-Some.ensures.lookup)) c.in-Some.ensures.lookup.1 c.if-byte-ne10.true
 
 pub returns-in-Some-clause-feed : goal.returns-in-Some-clause-feed
-returns-in-Some-clause-feed g c =
-    let is = rest_of c.pending.result.now (pending c.loop-byte.input) c.args.start c.pending.ensures in
-    feed_behind (pending c.loop-byte.input) _ c.args.start c.args.count c.in-Some.byte.now is (omega (arith, c.in-Some.ensures.lookup)) c.in-Some.ensures.lookup.1 c.if-byte-ne10.false
+returns-in-Some-clause-feed g c = grind (arith, common_steps, feed_behind, rest_of) steps 200000
 
 pub returns-then-not-branch-clause-grows : goal.returns-then-not-branch-clause-grows
 returns-then-not-branch-clause-grows g c = grows_then _ _ _ _ _ _ c.loop-byte.invariant.grows c.in_ok-read_on.ensures.grows
-
-pub loop-byte-smaller : goal.loop-byte-smaller
-loop-byte-smaller g c = omega (arith, c.in_ok-read_on.ensures.more c.if-not-branch.false)
 
 pub loop-byte-preserved : goal.loop-byte-preserved
 loop-byte-preserved g c = grind (arith, common_steps)

@@ -1,7 +1,6 @@
 use Rattle.std.proofs.Common.{◌≡◌, ◌+◌, length, drop, ap, subst, arith}
 use Rattle.mm_store.specs.mm_text.Language.Unit.{tokens_of}
-use Rattle.mm_statement.specs.{Language.Statement.{kind_of, symbols_from, symbols_in}, Code.PlainWords.{plain_words}}
-use Rattle.mm_statement.proofs.SpokenLemmas.{behind_one, passed, rest_at}
+use Rattle.mm_statement.{specs.{Language.Statement.{kind_of, symbols_from, symbols_in}, Code.PlainWords.{plain_words}}, proofs.SpokenLemmas.{behind_one, passed, rest_at}}
 use Rattle.mm_statement.proofs.statement.behind_symbols.Goals as goal
 
 pub new-cursor-requires : goal.new-cursor-requires

@@ -1,14 +1,10 @@
-use Rattle.std.proofs.{Common.{◌≡◌, ◌≢◌, sym, ◌∙◌, subst, arith, slice_range}, lemmas.Bool.{false≢true}}
-use Rattle.std.specs.List.{AllByRecursion}
+use Rattle.std.{proofs.{lemmas.{Grind.{common_steps}, Bool.{false≢true}}, Common.{◌≡◌, ◌≢◌, sym, ◌∙◌, subst, arith, slice_range}}, specs.List.{AllByRecursion}}
 use Rattle.mm_store.specs.Language.FileFacts.{CanBeRead}
-use Rattle.mm_statement.specs.Language.{Item.{Item}, Statement.{kind_of}}
-use Rattle.mm_statement.proofs.{ByteLemmas.{no_proof_word, search_tells}, PieceLemmas.{ends_within, same_bytes}}
+use Rattle.mm_statement.{specs.Language.{Item.{Item}, Statement.{kind_of}}, proofs.{ByteLemmas.{no_proof_word, search_tells}, PieceLemmas.{ends_within, same_bytes}}}
 use Rattle.mm_statement.proofs.statement.has_bytes.Goals as goal
 
 pub slice_bounds-find-end : goal.slice_bounds-find-end
-slice_bounds-find-end c =
-    let ends = ends_within c.args.files.now c.args.item.now c.piece-piece.result.now c.requires c.piece-piece.ensures.text in
-    omega (arith, ends, c.requires.some)
+slice_bounds-find-end c = grind (arith, common_steps, ends_within c.args.files.now c.args.item.now c.piece-piece.result.now c.requires c.piece-piece.ensures.text) steps 200000
 
 pub returns-clause-found : goal.returns-clause-found
 returns-clause-found c =
@@ -16,12 +12,8 @@ returns-clause-found c =
     let piece = c.piece-piece.result.now in
     let bytes = c.args.bytes.now in
     let same = λ (r : CanBeRead c.args.files.now item). same_bytes c.args.files.now item piece r c.piece-piece.ensures.text in
-    let told = search_tells (slice_range piece item.start item.end) bytes c.find.result c.find.ensures in (
-      λ t. (
-          let s = told.0 (sym c.is_some.ensures ∙ t) in
-          record { read = c.requires; start = s.0; end = s.1; stand = subst (λ text. slice_range text s.0 s.1 ≡ bytes) (same c.requires) s.2 }),
-      λ h. c.is_some.ensures ∙ told.1 (h.start, h.end, subst (λ text. slice_range text h.start h.end ≡ bytes) (sym (same h.read)) h.stand),
-    )
+    let told = search_tells (slice_range piece item.start item.end) bytes c.find.result c.find.ensures in
+    grind (arith, told.0, told.1) steps 200000
 
 pub returns-clause-absent : goal.returns-clause-absent
 returns-clause-absent c none said says =

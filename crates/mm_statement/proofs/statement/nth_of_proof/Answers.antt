@@ -1,11 +1,9 @@
-use Rattle.std.proofs.Common.{◌≡◌, refl, ◌∙◌, ap, drop, arith}
+use Rattle.std.proofs.{lemmas.Grind.{common_steps}, Common.{◌≡◌, refl, ◌∙◌, ap, drop, arith}}
 use Rattle.mm_statement.proofs.{PieceLemmas.{has_words, ends_within}, NthOfProof.{left_more, left_next, left_none, nth_said}}
 use Rattle.mm_statement.proofs.statement.nth_of_proof.Goals as goal
 
 pub slice_bounds-text-end : goal.slice_bounds-text-end
-slice_bounds-text-end c =
-    let ends = ends_within c.args.files.now c.args.item.now c.piece-bytes.result.now c.requires c.piece-bytes.ensures.text in
-    omega (arith, ends, c.requires.some)
+slice_bounds-text-end c = grind (arith, common_steps, ends_within c.args.files.now c.args.item.now c.piece-bytes.result.now c.requires c.piece-bytes.ensures.text) steps 200000
 
 pub behind_symbols-words-requires : goal.behind_symbols-words-requires
 behind_symbols-words-requires c = (c.requires.words, has_words c.args.files.now c.args.item.now c.piece-bytes.result.now c.requires c.piece-bytes.ensures.text, c.requires.some_word)

@@ -1,7 +1,6 @@
 use Rattle.std.proofs.{Common.{sym, ◌∙◌, subst, arith, All}, lemmas.List.Elements.{All-push}}
 use Rattle.mm_store.specs.mm_text.Language.Reading.{LiesIn}
-use Rattle.mm_statement.specs.Code.PlainWords.{LiesInText}
-use Rattle.mm_statement.proofs.SpokenLemmas.{Symbols, symbols_more, symbols_closed}
+use Rattle.mm_statement.{specs.Code.PlainWords.{LiesInText}, proofs.SpokenLemmas.{Symbols, symbols_more, symbols_closed}}
 use Rattle.mm_statement.proofs.statement.read_symbols.Goals as goal
 
 pub returns-then-not-is_plain-clause-rest : goal.returns-then-not-is_plain-clause-rest

@@ -1,6 +1,5 @@
 use Rattle.std.proofs.Common.{◌≡◌, length, All}
-use Rattle.mm_statement.specs.Code.PlainWords.{LiesInText}
-use Rattle.mm_statement.proofs.SpokenLemmas.{Symbols}
+use Rattle.mm_statement.{specs.Code.PlainWords.{LiesInText}, proofs.SpokenLemmas.{Symbols}}
 use Rattle.mm_statement.proofs.statement.read_symbols.Given as goal
 
 abbrev pub invariant-loop-word : goal.invariant-loop-word

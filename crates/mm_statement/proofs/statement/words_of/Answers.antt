@@ -1,11 +1,9 @@
-use Rattle.std.proofs.Common.{◌-◌, drop, arith, length-take, length-drop}
+use Rattle.std.proofs.{lemmas.Grind.{common_steps}, Common.{◌-◌, drop, arith, length-take, length-drop}}
 use Rattle.mm_statement.proofs.PieceLemmas.{has_words, ends_within, has_one, same_item, said_is}
 use Rattle.mm_statement.proofs.statement.words_of.Goals as goal
 
 pub slice_bounds-text-end : goal.slice_bounds-text-end
-slice_bounds-text-end c =
-    let ends = ends_within c.args.files.now c.args.item.now c.piece.result.now c.requires c.piece.ensures.text in
-    omega (arith, ends, c.requires.some)
+slice_bounds-text-end c = grind (arith, common_steps, ends_within c.args.files.now c.args.item.now c.piece.result.now c.requires c.piece.ensures.text) steps 200000
 
 pub new-requires : goal.new-requires
 new-requires c = (c.requires.words, has_words c.args.files.now c.args.item.now c.piece.result.now c.requires c.piece.ensures.text)

@@ -1,7 +1,6 @@
-use Rattle.std.proofs.{Common.{◌≡◌, List, ◌∙◌, sym, ap, subst, get_or, All}, lemmas.{Bool.{false≢true}, Option.{slice_get-get_or, get_or_from_slice_get}}}
+use Rattle.std.proofs.{Common.{arith, ◌≡◌, List, ◌∙◌, sym, ap, subst, get_or, All}, lemmas.{Grind.{common_steps}, Bool.{false≢true}, Option.{slice_get-get_or, get_or_from_slice_get}}}
 use Rattle.mm_text.specs.{declared.{part.Part.{Part}, word.Word.{Word}}, Language.{Reading.{HasWords}, Part.{IsReadable, part_bytes}}}
-use Rattle.mm_store.specs.Language.FileFacts.{second_word}
-use Rattle.mm_store.proofs.lemmas.expansion.IncludeLemmas.{nothing_there, included_there, units, no_first, some_first}
+use Rattle.mm_store.{specs.Language.FileFacts.{second_word}, proofs.lemmas.expansion.IncludeLemmas.{nothing_there, included_there, units, no_first, some_first}}
 use Rattle.mm_store.proofs.expanding.included_name.Goals as goal
 
 pub returns-then-is_empty-clause-none : goal.returns-then-is_empty-clause-none
@@ -19,9 +18,7 @@ pub named-requires : goal.named-requires
 named-requires c =
     let unit = c.requires.unit in
     let has = units c.args.text.now c.args.parts.now unit c.requires.divided 0 0 (record { at = 0 }) in
-    subst (IsReadable c.args.text.now) (sym (c.part-part.ensures ∙ c.index-parts-0.is))
-    (subst (All (IsReadable c.args.text.now)) (sym (c.requires.divided unit.units has)) (c.parts_are_texts.ensures c.args.text.now unit.units has) 0 _
-    (some_first c.args.parts.now (sym c.is_empty.ensures ∙ c.if-is_empty.false)))
+    grind (arith, common_steps, c.requires.divided unit.units has, c.parts_are_texts.ensures c.args.text.now unit.units has, some_first c.args.parts.now (sym c.is_empty.ensures ∙ c.if-is_empty.false)) steps 200000
 
 pub returns-clause-some : goal.returns-clause-some
 returns-clause-some c file number key =

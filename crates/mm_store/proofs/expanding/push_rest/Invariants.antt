@@ -1,6 +1,5 @@
 use Rattle.std.proofs.Common.{ℕ, List}
-use Rattle.mm_store.specs.Language.{FilesView.{files_in}, Walking.{IsWalk}}
-use Rattle.mm_store.proofs.lemmas.expansion.TurnLemmas.{turns}
+use Rattle.mm_store.{specs.Language.{FilesView.{files_in}, Walking.{IsWalk}}, proofs.lemmas.expansion.TurnLemmas.{turns}}
 use Rattle.mm_store.proofs.expanding.push_rest.Given as goal
 
 abbrev pub invariant-loop-spot : goal.invariant-loop-spot

@@ -1,5 +1,4 @@
-use Rattle.std.proofs.Common.{◌≡◌, ℕ, ◌<◌, length, map, take, get_or}
-use Rattle.std.specs.List.{concat}
+use Rattle.std.{proofs.Common.{◌≡◌, ℕ, ◌<◌, length, map, take, get_or}, specs.List.{concat}}
 use Rattle.mm_store.specs.{declared.start.Start.{Start}, Code.Lines.{IsStart}}
 use Rattle.mm_store.proofs.file_text.starts.Given as goal
 

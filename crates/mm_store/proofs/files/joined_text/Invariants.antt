@@ -1,5 +1,4 @@
-use Rattle.std.proofs.Common.{◌≡◌, ◌++◌, map, All, IsSome}
-use Rattle.std.specs.{List.{concat}, VecDeque.Iter.{deque_iter_rest}}
+use Rattle.std.{proofs.Common.{◌≡◌, ◌++◌, map, All, IsSome}, specs.{List.{concat}, VecDeque.Iter.{deque_iter_rest}}}
 use Rattle.mm_store.specs.Language.Pieces.{text_under}
 use Rattle.std.specs.FinMap as finite
 use Rattle.mm_store.proofs.files.joined_text.Given as goal

@@ -1,5 +1,4 @@
-use Rattle.mm_store.specs.Language.FilesView.{files_in}
-use Rattle.mm_store.proofs.lemmas.{expansion.HavingLemmas.{expanded}, edits.HoldingLemmas.{units_held}}
+use Rattle.mm_store.{specs.Language.FilesView.{files_in}, proofs.lemmas.{expansion.HavingLemmas.{expanded}, edits.HoldingLemmas.{units_held}}}
 use Rattle.mm_store.proofs.laws.has_expansion.Goals as goal
 
 pub returns : goal.returns

@@ -1,6 +1,6 @@
 use Rattle.std.proofs.{Common.{◌∙◌, sym, ap, subst, [], ◌∷◌, Contains, map}, lemmas.List.{map-append}}
-use Rattle.mm_store.specs.Language.{FilesView.{plain}, Keyless.{bare, bare_file, keyless_item}, Walking.{IsWalk}}
-use Rattle.mm_store.proofs.lemmas.{expansion.{ExpansionLemmas.{expansion_one}, KeylessLemmas.{expansion_bare}}, files.GrowthLemmas.{walk_kept}}
+use Rattle.mm_store.{specs.Language.{FilesView.{plain}, Keyless.{bare, bare_file, keyless_item}, Walking.{IsWalk}}, proofs.lemmas.expansion.ExpansionLemmas.{expansion_one}}
+use Rattle.mm_store.proofs.lemmas.{expansion.KeylessLemmas.{expansion_bare}, files.GrowthLemmas.{walk_kept}}
 use Rattle.mm_store.proofs.laws.walks_go_on.Goals as goal
 
 pub returns : goal.returns

@@ -1,41 +1,22 @@
 -- Each edit is accepted, or refused for one reason.
-use Rattle.std.proofs.lemmas.{Bool.{cases_eq, Decides.{nat_tests}}, Option.{slice_get-get_or, cond_some}}
-use Rattle.std.proofs.Common.{◌≡◌, ◌≢◌, ◌⊎◌, inl, inr, ℕ, ◌-◌, ◌<◌, ◌≤◌, nat_lt, List, [], Option, Some, None, length, get_or, refl, arith, slice_get}
-use Rattle.std.specs.{List.{position_or_len}, Str.{bytes_eq}}
+use Rattle.std.proofs.{Common.{rules, ◌≡◌, ◌≢◌, ◌⊎◌, inl, inr, ℕ, ◌-◌, ◌<◌, ◌≤◌, List, [], Option, Some, None, length, get_or, refl, arith, slice_get}, lemmas.{Grind.{common_steps}, Bool.{cases_eq}}}
+use Rattle.std.proofs.lemmas.{Bool.Decides.{nat_tests}, Option.{slice_get-get_or, cond_some}}
 use Rattle.mm_text.specs.{declared.fault.TextFault.{TextFault}, Language.{Cut.{IsCut, IsFirstFault}, Asked.{Asked, Insert, Replace, Delete, Move, edited_name, edited_text, IsAmong}}}
-use Rattle.mm_store.specs.declared.edit.EditError.{EditError}
-use Rattle.mm_store.specs.Language.{FilesView.{File, file_number, bytes_of}, Edits.{IsEditedFile, IsPlaced, BringsOneUnit, BringsFault, BringsNotOne, IsEditOf, after_edit}, Answers.{IsEditError}}
+use Rattle.mm_store.specs.{declared.edit.EditError.{EditError}, Language.FilesView.{File, file_number, bytes_of}}
+use Rattle.mm_store.specs.Language.{Edits.{IsEditedFile, IsPlaced, BringsOneUnit, BringsFault, BringsNotOne, IsEditOf, after_edit}, Answers.{IsEditError}}
 use Rattle.mm_store.specs.declared.edit.EditError.TheVariants as edits
 
 abbrev pub SomeCut : Type 0
 SomeCut = (text : List ℕ) → ((pieces : List (List ℕ)) × (tail : List ℕ) × IsCut text pieces tail) ⊎ ((fault : TextFault) × IsFirstFault text fault)
 
 le_or : (m n : ℕ) → (m ≤ n) ⊎ (n < m)
-le_or m n = elim (cases_eq (m - n) 0) [
-  | inl none ↦ inl (omega (arith, none))
-  | inr more ↦ inr (omega (arith, more))
-]
+le_or m n = grind (arith, common_steps, cases_eq (m - n) 0) steps 200000
 
 is_among : (edit : Asked) (count : ℕ) → IsAmong edit count ⊎ (¬ IsAmong edit count)
-is_among (Insert file at text) count = elim (le_or at count) [
-  | inl le ↦ inl le
-  | inr gt ↦ inr (λ le. omega arith)
-]
-is_among (Replace file at text) count = elim (le_or count at) [
-  | inl le ↦ inr (λ lt. omega arith)
-  | inr gt ↦ inl gt
-]
-is_among (Delete file at) count = elim (le_or count at) [
-  | inl le ↦ inr (λ lt. omega arith)
-  | inr gt ↦ inl gt
-]
-is_among (Move file at to) count = elim (le_or count at) [
-  | inl le ↦ inr (λ both. (omega arith))
-  | inr gt ↦ elim (le_or count to) [
-    | inl le ↦ inr (λ both. (omega arith))
-    | inr also ↦ inl (gt, also)
-  ]
-]
+is_among (Insert file at text) count = grind (arith, common_steps, le_or at count) steps 200000
+is_among (Replace file at text) count = grind (arith, common_steps, le_or count at) steps 200000
+is_among (Delete file at) count = grind (arith, common_steps, le_or count at) steps 200000
+is_among (Move file at to) count = grind (arith, common_steps, le_or count at, le_or count to) steps 200000
 
 text_is : SomeCut → (brought : Option (List ℕ)) → BringsOneUnit brought ⊎ (((fault : TextFault) × BringsFault brought fault) ⊎ ((count : ℕ) × BringsNotOne brought count))
 text_is some None = inl tt
@@ -51,21 +32,14 @@ abbrev no_file : File
 no_file = record { name = []; pieces = []; tail = [] }
 
 number_there : (files : List File) (name : List ℕ) (n : ℕ) → file_number files name ≡ Some n → slice_get files n ≡ Some (get_or files n no_file)
-number_there files name n at =
-    let first = position_or_len (λ (file : File). bytes_eq name file.name) files in
-    let s = cond_some (nat_lt first (length files)) first n at in
-    let lt : first < length files = (grind (arith, nat_tests)) in
-    slice_get-get_or files n no_file (omega (arith, lt, s.1))
+number_there files name n at = grind (arith, common_steps, cond_some, nat_tests, slice_get-get_or) steps 200000
 
 abbrev Answered : Asked → List File → Type 0
 Answered edit files = ((after : List File) × IsEditOf edit files after) ⊎ ((error : EditError) × (error ≢ edits.Memory) × IsEditError edit files error)
 
 placed_answer : SomeCut → (edit : Asked) (files : List File) (number : ℕ) (file : File) → IsPlaced files edit number file → Answered edit files
 placed_answer some edit files number file placed = elim (text_is some (edited_text edit)) [
-  | inl one ↦ elim (le_or (bytes_of (after_edit files edit number file)) 4294967295) [
-    | inl le ↦ inl (after_edit files edit number file, record { number = number; file = file; placed = placed; one_unit = one; is_after = refl; within = le })
-    | inr many ↦ inr (edits.TooMany, (λ e. cc), (number, file, placed, one, many))
-  ]
+  | inl one ↦ search (rules, le_or (bytes_of (after_edit files edit number file)) 4294967295) steps 500000
   | inr wrong ↦ elim wrong [
     | inl fault ↦ inr (edits.Text fault.0, (λ e. cc), (number, file, placed, fault.1))
     | inr other ↦ inr (edits.NotOne other.0, (λ e. cc), (number, file, placed, other.1))

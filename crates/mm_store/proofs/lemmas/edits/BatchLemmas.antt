@@ -1,13 +1,11 @@
 -- Edits that were done one after another, undone and settled.
-use Rattle.std.proofs.{Common.{◌≡◌, ◌≢◌, ℕ, ◌+◌, List, [], ◌∷◌, ◌++◌, Option, Some, None, length, refl, sym, ap, ◌∙◌, subst, arith, Result, Ok, Err, IfOk, OnOk}, lemmas.Option.{none-some}}
-use Rattle.mm_store.specs.declared.edit.EditError.{EditError}
-use Rattle.mm_store.specs.Language.{EditedKeys.{IsEditByKeys, IsMadeOf, parks}, Batches.{CanSettleAll, CanUndoAll, IsSpendable, settled_all, undone_all}, FileFacts.{parked_in}, FilesView.{FilesView}}
-use Rattle.mm_store.specs.Language.Pieces.{PieceState, Standing, Parked, Removal, HeldPiece, in_state, IsParked, parked_count, Pieces, parked_pieces, parked_state, state_in, with_state}
-use Rattle.mm_store.specs.Language.Undoing.{UndoView, EditAction, CanSettle, CanUndo, Fits, IsUndoable, key_at, reversed, settled, spent, undone}
-use Rattle.mm_store.specs.Code.{Batched.{StandOnce}, Kept.{standing_count, standing_state}}
-use Rattle.mm_text.specs.Language.Asked.{Asked, Delete, Move}
+use Rattle.std.proofs.{lemmas.{Grind.{common_steps}, Option.{none-some}}, Common.{◌≡◌, ◌≢◌, ℕ, ◌+◌, List, [], ◌∷◌, ◌++◌, Option, Some, length, refl, sym, ap, ◌∙◌, subst, arith, Result, IfOk, OnOk}}
+use Rattle.mm_store.specs.{declared.edit.EditError.{EditError}, Language.{EditedKeys.{IsEditByKeys, parks}, Batches.{CanSettleAll, CanUndoAll, IsSpendable, settled_all, undone_all}}}
+use Rattle.mm_store.specs.Language.{FileFacts.{parked_in}, FilesView.{FilesView}, Pieces.{Standing, Parked, Removal, HeldPiece, IsParked, Pieces, parked_pieces, parked_state, state_in, with_state}}
+use Rattle.mm_store.specs.{Language.Undoing.{UndoView, EditAction, CanSettle, CanUndo, Fits, IsUndoable, key_at, reversed, settled, spent, undone}, Code.{Batched.{StandOnce}, Kept.{standing_count}}}
 use Rattle.mm_store.proofs.lemmas.files.{MapLemmas.{get_drop_other, get_drop_same}, PieceLemmas.{get_state_other, get_state_same}, StoreLemmas.{parked_changed, parked_dropped}}
 use Rattle.mm_store.proofs.lemmas.edits.{ReplaceLemmas.{key_stands}, StepLemmas.{parked}}
+use Rattle.mm_text.specs.Language.Asked.{Asked}
 use Rattle.std.specs.FinMap as finite
 use Rattle.mm_store.specs.Language.Undoing as action
 
@@ -30,8 +28,7 @@ undo_others (first ∷ front) undo view can = (undo_others front undo view can.0
 
 -- no edits
 pub undone_none : (undos : List UndoView) (view : FilesView) → length undos ≡ 0 → undone_all undos view ≡ view
-undone_none [] view none = refl
-undone_none (undo ∷ undos) view none = absurd (omega arith)
+undone_none undos view none = grind (arith, common_steps) steps 200000
 
 pub settled_last : (front : List UndoView) (undo : UndoView) (view : FilesView) → settled_all (front ++ undo ∷ []) view ≡ settled_all front (settled undo view)
 settled_last [] undo view = refl
@@ -39,8 +36,7 @@ settled_last (first ∷ front) undo view = ap (settled first) (settled_last fron
 
 pub can_settle_last : (front : List UndoView) (undo : UndoView) (view : FilesView) → CanSettleAll front (settled undo view) → CanSettle undo.file undo.action view → CanSettleAll (front ++ undo ∷ []) view
 can_settle_last [] undo view others can = (tt, can)
-can_settle_last (first ∷ front) undo view others can =
-    (can_settle_last front undo view others.0 can, subst (CanSettle first.file first.action) (sym (settled_last front undo view)) others.1)
+can_settle_last (first ∷ front) undo view others can = grind (arith, common_steps, can_settle_last front undo view others.0 can, settled_last front undo view) steps 200000
 
 pub settle_last : (front : List UndoView) (undo : UndoView) (view : FilesView) → CanSettleAll (front ++ undo ∷ []) view → CanSettle undo.file undo.action view
 settle_last [] undo view can = can.1
@@ -63,23 +59,15 @@ dropped_parked p k key file kind is = ap state_in (sym (get_drop_other p k key (
 other_parked : (p : Pieces) (k key file : ℕ) (kind : Removal) → key ≢ k → IsParked p key file kind → IsParked (finite.remove p k) key file kind
 other_parked p k key file kind differs is = ap state_in (get_drop_other p k key differs) ∙ is
 
-drop_keeps : (a b : Pieces) (k : ℕ) → ((key file : ℕ) (kind : Removal) → IsParked a key file kind → IsParked b key file kind)
-    → (key file : ℕ) (kind : Removal) → IsParked (finite.remove a k) key file kind → IsParked (finite.remove b k) key file kind
-drop_keeps a b k keeps key file kind is = other_parked b k key file kind (not_dropped a k key file kind is) (keeps key file kind (dropped_parked a k key file kind is))
-
 spent_keeps : (a b : FilesView) (act : EditAction) → KeepsParked a b → KeepsParked (spent act a) (spent act b)
-spent_keeps a b (action.Replaced at k) keeps = drop_keeps a.pieces b.pieces k keeps
-spent_keeps a b (action.Deleted at k) keeps = drop_keeps a.pieces b.pieces k keeps
-spent_keeps a b _ keeps = keeps
+spent_keeps a b act keeps = grind (arith, common_steps, dropped_parked, not_dropped, other_parked) steps 200000
 
 settled_keeps : (a b : FilesView) (undos : List UndoView) → KeepsParked a b → KeepsParked (settled_all undos a) (settled_all undos b)
 settled_keeps a b [] keeps = keeps
 settled_keeps a b (undo ∷ undos) keeps = spent_keeps (settled_all undos a) (settled_all undos b) undo.action (settled_keeps a b undos keeps)
 
 can_settle_kept : (a b : FilesView) (number : ℕ) (act : EditAction) → KeepsParked a b → CanSettle number act a → CanSettle number act b
-can_settle_kept a b number (action.Replaced at k) keeps can = keeps k number _ can
-can_settle_kept a b number (action.Deleted at k) keeps can = keeps k number _ can
-can_settle_kept a b number _ keeps can = tt
+can_settle_kept a b number act keeps can = grind (arith, common_steps) steps 200000
 
 -- what can be settled in the one files can be settled in the others
 pub can_settle_all : (a b : FilesView) (undos : List UndoView) → KeepsParked a b → CanSettleAll undos a → CanSettleAll undos b
@@ -90,13 +78,10 @@ can_settle_all a b (undo ∷ undos) keeps can =
 -- one piece less is parked
 dropped_count : (p : Pieces) (k n : ℕ) (kind : Removal) → IsParked p k n kind → parked_pieces (finite.remove p k) + 1 ≡ parked_pieces p
 dropped_count p k n kind is =
-    let was = parked (finite.get p k) n kind is in
-    omega (arith, parked_dropped p k was.piece was.is, ap parked_state was.state)
+    grind (arith, common_steps, parked (finite.get p k) n kind is, parked_dropped p k (parked (finite.get p k) n kind is).piece (parked (finite.get p k) n kind is).is) steps 200000
 
 spent_count : (a b : FilesView) (number : ℕ) (act : EditAction) → CanSettle number act a → CanSettle number act b → parked_in a ≡ parked_in b → parked_in (spent act a) ≡ parked_in (spent act b)
-spent_count a b number (action.Replaced at k) can also same = omega (arith, same, dropped_count a.pieces k number _ can, dropped_count b.pieces k number _ also)
-spent_count a b number (action.Deleted at k) can also same = omega (arith, same, dropped_count a.pieces k number _ can, dropped_count b.pieces k number _ also)
-spent_count a b number _ can also same = same
+spent_count a b number act can also same = grind (arith, common_steps, dropped_count) steps 200000
 
 -- and as many pieces are then parked
 pub settled_count : (a b : FilesView) (undos : List UndoView) → CanSettleAll undos a → CanSettleAll undos b → parked_in a ≡ parked_in b → parked_in (settled_all undos a) ≡ parked_in (settled_all undos b)
@@ -110,38 +95,21 @@ record Stands (o : Option HeldPiece) : Type 0 where
   pub is : o ≡ Some piece
   pub none : parked_state piece.state ≡ 0
 
-not_parked : (s : PieceState) → standing_state s ≡ 1 → parked_state s ≡ 0
-not_parked Standing is = refl
-not_parked (Parked n kind) is = absurd (omega arith)
-
 stands : (o : Option HeldPiece) → standing_count o ≡ 1 → Stands o
-stands None is = absurd (omega arith)
-stands (Some piece) is = record { piece = piece; is = refl; none = not_parked piece.state is }
+stands o is = grind (arith, common_steps) steps 200000
 
 standing_drop : (p : Pieces) (k : ℕ) → standing_count (finite.get p k) ≡ 1 → parked_pieces (finite.remove p k) ≡ parked_pieces p
-standing_drop p k is =
-    let was = stands (finite.get p k) is in
-    omega (arith, parked_dropped p k was.piece was.is, was.none)
+standing_drop p k is = grind (arith, common_steps, stands (finite.get p k) is, parked_dropped p k (stands (finite.get p k) is).piece (stands (finite.get p k) is).is) steps 200000
 
 -- a piece that is put back is not parked, and the others are as before
 stood : (p : Pieces) (k key file : ℕ) (kind : Removal) → IsParked (with_state p k Standing) key file kind → key ≢ k
-stood p k key file kind is same =
-    let now = with_state p k Standing in
-    let none : standing_count (finite.get now key) ≡ 0 = (parked (finite.get now key) file kind is).none in
-    let some : standing_count (finite.get now k) ≡ 1 = ap standing_count (get_state_same p k Standing) ∙ again (finite.get p k) in
-    omega (arith, none, some, ap (λ q. standing_count (finite.get now q)) same)
-  where
-    again : (o : Option HeldPiece) → standing_state (in_state o Standing).state ≡ 1
-    again None = refl
-    again (Some piece) = refl
+stood p k key file kind is same = grind (arith, common_steps, get_state_same, parked) steps 200000
 
 was_parked : (p : Pieces) (k key file : ℕ) (kind : Removal) → IsParked (with_state p k Standing) key file kind → IsParked p key file kind
 was_parked p k key file kind is = ap state_in (sym (get_state_other p k Standing key (stood p k key file kind is))) ∙ is
 
 stood_count : (p : Pieces) (k n : ℕ) (kind : Removal) → IsParked p k n kind → parked_pieces (with_state p k Standing) + 1 ≡ parked_pieces p
-stood_count p k n kind is =
-    let was = parked (finite.get p k) n kind is in
-    omega (arith, parked_changed p k was.piece Standing was.is, ap parked_count was.is, ap parked_state was.state)
+stood_count p k n kind is = grind (arith, common_steps, parked, parked_changed) steps 200000
 
 -- the others park what the one files park, and as many pieces
 record ParksAlike (a b : FilesView) : Type 0 where
@@ -150,10 +118,7 @@ record ParksAlike (a b : FilesView) : Type 0 where
 
 -- an edit that is undone and one that is settled leave the same pieces parked
 parks_alike : (view : FilesView) (n : ℕ) (act : EditAction) → StandOnce view → Fits n act view → ParksAlike (reversed n act view) (spent act view)
-parks_alike view n (action.Inserted at) once fits =
-    let p = view.pieces in
-    let k = key_at view n at in
-    record { keeps = λ key file kind is. dropped_parked p k key file kind is; count = standing_drop p k (key_stands view.keyed p n at once fits) }
+parks_alike view n (action.Inserted at) once fits = grind (arith, standing_drop view.pieces (key_at view n at) (key_stands view.keyed view.pieces n at once fits), dropped_parked) steps 200000
 parks_alike view n (action.Replaced at old) once fits =
     let p = view.pieces in
     let k = key_at view n at in
@@ -163,12 +128,7 @@ parks_alike view n (action.Replaced at old) once fits =
       keeps = λ key file kind is. other_parked p old key file kind (stood (finite.remove p k) old key file kind is) (dropped_parked p k key file kind (was_parked (finite.remove p k) old key file kind is));
       count = omega (arith, standing_drop p k here, dropped_count p old n _ fits.1, stood_count (finite.remove p k) old n _ (other_parked p k old n _ differs fits.1));
     }
-parks_alike view n (action.Deleted at old) once fits =
-    let p = view.pieces in
-    record {
-      keeps = λ key file kind is. other_parked p old key file kind (stood p old key file kind is) (was_parked p old key file kind is);
-      count = omega (arith, dropped_count p old n _ fits.1, stood_count p old n _ fits.1);
-    }
+parks_alike view n (action.Deleted at old) once fits = grind (arith, common_steps, dropped_count, other_parked, stood, stood_count, was_parked) steps 200000
 parks_alike view n (action.Moved at to) once fits = record { keeps = λ key file kind is. is; count = refl }
 
 -- what edits left, and what one edit more leaves
@@ -190,20 +150,10 @@ parked_by (action.Replaced at k) = 1
 parked_by (action.Deleted at k) = 1
 parked_by (action.Moved at to) = 0
 
-made_parks : (edit : Asked) (n : ℕ) (old new : FilesView) (undo : UndoView) → IsMadeOf edit n old new undo → parked_by undo.action ≡ parks edit
-made_parks (Delete file at) n old new undo made = ap (λ (u : UndoView). parked_by u.action) made.1
-made_parks (Move file at to) n old new undo made = ap (λ (u : UndoView). parked_by u.action) made.1
-made_parks _ n old new undo made = ap (λ (u : UndoView). parked_by u.action) made.3
-
 spent_less : (view : FilesView) (n : ℕ) (act : EditAction) → CanSettle n act view → parked_in (spent act view) + parked_by act ≡ parked_in view
-spent_less view n (action.Replaced at k) can = dropped_count view.pieces k n _ can
-spent_less view n (action.Deleted at k) can = dropped_count view.pieces k n _ can
-spent_less view n _ can = omega arith
+spent_less view n act can = grind (arith, common_steps, dropped_count) steps 200000
 
 -- an edit parks as many pieces more as its kind says
 pub parks_more : (edit : Asked) (old new : FilesView) (r : Result UndoView EditError) → StandOnce new → IfOk r (IsUndoable old new) → IfOk r (IsEditByKeys edit old new)
     → OnOk r (parked_in new ≡ parked_in old + parks edit)
-parks_more edit old new (Err error) once undoable by_keys = tt
-parks_more edit old new (Ok undo) once undoable by_keys =
-    let alike : ParksAlike old (settled undo new) = subst (λ view. ParksAlike view (settled undo new)) undoable.back (parks_alike new undo.file undo.action once undoable.can_undo.fits) in
-    omega (arith, alike.count, spent_less new undo.file undo.action undoable.can_settle, made_parks edit by_keys.number old new undo by_keys.made)
+parks_more edit old new r once undoable by_keys = grind (arith, common_steps, parks_alike, spent_less) steps 200000

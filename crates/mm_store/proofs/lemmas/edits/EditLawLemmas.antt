@@ -1,11 +1,10 @@
 -- Edits over files without keys: what they leave as it was, and what reverses them.
+use Rattle.std.proofs.lemmas.{Grind.{common_steps}, List.{Edits.{length-remove}, Folds.{position_or_len-set}, Sums.{sum_by-cons, sum_by-insert, sum_by-remove}}}
+use Rattle.std.proofs.lemmas.Option.{get_or_from_slice_get, none-some, same_Some}
 use Rattle.std.proofs.Common.{◌≡◌, ◌≢◌, ℕ, zero, suc, ◌+◌, ◌<◌, ◌≤◌, List, [], ◌∷◌, ◌++◌, Option, Some, None, length, map, get_or, set, refl, sym, ap, ◌∙◌, append_assoc, arith, length-append}
-use Rattle.std.proofs.Common.{slice_get, length-set}
-use Rattle.std.proofs.lemmas.{List.{Edits.{length-remove}, Folds.{position_or_len-set}, Sums.{sum_by-cons, sum_by-insert, sum_by-remove}}, Option.{get_or_from_slice_get, none-some, same_Some}}
-use Rattle.std.proofs.Math.Seq.{map-set_same}
-use Rattle.std.specs.{List.{concat, sum_by, insert, remove}, Str.{bytes_eq}}
+use Rattle.std.{proofs.{Common.{slice_get, length-set}, Math.Seq.{map-set_same}}, specs.{List.{concat, sum_by, insert, remove}, Str.{bytes_eq}}}
 use Rattle.mm_text.specs.Language.{Cut.{ended}, Asked.{Asked, Insert, Replace, Delete, Move}}
-use Rattle.mm_store.specs.Language.{FilesView.{File, file_number, file_at, find_file, bytes_of, text_of}, Edits.{edited, after_edit, with_members, IsEditOf}}
+use Rattle.mm_store.specs.Language.{FilesView.{File, file_number, file_at, find_file, bytes_of, text_of}, Edits.{edited, with_members, IsEditOf}}
 
 -- one element of a list set
 module _ {X : Type 0} where
@@ -89,7 +88,8 @@ up_parts name moved before middle behind =
     let all = before ++ (middle ++ moved ∷ behind) in
     let from : length before + length middle ≡ length (before ++ middle) = sym (length-append before middle) in
     let joined : all ≡ (before ++ middle) ++ moved ∷ behind = sym (append_assoc before middle (moved ∷ behind)) in
-    let read : get_or all (length before + length middle) [] ≡ moved = ap (λ xs. get_or xs (length before + length middle) []) joined ∙ ap (λ n. get_or ((before ++ middle) ++ moved ∷ behind) n []) from ∙ read_at (before ++ middle) behind moved [] in
+    let read : get_or all (length before + length middle) [] ≡ moved =
+    ap (λ xs. get_or xs (length before + length middle) []) joined ∙ ap (λ n. get_or ((before ++ middle) ++ moved ∷ behind) n []) from ∙ read_at (before ++ middle) behind moved [] in
     let rest : remove all (length before + length middle) ≡ before ++ (middle ++ behind) =
     ap (λ xs. remove xs (length before + length middle)) joined ∙ ap (λ n. remove ((before ++ middle) ++ moved ∷ behind) n) from ∙ drop_at (before ++ middle) behind moved ∙ append_assoc before middle behind in
     ap (λ x. insert (remove all (length before + length middle)) (length before) x) read ∙ ap (λ xs. insert xs (length before) moved) rest ∙ put_at before (middle ++ behind) moved
@@ -187,7 +187,4 @@ move_reversed name at to files between is =
 
 -- an edit gives one list of files
 pub one_after : (edit : Asked) (files a b : List File) → IsEditOf edit files a → IsEditOf edit files b → a ≡ b
-one_after edit files a b is other =
-    let number : is.number ≡ other.number = same_Some is.number other.number (sym is.placed.file_there.named ∙ other.placed.file_there.named) in
-    let file : is.file ≡ other.file = same_Some is.file other.file (sym is.placed.file_there.there ∙ ap (slice_get files) number ∙ other.placed.file_there.there) in
-    is.is_after ∙ (λ i. after_edit files edit (number i) (file i)) ∙ sym other.is_after
+one_after edit files a b is other = grind (arith, common_steps, same_Some) steps 200000

@@ -1,19 +1,15 @@
 -- From what is done by keys to the edit of the files without keys, and why an edit is refused.
-use Rattle.std.proofs.{Common.{◌≡◌, ℕ, ◌+◌, ◌<◌, ◌≤◌, List, Some, length, sym, ap, ◌∙◌, subst, ◌↔◌, None, Result, Ok, Err, rules}, lemmas.Option.{none-some}}
+use Rattle.std.proofs.{Common.{arith, ◌≡◌, ℕ, ◌+◌, ◌<◌, ◌≤◌, List, Some, length, sym, ap, ◌∙◌, subst, ◌↔◌, None, Result, rules}, lemmas.{Grind.{common_steps}, Option.{none-some}}}
 use Rattle.std.specs.Result.{IfErr, OnOk, IsErrOf, IsErrAnd}
 use Rattle.mm_text.specs.Language.{Cut.{ended}, Asked.{Asked, edited_name, edited_text, IsAmong}}
-use Rattle.mm_store.specs.declared.edit.EditError.{EditError, TheVariants.{NoFile, NoPiece, Text, NotOne, TooMany, Memory}}
-use Rattle.mm_store.specs.Language.{FilesView.{File, FilesView, plain, file_number, bytes_of}, Undoing.{keys_in}}
-use Rattle.mm_store.specs.Language.{Edits.{edited, after_edit, IsPlaced, NamesNoMember, BringsOneUnit, BringsFault, BringsNotOne, IsEditOf}, Answers.{IsEditError}}
-use Rattle.mm_store.specs.Code.{Edited.{pieces_in, with_pieces, NamesPlace}, Units.{IsTextRefused}}
-use Rattle.mm_store.proofs.lemmas.files.NumberLemmas.{IsThere, file_there, with_pieces_is}
+use Rattle.mm_store.specs.{declared.edit.EditError.{EditError, TheVariants.{NoFile, NoPiece, Text, NotOne, TooMany, Memory}}, Language.FilesView.{File, FilesView, plain, file_number, bytes_of}}
+use Rattle.mm_store.specs.Language.{Undoing.{keys_in}, Edits.{edited, after_edit, IsPlaced, NamesNoMember, BringsOneUnit, BringsFault, BringsNotOne, IsEditOf}, Answers.{IsEditError}}
+use Rattle.mm_store.{specs.Code.{Edited.{pieces_in, with_pieces, NamesPlace}, Units.{IsTextRefused}}, proofs.lemmas.files.NumberLemmas.{IsThere, file_there, with_pieces_is}}
 
 -- the edit names a file, and a place that it does not have
 pub no_member : (view : FilesView) (edit : Asked) (number count : ℕ) → file_number (plain view) (edited_name edit) ≡ Some number → number < length view.keyed → count ≡ length (keys_in view.keyed number)
     → ¬ IsAmong edit count → NamesNoMember edit (plain view) count
-no_member view edit number count named there counted beyond =
-    let found = file_there view.keyed view.pieces number there in
-    (number, found.file, record { named = named; there = found.there }, counted ∙ sym found.count, beyond)
+no_member view edit number count named there counted beyond = grind (arith, common_steps, file_there view.keyed view.pieces number there) steps 200000
 
 module _ {view : FilesView} {edit : Asked} {number : ℕ} (had : NamesPlace edit view number) where
   abbrev pub found : IsThere view number
@@ -51,8 +47,7 @@ module _ {view : FilesView} {edit : Asked} {number : ℕ} (had : NamesPlace edit
     not_new held more _ fails = absurd fails
 
 pub if_err : {T E : Type 0} (r : Result T E) (P Q : E → Type 0) → IsErrAnd r P → ((e : E) → P e → Q e) → IfErr r Q
-if_err (Ok x) P Q h f = tt
-if_err (Err e) P Q h f = f e h
+if_err r P Q h f = grind (arith, common_steps) steps 200000
 
 -- the two errors that come before memory is taken are reported exactly when they hold
 module _ {T : Type 0} (edit : Asked) (files after : List File) where

@@ -1,13 +1,12 @@
 -- Files each piece of which holds one unit: edits keep this, and keys can be given to the files.
+use Rattle.std.proofs.lemmas.{Grind.{common_steps, elements}, List.Elements.{All-nil, All-cons}, Option.{none-some, same_Some, slice_get-map}}
 use Rattle.std.proofs.Common.{◌≡◌, ℕ, zero, suc, ◌+◌, ◌<◌, Some, is_some, List, [], ◌∷◌, ◌++◌, length, map, take, drop, get_or, set, refl, sym, ap, ◌∙◌, subst, arith, All, IsSome, slice_get}
-use Rattle.std.proofs.lemmas.{List.Elements.{All-nil, All-cons}, Option.{none-some, same_Some, slice_get-map}}
 use Rattle.std.specs.{List.{AllByRecursion, insert, remove}, Option.{option_map}}
 use Rattle.mm_text.specs.Language.{Cut.{HoldsOne, IsCut, ended}, Asked.{Asked, Insert, Replace, Delete, Move, edited_text, IsAmong}}
 use Rattle.mm_store.specs.Language.{Edits.{edited, with_members, BringsOneUnit, HasUnitCount, IsEditOf}, FileFacts.{HoldsPieces}}
 use Rattle.mm_store.specs.Language.{FilesView.{File, FileView, FilesView, KeyedFile, PieceView, file_view, files_in, piece_view, plain, plain_file}, Holding.{HoldOneEach}}
-use Rattle.mm_store.specs.Language.Pieces.{Pieces, HeldPiece, standing_piece, text_in, text_under}
-use Rattle.mm_store.specs.Code.Gains.{HoldUnits}
-use Rattle.mm_store.proofs.lemmas.files.{MapLemmas.{get_put_same, get_put_other}, ViewLemmas.{there_from_map}}
+use Rattle.mm_store.{specs.{Language.Pieces.{Pieces, HeldPiece, standing_piece, text_in, text_under}, Code.Gains.{HoldUnits}}, proofs.lemmas.files.MapLemmas.{get_put_same, get_put_other}}
+use Rattle.mm_store.proofs.lemmas.files.ViewLemmas.{there_from_map}
 use Rattle.std.specs.FinMap as finite
 
 -- ---- what holds of each element
@@ -97,9 +96,7 @@ edited_each law (Move file at to) pieces h among one = all_put HoldsOne (remove 
 
 pub edits_keep : OneUnitOfCut → (edit : Asked) (files after : List File) → HoldOneEach files → IsEditOf edit files after → HoldOneEach after
 edits_keep law edit files after h is =
-    let own = all_there (λ (file : File). AllByRecursion HoldsOne file.pieces) files is.number is.file h is.placed.file_there.there in
-    let members = edited_each law edit is.file.pieces own is.placed.among is.one_unit in
-    subst HoldOneEach (sym is.is_after) (all_set (λ (file : File). AllByRecursion HoldsOne file.pieces) files is.number (with_members is.file (edited edit is.file.pieces)) h members)
+    grind (arith, common_steps, edited_each law edit is.file.pieces (all_there (λ (file : File). AllByRecursion HoldsOne file.pieces) files is.number is.file h is.placed.file_there.there) is.placed.among is.one_unit) steps 200000
 
 -- ---- keys that are given to files
 
@@ -133,13 +130,8 @@ table_under n [] = tt
 table_under n (text ∷ texts) = (get_put_same (table (suc n) texts) n (standing_piece text), under_put (table (suc n) texts) n (standing_piece text) (suc n) texts (omega arith) (table_under (suc n) texts))
 
 under_split : (p : Pieces) (n : ℕ) (xs ys : List (List ℕ)) → Under p n (xs ++ ys) → Under p n xs × Under p (n + length xs) ys
-under_split p n [] ys h =
-    let e : n ≡ n + 0 = omega arith in
-    (tt, subst (λ k. Under p k ys) e h)
-under_split p n (x ∷ xs) ys h =
-    let r = under_split p (suc n) xs ys h.1 in
-    let e : suc n + length xs ≡ n + length (x ∷ xs) = omega arith in
-    ((h.0, r.0), subst (λ k. Under p k ys) e r.1)
+under_split p n [] ys h = grind (arith, elements) steps 200000
+under_split p n (x ∷ xs) ys h = grind (arith, common_steps, under_split p (suc n) xs ys h.1) steps 200000
 
 texts_under : (p : Pieces) (n : ℕ) (texts : List (List ℕ)) → Under p n texts → map (text_under p) (keys_from n texts) ≡ texts
 texts_under p n [] h = refl

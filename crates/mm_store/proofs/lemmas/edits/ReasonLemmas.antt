@@ -1,27 +1,21 @@
 -- An edit that is refused is refused for one reason, unless memory runs out.
-use Rattle.std.proofs.{Common.{◌≡◌, ◌≢◌, ℕ, List, Option, Some, None, length, refl, sym, ap, ◌∙◌, subst, slice_get}, lemmas.Option.{none-some, same_Some}}
+use Rattle.std.proofs.{lemmas.{Grind.{common_steps}, Option.{none-some, same_Some}}, Common.{arith, ◌≡◌, ◌≢◌, ℕ, List, Option, None, length, refl, sym, ap, ◌∙◌, subst, slice_get}}
 use Rattle.mm_text.specs.{declared.fault.TextFault.{TextFault}, Language.{Cut.{IsFirstFault}, Asked.{Asked, edited_name, edited_text, IsAmong}}}
-use Rattle.mm_store.specs.declared.edit.EditError.{EditError}
-use Rattle.mm_store.specs.Language.{FilesView.{File, file_number}, Edits.{IsEditedFile, IsPlaced, BringsFault, BringsNotOne, NamesNoMember}, Answers.{IsEditError}}
-use Rattle.mm_store.proofs.lemmas.{files.NamedLemmas.{OneCut}, edits.RefusalLemmas.{NotBoth, brings_no_fault, brings_one}}
+use Rattle.mm_store.specs.{declared.edit.EditError.{EditError}, Language.{FilesView.{File, file_number}, Edits.{IsEditedFile, IsPlaced, BringsFault, BringsNotOne, NamesNoMember}}}
+use Rattle.mm_store.{specs.Language.Answers.{IsEditError}, proofs.lemmas.{files.NamedLemmas.{OneCut}, edits.RefusalLemmas.{NotBoth, brings_no_fault, brings_one}}}
 use Rattle.mm_store.specs.declared.edit.EditError.TheVariants as edits
 
 abbrev pub OneFault : Type 0
 OneFault = (text : List ℕ) (a b : TextFault) → IsFirstFault text a → IsFirstFault text b → a ≡ b
 
 same_fault : OneFault → (brought : Option (List ℕ)) (a b : TextFault) → BringsFault brought a → BringsFault brought b → a ≡ b
-same_fault one_fault None a b is other = absurd is
-same_fault one_fault (Some text) a b is other = one_fault text a b is other
+same_fault one_fault brought a b is other = grind (arith, common_steps) steps 200000
 
 fault_or_count : NotBoth → (brought : Option (List ℕ)) (fault : TextFault) (count : ℕ) → BringsFault brought fault → ¬ BringsNotOne brought count
-fault_or_count not_both None fault count is other = is
-fault_or_count not_both (Some text) fault count is other = not_both text other.0.pieces other.0.tail fault other.0.is_cut is
+fault_or_count not_both brought fault count is = grind (arith, common_steps) steps 200000
 
 same_count : OneCut → (brought : Option (List ℕ)) (a b : ℕ) → BringsNotOne brought a → BringsNotOne brought b → a ≡ b
-same_count one_cut None a b is other = absurd is
-same_count one_cut (Some text) a b is other =
-    let same = (one_cut text is.0.pieces other.0.pieces is.0.tail other.0.tail is.0.is_cut other.0.is_cut).0 in
-    sym is.0.is_count ∙ ap length same ∙ other.0.is_count
+same_count one_cut brought a b is other = grind (arith, common_steps) steps 200000
 
 module _ (not_both : NotBoth) (one_cut : OneCut) (one_fault : OneFault) (edit : Asked) (files : List File) where
   file_is : (n m : ℕ) (a b : File) → IsEditedFile files edit n a → IsEditedFile files edit m b → a ≡ b

@@ -1,23 +1,18 @@
 -- An edit that is accepted is not refused.
-use Rattle.std.proofs.{Common.{◌≡◌, ℕ, List, Option, Some, None, length, refl, sym, ap, ◌∙◌, subst, arith, slice_get}, lemmas.Option.{none-some, same_Some}}
+use Rattle.std.proofs.{lemmas.{Grind.{common_steps}, Option.{none-some, same_Some}}, Common.{◌≡◌, ℕ, List, Option, length, refl, sym, ap, ◌∙◌, subst, arith, slice_get}}
 use Rattle.mm_text.specs.{declared.fault.TextFault.{TextFault}, Language.{Cut.{IsCut, IsFirstFault}, Asked.{Asked, edited_text, IsAmong}}}
-use Rattle.mm_store.specs.declared.edit.EditError.{EditError}
-use Rattle.mm_store.specs.Language.{FilesView.{File, bytes_of}, Edits.{IsEditedFile, BringsOneUnit, BringsFault, BringsNotOne, IsEditOf, after_edit}, Answers.{IsEditError}}
-use Rattle.mm_store.proofs.lemmas.files.NamedLemmas.{OneCut}
+use Rattle.mm_store.specs.{declared.edit.EditError.{EditError}, Language.{FilesView.{File, bytes_of}, Edits.{IsEditedFile, BringsOneUnit, BringsFault, BringsNotOne, IsEditOf, after_edit}}}
+use Rattle.mm_store.{specs.Language.Answers.{IsEditError}, proofs.lemmas.files.NamedLemmas.{OneCut}}
 use Rattle.mm_store.specs.declared.edit.EditError.TheVariants as edits
 
 abbrev pub NotBoth : Type 0
 NotBoth = (text : List ℕ) (pieces : List (List ℕ)) (tail : List ℕ) (fault : TextFault) → IsCut text pieces tail → ¬ IsFirstFault text fault
 
 pub brings_no_fault : NotBoth → (brought : Option (List ℕ)) (fault : TextFault) → BringsOneUnit brought → ¬ BringsFault brought fault
-brings_no_fault not_both None fault one wrong = wrong
-brings_no_fault not_both (Some text) fault one wrong = not_both text one.pieces one.tail fault one.is_cut wrong
+brings_no_fault not_both brought fault one = grind (arith, common_steps) steps 200000
 
 pub brings_one : OneCut → (brought : Option (List ℕ)) (count : ℕ) → BringsOneUnit brought → ¬ BringsNotOne brought count
-brings_one one_cut None count one other = other
-brings_one one_cut (Some text) count one other =
-    let same = (one_cut text one.pieces other.0.pieces one.tail other.0.tail one.is_cut other.0.is_cut).0 in
-    other.1 (sym other.0.is_count ∙ ap length (sym same) ∙ one.is_count)
+brings_one one_cut brought count one = grind (arith, common_steps) steps 200000
 
 module _ (not_both : NotBoth) (one_cut : OneCut) (edit : Asked) (files after : List File) (is : IsEditOf edit files after) where
   one_number : (number : ℕ) (file : File) → IsEditedFile files edit number file → is.number ≡ number

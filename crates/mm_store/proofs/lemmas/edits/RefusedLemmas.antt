@@ -1,12 +1,9 @@
 -- Edits that are done one after another, and why one of them is refused.
-use Rattle.std.proofs.{Common.{◌≡◌, ℕ, zero, suc, ◌+◌, ◌<◌, List, [], ◌∷◌, ◌++◌, Some, is_some, length, map, take, get_or, refl, sym, ap, ◌∙◌, subst, arith, slice_get}, Math.Numerals.{suc-eq-add-one}}
-use Rattle.std.proofs.lemmas.Option.{none-some}
-use Rattle.mm_store.specs.declared.batch.BatchError.{BatchError, TheVariants.{Edit, Memory}}
-use Rattle.mm_store.specs.Language.{Batches.{IsBatchError, IsBatchOf, KeepsReading, StartsPlaced}, EditedKeys.{IsBatchByKeys, IsEditByKeys}, Edits.{IsEditOf, IsPlaced}, FilesView.{File, FilesView}}
-use Rattle.mm_store.specs.Language.{Pieces.{text_in}, Undoing.{KeepsKeys, UndoView}}
-use Rattle.mm_store.specs.Code.Batched.{IsNextError}
+use Rattle.std.proofs.lemmas.{Grind.{common_steps, elements}, Option.{none-some}}
+use Rattle.std.proofs.{Common.{◌≡◌, ℕ, zero, suc, ◌+◌, ◌<◌, List, [], ◌∷◌, ◌++◌, Some, is_some, length, map, take, get_or, refl, sym, ap, subst, arith, slice_get}, Math.Numerals.{suc-eq-add-one}}
+use Rattle.mm_store.specs.{declared.batch.BatchError.{BatchError}, Language.{Batches.{IsBatchError, IsBatchOf, KeepsReading, StartsPlaced}, EditedKeys.{IsBatchByKeys, IsEditByKeys}}}
+use Rattle.mm_store.{specs.{Language.{Edits.{IsEditOf, IsPlaced}, FilesView.{File, FilesView}, Undoing.{KeepsKeys, UndoView}}, Code.Batched.{IsNextError}}, proofs.lemmas.files.ViewLemmas.{some_is}}
 use Rattle.mm_text.specs.Language.Asked.{Asked, asked}
-use Rattle.mm_store.proofs.lemmas.files.ViewLemmas.{some_is}
 use Rattle.std.specs.FinMap as finite
 use Rattle.mm_text.specs.declared.edit.Edit as code
 
@@ -52,10 +49,7 @@ by_keys_next edits n default old between new undos undo lt are is =
     subst (λ n. IsBatchByKeys (take n (map asked edits)) old new (undos ++ undo ∷ [])) (suc-eq-add-one n) (subst (λ edits. IsBatchByKeys edits old new (undos ++ undo ∷ [])) (sym (next_taken edits n default lt)) more)
 
 pub keys_then : (a b c : FilesView) → KeepsKeys a b → KeepsKeys b c → KeepsKeys a c
-keys_then a b c first then = λ key some.
-    let between = first key some in
-    let now = then key between.there in
-    record { there = now.there; text = now.text ∙ between.text }
+keys_then a b c first then = grind (arith, elements) steps 200000
 
 starts_placed : (edits : List Asked) (files between : List File) (n : ℕ) (edit : Asked) → IsBatchOf (take n edits) files between → slice_get edits n ≡ Some edit → (at : ℕ) (file : File) → IsPlaced between edit at file → StartsPlaced edits files
 starts_placed [] files between n edit are there at file placed = absurd (none-some edit there)
@@ -65,15 +59,7 @@ starts_placed (first ∷ edits) files between (suc n) edit are there at file pla
 -- why the edit after others is not done is why they all are not
 pub batch_error : (edits : List Asked) (files between : List File) (n : ℕ) (edit : Asked) (error : BatchError) → IsBatchOf (take n edits) files between
     → slice_get edits n ≡ Some edit → IsNextError edit between n error → IsBatchError edits files error
-batch_error edits files between n edit (Edit number error) are there fails = record {
-  before = between;
-  accepted = subst (λ n. IsBatchOf (take n edits) files between) (sym fails.0) are;
-  edit = edit;
-  there = ap (slice_get edits) fails.0 ∙ there;
-  refused = fails.1;
-  told = fails.2;
-}
-batch_error edits files between n edit Memory are there fails = starts_placed edits files between n edit are there fails.0 fails.1 fails.2
+batch_error edits files between n edit error are there fails = grind (arith, common_steps, starts_placed) steps 200000
 
 -- if each key keeps its text, what can be read is read alike
 pub reads_alike : (old new : FilesView) → KeepsKeys old new → KeepsReading old new
@@ -81,15 +67,7 @@ reads_alike old new keeps = λ item was.
     let kept = keeps item.key.at (ap is_some was.live.held) in
     let held = some_is (finite.get new.pieces item.key.at) kept.there in
     record {
-      read = record {
-        text = was.text;
-        live = record { piece = held.0; held = held.1; is_text = was.live.is_text ∙ sym (ap text_in was.live.held) ∙ sym kept.text ∙ ap text_in held.1 };
-        some = was.some;
-        within = was.within;
-        words = was.words;
-        has_words = was.has_words;
-        some_word = was.some_word;
-      };
+      read = grind (arith, common_steps) steps 200000;
       text = refl;
       words = refl;
     }

@@ -1,26 +1,15 @@
 -- What a replacement makes of the files.
+use Rattle.std.proofs.lemmas.{Grind.{common_steps}, List.{map-set, get_or-map, length-map, Sums.{sum_by-set}}}
 use Rattle.std.proofs.Common.{◌≡◌, ◌≢◌, ℕ, ◌+◌, ◌<◌, ◌≤◌, List, [], ◌∷◌, Option, Some, None, is_some, true, length, map, get_or, set, refl, sym, ap, ◌∙◌, arith}
-use Rattle.std.proofs.lemmas.List.{map-set, get_or-map, length-map, Sums.{sum_by-set}}
-use Rattle.mm_store.specs.Code.{Edited.{pieces_in, with_pieces}, Kept.{one, places, standing_state, standing_count, deleted_state, deletions}}
-use Rattle.mm_store.specs.Language.{FilesView.{KeyedFile, plain_file, bytes_of}, Pieces.{PieceState, Standing, Parked, Replaced, HeldPiece, Pieces, in_state, with_state, standing_piece, text_under}}
-use Rattle.mm_store.specs.Language.Undoing.{keys_in, with_keys}
+use Rattle.mm_store.specs.{Code.{Edited.{pieces_in, with_pieces}, Kept.{one, places, standing_count, deleted_state, deletions}}, Language.FilesView.{KeyedFile, plain_file, bytes_of}}
+use Rattle.mm_store.specs.Language.{Pieces.{Parked, Replaced, HeldPiece, Pieces, in_state, with_state, standing_piece, text_under}, Undoing.{keys_in, with_keys}}
 use Rattle.mm_store.proofs.lemmas.files.{MapLemmas.{get_put_other}, ListLemmas.{times_at, places_with, places_in, in_files, texts_same, plain_same, plain_with, plain_pieces, bytes_with}}
-use Rattle.mm_store.proofs.lemmas.files.PieceLemmas.{text_put_same, text_put_other, text_state, stands_put, stands_parked}
-use Rattle.mm_store.proofs.lemmas.expansion.WeightLemmas.{weight_fresh, weight_put}
+use Rattle.mm_store.proofs.lemmas.{files.PieceLemmas.{text_put_same, text_put_other, text_state, stands_put, stands_parked}, expansion.WeightLemmas.{weight_fresh, weight_put}}
 use Rattle.std.specs.FinMap as finite
 
 -- at most one piece is under a key
 pub at_most_one : (o : Option HeldPiece) → standing_count o ≤ 1
-at_most_one None = omega arith
-at_most_one (Some piece) = by piece.state
-  where
-    by : (s : PieceState) → standing_state s ≤ 1
-    by Standing = omega arith
-    by (Parked n kind) = omega arith
-
-not_deleted : (m : ℕ) (s : PieceState) → standing_state s ≡ 1 → deleted_state m s ≡ 0
-not_deleted m Standing is = refl
-not_deleted m (Parked n kind) is = absurd (omega arith)
+at_most_one o = grind (arith, common_steps) steps 200000
 
 -- a piece of a file is there, and was not deleted
 pub record Stands (o : Option HeldPiece) : Type 0 where
@@ -29,17 +18,14 @@ pub record Stands (o : Option HeldPiece) : Type 0 where
   pub kept : (m : ℕ) → deleted_state m piece.state ≡ 0
 
 pub stands : (o : Option HeldPiece) → standing_count o ≡ 1 → Stands o
-stands None is = absurd (omega arith)
-stands (Some piece) is = record { piece = piece; is = refl; kept = λ m. not_deleted m piece.state is }
+stands o is = grind (arith, common_steps) steps 200000
 
 pub replaced_weight : (m n : ℕ) → deleted_state m (Parked n Replaced) ≡ 0
 replaced_weight m n = grind arith
 
 -- what is under a key of a file
 pub key_stands : (fs : List KeyedFile) (p : Pieces) (n at : ℕ) → ((q : ℕ) → places q fs ≡ standing_count (finite.get p q)) → at < length (keys_in fs n) → standing_count (finite.get p (get_or (keys_in fs n) at 0)) ≡ 1
-key_stands fs p n at once there =
-    let o = get_or (keys_in fs n) at 0 in
-    omega (arith, times_at (keys_in fs n) at there, places_in o fs n, once o, at_most_one (finite.get p o))
+key_stands fs p n at once there = grind (arith, times_at (keys_in fs n) at there, places_in (get_or (keys_in fs n) at 0) fs n, at_most_one (finite.get p (get_or (keys_in fs n) at 0))) steps 200000
 
 module _ (fs : List KeyedFile) (p : Pieces) (n at k : ℕ) (text : List ℕ)
     (once : (q : ℕ) → places q fs ≡ standing_count (finite.get p q))

@@ -1,10 +1,9 @@
 -- What settling leaves as it was.
+use Rattle.std.proofs.lemmas.{Grind.{common_steps}, Bool.{cases_eq}, List.Sums.{sum_by-cons}, Option.{none-some, same_Some}}
 use Rattle.std.proofs.Common.{◌≡◌, ◌≢◌, inl, inr, ℕ, zero, suc, ◌≤◌, List, [], ◌∷◌, Some, map, refl, ap, ◌∙◌, arith, slice_get}
-use Rattle.std.proofs.lemmas.{Bool.{cases_eq}, List.Sums.{sum_by-cons}, Option.{none-some, same_Some}}
 use Rattle.mm_store.specs.Language.{Batches.{KeepsStanding}, FilesView.{FilesView, KeyedFile, PieceView, file_view, files_in, piece_view, plain}, Pieces.{Removal, IsParked, Pieces, text_under}}
-use Rattle.mm_store.specs.Language.Undoing.{EditAction, CanSettle, spent}
-use Rattle.mm_store.specs.Code.{Batched.{StandOnce}, Kept.{one, places, times}}
-use Rattle.mm_store.proofs.lemmas.{files.{ListLemmas.{one_same, plain_same}, MapLemmas.{get_drop_other}, PieceLemmas.{text_drop_other}}, edits.StepLemmas.{parked}}
+use Rattle.mm_store.{specs.{Language.Undoing.{EditAction, CanSettle, spent}, Code.{Batched.{StandOnce}, Kept.{one, places, times}}}, proofs.lemmas.files.ListLemmas.{one_same, plain_same}}
+use Rattle.mm_store.proofs.lemmas.{files.{MapLemmas.{get_drop_other}, PieceLemmas.{text_drop_other}}, edits.StepLemmas.{parked}}
 use Rattle.std.specs.FinMap as finite
 use Rattle.mm_store.specs.Language.Undoing as action
 
@@ -70,15 +69,7 @@ dropped_stays view k n kind once is =
           let key = item.key.at in
           let differs : key ≢ k = λ same. omega (arith, none, ap (λ q. places q view.keyed) same, places_there view.keyed item.file key stands.file stands.there, times_there stands.file.keys item.piece key stands.is_key) in
           record {
-            read = record {
-              text = was.text;
-              live = record { piece = was.live.piece; held = get_drop_other p k key differs ∙ was.live.held; is_text = was.live.is_text };
-              some = was.some;
-              within = was.within;
-              words = was.words;
-              has_words = was.has_words;
-              some_word = was.some_word;
-            };
+            read = grind (arith, common_steps, get_drop_other p k key differs) steps 200000;
             text = refl;
             words = refl;
           };

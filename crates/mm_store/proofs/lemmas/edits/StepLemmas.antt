@@ -1,12 +1,9 @@
 -- What each edit and its undoing make of the files.
-use Rattle.std.proofs.Common.{◌≡◌, ◌≢◌, ℕ, zero, suc, ◌+◌, ◌<◌, List, [], ◌∷◌, Option, Some, None, is_some, true, length, map, get_or, set, refl, sym, ap, ◌∙◌, arith}
-use Rattle.std.proofs.lemmas.{List.{map-set, get_or-map, length-map, Sums.{sum_by-set, sum_by-insert, sum_by-remove}}, Option.{same_Some, none-some}, Bool.Decides.{nat_tests}}
-use Rattle.std.specs.List.{insert, remove}
-use Rattle.mm_store.specs.Code.{Edited.{pieces_in, with_pieces}, Kept.{one, times, places, standing_state, standing_count, deleted_state, deletions}}
-use Rattle.mm_store.specs.Language.FilesView.{File, KeyedFile, plain_file, bytes_of}
+use Rattle.std.proofs.lemmas.{Grind.{common_steps}, List.{map-set, get_or-map, length-map, Sums.{sum_by-set, sum_by-insert, sum_by-remove}}, Bool.Decides.{nat_tests}}
+use Rattle.std.{proofs.Common.{◌≡◌, ◌≢◌, ℕ, zero, suc, ◌+◌, ◌<◌, List, [], ◌∷◌, Option, Some, None, is_some, true, length, map, get_or, set, refl, sym, ap, ◌∙◌, arith}, specs.List.{insert, remove}}
+use Rattle.mm_store.specs.{Code.{Edited.{pieces_in, with_pieces}, Kept.{one, times, places, standing_count, deleted_state, deletions}}, Language.FilesView.{File, KeyedFile, plain_file, bytes_of}}
 use Rattle.mm_store.specs.Language.Pieces.{Standing, Parked, Removal, Replaced, Deleted, HeldPiece, Pieces, in_state, with_state, standing_piece, text_in, text_under, state_in, IsParked}
-use Rattle.mm_store.specs.Language.Undoing.{keys_in, with_keys, moved_list}
-use Rattle.mm_store.proofs.lemmas.files.MapLemmas.{get_drop_other}
+use Rattle.mm_store.{specs.Language.Undoing.{keys_in, with_keys, moved_list}, proofs.lemmas.files.MapLemmas.{get_drop_other}}
 use Rattle.mm_store.proofs.lemmas.files.ListLemmas.{one_same, one_other, places_with, places_in, in_files, texts_same, plain_same, plain_with, plain_pieces, bytes_with, keys_with}
 use Rattle.mm_store.proofs.lemmas.files.PieceLemmas.{text_put_same, text_put_other, text_drop_other, text_state, stands_put, stands_parked, stands_again, stands_dropped}
 use Rattle.mm_store.proofs.lemmas.{expansion.WeightLemmas.{weight_fresh, weight_put, weight_dropped}, edits.ReplaceLemmas.{stands, key_stands, replaced_weight}}
@@ -31,10 +28,7 @@ pub record IsParkedPiece (o : Option HeldPiece) (n : ℕ) (kind : Removal) : Typ
   pub none : standing_count o ≡ 0
 
 pub parked : (o : Option HeldPiece) (n : ℕ) (kind : Removal) → state_in o ≡ Some (Parked n kind) → IsParkedPiece o n kind
-parked None n kind is = absurd (none-some (Parked n kind) is)
-parked (Some piece) n kind is =
-    let state = same_Some piece.state (Parked n kind) is in
-    record { piece = piece; is = refl; state = state; none = ap standing_state state }
+parked o n kind is = grind (arith, common_steps) steps 200000
 
 pub deleted_here : (n : ℕ) → deleted_state n (Parked n Deleted) ≡ 1
 deleted_here n = grind (arith, nat_tests)
@@ -49,9 +43,7 @@ texts_all p p' same (x ∷ keys) = ap (λ t. t ∷ map (text_under p') keys) (sa
 
 plain_all : (p p' : Pieces) → ((q : ℕ) → text_under p' q ≡ text_under p q) → (files : List KeyedFile) → map (plain_file p') files ≡ map (plain_file p) files
 plain_all p p' same [] = refl
-plain_all p p' same (file ∷ files) =
-    ap (λ (texts : List (List ℕ)). record { name = file.name; pieces = texts; tail = file.tail } ∷ map (plain_file p') files) (texts_all p p' same file.keys)
-    ∙ ap (λ fs. plain_file p file ∷ fs) (plain_all p p' same files)
+plain_all p p' same (file ∷ files) = grind (arith, common_steps, texts_all p p' same file.keys, plain_all p p' same files) steps 200000
 
 module _ (fs : List KeyedFile) (p : Pieces) (n at : ℕ) (once : (q : ℕ) → places q fs ≡ standing_count (finite.get p q)) where
   abbrev keys : List ℕ

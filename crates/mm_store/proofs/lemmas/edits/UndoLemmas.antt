@@ -1,15 +1,14 @@
 -- Edits are done, and their undoing gives the files of before.
+use Rattle.std.proofs.lemmas.{Grind.{common_steps}, Bool.{cases_eq}, List.{set-set, set-get_or, get_or-set_same, length-set, Edits.{length-insert, length-remove, get_or-insert_at}}}
 use Rattle.std.proofs.Common.{◌≡◌, ◌≢◌, inl, inr, ℕ, zero, suc, ◌<◌, ◌≤◌, List, [], ◌∷◌, Option, Some, None, is_some, true, length, get_or, set, refl, sym, ap, ◌∙◌, subst, arith}
-use Rattle.std.proofs.lemmas.{Bool.{cases_eq}, List.{set-set, set-get_or, get_or-set_same, length-set, Edits.{length-insert, length-remove, get_or-insert_at}}}
 use Rattle.std.specs.List.{insert, remove}
-use Rattle.mm_store.specs.declared.undo.{Action.{Action}, Undo.TheInside.{Inside}}
-use Rattle.mm_store.specs.Code.{Undone.{undo_by, undo_view}, Edited.{IsReplaced, IsInserted, IsDeleted, IsMoved}, Kept.{places, standing_state, standing_count}}
-use Rattle.mm_store.specs.Language.{EditedKeys.{replaced, inserted, deleted}, FilesView.{KeyedFile, FilesView, plain, bytes_of}}
+use Rattle.mm_store.specs.{declared.undo.{Action.{Action}, Undo.TheInside.{Inside}}, Code.{Undone.{undo_by, undo_view}, Edited.{IsReplaced, IsInserted, IsDeleted, IsMoved}}}
+use Rattle.mm_store.specs.{Code.Kept.{places, standing_count}, Language.{EditedKeys.{replaced, inserted, deleted}, FilesView.{KeyedFile, FilesView, plain, bytes_of}}}
 use Rattle.mm_store.specs.Language.Pieces.{PieceState, Standing, Parked, Removal, Replaced, Deleted, HeldPiece, Pieces, in_state, with_state, standing_piece, state_in, IsParked}
 use Rattle.mm_store.specs.Language.Undoing.{UndoView, EditAction, KeepsOthers, reversed, spent, undone_key, settled_key, keys_in, key_at, moved_list, moved, undone}
 use Rattle.mm_store.proofs.lemmas.files.{PieceLemmas.{text_drop_other, text_put_other, text_state, get_state_same, get_state_other}, MapLemmas.{get_put_other, get_drop_same, get_drop_other, same_but}}
-use Rattle.mm_store.proofs.lemmas.files.{ListLemmas.{in_files, back, keys_with}, EntryLemmas.{same_view}}
-use Rattle.mm_store.proofs.lemmas.edits.{ReplaceLemmas.{key_stands, plain_replaced, old_other}, StepLemmas.{plain_inserted, plain_deleted, plain_moved, bytes_deleted, bytes_moved}}
+use Rattle.mm_store.proofs.lemmas.{files.{ListLemmas.{in_files, back, keys_with}, EntryLemmas.{same_view}}, edits.ReplaceLemmas.{key_stands, plain_replaced, old_other}}
+use Rattle.mm_store.proofs.lemmas.edits.StepLemmas.{plain_inserted, plain_deleted, plain_moved, bytes_deleted, bytes_moved}
 use Rattle.std.specs.FinMap as finite
 use Rattle.mm_store.specs.Language.Undoing as action
 
@@ -33,24 +32,17 @@ pub record StandsIn (o : Option HeldPiece) : Type 0 where
   pub is : o ≡ Some piece
   pub state : piece.state ≡ Standing
 
-standing_is : (s : PieceState) → standing_state s ≡ 1 → s ≡ Standing
-standing_is Standing e = refl
-standing_is (Parked n kind) e = absurd (omega arith)
-
 stands_in : (o : Option HeldPiece) → standing_count o ≡ 1 → StandsIn o
-stands_in None e = absurd (omega arith)
-stands_in (Some piece) e = record { piece = piece; is = refl; state = standing_is piece.state e }
+stands_in o e = grind (arith, common_steps) steps 200000
 
 same_piece : (piece : HeldPiece) (s : PieceState) → piece.state ≡ s → record { text = piece.text; state = s } ≡ piece
 same_piece piece s e = λ i. record { text = piece.text; state = sym e i }
 
 twice : (o : Option HeldPiece) (s t : PieceState) → in_state (Some (in_state o s)) t ≡ in_state o t
-twice None s t = refl
-twice (Some piece) s t = refl
+twice o s t = grind (arith, common_steps) steps 200000
 
 state_is : (o : Option HeldPiece) (s : PieceState) → (in_state o s).state ≡ s
-state_is None s = refl
-state_is (Some piece) s = refl
+state_is o s = grind (arith, common_steps) steps 200000
 
 module _ (p : Pieces) (old : ℕ) (stands : StandsIn (finite.get p old)) where
   revived : in_state (finite.get p old) Standing ≡ stands.piece
@@ -71,8 +63,7 @@ state_drop : (p : Pieces) (old k : ℕ) (s : PieceState) → old ≢ k → finit
 state_drop p old k s differs = same_but _ _ k
     (get_drop_same (with_state p old s) k ∙ sym (get_state_other (finite.remove p k) old s k (λ e. differs (sym e)) ∙ get_drop_same p k))
     (λ q d. get_drop_other (with_state p old s) k q d ∙ elim (cases_eq q old) [
-      | inl is ↦ ap (finite.get (with_state p old s)) is ∙ get_state_same p old s ∙ ap (λ o. Some (in_state o s)) (sym (get_drop_other p k old differs)) ∙
-          sym (get_state_same (finite.remove p k) old s) ∙ ap (finite.get (with_state (finite.remove p k) old s)) (sym is)
+      | inl is ↦ grind (arith, common_steps, get_drop_other, get_state_same) steps 200000
       | inr other ↦ get_state_other p old s q other ∙ sym (get_drop_other p k q d) ∙ sym (get_state_other (finite.remove p k) old s q other)
     ])
 
@@ -219,27 +210,7 @@ module _ (view : FilesView) (n at : ℕ)
 
 -- every key but the dropped one keeps its piece, with its text
 pub keeps_undone : (n : ℕ) (a : EditAction) (view : FilesView) → KeepsOthers (undone_key n a view) view (reversed n a view)
-keeps_undone n (action.Inserted at) view = λ key other some.
-    let p = view.pieces in
-    let k = key_at view n at in
-    let differs : key ≢ k = λ e. other (ap Some (sym e)) in
-    record { there = ap is_some (get_drop_other p k key differs) ∙ some; text = text_drop_other p k key differs }
-keeps_undone n (action.Replaced at old) view = λ key other some.
-    let p = view.pieces in
-    let k = key_at view n at in
-    let differs : key ≢ k = λ e. other (ap Some (sym e)) in
-    record {
-      there = kept_state (finite.remove p k) old Standing key (ap is_some (get_drop_other p k key differs) ∙ some);
-      text = text_state (finite.remove p k) old Standing key ∙ text_drop_other p k key differs;
-    }
-keeps_undone n (action.Deleted at old) view = λ key other some. record { there = kept_state view.pieces old Standing key some; text = text_state view.pieces old Standing key }
-keeps_undone n (action.Moved at to) view = λ key other some. record { there = some; text = refl }
+keeps_undone n a view = grind (arith, common_steps, get_drop_other, text_drop_other, text_state, cases_eq, get_state_other, get_state_same) steps 200000
 
 pub keeps_settled : (a : EditAction) (view : FilesView) → KeepsOthers (settled_key a) view (spent a view)
-keeps_settled (action.Replaced at old) view = λ key other some.
-    let differs : key ≢ old = λ e. other (ap Some (sym e)) in
-    record { there = ap is_some (get_drop_other view.pieces old key differs) ∙ some; text = text_drop_other view.pieces old key differs }
-keeps_settled (action.Deleted at old) view = λ key other some.
-    let differs : key ≢ old = λ e. other (ap Some (sym e)) in
-    record { there = ap is_some (get_drop_other view.pieces old key differs) ∙ some; text = text_drop_other view.pieces old key differs }
-keeps_settled _ view = λ key other some. record { there = some; text = refl }
+keeps_settled a view = grind (arith, common_steps, get_drop_other, text_drop_other) steps 200000

@@ -1,17 +1,15 @@
 -- The steps of a walk do not go by keys.
-use Rattle.std.proofs.{Common.{◌≡◌, ℕ, List, [], ◌∷◌, Option, Some, None, map, refl, sym, ap, ◌∙◌, subst, inl, inr, slice_get}, lemmas.Option.{slice_get-map}}
+use Rattle.std.proofs.{Common.{arith, ◌≡◌, ℕ, List, [], ◌∷◌, Option, Some, map, refl, sym, ap, ◌∙◌, subst, inl, inr, slice_get}, lemmas.{Grind.{common_steps}, Option.{slice_get-map}}}
 use Rattle.std.specs.{List.{AllByRecursion}, Option.{option_map}}
 use Rattle.mm_text.specs.Language.Cut.{HoldsOne}
-use Rattle.mm_store.specs.declared.walk.Spot.{Spot}
-use Rattle.mm_store.specs.Language.{FilesView.{PieceView, FileView, FilesView, files_in, plain, number_of}, Expansion.{Placed, IsInclusion}, Keyless.{bare, keyless_placed}}
-use Rattle.mm_store.specs.Language.Walking.{LevelView, WalkView}
-use Rattle.mm_store.specs.Code.{Gains.{HoldUnits}, Steps.{piece_in, piece_at, IsHere, IncludesNothing, Includes, spot_at, Tells, IsStep}}
-use Rattle.mm_store.proofs.lemmas.{files.ViewLemmas.{there_from_map}, expansion.KeylessLemmas.{keyless_piece, keyless_file, number_keyless, parts_keyless, keyless_bare}}
+use Rattle.mm_store.specs.{declared.walk.Spot.{Spot}, Language.{FilesView.{PieceView, FileView, FilesView, files_in, plain, number_of}, Expansion.{Placed, IsInclusion}}}
+use Rattle.mm_store.specs.{Language.{Keyless.{bare, keyless_placed}, Walking.{LevelView, WalkView}}, Code.Gains.{HoldUnits}}
+use Rattle.mm_store.{specs.Code.Steps.{piece_in, piece_at, IsHere, IncludesNothing, Includes, spot_at, Tells, IsStep}, proofs.lemmas.files.ViewLemmas.{there_from_map}}
+use Rattle.mm_store.proofs.lemmas.expansion.KeylessLemmas.{keyless_piece, keyless_file, number_keyless, parts_keyless, keyless_bare}
 use Rattle.mm_store.specs.declared.walk.Step.TheVariants as steps
 
 in_keyless : (o : Option FileView) (n : ℕ) → piece_in (option_map keyless_file o) n ≡ option_map keyless_piece (piece_in o n)
-in_keyless None n = refl
-in_keyless (Some file) n = slice_get-map keyless_piece file.pieces n
+in_keyless o n = grind (arith, common_steps, keyless_piece, slice_get-map) steps 200000
 
 own_keyless : (parts : List Placed) → AllByRecursion (λ part. ¬ IsInclusion part) parts → AllByRecursion (λ part. ¬ IsInclusion part) (map keyless_placed parts)
 own_keyless [] h = tt
@@ -21,8 +19,7 @@ nothing_keyless : (file n : ℕ) (piece : PieceView) → IncludesNothing file n 
 nothing_keyless file n piece h = record { placed = map keyless_placed h.placed; are_parts = parts_keyless file n piece h.placed h.are_parts; own = own_keyless h.placed h.own }
 
 includes_keyless : (file n : ℕ) (piece : PieceView) (name : List ℕ) → Includes file n piece name → Includes file n (keyless_piece piece) name
-includes_keyless file n piece name h =
-    record { part = keyless_placed h.part; are_parts = parts_keyless file n piece (h.part ∷ []) h.are_parts; is_inclusion = h.is_inclusion; is_name = h.is_name }
+includes_keyless file n piece name h = grind (arith, common_steps, parts_keyless file n piece (h.part ∷ []) h.are_parts) steps 200000
 
 module _ (files : List FileView) where
   at_keyless : (level : LevelView) → piece_at (map keyless_file files) level ≡ option_map keyless_piece (piece_at files level)

@@ -1,13 +1,11 @@
 -- What the files weigh whose names are not taken. Each inclusion of a file takes its name, and its weight with it.
+use Rattle.std.proofs.lemmas.{Grind.{common_steps}, Bool.{false≢true}, Slice.Eq.{bytes_eq-Decides}, List.Elements.{Contains-append_left, Contains-append_right, Contains-append_cases}}
+use Rattle.std.proofs.lemmas.{Option.{none-some, same_Some}, Simd.{map-map}}
 use Rattle.std.proofs.Common.{◌≡◌, ℕ, zero, suc, ◌+◌, ◌≤◌, Bool, true, false, ◌||◌, List, [], ◌∷◌, ◌++◌, Some, length, map, refl, sym, ap, ◌∙◌, subst, arith, length-append, Contains, ◌⊎◌, inl, inr}
-use Rattle.std.proofs.Common.{if◌then◌else◌, slice_get}
-use Rattle.std.proofs.lemmas.{Bool.{false≢true}, Slice.Eq.{bytes_eq-Decides}, List.Elements.{Contains-append_left, Contains-append_right, Contains-append_cases}, Option.{none-some, same_Some}}
-use Rattle.std.proofs.lemmas.Simd.{map-map}
-use Rattle.std.specs.{List.{list_any, concat}, Str.{bytes_eq}}
-use Rattle.mm_store.specs.declared.item.Item.{Item}
-use Rattle.mm_store.specs.Language.{Pieces.{text_under}, FilesView.{KeyedFile, PieceView, FileView, FilesView, files_in, file_view, piece_view, piece_texts, plain, plain_file, bytes_of}}
-use Rattle.mm_store.specs.Language.Expansion.{Placed, Expands, nothing, own, again, missing, included, IsExpansion}
-use Rattle.mm_store.proofs.lemmas.{expansion.CountLemmas.{placed_few}, files.GrowthLemmas.{name_of_number}}
+use Rattle.std.{proofs.Common.{if◌then◌else◌, slice_get}, specs.{List.{list_any, concat}, Str.{bytes_eq}}}
+use Rattle.mm_store.specs.{declared.item.Item.{Item}, Language.{Pieces.{text_under}, FilesView.{KeyedFile, FileView, FilesView, files_in, file_view, piece_texts, plain, plain_file, bytes_of}}}
+use Rattle.mm_store.{specs.Language.Expansion.{Placed, Expands, nothing, own, again, missing, included, IsExpansion}, proofs.lemmas.expansion.CountLemmas.{placed_few}}
+use Rattle.mm_store.proofs.lemmas.files.GrowthLemmas.{name_of_number}
 
 abbrev pub is_among : List ℕ → List (List ℕ) → Bool
 is_among name names = list_any (λ other. bytes_eq name other) names
@@ -21,8 +19,7 @@ contains_from_among name [] h = absurd (false≢true h)
 contains_from_among name (other ∷ names) h = contains_case name other names (bytes_eq name other) refl h (contains_from_among name names)
 
 one_is : (y name : List ℕ) → Contains (y ∷ []) name → name ≡ y
-one_is y name (zero, h, e) = sym e
-one_is y name (suc k, h, e) = absurd (omega arith)
+one_is y name h = grind (arith, common_steps) steps 200000
 
 among_case : (name other : List ℕ) (names : List (List ℕ)) (b : Bool) → bytes_eq name other ≡ b → Contains (other ∷ []) name ⊎ Contains names name → (Contains names name → is_among name names ≡ true) → (b || is_among name names) ≡ true
 among_case name other names true e h later = refl
@@ -57,7 +54,8 @@ module _ (w : FileView → ℕ) where
   weight_taken [] names n file there new = absurd (none-some file there)
   weight_taken (other ∷ files) names zero file there new =
       let same : file ≡ other = same_Some file other (sym there) in
-      let taken : is_among other.name (names ++ file.name ∷ []) ≡ true = among_from_contains other.name (names ++ file.name ∷ []) (Contains-append_right names (file.name ∷ []) other.name (0, omega arith, ap (λ (file : FileView). file.name) same)) in
+      let taken : is_among other.name (names ++ file.name ∷ []) ≡ true =
+      among_from_contains other.name (names ++ file.name ∷ []) (Contains-append_right names (file.name ∷ []) other.name (0, omega arith, ap (λ (file : FileView). file.name) same)) in
       let fresh : is_among other.name names ≡ false = ap (λ (file : FileView). is_among file.name names) (sym same) ∙ new in
       let a : (if is_among other.name (names ++ file.name ∷ []) then 0 else w other) ≡ 0 = ap (λ b. if b then 0 else w other) taken in
       let b : (if is_among other.name names then 0 else w other) ≡ w other = ap (λ b. if b then 0 else w other) fresh in
@@ -120,6 +118,4 @@ bytes_few view = few view.keyed
   where
     few : (keyed : List KeyedFile) → all_bytes (map (file_view view.pieces) keyed) ≤ bytes_of (map (plain_file view.pieces) keyed)
     few [] = omega arith
-    few (file ∷ keyed) =
-        let same = map-map (λ (piece : PieceView). piece.text) (piece_view view.pieces) file.keys in
-        omega (arith, few keyed, ap (λ texts. length (concat texts)) same, length-append (concat (map (text_under view.pieces) file.keys)) file.tail)
+    few (file ∷ keyed) = grind (arith, common_steps, few keyed, length-append (concat (map (text_under view.pieces) file.keys)) file.tail, map-map) steps 200000

@@ -1,16 +1,13 @@
 -- Items are no more than bytes.
-use Rattle.std.proofs.{Common.{◌≡◌, ℕ, suc, ◌+◌, ◌<◌, ◌≤◌, Bool, false, if◌then◌else◌, List, [], ◌∷◌, ◌++◌, length, refl, ap, arith, length-append}, lemmas.List.{length-map}}
+use Rattle.std.proofs.{lemmas.{Grind.{common_steps}, List.{length-map}}, Common.{◌≡◌, ℕ, suc, ◌+◌, ◌<◌, ◌≤◌, Bool, false, if◌then◌else◌, List, [], ◌∷◌, ◌++◌, length, ap, arith, length-append}}
 use Rattle.std.specs.List.{flat_map, concat}
-use Rattle.mm_text.specs.declared.{word.Word.{Word}, part.PartKind.TheVariants.{BlockEnd}}
-use Rattle.mm_text.specs.Language.{Run.{Run, runs, runs_from, with_front, is_white, ends_run}, Reading.{Single, Comment, segment_words, segment_runs, HasWords}}
-use Rattle.mm_text.specs.Language.{Unit.{Shape, Declaration, Labelled, Provable, Inclusion, Units, Nothing, Simple, Block, shape_tokens, unit_tokens, token_of}, Part.{part, parts_of}}
-use Rattle.mm_store.specs.Language.{FilesView.{PieceView, piece_texts}, Expansion.{Placed, named_parts, placed_part, ArePartsOf, ArePlaced}}
-use Rattle.mm_store.proofs.lemmas.expansion.NameLemmas.{named_are}
+use Rattle.mm_text.specs.Language.{Run.{Run, runs, runs_from, with_front, is_white, ends_run}, Reading.{Single, Comment, segment_words, segment_runs}}
+use Rattle.mm_text.specs.Language.{Unit.{Shape, Units, Nothing, Simple, Block, shape_tokens, unit_tokens, token_of}, Part.{parts_of}}
+use Rattle.mm_store.{specs.Language.{FilesView.{PieceView, piece_texts}, Expansion.{Placed, ArePartsOf, ArePlaced}}, proofs.lemmas.expansion.NameLemmas.{named_are}}
 use Rattle.mm_text.specs.Language.Reading as reading
 
 front_count : (at b : ℕ) (runs : List Run) → length (with_front at b runs) ≡ length runs
-front_count at b [] = refl
-front_count at b (run ∷ runs) = refl
+front_count at b runs = grind (arith, common_steps) steps 200000
 
 run_count : (w e : Bool) (at b n : ℕ) (run : Run) (runs : List Run) → length runs ≤ n → length (if w then runs else if e then run ∷ runs else with_front at b runs) ≤ suc n
 run_count false false at b n run runs h = omega (arith, front_count at b runs)
@@ -23,42 +20,19 @@ runs_few at (b ∷ bytes) = run_count (is_white b) (ends_run bytes) at b (length
 words_in_parts : (parts : List reading.Segment) → length (flat_map segment_words parts) ≤ length (flat_map segment_runs parts)
 words_in_parts [] = omega arith
 words_in_parts (Single run word ∷ parts) = omega (arith, words_in_parts parts)
-words_in_parts (Comment first inside last ∷ parts) =
-    omega (arith, words_in_parts parts, length-append (first ∷ (inside ++ last ∷ [])) (flat_map segment_runs parts))
-
-words_few : (text : List ℕ) (words : List Word) → HasWords text words → length words ≤ length text
-words_few text words has =
-    let are = has.words_are in
-    omega (arith, words_in_parts are.parts, ap length are.singles, ap length are.reading.joined, runs_few 0 text)
+words_in_parts (Comment first inside last ∷ parts) = grind (arith, common_steps, words_in_parts parts, length-append (first ∷ (inside ++ last ∷ [])) (flat_map segment_runs parts)) steps 200000
 
 shape_some : (shape : Shape) → 0 < length (shape_tokens shape)
-shape_some (Declaration keyword symbols end) = omega arith
-shape_some (Labelled label keyword symbols end) = omega arith
-shape_some (Provable label keyword symbols proof steps end) = omega arith
-shape_some (Inclusion begin name end) = omega arith
+shape_some shape = grind (arith, common_steps) steps 200000
 
 parts_few : (units : Units) → length (parts_of units) ≤ length (unit_tokens units)
 parts_few Nothing = omega arith
 parts_few (Simple shape later) = omega (arith, parts_few later, shape_some shape, length-append (shape_tokens shape) (unit_tokens later))
-parts_few (Block begin inner end later) =
-    omega (arith, parts_few inner, parts_few later, length-append (parts_of inner) (part BlockEnd end end ∷ parts_of later), length-append (unit_tokens inner) (end ∷ unit_tokens later))
+parts_few (Block begin inner end later) = grind (arith, common_steps, parts_few inner, parts_few later, length-append) steps 200000
 
 of_piece : (file n : ℕ) (piece : PieceView) (placed : List Placed) → ArePartsOf file n piece placed → length placed ≤ length piece.text
 of_piece file n piece placed are =
-    let named = named_parts are.units in
-    let many = length-map named (λ named. named.part) in
-    omega (
-      arith,
-      ap length are.parts,
-      length-map named (placed_part file n piece.key),
-      many,
-      ap length (named_are are.units),
-      parts_few are.units,
-      ap
-          length are.spells,
-      length-map are.words (token_of piece.text),
-      words_few piece.text are.words are.has_words,
-    )
+    grind (arith, common_steps, named_are are.units, parts_few are.units, length-map are.words (token_of piece.text), length-map, runs_few, words_in_parts) steps 200000
 
 pub placed_few : (file n : ℕ) (pieces : List PieceView) (placed : List Placed) → ArePlaced file n pieces placed → length placed ≤ length (concat (piece_texts pieces))
 placed_few file n [] placed are = omega (arith, ap length are)

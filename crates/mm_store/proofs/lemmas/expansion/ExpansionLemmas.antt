@@ -1,8 +1,8 @@
 -- Files give one list of items at most.
-use Rattle.std.proofs.{Common.{◌≡◌, ℕ, ◌+◌, true, List, [], ◌∷◌, ◌++◌, Some, None, map, refl, sym, ap, ◌∙◌, subst, Contains, ◌⊎◌, inl, inr, slice_get}, lemmas.Option.{none-some, same_Some}}
+use Rattle.std.proofs.{Common.{arith, ◌≡◌, ℕ, ◌+◌, true, List, [], ◌∷◌, ◌++◌, Some, None, map, refl, sym, ap, ◌∙◌, subst, Contains, ◌⊎◌, inl, inr, slice_get}, lemmas.Grind.{elements}}
+use Rattle.std.proofs.lemmas.Option.{none-some, same_Some}
 use Rattle.mm_text.specs.{declared.word.Word.{Word}, Language.{Reading.{HasWords}, Unit.{Units, AreUnits, unit_tokens, tokens_of}}}
-use Rattle.mm_store.specs.declared.item.Item.{Item}
-use Rattle.mm_store.specs.Language.FilesView.{PieceView, FileView, number_of}
+use Rattle.mm_store.specs.{declared.item.Item.{Item}, Language.FilesView.{PieceView, FileView, number_of}}
 use Rattle.mm_store.specs.Language.Expansion.{Placed, IsInclusion, placed_item, named_parts, placed_part, ArePartsOf, ArePlaced, Expands, nothing, own, again, missing, included, IsExpansion}
 
 abbrev pub OneReading : Type 0
@@ -56,8 +56,7 @@ way nothing = (refl, refl)
 way (own {items = items} not d) = inl (inl (record { is_own = not; rest = items; is = refl; later = d }))
 way (again is old d) = inl (inr (record { is_inclusion = is; known = old; later = d }))
 way (missing {items = items} is new none d) = inr (inl (record { is_inclusion = is; new = new; none = none; rest = items; is = refl; later = d }))
-way (included {inner = inner} {between = between} {gained = gained} {items = items} {number = number} {file = file} is new at there placed inside d) =
-    inr (inr (record { is_inclusion = is; new = new; number = number; file = file; is_number = at; there = there; inner = inner; placed = placed; gained = gained; between = between; inside = inside; rest = items; is = refl; later = d }))
+way (included {inner = inner} {between = between} {gained = gained} {items = items} {number = number} {file = file} is new at there placed inside d) = grind (arith, elements) steps 200000
 
 -- all later parts give one thing
 abbrev One : List FileView → List Placed → List (List ℕ) → List Item → List (List ℕ) → Type 0

@@ -1,9 +1,8 @@
 -- Files each piece of which holds one unit have an expansion from each top file on.
 use Rattle.std.proofs.{Common.{◌≡◌, ◌≢◌, ℕ, zero, suc, ◌<◌, ◌≤◌, Bool, true, false, Option, Some, None, List, [], ◌∷◌, ◌++◌, refl, sym, ◌∙◌, arith, Contains}, lemmas.Bool.{false≢true}}
 use Rattle.mm_text.specs.declared.part.PartKind.{PartKind}
-use Rattle.mm_store.specs.declared.item.Item.{Item}
-use Rattle.mm_store.specs.Language.{Expansion.{Placed, IsInclusion, placed_item, Expands, nothing, own, again, missing, included, IsExpansion}, FilesView.{FileView, number_of}}
-use Rattle.mm_store.specs.Code.Gains.{HoldUnits}
+use Rattle.mm_store.specs.{declared.item.Item.{Item}, Language.Expansion.{Placed, IsInclusion, placed_item, Expands, nothing, own, again, missing, included, IsExpansion}}
+use Rattle.mm_store.specs.{Language.FilesView.{FileView, number_of}, Code.Gains.{HoldUnits}}
 use Rattle.mm_store.proofs.lemmas.expansion.{BudgetLemmas.{is_among, contains_from_among, among_from_contains, weight, weight_less, weight_entered}, WalkStepLemmas.{parts_there}}
 use Rattle.mm_store.proofs.lemmas.files.GrowthLemmas.{there_number, name_of_number}
 use Rattle.mm_text.specs.declared.part.PartKind.TheVariants as parts

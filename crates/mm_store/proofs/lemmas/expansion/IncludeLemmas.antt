@@ -1,14 +1,10 @@
 -- A piece is one inclusion, or includes nothing.
-use Rattle.std.proofs.Common.{◌≡◌, ℕ, ◌<◌, true, false, length, arith, List, [], ◌∷◌, Some, map, refl, sym, ap, ◌∙◌, subst, ◌⊎◌, inl, inr, ◌==◌, slice_get}
-use Rattle.std.proofs.lemmas.{Bool.{eqb-true, eqb-false}, Option.{none-some, same_Some, slice_get_within}}
-use Rattle.std.specs.List.{AllByRecursion}
-use Rattle.mm_text.specs.declared.{word.Word.{Word}, part.Part.{Part}}
-use Rattle.mm_text.specs.Language.{Reading.{HasWords}, Unit.{Declaration, Labelled, Provable, Inclusion, Units, Nothing, Simple, Block, AreUnits}}
-use Rattle.mm_text.specs.Language.{Part.{HasUnits, HasParts, part, part_bytes, shape_part}, Cut.{IsOne, HoldsOne}}
-use Rattle.mm_store.specs.declared.files.PieceKey.{PieceKey}
-use Rattle.mm_store.specs.Language.{FileFacts.{second_word}, Expansion.{Named, Placed, IsInclusion, included_name, nameless, named_parts, placed_part, ArePartsOf}}
-use Rattle.mm_store.specs.Code.Steps.{IncludesNothing, Includes}
-use Rattle.mm_store.proofs.lemmas.expansion.NameLemmas.{StandsAlone, all_and, all_named, named_are, inner_kind, declared_kind, labelled_kind}
+use Rattle.std.proofs.lemmas.{Grind.{common_steps}, Bool.{eqb-true}, Option.{none-some, same_Some, slice_get_within}}
+use Rattle.std.{proofs.Common.{◌≡◌, ℕ, ◌<◌, true, false, length, arith, List, [], ◌∷◌, Some, map, refl, sym, ap, ◌∙◌, subst, ◌⊎◌, inl, inr, ◌==◌, slice_get}, specs.List.{AllByRecursion}}
+use Rattle.mm_text.specs.{declared.{word.Word.{Word}, part.Part.{Part}}, Language.{Reading.{HasWords}, Unit.{Units, Nothing, Simple, Block, AreUnits}, Part.{HasUnits, HasParts, part, part_bytes}}}
+use Rattle.mm_text.specs.Language.Cut.{IsOne, HoldsOne}
+use Rattle.mm_store.specs.{declared.files.PieceKey.{PieceKey}, Language.{FileFacts.{second_word}, Expansion.{Named, Placed, IsInclusion, nameless, named_parts, placed_part, ArePartsOf}}}
+use Rattle.mm_store.{specs.Code.Steps.{IncludesNothing, Includes}, proofs.lemmas.expansion.NameLemmas.{StandsAlone, all_and, all_named, named_are, inner_kind, declared_kind, labelled_kind}}
 use Rattle.mm_text.specs.declared.part.PartKind.TheVariants as kinds
 
 abbrev IsOwn : Named → Type 0
@@ -19,9 +15,6 @@ start_own e = cc
 
 end_own : (kinds.BlockEnd ≡ kinds.Inclusion) → ⊥
 end_own e = cc
-
-theorem_own : (kinds.Theorem ≡ kinds.Inclusion) → ⊥
-theorem_own e = cc
 
 inner_own : (units : Units) → AreUnits false units → AllByRecursion IsOwn (named_parts units)
 inner_own Nothing are = tt
@@ -38,14 +31,7 @@ abbrev Alone : Units → Type 0
 Alone units = (named : Named) × (named_parts units ≡ named ∷ []) × (named.part.kind ≡ kinds.Inclusion)
 
 one_cases : (units : Units) → AreUnits true units → IsOne units → Alone units ⊎ AllByRecursion IsOwn (named_parts units)
-one_cases Nothing are one = absurd one
-one_cases (Simple (Declaration keyword symbols end) Nothing) are one = inr (declared_kind keyword are.0.0, tt)
-one_cases (Simple (Labelled label keyword symbols end) Nothing) are one = inr (labelled_kind keyword are.0.1, tt)
-one_cases (Simple (Provable label keyword symbols proof steps end) Nothing) are one = inr (theorem_own, tt)
-one_cases (Simple (Inclusion begin name end) Nothing) are one = inl (record { part = shape_part (Inclusion begin name end); name = included_name (Inclusion begin name end) }, refl, refl)
-one_cases (Block begin inner end Nothing) are one =
-    inr (start_own, all_and IsOwn (named_parts inner) (nameless (part kinds.BlockEnd end end) ∷ []) (inner_own inner are.1) (end_own, tt))
-one_cases _ are one = absurd cc
+one_cases units are one = grind (arith, common_steps, all_and, declared_kind, end_own, inner_own, labelled_kind, start_own) steps 200000
 
 -- no parts have no first
 pub no_first : (parts : List Part) (part : Part) → slice_get parts 0 ≡ Some part → (length parts == 0) ≡ true → ⊥
@@ -53,8 +39,7 @@ no_first parts part there none = absurd (omega (arith, slice_get_within parts 0 
 
 -- parts have a first
 pub some_first : (parts : List Part) → (length parts == 0) ≡ false → 0 < length parts
-some_first [] some = absurd (eqb-false 0 0 some refl)
-some_first (part ∷ parts) some = omega arith
+some_first parts some = grind (arith, common_steps) steps 200000
 
 -- the parts of a piece that holds one unit
 module _ (text : List ℕ) (parts : List Part) (unit : HoldsOne text) (divided : HasParts text parts) (file n : ℕ) (key : PieceKey) where

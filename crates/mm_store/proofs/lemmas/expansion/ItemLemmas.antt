@@ -1,22 +1,16 @@
 -- The items that a walk goes past, as the code puts them one after another.
-use Rattle.std.proofs.{Common.{◌≡◌, ℕ, List, [], ◌∷◌, ◌++◌, map, sym, ap, ◌∙◌, subst, append-nil, inl, inr, IsSome}, lemmas.Simd.{map-map}}
-use Rattle.mm_text.specs.{declared.part.Part.{Part}, Language.Part.{HasUnits, HasParts}}
-use Rattle.mm_store.specs.declared.{item.Item.{Item}, walk.Spot.{Spot}}
-use Rattle.mm_store.specs.Language.{Pieces.{text_under}, FilesView.{PieceView, FilesView, files_in}, FileFacts.{HoldsPieces}, Expansion.{Placed, placed_item, named_parts, placed_part, ArePartsOf}}
-use Rattle.mm_store.specs.Language.Walking.{LevelView, WalkView, IsWalk}
-use Rattle.mm_store.specs.Code.{Gains.{HoldUnits, item_of_part}, Steps.{spot_at, Tells, IsStep}}
-use Rattle.mm_store.proofs.lemmas.expansion.{ExpansionLemmas.{OneReading, OneDivision}, NameLemmas.{named_are}, WalkStepLemmas.{leaves, comes_again, enters, passes, passes_told, walk_on}}
-use Rattle.mm_store.proofs.lemmas.files.ViewLemmas.{PieceThere, next_there, held_there}
+use Rattle.std.proofs.{Common.{arith, ◌≡◌, ℕ, List, [], ◌∷◌, ◌++◌, map, sym, ap, ◌∙◌, subst, append-nil, inl, inr, IsSome}, lemmas.{Grind.{elements}, Simd.{map-map}}}
+use Rattle.mm_text.specs.{declared.part.Part.{Part}, Language.Part.{HasParts}}
+use Rattle.mm_store.specs.{declared.{item.Item.{Item}, walk.Spot.{Spot}}, Language.{Pieces.{text_under}, FilesView.{PieceView, FilesView, files_in}, FileFacts.{HoldsPieces}}}
+use Rattle.mm_store.specs.{Language.{Expansion.{Placed, placed_item, named_parts, placed_part, ArePartsOf}, Walking.{LevelView, WalkView, IsWalk}}, Code.Gains.{HoldUnits, item_of_part}}
+use Rattle.mm_store.{specs.Code.Steps.{spot_at, Tells, IsStep}, proofs.lemmas.expansion.{ExpansionLemmas.{OneReading, OneDivision}, NameLemmas.{named_are}}}
+use Rattle.mm_store.proofs.lemmas.{expansion.WalkStepLemmas.{leaves, comes_again, enters, passes, passes_told, walk_on}, files.ViewLemmas.{PieceThere, next_there, held_there}}
 use Rattle.std.specs.FinMap as finite
 use Rattle.mm_store.specs.declared.walk.Step.TheVariants as steps
 
 -- the items of a piece, part by part
 items_are : (level : LevelView) (piece : PieceView) (placed : List Placed) (parts : List Part) → ArePartsOf level.file level.piece piece placed → HasParts piece.text parts → map (item_of_part (spot_at level piece)) parts ≡ map placed_item placed
-items_are level piece placed parts are divided =
-    let has : HasUnits piece.text are.units = record { words = are.words; has_words = are.has_words; are_units = are.are_units; spells = are.spells } in
-    let spot = spot_at level piece in
-    ap (map (item_of_part spot)) (divided are.units has ∙ sym (named_are are.units)) ∙ map-map (item_of_part spot) (λ named. named.part) (named_parts are.units)
-    ∙ sym (ap (map placed_item) are.parts ∙ map-map placed_item (placed_part level.file level.piece piece.key) (named_parts are.units))
+items_are level piece placed parts are divided = grind (arith, named_are are.units, map-map placed_item (placed_part level.file level.piece piece.key) (named_parts are.units), map-map) steps 200000
 
 -- the piece of a step's items is held
 pub spot_held : (view : FilesView) (old new : WalkView) (spot : Spot) → HoldsPieces view → IsStep (files_in view) old (steps.Items spot) new → IsSome (finite.get view.pieces spot.key.at)
@@ -30,8 +24,7 @@ spot_held view old new spot holds (inr p) =
 -- its text is the one under its key
 own_parts : (view : FilesView) (level : LevelView) (piece : PieceView) (spot : Spot) (parts : List Part) → PieceThere view level.file level.piece piece
     → spot ≡ spot_at level piece → HasParts (text_under view.pieces spot.key.at) parts → HasParts piece.text parts
-own_parts view level piece spot parts there is divided =
-    subst (λ text. HasParts text parts) (sym there.text) (subst (λ (spot : Spot). HasParts (text_under view.pieces spot.key.at) parts) is divided)
+own_parts view level piece spot parts there is divided = grind (arith, elements) steps 200000
 
 module _ (one_reading : OneReading) (one_division : OneDivision) (view : FilesView) (hold : HoldUnits (files_in view)) (top : List ℕ) (items : List Item) (old new : WalkView) (is : IsWalk (files_in view) top items old) where
   pub walk_items : (spot : Spot) (parts : List Part) → IsStep (files_in view) old (steps.Items spot) new → HasParts (text_under view.pieces spot.key.at) parts → IsWalk (files_in view) top (items ++ map (item_of_part spot) parts) new

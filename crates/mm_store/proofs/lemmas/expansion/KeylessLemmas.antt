@@ -1,11 +1,10 @@
 -- Files that differ in the keys of their pieces alone give items that differ in their keys alone.
-use Rattle.std.proofs.{Common.{◌≡◌, ℕ, ◌+◌, List, [], ◌∷◌, Some, map, bytes_eq, refl, sym, ap, ◌∙◌, subst, slice_get}, lemmas.{List.{map-append}, Option.{slice_get-map}, Simd.{map-map}}}
-use Rattle.std.specs.Option.{option_map}
-use Rattle.mm_store.specs.declared.item.Item.{Item}
-use Rattle.mm_store.specs.Language.FilesView.{KeyedFile, PieceView, FileView, FilesView, files_in, file_view, piece_view, plain, plain_file, number_of, without_keys}
+use Rattle.std.proofs.{Common.{arith, ◌≡◌, ℕ, ◌+◌, List, [], ◌∷◌, Some, map, bytes_eq, refl, sym, ap, ◌∙◌, subst, slice_get}, lemmas.{Grind.{common_steps}, List.{map-append}, Option.{slice_get-map}}}
+use Rattle.std.{proofs.lemmas.Simd.{map-map}, specs.Option.{option_map}}
+use Rattle.mm_store.specs.{declared.item.Item.{Item}, Language.FilesView.{PieceView, FileView, FilesView, files_in, plain, number_of, without_keys}}
 use Rattle.mm_store.specs.Language.Expansion.{Placed, named_parts, placed_part, ArePartsOf, ArePlaced, Expands, nothing, own, again, missing, included, IsExpansion}
-use Rattle.mm_store.specs.Language.Keyless.{one_key, bare_file, bare, keyless_placed, keyless_item}
-use Rattle.mm_store.proofs.lemmas.{expansion.ExpansionLemmas.{OneReading, OneDivision, expansion_one}, files.ViewLemmas.{position_map}}
+use Rattle.mm_store.{specs.Language.Keyless.{one_key, bare_file, bare, keyless_placed, keyless_item}, proofs.lemmas.expansion.ExpansionLemmas.{OneReading, OneDivision, expansion_one}}
+use Rattle.mm_store.proofs.lemmas.files.ViewLemmas.{position_map}
 
 -- a piece, and a file, under one key
 abbrev pub keyless_piece : PieceView → PieceView
@@ -23,13 +22,7 @@ all_keyless (file ∷ files) = ap (λ file. file ∷ map keyless_file files) (ke
 
 -- the files with keys and texts, without keys
 pub keyless_bare : (view : FilesView) → map keyless_file (files_in view) ≡ bare (plain view)
-keyless_bare view = all_keyless (files_in view) ∙ ap (map bare_file) (same view.keyed)
-  where
-    same : (keyed : List KeyedFile) → map without_keys (map (file_view view.pieces) keyed) ≡ map (plain_file view.pieces) keyed
-    same [] = refl
-    same (file ∷ keyed) =
-        ap (λ texts. record { name = file.name; pieces = texts; tail = file.tail } ∷ map without_keys (map (file_view view.pieces) keyed)) (map-map (λ (piece : PieceView). piece.text) (piece_view view.pieces) file.keys)
-        ∙ ap (λ files. plain_file view.pieces file ∷ files) (same keyed)
+keyless_bare view = grind (arith, common_steps, all_keyless, map-map) steps 200000
 
 pub same_keyless : (a b : List FileView) → map without_keys a ≡ map without_keys b → map keyless_file a ≡ map keyless_file b
 same_keyless a b same = all_keyless a ∙ ap (map bare_file) same ∙ sym (all_keyless b)
@@ -42,8 +35,7 @@ there_keyless : (files : List FileView) (number : ℕ) (file : FileView) → sli
 there_keyless files number file there = slice_get-map keyless_file files number ∙ ap (option_map keyless_file) there
 
 pub parts_keyless : (file n : ℕ) (piece : PieceView) (placed : List Placed) → ArePartsOf file n piece placed → ArePartsOf file n (keyless_piece piece) (map keyless_placed placed)
-parts_keyless file n piece placed are =
-    record { words = are.words; units = are.units; has_words = are.has_words; are_units = are.are_units; spells = are.spells; parts = ap (map keyless_placed) are.parts ∙ map-map keyless_placed (placed_part file n piece.key) (named_parts are.units) }
+parts_keyless file n piece placed are = grind (arith, common_steps, map-map keyless_placed (placed_part file n piece.key) (named_parts are.units)) steps 200000
 
 placed_keyless : (file n : ℕ) (pieces : List PieceView) (placed : List Placed) → ArePlaced file n pieces placed → ArePlaced file n (map keyless_piece pieces) (map keyless_placed placed)
 placed_keyless file n [] placed are = ap (map keyless_placed) are
@@ -62,16 +54,7 @@ expands_keyless {files} {names = names} {after = after} (included {part = part} 
 
 pub expansion_keyless : (files : List FileView) (top : List ℕ) (items : List Item) → IsExpansion files top items → IsExpansion (map keyless_file files) top (map keyless_item items)
 expansion_keyless files top items is =
-    record {
-      number = is.number;
-      file = keyless_file is.file;
-      is_top = number_keyless files top ∙ is.is_top;
-      there = there_keyless files is.number is.file is.there;
-      parts = map keyless_placed is.parts;
-      placed = placed_keyless is.number 0 is.file.pieces is.parts is.placed;
-      after = is.after;
-      expands = expands_keyless is.expands;
-    }
+    grind (arith, common_steps, number_keyless files top, there_keyless files is.number is.file is.there, placed_keyless is.number 0 is.file.pieces is.parts is.placed, expands_keyless is.expands) steps 200000
 
 pub same_items : OneReading → OneDivision → (a b : List FileView) (top : List ℕ) (items others : List Item) → map without_keys a ≡ map without_keys b
     → IsExpansion a top items → IsExpansion b top others → map keyless_item items ≡ map keyless_item others

@@ -1,17 +1,14 @@
 -- The names of inclusions: those of the units, and the second words of the items' own bytes.
-use Rattle.std.proofs.Common.{◌≡◌, ◌⊎◌, ℕ, ◌+◌, ◌<◌, false, List, [], ◌∷◌, ◌++◌, Some, None, map, refl, sym, ap, ◌∙◌, subst, append_assoc, length, arith, length-append, inl, inr, All, slice_get}
-use Rattle.std.proofs.lemmas.{Bool.{false≢true}, List.{get_or_at, map-append, Elements.{All-from_recursion}}, Option.{slice_get-get_or}}
+use Rattle.std.proofs.lemmas.{Grind.{common_steps, elements}, List.{get_or_at, map-append, Elements.{All-from_recursion}}, Option.{slice_get-get_or}}
+use Rattle.std.proofs.Common.{◌≡◌, ◌⊎◌, ℕ, ◌+◌, ◌<◌, false, List, [], ◌∷◌, ◌++◌, Some, None, map, refl, sym, ap, ◌∙◌, subst, append_assoc, length, arith, length-append, All, slice_get}
 use Rattle.std.specs.List.{AllByRecursion}
-use Rattle.mm_text.specs.declared.{word.{Word.{Word}, Keyword.TheVariants.{Constants, Variables, Disjoint, Floating, Essential, Axiom}}, part.PartKind.{PartKind}}
-use Rattle.mm_text.specs.Language.Reading.{HasWords}
+use Rattle.mm_text.specs.{declared.{word.{Word.{Word}, Keyword.TheVariants.{Constants, Variables, Disjoint, Floating, Essential, Axiom}}, part.PartKind.{PartKind}}, Language.Reading.{HasWords}}
 use Rattle.mm_text.specs.Language.Unit.{Token, IsKeyword, Shape, Declaration, Labelled, Provable, Inclusion, shape_tokens, IsShape, Units, Nothing, Simple, Block, AreUnits, spellings, tokens_of}
 use Rattle.mm_text.specs.Language.{Part.{HasUnits, part, part_bytes, parts_of, shape_part, word_part}, Cut.{IsOne, HoldsOne}}
-use Rattle.mm_store.specs.declared.item.Item.{Item}
-use Rattle.mm_store.specs.Language.{Pieces.{text_in, text_under}, FilesView.{PieceView, FileView, FilesView, files_in, number_of}, FileFacts.{NamesNoFile, second_word}}
+use Rattle.mm_store.specs.{declared.item.Item.{Item}, Language.{Pieces.{text_under}, FilesView.{PieceView, FileView, FilesView, files_in, number_of}, FileFacts.{NamesNoFile, second_word}}}
 use Rattle.mm_store.specs.Language.Expansion.{Named, Placed, IsInclusion, included_name, item_kind, placed_item, nameless, named_parts, placed_part, ArePlaced, Expands, nothing, own, again, missing}
-use Rattle.mm_store.specs.Language.Expansion.{included, IsExpansion}
-use Rattle.mm_store.specs.Code.Gains.{IsNamed, HoldUnits}
-use Rattle.mm_store.proofs.lemmas.{expansion.ExpansionLemmas.{OneReading, OneDivision}, files.ViewLemmas.{piece_there}}
+use Rattle.mm_store.{specs.{Language.Expansion.{included, IsExpansion}, Code.Gains.{IsNamed, HoldUnits}}, proofs.lemmas.expansion.ExpansionLemmas.{OneReading, OneDivision}}
+use Rattle.mm_store.proofs.lemmas.files.ViewLemmas.{piece_there}
 use Rattle.mm_text.specs.declared.part.PartKind.TheVariants as parts
 use Rattle.mm_store.specs.declared.item.ItemKind.TheVariants as items
 
@@ -19,11 +16,7 @@ use Rattle.mm_store.specs.declared.item.ItemKind.TheVariants as items
 pub named_are : (units : Units) → map (λ named. named.part) (named_parts units) ≡ parts_of units
 named_are Nothing = refl
 named_are (Simple shape later) = ap (λ ps. shape_part shape ∷ ps) (named_are later)
-named_are (Block begin inner end later) =
-    let first = part parts.BlockStart begin begin in
-    let last = part parts.BlockEnd end end in
-    ap (λ ps. first ∷ ps) (map-append (λ named. named.part) (named_parts inner) (nameless last ∷ named_parts later) ∙ ap
-    (λ ps. ps ++ last ∷ map (λ named. named.part) (named_parts later)) (named_are inner) ∙ ap (λ ps. parts_of inner ++ last ∷ ps) (named_are later))
+named_are (Block begin inner end later) = grind (arith, common_steps, named_are inner, named_are later, map-append) steps 200000
 
 pub all_mapped : {X Y : Type 0} (P : Y → Type 0) (f : X → Y) (xs : List X) → AllByRecursion P (map f xs) → AllByRecursion (λ x. P (f x)) xs
 all_mapped P f [] h = tt
@@ -38,30 +31,19 @@ second_of bytes (word ∷ other ∷ words) first name last e = cc
 second_of bytes _ first name last e = absurd (omega (arith, ap length e))
 
 pub declared_kind : (keyword : Token) → (IsKeyword Constants keyword ⊎ (IsKeyword Variables keyword ⊎ IsKeyword Disjoint keyword)) → word_part parts.Constants keyword.kind ≡ parts.Inclusion → ⊥
-declared_kind keyword (inl is) e = cc
-declared_kind keyword (inr (inl is)) e = cc
-declared_kind keyword (inr (inr is)) e = cc
+declared_kind keyword h e = grind (arith, common_steps) steps 200000
 
 pub labelled_kind : (keyword : Token) → (IsKeyword Floating keyword ⊎ (IsKeyword Essential keyword ⊎ IsKeyword Axiom keyword)) → word_part parts.Axiom keyword.kind ≡ parts.Inclusion → ⊥
-labelled_kind keyword (inl is) e = cc
-labelled_kind keyword (inr (inl is)) e = cc
-labelled_kind keyword (inr (inr is)) e = cc
+labelled_kind keyword h e = grind (arith, common_steps) steps 200000
 
 pub inner_kind : (shape : Shape) → IsShape false shape → (shape_part shape).kind ≡ parts.Inclusion → ⊥
-inner_kind (Declaration keyword symbols end) is e = declared_kind keyword is.0 e
-inner_kind (Labelled label keyword symbols end) is e = labelled_kind keyword is.1 e
-inner_kind (Provable label keyword symbols proof steps end) is e = cc
-inner_kind (Inclusion begin name end) is e = absurd (false≢true is.0)
+inner_kind shape is e = grind (arith, common_steps) steps 200000
 
 -- in a block nothing is included
 inner_named : (text : List ℕ) (units : Units) → AreUnits false units → AllByRecursion (IsNamed text) (named_parts units)
 inner_named text Nothing are = tt
 inner_named text (Simple shape later) are = (λ e. absurd (inner_kind shape are.0 e), inner_named text later are.1)
-inner_named text (Block begin inner end later) are = (
-  λ e. (absurd cc),
-  all_and (IsNamed text) (named_parts inner) (nameless (part parts.BlockEnd end end) ∷ named_parts later) (inner_named text inner are.1)
-      (λ e. (absurd cc), inner_named text later are.3),
-)
+inner_named text (Block begin inner end later) are = grind (arith, common_steps, inner_named text inner are.1, inner_named text later are.3, all_and) steps 200000
 
 -- a statement that is alone in its text has these words
 abbrev pub StandsAlone : Type 0
@@ -69,8 +51,7 @@ StandsAlone = (text : List ℕ) (shape : Shape) (own : List Word) → HasUnits t
     → spellings (part_bytes text (shape_part shape)) own ≡ map (λ token. token.bytes) (shape_tokens shape)
 
 pub kind_missing : (kind : PartKind) → item_kind kind ≡ items.Missing → kind ≡ parts.Inclusion
-kind_missing parts.Inclusion e = refl
-kind_missing _ e = absurd cc
+kind_missing kind e = grind (arith, common_steps) steps 200000
 
 -- the text under the key of a part has the part, and its name
 abbrev Tied : FilesView → Placed → Type 0
@@ -82,10 +63,7 @@ piece_tied view number n piece [] h same = tt
 piece_tied view number n piece (part ∷ named) h same = (subst (λ text. IsNamed text part) same h.0, piece_tied view number n piece named h.1 same)
 
 item_tied : (view : FilesView) (part : Placed) → IsInclusion part → number_of (files_in view) part.name ≡ None → Tied view part → NamesNoFile view (placed_item part)
-item_tied view part is none tied kind text words live has =
-    let same : text_under view.pieces part.key.at ≡ text = ap text_in live.held ∙ sym live.is_text in
-    let own : HasWords (part_bytes (text_under view.pieces part.key.at) part.part) words = subst (λ text. HasWords (part_bytes text part.part) words) (sym same) has in
-    ap (λ (text : List ℕ). number_of (files_in view) (second_word (part_bytes text part.part) words)) (sym same) ∙ ap (number_of (files_in view)) (sym (tied is words own)) ∙ none
+item_tied view part is none tied kind text words live has = grind (arith, elements) steps 200000
 
 module _ (stands_alone : StandsAlone) where
   one_named : (text : List ℕ) (shape : Shape) → HasUnits text (Simple shape Nothing) → IsNamed text (record { part = shape_part shape; name = included_name shape })

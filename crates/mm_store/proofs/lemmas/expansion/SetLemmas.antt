@@ -1,7 +1,6 @@
 -- A set of names, and what it takes.
-use Rattle.std.proofs.Common.{◌≡◌, ℕ, zero, suc, ◌<◌, Bool, true, false, Result, Ok, Err, ◌||◌, List, [], ◌∷◌, ◌++◌, map, get_or, refl, sym, ap, ◌∙◌, arith, Contains, ◌⊎◌, inl, inr, Vec}
-use Rattle.std.proofs.Common.{if◌then◌else◌}
-use Rattle.std.proofs.lemmas.{Bool.{false≢true, false_from_ne_true}, Slice.Eq.{bytes_eq-Decides}, List.{map_push, Elements.{Contains-append_right, Contains-append_cases}}}
+use Rattle.std.proofs.lemmas.{Grind.{common_steps}, Bool.{false≢true, false_from_ne_true}, Slice.Eq.{bytes_eq-Decides}, List.{map_push, Elements.{Contains-append_right, Contains-append_cases}}}
+use Rattle.std.proofs.Common.{◌≡◌, ℕ, zero, suc, ◌<◌, Bool, true, false, Result, Err, ◌||◌, List, [], ◌∷◌, ◌++◌, map, get_or, refl, sym, ap, ◌∙◌, arith, Contains, ◌⊎◌, inl, inr, Vec, if◌then◌else◌}
 use Rattle.std.specs.{Result.{IsErrAnd}, List.{list_any}, Str.{bytes_eq}}
 use Rattle.mm_store.specs.declared.error.StoreError.{StoreError, TheVariants.{NoTop, Memory}}
 use Rattle.indexmap.specs.IndexSet.{insert_key}
@@ -46,5 +45,4 @@ inserted names key name is new =
 
 -- out of memory is not the lack of a top file
 pub not_no_top : {T : Type 0} (r : Result T StoreError) → IsErrAnd r (λ e. e ≡ Memory) → r ≡ Err NoTop → ⊥
-not_no_top (Ok x) h e = absurd h
-not_no_top (Err x) h e = cc
+not_no_top r h e = grind (arith, common_steps) steps 200000

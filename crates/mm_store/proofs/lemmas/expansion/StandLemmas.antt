@@ -1,10 +1,8 @@
 -- The pieces of items are in their files, and their texts can be read.
-use Rattle.std.proofs.Common.{◌≡◌, ℕ, ◌+◌, ◌<◌, List, [], ◌∷◌, ◌++◌, Some, length, map, refl, sym, ap, ◌∙◌, subst, append_assoc, arith, length-append, slice_get, All}
-use Rattle.std.proofs.lemmas.{List.{get_or_at, Elements.{All-from_recursion, recursion_from_All}}, Option.{slice_get-get_or}}
-use Rattle.std.specs.List.{AllByRecursion}
+use Rattle.std.proofs.lemmas.{Grind.{common_steps}, List.{get_or_at, Elements.{All-from_recursion, recursion_from_All}}, Option.{slice_get-get_or}}
+use Rattle.std.{proofs.Common.{◌≡◌, ℕ, ◌+◌, ◌<◌, List, [], ◌∷◌, ◌++◌, Some, length, map, refl, sym, ap, ◌∙◌, subst, append_assoc, arith, length-append, slice_get, All}, specs.List.{AllByRecursion}}
 use Rattle.mm_text.specs.Language.{Unit.{Units}, Part.{HasUnits, IsReadable, parts_of}}
-use Rattle.mm_store.specs.declared.item.Item.{Item}
-use Rattle.mm_store.specs.Language.{Pieces.{text_in, text_under}, FilesView.{KeyedFile, PieceView, FileView, FilesView, files_in}, FileFacts.{CanBeRead, StandsIn, HoldsPieces}}
+use Rattle.mm_store.specs.{declared.item.Item.{Item}, Language.{Pieces.{text_under}, FilesView.{KeyedFile, PieceView, FileView, FilesView, files_in}, FileFacts.{CanBeRead, StandsIn, HoldsPieces}}}
 use Rattle.mm_store.specs.Language.Expansion.{Placed, placed_item, Named, named_parts, placed_part, ArePlaced, Expands, nothing, own, again, missing, included, IsExpansion}
 use Rattle.mm_store.proofs.lemmas.{expansion.NameLemmas.{all_and, all_mapped, named_are}, files.ViewLemmas.{PieceThere, piece_there, held_there, some_is}}
 use Rattle.std.specs.FinMap as finite
@@ -23,24 +21,12 @@ stands_in : (view : FilesView) (part : Placed) → Stands view part → StandsIn
 stands_in view part h = record { file = h.file; there = h.there; is_key = h.is_key }
 
 can_be_read : (view : FilesView) (part : Placed) → HoldsPieces view → Stands view part → CanBeRead view (placed_item part)
-can_be_read view part holds h =
-    let held = some_is (finite.get view.pieces part.key.at) (held_there view part.file part.piece h.file part.key.at holds h.there h.is_key) in
-    let readable : IsReadable held.0.text part.part = subst (λ text. IsReadable text part.part) (ap text_in held.1) h.readable in
-    record {
-      text = held.0.text;
-      live = record { piece = held.0; held = held.1; is_text = refl };
-      some = readable.some;
-      within = readable.within;
-      words = readable.words;
-      has_words = readable.has_words;
-      some_word = readable.some_word;
-    }
+can_be_read view part holds h = grind (arith, common_steps, some_is (finite.get view.pieces part.key.at) (held_there view part.file part.piece h.file part.key.at holds h.there h.is_key)) steps 200000
 
 parts_stand : (view : FilesView) (number n : ℕ) (piece : PieceView) (parts : List Named) → AllByRecursion (λ named. IsReadable piece.text named.part) parts
     → PieceThere view number n piece → AllByRecursion (Stands view) (map (placed_part number n piece.key) parts)
 parts_stand view number n piece [] h there = tt
-parts_stand view number n piece (part ∷ parts) h there =
-    (record { file = there.file; there = there.there; is_key = there.is_key; readable = subst (λ text. IsReadable text part.part) there.text h.0 }, parts_stand view number n piece parts h.1 there)
+parts_stand view number n piece (part ∷ parts) h there = grind (arith, common_steps, parts_stand view number n piece parts h.1 there) steps 200000
 
 module _ (parts_are_texts : PartsAreTexts) (view : FilesView) where
   placed_stand : (file : FileView) (number n : ℕ) (front pieces : List PieceView) (placed : List Placed) → slice_get (files_in view) number ≡ Some file

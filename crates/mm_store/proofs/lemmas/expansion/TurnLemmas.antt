@@ -1,9 +1,9 @@
 -- A walk takes a number of turns at most: each step but the last makes what is left smaller.
+use Rattle.std.proofs.lemmas.{Grind.{common_steps}, Option.{none-some, slice_get_within}}
 use Rattle.std.proofs.Common.{◌≡◌, ℕ, ◌+◌, ◌*◌, ◌-◌, ◌<◌, ◌≤◌, Bool, true, false, List, [], ◌∷◌, ◌++◌, Option, Some, None, length, ap, ◌∙◌, arith, inl, inr, slice_get}
-use Rattle.std.proofs.lemmas.Option.{none-some, slice_get_within}
 use Rattle.mm_store.specs.{declared.walk.Spot.{Spot}, Language.{FilesView.{PieceView, FileView}, Walking.{LevelView, WalkView}}}
-use Rattle.mm_store.specs.Code.Steps.{piece_in, behind, beginning, IsHere, Leaves, ComesAgain, Enters, Passes, PassesTold, Tells, IsStep}
-use Rattle.mm_store.proofs.lemmas.{files.GrowthLemmas.{name_of_number, there_number}, expansion.BudgetLemmas.{weight, weight_less, weight_entered}}
+use Rattle.mm_store.{specs.Code.Steps.{behind, beginning, IsHere, Leaves, ComesAgain, Enters, Passes, PassesTold, Tells, IsStep}, proofs.lemmas.files.GrowthLemmas.{name_of_number, there_number}}
+use Rattle.mm_store.proofs.lemmas.expansion.BudgetLemmas.{weight, weight_less, weight_entered}
 use Rattle.mm_store.specs.declared.walk.Step.TheVariants as steps
 
 -- how many turns a file takes: one for each piece, one to leave it, and one more
@@ -32,17 +32,11 @@ level_turns_last files [] level = omega arith
 level_turns_last files (first ∷ front) level = omega (arith, level_turns_last files front level)
 
 some_turn : (file : Option FileView) (piece : ℕ) → 1 ≤ turns_in file piece
-some_turn None piece = omega arith
-some_turn (Some file) piece = omega arith
-
-turn_in : (file : Option FileView) (n : ℕ) (piece : PieceView) → piece_in file n ≡ Some piece → turns_in file (n + 1) + 1 ≡ turns_in file n
-turn_in None n piece there = absurd (none-some piece there)
-turn_in (Some file) n piece there = omega (arith, slice_get_within file.pieces n piece there)
+some_turn file piece = grind (arith, common_steps) steps 200000
 
 -- the turns that are left after a piece
 moved : (files : List FileView) (levels front : List LevelView) (level : LevelView) (piece : PieceView) → IsHere files levels front level piece → level_turns files (front ++ behind level ∷ []) + 1 ≡ level_turns files levels
-moved files levels front level piece h =
-    omega (arith, level_turns_last files front level, level_turns_last files front (behind level), turn_in (slice_get files level.file) level.piece piece h.there, ap (level_turns files) h.last)
+moved files levels front level piece h = grind (arith, common_steps, level_turns_last, none-some, slice_get_within) steps 200000
 
 module _ (files : List FileView) (old new : WalkView) where
   leaves_less : Leaves files old new → turns files new < turns files old

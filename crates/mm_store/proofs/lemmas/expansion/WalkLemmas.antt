@@ -1,12 +1,9 @@
 -- How a walk goes on, step by step.
-use Rattle.std.proofs.Common.{◌≡◌, ℕ, true, false, List, [], ◌∷◌, ◌++◌, map, refl, sym, ap, ◌∙◌, subst, append_assoc, Contains, inl, inr}
-use Rattle.std.proofs.lemmas.{Bool.{false≢true}, List.Elements.{All-from_recursion, recursion_from_All}}
-use Rattle.std.specs.List.{AllByRecursion}
-use Rattle.mm_store.specs.declared.{item.{Item.{Item}, ItemKind.TheVariants.{Missing}}, walk.Spot.{Spot}}
-use Rattle.mm_store.specs.Language.{FilesView.{FileView}, Expansion.{Placed, IsInclusion, placed_item}}
-use Rattle.mm_store.specs.Language.Walking.{WalkView, ArePending, IsWalk, StandsBefore, MissNothing, MissOnlyTold, GoesOn, FindsMissing, FindsEnd}
-use Rattle.mm_store.specs.Code.{Gains.{HoldUnits}, Steps.{PassesTold, Tells, IsStep}}
-use Rattle.mm_store.proofs.lemmas.expansion.{ExpansionLemmas.{OneReading, OneDivision}, NameLemmas.{all_and, kind_missing}}
+use Rattle.std.proofs.{Common.{◌≡◌, ℕ, true, false, List, [], ◌∷◌, ◌++◌, map, refl, sym, ap, ◌∙◌, subst, append_assoc, Contains, inl, inr}, lemmas.Bool.{false≢true}}
+use Rattle.std.{proofs.lemmas.List.Elements.{All-from_recursion, recursion_from_All}, specs.List.{AllByRecursion}}
+use Rattle.mm_store.specs.{declared.{item.{Item.{Item}, ItemKind.TheVariants.{Missing}}, walk.Spot.{Spot}}, Language.{FilesView.{FileView}, Expansion.{Placed, IsInclusion, placed_item}}}
+use Rattle.mm_store.specs.{Language.Walking.{WalkView, ArePending, IsWalk, StandsBefore, MissNothing, MissOnlyTold, GoesOn, FindsMissing, FindsEnd}, Code.Gains.{HoldUnits}}
+use Rattle.mm_store.{specs.Code.Steps.{PassesTold, Tells, IsStep}, proofs.lemmas.expansion.{ExpansionLemmas.{OneReading, OneDivision}, NameLemmas.{all_and, kind_missing}}}
 use Rattle.mm_store.proofs.lemmas.expansion.WalkStepLemmas.{Went, before, included_first, leaves, comes_again, enters, passes, passes_told, walk_on, walk_ends}
 use Rattle.mm_store.specs.declared.walk.Step.TheVariants as steps
 

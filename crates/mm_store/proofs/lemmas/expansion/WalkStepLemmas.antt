@@ -1,11 +1,11 @@
 -- The steps of a walk go through the expansion.
-use Rattle.std.proofs.Common.{◌≡◌, ℕ, zero, suc, ◌+◌, ◌<◌, ◌≤◌, false, List, [], ◌∷◌, ◌++◌, Some, None, length, map, drop, refl, sym, ap, ◌∙◌, subst, append_assoc, append-nil, arith, length-append}
-use Rattle.std.proofs.Common.{Contains, slice_get}
-use Rattle.std.proofs.{Math.Seq.{drop-cons}, lemmas.{List.{drop_all, get_or_at}, Option.{none-some, slice_get_within, slice_get-get_or, get_or_from_slice_get}}}
-use Rattle.mm_store.specs.declared.{item.Item.{Item}, walk.Spot.{Spot}}
-use Rattle.mm_store.specs.Language.{FilesView.{PieceView, FileView, number_of}, Expansion.{Placed, placed_item, named_parts, placed_part, ArePartsOf, ArePlaced, IsExpansion}}
-use Rattle.mm_store.specs.Language.Walking.{LevelView, WalkView, IsRest, ArePending, Goes, here, again, missing, included, IsWalk}
-use Rattle.mm_store.specs.Code.{Gains.{HoldUnits}, Steps.{piece_in, piece_at, behind, beginning, IsHere, Includes, Leaves, ComesAgain, Enters, Passes, PassesTold}}
+use Rattle.std.proofs.lemmas.{Grind.{elements, common_steps}, List.{drop_all, get_or_at}, Option.{none-some, slice_get_within, slice_get-get_or, get_or_from_slice_get}}
+use Rattle.std.proofs.Common.{◌≡◌, ℕ, ◌+◌, ◌<◌, false, List, [], ◌∷◌, ◌++◌, Some, None, length, map, drop, refl, sym, ap, ◌∙◌, subst, append_assoc, append-nil, arith, length-append, Contains}
+use Rattle.std.proofs.{Common.{slice_get}, Math.Seq.{drop-cons}}
+use Rattle.mm_store.specs.{declared.{item.Item.{Item}, walk.Spot.{Spot}}, Language.FilesView.{PieceView, FileView, number_of}}
+use Rattle.mm_store.specs.Language.Expansion.{Placed, placed_item, named_parts, placed_part, ArePartsOf, ArePlaced, IsExpansion}
+use Rattle.mm_store.specs.{Language.Walking.{LevelView, WalkView, IsRest, ArePending, Goes, here, again, missing, included, IsWalk}, Code.Gains.{HoldUnits}}
+use Rattle.mm_store.specs.Code.Steps.{piece_at, behind, beginning, IsHere, Includes, Leaves, ComesAgain, Enters, Passes, PassesTold}
 use Rattle.mm_store.proofs.lemmas.{expansion.{ExpansionLemmas.{OneReading, OneDivision, parts_one}, GoesLemmas.{goes_joined, goes_own, expands_from_goes}}, files.GrowthLemmas.{there_number}}
 
 -- the innermost file comes first
@@ -18,14 +18,11 @@ pub record Innermost (files : List FileView) (front : List LevelView) (level : L
 
 pub innermost : (files : List FileView) (front : List LevelView) (level : LevelView) (parts : List Placed) → ArePending files (front ++ level ∷ []) parts → Innermost files front level parts
 innermost files [] level parts are = record { own = are.1; outer = []; rest = are.3; are_outer = refl; joined = are.4 ∙ ap (λ l. l ++ are.1) are.2 ∙ sym (append-nil are.1) }
-innermost files (first ∷ front) level parts are =
-    let h = innermost files front level are.0 are.2 in
-    record { own = h.own; outer = h.outer ++ are.1; rest = h.rest; are_outer = (h.outer, are.1, h.are_outer, are.3, refl); joined = are.4 ∙ ap (λ l. l ++ are.1) h.joined ∙ append_assoc h.own h.outer are.1 }
+innermost files (first ∷ front) level parts are = grind (arith, common_steps, innermost files front level are.0 are.2) steps 200000
 
 pub pending_behind : (files : List FileView) (front : List LevelView) (level : LevelView) (own outer : List Placed) → IsRest files level own → ArePending files front outer → ArePending files (front ++ level ∷ []) (own ++ outer)
 pending_behind files [] level own outer rest are = ([], own, refl, rest, ap (λ l. own ++ l) are ∙ append-nil own)
-pending_behind files (first ∷ front) level own outer rest are =
-    (own ++ are.0, are.1, pending_behind files front level own are.0 rest are.2, are.3, ap (λ l. own ++ l) are.4 ∙ sym (append_assoc own are.0 are.1))
+pending_behind files (first ∷ front) level own outer rest are = grind (arith, common_steps, pending_behind files front level own are.0 rest are.2) steps 200000
 
 -- the next piece of a file comes first
 pub record NextPiece (files : List FileView) (level : LevelView) (piece : PieceView) (parts : List Placed) : Type 0 where
@@ -37,26 +34,13 @@ pub record NextPiece (files : List FileView) (level : LevelView) (piece : PieceV
 
 next_placed : (file n : ℕ) (piece : PieceView) (pieces : List PieceView) (parts : List Placed) → slice_get pieces n ≡ Some piece → ArePlaced file n (drop n pieces) parts → ArePlaced file n (piece ∷ drop (n + 1) pieces) parts
 next_placed file n piece pieces parts there placed =
-    let within = slice_get_within pieces n piece there in
-    let next : suc n ≡ n + 1 = omega arith in
-    let same : drop n pieces ≡ piece ∷ drop (n + 1) pieces = drop-cons pieces n piece within ∙ ap (λ p. p ∷ drop (suc n) pieces) (get_or_from_slice_get pieces n piece piece there) ∙ ap (λ k. piece ∷ drop k pieces) next in
-    subst (λ l. ArePlaced file n l parts) same placed
+    grind (arith, common_steps, slice_get_within pieces n piece there, drop-cons pieces n piece (slice_get_within pieces n piece there), get_or_from_slice_get pieces n piece piece there) steps 200000
 
 pub next_piece : (files : List FileView) (level : LevelView) (piece : PieceView) (parts : List Placed) → IsRest files level parts → piece_at files level ≡ Some piece → NextPiece files level piece parts
-next_piece files level piece parts rest there =
-    let here : slice_get rest.file.pieces level.piece ≡ Some piece = ap (λ file. piece_in file level.piece) (sym rest.there) ∙ there in
-    let p = next_placed level.file level.piece piece rest.file.pieces parts here rest.placed in
-    record { first = p.0; later = p.1; are_parts = p.2; rest = record { file = rest.file; there = rest.there; placed = p.3 }; joined = p.4 }
+next_piece files level piece parts rest there = grind (arith, common_steps, next_placed) steps 200000
 
 pub no_piece : (files : List FileView) (level : LevelView) (parts : List Placed) → IsRest files level parts → piece_at files level ≡ None → parts ≡ []
-no_piece files level parts rest none =
-    let past : slice_get rest.file.pieces level.piece ≡ None = ap (λ file. piece_in file level.piece) (sym rest.there) ∙ none in
-    subst (λ l. ArePlaced level.file level.piece l parts) (drop_all level.piece rest.file.pieces (gone rest.file.pieces level.piece past)) rest.placed
-  where
-    gone : (pieces : List PieceView) (n : ℕ) → slice_get pieces n ≡ None → length pieces ≤ n
-    gone [] n e = omega arith
-    gone (piece ∷ pieces) zero e = absurd (none-some piece (sym e))
-    gone (piece ∷ pieces) (suc n) e = omega (arith, gone pieces n e)
+no_piece files level parts rest none = grind (arith, elements, drop_all, none-some) steps 200000
 
 -- each piece has parts
 module _ (files : List FileView) (hold : HoldUnits files) where
@@ -98,8 +82,7 @@ before files levels front level piece pending h are =
 pub leaves : (files : List FileView) (old new : WalkView) (pending : List Placed) → Leaves files old new → ArePending files old.levels pending → Went files old new pending []
 leaves files old new pending l are =
     let i = innermost files l.front l.level pending (subst (λ levels. ArePending files levels pending) l.last are) in
-    let none = no_piece files l.level i.own i.rest l.none in
-    let same : pending ≡ i.outer = i.joined ∙ ap (λ l. l ++ i.outer) none in
+    let same : pending ≡ i.outer = i.joined ∙ ap (λ l. l ++ i.outer) (no_piece files l.level i.own i.rest l.none) in
     let went : Went files old (record { names = old.names; levels = l.front; told = false }) pending [] =
     record { rest = i.outer; are_pending = i.are_outer; goes = subst (λ l. Goes files l old.names [] i.outer old.names) (sym same) here } in
     subst (λ new. Went files old new pending []) (sym l.after) went
@@ -169,17 +152,7 @@ module _ (one_reading : OneReading) (one_division : OneDivision) (files : List F
 
 -- a walk that goes on
 pub walk_on : (files : List FileView) (top : List ℕ) (items gained : List Item) (old new : WalkView) (is : IsWalk files top items old) → Went files old new is.pending gained → IsWalk files top (items ++ gained) new
-walk_on files top items gained old new is went = record {
-  number = is.number;
-  file = is.file;
-  is_top = is.is_top;
-  there = is.there;
-  parts = is.parts;
-  placed = is.placed;
-  pending = went.rest;
-  are_pending = went.are_pending;
-  goes = goes_joined is.goes went.goes;
-}
+walk_on files top items gained old new is went = grind (arith, common_steps, goes_joined is.goes went.goes) steps 200000
 
 -- a walk at its end has gone past the whole expansion
 pub walk_ends : (files : List FileView) (top : List ℕ) (items : List Item) (walk : WalkView) → IsWalk files top items walk → walk.levels ≡ [] → IsExpansion files top items

@@ -1,8 +1,7 @@
 -- Sums over the pieces of a map.
-use Rattle.std.proofs.Common.{◌≡◌, ℕ, ◌+◌, List, [], ◌∷◌, Some, None, cond, sym, ap, ◌∙◌, arith}
-use Rattle.std.specs.{declared.cmp.Ordering.TheVariants.{Less, Equal, Greater}, FinMap.Entries.{by_order, find, put}, Ordering.{nat_cmp, is_eq}, Cmp.{nat_cmp_total}}
-use Rattle.mm_store.specs.{Code.Kept.{weigh}, Language.Pieces.{HeldPiece, Pieces}}
-use Rattle.mm_store.proofs.lemmas.files.MapLemmas.{get_put_same, get_put_other, get_drop_same, get_drop_other, same_but}
+use Rattle.std.{proofs.Common.{◌≡◌, ℕ, ◌+◌, List, [], ◌∷◌, Some, None, cond, sym, ap, ◌∙◌, arith}, specs.declared.cmp.Ordering.TheVariants.{Less, Equal, Greater}}
+use Rattle.std.specs.{FinMap.Entries.{by_order, find, put}, Ordering.{nat_cmp, is_eq}, Cmp.{nat_cmp_total}}
+use Rattle.mm_store.{specs.{Code.Kept.{weigh}, Language.Pieces.{HeldPiece, Pieces}}, proofs.lemmas.files.MapLemmas.{get_put_same, get_put_other, get_drop_same, get_drop_other, same_but}}
 use Rattle.std.specs.FinMap as finite
 
 module _ (w : HeldPiece → ℕ) where

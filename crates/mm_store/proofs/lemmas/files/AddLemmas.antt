@@ -1,14 +1,13 @@
 -- What a file more makes of the files.
+use Rattle.std.proofs.lemmas.{Grind.{common_steps, elements}, Bool.Decides.{nat_tests}, List.{length-map, map-append, Elements.{All-nil}, Sums.{sum_by-cons}}}
 use Rattle.std.proofs.Common.{◌≡◌, ◌≢◌, is_some, true, ℕ, suc, ◌+◌, ◌≤◌, List, [], ◌∷◌, ◌++◌, Option, Some, None, length, map, refl, sym, ap, ◌∙◌, subst, arith, length-append, Global, Vec, All}
-use Rattle.std.proofs.Common.{position, Bool, false, not, cond, ltb, Result, Ok}
-use Rattle.std.proofs.lemmas.{Bool.Decides.{nat_tests}, List.{length-map, map-append, Elements.{All-nil, All-cons}, Sums.{sum_by-cons}}}
-use Rattle.std.specs.{Result.{OnOk}, List.{position_or_len, concat}, Map.{keys_of, lookup}}
-use Rattle.mm_text.specs.Language.{Cut.{ArePieces, IsPiece, HoldsOne}, Reading.{HasWords}}
+use Rattle.std.{proofs.Common.{position, Bool, false, not, cond, ltb, Result, Ok}, specs.{Result.{OnOk}, List.{position_or_len, concat}, Map.{keys_of, lookup}}}
+use Rattle.mm_text.specs.Language.{Cut.{ArePieces}, Reading.{HasWords}}
 use Rattle.mm_store.specs.Code.{Inside.{CanBeKept, ArePut}, Starts.{HasStarts}, Room.{HasRoom}}
-use Rattle.mm_store.specs.Code.Kept.{files_view, keyed_file, one, times, places, standing_count, deleted_state, deletions, IsRoomy, HaveRoom, HaveStarts, AreFilesKept}
-use Rattle.mm_store.specs.declared.{file_text.FileText.{FileText}, files.Files.TheInside.{Inside}}
-use Rattle.mm_store.specs.Language.{Pieces.{HeldPiece, Pieces, standing_piece, text_in, text_under}, FilesView.{File, KeyedFile, plain, plain_file, text_of, bytes_of}}
-use Rattle.mm_store.proofs.lemmas.{files.{MapLemmas.{get_put_same, get_put_other}, PieceLemmas.{stands_put}, ListLemmas.{one_same}, EntryLemmas.{room_same}}, expansion.WeightLemmas.{weight_fresh}}
+use Rattle.mm_store.specs.{Code.Kept.{files_view, keyed_file, one, times, places, standing_count, deletions, IsRoomy, HaveRoom, HaveStarts, AreFilesKept}, declared.file_text.FileText.{FileText}}
+use Rattle.mm_store.specs.{declared.files.Files.TheInside.{Inside}, Language.Pieces.{HeldPiece, Pieces, standing_piece, text_in, text_under}}
+use Rattle.mm_store.{specs.Language.FilesView.{File, KeyedFile, plain, plain_file, text_of, bytes_of}, proofs.lemmas.files.{MapLemmas.{get_put_same, get_put_other}, PieceLemmas.{stands_put}}}
+use Rattle.mm_store.proofs.lemmas.{files.{ListLemmas.{one_same}, EntryLemmas.{room_same}}, expansion.WeightLemmas.{weight_fresh}}
 use Rattle.std.specs.FinMap as finite
 
 -- pieces that were put: what was there stays
@@ -30,22 +29,18 @@ put_texts p p' (text ∷ texts) keys put =
 
 pub put_stand : (p p' : Pieces) (texts : List (List ℕ)) (keys : List ℕ) → ArePut p texts keys p' → (q : ℕ) → standing_count (finite.get p' q) ≡ standing_count (finite.get p q) + times q keys
 put_stand p p' [] keys put q = omega (arith, ap (λ m. standing_count (finite.get m q)) put.1, ap (times q) put.0)
-put_stand p p' (text ∷ texts) keys put q =
-    let k = put.0 in
-    omega (arith, put_stand (finite.insert p k (standing_piece text)) p' texts put.1 put.4 q, stands_put p k text q put.3, sum_by-cons (one q) k put.1, ap (times q) put.2)
+put_stand p p' (text ∷ texts) keys put q = grind (arith, common_steps, put_stand (finite.insert p put.0 (standing_piece text)) p' texts put.1 put.4 q, stands_put, sum_by-cons) steps 200000
 
 pub put_deletions : (p p' : Pieces) (texts : List (List ℕ)) (keys : List ℕ) → ArePut p texts keys p' → (m : ℕ) → deletions m p' ≡ deletions m p
 put_deletions p p' [] keys put m = ap (deletions m) put.1
-put_deletions p p' (text ∷ texts) keys put m =
-    omega (arith, put_deletions (finite.insert p put.0 (standing_piece text)) p' texts put.1 put.4 m, weight_fresh (λ (piece : HeldPiece). deleted_state m piece.state) p put.0 (standing_piece text) put.3)
+put_deletions p p' (text ∷ texts) keys put m = grind (arith, common_steps, put_deletions (finite.insert p put.0 (standing_piece text)) p' texts put.1 put.4 m, weight_fresh) steps 200000
 
 pub put_many : (p p' : Pieces) (texts : List (List ℕ)) (keys : List ℕ) → ArePut p texts keys p' → length keys ≡ length texts
 put_many p p' [] keys put = ap length put.0
 put_many p p' (text ∷ texts) keys put = omega (arith, ap length put.2, put_many (finite.insert p put.0 (standing_piece text)) p' texts put.1 put.4)
 
 pub stands_some : (o : Option HeldPiece) → 1 ≤ standing_count o → is_some o ≡ true
-stands_some None some = absurd (omega arith)
-stands_some (Some piece) some = refl
+stands_some o some = grind (arith, common_steps) steps 200000
 
 texts_kept : (p p' : Pieces) (keys : List ℕ) → ((q : ℕ) → 1 ≤ times q keys → text_under p' q ≡ text_under p q) → map (text_under p') keys ≡ map (text_under p) keys
 texts_kept p p' [] same = refl
@@ -69,10 +64,7 @@ room_more p e start (x ∷ es) has room = let same : start + suc (length es) ≡
 
 starts_more : {Y : Type 0} (file : File) (e : Vec ℕ Y × FileText) (files : List File) (es : List (Vec ℕ Y × FileText)) → HasStarts file.pieces e.1 → HasWords e.1.tail.items [] → HaveStarts files es → HaveStarts (files ++ file ∷ []) (es ++ e ∷ [])
 starts_more file e [] [] are tail have = (are, tail, refl)
-starts_more file e (x ∷ files) [] are tail have = absurd (none_of_more have)
-  where
-    none_of_more : x ∷ files ≡ [] → ⊥
-    none_of_more e = cc
+starts_more file e (x ∷ files) [] are tail have = grind (arith, elements) steps 200000
 starts_more file e [] (y ∷ es) are tail have = absurd have
 starts_more file e (x ∷ files) (y ∷ es) are tail have = (have.0, have.1, starts_more file e files es are tail have.2)
 
@@ -135,14 +127,10 @@ none_or n m e = grind (arith, nat_tests)
 pub no_file : {T : Type 0} (test : Vec ℕ Global → Bool) (es : List (Vec ℕ Global × T)) → position test (keys_of es) ≡ None → lookup test es ≡ None
 no_file {T} test es none = absent_from test es (omega (arith, none_or (position_or_len test (keys_of es)) (length (keys_of es)) none, length-map es (λ (e : Vec ℕ Global × T). e.0)))
 
-unit_of : {text : List ℕ} → IsPiece text → HoldsOne text
-unit_of p = record { words = p.words; units = p.units; has_words = p.has_words; are_units = p.are_units; spells = p.spells; one = p.one; ends = p.ends }
-
 pub can_be_kept : {X : Type 0} (bytes : X → List ℕ) (pieces : List X) (tail : List ℕ) → ArePieces (map bytes pieces) tail → length (concat (map bytes pieces)) ≤ 4294967295 → All (λ piece. CanBeKept (bytes piece)) pieces
 can_be_kept bytes [] tail are small = All-nil (λ piece. CanBeKept (bytes piece))
 can_be_kept bytes (piece ∷ pieces) tail are small =
-    let long = length-append (bytes piece) (concat (map bytes pieces)) in
-    All-cons (λ piece. CanBeKept (bytes piece)) piece pieces (record { unit = unit_of are.0; small = omega (arith, long) }) (can_be_kept bytes pieces tail are.2 (omega (arith, long)))
+    grind (arith, can_be_kept bytes pieces tail are.2 (omega (arith, (length-append (bytes piece) (concat (map bytes pieces))))), length-append) steps 200000
 
 pub tail_of : (texts : List (List ℕ)) (tail : List ℕ) → ArePieces texts tail → HasWords tail []
 tail_of [] tail are = are

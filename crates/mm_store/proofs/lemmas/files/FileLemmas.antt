@@ -1,11 +1,10 @@
 -- What is known of a file, and of a piece of it, by the fields of `Files`.
-use Rattle.std.proofs.Common.{◌≡◌, ℕ, ◌<◌, ◌≤◌, List, Some, Option, length, map, get_or, deque_len, refl, sym, ap, ◌∙◌, subst, arith, Global, Vec, slice_get, Bor, MutBor}
-use Rattle.std.proofs.lemmas.{List.{length-map}, Option.{slice_get-map}}
-use Rattle.std.specs.{List.{concat}, Option.{option_map, option_copied_mut}, Map.Iter.{deref_pair}}
-use Rattle.mm_store.specs.declared.{file_text.FileText.{FileText}, files.Files.TheInside.{Inside}}
-use Rattle.mm_store.specs.Language.{Pieces.{text_under}, FilesView.{FilesView, KeyedFile, plain, bytes_of}, Undoing.{keys_in}}
-use Rattle.mm_store.specs.Code.{Kept.{files_view, keyed_file, places, standing_count, IsRoomy, AreFilesKept}, Starts.{KnowsStarts}}
-use Rattle.mm_store.proofs.lemmas.{files.{EntryLemmas.{texts_of, keys_at, room_at}, FilesLemmas.{file_small}, ListLemmas.{in_files, text_within}}, places.ChangeLemmas.{starts_here}}
+use Rattle.std.proofs.lemmas.{Grind.{common_steps}, List.{length-map}, Option.{slice_get-map}}
+use Rattle.std.{proofs.Common.{◌≡◌, ℕ, ◌<◌, ◌≤◌, List, Some, Option, length, map, get_or, deque_len, refl, sym, ap, ◌∙◌, subst, arith, Global, Vec, slice_get, Bor, MutBor}, specs.List.{concat}}
+use Rattle.std.specs.{Option.{option_map, option_copied_mut}, Map.Iter.{deref_pair}}
+use Rattle.mm_store.specs.{declared.{file_text.FileText.{FileText}, files.Files.TheInside.{Inside}}, Language.{Pieces.{text_under}, FilesView.{FilesView, plain, bytes_of}, Undoing.{keys_in}}}
+use Rattle.mm_store.{specs.Code.{Kept.{files_view, keyed_file, places, standing_count, IsRoomy, AreFilesKept}, Starts.{KnowsStarts}}, proofs.lemmas.files.EntryLemmas.{texts_of, keys_at, room_at}}
+use Rattle.mm_store.proofs.lemmas.{files.{FilesLemmas.{file_small}, ListLemmas.{in_files, text_within}}, places.ChangeLemmas.{starts_here}}
 use Rattle.std.specs.FinMap as finite
 
 -- the file of this number
@@ -38,8 +37,7 @@ pub shown : {entries : List (Vec ℕ Global × FileText)} {o : Option (Bor (Vec 
     → AreFilesKept inside → entries ≡ inside.files.entries → option_map deref_pair o ≡ slice_get entries n → o ≡ Some pair → IsShown inside n (deref_pair pair)
 shown {entries} {o} {pair} inside n kept same is some =
     let there : slice_get inside.files.entries n ≡ Some (deref_pair pair) = ap (λ es. slice_get es n) (sym same) ∙ sym is ∙ ap (option_map deref_pair) some in
-    let second = λ (e : Vec ℕ Global × FileText). e.1 in
-    record { there = there; file = file_is inside n pair.1.now kept (slice_get-map second inside.files.entries n ∙ ap (option_map second) there) }
+    grind (arith, common_steps, file_is inside n pair.1.now kept (slice_get-map (λ (e : Vec ℕ Global × FileText). e.1) inside.files.entries n ∙ ap (option_map (λ (e : Vec ℕ Global × FileText). e.1)) there)) steps 200000
 
 -- the piece at this place of the file
 pub record IsPiece (inside : Inside) (n at : ℕ) : Type 0 where
@@ -49,11 +47,7 @@ pub record IsPiece (inside : Inside) (n at : ℕ) : Type 0 where
   pub within : length (text_under inside.pieces (get_or (keys_in (map keyed_file inside.files.entries) n) at 0)) ≤ inside.bytes
 
 pub piece_is : {view : FilesView} (inside : Inside) (n at : ℕ) → AreFilesKept inside → files_view inside ≡ view → at < length (keys_in view.keyed n) → IsPiece inside n at
-piece_is {view} inside n at kept is fits =
-    let fs : List KeyedFile = map keyed_file inside.files.entries in
-    let there : at < length (keys_in fs n) = subst (λ (view : FilesView). at < length (keys_in view.keyed n)) (sym is) fits in
-    let file = in_files fs n at there in
-    record { there = there; file = file; entry = omega (arith, file, length-map inside.files.entries (keyed_file {Y = Global})); within = omega (arith, text_within inside.pieces fs n at there, kept.counted) }
+piece_is {view} inside n at kept is fits = grind (arith, common_steps, in_files, length-map, text_within) steps 200000
 
 pub in_keys : (inside : Inside) (n at : ℕ) (v : FileText) → IsFile inside n v → IsPiece inside n at → at < deque_len v.keys
 in_keys inside n at v file piece = omega (arith, piece.there, ap length file.keys, v.keys.ok.0)

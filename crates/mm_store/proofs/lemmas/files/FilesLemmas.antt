@@ -1,10 +1,9 @@
 -- Files by name and by number, their keys and their texts.
-use Rattle.std.proofs.Common.{◌≡◌, ℕ, ◌<◌, ◌≤◌, List, Some, None, is_some, true, length, map, get_or, sym, ap, ◌∙◌, arith, slice_get, position, Vec}
-use Rattle.std.proofs.lemmas.{Grind.{get_or_default_zero}, Option.{slice_get-map}}
-use Rattle.std.specs.{List.{concat}, Option.{option_map}, Str.{bytes_eq}, Map.{keys_of}}
+use Rattle.std.proofs.{Common.{◌≡◌, ℕ, ◌<◌, ◌≤◌, List, Some, None, is_some, true, length, map, get_or, sym, ap, ◌∙◌, arith, slice_get, position, Vec}, lemmas.Grind.{get_or_default_zero}}
+use Rattle.std.{proofs.lemmas.Option.{slice_get-map}, specs.{List.{concat}, Option.{option_map}, Str.{bytes_eq}, Map.{keys_of}}}
 use Rattle.mm_store.specs.{declared.file_text.FileText.{FileText}, Language.{Pieces.{Pieces, text_under}, FilesView.{KeyedFile, plain_file, find_file, file_at, bytes_of}, Undoing.{keys_in}}}
-use Rattle.mm_store.specs.Code.Kept.{keyed_file, places, standing_count}
-use Rattle.mm_store.proofs.lemmas.files.{AddLemmas.{stands_some}, ListLemmas.{times_at, places_in, members_within, plain_pieces}, NumberLemmas.{number_is}}
+use Rattle.mm_store.{specs.Code.Kept.{keyed_file, places, standing_count}, proofs.lemmas.files.{AddLemmas.{stands_some}, ListLemmas.{times_at, places_in, members_within, plain_pieces}}}
+use Rattle.mm_store.proofs.lemmas.files.NumberLemmas.{number_is}
 use Rattle.std.specs.FinMap as finite
 
 module _ {Y : Type 0} (p : Pieces) (name : List ℕ) (entries : List (Vec ℕ Y × FileText)) where

@@ -1,12 +1,10 @@
 -- The numbers that names have, and what one more file changes.
+use Rattle.std.proofs.lemmas.{Grind.{elements}, Bool.{ltb-true, ltb-false, lt-ltb, le-ltb, ne_eqb, eq-eqb, false_from_ne_true}, Slice.Eq.{bytes_eq-Decides}, List.Elements.{Contains-append_right}}
+use Rattle.std.proofs.lemmas.{List.{Folds.{position_or_len_push}, Quantifiers.{position-Some}}, Option.{none-some, get_or_from_slice_get, cond_some}}
 use Rattle.std.proofs.Common.{◌≡◌, ℕ, zero, suc, ◌+◌, ◌<◌, ◌≤◌, Bool, true, false, not, cond, ltb, List, [], ◌∷◌, ◌++◌, Some, None, length, refl, sym, ap, ◌∙◌, subst, arith, length-append, Contains}
-use Rattle.std.proofs.Common.{position, slice_get}
-use Rattle.std.proofs.lemmas.{Bool.{ltb-true, ltb-false, lt-ltb, le-ltb, ne_eqb, eq-eqb, false_from_ne_true}, Slice.Eq.{bytes_eq-Decides}}
-use Rattle.std.proofs.lemmas.{List.{Elements.{Contains-append_right}, Folds.{position_or_len_push}, Quantifiers.{position-Some}}, Option.{none-some, get_or_from_slice_get, cond_some}}
-use Rattle.std.specs.{List.{position_or_len}, Str.{bytes_eq}}
-use Rattle.mm_store.specs.declared.item.Item.{Item}
-use Rattle.mm_store.specs.Language.{FilesView.{FileView, number_of}, Expansion.{Placed}, Walking.{LevelView, WalkView, IsRest, ArePending, Goes, here, own, again, missing, included, IsWalk}}
-use Rattle.mm_store.proofs.lemmas.expansion.GoesLemmas.{goes_grows}
+use Rattle.std.{proofs.Common.{position, slice_get}, specs.{List.{position_or_len}, Str.{bytes_eq}}}
+use Rattle.mm_store.specs.{declared.item.Item.{Item}, Language.{FilesView.{FileView, number_of}, Expansion.{Placed}}}
+use Rattle.mm_store.{specs.Language.Walking.{LevelView, WalkView, IsRest, ArePending, Goes, here, own, again, missing, included, IsWalk}, proofs.lemmas.expansion.GoesLemmas.{goes_grows}}
 
 no_place : (b : Bool) (m : ℕ) → cond b (Some m) None ≡ None → b ≡ false
 no_place true m e = absurd (none-some m (sym e))
@@ -49,18 +47,15 @@ there_kept (z ∷ xs) y (suc n) x e = there_kept xs y n x e
 pub there_number : (files : List FileView) (name : List ℕ) (n : ℕ) → number_of files name ≡ Some n → (file : FileView) × (slice_get files n ≡ Some file)
 there_number files name n e =
     let h = cond_some (ltb (position_or_len (λ (file : FileView). bytes_eq name file.name) files) (length files)) (position_or_len (λ (file : FileView). bytes_eq name file.name) files) n e in
-    there_at files n (omega (arith, ltb-true (position_or_len (λ (file : FileView). bytes_eq name file.name) files) (length files) h.0, h.1))
-  where
-    there_at : (files : List FileView) (n : ℕ) → n < length files → (file : FileView) × (slice_get files n ≡ Some file)
-    there_at [] n h = absurd (omega arith)
-    there_at (file ∷ files) zero h = (file, refl)
-    there_at (file ∷ files) (suc n) h = there_at files n (omega arith)
+    there_at files n (omega (arith, ltb-true (position_or_len (λ (file : FileView). bytes_eq name file.name) files) (length files) h.0, h.1)) where
+      there_at : (files : List FileView) (n : ℕ) → n < length files → (file : FileView) × (slice_get files n ≡ Some file)
+      there_at [] n h = absurd (omega arith)
+      there_at (file ∷ files) zero h = (file, refl)
+      there_at (file ∷ files) (suc n) h = there_at files n (omega arith)
 
 -- a file has the name under which it is found
 pub name_of_number : (files : List FileView) (name : List ℕ) (n : ℕ) (file : FileView) → number_of files name ≡ Some n → slice_get files n ≡ Some file → name ≡ file.name
-name_of_number files name n file e there =
-    let h = position-Some (λ (file : FileView). bytes_eq name file.name) files n file e in
-    (bytes_eq-Decides name file.name).0 (ap (λ (file : FileView). bytes_eq name file.name) (sym (get_or_from_slice_get files n file file there)) ∙ h.1)
+name_of_number files name n file e there = grind (arith, elements, position-Some, bytes_eq-Decides, get_or_from_slice_get) steps 200000
 
 -- one more file, whose name was not taken
 module _ (files : List FileView) (file : FileView) where

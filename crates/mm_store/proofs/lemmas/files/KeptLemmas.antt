@@ -1,16 +1,14 @@
 -- The files after a change of the keys of one file and of the pieces.
-use Rattle.std.proofs.lemmas.{Bool.{cases_eq}, Option.{slice_get_within, none-some}, List.{length-map}}
-use Rattle.std.proofs.Common.{◌≡◌, ◌≢◌, inl, inr, ℕ, zero, suc, ◌-◌, ◌<◌, ◌≤◌, List, [], ◌∷◌, Some, length, map, get_or, deque_len, refl, sym, ap, ◌∙◌, subst, arith, Global, Vec, slice_get}
+use Rattle.std.proofs.lemmas.{Grind.{common_steps}, Bool.{cases_eq}, Option.{slice_get_within, none-some}, List.{length-map}}
+use Rattle.std.proofs.Common.{◌≡◌, ◌≢◌, ℕ, zero, suc, ◌-◌, ◌<◌, ◌≤◌, List, [], ◌∷◌, Some, length, map, get_or, deque_len, refl, sym, ap, ◌∙◌, subst, arith, Global, Vec, slice_get}
 use Rattle.indexmap.specs.IndexMap.{set_value_at, with_value_at}
-use Rattle.mm_store.specs.declared.{file_text.FileText.{FileText}, files.Files.TheInside.{Inside}, start.Start.{Start}}
-use Rattle.mm_store.specs.Code.{Starts.{HasStarts, KnowsStarts}, Room.{HasRoom}, Edited.{pieces_in, with_pieces}}
-use Rattle.mm_store.specs.Code.Kept.{files_view, keyed_file, places, standing_count, deleted_state, deletions, HaveStarts, AreFilesKept}
-use Rattle.mm_store.specs.Language.{FilesView.{FilesView, plain, KeyedFile, plain_file, bytes_of}, Pieces.{Replaced, Deleted, text_under, HeldPiece, Pieces, IsParked}, Undoing.{keys_in, with_keys}}
-use Rattle.mm_text.specs.Language.Reading.{HasWords}
+use Rattle.mm_store.specs.{declared.{file_text.FileText.{FileText}, files.Files.TheInside.{Inside}, start.Start.{Start}}, Code.{Starts.{HasStarts, KnowsStarts}, Room.{HasRoom}}}
+use Rattle.mm_store.specs.Code.{Edited.{pieces_in, with_pieces}, Kept.{files_view, keyed_file, places, standing_count, deletions, HaveStarts, AreFilesKept}}
+use Rattle.mm_store.specs.Language.{FilesView.{FilesView, plain, KeyedFile, plain_file, bytes_of}, Pieces.{Replaced, Deleted, text_under, Pieces, IsParked}, Undoing.{keys_in, with_keys}}
 use Rattle.mm_store.proofs.lemmas.files.{PieceLemmas.{stands_settled, text_drop_other}, ListLemmas.{with_same, plain_same, plain_pieces, with_pieces_same}}
-use Rattle.mm_store.proofs.lemmas.files.EntryLemmas.{texts_of, keys_at, view_set, room_at, room_same, room_set, starts_at, starts_set, tail_at, same_view}
-use Rattle.mm_store.proofs.lemmas.{expansion.WeightLemmas.{weight_dropped}, edits.{ReplaceLemmas.{replaced_weight}, StepLemmas.{parked, settled_here}}}
-use Rattle.mm_store.proofs.lemmas.places.{ChangeLemmas.{starts_after}, StartLemmas.{starts_stay}}
+use Rattle.mm_store.proofs.lemmas.{files.EntryLemmas.{texts_of, keys_at, view_set, room_at, room_same, room_set, starts_at, starts_set, tail_at, same_view}, expansion.WeightLemmas.{weight_dropped}}
+use Rattle.mm_store.proofs.lemmas.{edits.{ReplaceLemmas.{replaced_weight}, StepLemmas.{parked, settled_here}}, places.{ChangeLemmas.{starts_after}, StartLemmas.{starts_stay}}}
+use Rattle.mm_text.specs.Language.Reading.{HasWords}
 use Rattle.std.specs.FinMap as finite
 
 pub length_set : {Y : Type 0} (es : List (Vec ℕ Y × FileText)) (n : ℕ) (w : FileText) → length (set_value_at es n w) ≡ length es
@@ -110,28 +108,11 @@ texts_set (e ∷ es) (suc n) v w there = texts_set es n v w there
 pub settled_kept :
     (inside : Inside) (n old : ℕ) → IsParked inside.pieces old n Replaced → (actual : Pieces) → actual ≡ finite.remove inside.pieces old → AreFilesKept inside
     → AreFilesKept (record { files = inside.files; pieces = actual; bytes = inside.bytes })
-settled_kept inside n old is_parked actual is kept =
-    let p = inside.pieces in
-    let p' = finite.remove p old in
-    let was = parked (finite.get p old) n Replaced is_parked in
-    let same : (m : ℕ) → deletions m actual ≡ deletions m p = λ m. (let less = weight_dropped (λ (piece : HeldPiece). deleted_state m piece.state) p old was.piece was.is in
-    ap (deletions m) is ∙ omega (arith, less, ap (deleted_state m) was.state, replaced_weight m n)) in
-    let plain_is : map (plain_file p') (map keyed_file inside.files.entries) ≡ map (plain_file p) (map keyed_file inside.files.entries) = plain_same p p' old (text_drop_other p old) (map keyed_file inside.files.entries) (kept.once old ∙ was.none) in
-    record {
-      once = λ q. kept.once q ∙ sym (stands_settled p old n Replaced q was.none) ∙ ap (λ p. standing_count (finite.get p q)) (sym is);
-      room = room_same p actual 0 inside.files.entries (λ m lt. same m) kept.room;
-      known = λ m le. same m ∙ kept.known m le;
-      counted = kept.counted ∙ ap bytes_of (sym plain_is) ∙ ap (λ p. bytes_of (map (plain_file p) (map keyed_file inside.files.entries))) (sym is);
-      within = kept.within;
-      starts = subst (λ files. HaveStarts files inside.files.entries) (sym (ap (λ p. map (plain_file p) (map keyed_file inside.files.entries)) is ∙ plain_is)) kept.starts;
-    }
+settled_kept inside n old is_parked actual is kept = grind (arith, common_steps, parked, plain_same, replaced_weight, room_same, stands_settled, text_drop_other, weight_dropped) steps 200000
 
 -- below a bound, from what holds beyond it
 below_bound : (n bound d : ℕ) → (bound ≤ n → d ≡ 0) → 0 < d → n < bound
-below_bound n bound d beyond some = elim (cases_eq (bound - n) 0) [
-  | inl none ↦ absurd (omega (arith, beyond (omega (arith, none))))
-  | inr more ↦ omega (arith, more)
-]
+below_bound n bound d beyond some = grind (arith, common_steps, cases_eq (bound - n) 0) steps 200000
 
 -- a file has the pieces that were deleted from it
 pub deleted_from : {view : FilesView} (inside : Inside) (n old : ℕ) → AreFilesKept inside → files_view inside ≡ view → IsParked view.pieces old n Deleted → 0 < deletions n inside.pieces

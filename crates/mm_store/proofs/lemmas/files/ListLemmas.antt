@@ -1,9 +1,8 @@
 -- Keys in lists of files, and what the files mean.
-use Rattle.std.proofs.Common.{◌≡◌, ◌≢◌, inl, inr, ℕ, zero, suc, ◌+◌, ◌<◌, ◌≤◌, List, [], ◌∷◌, length, map, get_or, set, refl, ap, ◌∙◌, arith, length-append}
-use Rattle.std.proofs.lemmas.{Bool.{cases_eq, Decides.{nat_tests}}, List.{get_or-map, length-map, Sums.{sum_by-cons, sum_by-insert, sum_by-set, get_or-le-sum_by}}}
-use Rattle.std.specs.List.{concat, sum_by, insert}
-use Rattle.mm_store.specs.Code.{Edited.{pieces_in, with_pieces}, Kept.{one, times, places}}
-use Rattle.mm_store.specs.Language.{FilesView.{File, KeyedFile, plain_file, bytes_of}, Pieces.{Pieces, text_under}, Undoing.{keys_in, with_keys}}
+use Rattle.std.proofs.{Common.{◌≡◌, ◌≢◌, inl, inr, ℕ, zero, suc, ◌+◌, ◌<◌, ◌≤◌, List, [], ◌∷◌, length, map, get_or, set, refl, ap, ◌∙◌, arith, length-append}, lemmas.Bool.{cases_eq}}
+use Rattle.std.{proofs.lemmas.{Bool.Decides.{nat_tests}, List.{get_or-map, length-map, Sums.{sum_by-cons, sum_by-insert, sum_by-set, get_or-le-sum_by}}}, specs.List.{concat, sum_by, insert}}
+use Rattle.mm_store.specs.{Code.{Edited.{pieces_in, with_pieces}, Kept.{one, times, places}}, Language.{FilesView.{File, KeyedFile, plain_file, bytes_of}, Pieces.{Pieces, text_under}}}
+use Rattle.mm_store.specs.Language.Undoing.{keys_in, with_keys}
 
 pub one_same : (k : ℕ) → one k k ≡ 1
 one_same k = grind (arith, nat_tests)

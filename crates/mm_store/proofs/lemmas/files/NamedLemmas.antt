@@ -1,8 +1,8 @@
 -- Files by name: each name has one number, and a file that comes last is found if no other has its name.
-use Rattle.std.proofs.Common.{◌≡◌, ◌≢◌, ℕ, ◌<◌, Bool, true, false, cond, nat_lt, List, [], ◌∷◌, ◌++◌, Some, None, length, get_or, refl, sym, ap, ◌∙◌, arith, slice_get}
-use Rattle.std.proofs.lemmas.{Bool.{false_from_ne_true, Decides.{nat_tests}}, List.{Folds.{find_at}, Sums.{passes_at_first}}}
+use Rattle.std.proofs.lemmas.{Grind.{common_steps}, Bool.{false_from_ne_true, Decides.{nat_tests}}, List.{Folds.{find_at}, Sums.{passes_at_first}}}
 use Rattle.std.proofs.lemmas.{Option.{get_or_from_slice_get, none-some, same_Some, slice_get_past, cond_some}, Slice.Eq.{bytes_eq-Decides}}
-use Rattle.std.specs.{List.{find, position_or_len}, Option.{option_map}, Str.{bytes_eq}}
+use Rattle.std.{proofs.Common.{◌≡◌, ◌≢◌, ℕ, Bool, true, false, cond, nat_lt, List, [], ◌∷◌, ◌++◌, Some, None, length, get_or, refl, sym, ap, ◌∙◌, arith, slice_get}, specs.List.{find, position_or_len}}
+use Rattle.std.specs.{Option.{option_map}, Str.{bytes_eq}}
 use Rattle.mm_text.specs.Language.{Cut.{IsCut, ended}, Asked.{Asked, edited_name}}
 use Rattle.mm_store.specs.Language.{FilesView.{File, file_number, file_at, find_file, text_of}, FileFacts.{IsAdded}, Edits.{edited, with_members, IsEditOf}}
 use Rattle.mm_store.proofs.lemmas.edits.EditLawLemmas.{changed_there, number_kept, others_kept}
@@ -12,8 +12,7 @@ named_is : (files : List File) (name : List ℕ) (n : ℕ) (file : File) → fil
 named_is files name n file at there =
     let first = position_or_len (λ (file : File). bytes_eq name file.name) files in
     let s = cond_some (nat_lt first (length files)) first n at in
-    let lt : first < length files = (grind (arith, nat_tests)) in
-    let pass = passes_at_first (λ (file : File). bytes_eq name file.name) files file lt in
+    let pass = passes_at_first (λ (file : File). bytes_eq name file.name) files file (grind (arith, nat_tests)) in
     let here : get_or files first file ≡ file = ap (λ k. get_or files k file) s.1 ∙ get_or_from_slice_get files n file file there in
     (bytes_eq-Decides name file.name).0 (ap (λ (file : File). bytes_eq name file.name) (sym here) ∙ pass)
 
@@ -23,10 +22,7 @@ other_kept edit files after name is differs =
     others_kept edit files after is name (λ at. differs (named_is files name is.number is.file at there ∙ sym (named_is files (edited_name edit) is.number is.file is.placed.file_there.named there)))
 
 pub edited_kept : (edit : Asked) (files after : List File) (file : File) → IsEditOf edit files after → find_file files (edited_name edit) ≡ Some file → find_file after (edited_name edit) ≡ Some (with_members file (edited edit file.pieces))
-edited_kept edit files after file is found =
-    let there = is.placed.file_there in
-    let same : is.file ≡ file = same_Some is.file file (sym (ap (file_at files) there.named ∙ there.there) ∙ found) in
-    ap (file_at after) (number_kept edit files after is (edited_name edit) ∙ there.named) ∙ changed_there edit files after is ∙ ap (λ (file : File). Some (with_members file (edited edit file.pieces))) same
+edited_kept edit files after file is found = grind (arith, common_steps, number_kept edit files after is (edited_name edit), changed_there edit files after is, same_Some) steps 200000
 
 -- the file of a name is the first with it
 at_place : (files : List File) (m : ℕ) (b : Bool) → nat_lt m (length files) ≡ b → file_at files (cond b (Some m) None) ≡ slice_get files m
@@ -34,9 +30,7 @@ at_place files m true e = refl
 at_place files m false e = sym (slice_get_past files m (grind (arith, nat_tests)))
 
 found_first : (files : List File) (name : List ℕ) → find_file files name ≡ find (λ file. bytes_eq name file.name) files
-found_first files name =
-    let first = position_or_len (λ (file : File). bytes_eq name file.name) files in
-    at_place files first (nat_lt first (length files)) refl ∙ sym (find_at (λ (file : File). bytes_eq name file.name) files)
+found_first files name = grind (arith, common_steps, at_place, find_at) steps 200000
 
 module _ (test : File → Bool) (file : File) where
   find_last : (files : List File) → find test files ≡ None → test file ≡ true → find test (files ++ file ∷ []) ≡ Some file

@@ -1,10 +1,9 @@
 -- Files by name, and files without keys.
-use Rattle.std.proofs.Common.{◌≡◌, ℕ, zero, suc, ◌+◌, ◌<◌, Bool, not, cond, List, [], ◌∷◌, Some, length, map, set, refl, sym, ap, ◌∙◌, arith, Vec, position, slice_get}
-use Rattle.std.proofs.lemmas.{List.{length-map}, Option.{same_Some, none-some}}
-use Rattle.std.specs.{List.{position_or_len}, Str.{bytes_eq}, Map.{keys_of}}
-use Rattle.mm_store.specs.declared.file_text.FileText.{FileText}
-use Rattle.mm_store.specs.Language.{Pieces.{Pieces, text_under}, FilesView.{File, KeyedFile, FilesView, plain, plain_file, file_number}, Undoing.{keys_in}, Edits.{with_members}}
-use Rattle.mm_store.specs.Code.{Edited.{pieces_in, with_pieces}, Kept.{keyed_file}}
+use Rattle.std.proofs.lemmas.{Grind.{common_steps}, List.{length-map}, Option.{same_Some, none-some}}
+use Rattle.std.{proofs.Common.{◌≡◌, ℕ, zero, suc, ◌+◌, ◌<◌, Bool, not, cond, List, [], ◌∷◌, Some, length, map, set, refl, sym, ap, ◌∙◌, arith, Vec, position, slice_get}, specs.List.{position_or_len}}
+use Rattle.std.specs.{Str.{bytes_eq}, Map.{keys_of}}
+use Rattle.mm_store.specs.{declared.file_text.FileText.{FileText}, Language.{Pieces.{Pieces, text_under}, FilesView.{File, KeyedFile, FilesView, plain, plain_file, file_number}, Undoing.{keys_in}}}
+use Rattle.mm_store.specs.{Language.Edits.{with_members}, Code.{Edited.{pieces_in, with_pieces}, Kept.{keyed_file}}}
 
 same_tests : (b : Bool) (m n : ℕ) → m ≡ n → cond (not b) (1 + m) 0 ≡ cond (not b) (1 + n) 0
 same_tests b m n e = ap (λ (k : ℕ). cond (not b) (1 + k) 0) e
@@ -32,9 +31,7 @@ pub record IsThere (view : FilesView) (number : ℕ) : Type 0 where
 pub file_there : (keyed : List KeyedFile) (p : Pieces) (n : ℕ) → n < length keyed → IsThere (record { keyed = keyed; pieces = p }) n
 file_there [] p n lt = absurd (omega arith)
 file_there (file ∷ files) p zero lt = record { file = plain_file p file; there = refl; members = refl; count = length-map file.keys (text_under p) }
-file_there (file ∷ files) p (suc n) lt =
-    let later = file_there files p n (omega arith) in
-    record { file = later.file; there = later.there; members = later.members; count = later.count }
+file_there (file ∷ files) p (suc n) lt = grind (arith, common_steps, file_there files p n (omega arith)) steps 200000
 
 -- other members in the file of a number
 pub with_pieces_is : (files : List File) (n : ℕ) (file : File) (members : List (List ℕ)) → slice_get files n ≡ Some file → with_pieces files n members ≡ set files n (with_members file members)

@@ -1,11 +1,10 @@
 -- What is kept of the pieces in a slab, after changes of it.
+use Rattle.std.proofs.lemmas.{Grind.{common_steps, elements}, Bool.{cases_eq}, Option.{same_Some, none-some}, List.{nil_from_length, Sums.{sum_by-cons}}}
 use Rattle.std.proofs.Common.{◌≡◌, inl, inr, is_some, true, ℕ, zero, suc, ◌+◌, ◌≤◌, List, [], ◌∷◌, ◌++◌, Option, Some, None, map, cond, get_or, count_by, refl, sym, ap, ◌∙◌, subst, arith, All}
-use Rattle.std.proofs.lemmas.{Bool.{cases_eq}, Option.{same_Some, none-some}, List.{nil_from_length, Sums.{sum_by-cons}}}
 use Rattle.std.specs.{List.{sum_by}, Option.{option_map}, FinMap.{get-from_entries}, Ordering.{nat_cmp}, Cmp.{nat_cmp_total}}
 use Rattle.slab.specs.Slab.{Slab, get, entries_from, Updates, slab_len}
 use Rattle.mm_store.specs.declared.{piece_text.PieceText.{PieceText}, pieces.Piece.{Piece}}
-use Rattle.mm_store.specs.Language.Pieces.{HeldPiece, Pieces, PieceState, Standing, Parked, standing_piece, in_state, with_state, parked_state, parked_count, parked_under, parked_pieces, text_in}
-use Rattle.mm_store.specs.Language.Pieces.{text_under}
+use Rattle.mm_store.specs.Language.Pieces.{HeldPiece, Pieces, PieceState, standing_piece, with_state, parked_state, parked_count, parked_under, parked_pieces, text_in, text_under}
 use Rattle.mm_store.specs.Code.{Inside.{IsPieceKept, ArePut}, Kept.{weigh}, States.{piece_state}, Slots.{held, entry_view, pieces_of, AreKeptIn, ArePutIn}}
 use Rattle.mm_store.proofs.lemmas.{files.SlabLemmas.{below, get_is, put_is}, expansion.WeightLemmas.{weight_fresh, weight_put, weight_dropped}}
 use Rattle.std.specs.FinMap as finite
@@ -36,13 +35,8 @@ parked_is p = weigh_is (finite.entries p)
 pub parked_put : (p : Pieces) (k : ℕ) (text : List ℕ) → finite.get p k ≡ None → parked_pieces (finite.insert p k (standing_piece text)) ≡ parked_pieces p
 parked_put p k text fresh = omega (arith, parked_is p, parked_is (finite.insert p k (standing_piece text)), weight_fresh parked_weight p k (standing_piece text) fresh)
 
-state_parked : (o : Option HeldPiece) (s : PieceState) → parked_state (in_state o s).state ≡ parked_state s
-state_parked None s = refl
-state_parked (Some piece) s = refl
-
 pub parked_changed : (p : Pieces) (k : ℕ) (piece : HeldPiece) (s : PieceState) → finite.get p k ≡ Some piece → parked_pieces (with_state p k s) + parked_under p k ≡ parked_pieces p + parked_state s
-parked_changed p k piece s is =
-    omega (arith, parked_is p, parked_is (with_state p k s), weight_put parked_weight p k piece (in_state (finite.get p k) s) is, state_parked (finite.get p k) s, ap parked_count is)
+parked_changed p k piece s is = grind (arith, common_steps, parked_is, weight_put) steps 200000
 
 pub parked_dropped : (p : Pieces) (k : ℕ) (piece : HeldPiece) → finite.get p k ≡ Some piece → parked_pieces (finite.remove p k) + parked_state piece.state ≡ parked_pieces p
 parked_dropped p k piece is = omega (arith, parked_is p, parked_is (finite.remove p k), weight_dropped parked_weight p k piece is)
@@ -61,43 +55,19 @@ weigh_slots first (Some piece ∷ rest) =
     omega (arith, weight_fresh parked_weight later first (held piece) fresh, weigh_slots (first + 1) rest, sum_by-cons (λ (entry : ℕ × Piece). parked_state (piece_state entry.1.state)) (first, piece) (entries_from (first + 1) rest))
 
 at_most_one : (s : PieceState) → parked_state s ≤ 1
-at_most_one Standing = omega arith
-at_most_one (Parked n kind) = omega arith
+at_most_one s = grind (arith, common_steps) steps 200000
 
 no_more : (first : ℕ) (slots : List (Option Piece)) → sum_by (λ (entry : ℕ × Piece). parked_state (piece_state entry.1.state)) (entries_from first slots) ≤ count_by is_some slots
 no_more first [] = omega arith
 no_more first (None ∷ rest) = omega (arith, no_more (first + 1) rest, sum_by-cons (λ (o : Option Piece). cond (is_some o) 1 0) None rest)
-no_more first (Some piece ∷ rest) =
-    omega (
-      arith,
-      no_more (first + 1) rest,
-      at_most_one (piece_state piece.state),
-      sum_by-cons (λ (o : Option Piece). cond (is_some o) 1 0) (Some piece)
-          rest,
-      sum_by-cons (λ (entry : ℕ × Piece). parked_state (piece_state entry.1.state)) (first, piece) (entries_from (first + 1) rest),
-    )
+no_more first (Some piece ∷ rest) = grind (arith, common_steps, no_more (first + 1) rest, at_most_one (piece_state piece.state), sum_by-cons) steps 200000
 
 one_less : (first at : ℕ) (slots : List (Option Piece)) (piece : Piece) → get_or slots at None ≡ Some piece
     → sum_by (λ (entry : ℕ × Piece). parked_state (piece_state entry.1.state)) (entries_from first slots) + 1 ≤ count_by is_some slots + parked_state
     (piece_state piece.state)
 one_less first (suc at) (None ∷ rest) piece there = omega (arith, one_less (first + 1) at rest piece there, sum_by-cons (λ (o : Option Piece). cond (is_some o) 1 0) None rest)
-one_less first zero (Some x ∷ rest) piece there =
-    omega (
-      arith,
-      no_more (first + 1) rest,
-      ap (λ (y : Piece). parked_state (piece_state y.state)) (same_Some x piece there),
-      sum_by-cons (λ (o : Option Piece). cond (is_some o) 1 0) (Some x) rest,
-      sum_by-cons (λ (entry : ℕ × Piece). parked_state (piece_state entry.1.state)) (first, x) (entries_from (first + 1) rest),
-    )
-one_less first (suc at) (Some x ∷ rest) piece there =
-    omega (
-      arith,
-      one_less (first + 1) at rest piece there,
-      at_most_one (piece_state x.state),
-      sum_by-cons (λ (o : Option Piece). cond (is_some o) 1 0)
-          (Some x) rest,
-      sum_by-cons (λ (entry : ℕ × Piece). parked_state (piece_state entry.1.state)) (first, x) (entries_from (first + 1) rest),
-    )
+one_less first zero (Some x ∷ rest) piece there = grind (arith, common_steps, no_more (first + 1) rest, same_Some x piece there, sum_by-cons) steps 200000
+one_less first (suc at) (Some x ∷ rest) piece there = grind (arith, common_steps, one_less (first + 1) at rest piece there, at_most_one (piece_state x.state), sum_by-cons) steps 200000
 one_less first _ _ piece there = absurd (none-some piece there)
 
 -- the other pieces that are parked are fewer than all
@@ -107,20 +77,13 @@ others_parked slab key piece there = omega (arith, one_less 0 key slab.slots pie
 -- pieces put one after another
 pub put_more : (old mid new : Slab Piece) (pieces : List PieceText) (keys : List ℕ) (kept : PieceText) (key : ℕ) → ArePutIn old pieces keys mid
     → get mid key ≡ None → Updates mid new key (Some (record { kept = kept; state = code.Standing })) → ArePutIn old (pieces ++ kept ∷ []) (keys ++ key ∷ []) new
-put_more old mid new [] keys kept key put fresh updates =
-    (key, [], new, ap (λ ks. ks ++ key ∷ []) put.0, ap (λ s. get s key) (sym put.1) ∙ fresh, subst (λ s. Updates s new key (Some (record { kept = kept; state = code.Standing }))) put.1 updates, (refl, refl))
-put_more old mid new (first ∷ pieces) keys kept key put fresh updates =
-    (put.0, put.1 ++ key ∷ [], put.2, ap (λ ks. ks ++ key ∷ []) put.3, put.4, put.5, put_more put.2 mid new pieces put.1 kept key put.6 fresh updates)
+put_more old mid new [] keys kept key put fresh updates = grind (arith, elements) steps 200000
+put_more old mid new (first ∷ pieces) keys kept key put fresh updates = grind (arith, common_steps, put_more put.2 mid new pieces put.1 kept key put.6 fresh updates) steps 200000
 
 pub are_put : (old new : Slab Piece) (pieces : List PieceText) (keys : List ℕ) → ArePutIn old pieces keys new → ArePut (pieces_of old) (map (λ piece. piece.text) pieces) keys (pieces_of new)
 are_put old new [] keys put = (put.0, ap pieces_of put.1)
-are_put old new (first ∷ pieces) keys put = (
-  put.0,
-  put.1,
-  put.3,
-  get_is old put.0 ∙ ap (option_map held) put.4,
-  subst (λ m. ArePut m (map (λ (piece : PieceText). piece.text) pieces) put.1 (pieces_of new)) (put_is old put.2 put.0 (record { kept = first; state = code.Standing }) put.5) (are_put put.2 new pieces put.1 put.6),
-)
+are_put old new (first ∷ pieces) keys put =
+    grind (arith, common_steps, get_is old put.0, put_is old put.2 put.0 (record { kept = first; state = code.Standing }) put.5, are_put put.2 new pieces put.1 put.6) steps 200000
 
 pub kept_all : (old new : Slab Piece) (pieces : List PieceText) (keys : List ℕ) → ArePutIn old pieces keys new → All IsPieceKept pieces → AreKeptIn old → AreKeptIn new
 kept_all old new [] keys put all kept = subst AreKeptIn (sym put.1) kept

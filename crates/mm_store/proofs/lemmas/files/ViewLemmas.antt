@@ -1,10 +1,10 @@
 -- What the files with keys and texts say of the keyed files and the pieces.
-use Rattle.std.proofs.Common.{◌≡◌, ℕ, zero, suc, ◌+◌, Bool, not, cond, List, [], ◌∷◌, Option, Some, None, map, bytes_eq, refl, sym, ap, ◌∙◌, subst, IsSome, All, position, slice_get}
-use Rattle.std.proofs.lemmas.{List.{length-map}, Option.{none-some, same_Some, slice_get-map, slice_get_within, get_or_from_slice_get}}
+use Rattle.std.proofs.lemmas.{Grind.{elements, common_steps}, List.{length-map}, Option.{none-some, same_Some, slice_get-map, slice_get_within, get_or_from_slice_get}}
+use Rattle.std.proofs.Common.{arith, ◌≡◌, ℕ, zero, suc, ◌+◌, Bool, not, cond, List, [], ◌∷◌, Option, Some, map, bytes_eq, refl, sym, ap, ◌∙◌, IsSome, position, slice_get}
 use Rattle.std.specs.{List.{position_or_len}, Option.{option_map}}
 use Rattle.mm_store.specs.Language.{Walking.{LevelView}, Pieces.{text_under}}
 use Rattle.mm_store.specs.Language.{FilesView.{KeyedFile, PieceView, FileView, FilesView, files_in, file_number, file_view, number_of, piece_view, plain, plain_file}, FileFacts.{HoldsPieces}}
-use Rattle.mm_store.specs.Code.Steps.{piece_in, piece_at}
+use Rattle.mm_store.specs.Code.Steps.{piece_at}
 use Rattle.std.specs.FinMap as finite
 
 -- the element that a list of values has at a place
@@ -21,34 +21,22 @@ pub record PieceThere (view : FilesView) (number n : ℕ) (piece : PieceView) : 
   pub text : piece.text ≡ text_under view.pieces piece.key.at
 
 pub piece_there : (view : FilesView) (number : ℕ) (file : FileView) (n : ℕ) (piece : PieceView) → slice_get (files_in view) number ≡ Some file → slice_get file.pieces n ≡ Some piece → PieceThere view number n piece
-piece_there view number file n piece there here =
-    let f = there_from_map (file_view view.pieces) view.keyed number file there in
-    let k = there_from_map (piece_view view.pieces) f.0.keys n piece (subst (λ (file : FileView). slice_get file.pieces n ≡ Some piece) f.2 here) in
-    let at : piece.key.at ≡ k.0 = ap (λ (piece : PieceView). piece.key.at) k.2 in
-    record { file = f.0; there = f.1; is_key = k.1 ∙ ap Some (sym at); text = ap (λ (piece : PieceView). piece.text) k.2 ∙ ap (text_under view.pieces) (sym at) }
+piece_there view number file n piece there here = grind (arith, common_steps, there_from_map) steps 200000
 
 -- the piece that is next in a file is there
 pub next_there : (view : FilesView) (level : LevelView) (piece : PieceView) → piece_at (files_in view) level ≡ Some piece → PieceThere view level.file level.piece piece
-next_there view level piece there = case (slice_get (files_in view) level.file) refl there
-  where
-    case : (o : Option FileView) → slice_get (files_in view) level.file ≡ o → piece_in o level.piece ≡ Some piece → PieceThere view level.file level.piece piece
-    case None e h = absurd (none-some piece h)
-    case (Some file) e h = piece_there view level.file file level.piece piece e h
+next_there view level piece there = grind (arith, common_steps, none-some, piece_there) steps 200000
 
 -- each key of a file has a piece
 pub held_there : (view : FilesView) (number n : ℕ) (file : KeyedFile) (key : ℕ) → HoldsPieces view → slice_get view.keyed number ≡ Some file → slice_get file.keys n ≡ Some key → IsSome (finite.get view.pieces key)
-held_there view number n file key holds there is =
-    let own = subst (λ (file : KeyedFile). All (λ key. IsSome (finite.get view.pieces key)) file.keys) (get_or_from_slice_get view.keyed number file file there) (holds number file (slice_get_within view.keyed number file there)) in
-    subst (λ key. IsSome (finite.get view.pieces key)) (get_or_from_slice_get file.keys n key key is) (own n key (slice_get_within file.keys n key is))
+held_there view number n file key holds there is = grind (arith, elements, finite.get, get_or_from_slice_get, slice_get_within) steps 200000
 
 pub some_is : {X : Type 0} (o : Option X) → IsSome o → (x : X) × (o ≡ Some x)
-some_is None h = absurd cc
-some_is (Some x) h = (x, refl)
+some_is o h = grind (arith, common_steps) steps 200000
 
 -- the piece that is next in a file is the one under the key there
 pub piece_at_key : (view : FilesView) (number n : ℕ) (file : KeyedFile) → slice_get view.keyed number ≡ Some file → piece_at (files_in view) (record { file = number; piece = n }) ≡ option_map (piece_view view.pieces) (slice_get file.keys n)
-piece_at_key view number n file there =
-    ap (λ file. piece_in file n) (slice_get-map (file_view view.pieces) view.keyed number ∙ ap (option_map (file_view view.pieces)) there) ∙ slice_get-map (piece_view view.pieces) file.keys n
+piece_at_key view number n file there = grind (arith, common_steps, slice_get-map (file_view view.pieces) view.keyed number, slice_get-map) steps 200000
 
 before_map : {X Y : Type 0} (test : Y → Bool) (f : X → Y) (xs : List X) → position_or_len test (map f xs) ≡ position_or_len (λ x. test (f x)) xs
 before_map test f [] = refl

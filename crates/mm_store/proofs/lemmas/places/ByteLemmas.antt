@@ -1,11 +1,9 @@
 -- Where a byte of a piece is in its file, by the fields of `Files`.
-use Rattle.std.proofs.Common.{◌≡◌, ℕ, ◌+◌, ◌<◌, ◌≤◌, List, [], Some, length, map, take, get_or, sym, ap, ◌∙◌, subst, Global, Vec, slice_get}
-use Rattle.std.proofs.lemmas.Option.{slice_get-map, slice_get_within, get_or_from_slice_get, same_Some}
-use Rattle.std.specs.{List.{concat}, Option.{option_map}}
-use Rattle.mm_store.specs.declared.{file_text.FileText.{FileText}, files.Files.TheInside.{Inside}}
-use Rattle.mm_store.specs.Language.{Pieces.{Pieces, text_under}, FilesView.{File, FilesView, plain, plain_file, text_of}, FileFacts.{IsByte, piece_offset}}
-use Rattle.mm_store.specs.Code.{Lines.{bytes_before}, Kept.{files_view, keyed_file}}
-use Rattle.mm_store.proofs.lemmas.{files.FileLemmas.{IsShown}, places.PlaceLemmas.{before_byte}}
+use Rattle.std.proofs.{Common.{arith, ◌≡◌, ℕ, ◌+◌, ◌<◌, ◌≤◌, List, [], Some, length, map, take, get_or, sym, ap, ◌∙◌, subst, Global, Vec, slice_get}, lemmas.Grind.{common_steps}}
+use Rattle.std.{proofs.lemmas.Option.{slice_get-map, slice_get_within, get_or_from_slice_get, same_Some}, specs.{List.{concat}, Option.{option_map}}}
+use Rattle.mm_store.specs.{declared.{file_text.FileText.{FileText}, files.Files.TheInside.{Inside}}, Language.{Pieces.{Pieces, text_under}, FilesView.{File, FilesView, plain, plain_file, text_of}}}
+use Rattle.mm_store.{specs.{Language.FileFacts.{IsByte, piece_offset}, Code.{Lines.{bytes_before}, Kept.{files_view, keyed_file}}}, proofs.lemmas.files.FileLemmas.{IsShown}}
+use Rattle.mm_store.proofs.lemmas.places.PlaceLemmas.{before_byte}
 
 -- a byte of one of these texts, and the bytes of all before it
 pub record IsIn (texts : List (List ℕ)) (piece at : ℕ) (before : List ℕ) : Type 0 where
@@ -14,11 +12,8 @@ pub record IsIn (texts : List (List ℕ)) (piece at : ℕ) (before : List ℕ) :
   pub is_before : before ≡ bytes_before texts piece at
 
 in_file : (file : File) (piece at : ℕ) (bytes : List ℕ) → slice_get file.pieces piece ≡ Some bytes → at ≤ length bytes → IsIn file.pieces piece at (take (piece_offset file piece + at) (text_of file))
-in_file file piece at bytes there within = record {
-  piece_in = slice_get_within file.pieces piece bytes there;
-  within = subst (λ t. at ≤ length t) (sym (get_or_from_slice_get file.pieces piece bytes [] there)) within;
-  is_before = before_byte file piece at bytes there within;
-}
+in_file file piece at bytes there within =
+    grind (arith, common_steps, slice_get_within file.pieces piece bytes there, get_or_from_slice_get file.pieces piece bytes [] there, before_byte file piece at bytes there within) steps 200000
 
 module _ {inside : Inside} {number : ℕ} {entry : Vec ℕ Global × FileText} {view : FilesView} {piece at : ℕ} {text : List ℕ} {offset : ℕ} (had : IsShown inside number entry)
     (is : files_view inside ≡ view) (byte : IsByte view number piece at text offset) where

@@ -7,9 +7,7 @@ use Rattle.mm_store.proofs.lemmas.files.{ListLemmas.{plain_pieces, keys_with, pi
 -- where the pieces of a file begin, by its keys
 pub starts_here : {Y : Type 0} (p p1 : Pieces) (es : List (Vec ℕ Y × FileText)) (n : ℕ) (v : FileText) → HaveStarts (map (plain_file p) (map keyed_file es)) es → slice_get (texts_of es) n ≡ Some v
     → map (text_under p1) (keys_in (map keyed_file es) n) ≡ map (text_under p) (keys_in (map keyed_file es) n) → KnowsStarts p1 v
-starts_here p p1 es n v have here same =
-    subst (λ texts. HasStarts texts v) (plain_pieces p (map keyed_file es) n ∙ sym same ∙ ap (map (text_under p1)) (keys_at es n v here))
-    (starts_at (map (plain_file p) (map keyed_file es)) es n v have here)
+starts_here p p1 es n v have here same = grind (arith, plain_pieces p (map keyed_file es) n, keys_at es n v here, starts_at (map (plain_file p) (map keyed_file es)) es n v have here) steps 200000
 
 module _ (fs : List KeyedFile) (p p1 p2 : Pieces) (n : ℕ) (keys : List ℕ) (members : List (List ℕ)) (there : n < length fs)
     (means : map (plain_file p2) (with_keys fs n keys) ≡ with_pieces (map (plain_file p) fs) n members)

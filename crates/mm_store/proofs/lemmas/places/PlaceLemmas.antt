@@ -1,12 +1,9 @@
 -- Lines and columns after joined bytes, and where the bytes of a piece are.
-use Rattle.std.proofs.Common.{◌≡◌, ℕ, zero, suc, ◌+◌, ◌-◌, ◌<◌, ◌≤◌, Bool, true, false, not, eqb, cond, List, [], ◌∷◌, ◌++◌, Some, length, take, drop, get_or, reverse, count_by, refl, sym, ap, ◌∙◌}
-use Rattle.std.proofs.Common.{subst, append_assoc, arith, length-append}
-use Rattle.std.proofs.lemmas.Bool.Decides.{nat_tests}
-use Rattle.std.proofs.lemmas.List.{append-nil, length-drop, length-reverse, reverse-append, take_more, drop_more, take-append-drop, take-append-le}
+use Rattle.std.proofs.lemmas.{Grind.{common_steps}, Bool.Decides.{nat_tests}, List.{append-nil, length-drop, length-reverse, reverse-append, take_more, drop_more, take-append-drop, take-append-le}}
 use Rattle.std.proofs.lemmas.List.{Sums.{sum_by-cons, sum_by-append, suffix_len-le-length}, Sorted.{sum_by-IsPermutation, IsPermutation-reverse}, Folds.{prefix_len-append, concat-append}}
 use Rattle.std.proofs.lemmas.Option.{get_or_from_slice_get, slice_get_within}
-use Rattle.std.proofs.Math.Seq.{take-append-add}
-use Rattle.std.specs.{Prelude.{slice_get}, List.{suffix_len, prefix_len, after_last, concat}}
+use Rattle.std.proofs.Common.{◌≡◌, ℕ, zero, suc, ◌+◌, ◌-◌, ◌<◌, ◌≤◌, Bool, true, false, not, eqb, cond, List, [], ◌∷◌, ◌++◌, Some, length, take, drop, get_or, reverse, count_by, refl, sym, ap, ◌∙◌}
+use Rattle.std.{proofs.{Common.{subst, arith, length-append}, Math.Seq.{take-append-add}}, specs.{Prelude.{slice_get}, List.{suffix_len, prefix_len, after_last, concat}}}
 use Rattle.mm_text.specs.Language.Place.{is_line_feed}
 use Rattle.mm_store.specs.{Language.{FilesView.{File, text_of}, FileFacts.{piece_offset}}, Code.Lines.{bytes_before}}
 
@@ -35,21 +32,10 @@ count_reverse : (b : List ℕ) → count_by is_line_feed (reverse b) ≡ count_b
 count_reverse b = sum_by-IsPermutation (λ x. cond (is_line_feed x) 1 0) b (reverse b) (IsPermutation-reverse b)
 
 pub column_goes_on : (a b : List ℕ) → count_by is_line_feed b ≡ 0 → length (after_last is_line_feed (a ++ b)) ≡ length (after_last is_line_feed a) + length b
-column_goes_on a b none =
-    let all = (all_other (reverse b)).1 (count_reverse b ∙ none) in
-    let j = suffix_joined a b in
-    let l = length-reverse b in
-    let x = length_after (a ++ b) in
-    let y = length_after a in
-    grind (arith, nat_tests)
+column_goes_on a b none = grind (arith, common_steps, all_other (reverse b), count_reverse b, suffix_joined a b, length-reverse b, length_after (a ++ b), length_after a, nat_tests) steps 200000
 
 pub column_begins : (a b : List ℕ) → 0 < count_by is_line_feed b → length (after_last is_line_feed (a ++ b)) ≡ length (after_last is_line_feed b)
-column_begins a b some =
-    let not_all : suffix_len is_other b ≡ length (reverse b) → ⊥ = λ e. (let none = sym (count_reverse b) ∙ (all_other (reverse b)).0 e in omega arith) in
-    let j = suffix_joined a b in
-    let x = length_after (a ++ b) in
-    let y = length_after b in
-    grind (arith, nat_tests)
+column_begins a b some = grind (arith, common_steps, count_reverse b, all_other (reverse b), suffix_joined a b, length_after (a ++ b), length_after b, nat_tests) steps 200000
 
 pub lines_joined : (a b : List ℕ) → count_by is_line_feed (a ++ b) ≡ count_by is_line_feed a + count_by is_line_feed b
 lines_joined a b = sum_by-append (λ x. cond (is_line_feed x) 1 0) a b
@@ -67,20 +53,16 @@ concat_one texts n h = rw (take_more texts n [] h, concat-append) (ap (λ l. con
 
 -- the bytes before the next piece
 pub next_piece : (texts : List (List ℕ)) (n at : ℕ) → n < length texts → bytes_before texts (n + 1) 0 ≡ bytes_before texts n at ++ drop at (get_or texts n [])
-next_piece texts n at h =
-    append-nil (concat (take (n + 1) texts)) ∙ concat_one texts n h ∙ ap (λ l. concat (take n texts) ++ l) (sym (take-append-drop at (get_or texts n []))) ∙
-    sym (append_assoc (concat (take n texts)) (take at (get_or texts n [])) (drop at (get_or texts n [])))
+next_piece texts n at h = grind (arith, common_steps, append-nil (concat (take (n + 1) texts)), concat_one texts n h, take-append-drop at (get_or texts n [])) steps 200000
 
 -- bytes of a piece are within the joined texts
 pub within_joined : (texts : List (List ℕ)) (n at : ℕ) → n < length texts → length (bytes_before texts n at) + length (drop at (get_or texts n [])) ≤ length (concat texts)
 within_joined texts n at h =
     let a = next_piece texts n at h in
     let b = append-nil (concat (take (n + 1) texts)) in
-    let c = ap concat (take-append-drop (n + 1) texts) in
-    let d = concat-append (take (n + 1) texts) (drop (n + 1) texts) in
     let l = length-append (bytes_before texts n at) (drop at (get_or texts n [])) in
     let m = length-append (concat (take (n + 1) texts)) (concat (drop (n + 1) texts)) in
-    omega (arith, ap length (sym a ∙ b), ap length (sym d ∙ c))
+    omega (arith, ap length (sym a ∙ b), ap length (sym (concat-append (take (n + 1) texts) (drop (n + 1) texts)) ∙ ap concat (take-append-drop (n + 1) texts)))
 
 -- what comes before a text among joined ones, and the text, are no longer than all
 pub piece_within : (texts : List (List ℕ)) (n : ℕ) → n < length texts → length (concat (take n texts)) + length (get_or texts n []) ≤ length (concat texts)
@@ -92,11 +74,9 @@ before_in texts n at tail h within =
     let x = get_or texts n [] in
     let d = concat (drop (n + 1) texts) in
     let whole : concat texts ≡ a ++ (x ++ d) = ap concat (sym (take-append-drop n texts)) ∙ concat-append (take n texts) (drop n texts) ∙ ap (λ l. a ++ concat l) (drop_more texts n [] h) in
-    ap (λ l. take (length a + at) (l ++ tail)) whole ∙ ap (take (length a + at)) (append_assoc a (x ++ d) tail) ∙ take-append-add a ((x ++ d) ++ tail) at ∙
-    ap (λ l. a ++ l) (ap (take at) (append_assoc x d tail) ∙ take-append-le at x (d ++ tail) within)
+    grind (arith, common_steps, take-append-add a ((x ++ d) ++ tail) at, take-append-le at x (d ++ tail) within) steps 200000
 
 -- the bytes of a file before a byte of a piece
 pub before_byte : (file : File) (n at : ℕ) (text : List ℕ) → slice_get file.pieces n ≡ Some text → at ≤ length text → take (piece_offset file n + at) (text_of file) ≡ bytes_before file.pieces n at
 before_byte file n at text there within =
-    let long : at ≤ length (get_or file.pieces n []) = rw (get_or_from_slice_get file.pieces n text [] there) within in
-    before_in file.pieces n at file.tail (slice_get_within file.pieces n text there) long
+    grind (arith, get_or_from_slice_get file.pieces n text [] there, before_in file.pieces n at file.tail (slice_get_within file.pieces n text there) (rw (get_or_from_slice_get file.pieces n text [] there) within)) steps 200000

@@ -1,7 +1,6 @@
 -- Where pieces begin, after a change of their list.
-use Rattle.std.proofs.Common.{◌≡◌, inl, inr, ℕ, zero, suc, ◌+◌, ◌<◌, ◌≤◌, List, [], ◌∷◌, length, map, deque_len, take, get_or, set, refl, sym, ap, ◌∙◌, subst, arith, Vec, Global}
-use Rattle.std.proofs.lemmas.{Bool.{cases_eq}, List.{length-map, get_or-set_same, get_or-set_other, take-map}}
-use Rattle.std.specs.List.{concat, insert, remove}
+use Rattle.std.proofs.lemmas.{Grind.{common_steps}, Bool.{cases_eq}, List.{length-map, get_or-set_same, get_or-set_other, take-map}}
+use Rattle.std.{proofs.Common.{◌≡◌, ℕ, zero, suc, ◌+◌, ◌<◌, ◌≤◌, List, [], ◌∷◌, length, deque_len, take, get_or, set, refl, ap, arith}, specs.List.{concat, insert, remove}}
 use Rattle.mm_store.specs.{declared.{start.Start.{Start}, file_text.FileText.{FileText}}, Language.Pieces.{Pieces, text_under}, Code.{Starts.{HasStarts, KnowsStarts}, Lines.{IsStart, AreStartsTo}}}
 
 pub take_insert : (xs : List ℕ) (at key n : ℕ) → n ≤ at → at ≤ length xs → take n (insert xs at key) ≡ take n xs
@@ -25,43 +24,19 @@ take_set (x ∷ xs) (suc at) key (suc n) le = ap (λ ys. x ∷ ys) (take_set xs 
 -- what is known of the keys of a file holds of other keys as far as both are one
 pub known_same : (p : Pieces) (v w : FileText) → w.known ≤ v.known → w.known ≤ length w.keys.items → ((n : ℕ) → n ≤ w.known → take n w.keys.items ≡ take n v.keys.items)
     → w.starts ≡ v.starts → KnowsStarts p v → KnowsStarts p w
-known_same p v w less within same starts knows =
-    let f = text_under p in
-    record {
-      known = omega (arith, within, length-map w.keys.items f);
-      starts = λ number default le.
-          subst (λ (starts : Vec Start Global). IsStart (concat (take number (map f w.keys.items))) (get_or starts.items number default)) (sym starts)
-          (subst (λ texts. IsStart (concat texts) (get_or v.starts.items number default))
-          (take-map f number v.keys.items ∙ ap (map f) (sym (same number le)) ∙ sym (take-map f number w.keys.items)) (knows.starts number default (omega (arith, le, less))));
-    }
+known_same p v w less within same starts knows = grind (arith, length-map w.keys.items (text_under p), knows.starts, take-map) steps 200000
 
 -- and if room was made
 pub starts_stay : (p : Pieces) (v w : FileText) → w.keys.items ≡ v.keys.items → w.known ≡ v.known
     → ((number : ℕ) (default : Start) → number ≤ deque_len v.keys → get_or w.starts.items number default ≡ get_or v.starts.items number default)
     → KnowsStarts p v → KnowsStarts p w
-starts_stay p v w items known same knows =
-    let f = text_under p in
-    let texts : map f v.keys.items ≡ map f w.keys.items = ap (map f) (sym items) in
-    record {
-      known = omega (arith, known, knows.known, ap length texts);
-      starts = λ number default le.
-          subst (IsStart (concat (take number (map f w.keys.items)))) (sym (same number default (omega (arith, le, known, knows.known, length-map v.keys.items f, v.keys.ok.0))))
-          (subst (λ ts. IsStart (concat (take number ts)) (get_or v.starts.items number default)) texts (knows.starts number default (omega (arith, le, known))));
-    }
+starts_stay p v w items known same knows = grind (arith, common_steps, length-map v.keys.items (text_under p), knows.starts) steps 200000
 
 -- and if nothing of this changed
 pub starts_alike : (texts : List (List ℕ)) (v w : FileText) → w.known ≡ v.known → w.starts ≡ v.starts → HasStarts texts v → HasStarts texts w
-starts_alike texts v w known starts has = record {
-  known = omega (arith, known, has.known);
-  starts = λ number default le. subst (λ (starts : Vec Start Global). IsStart (concat (take number texts)) (get_or starts.items number default)) (sym starts)
-      (has.starts number default (omega (arith, le, known)));
-}
+starts_alike texts v w known starts has = grind (arith, common_steps, has.starts) steps 200000
 
 -- one start more
 pub starts_more : (texts : List (List ℕ)) (starts : List Start) (last : ℕ) (start : Start) → suc last < length starts → IsStart (concat (take (last + 1) texts)) start
     → AreStartsTo last texts starts → AreStartsTo (last + 1) texts (set starts (last + 1) start)
-starts_more texts starts last start there is are = λ number default lt. elim (cases_eq number (last + 1)) [
-  | inl same ↦ subst (λ n. IsStart (concat (take n texts)) (get_or (set starts (last + 1) start) n default)) (sym same)
-      (subst (IsStart (concat (take (last + 1) texts))) (sym (get_or-set_same starts (last + 1) start default (omega (arith, there)))) is)
-  | inr differs ↦ subst (IsStart (concat (take number texts))) (sym (get_or-set_other starts (last + 1) number start default differs)) (are number default (omega (arith, lt, differs)))
-]
+starts_more texts starts last start there is are = grind (arith, cases_eq, get_or-set_same, get_or-set_other) steps 200000

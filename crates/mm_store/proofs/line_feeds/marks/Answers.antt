@@ -1,6 +1,5 @@
 use Rattle.std.proofs.{Common.{◌≡◌, ℕ, ◌+◌, ◌-◌, ◌*◌, ◌<◌, [], ◌∷◌, ◌++◌, length, take, drop, get_or, sym, ap, ◌∙◌, subst, arith, length-append}, Math.Seq.{take-add}}
-use Rattle.mm_store.specs.{declared.line_feeds.Lines.{Lines}, Code.Lines.{AreLines}}
-use Rattle.mm_store.proofs.lemmas.places.PlaceLemmas.{each_more}
+use Rattle.mm_store.{specs.{declared.line_feeds.Lines.{Lines}, Code.Lines.{AreLines}}, proofs.lemmas.places.PlaceLemmas.{each_more}}
 use Rattle.mm_store.proofs.line_feeds.marks.Goals as goal
 
 pub loop-number-preserved : goal.loop-number-preserved

@@ -1,6 +1,5 @@
-use Rattle.std.proofs.{Common.{◌≡◌, [], ◌∷◌, ◌++◌, All, map, length, drop, sym, ap, ◌∙◌, subst, append_assoc, arith}, Math.Seq.{drop-append_seam}}
-use Rattle.std.proofs.lemmas.{List.{map-append, Elements.{All-nil, All-cons, All-append, All-drop}}, Grind.{common_steps}}
-use Rattle.std.specs.Vec.Iter.{into_iter_items}
+use Rattle.std.proofs.{Common.{◌≡◌, [], ◌∷◌, ◌++◌, All, map, length, drop, sym, ap, ◌∙◌, subst, append_assoc, arith}, Math.Seq.{drop-append_seam}, lemmas.List.{map-append}}
+use Rattle.std.{proofs.lemmas.{List.Elements.{All-nil, All-cons, All-append, All-drop}, Grind.{common_steps}}, specs.Vec.Iter.{into_iter_items}}
 use Rattle.mm_text.specs.{declared.pieces.DividedPiece.{DividedPiece}, Language.Part.{HasOwnParts}}
 use Rattle.mm_store.specs.{declared.piece_text.PieceText.{PieceText}, Code.Inside.{IsPieceKept}}
 use Rattle.mm_store.proofs.piece_text.kept_pieces.Goals as goal
@@ -20,12 +19,10 @@ loop-piece-preserved c =
     let at = c.loop-piece in
     let piece : DividedPiece = c.in-Some.piece in
     let kept : PieceText = c.in_ok-kept_piece.field-0 in
-    let steps : into_iter_items at.piece-iterator ≡ piece ∷ into_iter_items c.next.new.self = c.in-Some.ensures.steps.0 in
     let pushed = c.in_ok-push.ensures.items in
     record {
-      rest = append_assoc at.yielded (piece ∷ []) _ ∙ rw (← steps) at.invariant.rest;
-      many = (let was = at.invariant.many in
-          omega arith);
+      rest = append_assoc at.yielded (piece ∷ []) _ ∙ rw (← c.in-Some.ensures.steps.0) at.invariant.rest;
+      many = grind (arith, common_steps) steps 200000;
       texts = ap (map (λ piece. piece.text)) pushed ∙ map-append (λ piece. piece.text) at.kept.items (kept ∷ []) ∙ ap (λ ts. ts ++ kept.text ∷ []) at.invariant.texts
           ∙ ap (λ t. map (λ piece. piece.text) at.yielded ++ t ∷ []) c.in_ok-kept_piece.ensures.text ∙ sym (map-append (λ piece. piece.text) at.yielded (piece ∷ []));
       each = subst (All IsPieceKept) (sym pushed) (All-append IsPieceKept at.kept.items (kept ∷ []) at.invariant.each (All-cons IsPieceKept kept [] c.in_ok-kept_piece.ensures.kept (All-nil IsPieceKept)));

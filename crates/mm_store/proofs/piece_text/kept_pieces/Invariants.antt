@@ -1,5 +1,4 @@
-use Rattle.std.proofs.Common.{◌≡◌, ◌++◌, All, length, map}
-use Rattle.std.specs.Vec.Iter.{into_iter_items, into_iter_len}
+use Rattle.std.{proofs.Common.{◌≡◌, ◌++◌, All, length, map}, specs.Vec.Iter.{into_iter_items, into_iter_len}}
 use Rattle.mm_store.specs.Code.Inside.{IsPieceKept}
 use Rattle.mm_store.proofs.piece_text.kept_pieces.Given as goal
 

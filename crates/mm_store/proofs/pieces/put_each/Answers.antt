@@ -1,5 +1,4 @@
-use Rattle.std.proofs.Common.{◌≡◌, ◌+◌, [], ◌∷◌, ◌++◌, length, ap, ◌∙◌, append_assoc, arith, length-append, true, if◌then◌else◌, vec_len}
-use Rattle.std.specs.{Result.{is_ok}, Vec.Iter.{into_iter_items}}
+use Rattle.std.{proofs.{lemmas.Grind.{common_steps}, Common.{◌≡◌, ◌+◌, [], ◌∷◌, ◌++◌, length, ap, ◌∙◌, arith, length-append, true, if◌then◌else◌, vec_len}}, specs.Result.{is_ok}}
 use Rattle.mm_store.proofs.lemmas.files.StoreLemmas.{put_more}
 use Rattle.mm_store.proofs.pieces.put_each.Goals as goal
 
@@ -9,19 +8,8 @@ loop-kept-preserved c =
     let kept = c.in-Some.kept in
     let key = c.insert_reserved-key.result in
     let put = at.invariant.put in
-    let steps : into_iter_items at.kept-iterator ≡ kept ∷ into_iter_items c.next.new.self = c.in-Some.ensures.steps.0 in
-    let short = ap length steps in
+    let short = ap length c.in-Some.ensures.steps.0 in
     let ok : is_ok c.push.result ≡ true = c.push.ensures.succeeds (omega (arith, at.invariant.key_room, short)) in
     let pushed : c.push.new.self.items ≡ at.keys.items ++ key ∷ [] = c.push.ensures.items ∙ ap (λ b. if b then at.keys.items ++ key ∷ [] else at.keys.items) ok in
     let longer : vec_len c.push.new.self ≡ vec_len at.keys + 1 = omega (arith, ap length pushed, length-append at.keys.items (key ∷ []), at.keys.ok.0, c.push.new.self.ok.0) in
-    record {
-      rest = append_assoc at.yielded (kept ∷ []) _ ∙ rw (← steps) at.invariant.rest;
-      many = (let was = at.invariant.many in omega arith);
-      put = (
-        put.0 ++ key ∷ [],
-        pushed ∙ ap (λ ks. ks ++ key ∷ []) put.1 ∙ append_assoc c.args.keys.now.items put.0 (key ∷ []),
-        put_more c.args.slab.now at.slab c.insert_reserved-key.new.self at.yielded put.0 kept key put.2 c.insert_reserved-key.ensures.was_vacant c.insert_reserved-key.ensures.updates,
-      );
-      slab_room = omega (arith, at.invariant.slab_room, short, c.insert_reserved-key.ensures.len, c.insert_reserved-key.ensures.capacity);
-      key_room = omega (arith, at.invariant.key_room, short, longer, c.push.ensures.capacity);
-    }
+    grind (arith, common_steps, put_more c.args.slab.now at.slab c.insert_reserved-key.new.self at.yielded put.0 kept key put.2 c.insert_reserved-key.ensures.was_vacant c.insert_reserved-key.ensures.updates) steps 500000

@@ -1,5 +1,4 @@
-use Rattle.std.proofs.Common.{◌≡◌, ℕ, ◌+◌, ◌++◌, ◌≤◌, List, length, vec_len, vec_capacity}
-use Rattle.std.specs.Vec.Iter.{into_iter_items, into_iter_len}
+use Rattle.std.{proofs.Common.{◌≡◌, ℕ, ◌+◌, ◌++◌, ◌≤◌, List, length, vec_len, vec_capacity}, specs.Vec.Iter.{into_iter_items, into_iter_len}}
 use Rattle.slab.specs.Slab.{HasRoomFor}
 use Rattle.mm_store.specs.Code.Slots.{ArePutIn}
 use Rattle.mm_store.proofs.pieces.put_each.Given as goal

@@ -1,8 +1,7 @@
 use Rattle.std.proofs.{Common.{◌≡◌, ℕ, All, map, List, [], ◌∷◌, ◌++◌, Option, Some, length, length-append, sym, ap, ◌∙◌, subst, arith}, lemmas.{List.{append-nil}, Grind.{common_steps}}}
 use Rattle.std.specs.Option.{option_to_list}
 use Rattle.mm_text.specs.{declared.{pieces.DividedPiece.{DividedPiece}, fault.TextError.{TextError, TheVariants.{Fault, Memory}}}, Language.{Cut.{IsCut, IsCutError, ended}, Part.{HasOwnParts}}}
-use Rattle.mm_store.specs.{Language.Answers.{edit_error_of}, Code.Units.{IsUnitError}}
-use Rattle.mm_store.proofs.lemmas.edits.EditLemmas.{if_err}
+use Rattle.mm_store.{specs.{Language.Answers.{edit_error_of}, Code.Units.{IsUnitError}}, proofs.lemmas.edits.EditLemmas.{if_err}}
 use Rattle.mm_store.proofs.unit.read_unit.Goals as goal
 
 -- what is reported of a text that has no cut
@@ -11,14 +10,11 @@ not_cut text (Fault fault) is = is
 not_cut text Memory is = tt
 
 pub returns-in_err-pieces-clause-err : goal.returns-in_err-pieces-clause-err
-returns-in_err-pieces-clause-err c =
-    if_err c.from_residual-in_err-pieces.result _ _ c.from_residual-in_err-pieces.ensures.1
-    (λ e is. subst (IsUnitError c.args.text.now) (sym is) (not_cut c.args.text.now c.in_err-pieces.field-0.0 (rw c.in_ok-whole.ensures at c.in_err-pieces.ensures.fault)))
+returns-in_err-pieces-clause-err c = grind (arith, common_steps, not_cut c.args.text.now c.in_err-pieces.field-0.0 (rw c.in_ok-whole.ensures at c.in_err-pieces.ensures.fault), if_err) steps 200000
 
 one_only : {X : Type 0} (all rest : List X) (last : Option X) (x : X) → length all ≡ 1 → all ≡ rest ++ option_to_list last → last ≡ Some x → all ≡ x ∷ []
 one_only all [] last x one e is = e ∙ ap option_to_list is
-one_only all (y ∷ rest) last x one e is =
-    let long = ap length (e ∙ ap (λ (o : Option _). (y ∷ rest) ++ option_to_list o) is) in let tail = length-append rest (x ∷ []) in absurd (omega (arith, one, long, tail))
+one_only all (y ∷ rest) last x one e is = grind (arith, common_steps, length-append rest (x ∷ [])) steps 200000
 
 pub returns-clause-parts : goal.returns-clause-parts
 returns-clause-parts c = λ units has.

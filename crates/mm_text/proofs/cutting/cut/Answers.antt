@@ -1,7 +1,5 @@
-use Rattle.std.proofs.Common.{ℕ, List, Vec, sym, subst}
-use Rattle.std.specs.Global.{Global}
-use Rattle.mm_text.specs.Language.Cut.{ArePieces}
-use Rattle.mm_text.proofs.PartLemmas.{each_units}
+use Rattle.std.{proofs.Common.{ℕ, List, Vec, sym, subst}, specs.Global.{Global}}
+use Rattle.mm_text.{specs.Language.Cut.{ArePieces}, proofs.PartLemmas.{each_units}}
 use Rattle.mm_text.proofs.cutting.cut.Goals as goal
 
 -- the bytes of a piece

@@ -1,16 +1,10 @@
-use Rattle.std.proofs.{Common.{refl, ◌≤◌, length, sym, ap, ◌∙◌, arith}, lemmas.{Bool.{false≢true}, Result.{err_from_is_err_and}, List.Elements.{All-nil}}}
-use Rattle.mm_text.specs.{Code.Reader.{SkipsPlain}, Language.Part.{HasOwnParts}}
+use Rattle.std.proofs.{lemmas.{Grind.{common_steps}, Bool.{false≢true}, Result.{err_from_is_err_and}}, Common.{refl, ◌≤◌, length, sym, ap, ◌∙◌, arith}}
 use Rattle.mm_text.proofs.{CutPartLemmas.{no_end, divided_none, parts_more, parts_skip, parts_end, parts_next}, CutLemmas.{progress_start, progress_skip, words_fault}}
 use Rattle.mm_text.proofs.CutStepLemmas.{lies, ends_fault, ends_cut, from_before, refused, keeps_more, keeps_piece}
 use Rattle.mm_text.proofs.cutting.cut_units.Goals as goal
 
 pub loop-parts-init : goal.loop-parts-init
-loop-parts-init c = record {
-  text = c.new-reader.ensures.text;
-  progress = rw (c.requires.empty, c.new-reader.ensures.from, c.new-grammar.ensures.phase, c.new-grammar.ensures.closed) (progress_start c.args.text.now _);
-  read = rw (c.new-reader.ensures.from, c.new-parts.ensures.parts, c.new-parts.ensures.first) (divided_none c.args.text.now 0 0 _ refl);
-  divided = rw c.requires.empty (All-nil HasOwnParts);
-}
+loop-parts-init c = grind (arith, common_steps, divided_none, progress_start) steps 200000
 
 pub add-requires-clause-behind : goal.add-requires-clause-behind
 add-requires-clause-behind c = (lies _ _ _ _ c.loop-parts.grammar c.loop-parts.invariant.progress _ _ (rw (c.in-Some.is, c.loop-parts.invariant.text) at c.in_ok-word.ensures.word)).0
@@ -47,10 +41,9 @@ loop-parts-preserved-then-is_whole c =
 pub loop-parts-preserved : goal.loop-parts-preserved
 loop-parts-preserved c =
     let taken = rw (c.in-Some.is, c.loop-parts.invariant.text) at c.in_ok-word.ensures.word in
-    let place = lies _ _ _ _ c.loop-parts.grammar c.loop-parts.invariant.progress _ _ taken in
     record {
       text = c.in_ok-word.ensures.text ∙ c.loop-parts.invariant.text;
-      read = parts_more _ _ _ c.loop-parts.parts c.loop-parts.invariant.read c.in-Some.word _ taken place c.add.new.self c.in_ok-add.ensures;
+      read = parts_more _ _ _ c.loop-parts.parts c.loop-parts.invariant.read c.in-Some.word _ taken (lies _ _ _ _ c.loop-parts.grammar c.loop-parts.invariant.progress _ _ taken) c.add.new.self c.in_ok-add.ensures;
       divided = c.loop-parts.invariant.divided;
       progress = keeps_more _ _ _ _ c.loop-parts.grammar c.loop-parts.invariant.progress _ _ taken _ c.read.new.self refl c.in_ok-read.ensures (λ whole. false≢true (sym c.if-is_whole.false ∙ c.is_whole.ensures.1 whole));
     }
@@ -61,13 +54,12 @@ loop-parts-preserved-then-is_within c =
     let place = lies _ _ _ _ c.loop-parts.grammar c.loop-parts.invariant.progress _ _ taken in
     let same = c.in_ok-word.ensures.text ∙ c.loop-parts.invariant.text in
     let more = keeps_more _ _ _ _ c.loop-parts.grammar c.loop-parts.invariant.progress _ _ taken _ c.read.new.self refl c.in_ok-read.ensures (λ whole. false≢true (sym c.if-is_whole.false ∙ c.is_whole.ensures.1 whole)) in
-    let skips : SkipsPlain c.next_word.new.self.text.now c.next_word.new.self.from c.skip_plain.new.self.from = c.skip_plain.ensures.skips in
     record {
       text = c.skip_plain.ensures.text ∙ same;
       read = parts_skip _ _ _ c.loop-parts.parts c.loop-parts.invariant.read c.in-Some.word _ taken place c.add.new.self c.in_ok-add.ensures _
-          (no_end _ _ _ _ _ c.in_ok-read.ensures.phase (sym c.is_within.ensures ∙ c.if-is_within.true)) (rw same at skips);
+          (no_end _ _ _ _ _ c.in_ok-read.ensures.phase (sym c.is_within.ensures ∙ c.if-is_within.true)) (rw same at c.skip_plain.ensures.skips);
       divided = c.loop-parts.invariant.divided;
-      progress = progress_skip _ _ _ _ _ _ _ more _ (rw same at skips) (sym c.is_within.ensures ∙ c.if-is_within.true);
+      progress = progress_skip _ _ _ _ _ _ _ more _ (rw same at c.skip_plain.ensures.skips) (sym c.is_within.ensures ∙ c.if-is_within.true);
     }
 
 pub returns-in_err-push_piece-clause-fault : goal.returns-in_err-push_piece-clause-fault
@@ -88,10 +80,7 @@ loop-parts-smaller-then-is_whole c =
     let taken = rw c.in-Some.is at c.in_ok-word.ensures.word in omega (arith, ap length c.in_ok-word.ensures.text, taken.begins, taken.some, taken.next, c.next_word.new.self.in_text)
 
 pub loop-parts-smaller : goal.loop-parts-smaller
-loop-parts-smaller c =
-    let taken = rw c.in-Some.is at c.in_ok-word.ensures.word in omega (arith, ap length c.in_ok-word.ensures.text, taken.begins, taken.some, taken.next, c.next_word.new.self.in_text)
+loop-parts-smaller c = grind (arith, common_steps) steps 200000
 
 pub loop-parts-smaller-then-is_within : goal.loop-parts-smaller-then-is_within
-loop-parts-smaller-then-is_within c =
-    let taken = rw c.in-Some.is at c.in_ok-word.ensures.word in
-    omega (arith, ap length (c.skip_plain.ensures.text ∙ c.in_ok-word.ensures.text), c.skip_plain.ensures.forward, taken.begins, taken.some, taken.next, c.skip_plain.new.self.in_text)
+loop-parts-smaller-then-is_within c = grind (arith, common_steps) steps 200000

@@ -1,6 +1,5 @@
 use Rattle.std.proofs.Common.{◌≡◌, ◌-◌, All, map, length}
-use Rattle.mm_text.specs.Language.Part.{HasOwnParts}
-use Rattle.mm_text.proofs.{CutLemmas.{Progress}, CutPartLemmas.{Keeps}}
+use Rattle.mm_text.{specs.Language.Part.{HasOwnParts}, proofs.{CutLemmas.{Progress}, CutPartLemmas.{Keeps}}}
 use Rattle.mm_text.proofs.cutting.cut_units.Given as goal
 
 abbrev pub invariant-loop-parts : goal.invariant-loop-parts

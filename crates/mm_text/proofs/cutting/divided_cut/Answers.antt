@@ -1,6 +1,5 @@
-use Rattle.std.proofs.{Common.{ℕ, List, All, map, sym, subst}, lemmas.{List.{take_rest}, Result.{err_from_is_err_and}}}
-use Rattle.mm_text.specs.{declared.pieces.DividedPiece.{DividedPiece}, Language.{Cut.{ended, IsCut}, Part.{IsReadable}}}
-use Rattle.mm_text.proofs.{PartLemmas.{each_units}, PartWalkLemmas.{parts_read}, PositionLemmas.{cut_error_lies}}
+use Rattle.std.proofs.{Common.{arith, ℕ, List, All, sym, subst}, lemmas.{Grind.{common_steps}, List.{take_rest}, Result.{err_from_is_err_and}}}
+use Rattle.mm_text.{specs.{declared.pieces.DividedPiece.{DividedPiece}, Language.Part.{IsReadable}}, proofs.{PartLemmas.{each_units}, PartWalkLemmas.{parts_read}, PositionLemmas.{cut_error_lies}}}
 use Rattle.mm_text.proofs.cutting.divided_cut.Goals as goal
 
 -- the bytes of a piece
@@ -14,11 +13,7 @@ pub returns-in_err-from-clause-fault_within : goal.returns-in_err-from-clause-fa
 returns-in_err-from-clause-fault_within c = cut_error_lies c.args.text.now c.from_residual.result (returns-in_err-from-clause-fault c)
 
 pub returns-clause-cut : goal.returns-clause-cut
-returns-clause-cut c =
-    let bytes = c.as_slice-bytes.result.now in
-    let pieces = map bytes_of c.cut_units.new.pieces.items in
-    let rest = subst (λ (tail : List ℕ). IsCut bytes pieces (ended tail)) (sym (take_rest bytes c.in_ok-from.from)) c.in_ok-from.ensures.cut in
-    subst (λ (text : List ℕ). IsCut text pieces c.in_ok-tail.tail.items) c.as_slice-bytes.ensures (subst (λ (tail : List ℕ). IsCut bytes pieces tail) (sym c.in_ok-tail.ensures) rest)
+returns-clause-cut c = grind (arith, common_steps, take_rest c.as_slice-bytes.result.now c.in_ok-from.from) steps 200000
 
 pub returns-clause-units : goal.returns-clause-units
 returns-clause-units c = each_units bytes_of c.cut_units.new.pieces.items c.in_ok-tail.tail.items (returns-clause-cut c).are_pieces

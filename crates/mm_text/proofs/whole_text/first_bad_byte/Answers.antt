@@ -1,6 +1,5 @@
 use Rattle.std.proofs.{Common.{sym, ◌∙◌}, lemmas.List.Sums.{AllPass-from_list_all}}
-use Rattle.mm_text.specs.Language.Reading.{is_allowed}
-use Rattle.mm_text.proofs.PieceUnitLemmas.{all_allowed}
+use Rattle.mm_text.{specs.Language.Reading.{is_allowed}, proofs.PieceUnitLemmas.{all_allowed}}
 use Rattle.mm_text.proofs.whole_text.first_bad_byte.Goals as goal
 
 pub returns-then-is_all_text : goal.returns-then-is_all_text

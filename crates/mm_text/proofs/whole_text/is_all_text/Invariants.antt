@@ -1,5 +1,4 @@
-use Rattle.std.proofs.Common.{◌≡◌, take}
-use Rattle.std.specs.List.{list_all}
+use Rattle.std.{proofs.Common.{◌≡◌, take}, specs.List.{list_all}}
 use Rattle.mm_text.specs.Language.Reading.{is_allowed}
 use Rattle.mm_text.proofs.whole_text.is_all_text.Given as goal
 

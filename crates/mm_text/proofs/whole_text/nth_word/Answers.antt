@@ -3,11 +3,7 @@ use Rattle.mm_text.proofs.NthLemmas.{goes_on, nth_of, nth_past}
 use Rattle.mm_text.proofs.whole_text.nth_word.Goals as goal
 
 pub loop-number-preserved : goal.loop-number-preserved
-loop-number-preserved c = record {
-  text = c.in_ok-next_word.ensures.text ∙ c.loop-number.invariant.text;
-  left = λ words has.
-      goes_on words c.loop-number.cursor.words c.next_word.new.self.words c.loop-number._number c.in_ok-next_word.field-0 (c.loop-number.invariant.left words has) c.in_ok-next_word.ensures.word;
-}
+loop-number-preserved c = grind (arith, c.loop-number.invariant.left, goes_on) steps 200000
 
 pub returns-in_err-next_word-clause-nth : goal.returns-in_err-next_word-clause-nth
 returns-in_err-next_word-clause-nth c words has =

@@ -1,8 +1,7 @@
-use Rattle.std.proofs.{Common.{◌<◌, ℕ, List, get_or, length, take, sym, subst, arith}, lemmas.List.{length-map, take_all, take_more}}
+use Rattle.std.proofs.{lemmas.{Grind.{common_steps}, List.{length-map, take_all, take_more}}, Common.{◌<◌, ℕ, List, get_or, length, take, sym, subst, arith}}
 use Rattle.mm_frame.specs.Language.Base.{frame_at}
 use Rattle.mm_machine.specs.Language.{NumberedSymbols.{by_number}, CitedFrames.{IsCitable, frame_of, hypotheses_of, mandatory_of}}
-use Rattle.mm_verdict.specs.Code.{NamedItems.{AreCited}, NumberedBase.{numbered_frame}}
-use Rattle.mm_verdict.proofs.lemmas.{base.FrameLemmas.{frame_moved}, machine.RangeLemmas.{cited_more}}
+use Rattle.mm_verdict.{specs.Code.{NamedItems.{AreCited}, NumberedBase.{numbered_frame}}, proofs.lemmas.{base.FrameLemmas.{frame_moved}, machine.RangeLemmas.{cited_more}}}
 use Rattle.mm_verdict.proofs.assertion.with_assertions.Goals as goal
 
 pub loop-place-preserved : goal.loop-place-preserved
@@ -19,13 +18,10 @@ loop-place-preserved c =
     let same = found.frame names entry.view entry.base.1 entry.entry.1 in
     let there = c.places_have_frames.ensures entry.view.said entry.i _ (frame_at entry.view j) entry.entry.2 in
     let is_frame = frame_moved (frame_of by_number (hypotheses_of by_number mandatory) cited) (numbered_frame names entry.view j) same (c.numbers_keep_frames.ensures names (frame_at entry.view j) there) in
-    let one : IsCitable by_number (hypotheses_of by_number mandatory) cited =
-    record { in_order = found.within.0; within = omega (arith, found.within.1, length-map mandatory (mandatory_of by_number)); frame = is_frame } in
+    let one : IsCitable by_number (hypotheses_of by_number mandatory) cited = record { in_order = found.within.0; within = omega (arith, found.within.1, length-map mandatory (mandatory_of by_number)); frame = is_frame } in
     subst (λ (ns : List ℕ). AreCited c.args.base.now ns mandatory c.push.new.self.items) (sym (take_more numbers k 0 within))
     (cited_more c.args.base.now (take k numbers) j c.loop-place.mandatory.items mandatory c.loop-place.assertions.items c.push.new.self.items cited found.grows.0 c.loop-place.invariant
     found.grows.1 c.in_ok-push.ensures.items one found.frame)
 
 pub returns : goal.returns
-returns c =
-    subst (λ (ns : List ℕ). AreCited c.args.base.now ns c.loop-place.mandatory.items c.loop-place.assertions.items)
-    (take_all c.loop-place.place c.args.numbers.now (omega (arith, c.loop-place-test.false))) c.loop-place.invariant
+returns c = grind (arith, common_steps, take_all c.loop-place.place c.args.numbers.now (omega (arith, c.loop-place-test.false))) steps 200000

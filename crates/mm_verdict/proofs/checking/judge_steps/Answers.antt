@@ -1,10 +1,8 @@
-use Rattle.std.proofs.{Common.{◌≡◌, ◌<◌, ◌≤◌, ℕ, Result, List, length, sym, ◌∙◌, ap, subst, arith}, lemmas.List.{length-map}}
-use Rattle.std.specs.List.{AllByRecursion, flat_map}
+use Rattle.std.{proofs.{Common.{◌≡◌, ◌<◌, ◌≤◌, ℕ, Result, List, length, sym, ◌∙◌, ap, subst, arith}, lemmas.List.{length-map}}, specs.List.{AllByRecursion, flat_map}}
 use Rattle.mm_frame.specs.Language.{Base.{before, said_at}, Framing.{mandatory_numbers}}
 use Rattle.mm_verdict.specs.Language.{BaseLabels.{setting_at}, Citing.{cites, cited_words}, VerdictAt.{mandatory_labels, statement_at}, DecodedSteps.{decoded_steps, entry_steps}}
-use Rattle.mm_verdict.specs.Code.Judged.{done_by}
-use Rattle.mm_machine.specs.{Language.{Verdict.{Decoded}, NamedSteps.{meant, IsOutcomeWithin, actions_mean}}, declared.step.{ProofFault.{ProofFault}, ProofStep.{ProofStep}}}
-use Rattle.mm_verdict.proofs.lemmas.{base.FrameLemmas.{framed_proof}, decoding.DecodedProofs.{done_says}}
+use Rattle.mm_verdict.{specs.Code.Judged.{done_by}, proofs.lemmas.{base.FrameLemmas.{framed_proof}, decoding.DecodedProofs.{done_says}}}
+use Rattle.mm_machine.specs.{Language.{Verdict.{Decoded}, NamedSteps.{meant, actions_mean}}, declared.step.{ProofFault.{ProofFault}, ProofStep.{ProofStep}}}
 use Rattle.mm_verdict.proofs.checking.judge_steps.Goals as goal
 
 pub returns : goal.returns
@@ -40,9 +38,6 @@ returns c =
       few = omega (arith, c.steps_done-done.ensures.within, c.len.ensures, d.steps.ok, length-map d.steps.items (λ (step : ProofStep). meant names step.action));
     }
 
-pub mandatory-hypotheses-requires : goal.mandatory-hypotheses-requires
-mandatory-hypotheses-requires c = let has = c.requires.decoded in (has.0, has.1.theorem.base, framed_proof has.0 c.args.proof.i has.1.theorem.is_sound)
-
 pub run_steps-requires : goal.run_steps-requires
 run_steps-requires c = record {
   known = c.requires.known;
@@ -52,15 +47,3 @@ run_steps-requires c = record {
 
 pub cites_used-requires : goal.cites_used-requires
 cites_used-requires c = rw c.deref-2.ensures.value ((rw c.deref.ensures.value at c.in_ok-used.ensures) c.args.proof.decoding.now.steps.items c.requires.marks)
-
-pub steps_done-done-requires : goal.steps_done-done-requires
-steps_done-done-requires c =
-    let steps = c.args.proof.decoding.now.steps in
-    let count : length steps.items ≡ c.len.result = omega (arith, c.len.ensures, steps.ok) in
-    subst (λ n. IsOutcomeWithin n c.in_ok-outcome.outcome) count c.in_ok-outcome.ensures.within
-
-pub verdict-verdict-requires-clause-within : goal.verdict-verdict-requires-clause-within
-verdict-verdict-requires-clause-within c = c.in_ok-outcome.ensures.within
-
-pub verdict-verdict-requires-clause-few : goal.verdict-verdict-requires-clause-few
-verdict-verdict-requires-clause-few c = subst (λ (ws : List (List ℕ)). length ws ≤ 4294967295) (sym c.again.ensures.words) c.again.ensures.few

@@ -1,6 +1,4 @@
-use Rattle.std.proofs.Common.{subst, length, ap}
 use Rattle.mm_verdict.specs.{Language.{BaseLabels.{setting_at}, VerdictAt.{statement_at}, DecodedSteps.{entry_steps}}, Code.{DecodedProof.{steps_of}, NumberedBase.{numbered_setting}}}
-use Rattle.mm_machine.specs.Language.NamedSteps.{IsOutcomeWithin}
 use Rattle.mm_verdict.proofs.lemmas.{base.FrameLemmas.{shown_proof}, decoding.DecodedProofs.{decoded_saved, used_named}, machine.UsedLemmas.{part_entries, part_means}}
 use Rattle.mm_verdict.proofs.checking.run_all.Goals as goal
 
@@ -24,8 +22,7 @@ returns-clause-says c view is =
     let names = is.theorem.base.0 in
     let base = is.theorem.base.1 in
     let used = c.args.used.now in
-    let entries = part_entries view i d.labels.items used c.requires.used.part is.entries in
-    let mean = c.in_ok-named.ensures.means names view base i entries in
+    let mean = c.in_ok-named.ensures.means names view base i (part_entries view i d.labels.items used c.requires.used.part is.entries) in
     let frames = c.numbers_keep_places.ensures names (setting_at view i) (c.places_have_frames.ensures view.said i) in
     let said = c.in_ok-outcome.ensures.says (numbered_setting names view i) (entry_steps view used) frames (rw c.new-active.ensures (c.active.ensures.same names view base is.theorem.is_sound)) mean in
     let here = rw (c.deref-steps.ensures.value, part_means view d.labels.items used d.steps.items c.requires.used.kept, c.expression.ensures names view base (shown_proof view i is.theorem.is_sound)) at said in
@@ -33,9 +30,3 @@ returns-clause-says c view is =
 
 pub returns-clause-known : goal.returns-clause-known
 returns-clause-known c = c.known_after.ensures c.args.proof.base.now c.in_ok-named.ensures.known
-
-pub active-requires : goal.active-requires
-active-requires c = let has = c.requires.decoded in (has.0, has.1.theorem.base, has.1.theorem.is_sound)
-
-pub returns-clause-within : goal.returns-clause-within
-returns-clause-within c = subst (λ n. IsOutcomeWithin n c.in_ok-outcome.outcome) (ap length c.deref-steps.ensures.value) c.in_ok-outcome.ensures.within

@@ -1,7 +1,6 @@
-use Rattle.std.proofs.{Common.{ℕ, sym, ap, ◌∙◌, drop}, lemmas.Result.{IfOk-weaker}}
-use Rattle.std.specs.List.{list_any}
-use Rattle.mm_verdict.specs.{Code.Cited.{is_listed, names_item, item_cites}, Language.DecodedSteps.{labels_at}}
-use Rattle.mm_verdict.proofs.lemmas.citing.{CitedWordLemmas.{cites_compressed, cites_normal}, MarkedLemmas.{cites_alike}}
+use Rattle.std.{proofs.{Common.{ℕ, sym, ap, ◌∙◌, drop}, lemmas.Result.{IfOk-weaker}}, specs.List.{list_any}}
+use Rattle.mm_verdict.{specs.{Code.Cited.{is_listed, names_item, item_cites}, Language.DecodedSteps.{labels_at}}, proofs.lemmas.citing.CitedWordLemmas.{cites_compressed, cites_normal}}
+use Rattle.mm_verdict.proofs.lemmas.citing.MarkedLemmas.{cites_alike}
 use Rattle.mm_verdict.proofs.citing.cites_used.Goals as goal
 
 pub returns-then-is_compressed : goal.returns-then-is_compressed

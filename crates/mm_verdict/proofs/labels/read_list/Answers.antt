@@ -1,13 +1,9 @@
-use Rattle.std.proofs.{Common.{◌≤◌, length, sym, ap, arith, refl}, lemmas.Result.{err_from_is_err_and}}
+use Rattle.std.proofs.{lemmas.{Grind.{common_steps}, Result.{err_from_is_err_and}}, Common.{◌≤◌, length, sym, ap, arith}}
 use Rattle.mm_verdict.proofs.lemmas.decoding.{LeftLemmas.{take_one, none_left}, TableLemmas.{starts, ends, goes_on, fails, stops}}
 use Rattle.mm_verdict.proofs.labels.read_list.Goals as goal
 
 pub loop-word-init : goal.loop-word-init
-loop-word-init c = record {
-  count = refl;
-  left = λ all left. left;
-  lists = λ view mandatory all is begins. starts view c.args.i mandatory all c.args.labels.now.items begins.labels_are begins.entries;
-}
+loop-word-init c = grind (arith, common_steps, starts) steps 200000
 
 pub returns-then-is_close-clause-ok : goal.returns-then-is_close-clause-ok
 returns-then-is_close-clause-ok c view mandatory all is begins =

@@ -1,8 +1,7 @@
 -- Labels of a base belong to one item each, and mandatory hypotheses are active.
 use Rattle.std.proofs.Common.{◌≡◌, ℕ, true, Option, Some, List, [], ◌∷◌, sym, ◌∙◌, ap, Contains, unwrap_or}
 use Rattle.mm_frame.specs.Language.{Base.{BaseView, AreSaid, before, said_at, is_shown_at}, Resolving.{IsCarrier, Resolves}, Framing.{mandatory_numbers}}
-use Rattle.mm_verdict.specs.Language.BaseLabels.{label_at, NoLabelTwice, AreActive}
-use Rattle.mm_verdict.proofs.lemmas.lists.Members.{Contains-here, contains_there}
+use Rattle.mm_verdict.{specs.Language.BaseLabels.{label_at, NoLabelTwice, AreActive}, proofs.lemmas.lists.Members.{Contains-here, contains_there}}
 use Rattle.mm_frame.specs.Language.Laws as frame
 use Rattle.mm_frame.specs.declared.base.Resolved.TheVariants as answers
 

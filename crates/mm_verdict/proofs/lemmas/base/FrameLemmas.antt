@@ -1,8 +1,7 @@
 -- Frames that are the same, and what a theorem and an assertion of a base are.
-use Rattle.std.proofs.Common.{◌≡◌, ◌≢◌, ℕ, true, List, get_or, refl, sym, subst, inl, inr, slice_get, All, AllPairs, Contains}
-use Rattle.std.proofs.lemmas.{Bool.{false≢true, and_from, and_parts}, List.{get_or_default, Elements.{All-contains}}}
-use Rattle.mm_frame.specs.Language.Base.{BaseView, said_at, is_sound_at, is_shown_at, is_framed_at, is_proof_at}
-use Rattle.mm_frame.specs.mm_statement.Language.Item.{Kind, Axiom, Theorem, is_theorem, is_assertion, is_labelled}
+use Rattle.std.proofs.{Common.{arith, ◌≡◌, ◌≢◌, ℕ, true, List, get_or, sym, subst, inl, inr, slice_get, All, AllPairs, Contains}, lemmas.{Grind.{common_steps}, Bool.{false≢true, and_from, and_parts}}}
+use Rattle.std.proofs.lemmas.List.{get_or_default, Elements.{All-contains}}
+use Rattle.mm_frame.specs.Language.Base.{BaseView, is_shown_at, is_framed_at, is_proof_at}
 use Rattle.mm_machine.specs.Language.{Frame.{Symbol, Mandatory, Frame, AreSameFrame, HasVariable}, Typing.{IsTyped, IsTyping, IsFrame}}
 
 -- both are variables with a mandatory `$f`
@@ -30,31 +29,12 @@ frame_moved f g s is = record {
 
 -- a sound theorem is a sound statement with a label
 pub shown_proof : (view : BaseView) (n : ℕ) → is_proof_at view n ≡ true → is_shown_at view n ≡ true
-shown_proof view n e =
-    let both = and_parts (is_sound_at view n) (is_theorem (said_at view n).kind) e in
-    and_from (is_sound_at view n) (is_labelled (said_at view n).kind) both.0 (theorem_labelled (said_at view n).kind both.1)
-  where
-    theorem_labelled : (kind : Kind) → is_theorem kind ≡ true → is_labelled kind ≡ true
-    theorem_labelled Theorem t = refl
-    theorem_labelled _ t = absurd (false≢true t)
+shown_proof view n e = grind (arith, common_steps, and_from, and_parts, false≢true) steps 200000
 
 -- and a sound assertion
 pub framed_proof : (view : BaseView) (n : ℕ) → is_proof_at view n ≡ true → is_framed_at view n ≡ true
-framed_proof view n e =
-    let both = and_parts (is_sound_at view n) (is_theorem (said_at view n).kind) e in
-    and_from (is_sound_at view n) (is_assertion (said_at view n).kind) both.0 (theorem_asserted (said_at view n).kind both.1)
-  where
-    theorem_asserted : (kind : Kind) → is_theorem kind ≡ true → is_assertion kind ≡ true
-    theorem_asserted Theorem t = refl
-    theorem_asserted _ t = absurd (false≢true t)
+framed_proof view n e = grind (arith, common_steps, and_from, and_parts, false≢true) steps 200000
 
 -- which is a statement with a label, too
 pub shown_framed : (view : BaseView) (n : ℕ) → is_framed_at view n ≡ true → is_shown_at view n ≡ true
-shown_framed view n e =
-    let both = and_parts (is_sound_at view n) (is_assertion (said_at view n).kind) e in
-    and_from (is_sound_at view n) (is_labelled (said_at view n).kind) both.0 (assertion_labelled (said_at view n).kind both.1)
-  where
-    assertion_labelled : (kind : Kind) → is_assertion kind ≡ true → is_labelled kind ≡ true
-    assertion_labelled Axiom t = refl
-    assertion_labelled Theorem t = refl
-    assertion_labelled _ t = absurd (false≢true t)
+shown_framed view n e = grind (arith, common_steps, and_from, and_parts, false≢true) steps 200000

@@ -1,28 +1,20 @@
 -- A label that means an assertion at an item is the label of one that comes before the item.
+use Rattle.std.proofs.lemmas.{Grind.{common_steps}, Slice.Eq.{bytes_eq-Decides}, Bool.{cases_Bool, false≢true, and_from}}
 use Rattle.std.proofs.Common.{◌≡◌, ◌<◌, ◌≤◌, ◌⊎◌, ℕ, zero, suc, cond, Bool, true, bytes_eq, option_to_list, Option, Some, None, List, [], ◌∷◌, ◌++◌, length, take, slice_get, refl, sym, ◌∙◌, ap, subst}
-use Rattle.std.proofs.Common.{inl, inr, arith, is_none, append-nil}
-use Rattle.std.proofs.{Math.{Decide.{dec_lt}, Seq.{take-suc, take-length}}, lemmas.{Slice.Eq.{bytes_eq-Decides}, Bool.{cases_Bool, false≢true, and_from}}}
-use Rattle.mm_frame.specs.declared.FrameNumber.{FrameNumber}
-use Rattle.mm_frame.specs.Language.{Base.{BaseView, said_at, before, is_sound_at, fault_by}, Framing.{frame, meaning, resolve, resolve_from}, Laws.{KeptNext}, Resolving.{Resolves}, Scope.{stays}}
-use Rattle.mm_frame.specs.Language.Sound.{fault, judged, sound_items}
-use Rattle.mm_frame.specs.mm_statement.Language.Item.{Kind, Floating, Essential, Axiom, Theorem, Item, passed, is_assertion, is_labelled, labels_of, has}
+use Rattle.std.proofs.{Common.{inl, inr, arith, is_none, append-nil}, Math.{Decide.{dec_lt}, Seq.{take-suc, take-length}}}
+use Rattle.mm_frame.specs.{declared.FrameNumber.{FrameNumber}, Language.{Base.{BaseView, said_at, before, is_sound_at, fault_by}, Framing.{frame, meaning, resolve, resolve_from}, Laws.{KeptNext}}}
+use Rattle.mm_frame.specs.Language.{Resolving.{Resolves}, Scope.{stays}, Sound.{fault, judged, sound_items}}
+use Rattle.mm_frame.specs.mm_statement.Language.Item.{Kind, Item, passed, is_assertion, is_labelled, labels_of, has}
 use Rattle.mm_machine.specs.Language.Frame.{Assertion}
 use Rattle.mm_verdict.specs.Language.Citing.{means_assertion}
 use Rattle.mm_frame.specs.declared.base.Resolved.TheVariants as answers
 
 labelled : (b : Bool) (o : Option (List ℕ)) (label : List ℕ) → has (cond b (option_to_list o) []) label ≡ true → (b ≡ true) × (o ≡ Some label)
-labelled true (Some l) label h = elim (cases_Bool (bytes_eq label l)) [
-  | inl e ↦ (refl, ap Some (sym ((bytes_eq-Decides label l).0 e)))
-  | inr e ↦ absurd (false≢true (rw e at h))
-]
+labelled true (Some l) label h = grind (arith, common_steps, cases_Bool (bytes_eq label l), bytes_eq-Decides label l, false≢true) steps 200000
 labelled _ _ label h = absurd (false≢true h)
 
 sound_label : (kind : Kind) → is_labelled kind ≡ true → is_none (fault_by kind None) ≡ true
-sound_label Floating e = refl
-sound_label Essential e = refl
-sound_label Axiom e = refl
-sound_label Theorem e = refl
-sound_label _ e = absurd (false≢true e)
+sound_label kind e = grind (arith, common_steps) steps 200000
 
 take_end : {X : Type 0} (xs : List X) (n : ℕ) → (n < length xs → ⊥) → take (suc n) xs ≡ take n xs
 take_end [] zero h = refl
@@ -116,13 +108,7 @@ record Found (whole front back : List Item) (label : List ℕ) : Type 0 where
   means : resolve_from whole front back label ≡ Assertion (frame (front ++ take place back) item)
 
 meaning_framed : (whole front back : List Item) (item : Item) → means_assertion (meaning whole front item back) ≡ true → (is_assertion item.kind ≡ true) × (meaning whole front item back ≡ Assertion (frame front item))
-meaning_framed whole front back item h = elim (cases_Bool (is_assertion item.kind)) [
-  | inl e ↦ (e, rw e refl)
-  | inr e ↦ elim (cases_Bool (stays back)) [
-    | inl s ↦ absurd (false≢true (rw (e, s) at h))
-    | inr s ↦ absurd (false≢true (rw (e, s) at h))
-  ]
-]
+meaning_framed whole front back item h = grind (arith, common_steps, cases_Bool (is_assertion item.kind), cases_Bool (stays back), false≢true) steps 200000
 
 found : (whole front back : List Item) (label : List ℕ) → means_assertion (resolve_from whole front back label) ≡ true → Found whole front back label
 found whole front [] label h = absurd (false≢true h)
@@ -144,8 +130,7 @@ found whole front (item ∷ back) label h = elim (cases_Bool (has (labels_of ite
 
 -- a sound item, known by what takes its place
 judged_sound : (item : Item) (label : List ℕ) (o : Option (ℕ × FrameNumber)) → has (labels_of (judged item o)) label ≡ true → o ≡ None
-judged_sound item label None h = refl
-judged_sound item label (Some at) h = absurd (false≢true h)
+judged_sound item label o h = grind (arith, common_steps) steps 200000
 
 pub assertion_stands : KeptNext → (view : BaseView) (i : ℕ) (label : List ℕ) → means_assertion (resolve (before view i) label) ≡ true → (k : ℕ) × Resolves view i label (answers.Assertion k)
 assertion_stands next view i label h =
@@ -153,8 +138,7 @@ assertion_stands next view i label h =
     let k = f.place in
     let s = stood view next i k f.item f.there in
     let said = said_at view k in
-    let here : has (labels_of (judged_at view next k)) label ≡ true = subst (λ (item : Item). has (labels_of item) label ≡ true) s.is f.label_is in
-    let none = judged_sound said label (fault (before view k) said) here in
+    let none = judged_sound said label (fault (before view k) said) (subst (λ (item : Item). has (labels_of item) label ≡ true) s.is f.label_is) in
     let same : f.item ≡ said = s.is ∙ ap (judged said) none in
     let l = labelled (is_labelled said.kind) said.label label (subst (λ (item : Item). has (labels_of item) label ≡ true) same f.label_is) in
     let sound : is_sound_at view k ≡ true = ap (λ o. is_none (fault_by said.kind o)) none ∙ sound_label said.kind l.0 in

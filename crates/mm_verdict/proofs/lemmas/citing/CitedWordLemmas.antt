@@ -1,14 +1,12 @@
 -- The words that the code gives are those that cite.
-use Rattle.std.proofs.Common.{◌≡◌, ℕ, zero, suc, ◌+◌, Bool, true, false, not, ◌&&◌, List, [], ◌∷◌, ◌++◌, length, map, drop, refl, sym, ap, ◌∙◌, inl, inr, eqb-true, eq-eqb, filter, bytes_eq, codes}
-use Rattle.std.proofs.Common.{nat_eq, slice_get, slice_index_or}
-use Rattle.std.proofs.lemmas.{Bool.{cases_Bool, false≢true}, Slice.Eq.{bytes_eq-Decides}}
+use Rattle.std.proofs.Common.{arith, ◌≡◌, ℕ, zero, suc, ◌+◌, Bool, true, false, not, ◌&&◌, List, [], ◌∷◌, ◌++◌, length, map, drop, refl, sym, ap, ◌∙◌, inl, inr, eqb-true, eq-eqb, filter, bytes_eq}
+use Rattle.std.proofs.{Common.{codes, nat_eq, slice_get, slice_index_or}, lemmas.{Grind.{common_steps}, Bool.{cases_Bool, false≢true}, Slice.Eq.{bytes_eq-Decides}}}
 use Rattle.std.specs.List.{list_any, enumerate_from, before_first}
 use Rattle.mm_frame.specs.{Language.Base.{BaseView, is_shown_at}, declared.base.Resolved.{Resolved}}
 use Rattle.mm_verdict.specs.Language.{BaseLabels.{NoLabelTwice, label_at, setting_at}, Citing.{firsts, means_assertion, names_assertion, is_cited, cited_words}}
 use Rattle.mm_verdict.specs.Language.{DecodedSteps.{entry_step, entry_steps, IsEntry, AreEntries, labels_at, word_step, label_table}, Decoding.{is_close, is_compressed}}
-use Rattle.mm_verdict.specs.Code.Cited.{cited_item, item_named, is_item, names_item, without, item_cites}
+use Rattle.mm_verdict.{specs.Code.Cited.{cited_item, item_named, is_item, names_item, without, item_cites}, proofs.lemmas.views.SameCites.{other_label}}
 use Rattle.mm_machine.specs.{Language.{NamedSteps.{meant}, Expansion.{Step, Named, NotKnown}}, declared.step.{Action.{Action}, ProofStep.{ProofStep}}}
-use Rattle.mm_verdict.proofs.lemmas.views.SameCites.{other_label}
 use Rattle.mm_frame.specs.declared.base.Resolved.TheVariants as answers
 use Rattle.mm_machine.specs.declared.step.Action.TheVariants as actions
 
@@ -25,16 +23,7 @@ less P label other = P other && not (bytes_eq label other)
 
 both : {X : Type 0} (P Q : X → Bool) (xs : List X) → filter P (filter Q xs) ≡ filter (λ x. P x && Q x) xs
 both P Q [] = refl
-both P Q (x ∷ xs) = elim (cases_Bool (Q x)) [
-  | inl e ↦ elim (cases_Bool (P x)) [
-    | inl f ↦ rw (e, f) (ap (◌∷◌ x) (both P Q xs))
-    | inr f ↦ rw (e, f) (both P Q xs)
-  ]
-  | inr e ↦ elim (cases_Bool (P x)) [
-    | inl f ↦ rw (e, f) (both P Q xs)
-    | inr f ↦ rw (e, f) (both P Q xs)
-  ]
-]
+both P Q (x ∷ xs) = grind (arith, common_steps, cases_Bool (Q x), cases_Bool (P x), both P Q xs) steps 200000
 
 alike : {X : Type 0} (P Q : X → Bool) (xs : List X) → ((x : X) → P x ≡ Q x) → filter P xs ≡ filter Q xs
 alike P Q [] same = refl
@@ -43,15 +32,8 @@ alike P Q (x ∷ xs) same = rw (same x, alike P Q xs same) refl
 told_yes : (P : List ℕ → Bool) (n : ℕ) (label : List ℕ) (words : Words) → P label ≡ true → told P ((n, label) ∷ words) ≡ n ∷ told (less P label) words
 told_yes P n label words e = rw e (ap (λ (w : Words). n ∷ map (λ (w : ℕ × List ℕ). w.0) w) (both (λ (w : ℕ × List ℕ). P w.1) (λ (w : ℕ × List ℕ). not (bytes_eq label w.1)) (firsts words)))
 
-none_less : (P : List ℕ → Bool) (label other : List ℕ) → P label ≡ false → less P label other ≡ P other
-none_less P label other e = elim (cases_Bool (bytes_eq label other)) [
-  | inl f ↦ let same = (bytes_eq-Decides label other).0 f in let g : P other ≡ false = ap P (sym same) ∙ e in rw g refl
-  | inr f ↦ elim (cases_Bool (P other)) [ inl g ↦ rw (g, f) refl | inr g ↦ rw g refl ]
-]
-
 told_no : (P : List ℕ → Bool) (n : ℕ) (label : List ℕ) (words : Words) → P label ≡ false → told P ((n, label) ∷ words) ≡ told P words
-told_no P n label words e = rw e (ap (map (λ (w : ℕ × List ℕ). w.0)) (both (λ (w : ℕ × List ℕ). P w.1) (λ (w : ℕ × List ℕ). not (bytes_eq label w.1))
-    (firsts words) ∙ alike (λ (w : ℕ × List ℕ). less P label w.1) (λ (w : ℕ × List ℕ). P w.1) (firsts words) (λ w. none_less P label w.1 e)))
+told_no P n label words e = grind (arith, common_steps, both, alike, bytes_eq-Decides, cases_Bool) steps 200000
 
 module _ (view : BaseView) where
   -- the words are those of the entries, from word n on

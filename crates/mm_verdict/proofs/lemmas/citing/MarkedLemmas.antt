@@ -1,13 +1,12 @@
 -- What is marked counts for the assertions of entries alone.
-use Rattle.std.proofs.{Common.{◌≡◌, ℕ, suc, ◌+◌, Bool, true, List, [], ◌∷◌, drop, refl, ap, inl, inr, eq-eqb, nat_eq}, lemmas.Bool.{cases_Bool}}
+use Rattle.std.proofs.{Common.{arith, ◌≡◌, ℕ, suc, ◌+◌, Bool, true, List, [], ◌∷◌, drop, refl, ap, inl, inr, eq-eqb}, lemmas.{Grind.{common_steps}, Bool.{cases_Bool}}}
 use Rattle.mm_frame.specs.declared.base.Resolved.{Resolved}
 use Rattle.mm_verdict.specs.Code.Cited.{without, item_cites, is_listed}
 use Rattle.mm_frame.specs.declared.base.Resolved.TheVariants as answers
 
 -- one of the rest is one of all
 listed_on : (label : Resolved) (labels : List Resolved) (j : ℕ) → is_listed labels j ≡ true → is_listed (label ∷ labels) j ≡ true
-listed_on (answers.Assertion i) labels j e = elim (cases_Bool (nat_eq i j)) [ inl f ↦ rw f refl | inr f ↦ rw (f, e) refl ]
-listed_on _ labels j e = e
+listed_on label labels j e = grind (arith, common_steps) steps 200000
 
 pub listed_behind : (n : ℕ) (labels : List Resolved) (j : ℕ) → is_listed (drop n labels) j ≡ true → is_listed labels j ≡ true
 listed_behind (suc n) (label ∷ labels) j e = listed_on label labels j (listed_behind n labels j e)
@@ -26,8 +25,3 @@ cites_alike S T n (answers.Assertion j ∷ labels) same = elim (cases_Bool (T j)
 cites_alike S T n (answers.Hypothesis j ∷ labels) same = cites_alike S T (n + 1) labels (λ i e. same i e)
 cites_alike S T n (answers.Inactive ∷ labels) same = cites_alike S T (n + 1) labels (λ i e. same i e)
 cites_alike S T n (answers.Unknown ∷ labels) same = cites_alike S T (n + 1) labels (λ i e. same i e)
-
--- an entry that is no assertion cites nothing
-pub cites_other : (left : ℕ → Bool) (n : ℕ) (label : Resolved) (labels : List Resolved) → ((j : ℕ) → label ≡ answers.Assertion j → ⊥) → item_cites left (n + 1) labels ≡ item_cites left n (label ∷ labels)
-cites_other left n (answers.Assertion j) labels f = absurd (f j refl)
-cites_other left n _ labels f = refl

@@ -1,17 +1,16 @@
 -- The words that cite are labels of exactly the assertions that decoded steps name.
-use Rattle.std.proofs.Common.{◌≡◌, ◌⊎◌, ℕ, zero, suc, ◌+◌, ◌-◌, Bool, true, false, not, cond, ◌||◌, Option, Some, None, Result, Ok, Err, List, [], ◌∷◌, ◌++◌, length, map, drop, take, slice_get, refl}
-use Rattle.std.proofs.Common.{sym, ap, ◌∙◌, subst, inl, inr, arith}
-use Rattle.std.proofs.lemmas.{Bool.{false≢true, and_parts, and_from, or_left, or_right}, Option.{same_Some}, Slice.Eq.{bytes_eq-Decides}}
-use Rattle.std.specs.{Prelude.{◌↔◌, Contains, filter, bytes_eq, codes, ◌==◌}, List.{AllZip, AllByRecursion, list_any, enumerate_from, before_first, after_first, range_with_len, prefix_len}}
+use Rattle.std.proofs.lemmas.{Grind.{common_steps}, Bool.{false≢true, and_parts, and_from, or_left, or_right}, Option.{same_Some}, Slice.Eq.{bytes_eq-Decides}}
+use Rattle.std.proofs.Common.{◌≡◌, ◌⊎◌, ℕ, zero, suc, ◌+◌, ◌-◌, Bool, true, false, not, cond, ◌||◌, Some, Result, Ok, Err, List, [], ◌∷◌, ◌++◌, length, map, drop, take, slice_get, refl, sym, ap, ◌∙◌}
+use Rattle.std.{proofs.Common.{subst, inl, inr, arith}, specs.Prelude.{◌↔◌, Contains, filter, bytes_eq, codes}}
+use Rattle.std.specs.List.{AllZip, AllByRecursion, list_any, enumerate_from, before_first, after_first, range_with_len}
 use Rattle.mm_frame.specs.Language.{Base.{BaseView, AreSaid, said_at, frame_at}, Laws.{KeptNext}}
-use Rattle.mm_machine.specs.Language.{Frame.{Mandatory, Resolved, Inactive, Unknown, Setting}, Expansion.{Step, Named, Saved, Save, NotKnown}, Verdict.{Decoded}}
-use Rattle.mm_machine.specs.declared.{Spot.{Spot}, ProofNumber.{ProofNumber, TheVariants.{P03, P04}}, step.ProofFault.{ProofFault}}
+use Rattle.mm_machine.specs.{Language.{Frame.{Mandatory, Setting}, Expansion.{Step, Named, Saved}, Verdict.{Decoded}}, declared.{Spot.{Spot}, ProofNumber.{ProofNumber, TheVariants.{P03}}}}
+use Rattle.mm_machine.specs.declared.step.ProofFault.{ProofFault}
 use Rattle.mm_verdict.specs.Language.{BaseLabels.{setting_at}, Citing.{label_words, firsts, means_assertion, names_assertion, is_cited, cites}, CitingLaws.{NamesAssertionAt, IsCiteOf}}
-use Rattle.mm_verdict.specs.Language.Decoding.{Reading, Steps, with_step, read_first, in_order, word_spot, usable, read_label, read_word, each_word, nameable, named, alone, read_letter, read_group}
-use Rattle.mm_verdict.specs.Language.Decoding.{is_save_letter, each_group, if_read, is_close, is_compressed, letter_steps, steps_in, decoding}
-use Rattle.mm_verdict.specs.Language.{ItemLaws.{MandatoryLabelsMean, MeansHypothesis}, Letters.{Letter, Group, groups, letters_from}, Numbers.{is_last, value_of}, SameToDecode.{labels_named}}
-use Rattle.mm_verdict.specs.Language.VerdictAt.{mandatory_labels, decoding_at, cites_at}
-use Rattle.mm_verdict.proofs.lemmas.{lists.Members.{Contains-here, contains_there, contains_cases}, base.StoodLemmas.{assertion_stands}, decoding.SureLemmas.{decoded_ok}}
+use Rattle.mm_verdict.specs.Language.Decoding.{Reading, Steps, with_step, read_first, in_order, word_spot, read_label, read_word, each_word, nameable, named, is_save_letter, each_group, if_read}
+use Rattle.mm_verdict.specs.Language.{Decoding.{is_close, is_compressed, letter_steps, steps_in, decoding}, ItemLaws.{MandatoryLabelsMean, MeansHypothesis}, Letters.{Group, groups, letters_from}}
+use Rattle.mm_verdict.{specs.Language.{SameToDecode.{labels_named}, VerdictAt.{mandatory_labels, decoding_at, cites_at}}, proofs.lemmas.lists.Members.{Contains-here, contains_there, contains_cases}}
+use Rattle.mm_verdict.proofs.lemmas.{base.StoodLemmas.{assertion_stands}, decoding.SureLemmas.{decoded_ok}}
 
 -- ---- what is in a list, by recursion
 
@@ -81,12 +80,10 @@ OfSteps P (Ok steps) = AllByRecursion (λ s. P s.0) steps
 OfSteps P (Err fault) = Unit {0}
 
 with_one : (P : Step → Type 0) (step : Step) (spot : Spot) (rest : Steps) → P step → OfSteps P rest → OfSteps P (with_step step spot rest)
-with_one P step spot (Ok steps) p h = (p, h)
-with_one P step spot (Err fault) p h = tt
+with_one P step spot rest p h = grind (arith, common_steps) steps 200000
 
 one_more : (P : Step → Type 0) (spot : Spot) (step : Result Step ProofNumber) (rest : Steps) → ((s : Step) → step ≡ Ok s → P s) → OfSteps P rest → OfSteps P (read_first spot step rest)
-one_more P spot (Ok s) rest p h = with_one P s spot rest (p s refl) h
-one_more P spot (Err number) rest p h = tt
+one_more P spot step rest p h = grind (arith, common_steps) steps 200000
 
 of_order : (P : Step → Type 0) (readings : List Reading) → OfReadings P readings → OfSteps P (in_order readings)
 of_order P [] h = tt
@@ -99,17 +96,8 @@ IsOf labels _ = Unit {0}
 
 -- ---- normal proofs
 
-usable_of : (labels : List (List ℕ)) (label : List ℕ) (meaning : Resolved) (step : Step) → In label labels → usable label meaning ≡ Ok step → IsOf labels step
-usable_of labels label Inactive step h q = cc
-usable_of labels label Unknown step h q = cc
-usable_of labels label _ step h q = let same : Named label ≡ step = cc in subst (λ (s : Step). IsOf labels s) same h
-
 word_of : (p : Setting) (labels : List (List ℕ)) (word : List ℕ) (step : Step) → (bytes_eq word (codes "?") ≡ false → In word labels) → read_word p word ≡ Ok step → IsOf labels step
-word_of p labels word step h q = by (bytes_eq word (codes "?")) refl q
-  where
-    by : (b : Bool) → bytes_eq word (codes "?") ≡ b → cond b (Ok NotKnown) (read_label p word) ≡ Ok step → IsOf labels step
-    by true e w = let same : NotKnown ≡ step = cc in subst (λ (s : Step). IsOf labels s) same tt
-    by false e w = usable_of labels word (p.resolve word) step (h e) w
+word_of p labels word step h q = grind (arith, common_steps) steps 200000
 
 words_of :
     (p : Setting) (labels : List (List ℕ)) (n : ℕ) (words : List (List ℕ)) → ((word : List ℕ) → In word words → bytes_eq word (codes "?") ≡ false → In word labels) →
@@ -139,38 +127,14 @@ got_of labels [] n step h q = cc
 got_of labels (s ∷ names) zero step h q = let same : s ≡ step = cc in subst (λ (t : Step). IsOf labels t) same h.0
 got_of labels (s ∷ names) (suc n) step h q = got_of labels names n step h.1 q
 
-alone_of : (labels : List (List ℕ)) (digits : List Letter) (one step : Step) → IsOf labels one → alone digits one ≡ Ok step → IsOf labels step
-alone_of labels [] one step h q = let same : one ≡ step = cc in subst (λ (t : Step). IsOf labels t) same h
-alone_of labels (d ∷ digits) one step h q = cc
-
-letter_of : (labels : List (List ℕ)) (names : List Step) (digits : List Letter) (byte : ℕ) (step : Step) → AllByRecursion (IsOf labels) names → read_letter names digits byte ≡ Ok step → IsOf labels step
-letter_of labels names digits byte step h q = by (is_last byte) (byte == 90) (byte == 63) q
-  where
-    by :
-        (last save unknown : Bool) →
-        cond last (named (slice_get names (value_of (map (λ (digit : Letter). digit.byte) digits) byte - 1))) (cond save (alone digits Save) (cond unknown (alone digits NotKnown) (Err P04))) ≡ Ok step →
-        IsOf labels step
-    by true save unknown w = got_of labels names (value_of (map (λ (digit : Letter). digit.byte) digits) byte - 1) step h w
-    by false true unknown w = alone_of labels digits Save step tt w
-    by false false true w = alone_of labels digits NotKnown step tt w
-    by false false false w = cc
-
-group_of : (labels : List (List ℕ)) (names : List Step) (digits : List Letter) (last : Option Letter) (step : Step) → AllByRecursion (IsOf labels) names → read_group names digits last ≡ Ok step → IsOf labels step
-group_of labels names digits (Some letter) step h q = letter_of labels names digits letter.byte step h q
-group_of labels names digits None step h q = cc
-
 groups_of : (labels : List (List ℕ)) (close : Spot) (saves : ℕ) (gs : List Group) → OfReadings (IsOf labels) (each_group (map Named labels) close saves gs)
 groups_of labels close saves [] = tt
-groups_of labels close saves (g ∷ gs) = (
-  λ step q. group_of labels (nameable (map Named labels) saves) g.digits g.last step (names_of labels saves) q,
-  groups_of labels close (cond (is_save_letter g.last) (saves + 1) saves) gs,
-)
+groups_of labels close saves (g ∷ gs) = grind (arith, common_steps, names_of labels saves, groups_of labels close (cond (is_save_letter g.last) (saves + 1) saves) gs, got_of) steps 200000
 
 -- ---- all proofs
 
 if_of : (P : Step → Type 0) (first behind : Steps) → OfSteps P behind → OfSteps P (if_read first behind)
-if_of P (Ok steps) behind h = h
-if_of P (Err fault) behind h = tt
+if_of P first behind h = grind (arith, common_steps) steps 200000
 
 -- a word that is no `?`
 abbrev is_label : List ℕ → Bool
@@ -203,8 +167,7 @@ labels_of_steps p mandatory words d e =
     let close = word_spot (length words) in
     let k = decoded_ok close (steps_in p mandatory words close) d e in
     let P = IsOf (mandatory ++ labels_named words) in
-    let of = subst (OfSteps P) k.1 (steps_of p mandatory words close) in
-    subst (λ (x : Decoded). AllByRecursion P x.steps) (sym k.2) (only_steps P k.0 of)
+    subst (λ (x : Decoded). AllByRecursion P x.steps) (sym k.2) (only_steps P k.0 (subst (OfSteps P) k.1 (steps_of p mandatory words close)))
 
 -- ---- words with their numbers
 
@@ -225,10 +188,6 @@ get_take (y ∷ xs) zero k x e = cc
 get_take (y ∷ xs) (suc n) zero x e = e
 get_take (y ∷ xs) (suc n) (suc k) x e = get_take xs n k x e
 
-get_behind : (xs : List (List ℕ)) (k : ℕ) (x : List ℕ) → slice_get (drop 1 xs) k ≡ Some x → slice_get xs (suc k) ≡ Some x
-get_behind [] k x e = e
-get_behind (y ∷ xs) k x e = e
-
 -- the same holds of a word with its number
 abbrev is_label_at : ℕ × List ℕ → Bool
 is_label_at word = not (bytes_eq word.1 (codes "?"))
@@ -246,15 +205,7 @@ named_word words label i = by (is_compressed words) i
         (r.0, in_filter is_label_at (r.0, label) (enumerate_from 0 words) r.1 f.1)
 
 label_there : (words : List (List ℕ)) (w : ℕ) (label : List ℕ) → In (w, label) (label_words words) → slice_get words w ≡ Some label
-label_there words w label i = by (is_compressed words) i
-  where
-    by : (b : Bool) → In (w, label) (cond b (enumerate_from 1 (before_first is_close (drop 1 words))) (filter is_label_at (enumerate_from 0 words))) → slice_get words w ≡ Some label
-    by true j =
-        let r = numbered_at 1 (before_first is_close (drop 1 words)) w label j in
-        ap (slice_get words) (r.1 ∙ omega arith) ∙ get_behind words r.0 label (get_take (drop 1 words) (prefix_len (λ y. not (is_close y)) (drop 1 words)) r.0 label r.2)
-    by false j =
-        let r = numbered_at 0 words w label (from_filter is_label_at (w, label) (enumerate_from 0 words) j).0 in
-        ap (slice_get words) (r.1 ∙ omega arith) ∙ r.2
+label_there words w label i = grind (arith, common_steps, from_filter, get_take, numbered_at) steps 200000
 
 in_firsts : (ws : List (ℕ × List ℕ)) (w : ℕ) (label : List ℕ) → In (w, label) ws → (v : ℕ) × In (v, label) (firsts ws)
 in_firsts [] w label i = absurd i
@@ -274,13 +225,11 @@ from_firsts (a ∷ ws) x (inr i) = inr (from_firsts ws x (from_filter (λ other.
 
 any_names : (label : List ℕ) (steps : List Step) → In (Named label) steps → list_any (names_assertion label) steps ≡ true
 any_names label [] i = absurd i
-any_names label (s ∷ steps) (inl e) =
-    or_left (names_assertion label s) (list_any (names_assertion label) steps) (subst (λ (t : Step). names_assertion label t ≡ true) (sym e) ((bytes_eq-Decides label label).1 refl))
+any_names label (s ∷ steps) (inl e) = grind (arith, common_steps, bytes_eq-Decides label label, or_left) steps 200000
 any_names label (s ∷ steps) (inr i) = or_right (names_assertion label s) (list_any (names_assertion label) steps) (any_names label steps i)
 
 named_by : (label : List ℕ) (s : Step) → names_assertion label s ≡ true → s ≡ Named label
-named_by label (Named other) h = ap Named (sym ((bytes_eq-Decides label other).0 h))
-named_by label _ h = absurd (false≢true h)
+named_by label s h = grind (arith, common_steps, bytes_eq-Decides, false≢true) steps 200000
 
 names_any : (label : List ℕ) (steps : List Step) → list_any (names_assertion label) steps ≡ true → In (Named label) steps
 names_any label [] e = absurd (false≢true e)
@@ -302,20 +251,7 @@ record CitesBy (place : Setting) (words : List (List ℕ)) (r : Result Decoded P
   named : In (Named label) decoded.steps
 
 from_cites : (place : Setting) (words : List (List ℕ)) (r : Result Decoded ProofFault) (n : ℕ) → In n (cites place words r) → CitesBy place words r n
-from_cites place words (Err fault) n i = absurd i
-from_cites place words (Ok d) n i =
-    let cited : ℕ × List ℕ → Bool = λ word. is_cited place d.steps word.1 in
-    let m = from_map (λ (x : ℕ × List ℕ). x.0) n (filter cited (firsts (label_words words))) i in
-    let f = from_filter cited m.0 (firsts (label_words words)) m.1 in
-    let p = and_parts (means_assertion (place.resolve m.0.1)) (list_any (names_assertion m.0.1) d.steps) f.1 in
-    record {
-      decoded = d;
-      decodes = refl;
-      label = m.0.1;
-      there = ap (slice_get words) (sym m.2) ∙ label_there words m.0.0 m.0.1 (from_firsts (label_words words) m.0 f.0);
-      assertion = p.0;
-      named = names_any m.0.1 d.steps p.1;
-    }
+from_cites place words r n i = grind (arith, common_steps, and_parts, from_filter, from_firsts, from_map, label_there, names_any) steps 200000
 
 -- a word that cites by this label
 abbrev CitedWord : Setting → List (List ℕ) → Result Decoded ProofFault → List ℕ → Type 0
@@ -326,11 +262,8 @@ to_cites place words d label i a h =
     let cited : ℕ × List ℕ → Bool = λ word. is_cited place d.steps word.1 in
     let w = named_word words label i in
     let v = in_firsts (label_words words) w.0 label w.1 in
-    let is = and_from (means_assertion (place.resolve label)) (list_any (names_assertion label) d.steps) a (any_names label d.steps h) in (
-      v.0,
-      in_map (λ (x : ℕ × List ℕ). x.0) (v.0, label) (filter cited (firsts (label_words words))) (in_filter cited (v.0, label) (firsts (label_words words)) v.1 is),
-      label_there words v.0 label (from_firsts (label_words words) (v.0, label) v.1),
-    )
+    let is = and_from (means_assertion (place.resolve label)) (list_any (names_assertion label) d.steps) a (any_names label d.steps h) in
+    grind (arith, common_steps, in_filter cited (v.0, label) (firsts (label_words words)) v.1 is, label_there words v.0 label (from_firsts (label_words words) (v.0, label) v.1), in_map) steps 200000
 
 -- a label of a mandatory hypothesis means no assertion
 no_assertion : (place : Setting) (labels : List (List ℕ)) (hs : List Mandatory) → AllZip (MeansHypothesis place) labels hs → (label : List ℕ) → In label labels → means_assertion (place.resolve label) ≡ false

@@ -1,9 +1,8 @@
 -- The decoding that the code has.
-use Rattle.std.proofs.Common.{◌≡◌, ℕ, true, false, Ok, List, [], ◌∷◌, length, map, drop, refl, ap}
+use Rattle.std.proofs.{Common.{arith, ◌≡◌, ℕ, true, false, Ok, List, [], ◌∷◌, length, map, drop, refl, ap}, lemmas.Grind.{common_steps}}
 use Rattle.mm_machine.specs.{Language.{Frame.{Setting}, Expansion.{Step}, NamedSteps.{meant}, Verdict.{Decoded}}, declared.{Spot.{Spot}, step.ProofStep.{ProofStep}}}
 use Rattle.mm_verdict.specs.Language.{DecodedSteps.{TellsFault, label_table, word_step}, Decoding.{in_order, each_word, read_word, compressed_steps, is_compressed, word_spot, decoded, decoding}}
 use Rattle.mm_verdict.specs.{Code.Coded.{meant_steps, TellsSteps}, declared.undecoded.Undecoded.{Undecoded}}
-use Rattle.mm_verdict.specs.declared.undecoded.Undecoded.TheVariants as errors
 
 only_steps : (names : List Step) (steps : List ProofStep) → map (λ (step : Step × Spot). step.0) (meant_steps names steps) ≡ map (λ (step : ProofStep). meant names step.action) steps
 only_steps names [] = refl
@@ -38,5 +37,4 @@ normal_table mandatory words is = rw is refl
 pub normal_fails :
     (place : Setting) (mandatory words : List (List ℕ)) (e : Undecoded) → is_compressed words ≡ false →
     TellsSteps e (in_order (each_word (read_word place) 0 words)) → TellsFault e (decoding place mandatory words)
-normal_fails place mandatory words (errors.Fault fault) is tells = rw (is, tells) refl
-normal_fails place mandatory words errors.Memory is tells = tt
+normal_fails place mandatory words e is tells = grind (arith, common_steps) steps 200000

@@ -1,16 +1,15 @@
 -- A proof that is decoded, and what a run says of it.
-use Rattle.std.proofs.Common.{◌≡◌, ℕ, zero, suc, ◌+◌, ◌<◌, true, false, cond, Some, Ok, List, [], ◌∷◌, length, take, get_or, refl, sym, ◌∙◌, ap, subst, arith, inl, inr, slice_get, All, count_by}
-use Rattle.std.proofs.lemmas.{List.{take-map, length-take-le, Elements.{All-nil, All-cons}, Sums.{sum_by-cons}}, Option.{slice_get-map, slice_get_within}}
+use Rattle.std.proofs.lemmas.{Grind.{common_steps, elements}, List.{take-map, length-take-le, Elements.{All-nil, All-cons}, Sums.{sum_by-cons}}, Option.{slice_get-map, slice_get_within}}
+use Rattle.std.proofs.Common.{◌≡◌, ℕ, zero, suc, ◌<◌, true, false, cond, Some, Ok, List, [], ◌∷◌, length, take, get_or, refl, sym, ◌∙◌, ap, subst, arith, inl, inr, slice_get, All, count_by}
 use Rattle.std.specs.Option.{option_map}
 use Rattle.mm_frame.specs.{declared.base.{Base.{Base}, Resolved.{Resolved}}, Language.{Base.{BaseView, before, said_at, is_framed_at}, Framing.{mandatory_numbers}, Answering.{IsBase}}}
 use Rattle.mm_machine.specs.Language.{Frame.{Symbol, Setting}, Expansion.{Step, Saved, NotKnown}, Machine.{AreDecoded, is_save}, Run.{AreDone}}
-use Rattle.mm_machine.specs.Language.{NamedSteps.{meant, AreSavedBefore, IsSavedWithin, RunSays, actions_mean, saves_by, saves_in}, RunLaws.{PartsAreRun}}
-use Rattle.mm_machine.specs.declared.{step.{Action.{Action}, ProofStep.{ProofStep}}, stepping.Outcome.{Outcome, TheVariants.{Proved, Fault, Unknown, NotOne, Other}}}
-use Rattle.mm_verdict.specs.Language.{BaseLabels.{AreActive, setting_at}, Decoding.{decoding}, DecodingLaws.{DecodesSurely, MandatoryAreActive}, VerdictAt.{mandatory_labels}}
-use Rattle.mm_verdict.specs.Language.DecodedSteps.{decoded_steps, decoding_of, AreEntries, entry_step, entry_steps, label_table, labels_at}
-use Rattle.mm_verdict.specs.{Code.{Decoded.{WhereActive}, Judged.{IsDecoding, IsTheorem, done_by}, NamedItems.{IsNamedBy}, UsedLabels.{IsPart}}, declared.reading.Decoding.{Decoding}}
-use Rattle.mm_verdict.proofs.lemmas.{base.FrameLemmas.{framed_proof}, verdicts.ItemLemmas.{active_usable}, machine.UsedLemmas.{part_entries}}
-use Rattle.mm_frame.specs.declared.base.Resolved.TheVariants as answers
+use Rattle.mm_machine.specs.{Language.{NamedSteps.{meant, AreSavedBefore, IsSavedWithin, RunSays, actions_mean, saves_by, saves_in}, RunLaws.{PartsAreRun}}, declared.step.Action.{Action}}
+use Rattle.mm_machine.specs.declared.{step.ProofStep.{ProofStep}, stepping.Outcome.{Outcome, TheVariants.{Proved, Fault, Unknown, NotOne, Other}}}
+use Rattle.mm_verdict.specs.Language.{BaseLabels.{AreActive, setting_at}, DecodingLaws.{DecodesSurely, MandatoryAreActive}, VerdictAt.{mandatory_labels}}
+use Rattle.mm_verdict.specs.{Language.DecodedSteps.{decoded_steps, decoding_of, AreEntries, entry_steps, label_table, labels_at}, Code.{Decoded.{WhereActive}, Judged.{IsDecoding, IsTheorem, done_by}}}
+use Rattle.mm_verdict.{specs.{Code.{NamedItems.{IsNamedBy}, UsedLabels.{IsPart}}, declared.reading.Decoding.{Decoding}}, proofs.lemmas.base.FrameLemmas.{framed_proof}}
+use Rattle.mm_verdict.proofs.lemmas.{verdicts.ItemLemmas.{active_usable}, machine.UsedLemmas.{part_entries}}
 use Rattle.mm_machine.specs.declared.step.Action.TheVariants as actions
 
 -- ---- entries
@@ -26,13 +25,7 @@ used_named code view i base within labels used part entries = named_by code view
 -- no entry is a save
 entry_saves : (view : BaseView) (labels : List Resolved) (k : ℕ) → is_save (get_or (entry_steps view labels) k NotKnown) ≡ false
 entry_saves view [] k = refl
-entry_saves view (l ∷ labels) zero = one l
-  where
-    one : (l : Resolved) → is_save (entry_step view l) ≡ false
-    one (answers.Hypothesis j) = refl
-    one (answers.Assertion j) = refl
-    one answers.Inactive = refl
-    one answers.Unknown = refl
+entry_saves view (l ∷ labels) zero = grind (arith, elements) steps 200000
 entry_saves view (l ∷ labels) (suc k) = entry_saves view labels k
 
 -- ---- saves
@@ -43,12 +36,7 @@ one_saves view labels _ = refl
 
 saves_count : (view : BaseView) (labels : List Resolved) (steps : List ProofStep) → count_by is_save (actions_mean (entry_steps view labels) steps) ≡ saves_in steps
 saves_count view labels [] = refl
-saves_count view labels (step ∷ steps) =
-    let names = entry_steps view labels in
-    sum_by-cons (λ s. cond (is_save s) 1 0) (meant names step.action) (actions_mean names steps)
-    ∙ ap (λ n. n + count_by is_save (actions_mean names steps)) (one_saves view labels step.action)
-    ∙ ap (λ n. saves_by step.action + n) (saves_count view labels steps)
-    ∙ sym (sum_by-cons (λ (s : ProofStep). saves_by s.action) step steps)
+saves_count view labels (step ∷ steps) = grind (arith, common_steps, one_saves view labels step.action, saves_count view labels steps, sum_by-cons) steps 200000
 
 -- what decoding makes sure of, said of the code's steps
 pub saved_before : (place : Setting) (view : BaseView) (labels : List Resolved) (steps : List ProofStep) → AreDecoded place (actions_mean (entry_steps view labels) steps) → AreSavedBefore steps
@@ -76,16 +64,7 @@ pub decoded : (code : Base) (i : ℕ) (proof : List (List ℕ)) (d : Decoding) (
     ((v : BaseView) → IsBase v code → is_framed_at v i ≡ true → numbers ≡ mandatory_numbers (before v i) (said_at v i)) → AreActive view i (mandatory_numbers (before view i) (said_at view i)) →
     WhereActive code i numbers (λ v. decoding_of v i numbers proof ≡ Ok (decoded_steps v d proof)) → WhereActive code i numbers (λ v. AreEntries v i d.labels.items) →
     WhereActive code i numbers (λ v. entry_steps v d.labels.items ≡ label_table (labels_at v numbers) proof) → IsDecoding code i proof d view
-decoded code i proof d numbers view theorem mandatory active ok entries table =
-    let are = mandatory view theorem.base (framed_proof view i theorem.is_sound) in
-    let there = subst (λ (ns : List ℕ). AreActive view i ns) (sym are) active in
-    record {
-      theorem = theorem;
-      decodes = ap (λ (words : List (List ℕ)). decoding (setting_at view i) (labels_at view (mandatory_numbers (before view i) (said_at view i))) words) theorem.says
-          ∙ ap (λ (ns : List ℕ). decoding (setting_at view i) (labels_at view ns) proof) (sym are) ∙ ok view theorem.base there;
-      entries = entries view theorem.base there;
-      table = table view theorem.base there ∙ ap (λ (ns : List ℕ). label_table (labels_at view ns) proof) are;
-    }
+decoded code i proof d numbers view theorem mandatory active ok entries table = grind (arith, common_steps, framed_proof view i theorem.is_sound) steps 200000
 
 -- ---- steps that are done
 
@@ -93,8 +72,7 @@ pub done_says : PartsAreRun → (place : Setting) (statement : List Symbol) (ste
 done_says parts place statement steps Proved r = inr ((statement ∷ [], rw (parts.known steps r.0) r.1), sym (ap length (parts.known steps r.0)))
 done_says parts place statement steps (Fault number n) r = inl (n, number, r, refl)
 done_says parts place statement steps (Unknown n) r =
-    let ends = parts.unknown steps n r.0 in
     let l = slice_get_within steps n NotKnown r.0.0 in
-    inr (r.1, sym (ap length ends ∙ length-take-le n steps (omega arith)))
+    inr (r.1, sym (ap length (parts.unknown steps n r.0) ∙ length-take-le n steps (omega arith)))
 done_says parts place statement steps NotOne r = inr ((r.1, rw (parts.known steps r.0) r.2), sym (ap length (parts.known steps r.0)))
 done_says parts place statement steps Other r = inr ((r.1 ∷ [], rw (parts.known steps r.0) r.2), sym (ap length (parts.known steps r.0)))

@@ -1,5 +1,5 @@
 -- The letters are divided into groups in exactly one way.
-use Rattle.std.proofs.Common.{◌≡◌, true, false, Option, Some, None, List, [], ◌∷◌, ◌++◌, refl, sym, ap, ◌∙◌, inl, inr, append_assoc, append-nil, flat_map, option_to_list, ◌↔◌}
+use Rattle.std.proofs.{Common.{arith, ◌≡◌, true, Option, List, [], ◌∷◌, ◌++◌, refl, sym, ap, ◌∙◌, inl, inr, append_assoc, append-nil, flat_map, option_to_list, ◌↔◌}, lemmas.Grind.{common_steps}}
 use Rattle.std.proofs.lemmas.Bool.{cases_Bool}
 use Rattle.mm_verdict.specs.Language.{Numbers.{is_digit}, Letters.{Letter, Group, cut_group, groups_behind, groups, group_letters, AreDigits, EndsGroup, AreGroups, IsDivided}}
 
@@ -10,18 +10,14 @@ digits_more (d ∷ ds) l all e = (all.0, digits_more ds l all.1 e)
 joined_behind : (ds ls : List Letter) → flat_map group_letters (groups_behind ds ls) ≡ ds ++ ls
 joined_behind [] [] = refl
 joined_behind (d ∷ ds) [] = append-nil ((d ∷ ds) ++ [])
-joined_behind ds (l ∷ ls) = elim (cases_Bool (is_digit l.byte)) [
-  | inl e ↦ rw e (joined_behind (ds ++ l ∷ []) ls ∙ append_assoc ds (l ∷ []) ls)
-  | inr e ↦ rw e (ap (λ (w : List Letter). (ds ++ l ∷ []) ++ w) (joined_behind [] ls) ∙ append_assoc ds (l ∷ []) ls)
-]
+joined_behind ds (l ∷ ls) = grind (arith, common_steps, cases_Bool (is_digit l.byte), joined_behind (ds ++ l ∷ []) ls, joined_behind [] ls) steps 200000
 
 -- joined they are the letters
 pub groups_joined : (ls : List Letter) → flat_map group_letters (groups ls) ≡ ls
 groups_joined ls = joined_behind [] ls
 
 cut_is : (ds : List Letter) → AreDigits ds → AreGroups (cut_group ds)
-cut_is [] all = tt
-cut_is (d ∷ ds) all = (all, ((λ e. cc), refl), tt)
+cut_is ds all = grind (arith, common_steps) steps 200000
 
 grouped_behind : (ds ls : List Letter) → AreDigits ds → AreGroups (groups_behind ds ls)
 grouped_behind ds [] all = cut_is ds all
@@ -38,18 +34,9 @@ on : (ds es ls : List Letter) → AreDigits es → groups_behind ds (es ++ ls) �
 on ds [] ls all = rw (append-nil ds) refl
 on ds (e ∷ es) ls all = rw all.0 (on (ds ++ e ∷ []) es ls all.1 ∙ ap (λ (w : List Letter). groups_behind w ls) (append_assoc ds (e ∷ []) es))
 
-cut_some : (ds : List Letter) → (ds ≡ [] → ⊥) → cut_group ds ≡ record { digits = ds; last = None } ∷ []
-cut_some [] some = absurd (some refl)
-cut_some (d ∷ ds) some = refl
-
-ended : (ds : List Letter) (l : Letter) (ls : List Letter) → is_digit l.byte ≡ false → groups_behind ds (l ∷ ls) ≡ record { digits = ds; last = Some l } ∷ groups ls
-ended ds l ls e = rw e refl
-
 one : (ds : List Letter) (last : Option Letter) (gs : List Group) → AreDigits ds → EndsGroup ds last gs → groups (flat_map group_letters gs) ≡ gs
     → groups ((ds ++ option_to_list last) ++ flat_map group_letters gs) ≡ record { digits = ds; last = last } ∷ gs
-one ds (Some l) gs all e rest = rw (append_assoc ds (l ∷ []) (flat_map group_letters gs)) (on [] ds (l ∷ flat_map group_letters gs) all ∙ ended ds l
-    (flat_map group_letters gs) e ∙ ap (λ (w : List Group). record { digits = ds; last = Some l } ∷ w) rest)
-one ds None gs all e rest = rw (e.1, append-nil ds, append-nil ds) (ap groups (sym (append-nil ds)) ∙ on [] ds [] all ∙ cut_some ds e.0)
+one ds last gs all e rest = grind (arith, common_steps, append-nil, on) steps 200000
 
 -- and there is no other such division
 pub groups_unique : (gs : List Group) → AreGroups gs → groups (flat_map group_letters gs) ≡ gs

@@ -1,9 +1,8 @@
 -- The letters read from left to right are the letters read in groups.
-use Rattle.std.proofs.{Common.{◌≡◌, ℕ, ◌+◌, false, ◌==◌, cond, Result, List, [], ◌∷◌, ◌++◌, map, refl, sym, ap, ◌∙◌, arith, inl, inr, eqb-true}, lemmas.Bool.{cases_Bool}}
-use Rattle.mm_machine.specs.{Language.Expansion.{Step, Save, NotKnown}, declared.{Spot.{Spot}, ProofNumber.{ProofNumber}}}
+use Rattle.std.proofs.{lemmas.{Grind.{common_steps}, Bool.{cases_Bool}}, Common.{◌≡◌, ℕ, ◌+◌, false, ◌==◌, cond, List, [], ◌∷◌, ◌++◌, map, refl, sym, ap, ◌∙◌, arith, inl, inr, eqb-true}}
+use Rattle.mm_machine.specs.{Language.Expansion.{Step, Save, NotKnown}, declared.Spot.{Spot}}
 use Rattle.mm_verdict.specs.Language.{Numbers.{is_digit, digit_worth, in_base_five}, Letters.{Letter, cut_group, groups_behind, groups, AreDigits}}
-use Rattle.mm_verdict.specs.Language.Decoding.{Steps, read_first, in_order, alone, nameable, read_letter, each_group}
-use Rattle.mm_verdict.specs.Code.LeftToRight.{alone_behind, read_behind, end_behind, read_on}
+use Rattle.mm_verdict.specs.{Language.Decoding.{in_order, alone, nameable, read_letter, each_group}, Code.LeftToRight.{alone_behind, read_behind, end_behind, read_on}}
 use Rattle.mm_verdict.proofs.lemmas.decoding.{NumberLemmas.{base_five_more, digit_is, AreWorth, none}, GroupLemmas.{digits_more}}
 
 -- the worths of digits, and their number
@@ -23,29 +22,22 @@ worths_more (d ∷ ds) l = ap (λ (w : List ℕ). digit_worth d.byte ∷ w) (wor
 
 -- the number 0 means that there are no digits
 some_digits : (d : Letter) (ds : List Letter) → AreDigits (d ∷ ds) → (number (d ∷ ds) == 0) ≡ false
-some_digits d ds all = elim (cases_Bool (number (d ∷ ds) == 0)) [
-  | inl e ↦ let nil = none (worths (d ∷ ds)) (are_worth (d ∷ ds) all) (eqb-true (number (d ∷ ds)) 0 e) in cc
-  | inr e ↦ e
-]
+some_digits d ds all = grind (arith, common_steps, cases_Bool (number (d ∷ ds) == 0), are_worth (d ∷ ds) all, none, eqb-true) steps 200000
 
 alone_is : (ds : List Letter) (step : Step) → AreDigits ds → alone_behind (number ds) step ≡ alone ds step
-alone_is [] step all = refl
-alone_is (d ∷ ds) step all = rw (some_digits d ds all) refl
+alone_is ds step all = grind (arith, common_steps, some_digits) steps 200000
 
 behind_is : (names : List Step) (ds : List Letter) (byte : ℕ) → AreDigits ds → read_behind names (number ds) byte ≡ read_letter names ds byte
 behind_is names ds byte all = rw (alone_is ds Save all, alone_is ds NotKnown all) refl
 
 end_is : (labels : List Step) (close : Spot) (saves : ℕ) (ds : List Letter) → AreDigits ds → end_behind close (number ds) ≡ in_order (each_group labels close saves (cut_group ds))
-end_is labels close saves [] all = refl
-end_is labels close saves (d ∷ ds) all = rw (some_digits d ds all) refl
+end_is labels close saves ds all = grind (arith, common_steps, some_digits) steps 200000
 
 pub read_on_is : (labels : List Step) (close : Spot) (saves : ℕ) (ds ls : List Letter) → AreDigits ds → read_on labels close saves (number ds) ls ≡ in_order (each_group labels close saves (groups_behind ds ls))
 read_on_is labels close saves ds [] all = end_is labels close saves ds all
 read_on_is labels close saves ds (l ∷ ls) all = elim (cases_Bool (is_digit l.byte)) [
   | inl e ↦ rw (e) (ap (λ (n : ℕ). read_on labels close saves n ls) (sym (ap in_base_five (worths_more ds l) ∙ base_five_more (worths ds) (digit_worth l.byte))) ∙ read_on_is labels close saves (ds ++ l ∷ []) ls (digits_more ds l all e))
-  | inr e ↦ rw (e) (
-      ap (λ (r : Result Step ProofNumber). read_first l.spot r (read_on labels close (cond (l.byte == 90) (saves + 1) saves) 0 ls)) (behind_is (nameable labels saves) ds l.byte all)
-      ∙ ap (λ (r : Steps). read_first l.spot (read_letter (nameable labels saves) ds l.byte) r) (read_on_is labels close (cond (l.byte == 90) (saves + 1) saves) [] ls tt))
+  | inr e ↦ grind (arith, common_steps, behind_is (nameable labels saves) ds l.byte all, read_on_is labels close (cond (l.byte == 90) (saves + 1) saves) [] ls tt) steps 200000
 ]
 
 -- what all letters give

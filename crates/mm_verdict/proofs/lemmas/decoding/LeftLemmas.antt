@@ -1,8 +1,8 @@
 -- The words of a proof, taken one by one.
-use Rattle.std.proofs.{Common.{◌≡◌, ℕ, ◌+◌, ◌<◌, List, [], ◌∷◌, Option, Some, None, true, get_or, length, drop, sym, ◌∙◌, ap, arith, MatchOption}, lemmas.List.{drop_more}}
-use Rattle.mm_verdict.specs.{Language.{Decoding.{is_compressed}, Letters.{letters_from}}, Code.{Left.{AreLeft}, LeftToRight.{read_on}}}
+use Rattle.std.proofs.{lemmas.{Grind.{common_steps}, List.{drop_more}}, Common.{◌≡◌, ℕ, ◌+◌, ◌<◌, List, [], ◌∷◌, Option, true, get_or, length, drop, sym, ◌∙◌, ap, arith, MatchOption}}
+use Rattle.mm_verdict.{specs.{Language.{Decoding.{is_compressed}, Letters.{letters_from}}, Code.{Left.{AreLeft}, LeftToRight.{read_on}}}, proofs.lemmas.decoding.JoinLemmas.{letters_are}}
+use Rattle.mm_verdict.proofs.lemmas.decoding.ReaderLemmas.{aim_of}
 use Rattle.mm_machine.specs.Language.Expansion.{Step}
-use Rattle.mm_verdict.proofs.lemmas.decoding.{JoinLemmas.{letters_are}, ReaderLemmas.{aim_of}}
 
 -- one more word is taken
 pub record Taken (all new : List (List ℕ)) (n : ℕ) (word : List ℕ) : Type 0 where
@@ -11,12 +11,7 @@ pub record Taken (all new : List (List ℕ)) (n : ℕ) (word : List ℕ) : Type 
   pub left : AreLeft all new (n + 1)
 
 pub take_one : (all left new : List (List ℕ)) (n : ℕ) (word : List ℕ) → AreLeft all left n → left ≡ word ∷ new → Taken all new n word
-take_one all left new n word h e =
-    let within : n < length all = omega (arith, h.count, ap length e) in
-    let split : word ∷ new ≡ get_or all n [] ∷ drop (n + 1) all = sym e ∙ h.are ∙ drop_more all n [] within in
-    let is : word ≡ get_or all n [] = cc in
-    let behind : new ≡ drop (n + 1) all = cc in
-    record { within = within; is = is; left = record { are = behind; count = omega (arith, h.count, ap length e) } }
+take_one all left new n word h e = grind (arith, common_steps, drop_more all n [] (omega (arith, h.count, ap length e))) steps 200000
 
 -- no word is left
 pub none_left : (all left : List (List ℕ)) (n : ℕ) → AreLeft all left n → left ≡ [] → n ≡ length all
@@ -24,10 +19,7 @@ none_left all left n h e = omega (arith, h.count, ap length e)
 
 -- a word that is a `(` goes before the list of labels
 pub behind_open : {X : Type 0} (spelled : X → List ℕ) (all read new : List (List ℕ)) (found : Option X) → is_compressed all ≡ true → read ≡ all → MatchOption found ((read ≡ []) × (new ≡ [])) (λ word. read ≡ spelled word ∷ new) → AreLeft all new 1
-behind_open spelled all read new None compressed same h = let none : is_compressed [] ≡ true = ap is_compressed (sym h.0 ∙ same) ∙ compressed in cc
-behind_open spelled all read new (Some word) compressed same h =
-    let split : all ≡ spelled word ∷ new = sym same ∙ h in
-    record { are = sym (ap (drop 1) split); count = omega (arith, ap length split) }
+behind_open spelled all read new found compressed same h = grind (arith, common_steps) steps 200000
 
 -- ---- letters
 

@@ -1,10 +1,8 @@
 -- The list of labels read from left to right is the list.
-use Rattle.std.proofs.Common.{◌≡◌, ℕ, suc, ◌+◌, Bool, true, false, Result, Ok, Err, List, [], ◌∷◌, ◌++◌, length, refl, sym, ap, ◌∙◌, arith, inl, inr, append_assoc, append-nil, codes}
-use Rattle.std.proofs.{lemmas.{Bool.{cases_Bool, or_parts}, Slice.Eq.{bytes_eq-Decides}}, Math.Numerals.{one-add}}
-use Rattle.std.specs.List.{list_any, before_first, after_first}
+use Rattle.std.proofs.{Common.{true, ◌≡◌, ℕ, suc, ◌+◌, false, Result, Ok, Err, List, [], ◌∷◌, ◌++◌, length, refl, ap, ◌∙◌, arith, append-nil, codes}, lemmas.Grind.{common_steps}}
+use Rattle.std.{proofs.{lemmas.{Bool.{cases_Bool, or_parts}, Slice.Eq.{bytes_eq-Decides}}, Math.Numerals.{one-add}}, specs.List.{list_any, before_first}}
 use Rattle.mm_machine.specs.{Language.{Frame.{Setting}, Expansion.{Step}}, declared.{Spot.{Spot}, ProofNumber.{ProofNumber}}}
-use Rattle.mm_verdict.specs.Language.Decoding.{Steps, read_first, in_order, each_word, read_label, is_close, if_read, letter_steps, compressed_steps, word_spot}
-use Rattle.mm_verdict.specs.Code.LeftToRight.{behind_label, list_on}
+use Rattle.mm_verdict.specs.{Language.Decoding.{Steps, read_first, in_order, each_word, read_label, is_close, letter_steps, compressed_steps, word_spot}, Code.LeftToRight.{behind_label, list_on}}
 use Rattle.mm_verdict.proofs.lemmas.decoding.ReadOnLemmas.{compressed_is, parts}
 
 -- the labels listed so far can be used, and none is a `)`
@@ -18,8 +16,7 @@ ok_with : (r : Result Step ProofNumber) (spot : Spot) (rest : Steps) (step : Ste
 ok_with r spot rest step steps e f = rw (e, f) refl
 
 rest_ok : (r : Result Step ProofNumber) (spot : Spot) (rest : Steps) (steps : List (Step × Spot)) → read_first spot r rest ≡ Ok steps → ((step : Step) × (r ≡ Ok step)) × ((more : List (Step × Spot)) × (rest ≡ Ok more))
-rest_ok (Ok step) spot (Ok more) steps e = ((step, refl), (more, refl))
-rest_ok _ spot _ steps e = cc
+rest_ok r spot rest steps e = grind (arith, common_steps) steps 200000
 
 -- one more label
 listed_more :
@@ -55,35 +52,22 @@ before_none : (listed words : List (List ℕ)) → list_any is_close listed ≡ 
 before_none [] words e = refl
 before_none (first ∷ listed) words e = let p = or_parts (is_close first) (list_any is_close listed) e in before_one first (listed ++ words) p.0 ∙ ap (λ (w : List (List ℕ)). first ∷ w) (before_none listed words p.1)
 
-length_one : (listed : List (List ℕ)) (word : List ℕ) → 1 + length (listed ++ word ∷ []) ≡ 1 + length listed + 1
-length_one [] word = omega arith
-length_one (first ∷ listed) word = let e = length_one listed word in omega arith
-
 abbrev Joined : Setting → List (List ℕ) → Spot → List (List ℕ) → List (List ℕ) → Type 0
 Joined place mandatory close listed words = compressed_steps place mandatory (listed ++ words) close ≡ list_on place mandatory close listed (1 + length listed) words
 
 at_end : (place : Setting) (mandatory : List (List ℕ)) (close : Spot) (listed : List (List ℕ)) → AreListed place 1 listed → Joined place mandatory close listed []
-at_end place mandatory close listed are =
-    ap (λ (w : List (List ℕ)). parts place mandatory close w (list_any is_close (listed ++ [])) (after_first is_close (listed ++ []))) (before_none listed [] are.1 ∙ append-nil listed)
-    ∙ ap (λ (w : Bool). parts place mandatory close listed w (after_first is_close (listed ++ []))) (ap (list_any is_close) (append-nil listed) ∙ are.1)
-    ∙ rw are.0.1 refl
+at_end place mandatory close listed are = grind (arith, common_steps, before_none listed [] are.1, append-nil listed, parts) steps 200000
 
 at_close : (place : Setting) (mandatory : List (List ℕ)) (close : Spot) (listed words : List (List ℕ)) → AreListed place 1 listed
     → compressed_steps place mandatory (listed ++ codes ")" ∷ words) close ≡ letter_steps mandatory listed (1 + length listed + 1) words close
-at_close place mandatory close listed words are =
-    let k : length listed + 2 ≡ 1 + length listed + 1 = omega arith in
-    compressed_is place mandatory close listed words are.1
-    ∙ ap (λ (w : Steps). if_read w (letter_steps mandatory listed (length listed + 2) words close)) are.0.1
-    ∙ ap (λ (w : ℕ). letter_steps mandatory listed w words close) k
+at_close place mandatory close listed words are = grind (arith, common_steps, compressed_is place mandatory close listed words are.1) steps 200000
 
 at_fault :
     (place : Setting) (mandatory : List (List ℕ)) (close : Spot) (listed : List (List ℕ)) (word : List ℕ) (words : List (List ℕ)) (number : ProofNumber) →
     AreListed place 1 listed → is_close word ≡ false → read_label place word ≡ Err number →
     compressed_steps place mandatory (listed ++ word ∷ words) close ≡ Err (record { number = number; spot = word_spot (1 + length listed) })
 at_fault place mandatory close listed word words number are other fails =
-    ap (λ (w : List (List ℕ)). parts place mandatory close w (list_any is_close (listed ++ word ∷ words)) (after_first is_close (listed ++ word ∷ words)))
-    (before_none listed (word ∷ words) are.1 ∙ ap (λ (w : List (List ℕ)). listed ++ w) (before_one word words other))
-    ∙ rw (fails_at place 1 listed word (before_first is_close words) number are.0.0 are.0.1 fails) refl
+    grind (arith, common_steps, before_none listed (word ∷ words) are.1, before_one word words other, fails_at place 1 listed word (before_first is_close words) number are.0.0 are.0.1 fails, parts) steps 200000
 
 by_label :
     (place : Setting) (mandatory : List (List ℕ)) (close : Spot) (listed : List (List ℕ)) (word : List ℕ) (words : List (List ℕ)) (r : Result Step ProofNumber) →
@@ -91,17 +75,13 @@ by_label :
     (AreListed place 1 (listed ++ word ∷ []) → Joined place mandatory close (listed ++ word ∷ []) words) →
     compressed_steps place mandatory (listed ++ word ∷ words) close ≡ behind_label (1 + length listed) r (list_on place mandatory close (listed ++ word ∷ []) (1 + length listed + 1) words)
 by_label place mandatory close listed word words (Ok step) e are other rest =
-    ap (λ (w : List (List ℕ)). compressed_steps place mandatory w close) (sym (append_assoc listed (word ∷ []) words))
-    ∙ rest (listed_more place 1 listed word step are.0.0 are.0.1 e, none_more listed word are.1 other)
-    ∙ ap (λ (w : ℕ). list_on place mandatory close (listed ++ word ∷ []) w words) (length_one listed word)
+    grind (arith, common_steps, listed_more place 1 listed word step are.0.0 are.0.1 e, none_more listed word are.1 other) steps 200000
 by_label place mandatory close listed word words (Err number) e are other rest = at_fault place mandatory close listed word words number are other e
 
 list_joined : (place : Setting) (mandatory : List (List ℕ)) (close : Spot) (listed words : List (List ℕ)) → AreListed place 1 listed → Joined place mandatory close listed words
 list_joined place mandatory close listed [] are = at_end place mandatory close listed are
-list_joined place mandatory close listed (word ∷ words) are = elim (cases_Bool (is_close word)) [
-  | inl e ↦ rw e (ap (λ (w : List ℕ). compressed_steps place mandatory (listed ++ w ∷ words) close) (word_is word e) ∙ at_close place mandatory close listed words are)
-  | inr e ↦ rw e (by_label place mandatory close listed word words (read_label place word) refl are e (list_joined place mandatory close (listed ++ word ∷ []) words))
-]
+list_joined place mandatory close listed (word ∷ words) are =
+    grind (arith, common_steps, cases_Bool (is_close word), at_close place mandatory close listed words are, list_joined place mandatory close (listed ++ word ∷ []) words, by_label, bytes_eq-Decides) steps 200000
 
 -- the list from its beginning
 pub list_is : (place : Setting) (mandatory : List (List ℕ)) (close : Spot) (words : List (List ℕ)) → compressed_steps place mandatory words close ≡ list_on place mandatory close [] 1 words

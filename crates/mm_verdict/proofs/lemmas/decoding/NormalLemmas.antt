@@ -1,6 +1,7 @@
 -- A normal proof as the code reads it.
-use Rattle.std.proofs.Common.{◌≡◌, ℕ, ◌+◌, ◌<◌, ◌≤◌, Result, Ok, List, [], ◌∷◌, ◌++◌, length, map, drop, get_or, refl, sym, ap, ◌∙◌, append_assoc, arith, inl, inr, bytes_eq, codes}
-use Rattle.std.proofs.{Math.ListN.{drop_of_length-le}, lemmas.{List.{append-nil, map-append, length-append, length-map, map_more, take_all}, Bool.{cases_Bool}}}
+use Rattle.std.proofs.lemmas.{Grind.{common_steps}, List.{append-nil, map-append, length-append, length-map, map_more, take_all}, Bool.{cases_Bool}}
+use Rattle.std.proofs.Common.{◌≡◌, ℕ, ◌+◌, ◌<◌, ◌≤◌, Result, Ok, List, [], ◌∷◌, ◌++◌, length, map, drop, get_or, refl, sym, ap, ◌∙◌, append_assoc, arith, bytes_eq, codes}
+use Rattle.std.proofs.Math.ListN.{drop_of_length-le}
 use Rattle.mm_machine.specs.{Language.{Frame.{Setting}, Expansion.{Step}, NamedSteps.{meant}}, declared.{Spot.{Spot}, ProofNumber.{ProofNumber}, step.{Action.{Action}, ProofStep.{ProofStep}}}}
 use Rattle.mm_frame.specs.{Language.Base.{BaseView}, declared.base.Resolved.{Resolved}}
 use Rattle.mm_verdict.specs.Language.{BaseLabels.{setting_at}, DecodedSteps.{entry_step, entry_steps, IsEntry, word_step}, Decoding.{read_first, in_order, each_word, read_word, word_spot}}
@@ -12,10 +13,7 @@ count_more : (labels : List Resolved) (n : ℕ) (meaning : Resolved) → length 
 count_more labels n meaning e = omega (arith, length-append labels (meaning ∷ []))
 
 is_word : (place : Setting) (word : List ℕ) (step : Step) → read_word place word ≡ Ok step → word_step word ≡ step
-is_word place word step e = elim (cases_Bool (bytes_eq word (codes "?"))) [
-  | inl f ↦ let g = rw f at e in rw f (cc)
-  | inr f ↦ let u = usable_is word (place.resolve word) step (rw f at e) in rw f (sym u.0)
-]
+is_word place word step e = grind (arith, common_steps, cases_Bool (bytes_eq word (codes "?")), place.resolve word, usable_is) steps 200000
 
 names_more : (view : BaseView) (labels : List Resolved) (meaning : Resolved) (more : List Step) → entry_steps view (labels ++ meaning ∷ []) ++ more ≡ entry_steps view labels ++ entry_step view meaning ∷ more
 names_more view labels meaning more = ap (λ (w : List Step). w ++ more) (map-append (entry_step view) labels (meaning ∷ [])) ∙ append_assoc (entry_steps view labels) (entry_step view meaning ∷ []) more

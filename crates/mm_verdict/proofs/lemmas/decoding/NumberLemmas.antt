@@ -1,9 +1,8 @@
 -- Numbers of compressed proofs: one more digit, and each number from 1 on is written in exactly one way.
+use Rattle.std.proofs.lemmas.{Grind.{common_steps}, Bool.{and_parts, leb-true, le-leb}}
 use Rattle.std.proofs.{Common.{◌≡◌, ℕ, zero, suc, ◌+◌, ◌-◌, ◌*◌, ◌/◌, ◌%◌, ◌^◌, ◌<◌, ◌≤◌, true, List, [], ◌∷◌, ◌++◌, length, map, refl, sym, ap, ◌∙◌, arith, inl, inr, ◌⊎◌}, Math.Nat.{pow-succ'}}
-use Rattle.std.proofs.lemmas.Bool.{and_parts, leb-true, le-leb}
 use Rattle.std.specs.List.{AllByRecursion}
-use Rattle.mm_verdict.specs.Language.{Numbers.{in_base_five, is_digit, is_last, digit_worth, value_of}, DecodingLaws.{IsWrittenNumber}}
-use Rattle.mm_verdict.proofs.lemmas.base.StoodLemmas.{longer_by_one}
+use Rattle.mm_verdict.{specs.Language.{Numbers.{in_base_five, is_digit, is_last, digit_worth, value_of}, DecodingLaws.{IsWrittenNumber}}, proofs.lemmas.base.StoodLemmas.{longer_by_one}}
 
 power_more : (ds : List ℕ) (d : ℕ) → 5 ^ length (ds ++ d ∷ []) ≡ 5 * 5 ^ length ds
 power_more ds d = rw (longer_by_one ds d) (pow-succ' 5 (length ds))
@@ -43,10 +42,7 @@ some : (front : List ℕ) (d : ℕ) → IsWorth d → 0 < in_base_five (front ++
 some front d is = let e = base_five_more front d in omega arith
 
 pub none : (ds : List ℕ) → AreWorth ds → in_base_five ds ≡ 0 → ds ≡ []
-none ds all e = elim (has_last ds) [
-  | inl nil ↦ nil
-  | inr h ↦ let w = worth_front h.0 h.1 (rw h.2 at all) in let s = some h.0 h.1 w.1 in let f : in_base_five (h.0 ++ h.1 ∷ []) ≡ 0 = sym (ap in_base_five h.2) ∙ e in absurd (omega arith)
-]
+none ds all e = grind (arith, common_steps, has_last ds, worth_front, some) steps 200000
 
 apart_within : (n : ℕ) (ds es : List ℕ) → length ds ≤ n → AreWorth ds → AreWorth es → in_base_five ds ≡ in_base_five es → ds ≡ es
 apart_within zero [] es few a b same = sym (none es b (sym same))
@@ -73,13 +69,6 @@ apart_within (suc n) ds es few a b same = elim (has_last ds) [
 pub digits_apart : (ds es : List ℕ) → AreWorth ds → AreWorth es → in_base_five ds ≡ in_base_five es → ds ≡ es
 digits_apart ds es a b same = apart_within (length ds) ds es (omega arith) a b same
 
--- and so are digits with a last letter
-pub number_apart : (ds es : List ℕ) (a b : ℕ) → AreWorth ds → AreWorth es → 1 ≤ a → a ≤ 20 → 1 ≤ b → b ≤ 20 → 20 * in_base_five ds + a ≡ 20 * in_base_five es + b → (ds ≡ es) × (a ≡ b)
-number_apart ds es a b w v a1 a2 b1 b2 same =
-    let high : in_base_five ds ≡ in_base_five es = omega arith in
-    let low : a ≡ b = omega arith in
-    (digits_apart ds es w v high, low)
-
 worth_more : (front : List ℕ) (d : ℕ) → AreWorth front → IsWorth d → AreWorth (front ++ d ∷ [])
 worth_more [] d all is = (is, tt)
 worth_more (x ∷ front) d all is = (all.0, worth_more front d all.1 is)
@@ -91,12 +80,9 @@ written_within : (fuel n : ℕ) → n ≤ fuel → (ds : List ℕ) × Writes n d
 written_within zero n few = ([], (tt, omega arith))
 written_within (suc fuel) zero few = ([], (tt, refl))
 written_within (suc fuel) (suc n) few =
-    let less : n / 5 ≤ fuel = omega arith in
-    let front = written_within fuel (n / 5) less in
-    let is : IsWorth (n % 5 + 1) = (omega arith, omega arith) in
+    let front = written_within fuel (n / 5) (omega arith) in
     let e = base_five_more front.0 (n % 5 + 1) in
-    let sum : in_base_five (front.0 ++ (n % 5 + 1) ∷ []) ≡ suc n = omega (arith, front.1.1) in
-    (front.0 ++ (n % 5 + 1) ∷ [], (worth_more front.0 (n % 5 + 1) front.1.0 is, sum))
+    (front.0 ++ (n % 5 + 1) ∷ [], (worth_more front.0 (n % 5 + 1) front.1.0 (omega arith, omega arith), (omega (arith, front.1.1))))
 
 -- each number has digits
 pub written : (n : ℕ) → (ds : List ℕ) × Writes n ds
@@ -105,31 +91,17 @@ written n = written_within n n (omega arith)
 pub digit_is : (d : ℕ) → is_digit d ≡ true → (85 ≤ d) × (d ≤ 89)
 digit_is d e = let p = and_parts _ _ e in (leb-true 85 d p.0, leb-true d 89 p.1)
 
-last_is : (a : ℕ) → is_last a ≡ true → (65 ≤ a) × (a ≤ 84)
-last_is a e = let p = and_parts _ _ e in (leb-true 65 a p.0, leb-true a 84 p.1)
-
 worths : (ds : List ℕ) → AllByRecursion (λ d. is_digit d ≡ true) ds → AreWorth (map digit_worth ds)
 worths [] all = tt
 worths (d ∷ ds) all = let is = digit_is d all.0 in ((omega arith, omega arith), worths ds all.1)
 
 same_digits : (ds es : List ℕ) → AllByRecursion (λ d. is_digit d ≡ true) ds → AllByRecursion (λ d. is_digit d ≡ true) es → map digit_worth ds ≡ map digit_worth es → ds ≡ es
 same_digits [] [] a b e = refl
-same_digits (x ∷ ds) (y ∷ es) a b e =
-    let p = digit_is x a.0 in
-    let q = digit_is y b.0 in
-    let head : x - 84 ≡ y - 84 = cc in
-    let rest : map digit_worth ds ≡ map digit_worth es = cc in
-    let here : x ≡ y = omega arith in
-    let there : ds ≡ es = same_digits ds es a.1 b.1 rest in
-    cc
+same_digits (x ∷ ds) (y ∷ es) a b e = grind (arith, common_steps, digit_is x a.0, digit_is y b.0, same_digits ds es a.1 b.1 cc) steps 200000
 same_digits _ _ a b e = cc
 
 pub numbers_apart : (ds es : List ℕ) (a b : ℕ) → IsWrittenNumber ds a → IsWrittenNumber es b → value_of ds a ≡ value_of es b → (ds ≡ es) × (a ≡ b)
-numbers_apart ds es a b m n same =
-    let p = last_is a m.1 in
-    let q = last_is b n.1 in
-    let r = number_apart (map digit_worth ds) (map digit_worth es) (a - 64) (b - 64) (worths ds m.0) (worths es n.0) (omega arith) (omega arith) (omega arith) (omega arith) same in
-    (same_digits ds es m.0 n.0 r.0, omega arith)
+numbers_apart ds es a b m n same = grind (arith, common_steps, same_digits, worths, digits_apart, and_parts, leb-true) steps 200000
 
 spelled : (ds : List ℕ) → AreWorth ds → AllByRecursion (λ d. is_digit d ≡ true) (map (λ d. d + 84) ds)
 spelled [] all = tt

@@ -1,6 +1,5 @@
 -- Readings in order: all steps, or the first fault.
-use Rattle.std.proofs.Common.{◌≡◌, Result, Ok, Err, List, [], ◌∷◌, ◌++◌, refl, ap, ◌↔◌}
-use Rattle.std.specs.List.{AllByRecursion}
+use Rattle.std.{proofs.{Common.{arith, ◌≡◌, Result, Ok, Err, List, [], ◌∷◌, ◌++◌, refl, ap, ◌↔◌}, lemmas.Grind.{common_steps}}, specs.List.{AllByRecursion}}
 use Rattle.mm_machine.specs.{Language.Expansion.{Step}, declared.{Spot.{Spot}, ProofNumber.{ProofNumber}, step.ProofFault.{ProofFault}}}
 use Rattle.mm_verdict.specs.Language.{Decoding.{Reading, Steps, with_step, read_first, in_order}, DecodingLaws.{ReadsStep, IsFirstDecodingFault}}
 
@@ -8,17 +7,11 @@ use Rattle.mm_verdict.specs.Language.{Decoding.{Reading, Steps, with_step, read_
 abbrev pub ReadsOn : Spot → Result Step ProofNumber → Steps → List (Step × Spot) → Type 0
 ReadsOn spot r rest steps = (step : Step) × (more : List (Step × Spot)) × (r ≡ Ok step) × (rest ≡ Ok more) × (steps ≡ (step, spot) ∷ more)
 
-with_ok : (step : Step) (spot : Spot) (rest : Steps) (steps : List (Step × Spot)) → with_step step spot rest ≡ Ok steps → (more : List (Step × Spot)) × (rest ≡ Ok more) × (steps ≡ (step, spot) ∷ more)
-with_ok step spot (Ok more) steps e = (more, refl, cc)
-with_ok step spot (Err fault) steps e = cc
-
 pub read_ok : (spot : Spot) (r : Result Step ProofNumber) (rest : Steps) (steps : List (Step × Spot)) → read_first spot r rest ≡ Ok steps → ReadsOn spot r rest steps
-read_ok spot (Ok step) rest steps e = let w = with_ok step spot rest steps e in (step, w.0, refl, w.1, w.2)
-read_ok spot (Err number) rest steps e = cc
+read_ok spot r rest steps e = grind (arith, common_steps) steps 200000
 
 with_err : (step : Step) (spot : Spot) (rest : Steps) (fault : ProofFault) → with_step step spot rest ≡ Err fault → rest ≡ Err fault
-with_err step spot (Ok more) fault e = cc
-with_err step spot (Err other) fault e = e
+with_err step spot rest fault e = grind (arith, common_steps) steps 200000
 
 further : (reading : Reading) (readings : List Reading) (fault : ProofFault) → ReadsStep reading → IsFirstDecodingFault readings fault → IsFirstDecodingFault (reading ∷ readings) fault
 further reading readings fault is f = record { front = reading ∷ f.front; back = f.back; whole = ap (λ (w : List Reading). reading ∷ w) f.whole; before = (is, f.before) }

@@ -1,12 +1,10 @@
 -- Letters read on over the ends of words.
-use Rattle.std.proofs.Common.{◌≡◌, ℕ, suc, ◌+◌, Bool, true, false, not, ◌||◌, ◌==◌, cond, Some, Result, Ok, Err, List, [], ◌∷◌, ◌++◌, length, map, drop, refl, sym, ap, ◌∙◌, arith, inl, inr, add-one}
-use Rattle.std.proofs.Common.{flat_map, codes}
-use Rattle.std.proofs.{lemmas.{Bool.{cases_Bool, or_parts}, List.{map-append}}, Math.Seq.{take-append_seam}}
-use Rattle.std.specs.List.{list_any, prefix_len, enumerate_from, before_first, after_first}
+use Rattle.std.{specs.List.{before_first, list_any, prefix_len, enumerate_from, after_first}, proofs.lemmas.{Grind.{common_steps}, Bool.{cases_Bool, or_parts}, List.{map-append}}}
+use Rattle.std.proofs.Common.{◌≡◌, ℕ, suc, ◌+◌, Bool, false, not, cond, Some, Result, Ok, Err, List, [], ◌∷◌, ◌++◌, length, map, drop, refl, sym, ap, ◌∙◌, arith, inl, inr, add-one, flat_map, codes}
+use Rattle.std.proofs.Math.Seq.{take-append_seam}
 use Rattle.mm_machine.specs.{Language.{Frame.{Setting}, Expansion.{Step, Named, Save, NotKnown}}, declared.{Spot.{Spot}, ProofNumber.{ProofNumber, TheVariants.{P03}}}}
 use Rattle.mm_verdict.specs.Language.{Numbers.{is_digit}, Letters.{Letter, Group, letters_in, letters_from, cut_group, groups_behind, groups}}
-use Rattle.mm_verdict.specs.Language.Decoding.{Steps, with_step, read_first, in_order, alone, nameable, read_letter, each_group, is_close, compressed_steps, letter_steps, if_read, each_word}
-use Rattle.mm_verdict.specs.Language.Decoding.{read_label, decoded, decoding, word_spot}
+use Rattle.mm_verdict.specs.Language.Decoding.{Steps, in_order, alone, read_letter, each_group, is_close, compressed_steps, letter_steps, if_read, each_word, read_label, decoding, word_spot}
 use Rattle.mm_verdict.specs.Language.DecodingLaws.{without_spots, compressed_words}
 
 abbrev pub bytes : List Letter → List ℕ
@@ -26,20 +24,8 @@ abbrev told : Steps → Result (List Step) ProofNumber
 told (Ok steps) = Ok (map (λ step. step.0) steps)
 told (Err fault) = Err fault.number
 
-told_with : (step : Step) (at by : Spot) (rest other : Steps) → told rest ≡ told other → told (with_step step at rest) ≡ told (with_step step by other)
-told_with step at by (Ok rest) (Ok other) e = cc
-told_with step at by (Ok rest) (Err fault) e = cc
-told_with step at by (Err fault) (Ok other) e = cc
-told_with step at by (Err fault) (Err another) e = e
-
-told_first : (at by : Spot) (r : Result Step ProofNumber) (rest other : Steps) → told rest ≡ told other → told (read_first at r rest) ≡ told (read_first by r other)
-told_first at by (Ok step) rest other e = told_with step at by rest other e
-told_first at by (Err number) rest other e = refl
-
 alone_same : (ds es : List Letter) (step : Step) → bytes ds ≡ bytes es → alone ds step ≡ alone es step
-alone_same [] (y ∷ es) step e = cc
-alone_same (x ∷ ds) [] step e = cc
-alone_same _ _ step e = refl
+alone_same ds es step e = grind (arith, common_steps) steps 200000
 
 letter_same : (names : List Step) (ds es : List Letter) (byte : ℕ) → bytes ds ≡ bytes es → read_letter names ds byte ≡ read_letter names es byte
 letter_same names ds es byte e = rw (e, alone_same ds es Save e, alone_same ds es NotKnown e) refl
@@ -51,17 +37,14 @@ abbrev Same : List Step → ℕ → Spot → Spot → List Group → List Group 
 Same labels saves at by gs hs = told (in_order (each_group labels at saves gs)) ≡ told (in_order (each_group labels by saves hs))
 
 cut_same : (labels : List Step) (saves : ℕ) (at by : Spot) (ds es : List Letter) → bytes ds ≡ bytes es → Same labels saves at by (cut_group ds) (cut_group es)
-cut_same labels saves at by [] (y ∷ es) e = cc
-cut_same labels saves at by (x ∷ ds) [] e = cc
-cut_same labels saves at by _ _ e = refl
+cut_same labels saves at by ds es e = grind (arith, common_steps) steps 200000
 
 abbrev grouped : List Letter → Letter → List Group → List Group
 grouped ds l gs = record { digits = ds; last = Some l } ∷ gs
 
 group_same : (labels : List Step) (saves : ℕ) (at by : Spot) (ds es : List Letter) (l m : Letter) (gs hs : List Group) → bytes ds ≡ bytes es
     → l.byte ≡ m.byte → ((saves : ℕ) → Same labels saves at by gs hs) → Same labels saves at by (grouped ds l gs) (grouped es m hs)
-group_same labels saves at by ds es l m gs hs e f rest =
-    rw (f, letter_same (nameable labels saves) ds es m.byte e) (told_first l.spot m.spot (read_letter (nameable labels saves) es m.byte) _ _ (rest (cond (m.byte == 90) (saves + 1) saves)))
+group_same labels saves at by ds es l m gs hs e f rest = grind (arith, common_steps, letter_same) steps 200000
 
 behind_same : (labels : List Step) (saves : ℕ) (at by : Spot) (ds es ls ms : List Letter) → bytes ds ≡ bytes es → bytes ls ≡ bytes ms → Same labels saves at by (groups_behind ds ls) (groups_behind es ms)
 behind_same labels saves at by ds es [] [] d e = cut_same labels saves at by ds es d
@@ -89,10 +72,6 @@ before_close listed words e = rw (close_at listed words e) (take-append_seam lis
 pub behind_close : (listed words : List (List ℕ)) → list_any is_close listed ≡ false → after_first is_close (listed ++ codes ")" ∷ words) ≡ words
 behind_close listed words e = rw (close_at listed words e, add-one) (dropped listed (codes ")") words)
 
-pub has_close : (listed words : List (List ℕ)) → list_any is_close (listed ++ codes ")" ∷ words) ≡ true
-has_close [] words = refl
-has_close (word ∷ listed) words = elim (is_close word) as (λ b. (b || list_any is_close (listed ++ codes ")" ∷ words)) ≡ true) [ true ↦ refl | false ↦ has_close listed words ]
-
 abbrev pub parts : Setting → List (List ℕ) → Spot → List (List ℕ) → Bool → List (List ℕ) → Steps
 parts place mandatory close listed has rest = if_read (in_order (each_word (read_label place) 1 listed)) (cond has (letter_steps mandatory listed (length listed + 2) rest close) (Err (record { number = P03; spot = close })))
 
@@ -100,18 +79,10 @@ parts place mandatory close listed has rest = if_read (in_order (each_word (read
 pub compressed_is :
     (place : Setting) (mandatory : List (List ℕ)) (close : Spot) (listed words : List (List ℕ)) → list_any is_close listed ≡ false →
     compressed_steps place mandatory (listed ++ codes ")" ∷ words) close ≡ if_read (in_order (each_word (read_label place) 1 listed)) (letter_steps mandatory listed (length listed + 2) words close)
-compressed_is place mandatory close listed words e =
-    ap (λ (w : List (List ℕ)). parts place mandatory close w (list_any is_close (listed ++ codes ")" ∷ words)) (after_first is_close (listed ++ codes ")" ∷ words))) (before_close listed words e)
-    ∙ ap (λ (w : Bool). parts place mandatory close listed w (after_first is_close (listed ++ codes ")" ∷ words))) (has_close listed words)
-    ∙ ap (λ (w : List (List ℕ)). parts place mandatory close listed true w) (behind_close listed words e)
+compressed_is place mandatory close listed words e = grind (arith, common_steps, behind_close listed words e, close_at, take-append_seam) steps 200000
 
 told_if : (list some other : Steps) → told some ≡ told other → told (if_read list some) ≡ told (if_read list other)
-told_if (Ok list) some other e = e
-told_if (Err fault) some other e = refl
-
-told_decoded : (close : Spot) (s : Steps) → without_spots (decoded close s) ≡ told s
-told_decoded close (Ok steps) = refl
-told_decoded close (Err fault) = refl
+told_if list some other e = grind (arith, common_steps) steps 200000
 
 letters_same : (mandatory listed : List (List ℕ)) (n : ℕ) (at by : Spot) (some others : List (List ℕ))
     → flat_map (λ word. word) some ≡ flat_map (λ word. word) others → told (letter_steps mandatory listed n some at) ≡ told
@@ -126,9 +97,7 @@ told_words :
     (place : Setting) (mandatory listed words : List (List ℕ)) → list_any is_close listed ≡ false →
     without_spots (decoding place mandatory (compressed_words listed words))
     ≡ told (if_read (in_order (each_word (read_label place) 1 listed)) (letter_steps mandatory listed (length listed + 2) words (close_of listed words)))
-told_words place mandatory listed words e =
-    told_decoded (close_of listed words) (compressed_steps place mandatory (listed ++ codes ")" ∷ words) (close_of listed words))
-    ∙ ap told (compressed_is place mandatory (close_of listed words) listed words e)
+told_words place mandatory listed words e = grind (arith, common_steps, compressed_is) steps 200000
 
 pub reads_on :
     (place : Setting) (mandatory listed some others : List (List ℕ)) →

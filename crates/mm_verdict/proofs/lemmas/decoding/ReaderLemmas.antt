@@ -1,18 +1,16 @@
 -- The reader of letters, letter by letter.
-use Rattle.std.proofs.Common.{◌≡◌, ℕ, ◌+◌, Bool, false, ◌==◌, cond, Result, Ok, Err, List, [], ◌∷◌, ◌++◌, map, refl, ap, append_assoc, ne_eqb, ◌<◌, length, get_or, drop, add-one, drop-cons, IfErr}
-use Rattle.std.proofs.lemmas.List.{map-append}
-use Rattle.std.specs.List.{enumerate_from}
+use Rattle.std.proofs.Common.{arith, ◌≡◌, ℕ, ◌+◌, Bool, false, ◌==◌, cond, Result, Ok, List, [], ◌∷◌, ◌++◌, map, refl, ap, ne_eqb, ◌<◌, length, get_or, drop, add-one, drop-cons, IfErr}
+use Rattle.std.{proofs.lemmas.{Grind.{common_steps}, List.{map-append}}, specs.List.{enumerate_from}}
 use Rattle.mm_machine.specs.{Language.{Expansion.{Step}, NamedSteps.{meant}}, declared.{Spot.{Spot}, ProofNumber.{ProofNumber}, step.{Action.{Action}, ProofStep.{ProofStep}}}}
-use Rattle.mm_verdict.specs.Language.{Numbers.{is_digit}, Letters.{Letter, letter_at}, Decoding.{Steps, with_step, nameable, word_spot}}
-use Rattle.mm_verdict.specs.Code.{LeftToRight.{read_behind, read_on, with_steps}, Coded.{meant_steps, letters_give}, Reader.{Aim}}
+use Rattle.mm_verdict.specs.{Language.{Numbers.{is_digit}, Letters.{Letter, letter_at}, Decoding.{Steps, with_step, nameable, word_spot}}, Code.LeftToRight.{read_behind, read_on, with_steps}}
+use Rattle.mm_verdict.specs.Code.{Coded.{meant_steps, letters_give}, Reader.{Aim}}
 
 abbrev pub step_at : Action → Spot → ProofStep
 step_at action spot = record { action = action; spot = spot }
 
 -- one more step that was read
 pub with_one : (done : List (Step × Spot)) (step : Step) (spot : Spot) (rest : Steps) → with_steps (done ++ (step, spot) ∷ []) rest ≡ with_steps done (with_step step spot rest)
-with_one done step spot (Ok more) = ap Ok (append_assoc done ((step, spot) ∷ []) more)
-with_one done step spot (Err fault) = refl
+with_one done step spot rest = grind (arith, common_steps) steps 200000
 
 pub meant_more : (names : List Step) (steps : List ProofStep) (action : Action) (spot : Spot) → meant_steps names (steps ++ step_at action spot ∷ []) ≡ meant_steps names steps ++ (meant names action, spot) ∷ []
 meant_more names steps action spot = map-append (λ (step : ProofStep). (meant names step.action, step.spot)) steps (step_at action spot ∷ [])
@@ -49,5 +47,4 @@ abbrev pub aim_of : List Step → List (List ℕ) → ℕ → Aim
 aim_of names words from = record { names = names; close = word_spot (length words); total = letters_give names words from }
 
 pub if_err : {T E : Type 0} (P Q : E → Type 0) (r : Result T E) → ((e : E) → P e → Q e) → IfErr r P → IfErr r Q
-if_err P Q (Ok x) more is = is
-if_err P Q (Err e) more is = more e is
+if_err P Q r more is = grind (arith, common_steps) steps 200000

@@ -1,12 +1,11 @@
 -- There are at most as many steps as bytes.
+use Rattle.std.proofs.lemmas.{Grind.{common_steps}, Bool.{cases_Bool}, List.{length-map, length-append}}
 use Rattle.std.proofs.Common.{◌≡◌, ℕ, suc, ◌+◌, ◌<◌, ◌≤◌, cond, Result, Ok, List, [], ◌∷◌, ◌++◌, length, map, drop, refl, sym, ap, ◌∙◌, arith, inl, inr, flat_map}
-use Rattle.std.proofs.lemmas.{Bool.{cases_Bool}, List.{length-map, length-append}}
 use Rattle.std.specs.List.{AllByRecursion, list_any, before_first, after_first}
 use Rattle.mm_verdict.specs.Language.Decoding.{Reading, in_order, each_word, read_label, read_word, each_group, is_save_letter, is_close, is_compressed, compressed_steps, letter_steps, steps_in}
-use Rattle.mm_verdict.specs.Language.Decoding.{word_spot, decoding}
-use Rattle.mm_verdict.specs.Language.{Letters.{Letter, Group, cut_group, groups_behind, groups, letters_from}, Numbers.{is_digit}}
-use Rattle.mm_machine.specs.{Language.{Expansion.{Step, Named}, Frame.{Setting}, Verdict.{Decoded}}, declared.{Spot.{Spot}, ProofNumber.{ProofNumber}}}
+use Rattle.mm_verdict.specs.Language.{Decoding.{word_spot, decoding}, Letters.{Letter, Group, cut_group, groups_behind, groups, letters_from}, Numbers.{is_digit}}
 use Rattle.mm_verdict.proofs.lemmas.decoding.{OrderLemmas.{read_ok}, ReadOnLemmas.{bytes_from}, SureLemmas.{read_behind, decoded_ok}}
+use Rattle.mm_machine.specs.{Language.{Expansion.{Step, Named}, Frame.{Setting}, Verdict.{Decoded}}, declared.{Spot.{Spot}, ProofNumber.{ProofNumber}}}
 
 abbrev bytes_of : List (List ℕ) → ℕ
 bytes_of words = length (flat_map (λ word. word) words)
@@ -15,8 +14,7 @@ bytes_of words = length (flat_map (λ word. word) words)
 order_length : (readings : List Reading) (steps : List (Step × Spot)) → in_order readings ≡ Ok steps → length steps ≡ length readings
 order_length [] steps e = let k : steps ≡ [] = cc in ap length k
 order_length (reading ∷ readings) steps e =
-    let r = read_ok reading.spot reading.step (in_order readings) steps e in
-    ap length r.4 ∙ ap suc (order_length readings r.1 r.3)
+    grind (arith, common_steps, order_length readings (read_ok reading.spot reading.step (in_order readings) steps e).1 (read_ok reading.spot reading.step (in_order readings) steps e).3, read_ok) steps 200000
 
 words_length : (read : List ℕ → Result Step ProofNumber) (n : ℕ) (words : List (List ℕ)) → length (each_word read n words) ≡ length words
 words_length read n [] = refl
@@ -27,16 +25,12 @@ groups_length labels close saves [] = refl
 groups_length labels close saves (g ∷ gs) = ap suc (groups_length labels close (cond (is_save_letter g.last) (saves + 1) saves) gs)
 
 cut_short : (ds : List Letter) → length (cut_group ds) ≤ length ds
-cut_short [] = omega arith
-cut_short (d ∷ ds) = omega arith
+cut_short ds = grind (arith, common_steps) steps 200000
 
 -- each group has a letter
 groups_short : (ds ls : List Letter) → length (groups_behind ds ls) ≤ length ds + length ls
 groups_short ds [] = let s = cut_short ds in omega arith
-groups_short ds (l ∷ ls) = elim (cases_Bool (is_digit l.byte)) [
-  | inl e ↦ rw e (let s = groups_short (ds ++ l ∷ []) ls in omega (arith, length-append ds (l ∷ [])))
-  | inr e ↦ rw e (let s = groups_short [] ls in omega arith)
-]
+groups_short ds (l ∷ ls) = grind (arith, common_steps, cases_Bool (is_digit l.byte), groups_short (ds ++ l ∷ []) ls, length-append ds (l ∷ []), groups_short [] ls) steps 200000
 
 behind_short : (n : ℕ) (words : List (List ℕ)) → bytes_of (drop n words) ≤ bytes_of words
 behind_short (suc n) (word ∷ words) = let s = behind_short n words in omega (arith, length-append word (flat_map (λ word. word) words))
@@ -66,14 +60,8 @@ compressed_short place mandatory words close steps e =
     ]
 
 steps_short : (place : Setting) (mandatory words : List (List ℕ)) (close : Spot) (steps : List (Step × Spot)) → AllByRecursion (λ word. 0 < length word) words → steps_in place mandatory words close ≡ Ok steps → length steps ≤ bytes_of words
-steps_short place mandatory words close steps all e = elim (cases_Bool (is_compressed words)) [
-  | inl is ↦ let s = compressed_short place mandatory (drop 1 words) close steps (rw is at e) in let t = behind_short 1 words in omega arith
-  | inr normal ↦
-      let a = order_length (each_word (read_word place) 0 words) steps (rw normal at e) in
-      let b = words_length (read_word place) 0 words in
-      let c = words_short words all in
-      omega arith
-]
+steps_short place mandatory words close steps all e =
+    grind (arith, common_steps, cases_Bool (is_compressed words), behind_short 1 words, words_length (read_word place) 0 words, words_short words all, compressed_short, order_length) steps 200000
 
 pub decodes_short : (place : Setting) (mandatory words : List (List ℕ)) (d : Decoded) → AllByRecursion (λ word. 0 < length word) words → decoding place mandatory words ≡ Ok d → length d.steps ≤ length (flat_map (λ word. word) words)
 decodes_short place mandatory words d all e =

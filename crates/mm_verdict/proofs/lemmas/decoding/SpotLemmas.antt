@@ -1,15 +1,14 @@
 -- The spots that decoding gives are in the words of the proof, and so is that of the verdict.
+use Rattle.std.proofs.lemmas.{Grind.{common_steps}, Bool.{cases_Bool}, List.Folds.{length-prefix_len}}
 use Rattle.std.proofs.Common.{◌≡◌, ℕ, true, zero, suc, ◌+◌, ◌<◌, ◌≤◌, cond, Some, Result, Ok, Err, List, [], ◌∷◌, ◌++◌, length, map, drop, sym, ap, ◌∙◌, subst, arith, inl, inr, slice_get}
-use Rattle.std.proofs.Common.{slice_index_or, not, length-take, length-drop, drop-drop}
-use Rattle.std.proofs.lemmas.{Bool.{cases_Bool}, List.Folds.{length-prefix_len}}
-use Rattle.std.specs.List.{AllByRecursion, list_any, prefix_len, enumerate_from, before_first, after_first}
+use Rattle.std.{proofs.Common.{slice_index_or, not, length-take, length-drop, drop-drop}, specs.List.{AllByRecursion, list_any, prefix_len, enumerate_from, before_first, after_first}}
 use Rattle.mm_frame.specs.Language.Base.{BaseView, said_at}
-use Rattle.mm_machine.specs.Language.{Frame.{Symbol, Setting}, Expansion.{Step, Named}, Verdict.{Decoded, IsVerdict, IsWrongBy}}
-use Rattle.mm_machine.specs.declared.{ProofNumber.{ProofNumber, TheVariants.{P14, P15}}, Spot.{Spot}, Verdict.{Verdict, TheVariants.{Proved, Incomplete, Wrong}}, step.ProofFault.{ProofFault}}
+use Rattle.mm_machine.specs.{Language.{Frame.{Symbol, Setting}, Expansion.{Step, Named}, Verdict.{Decoded, IsVerdict, IsWrongBy}}, declared.ProofNumber.{ProofNumber, TheVariants.{P14, P15}}}
+use Rattle.mm_machine.specs.declared.{Spot.{Spot}, Verdict.{Verdict, TheVariants.{Proved, Incomplete, Wrong}}, step.ProofFault.{ProofFault}}
 use Rattle.mm_verdict.specs.Language.BaseLabels.{setting_at}
 use Rattle.mm_verdict.specs.Language.Decoding.{Reading, Steps, read_first, in_order, each_word, read_label, read_word, each_group, group_spot, is_save_letter, is_close, is_compressed}
-use Rattle.mm_verdict.specs.Language.Decoding.{compressed_steps, if_read, steps_in, word_spot, decoded}
-use Rattle.mm_verdict.specs.Language.{ItemLaws.{IsSpotIn, TellsSpotIn}, Letters.{Letter, letter_at, letters_in, letters_from, Group, cut_group, groups_behind}, Numbers.{is_digit}}
+use Rattle.mm_verdict.specs.Language.{Decoding.{compressed_steps, if_read, steps_in, word_spot, decoded}, ItemLaws.{IsSpotIn, TellsSpotIn}}
+use Rattle.mm_verdict.specs.Language.{Letters.{Letter, letter_at, letters_in, letters_from, Group, cut_group, groups_behind}, Numbers.{is_digit}}
 use Rattle.mm_verdict.specs.Language.VerdictAt.{mandatory_labels, statement_at, decoding_at, IsVerdictAt}
 
 all_at : {X : Type 0} (P : X → Type 0) (xs : List X) (n : ℕ) (x : X) → AllByRecursion P xs → slice_get xs n ≡ Some x → P x
@@ -29,8 +28,7 @@ begins (w ∷ ws) zero word rest e = (cc, cc, omega arith)
 begins (w ∷ ws) (suc n) word rest e = let b = begins ws n word rest e in (b.0, b.1, omega (arith, b.2))
 
 some_words : (words : List (List ℕ)) → is_compressed words ≡ true → 0 < length words
-some_words [] e = absurd (cc)
-some_words (word ∷ words) e = omega arith
+some_words words e = grind (arith, common_steps) steps 200000
 
 -- the words after the first n + 2 are those after n + 1 of the words past the first
 further : (n : ℕ) (words : List (List ℕ)) → drop (n + 2) words ≡ drop (n + 1) (drop 1 words)

@@ -1,13 +1,11 @@
 -- The list of labels as the code reads it.
-use Rattle.std.proofs.{Common.{◌≡◌, ℕ, ◌+◌, ◌<◌, ◌≤◌, true, false, Ok, Err, List, [], ◌∷◌, ◌++◌, length, map, drop, get_or, refl, sym, ap, ◌∙◌, subst, append_assoc}, Math.ListN.{drop_of_length-le}}
-use Rattle.std.proofs.lemmas.List.{append-nil, map-append}
-use Rattle.std.specs.List.{before_first}
+use Rattle.std.proofs.Common.{arith, ◌≡◌, ℕ, ◌+◌, ◌<◌, ◌≤◌, true, false, Ok, Err, List, [], ◌∷◌, ◌++◌, length, map, drop, get_or, refl, sym, ap, ◌∙◌, subst, append_assoc}
+use Rattle.std.{proofs.{lemmas.{Grind.{common_steps}, List.{append-nil, map-append}}, Math.ListN.{drop_of_length-le}}, specs.List.{before_first}}
 use Rattle.mm_machine.specs.{Language.Expansion.{Step, Named}, declared.{step.ProofStep.{ProofStep}, ProofNumber.TheVariants.{P03}}}
 use Rattle.mm_frame.specs.{Language.Base.{BaseView}, declared.base.Resolved.{Resolved}}
 use Rattle.mm_verdict.specs.Language.{BaseLabels.{label_at, setting_at, AreActive}, Decoding.{read_label, is_close, compressed_steps, word_spot}}
-use Rattle.mm_verdict.specs.Language.DecodedSteps.{labels_at, entry_step, entry_steps, IsEntry, AreEntries}
-use Rattle.mm_verdict.specs.Code.{Coded.{TellsSteps, meant_steps, letters_give}, Labels.{Lists, IsListed, TellsWord, BeginsTable}, Left.{AreLeft}, LeftToRight.{list_on}}
-use Rattle.mm_verdict.specs.declared.undecoded.Undecoded.{Undecoded}
+use Rattle.mm_verdict.specs.{Language.DecodedSteps.{labels_at, entry_step, entry_steps, IsEntry, AreEntries}, Code.Coded.{TellsSteps, meant_steps, letters_give}}
+use Rattle.mm_verdict.specs.{Code.{Labels.{Lists, IsListed, TellsWord, BeginsTable}, Left.{AreLeft}, LeftToRight.{list_on}}, declared.undecoded.Undecoded.{Undecoded}}
 use Rattle.mm_verdict.proofs.lemmas.decoding.{ListLemmas.{list_is, word_is, none_more}, ReadOnLemmas.{before_close}, ReaderLemmas.{next_is}, SureLemmas.{usable_is}}
 use Rattle.mm_frame.specs.declared.base.Resolved.TheVariants as answers
 use Rattle.mm_verdict.specs.declared.undecoded.Undecoded.TheVariants as errors
@@ -18,14 +16,7 @@ entries_more view i (label ∷ labels) meaning all is = (all.0, entries_more vie
 
 -- before the first label
 pub starts : (view : BaseView) (i : ℕ) (mandatory words : List (List ℕ)) (labels : List Resolved) → entry_steps view labels ≡ map Named mandatory → AreEntries view i labels → Lists view i mandatory words 1 labels
-starts view i mandatory words labels e all = record {
-  listed = [];
-  labels_are = e ∙ ap (map Named) (sym (append-nil mandatory));
-  entries = all;
-  before = refl;
-  open_yet = refl;
-  rest = list_is (setting_at view i) mandatory (word_spot (length words)) (drop 1 words);
-}
+starts view i mandatory words labels e all = grind (arith, common_steps, append-nil mandatory, list_is (setting_at view i) mandatory (word_spot (length words)) (drop 1 words)) steps 200000
 
 module _ (view : BaseView) (i : ℕ) (mandatory words : List (List ℕ)) (n : ℕ) (labels : List Resolved) (lists : Lists view i mandatory words n labels) where
   -- the words after the first, by the one at n

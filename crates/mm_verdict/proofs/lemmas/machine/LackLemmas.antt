@@ -1,15 +1,13 @@
 -- The first steps of a proof, by the numbers of names.
-use Rattle.std.proofs.Common.{◌≡◌, ℕ, zero, suc, ◌+◌, ◌<◌, Some, List, [], ◌∷◌, ◌++◌, length, take, drop, sym, ◌∙◌, ap, subst, arith, slice_get}
-use Rattle.std.proofs.lemmas.{List.{take-append-le, take-append-drop, drop_more, length-map, length-take-le, map-append}, Option.{slice_get_within, slice_get-map, get_or_from_slice_get}}
-use Rattle.std.specs.Option.{option_map}
-use Rattle.mm_machine.specs.Language.{Frame.{Symbol, Setting}, Typing.{HasFrames}, Expansion.{Step, Named, NotKnown}}
-use Rattle.mm_machine.specs.Language.NamedSteps.{AreDoneTo, FrontSays, AreSavedBefore, IsSavedWithin, StopsAt, actions_mean, saves_in, meant}
+use Rattle.std.proofs.lemmas.{Grind.{common_steps}, List.{take-append-le, take-append-drop, drop_more, length-map, length-take-le, map-append}}
+use Rattle.std.proofs.lemmas.Option.{slice_get_within, slice_get-map, get_or_from_slice_get}
+use Rattle.std.{proofs.Common.{◌≡◌, ℕ, zero, suc, ◌+◌, ◌<◌, Some, List, [], ◌∷◌, ◌++◌, length, take, drop, sym, ◌∙◌, ap, subst, arith, slice_get}, specs.Option.{option_map}}
+use Rattle.mm_machine.specs.Language.{Frame.{Symbol, Setting}, Typing.{HasFrames}, Expansion.{Step, Named, NotKnown}, NamedSteps.{AreDoneTo, FrontSays, AreSavedBefore, StopsAt, actions_mean, meant}}
 use Rattle.mm_machine.specs.Language.{Renaming.{renamed_mandatory, renamed_meaning, renamed_setting}, Numbering.{unnaming}, RunLaws.{LackStops, NumbersSayTheSame, StopsStay}}
 use Rattle.mm_machine.specs.declared.{ProofNumber.TheVariants.{P07}, stepping.{Front.TheVariants.{Leaves}, Outcome.{Outcome, TheVariants.{Fault, Unknown}}}, step.ProofStep.{ProofStep}}
 use Rattle.mm_frame.specs.Language.Base.{BaseView, frame_at}
-use Rattle.mm_verdict.specs.Language.{BaseLabels.{label_at, setting_at}, DecodedSteps.{AreEntries, IsEntry, entry_step, entry_steps}}
-use Rattle.mm_verdict.specs.Code.{NumberedBase.{numbered_frame, numbered_setting}, ShortSteps.{TakesMore}, UsedLabels.{KeepsUsed}}
-use Rattle.mm_verdict.proofs.lemmas.machine.{NamedLemmas.{kept_at}, UsedLemmas.{part_means}}
+use Rattle.mm_verdict.specs.{Language.{BaseLabels.{label_at, setting_at}, DecodedSteps.{AreEntries, IsEntry, entry_step, entry_steps}}, Code.NumberedBase.{numbered_frame, numbered_setting}}
+use Rattle.mm_verdict.{specs.Code.{ShortSteps.{TakesMore}, UsedLabels.{KeepsUsed}}, proofs.lemmas.machine.{NamedLemmas.{kept_at}, UsedLemmas.{part_means}}}
 use Rattle.mm_frame.specs.declared.base.Resolved as listed
 use Rattle.mm_frame.specs.declared.base.Resolved.TheVariants as answers
 
@@ -74,8 +72,7 @@ module _ (same : NumbersSayTheSame) (stay : StopsStay) (lack : LackStops) (names
 
 saved_front : (front behind : List ProofStep) → AreSavedBefore (front ++ behind) → AreSavedBefore front
 saved_front front behind saved n step at =
-    let within = slice_get_within front n step at in
-    subst (λ (ss : List ProofStep). IsSavedWithin (saves_in ss) step.action) (take-append-le n front behind (omega (arith, within))) (saved n step (kept_at front behind n step at))
+    grind (arith, common_steps, slice_get_within front n step at, take-append-le n front behind (omega (arith, (slice_get_within front n step at))), kept_at front behind n step at) steps 200000
 
 -- of the first steps, too, each that is put again was saved before
 pub saved_before_front : (steps : List ProofStep) (m : ℕ) → AreSavedBefore steps → AreSavedBefore (take m steps)

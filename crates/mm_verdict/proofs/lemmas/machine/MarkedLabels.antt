@@ -1,7 +1,7 @@
 -- Marks for the labels that steps name, and the labels that are marked.
-use Rattle.std.proofs.Common.{◌≡◌, ℕ, zero, suc, ◌<◌, Bool, true, false, ◌||◌, Option, Some, None, List, [], ◌∷◌, ◌++◌, length, refl, sym, ◌∙◌, ap, inl, inr, slice_get, ◌⊎◌, eq-eqb, eqb-true, arith}
-use Rattle.std.proofs.Math.Bool.{or-false}
-use Rattle.std.proofs.lemmas.{Bool.{cases_Bool, false≢true}, List.Folds.{list_any-append}, Map.Keys.{any_passes_from_place}, Option.{same_Some, slice_get_cases, slice_get_past, slice_get_within}}
+use Rattle.std.proofs.lemmas.{Grind.{common_steps}, Bool.{cases_Bool, false≢true}, List.Folds.{list_any-append}, Map.Keys.{any_passes_from_place}}
+use Rattle.std.proofs.lemmas.Option.{same_Some, slice_get_cases, slice_get_past, slice_get_within}
+use Rattle.std.proofs.{Common.{◌≡◌, ℕ, zero, suc, ◌<◌, Bool, true, false, ◌||◌, Some, List, [], ◌∷◌, ◌++◌, length, refl, sym, ◌∙◌, ap, inl, inr, slice_get, ◌⊎◌, eq-eqb, arith}, Math.Bool.{or-false}}
 use Rattle.std.specs.List.{list_any}
 use Rattle.mm_frame.specs.declared.base.Resolved.{Resolved}
 use Rattle.mm_verdict.specs.Code.{Cited.{cited_item, is_item, is_listed, item_named, marked_at, names_item}, UsedLabels.{AreUseMarks, AreUsed, KeepsNamed, KeepsUsed, label_named, names_label}}
@@ -24,8 +24,7 @@ no_mark_more (mark ∷ marks) (suc k) = no_mark_more marks k
 pub marks_next :
     (old wider new : List Bool) (steps more : List ProofStep) (step : ProofStep) → ((k : ℕ) → marked_at old k ≡ list_any (names_label k) steps) → wider ≡ old ++ false ∷ [] →
     ((k : ℕ) → marked_at new k ≡ (marked_at wider k || is_item (label_named step.action) k)) → more ≡ steps ++ step ∷ [] → (k : ℕ) → marked_at new k ≡ list_any (names_label k) more
-marks_next old wider new steps more step are wide each is k =
-    rw is (each k ∙ ap (λ b. b || is_item (label_named step.action) k) (ap (λ marks. marked_at marks k) wide ∙ no_mark_more old k ∙ are k) ∙ sym (names_more k steps step))
+marks_next old wider new steps more step are wide each is k = grind (arith, no_mark_more old k, names_more k steps step) steps 200000
 
 -- an element that passes, with its place
 found : {X : Type 0} (p : X → Bool) (xs : List X) → list_any p xs ≡ true → (n : ℕ) × (x : X) × (slice_get xs n ≡ Some x) × (p x ≡ true)
@@ -42,29 +41,15 @@ same_answer false false f g = refl
 
 -- the entry of a label that an action names
 named_at : (labels : List Resolved) (k : ℕ) (action : Action) → is_item (label_named action) k ≡ true → item_named labels action ≡ cited_item (slice_get labels k)
-named_at labels k (actions.Label m) e = ap (λ n. cited_item (slice_get labels n)) (eqb-true m k e)
-named_at labels k (actions.Saved m) e = absurd (false≢true e)
-named_at labels k actions.Save e = absurd (false≢true e)
-named_at labels k actions.Unknown e = absurd (false≢true e)
+named_at labels k action e = grind (arith, common_steps) steps 200000
 
 -- an action that names an assertion names its label
 names_it : (action : Action) (k : ℕ) → action ≡ actions.Label k → is_item (label_named action) k ≡ true
 names_it action k e = ap (λ a. is_item (label_named a) k) e ∙ eq-eqb k k refl
 
--- the assertion of an entry is listed
-listed_at : (used : List Resolved) (k j : ℕ) → is_item (cited_item (slice_get used k)) j ≡ true → is_listed used j ≡ true
-listed_at used k j e = by_case (slice_get used k) refl
-  where
-    by_case : (o : Option Resolved) → slice_get used k ≡ o → is_listed used j ≡ true
-    by_case (Some u) at = any_passes_from_place (λ label. is_item (cited_item (Some label)) j) used k u at (sym (ap (λ o. is_item (cited_item o) j) at) ∙ e)
-    by_case None at = absurd (false≢true (sym (ap (λ o. is_item (cited_item o) j) at) ∙ e))
-
 -- an action that names an assertion, where the labels that it names are kept
 listed_by : (labels used : List Resolved) (j : ℕ) (action : Action) → KeepsNamed labels used action → is_item (item_named labels action) j ≡ true → is_listed used j ≡ true
-listed_by labels used j (actions.Label k) keeps e = listed_at used k j (ap (λ o. is_item (cited_item o) j) (keeps k refl) ∙ e)
-listed_by labels used j (actions.Saved k) keeps e = absurd (false≢true e)
-listed_by labels used j actions.Save keeps e = absurd (false≢true e)
-listed_by labels used j actions.Unknown keeps e = absurd (false≢true e)
+listed_by labels used j action keeps e = grind (arith, common_steps, false≢true, any_passes_from_place) steps 200000
 
 -- the marked labels are those that the steps name
 pub marked_used :
@@ -78,10 +63,7 @@ marked_used labels used marks steps count are marked out = record {
 }
   where
     part : (k : ℕ) (u : Resolved) → slice_get used k ≡ Some u → (u ≡ answers.Unknown) ⊎ (slice_get labels k ≡ Some u)
-    part k u at = elim (cases_Bool (marked_at marks k)) [
-      | inl t ↦ inr (sym (marked k t) ∙ at)
-      | inr f ↦ let less = slice_get_within used k u at in inl (same_Some u answers.Unknown (sym at ∙ out k (omega (arith, less, count)) f))
-    ]
+    part k u at = grind (arith, common_steps, cases_Bool (marked_at marks k), slice_get_within used k u at, same_Some) steps 200000
 
     kept : KeepsUsed labels used steps
     kept n step at k names = elim (slice_get_cases labels k).1 [

@@ -1,13 +1,11 @@
 -- What was named so far, when more is named.
-use Rattle.std.proofs.Common.{◌≡◌, ℕ, zero, suc, Some, List, [], ◌∷◌, ◌++◌, length, take, refl, sym, ◌∙◌, ap, ap₂, subst, arith, ◌⊎◌, inl, inr, slice_get, All}
-use Rattle.std.proofs.lemmas.{List.Elements.{All-nil, All-cons}, Option.{slice_get_within, same_Some}}
-use Rattle.std.specs.List.{AllZip}
+use Rattle.std.proofs.lemmas.{Grind.{common_steps}, List.Elements.{All-nil, All-cons}, Option.{slice_get_within, same_Some}}
+use Rattle.std.{proofs.Common.{◌≡◌, ℕ, zero, suc, Some, List, [], ◌∷◌, ◌++◌, length, take, refl, sym, ◌∙◌, ap, ap₂, arith, ◌⊎◌, inl, inr, slice_get, All}, specs.List.{AllZip}}
 use Rattle.mm_frame.specs.{declared.base.{Base.{Base}, Resolved.{Resolved}}, Language.{Base.{BaseView}, Answering.{IsBaseBy}}}
-use Rattle.mm_machine.specs.Language.{Frame.{Hypothesis}, Renaming.{renamed_meaning}, Numbering.{unnaming}, NamedSteps.{IsUseWithin, MeansUse}}
-use Rattle.mm_machine.specs.declared.{symbol.NumberedSymbol.{NumberedSymbol}, assertion.Cited.{Cited}, named.Use.{Use}}
-use Rattle.mm_verdict.specs.Language.DecodedSteps.{AreEntries, IsEntry, entry_step, entry_steps}
-use Rattle.mm_verdict.specs.Code.{NamedItems.{AreCited, AreNamed, NamingGrows, IsUseOf, Stays, expressions_named, frames_cited}, NumberedBase.{numbered_frame, numbered_setting}}
-use Rattle.mm_verdict.specs.declared.named.Naming.{Naming}
+use Rattle.mm_machine.specs.{Language.{Frame.{Hypothesis}, Renaming.{renamed_meaning}, Numbering.{unnaming}, NamedSteps.{IsUseWithin, MeansUse}}, declared.symbol.NumberedSymbol.{NumberedSymbol}}
+use Rattle.mm_machine.specs.declared.{assertion.Cited.{Cited}, named.Use.{Use}}
+use Rattle.mm_verdict.specs.{Language.DecodedSteps.{AreEntries, IsEntry, entry_step, entry_steps}, Code.NamedItems.{AreCited, AreNamed, NamingGrows, IsUseOf, Stays, expressions_named, frames_cited}}
+use Rattle.mm_verdict.specs.{Code.NumberedBase.{numbered_frame, numbered_setting}, declared.named.Naming.{Naming}}
 use Rattle.mm_frame.specs.declared.base.Resolved.TheVariants as answers
 use Rattle.mm_machine.specs.declared.assertion.Hypothesis as assertion
 use Rattle.mm_machine.specs.declared.named.Use.TheVariants as uses
@@ -32,25 +30,18 @@ stays_begins (x ∷ old) (y ∷ new) s = ap₂ ◌∷◌ (same_Some y x (s zero 
 pub cited_first :
     (code : Base) (old new : List ℕ) (mandatory : List (assertion.Hypothesis NumberedSymbol)) (all : List (Cited NumberedSymbol)) →
     AreCited code old mandatory all → Stays old new → AreCited code (take (length all) new) mandatory all
-cited_first code old new mandatory all are s =
-    subst (λ (ns : List ℕ). AreCited code ns mandatory all) (sym (ap (λ n. take n new) are.count ∙ stays_begins old new s)) are
+cited_first code old new mandatory all are s = grind (arith, common_steps, stays_begins old new s) steps 200000
 
 pub last_there : {X : Type 0} (xs : List X) (x : X) → slice_get (xs ++ x ∷ []) (length xs) ≡ Some x
 last_there [] x = refl
-last_there (y ∷ xs) x = ap (slice_get (y ∷ (xs ++ x ∷ []))) (sym one) ∙ last_there xs x
-  where
-    one : suc (length xs) ≡ length (y ∷ xs)
-    one = omega arith
+last_there (y ∷ xs) x = grind (arith, common_steps, last_there xs x) steps 200000
 
 -- what is in a list with one more was in it before, or is that one
 pub before_or_last : {X : Type 0} (xs : List X) (x y : X) (n : ℕ) → slice_get (xs ++ x ∷ []) n ≡ Some y → (slice_get xs n ≡ Some y) ⊎ ((n ≡ length xs) × (x ≡ y))
 before_or_last [] x y zero e = inr (refl, same_Some x y e)
 before_or_last [] x y (suc n) e = cc
 before_or_last (z ∷ xs) x y zero e = inl e
-before_or_last (z ∷ xs) x y (suc n) e = elim (before_or_last xs x y n e) [
-  | inl h ↦ inl h
-  | inr h ↦ (let one : suc n ≡ length (z ∷ xs) = omega arith in inr (one, h.1))
-]
+before_or_last (z ∷ xs) x y (suc n) e = grind (arith, common_steps, before_or_last xs x y n e) steps 200000
 
 -- what a list has for each number of another, it has with one more of each
 pub placed_more :
@@ -58,10 +49,7 @@ pub placed_more :
     length ys ≡ length xs → more ≡ xs ++ x ∷ [] → new ≡ ys ++ y ∷ [] → (shown x → R y x) →
     ((n : ℕ) (k : X) → slice_get xs n ≡ Some k → shown k → (z : Y) × (slice_get ys n ≡ Some z) × R z k) →
     (n : ℕ) (k : X) → slice_get more n ≡ Some k → shown k → (z : Y) × (slice_get new n ≡ Some z) × R z k
-placed_more shown R xs more ys new x y count e f right before n k at is = elim (before_or_last xs x k n (ap (λ w. slice_get w n) (sym e) ∙ at)) [
-  | inl h ↦ (let z = before n k h is in (z.0, ap (λ w. slice_get w n) f ∙ kept_at ys (y ∷ []) n z.0 z.1, z.2))
-  | inr h ↦ (y, ap (λ w. slice_get w n) f ∙ ap (slice_get (ys ++ y ∷ [])) (h.0 ∙ sym count) ∙ last_there ys y, subst (R y) h.1 (right (subst shown (sym h.1) is)))
-]
+placed_more shown R xs more ys new x y count e f right before n k at is = grind (arith, common_steps, before_or_last, kept_at, last_there) steps 200000
 
 -- the place of one more
 pub stands_last : (old new : List ℕ) (n j : ℕ) → new ≡ old ++ j ∷ [] → n ≡ length old → slice_get new n ≡ Some j
@@ -73,21 +61,7 @@ pub uses_grow : (old new : Naming) → NamingGrows old new → (all : List Use) 
 uses_grow old new g [] [] z = tt
 uses_grow old new g [] (l ∷ labels) z = absurd z
 uses_grow old new g (u ∷ all) [] z = absurd z
-uses_grow old new g (u ∷ all) (l ∷ labels) z = (one u l z.0, uses_grow old new g all labels z.1)
-  where
-    one : (u : Use) (l : Resolved) → IsUseOf old u l → IsUseOf new u l
-    one (uses.Hypothesis n) (answers.Hypothesis j) s = g.hypotheses n j s
-    one (uses.Assertion n) (answers.Assertion j) s = g.assertions n j s
-    one uses.Nothing answers.Inactive s = tt
-    one uses.Nothing answers.Unknown s = tt
-    one (uses.Hypothesis n) (answers.Assertion j) s = absurd s
-    one (uses.Hypothesis n) answers.Inactive s = absurd s
-    one (uses.Hypothesis n) answers.Unknown s = absurd s
-    one (uses.Assertion n) (answers.Hypothesis j) s = absurd s
-    one (uses.Assertion n) answers.Inactive s = absurd s
-    one (uses.Assertion n) answers.Unknown s = absurd s
-    one uses.Nothing (answers.Hypothesis j) s = absurd s
-    one uses.Nothing (answers.Assertion j) s = absurd s
+uses_grow old new g (u ∷ all) (l ∷ labels) z = grind (arith, common_steps, uses_grow old new g all labels z.1) steps 200000
 
 pub uses_more : (naming : Naming) (all : List Use) (labels : List Resolved) (u : Use) (l : Resolved) → AllZip (IsUseOf naming) all labels → IsUseOf naming u l → AllZip (IsUseOf naming) (all ++ u ∷ []) (labels ++ l ∷ [])
 uses_more naming [] [] u l z s = (s, tt)
@@ -96,10 +70,7 @@ uses_more naming _ _ u l z s = absurd z
 
 -- they are in range
 one_within : (code : Base) (naming : Naming) → AreNamed code naming → (u : Use) (l : Resolved) → IsUseOf naming u l → IsUseWithin (length naming.hypotheses.items) (length naming.assertion_numbers.items.items) u
-one_within code naming is (uses.Hypothesis n) (answers.Hypothesis j) s = let w = slice_get_within naming.hypothesis_numbers.items.items n j s in omega (arith, is.count)
-one_within code naming is (uses.Assertion n) (answers.Assertion j) s = slice_get_within naming.assertion_numbers.items.items n j s
-one_within code naming is uses.Nothing l s = tt
-one_within code naming is _ _ s = absurd s
+one_within code naming is u l s = grind (arith, common_steps, slice_get_within) steps 200000
 
 pub uses_within : (code : Base) (naming : Naming) → AreNamed code naming → (all : List Use) (labels : List Resolved) → AllZip (IsUseOf naming) all labels →
     All (IsUseWithin (length naming.hypotheses.items) (length naming.assertion_numbers.items.items)) all

@@ -1,31 +1,18 @@
 -- Ranges of a list that grows, and assertions whose mandatory hypotheses they are.
-use Rattle.std.proofs.Common.{◌≡◌, ℕ, true, ◌-◌, ◌≤◌, List, [], ◌∷◌, ◌++◌, length, map, take, drop, refl, sym, ◌∙◌, ap, ap₂, subst, arith, length-append, length-drop, All}
-use Rattle.std.proofs.{lemmas.List.{drop-append-le, take-append-le, take_all, length-map, map-append, Elements.{All-append, All-nil, All-cons, All-head, All-tail}}, Math.Seq.{drop-append_seam}}
+use Rattle.std.proofs.lemmas.{Grind.{common_steps}, List.{drop-append-le, take-append-le, take_all, length-map, map-append, Elements.{All-append, All-nil, All-cons, All-head, All-tail}}}
+use Rattle.std.proofs.{Common.{rules, ◌≡◌, ℕ, true, ◌-◌, List, [], ◌∷◌, ◌++◌, length, map, refl, sym, ◌∙◌, ap, ap₂, subst, arith, length-append, length-drop, All}, Math.Seq.{drop-append_seam}}
 use Rattle.mm_frame.specs.{declared.base.Base.{Base}, Language.Base.{is_framed_at}}
-use Rattle.mm_machine.specs.declared.{symbol.NumberedSymbol.{NumberedSymbol}, assertion.{Cited.{Cited}, Hypothesis.{Hypothesis}}}
-use Rattle.mm_machine.specs.Language.{Frame.{Symbol, Mandatory, Frame, AreSameFrame}, NumberedSymbols.{by_number}, Typing.{IsFrame}}
-use Rattle.mm_machine.specs.Language.CitedFrames.{IsCitable, frame_of, hypotheses_of, meant_pairs, range_of}
-use Rattle.mm_verdict.specs.Code.{NamedItems.{AreCited, frames_cited}, NumberedBase.{ByNames, numbered_frame}}
-use Rattle.mm_verdict.proofs.lemmas.machine.NamedLemmas.{placed_more}
+use Rattle.mm_machine.specs.{declared.{symbol.NumberedSymbol.{NumberedSymbol}, assertion.{Cited.{Cited}, Hypothesis.{Hypothesis}}}, Language.Frame.{Symbol, Mandatory, AreSameFrame}}
+use Rattle.mm_machine.specs.Language.{NumberedSymbols.{by_number}, CitedFrames.{IsCitable, frame_of, hypotheses_of, range_of}}
+use Rattle.mm_verdict.{specs.Code.{NamedItems.{AreCited, frames_cited}, NumberedBase.{ByNames, numbered_frame}}, proofs.lemmas.machine.NamedLemmas.{placed_more}}
 
 -- the range of what is added at the end
 pub range_behind : {X : Type 0} (first last : ℕ) (xs more new : List X) → new ≡ xs ++ more → first ≡ length xs → last ≡ length new → range_of first last new ≡ more
-range_behind first last xs more new e a b =
-    let count : length more ≤ last - first = omega (arith, ap length e, length-append xs more) in
-    ap (λ w. take (last - first) (drop first w)) e ∙ ap (λ k. take (last - first) (drop k (xs ++ more))) a
-    ∙ ap (take (last - first)) (drop-append_seam xs more) ∙ take_all (last - first) more count
-
--- a range stays as the list grows
-range_stays : {X : Type 0} (first last : ℕ) (xs more : List X) → first ≤ last → last ≤ length xs → range_of first last (xs ++ more) ≡ range_of first last xs
-range_stays first last xs more a b =
-    let within : last - first ≤ length (drop first xs) = simp length-drop (omega arith) in
-    ap (take (last - first)) (drop-append-le first xs more (omega arith)) ∙ take-append-le (last - first) (drop first xs) more within
+range_behind first last xs more new e a b = grind (arith, common_steps, drop-append_seam, length-append, take_all) steps 200000
 
 -- so a frame stays
 frame_stays : {S : Type 0} (means : S → Symbol) (hs more : List Mandatory) (a : Cited S) → IsCitable means hs a → frame_of means (hs ++ more) a ≡ frame_of means hs a
-frame_stays means hs more a is =
-    let with_range : List Mandatory → Frame = λ w. record { expression = map means a.expression.now; hypotheses = w; pairs = meant_pairs means a.pairs.now } in
-    ap with_range (range_stays a.first a.last hs more is.in_order is.within)
+frame_stays means hs more a is = grind (arith, common_steps, drop-append-le, length-drop, take-append-le) steps 200000
 
 frames_stay : {S : Type 0} (means : S → Symbol) (hs more : List Mandatory) (all : List (Cited S)) → All (IsCitable means hs) all →
     map (frame_of means (hs ++ more)) all ≡ map (frame_of means hs) all
@@ -35,13 +22,7 @@ frames_stay means hs more (a ∷ all) are =
 
 citable_stay : {S : Type 0} (means : S → Symbol) (hs more : List Mandatory) (all : List (Cited S)) → All (IsCitable means hs) all → All (IsCitable means (hs ++ more)) all
 citable_stay means hs more [] are = All-nil (IsCitable means (hs ++ more))
-citable_stay means hs more (a ∷ all) are = All-cons (IsCitable means (hs ++ more)) a all one (citable_stay means hs more all (All-tail (IsCitable means hs) a all are))
-  where
-    is : IsCitable means hs a
-    is = All-head (IsCitable means hs) a all are
-
-    one : IsCitable means (hs ++ more) a
-    one = record { in_order = is.in_order; within = omega (arith, is.within, length-append hs more); frame = subst IsFrame (sym (frame_stays means hs more a is)) is.frame }
+citable_stay means hs more (a ∷ all) are = search (rules, citable_stay means hs more all (All-tail (IsCitable means hs) a all are), frame_stays, length-append) steps 500000
 
 -- one more assertion, whose hypotheses are added after the others
 pub cited_more :
@@ -52,11 +33,9 @@ pub cited_more :
 cited_more code numbers j mandatory new all next a more are grows e one same =
     let hs = hypotheses_of by_number mandatory in
     let grown = hypotheses_of by_number new in
-    let kept : frames_cited new all ≡ frames_cited mandatory all =
-    subst (λ (w : List Mandatory). map (frame_of by_number w) all ≡ frames_cited mandatory all) (sym grows) (frames_stay by_number hs more all are.citable) in
+    let kept : frames_cited new all ≡ frames_cited mandatory all = subst (λ (w : List Mandatory). map (frame_of by_number w) all ≡ frames_cited mandatory all) (sym grows) (frames_stay by_number hs more all are.citable) in
     let citable = subst (λ (w : List Mandatory). All (IsCitable by_number w) all) (sym grows) (citable_stay by_number hs more all are.citable) in
-    let frames : frames_cited new next ≡ frames_cited mandatory all ++ frame_of by_number grown a ∷ [] =
-    ap (frames_cited new) e ∙ map-append (frame_of by_number grown) all (a ∷ []) ∙ ap (λ w. w ++ frame_of by_number grown a ∷ []) kept in
+    let frames : frames_cited new next ≡ frames_cited mandatory all ++ frame_of by_number grown a ∷ [] = ap (frames_cited new) e ∙ map-append (frame_of by_number grown) all (a ∷ []) ∙ ap (λ w. w ++ frame_of by_number grown a ∷ []) kept in
     record {
       count = omega (arith, ap length e, are.count, length-append numbers (j ∷ []), length-append all (a ∷ []));
       frames = λ names view base n i at framed.

@@ -1,6 +1,5 @@
 -- A table with the labels alone that steps name means what the whole one does.
-use Rattle.std.proofs.{Common.{◌≡◌, ℕ, suc, Option, Some, List, [], ◌∷◌, refl, sym, ◌∙◌, ap, subst, arith, inl, inr, unwrap_or, ◌⊎◌}, lemmas.Option.{slice_get-map, unwrap_or-slice_get}}
-use Rattle.std.specs.Option.{option_map}
+use Rattle.std.proofs.{lemmas.{Grind.{common_steps}, Option.{slice_get-map, unwrap_or-slice_get}}, Common.{◌≡◌, ℕ, suc, Option, Some, List, [], ◌∷◌, refl, arith, ◌⊎◌}}
 use Rattle.mm_frame.specs.{declared.base.Resolved.{Resolved}, Language.Base.{BaseView}}
 use Rattle.mm_machine.specs.{Language.{Expansion.{NotKnown}, NamedSteps.{meant, actions_mean}}, declared.step.{Action.{Action}, ProofStep.{ProofStep}}}
 use Rattle.mm_verdict.specs.{Language.DecodedSteps.{AreEntries, IsEntry, entry_step, entry_steps}, Code.UsedLabels.{IsPart, KeepsNamed, KeepsUsed}}
@@ -8,11 +7,7 @@ use Rattle.mm_frame.specs.declared.base.Resolved.TheVariants as answers
 use Rattle.mm_machine.specs.declared.step.Action.TheVariants as actions
 
 entry_of : (view : BaseView) (i : ℕ) (u : Resolved) (o : Option Resolved) (l : Resolved) → o ≡ Some l → (u ≡ answers.Unknown) ⊎ (o ≡ Some u) → IsEntry view i l → IsEntry view i u
-entry_of view i u o l e (inl z) entry = subst (IsEntry view i) (sym z) tt
-entry_of view i u o l e (inr z) entry = subst (IsEntry view i) (same (sym e ∙ z)) entry
-  where
-    same : Some l ≡ Some u → l ≡ u
-    same q = cc
+entry_of view i u o l e h entry = grind (arith, common_steps) steps 200000
 
 pub part_entries : (view : BaseView) (i : ℕ) (labels used : List Resolved) → IsPart labels used → AreEntries view i labels → AreEntries view i used
 part_entries view i labels [] part entries = tt
@@ -24,9 +19,7 @@ part_entries view i (l ∷ labels) (u ∷ used) part entries = (
 
 one_means : (view : BaseView) (labels used : List Resolved) (action : Action) → KeepsNamed labels used action → meant (entry_steps view used) action ≡ meant (entry_steps view labels) action
 one_means view labels used (actions.Label k) keeps =
-    sym (unwrap_or-slice_get (entry_steps view used) k NotKnown)
-    ∙ ap (λ o. unwrap_or o NotKnown) (slice_get-map (entry_step view) used k ∙ ap (option_map (entry_step view)) (keeps k refl) ∙ sym (slice_get-map (entry_step view) labels k))
-    ∙ unwrap_or-slice_get (entry_steps view labels) k NotKnown
+    grind (arith, unwrap_or-slice_get (entry_steps view used) k NotKnown, slice_get-map (entry_step view) used k, slice_get-map (entry_step view) labels k, unwrap_or-slice_get (entry_steps view labels) k NotKnown) steps 200000
 one_means view labels used _ keeps = refl
 
 pub part_means : (view : BaseView) (labels used : List Resolved) (steps : List ProofStep) → KeepsUsed labels used steps → actions_mean (entry_steps view used) steps ≡ actions_mean (entry_steps view labels) steps

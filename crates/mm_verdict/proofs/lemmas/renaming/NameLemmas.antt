@@ -1,6 +1,5 @@
 -- What numbers name.
-use Rattle.std.proofs.Common.{◌≡◌, ℕ, zero, suc, ◌+◌, ◌-◌, ◌*◌, ◌<◌, ◌≤◌, min, Some, None, Result, Ok, Err, List, [], ◌∷◌, length, map, refl, sym, ap, arith, slice_get}
-use Rattle.std.specs.List.{range_with_len}
+use Rattle.std.{proofs.Common.{◌≡◌, ℕ, zero, suc, ◌+◌, ◌-◌, ◌<◌, ◌≤◌, Some, None, Result, Ok, Err, List, [], ◌∷◌, length, map, refl, sym, ap, arith, slice_get}, specs.List.{range_with_len}}
 use Rattle.mm_machine.specs.{Language.Expansion.{Step, Saved}, declared.ProofNumber.{ProofNumber, TheVariants.{P06}}}
 use Rattle.mm_verdict.specs.Language.Decoding.{nameable, named}
 
@@ -31,10 +30,3 @@ named_save names labels saves v w len same more few = sym (ap named (behind_labe
 -- and one after the saves names nothing
 pub named_nothing : (names : List Step) (labels saves w : ℕ) → length names ≡ labels → labels + saves < w → ◌≡◌ {A = Result Step ProofNumber} (Err P06) (named (slice_get (nameable names saves) (w - 1)))
 named_nothing names labels saves w len past = sym (ap named (past_all names saves (w - 1) (omega arith)))
-
--- what is cut to the largest number is exact, if it is below that
-pub exact : (n last digits value most : ℕ) → digits ≡ min n most → value ≡ min (20 * digits + last) most → value < most → value ≡ 20 * n + last
-exact n last digits value most d v less = omega arith
-
-pub not_less : (n last digits value most : ℕ) → digits ≡ min n most → value ≡ min (20 * digits + last) most → value ≤ 20 * n + last
-not_less n last digits value most d v = omega arith

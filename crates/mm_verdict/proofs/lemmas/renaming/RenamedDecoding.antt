@@ -1,11 +1,10 @@
 -- A renaming of symbols, one to one, keeps what a proof decodes to and which of its words cite.
-use Rattle.std.proofs.Common.{◌≡◌, ℕ, ◌+◌, Result, Ok, Err, List, length, map, drop, refl, sym, ap, ◌∙◌, if◌then◌else◌, ◌&&◌, filter, bytes_eq, codes}
+use Rattle.std.proofs.{Common.{arith, ◌≡◌, ℕ, ◌+◌, Result, Ok, Err, List, length, drop, refl, sym, ap, ◌∙◌, if◌then◌else◌, bytes_eq, codes}, lemmas.Grind.{common_steps}}
 use Rattle.std.specs.List.{list_any, before_first, after_first}
-use Rattle.mm_machine.specs.Language.{Frame.{Symbol, Resolved, Hypothesis, Assertion, Inactive, Unknown, Setting}, Expansion.{Step, NotKnown}, Verdict.{Decoded}, SameProof.{AreSameMeaning}}
-use Rattle.mm_machine.specs.Language.Renaming.{renamed_meaning, IsRenamedSetting}
+use Rattle.mm_machine.specs.Language.{Frame.{Symbol, Resolved, Setting}, Expansion.{Step, NotKnown}, Verdict.{Decoded}, SameProof.{AreSameMeaning}, Renaming.{renamed_meaning, IsRenamedSetting}}
 use Rattle.mm_machine.specs.declared.{Spot.{Spot}, ProofNumber.{ProofNumber, TheVariants.{P03}}, step.ProofFault.{ProofFault}}
-use Rattle.mm_verdict.specs.Language.Decoding.{Steps, in_order, usable, read_label, each_word, is_close, if_read, letter_steps, is_compressed, decoded, word_spot, decoding}
-use Rattle.mm_verdict.specs.Language.{Citing.{label_words, firsts, means_assertion, names_assertion, cites}, DecodingLaws.{RenamingKeepsDecoding}}
+use Rattle.mm_verdict.specs.Language.{Decoding.{Steps, in_order, usable, read_label, each_word, is_close, if_read, letter_steps, is_compressed, decoded, word_spot, decoding}, Citing.{cites}}
+use Rattle.mm_verdict.specs.Language.DecodingLaws.{RenamingKeepsDecoding}
 
 -- what words decode to, by what their labels are read as
 abbrev steps_by : (List ℕ → Result Step ProofNumber) → List (List ℕ) → List (List ℕ) → Spot → Steps
@@ -23,18 +22,7 @@ decoding_is : (place : Setting) (mandatory words : List (List ℕ)) → decoding
 decoding_is place mandatory words = refl
 
 usable_alike : (to : Symbol → Symbol) (label : List ℕ) (r s : Resolved) → AreSameMeaning (renamed_meaning to r) s → usable label r ≡ usable label s
-usable_alike to label (Hypothesis e) (Hypothesis f) m = refl
-usable_alike to label (Assertion a) (Assertion b) m = refl
-usable_alike to label Inactive Inactive m = refl
-usable_alike to label Unknown Unknown m = refl
-usable_alike to label _ _ m = absurd m
-
-means_alike : (to : Symbol → Symbol) (r s : Resolved) → AreSameMeaning (renamed_meaning to r) s → means_assertion r ≡ means_assertion s
-means_alike to (Hypothesis e) (Hypothesis f) m = refl
-means_alike to (Assertion a) (Assertion b) m = refl
-means_alike to Inactive Inactive m = refl
-means_alike to Unknown Unknown m = refl
-means_alike to _ _ m = absurd m
+usable_alike to label r s m = grind (arith, common_steps) steps 200000
 
 decoding_renamed : (to : Symbol → Symbol) (place other : Setting) → IsRenamedSetting to place other → (mandatory words : List (List ℕ)) → decoding place mandatory words ≡ decoding other mandatory words
 decoding_renamed to place other s mandatory words =
@@ -42,9 +30,7 @@ decoding_renamed to place other s mandatory words =
     decoding_is place mandatory words ∙ ap (λ (read : List ℕ → Result Step ProofNumber). decoded_by read mandatory words) same ∙ sym (decoding_is other mandatory words)
 
 cites_renamed : (to : Symbol → Symbol) (place other : Setting) → IsRenamedSetting to place other → (words : List (List ℕ)) (d : Result Decoded ProofFault) → cites place words d ≡ cites other words d
-cites_renamed to place other s words (Ok d) =
-    λ i. map (λ (word : ℕ × List ℕ). word.0) (filter (λ word. means_alike to (place.resolve word.1) (other.resolve word.1) (s.resolve word.1) i && list_any (names_assertion word.1) d.steps) (firsts (label_words words)))
-cites_renamed to place other s words (Err fault) = refl
+cites_renamed to place other s words d = grind (arith, common_steps) steps 200000
 
 pub keeps_decoding : RenamingKeepsDecoding
 keeps_decoding to place other s mandatory words = (decoding_renamed to place other s mandatory words, cites_renamed to place other s words)

@@ -1,10 +1,9 @@
 -- The verdict on the proof of an item of a base.
-use Rattle.std.proofs.Common.{◌≡◌, ℕ, Result, Ok, Err, List, [], ◌∷◌, map, refl, sym, ◌∙◌, subst, ◌↔◌}
-use Rattle.std.specs.List.{AllZip, AllByRecursion}
+use Rattle.std.{proofs.{Common.{arith, ◌≡◌, ℕ, Result, Ok, Err, List, [], ◌∷◌, map, refl, sym, ◌∙◌, subst, ◌↔◌}, lemmas.Grind.{common_steps}}, specs.List.{AllZip, AllByRecursion}}
 use Rattle.mm_frame.specs.Language.{Base.{BaseView, AreSaid, before, said_at, hypothesis_at, frame_at}, Framing.{mandatory_numbers}}
 use Rattle.mm_machine.specs.Language.{Frame.{Symbol, Setting}, Typing.{HasFrames}, Machine.{IsUsable, AreAllKnown}, Verdict.{Decoded, StepsDerive, IsVerdict}}
-use Rattle.mm_machine.specs.Language.Laws.{HasCount, HasOneCount, HasOneVerdict, HasVerdict, ProvedIsDerived}
-use Rattle.mm_machine.specs.declared.{Spot.{Spot}, ProofNumber.{ProofNumber}, Verdict.{Verdict, TheVariants.{Proved, Wrong}}, step.ProofFault.{ProofFault}}
+use Rattle.mm_machine.specs.{Language.Laws.{HasCount, HasOneCount, HasOneVerdict, HasVerdict, ProvedIsDerived}, declared.{Spot.{Spot}, ProofNumber.{ProofNumber}, Verdict.{Verdict}}}
+use Rattle.mm_machine.specs.declared.{Verdict.TheVariants.{Proved, Wrong}, step.ProofFault.{ProofFault}}
 use Rattle.mm_verdict.specs.Language.{BaseLabels.{label_at, setting_at, AreActive}, Decoding.{decoding}, ItemLaws.{MeansHypothesis, IsDerivedAt}}
 use Rattle.mm_verdict.specs.Language.{VerdictAt.{mandatory_labels, statement_at, decoding_at, IsVerdictAt, AreDoneIn, AreDoneAt}, DecodingLaws.{DecodesSurely}}
 use Rattle.mm_verdict.proofs.lemmas.base.BaseLemmas.{mandatory_are_active}
@@ -16,9 +15,7 @@ active_mean view i [] a = tt
 active_mean view i (n ∷ numbers) a = (a.0.1, active_mean view i numbers a.1)
 
 pub labels_mean : frame.ItemsHaveLabels → frame.MandatoryMeans → frame.MandatoryStandBefore → (view : BaseView) (i : ℕ) → AreSaid view → AllZip (MeansHypothesis (setting_at view i)) (mandatory_labels view i) (frame_at view i).hypotheses
-labels_mean has means stand view i said =
-    let numbers = mandatory_numbers (before view i) (said_at view i) in
-    subst (λ hs. AllZip (MeansHypothesis (setting_at view i)) (map (label_at view) numbers) hs) (stand view i).are (active_mean view i numbers (mandatory_are_active has means stand view i said))
+labels_mean has means stand view i said = grind (arith, common_steps, active_mean, mandatory_are_active) steps 200000
 
 -- they can be used
 pub active_usable : (view : BaseView) (i : ℕ) (numbers : List ℕ) → AreActive view i numbers → AllByRecursion (λ label. IsUsable ((setting_at view i).resolve label)) (map (label_at view) numbers)
@@ -51,16 +48,9 @@ not_wrong number spot e = cc
 not_ok : (fault : ProofFault) (d : Decoded) → ◌≡◌ {A = Result Decoded ProofFault} (Err fault) (Ok d) → ⊥
 not_ok fault d e = cc
 
-same_ok : (d other : Decoded) → ◌≡◌ {A = Result Decoded ProofFault} (Ok d) (Ok other) → other ≡ d
-same_ok d other e = cc
-
 proved_by : ProvedIsDerived → (place : Setting) (statement : List Symbol) (found : Result Decoded ProofFault) → IsVerdict place statement found Proved ↔ IsDerivedBy place statement found
 proved_by derived place statement (Err fault) = (λ p. absurd (not_wrong fault.number fault.spot p), λ d. absurd (not_ok fault d.0 d.1))
-proved_by derived place statement (Ok d) =
-    let both = derived place statement d in (
-      λ p. (let b = both.0 p in (d, refl, b.0, b.1)),
-      λ q. both.1 (subst (λ (w : Decoded). AreAllKnown w.steps × StepsDerive place w.steps statement) (same_ok d q.0 q.1) (q.2, q.3)),
-    )
+proved_by derived place statement (Ok d) = grind (arith, common_steps, (derived place statement d).0) steps 200000
 
 pub proved_at : ProvedIsDerived → (view : BaseView) (i : ℕ) → IsVerdictAt view i Proved ↔ IsDerivedAt view i
 proved_at derived view i = proved_by derived (setting_at view i) (statement_at view i) (decoding_at view i)

@@ -1,7 +1,6 @@
 -- Proofs that mean the same cite by the same words.
-use Rattle.std.proofs.Common.{◌≡◌, ℕ, ◌+◌, Bool, true, false, not, Ok, Err, List, [], ◌∷◌, length, map, drop, refl, sym, ap, ◌∙◌, inl, inr, filter, bytes_eq, codes}
-use Rattle.std.proofs.lemmas.{Bool.{cases_Bool, false≢true}, Slice.Eq.{bytes_eq-Decides}}
-use Rattle.std.specs.List.{AllZip, AllByRecursion, list_any, enumerate_from, before_first}
+use Rattle.std.proofs.Common.{arith, ◌≡◌, ℕ, ◌+◌, Bool, true, false, not, Ok, Err, List, [], ◌∷◌, length, map, drop, refl, sym, ap, ◌∙◌, inl, inr, filter, bytes_eq, codes}
+use Rattle.std.{proofs.lemmas.{Grind.{common_steps}, Bool.{cases_Bool, false≢true}, Slice.Eq.{bytes_eq-Decides}}, specs.List.{AllZip, AllByRecursion, list_any, enumerate_from, before_first}}
 use Rattle.mm_machine.specs.Language.{Frame.{Resolved, Hypothesis, Assertion, Inactive, Unknown, Setting}, Expansion.{Step, Named, Saved, Save, NotKnown}, SameProof.{AreSameMeaning}}
 use Rattle.mm_machine.specs.declared.Spot.{Spot}
 use Rattle.mm_verdict.specs.Language.Citing.{label_words, firsts, means_assertion, names_assertion, is_cited, cites}
@@ -15,10 +14,7 @@ filter_same f g (x ∷ xs) all = rw (all.0, filter_same f g xs all.1) refl
 
 pub kept_all : {X : Type 0} (P : X → Type 0) (f : X → Bool) (xs : List X) → AllByRecursion P xs → AllByRecursion P (filter f xs)
 kept_all P f [] all = tt
-kept_all P f (x ∷ xs) all = elim (cases_Bool (f x)) [
-  | inl e ↦ rw e (all.0, kept_all P f xs all.1)
-  | inr e ↦ rw e (kept_all P f xs all.1)
-]
+kept_all P f (x ∷ xs) all = grind (arith, common_steps, cases_Bool (f x), kept_all P f xs all.1) steps 200000
 
 firsts_all : (P : ℕ × List ℕ → Type 0) (words : List (ℕ × List ℕ)) → AllByRecursion P words → AllByRecursion P (firsts words)
 firsts_all P [] all = tt

@@ -1,15 +1,12 @@
 -- Proofs that mean the same decode to the same.
 use Rattle.std.proofs.Common.{◌≡◌, ℕ, zero, suc, ◌+◌, ◌-◌, false, not, ◌==◌, cond, Option, Some, None, Result, Ok, Err, List, [], ◌∷◌, ◌++◌, length, map, drop, refl, inl, inr, ◌⊎◌, slice_get, filter}
-use Rattle.std.proofs.Common.{bytes_eq, codes}
-use Rattle.std.proofs.lemmas.Bool.{cases_Bool}
-use Rattle.std.specs.List.{AllZip, AllByRecursion, range_with_len, before_first, list_any, after_first}
+use Rattle.std.{proofs.{Common.{bytes_eq, codes}, lemmas.Bool.{cases_Bool}}, specs.List.{AllZip, AllByRecursion, range_with_len, before_first, list_any, after_first}}
 use Rattle.mm_machine.specs.Language.{Frame.{Resolved, Hypothesis, Assertion, Inactive, Unknown, Setting, AreSamePairs}, Expansion.{Step, Named, Saved, Save, NotKnown}}
-use Rattle.mm_machine.specs.Language.SameProof.{AreSameMeaning, IsSameStep, IsSameDecoding}
-use Rattle.mm_machine.specs.declared.{Spot.{Spot}, ProofNumber.{ProofNumber}}
+use Rattle.mm_machine.specs.{Language.SameProof.{AreSameMeaning, IsSameStep, IsSameDecoding}, declared.{Spot.{Spot}, ProofNumber.{ProofNumber}}}
 use Rattle.mm_verdict.specs.Language.{Numbers.{is_last, value_of}, Letters.{Letter, Group, groups, letters_from}}
 use Rattle.mm_verdict.specs.Language.Decoding.{Steps, with_step, read_first, in_order, usable, read_label, read_word, each_word, nameable, named, alone, read_letter, read_group, group_spot}
-use Rattle.mm_verdict.specs.Language.Decoding.{is_save_letter, each_group, is_close, is_compressed, compressed_steps, steps_in, word_spot, decoded, decoding, if_read}
-use Rattle.mm_verdict.specs.Language.{Citing.{means_assertion}, SameToDecode.{IsSameHypothesis, IsSameLabel, AreSameToDecode}}
+use Rattle.mm_verdict.specs.Language.{Decoding.{is_save_letter, each_group, is_close, is_compressed, compressed_steps, steps_in, word_spot, decoded, decoding, if_read}, Citing.{means_assertion}}
+use Rattle.mm_verdict.specs.Language.SameToDecode.{IsSameHypothesis, IsSameLabel, AreSameToDecode}
 
 module _ (p q : Setting) where
   -- the same label, or two that are of no assertion

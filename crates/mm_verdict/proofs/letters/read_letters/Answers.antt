@@ -1,6 +1,6 @@
 use Rattle.std.proofs.{Common.{◌≡◌, ◌+◌, length, ap, subst, arith, IfOk}, lemmas.Result.{err_from_is_err_and, IfOk-weaker}}
-use Rattle.mm_verdict.specs.{Language.{Decoding.{word_spot}, Letters.{letters_from}}, Code.{Reader.{ReadsLetters}, UsedLabels.{AreUseMarks}}}
-use Rattle.mm_verdict.proofs.lemmas.decoding.{LeftLemmas.{total_is}, ReaderLemmas.{aim_of, if_err}}
+use Rattle.mm_verdict.{specs.{Language.{Decoding.{word_spot}, Letters.{letters_from}}, Code.{Reader.{ReadsLetters}, UsedLabels.{AreUseMarks}}}, proofs.lemmas.decoding.LeftLemmas.{total_is}}
+use Rattle.mm_verdict.proofs.lemmas.decoding.ReaderLemmas.{aim_of, if_err}
 use Rattle.mm_verdict.proofs.letters.read_letters.Goals as goal
 
 pub returns-in_err-reader-2-clause-err : goal.returns-in_err-reader-2-clause-err

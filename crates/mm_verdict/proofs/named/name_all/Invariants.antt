@@ -1,5 +1,4 @@
-use Rattle.std.proofs.Common.{take}
-use Rattle.std.specs.List.{AllZip}
+use Rattle.std.{proofs.Common.{take}, specs.List.{AllZip}}
 use Rattle.mm_verdict.specs.Code.NamedItems.{AreNamed, IsUseOf, Stays}
 use Rattle.mm_verdict.proofs.named.name_all.Given as goal
 

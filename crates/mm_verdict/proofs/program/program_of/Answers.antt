@@ -1,7 +1,7 @@
 use Rattle.std.proofs.{Common.{refl, sym, subst, ℕ, List, All}, lemmas.Result.{err_from_is_err_and}}
 use Rattle.mm_frame.specs.declared.base.Resolved.{Resolved}
-use Rattle.mm_verdict.specs.{Language.{BaseLabels.{AreActive}, DecodedSteps.{decoded_steps, entry_steps}}, Code.NamedItems.{IsNamedBy}}
-use Rattle.mm_verdict.proofs.lemmas.{base.{FrameLemmas.{framed_proof}, SaysLemmas.{read_at, theorem_at}}, decoding.DecodedProofs.{decoded, decoded_saved, named_by}}
+use Rattle.mm_verdict.{specs.{Language.{BaseLabels.{AreActive}, DecodedSteps.{decoded_steps, entry_steps}}, Code.NamedItems.{IsNamedBy}}, proofs.lemmas.base.FrameLemmas.{framed_proof}}
+use Rattle.mm_verdict.proofs.lemmas.{base.SaysLemmas.{read_at, theorem_at}, decoding.DecodedProofs.{decoded, decoded_saved, named_by}}
 use Rattle.mm_verdict.proofs.program.program_of.Goals as goal
 
 pub item-requires : goal.item-requires

@@ -1,7 +1,6 @@
-use Rattle.std.proofs.{Common.{◌≡◌, ℕ, List, length, arith}, lemmas.{List.{length-map}, Result.{err_from_is_err_and}}}
-use Rattle.std.specs.Borrow.{Bor}
-use Rattle.mm_verdict.specs.Language.DecodedSteps.{labels_at, entry_step, entry_steps}
-use Rattle.mm_verdict.proofs.lemmas.decoding.{LeftLemmas.{behind_open}, TableLemmas.{list_begins, compressed_ok, compressed_err, compressed_table}}
+use Rattle.std.{proofs.{Common.{◌≡◌, ℕ, List, length, arith}, lemmas.{List.{length-map}, Result.{err_from_is_err_and}}}, specs.Borrow.{Bor}}
+use Rattle.mm_verdict.{specs.Language.DecodedSteps.{labels_at, entry_step, entry_steps}, proofs.lemmas.decoding.LeftLemmas.{behind_open}}
+use Rattle.mm_verdict.proofs.lemmas.decoding.TableLemmas.{list_begins, compressed_ok, compressed_err, compressed_table}
 use Rattle.mm_verdict.proofs.reading.decode_compressed.Goals as goal
 
 pub returns-in_err-close-clause-err : goal.returns-in_err-close-clause-err
@@ -41,8 +40,7 @@ returns-clause-entries c view is active =
     let words = c.args.proof.now in
     let left = behind_open (λ (word : Bor (List ℕ)). word.now) words c.again-words.result c.next_word-open.new.self c.next_word-open.result c.requires c.again-words.ensures.words c.next_word-open.ensures in
     let begins = list_begins view c.args.i c.args.mandatory.now words c.next_word-open.new.self c.in_ok-labels.labels.items c.in_ok-labels.ensures active left in
-    let listed = c.in_ok-close.ensures.ok view (labels_at view c.args.mandatory.now) words is begins in
-    listed.entries
+    (c.in_ok-close.ensures.ok view (labels_at view c.args.mandatory.now) words is begins).entries
 
 pub returns-clause-table : goal.returns-clause-table
 returns-clause-table c view is active =

@@ -1,12 +1,11 @@
-use Rattle.std.proofs.{Common.{◌≤◌, false, [], ◌∷◌, length, ap, arith}, lemmas.{List.{length-append}, Result.{err_from_is_err_and}}}
+use Rattle.std.proofs.{lemmas.{Grind.{common_steps}, List.{length-append}, Result.{err_from_is_err_and}}, Common.{◌≤◌, false, [], ◌∷◌, length, ap, arith}}
 use Rattle.mm_verdict.proofs.lemmas.{machine.MarkedLabels.{marks_next}, decoding.{LeftLemmas.{take_one, none_left}, NormalLemmas.{word_on, word_fails, table_is, finishes}}}
 use Rattle.mm_verdict.proofs.reading.decode_normal.Goals as goal
 
 pub loop-word-preserved : goal.loop-word-preserved
 loop-word-preserved c =
-    let words = c.args.proof.now in
     let word = c.in-Some.word.now in
-    let took = take_one words c.loop-word.words c.next_word.new.self c.loop-word.n word c.loop-word.invariant.left c.in-Some.ensures in
+    let took = take_one c.args.proof.now c.loop-word.words c.next_word.new.self c.loop-word.n word c.loop-word.invariant.left c.in-Some.ensures in
     let e = c.in_ok-label.ensures in
     let at = c.loop-word in
     let read = c.in_ok-label in
@@ -17,7 +16,7 @@ loop-word-preserved c =
       marks = marks_next at.used.items _ _ at.steps.items _ _ at.invariant.marks c.in_ok-push-3.ensures.items c.mark.ensures.each c.in_ok-push-2.ensures.items;
       normal = λ view is.
           let normal = at.invariant.normal view is in
-          rw (c.in_ok-push.ensures.items, c.in_ok-push-2.ensures.items) (word_on view c.args.i words at.n at.labels.items at.steps.items normal word
+          rw (c.in_ok-push.ensures.items, c.in_ok-push-2.ensures.items) (word_on view c.args.i c.args.proof.now at.n at.labels.items at.steps.items normal word
           read.label read.action took.within took.is (e.ok view is) (λ before after len. e.action view before after is len) (e.entry view is));
     }
 
@@ -31,21 +30,13 @@ returns-in_err-label-clause-err c =
 
 pub returns-clause-ok : goal.returns-clause-ok
 returns-clause-ok c view is =
-    let words = c.args.proof.now in
-    let past : length words ≤ c.loop-word.n = omega (arith, none_left words c.loop-word.words c.loop-word.n c.loop-word.invariant.left c.in_default.ensures.0) in
-    finishes view c.args.i words c.loop-word.n c.loop-word.labels.items c.loop-word.steps.items (c.loop-word.invariant.normal view is) past
-
-pub returns-clause-marks : goal.returns-clause-marks
-returns-clause-marks c = record {
-  count = omega (arith, c.loop-word.invariant.count, c.loop-word.invariant.table);
-  each = λ k less. c.loop-word.invariant.marks k;
-}
+    let past : length c.args.proof.now ≤ c.loop-word.n = omega (arith, none_left c.args.proof.now c.loop-word.words c.loop-word.n c.loop-word.invariant.left c.in_default.ensures.0) in
+    grind (arith, common_steps, finishes view c.args.i c.args.proof.now c.loop-word.n c.loop-word.labels.items c.loop-word.steps.items (c.loop-word.invariant.normal view is) past) steps 200000
 
 pub returns-clause-table : goal.returns-clause-table
 returns-clause-table c view is =
-    let words = c.args.proof.now in
-    let past : length words ≤ c.loop-word.n = omega (arith, none_left words c.loop-word.words c.loop-word.n c.loop-word.invariant.left c.in_default.ensures.0) in
-    table_is view c.args.i words c.loop-word.n c.loop-word.labels.items c.loop-word.steps.items (c.loop-word.invariant.normal view is) past
+    let past : length c.args.proof.now ≤ c.loop-word.n = omega (arith, none_left c.args.proof.now c.loop-word.words c.loop-word.n c.loop-word.invariant.left c.in_default.ensures.0) in
+    grind (arith, common_steps, table_is view c.args.i c.args.proof.now c.loop-word.n c.loop-word.labels.items c.loop-word.steps.items (c.loop-word.invariant.normal view is) past) steps 200000
 
 pub returns-clause-entries : goal.returns-clause-entries
 returns-clause-entries c view is = (c.loop-word.invariant.normal view is).entries

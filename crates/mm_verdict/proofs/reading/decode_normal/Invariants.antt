@@ -1,5 +1,4 @@
-use Rattle.std.proofs.Common.{◌≡◌, ℕ, length}
-use Rattle.std.specs.List.{list_any}
+use Rattle.std.{proofs.Common.{◌≡◌, ℕ, length}, specs.List.{list_any}}
 use Rattle.mm_frame.specs.Language.{Base.{BaseView}, Answering.{IsBase}}
 use Rattle.mm_verdict.specs.Code.{Labels.{Normal}, Left.{AreLeft}, UsedLabels.{names_label}, Cited.{marked_at}}
 use Rattle.mm_verdict.proofs.reading.decode_normal.Given as goal

@@ -9,15 +9,13 @@ nowhere = record { action = actions.Label 0; spot = record { word = 0; letter = 
 
 pub returns-in-Label : goal.returns-in-Label
 returns-in-Label c less view is =
-    let steps = c.args.steps.now in
-    let labels = c.args.labels.now in
     let k = c.in-Label.k in
     record {
-      step = get_or steps c.args.n nowhere;
-      at = slice_get-get_or steps c.args.n nowhere (omega (arith, c.if-n-steps.false));
+      step = get_or c.args.steps.now c.args.n nowhere;
+      at = slice_get-get_or c.args.steps.now c.args.n nowhere (omega (arith, c.if-n-steps.false));
       k = k;
-      label = get_or labels k (answers.Hypothesis 0);
+      label = get_or c.args.labels.now k (answers.Hypothesis 0);
       action = c.in-Label.is;
-      there = slice_get-get_or labels k (answers.Hypothesis 0) (omega (arith, c.if-k-labels.true));
+      there = slice_get-get_or c.args.labels.now k (answers.Hypothesis 0) (omega (arith, c.if-k-labels.true));
       names = c.taken_by.ensures view c.args.count is (ltb-true c.args.count c.taken_by.result less);
     }

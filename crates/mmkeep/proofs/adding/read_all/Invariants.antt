@@ -1,5 +1,4 @@
-use Rattle.std.proofs.Common.{◌≡◌, length}
-use Rattle.std.specs.Io.KnownBytes.{Consumes}
+use Rattle.std.{proofs.Common.{◌≡◌, length}, specs.Io.KnownBytes.{Consumes}}
 use Rattle.mm_report.specs.mm_script.Language.Stream.{calls_left, unread}
 use Rattle.mmkeep.proofs.adding.read_all.Given as goal
 

@@ -1,6 +1,5 @@
 use Rattle.std.proofs.Common.{subst}
-use Rattle.mmkeep.specs.Language.Loading.{TakesTop}
-use Rattle.mmkeep.proofs.LoadLemmas.{are_loaded}
+use Rattle.mmkeep.{specs.Language.Loading.{TakesTop}, proofs.LoadLemmas.{are_loaded}}
 use Rattle.mmkeep.proofs.loading.add_all.Goals as goal
 
 pub returns-in-Ok-clause-files : goal.returns-in-Ok-clause-files

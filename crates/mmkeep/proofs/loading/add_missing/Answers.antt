@@ -1,6 +1,5 @@
 use Rattle.std.proofs.Common.{sym, ◌∙◌, subst}
-use Rattle.mmkeep.specs.Language.Loading.{IsNew, TakesFile, ends, takes}
-use Rattle.mmkeep.proofs.LoadLemmas.{may_have, may_keep, missing_new, walked_on}
+use Rattle.mmkeep.{specs.Language.Loading.{IsNew, TakesFile, ends, takes}, proofs.LoadLemmas.{may_have, may_keep, missing_new, walked_on}}
 use Rattle.mmkeep.proofs.loading.add_missing.Goals as goal
 
 pub take_included-requires : goal.take_included-requires

@@ -1,5 +1,4 @@
-use Rattle.std.proofs.{Common.{◌+◌, Some, refl, sym, ap, ◌∙◌, arith}, lemmas.Option.{slice_get-map}}
-use Rattle.std.specs.Option.{option_map}
+use Rattle.std.{proofs.{Common.{◌+◌, Some, refl, sym, ap, ◌∙◌, arith}, lemmas.Option.{slice_get-map}}, specs.Option.{option_map}}
 use Rattle.mm_report.specs.mm_store.Language.{FileFacts.{piece_offset}, FilesView.{plain_file, text_of}, Pieces.{text_in, text_under}}
 use Rattle.mmtests.proofs.bases.offset_of.Goals as goal
 

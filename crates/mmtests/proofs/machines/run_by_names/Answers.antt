@@ -1,8 +1,7 @@
 use Rattle.std.proofs.{Common.{[], List, length, sym, ◌∙◌, ap, subst}, lemmas.List.{length-map}}
 use Rattle.mm_machine.specs.Language.{NumberedSymbols.{by_number, named_symbol}, CitedFrames.{hypotheses_of, meant_pairs}, Keys.{AreInKeyOrder, key_by_number}}
 use Rattle.mm_machine.specs.declared.symbol.NamedSymbol.{NamedSymbol}
-use Rattle.mmtests.specs.Code.Spelled.{key_by_name}
-use Rattle.mmtests.proofs.SpelledLemmas.{ranged_alike, alike_count, order_by_name, uses_alike}
+use Rattle.mmtests.{specs.Code.Spelled.{key_by_name}, proofs.SpelledLemmas.{ranged_alike, alike_count, order_by_name, uses_alike}}
 use Rattle.mmtests.proofs.machines.run_by_names.Goals as goal
 
 pub run_lent-requires-clause-frames : goal.run_lent-requires-clause-frames

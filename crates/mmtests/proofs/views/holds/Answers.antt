@@ -1,5 +1,4 @@
-use Rattle.std.proofs.Common.{Ok, Result, subst, ◌≡◌}
-use Rattle.std.specs.Prelude.{IfOk}
+use Rattle.std.{proofs.Common.{Ok, Result, subst, ◌≡◌}, specs.Prelude.{IfOk}}
 use Rattle.mmtests.proofs.views.holds.Goals as goal
 
 from_ok : {A E : Type 0} (P : A → Type 0) (r : Result A E) (x : A) → r ≡ Ok x → IfOk r P → P x

@@ -1,6 +1,5 @@
 use Rattle.std.proofs.Common.{◌++◌, ◌∷◌, [], ◌∙◌, ap, sym}
-use Rattle.mm_frame.specs.Language.Scope.{active_numbers}
-use Rattle.mm_frame.proofs.lemmas.scope.EndLemmas.{active_numbers_passed}
+use Rattle.mm_frame.{specs.Language.Scope.{active_numbers}, proofs.lemmas.scope.EndLemmas.{active_numbers_passed}}
 use Rattle.mm_frame.proofs.active.ActiveNumbers.push.Goals as goal
 
 pub returns-clause-next : goal.returns-clause-next

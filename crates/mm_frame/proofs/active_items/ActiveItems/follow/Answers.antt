@@ -1,4 +1,4 @@
-use Rattle.std.proofs.Common.{ℕ, List, true, ◌≡◌, ◌&&◌, ◌∙◌, ap, sym, subst}
+use Rattle.std.proofs.{Common.{arith, ℕ, List, true, ◌≡◌, ◌&&◌, ◌∙◌, ap, sym, subst}, lemmas.Grind.{common_steps}}
 use Rattle.mm_machine.specs.declared.symbol.NumberedSymbol.{NumberedSymbol}
 use Rattle.mm_statement.specs.Language.Item.{is_essential, is_disjoint}
 use Rattle.mm_frame.specs.Code.{KeptActiveItems.{changes_active}, KeptScope.{taken}, KeptVariables.{AreVariablesOf}}
@@ -21,8 +21,4 @@ returns c before said old symbols kind number marks long expressions a =
     let essentials = c.in_ok-follow.ensures is_essential before said essential_sort kind (c.is_essential.ensures ∙ ap is_essential kind) number marks a.essentials in
     let variables = c.in_ok-follow-2.ensures before (taken c.args.item.sound said) old symbols number (c.as_slice.ensures ∙ essentials) long expressions
     (subst (λ (w : List ℕ). AreVariablesOf w old c.args.self.now.variables.found.items) a.essentials a.variables) in
-    record {
-      essentials = essentials;
-      disjoints = c.in_ok-follow-3.ensures is_disjoint before said disjoint_sort kind (c.is_disjoint.ensures ∙ ap is_disjoint kind) number marks a.disjoints;
-      variables = subst (λ (w : List ℕ). AreVariablesOf w c.args.expressions.now c.follow-2.new.self.found.items) c.as_slice.ensures variables;
-    }
+    grind (arith, common_steps, c.in_ok-follow-3.ensures is_disjoint before said disjoint_sort kind (c.is_disjoint.ensures ∙ ap is_disjoint kind) number marks a.disjoints) steps 200000

@@ -1,8 +1,7 @@
 use Rattle.std.proofs.Common.{IfSome, ◌∙◌, ap, sym, subst}
-use Rattle.mm_frame.specs.Language.{Sound.{fault, sound_items, judged}, Framing.{frame}, Base.{frame_at}, Answering.{pairs_in_order, told_numbers}}
-use Rattle.mm_frame.specs.Code.{KeptAsked.{KnowsAsked}, KeptBase.{hypotheses_at}, KeptPairLists.{AreMade}}
+use Rattle.mm_frame.specs.{Language.{Sound.{fault, sound_items, judged}, Framing.{frame}, Base.{frame_at}, Answering.{pairs_in_order, told_numbers}}, Code.KeptAsked.{KnowsAsked}}
+use Rattle.mm_frame.{specs.Code.{KeptBase.{hypotheses_at}, KeptPairLists.{AreMade}}, proofs.lemmas.{faults.FoundFaults.{kept_next}, pairs.{AskedLemmas.{asked_more}, PairListLemmas.{made_more}}}}
 use Rattle.mm_machine.specs.Language.NumberedSymbols.{ArePairsRead}
-use Rattle.mm_frame.proofs.lemmas.{faults.FoundFaults.{kept_next}, pairs.{AskedLemmas.{asked_more}, PairListLemmas.{made_more}}}
 use Rattle.mm_frame.proofs.assertions.Assertions.take_over.Goals as goal
 
 pub returns : goal.returns

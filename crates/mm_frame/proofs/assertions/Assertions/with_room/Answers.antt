@@ -1,6 +1,5 @@
 use Rattle.std.proofs.Common.{[], sym, subst}
-use Rattle.mm_frame.specs.{Language.Answering.{AreRows}, Code.KeptAssertions.{TellsFrame, TellsPairs}}
-use Rattle.mm_frame.proofs.lemmas.base.BaseLemmas.{rows_none}
+use Rattle.mm_frame.{specs.{Language.Answering.{AreRows}, Code.KeptAssertions.{TellsFrame, TellsPairs}}, proofs.lemmas.base.BaseLemmas.{rows_none}}
 use Rattle.mm_frame.proofs.assertions.Assertions.with_room.Goals as goal
 
 pub returns : goal.returns

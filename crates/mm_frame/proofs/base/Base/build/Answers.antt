@@ -1,21 +1,19 @@
-use Rattle.std.proofs.{Common.{ℕ, List, map, refl, sym, ◌∙◌, ap, subst, arith}, lemmas.Slice.Zip.{AllZip-long}}
-use Rattle.std.specs.List.{AllZip}
+use Rattle.std.{proofs.{Common.{ℕ, List, map, refl, sym, ◌∙◌, ap, subst, arith}, lemmas.Slice.Zip.{AllZip-long}}, specs.List.{AllZip}}
 use Rattle.mm_frame.specs.{declared.base.Base.TheInside.{Inside}, Language.{Base.{BaseView}, Answering.{IsBaseBy}}, Code.{BaseInside.{answers_of}, KeptBase.{is_float_item}}}
+use Rattle.mm_frame.proofs.lemmas.{base.AnswerLemmas.{base_told, labels_told}, frames.FrameNumbers.{kinds_said}}
 use Rattle.mm_machine.specs.Language.Names.{AreDistinct, Begins}
 use Rattle.mm_statement.specs.Language.Statement.{Says}
-use Rattle.mm_frame.proofs.lemmas.{base.AnswerLemmas.{base_told, labels_told}, frames.FrameNumbers.{kinds_said}}
 use Rattle.mm_frame.proofs.base.Base.build.Goals as goal
 
 pub invariant_of-result : goal.invariant_of-result
 invariant_of-result c =
     let read = c.in_ok-draft.ensures.read in
     let names = c.read_all.new.names in
-    let base : BaseView = record { found = c.in_ok-items.items.items; said = read.0 } in
     let parts = c.parts.ensures names read.0 (read.2 names c.distinct.ensures (λ n name there. there)) in
     record {
       rows = parts.kept;
       floats = c.in_ok-floats.ensures ∙ ap (map is_float_item) c.deref.ensures.value;
-      labels = labels_told names base c.parts.result parts;
+      labels = labels_told names (record { found = c.in_ok-items.items.items; said = read.0 }) c.parts.result parts;
     }
 
 pub returns-clause-base : goal.returns-clause-base

@@ -1,6 +1,5 @@
 use Rattle.std.proofs.Common.{slice_get, ap, ◌∙◌}
-use Rattle.mm_frame.specs.Code.KeptRows.{row_fault}
-use Rattle.mm_frame.proofs.lemmas.base.AnswerLemmas.{fault_told_at}
+use Rattle.mm_frame.{specs.Code.KeptRows.{row_fault}, proofs.lemmas.base.AnswerLemmas.{fault_told_at}}
 use Rattle.mm_frame.proofs.base.Base.fault.Goals as goal
 
 pub returns : goal.returns

@@ -1,7 +1,5 @@
-use Rattle.std.proofs.Common.{slice_get, map, sym, ap, ◌∙◌}
-use Rattle.std.specs.Option.{option_map}
-use Rattle.mm_frame.specs.Code.KeptBase.{is_float_item}
-use Rattle.mm_frame.proofs.lemmas.{base.AnswerLemmas.{float_none}, frames.FrameNumbers.{float_at}}
+use Rattle.std.{proofs.{Common.{arith, slice_get, map, sym, ap, ◌∙◌}, lemmas.Grind.{common_steps}}, specs.Option.{option_map}}
+use Rattle.mm_frame.{specs.Code.KeptBase.{is_float_item}, proofs.lemmas.{base.AnswerLemmas.{float_none}, frames.FrameNumbers.{float_at}}}
 use Rattle.mm_frame.proofs.base.Base.is_floating.Goals as goal
 
 pub returns-in-Some : goal.returns-in-Some
@@ -10,6 +8,4 @@ returns-in-Some c base is =
     float_at base.found base.said c.args.i c.in-Some.floating.now is.1.kinds (ap (λ w. slice_get w c.args.i) (sym kept) ∙ sym c.element_at.ensures ∙ ap (option_map (λ kept. kept.now)) c.in-Some.is)
 
 pub returns-in-None : goal.returns-in-None
-returns-in-None c base is =
-    let kept = c.deref.ensures.value ∙ c.self.invariant.floats ∙ ap (map is_float_item) (ap (λ a. a.items) c.self.view_is ∙ is.1.found) in
-    float_none base.found base.said c.args.i is.1.kinds (ap (λ w. slice_get w c.args.i) (sym kept) ∙ sym c.element_at.ensures ∙ ap (option_map (λ kept. kept.now)) c.in-None.is)
+returns-in-None c base is = grind (arith, common_steps, float_none) steps 200000

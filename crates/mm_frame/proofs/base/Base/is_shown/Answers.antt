@@ -1,6 +1,5 @@
 use Rattle.std.proofs.Common.{slice_get, ap, ◌∙◌}
-use Rattle.mm_frame.specs.Code.KeptRows.{is_shown_in}
-use Rattle.mm_frame.proofs.lemmas.base.AnswerLemmas.{shown_told}
+use Rattle.mm_frame.{specs.Code.KeptRows.{is_shown_in}, proofs.lemmas.base.AnswerLemmas.{shown_told}}
 use Rattle.mm_frame.proofs.base.Base.is_shown.Goals as goal
 
 pub returns : goal.returns

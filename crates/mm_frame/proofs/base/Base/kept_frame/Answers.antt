@@ -1,6 +1,5 @@
 use Rattle.std.proofs.Common.{◌∙◌, ap, sym}
-use Rattle.mm_frame.specs.{Language.{Base.{frame_at}, Answering.{pairs_in_order}}, Code.KeptSparse.{value_kept}}
-use Rattle.mm_frame.proofs.lemmas.base.AnswerLemmas.{lent_told, frame_in, hypotheses_told, order_told}
+use Rattle.mm_frame.{specs.{Language.{Base.{frame_at}, Answering.{pairs_in_order}}, Code.KeptSparse.{value_kept}}, proofs.lemmas.base.AnswerLemmas.{lent_told, frame_in, hypotheses_told, order_told}}
 use Rattle.mm_frame.proofs.base.Base.kept_frame.Goals as goal
 
 pub returns : goal.returns

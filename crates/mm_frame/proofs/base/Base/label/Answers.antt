@@ -1,6 +1,5 @@
 use Rattle.std.proofs.Common.{slice_get, ap, ◌∙◌}
-use Rattle.mm_frame.specs.Code.KeptRows.{row_label}
-use Rattle.mm_frame.proofs.lemmas.base.AnswerLemmas.{label_told}
+use Rattle.mm_frame.{specs.Code.KeptRows.{row_label}, proofs.lemmas.base.AnswerLemmas.{label_told}}
 use Rattle.mm_frame.proofs.base.Base.label.Goals as goal
 
 pub returns : goal.returns

@@ -1,7 +1,6 @@
 use Rattle.std.proofs.Common.{Some, None, ap, sym, subst, All}
-use Rattle.mm_frame.specs.Language.{Base.{before}, Framing.{active_pairs}}
+use Rattle.mm_frame.{specs.Language.{Base.{before}, Framing.{active_pairs}}, proofs.lemmas.base.AnswerLemmas.{active_in}}
 use Rattle.mm_machine.specs.Language.{Frame.{AreSamePairs}, NumberedSymbols.{kept_pairs, AreInOrder, IsPairNumbered}}
-use Rattle.mm_frame.proofs.lemmas.base.AnswerLemmas.{active_in}
 use Rattle.mm_frame.proofs.base.Base.pairs.Goals as goal
 
 pub returns-in-Some : goal.returns-in-Some

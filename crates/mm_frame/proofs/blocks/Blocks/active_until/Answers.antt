@@ -1,6 +1,6 @@
-use Rattle.std.proofs.Common.{◌≡◌, ◌<◌, ◌+◌, List, suc, true, length, take, drop, arith, sym, ◌∙◌, ap, subst, ◌↔◌, Some, None}
-use Rattle.mm_frame.specs.{Language.{Scope.{Mark}, Resolving.{IsUpTo}}, Code.{BlockMarks.{stays_by}, BlockEnds.{end_of_block}}}
-use Rattle.mm_frame.proofs.lemmas.scope.{BlockLemmas.{marks_count}, ActiveUntil.{until_absent, until_open, until_ended, end_there}}
+use Rattle.std.proofs.{lemmas.Grind.{common_steps}, Common.{◌≡◌, ◌<◌, ◌+◌, List, suc, true, length, take, drop, arith, sym, ◌∙◌, ap, subst, ◌↔◌, Some, None}}
+use Rattle.mm_frame.{specs.{Language.{Scope.{Mark}, Resolving.{IsUpTo}}, Code.{BlockMarks.{stays_by}, BlockEnds.{end_of_block}}}, proofs.lemmas.scope.BlockLemmas.{marks_count}}
+use Rattle.mm_frame.proofs.lemmas.scope.ActiveUntil.{until_absent, until_open, until_ended, end_there}
 use Rattle.mm_frame.proofs.blocks.Blocks.active_until.Goals as goal
 
 pub index-requires : goal.index-requires
@@ -16,9 +16,7 @@ overflow_add-result c =
     omega (arith, there, inside.block_of.ok)
 
 pub returns-then-from-len : goal.returns-then-from-len
-returns-then-from-len c at l =
-    let inside = c.self.inside in
-    until_absent c.args.self.now c.args.from at (omega (arith, c.if-from-len.true, c.len.ensures, inside.block_of.ok.0, marks_count inside.ends.items inside.block_of.items c.args.self.now c.self.view_is))
+returns-then-from-len c at l = grind (arith, common_steps, marks_count, until_absent) steps 200000
 
 pub returns-in-None : goal.returns-in-None
 returns-in-None c at l =

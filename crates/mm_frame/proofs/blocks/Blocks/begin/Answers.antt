@@ -1,4 +1,4 @@
-use Rattle.std.proofs.Common.{◌≡◌, ◌++◌, ◌∷◌, [], length, refl, ◌∙◌, ap, arith}
+use Rattle.std.proofs.{lemmas.Grind.{common_steps}, Common.{◌≡◌, ◌++◌, ◌∷◌, [], length, refl, ◌∙◌, ap, arith}}
 use Rattle.mm_frame.specs.{Language.Scope.{Opens, opens}, Code.KeptBlocks.{marks_from}}
 use Rattle.mm_frame.proofs.lemmas.scope.BlockLemmas.{kept_moved, kept_entered, kept_begun, entered_marks, begun_marks, count_within, pushed}
 use Rattle.mm_frame.proofs.blocks.Blocks.begin.Goals as goal
@@ -16,9 +16,7 @@ invariant_of-self-in_err-push c =
     (kept_entered i.block_of.items i.ends.items c.enter.new.ends.items i.outer.items i.current i.begun i.ended c.enter.ensures.same c.enter.ensures.longer c.self.invariant)
 
 pub overflow_add-self : goal.overflow_add-self
-overflow_add-self c =
-    let i = c.self.inside in
-    omega (arith, count_within opens i.ends.items i.block_of.items i.begun c.self.invariant.begun_is, i.block_of.ok.0, c.in_ok-push.ensures.len)
+overflow_add-self c = grind (arith, common_steps, count_within opens c.self.inside.ends.items c.self.inside.block_of.items c.self.inside.begun c.self.invariant.begun_is) steps 200000
 
 pub invariant_of-self-2 : goal.invariant_of-self-2
 invariant_of-self-2 c =
@@ -26,7 +24,8 @@ invariant_of-self-2 c =
     let ends = c.enter.new.ends in
     let next : c.len-block.result ≡ length ends.items = omega (arith, c.len-block.ensures, ends.ok.0) in
     let kept = kept_entered i.block_of.items i.ends.items ends.items i.outer.items i.current i.begun i.ended c.enter.ensures.same c.enter.ensures.longer c.self.invariant in
-    let outer = pushed c.push-2.result c.unwrap.result c.push-2.new.self.items (c.reserve.new.self.items ++ i.current ∷ []) c.reserve.new.self.items c.unwrap.ensures c.push-2.ensures.items ∙ ap (λ w. w ++ i.current ∷ []) c.reserve.ensures.items in
+    let outer =
+    pushed c.push-2.result c.unwrap.result c.push-2.new.self.items (c.reserve.new.self.items ++ i.current ∷ []) c.reserve.new.self.items c.unwrap.ensures c.push-2.ensures.items ∙ ap (λ w. w ++ i.current ∷ []) c.reserve.ensures.items in
     kept_moved _ c.push.new.self.items _ ends.items _ c.push-2.new.self.items c.len-block.result _ i.ended c.in_ok-push.ensures.items refl outer
     (kept_begun i.block_of.items ends.items i.outer.items i.current c.len-block.result i.begun i.ended c.in_ok-enter.ensures.ok next kept)
 

@@ -1,4 +1,4 @@
-use Rattle.std.proofs.Common.{◌≡◌, ◌++◌, ◌∷◌, [], length, refl, ◌∙◌, ap, arith, unwrap_or}
+use Rattle.std.proofs.{lemmas.Grind.{common_steps}, Common.{◌≡◌, ◌++◌, ◌∷◌, [], length, refl, ◌∙◌, ap, arith, unwrap_or}}
 use Rattle.mm_frame.specs.{Language.Scope.{Closes, closes}, Code.KeptBlocks.{marks_from}}
 use Rattle.mm_frame.proofs.lemmas.scope.BlockLemmas.{popped_is, closing, kept_moved, kept_entered, kept_ended, entered_marks, ended_marks, count_within, pushed}
 use Rattle.mm_frame.proofs.blocks.Blocks.end.Goals as goal
@@ -10,17 +10,14 @@ invariant_of-self-in_err-reserve c =
     (kept_entered i.block_of.items i.ends.items c.enter.new.ends.items i.outer.items i.current i.begun i.ended c.enter.ensures.same c.enter.ensures.longer c.self.invariant)
 
 pub overflow_add-self : goal.overflow_add-self
-overflow_add-self c =
-    let i = c.self.inside in
-    omega (arith, count_within closes i.ends.items i.block_of.items i.ended c.self.invariant.ended_is, i.block_of.ok.0)
+overflow_add-self c = grind (arith, common_steps, count_within closes c.self.inside.ends.items c.self.inside.block_of.items c.self.inside.ended c.self.invariant.ended_is) steps 200000
 
 pub invariant_of-self-2 : goal.invariant_of-self-2
 invariant_of-self-2 c =
     let i = c.self.inside in
     let ends = c.enter.new.ends in
     let outer = i.outer in
-    let fresh : c.len-2.result ≡ length ends.items = omega (arith, c.len-2.ensures, ends.ok.0) in
-    let next = c.unwrap_or-self-inside.ensures ∙ ap (unwrap_or c.pop.result) fresh in
+    let next = c.unwrap_or-self-inside.ensures ∙ ap (unwrap_or c.pop.result) (omega (arith, c.len-2.ensures, ends.ok.0)) in
     let popped = popped_is outer.items c.pop.new.self.items c.unwrap_or-self-inside.result (length ends.items) c.pop.result c.pop.ensures.items (λ l. c.pop.ensures.variant.1 (omega (arith, outer.ok.0, l))) next in
     let kept = kept_entered i.block_of.items i.ends.items ends.items outer.items i.current i.begun i.ended c.enter.ensures.same c.enter.ensures.longer c.self.invariant in
     let item : c.len.result ≡ length i.block_of.items = omega (arith, c.len.ensures, c.reserve.ensures.len, i.block_of.ok.0) in
@@ -34,8 +31,7 @@ returns-clause-ok c =
     let i = c.self.inside in
     let ends = c.enter.new.ends in
     let outer = i.outer in
-    let fresh : c.len-2.result ≡ length ends.items = omega (arith, c.len-2.ensures, ends.ok.0) in
-    let next = c.unwrap_or-self-inside.ensures ∙ ap (unwrap_or c.pop.result) fresh in
+    let next = c.unwrap_or-self-inside.ensures ∙ ap (unwrap_or c.pop.result) (omega (arith, c.len-2.ensures, ends.ok.0)) in
     let popped = popped_is outer.items c.pop.new.self.items c.unwrap_or-self-inside.result (length ends.items) c.pop.result c.pop.ensures.items (λ l. c.pop.ensures.variant.1 (omega (arith, outer.ok.0, l))) next in
     let kept = kept_entered i.block_of.items i.ends.items ends.items outer.items i.current i.begun i.ended c.enter.ensures.same c.enter.ensures.longer c.self.invariant in
     let item : c.len.result ≡ length i.block_of.items = omega (arith, c.len.ensures, c.reserve.ensures.len, i.block_of.ok.0) in

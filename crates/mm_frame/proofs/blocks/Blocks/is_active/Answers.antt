@@ -1,12 +1,9 @@
-use Rattle.std.proofs.Common.{◌<◌, ◌+◌, length, sym, ◌∙◌, ap, arith, slice_range}
-use Rattle.mm_frame.specs.Code.{BlockMarks.{stays_by}, BlockEnds.{end_of_block}}
-use Rattle.mm_frame.proofs.lemmas.scope.BlockLemmas.{items_within, is_active_open, is_active_ended}
+use Rattle.std.proofs.{lemmas.Grind.{common_steps}, Common.{◌<◌, ◌+◌, length, sym, ◌∙◌, ap, arith, slice_range}}
+use Rattle.mm_frame.{specs.Code.{BlockMarks.{stays_by}, BlockEnds.{end_of_block}}, proofs.lemmas.scope.BlockLemmas.{items_within, is_active_open, is_active_ended}}
 use Rattle.mm_frame.proofs.blocks.Blocks.is_active.Goals as goal
 
 pub index-requires : goal.index-requires
-index-requires c =
-    let inside = c.self.inside in
-    omega (arith, inside.block_of.ok.0, items_within inside.ends.items inside.block_of.items c.args.self.now c.args.at c.self.view_is c.requires.within)
+index-requires c = grind (arith, common_steps, items_within c.self.inside.ends.items c.self.inside.block_of.items c.args.self.now c.args.at c.self.view_is c.requires.within) steps 200000
 
 pub returns-in-None : goal.returns-in-None
 returns-in-None c =

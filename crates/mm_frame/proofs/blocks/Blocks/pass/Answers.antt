@@ -1,6 +1,5 @@
-use Rattle.std.proofs.Common.{refl, ◌∙◌, ap, ◌++◌, ◌∷◌, []}
-use Rattle.mm_frame.specs.{Language.Scope.{Neither}, Code.KeptBlocks.{marks_from}}
-use Rattle.mm_frame.proofs.lemmas.scope.BlockLemmas.{kept_moved, kept_passed, passed_marks}
+use Rattle.std.proofs.{Common.{arith, refl}, lemmas.Grind.{common_steps}}
+use Rattle.mm_frame.{specs.Code.KeptBlocks.{marks_from}, proofs.lemmas.scope.BlockLemmas.{kept_moved, kept_passed, passed_marks}}
 use Rattle.mm_frame.proofs.blocks.Blocks.pass.Goals as goal
 
 pub invariant_of-self-2 : goal.invariant_of-self-2
@@ -12,5 +11,4 @@ invariant_of-self-2 c =
 pub returns-clause-ok : goal.returns-clause-ok
 returns-clause-ok c =
     let i = c.self.inside in
-    ap (marks_from i.ends.items 0 0) c.in_ok-push.ensures.items ∙ passed_marks i.block_of.items i.ends.items i.outer.items i.current
-    (marks_from i.ends.items 0 0 i.block_of.items) c.self.invariant.are_blocks ∙ ap (λ marks. marks ++ Neither ∷ []) c.self.view_is
+    grind (arith, common_steps, passed_marks i.block_of.items i.ends.items i.outer.items i.current (marks_from i.ends.items 0 0 i.block_of.items) c.self.invariant.are_blocks) steps 200000

@@ -1,7 +1,7 @@
 use Rattle.std.proofs.Common.{◌≡◌, true, ◌++◌, ◌∷◌, [], ◌∙◌, sym, subst}
 use Rattle.mm_statement.specs.Language.Statement.{kind_of}
-use Rattle.mm_frame.specs.{Language.Sound.{sound_items}, Code.KeptAssertions.{AreAssertions}}
-use Rattle.mm_frame.proofs.lemmas.base.{BaseLemmas.{kept_are_sound, sound_found_none, none_found, none_fault, framed_parts}, NumbersAside.{apart, on_ok_both, with_assertions}}
+use Rattle.mm_frame.{specs.{Language.Sound.{sound_items}, Code.KeptAssertions.{AreAssertions}}, proofs.lemmas.base.BaseLemmas.{kept_are_sound, sound_found_none, none_found, none_fault, framed_parts}}
+use Rattle.mm_frame.proofs.lemmas.base.NumbersAside.{apart, on_ok_both, with_assertions}
 use Rattle.mm_frame.proofs.draft.Draft.add.Goals as goal
 
 pub returns : goal.returns

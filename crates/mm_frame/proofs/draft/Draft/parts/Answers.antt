@@ -1,6 +1,5 @@
 use Rattle.std.proofs.Common.{[], append-nil, sym, ap, ◌∙◌}
-use Rattle.mm_frame.specs.Language.Sound.{sound_items}
-use Rattle.mm_frame.proofs.lemmas.pairs.PairListLemmas.{pairs_stay}
+use Rattle.mm_frame.{specs.Language.Sound.{sound_items}, proofs.lemmas.pairs.PairListLemmas.{pairs_stay}}
 use Rattle.mm_frame.proofs.draft.Draft.parts.Goals as goal
 
 pub returns : goal.returns

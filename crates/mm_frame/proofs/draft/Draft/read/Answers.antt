@@ -1,7 +1,6 @@
 use Rattle.std.proofs.{Common.{ℕ, List}, lemmas.Result.{on_ok_weaker}}
 use Rattle.mm_statement.specs.Language.Item.{Item}
-use Rattle.mm_frame.specs.Code.KeptBase.{IsDraft}
-use Rattle.mm_frame.proofs.lemmas.{base.NumbersAside.{numbers_aside}, names.NumberLemmas.{begins_on}}
+use Rattle.mm_frame.{specs.Code.KeptBase.{IsDraft}, proofs.lemmas.{base.NumbersAside.{numbers_aside}, names.NumberLemmas.{begins_on}}}
 use Rattle.mm_frame.proofs.draft.Draft.read.Goals as goal
 
 pub returns-clause-read : goal.returns-clause-read

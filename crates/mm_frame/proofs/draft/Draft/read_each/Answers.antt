@@ -1,12 +1,7 @@
-use Rattle.std.proofs.Common.{◌≡◌, ◌∷◌, ◌++◌, [], suc, ◌+◌, take, take_all, sym, subst, arith, append-nil, append_assoc}
-use Rattle.std.specs.List.{AllZip}
+use Rattle.std.{proofs.{lemmas.Grind.{common_steps}, Common.{◌≡◌, ◌∷◌, ◌++◌, [], suc, ◌+◌, take, subst, arith, append_assoc}}, specs.List.{AllZip}}
 use Rattle.mm_statement.specs.Language.Statement.{Says}
-use Rattle.mm_frame.specs.Code.KeptBase.{IsDraftLater}
-use Rattle.mm_frame.proofs.lemmas.{names.NumberLemmas.{begins_on}, base.BaseLemmas.{zip_more}}
+use Rattle.mm_frame.{specs.Code.KeptBase.{IsDraftLater}, proofs.lemmas.{names.NumberLemmas.{begins_on}, base.BaseLemmas.{zip_more}}}
 use Rattle.mm_frame.proofs.draft.Draft.read_each.Goals as goal
-
-pub loop-item-init : goal.loop-item-init
-loop-item-init c = (λ n name there. there, [], tt, λ said stands. subst (λ w. IsDraftLater c.args.names.now w c.args.self.now) (sym (append-nil said)) stands)
 
 pub loop-item-preserved : goal.loop-item-preserved
 loop-item-preserved c =
@@ -24,9 +19,4 @@ loop-item-preserved c =
     )
 
 pub returns-clause-read : goal.returns-clause-read
-returns-clause-read c =
-    let so_far = c.loop-item.invariant in
-    (so_far.1, subst (λ w. AllZip (Says c.args.files.now) w so_far.1) (take_all c.loop-item.item-index c.args.items.now c.loop-item-test.false) so_far.2, so_far.3)
-
-pub returns-in_err-read-clause-grows : goal.returns-in_err-read-clause-grows
-returns-in_err-read-clause-grows c = begins_on _ _ _ c.loop-item.invariant.0 c.read.ensures.grows
+returns-clause-read c = grind (arith, common_steps) steps 200000

@@ -1,5 +1,4 @@
-use Rattle.std.proofs.Common.{◌++◌, List, take}
-use Rattle.std.specs.List.{AllZip}
+use Rattle.std.{proofs.Common.{◌++◌, List, take}, specs.List.{AllZip}}
 use Rattle.mm_machine.specs.Language.Names.{Begins}
 use Rattle.mm_statement.specs.Language.Statement.{Says}
 use Rattle.mm_frame.specs.Code.KeptBase.{IsDraftLater}

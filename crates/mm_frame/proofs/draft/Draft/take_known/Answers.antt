@@ -1,6 +1,5 @@
 use Rattle.std.proofs.Common.{sym}
-use Rattle.mm_frame.specs.Language.Sound.{sound_items}
-use Rattle.mm_frame.proofs.lemmas.{base.BaseLemmas.{kept_are_sound}, faults.FoundFaults.{no_fault_sound}, names.KnownSymbols.{known_symbols, expression_uses}}
+use Rattle.mm_frame.{specs.Language.Sound.{sound_items}, proofs.lemmas.{base.BaseLemmas.{kept_are_sound}, faults.FoundFaults.{no_fault_sound}, names.KnownSymbols.{known_symbols, expression_uses}}}
 use Rattle.mm_frame.proofs.draft.Draft.take_known.Goals as goal
 
 pub returns : goal.returns

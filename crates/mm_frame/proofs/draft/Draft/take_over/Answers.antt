@@ -1,6 +1,6 @@
 use Rattle.std.proofs.Common.{◌≡◌, ◌++◌, ◌∷◌, [], true, is_none, length, sym, ◌∙◌, subst}
-use Rattle.mm_frame.specs.{Language.{Base.{told_fault}, Sound.{fault, sound_items}}, Code.{KeptAssertions.{AreAssertions}, KeptSymbols.{AreSymbolsOf}}}
-use Rattle.mm_frame.proofs.lemmas.base.{BaseLemmas.{none_told}, NumbersAside.{apart, on_ok_both, with_assertions}}
+use Rattle.mm_frame.{specs.{Language.{Base.{told_fault}, Sound.{fault, sound_items}}, Code.{KeptAssertions.{AreAssertions}, KeptSymbols.{AreSymbolsOf}}}, proofs.lemmas.base.BaseLemmas.{none_told}}
+use Rattle.mm_frame.proofs.lemmas.base.NumbersAside.{apart, on_ok_both, with_assertions}
 use Rattle.mm_frame.proofs.draft.Draft.take_over.Goals as goal
 
 pub returns : goal.returns

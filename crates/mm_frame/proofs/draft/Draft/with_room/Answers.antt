@@ -1,8 +1,7 @@
 use Rattle.std.proofs.Common.{◌≡◌, ℕ, IfOk, List, [], sym, ap, ◌∙◌, subst}
 use Rattle.mm_machine.specs.{declared.symbol.NumberedSymbol.{NumberedSymbol}, Language.Names.{AreDistinct}}
-use Rattle.mm_frame.specs.Language.Answering.{AreRows, IsLabelTold}
-use Rattle.mm_frame.specs.Code.{KeptActiveItems.{AreActiveKept}, KeptAssertions.{AreAssertions}, KeptRows.{AreRowsKept, rows_of}, KeptScope.{ScopeHolds}, KeptSymbols.{AreSymbols}}
-use Rattle.mm_frame.proofs.lemmas.base.BaseLemmas.{rows_none, symbols_none}
+use Rattle.mm_frame.specs.{Language.Answering.{AreRows, IsLabelTold}, Code.{KeptActiveItems.{AreActiveKept}, KeptAssertions.{AreAssertions}, KeptRows.{AreRowsKept, rows_of}, KeptScope.{ScopeHolds}}}
+use Rattle.mm_frame.{specs.Code.KeptSymbols.{AreSymbols}, proofs.lemmas.base.BaseLemmas.{rows_none, symbols_none}}
 use Rattle.mm_frame.proofs.draft.Draft.with_room.Goals as goal
 
 pub returns : goal.returns

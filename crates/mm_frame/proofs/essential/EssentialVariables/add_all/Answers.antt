@@ -1,10 +1,7 @@
 use Rattle.std.proofs.Common.{false}
 use Rattle.mm_machine.specs.declared.symbol.NumberedSymbol.{NumberedSymbol}
-use Rattle.mm_frame.proofs.lemmas.frames.VariableLemmas.{adds_none, adds_more}
+use Rattle.mm_frame.proofs.lemmas.frames.VariableLemmas.{adds_more}
 use Rattle.mm_frame.proofs.essential.EssentialVariables.add_all.Goals as goal
-
-pub loop-k-init : goal.loop-k-init
-loop-k-init c rising active = adds_none c.args.essentials.now c.args.number c.args.self.now.found.items
 
 pub loop-k-preserved : goal.loop-k-preserved
 loop-k-preserved c rising active =

@@ -1,8 +1,8 @@
 use Rattle.std.proofs.Common.{ℕ, ◌∷◌, ◌++◌, ◌<◌, [], List, drop, take, sym, subst, ◌∙◌, length, Contains}
-use Rattle.mm_frame.specs.{declared.essential.EssentialVariable.{EssentialVariable}, Language.Scope.{active_numbers}}
-use Rattle.mm_frame.specs.Code.{LastItems.{is_essential_item, IsRising}, KeptSymbols.{expression_kept}, KeptVariables.{AddsAll, AreVariablesOf}, PairOrder.{is_among}}
+use Rattle.mm_frame.specs.{declared.essential.EssentialVariable.{EssentialVariable}, Language.Scope.{active_numbers}, Code.{LastItems.{is_essential_item, IsRising}, KeptSymbols.{expression_kept}}}
+use Rattle.mm_frame.{specs.Code.{KeptVariables.{AddsAll, AreVariablesOf}, PairOrder.{is_among}}, proofs.lemmas.frames.HypothesisNumbers.{active_numbers_rise}}
+use Rattle.mm_frame.proofs.lemmas.{frames.VariableLemmas.{variables_left, variables_added}, lists.{Members.{in_contains}, Rising.{among_in}}}
 use Rattle.mm_machine.specs.declared.symbol.NumberedSymbol.{NumberedSymbol}
-use Rattle.mm_frame.proofs.lemmas.{frames.{HypothesisNumbers.{active_numbers_rise}, VariableLemmas.{variables_left, variables_added}}, lists.{Members.{in_contains}, Rising.{among_in}}}
 use Rattle.mm_frame.proofs.essential.EssentialVariables.follow.Goals as goal
 
 pub returns-else-is_among : goal.returns-else-is_among

@@ -1,7 +1,5 @@
-use Rattle.std.proofs.Common.{◌≡◌, ◌∷◌, [], ◌++◌, length, sym, ap, ◌∙◌, arith}
-use Rattle.std.specs.Option.{option_map}
-use Rattle.mm_frame.specs.declared.item_rows.Rows.{Rows}
-use Rattle.mm_frame.proofs.lemmas.base.RowLemmas.{kept_more, rows_more, some_lent, adds_row}
+use Rattle.std.{proofs.Common.{◌≡◌, ◌∷◌, [], ◌++◌, length, sym, ap, ◌∙◌, arith}, specs.Option.{option_map}}
+use Rattle.mm_frame.{specs.declared.item_rows.Rows.{Rows}, proofs.lemmas.base.RowLemmas.{kept_more, rows_more, some_lent, adds_row}}
 use Rattle.mm_frame.proofs.item_rows.Rows.add.Goals as goal
 
 pub returns : goal.returns

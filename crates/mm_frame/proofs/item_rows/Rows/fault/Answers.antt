@@ -1,6 +1,5 @@
 use Rattle.std.proofs.Common.{sym, ap, ◌∙◌}
-use Rattle.mm_frame.specs.Code.KeptRows.{fault_kept, fault_told}
-use Rattle.mm_frame.proofs.lemmas.base.RowLemmas.{fault_there}
+use Rattle.mm_frame.{specs.Code.KeptRows.{fault_kept, fault_told}, proofs.lemmas.base.RowLemmas.{fault_there}}
 use Rattle.mm_frame.proofs.item_rows.Rows.fault.Goals as goal
 
 pub returns : goal.returns

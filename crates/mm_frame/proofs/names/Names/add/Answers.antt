@@ -1,5 +1,4 @@
-use Rattle.std.proofs.{Common.{ap, ◌∙◌, sym, map, ◌++◌, ◌∷◌, [], length}, lemmas.List.{length-map}}
-use Rattle.std.specs.{Str.{bytes_eq}, List.{list_any}}
+use Rattle.std.{proofs.{Common.{ap, ◌∙◌, sym, map, ◌++◌, ◌∷◌, [], length}, lemmas.List.{length-map}}, specs.{Str.{bytes_eq}, List.{list_any}}}
 use Rattle.mm_frame.proofs.lemmas.names.NumberLemmas.{inserted, any_by_keys}
 use Rattle.mm_frame.proofs.names.Names.add.Goals as goal
 

@@ -1,12 +1,10 @@
-use Rattle.std.proofs.Common.{Some, subst, sym, ap, ◌∙◌, ◌≡◌, is_some, slice_get}
-use Rattle.std.specs.{Str.{bytes_eq}, List.{list_any}}
+use Rattle.std.{proofs.{Common.{arith, sym, ap, ◌∙◌, is_some}, lemmas.Grind.{common_steps}}, specs.{Str.{bytes_eq}, List.{list_any}}}
 use Rattle.mm_frame.proofs.lemmas.names.NumberLemmas.{number_by_keys, any_by_keys, number_names, added_named, added_grows}
 use Rattle.mm_frame.proofs.names.Names.find_or_add.Goals as goal
 
 pub returns-in-Some-clause-named : goal.returns-in-Some-clause-named
-returns-in-Some-clause-named c = subst (λ names. slice_get names c.in-Some.number ≡ Some c.args.name.now) c.self.view_is
-    (number_names _ c.args.name.now c.in-Some.number (sym (number_by_keys c.args.name.now c.self.inside.names.keys) ∙ sym c.get_index_of.ensures.index ∙
-    c.in-Some.is))
+returns-in-Some-clause-named c =
+    grind (arith, common_steps, number_names _ c.args.name.now c.in-Some.number (sym (number_by_keys c.args.name.now c.self.inside.names.keys) ∙ sym c.get_index_of.ensures.index ∙ c.in-Some.is)) steps 200000
 
 pub add-requires : goal.add-requires
 add-requires c = ap (list_any (bytes_eq c.args.name.now)) (sym c.self.view_is) ∙ any_by_keys c.args.name.now c.self.inside.names.keys ∙ sym c.get_index_of.ensures.found ∙ ap is_some c.in-None.is

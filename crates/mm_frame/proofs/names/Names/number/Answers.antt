@@ -1,7 +1,6 @@
 use Rattle.std.proofs.Common.{subst, ap, ◌∙◌}
 use Rattle.mm_machine.specs.Language.Names.{AreDistinct}
-use Rattle.mm_frame.specs.Code.Numbers.{number_in}
-use Rattle.mm_frame.proofs.lemmas.names.NumberLemmas.{distinct_names, number_by_keys}
+use Rattle.mm_frame.{specs.Code.Numbers.{number_in}, proofs.lemmas.names.NumberLemmas.{distinct_names, number_by_keys}}
 use Rattle.mm_frame.proofs.names.Names.number.Goals as goal
 
 pub returns-clause-number : goal.returns-clause-number

@@ -1,6 +1,6 @@
 use Rattle.std.proofs.{Common.{◌++◌, flat_map, refl, sym, ap, subst, ◌∙◌, All}, lemmas.List.Elements.{All-append}}
-use Rattle.mm_frame.specs.Code.{KeptSymbols.{expression_kept}, KeptPairLists.{HasEach, HasSame, pairs_among, pairs_or_none}}
-use Rattle.mm_frame.proofs.lemmas.pairs.{PairListLemmas.{is_list, joined_read, shared_same}, PairOrderLemmas.{IsLowFirst, all_low}}
+use Rattle.mm_frame.{specs.Code.{KeptSymbols.{expression_kept}, KeptPairLists.{HasEach, HasSame, pairs_among, pairs_or_none}}, proofs.lemmas.pairs.PairListLemmas.{is_list, joined_read, shared_same}}
+use Rattle.mm_frame.proofs.lemmas.pairs.PairOrderLemmas.{IsLowFirst, all_low}
 use Rattle.mm_frame.proofs.pair_lists.PairLists.extended.Goals as goal
 
 pub returns-then-has_all-clause-pairs : goal.returns-then-has_all-clause-pairs

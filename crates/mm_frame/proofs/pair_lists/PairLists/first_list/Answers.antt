@@ -1,5 +1,4 @@
-use Rattle.std.proofs.Common.{Some, cond, nat_eq, take, flat_map, sym, ap, subst, ◌∙◌, All}
-use Rattle.std.specs.HashMap.{get}
+use Rattle.std.{proofs.Common.{Some, cond, nat_eq, take, flat_map, sym, ap, subst, ◌∙◌, All}, specs.HashMap.{get}}
 use Rattle.mm_frame.specs.{Language.Framing.{active_pairs}, declared.pair_lists.PairLists.{PairLists}, Code.{KeptSymbols.{expression_kept}, KeptPairLists.{KeepsLists, HasSame, pairs_among}}}
 use Rattle.mm_frame.proofs.lemmas.pairs.{PairListLemmas.{made_one_more, is_list, same_members, front_read}, PairOrderLemmas.{IsLowFirst, all_low}}
 use Rattle.mm_frame.proofs.pair_lists.PairLists.first_list.Goals as goal
@@ -18,14 +17,8 @@ returns-clause-pairs c all before h a front m =
 
 pub returns-clause-made : goal.returns-clause-made
 returns-clause-made c all before h a front m =
-    let old = c.args.self.now in
     let new : PairLists = record { lists = c.keep.new.self.lists; made = c.insert.new.self; reach = c.keep.new.self.reach; gone = c.keep.new.self.gone } in
-    let kept = c.in_ok-k.ensures.kept in
-    let keeps : KeepsLists old new = record { more = kept.more; whole = kept.whole } in
+    let keeps : KeepsLists c.args.self.now new = record { more = c.in_ok-k.ensures.kept.more; whole = c.in_ok-k.ensures.kept.whole } in
     let count = c.args.count in
-    let k = c.in_ok-k.k in
-    made_one_more all before old new count k keeps m front.within (returns-clause-pairs c all before h a front m)
-    (λ other. c.in_ok-insert.ensures.updates.0 other ∙ ap (λ w. cond (nat_eq count other) (Some k) (get nat_eq w other)) c.in_ok-k.ensures.made)
-
-pub returns-in-Some-clause-pairs : goal.returns-in-Some-clause-pairs
-returns-in-Some-clause-pairs c all before h a front m = (m c.args.count c.in-Some.k (sym c.made_for.ensures ∙ c.in-Some.is)).list
+    made_one_more all before c.args.self.now new count c.in_ok-k.k keeps m front.within (returns-clause-pairs c all before h a front m)
+    (λ other. c.in_ok-insert.ensures.updates.0 other ∙ ap (λ w. cond (nat_eq count other) (Some c.in_ok-k.k) (get nat_eq w other)) c.in_ok-k.ensures.made)

@@ -3,9 +3,8 @@ use Rattle.mm_frame.proofs.pair_lists.PairLists.is_last.Goals as goal
 
 pub returns-in-Some : goal.returns-in-Some
 returns-in-Some c t =
-    let last = c.in-Some.last.now in
     record {
-      list = last;
-      there = subst (λ w. slice_get w (length w - 1) ≡ Some last) c.deref.ensures.value (sym c.in-Some.ensures.value);
+      list = c.in-Some.last.now;
+      there = subst (λ w. slice_get w (length w - 1) ≡ Some c.in-Some.last.now) c.deref.ensures.value (sym c.in-Some.ensures.value);
       same = sym c.deref-in-Some.ensures.value ∙ c.same_pairs.ensures.0 t;
     }

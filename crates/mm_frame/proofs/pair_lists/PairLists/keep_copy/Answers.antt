@@ -1,13 +1,9 @@
-use Rattle.std.proofs.Common.{◌≡◌, ◌-◌, length, slice_get, refl, ap, ◌∙◌, subst, arith}
-use Rattle.mm_frame.specs.Code.KeptPairLists.{IsThere}
+use Rattle.std.proofs.{lemmas.Grind.{common_steps}, Common.{◌≡◌, ◌-◌, length, slice_get, refl, ap, ◌∙◌, arith}}
 use Rattle.mm_frame.proofs.lemmas.scope.BlockLemmas.{get_last}
 use Rattle.mm_frame.proofs.pair_lists.PairLists.keep_copy.Goals as goal
 
 pub returns-then-is_last-clause-there : goal.returns-then-is_last-clause-there
-returns-then-is_last-clause-there c =
-    let lists = c.args.self.now.lists in
-    let number : length lists.items - 1 ≡ c.len-count.result - 1 = omega (arith, c.len-count.ensures, lists.ok.0) in
-    subst (λ k. IsThere c.args.self.now k c.args.list.now) number (c.if-is_last.ensures refl)
+returns-then-is_last-clause-there c = grind (arith, common_steps, c.if-is_last.ensures refl) steps 200000
 
 pub returns-clause-there : goal.returns-clause-there
 returns-clause-there c =

@@ -1,6 +1,5 @@
 use Rattle.std.proofs.Common.{[], append-nil, sym, subst, ◌∙◌}
-use Rattle.mm_frame.specs.{declared.pair_lists.PairLists.{PairLists}, Code.KeptPairLists.{KeepsLists, IsList}}
-use Rattle.mm_frame.proofs.lemmas.pairs.PairListLemmas.{made_one_more, whole_front}
+use Rattle.mm_frame.{specs.{declared.pair_lists.PairLists.{PairLists}, Code.KeptPairLists.{IsList}}, proofs.lemmas.pairs.PairListLemmas.{made_one_more, whole_front}}
 use Rattle.mm_frame.proofs.pair_lists.PairLists.keep_made.Goals as goal
 
 pub returns-clause-made : goal.returns-clause-made
@@ -10,7 +9,6 @@ returns-clause-made c all before h a e is m =
     let count = c.count_to_last-count.result in
     let new : PairLists = record { lists = old.lists; made = c.insert.new.self; reach = count; gone = old.gone } in
     let whole = c.count_to_last-count.ensures all before [] a (append-nil disjoints ∙ e) in
-    let keeps : KeepsLists old new = record { more = []; whole = sym (append-nil old.lists.items) } in
-    made_one_more all before old new count c.args.k keeps m whole.within
+    made_one_more all before old new count c.args.k (record { more = []; whole = sym (append-nil old.lists.items) }) m whole.within
     (subst (IsList all new c.args.k) (sym (whole_front before disjoints count h e whole)) (record { list = is.list; there = is.there; read = is.read; order = is.order }))
     (λ other. c.in_ok-insert.ensures.updates.0 other)

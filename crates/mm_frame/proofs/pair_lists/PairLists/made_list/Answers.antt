@@ -1,8 +1,7 @@
 use Rattle.std.proofs.Common.{◌≡◌, ℕ, Option, Some, None, List, [], IfSome, append-nil, sym, subst, ◌∙◌}
 use Rattle.mm_statement.specs.Language.Item.{Item}
-use Rattle.mm_frame.specs.Language.{Sound.{AreSound}, Scope.{active_numbers}, Framing.{active_pairs}}
-use Rattle.mm_frame.specs.Code.{LastItems.{is_disjoint_item}, KeptPairLists.{AreMade, IsList, list_made}, KeptSymbols.{AreSymbols}}
-use Rattle.mm_frame.proofs.lemmas.pairs.PairListLemmas.{whole_front}
+use Rattle.mm_frame.specs.{Language.{Sound.{AreSound}, Scope.{active_numbers}, Framing.{active_pairs}}, Code.{LastItems.{is_disjoint_item}, KeptPairLists.{AreMade, IsList, list_made}}}
+use Rattle.mm_frame.{specs.Code.KeptSymbols.{AreSymbols}, proofs.lemmas.pairs.PairListLemmas.{whole_front}}
 use Rattle.mm_frame.proofs.pair_lists.PairLists.made_list.Goals as goal
 
 pub returns : goal.returns

@@ -1,8 +1,8 @@
 use Rattle.std.proofs.{Common.{ℕ, ◌++◌, Some, cond, nat_eq, List, take, drop, take-append-drop, append_assoc, flat_map, sym, ap, subst, ◌∙◌, arith}, lemmas.{List.{take_rest}, Grind.{common_steps}}}
 use Rattle.std.specs.HashMap.{get}
 use Rattle.mm_frame.specs.{Language.Framing.{active_pairs}, declared.pair_lists.PairLists.{PairLists}, Code.{KeptPairLists.{KeepsLists, pairs_among}, KeptSymbols.{expression_kept}}}
-use Rattle.mm_machine.specs.Language.NumberedSymbols.{AreSamePairsRead}
 use Rattle.mm_frame.proofs.lemmas.{lists.Members.{In, in_left, in_right}, pairs.{ActivePairLemmas.{pairs_at}, PairListLemmas.{made_one_more, front_and_more, active_read}}}
+use Rattle.mm_machine.specs.Language.NumberedSymbols.{AreSamePairsRead}
 use Rattle.mm_frame.proofs.pair_lists.PairLists.outer_list.Goals as goal
 
 pub returns-clause-pairs : goal.returns-clause-pairs
@@ -25,20 +25,13 @@ returns-clause-made c all before rest h a e f m =
     let outer = c.args.outer.now in
     let n = c.made_count-done.result in
     let count = c.args.count in
-    let k = c.in_ok-k.k in
     let new : PairLists = record { lists = c.extended.new.self.lists; made = c.insert.new.self; reach = c.extended.new.self.reach; gone = c.extended.new.self.gone } in
     let front = c.count_to_last-front.ensures all before (drop n outer ++ rest) a (sym (append_assoc (take n outer) (drop n outer) rest) ∙ ap (λ w. w ++ rest) (take-append-drop n outer) ∙ e) in
     let more = c.in_ok-k.ensures.kept in
     let keeps : KeepsLists c.first_list.new.self new = record { more = more.more; whole = more.whole } in
-    made_one_more all before c.first_list.new.self new count k keeps (c.in_ok-base.ensures.made all before h a front m) f.within
+    made_one_more all before c.first_list.new.self new count c.in_ok-k.k keeps (c.in_ok-base.ensures.made all before h a front m) f.within
     (returns-clause-pairs c all before rest h a e f m)
-    (λ other. c.in_ok-insert.ensures.updates.0 other ∙ ap (λ w. cond (nat_eq count other) (Some k) (get nat_eq w other)) c.in_ok-k.ensures.made)
-
-pub returns-in-Some-clause-pairs : goal.returns-in-Some-clause-pairs
-returns-in-Some-clause-pairs c all before rest h a e f m = (m c.args.count c.in-Some.k (sym c.made_for.ensures ∙ c.in-Some.is)).list
-
-pub returns-in-Some-clause-made : goal.returns-in-Some-clause-made
-returns-in-Some-clause-made c all before rest h a e f m = m
+    (λ other. c.in_ok-insert.ensures.updates.0 other ∙ ap (λ w. cond (nat_eq count other) (Some c.in_ok-k.k) (get nat_eq w other)) c.in_ok-k.ensures.made)
 
 pub returns-clause-kept : goal.returns-clause-kept
 returns-clause-kept c = grind (arith, common_steps)

@@ -1,6 +1,5 @@
-use Rattle.std.proofs.{Common.{sym, subst}, lemmas.Result.{IfOk-weaker, on_ok_weaker}}
-use Rattle.mm_frame.specs.Code.Numbers.{IsNameNumber}
-use Rattle.mm_frame.proofs.lemmas.pairs.PairTableLemmas.{pair_told, pair_turned_told, same_told}
+use Rattle.std.proofs.{Common.{arith, sym, subst}, lemmas.{Grind.{common_steps}, Result.{on_ok_weaker}}}
+use Rattle.mm_frame.{specs.Code.Numbers.{IsNameNumber}, proofs.lemmas.pairs.PairTableLemmas.{pair_told, pair_turned_told, same_told}}
 use Rattle.mm_frame.proofs.paired.PairTable.is_active_pair.Goals as goal
 
 pub returns-then-first-second-clause-value : goal.returns-then-first-second-clause-value
@@ -11,13 +10,7 @@ returns-then-row-le-SHORT_ROW-clause-value c all before x y reads m a b =
     pair_told all before c.args.self.now c.args.blocks.now c.args.first c.args.second c.row-row.result.now c.row-other.result.now x y c.have_common.result c.row-row.ensures c.row-other.ensures reads a b c.if-first-second.false c.have_common.ensures
 
 pub returns-then-other-le-SHORT_ROW-clause-value : goal.returns-then-other-le-SHORT_ROW-clause-value
-returns-then-other-le-SHORT_ROW-clause-value c all before x y reads m a b =
-    pair_turned_told all before c.args.self.now c.args.blocks.now c.args.first c.args.second c.row-row.result.now c.row-other.result.now x y
-    c.have_common-then-other-le-SHORT_ROW.result c.row-row.ensures c.row-other.ensures reads a b c.if-first-second.false
-    c.have_common-then-other-le-SHORT_ROW.ensures
-
-pub returns-clause-value : goal.returns-clause-value
-returns-clause-value c = IfOk-weaker c.ask.result _ _ (λ r told all before x y reads m a b. told all before x y c.args.self.now reads c.row-row.ensures c.row-other.ensures m a b c.if-first-second.false) c.ask.ensures.value
+returns-then-other-le-SHORT_ROW-clause-value c all before x y reads m a b = grind (arith, common_steps, pair_turned_told) steps 500000
 
 pub returns-clause-asked : goal.returns-clause-asked
 returns-clause-asked c = on_ok_weaker c.ask.result (λ asks. asks c.args.self.now c.row-row.ensures c.row-other.ensures) c.ask.ensures.asked

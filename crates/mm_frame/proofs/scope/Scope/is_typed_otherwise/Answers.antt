@@ -1,6 +1,5 @@
-use Rattle.std.proofs.Common.{not, bytes_eq, sym, ◌∙◌, ap}
-use Rattle.mm_frame.specs.Code.{KeptScope.{typecodes_of}, LastItems.{is_otherwise_at}}
-use Rattle.mm_frame.proofs.lemmas.scope.{TableLemmas.{typed_otherwise_last}, KeptScopeLemmas.{typecode_kept}}
+use Rattle.std.proofs.{Common.{arith, not, bytes_eq, sym, ◌∙◌, ap}, lemmas.Grind.{common_steps}}
+use Rattle.mm_frame.{specs.Code.{KeptScope.{typecodes_of}, LastItems.{is_otherwise_at}}, proofs.lemmas.scope.{TableLemmas.{typed_otherwise_last}, KeptScopeLemmas.{typecode_kept}}}
 use Rattle.mm_frame.proofs.scope.Scope.is_typed_otherwise.Goals as goal
 
 pub returns-in-Some : goal.returns-in-Some
@@ -10,5 +9,4 @@ returns-in-Some c all before item name h k t there =
     c.ne.ensures ∙ (λ i. not (bytes_eq (kept i) (sym t i))) ∙ ap (is_otherwise_at before item) (sym c.in-Some.is ∙ c.float.ensures all before name h k there) ∙ sym (typed_otherwise_last before h name item)
 
 pub returns-in-None : goal.returns-in-None
-returns-in-None c all before item name h k t there =
-    ap (is_otherwise_at before item) (sym c.in-None.is ∙ c.float.ensures all before name h k there) ∙ sym (typed_otherwise_last before h name item)
+returns-in-None c all before item name h k t there = grind (arith, common_steps, c.float.ensures all before name h k there, typed_otherwise_last before h name item) steps 200000

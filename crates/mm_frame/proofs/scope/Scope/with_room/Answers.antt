@@ -1,5 +1,4 @@
-use Rattle.std.proofs.Common.{ap}
-use Rattle.std.specs.Prelude.{map}
+use Rattle.std.{proofs.Common.{ap}, specs.Prelude.{map}}
 use Rattle.mm_frame.proofs.scope.Scope.with_room.Goals as goal
 
 pub returns : goal.returns

@@ -1,6 +1,5 @@
 use Rattle.std.proofs.{Common.{◌+◌, ◌++◌, ◌∷◌, [], Some, length, map, ap, ◌∙◌, arith, length-append}, lemmas.List.{map-append}}
-use Rattle.mm_frame.specs.Code.{KeptParts.{cut_from}, KeptSparse.{first_of}}
-use Rattle.mm_frame.proofs.lemmas.{scope.BlockLemmas.{pushed}, names.ExpressionLemmas.{cut_added}}
+use Rattle.mm_frame.{specs.Code.{KeptParts.{cut_from}, KeptSparse.{first_of}}, proofs.lemmas.{scope.BlockLemmas.{pushed}, names.ExpressionLemmas.{cut_added}}}
 use Rattle.mm_frame.proofs.sparse.Sparse.add.Goals as goal
 
 pub invariant_of-self-2 : goal.invariant_of-self-2

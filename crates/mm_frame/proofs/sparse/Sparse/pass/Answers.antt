@@ -1,6 +1,5 @@
 use Rattle.std.proofs.{Common.{◌++◌, ◌∷◌, [], None, map, sym, ap, ◌∙◌, arith, append-nil}, lemmas.List.{map-append}}
-use Rattle.mm_frame.specs.Code.{KeptParts.{cut_from}, KeptSparse.{first_of}}
-use Rattle.mm_frame.proofs.lemmas.names.ExpressionLemmas.{cut_added}
+use Rattle.mm_frame.{specs.Code.{KeptParts.{cut_from}, KeptSparse.{first_of}}, proofs.lemmas.names.ExpressionLemmas.{cut_added}}
 use Rattle.mm_frame.proofs.sparse.Sparse.pass.Goals as goal
 
 pub invariant_of-self-2 : goal.invariant_of-self-2

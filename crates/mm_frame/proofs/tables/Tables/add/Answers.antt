@@ -1,7 +1,6 @@
 use Rattle.std.proofs.{Common.{[], refl, ap, sym}, lemmas.Result.{on_ok_weaker}}
 use Rattle.mm_statement.specs.Language.{Item.{Constants, Variables, Floating}, Statement.{kind_of}}
-use Rattle.mm_frame.specs.Code.KeptScope.{uses_numbers}
-use Rattle.mm_frame.proofs.lemmas.scope.KnownLemmas.{knows_next, takes_constants, takes_variables, takes_sound_float, takes_label, takes_nothing}
+use Rattle.mm_frame.{specs.Code.KeptScope.{uses_numbers}, proofs.lemmas.scope.KnownLemmas.{knows_next, takes_constants, takes_variables, takes_sound_float, takes_label, takes_nothing}}
 use Rattle.mm_frame.proofs.tables.Tables.add.Goals as goal
 
 pub returns-in-Constants : goal.returns-in-Constants

@@ -1,6 +1,5 @@
 use Rattle.std.proofs.Common.{◌∙◌, ap, sym, Some}
-use Rattle.mm_frame.specs.Code.KeptTables.{float_of}
-use Rattle.mm_frame.proofs.lemmas.scope.KnownLemmas.{known_at, float_in}
+use Rattle.mm_frame.{specs.Code.KeptTables.{float_of}, proofs.lemmas.scope.KnownLemmas.{known_at, float_in}}
 use Rattle.mm_frame.proofs.tables.Tables.float.Goals as goal
 
 pub returns-in_err-float-clause-last : goal.returns-in_err-float-clause-last

@@ -1,6 +1,5 @@
 use Rattle.std.proofs.Common.{◌+◌, refl, arith}
-use Rattle.mm_frame.specs.declared.tables.Declared.TheVariants.{Constant}
-use Rattle.mm_frame.proofs.lemmas.scope.KnownLemmas.{declares_first, declares_all}
+use Rattle.mm_frame.{specs.declared.tables.Declared.TheVariants.{Constant}, proofs.lemmas.scope.KnownLemmas.{declares_first, declares_all}}
 use Rattle.mm_frame.proofs.tables.Tables.take_constants.Goals as goal
 
 pub loop-n-preserved : goal.loop-n-preserved

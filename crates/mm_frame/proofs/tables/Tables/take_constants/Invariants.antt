@@ -1,5 +1,4 @@
-use Rattle.mm_frame.specs.declared.tables.Declared.TheVariants.{Constant}
-use Rattle.mm_frame.proofs.lemmas.scope.KnownLemmas.{DeclaresFirst}
+use Rattle.mm_frame.{specs.declared.tables.Declared.TheVariants.{Constant}, proofs.lemmas.scope.KnownLemmas.{DeclaresFirst}}
 use Rattle.mm_frame.proofs.tables.Tables.take_constants.Given as goal
 
 abbrev pub invariant-loop-n : goal.invariant-loop-n

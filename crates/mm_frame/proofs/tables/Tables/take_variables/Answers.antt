@@ -1,6 +1,5 @@
 use Rattle.std.proofs.Common.{◌+◌, ap, refl, arith}
-use Rattle.mm_frame.specs.{declared.tables.Declared.TheVariants.{Variable}, Code.KeptTables.{float_of}}
-use Rattle.mm_frame.proofs.lemmas.scope.KnownLemmas.{declares_first, declares_all}
+use Rattle.mm_frame.{specs.{declared.tables.Declared.TheVariants.{Variable}, Code.KeptTables.{float_of}}, proofs.lemmas.scope.KnownLemmas.{declares_first, declares_all}}
 use Rattle.mm_frame.proofs.tables.Tables.take_variables.Goals as goal
 
 pub loop-n-preserved : goal.loop-n-preserved

@@ -1,5 +1,4 @@
-use Rattle.mm_frame.specs.{declared.tables.Declared.TheVariants.{Variable}, Code.KeptTables.{float_of}}
-use Rattle.mm_frame.proofs.lemmas.scope.KnownLemmas.{DeclaresFirst}
+use Rattle.mm_frame.{specs.{declared.tables.Declared.TheVariants.{Variable}, Code.KeptTables.{float_of}}, proofs.lemmas.scope.KnownLemmas.{DeclaresFirst}}
 use Rattle.mm_frame.proofs.tables.Tables.take_variables.Given as goal
 
 abbrev pub invariant-loop-n : goal.invariant-loop-n

@@ -1,6 +1,5 @@
 use Rattle.std.proofs.Common.{◌∙◌, ap, sym, Some}
-use Rattle.mm_frame.specs.Code.KeptTables.{variable_number}
-use Rattle.mm_frame.proofs.lemmas.scope.KnownLemmas.{known_at, variable_in}
+use Rattle.mm_frame.{specs.Code.KeptTables.{variable_number}, proofs.lemmas.scope.KnownLemmas.{known_at, variable_in}}
 use Rattle.mm_frame.proofs.tables.Tables.variable.Goals as goal
 
 pub returns-in_err-declared : goal.returns-in_err-declared

@@ -1,6 +1,5 @@
 use Rattle.std.proofs.{Common.{◌∷◌, [], ◌++◌, ◌+◌, Some, length, map, ap, ◌∙◌, arith}, lemmas.Grind.{elements}}
-use Rattle.mm_keep.specs.Code.KeptCheck.{judgement_at}
-use Rattle.mm_keep.proofs.CheckLemmas.{added, pushed}
+use Rattle.mm_keep.{specs.Code.KeptCheck.{judgement_at}, proofs.CheckLemmas.{added, pushed}}
 use Rattle.mm_keep.proofs.kept.Checks.add.Goals as goal
 
 pub returns : goal.returns

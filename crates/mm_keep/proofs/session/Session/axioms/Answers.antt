@@ -1,6 +1,5 @@
 use Rattle.std.proofs.Common.{subst}
-use Rattle.mm_keep.specs.Language.Sessions.{AreAxiomsOf, IsAssertion, SessionView}
-use Rattle.mm_keep.proofs.FoundLemmas.{parts}
+use Rattle.mm_keep.{specs.Language.Sessions.{AreAxiomsOf, IsAssertion, SessionView}, proofs.FoundLemmas.{parts}}
 use Rattle.mm_keep.proofs.session.Session.axioms.Goals as goal
 
 pub axioms_of-requires : goal.axioms_of-requires

@@ -1,6 +1,5 @@
 use Rattle.std.proofs.Common.{subst}
-use Rattle.mm_keep.specs.Language.Sessions.{AreCitesOf, IsAssertion, SessionView}
-use Rattle.mm_keep.proofs.FoundLemmas.{parts}
+use Rattle.mm_keep.{specs.Language.Sessions.{AreCitesOf, IsAssertion, SessionView}, proofs.FoundLemmas.{parts}}
 use Rattle.mm_keep.proofs.session.Session.cites.Goals as goal
 
 pub cites_of-requires : goal.cites_of-requires

@@ -1,6 +1,5 @@
 use Rattle.std.proofs.Common.{◌<◌, length, subst}
-use Rattle.mm_keep.specs.Language.{Findings.{told}, Sessions.{IsFinding}}
-use Rattle.mm_keep.proofs.FoundLemmas.{parts}
+use Rattle.mm_keep.{specs.Language.{Findings.{told}, Sessions.{IsFinding}}, proofs.FoundLemmas.{parts}}
 use Rattle.mm_keep.proofs.session.Session.finding.Goals as goal
 
 pub finding_of-requires : goal.finding_of-requires

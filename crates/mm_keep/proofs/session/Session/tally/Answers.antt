@@ -1,5 +1,4 @@
-use Rattle.std.proofs.Common.{subst}
-use Rattle.mm_keep.specs.Language.{Findings.{counted}, Sessions.{IsTally}}
+use Rattle.std.proofs.{Common.{arith}, lemmas.Grind.{common_steps}}
 use Rattle.mm_keep.proofs.FoundLemmas.{kept_of}
 use Rattle.mm_keep.proofs.session.Session.tally.Goals as goal
 
@@ -11,8 +10,4 @@ tally_of-requires c =
 
 pub returns : goal.returns
 returns c =
-    let inside = c.self.inside in
-    let k = c.self.invariant in
-    let checked = k.checked in
-    let t = c.tally_of.ensures inside.names inside.files k.base (kept_of c.items_stand.ensures.stand inside k) checked in
-    subst (λ s. IsTally s (counted c.tally_of.result)) c.self.view_is (record { base = k.base; of_files = k.of_files; all = t.0; are_told = t.1; is = t.2 })
+    grind (arith, common_steps, c.tally_of.ensures c.self.inside.names c.self.inside.files c.self.invariant.base (kept_of c.items_stand.ensures.stand c.self.inside c.self.invariant) c.self.invariant.checked) steps 200000

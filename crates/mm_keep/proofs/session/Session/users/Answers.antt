@@ -1,6 +1,5 @@
 use Rattle.std.proofs.Common.{subst}
-use Rattle.mm_keep.specs.Language.Sessions.{AreUsersOf, IsAssertion, SessionView}
-use Rattle.mm_keep.proofs.FoundLemmas.{parts}
+use Rattle.mm_keep.{specs.Language.Sessions.{AreUsersOf, IsAssertion, SessionView}, proofs.FoundLemmas.{parts}}
 use Rattle.mm_keep.proofs.session.Session.users.Goals as goal
 
 pub users_of-requires : goal.users_of-requires

@@ -1,6 +1,5 @@
 use Rattle.std.proofs.Common.{sym, ◌∙◌}
-use Rattle.mm_keep.specs.{Language.Findings.{told}, Code.FoundKinds.{one_more}}
-use Rattle.mm_keep.proofs.ToldLemmas.{counts_more}
+use Rattle.mm_keep.{specs.{Language.Findings.{told}, Code.FoundKinds.{one_more}}, proofs.ToldLemmas.{counts_more}}
 use Rattle.mm_keep.proofs.tally.Tally.with.Goals as goal
 
 pub returns : goal.returns

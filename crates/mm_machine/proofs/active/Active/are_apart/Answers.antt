@@ -1,6 +1,6 @@
-use Rattle.std.proofs.{Common.{map, arith, Contains}, lemmas.List.{length-map}}
-use Rattle.mm_machine.specs.{Language.{Frame.{Symbol}, CitedFrames.{meant_pairs}}, Code.PairClause.{Apart}}
-use Rattle.mm_machine.proofs.lemmas.machine.{FlatLemmas.{mapped_get}, ApartLemmas.{each_more, each_all, contains_at}}
+use Rattle.std.proofs.{lemmas.{Grind.{common_steps}, List.{length-map}}, Common.{map, arith, Contains}}
+use Rattle.mm_machine.{specs.{Language.{Frame.{Symbol}, CitedFrames.{meant_pairs}}, Code.PairClause.{Apart}}, proofs.lemmas.machine.FlatLemmas.{mapped_get}}
+use Rattle.mm_machine.proofs.lemmas.machine.ApartLemmas.{each_more, each_all, contains_at}
 use Rattle.mm_machine.proofs.active.Active.are_apart.Goals as goal
 
 pub loop-i-preserved : goal.loop-i-preserved
@@ -15,8 +15,4 @@ returns g c x y s t =
     each_all (λ x. (y : Symbol) → Contains (map m c.args.ys.now) y → Apart (meant_pairs m c.args.self.now.pairs.now) x y) (map m c.args.xs.now) c.loop-i.i (omega (arith, length-map c.args.xs.now m, c.loop-i-test.false)) c.loop-i.invariant x s y t
 
 pub returns-then-not-is_apart_from : goal.returns-then-not-is_apart_from
-returns-then-not-is_apart_from g c =
-    let m = g.S.Symbol.means in
-    let x = m c.index-xs-i.result in
-    let w = c.if-not-is_apart_from.ensures in
-    (x, w.0, contains_at (map m c.args.xs.now) c.loop-i.i x (mapped_get m c.args.xs.now c.loop-i.i c.index-xs-i.result c.loop-i-test.true c.index-xs-i.is), w.1, w.2)
+returns-then-not-is_apart_from g c = grind (arith, common_steps, contains_at, mapped_get) steps 200000

@@ -1,6 +1,5 @@
 use Rattle.std.specs.Prelude.{Contains, map}
-use Rattle.mm_machine.specs.{Language.{Frame.{Symbol}, CitedFrames.{meant_pairs}}, Code.PairClause.{Apart}}
-use Rattle.mm_machine.proofs.lemmas.machine.ApartLemmas.{EachUpTo}
+use Rattle.mm_machine.{specs.{Language.{Frame.{Symbol}, CitedFrames.{meant_pairs}}, Code.PairClause.{Apart}}, proofs.lemmas.machine.ApartLemmas.{EachUpTo}}
 use Rattle.mm_machine.proofs.active.Active.are_apart.Given as goal
 
 abbrev pub invariant-loop-i : goal.invariant-loop-i

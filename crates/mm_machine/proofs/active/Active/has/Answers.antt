@@ -1,4 +1,4 @@
-use Rattle.std.proofs.{Common.{[], false, get_or, arith, refl, sym, ◌∙◌, ap}, lemmas.{Bool.{false≢true}, List.{length-map}, Option.{slice_get-get_or}}}
+use Rattle.std.proofs.{Common.{rules, [], false, get_or, arith, refl, sym, ◌∙◌, ap}, lemmas.{Bool.{false≢true}, List.{length-map}, Option.{slice_get-get_or}}}
 use Rattle.mm_machine.specs.{Language.{Frame.{Symbol}, NumberedSymbols.{comes_before}, CitedFrames.{meant_pairs, meant_pair}, Keys.{pair_keys}}, Code.PairClause.{IsPair}}
 use Rattle.mm_machine.proofs.lemmas.machine.{ApartLemmas.{pair_found, pair_nowhere, each_more}, KeyOrderLemmas.{none_before, none_behind}}
 use Rattle.mm_machine.proofs.active.Active.has.Goals as goal
@@ -14,13 +14,10 @@ returns-then-is_before g c =
     let m = g.S.Symbol.means in
     let d : Symbol = record { name = []; variable = false } in
     let pairs = meant_pairs m c.args.self.now.pairs.now in
-    let n = c.loop-place.place in
-    let at = get_or pairs n (d, d) in
-    let there = slice_get-get_or pairs n (d, d) (omega (arith, length-map c.args.self.now.pairs.now (meant_pair m), c.loop-place-test.true)) in
-    let before = (λ i. comes_before (sym c.keys-wanted.ensures i) (sym (c.keys_at.ensures at there) i)) ∙ sym c.is_before.ensures ∙ c.if-is_before.true in (
-      λ t. absurd (false≢true t),
-      λ s. absurd (none_behind g.S.Kept.key_of pairs n at (m c.args.x.now) (m c.args.y.now) c.args.self.now.order there before c.loop-place.invariant s),
-    )
+    let at = get_or pairs c.loop-place.place (d, d) in
+    let there = slice_get-get_or pairs c.loop-place.place (d, d) (omega (arith, length-map c.args.self.now.pairs.now (meant_pair m), c.loop-place-test.true)) in
+    let before = (λ i. comes_before (sym c.keys-wanted.ensures i) (sym (c.keys_at.ensures at there) i)) ∙ sym c.is_before.ensures ∙ c.if-is_before.true in
+    search (rules, false≢true, none_behind) steps 500000
 
 pub returns-then-is_at : goal.returns-then-is_at
 returns-then-is_at g c =

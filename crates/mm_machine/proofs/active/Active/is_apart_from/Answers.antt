@@ -1,6 +1,5 @@
 use Rattle.std.proofs.{Common.{map, arith}, lemmas.{List.{length-map}, Grind.{common_steps}}}
-use Rattle.mm_machine.specs.{Code.PairClause.{Apart}, Language.CitedFrames.{meant_pairs}}
-use Rattle.mm_machine.proofs.lemmas.machine.{FlatLemmas.{mapped_get}, ApartLemmas.{each_more, each_all}}
+use Rattle.mm_machine.{specs.{Code.PairClause.{Apart}, Language.CitedFrames.{meant_pairs}}, proofs.lemmas.machine.{FlatLemmas.{mapped_get}, ApartLemmas.{each_more, each_all}}}
 use Rattle.mm_machine.proofs.active.Active.is_apart_from.Goals as goal
 
 pub loop-i-preserved : goal.loop-i-preserved

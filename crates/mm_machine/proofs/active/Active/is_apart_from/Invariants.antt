@@ -1,6 +1,5 @@
 use Rattle.std.proofs.Common.{map}
-use Rattle.mm_machine.specs.{Code.PairClause.{Apart}, Language.CitedFrames.{meant_pairs}}
-use Rattle.mm_machine.proofs.lemmas.machine.ApartLemmas.{EachUpTo}
+use Rattle.mm_machine.{specs.{Code.PairClause.{Apart}, Language.CitedFrames.{meant_pairs}}, proofs.lemmas.machine.ApartLemmas.{EachUpTo}}
 use Rattle.mm_machine.proofs.active.Active.is_apart_from.Given as goal
 
 abbrev pub invariant-loop-i : goal.invariant-loop-i

@@ -1,6 +1,5 @@
 use Rattle.std.proofs.{Common.{map, get_or, arith}, lemmas.Option.{slice_get-get_or}}
-use Rattle.mm_machine.specs.{declared.pattern.Entry.{Entry}, Code.Flat.{read, read_all}}
-use Rattle.mm_machine.proofs.lemmas.machine.{FlatLemmas.{mapped_or_get}, ApartLemmas.{gathers_step}}
+use Rattle.mm_machine.{specs.{declared.pattern.Entry.{Entry}, Code.Flat.{read, read_all}}, proofs.lemmas.machine.{FlatLemmas.{mapped_or_get}, ApartLemmas.{gathers_step}}}
 use Rattle.mm_machine.proofs.gather.Gathered.gather_all.Goals as goal
 
 pub loop-place-preserved : goal.loop-place-preserved

@@ -1,6 +1,5 @@
 use Rattle.std.proofs.{Common.{arith}, lemmas.Grind.{common_steps}}
-use Rattle.mm_machine.specs.Language.CitedFrames.{mandatory_of}
-use Rattle.mm_machine.proofs.lemmas.machine.FlatLemmas.{range_mapped}
+use Rattle.mm_machine.{specs.Language.CitedFrames.{mandatory_of}, proofs.lemmas.machine.FlatLemmas.{range_mapped}}
 use Rattle.mm_machine.proofs.machine.Machine.cite.Goals as goal
 
 pub cite_frame-requires-clause-whole : goal.cite_frame-requires-clause-whole
@@ -10,11 +9,7 @@ pub cite_frame-requires-clause-frame : goal.cite_frame-requires-clause-frame
 cite_frame-requires-clause-frame g c = rw (range_mapped (mandatory_of g.S.Symbol.means) c.args.cited.now.first c.args.cited.now.last c.args.mandatory.now) c.requires.frame.frame
 
 pub returns : goal.returns
-returns g c = record {
-  cites = rw (range_mapped (mandatory_of g.S.Symbol.means) c.args.cited.now.first c.args.cited.now.last c.args.mandatory.now) at c.cite_frame.ensures.cites;
-  whole = c.cite_frame.ensures.whole;
-  saved = c.cite_frame.ensures.saved;
-}
+returns g c = grind (arith, range_mapped (mandatory_of g.S.Symbol.means) c.args.cited.now.first c.args.cited.now.last c.args.mandatory.now) steps 200000
 
 pub offset_bounds-mandatory-cited : goal.offset_bounds-mandatory-cited
 offset_bounds-mandatory-cited g c = grind (arith, common_steps)

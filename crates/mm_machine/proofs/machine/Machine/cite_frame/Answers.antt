@@ -1,7 +1,7 @@
 use Rattle.std.proofs.{Common.{◌≡◌, ◌-◌, ◌++◌, ◌∷◌, [], List, map, take, drop, length, sym, ◌∙◌, ap, subst, arith, refl}, lemmas.{List.{length-map, length-drop, length-take}, Grind.{common_steps}}}
-use Rattle.mm_machine.specs.{Language.{Steps.{Cites}, Substitution.{substituted}, CitedFrames.{mandatory_of, meant_pairs}}, declared.pattern.Entry.{Entry}}
-use Rattle.mm_machine.specs.Code.{Flat.{read, read_all}, Citation.{frame_from}}
-use Rattle.mm_machine.proofs.lemmas.machine.{EntryFaults.{gives_all, hypotheses_known}, CitingFaults.{cited_by, says08}, StackLemmas.{entries_taken, slice_taken, all_taken}}
+use Rattle.mm_machine.specs.{Language.{Steps.{Cites}, Substitution.{substituted}, CitedFrames.{mandatory_of, meant_pairs}}, declared.pattern.Entry.{Entry}, Code.Flat.{read, read_all}}
+use Rattle.mm_machine.{specs.Code.Citation.{frame_from}, proofs.lemmas.machine.{EntryFaults.{gives_all, hypotheses_known}, CitingFaults.{cited_by, says08}}}
+use Rattle.mm_machine.proofs.lemmas.machine.StackLemmas.{entries_taken, slice_taken, all_taken}
 use Rattle.mm_machine.proofs.machine.Machine.cite_frame.Goals as goal
 
 pub returns-in-Some-2 : goal.returns-in-Some-2
@@ -10,13 +10,10 @@ returns-in-Some-2 g c =
     let symbols = c.args.self.now.symbols.items in
     let es = c.args.self.now.stack.items in
     let hs = c.args.hypotheses.now in
-    let frame = frame_from m hs c.args.expression.now c.args.pairs.now in
-    let n = length hs in
     let k = c.args.self.now.stack.ok in
-    let below = c.len-2.result - n in
-    let says = rw c.in-Some-2.is at c.in_ok-number.ensures in
+    let below = c.len-2.result - (length hs) in
     record {
-      cites = says (read_all (map m symbols) es) (omega (arith, c.len.ensures, k, c.if-len-count.false, length-map es (read (map m symbols)), length-map hs (mandatory_of m)))
+      cites = (rw c.in-Some-2.is at c.in_ok-number.ensures) (read_all (map m symbols) es) (omega (arith, c.len.ensures, k, c.if-len-count.false, length-map es (read (map m symbols)), length-map hs (mandatory_of m)))
           (entries_taken m hs c.args.expression.now c.args.pairs.now (map m symbols) es below (omega (arith, c.len.ensures, c.len-2.ensures, k, c.if-len-count.false)) ∙ sym (slice_taken c.deref-symbols.result.now symbols
           m c.deref.result.now es below c.deref-symbols.ensures.value c.deref.ensures.value));
       whole = c.requires.whole;
@@ -30,13 +27,11 @@ returns g c =
     let es = c.args.self.now.stack.items in
     let hs = c.args.hypotheses.now in
     let frame = frame_from m hs c.args.expression.now c.args.pairs.now in
-    let n = length hs in
     let k = c.args.self.now.stack.ok in
-    let below = c.len-2.result - n in
+    let below = c.len-2.result - (length hs) in
     let stack = read_all (map m symbols) es in
     let entries : List Entry = take (length c.deref.result.now - below) (drop below c.deref.result.now) in
     let taken = slice_taken c.deref-symbols.result.now symbols m c.deref.result.now es below c.deref-symbols.ensures.value c.deref.ensures.value in
-    let says = rw c.in_default-2.is at c.in_ok-number.ensures in
     let active = meant_pairs m c.args.active.now.pairs.now in
     let here : length stack - length frame.hypotheses ≡ below = omega (arith, length-map es (read (map m symbols)), length-map hs (mandatory_of m), k, c.len-2.ensures) in
     let result = map m c.in_ok-self.field-0.items in
@@ -45,7 +40,7 @@ returns g c =
           (ap length taken ∙ omega (arith, length-map (drop below es) (read (map m symbols)), length-drop below es, length-map hs (mandatory_of m), c.len.ensures, c.len-2.ensures, k, c.if-len-count.false))
           (omega (arith, c.len.ensures, k, c.if-len-count.false, length-map es (read (map m symbols)), length-map hs (mandatory_of m)))
           (entries_taken m hs c.args.expression.now c.args.pairs.now (map m symbols) es below (omega (arith, c.len.ensures, c.len-2.ensures, k, c.if-len-count.false)) ∙ sym taken)
-          says result
+          (rw c.in_default-2.is at c.in_ok-number.ensures) result
           (λ given gives. c.in_ok-self.ensures given (gives_all frame.hypotheses given (read_all (map m c.deref-symbols.result.now) entries) frame.expression
           (hypotheses_known frame c.requires.frame) gives c.requires.frame.expression_typed) ∙ ap (λ w. map m w ++ substituted given
           (map m c.args.expression.now)) (ap (λ (w : _). w.items) c.replace-others.ensures.value ∙ c.reserve.ensures.items ∙ c.clear.ensures.items)) in
@@ -57,10 +52,9 @@ returns g c =
 pub citing_fault-requires : goal.citing_fault-requires
 citing_fault-requires g c =
     let below = c.len-2.result - length c.args.hypotheses.now in
-    let k = c.args.self.now.stack.ok in
     record {
       within = all_taken c.args.self.now.symbols.items c.deref-symbols.result.now c.args.self.now.stack.items c.deref.result.now below c.deref-symbols.ensures.value c.deref.ensures.value c.requires.whole.within;
-      count = omega (arith, length-take {A = Entry}, length-drop {A = Entry}, ap length c.deref.ensures.value, c.len.ensures, c.len-2.ensures, k, c.if-len-count.false);
+      count = omega (arith, length-take {A = Entry}, length-drop {A = Entry}, ap length c.deref.ensures.value, c.len.ensures, c.len-2.ensures, c.args.self.now.stack.ok, c.if-len-count.false);
       frame = c.requires.frame;
       typecodes = c.in-Some.ensures.0;
       before = c.in-Some.ensures.1;
@@ -86,13 +80,12 @@ returns-in_default g c =
     let symbols = c.args.self.now.symbols.items in
     let es = c.args.self.now.stack.items in
     let hs = c.args.hypotheses.now in
-    let frame = frame_from m hs c.args.expression.now c.args.pairs.now in
     let k = c.args.self.now.stack.ok in
     let below = c.len-2.result - length hs in
     let entries : List Entry = take (length c.deref.result.now - below) (drop below c.deref.result.now) in
     let taken = slice_taken c.deref-symbols.result.now symbols m c.deref.result.now es below c.deref-symbols.ensures.value c.deref.ensures.value in
     record {
-      cites = says08 (meant_pairs m c.args.active.now.pairs.now) frame (read_all (map m c.deref-symbols.result.now) entries) c.requires.frame
+      cites = says08 (meant_pairs m c.args.active.now.pairs.now) (frame_from m hs c.args.expression.now c.args.pairs.now) (read_all (map m c.deref-symbols.result.now) entries) c.requires.frame
           (ap length taken ∙ omega (arith, length-map (drop below es) (read (map m symbols)), length-drop below es, length-map hs (mandatory_of m), c.len.ensures, c.len-2.ensures, k, c.if-len-count.false))
           c.in_default.ensures (read_all (map m symbols) es)
           (omega (arith, c.len.ensures, k, c.if-len-count.false, length-map es (read (map m symbols)), length-map hs (mandatory_of m)))

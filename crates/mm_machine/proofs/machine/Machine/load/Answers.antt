@@ -1,6 +1,5 @@
 use Rattle.std.proofs.{Common.{map, length, sym, arith}, lemmas.{List.{length-map}, Grind.{elements}}}
-use Rattle.mm_machine.specs.declared.pattern.Entry.{Entry}
-use Rattle.mm_machine.proofs.lemmas.machine.StackLemmas.{pushed_all, grown_all, wider}
+use Rattle.mm_machine.{specs.declared.pattern.Entry.{Entry}, proofs.lemmas.machine.StackLemmas.{pushed_all, grown_all, wider}}
 use Rattle.mm_machine.proofs.machine.Machine.load.Goals as goal
 
 pub returns-clause-saved : goal.returns-clause-saved

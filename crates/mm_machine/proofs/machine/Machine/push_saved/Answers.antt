@@ -1,6 +1,6 @@
 use Rattle.std.proofs.{Common.{◌++◌, ◌∷◌, [], List, map, sym, ◌∙◌, ap, arith, refl, length, subst, ◌≡◌}, lemmas.List.{map-append}}
-use Rattle.mm_machine.specs.{Language.Frame.{Symbol}, declared.pattern.Entry.{Entry}, Code.Flat.{read, read_all, IsEntryWithin}}
-use Rattle.mm_machine.proofs.lemmas.machine.{FlatLemmas.{mapped_at}, StackLemmas.{whole_pushed}}
+use Rattle.mm_machine.{specs.{Language.Frame.{Symbol}, declared.pattern.Entry.{Entry}, Code.Flat.{read, read_all, IsEntryWithin}}, proofs.lemmas.machine.FlatLemmas.{mapped_at}}
+use Rattle.mm_machine.proofs.lemmas.machine.StackLemmas.{whole_pushed}
 use Rattle.mm_machine.proofs.machine.Machine.push_saved.Goals as goal
 
 pub returns : goal.returns
@@ -11,8 +11,6 @@ returns g c =
     let new : Entry = record { start = x.start; end = x.end; floor = c.len-floor.result } in
     let floor : new.floor ≡ n = omega (arith, c.len-floor.ensures, machine.symbols.ok) in
     let within = subst (IsEntryWithin machine.kept) (sym c.index.ensures) (c.requires.whole.saved_within c.args.number x c.requires.in_range) in
-    let low = c.requires.whole.kept_within in
-    let high = within.1 in
     record {
       stack = λ e at. let symbols = map g.S.Symbol.means c.args.self.now.symbols.items in
           let saved = mapped_at (read symbols) c.args.self.now.saved.items c.args.number x e c.requires.in_range c.index.ensures at in

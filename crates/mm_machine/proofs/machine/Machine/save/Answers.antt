@@ -1,6 +1,5 @@
 use Rattle.std.proofs.{Common.{◌-◌, ◌∷◌, [], map, take, refl, ◌∙◌, ap, arith}, lemmas.List.{map-append}}
-use Rattle.mm_machine.specs.Code.Flat.{read, read_all}
-use Rattle.mm_machine.proofs.lemmas.machine.StackLemmas.{top_of}
+use Rattle.mm_machine.{specs.Code.Flat.{read, read_all}, proofs.lemmas.machine.StackLemmas.{top_of}}
 use Rattle.mm_machine.proofs.machine.Machine.save.Goals as goal
 
 pub returns-then-entry-self-clause-saves : goal.returns-then-entry-self-clause-saves

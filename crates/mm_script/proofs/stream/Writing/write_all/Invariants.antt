@@ -1,5 +1,4 @@
-use Rattle.std.proofs.Common.{ℕ, length, min, take, ◌+◌, ◌-◌, ◌≡◌, ◌<◌, ◌≤◌, false}
-use Rattle.std.specs.Io.KnownBytes.{Appends}
+use Rattle.std.{proofs.Common.{ℕ, length, min, take, ◌+◌, ◌-◌, ◌≡◌, ◌<◌, ◌≤◌, false}, specs.Io.KnownBytes.{Appends}}
 use Rattle.mm_script.proofs.stream.Writing.write_all.Given as goal
 
 abbrev pub invariant-loop-at : goal.invariant-loop-at

@@ -1,7 +1,7 @@
-use Rattle.std.proofs.{Common.{[], ◌∙◌, sym, ap, subst, length, get_or, arith, All}, lemmas.{Option.{slice_get_within, get_or_from_slice_get}, List.Elements.{All-get_or}}}
+use Rattle.std.proofs.{lemmas.{Grind.{common_steps}, Option.{slice_get_within, get_or_from_slice_get}, List.Elements.{All-get_or}}, Common.{[], ◌∙◌, sym, ap, subst, length, get_or, arith, All}}
 use Rattle.mm_store.specs.mm_text.Language.{Unit.{tokens_of}, WordsLeft.{WordsLeft}}
-use Rattle.mm_statement.specs.{Language.{Item.{Item}, Statement.{kind_of, item_of}}, Code.PlainWords.{LiesInText}}
-use Rattle.mm_statement.proofs.{SpokenLemmas.{Reads, behind_one, item_read, count_bytes}, WordNumbers.{spelled_at}}
+use Rattle.mm_statement.{specs.{Language.{Item.{Item}, Statement.{kind_of, item_of}}, Code.PlainWords.{LiesInText}}, proofs.SpokenLemmas.{Reads, behind_one, item_read, count_bytes}}
+use Rattle.mm_statement.proofs.WordNumbers.{spelled_at}
 use Rattle.mm_statement.proofs.statement.Statement.new.Goals as goal
 
 pub invariant_of-result : goal.invariant_of-result
@@ -15,13 +15,7 @@ invariant_of-result c =
     let first = c.next_word-keyword.new.self.words in
     let symbols = c.in_ok-symbols.symbols.items in
     let rest = c.read_symbols.new.words.words in
-    let reads : Reads kind words label symbols rest = record {
-      behind = behind;
-      takes = c.read_label-label.ensures.label;
-      first = first;
-      keyword = behind_one behind first c.next_word-keyword.result c.next_word-keyword.ensures.word;
-      all = record { are = c.in_ok-symbols.ensures.symbols; rest = c.in_ok-symbols.ensures.rest };
-    } in
+    let reads : Reads kind words label symbols rest = grind (arith, common_steps, behind_one behind first c.next_word-keyword.result c.next_word-keyword.ensures.word) steps 200000 in
     let read = item_read kind text words label symbols rest reads ∙ ap (λ (w : WordsLeft). item_of kind (tokens_of text w.words)) again in
     let from = c.next_word-keyword.ensures.text ∙ c.read_label-label.ensures.text ∙ ap (λ (w : WordsLeft). w.text) again ∙ c.requires.same_text in
     let lie = subst (λ bytes. All (LiesInText bytes) symbols) from c.in_ok-symbols.ensures.within in

@@ -1,6 +1,5 @@
 use Rattle.std.proofs.{Common.{◌≡◌, ℕ, ◌+◌, ◌<◌, Some, List, [], length, get_or, ◌∙◌, sym, ap, subst, slice_get}, lemmas.Option.{slice_get-get_or}}
-use Rattle.mm_statement.specs.Language.Item.{Item}
-use Rattle.mm_statement.proofs.WordNumbers.{name_there}
+use Rattle.mm_statement.{specs.Language.Item.{Item}, proofs.WordNumbers.{name_there}}
 use Rattle.mm_statement.specs.Language.Statement as spoken
 use Rattle.mm_statement.proofs.statement.Statement.symbol.Goals as goal
 

@@ -1,5 +1,4 @@
-use Rattle.std.proofs.{Common.{◌≡◌, ◌<◌, length, take, ap, ◌∙◌, arith}, lemmas.List.Edits.{length-remove}}
-use Rattle.std.specs.List.{remove}
+use Rattle.std.{proofs.{Common.{◌≡◌, ◌<◌, length, take, ap, ◌∙◌, arith}, lemmas.List.Edits.{length-remove}}, specs.List.{remove}}
 use Rattle.mm_store.proofs.lemmas.places.StartLemmas.{known_same, take_remove}
 use Rattle.mm_store.proofs.file_text.FileText.delete_key.Goals as goal
 

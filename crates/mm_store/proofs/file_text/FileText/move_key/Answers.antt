@@ -1,5 +1,4 @@
-use Rattle.std.proofs.{Common.{◌≡◌, ◌+◌, ◌<◌, ◌≤◌, length, take, ap, ◌∙◌, arith}, lemmas.List.Edits.{length-insert, length-remove}}
-use Rattle.std.specs.List.{insert, remove}
+use Rattle.std.{proofs.{Common.{◌≡◌, ◌+◌, ◌<◌, ◌≤◌, length, take, ap, ◌∙◌, arith}, lemmas.List.Edits.{length-insert, length-remove}}, specs.List.{insert, remove}}
 use Rattle.mm_store.proofs.lemmas.places.StartLemmas.{known_same, take_insert, take_remove}
 use Rattle.mm_store.proofs.file_text.FileText.move_key.Goals as goal
 

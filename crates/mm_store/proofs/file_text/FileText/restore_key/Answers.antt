@@ -1,5 +1,4 @@
-use Rattle.std.proofs.{Common.{◌≡◌, ◌≤◌, length, take, ap, ◌∙◌, arith}, lemmas.List.Edits.{length-insert}}
-use Rattle.std.specs.List.{insert}
+use Rattle.std.{proofs.{Common.{◌≡◌, ◌≤◌, length, take, ap, ◌∙◌, arith}, lemmas.List.Edits.{length-insert}}, specs.List.{insert}}
 use Rattle.mm_store.proofs.lemmas.places.StartLemmas.{known_same, take_insert}
 use Rattle.mm_store.proofs.file_text.FileText.restore_key.Goals as goal
 

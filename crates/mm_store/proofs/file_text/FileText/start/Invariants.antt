@@ -1,5 +1,4 @@
-use Rattle.std.proofs.Common.{map, take}
-use Rattle.std.specs.List.{concat}
+use Rattle.std.{proofs.Common.{map, take}, specs.List.{concat}}
 use Rattle.mm_store.specs.{Language.Pieces.{text_under}, Code.Lines.{IsStart}}
 use Rattle.mm_store.proofs.file_text.FileText.start.Given as goal
 

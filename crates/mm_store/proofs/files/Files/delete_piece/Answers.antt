@@ -1,9 +1,7 @@
-use Rattle.std.proofs.Common.{◌≡◌, ◌-◌, List, is_some, length, map, get_or, sym, ap, ◌∙◌, subst, arith}
-use Rattle.std.specs.List.{remove}
+use Rattle.std.{proofs.{lemmas.Grind.{common_steps}, Common.{◌≡◌, ◌-◌, List, is_some, length, map, get_or, sym, ap, ◌∙◌, subst, arith}}, specs.List.{remove}}
 use Rattle.mm_store.specs.Language.{EditedKeys.{deleted}, FilesView.{KeyedFile, plain_file}, Pieces.{Parked, Deleted, with_state, text_under}, Undoing.{keys_in, key_at}}
-use Rattle.mm_store.specs.Code.{Edited.{pieces_in, IsDeleted}, Kept.{keyed_file}}
-use Rattle.mm_store.proofs.lemmas.files.{FileLemmas.{lent, piece_is, in_keys, old_key, once_in, small_in}, KeptLemmas.{view_after, kept_edited}, PieceLemmas.{text_state}}
-use Rattle.mm_store.proofs.lemmas.edits.UndoLemmas.{is_deleted}
+use Rattle.mm_store.{specs.Code.{Edited.{pieces_in, IsDeleted}, Kept.{keyed_file}}, proofs.lemmas.files.FileLemmas.{lent, piece_is, in_keys, old_key, once_in, small_in}}
+use Rattle.mm_store.proofs.lemmas.{files.{KeptLemmas.{view_after, kept_edited}, PieceLemmas.{text_state}}, edits.UndoLemmas.{is_deleted}}
 use Rattle.std.specs.FinMap as finite
 use Rattle.mm_store.specs.Language.Undoing as action
 use Rattle.mm_store.proofs.lemmas.edits.StepLemmas as lemmas
@@ -13,11 +11,7 @@ pub unwrap-file-requires : goal.unwrap-file-requires
 unwrap-file-requires c = c.get_index_mut.ensures.found.1 (piece_is c.self.inside c.args.number c.args.at c.self.invariant c.self.view_is c.requires.there).entry
 
 pub delete_key-old-requires : goal.delete_key-old-requires
-delete_key-old-requires c = record {
-  there = in_keys c.self.inside c.args.number c.args.at _ (lent c.self.inside c.args.number c.self.invariant c.get_index_mut.ensures.value c.unwrap-file.ensures)
-      (piece_is c.self.inside c.args.number c.args.at c.self.invariant c.self.view_is c.requires.there);
-  room = (lent c.self.inside c.args.number c.self.invariant c.get_index_mut.ensures.value c.unwrap-file.ensures).has.room;
-}
+delete_key-old-requires c = grind (arith, common_steps, in_keys, lent, piece_is) steps 200000
 
 pub set_state-less-requires : goal.set_state-less-requires
 set_state-less-requires c =
@@ -47,11 +41,10 @@ invariant_of-self c =
     let old : c.delete_key-old.result ≡ get_or (keys_in fs n) at 0 = old_key file at done.value in
     let parked = with_state p (get_or (keys_in fs n) at 0) (Parked n Deleted) in
     let text = c.set_state-less.ensures.len ∙ ap (λ q. length (text_under p q)) old in
-    let bytes = lemmas.bytes_deleted fs p n at once there in
     kept_edited inside n c.unwrap-file.result.now c.delete_key-old.new.self file.here done.tail (remove (keys_in fs n) at) (done.items ∙ ap (λ ks. remove ks at) (sym file.keys))
     c.set_state-less.new.self parked (c.set_state-less.ensures.pieces ∙ ap (λ q. with_state p q (Parked n Deleted)) old) _ c.self.invariant
     (lemmas.once_deleted fs p n at once there) (lemmas.deletions_others fs p n at once there) (omega (arith, done.deleted, file.has.parked, lemmas.deletions_here fs p n at once there)) done.room
-    (omega (arith, bytes, c.self.invariant.counted, text)) (omega (arith, c.self.invariant.within))
+    (omega (arith, lemmas.bytes_deleted fs p n at once there, c.self.invariant.counted, text)) (omega (arith, c.self.invariant.within))
     (remove (pieces_in (map (plain_file p) fs) n) at) (lemmas.plain_deleted fs p n at once there)
     p (sym (lemmas.texts_all p parked (text_state p (get_or (keys_in fs n) at 0) (Parked n Deleted)) (remove (keys_in fs n) at))) piece.file (done.starts p file.starts)
 

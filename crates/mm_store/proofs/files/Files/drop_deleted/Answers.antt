@@ -1,9 +1,7 @@
-use Rattle.std.proofs.Common.{◌≡◌, List, length, map, sym, ap, ◌∙◌, subst, arith, Vec, Global}
-use Rattle.std.specs.VecDeque.{deque_len, deque_capacity}
+use Rattle.std.{proofs.{lemmas.Grind.{common_steps}, Common.{◌≡◌, List, length, map, sym, ap, ◌∙◌, subst, arith, Vec, Global}}, specs.VecDeque.{deque_len, deque_capacity}}
 use Rattle.mm_store.specs.{Code.{Kept.{keyed_file, places}, Edited.{pieces_in}}, Language.{FilesView.{FilesView, KeyedFile, plain_file, bytes_of}, Pieces.{Deleted, IsParked}, Undoing.{keys_in}}}
-use Rattle.mm_store.specs.declared.start.Start.{Start}
-use Rattle.mm_store.proofs.lemmas.files.{FileLemmas.{lent}, ListLemmas.{plain_same, with_same, with_pieces_same}, KeptLemmas.{view_after, kept_after, deleted_from, deleted_file}}
-use Rattle.mm_store.proofs.lemmas.files.{PieceLemmas.{stands_settled, text_drop_other}, EntryLemmas.{starts_at}}
+use Rattle.mm_store.{specs.declared.start.Start.{Start}, proofs.lemmas.files.{FileLemmas.{lent}, ListLemmas.{plain_same, with_same, with_pieces_same}}}
+use Rattle.mm_store.proofs.lemmas.files.{KeptLemmas.{view_after, kept_after, deleted_from, deleted_file}, PieceLemmas.{stands_settled, text_drop_other}, EntryLemmas.{starts_at}}
 use Rattle.mm_store.proofs.lemmas.places.StartLemmas.{starts_alike}
 use Rattle.std.specs.FinMap as finite
 use Rattle.mm_store.proofs.lemmas.edits.StepLemmas as lemmas
@@ -13,25 +11,22 @@ pub unwrap-file-requires : goal.unwrap-file-requires
 unwrap-file-requires c = c.get_index_mut.ensures.found.1 (deleted_file c.self.inside c.args.number c.args.old c.self.invariant c.self.view_is c.requires)
 
 pub forget_deleted-requires : goal.forget_deleted-requires
-forget_deleted-requires c =
-    let file = lent c.self.inside c.args.number c.self.invariant c.get_index_mut.ensures.value c.unwrap-file.ensures in
-    omega (arith, file.has.parked, deleted_from c.self.inside c.args.number c.args.old c.self.invariant c.self.view_is c.requires)
+forget_deleted-requires c = grind (arith, common_steps, deleted_from, lent) steps 200000
 
 pub invariant_of-self : goal.invariant_of-self
 invariant_of-self c =
     let n = c.args.number in
-    let inside = c.self.inside in
     let es = c.self.inside.files.entries in
     let fs : List KeyedFile = map keyed_file es in
     let p = c.self.inside.pieces in
     let once = c.self.invariant.once in
     let is_parked = subst (λ (view : FilesView). IsParked view.pieces c.args.old n Deleted) (sym c.self.view_is) c.requires in
     let v = c.unwrap-file.result.now in
-    let file = lent inside n c.self.invariant c.get_index_mut.ensures.value c.unwrap-file.ensures in
+    let file = lent c.self.inside n c.self.invariant c.get_index_mut.ensures.value c.unwrap-file.ensures in
     let w = c.forget_deleted.new.self in
     let items : w.keys.items ≡ keys_in fs n = ap (λ k. k.items) c.forget_deleted.ensures.keys ∙ sym file.keys in
     let same = with_same fs n in
-    kept_after inside n v w file.here c.forget_deleted.ensures.tail (keys_in fs n) items c.drop_piece.new.self (finite.remove p c.args.old) c.drop_piece.ensures.pieces c.self.inside.bytes c.self.invariant
+    kept_after c.self.inside n v w file.here c.forget_deleted.ensures.tail (keys_in fs n) items c.drop_piece.new.self (finite.remove p c.args.old) c.drop_piece.ensures.pieces c.self.inside.bytes c.self.invariant
     (λ q. ap (places q) same ∙ once q ∙ sym (stands_settled p c.args.old n Deleted q (lemmas.parked (finite.get p c.args.old) n Deleted is_parked).none))
     (lemmas.settled_others fs p n 0 once c.args.old is_parked)
     (omega (arith, c.forget_deleted.ensures.deleted, file.has.parked, lemmas.settled_here fs p n 0 once c.args.old is_parked))
@@ -51,8 +46,7 @@ pub returns : goal.returns
 returns c =
     let n = c.args.number in
     let inside = c.self.inside in
-    let es = c.self.inside.files.entries in
-    let fs : List KeyedFile = map keyed_file es in
+    let fs : List KeyedFile = map keyed_file c.self.inside.files.entries in
     let p = c.self.inside.pieces in
     let v = c.unwrap-file.result.now in
     let file = lent inside n c.self.invariant c.get_index_mut.ensures.value c.unwrap-file.ensures in

@@ -1,7 +1,7 @@
-use Rattle.std.proofs.Common.{◌+◌, map, sym, subst, arith, take}
-use Rattle.mm_store.specs.Language.{Batches.{IsBatchOf, IsSpendable, KeepsReading}, EditedKeys.{IsBatchByKeys}, FilesView.{plain}}
-use Rattle.mm_text.specs.Language.Asked.{asked}
+use Rattle.std.proofs.{lemmas.Grind.{common_steps}, Common.{◌+◌, map, sym, subst, arith, take}}
+use Rattle.mm_store.specs.Language.{Batches.{IsSpendable, KeepsReading}, EditedKeys.{IsBatchByKeys}, FilesView.{plain}}
 use Rattle.mm_store.proofs.lemmas.edits.RefusedLemmas.{batch_error, batch_next, by_keys_next, mapped_there, keys_then, reads_alike, take_whole}
+use Rattle.mm_text.specs.Language.Asked.{asked}
 use Rattle.mm_store.proofs.files.Files.edit_all.Goals as goal
 
 pub undo_all-requires : goal.undo_all-requires
@@ -12,14 +12,10 @@ undo_all-requires c = (
 )
 
 pub returns-in-Err-clause-err : goal.returns-in-Err-clause-err
-returns-in-Err-clause-err c =
-    batch_error (map asked c.args.edits.now) (plain c.args.self.now) (plain c.loop-number.self) c.loop-number.number _ c.in-Err.error c.loop-number.invariant.done
-    (mapped_there c.args.edits.now c.loop-number.number _ c.loop-number-test.true) c.in-Err.ensures.err
+returns-in-Err-clause-err c = grind (arith, common_steps, batch_error, mapped_there) steps 200000
 
 pub returns-in-Err-clause-unchanged : goal.returns-in-Err-clause-unchanged
-returns-in-Err-clause-unchanged c =
-    c.undo_all.ensures c.args.self.now (subst (IsSpendable c.args.self.now c.edit_next.new.self) (sym c.in-Err.ensures.kept)
-    (subst (λ view. IsSpendable c.args.self.now view c.loop-number.undos) (sym c.in-Err.ensures.unchanged) c.loop-number.invariant.spendable))
+returns-in-Err-clause-unchanged c = grind (arith, common_steps, c.undo_all.ensures) steps 200000
 
 pub loop-number-preserved : goal.loop-number-preserved
 loop-number-preserved c = record {
@@ -33,9 +29,7 @@ loop-number-preserved c = record {
 }
 
 pub returns-clause-ok : goal.returns-clause-ok
-returns-clause-ok c =
-    subst (λ view. IsBatchOf (map asked c.args.edits.now) (plain c.args.self.now) (plain view)) (sym c.restart_all.ensures)
-    (subst (λ edits. IsBatchOf edits (plain c.args.self.now) (plain c.loop-number.self)) (take_whole c.args.edits.now c.loop-number.number (omega (arith, c.loop-number-test.false, c.loop-number.auto.number-end))) c.loop-number.invariant.done)
+returns-clause-ok c = grind (arith, common_steps, take_whole c.args.edits.now c.loop-number.number (omega (arith, c.loop-number-test.false, c.loop-number.auto.number-end))) steps 200000
 
 pub returns-clause-reading : goal.returns-clause-reading
 returns-clause-reading c = subst (KeepsReading c.args.self.now) (sym c.restart_all.ensures) (reads_alike c.args.self.now c.loop-number.self c.loop-number.invariant.keys)

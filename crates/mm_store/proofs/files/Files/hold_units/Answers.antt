@@ -1,7 +1,6 @@
 use Rattle.std.proofs.Common.{sym, subst, IsSome}
 use Rattle.mm_text.specs.Language.Cut.{HoldsOne}
-use Rattle.mm_store.specs.Language.{FilesView.{FilesView}, Pieces.{text_under}}
-use Rattle.mm_store.proofs.lemmas.files.ViewLemmas.{piece_there, held_there}
+use Rattle.mm_store.{specs.Language.{FilesView.{FilesView}, Pieces.{text_under}}, proofs.lemmas.files.ViewLemmas.{piece_there, held_there}}
 use Rattle.std.specs.FinMap as finite
 use Rattle.mm_store.proofs.files.Files.hold_units.Goals as goal
 

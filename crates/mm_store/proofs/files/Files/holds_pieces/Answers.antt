@@ -1,6 +1,5 @@
 use Rattle.std.proofs.Common.{subst}
-use Rattle.mm_store.specs.Language.FileFacts.{HoldsPieces}
-use Rattle.mm_store.proofs.lemmas.files.HoldLemmas.{pieces_held}
+use Rattle.mm_store.{specs.Language.FileFacts.{HoldsPieces}, proofs.lemmas.files.HoldLemmas.{pieces_held}}
 use Rattle.mm_store.proofs.files.Files.holds_pieces.Goals as goal
 
 pub returns : goal.returns

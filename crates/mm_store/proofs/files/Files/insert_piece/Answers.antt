@@ -1,9 +1,8 @@
-use Rattle.std.proofs.{Common.{◌+◌, ◌<◌, ◌≤◌, List, Result, Ok, Err, length, map, refl, sym, ap, ◌∙◌, subst, arith, Global}, lemmas.{List.{length-map}, Option.{same_Some}}}
+use Rattle.std.proofs.{lemmas.{Grind.{common_steps}, List.{length-map}, Option.{same_Some}}, Common.{◌+◌, ◌<◌, ◌≤◌, List, Result, Ok, Err, length, map, refl, sym, ap, ◌∙◌, subst, arith}}
 use Rattle.std.specs.{List.{insert}, Result.{OnErr}}
 use Rattle.indexmap.specs.IndexMap.{with_value_at}
-use Rattle.mm_store.specs.declared.files.Files.TheInside.{Inside}
-use Rattle.mm_store.specs.Language.{EditedKeys.{inserted}, FilesView.{FilesView, KeyedFile, plain, plain_file, bytes_of}, Pieces.{standing_piece, text_under}, Undoing.{keys_in}}
-use Rattle.mm_store.specs.Code.{Edited.{pieces_in, with_pieces, IsInserted}, Kept.{keyed_file}, Room.{HasRoomForOne}, Starts.{KnowsStarts}}
+use Rattle.mm_store.specs.{declared.files.Files.TheInside.{Inside}, Language.{EditedKeys.{inserted}, FilesView.{FilesView, KeyedFile, plain, plain_file, bytes_of}}}
+use Rattle.mm_store.specs.{Language.{Pieces.{standing_piece, text_under}, Undoing.{keys_in}}, Code.{Edited.{pieces_in, with_pieces}, Kept.{keyed_file}, Starts.{KnowsStarts}}}
 use Rattle.mm_store.proofs.lemmas.{files.{FileLemmas.{lent, once_in, small_in}, KeptLemmas.{file_in, length_set, reserved, texts_set, view_after, kept_edited}}, places.ChangeLemmas.{starts_here}}
 use Rattle.mm_store.proofs.lemmas.edits.UndoLemmas.{is_inserted}
 use Rattle.std.specs.FinMap as finite
@@ -16,9 +15,7 @@ on_err (Ok x) P p = tt
 on_err (Err e) P p = p
 
 pub unwrap-file-requires : goal.unwrap-file-requires
-unwrap-file-requires c =
-    let file = subst (λ (view : FilesView). c.args.number < length view.keyed) (sym c.self.view_is) c.requires.file in
-    c.get_index_mut.ensures.found.1 (omega (arith, file, length-map c.self.inside.files.entries (keyed_file {Y = Global})))
+unwrap-file-requires c = grind (arith, common_steps, length-map) steps 200000
 
 pub reserve_one-requires : goal.reserve_one-requires
 reserve_one-requires c = record { room = (lent c.self.inside c.args.number c.self.invariant c.get_index_mut.ensures.value c.unwrap-file.ensures).has.room }
@@ -48,9 +45,7 @@ returns-in_err-key-clause-err c =
     on_err c.from_residual-in_err-key.result _ (reserved c.self.inside c.args.number _ _ file.here done.tail done.items c.put.new.self c.in_err-key.ensures.err c.self.invariant c.self.view_is done.deleted done.room done.known done.starts).1
 
 pub unwrap-file_again-requires : goal.unwrap-file_again-requires
-unwrap-file_again-requires c =
-    let file = lent c.self.inside c.args.number c.self.invariant c.get_index_mut.ensures.value c.unwrap-file.ensures in
-    c.get_index_mut-2.ensures.found.1 (omega (arith, file_in c.self.inside.files.entries c.args.number _ file.here, length_set c.self.inside.files.entries c.args.number c.reserve_one.new.self))
+unwrap-file_again-requires c = grind (arith, common_steps, file_in, length_set, lent) steps 200000
 
 pub put_key-requires : goal.put_key-requires
 put_key-requires c =
@@ -58,11 +53,7 @@ put_key-requires c =
     let done = c.reserve_one.ensures in
     let made = reserved c.self.inside c.args.number _ _ file.here done.tail done.items c.self.inside.pieces refl c.self.invariant c.self.view_is done.deleted done.room done.known done.starts in
     let again = lent _ c.args.number made.0 c.get_index_mut-2.ensures.value c.unwrap-file_again.ensures in
-    let there = subst (λ (view : FilesView). c.args.at ≤ length (keys_in view.keyed c.args.number)) (sym made.1) c.requires.there in
-    record {
-      there = omega (arith, there, ap length again.keys, c.unwrap-file_again.result.now.keys.ok.0);
-      room = subst HasRoomForOne (same_Some _ _ (sym (texts_set c.self.inside.files.entries c.args.number _ c.reserve_one.new.self file.here) ∙ again.here)) c.in_ok-reserve_one.ensures.ok;
-    }
+    grind (arith, common_steps, same_Some _ _ (sym (texts_set c.self.inside.files.entries c.args.number _ c.reserve_one.new.self file.here) ∙ again.here)) steps 200000
 
 pub invariant_of-self-2 : goal.invariant_of-self-2
 invariant_of-self-2 c =
@@ -108,5 +99,4 @@ returns-clause-ok c =
     let is = view_after inside n c.unwrap-file_again.result.now c.put_key.new.self again.here now.tail (insert (keys_in fs n) at k) (now.items ∙ ap (λ ks. insert ks at k) (sym again.keys)) c.put.new.self
     (finite.insert inside.pieces k (standing_piece t)) c.in_ok-key.ensures.ok (inside.bytes + c.len-more.result) ∙ ap (λ v. inserted v n at k t) made.1 in
     let fresh = ap (λ (v : FilesView). finite.get v.pieces k) (sym c.self.view_is) ∙ c.in_ok-key.ensures.fresh in
-    subst (λ new. IsInserted c.args.self.now new n at t (record { file = n; action = action.Inserted at })) (sym is)
-    (is_inserted c.args.self.now n at (once_in c.self.invariant c.self.view_is) (small_in c.self.invariant c.self.view_is) k t c.requires.file c.requires.there fresh)
+    grind (arith, common_steps, action.Inserted at, is_inserted c.args.self.now n at (once_in c.self.invariant c.self.view_is) (small_in c.self.invariant c.self.view_is) k t c.requires.file c.requires.there fresh) steps 200000

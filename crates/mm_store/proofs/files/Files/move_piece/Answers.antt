@@ -1,5 +1,4 @@
-use Rattle.std.proofs.Common.{[], List, map, get_or, refl, sym, ap, ◌∙◌, subst, arith}
-use Rattle.std.specs.List.{insert, remove}
+use Rattle.std.{proofs.{lemmas.Grind.{common_steps}, Common.{[], List, map, get_or, refl, sym, ap, ◌∙◌, subst, arith}}, specs.List.{insert, remove}}
 use Rattle.mm_store.specs.{Code.{Edited.{pieces_in, IsMoved}, Kept.{keyed_file}}, Language.{FilesView.{KeyedFile, plain_file}, Undoing.{keys_in, moved_list, moved}}}
 use Rattle.mm_store.proofs.lemmas.{files.{FileLemmas.{lent, piece_is, in_keys, once_in, small_in}, KeptLemmas.{view_after, kept_edited}}, edits.UndoLemmas.{is_moved}}
 use Rattle.mm_store.specs.Language.Undoing as action
@@ -10,13 +9,7 @@ pub unwrap-file-requires : goal.unwrap-file-requires
 unwrap-file-requires c = c.get_index_mut.ensures.found.1 (piece_is c.self.inside c.args.number c.args.at c.self.invariant c.self.view_is c.requires.there).entry
 
 pub move_key-requires : goal.move_key-requires
-move_key-requires c = record {
-  there = in_keys c.self.inside c.args.number c.args.at _ (lent c.self.inside c.args.number c.self.invariant c.get_index_mut.ensures.value c.unwrap-file.ensures)
-      (piece_is c.self.inside c.args.number c.args.at c.self.invariant c.self.view_is c.requires.there);
-  there_too = in_keys c.self.inside c.args.number c.args.to _ (lent c.self.inside c.args.number c.self.invariant c.get_index_mut.ensures.value c.unwrap-file.ensures)
-      (piece_is c.self.inside c.args.number c.args.to c.self.invariant c.self.view_is c.requires.there_too);
-  room = (lent c.self.inside c.args.number c.self.invariant c.get_index_mut.ensures.value c.unwrap-file.ensures).has.room;
-}
+move_key-requires c = grind (arith, common_steps, in_keys, lent, piece_is) steps 200000
 
 pub invariant_of-self : goal.invariant_of-self
 invariant_of-self c =
@@ -44,6 +37,7 @@ returns c =
     let fs : List KeyedFile = map keyed_file inside.files.entries in
     let file = lent inside n c.self.invariant c.get_index_mut.ensures.value c.unwrap-file.ensures in
     let items = c.move_key.ensures.items ∙ ap (λ ks. moved_list ks at to) (sym file.keys) in
-    let is = view_after inside n c.unwrap-file.result.now c.move_key.new.self file.here c.move_key.ensures.tail (moved_list (keys_in fs n) at to) items inside.pieces inside.pieces refl inside.bytes ∙ ap (λ v. moved v n at to) c.self.view_is in
+    let is =
+    view_after inside n c.unwrap-file.result.now c.move_key.new.self file.here c.move_key.ensures.tail (moved_list (keys_in fs n) at to) items inside.pieces inside.pieces refl inside.bytes ∙ ap (λ v. moved v n at to) c.self.view_is in
     subst (λ new. IsMoved c.args.self.now new n at to (record { file = n; action = action.Moved at to })) (sym is)
     (is_moved c.args.self.now n at (once_in c.self.invariant c.self.view_is) (small_in c.self.invariant c.self.view_is) c.requires.there to c.requires.there_too)

@@ -1,5 +1,4 @@
-use Rattle.std.proofs.{Common.{◌≡◌, map, refl, sym, ap, ◌∙◌, subst, arith}, lemmas.List.{nil_from_length}}
-use Rattle.std.specs.Ordering.{nat_cmp}
+use Rattle.std.{proofs.{Common.{◌≡◌, map, refl, sym, ap, ◌∙◌, subst, arith}, lemmas.List.{nil_from_length}}, specs.Ordering.{nat_cmp}}
 use Rattle.mm_store.specs.{Code.Kept.{keyed_file, places, standing_count, deletions, deleted_state, weigh, HaveRoom, HaveStarts}, Language.{FilesView.{plain_file, bytes_of}, Pieces.{HeldPiece}}}
 use Rattle.mm_store.proofs.lemmas.files.EntryLemmas.{same_view}
 use Rattle.std.specs.FinMap as finite

@@ -1,6 +1,5 @@
 use Rattle.std.proofs.{Common.{length, sym, ap, ◌∙◌, arith, Global}, lemmas.{Option.{IfSome_then}, List.{length-map}}}
-use Rattle.mm_store.specs.{Code.Kept.{keyed_file}, Language.FilesView.{plain, FilesView, file_number}}
-use Rattle.mm_store.proofs.lemmas.files.NumberLemmas.{number_is}
+use Rattle.mm_store.{specs.{Code.Kept.{keyed_file}, Language.FilesView.{plain, FilesView, file_number}}, proofs.lemmas.files.NumberLemmas.{number_is}}
 use Rattle.mm_store.proofs.files.Files.number_of.Goals as goal
 
 pub returns-clause-number : goal.returns-clause-number

@@ -1,6 +1,5 @@
 use Rattle.std.proofs.{Common.{map, arith}, lemmas.List.{length-map}}
-use Rattle.mm_store.specs.Language.Pieces.{text_under}
-use Rattle.mm_store.proofs.lemmas.{files.FileLemmas.{shown}, places.{ByteLemmas.{byte_in, offset_in}, PlaceLemmas.{piece_within}}}
+use Rattle.mm_store.{specs.Language.Pieces.{text_under}, proofs.lemmas.{files.FileLemmas.{shown}, places.{ByteLemmas.{byte_in, offset_in}, PlaceLemmas.{piece_within}}}}
 use Rattle.mm_store.proofs.files.Files.offset.Goals as goal
 
 pub start-requires : goal.start-requires

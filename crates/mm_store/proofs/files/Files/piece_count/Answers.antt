@@ -1,16 +1,12 @@
-use Rattle.std.proofs.{Common.{ℕ, Some, length, sym, ap, ◌∙◌}, lemmas.List.{length-map}}
-use Rattle.std.specs.Option.{option_map}
-use Rattle.mm_store.specs.Language.{Pieces.{text_under}, FilesView.{File, FilesView, plain, find_file}}
-use Rattle.mm_store.proofs.lemmas.files.FilesLemmas.{found_is, none_is}
+use Rattle.std.{proofs.{Common.{arith, ℕ, Some, length, sym, ap, ◌∙◌}, lemmas.{Grind.{common_steps}, List.{length-map}}}, specs.Option.{option_map}}
+use Rattle.mm_store.{specs.Language.{Pieces.{text_under}, FilesView.{File, FilesView, plain, find_file}}, proofs.lemmas.files.FilesLemmas.{found_is, none_is}}
 use Rattle.mm_store.proofs.files.Files.piece_count.Goals as goal
 
 abbrev count : File → ℕ
 count file = length file.pieces
 
 pub returns-in-None : goal.returns-in-None
-returns-in-None c =
-    let inside = c.self.inside in
-    sym (ap (λ (v : FilesView). option_map count (find_file (plain v) c.args.name.now)) (sym c.self.view_is) ∙ ap (option_map count) (none_is inside.pieces c.args.name.now inside.files.entries c.in-None.ensures.index))
+returns-in-None c = grind (arith, common_steps, none_is c.self.inside.pieces c.args.name.now c.self.inside.files.entries c.in-None.ensures.index) steps 200000
 
 pub returns-in-Some : goal.returns-in-Some
 returns-in-Some c =

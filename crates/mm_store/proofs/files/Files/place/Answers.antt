@@ -1,8 +1,6 @@
-use Rattle.std.proofs.{Common.{◌+◌, length, sym, ap, ◌∙◌, arith, count_by}, lemmas.List.{length-map}}
-use Rattle.std.specs.List.{after_last}
+use Rattle.std.{proofs.{Common.{◌+◌, length, sym, ap, ◌∙◌, arith, count_by}, lemmas.List.{length-map}}, specs.List.{after_last}}
 use Rattle.mm_text.specs.Language.Place.{is_line_feed}
-use Rattle.mm_store.specs.Language.Pieces.{text_under}
-use Rattle.mm_store.proofs.lemmas.{files.FileLemmas.{shown}, places.ByteLemmas.{byte_in}}
+use Rattle.mm_store.{specs.Language.Pieces.{text_under}, proofs.lemmas.{files.FileLemmas.{shown}, places.ByteLemmas.{byte_in}}}
 use Rattle.mm_store.proofs.files.Files.place.Goals as goal
 
 pub lines_at-requires : goal.lines_at-requires

@@ -1,7 +1,6 @@
 use Rattle.std.proofs.Common.{◌≡◌, ◌+◌, ◌-◌, ◌≤◌, List, is_some, length, map, set, get_or, sym, ap, ◌∙◌, subst, arith}
 use Rattle.mm_store.specs.Language.{EditedKeys.{replaced}, FilesView.{FilesView, KeyedFile, plain, plain_file, bytes_of}, Pieces.{Parked, Replaced, standing_piece, with_state, text_under}}
-use Rattle.mm_store.specs.Language.Undoing.{keys_in, with_keys, key_at}
-use Rattle.mm_store.specs.Code.{Edited.{pieces_in, with_pieces, IsReplaced}, Kept.{keyed_file}, Starts.{KnowsStarts}}
+use Rattle.mm_store.specs.{Language.Undoing.{keys_in, with_keys, key_at}, Code.{Edited.{pieces_in, with_pieces, IsReplaced}, Kept.{keyed_file}, Starts.{KnowsStarts}}}
 use Rattle.mm_store.proofs.lemmas.{files.{FileLemmas.{lent, piece_is, in_keys, old_key, once_in, small_in}, KeptLemmas.{view_after, kept_edited}}, places.ChangeLemmas.{starts_here}}
 use Rattle.mm_store.proofs.lemmas.edits.UndoLemmas.{is_replaced}
 use Rattle.std.specs.FinMap as finite
@@ -65,8 +64,7 @@ invariant_of-self-2 c =
     let members = set (pieces_in (map (plain_file p) fs) n) at t in
     let means : map (plain_file p2) (with_keys fs n newkeys) ≡ with_pieces (map (plain_file p) fs) n members = lemmas.plain_replaced fs p n at k t once there fresh in
     let allowed = subst (λ v. bytes_of (with_pieces (plain v) n (set (pieces_in (plain v) n) at t)) ≤ 4294967295) (sym c.self.view_is) c.requires.within in
-    let now : c.set_state-less.new.self ≡ p2 =
-    c.set_state-less.ensures.pieces ∙ ap (λ q. with_state c.put.new.self q (Parked n Replaced)) old ∙ ap (λ p. with_state p (get_or (keys_in fs n) at 0) (Parked n Replaced)) put in
+    let now : c.set_state-less.new.self ≡ p2 = c.set_state-less.ensures.pieces ∙ ap (λ q. with_state c.put.new.self q (Parked n Replaced)) old ∙ ap (λ p. with_state p (get_or (keys_in fs n) at 0) (Parked n Replaced)) put in
     let text = ap length (ap (text_under c.put.new.self) old ∙ ap (λ p. text_under p (get_or (keys_in fs n) at 0)) put ∙ lemmas.old_text fs p n at k t once there fresh) in
     let bytes = lemmas.bytes_replaced fs p n at k t once there fresh in
     kept_edited inside n c.unwrap-file.result.now c.replace_key-old.new.self file.here done.tail newkeys (done.items ∙ ap (λ ks. set ks at k) (sym file.keys)) c.set_state-less.new.self p2 now _ c.self.invariant
@@ -93,8 +91,6 @@ returns-clause-ok c =
     c.set_state-less.ensures.pieces ∙ ap (λ q. with_state c.put.new.self q (Parked n Replaced)) old ∙ ap (λ p. with_state p (get_or (keys_in fs n) at 0) (Parked n Replaced)) c.in_ok-key.ensures.ok in
     let is = view_after inside n c.unwrap-file.result.now c.replace_key-old.new.self file.here done.tail (set (keys_in fs n) at k) (done.items ∙ ap (λ ks. set ks at k) (sym file.keys)) c.set_state-less.new.self p2 now
     (inside.bytes - c.set_state-less.result + c.len-more.result) ∙ ap (λ v. replaced v n at k t) c.self.view_is in
-    let undo_is : record { file = n; action = action.Replaced at c.replace_key-old.result } ≡ record { file = n; action = action.Replaced at (key_at c.args.self.now n at) } =
-    ap (λ o. record { file = n; action = action.Replaced at o }) (old ∙ ap (λ v. key_at v n at) c.self.view_is) in
     subst (λ new. IsReplaced c.args.self.now new n at t (record { file = n; action = action.Replaced at c.replace_key-old.result })) (sym is)
-    (subst (λ u. IsReplaced c.args.self.now (replaced c.args.self.now n at k t) n at t u) (sym undo_is)
+    (subst (λ u. IsReplaced c.args.self.now (replaced c.args.self.now n at k t) n at t u) (sym (ap (λ o. record { file = n; action = action.Replaced at o }) (old ∙ ap (λ v. key_at v n at) c.self.view_is)))
     (is_replaced c.args.self.now n at (once_in c.self.invariant c.self.view_is) (small_in c.self.invariant c.self.view_is) c.requires.there k t (ap (λ (v : FilesView). finite.get v.pieces k) (sym c.self.view_is) ∙ c.in_ok-key.ensures.fresh)))

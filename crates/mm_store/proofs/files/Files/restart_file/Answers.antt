@@ -1,15 +1,10 @@
-use Rattle.std.proofs.Common.{refl, sym, ap, ◌∙◌, subst, arith}
-use Rattle.std.specs.VecDeque.{deque_len, deque_capacity}
-use Rattle.mm_store.specs.Code.{Kept.{files_view, AreFilesKept}, Room.{HasRoom}}
-use Rattle.mm_store.proofs.{lemmas.files.{FileLemmas.{lent}, KeptLemmas.{reserved_view, reserved_kept}}, files.Files.restart_file.Goals.{in-None, in-Some}}
+use Rattle.std.{proofs.{lemmas.Grind.{common_steps}, Common.{refl, sym, ap, subst, arith}}, specs.VecDeque.{deque_len, deque_capacity}}
+use Rattle.mm_store.{specs.Code.{Kept.{AreFilesKept}, Room.{HasRoom}}, proofs.lemmas.files.{FileLemmas.{lent}, KeptLemmas.{reserved_view, reserved_kept}}}
+use Rattle.mm_store.proofs.files.Files.restart_file.Goals.{in-None, in-Some}
 use Rattle.mm_store.proofs.files.Files.restart_file.Goals as goal
 
 pub restart-requires : goal.restart-requires
-restart-requires c = record {
-  room = omega (arith, (lent c.self.inside c.args.number c.self.invariant c.get_index_mut.ensures.value c.in-Some.is).has.room.starts);
-  small = (lent c.self.inside c.args.number c.self.invariant c.get_index_mut.ensures.value c.in-Some.is).small;
-  starts = (lent c.self.inside c.args.number c.self.invariant c.get_index_mut.ensures.value c.in-Some.is).starts;
-}
+restart-requires c = grind (arith, common_steps, lent c.self.inside c.args.number c.self.invariant c.get_index_mut.ensures.value c.in-Some.is) steps 200000
 
 pub invariant_of-self : goal.invariant_of-self
 invariant_of-self c = elim c.match-get_index_mut.branch [
@@ -26,9 +21,4 @@ invariant_of-self c = elim c.match-get_index_mut.branch [
 ]
 
 pub returns : goal.returns
-returns c = elim c.match-get_index_mut.branch [
-  | in-None w ↦ ap files_view w.self-inside-is ∙ c.self.view_is
-  | in-Some w ↦
-      let file = lent c.self.inside c.args.number c.self.invariant c.get_index_mut.ensures.value w.in-Some.is in
-      ap files_view w.self-inside-is ∙ reserved_view c.self.inside c.args.number w.in-Some.file.now w.restart.new.self file.here w.restart.ensures.tail (ap (λ k. k.items) w.restart.ensures.keys) c.self.inside.pieces refl ∙ c.self.view_is
-]
+returns c = grind (arith, common_steps, in-None, in-Some, lent, reserved_view) steps 200000

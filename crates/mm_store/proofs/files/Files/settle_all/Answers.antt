@@ -1,14 +1,10 @@
-use Rattle.std.proofs.Common.{sym, ap, ◌∙◌, subst}
-use Rattle.mm_store.specs.Language.Batches.{CanSettleAll, settled_all}
-use Rattle.mm_store.proofs.lemmas.edits.{BatchLemmas.{settle_last, settle_others, settled_last}, SettleLemmas.{Stays, spent_stays, stays_same, stays_then}}
+use Rattle.std.proofs.{Common.{arith, sym, ap, ◌∙◌, subst}, lemmas.Grind.{common_steps}}
+use Rattle.mm_store.{specs.Language.Batches.{CanSettleAll, settled_all}, proofs.lemmas.edits.BatchLemmas.{settle_last, settle_others, settled_last}}
+use Rattle.mm_store.proofs.lemmas.edits.SettleLemmas.{Stays, spent_stays, stays_same, stays_then}
 use Rattle.mm_store.proofs.files.Files.settle_all.Goals as goal
 
 pub loop-spent-init : goal.loop-spent-init
-loop-spent-init c = record {
-  can = subst (λ undos. CanSettleAll undos c.args.self.now) (sym c.undos.view_is) c.requires.1.can_settle;
-  left = ap (λ undos. settled_all undos c.args.self.now) c.undos.view_is;
-  stays = stays_same c.args.self.now;
-}
+loop-spent-init c = grind (arith, common_steps, stays_same c.args.self.now) steps 200000
 
 pub settle-requires : goal.settle-requires
 settle-requires c = settle_last c.pop.new.self.items c.in-Some.spent c.loop-spent.self (subst (λ undos. CanSettleAll undos c.loop-spent.self) c.in-Some.ensures.items c.loop-spent.invariant.can)

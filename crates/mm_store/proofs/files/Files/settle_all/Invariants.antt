@@ -1,6 +1,5 @@
 use Rattle.std.proofs.Common.{◌≡◌}
-use Rattle.mm_store.specs.Language.Batches.{CanSettleAll, settled_all}
-use Rattle.mm_store.proofs.lemmas.edits.SettleLemmas.{Stays}
+use Rattle.mm_store.{specs.Language.Batches.{CanSettleAll, settled_all}, proofs.lemmas.edits.SettleLemmas.{Stays}}
 use Rattle.mm_store.proofs.files.Files.settle_all.Given as goal
 
 abbrev pub invariant-loop-spent : goal.invariant-loop-spent

@@ -1,7 +1,6 @@
-use Rattle.std.proofs.Common.{◌∙◌, sym, ap, subst, List, [], arith}
-use Rattle.mm_store.specs.{declared.item.Item.{Item}, Language.{FilesView.{FilesView, files_in, plain, bytes_of}, Walking.{IsWalk}}}
-use Rattle.mm_store.proofs.lemmas.files.ViewLemmas.{number_plain}
-use Rattle.mm_store.proofs.lemmas.expansion.{WalkStepLemmas.{walk_begins}, BudgetLemmas.{expansion_few, bytes_few}, NameLemmas.{expansion_names}, StandLemmas.{expansion_read, expansion_stands}}
+use Rattle.std.proofs.{lemmas.Grind.{common_steps}, Common.{◌∙◌, sym, subst, List, [], arith}}
+use Rattle.mm_store.{specs.{declared.item.Item.{Item}, Language.{FilesView.{files_in}, Walking.{IsWalk}}}, proofs.lemmas.{files.ViewLemmas.{number_plain}, expansion.WalkStepLemmas.{walk_begins}}}
+use Rattle.mm_store.proofs.lemmas.expansion.{BudgetLemmas.{expansion_few, bytes_few}, NameLemmas.{expansion_names}, StandLemmas.{expansion_read, expansion_stands}}
 use Rattle.mm_store.proofs.files.Files.statements_in.Goals as goal
 
 pub returns-clause-items : goal.returns-clause-items
@@ -24,12 +23,7 @@ returns-clause-missing c =
     expansion_names c.one_meaning.ensures.words c.one_division.ensures.units c.words_stand_alone.ensures.statement c.args.self.now c.args.top.now c.push_rest.new.items.items c.hold_units.ensures (returns-clause-items c)
 
 pub returns-clause-few : goal.returns-clause-few
-returns-clause-few c =
-    let items = c.push_rest.new.items.items in
-    omega (arith, expansion_few (files_in c.args.self.now) c.args.top.now items (returns-clause-items c), bytes_few c.args.self.now)
+returns-clause-few c = grind (arith, common_steps, expansion_few (files_in c.args.self.now) c.args.top.now c.push_rest.new.items.items (returns-clause-items c), bytes_few c.args.self.now) steps 200000
 
 pub returns-clause-small : goal.returns-clause-small
-returns-clause-small c =
-    let few = returns-clause-few c in
-    let total = ap (λ (view : FilesView). bytes_of (plain view)) c.self.view_is in
-    omega (arith, few, total, c.self.invariant.counted, c.self.invariant.within)
+returns-clause-small c = grind (arith, common_steps, returns-clause-few c) steps 200000

@@ -1,8 +1,7 @@
-use Rattle.std.proofs.{Common.{◌+◌, ◌<◌, ◌≤◌, List, length, map, sym, ap, ◌∙◌, subst, arith, Global}, lemmas.List.{length-map}}
-use Rattle.std.specs.List.{insert}
-use Rattle.mm_store.specs.Code.{Edited.{pieces_in}, Kept.{keyed_file}}
-use Rattle.mm_store.specs.Language.{FilesView.{FilesView, KeyedFile, plain, plain_file, bytes_of}, Pieces.{Standing, Deleted, with_state, text_under, IsParked}, Undoing.{keys_in, reversed}}
-use Rattle.mm_store.proofs.lemmas.files.{FileLemmas.{lent}, KeptLemmas.{view_after, kept_edited, deleted_from, deleted_file}, PieceLemmas.{text_state}}
+use Rattle.std.{proofs.{lemmas.{Grind.{common_steps}, List.{length-map}}, Common.{◌+◌, ◌<◌, ◌≤◌, List, length, map, sym, ap, ◌∙◌, subst, arith, Global}}, specs.List.{insert}}
+use Rattle.mm_store.specs.{Code.{Edited.{pieces_in}, Kept.{keyed_file}}, Language.FilesView.{FilesView, KeyedFile, plain, plain_file, bytes_of}}
+use Rattle.mm_store.{specs.Language.{Pieces.{Standing, Deleted, with_state, text_under, IsParked}, Undoing.{keys_in, reversed}}, proofs.lemmas.files.FileLemmas.{lent}}
+use Rattle.mm_store.proofs.lemmas.files.{KeptLemmas.{view_after, kept_edited, deleted_from, deleted_file}, PieceLemmas.{text_state}}
 use Rattle.mm_store.specs.Language.Undoing as action
 use Rattle.mm_store.proofs.lemmas.edits.StepLemmas as lemmas
 use Rattle.mm_store.proofs.files.Files.take_back_deletion.Goals as goal
@@ -21,21 +20,10 @@ restore_key-requires c =
     }
 
 pub set_state-more-requires : goal.set_state-more-requires
-set_state-more-requires c =
-    lemmas.deleted_is_some (map keyed_file c.self.inside.files.entries) c.self.inside.pieces c.args.number c.args.at c.self.invariant.once c.args.old
-    (subst (λ (view : FilesView). IsParked view.pieces c.args.old c.args.number Deleted) (sym c.self.view_is) c.requires.fits.1)
+set_state-more-requires c = grind (arith, common_steps, lemmas.deleted_is_some) steps 200000
 
 pub overflow_add-self : goal.overflow_add-self
-overflow_add-self c =
-    let n = c.args.number in
-    let at = c.args.at in
-    let inside = c.self.inside in
-    let fs : List KeyedFile = map keyed_file inside.files.entries in
-    let is_parked = subst (λ (view : FilesView). IsParked view.pieces c.args.old n Deleted) (sym c.self.view_is) c.requires.fits.1 in
-    let file : n < length fs = omega (arith, deleted_file inside n c.args.old c.self.invariant c.self.view_is c.requires.fits.1, length-map inside.files.entries (keyed_file {Y = Global})) in
-    let bytes = lemmas.bytes_undeleted fs inside.pieces n at c.self.invariant.once c.args.old is_parked file in
-    let allowed = subst (λ v. bytes_of (plain (reversed n (action.Deleted at c.args.old) v)) ≤ 4294967295) (sym c.self.view_is) c.requires.within in
-    omega (arith, c.set_state-more.ensures.len, c.self.invariant.counted, bytes, allowed)
+overflow_add-self c = grind (arith, common_steps, deleted_file, length-map, lemmas.bytes_undeleted) steps 200000
 
 pub invariant_of-self : goal.invariant_of-self
 invariant_of-self c =

@@ -1,5 +1,4 @@
-use Rattle.std.proofs.Common.{◌≡◌, ◌-◌, List, length, map, get_or, sym, ap, ◌∙◌, arith}
-use Rattle.std.specs.List.{remove}
+use Rattle.std.{proofs.{lemmas.Grind.{common_steps}, Common.{◌≡◌, ◌-◌, List, length, map, get_or, sym, ap, ◌∙◌, arith}}, specs.List.{remove}}
 use Rattle.mm_store.specs.{Code.{Edited.{pieces_in}, Kept.{keyed_file}}, Language.{FilesView.{KeyedFile, plain_file}, Pieces.{text_under}, Undoing.{keys_in, reversed}}}
 use Rattle.mm_store.proofs.lemmas.files.{FileLemmas.{lent, piece_is, in_keys, old_key}, KeptLemmas.{view_after, kept_edited}}
 use Rattle.std.specs.FinMap as finite
@@ -11,11 +10,7 @@ pub unwrap-file-requires : goal.unwrap-file-requires
 unwrap-file-requires c = c.get_index_mut.ensures.found.1 (piece_is c.self.inside c.args.number c.args.at c.self.invariant c.self.view_is c.requires.fits).entry
 
 pub take_key-key-requires : goal.take_key-key-requires
-take_key-key-requires c = record {
-  there = in_keys c.self.inside c.args.number c.args.at _ (lent c.self.inside c.args.number c.self.invariant c.get_index_mut.ensures.value c.unwrap-file.ensures)
-      (piece_is c.self.inside c.args.number c.args.at c.self.invariant c.self.view_is c.requires.fits);
-  room = (lent c.self.inside c.args.number c.self.invariant c.get_index_mut.ensures.value c.unwrap-file.ensures).has.room;
-}
+take_key-key-requires c = grind (arith, common_steps, in_keys, lent, piece_is) steps 200000
 
 pub overflow_sub-self : goal.overflow_sub-self
 overflow_sub-self c =
@@ -36,12 +31,10 @@ invariant_of-self c =
     let file = lent inside n c.self.invariant c.get_index_mut.ensures.value c.unwrap-file.ensures in
     let done = c.take_key-key.ensures in
     let key : c.take_key-key.result ≡ get_or (keys_in fs n) at 0 = old_key file at done.value in
-    let text = c.drop_piece-less.ensures.len ∙ ap (λ q. length (text_under p q)) key in
-    let bytes = lemmas.bytes_uninserted fs p n at once there in
     kept_edited inside n c.unwrap-file.result.now c.take_key-key.new.self file.here done.tail (remove (keys_in fs n) at) (done.items ∙ ap (λ ks. remove ks at) (sym file.keys))
     c.drop_piece-less.new.self (finite.remove p (get_or (keys_in fs n) at 0)) (c.drop_piece-less.ensures.pieces ∙ ap (finite.remove p) key) _ c.self.invariant
     (lemmas.once_uninserted fs p n at once there) (λ m d. lemmas.deletions_dropped fs p n at once there m) (done.deleted ∙ file.has.parked ∙ sym (lemmas.deletions_dropped fs p n at once there n)) done.room
-    (omega (arith, bytes, c.self.invariant.counted, text)) (omega (arith, c.self.invariant.within))
+    (omega (arith, lemmas.bytes_uninserted fs p n at once there, c.self.invariant.counted, (c.drop_piece-less.ensures.len ∙ ap (λ q. length (text_under p q)) key))) (omega (arith, c.self.invariant.within))
     (remove (pieces_in (map (plain_file p) fs) n) at) (lemmas.plain_uninserted fs p n at once there) p (lemmas.texts_uninserted fs p n at once there) piece.file (done.starts p file.starts)
 
 pub returns : goal.returns

@@ -1,7 +1,7 @@
-use Rattle.std.proofs.Common.{◌≡◌, ◌+◌, ◌-◌, ◌≤◌, List, is_some, length, map, set, get_or, sym, ap, ◌∙◌, subst, arith}
-use Rattle.mm_store.specs.Code.{Edited.{pieces_in}, Kept.{keyed_file}}
-use Rattle.mm_store.specs.Language.{FilesView.{FilesView, KeyedFile, plain, plain_file, bytes_of}, Pieces.{Standing, Replaced, with_state, text_under, IsParked}, Undoing.{keys_in, reversed}}
-use Rattle.mm_store.proofs.lemmas.files.{FileLemmas.{lent, piece_is, in_keys, old_key}, KeptLemmas.{view_after, kept_edited}}
+use Rattle.std.proofs.{lemmas.Grind.{common_steps}, Common.{◌≡◌, ◌+◌, ◌-◌, ◌≤◌, List, length, map, set, get_or, sym, ap, ◌∙◌, subst, arith}}
+use Rattle.mm_store.specs.{Code.{Edited.{pieces_in}, Kept.{keyed_file}}, Language.FilesView.{FilesView, KeyedFile, plain, plain_file, bytes_of}}
+use Rattle.mm_store.{specs.Language.{Pieces.{Standing, Replaced, with_state, text_under, IsParked}, Undoing.{keys_in, reversed}}, proofs.lemmas.files.FileLemmas.{lent, piece_is, in_keys, old_key}}
+use Rattle.mm_store.proofs.lemmas.files.KeptLemmas.{view_after, kept_edited}
 use Rattle.std.specs.FinMap as finite
 use Rattle.mm_store.specs.Language.Undoing as action
 use Rattle.mm_store.proofs.lemmas.edits.StepLemmas as lemmas
@@ -20,11 +20,8 @@ replace_key-key-requires c = record {
 pub set_state-more-requires : goal.set_state-more-requires
 set_state-more-requires c =
     let p = c.self.inside.pieces in
-    let piece = piece_is c.self.inside c.args.number c.args.at c.self.invariant c.self.view_is c.requires.fits.0 in
     let file = lent c.self.inside c.args.number c.self.invariant c.get_index_mut.ensures.value c.unwrap-file.ensures in
-    ap (λ m. is_some (finite.get m c.args.old)) (c.drop_piece-less.ensures.pieces ∙ ap (finite.remove p) (old_key file c.args.at c.replace_key-key.ensures.value))
-    ∙ lemmas.old_left (map keyed_file c.self.inside.files.entries) p c.args.number c.args.at c.self.invariant.once piece.there c.args.old
-    (subst (λ (view : FilesView). IsParked view.pieces c.args.old c.args.number Replaced) (sym c.self.view_is) c.requires.fits.1)
+    grind (arith, common_steps, finite.get, finite.remove p, old_key file c.args.at c.replace_key-key.ensures.value, lemmas.old_left) steps 200000
 
 pub overflow_sub-self : goal.overflow_sub-self
 overflow_sub-self c =
@@ -48,9 +45,8 @@ overflow_add-self c =
     let text = c.drop_piece-less.ensures.len ∙ ap (λ q. length (text_under p q)) key in
     let p1 : c.drop_piece-less.new.self ≡ finite.remove p (get_or (keys_in fs n) at 0) = c.drop_piece-less.ensures.pieces ∙ ap (finite.remove p) key in
     let more : c.set_state-more.result ≡ length (text_under p c.args.old) = c.set_state-more.ensures.len ∙ ap length (ap (λ m. text_under m c.args.old) p1 ∙ lemmas.old_text_left fs p n at once there c.args.old is_parked) in
-    let bytes = lemmas.bytes_unreplaced fs p n at once there c.args.old is_parked in
     let allowed = subst (λ v. bytes_of (plain (reversed n (action.Replaced at c.args.old) v)) ≤ 4294967295) (sym c.self.view_is) c.requires.within in
-    omega (arith, text, more, c.self.invariant.counted, piece.within, bytes, allowed)
+    omega (arith, text, more, c.self.invariant.counted, piece.within, lemmas.bytes_unreplaced fs p n at once there c.args.old is_parked, allowed)
 
 pub invariant_of-self : goal.invariant_of-self
 invariant_of-self c =

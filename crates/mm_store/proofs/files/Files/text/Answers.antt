@@ -1,7 +1,5 @@
-use Rattle.std.proofs.{Common.{◌≡◌, ℕ, Some, is_some, true, length, map, get_or, sym, ap, ◌∙◌, subst, arith, Vec, Global}, lemmas.Option.{slice_get-map}}
-use Rattle.std.specs.Option.{option_map}
-use Rattle.mm_store.specs.{declared.file_text.FileText.{FileText}, Language.FilesView.{FilesView, plain, find_file, text_of}, Code.Kept.{keyed_file}}
-use Rattle.mm_store.proofs.lemmas.files.{EntryLemmas.{keys_at}, FilesLemmas.{found_is, none_is, key_some}}
+use Rattle.std.{proofs.{lemmas.{Grind.{common_steps}, Option.{slice_get-map}}, Common.{◌≡◌, ℕ, is_some, true, length, map, get_or, ap, ◌∙◌, subst, arith, Vec, Global}}, specs.Option.{option_map}}
+use Rattle.mm_store.{specs.{declared.file_text.FileText.{FileText}, Code.Kept.{keyed_file}}, proofs.lemmas.files.{EntryLemmas.{keys_at}, FilesLemmas.{found_is, none_is, key_some}}}
 use Rattle.std.specs.FinMap as finite
 use Rattle.mm_store.proofs.files.Files.text.Goals as goal
 
@@ -14,13 +12,8 @@ joined_text-requires c =
     λ at d lt. subst (λ ks. is_some (finite.get c.self.inside.pieces (get_or ks at d)) ≡ true) keys (key_some (map keyed_file es) c.self.inside.pieces c.self.invariant.once n at d (omega (arith, lt, ap length keys)))
 
 pub returns-in-None : goal.returns-in-None
-returns-in-None c =
-    let inside = c.self.inside in
-    sym (ap (λ (v : FilesView). option_map text_of (find_file (plain v) c.args.name.now)) (sym c.self.view_is) ∙ ap (option_map text_of) (none_is inside.pieces c.args.name.now inside.files.entries c.in-None.ensures.index))
+returns-in-None c = grind (arith, common_steps, none_is c.self.inside.pieces c.args.name.now c.self.inside.files.entries c.in-None.ensures.index) steps 200000
 
 pub returns-in_ok-joined_text-in-Some : goal.returns-in_ok-joined_text-in-Some
 returns-in_ok-joined_text-in-Some c =
-    let inside = c.self.inside in
-    let file = c.in-Some.file.now in
-    let found = found_is inside.pieces c.args.name.now inside.files.entries c.in-Some.field-0-0 (c.in-Some.field-0-1.now, file) c.in-Some.ensures.index c.in-Some.ensures.entry in
-    sym (ap (λ (v : FilesView). option_map text_of (find_file (plain v) c.args.name.now)) (sym c.self.view_is) ∙ ap (option_map text_of) found ∙ ap Some (sym c.in_ok-joined_text-in-Some.ensures))
+    grind (arith, found_is c.self.inside.pieces c.args.name.now c.self.inside.files.entries c.in-Some.field-0-0 (c.in-Some.field-0-1.now, c.in-Some.file.now) c.in-Some.ensures.index c.in-Some.ensures.entry) steps 200000

@@ -1,19 +1,12 @@
-use Rattle.std.proofs.Common.{sym, ap, ◌∙◌, subst, arith, rules}
-use Rattle.mm_store.specs.Language.Batches.{CanUndoAll, undone_all}
-use Rattle.mm_store.proofs.lemmas.edits.BatchLemmas.{undo_last, undo_others, undone_last, undone_none}
+use Rattle.std.proofs.{lemmas.Grind.{common_steps}, Common.{sym, ◌∙◌, subst, arith, rules}}
+use Rattle.mm_store.{specs.Language.Batches.{CanUndoAll}, proofs.lemmas.edits.BatchLemmas.{undo_last, undo_others, undone_last, undone_none}}
 use Rattle.mm_store.proofs.files.Files.undo_all.Goals as goal
 
 pub take_back-requires : goal.take_back-requires
 take_back-requires c = undo_last c.pop.new.self.items c.in-Some.undo c.loop-undo.self (subst (λ undos. CanUndoAll undos c.loop-undo.self) c.in-Some.ensures.items c.loop-undo.invariant.can)
 
 pub loop-undo-preserved : goal.loop-undo-preserved
-loop-undo-preserved c =
-    let others = c.pop.new.self.items in
-    let view = c.loop-undo.self in
-    record {
-      can = subst (CanUndoAll others) (sym c.take_back.ensures) (undo_others others c.in-Some.undo view (subst (λ undos. CanUndoAll undos view) c.in-Some.ensures.items c.loop-undo.invariant.can));
-      back = ap (undone_all others) c.take_back.ensures ∙ sym (undone_last others c.in-Some.undo view) ∙ ap (λ undos. undone_all undos view) (sym c.in-Some.ensures.items) ∙ c.loop-undo.invariant.back;
-    }
+loop-undo-preserved c = grind (arith, common_steps, undone_last c.pop.new.self.items c.in-Some.undo c.loop-undo.self, undo_others) steps 200000
 
 pub returns : goal.returns
 returns c old spendable = c.restart_all.ensures ∙ sym (undone_none c.loop-undo.undos.items c.loop-undo.self (omega (arith, c.loop-undo.undos.ok.0, c.in_default.ensures.cases.0))) ∙ c.loop-undo.invariant.back ∙ spendable.back

@@ -1,15 +1,13 @@
-use Rattle.std.proofs.Common.{length, sym, ap, ◌∙◌, arith}
-use Rattle.std.specs.Option.{option_map}
-use Rattle.mm_store.specs.{Language.Pieces.{parked_pieces}, Code.Slots.{pieces_of, held}}
-use Rattle.mm_store.proofs.lemmas.files.{SlabLemmas.{get_is, drop_is, text_is}, StoreLemmas.{kept_drop, parked_dropped, none_text}}
+use Rattle.std.{proofs.{lemmas.Grind.{common_steps}, Common.{length, sym, ap, ◌∙◌, arith}}, specs.Option.{option_map}}
+use Rattle.mm_store.{specs.{Language.Pieces.{parked_pieces}, Code.Slots.{pieces_of, held}}, proofs.lemmas.files.SlabLemmas.{get_is, drop_is, text_is}}
+use Rattle.mm_store.proofs.lemmas.files.StoreLemmas.{kept_drop, parked_dropped, none_text}
 use Rattle.std.specs.FinMap as finite
 use Rattle.mm_store.proofs.pieces.PieceStore.drop_piece.Goals as goal
 
 pub overflow_sub-self : goal.overflow_sub-self
 overflow_sub-self c =
-    let slab = c.self.inside.slab in
-    let is = get_is slab c.args.key ∙ ap (option_map held) (sym c.in-Some.ensures.value) in
-    omega (arith, c.count_parked.ensures, parked_dropped (pieces_of slab) c.args.key (held c.in-Some.piece) is, c.self.invariant.counted)
+    let is = get_is c.self.inside.slab c.args.key ∙ ap (option_map held) (sym c.in-Some.ensures.value) in
+    omega (arith, c.count_parked.ensures, parked_dropped (pieces_of c.self.inside.slab) c.args.key (held c.in-Some.piece) is, c.self.invariant.counted)
 
 pub invariant_of-self-in-Some : goal.invariant_of-self-in-Some
 invariant_of-self-in-Some c =
@@ -31,6 +29,4 @@ pub returns-in-Some-clause-pieces : goal.returns-in-Some-clause-pieces
 returns-in-Some-clause-pieces c = drop_is c.self.inside.slab c.try_remove.new.self c.args.key c.in-Some.ensures.updates ∙ ap (λ m. finite.remove m c.args.key) c.self.view_is
 
 pub returns-in-Some-clause-len : goal.returns-in-Some-clause-len
-returns-in-Some-clause-len c =
-    let text = text_is c.self.inside.slab c.args.key c.args.self.now c.in-Some.piece c.self.view_is (sym c.in-Some.ensures.value) in
-    omega (arith, c.len.ensures.value, ap length text)
+returns-in-Some-clause-len c = grind (arith, common_steps, text_is c.self.inside.slab c.args.key c.args.self.now c.in-Some.piece c.self.view_is (sym c.in-Some.ensures.value)) steps 200000

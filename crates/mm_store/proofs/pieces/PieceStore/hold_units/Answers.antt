@@ -1,8 +1,7 @@
 use Rattle.std.proofs.{Common.{◌≡◌, Option, Some, None, is_some, true, refl, sym, subst}, lemmas.Bool.{false≢true}}
 use Rattle.slab.specs.Slab.{get}
 use Rattle.mm_text.specs.Language.Cut.{HoldsOne}
-use Rattle.mm_store.specs.declared.pieces.Piece.{Piece}
-use Rattle.mm_store.proofs.lemmas.files.SlabLemmas.{some_slot, text_is}
+use Rattle.mm_store.{specs.declared.pieces.Piece.{Piece}, proofs.lemmas.files.SlabLemmas.{some_slot, text_is}}
 use Rattle.mm_store.proofs.pieces.PieceStore.hold_units.Goals as goal
 
 some_piece : (o : Option Piece) → is_some o ≡ true → (piece : Piece) × (o ≡ Some piece)

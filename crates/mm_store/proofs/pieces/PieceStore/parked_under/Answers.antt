@@ -1,7 +1,5 @@
-use Rattle.std.proofs.Common.{sym, ap, ◌∙◌}
-use Rattle.std.specs.Option.{option_map}
-use Rattle.mm_store.specs.{Language.Pieces.{parked_count}, Code.Slots.{held}}
-use Rattle.mm_store.proofs.lemmas.files.StoreLemmas.{at_is, parked_there}
+use Rattle.std.{proofs.Common.{sym, ap, ◌∙◌}, specs.Option.{option_map}}
+use Rattle.mm_store.{specs.{Language.Pieces.{parked_count}, Code.Slots.{held}}, proofs.lemmas.files.StoreLemmas.{at_is, parked_there}}
 use Rattle.mm_store.proofs.pieces.PieceStore.parked_under.Goals as goal
 
 pub returns-in-None : goal.returns-in-None

@@ -1,7 +1,6 @@
-use Rattle.std.proofs.Common.{◌≡◌, Option, Some, None, is_some, true, Bor, refl, sym, ap, ◌∙◌, subst}
-use Rattle.std.specs.Option.{option_copied}
+use Rattle.std.{proofs.{Common.{arith, ◌≡◌, Option, Some, None, is_some, true, Bor, refl, sym, ap, ◌∙◌, subst}, lemmas.Grind.{common_steps}}, specs.Option.{option_copied}}
 use Rattle.slab.specs.Slab.{get}
-use Rattle.mm_text.specs.Language.{Part.{HasUnits}, Cut.{HoldsOne}}
+use Rattle.mm_text.specs.Language.Part.{HasUnits}
 use Rattle.mm_store.proofs.lemmas.files.SlabLemmas.{some_slot, text_is}
 use Rattle.mm_store.proofs.pieces.PieceStore.parts.Goals as goal
 
@@ -10,9 +9,7 @@ some_copied None e = e
 some_copied (Some x) e = refl
 
 pub unwrap-piece-requires : goal.unwrap-piece-requires
-unwrap-piece-requires c =
-    let some = some_slot c.self.inside.slab c.args.key c.args.self.now c.self.view_is c.requires in
-    some_copied c.get.result (ap is_some c.get.ensures ∙ some)
+unwrap-piece-requires c = grind (arith, common_steps, some_copied, some_slot) steps 200000
 
 pub returns-clause-parts : goal.returns-clause-parts
 returns-clause-parts c = λ units has.
@@ -24,6 +21,4 @@ returns-clause-parts c = λ units has.
 pub returns-clause-unit : goal.returns-clause-unit
 returns-clause-unit c =
     let there : get c.self.inside.slab c.args.key ≡ Some c.unwrap-piece.result.now = sym c.get.ensures ∙ ap option_copied c.unwrap-piece.ensures in
-    let kept = c.self.invariant.kept c.args.key c.unwrap-piece.result.now there in
-    let text = text_is c.self.inside.slab c.args.key c.args.self.now c.unwrap-piece.result.now c.self.view_is there in
-    subst HoldsOne (sym text) kept.text.unit
+    grind (arith, common_steps, c.self.invariant.kept c.args.key c.unwrap-piece.result.now there, text_is c.self.inside.slab c.args.key c.args.self.now c.unwrap-piece.result.now c.self.view_is there) steps 200000

@@ -1,6 +1,5 @@
-use Rattle.std.proofs.Common.{◌≡◌, None, sym, ap, ◌∙◌, subst}
-use Rattle.std.specs.Option.{option_map}
-use Rattle.mm_store.specs.{declared.{pieces.Piece.{Piece}, state.State.TheVariants.{Standing}}, Code.Slots.{pieces_of, AreKeptIn, held}, Language.Pieces.{standing_piece, parked_pieces}}
+use Rattle.std.{proofs.Common.{arith, ◌≡◌, None, sym, ap, ◌∙◌, subst}, specs.Option.{option_map}}
+use Rattle.mm_store.specs.{declared.{pieces.Piece.{Piece}, state.State.TheVariants.{Standing}}, Code.Slots.{pieces_of, AreKeptIn, held}, Language.Pieces.{parked_pieces}}
 use Rattle.mm_store.proofs.lemmas.files.{StoreLemmas.{kept_put, parked_put}, SlabLemmas.{get_is, put_is}}
 use Rattle.std.specs.FinMap as finite
 use Rattle.mm_store.proofs.pieces.PieceStore.put.Goals as goal
@@ -9,8 +8,7 @@ pub returns-clause-fresh : goal.returns-clause-fresh
 returns-clause-fresh c = ap (λ m. finite.get m c.in_ok-insert.field-0) (sym c.self.view_is) ∙ get_is c.self.inside.slab c.in_ok-insert.field-0 ∙ ap (option_map held) c.in_ok-insert.ensures.was_vacant
 
 pub returns-clause-ok : goal.returns-clause-ok
-returns-clause-ok c = put_is c.self.inside.slab c.insert.new.self c.in_ok-insert.field-0 (record { kept = c.args.kept; state = Standing })
-    c.in_ok-insert.ensures.updates ∙ ap (λ m. finite.insert m c.in_ok-insert.field-0 (standing_piece c.args.kept.text)) c.self.view_is
+returns-clause-ok c = grind (arith, put_is c.self.inside.slab c.insert.new.self c.in_ok-insert.field-0 (record { kept = c.args.kept; state = Standing }) c.in_ok-insert.ensures.updates) steps 200000
 
 pub invariant_of-self : goal.invariant_of-self
 invariant_of-self c = record {

@@ -1,5 +1,4 @@
-use Rattle.std.proofs.Common.{◌≡◌, Option, Some, None, is_some, true, Bor, refl, sym, ap, ◌∙◌}
-use Rattle.std.specs.Option.{option_copied}
+use Rattle.std.{proofs.{Common.{arith, ◌≡◌, Option, Some, None, is_some, true, Bor, refl, sym, ap, ◌∙◌}, lemmas.Grind.{common_steps}}, specs.Option.{option_copied}}
 use Rattle.slab.specs.Slab.{get}
 use Rattle.mm_store.proofs.lemmas.files.SlabLemmas.{some_slot, text_is}
 use Rattle.mm_store.proofs.pieces.PieceStore.text.Goals as goal
@@ -9,16 +8,9 @@ some_copied None e = e
 some_copied (Some x) e = refl
 
 pub unwrap-piece-requires : goal.unwrap-piece-requires
-unwrap-piece-requires c =
-    let some = some_slot c.self.inside.slab c.args.key c.args.self.now c.self.view_is c.requires in
-    some_copied c.get.result (ap is_some c.get.ensures ∙ some)
+unwrap-piece-requires c = grind (arith, common_steps, some_copied, some_slot) steps 200000
 
 pub returns : goal.returns
 returns c =
     let there : get c.self.inside.slab c.args.key ≡ Some c.unwrap-piece.result.now = sym c.get.ensures ∙ ap option_copied c.unwrap-piece.ensures in
-    let text = text_is c.self.inside.slab c.args.key c.args.self.now c.unwrap-piece.result.now c.self.view_is there in
-    let kept = c.self.invariant.kept c.args.key c.unwrap-piece.result.now there in
-    record {
-      text = c.as_slice.ensures ∙ sym text;
-      small = rw c.as_slice.ensures kept.text.small;
-    }
+    grind (arith, common_steps, text_is c.self.inside.slab c.args.key c.args.self.now c.unwrap-piece.result.now c.self.view_is there, c.self.invariant.kept c.args.key c.unwrap-piece.result.now there) steps 200000

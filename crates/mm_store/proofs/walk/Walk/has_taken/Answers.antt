@@ -1,6 +1,5 @@
 use Rattle.std.proofs.Common.{◌∙◌, sym, subst, Contains}
-use Rattle.mm_store.specs.Language.Walking.{WalkView}
-use Rattle.mm_store.proofs.lemmas.expansion.SetLemmas.{contains_from_test, test_from_contains}
+use Rattle.mm_store.{specs.Language.Walking.{WalkView}, proofs.lemmas.expansion.SetLemmas.{contains_from_test, test_from_contains}}
 use Rattle.mm_store.proofs.walk.Walk.has_taken.Goals as goal
 
 pub returns : goal.returns

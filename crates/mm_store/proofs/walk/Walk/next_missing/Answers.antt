@@ -1,5 +1,5 @@
-use Rattle.std.proofs.Common.{sym, subst}
-use Rattle.mm_store.specs.{declared.walk.Step.{Step}, Language.{FilesView.{files_in, plain}, Keyless.{bare}, Walking.{FindsEnd}}, Code.Steps.{IsStep}}
+use Rattle.std.proofs.{Common.{rules, arith, subst}, lemmas.Grind.{common_steps}}
+use Rattle.mm_store.specs.{declared.walk.Step.{Step}, Language.{FilesView.{files_in, plain}, Keyless.{bare}}, Code.Steps.{IsStep}}
 use Rattle.mm_store.proofs.lemmas.expansion.{BareLemmas.{hold_bare, bare_nothing, bare_items, bare_tells}, TurnLemmas.{nothing_less, items_less}}
 use Rattle.mm_store.proofs.lemmas.expansion.WalkLemmas.{since_nothing, since_items, since_tells, since_end}
 use Rattle.mm_store.specs.declared.walk.Step.TheVariants as steps
@@ -7,11 +7,8 @@ use Rattle.mm_store.proofs.walk.Walk.next_missing.Goals as goal
 
 pub returns-in-End-clause-end : goal.returns-in-End-clause-end
 returns-in-End-clause-end c top items is =
-    let files = bare (plain c.args.files.now) in
-    let first = c.args.self.now in
-    let now = c.loop-name.self in
-    let s : IsStep (files_in c.args.files.now) now steps.End c.step.new.self = subst (λ (step : Step). IsStep (files_in c.args.files.now) now step c.step.new.self) c.in-End.is c.in_ok-step.ensures.ok in
-    subst (FindsEnd files top items first) (sym s.1) (since_end files top items first now s.0 (c.loop-name.invariant top items is))
+    let s : IsStep (files_in c.args.files.now) c.loop-name.self steps.End c.step.new.self = subst (λ (step : Step). IsStep (files_in c.args.files.now) c.loop-name.self step c.step.new.self) c.in-End.is c.in_ok-step.ensures.ok in
+    grind (arith, common_steps, since_end (bare (plain c.args.files.now)) top items c.args.self.now c.loop-name.self s.0 (c.loop-name.invariant top items is)) steps 200000
 
 pub returns-in-Missing-clause-found : goal.returns-in-Missing-clause-found
 returns-in-Missing-clause-found c top items is =
@@ -23,9 +20,7 @@ returns-in-Missing-clause-found c top items is =
     (bare_tells view now new c.in-Missing.name.items s) (c.loop-name.invariant top items is)
 
 pub loop-name-smaller-in-Nothing : goal.loop-name-smaller-in-Nothing
-loop-name-smaller-in-Nothing c =
-    let files = files_in c.args.files.now in
-    nothing_less files c.loop-name.self c.step.new.self (subst (λ (step : Step). IsStep files c.loop-name.self step c.step.new.self) c.in-Nothing.is c.in_ok-step.ensures.ok)
+loop-name-smaller-in-Nothing c = search (rules, nothing_less) steps 500000
 
 pub loop-name-preserved-in-Nothing : goal.loop-name-preserved-in-Nothing
 loop-name-preserved-in-Nothing c top items is =
@@ -37,15 +32,12 @@ loop-name-preserved-in-Nothing c top items is =
     (bare_nothing view now new s) (c.loop-name.invariant top items is)
 
 pub loop-name-smaller : goal.loop-name-smaller
-loop-name-smaller c =
-    let files = files_in c.args.files.now in
-    items_less files c.loop-name.self c.step.new.self c.in-Items.field-0 (subst (λ (step : Step). IsStep files c.loop-name.self step c.step.new.self) c.in-Items.is c.in_ok-step.ensures.ok)
+loop-name-smaller c = search (rules, items_less) steps 500000
 
 pub loop-name-preserved : goal.loop-name-preserved
 loop-name-preserved c top items is =
     let view = c.args.files.now in
     let new = c.step.new.self in
     let now = c.loop-name.self in
-    let s : IsStep (files_in view) now (steps.Items c.in-Items.field-0) new = subst (λ (step : Step). IsStep (files_in view) now step new) c.in-Items.is c.in_ok-step.ensures.ok in
-    let t = bare_items view now new c.in-Items.field-0 s in
+    let t = bare_items view now new c.in-Items.field-0 (subst (λ (step : Step). IsStep (files_in view) now step new) c.in-Items.is c.in_ok-step.ensures.ok) in
     since_items (bare (plain view)) top items c.args.self.now now c.one_meaning.ensures.words c.one_division.ensures.units (hold_bare view c.hold_units.ensures) t.0 new t.1 (c.loop-name.invariant top items is) is

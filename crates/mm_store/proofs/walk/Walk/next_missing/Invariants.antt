@@ -1,6 +1,5 @@
 use Rattle.std.proofs.Common.{ℕ, List}
-use Rattle.mm_store.specs.{declared.item.Item.{Item}, Language.{FilesView.{files_in, plain}, Keyless.{bare}, Walking.{IsWalk}}}
-use Rattle.mm_store.proofs.lemmas.expansion.{TurnLemmas.{turns}, WalkLemmas.{Since}}
+use Rattle.mm_store.{specs.{declared.item.Item.{Item}, Language.{FilesView.{files_in, plain}, Keyless.{bare}, Walking.{IsWalk}}}, proofs.lemmas.expansion.{TurnLemmas.{turns}, WalkLemmas.{Since}}}
 use Rattle.mm_store.proofs.walk.Walk.next_missing.Given as goal
 
 abbrev pub invariant-loop-name : goal.invariant-loop-name

@@ -1,7 +1,5 @@
-use Rattle.std.proofs.Common.{◌<◌, ◌≤◌, sym, ◌∙◌, ap, subst, length}
-use Rattle.std.specs.List.{AllByRecursion, flat_map}
-use Rattle.mm_text.specs.{Code.Cursor.{words_from, AreLast}, Language.{Reading.{HasWords}, Unit.{spellings}}}
-use Rattle.mm_text.proofs.CursorLemmas.{all_left, at_first, few_words, some_bytes, few_bytes}
+use Rattle.std.{proofs.Common.{◌<◌, ◌≤◌, sym, ◌∙◌, ap, subst, length}, specs.List.{AllByRecursion, flat_map}}
+use Rattle.mm_text.{specs.{Code.Cursor.{words_from, AreLast}, Language.{Reading.{HasWords}, Unit.{spellings}}}, proofs.CursorLemmas.{all_left, at_first, few_words, some_bytes, few_bytes}}
 use Rattle.mm_text.proofs.cursor.WordCursor.new.Goals as goal
 
 pub invariant_of-result : goal.invariant_of-result

@@ -1,6 +1,5 @@
 use Rattle.std.proofs.Common.{◌≡◌, [], sym, subst, IfNone}
-use Rattle.mm_text.specs.Code.{Cursor.{AreLast}, Reader.{runs_at}}
-use Rattle.mm_text.proofs.{CursorLemmas.{went, no_fault}, ReaderLemmas.{fails_read}}
+use Rattle.mm_text.{specs.Code.{Cursor.{AreLast}, Reader.{runs_at}}, proofs.{CursorLemmas.{went, no_fault}, ReaderLemmas.{fails_read}}}
 use Rattle.mm_text.proofs.cursor.WordCursor.next_word.Goals as goal
 
 pub unreachable-requires : goal.unreachable-requires

@@ -1,6 +1,5 @@
 use Rattle.std.proofs.Common.{rules, sym, arith}
-use Rattle.mm_text.specs.declared.word.WordKind.TheVariants.{Keyword}
-use Rattle.mm_text.proofs.ReaderLemmas.{word_here}
+use Rattle.mm_text.{specs.declared.word.WordKind.TheVariants.{Keyword}, proofs.ReaderLemmas.{word_here}}
 use Rattle.mm_text.proofs.reader.Reader.other_word.Goals as goal
 
 pub returns-clause-word : goal.returns-clause-word

@@ -1,22 +1,14 @@
-use Rattle.std.proofs.{Common.{◌≢◌, rules, slice_range, sym, ◌∙◌}, lemmas.Bool.{false≢true}}
-use Rattle.mm_text.specs.{Language.Spelling.{HoldsMark, closing}, Code.Reader.{SkipsPlain}}
-use Rattle.mm_text.proofs.{KindLemmas.{mark_stands, stands_mark}, ReaderLemmas.{skip_none, skip_more, skip_fault}, SkipLemmas.{skip_all}}
+use Rattle.std.proofs.{Common.{arith, ◌≢◌, rules, slice_range, sym, ◌∙◌}, lemmas.{Grind.{common_steps}, Bool.{false≢true}}}
+use Rattle.mm_text.{specs.{Language.Spelling.{HoldsMark}, Code.Reader.{SkipsPlain}}, proofs.{KindLemmas.{mark_stands, stands_mark}, ReaderLemmas.{skip_none, skip_more, skip_fault}}}
+use Rattle.mm_text.proofs.SkipLemmas.{skip_all}
 use Rattle.mm_text.proofs.reader.Reader.skip_comment.Goals as goal
 
 pub loop-span-init : goal.loop-span-init
-loop-span-init c = record {
-  text = c.skip_plain.ensures.text;
-  forward = c.skip_plain.ensures.forward;
-  skips = skip_all c.args.self.now.text.now c.args.self.now.from c.args.self.now.from c.skip_plain.new.self.from (skip_none c.args.self.now.text.now c.args.self.now.from) c.skip_plain.ensures.skips;
-}
+loop-span-init c =
+    grind (arith, skip_all c.args.self.now.text.now c.args.self.now.from c.args.self.now.from c.skip_plain.new.self.from (skip_none c.args.self.now.text.now c.args.self.now.from) c.skip_plain.ensures.skips) steps 200000
 
 pub returns-then-has_mark-clause-end : goal.returns-then-has_mark-clause-end
-returns-then-has_mark-clause-end c =
-    let same = c.next_run.ensures.text ∙ c.loop-span.invariant.text in
-    let differs : slice_range c.next_run.new.self.text.now c.in-Some.span.start c.in-Some.span.end ≢ closing = λ e. false≢true (sym c.if-is_closing.false ∙ c.is_closing.ensures.1 e) in
-    let holds : HoldsMark (slice_range c.next_run.new.self.text.now c.in-Some.span.start c.in-Some.span.end) = mark_stands _ (sym c.has_mark.ensures ∙ c.if-has_mark.true) in
-    skip_fault c.args.self.now.text.now c.args.self.now.from c.loop-span.self.from c.in-Some.span c.next_run.new.self.from c.loop-span.invariant.skips
-    (rw c.loop-span.invariant.text at c.in-Some.ensures.run) c.args.start (rw same at holds) (rw same at differs)
+returns-then-has_mark-clause-end c = grind (arith, common_steps, false≢true, mark_stands, skip_fault) steps 200000
 
 pub loop-span-preserved : goal.loop-span-preserved
 loop-span-preserved c =

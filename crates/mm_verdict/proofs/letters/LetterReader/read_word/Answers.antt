@@ -1,7 +1,5 @@
-use Rattle.std.proofs.{Common.{List, length, ◌∙◌, ◌+◌, ◌-◌, ◌++◌, subst, ap, map, ℕ, arith}, lemmas.{Result.{err_from_is_err_and}, List.{drop_all}}}
-use Rattle.std.specs.List.{enumerate_from}
-use Rattle.mm_verdict.specs.{Language.Letters.{Letter, letter_at}, Code.Reader.{ReadsLetters}}
-use Rattle.mm_verdict.proofs.lemmas.decoding.ReaderLemmas.{letters_on, letter_more}
+use Rattle.std.proofs.{lemmas.{Grind.{common_steps}, Result.{err_from_is_err_and}, List.{drop_all}}, Common.{List, length, ◌∙◌, ◌+◌, ◌-◌, ◌++◌, subst, arith}}
+use Rattle.mm_verdict.{specs.{Language.Letters.{Letter}, Code.Reader.{ReadsLetters}}, proofs.lemmas.decoding.ReaderLemmas.{letters_on, letter_more}}
 use Rattle.mm_verdict.proofs.letters.LetterReader.read_word.Goals as goal
 
 pub returns-in_err-read-clause-err : goal.returns-in_err-read-clause-err
@@ -12,10 +10,7 @@ returns-in_err-read-clause-err c =
     (subst (λ (w : List Letter). ReadsLetters aim c.loop-letter.reader (w ++ ls)) (letter_more c.args.n c.loop-letter.letter c.args.word.now c.loop-letter-test.true) (c.loop-letter.invariant.reads aim ls goes)))
 
 pub returns-clause-ok : goal.returns-clause-ok
-returns-clause-ok c aim ls goes =
-    let n = c.loop-letter.letter in
-    let none = ap (λ (w : List ℕ). map (letter_at c.args.n) (enumerate_from n w)) (drop_all n c.args.word.now (omega arith)) in
-    subst (λ (w : List Letter). ReadsLetters aim c.loop-letter.reader (w ++ ls)) none (c.loop-letter.invariant.reads aim ls goes)
+returns-clause-ok c aim ls goes = grind (arith, common_steps, drop_all c.loop-letter.letter c.args.word.now (omega arith), c.loop-letter.invariant.reads aim ls goes) steps 200000
 
 pub loop-letter-preserved : goal.loop-letter-preserved
 loop-letter-preserved c =

@@ -1,6 +1,5 @@
 use Rattle.std.proofs.Common.{◌≡◌, ◌≤◌, ◌+◌, ◌-◌, List, ◌++◌, length, vec_capacity}
-use Rattle.mm_verdict.specs.{Language.Letters.{Letter, letters_in}, Code.Reader.{Aim, ReadsLetters}}
-use Rattle.mm_verdict.proofs.lemmas.decoding.ReaderLemmas.{letters_on}
+use Rattle.mm_verdict.{specs.{Language.Letters.{Letter, letters_in}, Code.Reader.{Aim, ReadsLetters}}, proofs.lemmas.decoding.ReaderLemmas.{letters_on}}
 use Rattle.mm_verdict.proofs.letters.LetterReader.read_word.Given as goal
 
 abbrev pub invariant-loop-letter : goal.invariant-loop-letter

@@ -1,9 +1,7 @@
-use Rattle.std.proofs.{Common.{◌≡◌, ◌∷◌, [], true, List, length, map, ◌∙◌, ap, arith, length-append}, lemmas.List.{length-map, map-append}}
-use Rattle.std.specs.Borrow.{Bor}
+use Rattle.std.{proofs.{Common.{◌≡◌, ◌∷◌, [], true, List, length, map, ◌∙◌, ap, arith, length-append}, lemmas.List.{length-map, map-append}}, specs.Borrow.{Bor}}
 use Rattle.mm_frame.specs.Language.Base.{is_shown_at}
 use Rattle.mm_machine.specs.{Language.{Frame.{Symbol}, NumberedSymbols.{all_by_number}}, declared.symbol.NumberedSymbol.{NumberedSymbol}}
-use Rattle.mm_verdict.specs.Code.NumberedBase.{numbered_hypothesis}
-use Rattle.mm_verdict.proofs.lemmas.machine.NamedLemmas.{placed_more, stays_more, stands_last}
+use Rattle.mm_verdict.{specs.Code.NumberedBase.{numbered_hypothesis}, proofs.lemmas.machine.NamedLemmas.{placed_more, stays_more, stands_last}}
 use Rattle.mm_verdict.proofs.named.Naming.hypothesis.Goals as goal
 
 pub returns : goal.returns
@@ -11,14 +9,13 @@ returns c =
     let old = c.args.self.now in
     let is = c.requires in
     let expressions : List (Bor (List NumberedSymbol)) → List (List Symbol) = map (λ e. all_by_number e.now) in
-    let numbers = old.hypothesis_numbers.items.items in
     let a = ap length c.in_ok-place.ensures.items in
     let b = ap length c.in_ok-push.ensures.items in
     record {
       named = record {
-        count = omega (arith, is.count, length-append numbers (c.args.number ∷ []), length-append old.hypotheses.items (c.expression.result ∷ []));
+        count = omega (arith, is.count, length-append old.hypothesis_numbers.items.items (c.args.number ∷ []), length-append old.hypotheses.items (c.expression.result ∷ []));
         hypotheses = λ names view base n j at shown.
-            placed_more (λ k. is_shown_at view k ≡ true) (λ e k. e ≡ (numbered_hypothesis names view k).expression) numbers c.add.new.self.items.items
+            placed_more (λ k. is_shown_at view k ≡ true) (λ e k. e ≡ (numbered_hypothesis names view k).expression) old.hypothesis_numbers.items.items c.add.new.self.items.items
             (expressions old.hypotheses.items) (expressions c.push.new.self.items) c.args.number (all_by_number c.expression.result.now)
             (length-map old.hypotheses.items (λ e. all_by_number e.now) ∙ is.count) c.in_ok-place.ensures.items
             (ap expressions c.in_ok-push.ensures.items ∙ map-append (λ e. all_by_number e.now) old.hypotheses.items (c.expression.result ∷ []))
