@@ -57,8 +57,7 @@ carried_kept own verdicts cites base copy checked plan ran can j i old new are t
           ];
       rest = λ k from one n e f. let ne : j ≢ k = omega arith in are.rest k from one (omega arith) e (get_set_other new j k one (get_or old i None) ne f);
       left = λ k h one n e f.
-          let ne : i ≢ h = λ same. (let one_j : j ≡ k = kept_by_one own base copy checked plan ran can i j k kept (subst (λ x. HasSameView base copy x k) (sym same) (can.planned.each k (Some h) e)) in absurd (omega arith)) in
-          are.left k h one (omega arith) e (get_set_other old i h one (get_or new j None) ne f);
+          grind (arith, common_steps, kept_by_one own base copy checked plan ran can i j k kept, can.planned.each k (Some h) e, are.left k h one, get_set_other old i h one (get_or new j None)) steps 200000;
     }
 
 -- what is kept was checked, and there is something in its place

@@ -1,7 +1,6 @@
 -- Chains of citations, and marks of the items to which they lead.
-use Rattle.std.proofs.lemmas.{Grind.{common_steps}, Bool.{false≢true}, List.{get_or-replicate, get_or-set_same, get_or-set_other, length-replicate}}
-use Rattle.std.proofs.Common.{◌≡◌, ◌<◌, ◌≤◌, ℕ, zero, suc, ◌+◌, Bool, true, false, List, [], ◌∷◌, ◌++◌, length, take, set, refl, sym, ap, ◌∙◌, subst, inl, inr, arith, replicate}
-use Rattle.std.proofs.Math.{Decide.{dec_lt}, ListN.{get_or-eq_default}}
+use Rattle.std.proofs.lemmas.{Grind.{common_steps}, Bool.{false≢true}, List.{get_or-set_same, get_or-set_other}}
+use Rattle.std.proofs.{Common.{◌≡◌, ◌<◌, ◌≤◌, ℕ, suc, ◌+◌, Bool, true, List, ◌∷◌, ◌++◌, length, take, set, refl, ap, ◌∙◌, subst, inl, inr, arith}, Math.{Decide.{dec_lt}, ListN.{get_or-eq_default}}}
 use Rattle.mm_proof.specs.mm_frame.Language.Base.{BaseView}
 use Rattle.mm_keep.specs.{Language.{Citations.{CitesItem, LeadsTo, none, step, IsAxiomOf}, Runs.{AreThose}, Told.{IsAxiom}}, Code.Cited.{IsMarked, MarksMore, MarksBehind}}
 use Rattle.mm_keep.proofs.{CitedItems.{cites_earlier}, RunLemmas.{those_moved}}
@@ -20,10 +19,7 @@ leads_on view k j i (step {j = n} c rest) more = step c (leads_on view k j n res
 -- ---- marks
 
 pub marked_within : (marks : List Bool) (k : ℕ) → IsMarked marks k → k < length marks
-marked_within marks k m = elim (dec_lt k (length marks)) [
-  | yes l ↦ l
-  | no n ↦ (let past = get_or-eq_default marks false {n = k} (omega (arith, n)) in absurd (false≢true (sym past ∙ m)))
-]
+marked_within marks k m = grind (arith, common_steps, dec_lt, false≢true, get_or-eq_default) steps 200000
 
 -- of the marked items from a front on all that they cite is marked
 pub record AreBehind (view : BaseView) (before now : List Bool) (front : ℕ) : Type 0 where
@@ -45,10 +41,7 @@ behind_skip view before now j front e behind not = record {
   count = behind.count;
   kept = behind.kept;
   leads = behind.leads;
-  closed = λ i k l m c. elim (dec_lt j i) [
-    | yes later ↦ behind.closed i k (omega (arith, later, e)) m c
-    | no n ↦ (let same : i ≡ j = omega (arith, l, n) in absurd (not (subst (IsMarked now) same m)))
-  ];
+  closed = λ i k l m c. grind (arith, common_steps, dec_lt j i, behind.closed i k) steps 200000;
 }
 
 pub behind_more :
@@ -80,11 +73,6 @@ behind_all view before now behind = record {
   each = λ k. (behind.leads k, λ from. reached view now (λ i n m c. behind.closed i n (omega arith) m c) k from.0 from.2 (behind.kept from.0 from.1));
 }
 
--- ---- fresh marks
-
-pub never_marked : (marks : List Bool) (n : ℕ) → marks ≡ replicate n false → (k : ℕ) → IsMarked marks k → ⊥
-never_marked marks n e k m = grind (arith, common_steps, dec_lt k n, marked_within marks k m, length-replicate n false, false≢true, get_or-replicate) steps 200000
-
 -- what is cited, by the marks
 pub cites_marked :
     (view : BaseView) (i : ℕ) (fresh marks : List Bool) (numbers : List ℕ) → i < length view.said → length fresh ≡ i → ((k : ℕ) → IsMarked fresh k → ⊥) →
@@ -114,6 +102,5 @@ one_marked fresh i within empty = grind (arith, common_steps, get_or-set_other, 
 
 -- a whole list that is written over another of its length
 pub take_front : {X : Type 0} (xs ys : List X) (n : ℕ) → n ≡ length xs → take n (xs ++ ys) ≡ xs
-take_front [] ys zero e = refl
 take_front (x ∷ xs) ys (suc n) e = ap (λ w. x ∷ w) (take_front xs ys n (omega (arith, e)))
-take_front _ ys _ e = absurd (omega (arith, e))
+take_front xs ys n e = grind (arith, common_steps) steps 200000

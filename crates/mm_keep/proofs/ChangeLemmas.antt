@@ -42,5 +42,4 @@ can_take before after undos top names all code checked next were goes = grind (a
 -- files that are edited, with what was kept of them before
 pub were_kept : KeepsNumbers → (before after : FilesView) (undos : List UndoView) (top : List ℕ) (names : List (List ℕ)) (code : Base) (checked : List (Option Judgement)) → HasKept before top names code checked
     → (edits : List Asked) → IsBatchOf edits (plain before) (plain after) → KeepsReading before after → IsSpendable before after undos → WereKept before after undos top names code checked
-were_kept keeps before after undos top names code checked has edits done reading spendable =
-    grind (arith, common_steps, batch_top keeps edits before after top done (expansion_top before top has.0.found has.1.built.of_files.expansion)) steps 200000
+were_kept keeps before after undos top names code checked has edits done reading spendable = grind (arith, common_steps, batch_top, expansion_top) steps 200000

@@ -1,7 +1,7 @@
 -- What checks said, by the places of items: one item more, and one check in the place of another.
 use Rattle.std.proofs.lemmas.{Grind.{common_steps}, Bool.{false≢true}, List.{length-map, length_push, get_or-map, get_or_append_left, get_or_past, map-append, same_lists}}
 use Rattle.std.proofs.lemmas.Option.{slice_get-get_or, slice_get_past}
-use Rattle.std.proofs.Common.{cond, Result, Ok, is_ok, ◌≡◌, ◌≢◌, ℕ, zero, suc, ◌<◌, ◌≤◌, ◌+◌, ◌-◌, true, Option, Some, None, List, [], ◌∷◌, ◌++◌, length, map, get_or, set, is_some, refl, sym, ◌∙◌, ap}
+use Rattle.std.proofs.Common.{cond, Result, Ok, is_ok, ◌≡◌, ◌≢◌, ℕ, zero, suc, ◌<◌, ◌≤◌, ◌+◌, ◌-◌, true, Option, Some, None, List, [], ◌∷◌, ◌++◌, length, map, get_or, set, is_some, sym, ◌∙◌, ap}
 use Rattle.std.proofs.{Common.{subst, arith, length-set, get_or-set_other, get_or-set_same, slice_get}, Math.Seq.{get_or-append_seam}}
 use native.Mathlib.Decide.{dec_lt}
 use Rattle.mm_proof.specs.mm_verdict.Language.Work.{Judgement}
@@ -30,29 +30,21 @@ get_elsewhere xs q k y ne =
 
 -- what is at a place of a list with one check more, and with one put in the place of another
 at_before : (checks : List Judgement) (one : Judgement) (place : ℕ) → place ≤ length checks → judgement_at (checks ++ one ∷ []) place ≡ judgement_at checks place
-at_before checks one zero l = refl
-at_before checks one (suc q) l = get_before checks one q (omega (arith, l))
+at_before checks one place l = grind (arith, common_steps, get_before) steps 200000
 
 at_elsewhere : (checks : List Judgement) (q : ℕ) (one : Judgement) (place : ℕ) → place ≢ suc q → judgement_at (set checks q one) place ≡ judgement_at checks place
-at_elsewhere checks q one zero ne = refl
-at_elsewhere checks q one (suc k) ne = get_elsewhere checks q k one (λ e. ne (ap suc e))
+at_elsewhere checks q one place ne = grind (arith, common_steps, get_elsewhere) steps 200000
 
 at_last : (checks : List Judgement) (one : Judgement) (place : ℕ) → place ≡ length checks + 1 → judgement_at (checks ++ one ∷ []) place ≡ Some one
 at_last checks one zero e = absurd (omega (arith, e))
 at_last checks one (suc q) e = let same : length checks ≡ q = omega (arith, e) in subst (λ k. slice_get (checks ++ one ∷ []) k ≡ Some one) same (get_last checks one)
 
 at_put : (checks : List Judgement) (q : ℕ) (one : Judgement) (place : ℕ) → place ≡ q + 1 → q < length checks → judgement_at (set checks q one) place ≡ Some one
-at_put checks q one zero e l = absurd (omega (arith, e))
-at_put checks q one (suc k) e l = let same : q ≡ k = omega (arith, e) in subst (λ n. slice_get (set checks q one) n ≡ Some one) same (get_put checks q one l)
+at_put checks q one place e l = grind (arith, common_steps, get_put) steps 200000
 
 -- a place at which there is a check
 at_some : (checks : List Judgement) (place : ℕ) → is_some (judgement_at checks place) ≡ true → (place ≡ place - 1 + 1) × (place - 1 < length checks)
-at_some checks zero e = absurd (false≢true e)
-at_some checks (suc q) e =
-    elim (dec_lt q (length checks)) [
-      | yes l ↦ (omega arith, omega arith)
-      | no n ↦ absurd (false≢true (sym (ap is_some (slice_get_past checks q (omega arith))) ∙ e))
-    ]
+at_some checks place e = grind (arith, common_steps, false≢true, slice_get_past) steps 200000
 
 -- one item more, with a check
 pub added : (checks : List Judgement) (places : List ℕ) (one : Judgement) (place : ℕ) → IsPlaced places (length checks) → place ≡ length checks + 1
@@ -71,11 +63,7 @@ pushed result done new whole old e n = n ∙ ap (λ r. cond (is_ok r) whole old)
 -- the place of an item with a check
 pub placed : (checks : List Judgement) (places : List ℕ) (i place : ℕ) → place ≡ get_or places i place → is_some (get_or (map (judgement_at checks) places) i None) ≡ true
     → (i < length places) × (place ≡ place - 1 + 1) × (place - 1 < length checks)
-placed checks places i place is some =
-    elim (dec_lt i (length places)) [
-      | yes l ↦ grind (arith, common_steps, get_or-map (judgement_at checks) places i place None l, at_some) steps 200000
-      | no n ↦ absurd (let long = length-map places (judgement_at checks) in false≢true (sym (ap is_some (get_or_past (map (judgement_at checks) places) i None (omega arith))) ∙ some))
-    ]
+placed checks places i place is some = grind (arith, common_steps, at_some, false≢true, get_or-map, get_or_past, length-map) steps 200000
 
 -- what the check of an item said
 pub found : (checks : List Judgement) (places : List ℕ) (i place : ℕ) (one : Judgement) → place ≡ get_or places i place → is_some (get_or (map (judgement_at checks) places) i None) ≡ true

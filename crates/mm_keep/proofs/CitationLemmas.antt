@@ -1,6 +1,6 @@
 -- Citations depend on what the items of files say, and on nothing else.
-use Rattle.std.proofs.{Common.{arith, rules, ◌≡◌, ℕ, true, List, length, refl, sym, ap, ◌∙◌, subst, Contains}, lemmas.{Grind.{common_steps}, Bool.{and_parts, false≢true}}}
-use Rattle.mm_proof.specs.{mm_frame.Language.{Base.{BaseView, IsOfFiles, said_at, is_proof_at, is_sound_at}, Laws.{AlikeFilesSayTheSame, HasOwnLabels}}, mm_statement.Language.Item.{Item, is_theorem}}
+use Rattle.std.proofs.{Common.{arith, rules, ◌≡◌, ℕ, List, length, refl, sym, subst, Contains}, lemmas.{Grind.{common_steps}, Bool.{and_parts, false≢true}}}
+use Rattle.mm_proof.specs.{mm_frame.Language.{Base.{BaseView, IsOfFiles}, Laws.{AlikeFilesSayTheSame, HasOwnLabels}}, mm_statement.Language.Item.{Item}}
 use Rattle.mm_keep.specs.Language.{Citations.{CitesItem, LeadsTo, none, step, IsAxiomOf}, Laws.{OneListEach, IsOneList, AxiomsHaveThemselves}, Runs.{AreThose}, Sessions.{IsAssertion, AreNumbersOf}}
 use Rattle.mm_keep.{specs.Language.Told.{IsAxiom}, proofs.{CitedItems.{assertion_carries}, NumberLemmas.{one_rising}, RunLaws.{saying}}}
 
@@ -51,13 +51,9 @@ one_list_each say own = search (rules, one_list_of, cites_alike, axioms_alike) s
 
 -- ---- axioms
 
-no_theorem : (base : BaseView) (i : ℕ) → IsAxiom base i → is_proof_at base i ≡ true → ⊥
-no_theorem base i a proof =
-    grind (arith, and_parts (is_sound_at base i) (is_theorem (said_at base i).kind) proof, false≢true (sym (ap is_theorem a.kind) ∙ (and_parts (is_sound_at base i) (is_theorem (said_at base i).kind) proof).1)) steps 200000
-
 leads_itself : (base : BaseView) (i k : ℕ) → IsAxiom base i → LeadsTo base k i → k ≡ i
 leads_itself base i k a none = refl
-leads_itself base i k a (step c rest) = absurd (no_theorem base i a c.theorem)
+leads_itself base i k a (step c rest) = grind (arith, common_steps, and_parts, false≢true) steps 200000
 
 pub themselves : AxiomsHaveThemselves
 themselves base i k a = (λ of. leads_itself base i k a of.leads, λ e. record { is_axiom = subst (IsAxiom base) (sym e) a; leads = subst (λ n. LeadsTo base n i) (sym e) none })

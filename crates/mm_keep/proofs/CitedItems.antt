@@ -1,22 +1,16 @@
 -- The items that a theorem cites are those whose labels are words that cite.
 use Rattle.std.proofs.lemmas.{Grind.{common_steps}, Bool.{and_parts, and_from, false≢true}, List.{get_or_default}, Option.{same_Some, slice_get-get_or}}
 use Rattle.std.proofs.Common.{◌≡◌, ◌<◌, ◌⊎◌, ℕ, Bool, true, false, Option, Some, None, List, length, get_or, slice_get, sym, ap, ◌∙◌, subst, inl, inr, arith, ◌↔◌, Contains, slice_index}
-use Rattle.mm_proof.specs.mm_frame.Language.{Base.{BaseView, AreSaid, said_at, is_proof_at, is_sound_at}, Laws.{HasOwnLabels}, Resolving.{IsCarrier}}
-use Rattle.mm_proof.specs.{mm_statement.Language.Item.{Kind, is_assertion, is_labelled}, mm_verdict.Language.{CitingLaws.{CitesNameAssertions, CitesTellAssertions, IsCiteOf}, BaseLabels.{setting_at}}}
-use Rattle.mm_proof.specs.mm_verdict.Language.{DecodingLaws.{CitesRise}, VerdictAt.{cites_at, decoding_at}, Work.{Judgement}}
+use Rattle.mm_proof.specs.mm_frame.Language.{Base.{BaseView, AreSaid, said_at, is_proof_at}, Laws.{HasOwnLabels}, Resolving.{IsCarrier}}
+use Rattle.mm_proof.specs.mm_verdict.Language.{CitingLaws.{CitesNameAssertions, CitesTellAssertions, IsCiteOf}, BaseLabels.{setting_at}, DecodingLaws.{CitesRise}, VerdictAt.{cites_at, decoding_at}}
+use Rattle.mm_proof.specs.mm_verdict.Language.Work.{Judgement}
 use Rattle.mm_keep.specs.{Language.{Citations.{CitesItem}, Sessions.{IsAssertion}}, Code.{Cited.{AreRising, HasLabelAmong, IsAmongCited, MarksMore, IsMarked}, KeptSession.{AreChecked, IsCheckedAt}}}
 use Rattle.mm_keep.proofs.CitedWords.{rise_pairs}
 
 -- ---- assertions have labels
 
-assertion_labelled : (kind : Kind) → is_assertion kind ≡ true → is_labelled kind ≡ true
-assertion_labelled kind e = grind (arith, common_steps) steps 200000
-
 pub assertion_carries : (view : BaseView) (label : List ℕ) (i : ℕ) → IsAssertion view label i → IsCarrier view label i
-assertion_carries view label i a =
-    let kind = (said_at view i).kind in
-    let p = and_parts (is_sound_at view i) (is_assertion kind) a.framed in
-    record { shown = and_from (is_sound_at view i) (is_labelled kind) p.0 (assertion_labelled kind p.1); label_is = a.label_is }
+assertion_carries view label i a = grind (arith, common_steps, and_from, and_parts) steps 200000
 
 -- ---- what is cited
 

@@ -1,7 +1,7 @@
 -- The words of a proof that cite, one after another, and marks of the items that they are labels of.
 use Rattle.std.proofs.lemmas.{Grind.{common_steps}, List.{drop-drop, get_or-set_same, get_or-set_other, length-set}, Option.{same_Some, none-some}}
-use Rattle.std.proofs.Common.{rules, ◌≡◌, ◌⊎◌, ◌<◌, ℕ, zero, suc, ◌+◌, Bool, true, Option, Some, None, List, [], ◌∷◌, length, drop, set, get_or, slice_get, refl, sym, ap, ◌∙◌, subst, inl, inr, arith}
-use Rattle.std.{proofs.{Common.{MatchOption, slice_index}, Math.Decide.{dec_lt}}, specs.{Option.{option_map}, List.{AllByRecursion}}}
+use Rattle.std.proofs.Common.{rules, ◌≡◌, ◌⊎◌, ◌<◌, ℕ, suc, ◌+◌, Bool, true, Option, Some, None, List, [], ◌∷◌, length, drop, set, slice_get, refl, sym, ap, ◌∙◌, subst, inl, inr, arith, MatchOption}
+use Rattle.std.{proofs.{Common.{slice_index}, Math.Decide.{dec_lt}}, specs.Option.{option_map}}
 use Rattle.mm_proof.specs.{mm_frame.Language.{Base.{BaseView}, Resolving.{IsCarrier}}, mm_verdict.Language.DecodingLaws.{Rise}}
 use Rattle.mm_keep.specs.Code.Cited.{AreRising, HasLabelAmong, IsAmongCited, IsMarked, MarksMore, passed_words}
 
@@ -11,10 +11,8 @@ pub drop_more : {X : Type 0} (xs : List X) (n m k : ℕ) → k ≡ n + m → dro
 drop_more xs n m k e = drop-drop m n xs ∙ ap (λ i. drop i xs) (sym e)
 
 pub get_behind : {X : Type 0} (xs : List X) (n m k : ℕ) → k ≡ n + m → slice_get (drop n xs) m ≡ slice_get xs k
-get_behind xs zero m k e = ap (slice_get xs) (omega (arith, e))
-get_behind [] (suc n) m k e = refl
-get_behind (x ∷ xs) (suc n) m zero e = absurd (omega (arith, e))
 get_behind (x ∷ xs) (suc n) m (suc k) e = get_behind xs n m k (omega (arith, e))
+get_behind xs n m k e = grind (arith, common_steps) steps 200000
 
 -- a word that is read, and what is left
 pub next_left : {W : Type 0} (f : W → List ℕ) (r : Option W) (old new : List (List ℕ)) → MatchOption r ((old ≡ []) × (new ≡ [])) (λ w. old ≡ f w ∷ new) → (new ≡ drop 1 old) × (option_map f r ≡ slice_get old 0)
@@ -24,16 +22,9 @@ pub passed_next : (cites : List ℕ) (x : ℕ) → passed_words cites (x + 1) �
 passed_next cites x = let e : x + 1 ≡ suc x = omega arith in ap (passed_words cites) e
 
 -- numbers that rise by recursion, by their places
-pub above_at : (n d : ℕ) (xs : List ℕ) (j : ℕ) → AllByRecursion (λ m. n < m) xs → j < length xs → n < get_or xs j d
-above_at n d [] j a l = absurd (omega (arith, l))
-above_at n d (x ∷ xs) zero a l = a.0
-above_at n d (x ∷ xs) (suc j) a l = above_at n d xs j a.1 (omega (arith, l))
-
 pub rise_pairs : (xs : List ℕ) → Rise xs → AreRising xs
-rise_pairs [] r i j d l m = absurd (omega (arith, m))
-rise_pairs (x ∷ xs) r zero (suc j) d l m = above_at x d xs j r.0 (omega (arith, m))
 rise_pairs (x ∷ xs) r (suc i) (suc j) d l m = rise_pairs xs r.1 i j d (omega (arith, l)) (omega (arith, m))
-rise_pairs (x ∷ xs) r _ zero d l m = absurd (omega (arith, l))
+rise_pairs xs r i j d l m = grind (arith, common_steps) steps 200000
 
 -- ---- marks
 

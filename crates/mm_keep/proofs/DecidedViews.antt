@@ -32,12 +32,9 @@ member_among (first ∷ pairs) others pair h c = elim (member_cases first pair p
   | inr k ↦ member_among pairs others pair h.1 k
 ]
 
-turned : (others : List (Symbol × Symbol)) (x y : Symbol) → ArePair others x y → ArePair others y x
-turned others x y h = grind (arith, common_steps) steps 200000
-
 pair_among : (pairs others : List (Symbol × Symbol)) (x y : Symbol) → AreAmong pairs others → ArePair pairs x y → ArePair others x y
 pair_among pairs others x y h (inl c) = member_among pairs others (x, y) h c
-pair_among pairs others x y h (inr c) = turned others y x (member_among pairs others (y, x) h c)
+pair_among pairs others x y h (inr c) = grind (arith, common_steps, member_among pairs others (y, x) h c) steps 200000
 
 among_by : (pairs others : List (Symbol × Symbol)) → ((pair : Symbol × Symbol) → Contains pairs pair → ArePair others pair.0 pair.1) → AreAmong pairs others
 among_by [] others f = tt

@@ -1,36 +1,25 @@
 -- What can be decided: lists, members, and numbers below a bound.
 use Rattle.std.proofs.lemmas.{Grind.{common_steps}, Bool.{false≢true}, Option.{none-some, same_Some}, Slice.Eq.{bytes_eq-Decides}}
-use Rattle.std.proofs.Common.{◌≡◌, ◌⊎◌, ◌<◌, ℕ, zero, suc, ◌+◌, Bool, true, false, Option, Some, None, List, [], ◌∷◌, ◌++◌, length, drop, get_or, Decides, refl, sym, ap, subst, inl, inr, arith}
-use Rattle.std.{proofs.{Common.{Contains}, Math.Decide.{dec_lt, map_dec}}, specs.{List.{AllByRecursion, AllZip}, Str.{bytes_eq}}}
+use Rattle.std.proofs.{Common.{◌≡◌, ◌⊎◌, ◌<◌, ℕ, zero, suc, ◌+◌, Bool, Option, Some, None, List, [], ◌∷◌, ◌++◌, length, refl, sym, ap, subst, arith, Contains}, Math.Decide.{dec_lt, map_dec}}
+use Rattle.std.specs.List.{AllByRecursion, AllZip}
 use Rattle.mm_keep.{specs.Language.Runs.{AreThose}, proofs.RunLemmas.{those_none, those_skip, those_more}}
 
-dec_from : {P : Type 0} (b : Bool) → Decides b P → Dec P
-dec_from true d = yes (d.0 refl)
-dec_from false d = no (λ p. false≢true (d.1 p))
-
 pub dec_and : {P Q : Type 0} → Dec P → Dec Q → Dec (P × Q)
-dec_and (yes p) (yes q) = yes (p, q)
-dec_and (yes p) (no n) = no (λ h. n h.1)
-dec_and (no n) q = no (λ h. n h.0)
+dec_and p q = grind (arith, common_steps) steps 200000
 
 pub dec_or : {P Q : Type 0} → Dec P → Dec Q → Dec (P ⊎ Q)
-dec_or (yes p) q = yes (inl p)
-dec_or (no n) (yes q) = yes (inr q)
-dec_or {P} {Q} (no n) (no m) = no (λ (h : P ⊎ Q). elim h [ inl p ↦ n p | inr q ↦ m q ])
+dec_or p q = grind (arith, common_steps) steps 200000
 
 pub dec_not : {P : Type 0} → Dec P → Dec (¬ P)
-dec_not (yes p) = no (λ n. n p)
-dec_not (no n) = yes n
+dec_not p = grind (arith, common_steps) steps 200000
 
 -- ---- values
 
 pub dec_bool : (a b : Bool) → Dec (a ≡ b)
-dec_bool true false = no (λ e. false≢true (sym e))
-dec_bool false true = no (λ e. false≢true e)
-dec_bool _ _ = yes refl
+dec_bool a b = grind (arith, common_steps, false≢true) steps 200000
 
 pub dec_bytes : (xs ys : List ℕ) → Dec (xs ≡ ys)
-dec_bytes xs ys = dec_from (bytes_eq xs ys) (bytes_eq-Decides xs ys)
+dec_bytes xs ys = grind (arith, common_steps, bytes_eq-Decides xs ys, false≢true) steps 200000
 
 pub dec_label : (a b : Option (List ℕ)) → Dec (a ≡ b)
 dec_label None None = yes refl
@@ -54,9 +43,7 @@ member_cases x k xs h = grind (arith, common_steps) steps 200000
 
 module _ {X : Type 0} (same : (a b : X) → Dec (a ≡ b)) where
   both_same : (x y : X) (xs ys : List X) → Dec (x ≡ y) → Dec (xs ≡ ys) → Dec (x ∷ xs ≡ y ∷ ys)
-  both_same x y xs ys (yes e) (yes f) = yes (λ i. e i ∷ f i)
-  both_same x y xs ys (yes e) (no n) = no (λ e. n (ap (drop 1) e))
-  both_same x y xs ys (no n) d = no (λ e. n (ap (λ (zs : List X). get_or zs 0 x) e))
+  both_same x y xs ys either d = grind (arith, common_steps) steps 200000
 
   pub dec_list : (xs ys : List X) → Dec (xs ≡ ys)
   dec_list [] [] = yes refl
@@ -64,8 +51,7 @@ module _ {X : Type 0} (same : (a b : X) → Dec (a ≡ b)) where
   dec_list _ _ = no (λ e. absurd (cc))
 
   member_from : (x k : X) (xs : List X) → (x ≡ k) ⊎ Contains xs k → Contains (x ∷ xs) k
-  member_from x k xs (inl e) = subst (λ z. Contains (x ∷ xs) z) e (first_of_list x xs)
-  member_from x k xs (inr h) = later_of_list x k xs h
+  member_from x k xs either = grind (arith, common_steps, first_of_list, later_of_list) steps 200000
 
   pub dec_contains : (xs : List X) (k : X) → Dec (Contains xs k)
   dec_contains [] k = no (λ h. (omega (arith, h.1)))
@@ -76,9 +62,8 @@ dec_each P d [] = yes tt
 dec_each P d (x ∷ xs) = dec_and (d x) (dec_each P d xs)
 
 pub dec_zip : {A B : Type 0} (R : A → B → Type 0) → ((a : A) (b : B) → Dec (R a b)) → (xs : List A) (ys : List B) → Dec (AllZip R xs ys)
-dec_zip R d [] [] = yes tt
 dec_zip R d (x ∷ xs) (y ∷ ys) = dec_and (d x y) (dec_zip R d xs ys)
-dec_zip R d _ _ = no (λ e. e)
+dec_zip R d b xs = grind (arith, common_steps) steps 200000
 
 -- ---- numbers
 

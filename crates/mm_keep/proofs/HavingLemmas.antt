@@ -4,7 +4,7 @@ use Rattle.std.proofs.Common.{◌≡◌, ◌≢◌, ◌⊎◌, ◌<◌, ℕ, zer
 use Rattle.std.{proofs.Math.Decide.{dec_lt, ℕ_discrete, map_dec}, specs.List.{AllZip}}
 use Rattle.mm_proof.specs.mm_store.Language.{Expansion.{IsExpansion}, FileFacts.{CanBeRead, HoldsPieces}, FilesView.{FilesView, file_number, files_in, number_of, plain}, Holding.{HoldOneEach}}
 use Rattle.mm_proof.specs.{mm_text.Language.Unit.{tokens_of}, mm_frame.Language.Base.{BaseView, AreSaid, IsOfFiles, said_at, is_framed_at, is_proof_at, is_sound_at}}
-use Rattle.mm_proof.specs.{mm_frame.Language.{Laws.{FilesHaveOneBase, HasOwnLabels}, Resolving.{IsCarrier}}, mm_statement.Language.{Item.{Item, Kind, Axiom}, Statement.{Says, item_of, kind_of}}}
+use Rattle.mm_proof.specs.{mm_frame.Language.{Laws.{FilesHaveOneBase, HasOwnLabels}, Resolving.{IsCarrier}}, mm_statement.Language.{Item.{Item}, Statement.{Says, item_of, kind_of}}}
 use Rattle.mm_proof.specs.mm_verdict.Language.{CitingLaws.{CitesNameAssertions, CitesTellAssertions, IsCiteOf}, View.{view_at}, VerdictAt.{cites_at}}
 use Rattle.mm_keep.specs.Language.{Citations.{CitesItem, LeadsTo, none, step, IsAxiomOf}, Laws.{FilesGiveItems, HasListOfRuns, HasListOf, HasListEach, LabelsAreDecided}}
 use Rattle.mm_keep.{specs.Language.{Runs.{HasSameView, HadView, IsRun}, Sessions.{IsAssertion, HasAssertion, AreNumbersOf}}, proofs.{CitedItems.{cites_earlier, none_cited}, DecidedViews.{dec_views}}}
@@ -128,16 +128,8 @@ module _ (each : CitesNameAssertions) (tell : CitesTellAssertions) (own : HasOwn
         | inr h ↦ r (h.0, cites_earlier view i h.0 h.1.0, h.1)
       ])
 
-  axiom_kind : (kind : Kind) → Dec (kind ≡ Axiom)
-  axiom_kind Axiom = yes refl
-  axiom_kind _ = no (λ e. absurd (cc))
-
   dec_axiom : (i k : ℕ) → Dec (IsAxiomOf view i k)
-  dec_axiom i k =
-      map_dec
-      (λ h. record { is_axiom = record { sound = h.0.0; kind = h.0.1 }; leads = h.1 })
-      (λ h. ((h.is_axiom.sound, h.is_axiom.kind), h.leads))
-      (dec_and (dec_and (dec_bool (is_sound_at view k) true) (axiom_kind (said_at view k).kind)) (dec_leads k (suc i) i (omega arith)))
+  dec_axiom i k = grind (arith, common_steps, dec_bool (is_sound_at view k) true, dec_leads k (suc i) i (omega arith)) steps 200000
 
 module _ (each : CitesNameAssertions) (tell : CitesTellAssertions) (own : HasOwnLabels) where
   list_of : (stands : BaseView → ℕ → ℕ → Type 0) → ((base : BaseView) → AreSaid base → (i k : ℕ) → Dec (stands base i k)) → HasListOf (λ session label numbers. AreNumbersOf session label stands numbers)

@@ -1,7 +1,7 @@
 -- Two rising lists of numbers with the same members are one.
-use Rattle.std.proofs.{lemmas.{Grind.{common_steps}, List.Elements.{recursion_from_All}}, Common.{◌≡◌, ◌⊎◌, ℕ, suc, ◌<◌, List, [], ◌∷◌, get_or, refl, sym, inl, inr, arith, Contains, AllPairs}}
+use Rattle.std.proofs.{lemmas.{Grind.{common_steps}, List.Elements.{recursion_from_All}}, Common.{◌≡◌, ◌⊎◌, ℕ, suc, ◌<◌, List, [], ◌∷◌, refl, sym, inl, inr, arith, Contains, AllPairs}}
 use Rattle.std.specs.List.{AllByRecursion}
-use Rattle.mm_keep.proofs.{CitedWords.{above_at}, DecidingLemmas.{first_of_list, later_of_list, member_cases}}
+use Rattle.mm_keep.proofs.DecidingLemmas.{first_of_list, later_of_list, member_cases}
 
 -- each number is below each later one
 abbrev Rises : List ℕ → Type 0
@@ -13,7 +13,7 @@ rises [] f = tt
 rises (x ∷ xs) f = (recursion_from_All (λ n. x < n) xs (λ j d h. f 0 (suc j) d (omega arith) (omega arith)), rises xs (λ i j d l h. f (suc i) (suc j) d (omega arith) (omega arith)))
 
 above : (x k : ℕ) (xs : List ℕ) → AllByRecursion (λ n. x < n) xs → Contains xs k → x < k
-above x k xs f h = let l : x < get_or xs h.0 k = above_at x k xs h.0 f h.1 in omega arith
+above x k xs f h = grind (arith, common_steps) steps 200000
 
 -- a later one is a member of the rest
 past : (k m n : ℕ) (zs : List ℕ) → m < k → m ≡ n → (n ≡ k) ⊎ Contains zs k → Contains zs k

@@ -1,18 +1,14 @@
 -- What a plan says of an item, and what is carried by it.
-use Rattle.std.proofs.{Common.{arith, ◌≡◌, ℕ, ◌<◌, ◌&&◌, Bool, true, false, Option, Some, None, List, [], ◌∷◌, ◌++◌, length, refl, sym, ◌∙◌, ap, subst, slice_get}, lemmas.Grind.{common_steps}}
-use Rattle.std.proofs.lemmas.{Bool.{false≢true}, Option.{none-some, same_Some}}
-use Rattle.mm_proof.specs.{mm_store.Language.FilesView.{FilesView}, mm_frame.Language.{Base.{BaseView, said_at, is_sound_at, is_proof_at, is_shown_at}, Answering.{IsBaseBy}}}
-use Rattle.mm_proof.specs.{mm_frame.declared.base.Base.{Base}, mm_statement.Language.Item.{Kind, Theorem, is_labelled, is_theorem}, Language.BaseMarks.{ItemMark, MarksView, IsMark, mark_at}}
-use Rattle.mm_proof.specs.{Language.ViewLaws.{SameViewSameVerdict, SameViewSameCites}, mm_verdict.Language.{DecodingLaws.{LabelsAreOwn}, View.{view_at, AreSameViews}, Work.{Judgement}}}
+use Rattle.std.proofs.{Common.{arith, ◌≡◌, ℕ, ◌<◌, true, false, Option, Some, None, List, [], ◌∷◌, ◌++◌, length, sym, ◌∙◌, ap, subst, slice_get}, lemmas.{Grind.{common_steps}, Bool.{false≢true}}}
+use Rattle.std.proofs.lemmas.Option.{none-some, same_Some}
+use Rattle.mm_proof.specs.{mm_store.Language.FilesView.{FilesView}, mm_frame.{Language.{Base.{BaseView, is_proof_at, is_shown_at}, Answering.{IsBaseBy}}, declared.base.Base.{Base}}}
+use Rattle.mm_proof.specs.{Language.{BaseMarks.{ItemMark, MarksView, IsMark, mark_at}, ViewLaws.{SameViewSameVerdict, SameViewSameCites}}, mm_verdict.Language.DecodingLaws.{LabelsAreOwn}}
+use Rattle.mm_proof.specs.mm_verdict.Language.{View.{view_at, AreSameViews}, Work.{Judgement}}
 use Rattle.mm_keep.{specs.{Code.{KeptSession.{IsCheckedAt}, Planned.{AreBothRead, AreMarksBy, HasItemBothRead, IsPlanned, CanCarry}}, Language.Runs.{HasSameView}}, proofs.RunLemmas.{get_front}}
 
--- a theorem has a label
-theorem_shown : (sound : Bool) (kind : Kind) → (sound && is_theorem kind) ≡ true → (sound && is_labelled kind) ≡ true
-theorem_shown true Theorem e = refl
-theorem_shown _ _ e = absurd (false≢true e)
-
+-- a theorem is a sound item with a label
 pub shown : (base : BaseView) (i : ℕ) → is_proof_at base i ≡ true → is_shown_at base i ≡ true
-shown base i e = theorem_shown (is_sound_at base i) (said_at base i).kind e
+shown base i e = grind (arith, common_steps, false≢true) steps 200000
 
 -- the theorem whose view it had is the one that the mark names
 pub marked : (base copy : BaseView) (j : ℕ) (mark : ItemMark) → IsMark base copy j mark → (i : ℕ) → HasSameView base copy i j → mark.old ≡ Some i

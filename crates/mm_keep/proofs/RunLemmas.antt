@@ -2,12 +2,11 @@
 use Rattle.std.proofs.lemmas.{Grind.{common_steps}, Bool.{false≢true}, List.{length-replicate, length_push, get_or_append_left, get_or-replicate}}
 use Rattle.std.proofs.lemmas.List.{Elements.{Contains-get_or, Contains-append_left, Contains-push, Contains-push_cases}, Quantifiers.{all_pairs_push}, Sums.{sum_by_push}}
 use Rattle.std.proofs.lemmas.Option.{get_or_from_slice_get, slice_get-get_or, slice_get_within, same_Some}
-use Rattle.std.proofs.Common.{◌≡◌, ℕ, ◌<◌, ◌≤◌, ◌+◌, ◌↔◌, ◌⊎◌, true, Option, Some, None, List, [], ◌∷◌, ◌++◌, length, get_or, replicate, refl, sym, ◌∙◌, ap, subst, arith, inl, inr, slice_get}
-use Rattle.std.{proofs.{Common.{Contains}, Math.Seq.{get_or-append_seam}}, specs.List.{AllZip}}
+use Rattle.std.proofs.Common.{◌≡◌, ℕ, ◌<◌, ◌≤◌, ◌+◌, ◌↔◌, ◌⊎◌, true, Option, Some, None, List, [], ◌∷◌, ◌++◌, length, get_or, replicate, sym, ◌∙◌, ap, subst, arith, inl, inr, slice_get, Contains}
+use Rattle.std.{proofs.Math.Seq.{get_or-append_seam}, specs.List.{AllZip}}
 use native.Mathlib.Decide.{dec_lt}
 use Rattle.mm_proof.specs.{mm_frame.Language.Base.{BaseView, is_proof_at}, mm_verdict.Language.{VerdictAt.{AreDoneAt}, Work.{Recorded, Judgement}}}
-use Rattle.mm_keep.specs.{Language.Runs.{AreThose, AreRuns, AreStepsOf, HadView, IsRun}, Code.KeptSession.{AreChecked}}
-use Rattle.mm_keep.specs.Code.Planned.{IsPlanned, ArePlanned, IsRunBy, AreRunBy, RunsBy, AreRecorded, RecordsRun, RecordsIf}
+use Rattle.mm_keep.specs.{Language.Runs.{AreThose, AreRuns, AreStepsOf, IsRun}, Code.{KeptSession.{AreChecked}, Planned.{ArePlanned, IsRunBy, AreRunBy, RunsBy, AreRecorded, RecordsRun, RecordsIf}}}
 
 -- an element is in the list with one more, and is the last or one before it
 pub get_front : {X : Type 0} (xs : List X) (y : X) (k : ℕ) (x : X) → slice_get (xs ++ y ∷ []) k ≡ Some x → ((k < length xs) × (slice_get xs k ≡ Some x)) ⊎ ((k ≡ length xs) × (y ≡ x))
@@ -15,18 +14,14 @@ get_front xs y k x e =
     grind (arith, slice_get_within (xs ++ y ∷ []) k x e, length_push xs y, get_or_from_slice_get (xs ++ y ∷ []) k x y e, dec_lt k (length xs), get_or-append_seam xs y [] y, slice_get-get_or, get_or_append_left) steps 200000
 
 pub zip_push : {A B : Type 0} (R : A → B → Type 0) (xs : List A) (ys : List B) (x : A) (y : B) → AllZip R xs ys → R x y → AllZip R (xs ++ x ∷ []) (ys ++ y ∷ [])
-zip_push R [] [] x y a r = (r, a)
 zip_push R (w ∷ xs) (z ∷ ys) x y a r = (a.0, zip_push R xs ys x y a.1 r)
-zip_push R _ _ x y a r = absurd a
+zip_push R xs ys x y a r = grind (arith, common_steps) steps 200000
 
 -- numbers of which the one holds within the one bound, and the other within the other
 pub those_moved :
     (P Q : ℕ → Type 0) (n m : ℕ) (numbers : List ℕ) → AreThose P n numbers → ((k : ℕ) → k < n → P k → (k < m) × Q k) → ((k : ℕ) → k < m → Q k → (k < n) × P k) →
     AreThose Q m numbers
-those_moved P Q n m numbers those to from = record {
-  rising = those.rising;
-  each = λ k. (λ c. let p = (those.each k).0 c in to k p.0 p.1, λ q. (those.each k).1 (from k q.0 q.1));
-}
+those_moved P Q n m numbers those to from = record { rising = those.rising; each = λ k. grind (arith, common_steps, those.each k, to k, from k) steps 200000 }
 
 -- none below this one
 pub those_behind : (P : ℕ → Type 0) (n : ℕ) → ((k : ℕ) → k < n → P k → ⊥) → AreThose P n []
@@ -37,17 +32,7 @@ those_none P = those_behind P 0 (λ k l p. omega (arith, l))
 
 -- one number more, of which it does not hold
 pub those_skip : (P : ℕ → Type 0) (n : ℕ) (numbers : List ℕ) → AreThose P n numbers → ¬ P n → AreThose P (n + 1) numbers
-those_skip P n numbers those not = record {
-  rising = those.rising;
-  each = λ k. (
-    λ c. let p = (those.each k).0 c in (omega (arith, p.0), p.1),
-    λ p.
-        elim (dec_lt k n) [
-          | yes l ↦ (those.each k).1 (l, p.1)
-          | no m ↦ (let e : k ≡ n = omega (arith, p.0) in absurd (not (subst P e p.1)))
-        ],
-  );
-}
+those_skip P n numbers those not = record { rising = those.rising; each = λ k. grind (arith, common_steps, those.each k) steps 200000 }
 
 -- one number more, of which it holds
 pub those_more : (P : ℕ → Type 0) (n : ℕ) (numbers : List ℕ) → AreThose P n numbers → P n → AreThose P (n + 1) (numbers ++ n ∷ [])
@@ -77,11 +62,7 @@ pub run_more : (new : BaseView) (plan : List (Option ℕ)) (checked : List (Opti
     → AreRunBy new plan (checked ++ one ∷ [])
 run_more new plan checked from one ran there is = record {
   within = let l = slice_get_within plan (length checked) from there in let n = length_push checked one in omega arith;
-  each = λ j other its e f.
-      elim (get_front checked one j its f) [
-        | inl front ↦ ran.each j other its e front.1
-        | inr last ↦ grind (arith, common_steps, same_Some from other (sym there ∙ ap (slice_get plan) (sym last.0) ∙ e)) steps 200000
-      ];
+  each = λ j other its e f. grind (arith, common_steps, get_front checked one j its f, ran.each j other its e, same_Some from other) steps 200000;
 }
 
 none_not_some : (i : ℕ) (plan : List (Option ℕ)) (j : ℕ) → slice_get plan j ≡ Some (Some i) → slice_get plan j ≡ Some None → ⊥
@@ -121,7 +102,7 @@ pub begun_runs : (base : BaseView) (plan : List (Option ℕ)) (runs : List ℕ) 
     → AreThose (λ i. is_proof_at base i ≡ true) (length base.said) runs
 begun_runs base plan runs count none those =
     those_same (RunsBy base plan) (λ i. is_proof_at base i ≡ true) (length base.said) runs (subst (λ n. AreThose (RunsBy base plan) n runs) count those)
-    (λ k l. (λ r. r.theorem, λ t. record { theorem = t; nothing = let w : k < length plan = omega arith in slice_get-get_or plan k None w ∙ ap Some (none k (get_or plan k None) (slice_get-get_or plan k None w)) }))
+    (λ k l. grind (arith, common_steps, slice_get-get_or plan k None, none k (get_or plan k None)) steps 200000)
 
 -- what is checked by it is each theorem
 pub begun_checked : (base : BaseView) (plan : List (Option ℕ)) (checked : List (Option Judgement)) → length plan ≡ length base.said
@@ -129,11 +110,7 @@ pub begun_checked : (base : BaseView) (plan : List (Option ℕ)) (checked : List
     → AreChecked base checked
 begun_checked base plan checked count none ran long = record {
   count = long ∙ count;
-  each = λ i one e.
-      let w = slice_get_within checked i one e in
-      let v : i < length plan = omega arith in
-      let there = slice_get-get_or plan i None v in
-      ran.each i None one (there ∙ ap Some (none i (get_or plan i None) there)) e;
+  each = λ i one e. grind (arith, common_steps, slice_get_within checked i one e, slice_get-get_or plan i None, none i (get_or plan i None), ran.each i None one) steps 200000;
 }
 
 -- what runs by a plan is what the old base had no equal view of
@@ -142,11 +119,5 @@ planned_runs old base plan runs planned those =
     those_same (RunsBy base plan) (IsRun old base) (length base.said) runs (subst (λ n. AreThose (RunsBy base plan) n runs) planned.count those)
     (λ k l. (
       λ r. record { theorem = r.theorem; changed = planned.each k None r.nothing },
-      λ r. record {
-        theorem = r.theorem;
-        nothing = let w : k < length plan = omega (arith, planned.count) in let there = slice_get-get_or plan k None w in there ∙ ap Some (keeps_none old base k (get_or plan k None) (planned.each k (get_or plan k None) there) r.changed);
-      },
-    )) where
-      keeps_none : (old base : BaseView) (k : ℕ) (from : Option ℕ) → IsPlanned old base k from → ¬ HadView old base k → from ≡ None
-      keeps_none old base k None is not = refl
-      keeps_none old base k (Some i) is not = absurd (not (i, is))
+      λ r. record { theorem = r.theorem; nothing = grind (arith, planned.count, slice_get-get_or plan k None, planned.each k (get_or plan k None)) steps 200000 },
+    ))

@@ -1,10 +1,10 @@
 -- Where the words of items are, and the spots of their proofs.
 use Rattle.std.proofs.lemmas.{Grind.{common_steps}, Bool.{cases_Bool}, Option.{same_Some, slice_get-map}, List.{length-take-le, length-drop, length-map}}
-use Rattle.std.proofs.Common.{◌≤◌, ◌≡◌, ℕ, zero, suc, ◌+◌, ◌-◌, Some, Option, List, [], ◌∷◌, ◌++◌, length, take, drop, slice_get, refl, sym, ap, ◌∙◌, subst, arith, slice_range, slice_index_or}
+use Rattle.std.proofs.Common.{◌≤◌, ◌≡◌, ℕ, suc, ◌+◌, Some, List, [], ◌∷◌, ◌++◌, length, take, drop, slice_get, refl, sym, ap, ◌∙◌, subst, arith, slice_range, slice_index_or}
 use Rattle.std.specs.{List.{AllByRecursion, flat_map, prefix_len}, Option.{option_map}}
 use Rattle.mm_proof.specs.mm_text.{declared.word.Word.{Word}, Language.{Place.{line_at, column_at}, Run.{Run, is_white, ends_run, with_front, runs_from}}}
 use Rattle.mm_proof.specs.mm_text.Language.{Reading.{HasWords, Segment, Single, Comment, IsSegment, segment_runs, segment_words}, Unit.{Token, tokens_of}}
-use Rattle.mm_proof.specs.mm_store.Language.{Pieces.{text_in, text_under}, FilesView.{FilesView, plain, plain_file, text_of}, FileFacts.{CanBeRead, StandsIn, IsByte, IsLive, piece_offset}}
+use Rattle.mm_proof.specs.mm_store.Language.{FilesView.{FilesView, plain, plain_file, text_of}, FileFacts.{CanBeRead, StandsIn, IsByte, IsLive, piece_offset}}
 use Rattle.mm_proof.specs.mm_statement.Language.{Item.{Kind, Item}, Statement.{Says, kind_of, is_plain, token_names, symbols_from, symbols_in, proof_in, item_of}}
 use Rattle.mm_proof.specs.{mm_verdict.Language.ItemLaws.{IsSpotIn}, mm_machine.declared.Spot.{Spot}}
 use Rattle.mm_keep.specs.{declared.finding.At.{At}, Language.WordPlaces.{start_of, spelled, proof_word}, Code.OfFiles.{IsPlaceIn}}
@@ -41,19 +41,14 @@ parts_begin bound (Single run word ∷ parts) each h = (omega (arith, each.0.sta
 parts_begin bound (Comment first inside last ∷ parts) each h = parts_begin bound parts each.1 (behind_begin bound (first ∷ (inside ++ last ∷ [])) (flat_map segment_runs parts) h)
 
 nth_begins : (bound : ℕ) (words : List Word) (n : ℕ) → WordsBegin bound words → start_of (slice_get words n) ≤ bound
-nth_begins bound [] n h = omega arith
-nth_begins bound (word ∷ words) zero h = h.0
 nth_begins bound (word ∷ words) (suc n) h = nth_begins bound words n h.1
+nth_begins bound words n h = grind (arith, common_steps) steps 200000
 
 word_begins : (text : List ℕ) (words : List Word) (n : ℕ) → HasWords text words → start_of (slice_get words n) ≤ length text
 word_begins text words n has =
     let are = has.words_are in
     let runs = subst (RunsBegin (length text)) (sym are.reading.joined) (runs_begin (length text) 0 text (omega arith)) in
     nth_begins (length text) words n (subst (WordsBegin (length text)) are.singles (parts_begin (length text) are.parts are.reading.each runs))
-
--- a byte of a word, or its end, is in the text, or its end
-byte_within : (text : List ℕ) (word : Option Word) (letter : ℕ) → start_of word ≤ length text → letter ≤ length (spelled text word) → start_of word + letter ≤ length text
-byte_within text word letter begins less = grind (arith, common_steps) steps 200000
 
 -- ---- the byte of a word
 
@@ -75,24 +70,10 @@ module _ (files : FilesView) (item : store.Item) (read : CanBeRead files item) (
   pub file_there : (stands : StandsIn files item) → slice_get (plain files) item.file ≡ Some (plain_file files.pieces stands.file)
   file_there stands = slice_get-map (plain_file files.pieces) files.keyed item.file ∙ ap (option_map (plain_file files.pieces)) stands.there
 
-  -- the text of its piece
-  piece_there : (stands : StandsIn files item) → slice_get (plain_file files.pieces stands.file).pieces item.piece ≡ Some read.text
-  piece_there stands =
-      slice_get-map (text_under files.pieces) stands.file.keys item.piece
-      ∙ ap (option_map (text_under files.pieces)) stands.is_key
-      ∙ ap Some (ap text_in read.live.held ∙ sym read.live.is_text)
-
+  -- where a byte of the piece is in its file
   pub word_is_byte : (stands : StandsIn files item) (at : ℕ) → at ≤ item.end
       → IsByte files item.file item.piece at (text_of (plain_file files.pieces stands.file)) (piece_offset (plain_file files.pieces stands.file) item.piece + at)
-  word_is_byte stands at less = record {
-    file = plain_file files.pieces stands.file;
-    there = file_there stands;
-    is_text = refl;
-    bytes = read.text;
-    is_piece = piece_there stands;
-    within = omega (arith, less, read.within);
-    is_offset = refl;
-  }
+  word_is_byte stands at less = grind (arith, common_steps, file_there, slice_get-map) steps 200000
 
 -- there is one text under the key of an item
 pub own_text : (files : FilesView) (item : store.Item) → (read : CanBeRead files item) → IsTextOf files item read.text
@@ -101,9 +82,7 @@ own_text files item read text live = grind (arith, common_steps, same_Some read.
 -- a byte of a word of an item is in the item, or its end
 pub letter_within : (files : FilesView) (item : store.Item) (read : CanBeRead files item) (word letter : ℕ) → letter ≤ length (spelled (slice_range read.text item.start item.end) (slice_get read.words word))
     → item.start + (start_of (slice_get read.words word) + letter) ≤ item.end
-letter_within files item read word letter less =
-    let long : length (slice_range read.text item.start item.end) ≡ item.end - item.start = length-take-le (item.end - item.start) (drop item.start read.text) (omega (arith, length-drop item.start read.text, read.within)) in
-    grind (arith, common_steps, byte_within (slice_range read.text item.start item.end) (slice_get read.words word) letter (word_begins (slice_range read.text item.start item.end) read.words word read.has_words) less) steps 200000
+letter_within files item read word letter less = grind (arith, common_steps, length-drop, length-take-le, word_begins) steps 200000
 
 -- so a byte of an item has a place
 pub placed_in : (files : FilesView) (item : store.Item) (stands : StandsIn files item) (byte : ℕ) (at : At) → at.file ≡ item.file
@@ -133,16 +112,13 @@ spelled_at text _ _ = refl
 
 -- what is there of the first words is there of all
 taken_less : (p n : ℕ) (tokens : List Token) → length (slice_index_or (token_names (take p tokens)) n []) ≤ length (slice_index_or (token_names tokens) n [])
-taken_less zero n tokens = omega arith
-taken_less (suc p) n [] = omega arith
-taken_less (suc p) zero (token ∷ tokens) = omega arith
 taken_less (suc p) (suc n) (token ∷ tokens) = taken_less p n tokens
+taken_less p n tokens = grind (arith, common_steps) steps 200000
 
 -- words after the first ones are words after these
 dropped_at : (m n : ℕ) (tokens : List Token) → slice_index_or (token_names (drop m tokens)) n [] ≡ slice_index_or (token_names tokens) (m + n) []
-dropped_at zero n tokens = let same : n ≡ 0 + n = omega arith in ap (λ k. slice_index_or (token_names tokens) k []) same
-dropped_at (suc m) n [] = refl
 dropped_at (suc m) n (token ∷ tokens) = grind (arith, common_steps, dropped_at m n tokens) steps 200000
+dropped_at m n tokens = grind (arith, common_steps) steps 200000
 
 -- the number of the first word of a proof
 abbrev proof_from : Kind → List Token → ℕ

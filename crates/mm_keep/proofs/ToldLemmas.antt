@@ -1,10 +1,9 @@
 -- What a base and its files say of one item.
 use Rattle.std.proofs.lemmas.{Grind.{common_steps}, List.Sums.{sum_by_push}, Option.{get_or_from_slice_get, same_Some, slice_get_within}}
-use Rattle.std.proofs.Common.{◌≡◌, ◌⊎◌, ℕ, zero, suc, ◌+◌, Bool, cond, count_by, Some, List, [], ◌∷◌, ◌++◌, inl, inr, length-append, length, slice_get, refl, sym, ◌∙◌, ap, subst, arith}
+use Rattle.std.proofs.Common.{◌≡◌, ◌⊎◌, ℕ, suc, ◌+◌, Bool, cond, count_by, Some, List, [], ◌∷◌, ◌++◌, inl, inr, length-append, length, slice_get, sym, ◌∙◌, ap, subst, arith}
 use Rattle.mm_proof.specs.{mm_store.Language.{FilesView.{FilesView}, FileFacts.{CanBeRead, StandsIn}}, mm_frame.{Language.{Base.{BaseView, said_at}, Answering.{IsBase}}, declared.base.Base.{Base}}}
 use Rattle.mm_proof.specs.mm_statement.Language.{Item.{passed}, Statement.{Says}}
-use Rattle.mm_keep.specs.{Code.{OfFiles.{IsOf, HasItemOf}, FoundKinds.{kind_told, one_more}}, Language.Told.{Told, counts, is_axiom, is_proved, is_incomplete, is_wrong, is_fault, IsRightlyTold}}
-use Rattle.mm_keep.proofs.ZipLemmas.{zip_found}
+use Rattle.mm_keep.{specs.{Code.{OfFiles.{IsOf, HasItemOf}, FoundKinds.{kind_told, one_more}}, Language.Told.{Told, counts, IsRightlyTold}}, proofs.ZipLemmas.{zip_found}}
 use Rattle.mm_proof.specs.mm_store.declared.item.Item as store
 
 -- what it says
@@ -31,10 +30,8 @@ pub record ToldUpTo (files : FilesView) (view : BaseView) (n : ℕ) (all : List 
 
 -- an element of a list with one more
 pushed : {X : Type 0} (xs : List X) (x : X) (k : ℕ) (y : X) → slice_get (xs ++ x ∷ []) k ≡ Some y → (slice_get xs k ≡ Some y) ⊎ ((k ≡ length xs) × (x ≡ y))
-pushed [] x zero y e = inr (refl, same_Some x y e)
-pushed [] x (suc k) y e = cc
-pushed (z ∷ xs) x zero y e = inl e
 pushed (z ∷ xs) x (suc k) y e = elim (pushed xs x k y e) [ inl h ↦ inl h | inr h ↦ inr (ap suc h.0, h.1) ]
+pushed xs x k y e = grind (arith, common_steps, same_Some) steps 200000
 
 pub told_more : (files : FilesView) (view : BaseView) (n : ℕ) (all : List Told) (one : Told) → IsRightlyTold files view n one → ToldUpTo files view n all → ToldUpTo files view (n + 1) (all ++ one ∷ [])
 told_more files view n all one t f = record {
@@ -51,12 +48,8 @@ told_more files view n all one t f = record {
 abbrev CountsOne : (Told → Bool) → List Told → Told → Type 0
 CountsOne test all one = count_by test (all ++ one ∷ []) ≡ count_by test all + cond (test one) 1 0
 
-one_by_kind : (all : List Told) (one : Told) → CountsOne is_axiom all one → CountsOne is_proved all one → CountsOne is_incomplete all one → CountsOne is_wrong all one → CountsOne is_fault all one
-    → counts (all ++ one ∷ []) ≡ one_more (kind_told one) (counts all)
-one_by_kind all one a p n w f = grind (arith, common_steps) steps 200000
-
 counted_one : (test : Told → Bool) (all : List Told) (one : Told) → CountsOne test all one
 counted_one test all one = sum_by_push (λ told. cond (test told) 1 0) all one
 
 pub counts_more : (all : List Told) (one : Told) → counts (all ++ one ∷ []) ≡ one_more (kind_told one) (counts all)
-counts_more all one = one_by_kind all one (counted_one is_axiom all one) (counted_one is_proved all one) (counted_one is_incomplete all one) (counted_one is_wrong all one) (counted_one is_fault all one)
+counts_more all one = grind (arith, common_steps, counted_one) steps 200000

@@ -1,8 +1,8 @@
 -- How far two bases are in step, and what labels mean there.
-use Rattle.std.proofs.lemmas.{Grind.{common_steps}, Bool.{cases_Bool, false≢true}, Option.{same_Some, none-some}}
+use Rattle.std.proofs.lemmas.{Grind.{common_steps}, Bool.{cases_Bool, false≢true}, Option.{same_Some, none-some, slice_get-get_or}, List.{get_or_push, get_or_append_left}}
 use Rattle.std.proofs.Common.{rules, ◌≡◌, ◌+◌, ◌<◌, ◌≤◌, ◌⊎◌, ◌++◌, ℕ, zero, suc, cond, Bool, true, false, Option, Some, None, List, [], ◌∷◌, length, refl, sym, ◌∙◌, ap, subst, inl, inr, arith}
 use Rattle.std.{proofs.{Common.{length-append, is_some, slice_get, slice_index, slice_index_or}, Math.Decide.{dec_lt}}, specs.Option.{option_map}}
-use Rattle.mm_frame.specs.Language.{Base.{BaseView, said_at, is_shown_at}, Resolving.{IsLabelOf, IsUpTo, Resolves}}
+use Rattle.mm_frame.specs.Language.{Base.{BaseView, said_at, is_shown_at}, Resolving.{IsLabelOf, Resolves}}
 use Rattle.mm_verdict.specs.{Language.{BaseLabels.{setting_at}, SameToDecode.{IsSameLabel}}, mm_machine.Language.SameProof.{AreSameMeaning}}
 use Rattle.mm_proof.specs.Language.BaseMarks.{ItemMark, MarksView, IsMark, IsToldChanged, HaveOneLabel, AreMarks, mark_at, no_mark}
 use Rattle.mm_proof.specs.Code.InStep.{ordinal, AreOrdinals, AreEndsAlike, AreInStep, EndsAt, HasAlike, HasLevel, IsTold, KeepsHypothesis, MeanOne, changed_behind}
@@ -13,10 +13,6 @@ use Rattle.mm_frame.specs.Language.Laws as frame
 
 -- ---- ordinals
 
-step_more : (b : Bool) (k : ℕ) → k ≤ cond b (suc k) k
-step_more true k = omega arith
-step_more false k = omega arith
-
 shown_step : (base : BaseView) (n : ℕ) → is_shown_at base n ≡ true → ordinal base (suc n) ≡ suc (ordinal base n)
 shown_step base n e = ap (λ b. cond b (suc (ordinal base n)) (ordinal base n)) e
 
@@ -25,11 +21,11 @@ hidden_step base n e = ap (λ b. cond b (suc (ordinal base n)) (ordinal base n))
 
 ordinal_more : (base : BaseView) (m n : ℕ) → m ≤ n → ordinal base m ≤ ordinal base n
 ordinal_more base m zero l = let z : m ≡ 0 = omega (arith, l) in subst (λ k. ordinal base k ≤ 0) (sym z) (omega arith)
-ordinal_more base m (suc n) l = by_order (ordinal_more base m n) (dec_lt n m)
-  where
-    by_order : (m ≤ n → ordinal base m ≤ ordinal base n) → Dec (n < m) → ordinal base m ≤ ordinal base (suc n)
-    by_order more (yes a) = (let z : m ≡ suc n = omega (arith, l, a) in subst (λ k. ordinal base k ≤ ordinal base (suc n)) (sym z) (omega arith))
-    by_order more (no a) = (let front = more (omega (arith, a)) in let last = step_more (is_shown_at base n) (ordinal base n) in omega (arith, front, last))
+ordinal_more base m (suc n) l = elim (dec_lt n m) [
+  | yes a ↦ (let z : m ≡ suc n = omega (arith, l, a) in subst (λ k. ordinal base k ≤ ordinal base (suc n)) (sym z) (omega arith))
+  | no a ↦ (let front = ordinal_more base m n (omega (arith, a)) in
+      elim (cases_Bool (is_shown_at base n)) [ inl e ↦ omega (arith, front, shown_step base n e) | inr e ↦ omega (arith, front, hidden_step base n e) ])
+]
 
 -- after an item with a label the ordinals are greater
 ordinal_less : (base : BaseView) (m n : ℕ) → is_shown_at base m ≡ true → m < n → ordinal base m < ordinal base n
@@ -56,13 +52,12 @@ wider base n t h = record { m = h.m; earlier = (let l = h.earlier in omega (arit
 item_with : (base : BaseView) (n t : ℕ) → t < ordinal base n → HasOrdinal base n t
 item_with base zero t l = absurd (omega (arith, l))
 item_with base (suc n) t l = elim (cases_Bool (is_shown_at base n)) [
-  | inl e ↦ last (item_with base n t) e (dec_lt t (ordinal base n))
+  | inl e ↦ elim (dec_lt t (ordinal base n)) [
+    | yes a ↦ wider base n t (item_with base n t a)
+    | no a ↦ record { m = n; earlier = omega arith; shown = e; ordinal_is = (let next = shown_step base n e in omega (arith, next, a, l)) }
+  ]
   | inr e ↦ wider base n t (item_with base n t (let same = hidden_step base n e in omega (arith, same, l)))
 ]
-  where
-    last : (t < ordinal base n → HasOrdinal base n t) → is_shown_at base n ≡ true → Dec (t < ordinal base n) → HasOrdinal base (suc n) t
-    last front e (yes a) = wider base n t (front a)
-    last front e (no a) = record { m = n; earlier = omega arith; shown = e; ordinal_is = (let next = shown_step base n e in omega (arith, next, a, l)) }
 
 -- ---- labels
 
@@ -82,28 +77,11 @@ module _ (base copy : BaseView) (i j : ℕ) (was : is_shown_at base i ≡ true) 
   ends_mean :
       (label : List ℕ) (k m : ℕ) (mine yours : Option ℕ) → IsLabelOf base i k label → IsLabelOf copy j m label → KeepsHypothesis base copy k m →
       EndsAt base k mine → EndsAt copy m yours → AreEndsAlike base copy mine yours → IsSame label
-  ends_mean label k m mine yours h g kept ends stops = by_end mine yours ends stops
-    where
-      both_active : (a b : Option ℕ) → EndsAt base k a → EndsAt copy m b → IsUpTo i a → IsUpTo j b → IsSame label
-      both_active a b ends stops up down =
-          both_mean label (answers.Hypothesis k) (answers.Hypothesis m) (ends.active label i h.carrier kept.was h.earlier up) (stops.active label j g.carrier kept.is g.earlier down) kept.same
-
-      neither : (a b : ℕ) → EndsAt base k (Some a) → EndsAt copy m (Some b) → (i < a → ⊥) → (j < b → ⊥) → IsSame label
-      neither a b ends stops up down =
-          both_mean label answers.Inactive answers.Inactive (ends.ended label i h.carrier kept.was h.earlier up) (stops.ended label j g.carrier kept.is g.earlier down) tt
-
-      by_order : (a b : ℕ) → EndsAt base k (Some a) → EndsAt copy m (Some b) → ordinal base a ≡ ordinal copy b → Dec (i < a) → IsSame label
-      by_order a b ends stops e (yes l) = (
-          let less = ordinal_less base i a was l in
-          both_active (Some a) (Some b) ends stops l (ordinal_back copy j b (omega (arith, less, e, level))))
-      by_order a b ends stops e (no l) = (
-          let more = ordinal_more base a i (omega (arith, l)) in
-          neither a b ends stops l (λ w. (let less = ordinal_less copy j b is w in omega (arith, less, more, e, level))))
-
-      by_end : (a b : Option ℕ) → EndsAt base k a → EndsAt copy m b → AreEndsAlike base copy a b → IsSame label
-      by_end None None ends stops e = both_active None None ends stops tt tt
-      by_end (Some a) (Some b) ends stops e = by_order a b ends stops e (dec_lt i a)
-      by_end _ _ ends stops e = absurd e
+  ends_mean label k m None None h g kept ends stops e =
+      both_mean label (answers.Hypothesis k) (answers.Hypothesis m) (ends.active label i h.carrier kept.was h.earlier tt)
+      (stops.active label j g.carrier kept.is g.earlier tt) kept.same
+  ends_mean label k m (Some a) (Some b) h g kept ends stops e = search (rules, both_mean, dec_lt, m, ordinal_back, ordinal_less, ordinal_more) steps 200000
+  ends_mean label k m _ _ h g kept ends stops e = absurd e
 
   kept_means : frame.AssertionsMean → (label : List ℕ) (k m : ℕ) → IsLabelOf base i k label → IsLabelOf copy j m label → ShareFrame base copy k m ⊎ KeepsHypothesis base copy k m → IsSame label
   kept_means assertions label k m h g (inl s) = both_mean label (answers.Assertion k) (answers.Assertion m) (assertions base i k label h s.was) (assertions copy j m label g s.is) s.same
@@ -149,11 +127,10 @@ frame_kept base copy i j mark is old told =
 
 -- one more item
 in_step_more : (base copy : BaseView) (changed : List ℕ) (j : ℕ) → AreInStep base copy changed j → HasAlike base copy changed j → AreInStep base copy changed (j + 1)
-in_step_more base copy changed j front here m l = by_order (dec_lt m j)
-  where
-    by_order : Dec (m < j) → HasAlike base copy changed m
-    by_order (yes a) = front m a
-    by_order (no a) = (let z : j ≡ m = omega (arith, l, a) in subst (HasAlike base copy changed) z here)
+in_step_more base copy changed j front here m l = elim (dec_lt m j) [
+  | yes a ↦ front m a
+  | no a ↦ (let z : j ≡ m = omega (arith, l, a) in subst (HasAlike base copy changed) z here)
+]
 
 -- an item that is level, and means the same as the old one with its label
 alike_here : (base copy : BaseView) (changed : List ℕ) (j : ℕ) → HasLevel base copy j → ((i : ℕ) → HaveOneLabel base copy i j → MeanOne base copy i j) → HasAlike base copy changed j
@@ -161,8 +138,7 @@ alike_here base copy changed j level same shown = let found = level shown in let
 
 -- one more item is listed as changed
 got_end : (xs : List ℕ) (y : ℕ) → slice_get (xs ++ y ∷ []) (length xs) ≡ Some y
-got_end [] y = refl
-got_end (x ∷ xs) y = got_end xs y
+got_end xs y = slice_get-get_or (xs ++ y ∷ []) (length xs) 0 (omega (arith, length-append xs (y ∷ []))) ∙ ap Some (get_or_push xs y 0 (length xs) refl)
 
 told_more : (base copy : BaseView) (changed : List ℕ) (j m : ℕ) → HasAlike base copy changed m → HasAlike base copy (changed ++ j ∷ []) m
 told_more base copy changed j m here shown = search (rules, got_front) steps 500000
@@ -210,17 +186,8 @@ told_shown f None true e q = absurd (none-some e q)
 told_shown f (Some x) false e q = absurd (none-some (f x) (sym q))
 told_shown f _ _ e q = refl
 
-at_front : (xs ys : List ℕ) (n : ℕ) → n < length xs → slice_index (xs ++ ys) n ≡ slice_index xs n
-at_front [] ys n l = absurd (omega (arith, l))
-at_front (x ∷ xs) ys zero l = refl
-at_front (x ∷ xs) ys (suc n) l = at_front xs ys n (omega (arith, l))
-
-at_end : (xs : List ℕ) (y : ℕ) → slice_index (xs ++ y ∷ []) (length xs) ≡ y
-at_end [] y = refl
-at_end (x ∷ xs) y = at_end xs y
-
 pub ordinals_more : (base : BaseView) (n : ℕ) (xs : List ℕ) (x : ℕ) → AreOrdinals base n xs → x ≡ ordinal base n → AreOrdinals base (n + 1) (xs ++ x ∷ [])
-ordinals_more base n xs x are e = grind (arith, at_end, at_front, dec_lt, length-append) steps 200000
+ordinals_more base n xs x are e = grind (arith, get_or_push xs x 0 n, get_or_append_left xs (x ∷ []) 0, dec_lt, length-append) steps 200000
 
 pub ordinal_shown : (base : BaseView) (n : ℕ) → is_shown_at base n ≡ true → ordinal base n + 1 ≡ ordinal base (n + 1)
 ordinal_shown base n e = let z : suc n ≡ n + 1 = omega arith in let here = shown_step base n e in subst (λ k. ordinal base n + 1 ≡ ordinal base k) z (omega (arith, here))

@@ -1,7 +1,8 @@
 -- What stays of an item of an old base in a new one.
-use Rattle.std.proofs.lemmas.{Grind.{common_steps}, Bool.{false≢true, and_parts}, Option.{none-some, same_Some}}
-use Rattle.std.proofs.Common.{◌≡◌, ◌<◌, ℕ, zero, suc, cond, slice_index_or, ◌+◌, Bool, true, false, ◌⊎◌, inl, inr, Option, Some, None, List, [], ◌∷◌, ◌++◌, length, map, slice_get, refl, sym, ◌∙◌, ap}
-use Rattle.std.{proofs.{Common.{subst, arith, length-append}, Math.Decide.{ℕ_discrete}}, specs.Prelude.{◌↔◌, is_some}}
+use Rattle.std.proofs.lemmas.{Grind.{common_steps}, Bool.{false≢true, and_parts}, Option.{same_Some, slice_get-get_or, slice_get_cases, slice_get_within, get_or_from_slice_get}}
+use Rattle.std.proofs.lemmas.List.{get_or_push, get_or_append_left}
+use Rattle.std.proofs.Common.{◌≡◌, ◌<◌, ℕ, suc, cond, slice_index_or, ◌+◌, Bool, true, false, ◌⊎◌, inl, inr, Option, Some, None, List, [], ◌∷◌, ◌++◌, length, map, slice_get, refl, sym, ◌∙◌, ap, subst}
+use Rattle.std.{proofs.{Common.{arith, length-append}, Math.Decide.{ℕ_discrete}}, specs.Prelude.{◌↔◌, is_some}}
 use Rattle.mm_frame.specs.{Language.{Base.{BaseView, said_at, is_shown_at, is_sound_at}, Resolving.{IsCarrier}, Answering.{IsBaseBy}}, mm_machine.Language.Frame.{Symbol, AreSamePairs}}
 use Rattle.mm_frame.specs.{mm_statement.Language.Item.{is_labelled}, declared.base.Base.{Base}}
 use Rattle.mm_proof.specs.{Language.BaseMarks.{ItemMark, MarksView, IsMark, HaveOneLabel, KeepsLabels, AreMarks, no_mark, mark_at}, Code.InStep.{changed_behind}}
@@ -29,9 +30,7 @@ pub shown_within : (view : BaseView) (i : ℕ) → is_shown_at view i ≡ true �
 shown_within view i e = grind (arith, common_steps, and_parts, false≢true) steps 200000
 
 got : {X : Type 0} (xs : List X) (n : ℕ) → n < length xs → (x : X) × (slice_get xs n ≡ Some x)
-got [] n l = absurd (omega (arith, l))
-got (x ∷ xs) zero l = (x, refl)
-got (x ∷ xs) (suc n) l = got xs n (omega (arith, l))
+got xs n l = elim (slice_get_cases xs n).1 [ inl t ↦ (t.0, t.2) | inr past ↦ absurd (let long = past.0 in omega (arith, long, l)) ]
 
 some_there : {X : Type 0} (o : Option X) → is_some o ≡ true → (x : X) × (o ≡ Some x)
 some_there o e = grind (arith, common_steps) steps 200000
@@ -82,44 +81,33 @@ some_kept base copy i j frame pairs old f p = record {
   );
 }
 
-at_front : {X : Type 0} (xs ys : List X) (n : ℕ) (d : X) → n < length xs → slice_index_or (xs ++ ys) n d ≡ slice_index_or xs n d
-at_front [] ys n d l = absurd (omega (arith, l))
-at_front (x ∷ xs) ys zero d l = refl
-at_front (x ∷ xs) ys (suc n) d l = at_front xs ys n d (omega (arith, l))
-
-at_end : {X : Type 0} (xs : List X) (y d : X) → slice_index_or (xs ++ y ∷ []) (length xs) d ≡ y
-at_end [] y d = refl
-at_end (x ∷ xs) y d = at_end xs y d
-
 -- one more mark
 pub marked_more :
     (base copy : BaseView) (n : ℕ) (marks : List ItemMark) (changed : List ℕ) (mark : ItemMark) → AreItemMarks base copy n (record { items = marks; changed = changed }) →
     IsMark base copy n mark → (mark.in_step ≡ true → KeepsLabels base copy changed n) → AreItemMarks base copy (n + 1) (record { items = marks ++ mark ∷ []; changed = changed })
 marked_more base copy n marks changed mark are is keeps = record {
   count_is = length-append marks (mark ∷ []) ∙ ap (λ k. k + 1) are.count_is;
-  each = λ j l. each_case j l (ℕ_discrete j n);
-  in_step = λ j l. step_case j l (ℕ_discrete j n);
+  each = λ j l. elim (ℕ_discrete j n) [
+    | yes e ↦ subst (λ m. IsMark base copy j m) (sym (here j e)) (subst (λ k. IsMark base copy k mark) (sym e) is)
+    | no other ↦ subst (λ m. IsMark base copy j m) (sym (front j l other)) (are.each j (omega (arith, l, other)))
+  ];
+  in_step = λ j l t. elim (ℕ_discrete j n) [
+    | yes e ↦ subst (KeepsLabels base copy changed) (sym e) (keeps (sym (ap (λ (m : ItemMark). m.in_step) (here j e)) ∙ t))
+    | no other ↦ are.in_step j (omega (arith, l, other)) (sym (ap (λ (m : ItemMark). m.in_step) (front j l other)) ∙ t)
+  ];
 }
   where
     here : (j : ℕ) → j ≡ n → mark_at (record { items = marks ++ mark ∷ []; changed = changed }) j ≡ mark
-    here j e = subst (λ k. slice_index_or (marks ++ mark ∷ []) k no_mark ≡ mark) (are.count_is ∙ sym e) (at_end marks mark no_mark)
+    here j e = subst (λ k. slice_index_or (marks ++ mark ∷ []) k no_mark ≡ mark) (are.count_is ∙ sym e) (get_or_push marks mark no_mark (length marks) refl)
 
     front : (j : ℕ) → j < n + 1 → (j ≡ n → ⊥) → mark_at (record { items = marks ++ mark ∷ []; changed = changed }) j ≡ mark_at (record { items = marks; changed = changed }) j
-    front j l other = at_front marks (mark ∷ []) j no_mark (omega (arith, l, other, are.count_is))
-
-    each_case : (j : ℕ) → j < n + 1 → Dec (j ≡ n) → IsMark base copy j (mark_at (record { items = marks ++ mark ∷ []; changed = changed }) j)
-    each_case j l (yes e) = subst (λ m. IsMark base copy j m) (sym (here j e)) (subst (λ k. IsMark base copy k mark) (sym e) is)
-    each_case j l (no other) = subst (λ m. IsMark base copy j m) (sym (front j l other)) (are.each j (omega (arith, l, other)))
-
-    step_case : (j : ℕ) → j < n + 1 → Dec (j ≡ n) → (mark_at (record { items = marks ++ mark ∷ []; changed = changed }) j).in_step ≡ true → KeepsLabels base copy changed j
-    step_case j l (yes e) t = subst (KeepsLabels base copy changed) (sym e) (keeps (sym (ap (λ (m : ItemMark). m.in_step) (here j e)) ∙ t))
-    step_case j l (no other) t = are.in_step j (omega (arith, l, other)) (sym (ap (λ (m : ItemMark). m.in_step) (front j l other)) ∙ t)
+    front j l other = get_or_append_left marks (mark ∷ []) no_mark j (omega (arith, l, other, are.count_is))
 
 -- what is listed first is still listed if more is
 pub got_front : (xs ys : List ℕ) (n x : ℕ) → slice_get xs n ≡ Some x → slice_get (xs ++ ys) n ≡ Some x
-got_front [] ys n x e = absurd (none-some x e)
-got_front (y ∷ xs) ys zero x e = e
-got_front (y ∷ xs) ys (suc n) x e = got_front xs ys n x e
+got_front xs ys n x e =
+    let l = slice_get_within xs n x e in
+    slice_get-get_or (xs ++ ys) n x (omega (arith, length-append xs ys)) ∙ ap Some (get_or_append_left xs ys x n l ∙ get_or_from_slice_get xs n x x e)
 
 -- then less is said of labels
 keeps_less : (base copy : BaseView) (changed more : List ℕ) (j : ℕ) → KeepsLabels base copy changed j → KeepsLabels base copy (changed ++ more) j
@@ -143,10 +131,11 @@ all_marked base copy n marks are e = grind arith steps 200000
 
 -- marks that say nothing, and one more
 got_last : {X : Type 0} (xs : List X) (y z : X) (m : ℕ) → slice_get (xs ++ y ∷ []) m ≡ Some z → (slice_get xs m ≡ Some z) ⊎ ((m ≡ length xs) × (y ≡ z))
-got_last [] y z zero e = inr (refl, same_Some y z e)
-got_last [] y z (suc m) e = absurd (none-some z e)
-got_last (x ∷ xs) y z zero e = inl e
-got_last (x ∷ xs) y z (suc m) e = grind (arith, common_steps, got_last xs y z m e) steps 200000
+got_last xs y z m e =
+    let long = length-append xs (y ∷ []) in
+    let at = get_or_from_slice_get (xs ++ y ∷ []) m z z e in
+    let within = slice_get_within (xs ++ y ∷ []) m z e in
+    grind (arith, common_steps, get_or_append_left xs (y ∷ []) z m, get_or_push xs y z m, long, same_Some, within, at, slice_get-get_or xs m z) steps 200000
 
 pub kept_more : (old new : Base) (marks : List code.Mark) (mark : code.Mark) (n : ℕ) → length marks ≡ n → AreHypothesisMarks old new marks → IsHypothesisMark old new n mark → AreHypothesisMarks old new (marks ++ mark ∷ [])
 kept_more old new marks mark n count are is m other e = elim (got_last marks mark other m e) [

@@ -1,8 +1,8 @@
 -- What labels mean at two theorems of two bases.
-use Rattle.std.proofs.lemmas.{Grind.{common_steps}, Bool.{cases_Bool, false≢true, and_from}, Slice.Eq.{bytes_eq-Decides}, Option.{none-some, same_Some}}
-use Rattle.std.proofs.Common.{◌≡◌, ◌<◌, ℕ, zero, suc, cond, Bool, true, false, Option, Some, None, List, [], ◌∷◌, ◌++◌, length, take, refl, sym, ◌∙◌, ap, subst, inl, inr, arith, ◌↔◌, IsTrue, is_none}
+use Rattle.std.proofs.lemmas.{Grind.{common_steps}, Bool.{cases_Bool, false≢true, and_from}, Slice.Eq.{bytes_eq-Decides}, Option.{none-some, same_Some}, List.{take_all}}
+use Rattle.std.proofs.Common.{◌≡◌, ◌<◌, ℕ, zero, suc, cond, Bool, true, false, Option, Some, None, List, [], ◌∷◌, ◌++◌, length, take, refl, sym, ◌∙◌, ap, subst, arith, ◌↔◌, IsTrue, is_none}
 use Rattle.std.{proofs.{Common.{option_to_list, bytes_eq}, Math.{Decide.{dec_lt}, Seq.{take-suc}}}, specs.List.{AllByRecursion}}
-use Rattle.mm_frame.specs.{declared.FrameNumber.{FrameNumber}, Language.{Base.{BaseView, said_at, before, is_sound_at, is_shown_at, is_framed_at, frame_at, fault_by}, Framing.{resolve, resolve_from}}}
+use Rattle.mm_frame.specs.{declared.FrameNumber.{FrameNumber}, Language.{Base.{BaseView, said_at, before, is_shown_at, is_framed_at, frame_at, fault_by}, Framing.{resolve, resolve_from}}}
 use Rattle.mm_frame.specs.{Language.{Resolving.{IsCarrier, IsMeaning, Resolves}, Sound.{fault, judged, sound_items}}, mm_machine.Language.Frame.{Resolved, Assertion, Unknown, AreSameFrame}}
 use Rattle.mm_frame.specs.mm_statement.Language.Item.{Kind, Item, passed, is_labelled, labels_of, has}
 use Rattle.mm_proof.specs.{Code.KeptMarks.{AreTheorems, IsOneCarrier, IsShownItem, ShareHypotheses, SharePairs, stands_for}, Language.BaseMarks.{MarksView, AreMarks, mark_at}}
@@ -26,10 +26,7 @@ joined P [] ys a b = b
 joined P (x ∷ xs) ys a b = (a.0, joined P xs ys a.1 b)
 
 take_end : {X : Type 0} (xs : List X) (n : ℕ) → (n < length xs → ⊥) → take (suc n) xs ≡ take n xs
-take_end [] zero h = refl
-take_end [] (suc n) h = refl
-take_end (x ∷ xs) zero h = absurd (h (omega arith))
-take_end (x ∷ xs) (suc n) h = ap (λ w. x ∷ w) (take_end xs n (λ l. h (omega (arith, l))))
+take_end xs n h = take_all (suc n) xs (omega (arith, h)) ∙ sym (take_all n xs (omega (arith, h)))
 
 module _ (view : BaseView) (label : List ℕ) (none : IsOneCarrier view label None) where
   -- the item does not carry the label
@@ -38,27 +35,18 @@ module _ (view : BaseView) (label : List ℕ) (none : IsOneCarrier view label No
 
   judged_lacks : (n : ℕ) (found : Option (ℕ × FrameNumber)) → fault (before view n) (said_at view n) ≡ found → Lacks (judged (said_at view n) found)
   judged_lacks n (Some at) e = refl
-  judged_lacks n None e = elim (cases_Bool (has (labels_of (said_at view n)) label)) [
-    | inl t ↦
-        let item = said_at view n in
-        let l = labelled (is_labelled item.kind) item.label label t in
-        let sound = ap (λ o. is_none (fault_by item.kind o)) e ∙ sound_label item.kind l.0 in
-        absurd (none-some n ((none n).1 (record { shown = and_from (is_sound_at view n) (is_labelled item.kind) sound l.0; label_is = l.1 })))
-    | inr f ↦ f
-  ]
+  judged_lacks n None e = grind (arith, common_steps, and_from, labelled, none-some, sound_label) steps 200000
 
   all_lack : frame.KeptNext → (n : ℕ) → AllByRecursion Lacks (before view n)
   all_lack next zero = tt
-  all_lack next (suc n) = by_case (all_lack next n) (dec_lt n (length view.said))
-    where
-      item : Item
-      item = said_at view n
-
-      by_case : AllByRecursion Lacks (before view n) → Dec (n < length view.said) → AllByRecursion Lacks (before view (suc n))
-      by_case front (yes l) =
-          let here = joined Lacks (before view n) (judged item (fault (before view n) item) ∷ []) front (judged_lacks n (fault (before view n) item) refl, tt) in
-          subst (λ items. AllByRecursion Lacks items) (sym (ap sound_items (take-suc view.said n passed l) ∙ next (take n view.said) item)) here
-      by_case front (no m) = subst (λ items. AllByRecursion Lacks items) (sym (ap sound_items (take_end view.said n m))) front
+  all_lack next (suc n) =
+      let item = said_at view n in
+      let here = joined Lacks (before view n) (judged item (fault (before view n) item) ∷ []) (all_lack next n)
+      (judged_lacks n (fault (before view n) item) refl, tt) in
+      elim (dec_lt n (length view.said)) [
+        | yes l ↦ subst (λ items. AllByRecursion Lacks items) (sym (ap sound_items (take-suc view.said n passed l) ∙ next (take n view.said) item)) here
+        | no m ↦ subst (λ items. AllByRecursion Lacks items) (sym (ap sound_items (take_end view.said n m))) (all_lack next n)
+      ]
 
   unknown_from : (whole front back : List Item) → AllByRecursion Lacks back → resolve_from whole front back label ≡ Unknown
   unknown_from whole front [] a = refl
@@ -79,12 +67,7 @@ moved same m n y z e f s = subst (λ w. IsTrue same ↔ AreSameMeaning w y) (sym
 pub means_same :
     (base copy : BaseView) (i j : ℕ) (label : List ℕ) (mine yours : answer.Resolved) (same : Bool) → Resolves base i label mine → Resolves copy j label yours →
     (IsShownItem base mine → IsShownItem copy yours → IsTrue same ↔ AreSameMeaning (stands_for base mine) (stands_for copy yours)) → IsTrue same ↔ IsSameLabel (setting_at base i) (setting_at copy j) label
-means_same base copy i j label mine yours same h k t =
-    let m = resolve (before base i) label in
-    let y = resolve (before copy j) label in
-    let here = means base i label mine m h in
-    let there = means copy j label yours y k in
-    moved same m (stands_for base mine) y (stands_for copy yours) here.0 there.0 (t here.1 there.1)
+means_same base copy i j label mine yours same h k t = grind (arith, common_steps, means, moved) steps 200000
 
 -- ---- by marks
 

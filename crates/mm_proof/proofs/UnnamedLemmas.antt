@@ -1,6 +1,6 @@
 -- Words of a proof that are no label that is listed as changed.
-use Rattle.std.proofs.lemmas.{Grind.{common_steps}, Bool.{false≢true}, Option.{none-some}}
-use Rattle.std.{proofs.Common.{◌≡◌, ◌<◌, ℕ, zero, suc, Bool, true, false, not, Some, List, [], ◌∷◌, length, take, filter, refl, arith}, specs.{Prelude.{◌≢◌, slice_get}, List.{AllByRecursion}}}
+use Rattle.std.{proofs.{lemmas.{Grind.{common_steps}, Bool.{false≢true}}, Common.{◌≡◌, ℕ, zero, suc, Bool, true, false, not, List, [], ◌∷◌, take, filter, refl, arith}}, specs.Prelude.{◌≢◌}}
+use Rattle.std.specs.List.{AllByRecursion}
 use Rattle.mm_frame.specs.Language.Base.{BaseView}
 use Rattle.mm_proof.specs.Language.BaseMarks.{IsToldChanged}
 use Rattle.mm_verdict.specs.Language.SameToDecode.{labels_named}
@@ -29,11 +29,6 @@ pub none_changed :
     AllByRecursion (λ word. ¬ IsToldChanged copy changed j word) words
 none_changed copy changed j [] none = tt
 none_changed copy changed j (word ∷ words) none = ((λ t. (none word t).0 refl), none_changed copy changed j words (λ label t. (none label t).1))
-
-pub got_within : (xs : List ℕ) (n x : ℕ) → slice_get xs n ≡ Some x → n < length xs
-got_within [] n x e = absurd (none-some x e)
-got_within (y ∷ xs) zero x e = omega arith
-got_within (y ∷ xs) (suc n) x e = let l = got_within xs n x e in omega (arith, l)
 
 pub not_true : (b : Bool) → not b ≡ true → b ≡ false
 not_true false e = refl

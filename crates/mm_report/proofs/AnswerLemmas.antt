@@ -32,13 +32,10 @@ class_told (Fault number shown) = 0
 
 quiet_class : (sound : Bool) (kind : Kind) → sound ≡ true → is_assertion kind ≡ false → 1 ≡ class_of sound kind
 quiet_class false kind e f = absurd (cc)
-quiet_class true Axiom e f = absurd (cc)
-quiet_class true Theorem e f = absurd (cc)
-quiet_class true _ e f = refl
+quiet_class true kind e f = grind (arith, common_steps) steps 200000
 
 theorem_class : (sound : Bool) (kind : Kind) → (sound && is_theorem kind) ≡ true → 3 ≡ class_of sound kind
-theorem_class true Theorem e = refl
-theorem_class _ _ e = absurd (cc)
+theorem_class sound kind e = grind (arith, common_steps) steps 200000
 
 told_class : (files : FilesView) (view : BaseView) (n : ℕ) (one : Told) → IsRightlyTold files view n one → class_told one ≡ class_at view n
 told_class files view n one f = grind (arith, common_steps, quiet_class, theorem_class) steps 200000

@@ -1,12 +1,11 @@
 -- What is answered, from what is written.
 use Rattle.std.proofs.lemmas.{Grind.{common_steps}, List.{length-map}, Option.{slice_get-map, slice_get_within, slice_get-get_or, same_Some}}
-use Rattle.std.proofs.Common.{◌≡◌, ◌⊎◌, ℕ, ◌<◌, Option, List, Result, Ok, Err, inl, inr, length, map, refl, sym, ap, ◌∙◌, subst, arith, take_all, Global, codes, IfErr, IfOk, IsErrOf, IsOk, IsTrue}
-use Rattle.std.{proofs.{Common.{OnOk, Bool, true, false, ◌↔◌, Some, Vec, get_or, slice_get}, KnownBytes.{Appends-kept}}, specs.{Result.{IsErrAnd}, Io.KnownBytes.{Appends, Keeps}, Option.{option_map}}}
+use Rattle.std.proofs.Common.{◌≡◌, ◌⊎◌, ℕ, ◌<◌, Option, List, Result, Ok, Err, inr, length, map, refl, sym, ap, ◌∙◌, subst, arith, take_all, Global, codes, IfErr, IfOk, IsErrOf, IsOk, IsTrue, OnOk}
+use Rattle.std.{proofs.{Common.{Bool, true, false, ◌↔◌, Some, Vec, get_or, slice_get}, KnownBytes.{Appends-kept}}, specs.{Result.{IsErrAnd}, Io.KnownBytes.{Appends, Keeps}, Option.{option_map}}}
 use Rattle.mm_keep.specs.{declared.answers.KeepError.{KeepError}, mm_verdict.Language.Work.{Recorded}, mm_frame.Language.Base.{BaseView, IsOfFiles}, mm_text.declared.edit.Edit.{Edit}}
 use Rattle.mm_keep.specs.{mm_text.Language.Asked.{Asked, asked}, mm_store.{Language.{Batches.{IsRefusedAt}, FilesView.{plain}}, declared.edit.EditError.{EditError}}}
 use Rattle.mm_keep.specs.Language.Sessions.{SessionView, AreAxiomsOf, IsChanged, HasAssertion}
-use Rattle.mm_script.specs.{declared.{error.ScriptError.{ScriptError}, stream.Writing.{Writing}}, Language.Script.{Command, Listed, Batch, Axioms, Cites, Users}}
-use Rattle.mm_script.specs.Language.Stream.{written, has_failed, AppendsPart, Stops}
+use Rattle.mm_script.specs.{declared.{error.ScriptError.{ScriptError}, stream.Writing.{Writing}}, Language.{Script.{Command, Listed, Batch, Users}, Stream.{written, has_failed, AppendsPart, Stops}}}
 use Rattle.mm_report.specs.{Code.Answered.{Answers, Finds, Lacks}, Language.Answers.{IsAnswer, IsBatchRefused, IsRunAnswer, batch_refusal_line, numbers_listed, unknown_line}}
 use Rattle.mm_keep.specs.declared.answers.KeepError.TheVariants as keep
 use Rattle.mm_script.specs.declared.error.ScriptError.TheVariants as errors
@@ -46,10 +45,8 @@ batch_refused_is session edits listed n error d same refused =
 
 -- an assertion that has these is there
 pub finds_base : (session : SessionView) (command : Command) (numbers : List ℕ) → Finds session command numbers → (base : BaseView) × IsOfFiles session.files session.top base
-finds_base session (Axioms label) numbers finds = (finds.0, finds.1)
-finds_base session (Cites label) numbers finds = (finds.0, finds.1)
 finds_base session (Users label) numbers finds = (finds.0, finds.1)
-finds_base session _ numbers finds = absurd finds
+finds_base session command numbers finds = grind (arith, common_steps) steps 200000
 
 pub found_is : (session : SessionView) (command : Command) (numbers : List ℕ) (finds : Finds session command numbers) (base : BaseView) → IsOfFiles session.files session.top base
     → IsAnswer session command (numbers_listed (codes "found") base numbers) session
@@ -62,8 +59,7 @@ unknown_is session command lacks = grind (arith, common_steps) steps 200000
 
 pub when_ok : {W T : Type 0} {contents : W → Option (List ℕ)} {command : Command} {old new : SessionView} {a b : Writing W} {r : Result T ScriptError} → Answers contents command old new a b r
     → OnOk r ((answer : List ℕ) × IsAnswer old command answer new × Appends (written contents a) (written contents b) answer)
-when_ok {r = Ok done} so = (so.ok.answer, so.ok.is, so.ok.out)
-when_ok {r = Err e} so = tt
+when_ok so = grind (arith, common_steps) steps 200000
 
 pub when_stops : {W T : Type 0} {contents : W → Option (List ℕ)} {command : Command} {old new : SessionView} {a b : Writing W} {r : Result T ScriptError} → Answers contents command old new a b r
     → IsErrOf r errors.Write
@@ -76,10 +72,7 @@ when_lacks {T = T} {contents = contents} {command = command} {old = old} {new = 
 
 pub only_two : {W T : Type 0} {contents : W → Option (List ℕ)} {command : Command} {old new : SessionView} {a b : Writing W} {r : Result T ScriptError} → Answers contents command old new a b r
     → IfErr r (λ e. (e ≡ errors.Write) ⊎ (e ≡ errors.Memory))
-only_two {r = Ok done} so = tt
-only_two {r = Err errors.Write} so = inl refl
-only_two {r = Err errors.Memory} so = inr refl
-only_two {r = Err _} so = absurd so.err
+only_two so = grind (arith, common_steps) steps 200000
 
 -- the axioms of an assertion are found, if it is there
 has_found : (session : SessionView) (label : List ℕ) (found : Result (Vec ℕ Global) KeepError) → IfOk found (λ numbers. AreAxiomsOf session label numbers.items) → IsOk found → HasAssertion session label
@@ -90,9 +83,8 @@ pub axioms_there : (session : SessionView) (label : List ℕ) (found : Result (V
     → (IsErrOf found keep.NoAssertion → ¬ HasAssertion session label)
     → IfOk r (λ there. (IsTrue there × IsOk found) ⊎ ((there ≡ false) × IsErrOf found keep.NoAssertion))
     → IfOk r (λ there. IsTrue there ↔ HasAssertion session label)
-axioms_there session label found (Err e) are none told = tt
-axioms_there session label found (Ok there) are none (inl h) = (λ t. has_found session label found are h.1, λ t. h.0)
 axioms_there session label found (Ok there) are none (inr h) = (λ t. (cc), λ has. absurd (none h.1 has))
+axioms_there session label found r are none told = grind (arith, common_steps, has_found) steps 200000
 
 -- ---- what is written is passed on
 

@@ -8,7 +8,7 @@ use Rattle.mm_script.specs.Language.Script.{Command, End, Done, CutShort, BadLin
 use Rattle.mm_script.specs.Language.{Script.{commands_of}, Stream.{cannot_read, unread, written}, ReadingLaws.{CommandsLeaveNothing, ReadingsJoin}}
 use Rattle.mm_keep.specs.Language.Sessions.{SessionView}
 use Rattle.mm_report.specs.{Code.Answered.{IsAnswered, BeginsAnswer, FailsSo, AnswersSoFar, HasAnswered, StopsAnswering}, Language.Answers.{AreAnswers, IsAnswer}}
-use Rattle.mm_report.specs.Language.Scripting.{AnswersScript, AnswersFirst, AnswersRead, AreFirst, BeginsAnswers}
+use Rattle.mm_report.specs.Language.Scripting.{AnswersScript, AnswersRead, AreFirst, BeginsAnswers}
 use Rattle.mm_script.specs.declared.error.ScriptError.TheVariants as errors
 
 -- ---- empty lines, and commands, after entries
@@ -94,10 +94,7 @@ module _ (joins : ReadingsJoin) (done : CommandsLeaveNothing) (old session : Ses
   -- what is read with one command more
   more_read : (pend : List ℕ) (command : Command) (end : ℕ) (so : HasAnswered old session all left before after pend) → IsGood command → IsWholeCommand pend command end
       → AreRead so.first.bytes (so.first.entries ++ Given command ∷ []) (drop end pend)
-  more_read pend command end so good whole = joins.entries so.first.bytes so.first.entries (Given command ∷ []) pend (drop end pend) (read_as pend so) (record {
-    good = (good, tt);
-    joined = whole.are ∙ ap (λ first. first ++ drop end pend) (sym (append-nil (command_bytes command)));
-  })
+  more_read pend command end so good whole = grind (arith, common_steps, append-nil (command_bytes command), read_as pend so) steps 200000
 
   -- what is read with a last command, whose line has no line feed
   last_read : (pend : List ℕ) (command : Command) (end : ℕ) (so : HasAnswered old session all left before after pend) → IsGood command → IsLast pend left command end
@@ -126,11 +123,7 @@ module _ (joins : ReadingsJoin) (done : CommandsLeaveNothing) (old session : Ses
 
   -- if nothing is left, the script is what was read
   pub all_read : (script bytes : List ℕ) → Consumes (Some script) left bytes → IsAtEnd left → script ≡ bytes
-  all_read script bytes consumes at_end = by left consumes at_end
-    where
-      by : (more : Option (List ℕ)) → Consumes (Some script) more bytes → IsAtEnd more → script ≡ bytes
-      by None c e = absurd c
-      by (Some rest) c e = c ∙ ap (λ w. bytes ++ w) e ∙ append-nil bytes
+  all_read script bytes consumes at_end = grind (arith, common_steps, append-nil bytes) steps 200000
 
   -- ---- where the script ends
 
@@ -282,9 +275,7 @@ module _ {R W : Type 0} (joins : ReadingsJoin) (done : CommandsLeaveNothing) (re
     ],
     fails.0,
   )
-  answer_stops next is new b so errors.Memory fails =
-      subst (λ (s : SessionView). AnswersFirst begun s all (unread remaining left) before (written contents b)) (sym fails.0)
-      (subst (λ (w : Writing W). AnswersFirst begun session all (unread remaining left) before (written contents w)) (sym fails.1) so.first)
+  answer_stops next is new b so errors.Memory fails = grind (arith, common_steps) steps 200000
   answer_stops next is new b so _ fails = absurd fails
 
   -- it is answered

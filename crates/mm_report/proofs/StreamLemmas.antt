@@ -1,5 +1,5 @@
 -- How parts of what is written join.
-use Rattle.std.proofs.{lemmas.{Grind.{common_steps}, List.{take-append-le, take_min}}, Common.{ℕ, ◌+◌, min, List, ◌++◌, length, take, Option, Result, Ok, Err, sym, subst, arith, IsErr}}
+use Rattle.std.proofs.{lemmas.{Grind.{common_steps}, List.{take-append-le, take_min}}, Common.{ℕ, ◌+◌, min, List, ◌++◌, length, take, Option, Result, Ok, sym, subst, arith, IsErr}}
 use Rattle.std.{proofs.{KnownBytes.{Appends-trans}, Math.Seq.{take-append-add}}, specs.Io.KnownBytes.{Appends}}
 use Rattle.mm_script.specs.{declared.stream.Writing.{Writing}, Language.Stream.{AppendsPart, Stops, Writes, written}}
 
@@ -34,5 +34,4 @@ writes_then {contents = contents} {a = a} {b = b} {c = c} {r = r} {xs = xs} {ys 
 
 -- for an answer that is an error
 pub writes_stop : {W T E : Type 0} {contents : W → Option (List ℕ)} {a b : Writing W} {r : Result T E} {xs : List ℕ} → IsErr r → Stops contents a b xs → Writes contents a b r xs
-writes_stop {r = Ok done} e s = absurd (cc)
-writes_stop {r = Err error} e s = record { ok = tt; err = s }
+writes_stop e s = grind (arith, common_steps) steps 200000

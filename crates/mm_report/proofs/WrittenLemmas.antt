@@ -1,7 +1,7 @@
 -- A report as it is written, one item more at a time.
+use Rattle.std.proofs.lemmas.{Grind.{common_steps}, Option.{same_Some}, List.{append-nil, length-take-le, take-append-drop, take_all, take_more}}
 use Rattle.std.proofs.Common.{◌≡◌, ◌⊎◌, ℕ, zero, suc, ◌+◌, ◌-◌, ◌<◌, ◌≤◌, Some, Option, List, [], ◌∷◌, ◌++◌, inl, inr, length-append, length, get_or, slice_get, take, drop, refl, sym, ◌∙◌, ap, subst}
-use Rattle.std.proofs.{Common.{append_assoc, arith}, lemmas.{Option.{same_Some}, List.{append-nil, length-take-le, take-append-drop, take_all, take_more}}, KnownBytes.{Appends-trans}}
-use Rattle.std.specs.Io.KnownBytes.{Appends}
+use Rattle.std.{proofs.{Common.{append_assoc, arith}, KnownBytes.{Appends-trans}}, specs.Io.KnownBytes.{Appends}}
 use Rattle.mm_keep.specs.{mm_store.Language.FilesView.{FilesView, plain}, mm_frame.Language.{Base.{BaseView, IsOfFiles, said_at}, Laws.{FilesHaveOneBase}}, mm_statement.Language.Item.{Item, passed}}
 use Rattle.mm_keep.specs.Language.{Laws.{ItemsHaveFindings}, Sessions.{SessionView, IsCount, IsFinding, IsLabelOfItem}, Told.{Told, IsRightlyTold, Counts, counts}}
 use Rattle.mm_script.specs.{declared.stream.Writing.{Writing}, Language.Stream.{written, Stops}}
@@ -12,10 +12,8 @@ use Rattle.mm_report.proofs.{ReportLemmas.{lines_join, lines_push}, StreamLemmas
 
 -- an element of a list with one more
 pushed : {X : Type 0} (xs : List X) (x : X) (k : ℕ) (y : X) → slice_get (xs ++ x ∷ []) k ≡ Some y → (slice_get xs k ≡ Some y) ⊎ ((k ≡ length xs) × (x ≡ y))
-pushed [] x zero y e = inr (refl, same_Some x y e)
-pushed [] x (suc k) y e = cc
-pushed (z ∷ xs) x zero y e = inl e
 pushed (z ∷ xs) x (suc k) y e = elim (pushed xs x k y e) [ inl h ↦ inl h | inr h ↦ inr (ap suc h.0, h.1) ]
+pushed xs x k y e = grind (arith, common_steps, same_Some) steps 200000
 
 told_more : (files : FilesView) (base : BaseView) (n : ℕ) (all : List Told) (one : Told) → IsRightlyTold files base n one → ToldUpTo files base n all → ToldUpTo files base (n + 1) (all ++ one ∷ [])
 told_more files base n all one t f = record {
@@ -112,8 +110,7 @@ module _ {W : Type 0} (contents : W → Option (List ℕ)) (session : SessionVie
 
   -- the lines of all items, whole
   all_lines : (tally : Counts) (is : AreAllWritten session (written contents a) (written contents b) tally) → Appends (written contents a) (written contents b) (lines (names_of (plain session.files)) is.0.said is.2.all)
-  all_lines tally is =
-      subst (λ items. Appends (written contents a) (written contents b) (lines (names_of (plain session.files)) items is.2.all)) (take_all (length is.0.said) is.0.said (omega arith)) is.2.appends
+  all_lines tally is = grind (arith, common_steps, take_all) steps 200000
 
   -- or in the summary, after the lines of all items
   pub summary_fails : (tally : Counts) → AreAllWritten session (written contents a) (written contents b) tally → Stops contents b c (summary tally) → FailsWithin contents session a c

@@ -1,12 +1,11 @@
 -- Batches whose edits are not all read, or that stop.
-use Rattle.std.proofs.lemmas.{Grind.{common_steps}, List.{length-drop, length-take, take-append-drop, take-append-le, drop_all}}
-use Rattle.std.proofs.Common.{◌≡◌, ◌≢◌, ℕ, ◌+◌, ◌-◌, ◌<◌, ◌≤◌, Bool, true, false, List, [], ◌∷◌, ◌++◌, append_assoc, length, drop, refl, sym, ap, ◌∙◌, subst, arith, Option, None, IfSome}
-use Rattle.std.specs.Io.KnownBytes.{IsAtEnd}
-use Rattle.mm_script.specs.{declared.{input.Input.{Input}, script_lines.LineAt.{LineAt}}, Code.Batches.{IsBatchFront}}
+use Rattle.std.proofs.Common.{[], ◌≡◌, ◌≢◌, ◌⊎◌, inl, inr, ℕ, ◌+◌, ◌-◌, ◌<◌, ◌≤◌, Bool, true, false, List, ◌∷◌, ◌++◌, append_assoc, length, drop, refl, sym, ap, ◌∙◌, subst, arith, Option, None}
+use Rattle.std.{proofs.{Common.{IfSome}, lemmas.{Grind.{common_steps}, List.{length-drop, length-take, take-append-drop, take-append-le, drop_all}}}, specs.Io.KnownBytes.{IsAtEnd}}
+use Rattle.mm_script.proofs.ScriptLemmas.{none_so_far}
+use Rattle.mm_script.proofs.StopLemmas.{text_entry, no_feed_entry, batch_cut, batch_bad_line, batch_bad_last, batch_text_cut, batch_text_line_cut, batch_text_bad, batch_edit_cut}
+use Rattle.mm_script.{proofs.{EditLemmas.{fed_line, unfed_line}, GrowLemmas.{grows_not}}, specs.{declared.{input.Input.{Input}, script_lines.LineAt.{LineAt}}, Code.Batches.{IsBatchFront}}}
 use Rattle.mm_script.specs.Code.{Growing.{InputGrows, HasBlanks, IsLineAt, IsTextBad, IsTextLine, IsTextShort, line_bytes}, Stops.{IsBadEditLine, IsOneLine, batch_bytes}}
-use Rattle.mm_script.{specs.Language.{Commands.{pending, StopsSo, HasNoEntry}, Script.{CutShort, BadLine, IsGoodEdit, Listed, edit_line}}, proofs.EditLemmas.{fed_line, unfed_line}}
-use Rattle.mm_script.proofs.GrowLemmas.{grows_not}
-use Rattle.mm_script.proofs.StopLemmas.{batch_no_feed, batch_cut, batch_bad_line, batch_bad_last, batch_text_cut, batch_text_none, batch_text_line_cut, batch_text_bad, batch_edit_cut}
+use Rattle.mm_script.specs.Language.{Commands.{pending, StopsSo, HasNoEntry}, Script.{CutShort, BadLine, IsGoodEdit, Listed, edit_line}}
 use Rattle.mm_text.specs.Language.Asked.{Asked, edited_text}
 
 -- if nothing is left
@@ -47,19 +46,22 @@ module _ (a b : Input) (u v : Option (List ℕ)) (n : ℕ) (front : List Listed)
   holds_here inner is h = subst HasNoEntry (sym (inner_is inner is)) h
 
   pub begun_holds : IsOneLine (drop start (pending b)) → HasNoEntry (pending b)
-  begun_holds one = holds_here (drop start (pending b)) refl (batch_no_feed n front (start - from) (drop start (pending b)) f.listed one)
+  begun_holds one = holds_here (drop start (pending b)) refl (none_so_far (batch_bytes n front (start - from) (drop start (pending b)))
+      (no_feed_entry n front (start - from) (drop start (pending b)) f.listed one))
 
   pub none_left : length (pending b) ≤ start → IsAtEnd v → IfSome v (λ more. StopsSo (pending b ++ more) CutShort)
   none_left last end = ends_here (λ (xs : List ℕ). StopsSo xs CutShort) [] (drop_all start (pending b) last) end (batch_cut n front (start - from) f.listed)
 
-  pub short_cut : IsTextShort (drop start (pending b)) → IsAtEnd v → IfSome v (λ more. StopsSo (pending b ++ more) CutShort)
-  short_cut t end = ends_here (λ (xs : List ℕ). StopsSo xs CutShort) _ t.are end (batch_text_cut n front (start - from) t.edit t.count t.part f.listed t.has t.short)
+  pub text_stops : IsTextShort (drop start (pending b)) ⊎ IsTextLine (drop start (pending b)) → IsAtEnd v
+      → IfSome v (λ more. StopsSo (pending b ++ more) CutShort)
+  text_stops (inl t) end =
+      ends_here (λ (xs : List ℕ). StopsSo xs CutShort) _ t.are end (batch_text_cut n front (start - from) t.edit t.count t.part f.listed t.has t.short)
+  text_stops (inr t) end =
+      ends_here (λ (xs : List ℕ). StopsSo xs CutShort) _ t.are end (batch_text_line_cut n front (start - from) t.edit t.count f.listed t.has)
 
   pub short_holds : IsTextShort (drop start (pending b)) → HasNoEntry (pending b)
-  short_holds t = holds_here _ t.are (batch_text_none n front (start - from) t.edit t.count t.part f.listed t.has t.short)
-
-  pub line_cut : IsTextLine (drop start (pending b)) → IsAtEnd v → IfSome v (λ more. StopsSo (pending b ++ more) CutShort)
-  line_cut t end = ends_here (λ (xs : List ℕ). StopsSo xs CutShort) _ t.are end (batch_text_line_cut n front (start - from) t.edit t.count f.listed t.has)
+  short_holds t = holds_here _ t.are (none_so_far (batch_bytes n front (start - from) (edit_line t.edit ++ 10 ∷ t.part)) (text_entry n front (start - from)
+      t.edit t.count t.part f.listed t.has t.short))
 
   pub bad_text : IsTextBad (drop start (pending b)) → IfSome v (λ more. StopsSo (pending b ++ more) BadLine)
   bad_text t = ends_always (λ (xs : List ℕ). StopsSo xs BadLine) _ t.are (λ (more : List ℕ).

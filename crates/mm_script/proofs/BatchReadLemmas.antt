@@ -1,8 +1,7 @@
 -- The edits of a batch that are read, one after another.
-use Rattle.std.proofs.lemmas.{Grind.{common_steps}, List.{append-nil, length-drop, length-map, map-append, take_at, Concat.{flat_map-append}}}
-use Rattle.std.proofs.lemmas.List.Elements.{Contains-append_left, Contains-append_right, Contains-push, Contains-push_cases}
-use Rattle.std.proofs.Common.{◌≡◌, ℕ, ◌+◌, ◌-◌, ◌<◌, ◌≤◌, Bool, true, false, List, [], ◌∷◌, ◌++◌, append_assoc, map, length, length-append, drop, replicate, refl, sym, ap, ◌∙◌, subst, arith, Option}
-use Rattle.std.{proofs.Common.{None, inl, inr, IfSome, Contains}, specs.List.{flat_map}}
+use Rattle.std.proofs.Common.{[], ◌≡◌, ℕ, ◌+◌, ◌-◌, ◌<◌, ◌≤◌, Bool, true, false, List, ◌∷◌, ◌++◌, append_assoc, map, length, length-append, drop, replicate, refl, sym, ap, ◌∙◌, subst, arith, Option}
+use Rattle.std.proofs.{Common.{None, inl, inr, IfSome, Contains}, lemmas.{Grind.{common_steps}, List.{append-nil, length-drop, length-map, map-append, take_at, Concat.{flat_map-append}}}}
+use Rattle.std.{proofs.lemmas.List.Elements.{Contains-append_left, Contains-append_right, Contains-push, Contains-push_cases}, specs.List.{flat_map}}
 use Rattle.mm_text.specs.Language.Asked.{Asked, edited_text}
 use Rattle.mm_script.specs.declared.{entry.{Complete.{Complete}, EditAt.{EditAt, TheVariants.{Insert, Replace, Delete, Move}}}, input.Input.{Input}, script_lines.LineAt.{LineAt}}
 use Rattle.mm_script.specs.Code.{Batches.{IsBatchRead, IsBatchFront, IsListedRead}, Growing.{InputGrows, IsLineAt, line_bytes}, Stops.{batch_bytes, batch_line}}
@@ -28,19 +27,6 @@ all_in_grown a b u v (k ∷ found) grows w =
     let first : edit_in (pending b) k ≡ edit_in (pending a) k = edit_in_grown a b u v k grows (w k (Contains-append_left (k ∷ []) found k (Contains-push [] k))) in
     let rest : map (edit_in (pending b)) found ≡ map (edit_in (pending a)) found = all_in_grown a b u v found grows (λ (j : EditAt) (c : Contains found j). w j (Contains-append_right (k ∷ []) found j c)) in
     cc
-
--- one edit more
-edits_more : (a b : Input) (u v : Option (List ℕ)) (found : List EditAt) (front : List Listed) (k : EditAt) (blanks : ℕ) → InputGrows a b u v → AreEditsIn (pending a) found front → IsEditWithin (pending b) k
-    → AreEditsIn (pending b) (found ++ k ∷ []) (front ++ record { blanks = blanks; edit = edit_in (pending b) k } ∷ [])
-edits_more a b u v found front k blanks grows are w = record {
-  within = λ j c. elim (Contains-push_cases found k j c) [
-    | inl before ↦ edit_within_grown a b u v j grows (are.within j before)
-    | inr last ↦ subst (IsEditWithin (pending b)) last w
-  ];
-  are = map-append (λ (one : Listed). one.edit) front _
-      ∙ ap (λ (xs : List Asked). xs ++ edit_in (pending b) k ∷ []) (are.are ∙ sym (all_in_grown a b u v found grows are.within))
-      ∙ sym (map-append (edit_in (pending b)) found (k ∷ []));
-}
 
 pub good_more : (front : List Listed) (x : Listed) → AreGoodEdits front → IsGoodEdit x.edit → AreGoodEdits (front ++ x ∷ [])
 good_more [] x f g = (g, tt)
@@ -78,14 +64,17 @@ batch_one_more a b u v n end found fed read s yes_fed fewer grows r last =
       number = s.number;
       front = front;
       good = good_more s.front one s.good r.edit.good;
-      edits = edits_more a b u v found s.front read.found blanks grows s.edits r.edit.parts;
+      edits = record {
+        within = λ j c. elim (Contains-push_cases found read.found j c) [
+          | inl before ↦ edit_within_grown a b u v j grows (s.edits.within j before)
+          | inr last ↦ subst (IsEditWithin (pending b)) last r.edit.parts
+        ];
+        are = map-append (λ (one : Listed). one.edit) s.front _
+            ∙ ap (λ (xs : List Asked). xs ++ edit_in (pending b) read.found ∷ []) (s.edits.are ∙ sym (all_in_grown a b u v found grows s.edits.within))
+            ∙ sym (map-append (edit_in (pending b)) found (read.found ∷ []));
+      };
       within = r.edit.within;
-      fed_so = λ e.
-          let rest = drop read.end bytes in
-          stands ∙ ap (λ (xs : List ℕ). batch_bytes n s.front blanks xs) (r.edit.fed e)
-          ∙ ap (λ (xs : List ℕ). batch_line n ++ 10 ∷ (before ++ xs)) (sym (append_assoc empty (edit_bytes edit) rest))
-          ∙ ap (λ (xs : List ℕ). batch_line n ++ 10 ∷ xs) (sym (append_assoc before (empty ++ edit_bytes edit) rest))
-          ∙ ap (λ (xs : List ℕ). batch_line n ++ 10 ∷ (xs ++ rest)) (sym all);
+      fed_so = grind (arith, common_steps, append_assoc) steps 200000;
       unfed = λ e.
           let parts = r.edit.unfed e in
           let inner : bytes ++ 10 ∷ [] ≡ batch_bytes n s.front blanks (drop r.start bytes ++ 10 ∷ []) = batch_more n s.front blanks bytes (drop r.start bytes) (10 ∷ []) stands in
@@ -111,15 +100,8 @@ batch_begun a u line n end is start number says fed unfed within none =
       good = tt;
       edits = record { within = λ k c. absurd (omega (arith, c.1)); are = refl };
       within = within;
-      fed_so = λ e. sym here ∙ fed_line a a u u line is (grows_not a u) e ∙ ap (λ (xs : List ℕ). xs ++ 10 ∷ drop (line.end + 1) bytes) says
-          ∙ ap (λ (k : ℕ). batch_line n ++ 10 ∷ drop k bytes) (sym (fed e));
-      unfed = λ e. (
-        ap (λ (xs : List ℕ). xs ++ 10 ∷ []) (sym here ∙ unfed_line bytes u line is e ∙ says),
-        tt,
-        (is.unfed e).1,
-        none e,
-        unfed e ∙ (is.unfed e).0,
-      );
+      fed_so = λ e. grind (arith, common_steps, fed_line a a u u line is (grows_not a u) e, grows_not a u) steps 200000;
+      unfed = λ e. grind (arith, common_steps, unfed_line bytes u line is e) steps 200000;
     }
 
 pub batch_line_last : (bytes : List ℕ) (u : Option (List ℕ)) (line : LineAt) (n : ℕ) → IsLineAt bytes u line → line.start ≡ 0 → IsNumber n → line_bytes bytes line ≡ batch_line n → line.fed ≡ false → 0 < n

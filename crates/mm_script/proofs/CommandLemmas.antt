@@ -1,16 +1,11 @@
 -- Commands that are read, from their lines on.
-use Rattle.std.proofs.lemmas.{Grind.{common_steps}, List.Folds.{drop_split}}
-use Rattle.std.proofs.Common.{◌≡◌, ◌⊎◌, ℕ, ◌+◌, Bool, true, false, List, [], ◌∷◌, ◌++◌, append_assoc, length, drop, refl, sym, ap, ◌∙◌, subst, arith, Option, inl, inr, IfSome, length-drop}
-use Rattle.std.specs.Io.KnownBytes.{IsAtEnd}
-use Rattle.mm_script.specs.{declared.{entry.{EditAt.{EditAt}, CommandAt.{CommandAt}, Complete.{Complete}, Part.{Part}}, script_lines.LineAt.{LineAt}}, Code.Batches.{IsBatchRead}}
-use Rattle.mm_script.specs.Code.{Growing.{IsLineAt, IsTextBad, IsTextLine, IsTextShort, line_bytes}, Lines.{SaysLabel}, Stops.{IsBadLine}}
-use Rattle.mm_script.specs.Language.Commands.{bytes_of_part, AreEditsIn, IsCommandIn, IsNextCommand, IsWholeOrLast, IsPartWithin, StopsSo, HasNoEntry}
-use Rattle.mm_script.{specs.Language.Script.{CutShort, BadLine, Command, Batch, IsGood, IsName, EndsInLine, IsNumber, Listed, behind_line, edit_line, line_of}, proofs.BatchLemmas.{always, at_end}}
-use Rattle.mm_script.proofs.{BatchReadLemmas.{edits_counted}, EditLemmas.{IsShifted, shifted_is, shifted_within, unfed_line}}
-use Rattle.mm_script.proofs.StopLemmas.{bad_line, bad_last, text_cut, text_none, text_line_cut, text_bad}
-
-fed_bytes : (bytes : List ℕ) (left : Option (List ℕ)) (line : LineAt) → IsLineAt bytes left line → line.fed ≡ true → drop line.start bytes ≡ line_bytes bytes line ++ 10 ∷ drop (line.end + 1) bytes
-fed_bytes bytes left line is e = drop_split bytes line.start line.end is.ordered ∙ ap (λ (xs : List ℕ). line_bytes bytes line ++ xs) (is.fed e)
+use Rattle.std.proofs.Common.{[], ◌≡◌, ◌⊎◌, ℕ, ◌+◌, Bool, true, false, List, ◌∷◌, ◌++◌, append_assoc, length, drop, refl, sym, ap, ◌∙◌, subst, arith, Option, inl, inr, IfSome, length-drop}
+use Rattle.std.{proofs.lemmas.{Grind.{common_steps}, List.Folds.{drop_split}}, specs.Io.KnownBytes.{IsAtEnd}}
+use Rattle.mm_script.proofs.{ScriptLemmas.{none_so_far}, StopLemmas.{text_no_entry, bad_line, bad_last, text_cut, text_line_cut, text_bad}, BatchLemmas.{always, at_end}}
+use Rattle.mm_script.{proofs.{BatchReadLemmas.{edits_counted}, EditLemmas.{shifted_is, unfed_line}}, specs.declared.entry.{EditAt.{EditAt}, CommandAt.{CommandAt}, Complete.{Complete}, Part.{Part}}}
+use Rattle.mm_script.specs.{declared.script_lines.LineAt.{LineAt}, Code.{Batches.{IsBatchRead}, Growing.{IsLineAt, IsTextBad, IsTextLine, IsTextShort, line_bytes}, Lines.{SaysLabel}}}
+use Rattle.mm_script.specs.{Code.Stops.{IsBadLine}, Language.Commands.{bytes_of_part, AreEditsIn, IsCommandIn, IsNextCommand, IsWholeOrLast, IsPartWithin, StopsSo, HasNoEntry}}
+use Rattle.mm_script.specs.Language.Script.{CutShort, BadLine, Command, Batch, IsGood, IsName, EndsInLine, Listed, behind_line, edit_line, line_of}
 
 all_bytes : (bytes : List ℕ) (start : ℕ) → start ≡ 0 → bytes ≡ drop start bytes
 all_bytes bytes start none = sym (ap (λ (n : ℕ). drop n bytes) none)
@@ -21,7 +16,7 @@ bad_first bytes left line is start bad = by line.fed refl
   where
     by : (fed : Bool) → line.fed ≡ fed → IfSome left (λ more. StopsSo (bytes ++ more) BadLine)
     by true e =
-        let whole = all_bytes bytes line.start start ∙ fed_bytes bytes left line is e in
+        let whole = all_bytes bytes line.start start ∙ (grind (arith, common_steps, drop_split bytes line.start line.end is.ordered) steps 200000) in
         always (λ (xs : List ℕ). StopsSo xs BadLine) bytes left (λ (more : List ℕ).
         subst (λ (xs : List ℕ). StopsSo xs BadLine) (sym (ap (λ (xs : List ℕ). xs ++ more) whole ∙ append_assoc (line_bytes bytes line) (10 ∷ drop (line.end + 1) bytes) more))
         (bad_line (line_bytes bytes line) (drop (line.end + 1) bytes ++ more) bad))
@@ -45,47 +40,39 @@ cut_edit bytes left start none end (inr t) =
     at_end (λ (xs : List ℕ). StopsSo xs CutShort) bytes left end (subst (λ (xs : List ℕ). StopsSo xs CutShort) (sym (all_bytes bytes start none ∙ t.are)) (text_line_cut t.edit t.count t.has))
 
 pub held_edit : (bytes : List ℕ) (start : ℕ) → start ≡ 0 → IsTextShort (drop start bytes) → HasNoEntry bytes
-held_edit bytes start none t = subst HasNoEntry (sym (all_bytes bytes start none ∙ t.are)) (text_none t.edit t.count t.part t.has t.short)
+held_edit bytes start none t = subst HasNoEntry (sym (all_bytes bytes start none ∙ t.are))
+    (grind (arith, common_steps, none_so_far (edit_line t.edit ++ 10 ∷ t.part) (text_no_entry t.edit t.count t.part t.has t.short)) steps 200000)
 
 -- a command that is no more than its line
-pub line_next : (bytes : List ℕ) (left : Option (List ℕ)) (line : LineAt) (command : Command) (next : Complete CommandAt) → IsLineAt bytes left line → line.start ≡ 0
-    → line_bytes bytes line ≡ line_of command → behind_line command ≡ [] → IsGood command → IsCommandIn bytes next.found command → EndsInLine command
+pub line_next : (bytes : List ℕ) (left : Option (List ℕ)) (line : LineAt) (command : Command) (next : Complete CommandAt) (kind : CommandAt)
+    → IsLineAt bytes left line → line.start ≡ 0
+    → line_bytes bytes line ≡ line_of command → behind_line command ≡ [] → IsGood command → next.found ≡ kind → IsCommandIn bytes kind command
+    → EndsInLine command
     → next.fed ≡ line.fed → (line.fed ≡ true → next.end ≡ line.end + 1) → (line.fed ≡ false → next.end ≡ line.end) → IsNextCommand bytes left next
-line_next bytes left line command next is start says none good is_command in_line fed end unfed = record {
-  command = command;
-  good = good;
-  is_command = is_command;
-  whole = by line.fed refl;
-}
+line_next bytes left line command next kind is start says none good found is_command in_line fed end unfed =
+    grind (arith, common_steps, by line.fed refl) steps 200000
   where
     by : (b : Bool) → line.fed ≡ b → IsWholeOrLast bytes left next command
-    by true e = grind (arith, common_steps, is.fed e, length-drop line.end bytes, all_bytes bytes line.start start, fed_bytes bytes left line is e) steps 200000
+    by true e = grind (arith, common_steps, length-drop line.end bytes) steps 200000
     by false e = grind (arith, common_steps, is.unfed e, all_bytes bytes line.start start, unfed_line bytes left line is e, at_end) steps 200000
 
 -- one with a label
-pub label_next : (bytes : List ℕ) (left : Option (List ℕ)) (line : LineAt) (label : Part) (word : List ℕ) (make : List ℕ → Command) (next : Complete CommandAt) → IsLineAt bytes left line → line.start ≡ 0
+pub label_next : (bytes : List ℕ) (left : Option (List ℕ)) (line : LineAt) (label : Part) (word : List ℕ) (make : List ℕ → Command) (next : Complete CommandAt)
+    (kind : CommandAt) → IsLineAt bytes left line → line.start ≡ 0
     → SaysLabel (line_bytes bytes line) word label → ((name : List ℕ) → line_of (make name) ≡ word ++ 32 ∷ name) → ((name : List ℕ) → behind_line (make name) ≡ [])
     → ((name : List ℕ) → IsName name → IsGood (make name)) → ((name : List ℕ) → EndsInLine (make name))
-    → (IsPartWithin bytes label → IsCommandIn bytes next.found (make (bytes_of_part bytes label)))
+    → next.found ≡ kind → (IsPartWithin bytes label → IsCommandIn bytes kind (make (bytes_of_part bytes label)))
     → next.fed ≡ line.fed → (line.fed ≡ true → next.end ≡ line.end + 1) → (line.fed ≡ false → next.end ≡ line.end) → IsNextCommand bytes left next
-label_next bytes left line label word make next is start says line_is none good in_line is_command fed end unfed =
-    let at : IsShifted label label line.start = record { start = omega arith; end = omega arith } in
-    let same : bytes_of_part bytes label ≡ bytes_of_part (line_bytes bytes line) label = shifted_is bytes left line label label is says.good.within at in
-    line_next bytes left line (make (bytes_of_part bytes label)) next is start
-    (says.is ∙ ap (λ (xs : List ℕ). word ++ 32 ∷ xs) (sym same) ∙ sym (line_is (bytes_of_part bytes label)))
-    (none (bytes_of_part bytes label)) (good (bytes_of_part bytes label) (subst IsName (sym same) says.good.name))
-    (is_command (shifted_within bytes left line label label is says.good.within at)) (in_line (bytes_of_part bytes label)) fed end unfed
+label_next bytes left line label word make next kind is start says line_is none good in_line found is_command fed end unfed =
+    let there = shifted_is bytes left line label label is says.good.within (record { start = omega arith; end = omega arith }) in
+    line_next bytes left line (make (bytes_of_part bytes label)) next kind is start (says.is ∙ ap (λ (xs : List ℕ). word ++ 32 ∷ xs) (sym there.0)
+    ∙ sym (line_is _)) (none _)
+    (good _ (subst IsName (sym there.0) says.good.name)) found (is_command there.1) (in_line _) fed end unfed
 
 -- a batch
 pub batch_next : (bytes : List ℕ) (left : Option (List ℕ)) (n : ℕ) (next : Complete CommandAt) (found : List EditAt) → IsBatchRead bytes left n found next.end next.fed → length found ≡ n
     → ((command : Command) → ((listed : List Listed) × AreEditsIn bytes found listed × (command ≡ Batch listed)) → IsCommandIn bytes next.found command) → IsNextCommand bytes left next
 batch_next bytes left n next found b count is_command =
-    record {
-      command = Batch b.front;
-      good = (subst IsNumber (sym count ∙ sym (edits_counted bytes found b.front b.edits)) b.number, b.good);
-      is_command = is_command (Batch b.front) (b.front, b.edits, refl);
-      whole = by next.fed refl;
-    } where
+    grind (arith, common_steps, by next.fed refl, edits_counted bytes found b.front b.edits) steps 200000 where
       by : (f : Bool) → next.fed ≡ f → IsWholeOrLast bytes left next (Batch b.front)
-      by true e = grind (arith, common_steps, edits_counted bytes found b.front b.edits, b.fed_so e) steps 200000
-      by false e = grind (arith, common_steps, edits_counted bytes found b.front b.edits, b.unfed e, at_end) steps 200000
+      by p0 p1 = grind (arith, common_steps, at_end, edits_counted bytes found b.front b.edits) steps 200000

@@ -1,9 +1,8 @@
 -- Bytes that are read on keep what was in them.
-use Rattle.std.proofs.lemmas.{Grind.{common_steps}, List.{append-nil, length-drop, take-append-le, drop-append-le, drop-drop, drop_more, length-take-le, take-append-drop, take_all, take_rest}}
-use Rattle.std.proofs.lemmas.List.Folds.{drop_split}
-use Rattle.std.proofs.Common.{◌≡◌, ◌≢◌, ℕ, zero, suc, ◌+◌, ◌-◌, ◌<◌, ◌≤◌, true, false, List, [], ◌∷◌, ◌++◌, append_assoc, length, length-append, take, drop, replicate, refl, sym, ap, ◌∙◌, subst}
-use Rattle.std.proofs.{Common.{arith, Option, ◌⊎◌, get_or, Result, Err, eq-eqb, eqb-true, ◌==◌, slice_index, slice_range}, KnownBytes.{Consumes-nil, Consumes-trans}, Math.Seq.{take-add}}
-use Rattle.std.specs.{Result.{IsErrAnd, IsErrOf}, Io.KnownBytes.{IsAtEnd}}
+use Rattle.std.proofs.Common.{[], ◌≡◌, ◌≢◌, ℕ, zero, suc, ◌+◌, ◌-◌, ◌<◌, ◌≤◌, true, false, List, ◌∷◌, ◌++◌, append_assoc, length, length-append, take, drop, replicate, refl, sym, ap, ◌∙◌, subst}
+use Rattle.std.proofs.{Common.{arith, Option, ◌⊎◌, get_or, Result, Err, eq-eqb, ◌==◌, slice_index, slice_range}, lemmas.Grind.{common_steps}}
+use Rattle.std.proofs.lemmas.List.{append-nil, length-drop, take-append-le, drop-append-le, drop-drop, drop_more, length-take-le, take-append-drop, take_all, take_rest, Folds.{drop_split}}
+use Rattle.std.{proofs.{KnownBytes.{Consumes-nil}, Math.Seq.{take-add}}, specs.{Result.{IsErrAnd, IsErrOf}, Io.KnownBytes.{IsAtEnd}}}
 use Rattle.mm_script.specs.{declared.{script_lines.LineAt.{LineAt}, input.Input.{Input}, error.ScriptError.{ScriptError}}, Code.Growing.{InputGrows, HasBlanks, IsLineAt, IsOtherByte}}
 use Rattle.mm_script.specs.{Code.Stops.{IsOneLine}, Language.Commands.{pending, ReadsOn}}
 
@@ -21,18 +20,11 @@ pub few_pending : (input : Input) → length (pending input) < 92233720368547758
 few_pending input = omega (arith, input.bytes.ok.0, input.bytes.ok.1, input.bytes.small, length-drop input.at input.bytes.items)
 
 -- a part of bytes that grow
-pub part_kept : (new old more : List ℕ) (i j : ℕ) → new ≡ old ++ more → i ≤ j → j ≤ length old → slice_range new i j ≡ slice_range old i j
-part_kept new old more i j is low within = grind (arith, common_steps, drop-append-le, length-drop, take-append-le) steps 200000
-
 pub part_grown : (a b : Input) (u v : Option (List ℕ)) (i j : ℕ) → InputGrows a b u v → i ≤ j → j ≤ length (pending a) → slice_range (pending b) i j ≡ slice_range (pending a) i j
-part_grown a b u v i j p low within = part_kept (pending b) (pending a) p.part i j p.are low within
+part_grown a b u v i j p low within = grind (arith, common_steps, drop-append-le, length-drop, take-append-le) steps 200000
 
 pub rest_grown : (a b : Input) (u v : Option (List ℕ)) (i : ℕ) (p : InputGrows a b u v) → i ≤ length (pending a) → drop i (pending b) ≡ drop i (pending a) ++ p.part
 rest_grown a b u v i p within = ap (drop i) p.are ∙ drop-append-le i (pending a) p.part within
-
--- a longer part
-pub part_more : (bytes : List ℕ) (i j more : ℕ) → i ≤ j → slice_range bytes i (j + more) ≡ slice_range bytes i j ++ take more (drop j bytes)
-part_more bytes i j more low = grind (arith, common_steps, take-add (j - i) more (drop i bytes), drop-drop (j - i) i bytes) steps 200000
 
 pub one_line_more : (xs ys : List ℕ) → IsOneLine xs → IsOneLine ys → IsOneLine (xs ++ ys)
 one_line_more [] ys f g = g
@@ -52,13 +44,9 @@ pub found_line : (bytes hay : List ℕ) (left : Option (List ℕ)) (start end mo
     → IsOneLine (slice_range bytes start end) → ((k : ℕ) → k < more → (slice_index hay k == 10) ≡ true → ⊥) → more < length hay → (slice_index hay more == 10) ≡ true
     → IsLineAt bytes left record { start = start; end = end + more; fed = true }
 found_line bytes hay left start end more is low within one none some found =
-    let long : length hay ≡ length bytes - end = ap length is ∙ length-drop end bytes in
-    let first : take more (drop end bytes) ≡ take more hay = ap (take more) (sym is) in
-    let feed : slice_index hay more ≡ 10 = eqb-true (slice_index hay more) 10 found in
-    let here : drop more hay ≡ 10 ∷ drop (more + 1) hay = drop_more hay more 0 some ∙ ap (λ (b : ℕ). b ∷ drop (more + 1) hay) feed in
-    let there : drop more hay ≡ drop (end + more) bytes = ap (drop more) is ∙ drop-drop more end bytes in
-    let behind : drop (more + 1) hay ≡ drop ((end + more) + 1) bytes = ap (drop (more + 1)) is ∙ drop-drop (more + 1) end bytes ∙ ap (λ (n : ℕ). drop n bytes) (omega arith) in
-    grind (arith, common_steps, part_more bytes start end more low, one_line_more _ _ one (none_found hay more none)) steps 200000
+    let front = none_found hay more none in
+    let both = take-add (end - start) more (drop start bytes) in
+    grind (arith, common_steps, drop-drop more end bytes, drop_more hay more 0 some, length-drop end bytes, front, both) steps 200000
 
 -- no line feed up to the end
 pub no_feed_left : (bytes hay : List ℕ) (start end : ℕ) → hay ≡ drop end bytes → start ≤ end → IsOneLine (slice_range bytes start end)
@@ -88,8 +76,7 @@ feeds (suc n) xs = ap (λ (ys : List ℕ). 10 ∷ ys) (feeds n xs)
 pub blank_more : (bytes : List ℕ) (from to : ℕ) → HasBlanks bytes from to → drop to bytes ≡ 10 ∷ drop (to + 1) bytes → HasBlanks bytes from (to + 1)
 blank_more bytes from to b is =
     let count : (to + 1) - from ≡ suc (to - from) = omega (arith, b.ordered) in
-    let some : length (drop to bytes) ≡ length (drop (to + 1) bytes) + 1 = omega (arith, ap length is) in
-    grind (arith, common_steps, length-drop to bytes, length-drop (to + 1) bytes, feeds (to - from) (drop (to + 1) bytes)) steps 200000
+    grind (arith, common_steps, feeds (to - from) (drop (to + 1) bytes), length-drop to bytes, length-drop (to + 1) bytes) steps 200000
 
 pub blanks_grown : (a b : Input) (u v : Option (List ℕ)) (from to : ℕ) → InputGrows a b u v → HasBlanks (pending a) from to → HasBlanks (pending b) from to
 blanks_grown a b u v from to p h = grind (arith, common_steps, rest_grown a b u v from p (omega (arith, h.ordered, h.within)), rest_grown a b u v to p h.within, grown_long a b u v p) steps 200000
@@ -104,13 +91,8 @@ pub reads_not : (a : Input) (u : Option (List ℕ)) → ReadsOn a a u u
 reads_not a u = record { part = []; consumes = Consumes-nil u; blanks = 0; are = append-nil (pending a) }
 
 pub reads_then : (a b c : Input) (u v w : Option (List ℕ)) → ReadsOn a b u v → InputGrows b c v w → ReadsOn a c u w
-reads_then a b c u v w p q = record {
-  part = p.part ++ q.part;
-  consumes = Consumes-trans u v w p.part q.part p.consumes q.consumes;
-  blanks = p.blanks;
-  are = sym (append_assoc (pending a) p.part q.part) ∙ ap (λ (xs : List ℕ). xs ++ q.part) p.are ∙ append_assoc (replicate p.blanks 10) (pending b) q.part
-      ∙ ap (λ (xs : List ℕ). replicate p.blanks 10 ++ xs) (sym q.are);
-}
+reads_then a b c u v w p q =
+    grind (arith, common_steps, append_assoc (pending a) p.part q.part, append_assoc (replicate p.blanks 10) (pending b) q.part) steps 200000
 
 pub reads_pass : (a b c : Input) (u v : Option (List ℕ)) → ReadsOn a b u v → pending b ≡ 10 ∷ pending c → ReadsOn a c u v
 reads_pass a b c u v p is = record {

@@ -1,8 +1,7 @@
 -- What is read of a script after commands and empty lines that are read.
+use Rattle.std.proofs.Common.{[], ◌≡◌, ◌⊎◌, ℕ, ◌+◌, ◌<◌, ◌≤◌, List, ◌∷◌, ◌++◌, length, length-append, refl, sym, ap, ◌∙◌, subst, inl, inr, arith, append_assoc, append-nil}
 use Rattle.std.proofs.lemmas.{Grind.{common_steps}, Bool.{cases_lt}, List.Concat.{flat_map-append}}
-use Rattle.std.proofs.Common.{◌≡◌, ◌⊎◌, ℕ, ◌+◌, ◌<◌, ◌≤◌, List, [], ◌∷◌, ◌++◌, length, length-append, refl, sym, ap, ◌∙◌, subst, inl, inr, arith, append_assoc, append-nil}
-use Rattle.mm_script.specs.Language.Commands.{HasNoEntry}
-use Rattle.mm_script.specs.Language.Script.{Command, Entry, Given, entry_bytes, entries_bytes, command_bytes, AreRead, HasEntries, IsLongestReading, IsReadSoFar, IsGood, EndsInLine}
+use Rattle.mm_script.specs.Language.{Commands.{HasNoEntry}, Script.{Command, Entry, Given, entry_bytes, command_bytes, AreRead, HasEntries, IsLongestReading, IsReadSoFar, IsGood, EndsInLine}}
 use Rattle.mm_script.proofs.ScriptLemmas.{IsBeginning, NoEntry, NoLast, blank_no, divisions_agree, entry_some, good_more, one_begins, read_less, read_more, reading_ended, reading_unended}
 
 -- entries after entries
@@ -17,9 +16,6 @@ reading_behind bytes entries more rest left are reading = record { divided = rea
     total : length (entries ++ more) ≡ length entries + length more
     total = length-append entries more
 
-    before : HasEntries bytes entries rest
-    before = record { good = are.good; joined = inl are.joined }
-
     on : (others later : List Entry) (end : List ℕ) → entries ++ later ≡ others → HasEntries bytes others end → length others ≤ length (entries ++ more)
     on others [] end e d = let l : length others ≡ length entries + 0 = ap length (sym e) ∙ length-append entries [] in omega (arith, total)
     on others (x ∷ xs) end e d =
@@ -33,7 +29,7 @@ reading_behind bytes entries more rest left are reading = record { divided = rea
       where
         by : (length others < length entries) ⊎ (length entries ≤ length others) → length others ≤ length (entries ++ more)
         by (inl h) = omega (arith, total)
-        by (inr h) = let w = divisions_agree bytes entries others rest end before d h in on others w.0 end w.1 d
+        by (inr h) = let w = divisions_agree bytes entries others rest end (grind (arith, common_steps) steps 200000) d h in on others w.0 end w.1 d
 
 pub so_far_behind : (bytes : List ℕ) (entries : List Entry) (rest : List ℕ) → AreRead bytes entries rest → HasNoEntry rest → IsReadSoFar bytes entries rest
 so_far_behind bytes entries rest are none = record { are = are; longest = longest }
@@ -63,6 +59,5 @@ reading_last bytes entries rest command are good in_line is = reading_unended by
   last = command;
   are = refl;
   in_line = in_line;
-  is = ap (λ (w : List ℕ). w ++ 10 ∷ []) are.joined ∙ append_assoc (entries_bytes entries) rest (10 ∷ []) ∙ ap (λ (w : List ℕ). entries_bytes entries ++ w) (is ∙ sym (append-nil (command_bytes command)))
-      ∙ sym (flat_map-append entry_bytes entries (Given command ∷ []));
+  is = grind (arith, common_steps, append-nil, append_assoc, flat_map-append) steps 200000;
 })

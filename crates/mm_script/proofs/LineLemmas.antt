@@ -1,19 +1,19 @@
 -- What a line asks for is known from its first space on.
-use Rattle.std.proofs.lemmas.{Grind.{common_steps}, Slice.Eq.{bytes_eq-Decides}, Str.{IsUtf8-from_ascii}, Fmt.{parse-decimal, IsAscii-decimal}, Bool.{and_from}}
-use Rattle.std.proofs.Common.{◌≡◌, ◌≢◌, ◌⊎◌, ℕ, Bool, true, false, not, List, [], ◌∷◌, ◌++◌, length, length-append, take, refl, sym, ap, ◌∙◌, subst, arith, Option, None, Result, Ok, inl, inr, take_at}
-use Rattle.std.{proofs.Common.{ne_eqb, ◌==◌, codes, decimal}, specs.{List.{list_all}, Str.{IsUtf8, bytes_eq, Parse.{ParsesUnsigned}}, Option.{is_some}}}
+use Rattle.std.proofs.Common.{[], ◌≡◌, ◌≢◌, ◌⊎◌, ℕ, Bool, true, false, not, List, ◌∷◌, ◌++◌, length, length-append, take, refl, sym, ap, ◌∙◌, subst, arith, Option, None, Result, Ok, inl, inr, take_at}
+use Rattle.std.proofs.{Common.{◌==◌, codes, decimal}, lemmas.{Grind.{common_steps}, Slice.Eq.{bytes_eq-Decides}, Str.{IsUtf8-from_ascii}, Fmt.{parse-decimal, IsAscii-decimal}, Bool.{and_from}}}
+use Rattle.std.specs.{List.{list_all}, Str.{IsUtf8, bytes_eq, Parse.{ParsesUnsigned}}, Option.{is_some}}
 use Rattle.mm_text.specs.Language.Asked.{Asked}
 use Rattle.mm_script.specs.declared.line.Verb.{Verb, TheVariants.{Insert, Replace, Delete, Move, Batch, Verdict, Axioms, Cites, Users}}
 use Rattle.mm_script.specs.Code.{Lines.{CutsAt, HasNoSpace, IsFileAnd, IsFileAndTwo, verb_word}, Stops.{IsOneLine}}
 use Rattle.mm_script.{specs.Language.Script.{Command, Change, Report, IsName, IsNumber, edit_line, line_of, is_word_byte}, proofs.SplitLemmas.{Lacks, split_at, solid_space}}
-use Rattle.mm_script.proofs.WordLemmas.{solid_decimal, small_number, both_not}
+use Rattle.mm_script.proofs.WordLemmas.{solid_decimal, small_number}
 use Rattle.mm_text.specs.Language.Asked as ask
 use Rattle.mm_script.specs.Language.Script as commands
 
 -- bytes of a line without a space are a name
 pub solid_by : (xs : List ℕ) → HasNoSpace xs → IsOneLine xs → list_all is_word_byte xs ≡ true
 solid_by [] f g = refl
-solid_by (x ∷ xs) f g = and_from _ _ (both_not _ _ (ne_eqb x 32 f.0) (ne_eqb x 10 g.0)) (solid_by xs f.1 g.1)
+solid_by (x ∷ xs) f g = and_from _ _ (grind (arith, common_steps) steps 200000) (solid_by xs f.1 g.1)
 
 pub is_name_by : (xs : List ℕ) → xs ≢ [] → HasNoSpace xs → IsOneLine xs → IsName xs
 is_name_by xs some f g = record { some = some; bytes = solid_by xs f g }
@@ -32,10 +32,6 @@ cut_so bytes head tail left right cut none is = split_at 32 head left tail right
 front_lacks : (c : ℕ) (xs ys : List ℕ) → Lacks c (xs ++ ys) → Lacks c xs
 front_lacks c [] ys f = tt
 front_lacks c (x ∷ xs) ys f = (f.0, front_lacks c xs ys f.1)
-
--- the parts of one line are of one line
-pub head_line : (bytes head tail : List ℕ) → CutsAt bytes head tail → IsOneLine bytes → IsOneLine head
-head_line bytes head tail cut one = front_lacks 10 head (32 ∷ tail) (subst (Lacks 10) cut.is one)
 
 -- an answer that is none, by its test
 pub none_by : {X : Type 0} (found : Option X) (none : Bool) → is_some found ≡ not none → none ≡ true → found ≡ None
@@ -62,12 +58,13 @@ front_of bytes head rest is = ap (take (length head)) is ∙ take_at head rest (
 
 -- the name of a file and a number
 pub file_and : (bytes head tail : List ℕ) (n : ℕ) → CutsAt bytes head tail → head ≢ [] → IsOneLine bytes → IsNumber n → tail ≡ decimal n → IsFileAnd bytes (length head) n
-file_and bytes head tail n cut some one number is = grind (arith, common_steps, front_of, head_line, is_name_by, length-append) steps 200000
+file_and bytes head tail n cut some one number is = grind (arith, common_steps, front_of, is_name_by, length-append, front_lacks) steps 200000
 
 -- and another number
 pub file_and_two : (bytes head tail first second : List ℕ) (n m : ℕ) → CutsAt bytes head tail → CutsAt tail first second → head ≢ [] → IsOneLine bytes
     → IsNumber n → first ≡ decimal n → IsNumber m → second ≡ decimal m → IsFileAndTwo bytes (length head) n m
-file_and_two bytes head tail first second n m cut cut_more some one number is other other_is = grind (arith, common_steps, front_of, head_line, is_name_by, length-append) steps 200000
+file_and_two bytes head tail first second n m cut cut_more some one number is other other_is =
+    grind (arith, common_steps, front_of, is_name_by, length-append, front_lacks) steps 200000
 
 -- the first words of lines of more words than one, and what comes after them
 pub verb_space : (verb : Verb) → HasNoSpace (verb_word verb)

@@ -1,13 +1,13 @@
 -- A script that begins with the line of a batch and some of its edits.
-use Rattle.std.proofs.lemmas.{Grind.{common_steps}, Bool.{cases_lt}, Fmt.{decimal_injective}, List.{append-nil, length-replicate, Concat.{flat_map-append}}}
-use Rattle.std.proofs.Common.{◌≡◌, ◌≢◌, ◌⊎◌, ℕ, zero, suc, ◌+◌, ◌-◌, ◌<◌, ◌≤◌, List, [], ◌∷◌, ◌++◌, length, length-append, replicate, refl, sym, ap, ◌∙◌, subst, inl, inr, arith, append_assoc, codes}
-use Rattle.std.{proofs.Common.{decimal}, specs.List.{flat_map, join_with_byte}}
+use Rattle.std.proofs.Common.{[], ◌≡◌, ◌≢◌, ◌⊎◌, ℕ, zero, suc, ◌+◌, ◌-◌, ◌<◌, ◌≤◌, List, ◌∷◌, ◌++◌, length, length-append, replicate, refl, sym, ap, ◌∙◌, subst, inl, inr, arith, append_assoc, codes}
+use Rattle.std.proofs.{Common.{decimal}, lemmas.{Grind.{common_steps}, Bool.{cases_lt}, Fmt.{decimal_injective}, List.{append-nil, length-replicate, Concat.{flat_map-append}}}}
+use Rattle.std.specs.List.{flat_map, join_with_byte}
 use Rattle.mm_text.specs.Language.Asked.{Asked, Delete, edited_text}
 use Rattle.mm_script.specs.Code.Stops.{AreListed, batch_line, batch_bytes}
 use Rattle.mm_script.specs.Language.Script.{Listed, Command, Batch, AreGoodEdits, EndsInLine, IsCutShort, IsGood, IsGoodEdit, IsNoneOrLine, IsNumber, MayBreak, MissesEdits, behind_line, edit_bytes}
-use Rattle.mm_script.{specs.Language.Script.{edit_line, ended_text, line_of, listed_bytes, command_words}, proofs.SplitLemmas.{Lacks, join_lacks, not_inside}}
-use Rattle.mm_script.proofs.WordLemmas.{AreSolid, BeginsEdits, edit_head, edit_tag, edits_begin, has_first, lack_feeds, listed_parts, same_blanks, same_words_by_line, small_number, solid_decimal, tag}
-use Rattle.mm_script.proofs.{WordLemmas.{words_solid}, ScriptLemmas.{NoEntry, NoLast}, ScriptLineLemmas.{no_entry_by, no_last_by, not_cut_by}}
+use Rattle.mm_script.{specs.Language.Script.{edit_line, ended_text, line_of, listed_bytes}, proofs.SplitLemmas.{Lacks, join_lacks, not_inside}}
+use Rattle.mm_script.proofs.WordLemmas.{AreSolid, BeginsEdits, edit_head, edit_lacks_feed, edit_tag, edits_begin, lack_feeds, listed_parts, same_blanks, small_number, solid_decimal, tag}
+use Rattle.mm_script.proofs.{ScriptLemmas.{NoEntry, NoLast}, ScriptLineLemmas.{edit_line_some, no_entry_by, no_last_by, not_cut_by}}
 
 -- ---- the line
 
@@ -30,11 +30,8 @@ pub record IsBatch (n : ℕ) (c : Command) : Type 0 where
   pub count : n ≡ length edits
   pub good : AreGoodEdits edits
 
-batch_by_words : (n : ℕ) → IsNumber n → (c : Command) → IsGood c → batch_words n ≡ command_words c → IsBatch n c
-batch_by_words n h c g e = grind (arith, common_steps, decimal_injective, edit_tag, small_number, tag) steps 200000
-
 pub batch_by_line : (n : ℕ) → IsNumber n → (c : Command) → IsGood c → batch_line n ≡ line_of c → IsBatch n c
-batch_by_line n h c g e = batch_by_words n h c g (same_words_by_line (batch_words n) (command_words c) (codes "batch", decimal n ∷ [], refl) (has_first c) (batch_solid n h) (words_solid c g) e)
+batch_by_line n h c g e = grind (arith, common_steps, decimal_injective, edit_tag, small_number, tag) steps 200000
 
 -- an edit has some bytes
 pub listed_some : (x : Listed) (xs : List Listed) → 0 < length (flat_map listed_bytes (x ∷ xs))
@@ -71,16 +68,15 @@ good_tail (x ∷ xs) ys h = good_tail xs ys h.1
 
 pub next_edit : (n : ℕ) (front : List Listed) (blanks : ℕ) (w t : List ℕ) → AreListed n front → (c : Command) → IsGood c → batch_line n ≡ line_of c
     → flat_map listed_bytes front ++ (replicate blanks 10 ++ w) ≡ behind_line c ++ t → NextEdit n front blanks w t c
-next_edit n front blanks w t are c g e k = on (batch_by_line n are.number c g e)
+next_edit n front blanks w t are c g e k = let f : BeginsEdits front (batch_by_line n are.number c g e).edits (replicate blanks 10 ++ w) t = edits_begin front
+    (batch_by_line n are.number c g e).edits (replicate blanks 10 ++ w) t are.good (batch_by_line n are.number c g e).good
+    (omega (arith, are.fewer, (batch_by_line n are.number c g e).count)) (k ∙ ap (λ (d : Command). behind_line d ++ t) (batch_by_line n are.number c g e).is) in
+    by (batch_by_line n are.number c g e).edits (batch_by_line n are.number c g e).is (batch_by_line n are.number c g e).count
+    (batch_by_line n are.number c g e).good f.later f.are f.left
   where
     by : (edits : List Listed) → c ≡ Batch edits → n ≡ length edits → AreGoodEdits edits → (later : List Listed) → edits ≡ front ++ later → replicate blanks 10 ++ w ≡ flat_map listed_bytes later ++ t → NextEdit n front blanks w t c
     by edits is count good [] p q = let l : length edits ≡ length front + 0 = ap length p ∙ length-append front [] in absurd (omega (arith, are.fewer))
     by edits is count good (x ∷ xs) p q = grind (arith, common_steps, good_tail front (x ∷ xs) (subst AreGoodEdits p good), listed_parts x (flat_map listed_bytes xs ++ t)) steps 200000
-
-    on : IsBatch n c → NextEdit n front blanks w t c
-    on b =
-        let f : BeginsEdits front b.edits (replicate blanks 10 ++ w) t = edits_begin front b.edits (replicate blanks 10 ++ w) t are.good b.good (omega (arith, are.fewer, b.count)) (k ∙ ap (λ (d : Command). behind_line d ++ t) b.is) in
-        by b.edits b.is b.count b.good f.later f.are f.left
 
 -- ---- what follows the line of the batch and the edits
 
@@ -108,15 +104,12 @@ batch_not_cut n front blanks inner are none = not_cut_by (batch_line n) (inside 
 abbrev pub any_edit : Asked
 any_edit = Delete (codes "a") 0
 
-pub any_good : IsGoodEdit any_edit
-any_good = (record { some = λ e. cc; bytes = refl }, omega arith)
-
 abbrev pub any_listed : Listed
 any_listed = record { blanks = 0; edit = any_edit }
 
 pub any_are_good : (n : ℕ) → AreGoodEdits (replicate n any_listed)
 any_are_good zero = tt
-any_are_good (suc n) = (any_good, any_are_good n)
+any_are_good (suc n) = ((grind (arith, common_steps) steps 200000), any_are_good n)
 
 good_join : (xs ys : List Listed) → AreGoodEdits xs → AreGoodEdits ys → AreGoodEdits (xs ++ ys)
 good_join [] ys g h = h
@@ -126,12 +119,12 @@ good_join (x ∷ xs) ys g h = (g.0, good_join xs ys g.1 h)
 pub batch_is_cut : (n : ℕ) (front : List Listed) (blanks : ℕ) (inner missing : List ℕ) (next : Asked) → AreListed n front → IsGoodEdit next → inner ++ missing ≡ edit_bytes next → missing ≢ [] → IsNoneOrLine next inner
     → IsCutShort (batch_bytes n front blanks inner)
 batch_is_cut n front blanks inner missing next are good joined some none_or_line = record {
-  command = Batch all;
+  command = Batch (front ++ one ∷ more);
   good = (subst IsNumber (sym count) are.number, good_join front (one ∷ more) are.good (good, any_are_good (n - (length front + 1))));
   part = 10 ∷ inside front blanks inner;
   missing = missing ++ flat_map listed_bytes more;
   is = ap (λ (k : ℕ). join_with_byte 32 (batch_words k) ++ 10 ∷ inside front blanks inner) (sym count);
-  begins = ap (λ (x : List ℕ). 10 ∷ x) begun;
+  begins = ap (λ (x : List ℕ). 10 ∷ x) (grind (arith, common_steps, append_assoc, flat_map-append, inside_more, more, next, one) steps 200000);
   some_missing = nothing missing some;
   breaks = inr (record { front = front; next = one; later = more; are = refl; blanks = blanks; inner = inner; is = refl; none_or_line = none_or_line });
 }
@@ -142,21 +135,12 @@ batch_is_cut n front blanks inner missing next are good joined some none_or_line
     more : List Listed
     more = replicate (n - (length front + 1)) any_listed
 
-    all : List Listed
-    all = front ++ one ∷ more
-
-    count : length all ≡ n
+    count : length (front ++ one ∷ more) ≡ n
     count = let l : length more ≡ n - (length front + 1) = length-replicate (n - (length front + 1)) any_listed in length-append front (one ∷ more) ∙ omega (arith, are.fewer)
 
     nothing : (bytes : List ℕ) → bytes ≢ [] → bytes ++ flat_map listed_bytes more ≢ []
     nothing [] h = absurd (h refl)
     nothing (x ∷ bytes) h = λ e. cc
-
-    begun : inside front blanks inner ++ (missing ++ flat_map listed_bytes more) ≡ flat_map listed_bytes all
-    begun = inside_more front blanks inner (missing ++ flat_map listed_bytes more)
-        ∙ ap (λ (x : List ℕ). flat_map listed_bytes front ++ (replicate blanks 10 ++ x)) (sym (append_assoc inner missing (flat_map listed_bytes more)) ∙ ap (λ (x : List ℕ). x ++ flat_map listed_bytes more) joined)
-        ∙ ap (λ (x : List ℕ). flat_map listed_bytes front ++ x) (sym (append_assoc (replicate blanks 10) (edit_bytes next) (flat_map listed_bytes more)))
-        ∙ sym (flat_map-append listed_bytes front (one ∷ more))
 
 -- ---- a last line that is not that of an edit
 
@@ -169,19 +153,14 @@ pub no_break : (n : ℕ) (front : List Listed) (blanks : ℕ) (line : List ℕ) 
     → (next : Listed) (later : List Listed) → edits ≡ front ++ next ∷ later → MissesEdits edits (10 ∷ inside front blanks line) → ⊥
 no_break n front blanks line edits good goods some l none next later are m = by (cases_lt (length m.front) (length front))
   where
-    same : inside front blanks line ≡ inside m.front m.blanks m.inner
-    same = grind (arith, common_steps) steps 200000
-
-    mine : AreGoodEdits (m.front ++ m.next ∷ m.later)
-    mine = subst AreGoodEdits m.are goods
-
     front_good : (xs ys : List Listed) → AreGoodEdits (xs ++ ys) → AreGoodEdits xs
     front_good [] ys h = tt
     front_good (x ∷ xs) ys h = (h.0, front_good xs ys h.1)
 
     -- the line is at the place of the next edit
     begun : (more missing : List ℕ) → line ≡ edit_line m.next.edit ++ more → more ++ missing ≡ 10 ∷ ended_text (edited_text m.next.edit) → ⊥
-    begun [] missing e k = none m.next.edit (good_tail m.front (m.next ∷ m.later) mine).0 (e ∙ append-nil (edit_line m.next.edit))
+    begun [] missing e k =
+        none m.next.edit (good_tail m.front (m.next ∷ m.later) (grind (arith, common_steps) steps 200000)).0 (e ∙ append-nil (edit_line m.next.edit))
     begun (x ∷ more) missing e k = let ten : x ≡ 10 = cc in not_inside 10 line (edit_line m.next.edit) more l (e ∙ ap (λ (y : ℕ). edit_line m.next.edit ++ y ∷ more) ten)
 
     here : replicate blanks 10 ++ line ≡ replicate m.blanks 10 ++ m.inner → ⊥
@@ -200,18 +179,12 @@ no_break n front blanks line edits good goods some l none next later are m = by 
             begun z.0 z.1 (sym (append-nil line) ∙ both.1) z.3
 
     -- or it comes after a whole edit
-    behind_whole : (x : Listed) (xs : List Listed) → IsGoodEdit x.edit → replicate blanks 10 ++ line ≡ flat_map listed_bytes (x ∷ xs) ++ (replicate m.blanks 10 ++ m.inner) → ⊥
-    behind_whole x xs g e =
-        let s = ended_text (edited_text x.edit) ++ (flat_map listed_bytes xs ++ (replicate m.blanks 10 ++ m.inner)) in
-        let parts : replicate blanks 10 ++ (line ++ []) ≡ replicate x.blanks 10 ++ (edit_line x.edit ++ 10 ∷ s) =
-        ap (λ (w : List ℕ). replicate blanks 10 ++ w) (append-nil line) ∙ e ∙ append_assoc (listed_bytes x) (flat_map listed_bytes xs) (replicate m.blanks 10 ++ m.inner)
-        ∙ listed_parts x (flat_map listed_bytes xs ++ (replicate m.blanks 10 ++ m.inner)) in
-        let both = line_behind_feeds blanks x.blanks line [] x.edit (10 ∷ s) some l parts in
-        not_inside 10 line (edit_line x.edit) s l (sym (append-nil line) ∙ both.1)
-
     later_line : (zs : List Listed) → m.front ≡ front ++ zs → replicate blanks 10 ++ line ≡ flat_map listed_bytes zs ++ (replicate m.blanks 10 ++ m.inner) → ⊥
     later_line [] p q = here q
-    later_line (x ∷ xs) p q = behind_whole x xs (good_tail front (x ∷ xs) (subst AreGoodEdits p (front_good m.front (m.next ∷ m.later) mine))).0 q
+    later_line (x ∷ xs) p q = let s = ended_text (edited_text x.edit) ++ (flat_map listed_bytes xs ++ (replicate m.blanks 10 ++ m.inner)) in
+        let parts : replicate blanks 10 ++ (line ++ []) ≡ replicate x.blanks 10 ++ (edit_line x.edit ++ 10 ∷ s) = grind
+        (arith, common_steps, append-nil, append_assoc, listed_parts) steps 200000 in grind
+        (arith, common_steps, append-nil, line_behind_feeds, not_inside) steps 200000
 
     first_same : (xs : List Listed) (x y : Listed) (ys zs : List Listed) → xs ++ x ∷ ys ≡ xs ++ y ∷ zs → x ≡ y
     first_same [] x y ys zs e = cc
@@ -235,14 +208,12 @@ no_break n front blanks line edits good goods some l none next later are m = by 
 
         lines : (more missing : List ℕ) → m.inner ≡ edit_line m.next.edit ++ more → more ++ missing ≡ 10 ∷ ended_text (edited_text m.next.edit) → ⊥
         lines more missing e k =
-            let h = edit_head m.next.edit in
-            let j = edit_head x.edit in
-            let both = same_blanks m.blanks x.blanks h.0 j.0 (h.1 ++ more) (j.1 ++ 10 ∷ (ended_text (edited_text x.edit) ++ tail)) h.3 j.3
-            (sym (ap (λ (w : List ℕ). replicate m.blanks 10 ++ w) (e ∙ ap (λ (w : List ℕ). w ++ more) h.2)) ∙ parts ∙ ap (λ (w : List ℕ). replicate x.blanks 10 ++ (w ++ 10 ∷ (ended_text (edited_text x.edit) ++ tail))) j.2) in
-            let whole : edit_line m.next.edit ++ more ≡ edit_line x.edit ++ 10 ∷ (ended_text (edited_text x.edit) ++ tail) = ap (λ (w : List ℕ). w ++ more) h.2 ∙ both.1
-            ∙ sym (ap (λ (w : List ℕ). w ++ 10 ∷ (ended_text (edited_text x.edit) ++ tail)) j.2) in
+            let good_next : IsGoodEdit m.next.edit = (good_tail m.front (m.next ∷ m.later) (grind (arith, common_steps) steps 200000)).0 in
+            let both = line_behind_feeds m.blanks x.blanks (edit_line m.next.edit) more x.edit (10 ∷ (ended_text (edited_text x.edit) ++ tail))
+            (edit_line_some m.next.edit)
+            (edit_lacks_feed m.next.edit good_next) (ap (λ (w : List ℕ). replicate m.blanks 10 ++ w) (sym e) ∙ parts) in
             let a : length (edit_line m.next.edit) + length more ≡ length (edit_line x.edit) + suc (length (ended_text (edited_text x.edit) ++ tail)) =
-            sym (length-append (edit_line m.next.edit) more) ∙ ap length whole ∙ length-append (edit_line x.edit) (10 ∷ (ended_text (edited_text x.edit) ++ tail)) in
+            sym (length-append (edit_line m.next.edit) more) ∙ ap length both.1 ∙ length-append (edit_line x.edit) (10 ∷ (ended_text (edited_text x.edit) ++ tail)) in
             let b : length (ended_text (edited_text x.edit) ++ tail) ≡ length (ended_text (edited_text x.edit)) + length tail = length-append (ended_text (edited_text x.edit)) tail in
             let c : length more + length missing ≡ suc (length (ended_text (edited_text m.next.edit))) = sym (length-append more missing) ∙ ap length k in
             let d : length (edit_line m.next.edit) ≡ length (edit_line x.edit) = ap (λ (w : Listed). length (edit_line w.edit)) one in
@@ -258,5 +229,7 @@ no_break n front blanks line edits good goods some l none next later are m = by 
     earlier_or_here (x ∷ xs) p q = earlier x xs p q
 
     by : (length m.front < length front) ⊎ (length front ≤ length m.front) → ⊥
-    by (inl h) = let f = edits_begin m.front front (replicate m.blanks 10 ++ m.inner) (replicate blanks 10 ++ line) (front_good m.front (m.next ∷ m.later) mine) good (omega arith) (sym same) in earlier_or_here f.later f.are f.left
-    by (inr h) = let f = edits_begin front m.front (replicate blanks 10 ++ line) (replicate m.blanks 10 ++ m.inner) good (front_good m.front (m.next ∷ m.later) mine) h same in later_line f.later f.are f.left
+    by (inl h) = let f = edits_begin m.front front (replicate m.blanks 10 ++ m.inner) (replicate blanks 10 ++ line) (front_good m.front (m.next ∷ m.later)
+        (grind (arith, common_steps) steps 200000)) good (omega arith) (sym (grind (arith, common_steps) steps 200000)) in earlier_or_here f.later f.are f.left
+    by (inr h) = let f = edits_begin front m.front (replicate blanks 10 ++ line) (replicate m.blanks 10 ++ m.inner) good (front_good m.front (m.next ∷ m.later)
+        (grind (arith, common_steps) steps 200000)) h (grind (arith, common_steps) steps 200000) in later_line f.later f.are f.left

@@ -1,13 +1,13 @@
 -- The laws of readings.
-use Rattle.std.proofs.Common.{◌≡◌, ◌⊎◌, ℕ, List, [], ◌++◌, sym, inl, inr}
+use Rattle.std.proofs.{Common.{[], arith, ◌≡◌, ◌⊎◌, ℕ, List, ◌++◌, sym, inl, inr}, lemmas.Grind.{common_steps}}
 use Rattle.mm_script.specs.Language.{Script.{entries_bytes, IsLongestReading, LacksFeed}, ReadingLaws.{CommandsLeaveNothing, OneReading, OneEnd, ReadingGoesOn, OneReadSoFar}}
-use Rattle.mm_script.proofs.{ScriptLemmas.{goes_on, one_end, one_reading, one_so_far, reading_unended}, JoinLemmas.{reading_done}}
+use Rattle.mm_script.proofs.{ScriptLemmas.{goes_on, one_reading, one_so_far, reading_unended}, JoinLemmas.{reading_done}}
 
 pub readings : OneReading
 readings = one_reading
 
 pub ends : OneEnd
-ends = one_end
+ends = grind (arith, common_steps) steps 200000
 
 pub so_far : OneReadSoFar
 so_far = one_so_far

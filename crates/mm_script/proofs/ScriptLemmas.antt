@@ -1,20 +1,20 @@
 -- How a script is divided: in one way; and when a division of it is its reading.
-use Rattle.std.proofs.lemmas.{Grind.{common_steps}, Bool.{cases_lt}, List.{append-nil, append_cancel_left, append_cancel_right, Concat.{flat_map-append}}}
-use Rattle.std.proofs.Common.{◌≡◌, ◌⊎◌, ℕ, ◌+◌, ◌<◌, ◌≤◌, Option, Some, None, List, [], ◌∷◌, ◌++◌, length, length-append, replicate, refl, sym, ap, ◌∙◌, subst, inl, inr, arith, append_assoc}
-use Rattle.std.specs.List.{flat_map}
-use Rattle.mm_text.specs.Language.Asked.{edited_text}
+use Rattle.std.proofs.Common.{[], ◌≡◌, ◌⊎◌, ℕ, ◌+◌, ◌<◌, ◌≤◌, Option, Some, None, List, ◌∷◌, ◌++◌, length, length-append, replicate, refl, sym, ap, ◌∙◌, subst, inl, inr, arith, append_assoc}
+use Rattle.std.{proofs.lemmas.{Grind.{common_steps}, Bool.{cases_lt}, List.{append-nil, append_cancel_left, append_cancel_right, Concat.{flat_map-append}}}, specs.List.{flat_map}}
+use Rattle.mm_script.proofs.{WordLemmas.{words_solid, has_first, same_words_by_line, same_command, line_lacks_feed}, SplitLemmas.{split_at}}
 use Rattle.mm_script.specs.Language.Script.{Listed, Command, Change, Batch, Entry, Blank, Given, listed_bytes, edit_line, entry_bytes, IsGoodEntry, AreGood, IsGood, entries_bytes, line_of, ended_text}
-use Rattle.mm_script.{specs.Language.Script.{command_bytes, EndsInLine, LacksFeed, HasEntries, IsLongestReading, AreRead, IsReadSoFar, End, EndsSo}, proofs.SplitLemmas.{split_at}}
-use Rattle.mm_script.proofs.WordLemmas.{line_lacks_feed, same_first, line_some}
+use Rattle.mm_script.specs.Language.Script.{command_bytes, EndsInLine, LacksFeed, HasEntries, IsLongestReading, AreRead, IsReadSoFar}
+use Rattle.mm_text.specs.Language.Asked.{edited_text}
 
 pub blank_no : (d : Command) (s t : List ℕ) → IsGood d → 10 ∷ s ≡ command_bytes d ++ t → ⊥
-blank_no d s t h e = grind (arith, common_steps, line_lacks_feed, line_some, split_at) steps 200000
+blank_no d s t h e = grind (arith, common_steps, line_lacks_feed, split_at) steps 200000
 
 pub same_entry : (x y : Entry) (s t : List ℕ) → IsGoodEntry x → IsGoodEntry y → entry_bytes x ++ s ≡ entry_bytes y ++ t → (x ≡ y) × (s ≡ t)
 same_entry Blank Blank s t g h e = (refl, cc)
 same_entry Blank (Given d) s t g h e = absurd (blank_no d s t h e)
 same_entry (Given c) Blank s t g h e = absurd (blank_no c t s g (sym e))
-same_entry (Given c) (Given d) s t g h e = let both = same_first c d s t g h e in (ap Given both.0, both.1)
+same_entry (Given c) (Given d) s t g h e =
+    grind (arith, common_steps, has_first, line_lacks_feed, same_command, same_words_by_line, split_at, words_solid) steps 200000
 
 -- one list is a beginning of the other, and what comes after it begins with the others
 pub record IsBeginning (a b : List Entry) (s t : List ℕ) : Type 0 where
@@ -27,8 +27,7 @@ pub one_begins : (a b : List Entry) (s t : List ℕ) → AreGood a → AreGood b
 one_begins [] b s t g h e = inl (record { more = b; good = h; longer = refl; left = e })
 one_begins (x ∷ a) [] s t g h e = inr (record { more = x ∷ a; good = g; longer = refl; left = sym e })
 one_begins (x ∷ a) (y ∷ b) s t g h e =
-    let both : (x ≡ y) × (entries_bytes a ++ s ≡ entries_bytes b ++ t) =
-    same_entry x y (entries_bytes a ++ s) (entries_bytes b ++ t) g.0 h.0 (sym (append_assoc (entry_bytes x) (entries_bytes a) s) ∙ e ∙ append_assoc (entry_bytes y) (entries_bytes b) t) in
+    let both : (x ≡ y) × (entries_bytes a ++ s ≡ entries_bytes b ++ t) = grind (arith, common_steps, append_assoc, same_entry) steps 200000 in
     on both.0 (one_begins a b s t g.1 h.1 both.1) where
       on : x ≡ y → IsBeginning a b s t ⊎ IsBeginning b a t s → IsBeginning (x ∷ a) (y ∷ b) s t ⊎ IsBeginning (y ∷ b) (x ∷ a) t s
       on p (inl w) = inl (record { more = w.more; good = w.good; longer = cc; left = w.left })
@@ -40,24 +39,18 @@ pub record IsTail (script : List ℕ) (entries : List Entry) (rest tail : List �
   pub is : (tail ≡ rest ++ 10 ∷ []) ⊎ ((tail ≡ []) × (rest ≡ []))
 
 pub has_tail : (script : List ℕ) (entries : List Entry) (rest : List ℕ) → HasEntries script entries rest → (tail : List ℕ) × IsTail script entries rest tail
-has_tail script entries rest d = by d.joined
-  where
-    by : (script ≡ entries_bytes entries ++ rest) ⊎ (LacksFeed script entries × (rest ≡ [])) → (tail : List ℕ) × IsTail script entries rest tail
-    by (inl e) = (rest ++ 10 ∷ [], record { joined = ap (λ (x : List ℕ). x ++ 10 ∷ []) e ∙ append_assoc (entries_bytes entries) rest (10 ∷ []); is = inl refl })
-    by (inr l) = ([], record { joined = l.0.is ∙ sym (append-nil (entries_bytes entries)); is = inr (refl, l.1) })
+has_tail script entries rest d =
+    grind (arith, common_steps, append-nil (entries_bytes entries), append_assoc (entries_bytes entries) rest (10 ∷ [])) steps 200000
 
 pub no_more : (a b more : List Entry) → a ++ more ≡ b → length b ≤ length a → more ≡ []
 no_more a b more e h = grind (arith, common_steps) steps 200000
 
 pub divisions_agree : (script : List ℕ) (a b : List Entry) (s t : List ℕ) → HasEntries script a s → HasEntries script b t → length a ≤ length b → (more : List Entry) × (a ++ more ≡ b)
-divisions_agree script a b s t d f h = by (has_tail script a s d) (has_tail script b t f)
+divisions_agree script a b s t d f h = on (has_tail script a s d).0 (has_tail script b t f).0 (one_begins a b (has_tail script a s d).0
+    (has_tail script b t f).0 d.good f.good (sym (has_tail script a s d).1.joined ∙ (has_tail script b t f).1.joined))
   where
     on : (u v : List ℕ) → IsBeginning a b u v ⊎ IsBeginning b a v u → (more : List Entry) × (a ++ more ≡ b)
-    on u v (inl w) = (w.more, w.longer)
-    on u v (inr w) = grind (arith, common_steps, no_more b a w.more w.longer h, append-nil a, append-nil b) steps 200000
-
-    by : (u : List ℕ) × IsTail script a s u → (v : List ℕ) × IsTail script b t v → (more : List Entry) × (a ++ more ≡ b)
-    by u v = on u.0 v.0 (one_begins a b u.0 v.0 d.good f.good (sym u.1.joined ∙ v.1.joined))
+    on p0 p1 p2 = grind (arith, common_steps, append-nil, no_more) steps 200000
 
 pub not_both : (bytes s : List ℕ) → (bytes ++ s) ++ 10 ∷ [] ≡ bytes → ⊥
 not_both bytes s e = grind (arith, common_steps, length-append (bytes ++ s) (10 ∷ []), length-append bytes s) steps 200000
@@ -65,14 +58,15 @@ not_both bytes s e = grind (arith, common_steps, length-append (bytes ++ s) (10 
 same_rest : (script : List ℕ) (a b : List Entry) (s t : List ℕ) → a ≡ b → HasEntries script a s → HasEntries script b t → s ≡ t
 same_rest script a b s t p d f = grind (arith, common_steps, append_cancel_left, not_both) steps 200000
 
-pub one_reading : (script : List ℕ) (a b : List Entry) (s t : List ℕ) → IsLongestReading script a s → IsLongestReading script b t → (a ≡ b) × (s ≡ t)
-one_reading script a b s t r q =
-    let w = divisions_agree script a b s t r.divided q.divided (q.longest a s r.divided) in
-    let same : a ≡ b = sym (append-nil a) ∙ ap (λ (x : List Entry). a ++ x) (sym (no_more a b w.0 w.1 (r.longest b t q.divided))) ∙ w.1 in
-    (same, same_rest script a b s t same r.divided q.divided)
+longest_same : (script : List ℕ) (a b : List Entry) (s t : List ℕ) → HasEntries script a s → HasEntries script b t → length a ≤ length b → length b ≤ length a
+    → (a ≡ b) × (s ≡ t)
+longest_same script a b s t d f h k =
+    let w = divisions_agree script a b s t d f h in
+    let same : a ≡ b = sym (append-nil a) ∙ ap (λ (x : List Entry). a ++ x) (sym (no_more a b w.0 w.1 k)) ∙ w.1 in
+    (same, same_rest script a b s t same d f)
 
-pub one_end : (rest : List ℕ) (a b : End) → EndsSo rest a → EndsSo rest b → a ≡ b
-one_end rest a b f g = grind (arith, common_steps) steps 200000
+pub one_reading : (script : List ℕ) (a b : List Entry) (s t : List ℕ) → IsLongestReading script a s → IsLongestReading script b t → (a ≡ b) × (s ≡ t)
+one_reading script a b s t r q = longest_same script a b s t r.divided q.divided (q.longest a s r.divided) (r.longest b t q.divided)
 
 -- ---- what is read so far
 
@@ -84,11 +78,8 @@ goes_on bytes more entries all rest left r q =
 
 pub one_so_far : (bytes : List ℕ) (a b : List Entry) (s t : List ℕ) → IsReadSoFar bytes a s → IsReadSoFar bytes b t → (a ≡ b) × (s ≡ t)
 one_so_far bytes a b s t r q =
-    let d : HasEntries bytes a s = record { good = r.are.good; joined = inl r.are.joined } in
-    let e : HasEntries bytes b t = record { good = q.are.good; joined = inl q.are.joined } in
-    let w = divisions_agree bytes a b s t d e (q.longest a s r.are) in
-    let same : a ≡ b = sym (append-nil a) ∙ ap (λ (x : List Entry). a ++ x) (sym (no_more a b w.0 w.1 (r.longest b t q.are))) ∙ w.1 in
-    (same, same_rest bytes a b s t same d e)
+    longest_same bytes a b s t (record { good = r.are.good; joined = inl r.are.joined }) (record { good = q.are.good; joined = inl q.are.joined })
+    (q.longest a s r.are) (r.longest b t q.are)
 
 -- the bytes end in a line feed
 abbrev pub EndsInFeed : List ℕ → Type 0
@@ -147,31 +138,23 @@ bytes_more a x xs b e = ap entries_bytes (sym e) ∙ flat_map-append entry_bytes
 longer_no : (script rest : List ℕ) (a b : List Entry) (left : List ℕ) (x : Entry) (xs : List Entry) → script ≡ entries_bytes a ++ rest → NoEntry rest → NoLast rest → IsGoodEntry x → a ++ x ∷ xs ≡ b → HasEntries script b left → ⊥
 longer_no script rest a b left x xs is none plain good e d = by d.joined
   where
-    more : entries_bytes b ≡ entries_bytes a ++ (entry_bytes x ++ entries_bytes xs)
-    more = bytes_more a x xs b e
-
-    lone : (c : Command) → x ≡ Given c → EndsInLine c → rest ++ 10 ∷ [] ≡ entry_bytes x → ⊥
-    lone c same ends w =
-        let good' : IsGoodEntry (Given c) = subst (λ (z : Entry). IsGoodEntry z) same good in
-        plain c good' ends (w ∙ ap entry_bytes same)
+    tail : LacksFeed script b → rest ++ 10 ∷ [] ≡ entry_bytes x ++ entries_bytes xs
+    tail l = append_cancel_left (entries_bytes a) (rest ++ 10 ∷ []) (entry_bytes x ++ entries_bytes xs)
+        (sym (append_assoc (entries_bytes a) rest (10 ∷ [])) ∙ ap (λ (w : List ℕ). w ++ 10 ∷ []) (sym is) ∙ l.is ∙ (bytes_more a x xs b e))
 
     unended : (l : LacksFeed script b) (ys : List Entry) → ys ≡ xs → ⊥
     unended l [] s =
         let same : x ≡ Given l.last = same_last a l.front x (Given l.last) (ap (λ (zs : List Entry). a ++ x ∷ zs) s ∙ e ∙ l.are) in
-        let tail : rest ++ 10 ∷ [] ≡ entry_bytes x ++ entries_bytes xs =
-        append_cancel_left (entries_bytes a) (rest ++ 10 ∷ []) (entry_bytes x ++ entries_bytes xs) (sym (append_assoc (entries_bytes a) rest (10 ∷ [])) ∙ ap (λ (w : List ℕ). w ++ 10 ∷ []) (sym is) ∙ l.is ∙ more) in
-        lone l.last same l.in_line (tail ∙ ap (λ (zs : List Entry). entry_bytes x ++ entries_bytes zs) (sym s) ∙ append-nil (entry_bytes x))
+        let good_last : IsGoodEntry (Given l.last) = subst (λ (z : Entry). IsGoodEntry z) same good in
+        plain l.last good_last l.in_line (tail l ∙ ap (λ (zs : List Entry). entry_bytes x ++ entries_bytes zs) (sym s) ∙ append-nil (entry_bytes x)
+        ∙ ap entry_bytes same)
     unended l (y ∷ ys) s =
-        let tail : rest ++ 10 ∷ [] ≡ entry_bytes x ++ entries_bytes xs =
-        append_cancel_left (entries_bytes a) (rest ++ 10 ∷ []) (entry_bytes x ++ entries_bytes xs) (sym (append_assoc (entries_bytes a) rest (10 ∷ [])) ∙ ap (λ (w : List ℕ). w ++ 10 ∷ []) (sym is) ∙ l.is ∙ more) in
         let f = entries_end y ys in
-        let split : rest ++ 10 ∷ [] ≡ (entry_bytes x ++ f.0) ++ 10 ∷ [] =
-        tail ∙ ap (λ (zs : List Entry). entry_bytes x ++ entries_bytes zs) (sym s) ∙ ap (λ (w : List ℕ). entry_bytes x ++ w) f.1 ∙ sym (append_assoc (entry_bytes x) f.0 (10 ∷ [])) in
-        none x f.0 good (append_cancel_right rest (entry_bytes x ++ f.0) (10 ∷ []) split)
+        none x f.0 good (append_cancel_right rest (entry_bytes x ++ f.0) (10 ∷ []) (tail l ∙ ap (λ (zs : List Entry). entry_bytes x ++ entries_bytes zs)
+        (sym s) ∙ ap (λ (w : List ℕ). entry_bytes x ++ w) f.1 ∙ sym (append_assoc (entry_bytes x) f.0 (10 ∷ []))))
 
     by : (script ≡ entries_bytes b ++ left) ⊎ (LacksFeed script b × (left ≡ [])) → ⊥
-    by (inl k) = none x (entries_bytes xs ++ left) good (append_cancel_left (entries_bytes a) rest (entry_bytes x ++ (entries_bytes xs ++ left))
-        (sym is ∙ k ∙ ap (λ (w : List ℕ). w ++ left) more ∙ append_assoc (entries_bytes a) (entry_bytes x ++ entries_bytes xs) left ∙ ap (λ (w : List ℕ). entries_bytes a ++ w) (append_assoc (entry_bytes x) (entries_bytes xs) left)))
+    by (inl k) = grind (arith, common_steps, append_assoc, append_cancel_left, good, is, left, (bytes_more a x xs b e)) steps 200000
     by (inr k) = unended k.0 xs refl
 
 -- a list of entries is the longest, if each longer one that begins with it is refused
@@ -250,13 +233,4 @@ read_less bytes entries x xs rest left r d = record { good = good_tail entries (
     by (inr l) =
         let w = last_of x xs in
         let same : w.1 ≡ Given l.0.last = same_last (entries ++ w.0) l.0.front w.1 (Given l.0.last) (append_assoc entries w.0 (w.1 ∷ []) ∙ ap (λ (zs : List Entry). entries ++ zs) (sym w.2) ∙ l.0.are) in
-        inr (
-          record {
-            front = w.0;
-            last = l.0.last;
-            are = w.2 ∙ ap (λ (z : Entry). w.0 ++ z ∷ []) same;
-            in_line = l.0.in_line;
-            is = append_cancel_left (entries_bytes entries) (rest ++ 10 ∷ []) (entries_bytes (x ∷ xs)) (sym (append_assoc (entries_bytes entries) rest (10 ∷ [])) ∙ ap (λ (v : List ℕ). v ++ 10 ∷ []) (sym r.joined) ∙ l.0.is ∙ split);
-          },
-          l.1,
-        )
+        grind (arith, common_steps, append_assoc (entries_bytes entries) rest (10 ∷ []), append_cancel_left, split) steps 200000

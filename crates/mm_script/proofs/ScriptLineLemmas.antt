@@ -1,7 +1,6 @@
 -- A script that begins with a line, and with no whole command.
-use Rattle.std.proofs.lemmas.{Grind.{common_steps}, Fmt.{decimal_injective}, List.{append-nil, length-replicate}, Option.{same_Some, none-some}}
-use Rattle.std.proofs.Common.{◌≡◌, ◌≢◌, ℕ, ◌+◌, ◌-◌, ◌≤◌, Some, List, [], ◌∷◌, ◌++◌, length, length-append, replicate, refl, sym, ap, ◌∙◌, subst, arith, append_assoc, codes, decimal}
-use Rattle.std.specs.List.{join_with_byte}
+use Rattle.std.proofs.Common.{[], ◌≡◌, ◌≢◌, ℕ, ◌+◌, ◌-◌, ◌≤◌, Some, List, ◌∷◌, ◌++◌, length, length-append, replicate, refl, sym, ap, ◌∙◌, subst, arith, append_assoc, codes, decimal}
+use Rattle.std.{proofs.lemmas.{Grind.{common_steps}, Fmt.{decimal_injective}, List.{append-nil}, Option.{same_Some, none-some}}, specs.List.{join_with_byte}}
 use Rattle.mm_text.specs.Language.Asked.{Asked, Insert, Replace, edited_text}
 use Rattle.mm_script.specs.{Code.Stops.{HasTextOf}, Language.Commands.{StopsSo}}
 use Rattle.mm_script.specs.Language.Script.{Command, Change, Blank, Given, CutShort, BadLine, EndsInLine, MayBreak, IsCutShort, IsGood, IsGoodEdit, IsNumber, behind_line, edit_line, edit_words}
@@ -113,9 +112,6 @@ too_long part text left count e l h = grind (arith, common_steps, length-append 
 -- bytes by which a text that is not all there is filled up
 abbrev pub filling : List ℕ → ℕ → List ℕ
 filling part count = replicate (count - length part) 0
-
-pub filled : (part : List ℕ) (count : ℕ) → length part ≤ count → length (part ++ filling part count) ≡ count
-filled part count h = let n : length (filling part count) ≡ count - length part = length-replicate (count - length part) 0 in length-append part (filling part count) ∙ omega arith
 
 pub filling_ends : (part : List ℕ) (count : ℕ) → filling part count ++ 10 ∷ [] ≢ []
 filling_ends part count e = let n : length (filling part count) + 1 ≡ 0 = sym (length-append (filling part count) (10 ∷ [])) ∙ ap length e in omega arith

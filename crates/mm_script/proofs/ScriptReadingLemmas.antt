@@ -1,11 +1,10 @@
 -- Each script has a reading, and what is left of it ends it.
-use Rattle.std.proofs.lemmas.{Grind.{common_steps}, List.Concat.{flat_map-append}}
-use Rattle.std.proofs.Common.{◌≡◌, ◌≢◌, ◌⊎◌, ℕ, zero, suc, ◌+◌, ◌≤◌, Option, Some, None, List, [], ◌∷◌, ◌++◌, length, length-append, replicate, refl, sym, ap, ◌∙◌, subst, inl, inr, arith}
-use Rattle.std.{proofs.{Common.{append_assoc, append-nil}, Math.Decide.{ℕ_discrete}}, specs.List.{flat_map}}
+use Rattle.std.proofs.Common.{[], ◌≡◌, ◌≢◌, ◌⊎◌, ℕ, zero, suc, ◌+◌, ◌≤◌, Option, Some, None, List, ◌∷◌, ◌++◌, length, length-append, replicate, refl, sym, ap, ◌∙◌, subst, inl, inr, arith}
+use Rattle.std.{proofs.{Common.{append_assoc, append-nil}, lemmas.{Grind.{common_steps}, List.Concat.{flat_map-append}}, Math.Decide.{ℕ_discrete}}, specs.List.{flat_map}}
 use Rattle.mm_text.specs.Language.Asked.{Asked, edited_text}
 use Rattle.mm_script.specs.{Code.Stops.{HasTextOf, AreListed, batch_line, batch_bytes}, Language.Commands.{StopsSo}}
-use Rattle.mm_script.specs.Language.Script.{Listed, Command, Change, Batch, Entry, Blank, Given, End, Done, CutShort, BadLine, AreGoodEdits, AreRead, EndsInLine, IsGood, IsGoodEdit, IsGoodEntry}
-use Rattle.mm_script.specs.Language.{Script.{IsNumber, command_bytes, edit_bytes, edit_line, ended_text, entry_bytes, line_of, listed_bytes}, ReadingLaws.{HasReading, IsReadSo}}
+use Rattle.mm_script.specs.Language.Script.{Listed, Command, Change, Batch, Entry, Blank, Given, End, Done, CutShort, BadLine, AreGoodEdits, EndsInLine, IsGood, IsGoodEdit, IsGoodEntry, IsNumber}
+use Rattle.mm_script.specs.Language.{Script.{command_bytes, edit_bytes, edit_line, ended_text, entry_bytes, line_of, listed_bytes}, ReadingLaws.{HasReading, IsReadSo}}
 use Rattle.mm_script.proofs.{BatchReadLemmas.{good_more, last_in_line}, SplitLemmas.{Lacks}, WordDecidingLemmas.{IsCommandLine, IsEditLine, command_line_or_not, edit_line_or_not}}
 use Rattle.mm_script.proofs.{ScriptLemmas.{entry_some}, ScriptLineLemmas.{WithText, with_text}, JoinLemmas.{reading_behind, reading_done, reading_last}}
 use Rattle.mm_script.proofs.StopLemmas.{bad_last, bad_line, batch_bad_last, batch_bad_line, batch_cut, batch_edit_cut, batch_line_cut, batch_text_bad, batch_text_cut, batch_text_line_cut, text_bad}
@@ -58,21 +57,20 @@ data EditIs (bytes : List ℕ) : Type 0 where
 edit_is : (bytes line tail : List ℕ) → bytes ≡ line ++ 10 ∷ tail → (e : Asked) → IsGoodEdit e → line ≡ edit_line e → EditIs bytes
 edit_is bytes line tail k e g is = by (edited_text e) refl
   where
-    so : bytes ≡ edit_line e ++ 10 ∷ tail
-    so = k ∙ ap (λ (w : List ℕ). w ++ 10 ∷ tail) is
-
     with : (text left : List ℕ) → tail ≡ text ++ 10 ∷ left → WithText e text → EditIs bytes
-    with text left q w = whole_edit w.other left w.good (so ∙ ap (λ (x : List ℕ). x ++ 10 ∷ tail) w.same_line
-        ∙ ap (λ (x : List ℕ). edit_line w.other ++ 10 ∷ x) (q ∙ sym (append_assoc text (10 ∷ []) left) ∙ ap (λ (t : Option (List ℕ)). ended_text t ++ left) (sym w.is_text))
-        ∙ sym (append_assoc (edit_line w.other) (10 ∷ ended_text (edited_text w.other)) left))
+    with text left q w = whole_edit w.other left w.good ((grind (arith, common_steps, is, tail) steps 200000) ∙ ap (λ (x : List ℕ). x ++ 10 ∷ tail) w.same_line
+        ∙ ap (λ (x : List ℕ). edit_line w.other ++ 10 ∷ x) (q ∙ sym (append_assoc text (10 ∷ []) left) ∙ ap (λ (t : Option (List ℕ)). ended_text t ++ left)
+        (sym w.is_text)) ∙ sym (append_assoc (edit_line w.other) (10 ∷ ended_text (edited_text w.other)) left))
 
     on : (t : List ℕ) → HasTextOf e (length t) → TextIs (length t) tail → EditIs bytes
     on t has (whole text left l q) = with text left q (with_text e (length t) text has l)
-    on t has (short h) = short_text e (length t) tail has h so
-    on t has (other text more byte l n q) = other_text e (length t) text more byte has l n (so ∙ ap (λ (x : List ℕ). edit_line e ++ 10 ∷ x) q)
+    on t has (short h) = short_text e (length t) tail has h (grind (arith, common_steps, is, tail) steps 200000)
+    on t has (other text more byte l n q) =
+        other_text e (length t) text more byte has l n ((grind (arith, common_steps, is, tail) steps 200000) ∙ ap (λ (x : List ℕ). edit_line e ++ 10 ∷ x) q)
 
     by : (o : Option (List ℕ)) → edited_text e ≡ o → EditIs bytes
-    by None p = whole_edit e tail g (so ∙ ap (λ (o : Option (List ℕ)). edit_line e ++ 10 ∷ (ended_text o ++ tail)) (sym p) ∙ sym (append_assoc (edit_line e) (10 ∷ ended_text (edited_text e)) tail))
+    by None p = whole_edit e tail g ((grind (arith, common_steps, is, tail) steps 200000) ∙ ap (λ (o : Option (List ℕ)). edit_line e ++ 10 ∷
+        (ended_text o ++ tail)) (sym p) ∙ sym (append_assoc (edit_line e) (10 ∷ ended_text (edited_text e)) tail))
     by (Some t) p = on t (record { good = g; text = t; is_text = p; count_is = refl }) (text_is (length t) tail)
 
 -- empty lines, and what comes after them
@@ -107,24 +105,15 @@ stop_by bytes others end e s = a_stop end (subst (λ (w : List ℕ). StopsSo w e
 -- the last edit of a batch, without a text and without a line feed
 batch_last : (n : ℕ) (front : List Listed) (blanks : ℕ) (e : Asked) (bytes : List ℕ) → IsNumber n → AreGoodEdits front → IsGoodEdit e → edited_text e ≡ None → n ≡ length front + 1 → bytes ≡ batch_bytes n front blanks (edit_line e) → Begins bytes
 batch_last n front blanks e bytes number goods good none count is =
-    a_last (Batch all) (subst IsNumber long number, good_more front one goods good) (last_in_line front one none) (fed ∙ ap (λ (k : ℕ). batch_line k ++ 10 ∷ flat_map listed_bytes all) long) where
+    a_last (Batch (front ++ one ∷ [])) (subst IsNumber (grind (arith, common_steps, length-append, one) steps 200000) number, good_more front one goods good)
+    (last_in_line front one none) ((ap (λ (w : List ℕ). w ++ 10 ∷ []) is ∙ append_assoc (batch_line n)
+    (10 ∷ (flat_map listed_bytes front ++ (replicate blanks 10 ++ edit_line e))) (10 ∷ []) ∙ ap (λ (w : List ℕ). batch_line n ++ 10 ∷ w) inside)
+    ∙ ap (λ (k : ℕ). batch_line k ++ 10 ∷ flat_map listed_bytes (front ++ one ∷ [])) (grind (arith, common_steps, length-append, one) steps 200000)) where
       one : Listed
       one = record { blanks = blanks; edit = e }
 
-      all : List Listed
-      all = front ++ one ∷ []
-
-      long : n ≡ length all
-      long = count ∙ sym (length-append front (one ∷ []))
-
-      inside : (flat_map listed_bytes front ++ (replicate blanks 10 ++ edit_line e)) ++ 10 ∷ [] ≡ flat_map listed_bytes all
-      inside = append_assoc (flat_map listed_bytes front) (replicate blanks 10 ++ edit_line e) (10 ∷ [])
-          ∙ ap (λ (w : List ℕ). flat_map listed_bytes front ++ w) (append_assoc (replicate blanks 10) (edit_line e) (10 ∷ []) ∙ ap (λ (o : Option (List ℕ)).
-          replicate blanks 10 ++ (edit_line e ++ 10 ∷ ended_text o)) (sym none) ∙ sym (append-nil (listed_bytes one)))
-          ∙ sym (flat_map-append listed_bytes front (one ∷ []))
-
-      fed : bytes ++ 10 ∷ [] ≡ batch_line n ++ 10 ∷ flat_map listed_bytes all
-      fed = ap (λ (w : List ℕ). w ++ 10 ∷ []) is ∙ append_assoc (batch_line n) (10 ∷ (flat_map listed_bytes front ++ (replicate blanks 10 ++ edit_line e))) (10 ∷ []) ∙ ap (λ (w : List ℕ). batch_line n ++ 10 ∷ w) inside
+      inside : (flat_map listed_bytes front ++ (replicate blanks 10 ++ edit_line e)) ++ 10 ∷ [] ≡ flat_map listed_bytes (front ++ one ∷ [])
+      inside = grind (arith, common_steps, append-nil, append_assoc, blanks, flat_map-append, one) steps 200000
 
 -- the next edit, whose line is not ended
 batch_unfed : (n k : ℕ) (front : List Listed) (blanks : ℕ) (inner bytes : List ℕ) → AreListed n front → length front + suc k ≡ n → inner ≢ [] → Lacks 10 inner → bytes ≡ batch_bytes n front blanks inner → Dec (IsEditLine inner) → Begins bytes
@@ -132,16 +121,12 @@ batch_unfed n k front blanks inner bytes are count some l is (no none) =
     stop_by bytes (batch_bytes n front blanks inner) BadLine is (batch_bad_last n front blanks inner are (record { some = some; one_line = l; no_edit = λ e g q. none (record { edit = e; good = g; is = q }) }))
 batch_unfed n k front blanks inner bytes are count some l is (yes e) = by (edited_text e.edit) k refl count
   where
-    so : bytes ≡ batch_bytes n front blanks (edit_line e.edit)
-    so = is ∙ ap (λ (w : List ℕ). batch_bytes n front blanks w) e.is
-
     by : (o : Option (List ℕ)) (k : ℕ) → edited_text e.edit ≡ o → length front + suc k ≡ n → Begins bytes
-    by None zero p c = batch_last n front blanks e.edit bytes are.number are.good e.good p (sym c) so
-    by None (suc k) p c = stop_by bytes (batch_bytes n front blanks (edit_line e.edit)) CutShort so (batch_edit_cut n front blanks e.edit are e.good p (omega arith))
-    by (Some t) k p c = stop_by bytes (batch_bytes n front blanks (edit_line e.edit)) CutShort so (batch_text_line_cut n front blanks e.edit (length t) are (record { good = e.good; text = t; is_text = p; count_is = refl }))
-
-line_not_empty : (line tail more : List ℕ) (b : ℕ) → b ≢ 10 → b ∷ more ≡ line ++ 10 ∷ tail → line ≢ []
-line_not_empty line tail more b n e = grind (arith, common_steps) steps 200000
+    by None zero p c = batch_last n front blanks e.edit bytes are.number are.good e.good p (sym c) (grind (arith, common_steps, blanks, is) steps 200000)
+    by None (suc k) p c = stop_by bytes (batch_bytes n front blanks (edit_line e.edit)) CutShort (grind (arith, common_steps, blanks, is) steps 200000)
+        (batch_edit_cut n front blanks e.edit are e.good p (omega arith))
+    by (Some t) k p c = stop_by bytes (batch_bytes n front blanks (edit_line e.edit)) CutShort (grind (arith, common_steps, blanks, is) steps 200000)
+        (batch_text_line_cut n front blanks e.edit (length t) are (record { good = e.good; text = t; is_text = p; count_is = refl }))
 
 not_empty : (bytes more : List ℕ) (b : ℕ) → bytes ≡ b ∷ more → bytes ≢ []
 not_empty bytes more b e k = cc
@@ -177,7 +162,7 @@ batch_next n k front s bytes number goods count is again h = starts h.starts
         (batch_bad_line n front h.blanks f.line f.tail are (record { some = some; one_line = f.lacks; no_edit = λ e g q. none (record { edit = e; good = g; is = q }) }))
 
     line : (b : ℕ) (rest : List ℕ) → h.inner ≡ b ∷ rest → b ≢ 10 → HasLine h.inner ⊎ Lacks 10 h.inner → Begins bytes
-    line b rest e d (inl f) = fed f (line_not_empty f.line f.tail rest b d (sym e ∙ f.is)) (edit_line_or_not f.line)
+    line b rest e d (inl f) = fed f (grind (arith, common_steps) steps 200000) (edit_line_or_not f.line)
     line b rest e d (inr l) = batch_unfed n k front h.blanks h.inner bytes are count (not_empty h.inner rest b e) l so (edit_line_or_not h.inner)
 
     starts : (h.inner ≡ []) ⊎ ((b : ℕ) × (more : List ℕ) × (h.inner ≡ b ∷ more) × (b ≢ 10)) → Begins bytes
@@ -186,11 +171,9 @@ batch_next n k front s bytes number goods count is again h = starts h.starts
 
 -- a batch of which these edits are there, and this many are left
 batch_is : (n k : ℕ) (front : List Listed) (s bytes : List ℕ) → IsNumber n → AreGoodEdits front → length front + k ≡ n → bytes ≡ batch_line n ++ 10 ∷ (flat_map listed_bytes front ++ s) → Begins bytes
-batch_is n zero front s bytes number goods count is = an_entry (Given (Batch front)) s (subst IsNumber long number, goods)
-    (is ∙ ap (λ (k : ℕ). batch_line k ++ 10 ∷ (flat_map listed_bytes front ++ s)) long ∙ sym (append_assoc (batch_line (length front)) (10 ∷ flat_map listed_bytes front) s))
-  where
-    long : n ≡ length front
-    long = omega arith
+batch_is n zero front s bytes number goods count is = an_entry (Given (Batch front)) s (subst IsNumber (grind (arith, common_steps) steps 200000) number, goods)
+    (is ∙ ap (λ (k : ℕ). batch_line k ++ 10 ∷ (flat_map listed_bytes front ++ s)) (grind (arith, common_steps) steps 200000)
+    ∙ sym (append_assoc (batch_line (length front)) (10 ∷ flat_map listed_bytes front) s))
 batch_is n (suc k) front s bytes number goods count is = batch_next n k front s bytes number goods count is (λ longer left g c q. batch_is n k longer left bytes number g c q) (pass_blanks s)
 
 -- ---- a script
@@ -248,11 +231,9 @@ record HasOne (script : List ℕ) : Type 0 where
   end : End
   is : IsReadSo script entries rest end
 
-joined_one : (bytes left : List ℕ) (x : Entry) → IsGoodEntry x → bytes ≡ entry_bytes x ++ left → AreRead bytes (x ∷ []) left
-joined_one bytes left x g e = record { good = (g, tt); joined = e ∙ ap (λ (w : List ℕ). w ++ left) (sym (append-nil (entry_bytes x))) }
-
 one_more : (bytes left : List ℕ) (x : Entry) → IsGoodEntry x → bytes ≡ entry_bytes x ++ left → HasOne left → HasOne bytes
-one_more bytes left x g e r = grind (arith, common_steps, reading_behind bytes (x ∷ []) r.entries left r.rest (joined_one bytes left x g e) r.is.reading) steps 200000
+one_more bytes left x g e r =
+    grind (arith, common_steps, reading_behind bytes (x ∷ []) r.entries left r.rest (grind (arith, common_steps) steps 200000) r.is.reading) steps 200000
 
 fewer : (bytes left : List ℕ) (x : Entry) (n : ℕ) → bytes ≡ entry_bytes x ++ left → length bytes ≤ suc n → length left ≤ n
 fewer bytes left x n e h = let m : length bytes ≡ length (entry_bytes x) + length left = ap length e ∙ length-append (entry_bytes x) left in omega (arith, entry_some x)

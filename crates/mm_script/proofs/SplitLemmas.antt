@@ -1,5 +1,5 @@
 -- Lists that are joined by a byte which none of them has.
-use Rattle.std.proofs.{Common.{arith, ◌≡◌, ◌≢◌, ℕ, Bool, true, false, not, ◌&&◌, List, [], ◌∷◌, ◌++◌, refl, sym, ap, ◌==◌, IsTrue}, lemmas.{Grind.{common_steps}, Bool.{and_parts}}}
+use Rattle.std.proofs.{Common.{[], arith, ◌≡◌, ◌≢◌, ℕ, true, List, ◌∷◌, ◌++◌, refl, sym, ap, IsTrue}, lemmas.{Grind.{common_steps}, Bool.{and_parts}}}
 use Rattle.std.specs.List.{AllByRecursion, list_all, join_with_byte}
 use Rattle.mm_script.specs.Language.Script.{is_word_byte}
 
@@ -37,12 +37,8 @@ join_lacks c d [] apart f = tt
 join_lacks c d (x ∷ []) apart f = f.0
 join_lacks c d (x ∷ y ∷ xs) apart f = lacks_more d x (c ∷ join_with_byte c (y ∷ xs)) f.0 (apart, join_lacks c d (y ∷ xs) apart f.1)
 
-space_or_feed : (b : ℕ) (space feed : Bool) → (b == 32) ≡ space → (b == 10) ≡ feed → IsTrue (not space && not feed) → (space ≡ false) × (feed ≡ false)
-space_or_feed b false false e f h = (refl, refl)
-space_or_feed b _ _ e f h = cc
-
 pub word_byte : (b : ℕ) → IsTrue (is_word_byte b) → (b ≢ 32) × (b ≢ 10)
-word_byte b h = grind (arith, common_steps, space_or_feed) steps 200000
+word_byte b h = grind (arith, common_steps) steps 200000
 
 pub solid_space : (xs : List ℕ) → list_all is_word_byte xs ≡ true → Lacks 32 xs
 solid_space [] h = tt

@@ -1,6 +1,6 @@
 -- Whether bytes are the line of an edit or of a command.
-use Rattle.std.proofs.lemmas.{Grind.{common_steps}, Bool.{cases_lt, ne_eqb}, Fmt.{decimal_is_IsNumeral}, List.{length-replicate, Splits.{join_with_byte-slice_split, slice_split_none, slice_split_at}}}
-use Rattle.std.proofs.{Common.{◌≡◌, ◌≢◌, ◌⊎◌, ℕ, ◌<◌, ◌≤◌, true, false, List, [], ◌∷◌, length, replicate, refl, sym, ap, ◌∙◌, subst, inl, inr, arith, All, codes, decimal}, Math.Dec.{eqb}}
+use Rattle.std.proofs.{Common.{[], ◌≡◌, ◌≢◌, ◌⊎◌, ⊎_elim, ℕ, ◌<◌, ◌≤◌, true, List, ◌∷◌, length, replicate, refl, sym, ap, ◌∙◌, subst, inl, inr, arith, codes, decimal}, lemmas.Grind.{common_steps}}
+use Rattle.std.proofs.{lemmas.{Bool.{cases_lt, ne_eqb}, Fmt.{decimal_is_IsNumeral}, List.{length-replicate, Splits.{join_with_byte-slice_split, slice_split_none, slice_split_at}}}, Math.Dec.{eqb}}
 use Rattle.std.{proofs.Math.{Decide.{map_dec, ℕ_discrete}, Bool.{Bool-discrete}}, specs.{List.{AllByRecursion, list_all, join_with_byte, slice_split}, Str.Parse.{digits_value}}}
 use mathlib.Core.List.{List-discrete}
 use Rattle.mm_text.specs.Language.Asked.{Asked, Insert, Replace, Delete, Move}
@@ -29,12 +29,11 @@ record Spells (word : List ℕ) : Type 0 where
 number_or_not : (word : List ℕ) → Dec (Spells word)
 number_or_not word = by (cases_lt 4294967295 (digits_value 10 word)) (same_bytes word (decimal (digits_value 10 word)))
   where
-    value : (s : Spells word) → digits_value 10 word ≡ s.number
-    value s = ap (λ (w : List ℕ). digits_value 10 w) s.is ∙ (decimal_is_IsNumeral s.number (small_number s.number s.small)).1
-
     by : (4294967295 < digits_value 10 word) ⊎ (digits_value 10 word ≤ 4294967295) → Dec (word ≡ decimal (digits_value 10 word)) → Dec (Spells word)
-    by (inl h) e = no (λ (s : Spells word). omega (arith, value s, s.small))
-    by (inr h) d = map_dec (λ e. record { number = digits_value 10 word; small = h; is = e }) (λ s. s.is ∙ ap decimal (sym (value s))) d
+    by (inl h) e = no (λ (s : Spells word). omega
+        (arith, (ap (λ (w : List ℕ). digits_value 10 w) s.is ∙ (decimal_is_IsNumeral s.number (small_number s.number s.small)).1), s.small))
+    by (inr h) d = map_dec (λ e. record { number = digits_value 10 word; small = h; is = e }) (λ s. s.is
+        ∙ ap decimal (sym (ap (λ (w : List ℕ). digits_value 10 w) s.is ∙ (decimal_is_IsNumeral s.number (small_number s.number s.small)).1))) d
 
 -- ---- the words of lines
 
@@ -60,17 +59,11 @@ record Counts (keyword : List ℕ) (words : List (List ℕ)) : Type 0 where
   is : words ≡ keyword ∷ file ∷ decimal at ∷ decimal count ∷ []
 
 asks_or_not : (keyword : List ℕ) (words : List (List ℕ)) → Dec (Asks keyword words)
-asks_or_not keyword (w ∷ l ∷ []) = map_dec (λ b. record { label = l; name = b.1; is = ap (λ (x : List ℕ). x ∷ l ∷ []) b.0 }) back (dec_and (same_bytes w keyword) (name_or_not l))
-  where
-    back : Asks keyword (w ∷ l ∷ []) → (w ≡ keyword) × IsName l
-    back a = let s : a.label ≡ l = cc in (cc, subst IsName s a.name)
+asks_or_not keyword (w ∷ l ∷ []) = grind (arith, common_steps, dec_and (same_bytes w keyword) (name_or_not l), name_or_not l, same_bytes w keyword) steps 200000
 asks_or_not keyword _ = no (λ a. cc)
 
 deletes_or_not : (words : List (List ℕ)) → Dec (Deletes words)
-deletes_or_not (w ∷ f ∷ n ∷ []) =
-    map_dec (λ b. record { file = f; name = b.1.0; at = b.1.1.number; small = b.1.1.small; is = λ i. b.0 i ∷ f ∷ b.1.1.is i ∷ [] }) back (dec_and (same_bytes w (codes "delete")) (dec_and (name_or_not f) (number_or_not n))) where
-      back : Deletes (w ∷ f ∷ n ∷ []) → (w ≡ codes "delete") × (IsName f × Spells n)
-      back a = let h : a.file ≡ f = cc in (cc, (subst IsName h a.name, record { number = a.at; small = a.small; is = cc }))
+deletes_or_not (w ∷ f ∷ n ∷ []) = grind (arith, common_steps, dec_and (same_bytes w (codes "delete")) (dec_and (name_or_not f) (number_or_not n))) steps 200000
 deletes_or_not _ = no (λ a. cc)
 
 counts_or_not : (keyword : List ℕ) (words : List (List ℕ)) → Dec (Counts keyword words)
@@ -87,10 +80,8 @@ record Batches (words : List (List ℕ)) : Type 0 where
   is : words ≡ codes "batch" ∷ decimal count ∷ []
 
 batches_or_not : (words : List (List ℕ)) → Dec (Batches words)
-batches_or_not (w ∷ n ∷ []) = map_dec (λ b. record { count = b.1.number; small = b.1.small; is = λ i. b.0 i ∷ b.1.is i ∷ [] }) back (dec_and (same_bytes w (codes "batch")) (number_or_not n))
-  where
-    back : Batches (w ∷ n ∷ []) → (w ≡ codes "batch") × Spells n
-    back b = (cc, record { number = b.count; small = b.small; is = cc })
+batches_or_not (w ∷ n ∷ []) =
+    grind (arith, common_steps, dec_and (same_bytes w (codes "batch")) (number_or_not n), number_or_not n, same_bytes w (codes "batch")) steps 200000
 batches_or_not _ = no (λ b. cc)
 
 -- ---- a line
@@ -115,13 +106,11 @@ joined : (line : List ℕ) → join_with_byte 32 (words_in line) ≡ line
 unfolding words_in
 joined line = join_with_byte-slice_split 32 line
 
-lacks_test : (xs : List ℕ) → Lacks 32 xs → All (λ x. eqb x 32 ≡ false) xs
-lacks_test xs f = grind (arith, common_steps, eqb, ne_eqb) steps 200000
-
 split_join : (w : List ℕ) (ws : List (List ℕ)) → AllByRecursion (Lacks 32) (w ∷ ws) → words_in (join_with_byte 32 (w ∷ ws)) ≡ w ∷ ws
 unfolding words_in
-split_join w [] f = slice_split_none (λ b. eqb b 32) w (lacks_test w f.0)
-split_join w (v ∷ ws) f = slice_split_at (λ b. eqb b 32) w 32 (join_with_byte 32 (v ∷ ws)) (lacks_test w f.0) refl ∙ ap (λ (x : List (List ℕ)). w ∷ x) (split_join v ws f.1)
+split_join w [] f = slice_split_none (λ b. eqb b 32) w (grind (arith, common_steps, eqb, ne_eqb) steps 200000)
+split_join w (v ∷ ws) f = slice_split_at (λ b. eqb b 32) w 32 (join_with_byte 32 (v ∷ ws)) (grind (arith, common_steps, eqb, ne_eqb) steps 200000) refl
+    ∙ ap (λ (x : List (List ℕ)). w ∷ x) (split_join v ws f.1)
 
 words_are : (c : Command) → IsGood c → (line : List ℕ) → line ≡ line_of c → command_words c ≡ words_in line
 words_are c g line e = by (command_words c) (has_first c) (lack_spaces (command_words c) (words_solid c g)) e
@@ -154,32 +143,22 @@ no_edit_is words n (Move f at to) g e = n.move (record { file = f; name = g.0; a
 edit_by_words : (line : List ℕ) (e : Asked) → IsGoodEdit e → words_in line ≡ edit_words e → IsEditLine line
 edit_by_words line e g k = record { edit = e; good = g; is = sym (joined line) ∙ ap (λ (x : List (List ℕ)). join_with_byte 32 x) k }
 
-data EditWords (line : List ℕ) : Type 0 where
-  an_edit : IsEditLine line → EditWords line
-  no_edit : IsNoEdit (words_in line) → EditWords line
-
 with_count : (keyword : List ℕ) (words : List (List ℕ)) → (c : Counts keyword words) → words ≡ keyword ∷ c.file ∷ decimal c.at ∷ decimal (length (some_text c.count)) ∷ []
 with_count keyword words c = c.is ∙ ap (λ (n : ℕ). keyword ∷ c.file ∷ decimal c.at ∷ decimal n ∷ []) (sym (some_long c.count))
 
-edit_words_are : (line : List ℕ) → EditWords line
-edit_words_are line = by (counts_or_not (codes "insert") ws) (counts_or_not (codes "replace") ws) (counts_or_not (codes "move") ws) (deletes_or_not ws)
+edit_words_are : (line : List ℕ) → IsEditLine line ⊎ IsNoEdit (words_in line)
+edit_words_are line = by (counts_or_not (codes "insert") _) (counts_or_not (codes "replace") _) (counts_or_not (codes "move") _) (deletes_or_not _)
   where
-    ws : List (List ℕ)
-    ws = words_in line
-
-    by : Dec (Counts (codes "insert") ws) → Dec (Counts (codes "replace") ws) → Dec (Counts (codes "move") ws) → Dec (Deletes ws) → EditWords line
-    by (yes c) _ _ _ = an_edit (edit_by_words line (Insert c.file c.at (some_text c.count)) (c.name, c.small, subst IsNumber (sym (some_long c.count)) c.small_count) (with_count (codes "insert") ws c))
-    by (no i) (yes c) _ _ = an_edit (edit_by_words line (Replace c.file c.at (some_text c.count)) (c.name, c.small, subst IsNumber (sym (some_long c.count)) c.small_count) (with_count (codes "replace") ws c))
-    by (no i) (no r) (yes c) _ = an_edit (edit_by_words line (Move c.file c.at c.count) (c.name, c.small, c.small_count) c.is)
-    by (no i) (no r) (no m) (yes d) = an_edit (edit_by_words line (Delete d.file d.at) (d.name, d.small) d.is)
-    by (no i) (no r) (no m) (no d) = no_edit (record { insert = i; replace = r; move = m; delete = d })
+    by : Dec (Counts (codes "insert") (words_in line)) → Dec (Counts (codes "replace") (words_in line)) → Dec (Counts (codes "move") (words_in line))
+        → Dec (Deletes (words_in line)) → IsEditLine line ⊎ IsNoEdit (words_in line)
+    by (yes c) _ _ _ = inl (edit_by_words line (Insert c.file c.at (some_text c.count)) (c.name, c.small, subst IsNumber (sym (some_long c.count)) c.small_count) (with_count (codes "insert") _ c))
+    by (no i) (yes c) _ _ = inl (edit_by_words line (Replace c.file c.at (some_text c.count)) (c.name, c.small, subst IsNumber (sym (some_long c.count)) c.small_count) (with_count (codes "replace") _ c))
+    by (no i) (no r) (yes c) _ = inl (edit_by_words line (Move c.file c.at c.count) (c.name, c.small, c.small_count) c.is)
+    by (no i) (no r) (no m) (yes d) = inl (edit_by_words line (Delete d.file d.at) (d.name, d.small) d.is)
+    by (no i) (no r) (no m) (no d) = inr (record { insert = i; replace = r; move = m; delete = d })
 
 pub edit_line_or_not : (line : List ℕ) → Dec (IsEditLine line)
-edit_line_or_not line = by (edit_words_are line)
-  where
-    by : EditWords line → Dec (IsEditLine line)
-    by (an_edit e) = yes e
-    by (no_edit n) = no (λ (e : IsEditLine line). no_edit_is (words_in line) n e.edit e.good (words_are (Change e.edit) e.good line e.is))
+edit_line_or_not line = ⊎_elim yes (λ n. no (λ e. no_edit_is (words_in line) n e.edit e.good (words_are (Change e.edit) e.good line e.is))) (edit_words_are line)
 
 -- ---- the line of a command
 
@@ -205,13 +184,12 @@ command_by_words : (line : List ℕ) (c : Command) → IsGood c → words_in lin
 command_by_words line c g k = record { command = c; good = g; is = sym (joined line) ∙ ap (λ (x : List (List ℕ)). join_with_byte 32 x) k }
 
 pub command_line_or_not : (line : List ℕ) → Dec (IsCommandLine line)
-command_line_or_not line = first (edit_words_are line)
+command_line_or_not line = ⊎_elim (λ e. yes (record { command = Change e.edit; good = e.good; is = e.is })) (λ n. by n (batches_or_not _)
+    (List-discrete same_bytes _ _) (asks_or_not (codes "verdict") _) (asks_or_not (codes "axioms") _) (asks_or_not (codes "cites") _)
+    (asks_or_not (codes "users") _)) (edit_words_are line)
   where
-    ws : List (List ℕ)
-    ws = words_in line
-
-    by : IsNoEdit ws → Dec (Batches ws) → Dec (ws ≡ codes "report" ∷ []) → Dec (Asks (codes "verdict") ws) → Dec (Asks (codes "axioms") ws) → Dec (Asks (codes "cites") ws)
-        → Dec (Asks (codes "users") ws) → Dec (IsCommandLine line)
+    by : IsNoEdit (words_in line) → Dec (Batches (words_in line)) → Dec (words_in line ≡ codes "report" ∷ []) → Dec (Asks (codes "verdict") (words_in line))
+        → Dec (Asks (codes "axioms") (words_in line)) → Dec (Asks (codes "cites") (words_in line)) → Dec (Asks (codes "users") (words_in line)) → Dec (IsCommandLine line)
     by n (yes b) _ _ _ _ _ = yes (command_by_words line (Batch (replicate b.count any_listed)) (subst IsNumber (sym (length-replicate b.count any_listed)) b.small, any_are_good b.count)
         (b.is ∙ ap (λ (k : ℕ). codes "batch" ∷ decimal k ∷ []) (sym (length-replicate b.count any_listed))))
     by n (no b) (yes e) _ _ _ _ = yes (command_by_words line Report tt e)
@@ -220,8 +198,4 @@ command_line_or_not line = first (edit_words_are line)
     by n (no b) (no r) (no v) (no x) (yes a) _ = yes (command_by_words line (Cites a.label) a.name a.is)
     by n (no b) (no r) (no v) (no x) (no c) (yes a) = yes (command_by_words line (Users a.label) a.name a.is)
     by n (no b) (no r) (no v) (no x) (no c) (no u) =
-        no (λ (k : IsCommandLine line). no_command_is ws n (record { batch = b; report = r; verdict = v; axioms = x; cites = c; users = u }) k.command k.good (words_are k.command k.good line k.is))
-
-    first : EditWords line → Dec (IsCommandLine line)
-    first (an_edit e) = yes (record { command = Change e.edit; good = e.good; is = e.is })
-    first (no_edit n) = by n (batches_or_not ws) (List-discrete same_bytes ws (codes "report" ∷ [])) (asks_or_not (codes "verdict") ws) (asks_or_not (codes "axioms") ws) (asks_or_not (codes "cites") ws) (asks_or_not (codes "users") ws)
+        no (λ (k : IsCommandLine line). no_command_is _ n (record { batch = b; report = r; verdict = v; axioms = x; cites = c; users = u }) k.command k.good (words_are k.command k.good line k.is))

@@ -1,32 +1,22 @@
 -- The words of commands, and what follows from equal bytes.
-use Rattle.std.proofs.lemmas.{Grind.{common_steps}, List.{append-nil}, Fmt.{decimal_by_steps, decimal_injective}, Bool.{and_from, and_parts}}
-use Rattle.std.proofs.Common.{◌≡◌, ◌≢◌, ◌⊎◌, ℕ, zero, suc, ◌+◌, ◌*◌, ◌^◌, ◌%◌, ◌<◌, ◌≤◌, Bool, true, false, not, ◌&&◌, List, [], ◌∷◌, ◌++◌, length, length-append, replicate, refl, sym, ap, ◌∙◌, subst}
-use Rattle.std.{proofs.Common.{arith, append_assoc, ne_eqb}, specs.{Prelude.{decimal, slice_index, slice_index_or}, List.{AllByRecursion, flat_map, list_all, join_with_byte}}}
+use Rattle.std.proofs.Common.{[], ◌≡◌, ◌≢◌, ◌⊎◌, ℕ, zero, suc, ◌+◌, ◌*◌, ◌^◌, ◌%◌, ◌<◌, ◌≤◌, true, List, ◌∷◌, ◌++◌, length, length-append, replicate, refl, sym, ap, ◌∙◌, subst, arith, append_assoc}
+use Rattle.std.{proofs.lemmas.{Grind.{common_steps}, List.{append-nil}, Fmt.{decimal_by_steps, decimal_injective}, Bool.{and_from, and_parts}}, specs.Prelude.{decimal, slice_index, slice_index_or}}
+use Rattle.std.specs.List.{AllByRecursion, flat_map, list_all, join_with_byte}
 use Rattle.mm_text.specs.Language.Asked.{Asked, Insert, edited_text}
 use Rattle.mm_script.specs.Language.Script.{Listed, Command, Change, Report, Verdict, Axioms, Cites, Users, Batch, edit_line, listed_bytes, edit_words, command_words, line_of, ended_text, behind_line}
-use Rattle.mm_script.specs.Language.Script.{command_bytes, is_word_byte, IsNumber, IsGoodEdit, AreGoodEdits, IsGood}
-use Rattle.mm_script.proofs.SplitLemmas.{Lacks, split_at, same_words, join_lacks, solid_space, solid_feed}
+use Rattle.mm_script.{specs.Language.Script.{is_word_byte, IsNumber, IsGoodEdit, AreGoodEdits, IsGood}, proofs.SplitLemmas.{Lacks, split_at, same_words, join_lacks, solid_space, solid_feed}}
 
 -- a word has neither a space nor a line feed
 abbrev pub IsSolid : List ℕ → Type 0
 IsSolid w = list_all is_word_byte w ≡ true
 
-pub both_not : (a b : Bool) → a ≡ false → b ≡ false → (not a && not b) ≡ true
-both_not a b e f = rw (e, f)
-
-digit_byte : (d : ℕ) → d < 10 → is_word_byte (48 + d) ≡ true
-digit_byte d small = both_not _ _ (ne_eqb (48 + d) 32 (λ (e : 48 + d ≡ 32). omega arith)) (ne_eqb (48 + d) 10 (λ (e : 48 + d ≡ 10). omega arith))
-
 solid_more : (xs ys : List ℕ) → IsSolid xs → IsSolid ys → IsSolid (xs ++ ys)
 solid_more [] ys f g = g
 solid_more (x ∷ xs) ys f g = and_from _ _ (and_parts _ _ f).0 (solid_more xs ys (and_parts _ _ f).1 g)
 
-one_solid : (b : ℕ) → is_word_byte b ≡ true → IsSolid (b ∷ [])
-one_solid b h = and_from _ _ h refl
-
 pub solid_decimal : (n : ℕ) → n < 2 ^ 64 → IsSolid (decimal n)
-solid_decimal n small = decimal_by_steps (λ (n : ℕ) (ds : List ℕ). IsSolid ds) (λ (n : ℕ) (h : n < 10). one_solid (48 + n) (digit_byte n h))
-    (λ (n : ℕ) (ds : List ℕ) (h : 10 ≤ n) (g : IsSolid ds). solid_more ds ((48 + n % 10) ∷ []) g (one_solid (48 + n % 10) (digit_byte (n % 10) (omega arith)))) n small
+solid_decimal n small = decimal_by_steps (λ (n : ℕ) (ds : List ℕ). IsSolid ds) (λ (n : ℕ) (h : n < 10). (grind (arith, common_steps, and_from) steps 200000))
+    (λ (n : ℕ) (ds : List ℕ) (h : 10 ≤ n) (g : IsSolid ds). solid_more ds ((48 + n % 10) ∷ []) g (grind (arith, common_steps, and_from) steps 200000)) n small
 
 -- a number that a line can have is small
 pub small_number : (n : ℕ) → IsNumber n → n < 2 ^ 64
@@ -58,13 +48,10 @@ has_first (Change (Insert file at text)) = (_, _, refl)
 has_first _ = (_, _, refl)
 
 pub same_words_by_line : (words others : List (List ℕ)) → HasFirst words → HasFirst others → AreSolid words → AreSolid others → join_with_byte 32 words ≡ join_with_byte 32 others → words ≡ others
-same_words_by_line words others f g h k e = by f.0 f.1 g.0 g.1 f.2 g.2
-  where
-    by : (w : List ℕ) (ws : List (List ℕ)) (v : List ℕ) (vs : List (List ℕ)) → words ≡ w ∷ ws → others ≡ v ∷ vs → words ≡ others
-    by w ws v vs p q =
-        let h' : AllByRecursion (Lacks 32) (w ∷ ws) = subst (λ (x : List (List ℕ)). AllByRecursion (Lacks 32) x) p (lack_spaces words h) in
-        let e' : join_with_byte 32 (w ∷ ws) ≡ join_with_byte 32 (v ∷ vs) = ap (λ (x : List (List ℕ)). join_with_byte 32 x) (sym p) ∙ e ∙ ap (λ (x : List (List ℕ)). join_with_byte 32 x) q in
-        p ∙ same_words 32 w v ws vs h' (subst (λ (x : List (List ℕ)). AllByRecursion (Lacks 32) x) q (lack_spaces others k)) e' ∙ sym q
+same_words_by_line words others f g h k e = let h' : AllByRecursion (Lacks 32) (f.0 ∷ f.1) = subst (λ (x : List (List ℕ)). AllByRecursion (Lacks 32) x) f.2
+    (lack_spaces words h) in let e' : join_with_byte 32 (f.0 ∷ f.1) ≡ join_with_byte 32 (g.0 ∷ g.1) = ap (λ (x : List (List ℕ)). join_with_byte 32 x) (sym f.2)
+    ∙ e ∙ ap (λ (x : List (List ℕ)). join_with_byte 32 x) g.2 in
+    f.2 ∙ same_words 32 f.0 g.0 f.1 g.1 h' (subst (λ (x : List (List ℕ)). AllByRecursion (Lacks 32) x) g.2 (lack_spaces others k)) e' ∙ sym g.2
 
 -- a number by which first words differ
 abbrev pub tag : List (List ℕ) → ℕ
@@ -85,8 +72,7 @@ same_counted keyword f f' text text' at at' s t a a' n n' e g =
     let count_word : decimal (length text) ≡ decimal (length text') = cc in
     let ats : at ≡ at' = decimal_injective at at' (small_number at a) (small_number at' a') at_word in
     let counts : length text ≡ length text' = decimal_injective (length text) (length text') (small_number _ n) (small_number _ n') count_word in
-    let both : (text ≡ text') × (10 ∷ s ≡ 10 ∷ t) = same_front text text' (10 ∷ s) (10 ∷ t) counts (sym (append_assoc text (10 ∷ []) s) ∙ g ∙ append_assoc text' (10 ∷ []) t) in
-    ((file, ats, both.0), cc)
+    grind (arith, common_steps, append_assoc, same_front) steps 200000
 
 -- by what the first word of an edit is known
 pub edit_tag : (e : Asked) → (tag (edit_words e) ≡ 105101) ⊎ ((tag (edit_words e) ≡ 114108) ⊎ ((tag (edit_words e) ≡ 100101) ⊎ (tag (edit_words e) ≡ 109101)))
@@ -122,11 +108,7 @@ pub same_line : (m n : ℕ) (e f : Asked) (s t : List ℕ) → IsGoodEdit e → 
 same_line m n e f s t g h k =
     let p = edit_head e in
     let q = edit_head f in
-    let first : replicate m 10 ++ (edit_line e ++ 10 ∷ s) ≡ replicate m 10 ++ p.0 ∷ (p.1 ++ 10 ∷ s) = ap (λ (w : List ℕ). replicate m 10 ++ (w ++ 10 ∷ s)) p.2 in
-    let blanks = same_blanks m n p.0 q.0 (p.1 ++ 10 ∷ s) (q.1 ++ 10 ∷ t) p.3 q.3 (sym first ∙ k ∙ ap (λ (w : List ℕ). replicate n 10 ++ (w ++ 10 ∷ t)) q.2) in
-    let lines : edit_line e ++ 10 ∷ s ≡ edit_line f ++ 10 ∷ t = ap (λ (w : List ℕ). w ++ 10 ∷ s) p.2 ∙ blanks.1 ∙ sym (ap (λ (w : List ℕ). w ++ 10 ∷ t) q.2) in
-    let split = split_at 10 (edit_line e) (edit_line f) s t (edit_lacks_feed e g) (edit_lacks_feed f h) lines in
-    ((blanks.0, split.0), split.1)
+    grind (arith, common_steps, edit_lacks_feed, same_blanks, split_at) steps 200000
 
 same_listed : (x y : Listed) (s t : List ℕ) → IsGoodEdit x.edit → IsGoodEdit y.edit → listed_bytes x ++ s ≡ listed_bytes y ++ t → (x ≡ y) × (s ≡ t)
 same_listed x y s t g h k = grind (arith, common_steps, listed_parts, same_edit, same_line, words_by_edit_line) steps 200000
@@ -146,10 +128,7 @@ edits_begin (x ∷ xs) (y ∷ ys) s t g h l e =
     record { later = rest.later; are = λ i. (sym first.0) i ∷ rest.are i; left = rest.left }
 
 same_edits : (xs ys : List Listed) (s t : List ℕ) → AreGoodEdits xs → AreGoodEdits ys → length xs ≡ length ys → flat_map listed_bytes xs ++ s ≡ flat_map listed_bytes ys ++ t → (xs ≡ ys) × (s ≡ t)
-same_edits xs ys s t g h l e = by (edits_begin xs ys s t g h (omega arith) e)
-  where
-    by : BeginsEdits xs ys s t → (xs ≡ ys) × (s ≡ t)
-    by b = grind (arith, common_steps, append-nil, length-append) steps 200000
+same_edits xs ys s t g h l e = grind (arith, common_steps, append-nil, edits_begin xs ys s t g h (omega arith) e, length-append) steps 200000
 
 pub same_command : (c d : Command) (s t : List ℕ) → IsGood c → IsGood d → command_words c ≡ command_words d → behind_line c ++ s ≡ behind_line d ++ t → (c ≡ d) × (s ≡ t)
 same_command (Batch xs) (Batch ys) s t g h e k = grind (arith, common_steps, decimal_injective, same_edits, small_number) steps 200000
@@ -162,11 +141,3 @@ same_command (Change e) (Change f) s t g h w k = let both = same_edit e f s t g 
 same_command (Change f) _ s t g h e k = absurd (omega (arith, edit_tag f, ap tag e))
 same_command _ (Change f) s t g h e k = absurd (omega (arith, edit_tag f, ap tag e))
 same_command _ _ s t g h e k = absurd (omega (arith, ap tag e))
-
--- the first command of some bytes is known, and what comes after it
-pub same_first : (c d : Command) (s t : List ℕ) → IsGood c → IsGood d → command_bytes c ++ s ≡ command_bytes d ++ t → (c ≡ d) × (s ≡ t)
-same_first c d s t g h e = grind (arith, common_steps, has_first, line_lacks_feed, same_command, same_words_by_line, split_at, words_solid) steps 200000
-
--- no line of a command is empty
-pub line_some : (c : Command) → line_of c ≡ [] → ⊥
-line_some c e = grind (arith, common_steps) steps 200000

@@ -1,7 +1,7 @@
 -- A text of two bytes has one word at most, so a mark of a block that has no more has no symbol.
-use Rattle.std.proofs.lemmas.{Grind.{common_steps}, List.{length-map}, Bool.{false≢true}}
+use Rattle.std.proofs.lemmas.{Bool.{cases_Bool, false≢true}, List.{drop_all, length-map}, Grind.{common_steps}}
 use Rattle.std.proofs.Common.{◌≡◌, ℕ, ◌+◌, ◌-◌, ◌≤◌, Bool, true, false, Option, None, List, [], ◌∷◌, ◌++◌, length, drop, flat_map, refl, sym, ap, ◌∙◌, arith, slice_range, length-append, length-take}
-use Rattle.std.{proofs.Common.{le_refl}, specs.Prelude.{if◌then◌else◌}}
+use Rattle.std.{proofs.Common.{inl, inr}, specs.Prelude.{if◌then◌else◌}}
 use Rattle.mm_store.specs.mm_text.{declared.word.Word.{Word}, Language.{Reading.{HasWords, Segment, Single, Comment, segment_runs, segment_words}, Run.{Run, runs, is_white, with_front}}}
 use Rattle.mm_store.specs.{mm_text.Language.Unit.{Token, token_of, tokens_of}, Language.FilesView.{FilesView}}
 use Rattle.mm_statement.specs.Language.{Item.{Item, is_labelled}, Statement.{Says, kind_of, plain_from, token_names}}
@@ -15,14 +15,10 @@ abbrev two_runs : ℕ → ℕ → Bool → Bool → List Run
 two_runs b c white end = if white then one_run 1 c end else if end then record { start = 0; bytes = b ∷ [] } ∷ one_run 1 c end else with_front 0 b (one_run 1 c end)
 
 short_one : (at b : ℕ) (white : Bool) → length (one_run at b white) ≤ 1
-short_one at b true = omega arith
-short_one at b false = le_refl 1
+short_one at b white = grind (arith, common_steps, cases_Bool white) steps 200000
 
 short_two : (b c : ℕ) (white end : Bool) → length (two_runs b c white end) ≤ 1
-short_two b c true true = omega arith
-short_two b c true false = le_refl 1
-short_two b c false true = le_refl 1
-short_two b c false false = le_refl 1
+short_two b c white end = grind (arith, common_steps, cases_Bool white, cases_Bool end) steps 200000
 
 short_runs : (text : List ℕ) → length text ≤ 2 → length (runs text) ≤ 1
 short_runs [] l = omega arith
@@ -41,12 +37,7 @@ one_word text words h l = grind (arith, common_steps, fewer h.words_are.parts, s
 
 -- no symbol comes after one word
 none_after : (labelled : Bool) (tokens : List Token) → length tokens ≤ 1 → token_names (plain_from (if labelled then 2 else 1) tokens) ≡ []
-none_after true [] l = refl
-none_after true (t ∷ []) l = refl
-none_after true (t ∷ u ∷ ts) l = absurd (omega arith)
-none_after false [] l = refl
-none_after false (t ∷ []) l = refl
-none_after false (t ∷ u ∷ ts) l = absurd (omega arith)
+none_after labelled tokens l = elim (cases_Bool labelled) [ inl e ↦ rw (e, drop_all 2 tokens (omega arith)) refl | inr e ↦ rw (e, drop_all 1 tokens l) refl ]
 
 no_label : (labelled : Bool) (o : Option (List ℕ)) → labelled ≡ false → None ≡ (if labelled then o else None)
 no_label true o e = absurd (false≢true (sym e))

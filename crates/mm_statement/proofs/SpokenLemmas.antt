@@ -3,7 +3,7 @@ use Rattle.std.proofs.lemmas.{Grind.{common_steps}, List.{drop-map, drop-drop, t
 use Rattle.std.proofs.Common.{◌≡◌, ℕ, zero, suc, ◌+◌, ◌<◌, ◌≤◌, Bool, true, false, cond, if◌then◌else◌, List, [], ◌∷◌, ◌++◌, Option, Some, None, length, map, take, drop, refl, sym, ◌∙◌, ap, subst}
 use Rattle.std.{proofs.Common.{arith, length-append}, specs.{Prelude.{slice_get, MatchOption}, Option.{option_map}, List.{AllByRecursion, flat_map, prefix_len}}}
 use Rattle.mm_store.specs.mm_text.{declared.word.{Word.{Word}, WordKind.TheVariants.{Plain}}, Language.{WordsLeft.{SkipsPlainWords}, Unit.{Token, token_of, tokens_of, spellings}}}
-use Rattle.mm_statement.specs.Language.{Item.{Kind, Item, is_labelled}, Statement.{is_plain_kind, is_plain, token_names, plain_from, symbols_from, symbols_in, proof_in, label_in, item_of}}
+use Rattle.mm_statement.specs.Language.{Item.{Kind, Item, is_labelled}, Statement.{is_plain_kind, is_plain, token_names, plain_from, symbols_from, symbols_in, item_of}}
 use Rattle.mm_statement.specs.Code.PlainWords.{AreFewWords, TakesLabel, word_bytes, plain_words, plain_bytes}
 
 prefix_len-map : {X Y : Type 0} (f : X → Y) (p : Y → Bool) (xs : List X) → prefix_len p (map f xs) ≡ prefix_len (λ x. p (f x)) xs
@@ -72,14 +72,6 @@ plain_names text words = grind (arith, common_steps, prefix_len-map (token_of te
 pub names_from : (text : List ℕ) (words : List Word) (from : ℕ) → token_names (plain_from from (tokens_of text words)) ≡ plain_bytes text (drop from words)
 names_from text words from = ap (λ tokens. token_names (plain_from 0 tokens)) (drop-map (token_of text) from words) ∙ plain_names text (drop from words)
 
-count_names : (tokens : List Token) → length (token_names tokens) ≡ length tokens
-count_names [] = refl
-count_names (token ∷ tokens) = ap suc (count_names tokens)
-
-pub count_bytes : (text : List ℕ) (words : List Word) → length (map (word_bytes text) words) ≡ length words
-count_bytes text [] = refl
-count_bytes text (word ∷ words) = ap suc (count_bytes text words)
-
 -- the words after the label and the keyword
 behind_label : (labelled : Bool) (words new : List Word) (label : Option Word) → TakesLabel labelled words label new → drop 1 new ≡ drop (if labelled then 2 else 1) words
 behind_label true words new (Some word) h = sym (ap (drop 2) h)
@@ -112,17 +104,18 @@ rest_at kind text words label symbols rest h =
     let from = symbols_from kind in
     let first : h.first ≡ drop from words = h.keyword ∙ behind_label (is_labelled kind) words h.behind label h.takes in
     let spelled : map (word_bytes text) symbols ≡ token_names (symbols_in kind (tokens_of text words)) = ap (map (word_bytes text)) h.all.are ∙ ap (plain_bytes text) first ∙ sym (names_from text words from) in
-    let count : length (plain_words h.first) ≡ length (symbols_in kind (tokens_of text words)) = ap length (sym h.all.are) ∙ sym (count_bytes text symbols) ∙ ap length spelled ∙ count_names (symbols_in kind (tokens_of text words)) in
+    let count : length (plain_words h.first) ≡ length (symbols_in kind (tokens_of text words)) = ap length (sym h.all.are)
+    ∙ sym (length-map symbols (word_bytes text)) ∙ ap length spelled ∙ length-map (symbols_in kind (tokens_of text words)) (λ (token : Token). token.bytes)
+    in
     let places : from + (length (plain_words h.first) + 1) ≡ from + length (symbols_in kind (tokens_of text words)) + 1 = omega (arith, count) in
     (spelled, h.all.rest ∙ ap (drop (length (plain_words h.first) + 1)) first ∙ drop-drop (length (plain_words h.first) + 1) from words ∙ ap (λ k. drop k words) places)
 
 pub item_read : (kind : Kind) (text : List ℕ) (words : List Word) (label : Option Word) (symbols rest : List Word) → Reads kind words label symbols rest
     → ◌≡◌ {A = Item} (record { kind = kind; label = option_map (word_bytes text) label; symbols = map (word_bytes text) symbols; proof = plain_bytes text rest }) (item_of kind (tokens_of text words))
 item_read kind text words label symbols rest h =
-    let at = rest_at kind text words label symbols rest h in
-    let proof : plain_bytes text rest ≡ token_names (proof_in kind (tokens_of text words)) = ap (plain_bytes text) at.1 ∙ sym (names_from text words (symbols_from kind + length (symbols_in kind (tokens_of text words)) + 1)) in
-    let labelled : option_map (word_bytes text) label ≡ label_in kind (tokens_of text words) = label_is (is_labelled kind) text words h.behind label h.takes in
-    λ i. record { kind = kind; label = labelled i; symbols = at.0 i; proof = proof i }
+    let labelled = label_is (is_labelled kind) text words h.behind label h.takes in
+    let proof = names_from text words (symbols_from kind + length (symbols_in kind (tokens_of text words)) + 1) in
+    grind (arith, common_steps, labelled, proof, rest_at kind text words label symbols rest h) steps 200000
 
 -- ---- how many words are left, and their bytes
 
@@ -155,9 +148,7 @@ bytes_before _ _ = omega arith
 -- the words of a proof are the first of those that are left
 module _ (text : List ℕ) (words : List Word) where
   proof_spelled : take (prefix_len (λ (w : Word). is_plain_kind w.kind) words) (spellings text words) ≡ plain_bytes text words
-  proof_spelled =
-      let n = prefix_len (λ (w : Word). is_plain_kind w.kind) words in
-      ap (take n) (map-map (λ (token : Token). token.bytes) (token_of text) words) ∙ take-map (word_bytes text) n words
+  proof_spelled = grind (arith, common_steps, map-map, take-map) steps 200000
 
   pub proof_some : AreSome (spellings text words) → AreSome (plain_bytes text words)
   proof_some h = subst AreSome proof_spelled (some_before (prefix_len (λ (w : Word). is_plain_kind w.kind) words) (spellings text words) h)
@@ -174,11 +165,7 @@ module _ (text : List ℕ) (kind : Kind) (words : List Word) (label : Option Wor
   count = symbols_from kind + (length (plain_words h.first) + 1)
 
   rest_spelled : drop count (spellings text words) ≡ spellings text rest
-  rest_spelled =
-      let n = length (plain_words h.first) + 1 in
-      let first : h.first ≡ drop (symbols_from kind) words = h.keyword ∙ behind_label (is_labelled kind) words h.behind label h.takes in
-      let behind : rest ≡ drop count words = h.all.rest ∙ ap (drop n) first ∙ drop-drop n (symbols_from kind) words in
-      drop-map (λ (token : Token). token.bytes) count (tokens_of text words) ∙ ap (map (λ (token : Token). token.bytes)) (drop-map (token_of text) count words) ∙ ap (spellings text) (sym behind)
+  rest_spelled = grind (arith, common_steps, behind_label, drop-drop, drop-map) steps 200000
 
   pub rest_some : AreSome (spellings text words) → AreSome (spellings text rest)
   rest_some all = subst AreSome rest_spelled (some_behind count (spellings text words) all)
@@ -187,11 +174,7 @@ module _ (text : List ℕ) (kind : Kind) (words : List Word) (label : Option Wor
   rest_bytes = subst (λ names. bytes_of names ≤ bytes_of (spellings text words)) rest_spelled (bytes_behind count (spellings text words))
 
   pub rest_few : length symbols + length rest ≤ length words
-  rest_few =
-      let n = length (plain_words h.first) in
-      let first = ap length (h.keyword ∙ behind_label (is_labelled kind) words h.behind label h.takes) ∙ length-drop (symbols_from kind) words in
-      let plain : n ≤ length h.first = omega (arith, length-take (prefix_len (λ (w : Word). is_plain_kind w.kind) h.first) h.first) in
-      omega (arith, first, plain, ap length h.all.are, ap length h.all.rest, length-drop (n + 1) h.first)
+  rest_few = grind (arith, common_steps, behind_label, length-drop, length-take) steps 200000
 
 -- after the first word there are few
 pub few_more : (word : List ℕ) (words : List (List ℕ)) → AreFewWords (word ∷ words) → AreFewWords words

@@ -1,6 +1,6 @@
 -- The symbols of a statement by their numbers among all words.
-use Rattle.std.proofs.Common.{◌≡◌, ℕ, zero, suc, ◌+◌, ◌<◌, List, [], ◌∷◌, Some, length, take, drop, get_or, map, refl, sym, ◌∙◌, ap, arith, slice_get}
-use Rattle.std.{proofs.lemmas.{List.{length-drop, length-map, length-take}, Option.{get_or_from_slice_get, slice_get-map}}, specs.{Option.{option_map}, List.{prefix_len}}}
+use Rattle.std.proofs.lemmas.{Option.{slice_get_cases, get_or_from_slice_get, slice_get-map}, List.{length-drop, length-map, length-take}}
+use Rattle.std.{proofs.Common.{inl, inr, ◌≡◌, ℕ, ◌+◌, ◌<◌, List, [], Some, length, take, drop, get_or, map, refl, sym, ◌∙◌, ap, arith, slice_get}, specs.{Option.{option_map}, List.{prefix_len}}}
 use Rattle.mm_store.specs.mm_text.{declared.word.Word.{Word}, Language.Unit.{tokens_of}}
 use Rattle.mm_statement.{specs.{Language.Statement.{is_plain_kind, token_names, plain_from}, Code.PlainWords.{word_bytes}}, proofs.{ListLemmas.{get_drop, front_get}, SpokenLemmas.{names_from}}}
 
@@ -10,9 +10,7 @@ spelled_at text words n word e = sym (get_or_from_slice_get (map (word_bytes tex
 
 -- there is a word at each place
 word_there : (words : List Word) (n : ℕ) → n < length words → (word : Word) × (slice_get words n ≡ Some word)
-word_there [] n l = absurd (omega arith)
-word_there (word ∷ words) zero l = (word, refl)
-word_there (word ∷ words) (suc n) l = word_there words n (omega arith)
+word_there words n l = elim (slice_get_cases words n).1 [ inl t ↦ (t.0, t.2) | inr past ↦ absurd (let long = past.0 in omega (arith, long)) ]
 
 -- the plain words from a place on: how many there are, at most, and each of them
 module _ (text : List ℕ) (words : List Word) (from : ℕ) where

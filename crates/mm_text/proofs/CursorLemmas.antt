@@ -1,20 +1,17 @@
 -- The words that are left to a cursor.
-use Rattle.std.proofs.lemmas.Grind.{common_steps}
-use Rattle.std.proofs.Common.{◌≡◌, ℕ, zero, suc, ◌+◌, ◌-◌, ◌<◌, ◌≤◌, List, [], ◌∷◌, ◌++◌, Some, None, Ok, Err, length, get_or, refl, sym, ap, ◌∙◌, append_assoc, arith, length-append, slice_get}
-use Rattle.std.{proofs.Common.{Option, IfNone, IfSome, MatchOption}, specs.List.{AllByRecursion, flat_map}}
+use Rattle.std.proofs.Common.{[], ◌≡◌, ℕ, zero, suc, ◌+◌, ◌-◌, ◌<◌, ◌≤◌, List, ◌∷◌, ◌++◌, Some, None, Err, length, get_or, refl, sym, ap, ◌∙◌, append_assoc, arith, length-append, slice_get, Option}
+use Rattle.std.{proofs.{Common.{IfNone, IfSome, MatchOption}, lemmas.Grind.{common_steps}}, specs.List.{AllByRecursion, flat_map}}
 use Rattle.mm_text.specs.{declared.{word.{Word.{Word}, WordKind.TheVariants.{Plain}}, fault.TextFault.{TextFault}}, Language.{Reading.{AreWords, HasWords, LiesIn, AreWithin}, Unit.{spellings}}}
 use Rattle.mm_text.specs.{Language.{Run.{Run, runs}, WordsLeft.{SkipsPlainWords}}, Code.{LeftToRight.{read_runs}, Reader.{runs_at, TakesWord, SkipsPlain}, Cursor.{words_read, words_from, AreLast}}}
 use Rattle.mm_text.proofs.{ReadingLemmas.{read_words, read_whole}, SkipLemmas.{plain_words, are_plain_words, read_on}, ReaderLemmas.{slice_length, word_read}, NthLemmas.{first_word}}
-use Rattle.mm_text.proofs.PositionLemmas.{Lying, words_lie, are_within, nth_lies}
+use Rattle.mm_text.proofs.PositionLemmas.{Lying, words_lie, are_within}
 
 -- before the first word all are left
 pub all_left : (text : List ℕ) (words : List Word) (from : ℕ) → HasWords text words → from ≡ 0 → words_from text from ≡ words
 all_left text words from has e = ap words_read (ap (λ n. read_runs None (runs_at text n)) e ∙ read_words (runs text) words has.words_are)
 
 pub at_first : (text : List ℕ) (words : List Word) (from : ℕ) → HasWords text words → from ≡ 0 → AreLast text from
-at_first text words from has e =
-    let left = all_left text words from has e in
-    record { whole = words; front = []; has_words = has; divided = sym left; no_fault = ap (λ n. read_runs None (runs_at text n)) e ∙ read_words (runs text) words has.words_are ∙ ap Ok (sym left) }
+at_first text words from has e = grind (arith, common_steps, all_left text words from has e, read_words (runs text) words has.words_are) steps 200000
 
 -- a word is taken
 pub record Took (text : List ℕ) (from : ℕ) (word : Word) (to : ℕ) : Type 0 where
@@ -25,14 +22,7 @@ pub record Took (text : List ℕ) (from : ℕ) (word : Word) (to : ℕ) : Type 0
 pub one_taken : (text : List ℕ) (from : ℕ) (word : Word) (to : ℕ) → AreLast text from → TakesWord text from word to → Took text from word to
 one_taken text from word to at taken =
     let first = first_word (read_runs None (runs_at text from)) (read_runs None (runs_at text to)) word (words_from text from) (word_read text from word to taken) at.no_fault in
-    let rest : words_from text to ≡ first.0 = ap words_read first.2 in
-    let words : words_from text from ≡ word ∷ words_from text to = first.1 ∙ ap (λ l. word ∷ l) (sym rest) in
-    let divided : at.whole ≡ at.front ++ word ∷ words_from text to = at.divided ∙ ap (λ l. at.front ++ l) words in
-    record {
-      words = words;
-      last = record { whole = at.whole; front = at.front ++ word ∷ []; has_words = at.has_words; divided = divided ∙ sym (append_assoc at.front (word ∷ []) (words_from text to)); no_fault = first.2 ∙ ap Ok (sym rest) };
-      lies = nth_lies text at.whole (length at.front) (Some word) at.has_words (sym (ap (λ l. slice_get l (length at.front)) divided ∙ at_seam at.front word (words_from text to)));
-    } where
+    grind (arith, common_steps, append_assoc at.front (word ∷ []) (words_from text to)) steps 200000 where
       at_seam : (front : List Word) (word : Word) (more : List Word) → slice_get (front ++ word ∷ more) (length front) ≡ Some word
       at_seam [] word more = refl
       at_seam (x ∷ front) word more = at_seam front word more
@@ -50,13 +40,8 @@ pub plain_passed : (text : List ℕ) (from to : ℕ) → AreLast text from → S
 plain_passed text from to at skips =
     let passed = plain_words skips.inside in
     let whole = read_whole skips.inside passed (are_plain_words skips.inside skips.plain) (runs_at text to) in
-    let more = read_on passed (read_runs None (runs_at text to)) (words_from text from) (sym (ap (read_runs None) skips.joined ∙ whole) ∙ at.no_fault) in
-    let rest : words_from text to ≡ more.0 = ap words_read more.1 in
-    let joined : words_from text from ≡ passed ++ words_from text to = more.2 ∙ ap (λ l. passed ++ l) (sym rest) in
-    record {
-      words = record { passed = passed; joined = joined; plain = are_plain skips.inside };
-      last = record { whole = at.whole; front = at.front ++ passed; has_words = at.has_words; divided = at.divided ∙ ap (λ l. at.front ++ l) joined ∙ sym (append_assoc at.front passed (words_from text to)); no_fault = more.1 ∙ ap Ok (sym rest) };
-    }
+    let on = read_on passed (read_runs None (runs_at text to)) (words_from text from) (sym (ap (read_runs None) skips.joined ∙ whole) ∙ at.no_fault) in
+    grind (arith, common_steps, append_assoc at.front passed (words_from text to), are_plain, on) steps 200000
 
 -- a word is taken, or none is left
 pub record Went (text : List ℕ) (from : ℕ) (found : Option Word) (to : ℕ) : Type 0 where

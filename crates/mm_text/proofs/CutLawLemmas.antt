@@ -1,18 +1,18 @@
 -- A text has one cut at most, one first fault at most, and never both; and a text whose cut has one piece holds one unit.
-use Rattle.std.proofs.lemmas.{Grind.{common_steps}, Bool.{false≢true}, List.{append-nil, map-append, append_cancel_left, take-append-le, drop-append-le, length-append, get_or-append_right}}
-use Rattle.std.proofs.lemmas.{List.Elements.{All-take, All-append}, Option.{slice_get_within}}
-use Rattle.std.proofs.Common.{◌≡◌, ◌⊎◌, ℕ, zero, suc, ◌+◌, ◌-◌, ◌<◌, ◌≤◌, true, List, [], ◌∷◌, ◌++◌, append_assoc, map, length, drop, slice_get, Some, None, Ok, Err, refl, sym, ap, ◌∙◌, subst, inl}
-use Rattle.std.{proofs.{Common.{inr, arith}, Math.Seq.{take-append_seam, drop-append_seam}}, specs.List.{concat, AllPass}}
-use Rattle.mm_text.specs.{declared.{word.Word.{Word}, fault.{TextFault.{TextFault}, TextNumber.{TextNumber, TheVariants.{T01, T02, T03, T04, T05, T07, T08}}}}, Language.Run.{Run, runs, is_white}}
-use Rattle.mm_text.specs.Language.Reading.{is_allowed, first_bad, AreWords, HasWords, AreViableRuns, IsWordsFaultAt}
-use Rattle.mm_text.specs.Language.Unit.{Token, token_of, tokens_of, Shape, shape_tokens, Units, Nothing, Simple, Block, unit_tokens, AreUnits, IsViable, IsUnitFault}
-use Rattle.mm_text.specs.Language.Cut.{ends_white, ended, IsOne, end_of_words, HoldsOne, IsPiece, BeginsSolid, ArePieces, IsCut, HoldWords, StopsWords, StopsUnits, IsFirstFaultAt, IsFirstFault}
-use Rattle.mm_text.specs.{Language.Part.{HasUnits}, Code.LeftToRight.{Read, read_runs, with_words, words_fault_at, read_text}}
+use Rattle.std.proofs.Common.{[], ◌≡◌, ◌⊎◌, ℕ, zero, suc, ◌+◌, ◌<◌, ◌≤◌, true, List, ◌∷◌, ◌++◌, append_assoc, map, length, drop, slice_get, Some, None, Ok, Err, refl, sym, ap, ◌∙◌, subst, inl, inr}
+use Rattle.std.proofs.{Common.{arith}, lemmas.{Bool.{cases_Bool, false≢true}, Grind.{common_steps}}}
+use Rattle.std.proofs.lemmas.List.{append-nil, map-append, append_cancel_left, take-append-le, drop-append-le, length-append, get_or-append_right, Elements.{All-take, All-append}}
+use Rattle.std.{proofs.{lemmas.Option.{slice_get_within}, Math.Seq.{take-append_seam, drop-append_seam}}, specs.List.{concat, AllPass}}
+use Rattle.mm_text.proofs.PieceLemmas.{feed_white, ends_behind, runs-append, shift_run, shift_word, runs-shift, words-shift, line_end, ended_is, runs-ended}
 use Rattle.mm_text.proofs.{ReadingLemmas.{closer, closer_closes, close_step, read_whole, read_words, same_words, text_words, text_fault}, ReaderLemmas.{in_comment, words-append}}
 use Rattle.mm_text.proofs.{PositionLemmas.{Lying, words_lie}, UnitReadingLemmas.{run-append, run-IsViable, IsWhole-run, run-IsWhole}}
 use Rattle.mm_text.proofs.{UnitFaultLemmas.{cut_twice, viable_front, not_viable_all, block_viable, one_stop, one_unit_fault, whole_has_no_fault}, UnitDivisionLemmas.{one_division}}
-use Rattle.mm_text.proofs.PieceLemmas.{runs-append, shift_run, shift_word, runs-shift, words-shift, line_end, ended_is, runs-ended, ended_white}
-use Rattle.mm_text.proofs.PieceUnitLemmas.{one_words, allowed_all, all_allowed, bare, tokens-shift, tokens-front, run_bare, WholeRun}
+use Rattle.mm_text.{proofs.PieceUnitLemmas.{one_words, allowed_all, all_allowed, bare, tokens-shift, tokens-front, run_bare, WholeRun}, specs.declared.{word.Word.{Word}, fault.TextFault.{TextFault}}}
+use Rattle.mm_text.specs.{declared.fault.TextNumber.{TextNumber, TheVariants.{T01, T02, T03, T04, T05, T07, T08}}, Language.Run.{Run, runs, is_white}}
+use Rattle.mm_text.specs.Language.Reading.{is_allowed, first_bad, AreWords, HasWords, AreViableRuns, IsWordsFaultAt}
+use Rattle.mm_text.specs.Language.Unit.{Token, token_of, tokens_of, Units, Nothing, Simple, Block, unit_tokens, AreUnits, IsViable, IsUnitFault}
+use Rattle.mm_text.specs.Language.Cut.{ends_white, ended, IsOne, end_of_words, HoldsOne, IsPiece, BeginsSolid, ArePieces, IsCut, HoldWords, StopsWords, StopsUnits, IsFirstFaultAt, IsFirstFault}
+use Rattle.mm_text.specs.{Language.Part.{HasUnits}, Code.LeftToRight.{Read, read_runs, with_words, words_fault_at, read_text}}
 use Rattle.mm_text.specs.Language.Unit as units
 use Rattle.mm_text.specs.Code.UnitReading as m
 
@@ -30,14 +30,14 @@ join_words a b ws vs white f g = record {
   words_are = grind (arith, common_steps, runs_joined, shift_run, shift_word, words-append, words-shift) steps 200000;
 }
 
-join_tokens : (a b : List ℕ) (ws vs : List Word) → HasWords a ws → HasWords b vs → map bare (tokens_of (a ++ b) (ws ++ map (shift_word (length a)) vs)) ≡ map bare (tokens_of a ws ++ tokens_of b vs)
-join_tokens a b ws vs f g =
-    let later : map bare (tokens_of (a ++ b) (map (shift_word (length a)) vs)) ≡ map bare (tokens_of b vs) = tokens-shift (a ++ b) b [] (length a) (drop-append_seam a b ∙ sym (append-nil b)) vs 0 (words_lie b vs g) in
-    ap (map bare) (map-append (token_of (a ++ b)) ws (map (shift_word (length a)) vs) ∙ ap (λ (ts : List Token). ts ++ tokens_of (a ++ b) (map (shift_word (length a)) vs)) (tokens-front a b ws 0 (words_lie a ws f)))
-    ∙ map-append bare (tokens_of a ws) (tokens_of (a ++ b) (map (shift_word (length a)) vs)) ∙ ap (λ (ts : List Token). map bare (tokens_of a ws) ++ ts) later ∙ sym (map-append bare (tokens_of a ws) (tokens_of b vs))
-
 join_whole : (a b : List ℕ) (ws vs : List Word) → HasWords a ws → HasWords b vs → WholeRun (tokens_of a ws) → WholeRun (tokens_of b vs) → WholeRun (tokens_of (a ++ b) (ws ++ map (shift_word (length a)) vs))
-join_whole a b ws vs f g x y = run_bare (tokens_of (a ++ b) (ws ++ map (shift_word (length a)) vs)) (tokens_of a ws ++ tokens_of b vs) m.Begin 0 (join_tokens a b ws vs f g) ∙ run-append (tokens_of a ws) (tokens_of b vs) m.Begin 0 (m.Begin, 0) x ∙ y
+join_whole a b ws vs f g x y = run_bare (tokens_of (a ++ b) (ws ++ map (shift_word (length a)) vs)) (tokens_of a ws ++ tokens_of b vs) m.Begin 0
+    (let later : map bare (tokens_of (a ++ b) (map (shift_word (length a)) vs)) ≡ map bare (tokens_of b vs) = tokens-shift (a ++ b) b [] (length a)
+    (drop-append_seam a b ∙ sym (append-nil b)) vs 0 (words_lie b vs g) in ap (map bare) (map-append (token_of (a ++ b)) ws
+    (map (shift_word (length a)) vs) ∙ ap (λ (ts : List Token). ts ++ tokens_of (a ++ b) (map (shift_word (length a)) vs))
+    (tokens-front a b ws 0 (words_lie a ws f))) ∙ map-append bare (tokens_of a ws) (tokens_of (a ++ b) (map (shift_word (length a)) vs))
+    ∙ ap (λ (ts : List Token). map bare (tokens_of a ws) ++ ts) later ∙ sym (map-append bare (tokens_of a ws) (tokens_of b vs)))
+    ∙ run-append (tokens_of a ws) (tokens_of b vs) m.Begin 0 (m.Begin, 0) x ∙ y
 
 -- ---- the words of a text that has a cut
 
@@ -61,7 +61,8 @@ cut_units : (text : List ℕ) (pieces : List (List ℕ)) (tail : List ℕ) → I
 cut_units text pieces tail h = record {
   found = all.found;
   has_words = has;
-  whole = ap (m.run m.Begin 0) (sym (ap (λ (bs : List ℕ). tokens_of bs all.found) (ended_is text) ∙ tokens-front text (line_end text) all.found 0 (words_lie text all.found has))) ∙ all.whole;
+  whole = ap (m.run m.Begin 0) (sym (ap (λ (bs : List ℕ). tokens_of bs all.found) (ended_is text) ∙ tokens-front text (line_end text) all.found 0
+      (words_lie text all.found has))) ∙ all.whole;
 } where
   all : HoldsWhole (ended text)
   all = subst (λ (bs : List ℕ). HoldsWhole bs) h.joined (pieces_words pieces tail h.are_pieces)
@@ -76,22 +77,17 @@ cut_units text pieces tail h = record {
 
 more_found : (front zs : List Run) (found later : List Word) → AreWords front found → AreWords (front ++ zs) later → (us : List Word) × (later ≡ found ++ us)
 more_found front zs found later f g = by_read (read_runs None zs) refl where
-  all : with_words found (read_runs None zs) ≡ Ok later
-  all = sym (read_whole front found f zs) ∙ read_words (front ++ zs) later g
-
   by_read : (r : Read) → read_runs None zs ≡ r → (us : List Word) × (later ≡ found ++ us)
-  by_read (Ok us) is = (us, let e : Ok later ≡ Ok (found ++ us) = sym all ∙ ap (with_words found) is in cc)
-  by_read (Err fault) is = absurd (let e : Ok later ≡ Err fault = sym all ∙ ap (with_words found) is in cc)
+  by_read (Ok us) is =
+      (us, let e : Ok later ≡ Ok (found ++ us) = sym (sym (read_whole front found f zs) ∙ read_words (front ++ zs) later g) ∙ ap (with_words found) is in cc)
+  by_read (Err fault) is =
+      absurd (let e : Ok later ≡ Err fault = sym (sym (read_whole front found f zs) ∙ read_words (front ++ zs) later g) ∙ ap (with_words found) is in cc)
 
 -- what is held after more runs begins with the words before
 longer : (front zs : List Run) (found later : List Word) → AreWords front found → HoldWords (front ++ zs) later → (us : List Word) × (later ≡ found ++ us)
 longer front zs found later f (inl h) = more_found front zs found later f h
 longer front zs found later f (inr h) =
     more_found front (zs ++ closer ∷ []) found later f (subst (λ (rs : List Run). AreWords rs later) (append_assoc front zs (closer ∷ [])) (close_step h.first.start (front ++ zs) later closer (in_comment (front ++ zs) later h) closer_closes))
-
-not_viable_more : (text : List ℕ) (number : TextNumber) (at : ℕ) (h : StopsUnits text number at) (us : List Word) → ¬ IsViable (tokens_of text (h.found ++ us))
-not_viable_more text number at h us viable =
-    not_viable_all (tokens_of text h.found) number h.word h.stop (viable_front (tokens_of text h.found) (tokens_of text us) (subst (λ (ts : List Token). IsViable ts) (map-append (token_of text) h.found us) viable))
 
 -- ---- the kinds of first faults
 
@@ -150,23 +146,24 @@ words_apart text number at found f g = let x : read_text text ≡ Err (words_fau
 units_apart : (text : List ℕ) (number : TextNumber) (at : ℕ) (found : List Word) → StopsUnits text number at → HasWords text found → ¬ IsViable (tokens_of text found)
 units_apart text number at found f g viable =
     let more = longer f.front f.rest f.found found f.read (inl (subst (λ (rs : List Run). AreWords rs found) f.joined g.words_are)) in
-    not_viable_more text number at f more.0 (subst (λ (ws : List Word). IsViable (tokens_of text ws)) more.1 viable)
+    (not_viable_all (tokens_of text f.found) number f.word f.stop (viable_front (tokens_of text f.found) (tokens_of text more.0)
+    (subst (λ (ts : List Token). IsViable ts) (map-append (token_of text) f.found more.0) (subst (λ (ws : List Word). IsViable (tokens_of text ws)) more.1
+    viable))))
 
 met_apart : (text : List ℕ) (a b : TextNumber) (i j : ℕ) → MeetsWords text a i → StopsUnits text b j → ⊥
 met_apart text a b i j f g = by_cut (cut_twice f.front f.rest g.front g.rest (sym f.joined ∙ g.joined)) where
-  behind : (zs : List Run) → f.front ≡ g.front ++ zs → ⊥
-  behind zs is =
-      let more = longer g.front zs g.found f.found g.read (subst (λ (rs : List Run). HoldWords rs f.found) is f.held) in
-      not_viable_more text b j g more.0 (subst (λ (ws : List Word). IsViable (tokens_of text ws)) more.1 f.viable)
-
   before : (zs : List Run) → g.front ≡ f.front ++ zs → f.rest ≡ zs ++ g.rest → ⊥
-  before [] is rest = behind [] (sym (append-nil f.front) ∙ sym is ∙ sym (append-nil g.front))
-  before (z ∷ zs) is rest =
-      let whole : AreWords ((f.front ++ z ∷ []) ++ zs) g.found = subst (λ (rs : List Run). AreWords rs g.found) (is ∙ sym (append_assoc f.front (z ∷ []) zs)) g.read in
-      f.stuck z (zs ++ g.rest) rest (zs, (whole.parts, whole.reading))
+  before [] is rest = let more = longer g.front [] g.found f.found g.read (subst (λ (rs : List Run). HoldWords rs f.found) (sym (append-nil f.front) ∙ sym is
+      ∙ sym (append-nil g.front)) f.held) in (not_viable_all (tokens_of text g.found) b g.word g.stop (viable_front (tokens_of text g.found)
+      (tokens_of text more.0) (subst (λ (ts : List Token). IsViable ts) (map-append (token_of text) g.found more.0)
+      (subst (λ (ws : List Word). IsViable (tokens_of text ws)) more.1 f.viable))))
+  before (z ∷ zs) is rest = grind (arith, common_steps, append_assoc f.front (z ∷ []) zs) steps 200000
 
   by_cut : ((zs : List Run) × (f.front ≡ g.front ++ zs) × (zs ++ f.rest ≡ g.rest)) ⊎ ((zs : List Run) × (g.front ≡ f.front ++ zs) × (f.rest ≡ zs ++ g.rest)) → ⊥
-  by_cut (inl h) = behind h.0 h.1
+  by_cut (inl h) = let more = longer g.front h.0 g.found f.found g.read (subst (λ (rs : List Run). HoldWords rs f.found) h.1 f.held) in
+      (not_viable_all (tokens_of text g.found) b g.word g.stop (viable_front (tokens_of text g.found) (tokens_of text more.0)
+      (subst (λ (ts : List Token). IsViable ts) (map-append (token_of text) g.found more.0) (subst (λ (ws : List Word). IsViable (tokens_of text ws))
+      more.1 f.viable))))
   by_cut (inr h) = before h.0 h.1 h.2
 
 -- ---- one fault of each kind
@@ -199,9 +196,6 @@ one_stop_of text a b i j f g = by_cut (cut_twice f.front f.rest g.front g.rest (
 one_end : (text : List ℕ) (a b : TextNumber) (i j : ℕ) → EndsEarly text a i → EndsEarly text b j → (a ≡ b) × (i ≡ j)
 one_end text a b i j f g = grind (arith, common_steps, same_words (runs text) g.found f.found g.has_words.words_are f.has_words.words_are, one_unit_fault) steps 200000
 
-one_word_fault : (text : List ℕ) (a b : TextNumber) (i j : ℕ) → IsWordsFaultAt text a i → IsWordsFaultAt text b j → (a ≡ b) × (i ≡ j)
-one_word_fault text a b i j f g = grind (arith, common_steps, text_fault text a i f, text_fault text b j g) steps 200000
-
 one_bad : (text : List ℕ) (a b : TextNumber) (i j : ℕ) → HasBadByte text a i → HasBadByte text b j → (a ≡ b) × (i ≡ j)
 one_bad text a b i j f g = (f.0 ∙ sym g.0, cc)
 
@@ -211,7 +205,7 @@ same_fault text a b i j (inl f) (inr (inl g)) = absurd (bad_alone text a i f g.a
 same_fault text a b i j (inl f) (inr (inr (inl g))) = absurd (bad_alone text a i f g.0)
 same_fault text a b i j (inl f) (inr (inr (inr g))) = absurd (bad_alone text a i f g.has_words.allowed)
 same_fault text a b i j (inr (inl f)) (inl g) = absurd (bad_alone text b j g f.allowed)
-same_fault text a b i j (inr (inl f)) (inr (inl g)) = one_word_fault text a b i j f.fault g.fault
+same_fault text a b i j (inr (inl f)) (inr (inl g)) = grind (arith, common_steps, text_fault) steps 200000
 same_fault text a b i j (inr (inl f)) (inr (inr (inl g))) = absurd (met_apart text a b i j f g.1)
 same_fault text a b i j (inr (inl f)) (inr (inr (inr g))) = absurd (words_apart text a i g.found f.fault g.has_words)
 same_fault text a b i j (inr (inr (inl f))) (inl g) = absurd (bad_alone text b j g f.0)
@@ -243,26 +237,18 @@ cut_has_no_fault text pieces tail fault f g = none (sorted text fault.number fau
 
 one_piece_more : (u v : Units) (more : List Token) → AreUnits true u → AreUnits true v → IsOne u → IsOne v → unit_tokens u ++ more ≡ unit_tokens v → more ≡ []
 one_piece_more u v more f g one_u one_v e = by_unit u f one_u e where
-  whole : WholeRun (unit_tokens u)
-  whole = IsWhole-run (unit_tokens u) (u, f, refl)
-
   later : (w : Units) × AreUnits true w × (unit_tokens w ≡ more)
-  later = run-IsWhole more (sym (ap (m.run m.Begin 0) (sym e) ∙ run-append (unit_tokens u) more m.Begin 0 (m.Begin, 0) whole) ∙ IsWhole-run (unit_tokens v) (v, g, refl))
-
-  nothing : later.0 ≡ Nothing → more ≡ []
-  nothing is = sym later.2 ∙ ap unit_tokens is
+  later = run-IsWhole more (sym (ap (m.run m.Begin 0) (sym e) ∙ run-append (unit_tokens u) more m.Begin 0 (m.Begin, 0) (IsWhole-run (unit_tokens u)
+      (u, f, refl))) ∙ IsWhole-run (unit_tokens v) (v, g, refl))
 
   by_unit : (u : Units) → AreUnits true u → IsOne u → unit_tokens u ++ more ≡ unit_tokens v → more ≡ []
   by_unit Nothing are one same = absurd one
   by_unit (Simple shape rest) are one same =
-      let tokens : unit_tokens (Simple shape later.0) ≡ unit_tokens v =
-      ap (λ (ts : List Token). shape_tokens shape ++ ts) later.2 ∙ ap (λ (ts : List Token). ts ++ more) (sym (append-nil (shape_tokens shape)) ∙ ap (λ (w : Units). shape_tokens shape ++ unit_tokens w) (sym one)) ∙ same in
-      nothing (subst IsOne (sym (one_division (Simple shape later.0) v (are.0, later.1) g tokens)) one_v)
+      let tokens : unit_tokens (Simple shape later.0) ≡ unit_tokens v = grind (arith, common_steps, append-nil, later, more) steps 200000 in
+      (sym later.2 ∙ ap unit_tokens (subst IsOne (sym (one_division (Simple shape later.0) v (are.0, later.1) g tokens)) one_v))
   by_unit (Block begin inner end rest) are one same =
-      let tokens : unit_tokens (Block begin inner end later.0) ≡ unit_tokens v =
-      ap (λ (ts : List Token). begin ∷ (unit_tokens inner ++ end ∷ ts)) later.2 ∙ ap (λ (ts : List Token). begin ∷ ts) (sym (append_assoc (unit_tokens inner) (end ∷ []) more))
-      ∙ ap (λ (w : Units). (begin ∷ (unit_tokens inner ++ end ∷ unit_tokens w)) ++ more) (sym one) ∙ same in
-      nothing (subst IsOne (sym (one_division (Block begin inner end later.0) v (are.0, are.1, are.2, later.1) g tokens)) one_v)
+      let tokens : unit_tokens (Block begin inner end later.0) ≡ unit_tokens v = grind (arith, common_steps, append_assoc, later, more) steps 200000 in
+      (sym later.2 ∙ ap unit_tokens (subst IsOne (sym (one_division (Block begin inner end later.0) v (are.0, are.1, are.2, later.1) g tokens)) one_v))
 
 end_within : (text : List ℕ) (at : ℕ) (ws : List Word) → Lying text at ws → end_of_words ws ≤ length text
 end_within text at [] h = omega arith
@@ -279,63 +265,46 @@ no_words_left text (w ∷ us) e = absurd cc
 -- a piece is no longer than another that begins with it, if that is not followed by white space
 no_longer : (p zs rest : List ℕ) → IsPiece p → IsPiece (p ++ zs) → BeginsSolid (zs ++ rest) → zs ≡ []
 no_longer p [] rest f g solid = refl
-no_longer p (z ∷ zs) rest f g solid = absurd (false≢true (sym solid ∙ passes_at (drop (end_of_words f.words) p) zs z white)) where
-  more : (us : List Word) × (g.words ≡ f.words ++ us)
-  more = more_found (runs p) (map (shift_run (length p)) (runs (z ∷ zs))) f.words g.words f.has_words.words_are (subst (λ (rs : List Run). AreWords rs g.words) (runs_joined p (z ∷ zs) f.ends) g.has_words.words_are)
+no_longer p (z ∷ zs) rest f g solid = absurd (false≢true (sym solid ∙ passes_at (drop (end_of_words f.words) p) zs z
+    (subst (λ (bs : List ℕ). AllPass is_white bs) (ap (λ (ws : List Word). drop (end_of_words ws) (p ++ z ∷ zs)) same ∙ drop-append-le (end_of_words f.words) p
+    (z ∷ zs) (end_within p 0 f.words (grind (arith, common_steps, words_lie) steps 200000))) g.white))) where
+      more : (us : List Word) × (g.words ≡ f.words ++ us)
+      more = more_found (runs p) (map (shift_run (length p)) (runs (z ∷ zs))) f.words g.words f.has_words.words_are (subst (λ (rs : List Run). AreWords rs g.words) (runs_joined p (z ∷ zs) f.ends) g.has_words.words_are)
 
-  lie : Lying p 0 f.words
-  lie = words_lie p f.words f.has_words
-
-  tokens : unit_tokens f.units ++ tokens_of (p ++ z ∷ zs) more.0 ≡ unit_tokens g.units
-  tokens = ap (λ (ts : List Token). ts ++ tokens_of (p ++ z ∷ zs) more.0) (f.spells ∙ sym (tokens-front p (z ∷ zs) f.words 0 lie)) ∙ sym (map-append (token_of (p ++ z ∷ zs)) f.words more.0) ∙ ap (tokens_of (p ++ z ∷ zs)) (sym more.1) ∙ sym g.spells
-
-  same : g.words ≡ f.words
-  same = more.1 ∙ ap (λ (us : List Word). f.words ++ us) (no_words_left (p ++ z ∷ zs) more.0 (one_piece_more f.units g.units (tokens_of (p ++ z ∷ zs) more.0) f.are_units g.are_units f.one g.one tokens)) ∙ append-nil f.words
-
-  white : AllPass is_white (drop (end_of_words f.words) p ++ z ∷ zs)
-  white = subst (λ (bs : List ℕ). AllPass is_white bs) (ap (λ (ws : List Word). drop (end_of_words ws) (p ++ z ∷ zs)) same ∙ drop-append-le (end_of_words f.words) p (z ∷ zs) (end_within p 0 f.words lie)) g.white
+      same : g.words ≡ f.words
+      same = more.1 ∙ ap (λ (us : List Word). f.words ++ us) (no_words_left (p ++ z ∷ zs) more.0 (one_piece_more f.units g.units
+          (tokens_of (p ++ z ∷ zs) more.0) f.are_units g.are_units f.one g.one (ap (λ (ts : List Token). ts ++ tokens_of (p ++ z ∷ zs) more.0) (f.spells
+          ∙ sym (tokens-front p (z ∷ zs) f.words 0 (grind (arith, common_steps, words_lie) steps 200000)))
+          ∙ sym (map-append (token_of (p ++ z ∷ zs)) f.words more.0) ∙ ap (tokens_of (p ++ z ∷ zs)) (sym more.1) ∙ sym g.spells))) ∙ append-nil f.words
 
 -- a text with a unit has words
 piece_no_tail : (piece rest tail : List ℕ) (found : List Word) → IsPiece piece → HasWords rest found → HasWords tail [] → tail ≡ piece ++ rest → ⊥
-piece_no_tail piece rest tail found f g h is = by_units f.units f.one (f.spells ∙ ap (tokens_of piece) none) where
-  all : [] ≡ f.words ++ map (shift_word (length piece)) found
-  all = same_words (runs tail) [] (f.words ++ map (shift_word (length piece)) found) h.words_are (subst (λ (bs : List ℕ). AreWords (runs bs) (f.words ++ map (shift_word (length piece)) found))
-      (sym is) (join_words piece rest f.words found f.ends f.has_words g).words_are)
+piece_no_tail piece rest tail found f g h is = by_units f.units f.one (f.spells ∙ ap (tokens_of piece) (empty f.words (map (shift_word (length piece)) found)
+    (same_words (runs tail) [] (f.words ++ map (shift_word (length piece)) found) h.words_are
+    (subst (λ (bs : List ℕ). AreWords (runs bs) (f.words ++ map (shift_word (length piece)) found)) (sym is) (join_words piece rest f.words found f.ends
+    f.has_words g).words_are)))) where
+      empty : (ws vs : List Word) → [] ≡ ws ++ vs → ws ≡ []
+      empty [] vs e = refl
+      empty (w ∷ ws) vs e = absurd cc
 
-  empty : (ws vs : List Word) → [] ≡ ws ++ vs → ws ≡ []
-  empty [] vs e = refl
-  empty (w ∷ ws) vs e = absurd cc
-
-  none : f.words ≡ []
-  none = empty f.words (map (shift_word (length piece)) found) all
-
-  by_units : (u : Units) → IsOne u → unit_tokens u ≡ [] → ⊥
-  by_units Nothing one e = one
-  by_units (Simple shape later) one e = shape_none shape (unit_tokens later) e where
-    shape_none : (shape : Shape) (ts : List Token) → shape_tokens shape ++ ts ≡ [] → ⊥
-    shape_none (units.Declaration keyword symbols end) ts e = cc
-    shape_none (units.Labelled label keyword symbols end) ts e = cc
-    shape_none (units.Provable label keyword symbols proof steps end) ts e = cc
-    shape_none (units.Inclusion begin name end) ts e = cc
-  by_units (Block begin inner end later) one e = cc
+      by_units : (u : Units) → IsOne u → unit_tokens u ≡ [] → ⊥
+      by_units p0 p1 p2 = grind (arith, common_steps) steps 200000
 
 same_pieces : (ps qs : List (List ℕ)) (s t : List ℕ) → concat ps ++ s ≡ concat qs ++ t → ArePieces ps s → ArePieces qs t → (ps ≡ qs) × (s ≡ t)
 same_pieces [] [] s t e f g = (refl, e)
 same_pieces [] (q ∷ qs) s t e f g = let rest = pieces_words qs t g.2 in absurd (piece_no_tail q (concat qs ++ t) s rest.found g.0 rest.has_words f (e ∙ append_assoc q (concat qs) t))
 same_pieces (p ∷ ps) [] s t e f g = let rest = pieces_words ps s f.2 in absurd (piece_no_tail p (concat ps ++ s) t rest.found f.0 rest.has_words g (sym e ∙ append_assoc p (concat ps) s))
-same_pieces (p ∷ ps) (q ∷ qs) s t e f g = by_cut (cut_twice p (concat ps ++ s) q (concat qs ++ t) all) (λ rest. same_pieces ps qs s t rest f.2 g.2) where
-  all : p ++ (concat ps ++ s) ≡ q ++ (concat qs ++ t)
-  all = sym (append_assoc p (concat ps) s) ∙ e ∙ append_assoc q (concat qs) t
+same_pieces (p ∷ ps) (q ∷ qs) s t e f g = by_cut (cut_twice p (concat ps ++ s) q (concat qs ++ t)
+    (grind (arith, common_steps, append_assoc p (concat ps) s, append_assoc q (concat qs) t) steps 200000)) (λ rest. same_pieces ps qs s t rest f.2 g.2) where
+      alike : p ≡ q → ((concat ps ++ s ≡ concat qs ++ t) → (ps ≡ qs) × (s ≡ t)) → (p ∷ ps ≡ q ∷ qs) × (s ≡ t)
+      alike same more = grind (arith, common_steps, append_assoc, append_cancel_left) steps 200000
 
-  alike : p ≡ q → ((concat ps ++ s ≡ concat qs ++ t) → (ps ≡ qs) × (s ≡ t)) → (p ∷ ps ≡ q ∷ qs) × (s ≡ t)
-  alike same more = let rest = more (append_cancel_left q (concat ps ++ s) (concat qs ++ t) (ap (λ (bs : List ℕ). bs ++ (concat ps ++ s)) (sym same) ∙ all)) in (cc, rest.1)
-
-  by_cut : ((zs : List ℕ) × (p ≡ q ++ zs) × (zs ++ (concat ps ++ s) ≡ concat qs ++ t)) ⊎ ((zs : List ℕ) × (q ≡ p ++ zs) × (concat ps ++ s ≡ zs ++ (concat qs ++ t)))
-      → ((concat ps ++ s ≡ concat qs ++ t) → (ps ≡ qs) × (s ≡ t)) → (p ∷ ps ≡ q ∷ qs) × (s ≡ t)
-  by_cut (inl h) more =
-      let none : h.0 ≡ [] = no_longer q h.0 (concat ps ++ s) g.0 (subst IsPiece h.1 f.0) (subst BeginsSolid (sym h.2) g.1) in
-      alike (h.1 ∙ ap (λ (zs : List ℕ). q ++ zs) none ∙ append-nil q) more
-  by_cut (inr h) more = alike (sym (h.1 ∙ ap (λ (zs : List ℕ). p ++ zs) (no_longer p h.0 (concat qs ++ t) f.0 (subst IsPiece h.1 g.0) (subst BeginsSolid h.2 f.1)) ∙ append-nil p)) more
+      by_cut : ((zs : List ℕ) × (p ≡ q ++ zs) × (zs ++ (concat ps ++ s) ≡ concat qs ++ t)) ⊎ ((zs : List ℕ) × (q ≡ p ++ zs) × (concat ps ++ s ≡ zs ++ (concat qs ++ t)))
+          → ((concat ps ++ s ≡ concat qs ++ t) → (ps ≡ qs) × (s ≡ t)) → (p ∷ ps ≡ q ∷ qs) × (s ≡ t)
+      by_cut (inl h) more =
+          let none : h.0 ≡ [] = no_longer q h.0 (concat ps ++ s) g.0 (subst IsPiece h.1 f.0) (subst BeginsSolid (sym h.2) g.1) in
+          alike (h.1 ∙ ap (λ (zs : List ℕ). q ++ zs) none ∙ append-nil q) more
+      by_cut (inr h) more = alike (sym (h.1 ∙ ap (λ (zs : List ℕ). p ++ zs) (no_longer p h.0 (concat qs ++ t) f.0 (subst IsPiece h.1 g.0) (subst BeginsSolid h.2 f.1)) ∙ append-nil p)) more
 
 pub one_cut : (text : List ℕ) (ps qs : List (List ℕ)) (s t : List ℕ) → IsCut text ps s → IsCut text qs t → (ps ≡ qs) × (s ≡ t)
 one_cut text ps qs s t f g = same_pieces ps qs s t (f.joined ∙ sym g.joined) f.are_pieces g.are_pieces
@@ -343,29 +312,27 @@ one_cut text ps qs s t f g = same_pieces ps qs s t (f.joined ∙ sym g.joined) f
 -- ---- a cut with one piece
 
 -- a piece, and after it bytes without a word: the same words
-words_front : (piece tail : List ℕ) (h : IsPiece piece) → HasWords tail [] → HasWords (piece ++ tail) h.words
-words_front piece tail h none = subst (λ (ws : List Word). HasWords (piece ++ tail) ws) (append-nil h.words) (join_words piece tail h.words [] h.ends h.has_words none)
-
 tokens_front : (piece tail : List ℕ) (h : IsPiece piece) → tokens_of (piece ++ tail) h.words ≡ tokens_of piece h.words
 tokens_front piece tail h = tokens-front piece tail h.words 0 (words_lie piece h.words h.has_words)
 
 holds_front : (piece tail : List ℕ) → IsPiece piece → HasWords tail [] → ends_white (piece ++ tail) ≡ true → HoldsOne (piece ++ tail)
-holds_front piece tail h none ends = grind (arith, common_steps, words_front piece tail h none, tokens_front piece tail h) steps 200000
+holds_front piece tail h none ends =
+    grind (arith, common_steps, tokens_front piece tail h, append-nil h.words, join_words piece tail h.words [] h.ends h.has_words none) steps 200000
 
 module _ (text piece tail : List ℕ) (h : IsCut text (piece ∷ []) tail) where
   joined : piece ++ tail ≡ ended text
   joined = ap (λ (bs : List ℕ). bs ++ tail) (sym (append-nil piece)) ∙ h.joined
 
   pub one_unit_of_cut : HoldsOne (ended text)
-  one_unit_of_cut = subst HoldsOne joined (holds_front piece tail h.are_pieces.0 h.are_pieces.2 (subst (λ (bs : List ℕ). ends_white bs ≡ true) (sym joined) (ended_white text)))
+  one_unit_of_cut = subst HoldsOne joined (holds_front piece tail h.are_pieces.0 h.are_pieces.2 (subst (λ (bs : List ℕ). ends_white bs ≡ true) (sym joined)
+      (grind (arith, common_steps, cases_Bool (ends_white text), ends_behind text [] 10, feed_white) steps 200000)))
 
   pub units_of_cut : (units : Units) → HasUnits (ended text) units → HasUnits piece units
-  units_of_cut units has = record { words = own.words; has_words = own.has_words; are_units = whole.are_units; spells = whole.spells ∙ ap (tokens_of (piece ++ tail)) same ∙ tokens_front piece tail own } where
-    own : IsPiece piece
-    own = h.are_pieces.0
-
-    whole : HasUnits (piece ++ tail) units
-    whole = subst (λ (bs : List ℕ). HasUnits bs units) (sym joined) has
-
-    same : whole.words ≡ own.words
-    same = one_words (piece ++ tail) whole.words own.words whole.has_words (words_front piece tail own h.are_pieces.2)
+  units_of_cut units has =
+      let whole : HasUnits (piece ++ tail) units = subst (λ (bs : List ℕ). HasUnits bs units) (sym joined) has in
+      let own : IsPiece piece = h.are_pieces.0 in
+      let words : HasWords (piece ++ tail) own.words =
+      grind (arith, common_steps, join_words piece tail own.words [] own.ends own.has_words h.are_pieces.2) steps 200000 in
+      let same : whole.words ≡ own.words = one_words (piece ++ tail) whole.words own.words whole.has_words words in
+      let spells = whole.spells ∙ ap (tokens_of (piece ++ tail)) same ∙ tokens_front piece tail own in
+      record { words = own.words; has_words = own.has_words; are_units = whole.are_units; spells = spells }

@@ -1,8 +1,8 @@
 -- What the loop of `cut` keeps.
-use Rattle.std.proofs.lemmas.{Grind.{common_steps}, Bool.{cases_lt}}
+use Rattle.std.proofs.Common.{[], ◌≡◌, ◌≢◌, ◌⊎◌, ℕ, ◌+◌, ◌-◌, ◌<◌, ◌≤◌, true, inl, inr, List, ◌∷◌, ◌++◌, append_assoc, map, length, take, drop, None, Ok, Err, refl, sym, ap, ◌∙◌, subst, ⊎_elim, arith}
+use Rattle.std.proofs.{Common.{slice_range}, lemmas.{Grind.{common_steps}, Bool.{cases_lt}}}
 use Rattle.std.proofs.lemmas.List.{append-nil, map-append, take-append-drop, take-append-le, length-append, length-map, length-take-le, take_all, nil_from_length, Folds.{concat-append}}
-use Rattle.std.proofs.Common.{◌≡◌, ◌≢◌, ◌⊎◌, ℕ, ◌+◌, ◌-◌, ◌<◌, ◌≤◌, true, inl, inr, List, [], ◌∷◌, ◌++◌, append_assoc, map, length, take, drop, None, Ok, Err, refl, sym, ap, ◌∙◌, subst, ⊎_elim, arith}
-use Rattle.std.{proofs.{Common.{slice_range}, Math.Seq.{take-append-add}}, specs.List.{concat, prefix_len}}
+use Rattle.std.{proofs.Math.Seq.{take-append-add}, specs.List.{concat, prefix_len}}
 use Rattle.mm_text.specs.{declared.{word.Word.{Word}, fault.TextNumber.{TextNumber, TheVariants.{T07, T08}}}, Language.Run.{Run, runs, runs_from, is_white}}
 use Rattle.mm_text.specs.Language.{Reading.{AreWords, HasWords, LiesIn, first_bad}, Unit.{Token, token_of, tokens_of}, Cut.{ended, IsPiece, BeginsSolid, ArePieces, IsCut, IsFirstFaultAt}}
 use Rattle.mm_text.{specs.Code.{Grammar.{first_behind, blocks_behind, is_within}, Reader.{runs_at, TakesWord, FailsBehind, SkipsPlain}}, proofs.LayoutLemmas.{laid_out}}
@@ -18,12 +18,6 @@ use Rattle.mm_text.specs.Code.UnitReading as m
 lying_last : (text : List ℕ) (at : ℕ) (ws : List Word) (word : Word) → Lying text at (ws ++ word ∷ []) → (at ≤ word.start) × LiesIn text word
 lying_last text at [] word h = (h.0, h.1)
 lying_last text at (w ∷ ws) word h = let more = lying_last text (w.end + 1) ws word h.2 in (omega (arith, h.0, h.1.some, more.0), more.1)
-
--- the last of the words after a place
-pub last_lies : (text : List ℕ) (from : ℕ) (since rest : List Run) (part : List Word) (word : Word) → from ≤ length text → runs_at text from ≡ since ++ rest → AreWords since (part ++ word ∷ []) → (from ≤ word.start) × LiesIn text word
-last_lies text from since rest part word within joined h =
-    let all : Standing text from (runs_at text from) = runs_stand text (take from text) (drop from text) from (runs_at text from) (sym (take-append-drop from text)) (sym (length-take-le from text within)) (laid_out from (drop from text)) in
-    lying_last text from part word (subst (Lying text from) h.singles (parts_lie text from h.parts h.reading.each (subst (Standing text from) (sym h.reading.joined) (standing_front text from since rest (subst (Standing text from) joined all)))))
 
 -- ---- the pieces so far
 
@@ -110,14 +104,12 @@ module _ (text : List ℕ) (pieces : List (List ℕ)) (from at : ℕ) (phase : m
   no_words : AreWords (runs_at text from) [] → first_bad text ≡ None → HasWords (ended (drop from text)) []
   no_words none allowed =
       let place : from ≡ from + 0 = omega arith in
-      let words = words_unshift from (runs (drop from text)) [] (subst (λ (rs : List Run). AreWords rs []) (ap (λ (n : ℕ). runs_at_place n) place ∙ runs-shift from 0 (drop from text)) none) in
+      let words = words_unshift from (runs (drop from text)) [] (subst (λ (rs : List Run). AreWords rs []) (ap (λ (n : ℕ). (runs_from n (drop from text)))
+      place ∙ runs-shift from 0 (drop from text)) none) in
       record {
         allowed = allowed-ended (drop from text) (allowed_rest text from allowed);
         words_are = subst (λ (rs : List Run). AreWords rs []) (sym (runs-ended 0 (drop from text))) (subst (λ (ws : List Word). AreWords (runs (drop from text)) ws) (is_none words.0 words.2) words.1);
       } where
-        runs_at_place : ℕ → List Run
-        runs_at_place n = runs_from n (drop from text)
-
         is_none : (ws : List Word) → [] ≡ map (shift_word from) ws → ws ≡ []
         is_none [] e = refl
         is_none (w ∷ ws) e = absurd cc
@@ -125,12 +117,11 @@ module _ (text : List ℕ) (pieces : List (List ℕ)) (from at : ℕ) (phase : m
   pub cut_end : first_bad text ≡ None → AreWords (runs_at text at) [] → phase ≡ m.Begin → blocks ≡ [] → IsCut text pieces (ended (drop from text))
   cut_end allowed none is no_open = record {
     joined = h.gathers.joined;
-    are_pieces = subst (λ (ps : List (List ℕ)). ArePieces ps (ended (drop from text))) (append-nil pieces) (h.gathers.are [] (ended (drop from text)) refl (no_words rest allowed));
-  } where
-    rest : AreWords (runs_at text from) []
-    rest =
-        let no_part : h.part ++ [] ≡ [] = ap (λ (ws : List Word). ws ++ []) (part_none is no_open h.part refl) in
-        subst (λ (rs : List Run). AreWords rs []) (sym h.at_now) (subst (λ (ws : List Word). AreWords (h.since ++ runs_at text at) ws) no_part (words-append h.since (runs_at text at) h.part [] h.reads_part none))
+    are_pieces = subst (λ (ps : List (List ℕ)). ArePieces ps (ended (drop from text))) (append-nil pieces) (h.gathers.are [] (ended (drop from text)) refl
+        (no_words
+        (grind (arith, common_steps, part_none is no_open h.part refl, words-append h.since (runs_at text at) h.part [] h.reads_part none) steps 200000)
+        allowed));
+  }
 
   -- ---- plain words inside a statement
 
@@ -200,7 +191,11 @@ module _ (text : List ℕ) (pieces : List (List ℕ)) (from at : ℕ) (phase : m
     reads_next = words-append h.front more_runs h.before more_words h.reads_before reads_more
 
     pub word_lies : (from ≤ word.start) × LiesIn text word
-    word_lies = last_lies text from more_runs (runs_at text to) h.part word h.within at_next reads_more
+    word_lies = let all : Standing text from (runs_at text from) = runs_stand text (take from text) (drop from text) from (runs_at text from)
+        (sym (take-append-drop from text)) (sym (length-take-le from text h.within)) (laid_out from (drop from text)) in
+        lying_last text from h.part word (subst (Lying text from) reads_more.singles (parts_lie text from reads_more.parts reads_more.reading.each
+        (subst (Standing text from) (sym reads_more.reading.joined) (standing_front text from more_runs (runs_at text to)
+        (subst (Standing text from) at_next all)))))
 
     tokens_next : tokens_of text (h.before ++ h.part) ++ token_of text word ∷ [] ≡ tokens_of text (h.before ++ more_words)
     tokens_next = sym (map-append (token_of text) (h.before ++ h.part) (word ∷ [])) ∙ ap (tokens_of text) (append_assoc h.before h.part (word ∷ []))
@@ -259,24 +254,20 @@ module _ (text : List ℕ) (pieces : List (List ℕ)) (from at : ℕ) (phase : m
         since = [];
         before = h.before ++ more_words;
         part = [];
-        at_from = runs_next ∙ ap (λ (rs : List Run). (h.front ++ more_runs) ++ rs) behind;
-        at_now = sym behind;
+        at_from = runs_next ∙ ap (λ (rs : List Run). (h.front ++ more_runs) ++ rs) (runs_behind text from to more_runs h.part word allowed le most at_next
+            reads_more (sym taken.next) taken.ends);
+        at_now = sym (runs_behind text from to more_runs h.part word allowed le most at_next reads_more (sym taken.next) taken.ends);
         reads_before = reads_next;
         reads_part = none_read;
-        whole_before = stands_next.state ∙ whole;
+        whole_before = stands_next.state ∙ (grind (arith, common_steps) steps 200000);
         stands = subst (λ (ws : List Word). Stands (tokens_of text ws) next next_first next_blocks) (sym (append-nil (h.before ++ more_words))) stands_next;
         inner = λ n some less. absurd (omega arith);
         within = white_within text from to more_runs h.part word allowed le most at_next reads_more (sym taken.next) taken.ends;
         gathers = gathers_more text pieces (drop from text) (ended (slice_range text from (to + prefix_len is_white (drop to text)))) (drop (to + prefix_len is_white (drop to text)) text) h.gathers
             (rest_ended text from to more_runs h.part word allowed le most at_next reads_more (sym taken.next) taken.ends)
-            (piece_is text from to more_runs h.part word allowed le most at_next reads_more (sym taken.next) taken.ends (part_next ∙ whole) (λ n some less. inner_next n some (omega (arith, long))))
+            (piece_is text from to more_runs h.part word allowed le most at_next reads_more (sym taken.next) taken.ends (part_next
+            ∙ (grind (arith, common_steps) steps 200000)) (λ n some less. inner_next n some (omega (arith, long))))
             (solid_ended (drop (to + prefix_len is_white (drop to text)) text) (rest_solid text from to more_runs h.part word allowed le most at_next reads_more (sym taken.next) taken.ends));
       } where
         le : from ≤ to
         le = let lies = word_lies in omega (arith, lies.0, taken.some, taken.next)
-
-        whole : ok_step next (length next_blocks) ≡ ok_step m.Begin 0
-        whole = ap (λ (p : m.Phase). ok_step p (length next_blocks)) is ∙ ap (λ (bs : List ℕ). ok_step m.Begin (length bs)) none
-
-        behind : runs_at text to ≡ runs_at text (to + prefix_len is_white (drop to text))
-        behind = runs_behind text from to more_runs h.part word allowed le most at_next reads_more (sym taken.next) taken.ends

@@ -1,12 +1,11 @@
 -- What the loop of `divided_cut` keeps of the parts of the piece that it reads.
-use Rattle.std.proofs.lemmas.{Grind.{common_steps}, List.{append-nil, map-append, take_rest}}
-use Rattle.std.proofs.Common.{◌≡◌, ℕ, ◌+◌, ◌-◌, ◌≤◌, Bool, true, false, List, [], ◌∷◌, ◌++◌, append_assoc, map, length, take, drop, Option, None, Some, Ok, refl, sym, ap, ◌∙◌, subst, arith}
-use Rattle.std.specs.{Prelude.{slice_range, unwrap_or, if◌then◌else◌}, List.{AllByRecursion, prefix_len}}
-use Rattle.mm_text.specs.{declared.{division.PartReading.{PartReading}, part.{Part.{Part}, PartKind.{PartKind}}, word.{Word.{Word}, WordKind.{WordKind}}}, Language.Run.{Run, is_white}}
-use Rattle.mm_text.specs.Language.{Reading.{AreWords, LiesIn, first_bad}, Unit.{Token, token_of, tokens_of, IsPlain}, Cut.{ended}, Part.{HasParts, token_end, word_part}}
+use Rattle.std.proofs.Common.{[], ◌≡◌, ℕ, ◌+◌, ◌-◌, ◌≤◌, Bool, true, false, List, ◌∷◌, ◌++◌, append_assoc, map, length, take, drop, Option, None, Some, Ok, refl, sym, ap, ◌∙◌, subst, arith}
+use Rattle.std.{proofs.lemmas.{Grind.{common_steps}, List.{append-nil, map-append, take_rest}}, specs.{Prelude.{slice_range, unwrap_or, if◌then◌else◌}, List.{AllByRecursion, prefix_len}}}
+use Rattle.mm_text.specs.Language.{Unit.{unit_tokens, Token, token_of, tokens_of, IsPlain}, Part.{parts_of, HasParts, token_end, word_part}, Run.{Run, is_white}, Reading.{AreWords, LiesIn, first_bad}}
+use Rattle.mm_text.specs.{Language.Cut.{ended}, declared.{division.PartReading.{PartReading}, part.{Part.{Part}, PartKind.{PartKind}}, word.{Word.{Word}, WordKind.{WordKind}}}}
 use Rattle.mm_text.specs.Code.{Grammar.{phase_of, is_within}, PartReading.{ends_part, emit, parts_behind, open_behind, TakesPartWord}, Reader.{runs_at, TakesWord, SkipsPlain}}
-use Rattle.mm_text.proofs.{PartLemmas.{made_part, emit_symbols, whole_parts}, PieceUnitLemmas.{unshift, piece_spells, runs_behind}, ReaderLemmas.{words-append, slice_length}}
-use Rattle.mm_text.proofs.{ReadingLemmas.{none_read}, SkipLemmas.{plain_words, are_plain_words, plain_tokens}}
+use Rattle.mm_text.proofs.{PartLemmas.{emit_units, made_part, emit_symbols}, PieceUnitLemmas.{unshift, piece_spells, runs_behind}, ReaderLemmas.{words-append, slice_length}, ReadingLemmas.{none_read}}
+use Rattle.mm_text.proofs.SkipLemmas.{plain_words, are_plain_words, plain_tokens}
 use Rattle.mm_text.specs.Code.UnitReading as m
 
 -- ---- words inside a statement
@@ -35,11 +34,7 @@ divided_none text from at kind same = record { since = []; words = []; begin = k
 
 module _ (text : List ℕ) (from at : ℕ) (found : List Part) (first : Option ℕ) (kind : PartKind) (h : Divided text from at found first kind) where
   emits_more : (words : List Word) (later : List Token) → emit None h.begin (map (unshift from) (tokens_of text (h.words ++ words)) ++ later) ≡ found ++ emit first kind (map (unshift from) (tokens_of text words) ++ later)
-  emits_more words later =
-      ap (λ (ts : List Token). emit None h.begin (map (unshift from) ts ++ later)) (map-append (token_of text) h.words words)
-      ∙ ap (λ (ts : List Token). emit None h.begin (ts ++ later)) (map-append (unshift from) (tokens_of text h.words) (tokens_of text words))
-      ∙ ap (emit None h.begin) (append_assoc (map (unshift from) (tokens_of text h.words)) (map (unshift from) (tokens_of text words)) later)
-      ∙ h.emits (map (unshift from) (tokens_of text words) ++ later)
+  emits_more words later = grind (arith, common_steps, append_assoc, map-append, unshift) steps 200000
 
   -- plain words inside a part
   pub divided_skip : (start to : ℕ) → first ≡ Some start → SkipsPlain text at to → Divided text from to found first kind
@@ -49,13 +44,8 @@ module _ (text : List ℕ) (from at : ℕ) (found : List Part) (first : Option �
     begin = h.begin;
     joined = h.joined ∙ ap (λ (rs : List Run). h.since ++ rs) s.joined ∙ sym (append_assoc h.since s.inside (runs_at text to));
     reads = words-append h.since s.inside h.words (plain_words s.inside) h.reads (are_plain_words s.inside s.plain);
-    emits = λ later. emits_more (plain_words s.inside) later ∙ ap (λ (ps : List Part). found ++ ps) (passed later);
-  } where
-    tokens : List Token
-    tokens = map (unshift from) (tokens_of text (plain_words s.inside))
-
-    passed : (later : List Token) → emit first kind (map (unshift from) (tokens_of text (plain_words s.inside)) ++ later) ≡ emit first kind later
-    passed later = rw is (emit_symbols start kind (map (unshift from) (tokens_of text (plain_words s.inside))) later (plain_unshift from (tokens_of text (plain_words s.inside)) (plain_tokens text s.inside)))
+    emits = λ later. grind (arith, common_steps, emit_symbols, emits_more, plain_tokens, plain_unshift, plain_words, unshift) steps 200000;
+  }
 
   -- one more word
   module _ (word : Word) (to : ℕ) (taken : TakesWord text at word to) (place : (from ≤ word.start) × LiesIn text word) where
@@ -102,7 +92,8 @@ module _ (text : List ℕ) (from at : ℕ) (found : List Part) (first : Option �
       divided_end units has =
           let spelled = piece_spells text from to since h.words word allowed le most joined reads (sym taken.next) taken.ends units has in
           sym (append-nil (parts_behind (ends_part word.kind) found made)) ∙ sym (emits_next []) ∙ ap (emit None h.begin) (append-nil (map (unshift from) (tokens_of text (h.words ++ word ∷ []))) ∙ sym spelled)
-          ∙ whole_parts units h.begin has.are_units
+          ∙ (grind
+          (arith, common_steps, append-nil (unit_tokens units), append-nil (parts_of units), emit_units true units h.begin [] has.are_units) steps 200000)
 
       pub divided_next : (kind : PartKind) → Divided text (to + white) to [] None kind
       divided_next kind = divided_none text (to + white) to kind (sym (runs_behind text from to since h.words word allowed le most joined reads (sym taken.next) taken.ends))

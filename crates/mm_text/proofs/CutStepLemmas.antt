@@ -1,16 +1,12 @@
 -- What the steps of `cut` do to what its loop keeps.
-use Rattle.std.proofs.lemmas.{Grind.{common_steps}, List.{take_rest}}
-use Rattle.std.{proofs.Common.{◌≡◌, ℕ, ◌+◌, ◌-◌, ◌≤◌, Bool, List, [], ◌∷◌, ◌++◌, length, take, drop, None, Ok, Err, sym, ap, ◌∙◌, subst, arith, slice_range}, specs.List.{prefix_len}}
+use Rattle.std.proofs.{Common.{[], ◌≡◌, ℕ, ◌+◌, ◌-◌, ◌≤◌, Bool, List, ◌∷◌, ◌++◌, length, take, drop, None, Ok, Err, sym, ap, ◌∙◌, subst, arith, slice_range}, lemmas.Grind.{common_steps}}
+use Rattle.std.{proofs.lemmas.List.{take_rest}, specs.List.{prefix_len}}
 use Rattle.mm_text.specs.{declared.{grammar.Grammar.{Grammar}, word.Word.{Word}, fault.{TextError.{TextError}, TextNumber.{TextNumber, TheVariants.{T07, T08}}}}, Language.Run.{is_white}}
 use Rattle.mm_text.specs.Language.{Reading.{AreWords, LiesIn, first_bad}, Unit.{token_of}, Cut.{ended, IsCut, IsFirstFaultAt, IsCutError}}
 use Rattle.mm_text.specs.Code.{Grammar.{phase_of, first_behind, blocks_behind, TakesUnit, GrammarTakes, EndsWith}, Reader.{runs_at, TakesWord}}
 use Rattle.mm_text.proofs.CutLemmas.{Progress, word_lies, units_fault, unit_end, block_end, cut_end, progress_more, progress_piece}
 use Rattle.mm_text.specs.declared.fault.TextError.TheVariants as errors
 use Rattle.mm_text.specs.Code.UnitReading as m
-
-step_to : (step : m.UnitStep) (next : m.Phase) → phase_of step ≡ Ok next → (depth : ℕ) × (step ≡ Ok (m.phase_state next depth))
-step_to (Ok s) next e = let same : s.0 ≡ next = cc in (s.1, ap (λ (p : m.Phase). Ok (m.phase_state p s.1)) same)
-step_to (Err number) next e = absurd cc
 
 step_refused : (step : m.UnitStep) (number : TextNumber) → phase_of step ≡ Err number → step ≡ Err number
 step_refused step number e = grind (arith, common_steps) steps 200000
@@ -48,11 +44,10 @@ module _ (text : List ℕ) (pieces : List (List ℕ)) (from at : ℕ) (g : Gramm
 
       module _ (takes : TakesUnit g word could new) where
         step : (depth : ℕ) × (m.next g.phase (length g.blocks.items) word.kind (m.could_label (token_of text word)) ≡ Ok (m.phase_state new.phase depth))
-        step = step_to (m.next g.phase (length g.blocks.items) word.kind (m.could_label (token_of text word))) new.phase (sym told ∙ takes.phase)
+        step = grind (arith, common_steps) steps 200000
 
         kept : (pieces : List (List ℕ)) (from : ℕ) → Progress text pieces from to new.phase (first_behind g.phase g.first word.start) (blocks_behind word.kind g.blocks.items word.start) → Keeps text pieces from to new
-        kept pieces from p =
-            subst (λ (n : ℕ). Progress text pieces from to new.phase n new.blocks.items) (sym takes.first) (subst (λ (bs : List ℕ). Progress text pieces from to new.phase (first_behind g.phase g.first word.start) bs) (sym takes.blocks) p)
+        kept pieces from p = grind (arith, common_steps) steps 200000
 
         -- a word inside a unit
         pub keeps_more : ¬ ((new.phase ≡ m.Begin) × (new.blocks.items ≡ [])) → Keeps text pieces from to new
@@ -62,11 +57,9 @@ module _ (text : List ℕ) (pieces : List (List ℕ)) (from at : ℕ) (g : Gramm
         pub keeps_piece : first_bad text ≡ None → to ≤ length text → (new.phase ≡ m.Begin) × (new.blocks.items ≡ []) → (white : ℕ) → white ≡ prefix_len is_white (take (length text - word.end) (drop word.end text))
             → (all : List (List ℕ)) → all ≡ pieces ++ ended (slice_range text from (word.end + white)) ∷ [] → Keeps text all (word.end + white) to new
         keeps_piece allowed most whole white is all joined =
-            subst (λ (ps : List (List ℕ)). Keeps text ps (word.end + white) to new) (sym joined) (subst (λ (n : ℕ). Keeps text (pieces ++ ended (slice_range text from n) ∷ []) n to new) end
+            subst (λ (ps : List (List ℕ)). Keeps text ps (word.end + white) to new) (sym joined)
+            (subst (λ (n : ℕ). Keeps text (pieces ++ ended (slice_range text from n) ∷ []) n to new)
+            (grind (arith, common_steps, take_rest text word.end) steps 200000)
             (kept (pieces ++ ended (slice_range text from (to + prefix_len is_white (drop to text))) ∷ []) (to + prefix_len is_white (drop to text))
-            (progress_piece text pieces from at g.phase g.first g.blocks.items h word to taken new.phase step.0 step.1 allowed most whole.0 (sym takes.blocks ∙ whole.1)))) where
-              here : white ≡ prefix_len is_white (drop to text)
-              here = is ∙ ap (prefix_len is_white) (take_rest text word.end) ∙ ap (λ (n : ℕ). prefix_len is_white (drop n text)) (sym taken.next)
-
-              end : to + prefix_len is_white (drop to text) ≡ word.end + white
-              end = omega (arith, here, taken.next)
+            (progress_piece text pieces from at g.phase g.first g.blocks.items h word to taken new.phase step.0 step.1 allowed most whole.0
+            (sym takes.blocks ∙ whole.1))))

@@ -1,7 +1,6 @@
 -- Each text has its cut or its first fault: what `cut` does, without its code.
-use Rattle.std.proofs.lemmas.{Grind.{common_steps}, Bool.{cases_Bool, false≢true}, List.{take_rest, length-drop, Sums.{prefix_len-le-length}}}
-use Rattle.std.proofs.Common.{◌≡◌, ◌≢◌, ◌⊎◌, ℕ, zero, suc, ◌+◌, ◌-◌, ◌<◌, ◌≤◌, List, [], ◌∷◌, ◌++◌, length, take, drop, Option, Some, None, Ok, Err, refl, sym, ap, ◌∙◌, inl, inr, arith, slice_range}
-use Rattle.std.specs.{List.{prefix_len}, Str.{bytes_eq}}
+use Rattle.std.proofs.Common.{[], ◌≡◌, ◌≢◌, ◌⊎◌, ℕ, zero, suc, ◌+◌, ◌-◌, ◌<◌, ◌≤◌, List, ◌∷◌, ◌++◌, length, take, drop, Option, Some, None, Ok, Err, refl, sym, ap, ◌∙◌, inl, inr, arith, slice_range}
+use Rattle.std.{proofs.lemmas.{Grind.{common_steps}, Bool.{cases_Bool, false≢true}, List.{take_rest, length-drop, Sums.{prefix_len-le-length}}}, specs.{List.{prefix_len}, Str.{bytes_eq}}}
 use Rattle.mm_text.specs.declared.{reader.Span.{Span}, word.{Word.{Word}, WordKind.{WordKind}}, fault.{TextFault.{TextFault}, TextNumber.{TextNumber, TheVariants.{T01, T02, T03, T04, T05, T07, T08}}}}
 use Rattle.mm_text.specs.Language.{Run.{is_white, is_solid}, Spelling.{opening, closing}, Reading.{AreWords, first_bad}, Unit.{token_of}, Cut.{ended, IsCut, IsFirstFault}}
 use Rattle.mm_text.specs.Code.{LeftToRight.{word_kind, holds_mark, words_fault_at}, Grammar.{first_behind, blocks_behind}}
@@ -17,17 +16,11 @@ use Rattle.mm_text.specs.Code.UnitReading as m
 abbrev NextRun : List ℕ → ℕ → Type 0
 NextRun text from = (span : Span) × (to : ℕ) × TakesSpan text from span to × (to ≤ length text)
 
-solid_most : (text : List ℕ) (from n : ℕ) → n ≡ prefix_len is_solid (take (length text - from) (drop from text)) → n ≤ length text - from
-solid_most text from n is = grind (arith, common_steps, take_rest text from, prefix_len-le-length is_solid (drop from text), length-drop from text) steps 200000
-
 run_by : (text : List ℕ) (from w n : ℕ) → w ≡ prefix_len is_white (take (length text - from) (drop from text)) → n ≡ prefix_len is_solid (take (length text - (from + w)) (drop (from + w) text)) → (runs_at text from ≡ []) ⊎ NextRun text from
 run_by text from w zero w-is n-is = inl (no_run text from w 0 w-is n-is refl)
 run_by text from w (suc n) w-is n-is = inr (_, from + w + suc n, takes_run text from (from + w) (suc n) (omega arith) (omega arith) (white_at text from w w-is) n-is, within) where
   within : from + w + suc n ≤ length text
-  within = let most : suc n ≤ length text - (from + w) = solid_most text (from + w) (suc n) n-is in omega arith
-
-run_at : (text : List ℕ) (from : ℕ) → (runs_at text from ≡ []) ⊎ NextRun text from
-run_at text from = grind (arith, common_steps, run_by) steps 200000
+  within = let most : suc n ≤ length text - (from + w) = grind (arith, common_steps, length-drop, prefix_len-le-length, take_rest) steps 200000 in omega arith
 
 -- ---- the end of a comment
 
@@ -35,7 +28,7 @@ abbrev Skipped : List ℕ → ℕ → ℕ → Type 0
 Skipped text from start = ((to : ℕ) × SkipsComment text from to × (from ≤ to) × (to ≤ length text)) ⊎ ((number : TextNumber) × (place : ℕ) × FailsInside (runs_at text from) start number place)
 
 skip_step : (text : List ℕ) (from at start : ℕ) → from ≤ at → Skipping text from at → ((to : ℕ) → at < to → to ≤ length text → Skipping text from to → Skipped text from start) → Skipped text from start
-skip_step text from at start le h go = by_run (run_at text at) where
+skip_step text from at start le h go = by_run (grind (arith, common_steps, run_by) steps 200000) where
   by_run : (runs_at text at ≡ []) ⊎ NextRun text at → Skipped text from start
   by_run (inl none) = inr (T02, start, skip_open text from at start h none)
   by_run (inr (span, to, run, within)) =
@@ -59,7 +52,7 @@ abbrev pub Given : List ℕ → ℕ → Type 0
 Given text from = ((word : Word) × (to : ℕ) × TakesWord text from word to × (to ≤ length text)) ⊎ (AreWords (runs_at text from) [] ⊎ ((number : TextNumber) × (place : ℕ) × FailsBehind (runs_at text from) [] number place))
 
 word_step : (text : List ℕ) (from at : ℕ) → from ≤ at → Passing text from at → ((to : ℕ) → at < to → to ≤ length text → Passing text from to → Given text from) → Given text from
-word_step text from at le h go = by_run (run_at text at) where
+word_step text from at le h go = by_run (grind (arith, common_steps, run_by) steps 200000) where
   by_kind : (span : Span) (to : ℕ) → TakesSpan text at span to → to ≤ length text → (slice_range text span.start span.end ≢ opening) → (slice_range text span.start span.end ≢ closing)
       → (kind : Option WordKind) → word_kind (slice_range text span.start span.end) ≡ kind → Given text from
   by_kind span to run within no_open no_close (Some kind) is = inl (record { kind = kind; start = span.start; end = span.end }, to, pass_word text from at span to h run kind is within le, within)

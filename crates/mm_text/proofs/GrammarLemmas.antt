@@ -1,12 +1,12 @@
 -- What a grammar keeps: the state of the machine, where the unit that is being read begins, and the open blocks.
-use Rattle.std.proofs.lemmas.{Grind.{common_steps}, Bool.{cases_lt, false≢true}, List.{append-nil, map-append, length-append, length-map, take-append-le, take_all}}
-use Rattle.std.proofs.Common.{true, ◌≡◌, ◌≢◌, ◌⊎◌, ℕ, zero, suc, ◌+◌, ◌-◌, ◌<◌, ◌≤◌, List, [], ◌∷◌, ◌++◌, append_assoc, length, take, drop, slice_get, Some, None, Ok, Err, refl, sym, ap, ◌∙◌, subst}
-use Rattle.std.{proofs.{Common.{inl, inr, ⊎_elim, arith}, Math.Seq.{take-append_seam, drop-append-add}}, specs.List.{AllByRecursion}}
-use Rattle.mm_text.specs.declared.{word.{Word.{Word}, WordKind.{WordKind}, Keyword.TheVariants.{BlockStart, BlockEnd}}, fault.TextNumber.{TextNumber, TheVariants.{T06, T09, T10, T11, T12}}}
-use Rattle.mm_text.specs.Language.{Run.{Run, runs}, Reading.{AreWords, first_bad}, Unit.{Token, IsKeyword, IsPlain, EndsInUnit, EndsInBlock, token_of, tokens_of}, Cut.{StopsUnits, IsFirstFaultAt}}
+use Rattle.std.proofs.Common.{[], true, ◌≡◌, ◌≢◌, ◌⊎◌, ℕ, zero, suc, ◌+◌, ◌-◌, ◌<◌, ◌≤◌, List, ◌∷◌, ◌++◌, append_assoc, length, take, drop, slice_get, Some, None, Ok, Err, refl, sym, ap, ◌∙◌, subst}
+use Rattle.std.proofs.{Common.{inl, inr, ⊎_elim, arith}, lemmas.{Grind.{common_steps}, Bool.{cases_lt, false≢true}, List.{append-nil, map-append, length-append, length-map, take-append-le, take_all}}}
+use Rattle.std.{proofs.Math.Seq.{take-append_seam, drop-append-add}, specs.List.{AllByRecursion}}
+use Rattle.mm_text.specs.{declared.{word.{Word.{Word}, WordKind.{WordKind}, Keyword.TheVariants.{BlockStart, BlockEnd}}, fault.TextNumber.{TextNumber}}, Language.Run.{Run, runs}}
+use Rattle.mm_text.specs.Language.{Reading.{AreWords, first_bad}, Unit.{Token, IsKeyword, IsPlain, EndsInUnit, EndsInBlock, token_of, tokens_of}, Cut.{StopsUnits, IsFirstFaultAt}}
 use Rattle.mm_text.specs.Code.{Grammar.{first_behind, blocks_behind, is_within}, BlockCounts.{is_start_word, is_end_word, starts, ends}}
 use Rattle.mm_text.proofs.UnitFaultLemmas.{run_push, stop_at, ends_in_unit, ends_in_block, Covered, covered-append, covered_drop, starts-append, ends-append, start_counts, end_counts}
-use Rattle.mm_text.proofs.UnitScanLemmas.{Counts, step_counts, is_begin, slice_get_at}
+use Rattle.mm_text.proofs.UnitScanLemmas.{step_counts, is_begin, slice_get_at}
 use Rattle.mm_text.specs.Code.UnitReading as m
 
 -- ---- open blocks
@@ -31,15 +31,6 @@ abbrev pub Opens : List Token → List ℕ → Type 0
 Opens tokens [] = IsClosed tokens
 Opens tokens (start ∷ blocks) = OpensAt tokens start (λ inner. Opens inner blocks)
 
-closed_none : IsClosed []
-closed_none = (refl, tt)
-
-closed_more : (tokens : List Token) (token : Token) → IsClosed tokens → is_start_word token.kind ≡ 0 → is_end_word token.kind ≡ 0 → IsClosed (tokens ++ token ∷ [])
-closed_more tokens token h no_start no_end = grind (arith, common_steps, covered-append, ends-append, starts-append) steps 200000
-
-closed_block : (before inner : List Token) (begin end : Token) → IsClosed before → IsClosed inner → IsKeyword BlockStart begin → IsKeyword BlockEnd end → IsClosed (before ++ begin ∷ (inner ++ end ∷ []))
-closed_block before inner begin end f g opens closes = grind (arith, common_steps, covered-append, end_counts, ends-append, start_counts, starts-append) steps 200000
-
 behind : (tokens before inner : List Token) (begin token : Token) → tokens ≡ before ++ begin ∷ inner → tokens ++ token ∷ [] ≡ before ++ begin ∷ (inner ++ token ∷ [])
 behind tokens before inner begin token joined = ap (λ (ts : List Token). ts ++ token ∷ []) joined ∙ append_assoc before (begin ∷ inner) (token ∷ [])
 
@@ -48,15 +39,15 @@ opens_inside : {Now Later : List Token → Type 0} (start : ℕ) (tokens : List 
 opens_inside start tokens token h later = grind (arith, common_steps) steps 200000
 
 opens_more : (blocks : List ℕ) (tokens : List Token) (token : Token) → Opens tokens blocks → is_start_word token.kind ≡ 0 → is_end_word token.kind ≡ 0 → Opens (tokens ++ token ∷ []) blocks
-opens_more [] tokens token h no_start no_end = closed_more tokens token h no_start no_end
+opens_more [] tokens token h no_start no_end = grind (arith, common_steps, covered-append, ends-append, starts-append) steps 200000
 opens_more (start ∷ blocks) tokens token h no_start no_end = opens_inside start tokens token h (opens_more blocks h.inner token h.goes_on no_start no_end)
 
 opens_start : (blocks : List ℕ) (tokens : List Token) (token : Token) → Opens tokens blocks → IsKeyword BlockStart token → Opens (tokens ++ token ∷ []) (blocks ++ token.start ∷ [])
-opens_start [] tokens token h opens = record { before = tokens; begin = token; inner = []; joined = refl; closed = h; opens = opens; place = refl; goes_on = closed_none }
+opens_start [] tokens token h opens = grind (arith, common_steps) steps 200000
 opens_start (start ∷ blocks) tokens token h opens = opens_inside start tokens token h (opens_start blocks h.inner token h.goes_on opens)
 
 opens_end : (blocks : List ℕ) (last : ℕ) (tokens : List Token) (token : Token) → Opens tokens (blocks ++ last ∷ []) → IsKeyword BlockEnd token → Opens (tokens ++ token ∷ []) blocks
-opens_end [] last tokens token h closes = subst (λ (ts : List Token). IsClosed ts) (sym (behind tokens h.before h.inner h.begin token h.joined)) (closed_block h.before h.inner h.begin token h.closed h.goes_on h.opens closes)
+opens_end [] last tokens token h closes = grind (arith, common_steps, behind, covered-append, end_counts, ends-append, start_counts, starts-append) steps 200000
 opens_end (start ∷ blocks) last tokens token h closes = opens_inside start tokens token h (opens_end blocks last h.inner token h.goes_on closes)
 
 -- the innermost open block
@@ -73,15 +64,7 @@ innermost : (blocks : List ℕ) (last : ℕ) (tokens : List Token) → Opens tok
 innermost [] last tokens h = record { before = h.before; begin = h.begin; inner = h.inner; joined = h.joined; opens = h.opens; place = h.place; closed = h.goes_on }
 innermost (start ∷ blocks) last tokens h =
     let more = innermost blocks last h.inner h.goes_on in
-    record {
-      before = h.before ++ h.begin ∷ more.before;
-      begin = more.begin;
-      inner = more.inner;
-      joined = h.joined ∙ ap (λ (ts : List Token). h.before ++ h.begin ∷ ts) more.joined ∙ sym (append_assoc h.before (h.begin ∷ more.before) (more.begin ∷ more.inner));
-      opens = more.opens;
-      place = more.place;
-      closed = more.closed;
-    }
+    grind (arith, common_steps, append_assoc h.before (h.begin ∷ more.before) (more.begin ∷ more.inner)) steps 200000
 
 -- ---- what comes after some words
 
@@ -102,7 +85,7 @@ pub record Stands (tokens : List Token) (phase : m.Phase) (first : ℕ) (blocks 
   pub opens : Opens tokens blocks
 
 pub stands_none : (first : ℕ) → Stands [] m.Begin first []
-stands_none first = record { state = refl; unit = λ other. absurd (other refl); opens = closed_none }
+stands_none first = record { state = refl; unit = λ other. absurd (other refl); opens = (grind (arith, common_steps) steps 200000) }
 
 pub last_of : (xs : List ℕ) → 0 < length xs → (last : ℕ) × (xs ≡ take (length xs - 1) xs ++ last ∷ [])
 last_of [] some = absurd (omega arith)
@@ -112,9 +95,6 @@ last_of (x ∷ y ∷ xs) some =
     grind (arith, common_steps, last_of (y ∷ xs) (omega arith)) steps 200000
 
 -- the machine counts the open blocks
-blocks_count : (kind : WordKind) (blocks : List ℕ) (start depth : ℕ) → length blocks + is_start_word kind ≡ depth + is_end_word kind → length (blocks_behind kind blocks start) ≡ depth
-blocks_count kind blocks start depth e = grind (arith, common_steps) steps 200000
-
 blocks_more : (kind : WordKind) (blocks : List ℕ) (tokens : List Token) (token : Token) (depth : ℕ) → token.kind ≡ kind → length blocks + is_start_word kind ≡ depth + is_end_word kind
     → Opens tokens blocks → Opens (tokens ++ token ∷ []) (blocks_behind kind blocks token.start)
 blocks_more kind blocks tokens token depth is e h = grind (arith, common_steps, last_of, opens_end, opens_more, opens_start) steps 200000
@@ -125,37 +105,18 @@ module _ (tokens : List Token) (phase : m.Phase) (first : ℕ) (blocks : List �
   pub stands_more : (next : m.Phase) (depth : ℕ) → m.next phase (length blocks) token.kind (m.could_label token) ≡ Ok (m.phase_state next depth)
       → Stands (tokens ++ token ∷ []) next (first_behind phase first token.start) (blocks_behind token.kind blocks token.start)
   stands_more next depth e = record {
-    state = all ∙ ap (λ (d : ℕ). Ok (next, d)) (sym (blocks_count token.kind blocks token.start depth counts));
+    state = all ∙ ap (λ (d : ℕ). Ok (next, d)) (sym (grind (arith, common_steps) steps 200000));
     unit = λ other. unfinished other (is_begin phase);
-    opens = blocks_more token.kind blocks tokens token depth refl counts h.opens;
+    opens = blocks_more token.kind blocks tokens token depth refl (grind (arith, common_steps, step_counts) steps 200000) h.opens;
   } where
     all : m.run m.Begin 0 (tokens ++ token ∷ []) ≡ Ok (m.phase_state next depth)
     all = run_push tokens token phase (length blocks) h.state ∙ e
 
-    counts : length blocks + is_start_word token.kind ≡ depth + is_end_word token.kind
-    counts = subst (λ (s : m.UnitStep). Counts (length blocks) token.kind s) e (step_counts phase (length blocks) token.kind (m.could_label token))
-
-    long : length (tokens ++ token ∷ []) ≡ length tokens + 1
-    long = length-append tokens (token ∷ [])
-
     here : next ≢ m.Begin → (n : ℕ) → length tokens < n → n ≤ length (tokens ++ token ∷ []) → (phase : m.Phase) × (d : ℕ) × (m.run m.Begin 0 (take n (tokens ++ token ∷ [])) ≡ Ok (m.phase_state phase d)) × (phase ≢ m.Begin)
-    here other n l g = (next, depth, ap (m.run m.Begin 0) (take_all n (tokens ++ token ∷ []) (omega (arith, long))) ∙ all, other)
-
-    first_is : (p : m.Phase) → p ≢ m.Begin → first_behind p first token.start ≡ first
-    first_is m.Begin other = absurd (other refl)
-    first_is _ other = refl
+    here other n l g = (next, depth, ap (m.run m.Begin 0) (take_all n (tokens ++ token ∷ []) (omega (arith, (length-append tokens (token ∷ []))))) ∙ all, other)
 
     unfinished : next ≢ m.Begin → (phase ≡ m.Begin) ⊎ (phase ≢ m.Begin) → Unfinished (tokens ++ token ∷ []) (first_behind phase first token.start)
-    unfinished other (inl is) = record {
-      before = tokens;
-      begin = token;
-      inner = [];
-      depth = length blocks;
-      joined = refl;
-      place = ap (λ (p : m.Phase). first_behind p first token.start) (sym is);
-      begins = h.state ∙ ap (λ (p : m.Phase). Ok (p, length blocks)) is;
-      later = here other;
-    }
+    unfinished other (inl is) = grind (arith, common_steps, here other, tokens) steps 200000
     unfinished other (inr inside) =
         let u = h.unit inside in
         record {
@@ -164,7 +125,7 @@ module _ (tokens : List Token) (phase : m.Phase) (first : ℕ) (blocks : List �
           inner = u.inner ++ token ∷ [];
           depth = u.depth;
           joined = behind tokens u.before u.inner u.begin token u.joined;
-          place = u.place ∙ sym (first_is phase inside);
+          place = u.place ∙ sym (grind (arith, common_steps) steps 200000);
           begins = u.begins;
           later = λ n l g. ⊎_elim (λ below. here other n below g)
               (λ above. (let old = u.later n l above in (old.0, old.1, ap (m.run m.Begin 0) (take-append-le n tokens (token ∷ []) above) ∙ old.2, old.3)))
@@ -175,83 +136,55 @@ module _ (tokens : List Token) (phase : m.Phase) (first : ℕ) (blocks : List �
 
 pub stands_unit : (tokens : List Token) (phase : m.Phase) (first : ℕ) (blocks : List ℕ) → Stands tokens phase first blocks → phase ≢ m.Begin
     → (word : ℕ) × (token : Token) × EndsInUnit tokens word × (slice_get tokens word ≡ Some token) × (first ≡ token.start)
-stands_unit tokens phase first blocks h other = (length u.before, u.begin, ends_in_unit tokens (length u.before) u.depth within begins u.later, there, sym u.place) where
-  u : Unfinished tokens first
-  u = h.unit other
-
-  within : length u.before < length tokens
-  within = let long : length (u.before ++ u.begin ∷ u.inner) ≡ length u.before + length (u.begin ∷ u.inner) = length-append u.before (u.begin ∷ u.inner) in
-      let same : length tokens ≡ length (u.before ++ u.begin ∷ u.inner) = ap length u.joined in omega arith
-
-  begins : m.run m.Begin 0 (take (length u.before) tokens) ≡ Ok (m.phase_state m.Begin u.depth)
-  begins = ap (λ (ts : List Token). m.run m.Begin 0 (take (length u.before) ts)) u.joined ∙ ap (m.run m.Begin 0) (take-append_seam u.before (u.begin ∷ u.inner)) ∙ u.begins
-
-  there : slice_get tokens (length u.before) ≡ Some u.begin
-  there = ap (λ (ts : List Token). slice_get ts (length u.before)) u.joined ∙ slice_get_at u.before u.inner u.begin
+stands_unit tokens phase first blocks h other =
+    let there : slice_get tokens (length u.before) ≡ Some u.begin =
+    ap (λ (ts : List Token). slice_get ts (length u.before)) u.joined ∙ slice_get_at u.before u.inner u.begin in
+    let within : length u.before < length tokens = omega (arith, ap length u.joined, length-append u.before (u.begin ∷ u.inner)) in
+    let begins : m.run m.Begin 0 (take (length u.before) tokens) ≡ Ok (m.phase_state m.Begin u.depth) = grind (arith, common_steps) steps 200000 in
+    (length u.before, u.begin, ends_in_unit tokens (length u.before) u.depth within begins u.later, there, sym u.place) where
+      u : Unfinished tokens first
+      u = h.unit other
 
 pub stands_block : (tokens : List Token) (first : ℕ) (outer : List ℕ) (at : ℕ) → Stands tokens m.Begin first (outer ++ at ∷ []) → (word : ℕ) × (token : Token) × EndsInBlock tokens word × (slice_get tokens word ≡ Some token) × (at ≡ token.start)
-stands_block tokens first outer at h = (length i.before, i.begin, ends_in_block tokens (length i.before) (length (outer ++ at ∷ [])) i.begin h.state there i.opens even fewer, there, sym i.place) where
-  i : Innermost tokens at
-  i = innermost outer at tokens h.opens
+stands_block tokens first outer at h =
+    let there : slice_get tokens (length i.before) ≡ Some i.begin = grind (arith, common_steps, slice_get_at) steps 200000 in
+    (length i.before, i.begin, ends_in_block tokens (length i.before) (length (outer ++ at ∷ [])) i.begin h.state there i.opens even fewer, there, sym i.place) where
+      i : Innermost tokens at
+      i = innermost outer at tokens h.opens
 
-  there : slice_get tokens (length i.before) ≡ Some i.begin
-  there = ap (λ (ts : List Token). slice_get ts (length i.before)) i.joined ∙ slice_get_at i.before i.inner i.begin
+      rest : (n : ℕ) → drop (length i.before + suc n) tokens ≡ drop n i.inner
+      rest n = ap (drop (length i.before + suc n)) i.joined ∙ drop-append-add i.before (i.begin ∷ i.inner) (suc n)
 
-  rest : (n : ℕ) → drop (length i.before + suc n) tokens ≡ drop n i.inner
-  rest n = ap (drop (length i.before + suc n)) i.joined ∙ drop-append-add i.before (i.begin ∷ i.inner) (suc n)
+      even : starts (drop (length i.before + 1) tokens) ≡ ends (drop (length i.before + 1) tokens)
+      even = subst (λ (ts : List Token). starts ts ≡ ends ts) (sym (grind (arith, common_steps, rest 0) steps 200000)) i.closed.0
 
-  behind_is : drop (length i.before + 1) tokens ≡ i.inner
-  behind_is = rest 0
-
-  even : starts (drop (length i.before + 1) tokens) ≡ ends (drop (length i.before + 1) tokens)
-  even = subst (λ (ts : List Token). starts ts ≡ ends ts) (sym behind_is) i.closed.0
-
-  fewer : (n : ℕ) → length i.before < n → starts (drop n tokens) ≤ ends (drop n tokens)
-  fewer n l =
-      let k = n - (length i.before + 1) in
-      let same : length i.before + suc k ≡ n = omega arith in
-      subst (λ (ts : List Token). starts ts ≤ ends ts) (sym (ap (λ (j : ℕ). drop j tokens) (sym same) ∙ rest k)) (covered_drop i.inner k i.closed.1)
+      fewer : (n : ℕ) → length i.before < n → starts (drop n tokens) ≤ ends (drop n tokens)
+      fewer n l =
+          let k = n - (length i.before + 1) in
+          let same : length i.before + suc k ≡ n = omega arith in
+          subst (λ (ts : List Token). starts ts ≤ ends ts) (sym (ap (λ (j : ℕ). drop j tokens) (sym same) ∙ rest k)) (covered_drop i.inner k i.closed.1)
 
 -- ---- a word that is refused
 
 pub first_of_units : (text : List ℕ) (found : List Word) (word : Word) (front rest : List Run) (phase : m.Phase) (depth : ℕ) (number : TextNumber) → first_bad text ≡ None → runs text ≡ front ++ rest → AreWords front (found ++ word ∷ [])
     → m.run m.Begin 0 (tokens_of text found) ≡ Ok (m.phase_state phase depth) → m.next phase depth word.kind (m.could_label (token_of text word)) ≡ Err number → IsFirstFaultAt text number word.start
-first_of_units text found word front rest phase depth number allowed joined reads state refused = told number stops where
-  tokens : tokens_of text (found ++ word ∷ []) ≡ tokens_of text found ++ token_of text word ∷ []
-  tokens = map-append (token_of text) found (word ∷ [])
+first_of_units text found word front rest phase depth number allowed joined reads state refused =
+    let there : slice_get (tokens_of text (found ++ word ∷ [])) n ≡ Some (token_of text word) = grind (arith, common_steps, slice_get_at) steps 200000 in
+    let stop = stop_at (tokens_of text (found ++ word ∷ [])) n (token_of text word) phase depth number there before refused in
+    told number
+    (record { front = front; rest = rest; joined = joined; found = found ++ word ∷ []; read = reads; word = n; last = long; stop = stop; place = refl }) where
+      n : ℕ
+      n = length (tokens_of text found)
 
-  n : ℕ
-  n = length (tokens_of text found)
+      before : m.run m.Begin 0 (take n (tokens_of text (found ++ word ∷ []))) ≡ Ok (m.phase_state phase depth)
+      before = ap (λ (ts : List Token). m.run m.Begin 0 (take n ts)) (grind (arith, common_steps, map-append (token_of text) found (word ∷ [])) steps 200000)
+          ∙ ap (m.run m.Begin 0) (take-append_seam (tokens_of text found) (token_of text word ∷ [])) ∙ state
 
-  there : slice_get (tokens_of text (found ++ word ∷ [])) n ≡ Some (token_of text word)
-  there = ap (λ (ts : List Token). slice_get ts n) tokens ∙ slice_get_at (tokens_of text found) [] (token_of text word)
+      long : length (found ++ word ∷ []) ≡ n + 1
+      long = let a : length (found ++ word ∷ []) ≡ length found + 1 = length-append found (word ∷ []) in let b : n ≡ length found = length-map found (token_of text) in omega arith
 
-  before : m.run m.Begin 0 (take n (tokens_of text (found ++ word ∷ []))) ≡ Ok (m.phase_state phase depth)
-  before = ap (λ (ts : List Token). m.run m.Begin 0 (take n ts)) tokens ∙ ap (m.run m.Begin 0) (take-append_seam (tokens_of text found) (token_of text word ∷ [])) ∙ state
-
-  long : length (found ++ word ∷ []) ≡ n + 1
-  long = let a : length (found ++ word ∷ []) ≡ length found + 1 = length-append found (word ∷ []) in let b : n ≡ length found = length-map found (token_of text) in omega arith
-
-  stops : StopsUnits text number word.start
-  stops = record {
-    front = front;
-    rest = rest;
-    joined = joined;
-    found = found ++ word ∷ [];
-    read = reads;
-    word = n;
-    last = long;
-    stop = stop_at (tokens_of text (found ++ word ∷ [])) n (token_of text word) phase depth number there before refused;
-    place = refl;
-  }
-
-  told : (k : TextNumber) → StopsUnits text k word.start → IsFirstFaultAt text k word.start
-  told T06 h = (allowed, h)
-  told T09 h = (allowed, h)
-  told T10 h = (allowed, h)
-  told T11 h = (allowed, h)
-  told T12 h = (allowed, h)
-  told _ h = absurd h.stop.is_number
+      told : (k : TextNumber) → StopsUnits text k word.start → IsFirstFaultAt text k word.start
+      told p0 p1 = grind (arith, common_steps) steps 200000
 
 -- ---- plain words inside a statement
 

@@ -1,7 +1,8 @@
 -- Kinds of words, and marks, against how they are spelled.
-use Rattle.std.proofs.lemmas.{Grind.{common_steps}, Bool.{cases_Bool, cond-false, eqb-true, ne_eqb, false≢true, or_left, or_right, or_cases, and_parts, false_from_ne_true, not-true}}
-use Rattle.std.proofs.Common.{◌≡◌, ℕ, suc, zero, ◌<◌, ◌≤◌, true, false, not, eqb, ◌||◌, List, [], ◌∷◌, length, get_or, drop, Option, IfSome, Some, None, Contains, refl, sym, ap, ◌∙◌, arith, inl, inr}
-use Rattle.std.{proofs.Common.{◌⊎◌, eq-eqb}, specs.{List.{list_any, prefix_len}, Prelude.{option_map, ◌==◌}}}
+use Rattle.std.proofs.Common.{[], ◌≡◌, ℕ, suc, zero, ◌<◌, ◌≤◌, true, false, not, eqb, ◌||◌, List, ◌∷◌, length, get_or, drop, Option, IfSome, Some, None, Contains, refl, sym, ap, ◌∙◌, arith, inl, inr}
+use Rattle.std.proofs.{Common.{◌⊎◌, eq-eqb}, lemmas.Grind.{common_steps}}
+use Rattle.std.{proofs.lemmas.Bool.{cases_Bool, cond-false, eqb-true, ne_eqb, false≢true, or_left, or_right, or_cases, and_parts, false_from_ne_true, not-true}, specs.List.{list_any, prefix_len}}
+use Rattle.std.specs.Prelude.{option_map, ◌==◌}
 use Rattle.mm_text.specs.{declared.word.{Keyword.{Keyword}, WordKind.{WordKind}}, Language.Run.{is_white, is_solid, ends_run}}
 use Rattle.mm_text.specs.{Language.Spelling.{spelling, IsSpelled, HoldsMark, HasBytesAt, opening, closing}, Code.LeftToRight.{keyword_at, plain_unless, word_kind, is_mark, holds_mark, has_dollar}}
 use Rattle.mm_text.specs.declared.word.WordKind.TheVariants as kinds
@@ -20,9 +21,6 @@ contains_at : (bytes : List ℕ) (k : ℕ) → k < length bytes → get_or bytes
 contains_at [] k lt e = absurd (omega arith)
 contains_at (c ∷ bytes) zero lt e = or_left (eqb c 36) (list_any (λ c. c == 36) bytes) (eq-eqb c 36 e)
 contains_at (c ∷ bytes) (suc k) lt e = or_right (eqb c 36) (list_any (λ c. c == 36) bytes) (contains_at bytes k (omega arith) e)
-
-contains_any : (bytes : List ℕ) → Contains bytes 36 → list_any (λ c. c == 36) bytes ≡ true
-contains_any bytes h = contains_at bytes h.0 h.1 h.2
 
 -- ---- keywords
 
@@ -43,9 +41,6 @@ pub keyword_run_len : (bytes : List ℕ) (found : Option Keyword) → 2 ≤ leng
 keyword_run_len bytes None some first ends is = tt
 keyword_run_len (a ∷ b ∷ bytes) (Some k) some first ends is = rw first (keyword_here b k bytes (sym is) ends)
 keyword_run_len _ (Some k) some first ends is = absurd (omega arith)
-
-kind_of-keyword : (k : Keyword) → word_kind (spelling k) ≡ Some (kinds.Keyword k)
-kind_of-keyword k = grind (arith, common_steps) steps 200000
 
 -- a run with no `$`, or one with a `$` that is no keyword
 plain_is : (bytes : List ℕ) (kind : WordKind) → plain_unless (list_any (λ c. c == 36) bytes) ≡ Some kind → IsSpelled kind bytes
@@ -68,7 +63,7 @@ plain_kind : (bytes : List ℕ) → ¬ Contains bytes 36 → plain_unless (list_
 plain_kind bytes none = ap plain_unless (false_from_ne_true (list_any (λ c. c == 36) bytes) (λ e. none (any_contains bytes e)))
 
 pub spelled_kind : (kind : WordKind) (bytes : List ℕ) → IsSpelled kind bytes → word_kind bytes ≡ Some kind
-spelled_kind (kinds.Keyword k) bytes e = ap word_kind e ∙ kind_of-keyword k
+spelled_kind (kinds.Keyword k) bytes e = ap word_kind e ∙ (grind (arith, common_steps) steps 200000)
 spelled_kind kinds.Plain [] none = plain_kind [] none
 spelled_kind kinds.Plain (a ∷ []) none = plain_kind (a ∷ []) none
 spelled_kind kinds.Plain (a ∷ b ∷ []) none = let other : eqb a 36 ≡ false = ne_eqb a 36 (λ e. none (0, omega arith, e)) in pair_other a b other ∙ plain_kind (a ∷ b ∷ []) none
@@ -79,12 +74,13 @@ no_kind bytes e = grind (arith, common_steps, cases_Bool, eqb-true, pair_other, 
 
 -- ---- marks
 
-mark_is : (a b : ℕ) (bytes : List ℕ) → is_mark a b ≡ true → HasBytesAt (a ∷ b ∷ bytes) opening 0 ⊎ HasBytesAt (a ∷ b ∷ bytes) closing 0
-mark_is a b bytes e = grind (arith, common_steps) steps 200000
-
 pub mark_stands : (bytes : List ℕ) → holds_mark bytes ≡ true → HoldsMark bytes
 mark_stands (a ∷ b ∷ bytes) e =
-    elim (or_cases (is_mark a b) (holds_mark (b ∷ bytes)) e) [ inl here ↦ (0, mark_is a b bytes here) | inr later ↦ let w = mark_stands (b ∷ bytes) later in (suc w.0, w.1) ]
+    elim (or_cases (is_mark a b) (holds_mark (b ∷ bytes)) e) [
+      | inl here ↦ (0, (grind (arith, common_steps) steps 200000))
+      | inr later ↦ let w = mark_stands
+          (b ∷ bytes) later in (suc w.0, w.1)
+    ]
 mark_stands _ e = absurd cc
 
 stands_at : (bytes : List ℕ) (k : ℕ) → HasBytesAt bytes opening k ⊎ HasBytesAt bytes closing k → holds_mark bytes ≡ true
@@ -105,7 +101,7 @@ stands_mark bytes h = stands_at bytes h.0 h.1
 -- ---- runs without a `$`
 
 pub plain_word : (bytes : List ℕ) → not (has_dollar bytes) ≡ true → word_kind bytes ≡ Some kinds.Plain
-plain_word bytes none = spelled_kind kinds.Plain bytes (λ h. false≢true (sym (not-true (has_dollar bytes) none) ∙ contains_any bytes h))
+plain_word bytes none = grind (arith, common_steps, false≢true, not-true, spelled_kind, contains_at) steps 200000
 
 mark_dollar : (bytes : List ℕ) → holds_mark bytes ≡ true → has_dollar bytes ≡ true
 mark_dollar (a ∷ b ∷ bytes) e =

@@ -1,8 +1,7 @@
 -- A text without what comes before its first word and after its last has the same words.
-use Rattle.std.proofs.lemmas.Grind.{common_steps}
-use Rattle.std.proofs.Common.{◌≡◌, ℕ, zero, suc, ◌+◌, ◌-◌, ◌<◌, ◌≤◌, true, List, [], ◌∷◌, ◌++◌, append_assoc, length, map, drop, None, Ok, Err, refl, sym, ap, ◌∙◌, subst, inl, inr, arith, slice_range}
-use Rattle.std.proofs.Common.{append-nil, length-append, take-append-drop}
-use Rattle.mm_text.specs.{declared.word.Word.{Word}, Language.{Run.{runs, ends_run}, Reading.{HasWords, LiesIn}}}
+use Rattle.std.proofs.Common.{[], ◌≡◌, ℕ, zero, suc, ◌+◌, ◌-◌, ◌<◌, ◌≤◌, true, List, ◌∷◌, ◌++◌, append_assoc, length, map, drop, None, Ok, Err, refl, sym, ap, ◌∙◌, subst, inl, inr, arith, slice_range}
+use Rattle.std.proofs.{Common.{append-nil, length-append, take-append-drop}, lemmas.Grind.{common_steps}}
+use Rattle.mm_text.specs.{declared.word.Word.{Word}, Language.{Run.{runs, ends_run}, Reading.{HasWords}}}
 use Rattle.mm_text.specs.Language.Unit.{Token, token_of, tokens_of, spellings, Shape, Declaration, Labelled, Provable, Inclusion, shape_tokens, Nothing, Simple}
 use Rattle.mm_text.specs.{Language.{Part.{HasUnits, token_end, shape_part}, Cut.{end_of_words}}, Code.{LeftToRight.{read_runs, words_fault_at}, Reader.{runs_at, TakesWord}}}
 use Rattle.mm_text.proofs.{ReadingLemmas.{read_words, same_words}, ReaderLemmas.{pass_none, slice_length, word_read, fails_read}, PieceLemmas.{shift_word}}
@@ -64,22 +63,20 @@ module _ (text : List ℕ) (all : List Word) (has : HasWords text all) (from : �
   walk zero at enough h = walk_step at h (λ to more within g. absurd (omega arith))
   walk (suc fuel) at enough h = walk_step at h (λ to more within g. walk fuel to (omega arith) g)
 
-alone_from : (text : List ℕ) (first : Word) (more : List Word) (has : HasWords text (first ∷ more)) (word : Word) (to : ℕ) → TakesWord text 0 word to → to ≤ length text → Alone text (first ∷ more) has first.start
-alone_from text first more has word to taken within =
-    let all = first ∷ more in
-    let f = first_word (read_runs None (runs_at text 0)) (read_runs None (runs_at text to)) word all (word_read text 0 word to taken) (read_words (runs text) all has.words_are) in
-    let same : word.start ≡ first.start = (let e : word ≡ first = cc in ap (λ (w : Word). w.start) e) in
-    subst (Alone text all has) same (walk text all has word.start (length text) to (omega arith) (record { begun = begun_first text 0 word to taken; rest = f.0; reads = f.2; joined = f.1; last = taken.next; ends = taken.ends; within = within }))
-
 pub alone : (text : List ℕ) (first : Word) (more : List Word) (has : HasWords text (first ∷ more)) → Alone text (first ∷ more) has first.start
 alone text first more has = by_given (word_from (length text) text 0 0 (omega arith) (omega arith) (pass_none text 0)) where
-  read_all : read_runs None (runs text) ≡ Ok (first ∷ more)
-  read_all = read_words (runs text) (first ∷ more) has.words_are
-
   by_given : Given text 0 → Alone text (first ∷ more) has first.start
-  by_given (inl (word, to, taken, within)) = alone_from text first more has word to taken within
-  by_given (inr (inl none)) = absurd (let a : Ok (first ∷ more) ≡ Ok [] = sym read_all ∙ read_words (runs_at text 0) [] none in cc)
-  by_given (inr (inr (number, place, fails))) = absurd (let a : Ok (first ∷ more) ≡ Err (words_fault_at number place) = sym read_all ∙ fails_read (runs_at text 0) [] number place fails in cc)
+  by_given (inl (word, to, taken, within)) = let all = first ∷ more in let f = first_word (read_runs None (runs_at text 0)) (read_runs None (runs_at text to))
+      word all (word_read text 0 word to taken) (read_words (runs text) all has.words_are) in
+      let same : word.start ≡ first.start = (let e : word ≡ first = cc in ap (λ (w : Word). w.start) e) in
+      subst (Alone text all has) same (walk text all has word.start (length text) to (omega arith)
+      (record { begun = begun_first text 0 word to taken; rest = f.0; reads = f.2; joined = f.1; last = taken.next; ends = taken.ends; within = within }))
+  by_given (inr (inl none)) = absurd (let a : Ok (first ∷ more) ≡ Ok [] = sym
+      (grind (arith, common_steps, first ∷ more, more, read_words (runs text) (first ∷ more) has.words_are) steps 200000) ∙ read_words (runs_at text 0) [] none
+      in cc)
+  by_given (inr (inr (number, place, fails))) = absurd (let a : Ok (first ∷ more) ≡ Err (words_fault_at number place) = sym
+      (grind (arith, common_steps, first ∷ more, more, read_words (runs text) (first ∷ more) has.words_are) steps 200000) ∙ fails_read (runs_at text 0) []
+      number place fails in cc)
 
 pub own_alone : (text : List ℕ) (first : Word) (more own : List Word) → HasWords text (first ∷ more) → HasWords (slice_range text first.start (end_of_words (first ∷ more))) own
     → spellings (slice_range text first.start (end_of_words (first ∷ more))) own ≡ spellings text (first ∷ more)
@@ -88,12 +85,9 @@ own_alone text first more own has are =
 
 -- ---- a statement that is alone in its text
 
-word_end : (text : List ℕ) (word : Word) → LiesIn text word → token_end (token_of text word) ≡ word.end
-word_end text word lies = omega (arith, slice_length text word.start word.end lies.within, lies.some)
-
 last_end : (text : List ℕ) (front : List Token) (last : Token) (words : List Word) (at : ℕ) → Lying text at words → front ++ last ∷ [] ≡ tokens_of text words → token_end last ≡ end_of_words words
 last_end text front last [] at lie e = absurd (omega (arith, ap length e, length-append front (last ∷ [])))
-last_end text [] last (word ∷ []) at lie e = let same : last ≡ token_of text word = cc in ap token_end same ∙ word_end text word lie.1
+last_end text [] last (word ∷ []) at lie e = grind (arith, common_steps, slice_length) steps 200000
 last_end text [] last (word ∷ next ∷ words) at lie e = absurd (omega (arith, ap length e))
 last_end text (token ∷ front) last (word ∷ []) at lie e = absurd (omega (arith, ap length e, length-append front (last ∷ [])))
 last_end text (token ∷ front) last (word ∷ next ∷ words) at lie e = grind (arith, common_steps, last_end text front last (next ∷ words) (word.end + 1) lie.2 cc) steps 200000
@@ -127,16 +121,15 @@ ends_of (Inclusion begin name end) = record { first = begin; more = name ∷ end
 pub statement_alone : (text : List ℕ) (shape : Shape) (own : List Word) → HasUnits text (Simple shape Nothing) → HasWords (slice_range text (shape_part shape).start (shape_part shape).end) own
     → spellings (slice_range text (shape_part shape).start (shape_part shape).end) own ≡ map (λ token. token.bytes) (shape_tokens shape)
 statement_alone text shape own units are = by units.words units.has_words (sym (append-nil (shape_tokens shape)) ∙ units.spells) where
-  ends : Ends shape
-  ends = ends_of shape
-
   by : (words : List Word) → HasWords text words → shape_tokens shape ≡ tokens_of text words → spellings (slice_range text (shape_part shape).start (shape_part shape).end) own ≡ map (λ token. token.bytes) (shape_tokens shape)
-  by [] has tokens = absurd (let none : ends.first ∷ ends.more ≡ [] = sym ends.begins ∙ tokens in omega (arith, ap length none))
+  by [] has tokens =
+      absurd (let none : (ends_of shape).first ∷ (ends_of shape).more ≡ [] = sym (ends_of shape).begins ∙ tokens in omega (arith, ap length none))
   by (word ∷ words) has tokens =
-      let all : ends.first ∷ ends.more ≡ tokens_of text (word ∷ words) = sym ends.begins ∙ tokens in
-      let first : ends.first ≡ token_of text word = cc in
-      let start : (shape_part shape).start ≡ word.start = ends.start ∙ ap (λ (token : Token). token.start) first in
-      let end : (shape_part shape).end ≡ end_of_words (word ∷ words) = ends.end ∙ last_end text ends.front ends.last (word ∷ words) 0 (words_lie text (word ∷ words) has) (sym ends.closes ∙ tokens) in
+      let all : (ends_of shape).first ∷ (ends_of shape).more ≡ tokens_of text (word ∷ words) = sym (ends_of shape).begins ∙ tokens in
+      let first : (ends_of shape).first ≡ token_of text word = cc in
+      let start : (shape_part shape).start ≡ word.start = (ends_of shape).start ∙ ap (λ (token : Token). token.start) first in
+      let end : (shape_part shape).end ≡ end_of_words (word ∷ words) = (ends_of shape).end ∙ last_end text (ends_of shape).front (ends_of shape).last
+      (word ∷ words) 0 (words_lie text (word ∷ words) has) (sym (ends_of shape).closes ∙ tokens) in
       let part : slice_range text (shape_part shape).start (shape_part shape).end ≡ slice_range text word.start (end_of_words (word ∷ words)) =
       ap (λ n. slice_range text n (shape_part shape).end) start ∙ ap (slice_range text word.start) end in
       ap (λ bytes. spellings bytes own) part ∙ own_alone text word words own has (subst (λ bytes. HasWords bytes own) part are) ∙ ap (map (λ token. token.bytes)) (sym tokens)

@@ -1,15 +1,15 @@
 -- The parts that are found word by word are those of the units.
-use Rattle.std.proofs.lemmas.{Grind.{common_steps}, List.{append-nil, take-append-drop, append_cancel_right, drop-drop, length-append, length-map, Elements.{All-nil, All-cons, All-append}}}
-use Rattle.std.proofs.Common.{◌≡◌, ◌⊎◌, ℕ, ◌-◌, ◌+◌, ◌<◌, ◌≤◌, Bool, true, false, List, [], ◌∷◌, ◌++◌, append_assoc, length, map, drop, Option, Some, None, Ok, Err, All, refl, sym, ap, ◌∙◌, subst}
-use Rattle.std.{proofs.{Common.{inl, inr, arith, slice_range, unwrap_or, if◌then◌else◌}, Math.Bool.{or-true}}, specs.List.{AllByRecursion}}
+use Rattle.std.proofs.Common.{[], ◌≡◌, ◌⊎◌, ℕ, ◌-◌, ◌+◌, ◌<◌, ◌≤◌, Bool, true, false, List, ◌∷◌, ◌++◌, append_assoc, length, map, drop, Option, Some, None, Ok, Err, All, refl, sym, ap, ◌∙◌, subst}
+use Rattle.std.proofs.{Common.{inl, inr, arith, slice_range, unwrap_or}, lemmas.{Grind.{common_steps}, List.{append-nil, take-append-drop, append_cancel_right, drop-drop, length-append, length-map}}}
+use Rattle.std.{proofs.{lemmas.List.Elements.{All-nil, All-cons, All-append}, Math.Bool.{or-true}}, specs.List.{AllByRecursion}}
 use Rattle.mm_text.specs.declared.{part.{Part.{Part}, PartKind.{PartKind}}, word.{Word.{Word}, WordKind.{WordKind}}}
-use Rattle.mm_text.specs.declared.word.Keyword.TheVariants.{Constants, Variables, Disjoint, Floating, Essential, Axiom, Theorem, StatementEnd, ProofStart, InclusionStart, InclusionEnd}
-use Rattle.mm_text.specs.{declared.fault.TextNumber.{TextNumber}, Language.{Run.{Run, runs, runs_from, ends_run}, Reading.{first_bad, AreWords, HasWords}}}
+use Rattle.mm_text.specs.declared.{word.Keyword.TheVariants.{Constants, Variables, Disjoint, Floating, Essential, Axiom, Theorem, StatementEnd}, fault.TextNumber.{TextNumber}}
+use Rattle.mm_text.specs.Language.{Run.{Run, runs, runs_from, ends_run}, Reading.{first_bad, AreWords, HasWords}}
 use Rattle.mm_text.specs.Language.Unit.{Token, token_of, tokens_of, IsKeyword, IsPlain, Shape, Declaration, Labelled, Provable, Inclusion, shape_tokens, IsShape, Units, Nothing, Simple, Block}
-use Rattle.mm_text.specs.Language.{Unit.{unit_tokens, AreUnits}, Cut.{ends_white, IsPiece, ArePieces}, Part.{HasUnits, token_end, word_part, shape_part, parts_of, IsReadable}}
+use Rattle.mm_text.specs.Language.{Unit.{unit_tokens, AreUnits}, Cut.{ArePieces}, Part.{HasUnits, token_end, word_part, shape_part, parts_of, IsReadable}}
 use Rattle.mm_text.specs.Code.{LeftToRight.{Read, read_runs, words_fault_at}, Reader.{runs_at, run_between, TakesWord, FailsBehind}, PartReading.{ends_part, emit_word, emit}}
 use Rattle.mm_text.proofs.{ReadingLemmas.{none_read, word_step, read_words}, ReaderLemmas.{words-append, slice_length, word_read, fails_read}}
-use Rattle.mm_text.proofs.{PieceLemmas.{Seam, runs-append, shift_run, shift_word, runs-shift, words_unshift}, PieceUnitLemmas.{allowed_part}, NthLemmas.{first_word}}
+use Rattle.mm_text.proofs.{PieceLemmas.{runs-append, shift_run, shift_word, runs-shift, words_unshift}, PieceUnitLemmas.{allowed_part}, NthLemmas.{first_word}}
 use Rattle.mm_text.specs.declared.part.PartKind.TheVariants as parts
 use Rattle.mm_text.specs.declared.word.WordKind.TheVariants as kinds
 
@@ -35,73 +35,32 @@ Emits kind tokens found tail = (next : PartKind) × (emit None kind (tokens ++ t
 
 emit_shape : (outside : Bool) (shape : Shape) (kind : PartKind) (tail : List Token) → IsShape outside shape → Emits kind (shape_tokens shape) (shape_part shape ∷ []) tail
 emit_shape outside (Declaration keyword symbols end) kind tail (is, plain, ends) = by_keyword is where
-  told : (word : WordKind) (next : PartKind) → keyword.kind ≡ word → word_part parts.Constants word ≡ next → made_part next keyword.start (token_end end) ≡ shape_part (Declaration keyword symbols end)
-  told word next same e = ap (λ (k : PartKind). made_part k keyword.start (token_end end)) (sym e ∙ ap (word_part parts.Constants) (sym same))
-
   by_keyword : (IsKeyword Constants keyword ⊎ (IsKeyword Variables keyword ⊎ IsKeyword Disjoint keyword)) → Emits kind (keyword ∷ (symbols ++ end ∷ [])) (shape_part (Declaration keyword symbols end) ∷ []) tail
-  by_keyword (inl is) = (
-    parts.Constants,
-    emit_by None kind (kinds.Keyword Constants) keyword ((symbols ++ end ∷ []) ++ tail) is ∙ emit_rest keyword.start parts.Constants symbols end tail plain ends
-        ∙ ap (λ (p : Part). p ∷ emit None parts.Constants tail) (told (kinds.Keyword Constants) parts.Constants is refl),
-  )
-  by_keyword (inr (inl is)) = (
-    parts.Variables,
-    emit_by None kind (kinds.Keyword Variables) keyword ((symbols ++ end ∷ []) ++ tail) is ∙ emit_rest keyword.start parts.Variables symbols end tail plain ends
-        ∙ ap (λ (p : Part). p ∷ emit None parts.Variables tail) (told (kinds.Keyword Variables) parts.Variables is refl),
-  )
-  by_keyword (inr (inr is)) = (
-    parts.Disjoint,
-    emit_by None kind (kinds.Keyword Disjoint) keyword ((symbols ++ end ∷ []) ++ tail) is ∙ emit_rest keyword.start parts.Disjoint symbols end tail plain ends
-        ∙ ap (λ (p : Part). p ∷ emit None parts.Disjoint tail) (told (kinds.Keyword Disjoint) parts.Disjoint is refl),
-  )
+  by_keyword (inl is) = grind (arith, common_steps, emit_rest keyword.start parts.Constants symbols end tail plain ends) steps 200000
+  by_keyword (inr (inl is)) = grind (arith, common_steps, emit_rest keyword.start parts.Variables symbols end tail plain ends) steps 200000
+  by_keyword (inr (inr is)) = grind (arith, common_steps, emit_rest keyword.start parts.Disjoint symbols end tail plain ends) steps 200000
 emit_shape outside (Labelled label keyword symbols end) kind tail (labels, is, plain, ends) = by_keyword is where
   told : (word : WordKind) (next : PartKind) → keyword.kind ≡ word → word_part parts.Axiom word ≡ next → made_part next label.start (token_end end) ≡ shape_part (Labelled label keyword symbols end)
   told word next same e = ap (λ (k : PartKind). made_part k label.start (token_end end)) (sym e ∙ ap (word_part parts.Axiom) (sym same))
 
-  first : emit None kind (label ∷ keyword ∷ ((symbols ++ end ∷ []) ++ tail)) ≡ emit (Some label.start) kind (keyword ∷ ((symbols ++ end ∷ []) ++ tail))
-  first = emit_by None kind kinds.Plain label (keyword ∷ ((symbols ++ end ∷ []) ++ tail)) labels.0
-
   by_keyword : (IsKeyword Floating keyword ⊎ (IsKeyword Essential keyword ⊎ IsKeyword Axiom keyword)) → Emits kind (label ∷ keyword ∷ (symbols ++ end ∷ [])) (shape_part (Labelled label keyword symbols end) ∷ []) tail
-  by_keyword (inl is) = (
-    parts.Floating,
-    first ∙ emit_by (Some label.start) kind (kinds.Keyword Floating) keyword ((symbols ++ end ∷ []) ++ tail) is
-        ∙ emit_rest label.start parts.Floating symbols end tail plain ends ∙ ap (λ (p : Part). p ∷ emit None parts.Floating tail) (told (kinds.Keyword Floating) parts.Floating is refl),
-  )
-  by_keyword (inr (inl is)) = (
-    parts.Essential,
-    first ∙ emit_by (Some label.start) kind (kinds.Keyword Essential) keyword ((symbols ++ end ∷ []) ++ tail) is
-        ∙ emit_rest label.start parts.Essential symbols end tail plain ends ∙ ap (λ (p : Part). p ∷ emit None parts.Essential tail) (told (kinds.Keyword Essential) parts.Essential is refl),
-  )
-  by_keyword (inr (inr is)) = (
-    parts.Axiom,
-    first ∙ emit_by (Some label.start) kind (kinds.Keyword Axiom) keyword ((symbols ++ end ∷ []) ++ tail) is
-        ∙ emit_rest label.start parts.Axiom symbols end tail plain ends ∙ ap (λ (p : Part). p ∷ emit None parts.Axiom tail) (told (kinds.Keyword Axiom) parts.Axiom is refl),
-  )
+  by_keyword p0 = grind
+      (arith, common_steps, emit_by, emit_rest, (emit_by None kind kinds.Plain label (keyword ∷ ((symbols ++ end ∷ []) ++ tail)) labels.0), told) steps 200000
 emit_shape outside (Provable label keyword symbols proof steps end) kind tail (labels, theorem, plain, proves, more, ends) = (
   parts.Theorem,
-  emit_by None kind kinds.Plain label (keyword ∷ ((symbols ++ proof ∷ (steps ++ end ∷ [])) ++ tail)) labels.0
-      ∙ emit_by (Some label.start) kind (kinds.Keyword Theorem) keyword ((symbols ++ proof ∷ (steps ++ end ∷ [])) ++ tail) theorem
-      ∙ ap (emit (Some label.start) parts.Theorem) (append_assoc symbols (proof ∷ (steps ++ end ∷ [])) tail)
-      ∙ emit_symbols label.start parts.Theorem symbols (proof ∷ ((steps ++ end ∷ []) ++ tail)) plain
-      ∙ emit_by (Some label.start) parts.Theorem (kinds.Keyword ProofStart) proof ((steps ++ end ∷ []) ++ tail) proves
-      ∙ emit_rest label.start parts.Theorem steps end tail more ends,
+  grind (arith, common_steps, append_assoc, emit_by, emit_rest, emit_symbols) steps 200000,
 )
 emit_shape outside (Inclusion begin name end) kind tail h = (
   parts.Inclusion,
-  emit_by None kind (kinds.Keyword InclusionStart) begin (name ∷ end ∷ tail) h.1
-      ∙ emit_by (Some begin.start) parts.Inclusion kinds.Plain name (end ∷ tail) h.2
-      ∙ emit_by (Some begin.start) parts.Inclusion (kinds.Keyword InclusionEnd) end tail h.3,
+  grind (arith, common_steps, emit_by) steps 200000,
 )
 
-emit_units : (outside : Bool) (units : Units) (kind : PartKind) (tail : List Token) → AreUnits outside units → Emits kind (unit_tokens units) (parts_of units) tail
+pub emit_units : (outside : Bool) (units : Units) (kind : PartKind) (tail : List Token) → AreUnits outside units → Emits kind (unit_tokens units) (parts_of units) tail
 emit_units outside Nothing kind tail h = (kind, refl)
 emit_units outside (Simple shape later) kind tail h =
     grind (arith, common_steps, emit_shape outside shape kind (unit_tokens later ++ tail) h.0, emit_units outside later (emit_shape outside shape kind (unit_tokens later ++ tail) h.0).0 tail h.1) steps 200000
 emit_units outside (Block begin inner end later) kind tail h =
     grind (arith, common_steps, emit_units false inner parts.BlockStart (end ∷ (unit_tokens later ++ tail)) h.1, emit_units outside later parts.BlockEnd tail h.3, emit_by) steps 200000
-
-pub whole_parts : (units : Units) (kind : PartKind) → AreUnits true units → emit None kind (unit_tokens units) ≡ parts_of units
-whole_parts units kind h = let all = emit_units true units kind [] h in ap (emit None kind) (sym (append-nil (unit_tokens units))) ∙ all.1 ∙ append-nil (parts_of units)
 
 -- ---- the parts so far
 
@@ -127,24 +86,15 @@ begun_first text at word to taken = grind (arith, common_steps, word_step [] [] 
 pub begun_words : (text : List ℕ) (start to : ℕ) → first_bad text ≡ None → to ≤ length text → (h : Begun text start to) → ends_run (drop to text) ≡ true
     → (words : List Word) × HasWords (slice_range text start to) words × (0 < length words) × (h.words ≡ map (shift_word start) words)
 begun_words text start to allowed most h ends = (words.0, record { allowed = allowed_part text start to allowed; words_are = words.1 }, omega (arith, h.some, ap length words.2, length-map words.0 (shift_word start)), words.2) where
-  joined : drop start text ≡ slice_range text start to ++ drop to text
-  joined = grind (arith, common_steps, take-append-drop (to - start) (drop start text), drop-drop (to - start) start text) steps 200000
-
-  seam : Seam (slice_range text start to) (drop to text)
-  seam = rw ends (or-true (ends_white (slice_range text start to)))
-
-  own_runs : runs_from start (slice_range text start to) ≡ h.since
-  own_runs =
-      let long : length (slice_range text start to) ≡ to - start = slice_length text start to most in
-      let end : start + length (slice_range text start to) ≡ to = omega (arith, h.before) in
-      append_cancel_right (runs_from start (slice_range text start to)) h.since (runs_at text to)
-      (ap (λ (n : ℕ). runs_from start (slice_range text start to) ++ runs_from n (drop to text)) (sym end) ∙ sym (runs-append (slice_range text start to) (drop to text) start seam) ∙ ap (runs_from start) (sym joined) ∙ h.joined)
-
   words : (ws : List Word) × AreWords (runs (slice_range text start to)) ws × (h.words ≡ map (shift_word start) ws)
   words =
+      let joined : drop start text ≡ slice_range text start to ++ drop to text =
+      grind (arith, common_steps, take-append-drop (to - start) (drop start text), drop-drop (to - start) start text) steps 200000 in
+      let own_runs : runs_from start (slice_range text start to) ≡ h.since = let long : length (slice_range text start to) ≡ to - start =
+      slice_length text start to most in let end : start + length (slice_range text start to) ≡ to = omega (arith, h.before) in
+      grind (arith, common_steps, append_cancel_right, joined, or-true, runs-append) steps 200000 in
       let place : start ≡ start + 0 = omega arith in
-      let same : h.since ≡ map (shift_run start) (runs (slice_range text start to)) = sym own_runs ∙ ap (λ (n : ℕ). runs_from n (slice_range text start to)) place ∙ runs-shift start 0 (slice_range text start to) in
-      words_unshift start (runs (slice_range text start to)) h.words (subst (λ (rs : List Run). AreWords rs h.words) same h.reads)
+      grind (arith, common_steps, own_runs, runs-shift, shift_run, words_unshift) steps 200000
 
 pub record Divides (text : List ℕ) (found : List Part) (first : Option ℕ) (kind : PartKind) (at : ℕ) : Type 0 where
   pub allowed : first_bad text ≡ None
@@ -155,7 +105,11 @@ pub record Divides (text : List ℕ) (found : List Part) (first : Option ℕ) (k
 pub divides_start : (text : List ℕ) (kind : PartKind) → first_bad text ≡ None → Divides text [] None kind 0
 divides_start text kind allowed = record {
   allowed = allowed;
-  rest = λ units h. (h.words, read_words (runs text) h.words h.has_words.words_are, ap (emit None kind) (sym h.spells) ∙ whole_parts units kind h.are_units);
+  rest = λ units h. (
+    h.words,
+    read_words (runs text) h.words h.has_words.words_are,
+    ap (emit None kind) (sym h.spells) ∙ (grind (arith, common_steps, emit_units true units kind [] h.are_units) steps 200000),
+  );
   readable = All-nil (IsReadable text);
   begun = λ start e. absurd cc;
 }
@@ -204,10 +158,7 @@ module _ (text : List ℕ) (found : List Part) (first : Option ℕ) (kind : Part
       rest = λ units has. (let next = after_word units has in (
         next.0,
         next.1,
-        append_assoc found (made_part (word_part kind word.kind) start word.end ∷ []) (emit None (word_part kind word.kind) (tokens_of text next.0))
-            ∙ ap (λ (n : ℕ). found ++ made_part (word_part kind word.kind) start n ∷ emit None (word_part kind word.kind) (tokens_of text next.0)) (sym end_is)
-            ∙ ap (λ (b : Bool). found ++ (if b then made_part (word_part kind word.kind) start (token_end (token_of text word)) ∷ emit None (word_part kind word.kind) (tokens_of text next.0) else emit
-            (Some start) (word_part kind word.kind) (tokens_of text next.0))) (sym ends) ∙ next.2,
+        grind (arith, common_steps, append_assoc) steps 200000,
       ));
       readable = All-append (IsReadable text) found (made_part (word_part kind word.kind) start word.end ∷ []) h.readable (All-cons (IsReadable text) (made_part (word_part kind word.kind) start word.end) [] made_readable (All-nil (IsReadable text)));
       begun = λ s e. absurd cc;
@@ -219,8 +170,7 @@ module _ (text : List ℕ) (found : List Part) (first : Option ℕ) (kind : Part
       rest = λ units has. (let next = after_word units has in (
         next.0,
         next.1,
-        ap (λ (b : Bool). found ++ (if b then made_part (word_part kind word.kind) start (token_end (token_of text word)) ∷ emit None (word_part kind word.kind)
-            (tokens_of text next.0) else emit (Some start) (word_part kind word.kind) (tokens_of text next.0))) (sym on) ∙ next.2,
+        grind (arith, common_steps) steps 200000,
       ));
       readable = h.readable;
       begun = λ s e. (let same : start ≡ s = cc in subst (λ n. Begun text n to) same (begins first refl));
@@ -228,9 +178,7 @@ module _ (text : List ℕ) (found : List Part) (first : Option ℕ) (kind : Part
 
 -- ---- pieces
 
-pub piece_units : (piece : List ℕ) → IsPiece piece → (units : Units) × HasUnits piece units
-piece_units piece h = (h.units, record { words = h.words; has_words = h.has_words; are_units = h.are_units; spells = h.spells })
-
 pub each_units : {X : Type 0} (bytes : X → List ℕ) (pieces : List X) (tail : List ℕ) → ArePieces (map bytes pieces) tail → All (λ piece. (units : Units) × HasUnits (bytes piece) units) pieces
 each_units bytes [] tail h = All-nil (λ piece. (units : Units) × HasUnits (bytes piece) units)
-each_units bytes (piece ∷ pieces) tail h = All-cons (λ piece. (units : Units) × HasUnits (bytes piece) units) piece pieces (piece_units (bytes piece) h.0) (each_units bytes pieces tail h.2)
+each_units bytes (piece ∷ pieces) tail h = All-cons (λ piece. (units : Units) × HasUnits (bytes piece) units) piece pieces
+    (grind (arith, common_steps) steps 200000) (each_units bytes pieces tail h.2)

@@ -1,15 +1,11 @@
 -- Reading is local: what a part of a text holds, that ends in white space.
-use Rattle.std.proofs.lemmas.{Grind.{common_steps}, Bool.{cases_Bool}}
-use Rattle.std.proofs.Common.{◌≡◌, ℕ, suc, ◌+◌, ◌-◌, Bool, true, false, ◌||◌, List, [], ◌∷◌, ◌++◌, map, length, Option, Some, None, Ok, Err, refl, sym, ap, ◌∙◌, inl, inr, arith, append-nil, slice_get}
-use Rattle.std.{proofs.Common.{if◌then◌else◌}, specs.Str.{bytes_eq}}
+use Rattle.std.proofs.Common.{[], ◌≡◌, ℕ, suc, ◌+◌, ◌-◌, Bool, true, false, ◌||◌, List, ◌∷◌, ◌++◌, map, length, Option, Some, None, Ok, Err, refl, sym, ap, ◌∙◌, inl, inr, arith, append-nil, slice_get}
+use Rattle.std.{proofs.{Common.{if◌then◌else◌}, lemmas.{Grind.{common_steps}, Bool.{cases_Bool}}}, specs.Str.{bytes_eq}}
 use Rattle.mm_text.specs.{declared.{word.{Word.{Word}, WordKind.{WordKind}}, fault.TextFault.{TextFault}}, Language.{Run.{Run, runs_from, is_white, ends_run, with_front}, Spelling.{closing}}}
 use Rattle.mm_text.{specs.{Language.{Reading.{AreWords}, Cut.{ends_white, ended}}, Code.LeftToRight.{Read, read_runs, word_alone, holds_mark}}, proofs.LayoutLemmas.{front_step}}
 use Rattle.mm_text.proofs.{ReadLemmas.{inside_end, inside_mark, inside_more, outside_open, outside_close, outside_word}, ReadingLemmas.{read_words, words_from_read, is_from, not_from}}
 
 -- ---- runs of a text in two parts
-
-white_step : (at b : ℕ) (bytes : List ℕ) → is_white b ≡ true → runs_from at (b ∷ bytes) ≡ runs_from (at + 1) bytes
-white_step at b bytes white = rw white refl
 
 abbrev made : ℕ → List ℕ → Run
 made at bytes = record { start = at; bytes = bytes }
@@ -32,17 +28,14 @@ some_run at b (c ∷ bytes) solid =
       | inr on ↦ let more = some_run (at + 1) c bytes on in (record { start = at; bytes = b ∷ more.0.bytes }, more.1, front_step at b (c ∷ bytes) solid on ∙ ap (with_front at b) more.2)
     ]
 
-front-append : (at b : ℕ) (run : Run) (more rs ss : List Run) → rs ≡ run ∷ more → with_front at b (rs ++ ss) ≡ with_front at b rs ++ ss
-front-append at b run more rs ss e = grind (arith, common_steps) steps 200000
-
 front_there : (at c : ℕ) (a : List ℕ) (ss : List Run) → ends_run a ≡ false → with_front at c (runs_from (at + 1) a ++ ss) ≡ with_front at c (runs_from (at + 1) a) ++ ss
 front_there at c [] ss on = absurd cc
-front_there at c (d ∷ a) ss on = let some = some_run (at + 1) d a on in front-append at c some.0 some.1 (runs_from (at + 1) (d ∷ a)) ss some.2
+front_there at c (d ∷ a) ss on = let some = some_run (at + 1) d a on in grind (arith, common_steps) steps 200000
 
 pub runs-append : (a b : List ℕ) (at : ℕ) → Seam a b → runs_from at (a ++ b) ≡ runs_from at a ++ runs_from (at + length a) b
 runs-append [] b at h = let same : at ≡ at + 0 = omega arith in ap (λ (k : ℕ). runs_from k b) same
 runs-append (c ∷ a) b at h =
-    grind (arith, common_steps, runs-append a b (at + 1) (seam_tail c a b h), cases_Bool (is_white c), cases_Bool (ends_run a), white_step, alone_step, front_step, front_there) steps 200000
+    grind (arith, common_steps, runs-append a b (at + 1) (seam_tail c a b h), cases_Bool (ends_run a), front_step, front_there, seam_tail c a b h) steps 200000
 
 -- ---- runs at another place
 
@@ -58,7 +51,7 @@ front-shift k at b rs = grind (arith, common_steps) steps 200000
 pub runs-shift : (k at : ℕ) (bytes : List ℕ) → runs_from (k + at) bytes ≡ map (shift_run k) (runs_from at bytes)
 runs-shift k at [] = refl
 runs-shift k at (b ∷ bytes) =
-    grind (arith, common_steps, runs-shift k (at + 1) bytes, cases_Bool (is_white b), cases_Bool (ends_run bytes), front-shift k at b (runs_from (at + 1) bytes), white_step, alone_step, front_step) steps 200000
+    grind (arith, common_steps, runs-shift k (at + 1) bytes, cases_Bool (is_white b), front-shift k at b (runs_from (at + 1) bytes), front_step) steps 200000
 
 abbrev shift_fault : ℕ → TextFault → TextFault
 shift_fault k fault = record { number = fault.number; at = k + fault.at }
@@ -90,12 +83,9 @@ words-shift k rs ws h = words_from_read (map (shift_run k) rs) (map (shift_word 
 
 pub words_unshift : (k : ℕ) (rs : List Run) (vs : List Word) → AreWords (map (shift_run k) rs) vs → (ws : List Word) × AreWords rs ws × (vs ≡ map (shift_word k) ws)
 words_unshift k rs vs h = by_read (read_runs None rs) refl where
-  all : shift_read k (read_runs None rs) ≡ Ok vs
-  all = sym (read-shift k None rs) ∙ read_words (map (shift_run k) rs) vs h
-
   by_read : (r : Read) → read_runs None rs ≡ r → (ws : List Word) × AreWords rs ws × (vs ≡ map (shift_word k) ws)
-  by_read (Ok ws) is = (ws, words_from_read rs ws is, let e : Ok (map (shift_word k) ws) ≡ Ok vs = sym (ap (shift_read k) is) ∙ all in cc)
-  by_read (Err fault) is = absurd (let e : Err (shift_fault k fault) ≡ Ok vs = sym (ap (shift_read k) is) ∙ all in cc)
+  by_read (Ok ws) is = grind (arith, common_steps, read-shift k None rs, read_words (map (shift_run k) rs) vs h, words_from_read rs ws is) steps 200000
+  by_read (Err fault) is = grind (arith, common_steps, read-shift k None rs, read_words (map (shift_run k) rs) vs h) steps 200000
 
 -- ---- the line feed at the end of a text
 
@@ -110,21 +100,12 @@ pub feed_white : is_white 10 ≡ true
 unfolding is_white
 feed_white = refl
 
-seam_end : (text : List ℕ) → Seam text (line_end text)
-seam_end text = elim (cases_Bool (ends_white text)) [ inl white ↦ rw white refl | inr open_end ↦ rw (open_end, feed_white) refl ]
-
-no_runs : (text : List ℕ) (at : ℕ) → runs_from at (line_end text) ≡ []
-no_runs text at = elim (cases_Bool (ends_white text)) [ inl white ↦ rw white refl | inr open_end ↦ rw (open_end, feed_white) refl ]
-
 pub runs-ended : (at : ℕ) (text : List ℕ) → runs_from at (ended text) ≡ runs_from at text
-runs-ended at text = ap (runs_from at) (ended_is text) ∙ runs-append text (line_end text) at (seam_end text) ∙ ap (λ (rs : List Run). runs_from at text ++ rs) (no_runs text (at + length text)) ∙ append-nil (runs_from at text)
+runs-ended at text = grind (arith, common_steps, append-nil, cases_Bool, ended_is, feed_white, runs-append) steps 200000
 
 pub ends_behind : (a b : List ℕ) (c : ℕ) → ends_white (a ++ c ∷ b) ≡ ends_white (c ∷ b)
 ends_behind (d ∷ e ∷ a) b c = ends_behind (e ∷ a) b c
 ends_behind _ b c = refl
-
-pub ended_white : (text : List ℕ) → ends_white (ended text) ≡ true
-ended_white text = elim (cases_Bool (ends_white text)) [ inl white ↦ rw (white, white) refl | inr open_end ↦ rw open_end (ends_behind text [] 10 ∙ feed_white) ]
 
 -- a part that ends in white space, or the last one
 pub ended-append : (a b : List ℕ) → Seam a b → (ends_run b ≡ true → b ≡ []) → ended (a ++ b) ≡ ended a ++ ended b

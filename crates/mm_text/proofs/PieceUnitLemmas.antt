@@ -1,15 +1,14 @@
 -- A part of a text with one unit is a piece.
-use Rattle.std.proofs.lemmas.{Grind.{elements, common_steps}, Bool.{cases_Bool, false≢true, not-false}}
+use Rattle.std.proofs.Common.{[], ◌≡◌, ◌⊎◌, ℕ, ◌+◌, ◌-◌, ◌<◌, ◌≤◌, Bool, true, not, ◌||◌, List, ◌∷◌, ◌++◌, append_assoc, map, length, take, drop, get_or, Option, Some, None, Ok, refl, sym, ap, ◌∙◌}
+use Rattle.std.proofs.{Common.{subst, inl, inr, arith, one-add}, lemmas.{Grind.{elements, common_steps}, Bool.{cases_Bool, false≢true, not-false}}}
 use Rattle.std.proofs.lemmas.List.{append-nil, take-append-drop, append_cancel_right, drop-drop, length-append, length-map, length-take-le, length-drop, take-map}
 use Rattle.std.proofs.lemmas.List.{Elements.{All-append, All-take, All-drop, All-nil, All-cons}, Quantifiers.{position-Some}, Sums.{prefix_len-le-length}}
-use Rattle.std.proofs.Common.{◌≡◌, ◌⊎◌, ℕ, ◌+◌, ◌-◌, ◌<◌, ◌≤◌, Bool, true, not, ◌||◌, List, [], ◌∷◌, ◌++◌, append_assoc, map, length, take, drop, get_or, Option, Some, None, Ok, refl, sym, ap, ◌∙◌}
-use Rattle.std.{proofs.{Common.{subst, inl, inr, arith, one-add}, Math.{Seq.{take-add, take-append_seam, drop-append_seam}, Bool.{or-true}}}, specs.Prelude.{slice_range}}
-use Rattle.std.specs.List.{AllByRecursion, AllPass, prefix_len}
+use Rattle.std.{proofs.Math.{Seq.{take-add, take-append_seam, drop-append_seam}, Bool.{or-true}}, specs.{Prelude.{slice_range}, List.{AllByRecursion, AllPass, prefix_len}}}
 use Rattle.mm_text.specs.{declared.word.Word.{Word}, Language.{Run.{Run, runs, runs_from, is_white, ends_run}, Reading.{is_allowed, first_bad, AreWords, HasWords}}}
-use Rattle.mm_text.specs.Language.Unit.{Token, token_of, tokens_of, Shape, shape_tokens, Units, Nothing, Simple, Block, unit_tokens, AreUnits}
-use Rattle.mm_text.specs.{Language.{Cut.{ends_white, ended, IsOne, end_of_words, IsPiece, BeginsSolid}, Part.{HasUnits}}, Code.{LeftToRight.{read_text}, Reader.{runs_at}}}
-use Rattle.mm_text.proofs.{RunLemmas.{skip_white}, ReadingLemmas.{text_words}, PositionLemmas.{Lying, words_lie, none_found}, UnitReadingLemmas.{IsWhole-run, run-IsWhole}}
-use Rattle.mm_text.proofs.PieceLemmas.{feed_white, Seam, runs-append, shift_word, runs-shift, words_unshift, line_end, ended_is, runs-ended, ended_white, ended-append, ends_behind}
+use Rattle.mm_text.specs.Language.{Unit.{Token, tokens_of, shape_tokens, Units, Nothing, Simple, Block, unit_tokens, AreUnits}, Cut.{ends_white, ended, IsOne, end_of_words, IsPiece, BeginsSolid}}
+use Rattle.mm_text.{specs.{Language.Part.{HasUnits}, Code.{LeftToRight.{read_text}, Reader.{runs_at}}}, proofs.{RunLemmas.{skip_white}, ReadingLemmas.{text_words}}}
+use Rattle.mm_text.proofs.{PositionLemmas.{Lying, words_lie, none_found}, UnitReadingLemmas.{IsWhole-run, run-IsWhole}}
+use Rattle.mm_text.proofs.PieceLemmas.{feed_white, Seam, runs-append, shift_word, runs-shift, words_unshift, line_end, ended_is, runs-ended, ended-append, ends_behind}
 use Rattle.mm_text.specs.Code.UnitReading as m
 
 -- ---- bytes that a text may hold
@@ -67,16 +66,9 @@ solid_behind (b ∷ bytes) = elim (cases_Bool (is_white b)) [ inl white ↦ rw w
 pub solid_ended : (bytes : List ℕ) → BeginsSolid bytes → BeginsSolid (ended bytes)
 solid_ended bytes h = grind (arith, common_steps) steps 200000
 
-solid_end : (bytes : List ℕ) → BeginsSolid bytes → ends_run bytes ≡ true → bytes ≡ []
-solid_end bytes h e = grind (arith, common_steps) steps 200000
-
 seam_at : (before white rest : List ℕ) → AllWhite white → (white ≡ [] → ends_run rest ≡ true) → Seam (before ++ white) rest
 seam_at before [] rest h ends = ap (λ (b : Bool). ends_white (before ++ []) || b) (ends refl) ∙ or-true (ends_white (before ++ []))
 seam_at before (w ∷ white) rest h ends = ap (λ (b : Bool). b || ends_run rest) (ends_behind before white w ∙ white_ends (w ∷ white) h)
-
--- if there is no white space here, this is the end
-no_white_end : (bytes : List ℕ) → ends_run bytes ≡ true → take (prefix_len is_white bytes) bytes ≡ [] → ends_run (drop (prefix_len is_white bytes) bytes) ≡ true
-no_white_end bytes ends none = grind (arith, common_steps) steps 200000
 
 -- ---- words of a part
 
@@ -130,9 +122,6 @@ WholeRun tokens = m.run m.Begin 0 tokens ≡ Ok (m.phase_state m.Begin 0)
 abbrev pub HasOne : List Token → Type 0
 HasOne tokens = (n : ℕ) → 0 < n → n < length tokens → ¬ WholeRun (take n tokens)
 
-shape_some : (shape : Shape) → 0 < length (shape_tokens shape)
-shape_some shape = grind (arith, common_steps) steps 200000
-
 units_some : (units : Units) → (units ≡ Nothing) ⊎ (0 < length (unit_tokens units))
 units_some Nothing = inl refl
 units_some (Simple shape later) = grind (arith, common_steps) steps 200000
@@ -147,7 +136,8 @@ later_none front later one some whole = grind (arith, elements, no_later, units_
 
 is_one : (tokens : List Token) (units : Units) → AreUnits true units → unit_tokens units ≡ tokens → 0 < length tokens → HasOne tokens → IsOne units
 is_one tokens Nothing h e some one = let none : length tokens ≡ 0 = ap length (sym e) in omega arith
-is_one tokens (Simple shape later) h e some one = later_none (shape_tokens shape) later (subst HasOne (sym e) one) (shape_some shape) (IsWhole-run (shape_tokens shape) (Simple shape Nothing, (h.0, tt), append-nil (shape_tokens shape)))
+is_one tokens (Simple shape later) h e some one = later_none (shape_tokens shape) later (subst HasOne (sym e) one) (grind (arith, common_steps) steps 200000)
+    (IsWhole-run (shape_tokens shape) (Simple shape Nothing, (h.0, tt), append-nil (shape_tokens shape)))
 is_one tokens (Block begin inner end later) h e some one =
     let joined : tokens ≡ (begin ∷ (unit_tokens inner ++ end ∷ [])) ++ unit_tokens later = sym e ∙ ap (λ (ts : List Token). begin ∷ ts) (sym (append_assoc (unit_tokens inner) (end ∷ []) (unit_tokens later))) in
     later_none (begin ∷ (unit_tokens inner ++ end ∷ [])) later (subst HasOne joined one) (omega arith) (IsWhole-run (begin ∷ (unit_tokens inner ++ end ∷ [])) (Block begin inner end Nothing, (h.0, h.1, h.2, tt), refl))
@@ -184,41 +174,31 @@ module _ (text : List ℕ) (from to : ℕ) (since : List Run) (part : List Word)
   white_within = let most : white ≤ length (drop to text) = prefix_len-le-length is_white (drop to text) in let long : length (drop to text) ≡ length text - to = length-drop to text in omega arith
 
   halves : piece_bytes ≡ slice_range text from to ++ take white (drop to text)
-  halves =
-      let len : to + white - from ≡ (to - from) + white = omega arith in
-      let place : from + (to - from) ≡ to = omega arith in
-      ap (λ (n : ℕ). take n (drop from text)) len ∙ take-add (to - from) white (drop from text)
-      ∙ ap (λ (bs : List ℕ). slice_range text from to ++ take white bs) (drop-drop (to - from) from text ∙ ap (λ (n : ℕ). drop n text) place)
+  halves = grind (arith, common_steps, drop-drop (to - from) from text, take-add (to - from) white (drop from text)) steps 200000
 
   rest_is : drop white (drop to text) ≡ drop (to + white) text
   rest_is = drop-drop white to text
 
   pub piece_seam : Seam piece_bytes (drop (to + white) text)
-  piece_seam = subst (λ (bs : List ℕ). Seam bs (drop (to + white) text)) (sym halves) (subst (λ (bs : List ℕ). Seam (slice_range text from to ++ take white (drop to text)) bs) rest_is
-      (seam_at (slice_range text from to) (take white (drop to text)) (drop white (drop to text)) (prefix_white (drop to text)) (no_white_end (drop to text) ends)))
+  piece_seam = grind (arith, common_steps, halves, prefix_white, rest_is, seam_at) steps 200000
 
   pub piece_joined : drop from text ≡ piece_bytes ++ drop (to + white) text
-  piece_joined =
-      let place : from + (to + white - from) ≡ to + white = omega arith in
-      sym (take-append-drop (to + white - from) (drop from text)) ∙ ap (λ (bs : List ℕ). piece_bytes ++ bs) (drop-drop (to + white - from) from text ∙ ap (λ (n : ℕ). drop n text) place)
+  piece_joined = grind (arith, common_steps, drop-drop (to + white - from) from text, take-append-drop (to + white - from) (drop from text)) steps 200000
 
   pub rest_solid : BeginsSolid (drop (to + white) text)
   rest_solid = subst BeginsSolid rest_is (solid_behind (drop to text))
 
   pub rest_ended : ended (drop from text) ≡ ended piece_bytes ++ ended (drop (to + white) text)
-  rest_ended = ap ended piece_joined ∙ ended-append piece_bytes (drop (to + white) text) piece_seam (solid_end (drop (to + white) text) rest_solid)
+  rest_ended = grind (arith, common_steps, ended-append, piece_joined, piece_seam, rest_solid) steps 200000
 
   pub runs_behind : runs_at text to ≡ runs_at text (to + white)
   runs_behind = skip_white to (drop to text) ∙ ap (runs_from (to + white)) rest_is
 
   piece_runs : runs_from from piece_bytes ≡ since
   piece_runs =
-      let long : length piece_bytes ≡ to + white - from =
-      length-take-le (to + white - from) (drop from text) (let all : length (drop from text) ≡ length text - from = length-drop from text in let most : to + white ≤ length text = white_within in omega arith) in
+      let long : length piece_bytes ≡ to + white - from = grind (arith, common_steps, length-drop from text, white_within) steps 200000 in
       let end : from + length piece_bytes ≡ to + white = omega arith in
-      append_cancel_right (runs_from from piece_bytes) since (runs_at text (to + white))
-      (ap (λ (n : ℕ). runs_from from piece_bytes ++ runs_from n (drop (to + white) text)) (sym end) ∙ sym (runs-append piece_bytes (drop (to + white) text) from piece_seam)
-      ∙ ap (runs_from from) (sym piece_joined) ∙ joined ∙ ap (λ (rs : List Run). since ++ rs) runs_behind)
+      grind (arith, common_steps, append_cancel_right, piece_joined, piece_seam, runs-append, runs_behind) steps 200000
 
   piece_words : (ws : List Word) × AreWords (runs piece_bytes) ws × (part ++ word ∷ [] ≡ map (shift_word from) ws)
   piece_words =
@@ -265,27 +245,16 @@ module _ (text : List ℕ) (from to : ℕ) (since : List Run) (part : List Word)
     has_words = has_ended;
     are_units = units.1;
     spells = units.2;
-    one = is_one tokens units.0 units.1 units.2 some has_one;
+    one = is_one (tokens_of (ended piece_bytes) piece_words.0) units.0 units.1 units.2
+        (grind (arith, common_steps, length-append, length-map, long) steps 200000) has_one;
     white = white_behind;
-    ends = ended_white piece_bytes;
+    ends = grind (arith, common_steps, cases_Bool (ends_white piece_bytes), ends_behind piece_bytes [] 10, feed_white) steps 200000;
   } where
-    tokens : List Token
-    tokens = tokens_of (ended piece_bytes) piece_words.0
-
-    wholly : WholeRun (tokens_of (ended piece_bytes) piece_words.0)
-    wholly = run_bare (tokens_of (ended piece_bytes) piece_words.0) (tokens_of text (part ++ word ∷ [])) m.Begin 0 same_tokens ∙ whole
-
     units : (units : Units) × AreUnits true units × (unit_tokens units ≡ tokens_of (ended piece_bytes) piece_words.0)
-    units = run-IsWhole (tokens_of (ended piece_bytes) piece_words.0) wholly
+    units = run-IsWhole (tokens_of (ended piece_bytes) piece_words.0) (grind (arith, common_steps, piece_words, run_bare, same_tokens) steps 200000)
 
     long : length (tokens_of (ended piece_bytes) piece_words.0) ≡ length (tokens_of text (part ++ word ∷ []))
     long = sym (length-map (tokens_of (ended piece_bytes) piece_words.0) bare) ∙ ap length same_tokens ∙ length-map (tokens_of text (part ++ word ∷ [])) bare
-
-    some : 0 < length (tokens_of (ended piece_bytes) piece_words.0)
-    some =
-        let count : length (tokens_of text (part ++ word ∷ [])) ≡ length (part ++ word ∷ []) = length-map (part ++ word ∷ []) (token_of text) in
-        let last : length (part ++ word ∷ []) ≡ length part + 1 = length-append part (word ∷ []) in
-        omega (arith, long)
 
     has_one : HasOne (tokens_of (ended piece_bytes) piece_words.0)
     has_one n few less first =

@@ -1,12 +1,12 @@
 -- Where the words of a text are, and which bytes a text has.
-use Rattle.std.proofs.lemmas.{Grind.{common_steps}, Bool.{cases_Bool, false≢true, or_cases, and_parts, leb-true, ltb-false, not-false}, Option.{slice_get_within, get_or_from_slice_get}}
-use Rattle.std.proofs.lemmas.List.{Elements.{All-nil, All-cons}, Kept.{AllPairs-cons}, Quantifiers.{position-Some}, Sums.{fails_before_first}}
-use Rattle.std.proofs.Common.{◌≡◌, ℕ, ◌+◌, ◌-◌, ◌<◌, ◌≤◌, Bool, true, false, not, ◌&&◌, List, [], ◌∷◌, ◌++◌, append_assoc, length, get_or, Option, Some, None, IfSome, Result, length-append, nat_le}
-use Rattle.std.{proofs.Common.{slice_range, slice_get, IfErr, All, AllPairs, refl, sym, ap, ◌∙◌, subst, arith}, specs.List.{flat_map, AllByRecursion, position}}
+use Rattle.std.proofs.Common.{[], ◌≡◌, ℕ, ◌+◌, ◌<◌, ◌≤◌, Bool, true, false, not, ◌&&◌, List, ◌∷◌, ◌++◌, append_assoc, length, get_or, Option, Some, None, IfSome, Result, length-append, nat_le}
+use Rattle.std.proofs.{Common.{slice_range, slice_get, IfErr, All, AllPairs, refl, sym, ap, ◌∙◌, subst, arith}, lemmas.Grind.{common_steps}}
+use Rattle.std.proofs.lemmas.{Bool.{cases_Bool, false≢true, or_cases, and_parts, leb-true, ltb-false, not-false}, Option.{slice_get_within, get_or_from_slice_get}, List.Elements.{All-nil, All-cons}}
+use Rattle.std.{proofs.lemmas.List.{Kept.{AllPairs-cons}, Quantifiers.{position-Some}, Sums.{fails_before_first}}, specs.List.{flat_map, AllByRecursion, position}}
 use Rattle.mm_text.specs.declared.{word.Word.{Word}, fault.{TextFault.{TextFault}, TextError.{TextError}, TextNumber.{TextNumber, TheVariants.{T01, T02, T03, T04, T05, T07, T08}}}}
-use Rattle.mm_text.specs.Language.{Run.{Run, is_white, ends_run, runs}, Layout.{IsLaidOut}, Spelling.{IsWord}}
-use Rattle.mm_text.specs.Language.Reading.{is_allowed, first_bad, Segment, Single, Comment, segment_runs, segment_words, IsSegment, AreWords, HasWords, LiesIn, AreWithin, StopsAtRun, EndsOpen}
-use Rattle.mm_text.specs.Language.{Reading.{IsWordsFaultAt, IsWordsFault, IsTextErrorIn}, Unit.{Token, token_of, tokens_of, EndsInUnit, EndsInBlock}}
+use Rattle.mm_text.specs.Language.{Run.{Run, is_white, ends_run, runs}, Layout.{IsLaidOut}}
+use Rattle.mm_text.specs.Language.Reading.{is_allowed, first_bad, Segment, Single, Comment, segment_runs, segment_words, IsSegment, HasWords, LiesIn, AreWithin, StopsAtRun, IsWordsFaultAt}
+use Rattle.mm_text.specs.Language.{Reading.{IsWordsFault, IsTextErrorIn}, Unit.{Token, token_of, tokens_of, EndsInUnit, EndsInBlock}}
 use Rattle.mm_text.{specs.Language.Cut.{StopsUnits, EndsUnits, IsFirstFaultAt, IsFirstFault, IsCutError}, proofs.LayoutLemmas.{laid_out}}
 
 -- ---- runs
@@ -42,12 +42,7 @@ gap_behind : (text : List ℕ) (at : ℕ) (later : List ℕ) (runs : List Run) �
 gap_behind text at later [] ends laid h = tt
 gap_behind text at later (run ∷ runs) ends laid h = by_gap laid.gap run.bytes laid.joined laid.place laid.solid laid.some where
   by_gap : (gap bytes : List ℕ) → later ≡ gap ++ (bytes ++ laid.later) → run.start ≡ at + length gap → AllByRecursion (λ b. is_white b ≡ false) bytes → 0 < length bytes → Standing text (at + 1) (run ∷ runs)
-  by_gap (g ∷ gap) bytes joined place solid some = grind (arith, common_steps) steps 200000
-  by_gap [] (b ∷ bytes) joined place solid some = absurd (false≢true (sym solid.0 ∙ (sym (ap ends_run joined) ∙ ends)))
-  by_gap [] [] joined place solid some = absurd (omega arith)
-
-part_of : (front bytes later : List ℕ) (from to : ℕ) → from ≡ length front → to ≡ from + length bytes → slice_range (front ++ (bytes ++ later)) from to ≡ bytes
-part_of front bytes later from to from_is to_is = grind (arith, common_steps) steps 200000
+  by_gap p0 p1 p2 p3 p4 p5 = grind (arith, common_steps, false≢true) steps 200000
 
 pub runs_stand : (text front bytes : List ℕ) (at : ℕ) (runs : List Run) → text ≡ front ++ bytes → at ≡ length front → IsLaidOut at bytes runs → Standing text at runs
 runs_stand text front bytes at [] joined place h = tt
@@ -57,15 +52,7 @@ runs_stand text front bytes at (run ∷ runs) joined place h =
     let on : text ≡ (before ++ run.bytes) ++ h.later = all ∙ sym (append_assoc before run.bytes h.later) in
     let start : run.start ≡ length before = omega (arith, h.place, place, length-append front h.gap) in
     let end : run.start + length run.bytes ≡ length (before ++ run.bytes) = omega (arith, start, length-append before run.bytes) in
-    let size : length text ≡ length (before ++ run.bytes) + length h.later = ap length on ∙ length-append (before ++ run.bytes) h.later in (
-      record {
-        behind = omega (arith, h.place);
-        some = h.some;
-        within = omega (arith, end, size);
-        bytes_are = ap (λ (bs : List ℕ). slice_range bs run.start (run.start + length run.bytes)) all ∙ part_of before run.bytes h.later run.start (run.start + length run.bytes) start refl;
-      },
-      gap_behind text (run.start + length run.bytes) h.later runs h.ends h.goes_on (runs_stand text (before ++ run.bytes) h.later (run.start + length run.bytes) runs on end h.goes_on),
-    )
+    grind (arith, common_steps, runs_stand text (before ++ run.bytes) h.later (run.start + length run.bytes) runs on end h.goes_on, gap_behind) steps 200000
 
 -- the runs of a text are in it
 text_stands : (text : List ℕ) → Standing text 0 (runs text)
@@ -78,14 +65,11 @@ abbrev pub Lying : List ℕ → ℕ → List Word → Type 0
 Lying text at [] = Unit {0}
 Lying text at (word ∷ words) = (at ≤ word.start) × LiesIn text word × Lying text (word.end + 1) words
 
-word_lies : (text : List ℕ) (at : ℕ) (run : Run) (word : Word) → IsWord run word → Stands text at run → LiesIn text word
-word_lies text at run word is h = grind (arith, common_steps) steps 200000
-
 pub parts_lie : (text : List ℕ) (at : ℕ) (parts : List Segment) → AllByRecursion IsSegment parts → Standing text at (flat_map segment_runs parts) → Lying text at (flat_map segment_words parts)
 parts_lie text at [] each h = tt
 parts_lie text at (Single run word ∷ parts) each h = (
   omega (arith, each.0.start, h.0.behind),
-  word_lies text at run word each.0 h.0,
+  (grind (arith, common_steps) steps 200000),
   parts_lie text (word.end + 1) parts each.1 (at_or_before text (word.end + 1) (run.start + length run.bytes + 1) (flat_map segment_runs parts) (λ x. omega (arith, each.0.end)) h.1),
 )
 parts_lie text at (Comment first inside last ∷ parts) each h = parts_lie text at parts each.1 (skip text at (first ∷ (inside ++ last ∷ [])) (flat_map segment_runs parts) h)
@@ -102,11 +86,8 @@ all_rise : (text : List ℕ) (at : ℕ) (words : List Word) → Lying text at wo
 all_rise text at [] h = λ i j d lt within. absurd (omega (arith, within))
 all_rise text at (word ∷ words) h = AllPairs-cons (λ (earlier later : Word). earlier.end < later.start) word words (all_behind text word.end (word.end + 1) words (omega arith) h.2) (all_rise text (word.end + 1) words h.2)
 
-read_lie : (text : List ℕ) (runs : List Run) (words : List Word) → Standing text 0 runs → AreWords runs words → Lying text 0 words
-read_lie text runs words standing h = subst (Lying text 0) h.singles (parts_lie text 0 h.parts h.reading.each (subst (Standing text 0) (sym h.reading.joined) standing))
-
 pub words_lie : (text : List ℕ) (words : List Word) → HasWords text words → Lying text 0 words
-words_lie text words h = read_lie text (runs text) words (text_stands text) h.words_are
+words_lie text words h = grind (arith, common_steps, parts_lie, text_stands) steps 200000
 
 -- the words of a text are in it, in order
 pub are_within : (text : List ℕ) (words : List Word) → HasWords text words → AreWithin text words
@@ -143,12 +124,9 @@ run_begins text front rest run joined = let here = skip text 0 front (run ∷ re
 stop_lies : (text : List ℕ) (number : TextNumber) (at : ℕ) → StopsAtRun (runs text) number at → at < length text
 stop_lies text number at h = let begins = run_begins text h.front h.rest h.run h.joined in omega (arith, h.place)
 
-open_lies : (text : List ℕ) (at : ℕ) → EndsOpen (runs text) at → at < length text
-open_lies text at h = let begins = run_begins text h.open_comment.front h.open_comment.inside h.first h.open_comment.joined in omega (arith, h.place)
-
 fault_at_lies : (text : List ℕ) (number : TextNumber) (at : ℕ) → IsWordsFaultAt text number at → at < length text
 fault_at_lies text T01 at h = (position-Some (λ b. not (is_allowed b)) text at 0 h).0
-fault_at_lies text T02 at h = open_lies text at h.1
+fault_at_lies text T02 at h = grind (arith, common_steps, run_begins) steps 200000
 fault_at_lies text number at h = stop_lies text number at h.1
 
 -- the fault of a text is at one of its bytes
@@ -167,7 +145,9 @@ token_begins text at words n token h there = subst (λ (t : Token). t.start < le
 
 unit_stop_lies : (text : List ℕ) (number : TextNumber) (at : ℕ) → StopsUnits text number at → at < length text
 unit_stop_lies text number at h =
-    let lying : Lying text 0 h.found = read_lie text h.front h.found (standing_front text 0 h.front h.rest (subst (Standing text 0) h.joined (text_stands text))) h.read in
+    let front = standing_front text 0 h.front h.rest (subst (Standing text 0) h.joined (text_stands text)) in
+    let parts = parts_lie text 0 h.read.parts h.read.reading.each (subst (Standing text 0) (sym h.read.reading.joined) front) in
+    let lying : Lying text 0 h.found = subst (Lying text 0) h.read.singles parts in
     grind (arith, common_steps, token_begins text 0 h.found h.word h.stop.token lying h.stop.there) steps 200000
 
 unit_end_lies : (text : List ℕ) (Ends : List Token → ℕ → Type 0) (at : ℕ) → EndsUnits text Ends at → at < length text
@@ -175,7 +155,7 @@ unit_end_lies text Ends at h = let begins = token_begins text 0 h.found h.word h
 
 first_fault_at_lies : (text : List ℕ) (number : TextNumber) (at : ℕ) → IsFirstFaultAt text number at → at < length text
 first_fault_at_lies text T01 at h = fault_at_lies text T01 at h
-first_fault_at_lies text T02 at h = open_lies text at h.1.ends
+first_fault_at_lies text T02 at h = grind (arith, common_steps, run_begins) steps 200000
 first_fault_at_lies text T03 at h = stop_lies text T03 at h.1.stop
 first_fault_at_lies text T04 at h = stop_lies text T04 at h.1.stop
 first_fault_at_lies text T05 at h = stop_lies text T05 at h.1.stop

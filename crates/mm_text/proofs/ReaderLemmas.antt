@@ -1,13 +1,12 @@
 -- What the steps of a reader read, and the faults that they meet.
-use Rattle.std.proofs.lemmas.Grind.{common_steps}
-use Rattle.std.proofs.Common.{◌≡◌, ◌≢◌, ℕ, ◌+◌, ◌-◌, ◌<◌, ◌≤◌, List, [], ◌∷◌, ◌++◌, append_assoc, length, take, drop, slice_range, Option, Some, None, Err, refl, sym, ap, ◌∙◌, subst, arith}
-use Rattle.std.{proofs.Common.{append-nil, length-take-le, length-drop}, specs.List.{prefix_len}}
-use Rattle.mm_text.specs.{declared.{reader.Span.{Span}, word.{Word.{Word}, WordKind.{WordKind}}, fault.TextNumber.{TextNumber, TheVariants.{T02, T03, T04, T05}}}, Language.Run.{Run, runs, is_solid}}
-use Rattle.mm_text.specs.Language.{Spelling.{IsWord, HoldsMark, opening, closing}, Reading.{HoldNoMarks, AreWords, EndsOpen, first_bad}, Cut.{EndsInComment, HoldWords, StopsWords, IsFirstFaultAt}}
-use Rattle.mm_text.specs.{Language.Unit.{tokens_of, IsViable}, Code.LeftToRight.{Read, read_runs, cons_word, with_words, word_kind, words_fault_at}}
-use Rattle.mm_text.specs.Code.Reader.{runs_at, run_of, TakesSpan, SkipsComment, FailsInside, TakesWord, IsRunRefused, MeetsRun, FailsBehind}
+use Rattle.std.proofs.Common.{[], ◌≡◌, ◌≢◌, ℕ, ◌+◌, ◌-◌, ◌<◌, ◌≤◌, List, ◌∷◌, ◌++◌, append_assoc, length, take, drop, slice_range, Option, Some, None, Err, refl, sym, ap, ◌∙◌, subst, arith}
+use Rattle.std.{proofs.{Common.{append-nil, length-take-le, length-drop}, lemmas.Grind.{common_steps}}, specs.List.{prefix_len}}
+use Rattle.mm_text.proofs.ReadingLemmas.{read_behind, open_read, placed, none_read, InComment, Behind, word_step, read_whole, stops, is_whole, goes_on, is_open, not_whole, stop_fault}
 use Rattle.mm_text.proofs.{KindLemmas.{kind_spelled, spelled_kind, no_kind, stands_mark}, RunLemmas.{front_is, takes_run}, ReadLemmas.{inside_mark, outside_close, outside_word}}
-use Rattle.mm_text.proofs.ReadingLemmas.{none_read, all_append, InComment, Behind, word_step, read_whole, stops, is_whole, goes_on, is_open, not_whole, stop_fault, open_fault}
+use Rattle.mm_text.specs.{declared.{reader.Span.{Span}, word.{Word.{Word}, WordKind.{WordKind}}, fault.TextNumber.{TextNumber, TheVariants.{T02, T03, T04, T05}}}, Language.Run.{Run, runs, is_solid}}
+use Rattle.mm_text.specs.Language.{Spelling.{HoldsMark, opening, closing}, Reading.{HoldNoMarks, AreWords, EndsOpen, first_bad}, Cut.{EndsInComment, HoldWords, StopsWords, IsFirstFaultAt}}
+use Rattle.mm_text.specs.{Language.Unit.{tokens_of, IsViable}, Code.LeftToRight.{read_runs, cons_word, word_kind, words_fault_at}}
+use Rattle.mm_text.specs.Code.Reader.{runs_at, run_of, TakesSpan, SkipsComment, FailsInside, TakesWord, IsRunRefused, MeetsRun, FailsBehind}
 use Rattle.mm_text.specs.Language.Reading as words
 
 -- ---- readings side by side
@@ -33,11 +32,7 @@ module _ (text : List ℕ) (from at : ℕ) (span : Span) (to : ℕ) (h : Skippin
   onto = h.joined ∙ ap (λ (rs : List Run). h.inside ++ rs) run.run
 
   pub skip_more : ¬ HoldsMark (run_of text span).bytes → Skipping text from to
-  skip_more none = record {
-    inside = h.inside ++ run_of text span ∷ [];
-    joined = onto ∙ sym (append_assoc h.inside (run_of text span ∷ []) (runs_at text to));
-    no_marks = all_append (λ run. ¬ HoldsMark run.bytes) h.inside (run_of text span ∷ []) h.no_marks (none, tt);
-  }
+  skip_more none = grind (arith, common_steps, append_assoc h.inside (run_of text span ∷ []) (runs_at text to)) steps 200000
 
   pub skip_end : (run_of text span).bytes ≡ closing → SkipsComment text from to
   skip_end closes = record { inside = h.inside; last = run_of text span; joined = onto; no_marks = h.no_marks; closed = closes }
@@ -72,16 +67,15 @@ module _ (text : List ℕ) (from at : ℕ) (span : Span) (to : ℕ) (h : Passing
   pass_word kind is within le = record {
     taken = h.seen ++ run_of text span ∷ [];
     joined = there ∙ sym (append_assoc h.seen (run_of text span ∷ []) (runs_at text to));
-    reads = word_step h.seen [] (run_of text span) (record { kind = kind; start = span.start; end = span.end }) h.reads spelled;
+    reads = word_step h.seen [] (run_of text span) (record { kind = kind; start = span.start; end = span.end }) h.reads
+        (grind (arith, common_steps, kind_spelled, slice_length) steps 200000);
     here = run.here;
-    is_word = spelled;
+    is_word = grind (arith, common_steps, kind_spelled, slice_length) steps 200000;
     begins = omega (arith, run.begins);
     some = run.some;
     next = run.next;
     ends = run.ends;
-  } where
-    spelled : IsWord (run_of text span) (record { kind = kind; start = span.start; end = span.end })
-    spelled = grind (arith, common_steps, kind_spelled, slice_length) steps 200000
+  }
 
   pub pass_close : (run_of text span).bytes ≡ closing → FailsBehind (runs_at text from) [] T04 span.start
   pass_close closes = record { front = h.seen; run = run_of text span; rest = runs_at text to; joined = there; place = refl; refused = (h.reads, closes) }
@@ -92,8 +86,7 @@ module _ (text : List ℕ) (from at : ℕ) (span : Span) (to : ℕ) (h : Passing
   pub pass_comment : (end : ℕ) → (run_of text span).bytes ≡ opening → SkipsComment text to end → Passing text from end
   pass_comment end opens skips = record {
     seen = h.seen ++ (run_of text span ∷ (skips.inside ++ skips.last ∷ []));
-    joined = there ∙ ap (λ (rs : List Run). h.seen ++ run_of text span ∷ rs) (skips.joined ∙ sym (append_assoc skips.inside (skips.last ∷ []) (runs_at text end)))
-        ∙ sym (append_assoc h.seen (run_of text span ∷ (skips.inside ++ skips.last ∷ [])) (runs_at text end));
+    joined = grind (arith, common_steps, append_assoc, there) steps 200000;
     reads = words-append h.seen (run_of text span ∷ (skips.inside ++ skips.last ∷ [])) [] [] h.reads (record {
       parts = words.Comment (run_of text span) skips.inside skips.last ∷ [];
       reading = record { each = (record { opened = opens; no_marks = skips.no_marks; closed = skips.closed }, tt); joined = append-nil (run_of text span ∷ (skips.inside ++ skips.last ∷ [])) };
@@ -122,11 +115,9 @@ word_here text from start n kind forward within white len some is =
 
 -- ---- what is read
 
-one_word : (word : Word) (r : Read) → with_words (word ∷ []) r ≡ cons_word word r
-one_word word r = grind (arith, common_steps) steps 200000
-
 pub word_read : (text : List ℕ) (from : ℕ) (word : Word) (to : ℕ) → TakesWord text from word to → read_runs None (runs_at text from) ≡ cons_word word (read_runs None (runs_at text to))
-word_read text from word to h = ap (read_runs None) h.joined ∙ read_whole h.taken (word ∷ []) h.reads (runs_at text to) ∙ one_word word (read_runs None (runs_at text to))
+word_read text from word to h =
+    ap (read_runs None) h.joined ∙ read_whole h.taken (word ∷ []) h.reads (runs_at text to) ∙ (grind (arith, common_steps) steps 200000)
 
 -- ---- faults
 
@@ -175,7 +166,9 @@ ends_open runs found at h place = record {
 }
 
 pub fails_read : (runs : List Run) (found : List Word) (number : TextNumber) (at : ℕ) → FailsBehind runs found number at → read_runs None runs ≡ Err (words_fault_at number at)
-fails_read runs found T02 at h = open_fault runs at (ends_open runs found at h.0 h.1)
+fails_read runs found T02 at h = let inside = open_read runs (ends_open runs found at h.0 h.1).first (ends_open runs found at h.0 h.1).open_comment in
+    placed T02 runs (ends_open runs found at h.0 h.1).first.start at (ends_open runs found at h.0 h.1).place (ap (read_runs None) (sym (append-nil runs))
+    ∙ read_behind (Some (ends_open runs found at h.0 h.1).first.start) runs inside.0 inside.1 [])
 fails_read runs found number at h = stop_fault number runs at (stop_of runs found number at h)
 
 pub fails_more : (a b : List Run) (ws vs : List Word) (number : TextNumber) (at : ℕ) → AreWords a ws → FailsBehind b vs number at → FailsBehind (a ++ b) (ws ++ vs) number at

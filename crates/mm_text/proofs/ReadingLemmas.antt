@@ -1,10 +1,10 @@
 -- What is read from left to right is the meaning of the runs.
-use Rattle.std.proofs.Common.{arith, ◌≡◌, ◌≢◌, ℕ, ◌+◌, true, false, List, [], ◌∷◌, ◌++◌, append_assoc, Option, Some, None, Ok, Err, refl, sym, ap, ◌∙◌, subst, inl, inr, append-nil}
-use Rattle.std.{proofs.lemmas.{Grind.{common_steps, flat_map-append}, Bool.{cases_Bool, false≢true}, Slice.Eq.{bytes_eq-Decides}}, specs.{List.{flat_map, AllByRecursion}, Str.{bytes_eq}}}
+use Rattle.std.proofs.Common.{[], arith, ◌≡◌, ◌≢◌, ℕ, true, false, List, ◌∷◌, ◌++◌, append_assoc, Option, Some, None, Ok, Err, refl, sym, ap, ◌∙◌, subst, inl, inr, append-nil}
+use Rattle.std.{proofs.lemmas.{Grind.{common_steps}, Bool.{cases_Bool, false≢true}, Slice.Eq.{bytes_eq-Decides}}, specs.{List.{flat_map, AllByRecursion}, Str.{bytes_eq}}}
 use Rattle.mm_text.specs.{declared.{word.{Word.{Word}, WordKind.{WordKind}}, fault.{TextFault.{TextFault}, TextNumber.{TextNumber, TheVariants.{T01, T02, T03, T04, T05}}}}, Language.Run.{Run, runs}}
 use Rattle.mm_text.specs.Language.Spelling.{IsWord, IsSpelled, HoldsMark, opening, closing}
 use Rattle.mm_text.specs.Language.Reading.{Segment, Single, Comment, segment_runs, segment_words, HoldNoMarks, IsSegment, IsReading, AreWords, HaveReading, AreViableRuns, IsOpen, IsRunNumber}
-use Rattle.mm_text.specs.Language.Reading.{StopsAtRun, EndsOpen, IsRunFault, first_bad, HasWords, IsWordsFault, IsWordsFaultAt}
+use Rattle.mm_text.specs.Language.Reading.{StopsAtRun, IsRunFault, first_bad, HasWords, IsWordsFault, IsWordsFaultAt}
 use Rattle.mm_text.specs.Code.LeftToRight.{Read, read_runs, word_kind, word_alone, word_at, words_fault_at, cons_word, with_words, holds_mark, checked, read_text}
 use Rattle.mm_text.proofs.{KindLemmas.{kind_spelled, spelled_kind, no_kind, mark_stands, stands_mark}, ReadLemmas.{inside_end, inside_mark, inside_more, outside_open, outside_close, outside_word}}
 
@@ -30,17 +30,10 @@ Behind None seen words = AreWords seen words
 Behind (Some start) seen words = InComment start seen words
 
 pub with_part : (seen : List Run) (words : List Word) (part : Segment) → AreWords seen words → IsSegment part → AreWords (seen ++ segment_runs part) (words ++ segment_words part)
-with_part seen words part h is = record {
-  parts = h.parts ++ part ∷ [];
-  reading = grind (arith, common_steps, all_append IsSegment h.parts (part ∷ []) h.reading.each (is, tt), flat_map-append segment_runs h.parts (part ∷ []), append-nil (segment_runs part)) steps 200000;
-  singles = flat_map-append segment_words h.parts (part ∷ []) ∙ ap (λ (ws : List Word). ws ++ (segment_words part ++ [])) h.singles ∙ ap (λ (ws : List Word). words ++ ws) (append-nil (segment_words part));
-}
+with_part seen words part h is = grind (arith, common_steps, all_append IsSegment h.parts (part ∷ []) h.reading.each (is, tt)) steps 200000
 
 pub word_step : (seen : List Run) (words : List Word) (run : Run) (word : Word) → AreWords seen words → IsWord run word → AreWords (seen ++ run ∷ []) (words ++ word ∷ [])
 word_step seen words run word h is = with_part seen words (Single run word) h is
-
-pub open_step : (seen : List Run) (words : List Word) (run : Run) → AreWords seen words → run.bytes ≡ opening → InComment run.start (seen ++ run ∷ []) words
-open_step seen words run h opens = record { front = seen; first = run; inside = []; joined = refl; before = h; begins = refl; opened = opens; no_marks = tt }
 
 pub more_step : (start : ℕ) (seen : List Run) (words : List Word) (run : Run) → InComment start seen words → ¬ HoldsMark run.bytes → InComment start (seen ++ run ∷ []) words
 more_step start seen words run h no_mark = grind (arith, common_steps) steps 200000
@@ -48,23 +41,14 @@ more_step start seen words run h no_mark = grind (arith, common_steps) steps 200
 pub close_step : (start : ℕ) (seen : List Run) (words : List Word) (run : Run) → InComment start seen words → run.bytes ≡ closing → AreWords (seen ++ run ∷ []) words
 close_step start seen words run h closes =
     let all : AreWords (h.front ++ h.first ∷ (h.inside ++ run ∷ [])) (words ++ []) = with_part h.front words (Comment h.first h.inside run) h.before (record { opened = h.opened; no_marks = h.no_marks; closed = closes }) in
-    let same : h.front ++ h.first ∷ (h.inside ++ run ∷ []) ≡ seen ++ run ∷ [] = sym (ap (λ (rs : List Run). rs ++ run ∷ []) h.joined ∙ append_assoc h.front (h.first ∷ h.inside) (run ∷ [])) in
-    subst (λ (ws : List Word). AreWords (seen ++ run ∷ []) ws) (append-nil words) (subst (λ (rs : List Run). AreWords rs (words ++ [])) same all)
+    grind (arith, common_steps, append-nil words, append_assoc h.front (h.first ∷ h.inside) (run ∷ [])) steps 200000
 
 -- ---- a reading is what is read
 
-not_closing : (kind : WordKind) (bytes : List ℕ) → IsSpelled kind bytes → bytes ≢ closing
-not_closing kind bytes is e = let found : word_kind closing ≡ Some kind = ap word_kind (sym e) ∙ spelled_kind kind bytes is in cc
-
-read_word : (run : Run) (word : Word) (tail : List Run) → IsWord run word → read_runs None (run ∷ tail) ≡ cons_word word (read_runs None tail)
-read_word run word tail is = grind (arith, common_steps, not_closing, outside_word, spelled_kind) steps 200000
-
-no_mark_is : (bytes : List ℕ) → ¬ HoldsMark bytes → holds_mark bytes ≡ false
-no_mark_is bytes no_mark = elim (cases_Bool (holds_mark bytes)) [ inl e ↦ absurd (no_mark (mark_stands bytes e)) | inr e ↦ e ]
-
 read_inside : (start : ℕ) (inside tail : List Run) → HoldNoMarks inside → read_runs (Some start) (inside ++ tail) ≡ read_runs (Some start) tail
 read_inside start [] tail h = refl
-read_inside start (run ∷ inside) tail h = inside_more start run (inside ++ tail) (λ e. h.0 (mark_stands run.bytes (ap holds_mark e))) (no_mark_is run.bytes h.0) ∙ read_inside start inside tail h.1
+read_inside start (run ∷ inside) tail h = inside_more start run (inside ++ tail) (λ e. h.0 (mark_stands run.bytes (ap holds_mark e)))
+    (grind (arith, common_steps, cases_Bool, mark_stands) steps 200000) ∙ read_inside start inside tail h.1
 
 pub with_none : (r : Read) → with_words [] r ≡ r
 with_none r = grind (arith, common_steps) steps 200000
@@ -74,13 +58,14 @@ with_cons word words r = grind (arith, common_steps) steps 200000
 
 read_parts : (parts : List Segment) → AllByRecursion IsSegment parts → (tail : List Run) → read_runs None (flat_map segment_runs parts ++ tail) ≡ with_words (flat_map segment_words parts) (read_runs None tail)
 read_parts [] each tail = sym (with_none (read_runs None tail))
-read_parts (Single run word ∷ parts) each tail = read_word run word (flat_map segment_runs parts ++ tail) each.0 ∙ ap (cons_word word) (read_parts parts each.1 tail) ∙ with_cons word (flat_map segment_words parts) (read_runs None tail)
+read_parts (Single run word ∷ parts) each tail = (grind (arith, common_steps, outside_word, spelled_kind) steps 200000)
+    ∙ ap (cons_word word) (read_parts parts each.1 tail) ∙ with_cons word (flat_map segment_words parts) (read_runs None tail)
 read_parts (Comment first inside last ∷ parts) each tail = grind (arith, common_steps, read_parts parts each.1 tail, inside_end, outside_open, read_inside) steps 200000
 
 pub read_whole : (seen : List Run) (words : List Word) → AreWords seen words → (tail : List Run) → read_runs None (seen ++ tail) ≡ with_words words (read_runs None tail)
 read_whole seen words h tail = ap (λ (rs : List Run). read_runs None (rs ++ tail)) (sym h.reading.joined) ∙ read_parts h.parts h.reading.each tail ∙ ap (λ (ws : List Word). with_words ws (read_runs None tail)) h.singles
 
-read_behind : (state : Option ℕ) (seen : List Run) (words : List Word) → Behind state seen words → (tail : List Run) → read_runs None (seen ++ tail) ≡ with_words words (read_runs state tail)
+pub read_behind : (state : Option ℕ) (seen : List Run) (words : List Word) → Behind state seen words → (tail : List Run) → read_runs None (seen ++ tail) ≡ with_words words (read_runs state tail)
 read_behind None seen words h tail = read_whole seen words h tail
 read_behind (Some start) seen words h tail =
     grind (arith, common_steps, read_whole h.front words h.before (h.first ∷ (h.inside ++ tail)), outside_open h.first (h.inside ++ tail) h.opened, read_inside h.first.start h.inside tail h.no_marks) steps 200000
@@ -98,15 +83,12 @@ same_words runs a b f g = let e : read_runs None runs ≡ Ok a = read_words runs
 pub whole_words : (runs : List Run) (parts : List Segment) → IsReading runs parts → AreWords runs (flat_map segment_words parts)
 whole_words runs parts h = record { parts = parts; reading = h; singles = refl }
 
-err_with : (words : List Word) (fault : TextFault) (r : Read) → r ≡ Err fault → with_words words r ≡ Err fault
-err_with words fault r e = ap (with_words words) e
-
 pub stops : (state : Option ℕ) (seen : List Run) (words : List Word) (run : Run) (fault : TextFault) → Behind state seen words → ((tail : List Run) → read_runs state (run ∷ tail) ≡ Err fault) → ¬ AreViableRuns (seen ++ run ∷ [])
 stops state seen words run fault h fails goes =
     let all : read_runs None ((seen ++ run ∷ []) ++ goes.0) ≡ Ok (flat_map segment_words goes.1.0) =
     read_words ((seen ++ run ∷ []) ++ goes.0) (flat_map segment_words goes.1.0) (whole_words ((seen ++ run ∷ []) ++ goes.0) goes.1.0 goes.1.1) in
     let none : read_runs None ((seen ++ run ∷ []) ++ goes.0) ≡ Err fault = ap (read_runs None) (append_assoc seen (run ∷ []) goes.0) ∙ read_behind state seen words h (run ∷ goes.0)
-    ∙ err_with words fault (read_runs state (run ∷ goes.0)) (fails goes.0) in
+    ∙ (ap (with_words words) (fails goes.0)) in
     cc
 
 pub is_whole : (seen : List Run) (words : List Word) → AreWords seen words → HaveReading seen
@@ -175,7 +157,8 @@ outcome None (run ∷ runs) seen words h =
     elim (cases_Bool (bytes_eq run.bytes opening)) [
       | inl opens ↦
           let is = is_from run.bytes opening opens in
-          moved seen run runs words (read_runs (Some run.start) runs) (read_runs None (run ∷ runs)) (outside_open run runs is) (outcome (Some run.start) runs (seen ++ run ∷ []) words (open_step seen words run h is))
+          moved seen run runs words (read_runs (Some run.start) runs) (read_runs None (run ∷ runs)) (outside_open run runs is) (outcome (Some run.start) runs
+          (seen ++ run ∷ []) words (grind (arith, common_steps) steps 200000))
       | inr no_open ↦ elim (cases_Bool (bytes_eq run.bytes closing)) [
         | inl closes ↦
             let is = is_from run.bytes closing closes in
@@ -196,8 +179,8 @@ outcome (Some start) (run ∷ runs) seen words h =
             at_fault (seen ++ run ∷ runs) words (words_fault_at T03 run.start) (read_runs (Some start) (run ∷ runs)) (inside_mark start run runs differs mark)
             (stops_at (Some start) seen words run runs T03 h (λ tail. inside_mark start run tail differs mark) (h.first, is_open start seen words h, mark_stands run.bytes mark, differs))
         | inr no_mark ↦
-            moved seen run runs words (read_runs (Some start) runs) (read_runs (Some start) (run ∷ runs)) (inside_more start run runs (not_from run.bytes closing no_close) no_mark)
-            (outcome (Some start) runs (seen ++ run ∷ []) words (more_step start seen words run h (λ marked. false≢true (sym no_mark ∙ stands_mark run.bytes marked))))
+            let more = more_step start seen words run h (λ marked. false≢true (sym no_mark ∙ stands_mark run.bytes marked)) in
+            grind (arith, common_steps, outcome (Some start) runs (seen ++ run ∷ []) words more, moved, not_from) steps 200000
       ]
     ]
 
@@ -210,20 +193,16 @@ words_from_read runs words e = subst (λ (r : Read). Outcome runs [] r) e (outco
 
 -- ---- a fault is what is read
 
-open_read : (runs : List Run) (first : Run) (h : IsOpen runs first) → (words : List Word) × InComment first.start runs words
+pub open_read : (runs : List Run) (first : Run) (h : IsOpen runs first) → (words : List Word) × InComment first.start runs words
 open_read runs first h = (flat_map segment_words h.before.0, record { front = h.front; first = first; inside = h.inside; joined = h.joined; before = whole_words h.front h.before.0 h.before.1; begins = refl; opened = h.opened; no_marks = h.no_marks })
 
 split_read : (runs front : List Run) (run : Run) (rest : List Run) (state : Option ℕ) (words : List Word) (fault : TextFault) → runs ≡ front ++ run ∷ rest → Behind state front words
     → read_runs state (run ∷ rest) ≡ Err fault → read_runs None runs ≡ Err fault
-split_read runs front run rest state words fault joined h e = ap (read_runs None) joined ∙ read_behind state front words h (run ∷ rest) ∙ err_with words fault (read_runs state (run ∷ rest)) e
+split_read runs front run rest state words fault joined h e =
+    ap (read_runs None) joined ∙ read_behind state front words h (run ∷ rest) ∙ (grind (arith, common_steps) steps 200000)
 
-placed : (number : TextNumber) (runs : List Run) (start at : ℕ) → at ≡ start → read_runs None runs ≡ Err (words_fault_at number start) → read_runs None runs ≡ Err (words_fault_at number at)
+pub placed : (number : TextNumber) (runs : List Run) (start at : ℕ) → at ≡ start → read_runs None runs ≡ Err (words_fault_at number start) → read_runs None runs ≡ Err (words_fault_at number at)
 placed number runs start at e h = h ∙ ap (λ (k : ℕ). Err (words_fault_at number k)) (sym e)
-
-pub open_fault : (runs : List Run) (at : ℕ) → EndsOpen runs at → read_runs None runs ≡ Err (words_fault_at T02 at)
-open_fault runs at h =
-    let inside = open_read runs h.first h.open_comment in
-    placed T02 runs h.first.start at h.place (ap (read_runs None) (sym (append-nil runs)) ∙ read_behind (Some h.first.start) runs inside.0 inside.1 [])
 
 no_kind_found : (run : Run) (found : Option WordKind) → word_kind run.bytes ≡ found → ((kind : WordKind) → ¬ IsSpelled kind run.bytes) → found ≡ None
 no_kind_found run None e none = refl
@@ -242,7 +221,9 @@ stop_fault T05 runs at h =
     let words = flat_map segment_words h.is_number.0.0 in
     let none : word_kind h.run.bytes ≡ None = no_kind_found h.run (word_kind h.run.bytes) refl h.is_number.3 in
     placed T05 runs h.run.start at h.place (split_read runs h.front h.run h.rest None words (words_fault_at T05 h.run.start) h.joined before
-    (outside_word h.run h.rest (λ opens. h.stops (goes_on (Some h.run.start) (h.front ++ h.run ∷ []) words (open_step h.front words h.run before opens))) h.is_number.2 ∙ ap (λ (k : Option WordKind). word_alone h.run k (read_runs None h.rest)) none))
+    (outside_word h.run h.rest (λ opens. h.stops (goes_on (Some h.run.start) (h.front ++ h.run ∷ []) words (grind (arith, common_steps) steps 200000)))
+    h.is_number.2
+    ∙ ap (λ (k : Option WordKind). word_alone h.run k (read_runs None h.rest)) none))
 stop_fault number runs at h = absurd h.is_number
 
 -- ---- whole texts
@@ -252,21 +233,17 @@ text_words text words h = ap (λ (o : Option ℕ). checked o (read_runs None (ru
 
 pub text_fault : (text : List ℕ) (number : TextNumber) (at : ℕ) → IsWordsFaultAt text number at → read_text text ≡ Err (words_fault_at number at)
 text_fault text T01 at h = ap (λ (o : Option ℕ). checked o (read_runs None (runs text))) h
-text_fault text T02 at h = ap (λ (o : Option ℕ). checked o (read_runs None (runs text))) h.0 ∙ open_fault (runs text) at h.1
+text_fault text T02 at h = ap (λ (o : Option ℕ). checked o (read_runs None (runs text))) h.0
+    ∙ (let inside = open_read (runs text) h.1.first h.1.open_comment in placed T02 (runs text) h.1.first.start at h.1.place
+    (ap (read_runs None) (sym (append-nil (runs text))) ∙ read_behind (Some h.1.first.start) (runs text) inside.0 inside.1 []))
 text_fault text number at h = ap (λ (o : Option ℕ). checked o (read_runs None (runs text))) h.0 ∙ stop_fault number (runs text) at h.1
 
-run_fault : (text : List ℕ) (number : TextNumber) (at : ℕ) → first_bad text ≡ None → IsRunFault (runs text) number at → IsWordsFaultAt text number at
-run_fault text number at allowed h = grind (arith, common_steps) steps 200000
-
-checked_words : (text : List ℕ) (bad : Option ℕ) (words : List Word) → first_bad text ≡ bad → checked bad (read_runs None (runs text)) ≡ Ok words → HasWords text words
-checked_words text bad words is e = grind (arith, common_steps, words_from_read) steps 200000
-
 checked_fault : (text : List ℕ) (bad : Option ℕ) (fault : TextFault) → first_bad text ≡ bad → checked bad (read_runs None (runs text)) ≡ Err fault → IsWordsFault text fault
-checked_fault text None fault is e = run_fault text fault.number fault.at is (subst (λ (r : Read). Outcome (runs text) [] r) e (outcome None (runs text) [] [] none_read))
+checked_fault text None fault is e = grind (arith, common_steps, none_read, outcome None (runs text) [] [] none_read) steps 200000
 checked_fault text (Some at) fault is e = let same : words_fault_at T01 at ≡ fault = cc in subst (IsWordsFault text) same is
 
 pub words_of_text : (text : List ℕ) (words : List Word) → read_text text ≡ Ok words → HasWords text words
-words_of_text text words e = checked_words text (first_bad text) words refl e
+words_of_text text words e = grind (arith, common_steps, words_from_read) steps 200000
 
 pub fault_of_text : (text : List ℕ) (fault : TextFault) → read_text text ≡ Err fault → IsWordsFault text fault
 fault_of_text text fault e = checked_fault text (first_bad text) fault refl e

@@ -1,7 +1,7 @@
 -- A list of words has one division into units.
-use Rattle.std.proofs.{lemmas.Grind.{common_steps}, Common.{◌≡◌, ◌⊎◌, Bool, true, false, List, [], ◌∷◌, ◌++◌, append_assoc, refl, sym, ◌∙◌, subst, inl, inr, arith, append-nil}}
+use Rattle.std.proofs.{Common.{[], ◌≡◌, ◌⊎◌, Bool, true, false, List, ◌∷◌, ◌++◌, append_assoc, refl, sym, ◌∙◌, subst, inl, inr, arith, append-nil}, lemmas.Grind.{common_steps}}
 use Rattle.std.specs.List.{AllByRecursion, flat_map}
-use Rattle.mm_text.specs.declared.word.Keyword.TheVariants.{BlockStart, BlockEnd, Constants, Variables, Floating, Essential, Disjoint, Axiom, Theorem, StatementEnd, ProofStart, InclusionStart}
+use Rattle.mm_text.specs.declared.word.Keyword.TheVariants.{BlockStart, BlockEnd, Constants, Variables, Floating, Essential, Disjoint, Axiom, StatementEnd, ProofStart, InclusionStart}
 use Rattle.mm_text.specs.Language.Unit.{Token, IsKeyword, IsPlain, Shape, Declaration, Labelled, Provable, Inclusion, shape_tokens, IsShape, Units, Nothing, Simple, Block, unit_tokens, AreUnits}
 use Rattle.mm_text.proofs.UnitFaultLemmas.{no_plain}
 
@@ -36,9 +36,6 @@ Labels token = IsKeyword Floating token ⊎ (IsKeyword Essential token ⊎ IsKey
 declares_not : (token : Token) → Declares token → IsPlain token ⊎ IsKeyword InclusionStart token → ⊥
 declares_not token h h1 = grind (arith, common_steps) steps 200000
 
-labels_not : (token : Token) → Labels token → IsKeyword Theorem token → ⊥
-labels_not token h other = grind (arith, common_steps) steps 200000
-
 pub one_shape : (o : Bool) (a b : Shape) (s t : List Token) → IsShape o a → IsShape o b → shape_tokens a ++ s ≡ shape_tokens b ++ t → (a ≡ b) × (s ≡ t)
 one_shape o (Declaration k xs p) (Declaration l ys q) s t f g e = grind (arith, common_steps, rest_split xs ys p q s t f.1 g.1 f.2 g.2 cc) steps 200000
 one_shape o (Declaration k xs p) (Labelled m l ys q) s t f g e = let first : m ≡ k = cc in absurd (declares_not k f.0 (inl (subst (λ (t : Token). IsPlain t) first g.0.0)))
@@ -46,10 +43,10 @@ one_shape o (Declaration k xs p) (Provable m l ys q zs r) s t f g e = let first 
 one_shape o (Declaration k xs p) (Inclusion b n d) s t f g e = let first : b ≡ k = cc in absurd (declares_not k f.0 (inr (subst (λ (t : Token). IsKeyword InclusionStart t) first g.1)))
 one_shape o (Labelled m k xs p) (Declaration l ys q) s t f g e = let first : m ≡ l = cc in absurd (declares_not l g.0 (inl (subst (λ (t : Token). IsPlain t) first f.0.0)))
 one_shape o (Labelled m k xs p) (Labelled n l ys q) s t f g e = grind (arith, common_steps, rest_split xs ys p q s t f.2 g.2 f.3 g.3 cc) steps 200000
-one_shape o (Labelled m k xs p) (Provable n l ys q zs r) s t f g e = let second : l ≡ k = cc in absurd (labels_not k f.1 (subst (λ (t : Token). IsKeyword Theorem t) second g.1))
+one_shape o (Labelled m k xs p) (Provable n l ys q zs r) s t f g e = grind (arith, common_steps) steps 200000
 one_shape o (Labelled m k xs p) (Inclusion b n d) s t f g e = let first : m ≡ b = cc in absurd (no_plain b InclusionStart g.1 (subst (λ (t : Token). IsPlain t) first f.0.0))
 one_shape o (Provable m k xs p zs r) (Declaration l ys q) s t f g e = let first : m ≡ l = cc in absurd (declares_not l g.0 (inl (subst (λ (t : Token). IsPlain t) first f.0.0)))
-one_shape o (Provable m k xs p zs r) (Labelled n l ys q) s t f g e = let second : k ≡ l = cc in absurd (labels_not l g.1 (subst (λ (t : Token). IsKeyword Theorem t) second f.1))
+one_shape o (Provable m k xs p zs r) (Labelled n l ys q) s t f g e = grind (arith, common_steps) steps 200000
 one_shape o (Provable m k xs p zs r) (Provable n l ys q ws u) s t f g e = grind (arith, common_steps, proof_split xs ys p q zs ws r u s t f.2 g.2 f.3 g.3 f.4 g.4 f.5 g.5 cc) steps 200000
 one_shape o (Provable m k xs p zs r) (Inclusion b n d) s t f g e = let first : m ≡ b = cc in absurd (no_plain b InclusionStart g.1 (subst (λ (t : Token). IsPlain t) first f.0.0))
 one_shape o (Inclusion b n d) (Declaration l ys q) s t f g e = let first : b ≡ l = cc in absurd (declares_not l g.0 (inr (subst (λ (t : Token). IsKeyword InclusionStart t) first f.1)))
@@ -72,9 +69,6 @@ abbrev Stops : List Token → Type 0
 Stops [] = Unit {0}
 Stops (token ∷ tokens) = IsKeyword BlockEnd token
 
-no_shape_there : (o : Bool) (shape : Shape) (tail s : List Token) → IsShape o shape → Stops s → s ≡ shape_tokens shape ++ tail → ⊥
-no_shape_there o shape tail s is stops e = grind (arith, common_steps) steps 200000
-
 no_block_there : (begin : Token) (tail s : List Token) → IsKeyword BlockStart begin → Stops s → s ≡ begin ∷ tail → ⊥
 no_block_there begin tail s is stops e = grind (arith, common_steps) steps 200000
 
@@ -83,13 +77,12 @@ not_both o shape begin s t is starts e = grind (arith, common_steps) steps 20000
 
 one_units : (o : Bool) (a b : Units) (s t : List Token) → AreUnits o a → AreUnits o b → Stops s → Stops t → unit_tokens a ++ s ≡ unit_tokens b ++ t → (a ≡ b) × (s ≡ t)
 one_units o Nothing Nothing s t f g p q e = (refl, e)
-one_units o Nothing (Simple y later) s t f g p q e = absurd (no_shape_there o y (unit_tokens later ++ t) s g.0 p (e ∙ append_assoc (shape_tokens y) (unit_tokens later) t))
+one_units o Nothing (Simple y later) s t f g p q e = grind (arith, common_steps, append_assoc (shape_tokens y) (unit_tokens later) t) steps 200000
 one_units o Nothing (Block begin inner end later) s t f g p q e = absurd (no_block_there begin ((unit_tokens inner ++ end ∷ unit_tokens later) ++ t) s g.0 p e)
-one_units o (Simple x later) Nothing s t f g p q e = absurd (no_shape_there o x (unit_tokens later ++ s) t f.0 q (sym e ∙ append_assoc (shape_tokens x) (unit_tokens later) s))
+one_units o (Simple x later) Nothing s t f g p q e = grind (arith, common_steps, append_assoc (shape_tokens x) (unit_tokens later) s) steps 200000
 one_units o (Block begin inner end later) Nothing s t f g p q e = absurd (no_block_there begin ((unit_tokens inner ++ end ∷ unit_tokens later) ++ s) t f.0 q (sym e))
 one_units o (Simple x u) (Simple y v) s t f g p q e =
-    let first : (x ≡ y) × (unit_tokens u ++ s ≡ unit_tokens v ++ t) =
-    one_shape o x y (unit_tokens u ++ s) (unit_tokens v ++ t) f.0 g.0 (sym (append_assoc (shape_tokens x) (unit_tokens u) s) ∙ e ∙ append_assoc (shape_tokens y) (unit_tokens v) t) in
+    let first : (x ≡ y) × (unit_tokens u ++ s ≡ unit_tokens v ++ t) = grind (arith, common_steps, append_assoc, one_shape) steps 200000 in
     let more : (u ≡ v) × (s ≡ t) = one_units o u v s t f.1 g.1 p q first.1 in
     (cc, more.1)
 one_units o (Simple x u) (Block begin inner end later) s t f g p q e = absurd (not_both o x begin (unit_tokens u ++ s) ((unit_tokens inner ++ end ∷ unit_tokens later) ++ t) f.0 g.0 (sym (append_assoc (shape_tokens x) (unit_tokens u) s) ∙ e))

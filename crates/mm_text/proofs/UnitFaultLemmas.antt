@@ -1,10 +1,10 @@
 -- The faults of units: the machine finds them, and a list has one at most.
-use Rattle.std.proofs.lemmas.{Grind.{common_steps}, Bool.{false≢true}}
-use Rattle.std.proofs.Common.{◌≡◌, ◌≢◌, ◌⊎◌, ◌↔◌, ℕ, zero, suc, ◌+◌, ◌<◌, ◌≤◌, Bool, true, false, List, [], ◌∷◌, ◌++◌, append_assoc, length, take, drop, slice_get, take-append-drop, take-take, Some}
-use Rattle.std.{proofs.Common.{append-nil, drop-drop, take_all, Ok, Err, refl, sym, ap, ◌∙◌, subst, inl, inr, le_of_lt, le_of_eq, ◌-◌, arith}, specs.List.{AllByRecursion}}
+use Rattle.std.proofs.Common.{[], ◌≡◌, ◌≢◌, ◌⊎◌, ◌↔◌, ℕ, zero, suc, ◌+◌, ◌<◌, ◌≤◌, Bool, true, false, List, ◌∷◌, ◌++◌, append_assoc, length, take, drop, slice_get, take-append-drop, take-take, Some}
+use Rattle.std.proofs.{Common.{append-nil, drop-drop, take_all, Ok, Err, refl, sym, ap, ◌∙◌, subst, inl, inr, le_of_lt, le_of_eq, ◌-◌, arith}, lemmas.{Grind.{common_steps}, Bool.{false≢true}}}
+use Rattle.std.specs.List.{AllByRecursion}
 use Rattle.mm_text.specs.declared.word.Keyword.{Keyword}
 use Rattle.mm_text.specs.declared.word.Keyword.TheVariants.{BlockStart, BlockEnd, Constants, Variables, Floating, Essential, Disjoint, Axiom, Theorem, StatementEnd, ProofStart, InclusionStart}
-use Rattle.mm_text.specs.declared.{word.{Keyword.TheVariants.{InclusionEnd}, WordKind.{WordKind}}, fault.TextNumber.{TextNumber, TheVariants.{T06, T07, T08, T09, T10, T11, T12}}}
+use Rattle.mm_text.specs.declared.{word.{Keyword.TheVariants.{InclusionEnd}, WordKind.{WordKind}}, fault.TextNumber.{TextNumber, TheVariants.{T06, T07, T08, T09, T10, T11}}}
 use Rattle.mm_text.specs.Language.Unit.{Token, IsKeyword, IsPlain, Shape, shape_tokens, IsShape, Units, Nothing, Simple, Block, unit_tokens, AreUnits, IsWhole, IsViable, a_block, MayBegin}
 use Rattle.mm_text.specs.{Language.Unit.{EndsInInclusion, IsUnitNumber, StopsAtWord, EndsInUnit, EndsInBlock, IsUnitFault}, Code.BlockCounts.{is_start_word, is_end_word, starts, ends}}
 use Rattle.mm_text.proofs.UnitReadingLemmas.{run-append, run-IsViable, run-not_viable, IsWhole-run, through_units, blocks, blocks_run, key, key-kind, whole_run, Completes, Closes}
@@ -27,23 +27,18 @@ viable_run tokens h = by_step (m.run m.Begin 0 tokens) refl where
 
 -- ---- one more word
 
-alone : (step : m.UnitStep) → m.after step (λ p d. m.run p d []) ≡ step
-alone step = grind (arith, common_steps) steps 200000
-
 pub run_push : (front : List Token) (token : Token) (phase : m.Phase) (depth : ℕ) → m.run m.Begin 0 front ≡ Ok (m.phase_state phase depth) → m.run m.Begin 0 (front ++ token ∷ []) ≡ m.next phase depth token.kind (m.could_label token)
-run_push front token phase depth e = run-append front (token ∷ []) m.Begin 0 (phase, depth) e ∙ alone (m.next phase depth token.kind (m.could_label token))
+run_push front token phase depth e = grind (arith, common_steps, run-append front (token ∷ []) m.Begin 0 (phase, depth) e) steps 200000
 
 take_push : (tokens : List Token) (word : ℕ) (token : Token) → slice_get tokens word ≡ Some token → take (suc word) tokens ≡ take word tokens ++ token ∷ []
 take_push [] word token e = absurd cc
 take_push (first ∷ tokens) zero token e = let same : first ≡ token = cc in ap (λ (t : Token). t ∷ []) same
 take_push (first ∷ tokens) (suc word) token e = ap (λ (ts : List Token). first ∷ ts) (take_push tokens word token e)
 
-pub take_next : (tokens : List Token) (word : ℕ) (token : Token) → slice_get tokens word ≡ Some token → take (word + 1) tokens ≡ take word tokens ++ token ∷ []
-take_next tokens word token e = let one : word + 1 ≡ suc word = omega arith in ap (λ (n : ℕ). take n tokens) one ∙ take_push tokens word token e
-
 pub run_next : (tokens : List Token) (word : ℕ) (token : Token) (phase : m.Phase) (depth : ℕ) → slice_get tokens word ≡ Some token → m.run m.Begin 0 (take word tokens) ≡ Ok (m.phase_state phase depth)
     → m.run m.Begin 0 (take (word + 1) tokens) ≡ m.next phase depth token.kind (m.could_label token)
-run_next tokens word token phase depth there e = ap (m.run m.Begin 0) (take_next tokens word token there) ∙ run_push (take word tokens) token phase depth e
+run_next tokens word token phase depth there e = ap (m.run m.Begin 0) (let one : word + 1 ≡ suc word = omega arith in ap (λ (n : ℕ). take n tokens) one
+    ∙ take_push tokens word token there) ∙ run_push (take word tokens) token phase depth e
 
 -- ---- where a unit may begin
 
@@ -102,21 +97,12 @@ ends_at (token ∷ front) phase depth d e = inr (by_step (λ p q h. ends_at fron
 
   by_step : ((p : m.Phase) (q : ℕ) → m.run p q front ≡ Ok (m.phase_state m.Including d) → ((front ≡ []) × (p ≡ m.Including)) ⊎ EndsInInclusion front)
       → (step : m.UnitStep) → m.next phase depth token.kind (m.could_label token) ≡ step → m.after step (λ p d. m.run p d front) ≡ Ok (m.phase_state m.Including d) → EndsInInclusion (token ∷ front)
-  by_step more (Ok s) is e = onto s is (more s.0 s.1 e)
-  by_step more (Err number) is e = absurd cc
-
-pub inclusion_from : (front : List Token) (depth : ℕ) → m.run m.Begin 0 front ≡ Ok (m.phase_state m.Including depth) → EndsInInclusion front
-inclusion_from front depth e = grind (arith, common_steps, ends_at) steps 200000
+  by_step p0 p1 p2 p3 = grind (arith, common_steps, onto) steps 200000
 
 -- ---- the number of the word that stops
 
 abbrev refused : TextNumber → m.UnitStep
 refused number = Err number
-
-six : (front : List Token) (token : Token) (phase : m.Phase) (depth : ℕ) → m.run m.Begin 0 front ≡ Ok (m.phase_state phase depth) → ¬ ((phase ≡ m.Including) × ¬ IsPlain token)
-    → ¬ IsKeyword InclusionStart token → ¬ ((phase ≡ m.Begin) × (IsKeyword BlockEnd token ⊎ IsPlain token))
-    → IsUnitNumber T06 front token
-six front token phase depth e f g h = (λ x. f (inclusion_phase front phase depth e x.0, x.1), g, λ x. h (may_begin_phase front phase depth e x.0, x.1))
 
 ten : (front : List Token) (token : Token) (phase : m.Phase) (depth : ℕ) → m.run m.Begin 0 front ≡ Ok (m.phase_state phase depth) → phase ≢ m.Including → IsKeyword InclusionStart token → IsUnitNumber T10 front token
 ten front token phase depth e f is = (λ x. f (inclusion_phase front phase depth e x), is)
@@ -153,7 +139,7 @@ accepted : (state : m.Phase × ℕ) (number : TextNumber) → Ok state ≡ refus
 accepted state number e = cc
 
 inside : (front : List Token) (token : Token) (phase : m.Phase) (depth : ℕ) → m.run m.Begin 0 front ≡ Ok (m.phase_state phase depth) → phase ≢ m.Including → phase ≢ m.Begin → ¬ IsKeyword InclusionStart token → IsUnitNumber T06 front token
-inside front token phase depth e f g h = six front token phase depth e (λ x. f x.0) h (λ x. g x.0)
+inside front token phase depth e f g h = grind (arith, common_steps, inclusion_phase, may_begin_phase) steps 200000
 
 numbered : (a number : TextNumber) (front : List Token) (token : Token) → refused a ≡ refused number → IsUnitNumber a front token → IsUnitNumber number front token
 numbered a number front token e h = let same : a ≡ number = cc in subst (λ (n : TextNumber). IsUnitNumber n front token) same h
@@ -170,7 +156,8 @@ number_of m.Begin depth (kinds.Keyword BlockStart) b front token number e is sto
 number_of m.Begin depth (kinds.Keyword Constants) b front token number e is stops = absurd (accepted _ number stops)
 number_of m.Begin depth (kinds.Keyword Variables) b front token number e is stops = absurd (accepted _ number stops)
 number_of m.Begin depth (kinds.Keyword Disjoint) b front token number e is stops = absurd (accepted _ number stops)
-number_of m.Begin depth (kinds.Keyword k) b front token number e is stops = numbered T06 number front token stops (six front token m.Begin depth e (λ x. other_phase _ refl x.0) (other_keyword token _ is refl) (λ x. neither token _ is refl x.1))
+number_of m.Begin depth (kinds.Keyword k) b front token number e is stops =
+    numbered T06 number front token stops (grind (arith, common_steps, inclusion_phase) steps 200000)
 number_of m.Labelled depth (kinds.Keyword Floating) b front token number e is stops = absurd (accepted _ number stops)
 number_of m.Labelled depth (kinds.Keyword Essential) b front token number e is stops = absurd (accepted _ number stops)
 number_of m.Labelled depth (kinds.Keyword Axiom) b front token number e is stops = absurd (accepted _ number stops)
@@ -180,7 +167,7 @@ number_of m.Symbols depth (kinds.Keyword StatementEnd) b front token number e is
 number_of m.Expression depth kinds.Plain b front token number e is stops = absurd (accepted _ number stops)
 number_of m.Expression depth (kinds.Keyword ProofStart) b front token number e is stops = absurd (accepted _ number stops)
 number_of m.Including depth kinds.Plain b front token number e is stops = absurd (accepted _ number stops)
-number_of m.Including depth (kinds.Keyword k) b front token number e is stops = numbered T12 number front token stops (inclusion_from front depth e, no_plain token _ is)
+number_of m.Including depth (kinds.Keyword k) b front token number e is stops = grind (arith, common_steps, front, no_plain, numbered, ends_at) steps 200000
 number_of m.Named depth (kinds.Keyword InclusionEnd) b front token number e is stops = absurd (accepted _ number stops)
 number_of phase depth (kinds.Keyword InclusionStart) b front token number e is stops = numbered T10 number front token stops (ten front token phase depth e (other_phase _ refl) is)
 number_of phase depth (kinds.Keyword k) b front token number e is stops = numbered T06 number front token stops (inside front token phase depth e (other_phase _ refl) (not_beginning _ refl) (other_keyword token _ is refl))
@@ -219,27 +206,14 @@ ends_in_unit tokens word depth within e later = record {
 
 -- after the same words, the same word has one number
 pub same_number : (front : List Token) (token : Token) (a b : TextNumber) → ¬ (MayBegin front × EndsInInclusion front) → IsUnitNumber a front token → IsUnitNumber b front token → a ≡ b
-same_number front token T12 T12 apart f g = refl
-same_number front token T10 T10 apart f g = refl
-same_number front token T09 T09 apart f g = refl
-same_number front token T11 T11 apart f g = refl
 same_number front token T06 T06 apart f g = refl
-same_number front token T12 T10 apart f g = absurd (g.0 f.0)
-same_number front token T10 T12 apart f g = absurd (f.0 g.0)
-same_number front token T06 _ apart f g = absurd (search (f.0, f.1, f.2, g, inl, inr))
-same_number front token _ T06 apart f g = absurd (search (g.0, g.1, g.2, f, inl, inr))
-same_number front token T12 _ apart f g = absurd (search (apart, f.1, g))
-same_number front token _ T12 apart f g = absurd (search (apart, g.1, f))
-same_number front token _ _ apart f g = absurd (first_of (cc, search (f, g)))
+same_number front token _ _ apart f g = first_of (cc, grind (arith, common_steps, apart, f, g) steps 200000)
 
 apart_at : (front : List Token) → IsViable front → ¬ (MayBegin front × EndsInInclusion front)
 apart_at front h (begins, ends) =
     let x : (viable_run front h).0.0 ≡ m.Begin = may_begin_phase front (viable_run front h).0.0 (viable_run front h).0.1 (viable_run front h).1 begins in
     let y : (viable_run front h).0.0 ≡ m.Including = inclusion_phase front (viable_run front h).0.0 (viable_run front h).0.1 (viable_run front h).1 ends in
     grind (arith, common_steps) steps 200000
-
-not_viable_later : (tokens : List Token) (number : TextNumber) (word n : ℕ) → StopsAtWord tokens number word → word < n → ¬ IsViable (take n tokens)
-not_viable_later tokens number word n h l viable = h.stops (subst (λ (ts : List Token). IsViable ts) (take-take (word + 1) n tokens (omega arith)) (viable_take (take n tokens) (word + 1) viable))
 
 pub not_viable_all : (tokens : List Token) (number : TextNumber) (word : ℕ) → StopsAtWord tokens number word → ¬ IsViable tokens
 not_viable_all tokens number word h viable = h.stops (viable_take tokens (word + 1) viable)
@@ -249,7 +223,9 @@ by_order v w f g = omega arith
 
 pub one_stop : (tokens : List Token) (a b : TextNumber) (v w : ℕ) → StopsAtWord tokens a v → StopsAtWord tokens b w → (a ≡ b) × (v ≡ w)
 one_stop tokens a b v w f g =
-    let place : v ≡ w = by_order v w (λ l. not_viable_later tokens a v w f l g.goes_on) (λ l. not_viable_later tokens b w v g l f.goes_on) in
+    let place : v ≡ w = by_order v w
+    (λ l. (grind (arith, common_steps, take-take (v + 1) w tokens (omega arith), viable_take (take w tokens) (v + 1) g.goes_on) steps 200000))
+    (λ l. (grind (arith, common_steps, take-take (w + 1) v tokens (omega arith), viable_take (take v tokens) (w + 1) f.goes_on) steps 200000)) in
     let h : StopsAtWord tokens b v = subst (λ (n : ℕ). StopsAtWord tokens b n) (sym place) g in
     let token : h.token ≡ f.token = cc in
     (same_number (take v tokens) f.token a b (apart_at (take v tokens) f.goes_on) f.is_number (subst (λ (t : Token). IsUnitNumber b (take v tokens) t) token h.is_number), place)
@@ -271,15 +247,9 @@ ends-append (x ∷ xs) ys = let more : ends (xs ++ ys) ≡ ends xs + ends ys = e
 abbrev pub IsInner : Token → Type 0
 IsInner token = (is_start_word token.kind ≡ 0) × (is_end_word token.kind ≡ 0)
 
-pub inner_kind : (token : Token) (kind : WordKind) → token.kind ≡ kind → is_start_word kind ≡ 0 → is_end_word kind ≡ 0 → IsInner token
-inner_kind token kind is f g = (ap is_start_word is ∙ f, ap is_end_word is ∙ g)
-
 pub inner_symbols : (symbols tail : List Token) → AllByRecursion IsPlain symbols → AllByRecursion IsInner tail → AllByRecursion IsInner (symbols ++ tail)
 inner_symbols [] tail f g = g
-inner_symbols (token ∷ symbols) tail f g = (inner_kind token kinds.Plain f.0 refl refl, inner_symbols symbols tail f.1 g)
-
-pub inner_shape : (outside : Bool) (shape : Shape) → IsShape outside shape → AllByRecursion IsInner (shape_tokens shape)
-inner_shape outside shape h = grind (arith, common_steps, inner_kind, inner_symbols) steps 200000
+inner_symbols (token ∷ symbols) tail f g = ((grind (arith, common_steps) steps 200000), inner_symbols symbols tail f.1 g)
 
 -- no end of the list has more `${` than `$}`
 abbrev pub Covered : List Token → Type 0
@@ -312,7 +282,7 @@ inner_counts [] h = (refl, refl)
 inner_counts (x ∷ xs) h = grind (arith, common_steps, inner_counts xs h.1) steps 200000
 
 balanced_shape : (outside : Bool) (shape : Shape) (tail : List Token) → IsShape outside shape → starts tail ≡ ends tail → starts (shape_tokens shape ++ tail) ≡ ends (shape_tokens shape ++ tail)
-balanced_shape outside shape tail is more = grind (arith, common_steps, ends-append, inner_counts, inner_shape, starts-append) steps 200000
+balanced_shape outside shape tail is more = grind (arith, common_steps, ends-append, inner_counts, starts-append, inner_symbols) steps 200000
 
 pub start_counts : (token : Token) → IsKeyword BlockStart token → (is_start_word token.kind ≡ 1) × (is_end_word token.kind ≡ 0)
 start_counts token is = (ap is_start_word is, ap is_end_word is)
@@ -327,10 +297,12 @@ balanced outside (Block begin inner end later) h = grind (arith, common_steps, b
 
 pub covered : (outside : Bool) (units : Units) → AreUnits outside units → Covered (unit_tokens units)
 covered outside Nothing h = tt
-covered outside (Simple shape later) h = covered_inner (shape_tokens shape) (unit_tokens later) (inner_shape outside shape h.0) (covered outside later h.1)
-covered outside (Block begin inner end later) h = (le_of_eq (balanced outside (Block begin inner end later) h), covered-append (unit_tokens inner) (end ∷ unit_tokens later) (covered false inner h.1) (last, covered outside later h.3)) where
-  last : starts (end ∷ unit_tokens later) ≤ ends (end ∷ unit_tokens later)
-  last = grind (arith, common_steps, balanced outside later h.3, end_counts end h.2) steps 200000
+covered outside (Simple shape later) h = covered_inner (shape_tokens shape) (unit_tokens later) (grind (arith, common_steps, inner_symbols) steps 200000)
+    (covered outside later h.1)
+covered outside (Block begin inner end later) h =
+    let last : starts (end ∷ unit_tokens later) ≤ ends (end ∷ unit_tokens later) = grind (arith, common_steps, balanced) steps 200000 in
+    let even = balanced outside (Block begin inner end later) h in
+    (le_of_eq even, covered-append _ (end ∷ unit_tokens later) (covered false inner h.1) (last, covered outside later h.3))
 
 -- ---- a block that is not closed
 
@@ -339,36 +311,26 @@ drop_push [] word token e = absurd cc
 drop_push (first ∷ tokens) zero token e = let same : first ≡ token = cc in ap (λ (t : Token). t ∷ tokens) same
 drop_push (first ∷ tokens) (suc word) token e = drop_push tokens word token e
 
-pub drop_next : (tokens : List Token) (word : ℕ) (token : Token) → slice_get tokens word ≡ Some token → drop word tokens ≡ token ∷ drop (word + 1) tokens
-drop_next tokens word token e = let one : suc word ≡ word + 1 = omega arith in drop_push tokens word token e ∙ ap (λ (n : ℕ). token ∷ drop n tokens) one
-
 -- the counts at one word more, for a scan from the end
 pub counts_next : (tokens : List Token) (word : ℕ) (token : Token) → slice_get tokens word ≡ Some token → (starts (drop word tokens) ≡ is_start_word token.kind + starts (drop (word + 1) tokens)) ×
     (ends (drop word tokens) ≡ is_end_word token.kind + ends (drop (word + 1) tokens))
-counts_next tokens word token e = (ap starts (drop_next tokens word token e), ap ends (drop_next tokens word token e))
+counts_next tokens word token e =
+    let one : suc word ≡ word + 1 = omega arith in
+    grind (arith, common_steps, drop_push tokens word token e) steps 200000
 
 one_open : (tokens : List Token) (v w : ℕ) → EndsInBlock tokens v → EndsInBlock tokens w → ¬ (v < w)
 one_open tokens v w f g l =
-    let place : v + 1 + (w - (v + 1)) ≡ w = omega arith in
-    let there : drop (w - (v + 1)) (unit_tokens f.inner) ≡ drop w tokens = ap (drop (w - (v + 1))) (sym f.behind) ∙ drop-drop (w - (v + 1)) (v + 1) tokens ∙ ap (λ (n : ℕ). drop n tokens) place in
-    let inside : starts (drop w tokens) ≤ ends (drop w tokens) = subst (λ (ts : List Token). starts ts ≤ ends ts) there (covered_drop (unit_tokens f.inner) (w - (v + 1)) (covered false f.inner f.inside)) in
-    let more : (starts (drop w tokens) ≡ is_start_word g.begin.kind + starts (drop (w + 1) tokens)) × (ends (drop w tokens) ≡ is_end_word g.begin.kind + ends (drop (w + 1) tokens)) = counts_next tokens w g.begin g.there in
-    let first : (is_start_word g.begin.kind ≡ 1) × (is_end_word g.begin.kind ≡ 0) = start_counts g.begin g.opens in
-    let even : starts (drop (w + 1) tokens) ≡ ends (drop (w + 1) tokens) = subst (λ (ts : List Token). starts ts ≡ ends ts) (sym g.behind) (balanced false g.inner g.inside) in
-    omega arith
+    let inside = covered_drop (unit_tokens f.inner) (w - (v + 1)) (covered false f.inner f.inside) in
+    grind (arith, common_steps, balanced false g.inner g.inside, counts_next tokens w g.begin g.there, inside) steps 200000
 
 -- the machine has a block open at the end
 pub block_run : (tokens : List Token) (word : ℕ) → EndsInBlock tokens word → (depth : ℕ) × (m.run m.Begin 0 tokens ≡ Ok (m.phase_state m.Begin (suc depth)))
 block_run tokens word h =
     let front = (may_begin (take word tokens)).0 h.begins in
     let begins : m.run m.Begin 0 (take (word + 1) tokens) ≡ Ok (m.phase_state m.Begin (suc front.0)) =
-    run_next tokens word h.begin m.Begin front.0 h.there front.1 ∙ ap (λ (k : WordKind). m.next m.Begin front.0 k (m.could_label h.begin)) h.opens in (
-      front.0,
-      ap (m.run m.Begin 0) (sym (take-append-drop (word + 1) tokens))
-          ∙ run-append (take (word + 1) tokens) (drop (word + 1) tokens) m.Begin 0 (m.Begin, suc front.0) begins
-          ∙ ap (m.run m.Begin (suc front.0)) (h.behind ∙ sym (append-nil (unit_tokens h.inner)))
-          ∙ through_units (suc front.0) h.inner [] h.inside,
-    )
+    run_next tokens word h.begin m.Begin front.0 h.there front.1 ∙ ap (λ (k : WordKind). m.next m.Begin front.0 k (m.could_label h.begin)) h.opens in
+    let whole = run-append (take (word + 1) tokens) (drop (word + 1) tokens) m.Begin 0 (m.Begin, suc front.0) begins in
+    (front.0, grind (arith, common_steps, whole, through_units (suc front.0) h.inner [] h.inside) steps 200000)
 
 block_begins : (tokens : List Token) (word : ℕ) → EndsInBlock tokens word → MayBegin tokens
 block_begins tokens word h = let last = block_run tokens word h in may_begin_from tokens (suc last.0) last.1
@@ -407,8 +369,7 @@ whole_has_no_fault tokens number word whole h = none (sorted tokens number word 
   none (inr (inr f)) =
       let last = block_run tokens word f.1 in
       let same : m.phase_state m.Begin (suc last.0) ≡ m.phase_state m.Begin 0 = let x : m.run m.Begin 0 tokens ≡ Ok (m.phase_state m.Begin 0) = IsWhole-run tokens whole in cc in
-      let depth : suc last.0 ≡ 0 = ap (λ (s : m.Phase × ℕ). s.1) same in
-      omega arith
+      grind (arith, common_steps) steps 200000
 
 -- ---- the innermost open block, by counts from the end
 
@@ -429,55 +390,41 @@ unfolding blocks
 first_end zero z zs later e = absurd cc
 first_end (suc depth) z zs later e = let same : z ≡ key BlockEnd = cc in ap (λ (t : Token). t.kind) same ∙ key-kind BlockEnd
 
-parted : (us zs : List Token) (z : Token) → IsKeyword BlockEnd z → (starts (us ++ z ∷ zs) ≡ starts us + starts zs) × (ends (us ++ z ∷ zs) ≡ ends us + 1 + ends zs)
-parted us zs z is = grind (arith, common_steps, starts-append us (z ∷ zs), ends-append us (z ∷ zs), end_counts z is) steps 200000
-
 covered_behind : (us ys : List Token) → Covered (us ++ ys) → Covered ys
 covered_behind [] ys h = h
 covered_behind (u ∷ us) ys h = covered_behind us ys h.1
 
 longer : (xs us zs : List Token) (z : Token) → xs ≡ us ++ z ∷ zs → IsKeyword BlockEnd z → starts xs ≡ ends xs → starts us ≡ ends us → Covered xs → ⊥
-longer xs us zs z joined is even inside h = grind (arith, common_steps, parted us zs z is, covered_all, covered_behind) steps 200000
+longer xs us zs z joined is even inside h = grind (arith, common_steps, covered_all, covered_behind, end_counts, ends-append, starts-append) steps 200000
 
 shorter : (xs us zs later : List Token) (z : Token) (d : ℕ) → us ≡ xs ++ z ∷ zs → (z ∷ zs) ++ later ≡ blocks d → starts xs ≡ ends xs → starts us ≡ ends us → ⊥
 shorter xs us zs later z d joined rest even inside =
-    grind (arith, common_steps, first_end d z zs later rest, parted xs zs z (first_end d z zs later rest), starts-blocks d, starts-append (z ∷ zs) later, end_counts z (first_end d z zs later rest)) steps 200000
+    grind (arith, common_steps, starts-blocks d, end_counts, first_end, starts-append, ends-append) steps 200000
 
 pub closed_units : (xs : List Token) (depth d : ℕ) → m.run m.Begin (suc depth) xs ≡ Ok (m.phase_state m.Begin d) → starts xs ≡ ends xs → Covered xs → (inner : Units) × AreUnits false inner × (xs ≡ unit_tokens inner)
 closed_units xs depth d e even h = both (cut_twice xs (blocks d) (unit_tokens closes.inner) (closes.end ∷ closes.later) closes.joined) where
   closes : Closes (Completes depth) (xs ++ blocks d)
   closes = whole_run (xs ++ blocks d) m.Begin (suc depth) (run-append xs (blocks d) m.Begin (suc depth) (m.Begin, d) e ∙ blocks_run d)
 
-  inside : starts (unit_tokens closes.inner) ≡ ends (unit_tokens closes.inner)
-  inside = balanced false closes.inner closes.inside
-
   both : ((zs : List Token) × (xs ≡ unit_tokens closes.inner ++ zs) × (zs ++ blocks d ≡ closes.end ∷ closes.later)) ⊎ ((zs : List Token) × (unit_tokens closes.inner ≡ xs ++ zs) ×
       (blocks d ≡ zs ++ closes.end ∷ closes.later)) → (inner : Units) × AreUnits false inner × (xs ≡ unit_tokens inner)
   both (inl ([], joined, rest)) = (closes.inner, closes.inside, joined ∙ append-nil (unit_tokens closes.inner))
-  both (inl (z ∷ zs, joined, rest)) = absurd (longer xs (unit_tokens closes.inner) zs z joined (let same : z ≡ closes.end = cc in ap (λ (t : Token). t.kind) same ∙ closes.is_end) even inside h)
+  both (inl (z ∷ zs, joined, rest)) = grind (arith, common_steps, balanced, closes, longer) steps 200000
   both (inr ([], joined, rest)) = (closes.inner, closes.inside, sym (joined ∙ append-nil xs))
-  both (inr (z ∷ zs, joined, rest)) = absurd (shorter xs (unit_tokens closes.inner) zs (closes.end ∷ closes.later) z d joined (sym rest) even inside)
+  both (inr (z ∷ zs, joined, rest)) = grind (arith, common_steps, balanced, closes, shorter) steps 200000
 
 pub ends_in_block : (tokens : List Token) (word d : ℕ) (token : Token) → m.run m.Begin 0 tokens ≡ Ok (m.phase_state m.Begin d) → slice_get tokens word ≡ Some token → IsKeyword BlockStart token
     → starts (drop (word + 1) tokens) ≡ ends (drop (word + 1) tokens) → ((n : ℕ) → word < n → starts (drop n tokens) ≤ ends (drop n tokens)) → IsUnitFault tokens T08 word
 ends_in_block tokens word d token e there opens even fewer = record { begin = token; inner = units.0; there = there; opens = opens; begins = may_begin_from (take word tokens) front.0.1 front_begins; inside = units.1; behind = units.2 } where
-  viable : IsViable tokens
-  viable = run-IsViable tokens (m.Begin, d) e
-
   front : (s : m.Phase × ℕ) × (m.run m.Begin 0 (take word tokens) ≡ Ok s)
-  front = viable_run (take word tokens) (viable_take tokens word viable)
+  front = viable_run (take word tokens) (viable_take tokens word (grind (arith, common_steps, run-IsViable tokens (m.Begin, d) e) steps 200000))
 
   more : (s : m.Phase × ℕ) × (m.run m.Begin 0 (take (word + 1) tokens) ≡ Ok s)
-  more = viable_run (take (word + 1) tokens) (viable_take tokens (word + 1) viable)
-
-  step : m.next front.0.0 front.0.1 (kinds.Keyword BlockStart) (m.could_label token) ≡ Ok more.0
-  step = ap (λ (k : WordKind). m.next front.0.0 front.0.1 k (m.could_label token)) (sym opens) ∙ sym (run_next tokens word token front.0.0 front.0.1 there front.1) ∙ more.1
-
-  is_begin : front.0.0 ≡ m.Begin
-  is_begin = begins_only front.0.0 front.0.1 (m.could_label token) more.0 step
+  more = viable_run (take (word + 1) tokens) (viable_take tokens (word + 1) (grind (arith, common_steps, run-IsViable tokens (m.Begin, d) e) steps 200000))
 
   front_begins : m.run m.Begin 0 (take word tokens) ≡ Ok (m.phase_state m.Begin front.0.1)
-  front_begins = front.1 ∙ ap (λ (p : m.Phase). Ok (p, front.0.1)) is_begin
+  front_begins = front.1 ∙ ap (λ (p : m.Phase). Ok (p, front.0.1)) (begins_only front.0.0 front.0.1 (m.could_label token) more.0
+      (grind (arith, common_steps, front, more, run_next) steps 200000))
 
   more_begins : m.run m.Begin 0 (take (word + 1) tokens) ≡ Ok (m.phase_state m.Begin (suc front.0.1))
   more_begins = run_next tokens word token m.Begin front.0.1 there front_begins ∙ ap (λ (k : WordKind). m.next m.Begin front.0.1 k (m.could_label token)) opens

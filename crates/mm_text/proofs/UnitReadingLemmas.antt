@@ -1,7 +1,6 @@
 -- The machine goes through whole lists, and through no others.
-use Rattle.std.proofs.lemmas.{Grind.{common_steps}, Bool.{false≢true}}
-use Rattle.std.proofs.Common.{◌≡◌, ℕ, zero, suc, Bool, true, false, IsTrue, List, [], ◌∷◌, ◌++◌, append_assoc, Ok, Err, refl, sym, ap, ◌∙◌, subst, inl, inr, ◌⊎◌, arith, append-nil}
-use Rattle.std.specs.List.{AllByRecursion}
+use Rattle.std.proofs.Common.{[], ◌≡◌, ℕ, zero, suc, Bool, true, false, IsTrue, List, ◌∷◌, ◌++◌, append_assoc, Ok, Err, refl, sym, ap, ◌∙◌, subst, inl, inr, ◌⊎◌, arith, append-nil}
+use Rattle.std.{proofs.lemmas.{Grind.{common_steps}, Bool.{false≢true}}, specs.List.{AllByRecursion}}
 use Rattle.mm_text.specs.declared.word.Keyword.{Keyword}
 use Rattle.mm_text.specs.declared.word.Keyword.TheVariants.{BlockStart, BlockEnd, Constants, Variables, Floating, Essential, Disjoint, Axiom, Theorem, StatementEnd, ProofStart, InclusionStart}
 use Rattle.mm_text.specs.declared.{word.{Keyword.TheVariants.{InclusionEnd}, WordKind.{WordKind}}, fault.TextNumber.{TextNumber}}
@@ -28,14 +27,11 @@ pub through_expression : (depth : ℕ) (symbols tail : List Token) → AllByRecu
 through_expression depth [] tail h = refl
 through_expression depth (token ∷ symbols) tail h = step_by m.Expression depth token (symbols ++ tail) kinds.Plain (m.Expression, depth) h.0 refl ∙ through_expression depth symbols tail h.1
 
-through_label : (depth : ℕ) (label : Token) (tail : List Token) → IsLabel label → m.run m.Begin depth (label ∷ tail) ≡ m.run m.Labelled depth tail
-through_label depth label tail is = step_by m.Begin depth label tail kinds.Plain (m.Labelled, depth) is.0 (rw is.1 refl)
-
 pub through_shape : (depth : ℕ) (shape : Shape) (tail : List Token) → IsShape (outside depth) shape → m.run m.Begin depth (shape_tokens shape ++ tail) ≡ m.run m.Begin depth tail
 through_shape depth (Declaration keyword symbols end) tail (kind, plain, is) = grind (arith, common_steps, step_by, through_symbols) steps 200000
-through_shape depth (Labelled label keyword symbols end) tail (labels, kind, plain, is) = grind (arith, common_steps, labels, step_by, through_label, through_symbols) steps 200000
+through_shape depth (Labelled label keyword symbols end) tail (labels, kind, plain, is) = grind (arith, common_steps, step_by, through_symbols) steps 200000
 through_shape depth (Provable label keyword symbols proof steps end) tail (labels, theorem, plain, proves, more, is) =
-    grind (arith, common_steps, labels, proves, step_by, through_expression, through_label, through_symbols) steps 200000
+    grind (arith, common_steps, step_by, through_expression, through_symbols) steps 200000
 through_shape zero (Inclusion begin name end) tail h = grind (arith, common_steps) steps 200000
 through_shape (suc depth) (Inclusion begin name end) tail h = absurd (false≢true h.0)
 
@@ -151,13 +147,10 @@ one_step m.Including depth token tokens kinds.Plain b later is label e = λ firs
 one_step m.Named depth token tokens (kinds.Keyword InclusionEnd) b later is label e = λ first name is_outside begins plain. shape_more depth (Inclusion first name token) tokens (is_outside, begins, plain, is) (later m.Begin depth e)
 one_step _ _ token tokens _ _ later is label e = absurd cc
 
-pub stands : (phase : m.Phase) (depth : ℕ) → m.run phase depth [] ≡ Ok (m.Begin, 0) → (phase ≡ m.Begin) × (depth ≡ 0)
-stands phase depth e = let pair : m.phase_state phase depth ≡ m.phase_state m.Begin 0 = cc in (ap (λ (s : m.Phase × ℕ). s.0) pair, ap (λ (s : m.Phase × ℕ). s.1) pair)
-
 pub whole_run : (tokens : List Token) (phase : m.Phase) (depth : ℕ) → m.run phase depth tokens ≡ Ok (m.Begin, 0) → Meaning phase depth tokens
 whole_run [] m.Begin zero e = (Nothing, tt, refl)
-whole_run [] m.Begin (suc depth) e = absurd (let same : suc depth ≡ 0 = (stands m.Begin (suc depth) e).1 in omega arith)
-whole_run [] phase depth e = absurd (let same : phase ≡ m.Begin = (stands phase depth e).0 in cc)
+whole_run [] m.Begin (suc depth) e = grind (arith, common_steps) steps 200000
+whole_run [] phase depth e = grind (arith, common_steps) steps 200000
 whole_run (token ∷ tokens) phase depth e = one_step phase depth token tokens token.kind (m.could_label token) (λ p d. whole_run tokens p d) refl refl e
 
 -- ---- whole, both ways
@@ -197,9 +190,6 @@ blocks_run (suc depth) = step_by m.Begin (suc depth) (key BlockEnd) (blocks dept
 ended_run : (depth : ℕ) → m.run m.Symbols depth (key StatementEnd ∷ blocks depth) ≡ Ok (m.Begin, 0)
 ended_run depth = step_by m.Symbols depth (key StatementEnd) (blocks depth) (kinds.Keyword StatementEnd) (m.Begin, depth) (key-kind StatementEnd) refl ∙ blocks_run depth
 
-named_run : (depth : ℕ) → m.run m.Named depth (key InclusionEnd ∷ blocks depth) ≡ Ok (m.Begin, 0)
-named_run depth = step_by m.Named depth (key InclusionEnd) (blocks depth) (kinds.Keyword InclusionEnd) (m.Begin, depth) (key-kind InclusionEnd) refl ∙ blocks_run depth
-
 pub completed : (phase : m.Phase) (depth : ℕ) → (more : List Token) × (m.run phase depth more ≡ Ok (m.Begin, 0))
 completed m.Begin depth = (blocks depth, blocks_run depth)
 completed m.Labelled depth = (key Axiom ∷ key StatementEnd ∷ blocks depth, step_by m.Labelled depth (key Axiom) (key StatementEnd ∷ blocks depth) (kinds.Keyword Axiom) (m.Symbols, depth) (key-kind Axiom) refl ∙ ended_run depth)
@@ -208,8 +198,11 @@ completed m.Expression depth = (
   key ProofStart ∷ key StatementEnd ∷ blocks depth,
   step_by m.Expression depth (key ProofStart) (key StatementEnd ∷ blocks depth) (kinds.Keyword ProofStart) (m.Symbols, depth) (key-kind ProofStart) refl ∙ ended_run depth,
 )
-completed m.Including depth = (name ∷ key InclusionEnd ∷ blocks depth, step_by m.Including depth name (key InclusionEnd ∷ blocks depth) kinds.Plain (m.Named, depth) name-kind refl ∙ named_run depth)
-completed m.Named depth = (key InclusionEnd ∷ blocks depth, named_run depth)
+completed m.Including depth =
+    let named : m.run m.Named depth (key InclusionEnd ∷ blocks depth) ≡ Ok (m.Begin, 0) =
+    grind (arith, common_steps, blocks_run, key-kind, step_by) steps 200000 in
+    (name ∷ key InclusionEnd ∷ blocks depth, step_by m.Including depth name (key InclusionEnd ∷ blocks depth) kinds.Plain (m.Named, depth) name-kind refl ∙ named)
+completed m.Named depth = (key InclusionEnd ∷ blocks depth, (grind (arith, common_steps, blocks_run, key-kind, step_by) steps 200000))
 
 after_ok : (step : m.UnitStep) (more : List Token) (front : List Token) (s : m.Phase × ℕ) → m.after step (λ p d. m.run p d front) ≡ Ok s → ((p : m.Phase) (d : ℕ) → m.run p d front ≡ Ok s → m.run p d (front ++ more) ≡ m.run s.0 s.1 more)
     → m.after step (λ p d. m.run p d (front ++ more)) ≡ m.run s.0 s.1 more
@@ -233,5 +226,4 @@ run-IsViable tokens s e = let last = completed s.0 s.1 in (last.0, run-IsWhole (
 pub run-not_viable : (tokens : List Token) (number : TextNumber) → m.run m.Begin 0 tokens ≡ Err number → ¬ IsViable tokens
 run-not_viable tokens number e h =
     let goes : m.run m.Begin 0 (tokens ++ h.0) ≡ Ok (m.Begin, 0) = IsWhole-run (tokens ++ h.0) h.1 in
-    let stops : m.run m.Begin 0 (tokens ++ h.0) ≡ Err number = run-append_err tokens h.0 m.Begin 0 number e in
-    cc
+    grind (arith, common_steps, run-append_err) steps 200000

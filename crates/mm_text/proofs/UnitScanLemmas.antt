@@ -1,7 +1,6 @@
 -- Every list of words is whole or has a fault, and what loops that look for the fault keep.
-use Rattle.std.proofs.lemmas.{Grind.{common_steps}, Bool.{cases_lt}, List.{take_all, take_at}}
-use Rattle.std.proofs.Common.{rules, ◌≡◌, ◌≢◌, ◌⊎◌, ℕ, zero, suc, ◌+◌, ◌<◌, ◌≤◌, Bool, true, List, [], ◌∷◌, ◌++◌, append_assoc, length, take, drop, slice_get, Some, Ok, Err, refl, sym, ap, ◌∙◌, subst}
-use Rattle.std.proofs.Common.{inl, inr, ⊎_elim, ◌-◌, arith}
+use Rattle.std.proofs.Common.{[], rules, ◌≡◌, ◌≢◌, ◌⊎◌, ℕ, zero, suc, ◌+◌, ◌<◌, ◌≤◌, Bool, true, List, ◌∷◌, ◌++◌, append_assoc, length, take, drop, slice_get, Some, Ok, Err, refl, sym, ap, ◌∙◌, subst}
+use Rattle.std.proofs.{Common.{inl, inr, ⊎_elim, ◌-◌, arith}, lemmas.{Grind.{common_steps}, Bool.{cases_lt}, List.{take_all, take_at}}}
 use Rattle.mm_text.specs.declared.{word.{Keyword.TheVariants.{BlockStart, BlockEnd, Floating, InclusionStart, InclusionEnd}, WordKind.{WordKind}}, fault.TextNumber.{TextNumber}}
 use Rattle.mm_text.specs.{declared.fault.TextNumber.TheVariants.{T07, T08}, Language.Unit.{Token, IsKeyword, IsWhole, IsViable, IsUnitFault}}
 use Rattle.mm_text.{specs.Code.BlockCounts.{is_start_word, is_end_word, starts, ends}, proofs.UnitReadingLemmas.{run-IsViable, run-IsWhole}}
@@ -33,16 +32,12 @@ run_counts [] phase depth s e = let same : m.phase_state phase depth ≡ s = cc 
 run_counts (token ∷ tokens) phase depth s e = by_step (λ p d h. run_counts tokens p d s h) (m.next phase depth token.kind (m.could_label token)) (step_counts phase depth token.kind (m.could_label token)) e where
   by_step : ((p : m.Phase) (d : ℕ) → m.run p d tokens ≡ Ok s → d + starts tokens ≡ s.1 + ends tokens) → (step : m.UnitStep) → Counts depth token.kind step
       → m.after step (λ p d. m.run p d tokens) ≡ Ok s → depth + starts (token ∷ tokens) ≡ s.1 + ends (token ∷ tokens)
-  by_step more (Ok t) first e = let rest : t.1 + starts tokens ≡ s.1 + ends tokens = more t.0 t.1 e in omega arith
-  by_step more (Err number) first e = absurd cc
+  by_step p0 p1 p2 p3 = grind (arith, common_steps) steps 200000
 
 -- from word number `from` on there are `level` more `$}` than `${`, and from no later word on more `${` than `$}`
 pub record Scan (tokens : List Token) (from level : ℕ) : Type 0 where
   pub even : level + starts (drop from tokens) ≡ ends (drop from tokens)
   pub fewer : (n : ℕ) → from ≤ n → starts (drop n tokens) ≤ ends (drop n tokens)
-
-pub scan_none : (tokens : List Token) → Scan tokens (length tokens) 0
-scan_none tokens = grind (arith, common_steps) steps 200000
 
 -- one word more at the front
 scan_more : (tokens : List Token) (word level next : ℕ) (token : Token) → slice_get tokens word ≡ Some token → next + is_start_word token.kind ≡ level + is_end_word token.kind → Scan tokens (word + 1) level → Scan tokens word next
@@ -54,15 +49,9 @@ scan_end tokens word level token there is h = let counts : (is_start_word token.
 pub scan_start : (tokens : List Token) (word level : ℕ) (token : Token) → slice_get tokens word ≡ Some token → IsKeyword BlockStart token → 0 < level → Scan tokens (word + 1) level → Scan tokens word (level - 1)
 scan_start tokens word level token there is some h = let counts : (is_start_word token.kind ≡ 1) × (is_end_word token.kind ≡ 0) = start_counts token is in scan_more tokens word level (level - 1) token there (omega arith) h
 
-other_counts : (token : Token) (kind : WordKind) → token.kind ≡ kind → ¬ IsKeyword BlockStart token → ¬ IsKeyword BlockEnd token → (is_start_word kind ≡ 0) × (is_end_word kind ≡ 0)
-other_counts token kind is f g = grind (arith, common_steps) steps 200000
-
 pub scan_other : (tokens : List Token) (word level : ℕ) (token : Token) → slice_get tokens word ≡ Some token → ¬ IsKeyword BlockStart token → ¬ IsKeyword BlockEnd token → Scan tokens (word + 1) level → Scan tokens word level
-scan_other tokens word level token there f g h = let counts : (is_start_word token.kind ≡ 0) × (is_end_word token.kind ≡ 0) = other_counts token token.kind refl f g in scan_more tokens word level level token there (omega arith) h
-
--- the scan stops at a `${` that nothing after it closes
-pub scan_found : (tokens : List Token) (word d : ℕ) (token : Token) → m.run m.Begin 0 tokens ≡ Ok (m.phase_state m.Begin d) → slice_get tokens word ≡ Some token → IsKeyword BlockStart token → Scan tokens (word + 1) 0 → IsUnitFault tokens T08 word
-scan_found tokens word d token e there is h = ends_in_block tokens word d token e there is (omega arith) (λ n l. h.fewer n (omega arith))
+scan_other tokens word level token there f g h = let counts : (is_start_word token.kind ≡ 0) × (is_end_word token.kind ≡ 0) =
+    grind (arith, common_steps) steps 200000 in scan_more tokens word level level token there (omega arith) h
 
 -- the scan does not reach the first word if a block is open
 pub scan_all : (tokens : List Token) (level d : ℕ) → m.run m.Begin 0 tokens ≡ Ok (m.phase_state m.Begin (suc d)) → Scan tokens 0 level → ⊥
@@ -79,23 +68,17 @@ scan_on tokens d e (suc from) level l h = by_kind there.0.kind refl (λ next g. 
   there : (token : Token) × (slice_get tokens from ≡ Some token)
   there = place_here tokens from (omega arith)
 
-  one : suc from ≡ from + 1
-  one = omega arith
-
-  scan : Scan tokens (from + 1) level
-  scan = subst (λ (n : ℕ). Scan tokens n level) one h
-
   start : (level : ℕ) → IsKeyword BlockStart there.0 → Scan tokens (from + 1) level → ((next : ℕ) → Scan tokens from next → (word : ℕ) × IsUnitFault tokens T08 word) → (word : ℕ) × IsUnitFault tokens T08 word
-  start zero is h more = (from, scan_found tokens from (suc d) there.0 e there.1 is h)
+  start zero is h more = (from, (ends_in_block tokens from (suc d) there.0 e there.1 is (omega arith) (λ n l. h.fewer n (omega arith))))
   start (suc level) is h more = more (suc level - 1) (scan_start tokens from (suc level) there.0 there.1 is (omega arith) h)
 
   by_kind : (kind : WordKind) → there.0.kind ≡ kind → ((next : ℕ) → Scan tokens from next → (word : ℕ) × IsUnitFault tokens T08 word) → (word : ℕ) × IsUnitFault tokens T08 word
-  by_kind (kinds.Keyword BlockStart) is more = start level is scan more
-  by_kind (kinds.Keyword BlockEnd) is more = more (level + 1) (scan_end tokens from level there.0 there.1 is scan)
-  by_kind _ is more = more level (scan_other tokens from level there.0 there.1 (λ x. cc) (λ x. cc) scan)
+  by_kind (kinds.Keyword BlockStart) is more = start level is (grind (arith, common_steps) steps 200000) more
+  by_kind (kinds.Keyword BlockEnd) is more = more (level + 1) (scan_end tokens from level there.0 there.1 is (grind (arith, common_steps) steps 200000))
+  by_kind _ is more = more level (scan_other tokens from level there.0 there.1 (λ x. cc) (λ x. cc) (grind (arith, common_steps) steps 200000))
 
 pub open_block : (tokens : List Token) (d : ℕ) → m.run m.Begin 0 tokens ≡ Ok (m.phase_state m.Begin (suc d)) → (word : ℕ) × IsUnitFault tokens T08 word
-open_block tokens d e = scan_on tokens d e (length tokens) 0 (omega arith) (scan_none tokens)
+open_block tokens d e = scan_on tokens d e (length tokens) 0 (omega arith) (grind (arith, common_steps) steps 200000)
 
 -- the first word that stops
 pub slice_get_at : (front rest : List Token) (token : Token) → slice_get (front ++ token ∷ rest) (length front) ≡ Some token
@@ -121,32 +104,27 @@ pub record LastBegin (tokens : List Token) (n : ℕ) : Type 0 where
   pub begins : m.run m.Begin 0 (take word tokens) ≡ Ok (m.phase_state m.Begin depth)
   pub later : (k : ℕ) → word < k → k ≤ n → (phase : m.Phase) × (d : ℕ) × (m.run m.Begin 0 (take k tokens) ≡ Ok (m.phase_state phase d)) × (phase ≢ m.Begin)
 
-pub last_here : (tokens : List Token) (n depth : ℕ) → m.run m.Begin 0 (take n tokens) ≡ Ok (m.phase_state m.Begin depth) → LastBegin tokens n
-last_here tokens n depth e = record { word = n; depth = depth; within = omega arith; begins = e; later = λ k l g. absurd (omega arith) }
-
 pub last_more : (tokens : List Token) (n : ℕ) (phase : m.Phase) (depth : ℕ) → m.run m.Begin 0 (take (n + 1) tokens) ≡ Ok (m.phase_state phase depth) → phase ≢ m.Begin → LastBegin tokens n → LastBegin tokens (n + 1)
 last_more tokens n phase depth e other h = record { word = h.word; depth = h.depth; within = omega (arith, h.within); begins = h.begins; later = later } where
-  here : (k : ℕ) → k ≡ n + 1 → (phase : m.Phase) × (d : ℕ) × (m.run m.Begin 0 (take k tokens) ≡ Ok (m.phase_state phase d)) × (phase ≢ m.Begin)
-  here k same = (phase, depth, ap (λ (i : ℕ). m.run m.Begin 0 (take i tokens)) same ∙ e, other)
-
   later : (k : ℕ) → h.word < k → k ≤ n + 1 → (phase : m.Phase) × (d : ℕ) × (m.run m.Begin 0 (take k tokens) ≡ Ok (m.phase_state phase d)) × (phase ≢ m.Begin)
-  later k l g = ⊎_elim (λ above. here k (omega arith)) (λ below. h.later k l below) (cases_lt n k)
+  later k l g = ⊎_elim (λ above. ((phase, depth, ap (λ (i : ℕ). m.run m.Begin 0 (take i tokens)) (omega arith) ∙ e, other))) (λ below. h.later k l below)
+      (cases_lt n k)
 
 pub is_begin : (phase : m.Phase) → (phase ≡ m.Begin) ⊎ (phase ≢ m.Begin)
 is_begin phase = grind (arith, common_steps) steps 200000
 
 last_begin : (tokens : List Token) (n : ℕ) → IsViable tokens → LastBegin tokens n
-last_begin tokens zero viable = last_here tokens 0 0 refl
-last_begin tokens (suc n) viable = by_phase state.0.0 state.0.1 state.1 (is_begin state.0.0) (last_begin tokens n viable) where
-  state : (s : m.Phase × ℕ) × (m.run m.Begin 0 (take (suc n) tokens) ≡ Ok s)
-  state = viable_run (take (suc n) tokens) (viable_take tokens (suc n) viable)
+last_begin tokens zero viable = record { word = 0; depth = 0; within = omega arith; begins = refl; later = λ k l g. absurd (omega arith) }
+last_begin tokens (suc n) viable =
+    let state : (s : m.Phase × ℕ) × (m.run m.Begin 0 (take (suc n) tokens) ≡ Ok s) = viable_run (take (suc n) tokens) (viable_take tokens (suc n) viable) in
+    by_phase state.0.0 state.0.1 state.1 (is_begin state.0.0) (last_begin tokens n viable) where
+      one : n + 1 ≡ suc n
+      one = omega arith
 
-  one : n + 1 ≡ suc n
-  one = omega arith
-
-  by_phase : (phase : m.Phase) (depth : ℕ) → m.run m.Begin 0 (take (suc n) tokens) ≡ Ok (m.phase_state phase depth) → (phase ≡ m.Begin) ⊎ (phase ≢ m.Begin) → LastBegin tokens n → LastBegin tokens (suc n)
-  by_phase phase depth e (inl is) h = last_here tokens (suc n) depth (e ∙ ap (λ (p : m.Phase). Ok (p, depth)) is)
-  by_phase phase depth e (inr other) h = subst (λ (k : ℕ). LastBegin tokens k) one (last_more tokens n phase depth (ap (λ (k : ℕ). m.run m.Begin 0 (take k tokens)) one ∙ e) other h)
+      by_phase : (phase : m.Phase) (depth : ℕ) → m.run m.Begin 0 (take (suc n) tokens) ≡ Ok (m.phase_state phase depth) → (phase ≡ m.Begin) ⊎ (phase ≢ m.Begin) → LastBegin tokens n → LastBegin tokens (suc n)
+      by_phase phase depth e (inl is) h = record
+          { word = (suc n); depth = depth; within = omega arith; begins = (e ∙ ap (λ (p : m.Phase). Ok (p, depth)) is); later = λ k l g. absurd (omega arith) }
+      by_phase phase depth e (inr other) h = subst (λ (k : ℕ). LastBegin tokens k) one (last_more tokens n phase depth (ap (λ (k : ℕ). m.run m.Begin 0 (take k tokens)) one ∙ e) other h)
 
 below : (v w : ℕ) → v ≤ w → v ≢ w → v < w
 below v w l other = omega arith
@@ -157,19 +135,13 @@ last_fault tokens phase depth e other last = ends_in_unit tokens last.word last.
   apart : last.word ≢ length tokens
   apart is = other (may_begin_phase tokens phase depth e (may_begin_from tokens last.depth (ap (m.run m.Begin 0) (sym (ap (λ (n : ℕ). take n tokens) is ∙ take_all (length tokens) tokens (omega arith))) ∙ last.begins)))
 
-pub open_unit : (tokens : List Token) (phase : m.Phase) (depth : ℕ) → m.run m.Begin 0 tokens ≡ Ok (m.phase_state phase depth) → phase ≢ m.Begin → (word : ℕ) × IsUnitFault tokens T07 word
-open_unit tokens phase depth e other =
-    let last : LastBegin tokens (length tokens) = last_begin tokens (length tokens) (run-IsViable tokens (phase, depth) e) in (last.word, last_fault tokens phase depth e other last)
-
 pub whole_or_fault : (tokens : List Token) → IsWhole tokens ⊎ ((number : TextNumber) × (word : ℕ) × IsUnitFault tokens number word)
 whole_or_fault tokens = by_run (m.run m.Begin 0 tokens) refl where
-  open_at : (phase : m.Phase) (depth : ℕ) → m.run m.Begin 0 tokens ≡ Ok (m.phase_state phase depth) → (phase ≢ m.Begin) → IsWhole tokens ⊎ ((number : TextNumber) × (word : ℕ) × IsUnitFault tokens number word)
-  open_at phase depth e other = let fault : (word : ℕ) × IsUnitFault tokens T07 word = open_unit tokens phase depth e other in inr (T07, fault.0, fault.1)
-
   by_state : (phase : m.Phase) (depth : ℕ) → m.run m.Begin 0 tokens ≡ Ok (m.phase_state phase depth) → IsWhole tokens ⊎ ((number : TextNumber) × (word : ℕ) × IsUnitFault tokens number word)
   by_state m.Begin zero e = inl (run-IsWhole tokens e)
   by_state m.Begin (suc depth) e = let fault : (word : ℕ) × IsUnitFault tokens T08 word = open_block tokens depth e in inr (T08, fault.0, fault.1)
-  by_state phase depth e = open_at phase depth e (λ e. cc)
+  by_state phase depth e = let fault : (word : ℕ) × IsUnitFault tokens T07 word = let last : LastBegin tokens (length tokens) = last_begin tokens
+      (length tokens) (run-IsViable tokens (phase, depth) e) in (last.word, last_fault tokens phase depth e (λ e. cc) last) in inr (T07, fault.0, fault.1)
 
   by_run : (step : m.UnitStep) → m.run m.Begin 0 tokens ≡ step → IsWhole tokens ⊎ ((number : TextNumber) × (word : ℕ) × IsUnitFault tokens number word)
   by_run (Ok s) e = by_state s.0 s.1 e

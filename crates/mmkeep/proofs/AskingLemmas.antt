@@ -1,28 +1,20 @@
 -- The words that are a command, by how many there are.
-use Rattle.std.proofs.{Common.{◌≡◌, ◌≢◌, ℕ, true, false, List, [], ◌∷◌, length, get_or, refl, sym, ◌∙◌, ap, arith, codes, bytes_eq}, lemmas.{List.{length-map}, Slice.Eq.{bytes_eq-Decides}}}
+use Rattle.std.proofs.{Common.{[], ◌≡◌, ◌≢◌, ℕ, true, false, List, ◌∷◌, length, get_or, refl, sym, ◌∙◌, ap, arith, codes, bytes_eq}, lemmas.{List.{length-map}, Slice.Eq.{bytes_eq-Decides}}}
 use Rattle.std.specs.Borrow.{Bor}
 use Rattle.mmkeep.specs.{declared.arguments.Command.{Command, TheVariants.{Verify, Axioms, Session}}, Language.Asking.{said, words_of}}
 
--- the words that are given, if there are two or three
-two_words : (words : List (Bor (List ℕ))) (d : Bor (List ℕ)) → length words ≡ 2 → said words ≡ (get_or words 0 d).now ∷ ((get_or words 1 d).now ∷ [])
-two_words [] d l = cc
-two_words (x ∷ (y ∷ [])) d l = refl
-two_words _ d l = absurd (omega arith)
-
-three_words : (words : List (Bor (List ℕ))) (d : Bor (List ℕ)) → length words ≡ 3
-    → said words ≡ (get_or words 0 d).now ∷ ((get_or words 1 d).now ∷ ((get_or words 2 d).now ∷ []))
-three_words [] d l = cc
-three_words (x ∷ (y ∷ (z ∷ []))) d l = refl
-three_words _ d l = absurd (omega arith)
-
--- the first of them is this one
+-- the words that are given, if there are two or three, and the first of them is this one
 pub said_two : (words : List (Bor (List ℕ))) (d : Bor (List ℕ)) (first : List ℕ) → length words ≡ 2 → (get_or words 0 d).now ≡ first
     → said words ≡ first ∷ ((get_or words 1 d).now ∷ [])
-said_two words d first l e = two_words words d l ∙ ap (λ (w : List ℕ). w ∷ ((get_or words 1 d).now ∷ [])) e
+said_two [] d first l e = cc
+said_two (x ∷ (y ∷ [])) d first l e = ap (λ (w : List ℕ). w ∷ (y.now ∷ [])) e
+said_two _ d first l e = absurd (omega arith)
 
 pub said_three : (words : List (Bor (List ℕ))) (d : Bor (List ℕ)) (first : List ℕ) → length words ≡ 3 → (get_or words 0 d).now ≡ first
     → said words ≡ first ∷ ((get_or words 1 d).now ∷ ((get_or words 2 d).now ∷ []))
-said_three words d first l e = three_words words d l ∙ ap (λ (w : List ℕ). w ∷ ((get_or words 1 d).now ∷ ((get_or words 2 d).now ∷ []))) e
+said_three [] d first l e = cc
+said_three (x ∷ (y ∷ (z ∷ []))) d first l e = ap (λ (w : List ℕ). w ∷ (y.now ∷ (z.now ∷ []))) e
+said_three _ d first l e = absurd (omega arith)
 
 -- ---- no command
 
@@ -42,16 +34,16 @@ same_length words asked e = sym (length-map words (λ (word : Bor (List ℕ)). w
 pub no_two : (words : List (Bor (List ℕ))) (d : Bor (List ℕ)) → length words ≡ 2
     → (get_or words 0 d).now ≢ codes "verify" → (get_or words 0 d).now ≢ codes "session" → (asked : Command) → said words ≡ words_of asked → ⊥
 unfolding first_of
-no_two words d l v s (Verify file) e = v (ap first_of (sym (two_words words d l) ∙ e))
+no_two words d l v s (Verify file) e = v (ap first_of (sym (said_two words d _ l refl) ∙ e))
 no_two words d l v s (Axioms file label) e = let n : length words ≡ 3 = same_length words (Axioms file label) e in absurd (omega (arith, l, n))
-no_two words d l v s (Session file) e = s (ap first_of (sym (two_words words d l) ∙ e))
+no_two words d l v s (Session file) e = s (ap first_of (sym (said_two words d _ l refl) ∙ e))
 
 -- three words, the first of which is not that of a command of three words
 pub no_three : (words : List (Bor (List ℕ))) (d : Bor (List ℕ)) → length words ≡ 3
     → (get_or words 0 d).now ≢ codes "axioms" → (asked : Command) → said words ≡ words_of asked → ⊥
 unfolding first_of
 no_three words d l a (Verify file) e = let n : length words ≡ 2 = same_length words (Verify file) e in absurd (omega (arith, l, n))
-no_three words d l a (Axioms file label) e = a (ap first_of (sym (three_words words d l) ∙ e))
+no_three words d l a (Axioms file label) e = a (ap first_of (sym (said_three words d _ l refl) ∙ e))
 no_three words d l a (Session file) e = let n : length words ≡ 2 = same_length words (Session file) e in absurd (omega (arith, l, n))
 
 -- neither two words nor three

@@ -1,5 +1,5 @@
 -- A report is clean: it has no line before its summary.
-use Rattle.std.proofs.{Common.{◌≡◌, ℕ, Bool, false, cond, zero-add, IsTrue, ◌+◌, List, [], ◌∷◌, length, refl, sym, ◌∙◌, ap, arith, nat_eq, count_by, eqb-true, eq-eqb}, lemmas.List.Sums.{sum_by-cons}}
+use Rattle.std.proofs.{Common.{[], ◌≡◌, ℕ, Bool, false, cond, zero-add, IsTrue, ◌+◌, List, ◌∷◌, length, refl, sym, ◌∙◌, ap, arith, nat_eq, count_by, eqb-true, eq-eqb}, lemmas.List.Sums.{sum_by-cons}}
 use Rattle.mm_report.specs.{mm_statement.Language.Item.{Item}, mm_keep.{declared.tally.Tally.{Tally}, Language.Findings.{counted}}}
 use Rattle.mm_report.specs.{mm_keep.Language.Told.{Told, Quiet, AnAxiom, Proved, Incomplete, Wrong, Fault, Counts, counts, is_incomplete, is_wrong, is_fault}, Language.Report.{lines}}
 
@@ -45,25 +45,17 @@ abbrev pub IsAnswer : List (List ℕ) → List Item → List Told → Bool → T
 IsAnswer names items all clean = (IsTrue clean → lines names items all ≡ []) × (lines names items all ≡ [] → IsTrue clean)
 
 module _ (names : List (List ℕ)) (items : List Item) (all : List Told) (tally : Tally) (count : length all ≡ length items) (same : counted tally ≡ counts all) where
-  none_incomplete : HaveNoLines all → tally.incomplete ≡ 0
-  none_incomplete n = ap (λ (k : Counts). k.incomplete) same ∙ n.0
-
-  none_wrong : HaveNoLines all → tally.wrong ≡ 0
-  none_wrong n = ap (λ (k : Counts). k.wrong) same ∙ n.1
-
-  none_fault : HaveNoLines all → tally.faults ≡ 0
-  none_fault n = ap (λ (k : Counts). k.faults) same ∙ n.2
-
   -- nothing is incomplete or wrong: it is clean exactly when nothing is at fault
   pub clean_by_faults : tally.incomplete ≡ 0 → tally.wrong ≡ 0 → IsAnswer names items all (nat_eq tally.faults 0)
   clean_by_faults i w = (
     λ clean. no_lines names items all (sym (ap (λ (k : Counts). k.incomplete) same) ∙ i, sym (ap (λ (k : Counts). k.wrong) same) ∙ w, sym (ap (λ (k : Counts). k.faults) same) ∙ eqb-true tally.faults 0 clean),
-    λ none. eq-eqb tally.faults 0 (none_fault (some_line names items all count none)),
+    λ none. eq-eqb tally.faults 0 (ap (λ (k : Counts). k.faults) same ∙ (some_line names items all count none).2),
   )
 
   -- it is not clean if something is incomplete or wrong
   pub not_clean : (clean : Bool) → clean ≡ false → (tally.incomplete ≡ 0 → tally.wrong ≡ 0 → ⊥) → IsAnswer names items all clean
   not_clean clean is some = (
     λ yes. absurd (cc),
-    λ none. absurd (some (none_incomplete (some_line names items all count none)) (none_wrong (some_line names items all count none))),
+    λ none. let n =
+        some_line names items all count none in absurd (some (ap (λ (k : Counts). k.incomplete) same ∙ n.0) (ap (λ (k : Counts). k.wrong) same ∙ n.1)),
   )

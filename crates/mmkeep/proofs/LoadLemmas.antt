@@ -1,7 +1,7 @@
 -- Files that are loaded: none is parked, those that are there stay, and a walk goes on among them.
-use Rattle.std.proofs.Common.{◌≡◌, ◌≢◌, ℕ, ◌+◌, ◌<◌, suc, Bool, true, false, not, cond, List, [], ◌∷◌, ◌++◌, ◌⊎◌, Option, Some, None, Result, Ok, Err, OnOk, IfErr, IsErrOf, length, map, sym, ap, ◌∙◌}
-use Rattle.std.proofs.{Common.{subst, refl, inl, inr, arith, Contains, position}, lemmas.{Bool.{lt-ltb, ltb-true}, List.{length-map, nil_from_length}, Option.{none-some}, Slice.Eq.{bytes_eq-Decides}}}
-use Rattle.std.specs.{List.{position_or_len, sum_by}, Str.{bytes_eq}, Ordering.{nat_cmp}}
+use Rattle.std.proofs.Common.{[], ◌≡◌, ◌≢◌, ℕ, ◌+◌, Bool, true, not, cond, List, ◌∷◌, ◌++◌, ◌⊎◌, Option, None, Result, Ok, Err, OnOk, IfErr, IsErrOf, map, sym, ap, ◌∙◌, subst, refl, inl, inr, arith}
+use Rattle.std.proofs.{Common.{Contains, position}, lemmas.{Grind.{common_steps}, List.{length-map, nil_from_length, Folds.{position_or_len_push}, Sums.{prefix_len-le-length}}}}
+use Rattle.std.{proofs.lemmas.Slice.Eq.{bytes_eq-Decides}, specs.{List.{position_or_len, sum_by}, Str.{bytes_eq}, Ordering.{nat_cmp}}}
 use Rattle.mm_report.specs.mm_store.{declared.{error.StoreError.{StoreError, TheVariants.{Memory, NoTop}}, item.Item.{Item}}, Language.{Answers.{IsExpansionError}, FileFacts.{IsAdded, parked_in}}}
 use Rattle.mm_report.specs.mm_store.Language.{FilesView.{File, FilesView, file_number, file_view, files_in, no_files, number_of, plain, plain_file}, Keyless.{bare, bare_file}}
 use Rattle.mm_report.specs.mm_store.Language.{Pieces.{HeldPiece, parked_state}, Walking.{WalkView, IsWalk, FindsMissing}}
@@ -16,49 +16,21 @@ nothing_parked = ap (sum_by (λ (entry : ℕ × HeldPiece). parked_state entry.1
 abbrev pub MayHaveAdded : FilesView → FilesView → List ℕ → Type 0
 MayHaveAdded old new name = (new ≡ old) ⊎ ((text : List ℕ) × IsAdded (plain old) (plain new) name text)
 
--- ---- the first that passes a test
-
-module _ {X : Type 0} (test : X → Bool) where
-  step : (b : Bool) (k n : ℕ) → k < n → cond (not b) (1 + k) 0 < suc n
-  step true k n h = omega arith
-  step false k n h = omega arith
-
-  place_last : (xs : List X) (y : X) → test y ≡ true → position_or_len test (xs ++ y ∷ []) < length (xs ++ y ∷ [])
-  place_last [] y t = subst (λ (b : Bool). cond (not b) (1 + 0) 0 < 1) (sym t) (omega arith)
-  place_last (x ∷ xs) y t = step (test x) (position_or_len test (xs ++ y ∷ [])) (length (xs ++ y ∷ [])) (place_last xs y t)
-
-  -- there is one if its place is within
-  there : (xs : List X) → position_or_len test xs < length xs → position test xs ≢ None
-  there xs h e = none-some (position_or_len test xs) (sym e ∙ ap (λ b. cond b (Some (position_or_len test xs)) None) (lt-ltb (position_or_len test xs) (length xs) h))
-
 -- ---- a file that is added
+
+-- with one more element there is one that passes a test, if this one does, or if one did before
+one_passes : {X : Type 0} (test : X → Bool) (xs : List X) (y : X) → (test y ≡ true) ⊎ (position test xs ≢ None) → position test (xs ++ y ∷ []) ≢ None
+one_passes test xs y some = grind (arith, common_steps, position_or_len_push test xs y, prefix_len-le-length (λ x. not (test x)) xs) steps 200000
 
 pub added_there : (old new : FilesView) (name text : List ℕ) → IsAdded (plain old) (plain new) name text → HasFile new name
 added_there old new name text a =
-    let test : File → Bool = λ file. bytes_eq name file.name in
-    let same : test a.file ≡ true = (bytes_eq-Decides name a.file.name).1 (sym a.is_name) in
-    subst (λ (files : List File). file_number files name ≢ None) (sym a.last) (there test (plain old ++ a.file ∷ []) (place_last test (plain old) a.file same))
+    subst (λ (files : List File). file_number files name ≢ None) (sym a.last)
+    (one_passes (λ file. bytes_eq name file.name) (plain old) a.file (inl ((bytes_eq-Decides name a.file.name).1 (sym a.is_name))))
 
 -- and leaves the others there
-module _ {X : Type 0} (test : X → Bool) where
-  within : (b : Bool) (m : ℕ) → cond b (Some m) None ≢ None → b ≡ true
-  within true m some = refl
-  within false m some = absurd (some refl)
-
-  kept_step : (b : Bool) (k n m l : ℕ) → (k < n → m < l) → cond (not b) (1 + k) 0 < suc n → cond (not b) (1 + m) 0 < suc l
-  kept_step true k n m l more h = omega arith
-  kept_step false k n m l more h = let less : k < n = omega arith in let lt : m < l = more less in omega arith
-
-  kept_place : (xs ys : List X) → position_or_len test xs < length xs → position_or_len test (xs ++ ys) < length (xs ++ ys)
-  kept_place [] ys h = absurd (omega arith)
-  kept_place (x ∷ xs) ys h = kept_step (test x) (position_or_len test xs) (length xs) (position_or_len test (xs ++ ys)) (length (xs ++ ys)) (kept_place xs ys) h
-
-  still_there : (xs ys : List X) → position test xs ≢ None → position test (xs ++ ys) ≢ None
-  still_there xs ys some = there test (xs ++ ys) (kept_place xs ys (ltb-true (position_or_len test xs) (length xs) (within _ (position_or_len test xs) some)))
-
 pub added_keeps : (old new : FilesView) (name text : List ℕ) → IsAdded (plain old) (plain new) name text → KeepsFiles old new
 added_keeps old new name text a other has =
-    subst (λ (files : List File). file_number files other ≢ None) (sym a.last) (still_there (λ file. bytes_eq other file.name) (plain old) (a.file ∷ []) has)
+    subst (λ (files : List File). file_number files other ≢ None) (sym a.last) (one_passes (λ file. bytes_eq other file.name) (plain old) a.file (inr has))
 
 pub may_keep : (old new : FilesView) (name : List ℕ) → MayHaveAdded old new name → KeepsFiles old new
 may_keep old new name (inl same) = λ other has. subst (λ (files : FilesView). HasFile files other) (sym same) has
@@ -77,50 +49,33 @@ may_have Unknown old new name (inr a) = inr (a.text, a.is_added)
 may_have NoFile old new name same = inl same
 may_have (Bytes bytes) old new name a = inr (a.text, a.is_added)
 
-adds_known : (old new : FilesView) (name bytes : List ℕ) (unread : Option (List ℕ)) → unread ≡ Some bytes
-    → AddsFile (plain old) (plain new) name unread → AddsFile (plain old) (plain new) name (Some bytes)
-adds_known old new name bytes unread e a = subst (λ (known : Option (List ℕ)). AddsFile (plain old) (plain new) name known) e a
-
-adds_unknown : (old new : FilesView) (name : List ℕ) (unread : Option (List ℕ)) → AddsFile (plain old) (plain new) name unread → AddsFile (plain old) (plain new) name None
-adds_unknown old new name unread a = record { text = a.text; is_added = a.is_added; is_text = tt }
-
-no_error : {T O : Type 0} (done : T) (lack : O) → IsErrOf (Ok done) lack → ⊥
-no_error done lack e = cc
-
 module _ {F E T O : Type 0} (remaining : F → Option (List ℕ)) (Lacks : E → Type 0) (lack : O) (old new : FilesView) (name : List ℕ) where
   pub takes_file : (known : KnownFile) (opened : Result F E) (result : Result T O) → Opens remaining Lacks known opened
       → OnOk result (AddsIfOpened remaining opened old new name) → IfErr opened (λ error. Lacks error → IsErrOf result lack)
       → OnOk result (TakesFile known old new name)
   takes_file known opened (Err outcome) agrees adds lacking = tt
-  takes_file Unknown (Ok file) (Ok done) agrees adds lacking = inr (adds_unknown old new name (remaining file) adds)
+  takes_file Unknown (Ok file) (Ok done) agrees adds lacking = inr (record { text = adds.text; is_added = adds.is_added; is_text = tt })
   takes_file Unknown (Err error) (Ok done) agrees adds lacking = inl adds
   takes_file NoFile (Ok file) (Ok done) agrees adds lacking = absurd agrees
   takes_file NoFile (Err error) (Ok done) agrees adds lacking = adds
-  takes_file (Bytes bytes) (Ok file) (Ok done) agrees adds lacking = adds_known old new name bytes (remaining file) agrees adds
-  takes_file (Bytes bytes) (Err error) (Ok done) agrees adds lacking = absurd (no_error done lack (lacking agrees))
+  takes_file (Bytes bytes) (Ok file) (Ok done) agrees adds lacking = subst (AddsFile (plain old) (plain new) name) agrees adds
+  takes_file (Bytes bytes) (Err error) (Ok done) agrees adds lacking = absurd (let no : IsErrOf (Ok done) lack = lacking agrees in cc)
 
 module _ {F E T O : Type 0} (remaining : F → Option (List ℕ)) (Lacks : E → Type 0) (old new : FilesView) (name : List ℕ) where
   pub takes_top : (known : KnownFile) (opened : Result F E) (result : Result T O) → Opens remaining Lacks known opened
       → OnOk result (AddsOpened remaining opened old new name) → OnOk result (TakesTop known old new name)
   takes_top known opened (Err outcome) agrees adds = tt
   takes_top known (Err error) (Ok done) agrees adds = absurd adds
-  takes_top Unknown (Ok file) (Ok done) agrees adds = adds_unknown old new name (remaining file) adds
+  takes_top Unknown (Ok file) (Ok done) agrees adds = record { text = adds.text; is_added = adds.is_added; is_text = tt }
   takes_top NoFile (Ok file) (Ok done) agrees adds = absurd agrees
-  takes_top (Bytes bytes) (Ok file) (Ok done) agrees adds = adds_known old new name bytes (remaining file) agrees adds
+  takes_top (Bytes bytes) (Ok file) (Ok done) agrees adds = subst (AddsFile (plain old) (plain new) name) agrees adds
 
 -- the top file, and what loading from it on adds
 pub are_loaded : {T O : Type 0} (holds : List ℕ → KnownFile) (top : List ℕ) (first final : FilesView) (walk last : WalkView) (result : Result T O)
     → TakesTop (holds top) no_files first top → IsWalk (bare (plain first)) top [] walk → OnOk result (Loads holds first walk final last)
     → OnOk result (AreLoaded holds top final)
 are_loaded holds top first final walk last (Err outcome) takes begins loads = tt
-are_loaded holds top first final walk last (Ok done) takes begins loads = record {
-  first = first;
-  takes_top = takes;
-  walk = walk;
-  is_walk = begins;
-  last = last;
-  loads = loads;
-}
+are_loaded holds top first final walk last (Ok done) takes begins loads = search (takes, begins, loads)
 
 -- ---- why files that have the top file are not gone through
 
@@ -157,8 +112,10 @@ WalksOn = (old new : List File) (name text top : List ℕ) (items : List Item) (
 
 pub walked_on : WalksOn → (old new : FilesView) (top name : List ℕ) (items : List Item) (before after : WalkView)
     → FindsMissing (bare (plain old)) top items before after name → MayHaveAdded old new name → HasWalked new after
-walked_on law old new top name items before after finds (inl same) =
-    (top, items ++ finds.goes_on.more, subst (λ (files : FilesView). IsWalk (bare (plain files)) top (items ++ finds.goes_on.more) after) (sym same) finds.goes_on.is_walk)
-walked_on law old new top name items before after finds (inr added) =
-    let untaken : ¬ Contains after.names name = λ taken. finds.stands.new (subst (Contains after.names) (sym finds.is_name) taken) in
-    (top, items ++ finds.goes_on.more, law (plain old) (plain new) name added.0 top (items ++ finds.goes_on.more) after added.1 untaken finds.goes_on.is_walk)
+walked_on law old new top name items before after finds (inl same) = (top, items ++ finds.goes_on.more, rw same finds.goes_on.is_walk)
+walked_on law old new top name items before after finds (inr added) = (
+  top,
+  items ++ finds.goes_on.more,
+  law (plain old) (plain new) name added.0 top (items ++ finds.goes_on.more) after added.1 (λ taken. finds.stands.new (rw finds.is_name taken))
+      finds.goes_on.is_walk,
+)

@@ -1,5 +1,5 @@
 -- What a command has done, by what its parts have done.
-use Rattle.std.{proofs.{Common.{◌≡◌, ◌⊎◌, ℕ, List, Option, Result, Ok, Err, IfErr, sym, subst, inl, inr}, KnownBytes.{Keeps-refl}}, specs.Io.KnownBytes.{Appends, Keeps}}
+use Rattle.std.{proofs.{Common.{◌≡◌, ◌⊎◌, ℕ, List, Option, Result, Ok, Err, IfErr, inl, inr}, KnownBytes.{Keeps-refl}}, specs.Io.KnownBytes.{Appends}}
 use Rattle.mm_report.specs.{mm_keep.Language.Sessions.{SessionView, HasAssertion}, mm_script.declared.{error.ScriptError.{ScriptError}, stream.Writing.{Writing}}}
 use Rattle.mm_report.specs.{mm_script.Language.Stream.{AppendsPart, written}, Language.Answers.{IsAnswer}}
 use Rattle.mmkeep.specs.{declared.outcome.Outcome.TheVariants.{Clean}, Language.Performing.{ListsAxioms, StopsAxioms}}
@@ -11,8 +11,7 @@ pub lists_there : (session : SessionView) (label word : List ℕ) (before after 
     → ((answer : List ℕ) × IsAnswer session (script.Axioms word) answer session × Appends before after answer)
     → HasAssertion session word → ListsAxioms session label before after Clean
 lists_there session label word before after same (answer, is, out) there =
-    subst (λ (one : List ℕ). ListsAxioms session one before after Clean) same
-    (record { answer = answer; is_answer = is; out = out; is_by_label = there })
+    rw (← same) (record { answer = answer; is_answer = is; out = out; is_by_label = there })
 
 -- why they are not
 pub stops_axioms : {W : Type 0} (session : SessionView) (label word : List ℕ) (contents : W → Option (List ℕ)) (old new : Writing W) (error : ScriptError)
@@ -21,13 +20,8 @@ pub stops_axioms : {W : Type 0} (session : SessionView) (label word : List ℕ) 
     → (error ≡ errors.Memory → new ≡ old) → (error ≡ errors.Memory → ¬ HasAssertion session word → ⊥)
     → StopsAxioms session label (written contents old) (written contents new) error
 stops_axioms session label word contents old new error same (inl e) write memory known =
-    let (answer, is, part) = write e in
-    subst (λ (one : List ℕ). StopsAxioms session one (written contents old) (written contents new) error) same
-    (subst (λ (why : ScriptError). StopsAxioms session word (written contents old) (written contents new) why) (sym e) (record { answer = answer; is_answer = is; out = part }))
-stops_axioms {W} session label word contents old new error same (inr e) write memory known =
-    subst (λ (one : List ℕ). StopsAxioms session one (written contents old) (written contents new) error) same
-    (subst (λ (why : ScriptError). StopsAxioms session word (written contents old) (written contents new) why) (sym e)
-    (subst (λ (one : Writing W). Keeps (written contents old) (written contents one)) (sym (memory e)) (Keeps-refl (written contents old)), known e))
+    let (answer, is, part) = write e in rw (← same, e) (record { answer = answer; is_answer = is; out = part })
+stops_axioms session label word contents old new error same (inr e) write memory known = rw (← same, e, memory e) (Keeps-refl (written contents old), known e)
 
 -- what an error says says what else follows from it
 pub on_error : {T E : Type 0} {P Q : E → Type 0} (result : Result T E) → ((error : E) → P error → Q error) → IfErr result P → IfErr result Q

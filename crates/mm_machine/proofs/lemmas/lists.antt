@@ -1,3 +1,4 @@
 -- Lists, whatever they are of.
 
 pub mod Members
+pub mod Zips

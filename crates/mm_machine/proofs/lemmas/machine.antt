@@ -3,7 +3,6 @@
 pub mod ApartLemmas
 pub mod BoundLemmas
 pub mod CitingFaults
-pub mod Counting
 pub mod EntryFaults
 pub mod FlatLemmas
 pub mod Given
@@ -13,7 +12,6 @@ pub mod MarkLemmas
 pub mod PairClauseLemmas
 pub mod Reaching
 pub mod Running
-pub mod SlotLemmas
 pub mod StackLemmas
 pub mod StepLemmas
 pub mod Substituted

@@ -8,7 +8,6 @@ pub mod HoldingLemmas
 pub mod ReasonLemmas
 pub mod RefusalLemmas
 pub mod RefusedLemmas
-pub mod ReplaceLemmas
 pub mod SettleLemmas
 pub mod StepLemmas
 pub mod UndoLemmas

@@ -1,5 +1,5 @@
-use Rattle.std.proofs.{Common.{arith, ap, ◌∙◌, sym, subst}, lemmas.Grind.{common_steps}}
-use Rattle.mm_statement.specs.Language.{Item.{Item, is_read}, Statement.{kind_of}}
+use Rattle.std.proofs.{Common.{arith, ap, ◌∙◌, subst}, lemmas.Grind.{common_steps}}
+use Rattle.mm_statement.specs.Language.Item.{Item, is_read}
 use Rattle.mm_frame.{specs.{Language.Base.{before, said_at}, Code.{KnownItem.{numbers_of}, Numbers.{AreNameNumbers}}}, proofs.lemmas.frames.FrameNumbers.{kind_at}}
 use Rattle.mm_frame.proofs.lemmas.reading.KnownItems.{same_again, numbers_known}
 use Rattle.mm_frame.proofs.again.known_of.Goals as goal
@@ -21,6 +21,4 @@ returns-in-Some-clause-known c names files base by each =
 pub returns-in-Some-clause-sound : goal.returns-in-Some-clause-sound
 returns-in-Some-clause-sound c names base by =
     let again = c.is_again.ensures c.if-not-is_again.false base (names, by) in
-    let kind = kind_at base.found base.said c.args.i again.was by.kinds again.there in
-    let read = sym (ap is_read kind) ∙ ap (λ k. is_read (kind_of k)) again.same.kind ∙ c.needs_no_names.ensures c.if-not-needs_no_names.false in
-    grind (arith, common_steps, c.in-Some.ensures.sound base (names, by), c.in-Some.ensures.symbols names base by read, c.in-Some.ensures.numbered names base by) steps 200000
+    grind (arith, common_steps, kind_at, c.needs_no_names.ensures, c.in-Some.ensures.sound, c.in-Some.ensures.symbols, c.in-Some.ensures.numbered) steps 200000

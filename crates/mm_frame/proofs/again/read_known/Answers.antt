@@ -1,4 +1,4 @@
-use Rattle.std.proofs.{Common.{ℕ, List, sym, subst, arith}, lemmas.{Bool.{MatchBool-at_false, MatchBool-at_true}, Result.{on_ok_weaker}, Grind.{elements}}}
+use Rattle.std.proofs.{Common.{arith, ℕ, List, sym, subst}, lemmas.{Grind.{elements}, Bool.{MatchBool-at_false, MatchBool-at_true}, Result.{on_ok_weaker}}}
 use Rattle.mm_statement.specs.Language.Item.{Item}
 use Rattle.mm_frame.{specs.Code.{KeptBase.{IsDraft}, Numbers.{AreNameNumbers}}, proofs.lemmas.{base.NumbersAside.{numbers_aside}, reading.KnownItems.{numbers_on}}}
 use Rattle.mm_frame.proofs.again.read_known.Goals as goal

@@ -8,7 +8,6 @@ loop-n-preserved c =
     let symbols = c.args.statement.now.symbols in
     let items = c.loop-n.numbers.items in
     let long = length_push items c.in_ok-number.number in
-    let count = inv.1 in
     rw (c.in_ok-push.ensures.items) (
       begins_on _ _ _ inv.0 c.intern.ensures.grows,
       omega arith,

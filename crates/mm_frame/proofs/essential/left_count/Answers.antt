@@ -6,13 +6,12 @@ pub loop-count-preserved : goal.loop-count-preserved
 loop-count-preserved c =
     let found = c.args.found.now in
     let count = c.loop-count.count in
-    let so_far = c.loop-count.invariant in
     let next : suc (count - 1) ≡ count = omega arith in
     let none : EssentialVariable = record { number = 0; symbol = record { name = 0; variable = false } } in
     record {
       within = omega arith;
       gone = λ rising v there n e. elim (one_gone found (count - 1) v none (omega arith) there) [
         | inl same ↦ subst (λ (k : EssentialVariable). n < k.number) (sym same) (c.if-is_later.ensures refl rising n e)
-        | inr h ↦ so_far.gone rising v (subst (λ k. Contains (drop k found) v) next h) n e
+        | inr h ↦ c.loop-count.invariant.gone rising v (subst (λ k. Contains (drop k found) v) next h) n e
       ];
     }

@@ -1,6 +1,5 @@
-use Rattle.std.proofs.{lemmas.Grind.{common_steps}, Common.{◌<◌, ◌+◌, length, get_or, [], sym, ◌∙◌, arith}}
-use Rattle.mm_frame.{specs.Code.{KeptSymbols.{symbol_by}, KnownItem.{numbers_of}}, proofs.lemmas.faults.FaultLemmas.{none_left, passes_more, expression_is}}
-use Rattle.mm_frame.proofs.lemmas.names.KnownSymbols.{named_number, sorts_more}
+use Rattle.std.proofs.{Math.Seq.{take-suc}, lemmas.{List.{map-append}, Grind.{common_steps}}, Common.{◌<◌, ◌+◌, length, get_or, [], sym, ◌∙◌, arith}}
+use Rattle.mm_frame.{specs.Code.KnownItem.{numbers_of}, proofs.lemmas.{faults.FaultLemmas.{none_left, passes_more, expression_is}, names.KnownSymbols.{named_number}}}
 use Rattle.mm_frame.proofs.judge.are_right.Goals as goal
 
 pub loop-n-preserved : goal.loop-n-preserved
@@ -12,7 +11,7 @@ loop-n-preserved c =
     let right = c.if-not-is_right.false in (
       passes_more item (numbers_of symbols) n (n + 1) (omega arith) (omega (arith, within, c.requires.count)) c.loop-n.invariant.0
           (λ all before h k a. c.is_right.ensures.fault right all before (get_or item.symbols n []) h k (named_number all symbols item.symbols n _ within a) ∙ expression_is item.kind c.requires.expression before item n (get_or item.symbols n [])),
-      sorts_more (symbol_by c.args.scope.now.tables) symbols n (n + 1) _ (omega arith) within (sym (c.is_right.ensures.sort right)) c.loop-n.invariant.1,
+      grind (arith, common_steps, map-append, take-suc, sym (c.is_right.ensures.sort right), c.loop-n.invariant.1) steps 200000,
     )
 
 pub returns-clause-faults : goal.returns-clause-faults

@@ -1,5 +1,5 @@
-use Rattle.std.proofs.Common.{◌<◌, ◌+◌, length, get_or, [], sym, ◌∙◌, arith}
-use Rattle.mm_frame.proofs.lemmas.{names.NumberLemmas.{number_at}, faults.FaultLemmas.{none_left, fault_there, passes_more, passed_later, expression_is}}
+use Rattle.std.proofs.{lemmas.{Bool.{false≢true}, Grind.{common_steps}}, Common.{◌<◌, ◌+◌, length, get_or, [], sym, ◌∙◌, arith}}
+use Rattle.mm_frame.proofs.lemmas.{names.NumberLemmas.{number_at}, faults.FaultLemmas.{none_left, fault_there, passes_more, expression_is}}
 use Rattle.mm_frame.proofs.judge.expression_symbols_fault.Goals as goal
 
 pub returns-in-Some : goal.returns-in-Some
@@ -28,7 +28,7 @@ loop-n-preserved-then-may_follow c =
     let within : n < length numbers = omega (arith, c.loop-n-test.true) in
     passes_more item numbers n (n + 1) (omega arith) (omega (arith, within, c.requires.count)) c.loop-n.invariant
     (λ all before h k a. let follows = sym (c.may_follow.ensures all before (get_or item.symbols n []) h k (number_at all numbers item.symbols n 0 a within)) ∙ c.if-may_follow.true in
-    passed_later before n (get_or item.symbols n []) (omega arith) follows ∙ expression_is item.kind c.requires.expression before item n (get_or item.symbols n []))
+    (grind (arith, common_steps, false≢true) steps 200000) ∙ expression_is item.kind c.requires.expression before item n (get_or item.symbols n []))
 
 pub returns : goal.returns
 returns c = none_left c.args.statement.now c.args.numbers.now c.loop-n.n (omega (arith, c.loop-n-test.false, c.requires.count)) c.loop-n.invariant

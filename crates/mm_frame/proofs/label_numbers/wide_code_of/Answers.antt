@@ -1,5 +1,5 @@
-use Rattle.std.proofs.{Common.{◌≤◌, ◌<◌, ◌^◌, length, drop, ◌-◌, arith}, lemmas.Grind.{common_steps}}
-use Rattle.mm_frame.{specs.Code.KeptLabels.{label_code}, proofs.lemmas.names.LabelCodes.{code_fits, no_code}}
+use Rattle.std.proofs.{Common.{nat_le, ◌≤◌, ◌<◌, ◌^◌, length, drop, ◌-◌, arith}, lemmas.{Bool.{and_right}, Grind.{common_steps}}}
+use Rattle.mm_frame.{proofs.lemmas.names.LabelCodes.{not_ascii, code_fits}, specs.Code.KeptLabels.{label_code}}
 use Rattle.mm_frame.proofs.label_numbers.wide_code_of.Goals as goal
 
 pub overflow_mul-code : goal.overflow_mul-code
@@ -13,7 +13,7 @@ overflow_add-code c =
     grind (arith, common_steps) steps 200000
 
 pub returns-then-not-is_ascii : goal.returns-then-not-is_ascii
-returns-then-not-is_ascii c = grind (arith, common_steps, no_code) steps 200000
+returns-then-not-is_ascii c = grind (arith, common_steps, and_right, nat_le, not_ascii) steps 200000
 
 pub loop-left-init : goal.loop-left-init
 loop-left-init c = grind (arith, common_steps)

@@ -1,20 +1,18 @@
 -- What a base says, from what is kept, and that it is right.
 use Rattle.std.proofs.lemmas.{Grind.{common_steps}, List.{length-map, Elements.{All-nil}}, Bool.{false≢true, and_from, and_parts, Decides.{Decides-eqb}}}
 use Rattle.std.proofs.lemmas.Option.{slice_get-map, slice_get_within, slice_get_cases}
-use Rattle.std.proofs.Common.{◌≡◌, ◌↔◌, ℕ, zero, suc, ◌≤◌, true, false, ◌&&◌, Option, Some, None, List, [], ◌∷◌, length, map, take, slice_get, nat_eq, is_none, is_some, refl, sym, ◌∙◌, ap, subst}
-use Rattle.std.{proofs.Common.{arith, All, IfSome}, specs.{Borrow.{Bor}, Option.{option_map, option_eq}, List.{AllZip}}}
-use Rattle.mm_frame.specs.{declared.{FrameNumber.{FrameNumber}, draft.{Frame.{Frame}, Parts.{Parts}}, base.Base.TheInside.{Inside}, pair_lists.PairLists.{PairLists}}, Language.Sound.{sound_items}}
-use Rattle.mm_frame.specs.Language.{Framing.{active_pairs, expression, frame}, Base.{BaseView, before, said_at, fault_at, is_sound_at, is_proof_at}, Resolving.{IsCarrier}}
-use Rattle.mm_frame.specs.Language.Answering.{AreRows, IsLabelTold, IsExpressionTold, IsFrameTold, AreActiveTold, BaseAnswers, IsBaseBy, is_told_proof}
-use Rattle.mm_frame.specs.Code.{KeptSymbols.{AreSymbols, expression_kept, kept_or_none}, KeptTables.{table_label}, KeptPairLists.{list_kept}, BaseInside.{answers_of}}
-use Rattle.mm_frame.specs.Code.{KeptRows.{rows_of, row_label, row_fault, is_shown_in}, KeptAssertions.{TellsFrame, TellsPairs}, KeptBase.{AreParts, is_float_item, frame_told, list_told}}
-use Rattle.mm_frame.specs.Code.KeptSparse.{value_or_none, value_kept}
-use Rattle.mm_frame.proofs.lemmas.base.BaseLemmas.{row_none, item_beyond, fault_beyond, frame_beyond, shown_is, not_shown, kept_count, symbols_there, read_there, labelled_there}
-use Rattle.mm_frame.proofs.lemmas.{base.ResolvingLemmas.{carrier_found, found_carrier}, frames.FrameNumbers.{HasKind}, pairs.PairListLemmas.{list_read, list_in_order}}
-use Rattle.mm_frame.proofs.lemmas.pairs.SharedPairs.{same_turned, same_joined}
-use Rattle.mm_machine.specs.{declared.symbol.NumberedSymbol.{NumberedSymbol}, Language.{Names.{AreDistinct}, Frame.{Symbol, AreSamePairs}}}
-use Rattle.mm_machine.specs.Language.NumberedSymbols.{symbols_of, kept_pairs, IsNumbered, ArePairsRead}
-use Rattle.mm_statement.specs.Language.Item.{Item, is_floating, is_labelled, is_read, item_at}
+use Rattle.std.proofs.Common.{◌≡◌, ◌↔◌, ℕ, zero, suc, ◌≤◌, true, false, ◌&&◌, Option, Some, None, List, [], ◌∷◌, length, map, take, slice_get, nat_eq, is_none, refl, sym, ◌∙◌, ap, subst, arith, All}
+use Rattle.std.{proofs.Common.{IfSome}, specs.{Borrow.{Bor}, Option.{option_map, option_eq}, List.{AllZip}}}
+use Rattle.mm_frame.proofs.lemmas.base.{BaseLemmas.{item_there, kept_front_at, kept_item_at, none_told, row_none, item_beyond, kept_count}, ResolvingLemmas.{carrier_found, found_carrier}}
+use Rattle.mm_frame.{proofs.lemmas.{faults.FoundFaults.{sound_found}, frames.FrameNumbers.{HasKind}, pairs.SharedPairs.{same_turned, same_joined}}, specs.Code.KeptPairLists.{pairs_or_none, list_kept}}
+use Rattle.mm_frame.specs.Code.{KeptSymbols.{AreSymbols, expression_kept, kept_or_none}, KeptTables.{table_label}, BaseInside.{answers_of}, KeptRows.{rows_of, row_label, row_fault, is_shown_in}}
+use Rattle.mm_frame.specs.Code.{KeptAssertions.{TellsFrame, TellsPairs}, KeptBase.{AreParts, is_float_item, frame_told, list_told}, KeptSparse.{value_or_none, value_kept}}
+use Rattle.mm_frame.specs.Language.{Base.{told_fault, BaseView, before, said_at, fault_at, is_sound_at, is_proof_at}, Sound.{fault, sound_items}, Framing.{active_pairs, expression, frame}}
+use Rattle.mm_frame.specs.{Language.{Resolving.{IsCarrier}, Answering.{AreRows, IsLabelTold, IsExpressionTold, IsFrameTold, AreActiveTold, BaseAnswers, IsBaseBy}}, declared.FrameNumber.{FrameNumber}}
+use Rattle.mm_frame.specs.declared.{draft.{Frame.{Frame}, Parts.{Parts}}, base.Base.TheInside.{Inside}, pair_lists.PairLists.{PairLists}}
+use Rattle.mm_machine.specs.Language.{NumberedSymbols.{AreInOrder, AreSamePairsRead, symbols_of, kept_pairs, IsNumbered, ArePairsRead}, Names.{AreDistinct}, Frame.{Symbol, AreSamePairs}}
+use Rattle.mm_machine.specs.declared.symbol.NumberedSymbol.{NumberedSymbol}
+use Rattle.mm_statement.specs.Language.Item.{passed, Item, is_floating, is_labelled, is_read, item_at}
 use Rattle.mm_store.specs.declared.item.Item as store
 
 -- ---- rows that are reported, from rows that are kept
@@ -37,24 +35,32 @@ rows_told f tells told step said rows are = grind (arith, common_steps, length-m
 pub hypotheses_told : (kept : Option Frame) → option_map (λ it. it.0) (frame_told kept) ≡ option_map (λ (frame : Frame). frame.hypotheses.items) kept
 hypotheses_told kept = grind (arith, common_steps) steps 200000
 
-frames_told : (all : List (List ℕ)) (front : List Item) (item : Item) (kept : Option Frame) → TellsFrame all front item kept → IsFrameTold all front item (frame_told kept)
-frames_told all front item kept t = grind (arith, common_steps) steps 200000
-
 -- all active pairs
 actives_told : (all : List (List ℕ)) (lists : PairLists) (front : List Item) (item : Item) (number : Option ℕ) → TellsPairs all lists front item number → AreActiveTold all front item (list_told lists number)
 actives_told all lists front item None t = record { some = t.some; pairs = tt; order = tt }
-actives_told all lists front item (Some k) t = record { some = t.some; pairs = list_read all lists k (active_pairs front) (t.list k refl); order = list_in_order all lists k (active_pairs front) (t.list k refl) }
+actives_told all lists front item (Some k) t =
+    record {
+      some = t.some;
+      pairs = subst (λ o. AreSamePairsRead all (active_pairs front) (pairs_or_none o)) (sym (t.list k refl).there)
+          (t.list k refl).read;
+      order = subst (λ o. AreInOrder (pairs_or_none o)) (sym (t.list k refl).there) (t.list k refl).order;
+    }
 
 -- the expressions
 expressions_told : (all : List (List ℕ)) (base : BaseView) (expressions : List (List NumberedSymbol)) → AreSymbols all (sound_items base.said) expressions → AreRows (IsExpressionTold all) base.said expressions
 expressions_told all base expressions are = record {
   count = are.count ∙ kept_count base.said;
-  each = λ n symbols e. record { expression = read n symbols e; numbered = subst (All (IsNumbered all)) (ap kept_or_none e) (are.numbered n) };
+  each =
+      λ n symbols e. record {
+        expression =
+            (λ t. ap (λ o. symbols_of all (kept_or_none o)) (sym e)
+            ∙ (let item = said_at base n in let parts = and_parts (is_sound_at base n) (is_read item.kind) t in
+            let sound = none_told item.kind (fault (before base n) item) parts.0 in let there = item_there is_read refl base.said n parts.1 in
+            are.each n item (kept_item_at base.said n item there sound) parts.1
+            ∙ ap (λ w. expression w item) (kept_front_at base.said n item there)));
+        numbered = subst (All (IsNumbered all)) (ap kept_or_none e) (are.numbered n);
+      };
 }
-  where
-    read : (n : ℕ) (symbols : List NumberedSymbol) → slice_get expressions n ≡ Some symbols → (is_sound_at base n && is_read (said_at base n).kind) ≡ true
-        → symbols_of all symbols ≡ expression (before base n) (said_at base n)
-    read n symbols e t = ap (λ o. symbols_of all (kept_or_none o)) (sym e) ∙ symbols_there all base n expressions are t
 
 -- ---- what is reported at a number
 
@@ -65,7 +71,9 @@ row_there tells said rows i are t = grind (arith, common_steps, slice_get_within
 pub expression_read : (all : List (List ℕ)) (base : BaseView) (expressions : List (List NumberedSymbol)) (i : ℕ) → AreRows (IsExpressionTold all) base.said expressions → (is_sound_at base i && is_read (said_at base i).kind) ≡ true
     → symbols_of all (expression_kept expressions i) ≡ expression (before base i) (said_at base i)
 expression_read all base expressions i are t =
-    let row = row_there (IsExpressionTold all) base.said expressions i are (read_there base.said i (and_parts (is_sound_at base i) (is_read (said_at base i).kind) t).1) in
+    let row =
+    row_there (IsExpressionTold all) base.said expressions i are
+    (item_there is_read refl base.said i (and_parts (is_sound_at base i) (is_read (said_at base i).kind) t).1) in
     ap (λ o. symbols_of all (kept_or_none o)) row.1 ∙ (are.each i row.0 row.1).expression t
 
 pub expression_numbered : (all : List (List ℕ)) (said : List Item) (expressions : List (List NumberedSymbol)) (i : ℕ) → AreRows (IsExpressionTold all) said expressions → All (IsNumbered all) (expression_kept expressions i)
@@ -80,10 +88,6 @@ pub order_told : (all : List (List ℕ)) (pairs : List (Symbol × Symbol)) (lent
     → IfSome lent (λ frame. ArePairsRead all pairs frame.now.pairs.items)
 order_told all pairs lent kept e told = grind (arith, common_steps) steps 200000
 
--- all active pairs at an item, by the number of their list
-proof_beyond : (front said : List Item) (n : ℕ) → length said ≤ n → is_told_proof front (item_at said n) ≡ false
-proof_beyond front said n l = grind (arith, common_steps, item_beyond) steps 200000
-
 -- what is kept of an item is right of it, if the answer for no row is right past the last item
 told_at : {X Y : Type 0} (f : Option X → Y) (told : List Item → Item → Y → Type 0) (said : List Item) (kept : List (Option X)) → AreRows told said (map f kept) → (i : ℕ) → (length said ≤ i → told (sound_items (take i said)) (item_at said i) (f None))
     → told (sound_items (take i said)) (item_at said i) (f (value_kept kept i))
@@ -97,14 +101,16 @@ told_at f told said kept are i beyond = by (slice_get kept i) refl
 pub frame_in : (all : List (List ℕ)) (base : BaseView) (answers : BaseAnswers) (frames : List (Option Frame)) → map frame_told frames ≡ answers.frames → IsBaseBy all base answers → (i : ℕ)
     → IsFrameTold all (before base i) (said_at base i) (frame_told (value_kept frames i))
 frame_in all base answers frames same is i =
-    told_at frame_told (IsFrameTold all) base.said frames (subst (AreRows (IsFrameTold all) base.said) (sym same) is.frames) i (λ past. record { hypotheses = sym (frame_beyond (before base i) base.said i past); pairs = tt })
+    told_at frame_told (IsFrameTold all) base.said frames (subst (AreRows (IsFrameTold all) base.said) (sym same) is.frames) i
+    (λ past. record { hypotheses = sym (grind (arith, common_steps, item_beyond) steps 200000); pairs = tt })
 
 -- the list of active pairs that is kept of an item
 pub active_in : (all : List (List ℕ)) (base : BaseView) (answers : BaseAnswers) (lists : PairLists) (numbers : List (Option ℕ)) → map (list_told lists) numbers ≡ answers.actives → IsBaseBy all base answers → (i : ℕ) (number other : Option ℕ)
     → number ≡ value_kept numbers i → number ≡ other → AreActiveTold all (before base i) (said_at base i) (list_told lists other)
 active_in all base answers lists numbers same is i number other e o =
     subst (λ w. AreActiveTold all (before base i) (said_at base i) (list_told lists w)) (sym e ∙ o)
-    (told_at (list_told lists) (AreActiveTold all) base.said numbers (subst (AreRows (AreActiveTold all) base.said) (sym same) is.actives) i (λ past. record { some = sym (proof_beyond (before base i) base.said i past); pairs = tt; order = tt }))
+    (told_at (list_told lists) (AreActiveTold all) base.said numbers (subst (AreRows (AreActiveTold all) base.said) (sym same) is.actives) i
+    (λ past. record { some = sym (grind (arith, common_steps, item_beyond) steps 200000); pairs = tt; order = tt }))
 
 -- a list that two `$p` share
 pub shared_told : (all : List (List ℕ)) (lists : PairLists) (base : BaseView) (i j : ℕ) (mine yours : Option ℕ) → AreActiveTold all (before base i) (said_at base i) (list_told lists mine)
@@ -128,19 +134,17 @@ none_is : {X : Type 0} (o : Option X) → is_none o ≡ true → o ≡ None
 none_is o e = grind (arith, common_steps) steps 200000
 
 pub carrier_told : (base : BaseView) (rows : List (Option (List ℕ) × Option (ℕ × FrameNumber))) → AreRows IsLabelTold base.said rows → (label : List ℕ) (j : ℕ) → (slice_get rows j ≡ Some (Some label, None)) ↔ IsCarrier base label j
-carrier_told base rows are label j = (to, from)
+carrier_told base rows are label j = (
+  to,
+  (λ c. let p = and_parts (is_sound_at base j) (is_labelled (said_at base j).kind) c.shown in
+      let row = row_there IsLabelTold base.said rows j are (item_there is_labelled refl base.said j p.1) in let told = are.each j row.0 row.1 in
+      row.1 ∙ (λ k. Some ((told.label ∙ c.label_is) k, (told.fault ∙ none_is (fault_at base j) p.0) k))),
+)
   where
     to : slice_get rows j ≡ Some (Some label, None) → IsCarrier base label j
     to e =
         let told = are.each j (Some label, None) e in
         record { shown = and_from (is_sound_at base j) (is_labelled (said_at base j).kind) (ap is_none (sym told.fault)) (sym told.labelled); label_is = sym told.label }
-
-    from : IsCarrier base label j → slice_get rows j ≡ Some (Some label, None)
-    from c =
-        let p = and_parts (is_sound_at base j) (is_labelled (said_at base j).kind) c.shown in
-        let row = row_there IsLabelTold base.said rows j are (labelled_there base.said j p.1) in
-        let told = are.each j row.0 row.1 in
-        row.1 ∙ (λ k. Some ((told.label ∙ c.label_is) k, (told.fault ∙ none_is (fault_at base j) p.0) k))
 
 -- the tables know it
 pub labels_told : (all : List (List ℕ)) (base : BaseView) (parts : Parts) → AreParts all base.said parts → (label : List ℕ) (j : ℕ) → (table_label parts.tables label ≡ Some j) ↔ (slice_get (rows_of parts.rows) j ≡ Some (Some label, None))
@@ -160,14 +164,16 @@ fault_told_at base rows are i = by (slice_get rows i) refl
   where
     by : (o : Option (Option (List ℕ) × Option (ℕ × FrameNumber))) → slice_get rows i ≡ o → row_fault o ≡ fault_at base i
     by (Some row) e = (are.each i row e).fault
-    by None e = sym (fault_beyond (before base i) base.said i (row_none IsLabelTold base.said rows i are e))
+    by None e =
+        sym (ap (told_fault (before base i)) (item_beyond base.said i (row_none IsLabelTold base.said rows i are e))
+        ∙ sound_found (before base i) passed (grind (arith, common_steps) steps 200000))
 
 pub shown_told : (base : BaseView) (rows : List (Option (List ℕ) × Option (ℕ × FrameNumber))) → AreRows IsLabelTold base.said rows → (i : ℕ) → is_shown_in (slice_get rows i) ≡ (is_sound_at base i && is_labelled (said_at base i).kind)
 shown_told base rows are i = by (slice_get rows i) refl
   where
     by : (o : Option (Option (List ℕ) × Option (ℕ × FrameNumber))) → slice_get rows i ≡ o → is_shown_in o ≡ (is_sound_at base i && is_labelled (said_at base i).kind)
-    by (Some row) e = let told = are.each i row e in shown_is base i (is_none row.1) (is_some row.0) (ap is_none told.fault) told.labelled
-    by None e = not_shown base i (row_none IsLabelTold base.said rows i are e)
+    by (Some row) e = let told = are.each i row e in (λ j. (ap is_none told.fault) j && told.labelled j)
+    by None e = grind (arith, common_steps, item_beyond, row_none IsLabelTold base.said rows i are e) steps 200000
 
 -- what is kept of the items is right of them
 pub base_told : (all : List (List ℕ)) (base : BaseView) (inside : Inside) → AreDistinct all → inside.items.items ≡ base.found → length base.found ≡ length base.said → length base.said ≤ 4294967295 → AllZip HasKind base.found base.said
@@ -182,7 +188,9 @@ base_told all base inside distinct found count few kinds parts =
       kinds = kinds;
       rows = parts.rows;
       expressions = expressions_told all base inside.parts.expressions parts.symbols;
-      frames = rows_told frame_told (TellsFrame all) (IsFrameTold all) (frames_told all) base.said inside.parts.frames parts.frames;
+      frames =
+          rows_told frame_told (TellsFrame all) (IsFrameTold all)
+          ((λ front item kept t. grind (arith, common_steps) steps 200000)) base.said inside.parts.frames parts.frames;
       actives = rows_told (list_told lists) (TellsPairs all lists) (AreActiveTold all) (actives_told all lists) base.said inside.parts.pair_numbers parts.pair_numbers;
       marks = parts.marks;
     }

@@ -1,17 +1,16 @@
 -- Rows kept of the items, one more item, and what a base answers.
-use Rattle.std.proofs.lemmas.{Grind.{common_steps}, Bool.{false≢true, and_from, and_parts}, List.{length_push, get_or_push, take-append-le, length-take-le, Elements.{All-nil}}}
-use Rattle.std.proofs.lemmas.Option.{slice_get_within, slice_get_cases, none-some}
-use Rattle.std.proofs.Common.{◌≡◌, ℕ, zero, suc, ◌<◌, ◌≤◌, Bool, true, Option, Some, None, List, [], ◌∷◌, ◌++◌, length, take, drop, slice_get, IfSome, All, append-nil, ◌&&◌, ◌||◌, cond, get_or}
-use Rattle.std.{proofs.{Common.{is_none, is_some, not, false, refl, sym, ◌∙◌, ap, subst, arith, inl, inr}, Math.{ListN.{get_or-append}, Seq.{take-suc}}}, specs.{Option.{option_map}, List.{AllZip}}}
-use Rattle.mm_frame.specs.{declared.FrameNumber.{FrameNumber}, Language.{Sound.{IsSound, AreSound, fault, judged, sound_items, sound_items_after}, Framing.{expression}}}
-use Rattle.mm_frame.specs.Language.{Scope.{Mark, Closes, mark_of, closes, active_numbers}, Base.{BaseView, before, said_at, fault_by, told_fault, is_sound_at, expression_at, is_framed_at, frame_at}}
-use Rattle.mm_frame.specs.{Language.Answering.{told_numbers, AreRows, pairs_in_order}, Code.{Numbers.{IsNameNumber, AreNameNumbers}, KeptSymbols.{expression_kept, kept_or_none, AreSymbols}}}
-use Rattle.mm_frame.{specs.Code.{LastItems.{IsSort}, KeptScope.{taken}, KeptActiveItems.{changes_active}}, proofs.lemmas.frames.{Frames.{essential_neither}, HypothesisNumbers.{active_numbers_more}}}
-use Rattle.mm_frame.proofs.lemmas.pairs.{FramePairs.{same_pairs}, ActivePairLemmas.{disjoint_neither, get_between}}
-use Rattle.mm_frame.proofs.lemmas.{faults.FoundFaults.{no_fault_sound, sound_found, passed_sound, kept_is_sound, kept_next, kept_after_append}, scope.SoundItems.{kept_sound, split_at}}
-use Rattle.mm_frame.proofs.lemmas.{scope.{TableLemmas.{item_between, take_between}, BlockLemmas.{get_cases, get_last}}, names.NamedLemmas.{get_before}}
+use Rattle.std.proofs.{Math.{Seq.{take-append_seam, take-suc}, ListN.{get_or-append}}, lemmas.{Grind.{common_steps}, Bool.{false≢true, and_parts}}}
+use Rattle.std.proofs.lemmas.{List.{length_push, get_or_push, take-append-le, length-take-le, Elements.{All-nil}}, Option.{slice_get_within, slice_get_cases, none-some}}
+use Rattle.std.proofs.Common.{◌≡◌, ℕ, zero, suc, ◌<◌, ◌≤◌, Bool, true, Option, Some, None, List, [], ◌∷◌, ◌++◌, length, take, drop, slice_get, IfSome, All, append-nil, ◌&&◌, get_or, is_none, is_some}
+use Rattle.std.{proofs.Common.{not, false, refl, sym, ◌∙◌, ap, subst, arith, inl, inr}, specs.{Option.{option_map}, List.{AllZip}}}
+use Rattle.mm_frame.proofs.lemmas.{faults.FoundFaults.{none_sound, kept_after_sound, no_fault_sound, kept_after_append}, lists.Members.{get_between}, frames.Frames.{essential_neither}}
+use Rattle.mm_frame.proofs.lemmas.{frames.HypothesisNumbers.{active_numbers_more}, pairs.{FramePairs.{same_pairs}, ActivePairLemmas.{disjoint_neither}}, scope.SoundItems.{split_at}}
+use Rattle.mm_frame.{proofs.lemmas.{scope.{TableLemmas.{item_between}, BlockLemmas.{get_cases, get_last}}, names.NamedLemmas.{get_before}}, specs.declared.FrameNumber.{FrameNumber}}
+use Rattle.mm_frame.specs.Language.{Sound.{IsSound, AreSound, fault, judged, sound_items, sound_items_after}, Framing.{expression}, Scope.{mark_of, closes, active_numbers}}
+use Rattle.mm_frame.specs.{Language.{Base.{BaseView, before, said_at, fault_by, is_sound_at, is_framed_at, frame_at}, Answering.{AreRows, pairs_in_order}}, Code.Numbers.{IsNameNumber, AreNameNumbers}}
+use Rattle.mm_frame.specs.Code.{KeptSymbols.{expression_kept, kept_or_none, AreSymbols}, LastItems.{IsSort}, KeptScope.{taken}, KeptActiveItems.{changes_active}}
 use Rattle.mm_machine.specs.{declared.symbol.NumberedSymbol.{NumberedSymbol}, Language.{NumberedSymbols.{symbols_of, kept_pairs, IsNumbered, IsPairNumbered, ArePairsRead}, Frame.{AreSamePairs}}}
-use Rattle.mm_statement.specs.Language.Item.{Kind, Disjoint, Essential, BlockEnd, Missing, Item, passed, is_labelled, is_disjoint, is_read, is_assertion, is_essential, item_at}
+use Rattle.mm_statement.specs.Language.Item.{Kind, Disjoint, Essential, BlockEnd, Item, passed, is_disjoint, is_read, is_assertion, is_essential, item_at}
 
 pub item_before : (said : List Item) (item : Item) (n : ℕ) → n < length said → item_at (said ++ item ∷ []) n ≡ item_at said n
 item_before [] item n l = absurd (omega arith)
@@ -28,40 +27,26 @@ pub rows_more : {X : Type 0} (tells : List Item → Item → X → Type 0) (said
 rows_more {X} tells said item rows row a t = record {
   count = (let p = length_push rows row in let q = length_push said item in omega arith);
   each = λ n x e. elim (get_cases rows row x n e) [
-    | inl there ↦ (let w = slice_get_within rows n x there in earlier n x (omega arith) (a.each n x there))
-    | inr last ↦ (let z : n ≡ length said = last.0 ∙ a.count in subst (λ k. tells (sound_items (take k (said ++ item ∷ []))) (item_at (said ++ item ∷ []) k) x) (sym z) (newest x last.1))
+    | inl there ↦ (let w = slice_get_within rows n x there in
+        subst (λ w. tells (sound_items w) (item_at (said ++ item ∷ []) n) x) (sym (take-append-le n said (item ∷ []) (omega arith)))
+        (subst (λ w. tells (sound_items (take n said)) w x) (sym (item_before said item n (omega arith))) (a.each n x there)))
+    | inr last ↦ (let z : n ≡ length said = last.0 ∙ a.count in
+        subst (λ k. tells (sound_items (take k (said ++ item ∷ []))) (item_at (said ++ item ∷ []) k) x) (sym z)
+        (grind (arith, common_steps, take-append_seam said (item ∷ []), item_between said item [], last.1) steps 200000))
   ];
 }
-  where
-    earlier : (n : ℕ) (x : X) → n < length said → tells (sound_items (take n said)) (item_at said n) x → tells (sound_items (take n (said ++ item ∷ []))) (item_at (said ++ item ∷ []) n) x
-    earlier n x l h = subst (λ w. tells (sound_items w) (item_at (said ++ item ∷ []) n) x) (sym (take-append-le n said (item ∷ []) (omega arith))) (subst (λ w. tells (sound_items (take n said)) w x) (sym (item_before said item n l)) h)
-
-    newest : (x : X) → row ≡ x → tells (sound_items (take (length said) (said ++ item ∷ []))) (item_at (said ++ item ∷ []) (length said)) x
-    newest x e = subst (λ w. tells (sound_items w) (item_at (said ++ item ∷ []) (length said)) x) (sym (take_between said item []))
-        (subst (λ w. tells (sound_items said) w x) (sym (item_between said item [])) (subst (λ w. tells (sound_items said) item w) e t))
 
 -- no rows, and no symbols
 pub rows_none : {X : Type 0} (tells : List Item → Item → X → Type 0) → AreRows tells [] []
 rows_none tells = record { count = refl; each = λ n row e. cc }
 
-pub symbols_none : (all : List (List ℕ)) → AreSymbols all [] []
-symbols_none all = record { count = refl; numbered = λ n. All-nil (IsNumbered all); each = λ n item e t. cc }
-
 -- what is kept is sound
 pub kept_are_sound : (said : List Item) → AreSound (sound_items said)
-kept_are_sound said = kept_sound (sound_items said) (kept_is_sound said)
+kept_are_sound said = kept_after_sound [] said none_sound
 
--- an item is kept as it is if no fault was found
-pub kept_taken : {X : Type 0} (told : X → ℕ × FrameNumber) (said : List Item) (item : Item) (found : Option X)
-    → option_map told found ≡ fault (sound_items said) item → sound_items said ++ taken (is_none found) item ∷ [] ≡ sound_items (said ++ item ∷ [])
-kept_taken told said item found e = grind (arith, common_steps, kept_next) steps 200000
-
+-- an item is sound if no fault was found
 pub sound_found_none : {X : Type 0} (told : X → ℕ × FrameNumber) (before : List Item) (item : Item) (found : Option X) → option_map told found ≡ fault before item → is_none found ≡ true → IsSound before item
 sound_found_none told before item found e t = grind (arith, common_steps, false≢true, no_fault_sound) steps 200000
-
--- past the last item there is no fault
-pub fault_beyond : (before said : List Item) (n : ℕ) → length said ≤ n → told_fault before (item_at said n) ≡ None
-fault_beyond before said n l = ap (told_fault before) (item_beyond said n l) ∙ sound_found before passed (passed_sound before)
 
 -- one more item says something
 pub zip_more : {A B : Type 0} (R : A → B → Type 0) (xs : List A) (ys : List B) (i : ℕ) (d : A) (y : B) → i < length xs → AllZip R (take i xs) ys → R (get_or xs i d) y → AllZip R (take (suc i) xs) (ys ++ y ∷ [])
@@ -78,10 +63,6 @@ pub none_found : {X : Type 0} (found : Option X) (none : Bool) → is_some found
 none_found found true e = ap not e
 none_found found false e = ap not e
 
--- if none is found, none is reported
-pub none_is_told : {X Y : Type 0} (told : X → Y) (found : Option X) (other : Option Y) → option_map told found ≡ other → is_some found ≡ false → is_none other ≡ true
-none_is_told told found other e n = grind (arith, common_steps) steps 200000
-
 -- one more item, with the symbols that are kept for it
 pub symbols_more : (all : List (List ℕ)) (before : List Item) (item : Item) (expressions : List (List NumberedSymbol)) (symbols : List NumberedSymbol) → AreSymbols all before expressions → All (IsNumbered all) symbols
     → (is_read item.kind ≡ true → symbols_of all symbols ≡ expression before item) → AreSymbols all (before ++ item ∷ []) (expressions ++ symbols ∷ [])
@@ -92,7 +73,7 @@ symbols_more all before item expressions symbols a numbers new = record {
     | inl there ↦ grind (arith, common_steps, get_before, slice_get_within, take-append-le) steps 200000
     | inr last ↦ (let z = last.0 in
         ap (λ k. symbols_of all (expression_kept (expressions ++ symbols ∷ []) k)) (z ∙ sym a.count) ∙ ap (λ o. symbols_of all (kept_or_none o)) (get_last expressions symbols (length expressions) refl)
-        ∙ new (ap (λ (w : Item). is_read w.kind) last.1 ∙ t) ∙ (λ i. expression (sym (ap (λ k. take k (before ++ item ∷ [])) z ∙ take_between before item []) i) (last.1 i)))
+        ∙ new (ap (λ (w : Item). is_read w.kind) last.1 ∙ t) ∙ (λ i. expression (sym (ap (λ k. take k (before ++ item ∷ [])) z ∙ take-append_seam before (item ∷ [])) i) (last.1 i)))
   ];
 }
   where
@@ -131,7 +112,7 @@ kept_at said i item e =
 
 pub kept_front_at : (said : List Item) (i : ℕ) (item : Item) → slice_get said i ≡ Some item → take i (sound_items said) ≡ sound_items (take i said)
 kept_front_at said i item e =
-    grind (arith, common_steps, kept_at said i item e, take_between (sound_items (take i said)) (judged item (fault (sound_items (take i said)) item)) (kept_at said i item e).rest) steps 200000
+    grind (arith, common_steps, kept_at said i item e, take-append_seam (sound_items (take i said)) ((judged item (fault (sound_items (take i said)) item)) ∷ (kept_at said i item e).rest)) steps 200000
 
 pub kept_item_at : (said : List Item) (i : ℕ) (item : Item) → slice_get said i ≡ Some item → fault (sound_items (take i said)) item ≡ None → slice_get (sound_items said) i ≡ Some item
 kept_item_at said i item e f = grind (arith, common_steps, kept_at said i item e, get_between (sound_items (take i said)) item (kept_at said i item e).rest) steps 200000
@@ -140,64 +121,17 @@ kept_item_at said i item e f = grind (arith, common_steps, kept_at said i item e
 pub none_told : (kind : Kind) (f : Option (ℕ × FrameNumber)) → is_none (fault_by kind f) ≡ true → f ≡ None
 none_told kind f e = grind (arith, common_steps) steps 200000
 
-pub is_none_map : {X Y : Type 0} (f : X → Y) (o : Option X) → is_none (option_map f o) ≡ is_none o
-is_none_map f o = grind (arith, common_steps) steps 200000
+pub item_there : (test : Kind → Bool) → test passed.kind ≡ false → (said : List Item) (i : ℕ) → test (item_at said i).kind ≡ true
+    → slice_get said i ≡ Some (item_at said i)
+item_there test out [] i e = absurd (false≢true (sym out ∙ e))
+item_there test out (x ∷ said) zero e = refl
+item_there test out (x ∷ said) (suc i) e = item_there test out said i e
 
-pub shown_is : (base : BaseView) (i : ℕ) (fault : Bool) (label : Bool) → fault ≡ is_sound_at base i → label ≡ is_labelled (said_at base i).kind → (fault && label) ≡ (is_sound_at base i && is_labelled (said_at base i).kind)
-shown_is base i fault label e g = λ j. e j && g j
-
-pub not_shown : (base : BaseView) (i : ℕ) → length base.said ≤ i → false ≡ (is_sound_at base i && is_labelled (said_at base i).kind)
-not_shown base i l = grind (arith, common_steps, item_beyond) steps 200000
-
-pub labelled_there : (said : List Item) (i : ℕ) → is_labelled (item_at said i).kind ≡ true → slice_get said i ≡ Some (item_at said i)
-labelled_there [] i e = absurd (false≢true e)
-labelled_there (x ∷ said) zero e = refl
-labelled_there (x ∷ said) (suc i) e = labelled_there said i e
-
-pub expression_none : (base : BaseView) (i : ℕ) → (is_sound_at base i && is_labelled (said_at base i).kind) ≡ false → expression_at base i ≡ None
-expression_none base i e = ap (λ b. cond b (Some (expression (before base i) (said_at base i))) None) e
-
-pub read_there : (said : List Item) (i : ℕ) → is_read (item_at said i).kind ≡ true → slice_get said i ≡ Some (item_at said i)
-read_there [] i e = absurd (false≢true e)
-read_there (x ∷ said) zero e = refl
-read_there (x ∷ said) (suc i) e = read_there said i e
-
--- the symbols that are kept of a sound item are its expression
-pub symbols_there : (all : List (List ℕ)) (base : BaseView) (i : ℕ) (expressions : List (List NumberedSymbol)) → AreSymbols all (sound_items base.said) expressions
-    → (is_sound_at base i && is_read (said_at base i).kind) ≡ true → symbols_of all (expression_kept expressions i) ≡ expression (before base i) (said_at base i)
-symbols_there all base i expressions a e =
-    let item = said_at base i in
-    let parts = and_parts (is_sound_at base i) (is_read item.kind) e in
-    let sound = none_told item.kind (fault (before base i) item) parts.0 in
-    let there = read_there base.said i parts.1 in
-    a.each i item (kept_item_at base.said i item there sound) parts.1 ∙ ap (λ w. expression w item) (kept_front_at base.said i item there)
-
--- what is shown is read
-pub shown_read : (sound : Bool) (kind : Kind) → (sound && is_labelled kind) ≡ true → (sound && is_read kind) ≡ true
-shown_read sound kind t = let parts = and_parts sound (is_labelled kind) t in and_from sound (is_read kind) parts.0 (ap (λ b. b || is_disjoint kind) parts.1)
-
--- an item that is not of the sort and is no `$}` leaves the active items of the sort as they are
-not_closes : (m : Mark) → closes m ≡ false → m ≡ Closes → ⊥
-not_closes m e c = false≢true (sym e ∙ ap closes c)
-
-numbers_same : (test : Item → Bool) (before : List Item) (item : Item) → closes (mark_of item.kind) ≡ false → test item ≡ false → active_numbers test before ≡ active_numbers test (before ++ item ∷ [])
-numbers_same test before item c e = sym (active_numbers_more test before item (not_closes (mark_of item.kind) c) ∙ ap (λ b. active_numbers test before ++ cond b (length before ∷ []) []) e ∙ append-nil (active_numbers test before))
-
--- a test of kinds that a missing inclusion does not pass says of a sound item what it says of one with no fault
-told_kind : (test : Kind → Bool) → test Missing ≡ false → (kind : Kind) (f : Option (ℕ × FrameNumber)) → (is_none f && test kind) ≡ (is_none (fault_by kind f) && test kind)
-told_kind test e kind f = grind (arith, common_steps) steps 200000
-
-pub told_as : (test : Kind → Bool) → test Missing ≡ false → (before : List Item) (item : Item) (flag kept : Bool) (kind : Kind) → kind ≡ item.kind → kept ≡ (flag && test kind)
-    → is_none (fault before item) ≡ flag → kept ≡ (is_none (told_fault before item) && test item.kind)
-told_as test missing before item flag kept kind k e n = e ∙ (λ i. sym n i && test (k i)) ∙ told_kind test missing item.kind (fault before item)
-
-pub frame_beyond : (before said : List Item) (n : ℕ) → length said ≤ n → told_numbers before (item_at said n) ≡ None
-frame_beyond before said n l = grind (arith, common_steps, item_beyond) steps 200000
-
+-- the active items of a sort stay the same after an item of another sort
 pub numbers_still : (test : Kind → Bool) → IsSort test → (before : List Item) (item : Item) (sound : Bool) → (sound ≡ true → (test item.kind ≡ false) × (closes (mark_of item.kind) ≡ false))
     → active_numbers (λ i. test i.kind) before ≡ active_numbers (λ i. test i.kind) (before ++ taken sound item ∷ [])
-numbers_still test sort before item false h = numbers_same (λ i. test i.kind) before passed refl sort.sound
-numbers_still test sort before item true h = let p = h refl in numbers_same (λ i. test i.kind) before item p.1 p.0
+numbers_still test sort before item false h = (grind (arith, common_steps, active_numbers_more, append-nil, false≢true, sort.sound) steps 200000)
+numbers_still test sort before item true h = let p = h refl in grind (arith, common_steps, active_numbers_more, append-nil, false≢true, p.1, p.0) steps 200000
 
 -- an item that changes nothing that is active is of no sort that is followed, and no `$}`
 pub not_changed : (kind : Kind) (sound : Bool) → sound ≡ true → (sound && changes_active kind) ≡ false → (is_essential kind ≡ false) × (is_disjoint kind ≡ false) × (closes (mark_of kind) ≡ false)
@@ -214,15 +148,9 @@ essential_sort = record { statement = essential_neither; sound = refl }
 pub disjoint_sort : IsSort is_disjoint
 disjoint_sort = record { statement = disjoint_neither; sound = refl }
 
-pub none_fault : {X : Type 0} (told : X → ℕ × FrameNumber) (before : List Item) (item : Item) (found : Option X) → option_map told found ≡ fault before item → is_none (fault before item) ≡ is_none found
-none_fault told before item found e = ap is_none (sym e) ∙ is_none_map told found
-
 -- what has a frame is sound, and an assertion, whose symbols are read
-assertion_read : (kind : Kind) → is_assertion kind ≡ true → is_read kind ≡ true
-assertion_read kind e = grind (arith, common_steps) steps 200000
-
 pub framed_parts : (flag : Bool) (kind item_kind : Kind) → kind ≡ item_kind → (flag && is_assertion kind) ≡ true → (flag ≡ true) × (is_assertion item_kind ≡ true) × (is_read item_kind ≡ true)
-framed_parts flag kind item_kind k e = let p = and_parts flag (is_assertion kind) e in let a = sym (ap is_assertion k) ∙ p.1 in (p.0, a, assertion_read item_kind a)
+framed_parts flag kind item_kind k e = grind (arith, common_steps, and_parts) steps 200000
 
 -- the pairs of the frame of an assertion in one order are its pairs
 pub framed_in_order : (base : BaseView) (i : ℕ) → is_framed_at base i ≡ true → AreSamePairs (pairs_in_order (frame_at base i)) (frame_at base i).pairs

@@ -1,8 +1,8 @@
 -- Files have one base: what the items say is a function of their words.
 use Rattle.std.proofs.{Common.{arith, ◌≡◌, ℕ, List, [], ◌∷◌, Some, map, slice_get, slice_range, refl, sym, ap, ◌∙◌, subst, All}, lemmas.{Grind.{common_steps}, List.Elements.{recursion_from_All}}}
 use Rattle.std.{proofs.lemmas.{Option.{slice_get-map, same_Some}, Simd.{map-map}}, specs.{List.{AllByRecursion, AllZip}, Option.{option_map}}}
-use Rattle.mm_store.specs.{mm_text.{declared.word.Word.{Word}, Language.Reading.{HasWords}}, Language.Pieces.{text_in, text_under}}
-use Rattle.mm_store.specs.Language.{FilesView.{FileView, FilesView, files_in, file_view, without_keys, plain}, FileFacts.{CanBeRead, StandsIn}, Expansion.{IsExpansion}, Keyless.{keyless_item}}
+use Rattle.mm_store.specs.{mm_text.{declared.word.Word.{Word}, Language.Reading.{HasWords}}, Language.FilesView.{FileView, FilesView, files_in, file_view, without_keys, plain}}
+use Rattle.mm_store.specs.Language.{FileFacts.{CanBeRead, StandsIn}, Expansion.{IsExpansion}, Keyless.{keyless_item}}
 use Rattle.mm_frame.specs.Language.{Base.{BaseView, IsOfFiles}, Laws.{AreAlikeBases}}
 use Rattle.mm_statement.specs.Language.{Item.{Item}, Statement.{Says}}
 use Rattle.mm_store.specs.declared.item.Item as store
@@ -18,8 +18,7 @@ pub record ReadingLaws : Type 0 where
 same_at : {X Y Z : Type 0} (f : X → Z) (g : Y → Z) (xs : List X) (ys : List Y) (m n : ℕ) (x : X) (y : Y) → map f xs ≡ map g ys → m ≡ n → slice_get xs m ≡ Some x → slice_get ys n ≡ Some y → f x ≡ g y
 same_at f g xs ys m n x y same number at there =
     let first : slice_get (map f xs) m ≡ Some (f x) = slice_get-map f xs m ∙ ap (option_map f) at in
-    let second : slice_get (map g ys) n ≡ Some (g y) = slice_get-map g ys n ∙ ap (option_map g) there in
-    same_Some (f x) (g y) (cc)
+    grind (arith, common_steps, slice_get, slice_get-map, same_Some) steps 200000
 
 -- a file with keys and texts means what it means by its keys
 means : (files : FilesView) → map without_keys (files_in files) ≡ plain files
@@ -32,26 +31,12 @@ record AreAlike (a b : FilesView) (x y : store.Item) : Type 0 where
   first : StandsIn a x
   second : StandsIn b y
 
--- their pieces have the same text
-same_piece : (a b : FilesView) (x y : store.Item) → AreAlike a b x y → text_under a.pieces x.key.at ≡ text_under b.pieces y.key.at
-same_piece a b x y alike = grind (arith, common_steps, same_at) steps 200000
-
--- the text under the key of an item is the one that the item is read in
-read_under : (files : FilesView) (item : store.Item) → (r : CanBeRead files item) → r.text ≡ text_under files.pieces item.key.at
-read_under files item r = r.live.is_text ∙ sym (ap text_in r.live.held)
-
 -- the bytes of an item
 abbrev bytes_in : List ℕ → store.Item → List ℕ
 bytes_in text item = slice_range text item.start item.end
 
 same_bytes : (a b : FilesView) (x y : store.Item) → AreAlike a b x y → (s : CanBeRead a x) (t : CanBeRead b y) → bytes_in s.text x ≡ bytes_in t.text y
-same_bytes a b x y alike s t = ap (λ text. bytes_in text x) (read_under a x s ∙ same_piece a b x y alike ∙ sym (read_under b y t)) ∙ ap (λ (z : store.Item). bytes_in t.text z) alike.item
-
-same_words : ReadingLaws → (a b : FilesView) (x y : store.Item) → AreAlike a b x y → (s : CanBeRead a x) (t : CanBeRead b y) → s.words ≡ t.words
-same_words laws a b x y alike s t = laws.words (bytes_in t.text y) s.words t.words (subst (λ bytes. HasWords bytes s.words) (same_bytes a b x y alike s t) s.has_words) t.has_words
-
-same_said : ReadingLaws → (a b : FilesView) (x y : store.Item) (said other : Item) → AreAlike a b x y → Says a x said → Says b y other → said ≡ other
-same_said laws a b x y said other alike f g = grind (arith, common_steps, same_bytes a b x y alike f.read g.read, same_words laws a b x y alike f.read g.read) steps 200000
+same_bytes a b x y alike s t = grind (arith, common_steps, bytes_in, same_at) steps 200000
 
 -- the items are in the files
 abbrev Stand : FilesView → List store.Item → Type 0
@@ -63,7 +48,17 @@ same_all_said laws a b [] [] [] [] both s t items f g = refl
 same_all_said laws a b (x ∷ xs) (y ∷ ys) (said ∷ all) (other ∷ others) both s t items f g =
     let item : keyless_item x ≡ keyless_item y = cc in
     let rest : map keyless_item xs ≡ map keyless_item ys = cc in
-    let first : said ≡ other = same_said laws a b x y said other (record { files = both; item = item; first = s.0; second = t.0 }) f.0 g.0 in
+    let first : said ≡ other =
+    (grind (
+      arith,
+      common_steps,
+      same_bytes a b x y (record { files = both; item = item; first = s.0; second = t.0 }) f.0.read g.0.read,
+      laws.words (bytes_in g.0.read.text y) f.0.read.words g.0.read.words
+          (subst (λ bytes. HasWords bytes f.0.read.words)
+          (same_bytes a b x y (record { files = both; item = item; first = s.0; second = t.0 }) f.0.read g.0.read) f.0.read.has_words) g.0.read.has_words,
+      f.0,
+      g.0,
+    ) steps 200000) in
     let later : all ≡ others = same_all_said laws a b xs ys all others both s.1 t.1 rest f.1 g.1 in
     cc
 same_all_said laws a b [] [] (said ∷ all) others both s t items f g = absurd f

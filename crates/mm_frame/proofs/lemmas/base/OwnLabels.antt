@@ -1,18 +1,18 @@
 -- A label belongs to one sound item, and a mandatory hypothesis is found by its label.
-use Rattle.std.proofs.lemmas.{Grind.{common_steps}, Option.{none-some}, Bool.{and_right}}
-use Rattle.std.proofs.Common.{◌≡◌, ◌<◌, ◌⊎◌, ℕ, Bool, true, false, ◌&&◌, ◌||◌, Option, Some, None, List, refl, sym, ◌∙◌, inl, inr, arith}
-use native.Mathlib.Decide.{dec_lt}
-use Rattle.mm_statement.specs.Language.Item.{Kind, is_assertion, is_essential, is_floating, has, variable_of}
+use Rattle.std.proofs.lemmas.{Bool.{and_right}, Grind.{common_steps}, Option.{none-some}}
+use Rattle.std.proofs.Common.{◌∙◌, ◌≡◌, ◌<◌, ◌⊎◌, ℕ, Bool, true, false, ◌&&◌, ◌||◌, Option, Some, None, List, refl, inl, inr, arith}
+use Rattle.mm_statement.specs.Language.Item.{has, variable_of, Kind, is_assertion, is_essential, is_floating}
 use Rattle.mm_frame.specs.{Code.{BlockMarks.{block_marks}, KeptBase.{find_in}}, Language.{Sound.{sound_items}, Framing.{mandatory_variables}}}
-use Rattle.mm_frame.specs.Language.{Base.{BaseView, before, said_at, is_sound_at, is_framed_at, IsMandatoryAt}, Resolving.{IsCarrier, IsLabelOf, Resolves}}
-use Rattle.mm_frame.proofs.lemmas.base.ResolvingLemmas.{carrier_found, found_carrier, active_by, active_means, assertion_means, later_means, unknown_means}
+use Rattle.mm_frame.specs.Language.{Base.{said_at, is_sound_at, IsMandatoryAt, is_framed_at, BaseView, before}, Resolving.{IsCarrier, IsLabelOf, Resolves}}
+use Rattle.mm_frame.proofs.lemmas.base.ResolvingLemmas.{active_by, active_means, assertion_means, carrier_found, found_carrier, later_means, unknown_means}
+use native.Mathlib.Decide.{dec_lt}
 use Rattle.mm_frame.specs.declared.base.Resolved.TheVariants as answers
 
 -- two sound items with one label are one
 pub own_label : (base : BaseView) (j k : ℕ) (label : List ℕ) → IsCarrier base label j → IsCarrier base label k → j ≡ k
 own_label base j k label a b = grind (arith, common_steps, carrier_found base label j a, carrier_found base label k b) steps 200000
 
-hypothesis_kind : (kind : Kind) (b : Bool) → (is_essential kind || (is_floating kind && b)) ≡ true → is_assertion kind ≡ false
+pub hypothesis_kind : (kind : Kind) (b : Bool) → (is_essential kind || (is_floating kind && b)) ≡ true → is_assertion kind ≡ false
 hypothesis_kind kind b e = grind (arith, common_steps) steps 200000
 
 -- a mandatory hypothesis is what its label means
@@ -37,9 +37,7 @@ label_or_unknown base i label = by_item (find_in base label) refl
     )
 
     by_item : (found : Option ℕ) → find_in base label ≡ found → StandsOrNot base i label
-    by_item None e =
-        let none : (j : ℕ) → IsCarrier base label j → ⊥ = λ j h. none-some j (sym e ∙ carrier_found base label j h) in
-        inr (λ j h. none j h.carrier, unknown_means base i label none)
+    by_item None e = grind (arith, common_steps, none-some, carrier_found, unknown_means) steps 200000
     by_item (Some j) e = by_order j (found_carrier base label j e) (dec_lt j i)
 
 -- the label of an assertion means it

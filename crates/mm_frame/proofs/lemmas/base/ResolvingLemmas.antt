@@ -2,13 +2,13 @@
 use Rattle.std.proofs.lemmas.{Grind.{common_steps}, Bool.{false≢true, false_from_ne_true, or_cases, and_parts}, List.{take-take, drop-map, take-map, length-take-le}, Option.{slice_get_within}}
 use Rattle.std.proofs.lemmas.Slice.Eq.{bytes_eq-Decides}
 use Rattle.std.proofs.Common.{◌≡◌, ℕ, suc, ◌<◌, ◌≤◌, Bool, true, false, cond, Option, Some, List, [], length, take, drop, slice_get, bytes_eq, sym, ◌∙◌, ap, subst, arith, option_to_list}
+use Rattle.mm_frame.proofs.lemmas.{lists.Members.{get_taken, in_get}, scope.{SoundItems.{split_at, resolve_meaning, no_item_unknown}, TableLemmas.{label_first}, BlockLemmas.{stays_of}}}
+use Rattle.mm_frame.proofs.lemmas.{pairs.ActivePairLemmas.{expression_at_number}, frames.{HypothesisNumbers.{last_there}, FrameNumbers.{kept_front, shown_kept, shown_there, shown_before}}}
+use Rattle.mm_frame.{proofs.lemmas.base.BaseLemmas.{kept_are_sound}, specs.Language.{Scope.{Mark, stays}, Sound.{sound_items}, Framing.{meaning, resolve}}}
+use Rattle.mm_frame.specs.{Language.{Base.{BaseView, before, said_at, is_sound_at, is_framed_at}, Resolving.{IsCarrier, IsLabelOf, Resolves}}, Code.BlockMarks.{stays_by, block_marks}}
+use Rattle.mm_frame.specs.Code.{LastItems.{carries}, KeptBase.{find_in}}
 use Rattle.mm_machine.specs.Language.Frame.{Hypothesis, Inactive, Unknown}
 use Rattle.mm_statement.specs.Language.Item.{Item, is_labelled, is_assertion, has, labels_of}
-use Rattle.mm_frame.specs.Language.{Scope.{Mark, stays}, Sound.{sound_items}, Framing.{expression, meaning, resolve}, Base.{BaseView, before, said_at, is_sound_at, is_framed_at}}
-use Rattle.mm_frame.specs.{Language.Resolving.{IsCarrier, IsLabelOf, Resolves}, Code.{BlockMarks.{stays_by, block_marks}, LastItems.{carries}, KeptBase.{find_in}}}
-use Rattle.mm_frame.proofs.lemmas.{lists.Members.{in_get}, scope.{SoundItems.{split_at, resolve_meaning, no_item_unknown}, TableLemmas.{label_first}, BlockLemmas.{stays_of}}}
-use Rattle.mm_frame.proofs.lemmas.{pairs.ActivePairLemmas.{expression_at_number}, frames.{HypothesisNumbers.{last_there}, FrameNumbers.{get_front, kept_front, shown_kept, shown_there, shown_before}}}
-use Rattle.mm_frame.proofs.lemmas.base.BaseLemmas.{kept_are_sound}
 use Rattle.mm_frame.specs.declared.base.Resolved.TheVariants as answers
 
 -- an item that carries a label has it
@@ -59,11 +59,6 @@ is_found base i label j c l =
 pub assertion_means : (base : BaseView) (i : ℕ) (label : List ℕ) (j : ℕ) → IsCarrier base label j → j < i → is_framed_at base j ≡ true → Resolves base i label (answers.Assertion j)
 assertion_means base i label j e l t = grind (arith, common_steps, is_found base i label j e l, and_parts (is_sound_at base j) (is_assertion (said_at base j).kind) t) steps 200000
 
--- the label of a hypothesis: it is active, or it is not
-hypothesis_means : (base : BaseView) (i : ℕ) (label : List ℕ) (j : ℕ) → IsFound base i label j → is_framed_at base j ≡ false
-    → resolve (before base i) label ≡ cond (stays (drop (suc j) (before base i))) (Hypothesis (expression (before base i) (said_at base j))) Inactive
-hypothesis_means base i label j f t = grind (arith, common_steps, and_parts) steps 200000
-
 -- activity by what the items do to the blocks
 pub active_by : (base : BaseView) (marks : List Mark) (i j : ℕ) → marks ≡ block_marks (sound_items base.said) → stays_by (drop (suc j) (take i marks)) ≡ stays (drop (suc j) (before base i))
 active_by base marks i j m = grind (arith, common_steps, stays_of (drop (suc j) (take i (sound_items base.said))), kept_front base.said i, take-map, drop-map) steps 200000
@@ -71,17 +66,18 @@ active_by base marks i j m = grind (arith, common_steps, stays_of (drop (suc j) 
 pub active_means : (base : BaseView) (i : ℕ) (label : List ℕ) (j : ℕ) (marks : List Mark) → marks ≡ block_marks (sound_items base.said)
     → IsCarrier base label j → j < i → is_framed_at base j ≡ false → stays_by (drop (suc j) (take i marks)) ≡ true
     → Resolves base i label (answers.Hypothesis j)
-active_means base i label j marks m e l t a = grind (arith, common_steps, active_by, and_parts, expression_at_number, hypothesis_means, is_found, kept_are_sound) steps 500000
+active_means base i label j marks m e l t a =
+    grind (arith, common_steps, active_by, and_parts, expression_at_number, and_parts, is_found, kept_are_sound) steps 500000
 
 pub inactive_means : (base : BaseView) (i : ℕ) (label : List ℕ) (j : ℕ) (marks : List Mark) → marks ≡ block_marks (sound_items base.said)
     → IsCarrier base label j → j < i → is_framed_at base j ≡ false → stays_by (drop (suc j) (take i marks)) ≡ false → Resolves base i label answers.Inactive
-inactive_means base i label j marks m e l t a = grind (arith, common_steps, hypothesis_means base i label j (is_found base i label j e l) t, active_by base marks i j m) steps 200000
+inactive_means base i label j marks m e l t a = grind (arith, common_steps, and_parts, is_found base i label j e l, active_by base marks i j m) steps 200000
 
 -- no item before this one has the label
 none_before : (base : BaseView) (i : ℕ) (label : List ℕ) → ((n : ℕ) (x : Item) → n < i → slice_get (sound_items base.said) n ≡ Some x → carries label x ≡ true → ⊥) → resolve (before base i) label ≡ Unknown
 none_before base i label h = no_item_unknown (before base i) label (λ x k. false_from_ne_true (carries label x) (λ t.
     let g = in_get x (before base i) k in
-    let r = get_front (sound_items base.said) i g.0 x (subst (λ w. slice_get w g.0 ≡ Some x) (sym (kept_front base.said i)) g.1) in
+    let r = get_taken (sound_items base.said) i g.0 x (subst (λ w. slice_get w g.0 ≡ Some x) (sym (kept_front base.said i)) g.1) in
     h g.0 x r.0 r.1 t))
 
 -- the one sound item that has the label comes no earlier

@@ -1,18 +1,15 @@
 -- The labels and faults of items: how many there are, each of them, and one more.
-use Rattle.std.proofs.lemmas.{Grind.{common_steps}, Bool.{false≢true}, List.{get_or_append_left}, Option.{slice_get_past}}
-use Rattle.std.proofs.Common.{◌≡◌, ℕ, zero, suc, ◌+◌, ◌<◌, ◌≤◌, Bool, true, false, cond, ◌&&◌, Option, Some, None, List, [], ◌∷◌, ◌++◌, length, slice_get, get_or, refl, ◌∙◌, ap, arith, length-append}
-use Rattle.std.{proofs.{Common.{is_some, is_none}, Math.Seq.{get_or-append_seam}}, specs.{List.{slice_range}, Option.{option_map}}}
+use Rattle.std.proofs.lemmas.{Grind.{common_steps}, Bool.{false≢true}, Option.{slice_get_past}}
+use Rattle.std.proofs.Common.{◌≡◌, ℕ, zero, suc, ◌+◌, ◌<◌, ◌≤◌, Bool, true, false, cond, ◌&&◌, Option, Some, None, List, [], ◌∷◌, ◌++◌, length, slice_get, get_or, refl, ◌∙◌, ap, arith, is_some}
+use Rattle.std.{proofs.Math.Seq.{get_or-append_seam}, specs.{List.{slice_range}, Option.{option_map}}}
 use native.Mathlib.Decide.{dec_lt}
 use Rattle.mm_frame.specs.{declared.{judge.FrameFault.{FrameFault}, item_rows.Rows.{Rows}}, Code.KeptParts.{cut_from, start_at}}
-use Rattle.mm_frame.specs.Code.KeptRows.{bytes_or_none, fault_kept, fault_told, row_told, rows_from, rows_of, row_label, row_fault, is_shown_in, AreRowsKept}
+use Rattle.mm_frame.specs.Code.KeptRows.{bytes_or_none, fault_kept, fault_told, row_told, rows_from, rows_of, is_shown_in, AreRowsKept}
 use Rattle.mm_frame.proofs.lemmas.names.ExpressionLemmas.{cut_length, cut_there, cut_added}
 
-rows_length : (n : ℕ) (labels : List (List ℕ)) (flags : List Bool) (faults : List (Option FrameFault)) → length (rows_from n labels flags faults) ≡ length labels
+pub rows_length : (n : ℕ) (labels : List (List ℕ)) (flags : List Bool) (faults : List (Option FrameFault)) → length (rows_from n labels flags faults) ≡ length labels
 rows_length n [] flags faults = refl
 rows_length n (x ∷ labels) flags faults = ap suc (rows_length (suc n) labels flags faults)
-
-pub row_count : (rows : Rows) → length (rows_of rows) ≡ length rows.ends
-row_count rows = rows_length 0 (cut_from rows.bytes.items 0 rows.ends) rows.labelled.items rows.faults.items ∙ cut_length rows.bytes.items 0 rows.ends
 
 row_from : (n : ℕ) (labels : List (List ℕ)) (flags : List Bool) (faults : List (Option FrameFault)) (k : ℕ) (bytes : List ℕ)
     → slice_get labels k ≡ Some bytes → slice_get (rows_from n labels flags faults) k ≡ Some (row_told flags faults (n + k) bytes)
@@ -34,25 +31,13 @@ pub row_at : (rows : Rows) (k : ℕ) → k < length rows.ends → slice_get (row
 row_at rows k l = row_there rows k _ (cut_there rows.bytes.items 0 rows.ends k l)
 
 pub no_row : (rows : Rows) (k : ℕ) → length rows.ends ≤ k → slice_get (rows_of rows) k ≡ None
-no_row rows k l = let count = row_count rows in slice_get_past (rows_of rows) k (omega arith)
+no_row rows k l = grind (arith, common_steps, slice_get_past, rows_length, cut_length) steps 200000
 
 -- a flag that is set is there
 pub flag_within : (flags : List Bool) (n : ℕ) → get_or flags n false ≡ true → n < length flags
 flag_within [] n e = absurd (false≢true e)
 flag_within (x ∷ flags) zero e = omega arith
 flag_within (x ∷ flags) (suc n) e = let l = flag_within flags n e in omega arith
-
-pub label_some : (rows : Rows) (k : ℕ) → k < length rows.ends → get_or rows.labelled.items k false ≡ true → row_label (slice_get (rows_of rows) k) ≡ Some (slice_range rows.bytes.items (start_at 0 rows.ends k) (get_or rows.ends k 0))
-label_some rows k l t = ap row_label (row_at rows k l) ∙ ap (λ b. cond b (Some (slice_range rows.bytes.items (start_at 0 rows.ends k) (get_or rows.ends k 0))) None) t
-
-pub label_none : (rows : Rows) (k : ℕ) → get_or rows.labelled.items k false ≡ false → row_label (slice_get (rows_of rows) k) ≡ None
-label_none rows k f = elim (dec_lt k (length rows.ends)) [
-  | yes l ↦ ap row_label (row_at rows k l) ∙ ap (λ b. cond b (Some (slice_range rows.bytes.items (start_at 0 rows.ends k) (get_or rows.ends k 0))) None) f
-  | no m ↦ ap row_label (no_row rows k (omega arith))
-]
-
-pub fault_there : (rows : Rows) → AreRowsKept rows → (k : ℕ) → row_fault (slice_get (rows_of rows) k) ≡ fault_told (fault_kept rows.faults.items k)
-fault_there rows kept k = grind (arith, common_steps, dec_lt, no_row, row_at, slice_get_past) steps 200000
 
 pub shown_none : (rows : Rows) (k : ℕ) → get_or rows.labelled.items k false ≡ false → is_shown_in (slice_get (rows_of rows) k) ≡ false
 shown_none rows k f = elim (dec_lt k (length rows.ends)) [
@@ -63,9 +48,6 @@ shown_none rows k f = elim (dec_lt k (length rows.ends)) [
     never : (b : Bool) → (b && false) ≡ false
     never true = refl
     never false = refl
-
-pub shown_some : (rows : Rows) → AreRowsKept rows → (k : ℕ) → get_or rows.labelled.items k false ≡ true → is_shown_in (slice_get (rows_of rows) k) ≡ is_none (fault_kept rows.faults.items k)
-shown_some rows kept k t = grind (arith, common_steps, flag_within, row_at) steps 200000
 
 -- one more
 rows_same : (n : ℕ) (labels : List (List ℕ)) (flags other : List Bool) (faults more : List (Option FrameFault))
@@ -84,9 +66,6 @@ rows_last n [] bytes flags faults = let z : n ≡ n + 0 = omega arith in λ i. r
 rows_last n (x ∷ labels) bytes flags faults =
     let z : suc n + length labels ≡ n + suc (length labels) = omega arith in
     ap (λ w. row_told flags faults n x ∷ w) (rows_last (suc n) labels bytes flags faults ∙ (λ i. rows_from (suc n) labels flags faults ++ row_told flags faults (z i) bytes ∷ []))
-
-labelled_told : (label : Option (List ℕ)) → cond (is_some label) (Some (bytes_or_none label)) None ≡ label
-labelled_told label = grind (arith, common_steps) steps 200000
 
 -- what is added for one more item
 pub record AddsRow (old : Rows) (label : Option (List ℕ)) (fault : Option FrameFault) (new : Rows) : Type 0 where
@@ -109,24 +88,14 @@ adds_row old new label fault count e kept bytes ends flags same here within = gr
 
 pub kept_more : (old new : Rows) (label : Option (List ℕ)) (fault : Option FrameFault) → AreRowsKept old → AddsRow old label fault new → AreRowsKept new
 kept_more old new label fault k a =
-    let ends = ap length a.ends in
-    let flags = ap length a.flags in
-    let marks = length-append old.labelled.items (is_some label ∷ []) in
-    let same = k.flags in
-    let within = a.within in
     grind (arith, common_steps, cut_added old.bytes.items (bytes_or_none label) new.bytes.items old.ends new.ends (length new.bytes.items) k.cut a.bytes refl a.ends) steps 200000
 
 pub rows_more : (old new : Rows) (label : Option (List ℕ)) (fault : Option FrameFault) → AreRowsKept old → AddsRow old label fault new → rows_of new ≡ rows_of old ++ (label, fault_told fault) ∷ []
 rows_more old new label fault k a =
     let labels = cut_from old.bytes.items 0 old.ends in
-    let bytes = bytes_or_none label in
-    let cut = (cut_added old.bytes.items bytes new.bytes.items old.ends new.ends (length new.bytes.items) k.cut a.bytes refl a.ends).1 in
+    let cut = (cut_added old.bytes.items (bytes_or_none label) new.bytes.items old.ends new.ends (length new.bytes.items) k.cut a.bytes refl a.ends).1 in
     let count = cut_length old.bytes.items 0 old.ends in
-    let same = k.flags in
-    let flags = λ (n : ℕ) (l : n < 0 + length labels). ap (λ w. get_or w n false) a.flags ∙ get_or_append_left old.labelled.items (is_some label ∷ []) false n (omega arith) in
     let faults = λ (n : ℕ) (l : n < 0 + length labels). a.same n (omega arith) in
     let z : 0 + length labels ≡ length old.labelled.items = omega arith in
-    let y : 0 + length labels ≡ length old.ends = omega arith in
     let flag = ap (λ n. get_or new.labelled.items n false) z ∙ ap (λ w. get_or w (length old.labelled.items) false) a.flags ∙ get_or-append_seam old.labelled.items (is_some label) [] false in
-    let told : cond (get_or new.labelled.items (0 + length labels) false) (Some bytes) None ≡ label = ap (λ b. cond b (Some bytes) None) flag ∙ labelled_told label in
-    grind (arith, common_steps, rows_last 0 labels bytes new.labelled.items new.faults.items, rows_same) steps 200000
+    grind (arith, common_steps, get_or, rows_last, rows_same) steps 200000

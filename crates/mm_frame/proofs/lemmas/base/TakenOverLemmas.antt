@@ -1,11 +1,11 @@
 -- The items so far are the first ones of an older base: what it says of its next item is right of the next item.
 use Rattle.std.proofs.lemmas.{Grind.{common_steps}, Bool.{false≢true}, List.{length_push, take-append-le}, Option.{slice_get_within, get_or_from_slice_get}}
-use Rattle.std.proofs.Common.{◌≡◌, ℕ, zero, suc, ◌<◌, Bool, true, Option, Some, List, [], ◌∷◌, ◌++◌, length, take, drop, slice_get, nat_eq, refl, sym, ◌∙◌, ap, subst, arith, take-suc}
-use Rattle.std.{proofs.Common.{take-append-drop}, specs.{HashMap.{get}, List.{AllZip}}}
+use Rattle.std.proofs.Common.{◌≡◌, ℕ, zero, suc, ◌<◌, Bool, true, Option, Some, List, [], ◌∷◌, ◌++◌, length, take, slice_get, nat_eq, refl, sym, ◌∙◌, ap, subst, arith, take-suc, take-append-drop}
+use Rattle.std.specs.{HashMap.{get}, List.{AllZip}}
 use Rattle.mm_store.specs.Language.FilesView.{FilesView}
 use Rattle.mm_frame.specs.{declared.pair_lists.PairLists.{PairLists}, Language.{Sound.{sound_items}, Framing.{active_pairs}, Base.{BaseView, before, said_at, is_proof_at}}}
 use Rattle.mm_frame.specs.{Language.Answering.{AreRows, BaseAnswers, is_told_proof}, Code.{KeptAssertions.{TellsPairs}, KeptPairLists.{AreMade, IsList, KeepsLists}, KeptSparse.{value_kept}}}
-use Rattle.mm_frame.{specs.Code.{KnownItem.{IsAgain}, TakenOver.{AreFirst, AreFirstIf, IsNextOf}}, proofs.lemmas.pairs.{PairListLemmas.{list_stays}, SharedPairs.{same_joined}}}
+use Rattle.mm_frame.{specs.Code.{KnownItem.{IsAgain}, TakenOver.{AreFirst, AreFirstIf}}, proofs.lemmas.pairs.{PairListLemmas.{list_stays}, SharedPairs.{same_joined}}}
 use Rattle.mm_frame.proofs.lemmas.reading.KnownItems.{same_again}
 use Rattle.mm_machine.specs.Language.{Frame.{Symbol, AreSamePairs}, NumberedSymbols.{kept_pairs}}
 use Rattle.mm_statement.specs.Language.{Item.{Item, item_at}, Statement.{OneRangeSaysOne, Says}}
@@ -17,34 +17,19 @@ use Rattle.mm_store.specs.declared.item.Item as store
 pub before_next : (base : BaseView) (said : List Item) (i : ℕ) → AreFirst base said → i ≡ length said → before base i ≡ sound_items said
 before_next base said i front number = ap (before base) number ∙ ap sound_items front
 
--- the next one is a sound `$p` exactly if the base says so
-pub proof_next : (all : List (List ℕ)) (answers : BaseAnswers) (base : BaseView) (said : List Item) (item : Item) (i : ℕ) → IsNextOf all answers base said item → i ≡ length said
-    → is_proof_at base i ≡ is_told_proof (sound_items said) item
-proof_next all answers base said item i next number = ap (is_proof_at base) number ∙ (λ j. is_told_proof (sound_items (next.front j)) (next.here j))
-
 -- an earlier item is the same in the base
 item_front : (front rest : List Item) (n : ℕ) → n < length front → item_at (front ++ rest) n ≡ item_at front n
 item_front [] rest n l = absurd (omega arith)
 item_front (x ∷ front) rest zero l = refl
 item_front (x ∷ front) rest (suc n) l = item_front front rest n (omega arith)
 
-first_whole : (base : BaseView) (said : List Item) → AreFirst base said → base.said ≡ said ++ drop (length said) base.said
-first_whole base said front = sym (take-append-drop (length said) base.said) ∙ ap (λ w. w ++ drop (length said) base.said) front
-
 first_take : (base : BaseView) (said : List Item) (j : ℕ) → AreFirst base said → j < length said → take j base.said ≡ take j said
-first_take base said j front l = ap (take j) (first_whole base said front) ∙ take-append-le j said (drop (length said) base.said) (omega arith)
+first_take base said j front l = grind (arith, common_steps, take-append-le, take-append-drop) steps 200000
 
 first_item : (base : BaseView) (said : List Item) (j : ℕ) → AreFirst base said → j < length said → said_at base j ≡ item_at said j
-first_item base said j front l = ap (λ w. item_at w j) (first_whole base said front) ∙ item_front said (drop (length said) base.said) j l
+first_item base said j front l = grind (arith, common_steps, item_front, take-append-drop) steps 200000
 
--- one more
-first_more : (base : BaseView) (said : List Item) (one : Item) → AreFirst base said → slice_get base.said (length said) ≡ Some one → AreFirst base (said ++ one ∷ [])
-first_more base said one front there =
-    let n = length said in
-    let within = slice_get_within base.said n one there in
-    let count : length (said ++ one ∷ []) ≡ suc n = (let p = length_push said one in omega arith) in
-    ap (λ k. take k base.said) count ∙ take-suc base.said n one within ∙ (λ i. front i ++ get_or_from_slice_get base.said n one one there i ∷ [])
-
+-- the items that are found, and what they say, at one place
 there_at : (files : FilesView) (found : List store.Item) (said : List Item) (i : ℕ) (item : store.Item) → AllZip (Says files) found said → slice_get found i ≡ Some item → slice_get said i ≡ Some (item_at said i)
 there_at files [] said i item h e = cc
 there_at files (x ∷ found) (y ∷ said) zero item h e = refl
@@ -57,7 +42,11 @@ first_after same other files answers base said item i one law found number again
     let n = length said in
     let here = subst (λ w. IsAgain w n item) (sym found ∙ told) (subst (λ k. IsAgain base.found k item) number (again t)) in
     let there = there_at files b.found b.said n here.was each here.there ∙ ap Some (same_again files b.found b.said n item law each here one says) in
-    first_more b said one (first (still t) b told each) there
+    let n =
+    length said in let within = slice_get_within b.said n one there in
+    let count : length (said ++ one ∷ []) ≡ suc n = (let p = length_push said one in omega arith) in
+    ap (λ k. take k b.said) count ∙ take-suc b.said n one within
+    ∙ (λ i. (first (still t) b told each) i ++ get_or_from_slice_get b.said n one one there i ∷ [])
 
 -- ---- the lists of active pairs
 
@@ -78,7 +67,6 @@ pub list_here : (all : List (List ℕ)) (lists : PairLists) (base : BaseView) (s
 list_here all lists base said numbers j i k front number rows e shared =
     let row = value_there numbers j k e in
     let within = slice_get_within numbers j (Some k) row in
-    let count = rows.count in
     let earlier : j < length said = omega arith in
     let told = rows.each j (Some k) row in
     let same = ap sound_items (first_take base said j front earlier) in

@@ -1,14 +1,14 @@
 -- What the code that looks for a fault rests on.
-use Rattle.std.proofs.lemmas.{Grind.{common_steps}, Bool.{false≢true}, Slice.Eq.{bytes_eq-Decides}, Option.{same_Some, slice_get-get_or}, List.{drop_all, Folds.{list_any-append}}}
-use Rattle.std.proofs.Common.{◌≡◌, ℕ, zero, nat_eq, slice_get, suc, ◌+◌, ◌<◌, ◌≤◌, Bool, true, false, not, cond, ◌==◌, ◌&&◌, ◌||◌, Option, Some, None, is_some, List, [], ◌∷◌, ◌++◌, length, take, drop}
-use Rattle.std.{proofs.{Common.{get_or, bytes_eq, refl, sym, ◌∙◌, ap, subst, arith}, Math.Seq.{take-suc}}, specs.{Prelude.{is_none}, Option.{option_or}, HashSet.{HashSet, Updates}}}
+use Rattle.std.proofs.Common.{is_some, ◌==◌, ◌≡◌, ℕ, zero, nat_eq, slice_get, suc, ◌+◌, ◌<◌, ◌≤◌, Bool, true, false, not, cond, ◌&&◌, ◌||◌, Option, Some, None, List, [], ◌∷◌, ◌++◌, length, take, drop}
+use Rattle.std.proofs.{Common.{get_or, bytes_eq, refl, sym, ◌∙◌, ap, subst, arith}, lemmas.{Grind.{common_steps}, Bool.{false≢true}, Slice.Eq.{bytes_eq-Decides}, Option.{same_Some, slice_get-get_or}}}
+use Rattle.std.{proofs.{lemmas.List.{drop_all}, Math.Seq.{take-suc}}, specs.{Prelude.{is_none}, Option.{option_or}, HashSet.{HashSet}}}
 use Rattle.mm_statement.specs.Language.Item.{first_symbol, Kind, Item, has, is_expression}
 use Rattle.mm_frame.specs.{Language.{Scope.{constants, active_variables, typed}, Sound.{closing_word, fault_or, fault, AreSound}}, Code.Numbers.{IsNameNumber, AreNameNumbers}}
 use Rattle.mm_frame.specs.Code.{KeptScope.{ScopeHolds}, KeptTables.{declared_at, declared_in, variable_at}, LastItems.{last_where, declares_variable, types, is_active_last}}
 use Rattle.mm_frame.specs.Code.{FaultInOrder.{front_fault, end_fault, first_fault, symbol_fault_of, symbol_fault, symbols_fault, expression_fault, later_fault}, SeenNumbers.{HasSeen, has_number}}
 use Rattle.mm_frame.specs.declared.{scope.Scope.{Scope}, tables.Declared.{Declared, TheVariants.{Constant, Variable}}, FrameNumber.{FrameNumber, TheVariants.{F10, F11}}}
-use Rattle.mm_frame.proofs.lemmas.{faults.FaultReading.{first_fault_at, fault_is}, frames.Frames.{from_typed, float_of}, lists.Members.{has_in}, scope.SoundItems.{sound_kept}}
-use Rattle.mm_frame.proofs.lemmas.scope.{KnownLemmas.{constant_no_variable, known_at}, TableLemmas.{active_variable_last, typed_last}}
+use Rattle.mm_frame.proofs.lemmas.{faults.FaultReading.{first_fault_at, fault_is}, frames.Frames.{from_typed, float_of}, lists.Members.{has_in}, scope.KnownLemmas.{constant_no_variable, known_at}}
+use Rattle.mm_frame.proofs.lemmas.scope.TableLemmas.{active_variable_last, typed_last}
 use Rattle.mm_machine.specs.Language.Names.{AreDistinct}
 
 -- whether a name with this declaration may come after a typecode
@@ -17,13 +17,6 @@ may_follow_as before None = false
 may_follow_as before (Some Constant) = true
 may_follow_as before (Some (Variable declared float)) = is_active_last before float
 
--- a variable that is typed is active
-typed_active : (before : List Item) → AreSound before → (name : List ℕ) → has (typed before) name ≡ true → has (active_variables before) name ≡ true
-typed_active before h name t =
-    let f = from_typed before name (has_in (typed before) name t) in
-    let float = float_of before f.0 (sound_kept before h) f.1 f.2 in
-    subst (λ w. has (active_variables before) w ≡ true) (sym (ap (λ symbols. get_or symbols 1 []) float.both) ∙ f.3) float.variable
-
 -- what is wrong after a typecode with a name that is a constant, an active variable, or typed
 abbrev later_as : Bool → Bool → Bool → Option FrameNumber
 later_as constant active typed = cond (not (constant || active)) (Some F10) (cond (active && not typed) (Some F11) None)
@@ -31,18 +24,14 @@ later_as constant active typed = cond (not (constant || active)) (Some F10) (con
 pub follows_later : (before : List Item) → AreSound before → (name : List ℕ) → may_follow_as before (declared_in before name) ≡ is_none (later_fault before name)
 follows_later before h name =
     by_test (has (constants before) name) (last_where (declares_variable name) before) (last_where (types name) before) (has (active_variables before) name) (has (typed before) name)
-    (active_variable_last before h name) (typed_last before h name) (constant_no_variable before h name) (typed_active before h name) where
-      both : (active typed : Bool) → (typed ≡ true → active ≡ true) → typed ≡ is_none (later_as false active typed)
-      both true true e = refl
-      both true false e = refl
-      both false false e = refl
-      both false true e = absurd (false≢true (e refl))
-
+    (active_variable_last before h name) (typed_last before h name) (constant_no_variable before h name)
+    ((λ t. let f = from_typed before name (has_in (typed before) name t) in let float = float_of before f.0 h f.1 f.2 in
+    subst (λ w. has (active_variables before) w ≡ true) (sym (ap (λ symbols. get_or symbols 1 []) float.both) ∙ f.3) float.variable)) where
       by_test : (c : Bool) (v t : Option ℕ) (active typed : Bool) → active ≡ is_active_last before v → typed ≡ is_active_last before t → (c ≡ true → v ≡ None) → (typed ≡ true → active ≡ true)
           → may_follow_as before (cond c (Some Constant) (variable_at v t)) ≡ is_none (later_as c active typed)
       by_test true v t active typed a b n e = let inactive : active ≡ false = a ∙ ap (is_active_last before) (n refl) in rw inactive refl
       by_test false None t active typed a b n e = rw a refl
-      by_test false (Some d) t active typed a b n e = rw (← b) (both active typed e)
+      by_test false (Some d) t active typed a b n e = grind (arith, common_steps, false≢true) steps 200000
 
 -- the same by what the tables of a scope say of the name
 pub follows_told : (scope : Scope) (n : ℕ) (found given : Option Declared) (all : List (List ℕ)) (before : List Item) (name : List ℕ)
@@ -51,15 +40,10 @@ pub follows_told : (scope : Scope) (n : ℕ) (found given : Option Declared) (al
 follows_told scope n found given all before name h k t is e = ap (may_follow_as before) (sym e ∙ is ∙ known_at all before scope.tables n name k.knows t) ∙ follows_later before h name
 
 -- two tests are the same if each implies the other
-same_test : (b c : Bool) → (b ≡ true → c ≡ true) → (c ≡ true → b ≡ true) → b ≡ c
-same_test true true f g = refl
+pub same_test : (b c : Bool) → (b ≡ true → c ≡ true) → (c ≡ true → b ≡ true) → b ≡ c
 same_test true false f g = absurd (false≢true (f refl))
 same_test false true f g = absurd (false≢true (g refl))
-same_test false false f g = refl
-
--- one more number is seen
-pub sees_more : {S : Type 0} (numbers : List ℕ) (number : ℕ) (old new : HashSet ℕ S) → HasSeen numbers old → Updates nat_eq old new number true → HasSeen (numbers ++ number ∷ []) new
-sees_more numbers number old new h u other = grind (arith, common_steps, list_any-append, same_test) steps 200000
+same_test _ _ f g = refl
 
 -- two numbers are the same exactly when their names are
 same_number : (all : List (List ℕ)) (m n : ℕ) (x y : List ℕ) → AreDistinct all → IsNameNumber all m x → IsNameNumber all n y → nat_eq m n ≡ bytes_eq x y
@@ -73,18 +57,13 @@ among_names all (suc n) [] [] number name distinct is each count = refl
 among_names all (suc n) (m ∷ numbers) (x ∷ names) number name distinct is each count =
     let rest = among_names all n numbers names number name distinct is (λ i k p. each (suc i) k p) (omega (arith, count)) in
     λ i. same_number all number m name x distinct is (each 0 m refl) i || rest i
-among_names all (suc n) [] (x ∷ names) number name distinct is each count = absurd (omega (arith, count))
-among_names all (suc n) (m ∷ numbers) [] number name distinct is each count = absurd (omega (arith, count))
+among_names all _ _ _ number name distinct is each count = absurd (omega (arith, count))
 
 -- a symbol occurs earlier exactly when its number does
 pub repeated_by_number : (all : List (List ℕ)) (numbers : List ℕ) (names : List (List ℕ)) (n : ℕ) → AreDistinct all → AreNameNumbers all numbers names
     → IsNameNumber all (get_or numbers n 0) (get_or names n [])
     → has_number (take n numbers) (get_or numbers n 0) ≡ has (take n names) (get_or names n [])
 repeated_by_number all numbers names n distinct are is = among_names all n numbers names (get_or numbers n 0) (get_or names n []) distinct is are.each are.count
-
-pub twice_not : (b : Bool) → not (not b) ≡ b
-twice_not true = refl
-twice_not false = refl
 
 -- one more number of a statement is seen
 pub sees_next : {S : Type 0} {kept : Bool} (numbers : List ℕ) (number n more : ℕ) (seen : HashSet ℕ S) → more ≡ suc n → n < length numbers → number ≡ get_or numbers n 0
@@ -125,10 +104,6 @@ passes_more item numbers n more m l p none = record {
       ∙ (λ i. fault_or (first_symbol item + n) (sym (none all before h k a) i) (first_fault (symbol_fault before item) (word i) (sym m i) (drop (sym m i) item.symbols)));
 }
 
--- a symbol that may come after a typecode has no fault there
-pub passed_later : (before : List Item) (n : ℕ) (name : List ℕ) → 0 < n → is_none (later_fault before name) ≡ true → None ≡ expression_fault before n name
-passed_later before n name l e = grind (arith, common_steps, false≢true) steps 200000
-
 -- what is wrong with a symbol of a `$e`, `$a` or `$p`
 pub expression_is : (kind : Kind) → is_expression kind ≡ true → (before : List Item) (item : Item) (n : ℕ) (name : List ℕ) → expression_fault before n name ≡ symbol_fault_of kind before item n name
 expression_is kind e before item n name = grind (arith, common_steps) steps 200000
@@ -140,12 +115,6 @@ none_there found e = grind (arith, common_steps) steps 200000
 pub enough_symbols : (item : Item) → is_expression item.kind ≡ true → (length item.symbols == 0) ≡ false → None ≡ fault_or (closing_word item) (end_fault item) None
 enough_symbols item e l = grind (arith, common_steps, false≢true) steps 200000
 
--- the fault of a statement, found at the first word, among the symbols, or at neither
-pub at_front : (before : List Item) (item : Item) (number : FrameNumber) → Some number ≡ front_fault before item → ◌≡◌ {A = Option (ℕ × FrameNumber)} (Some (0, number)) (fault before item)
-at_front before item number f = (λ i. fault_or 0 (f i) (option_or (symbols_fault before item) (fault_or (closing_word item) (end_fault item) None))) ∙ sym (fault_is before item)
-
-pub at_symbols : (before : List Item) (item : Item) (found : ℕ × FrameNumber) → None ≡ front_fault before item → Some found ≡ symbols_fault before item → Some found ≡ fault before item
-at_symbols before item found f s = (λ i. fault_or 0 (f i) (option_or (s i) (fault_or (closing_word item) (end_fault item) None))) ∙ sym (fault_is before item)
-
+-- the fault of a statement, if it is neither at the first words nor among the symbols
 pub at_end : (before : List Item) (item : Item) (found : Option (ℕ × FrameNumber)) → None ≡ front_fault before item → None ≡ symbols_fault before item → found ≡ fault_or (closing_word item) (end_fault item) None → found ≡ fault before item
 at_end before item found f s e = e ∙ (λ i. fault_or 0 (f i) (option_or (s i) (fault_or (closing_word item) (end_fault item) None))) ∙ sym (fault_is before item)

@@ -45,19 +45,10 @@ nothing test = false
 abbrev at_name : ℕ → List ℕ → (ℕ → List ℕ → Bool) → Bool
 at_name n name test = test n name
 
--- at word 0, by the kind of the statement
-start_of : (kind : Kind) (before : List Item) (item : Item)
-    → number_of kind before item false true nothing ≡ cond (is_constants kind && is_inside before) (Some F02) (cond (list_any (is_label before) (labels_of item)) (Some F06) (cond (list_any (is_declared before) (labels_of item)) (Some F07) None))
-start_of kind before item = grind (arith, common_steps) steps 200000
-
--- at a keyword after a label
-keyword_of : (kind : Kind) (before : List Item) (item : Item) → number_of kind before item false false nothing ≡ None
-keyword_of kind before item = grind (arith, common_steps) steps 200000
-
 -- after the last symbol
 end_of : (kind : Kind) (before : List Item) (item : Item) (ends : Bool) → number_of kind before item ends false nothing ≡ cond ends (Some F01) None
 end_of kind before item true = refl
-end_of kind before item false = keyword_of kind before item
+end_of kind before item false = grind (arith, common_steps) steps 200000
 
 -- at a symbol of a `$f`, of which only the third one is one too many
 abbrev third_fault : List Item → Item → ℕ → List ℕ → Option FrameNumber
@@ -66,10 +57,8 @@ third_fault before item n name = cond (n == 0) (typecode_fault before name) (con
 third_is : (n : ℕ) (x y z w : Bool)
     → cond (n == 2) (Some F01) (cond (n == 0 && x) (Some F08) (cond (n == 1 && y) (Some F09) (cond (n == 1 && z) (Some F12) (cond (n == 1 && w) (Some F13) None)))) ≡ cond (n == 0) (cond x (Some F08) None)
     (cond (n == 1) (cond y (Some F09) (cond z (Some F12) (cond w (Some F13) None))) (cond (n == 2) (Some F01) None))
-third_is zero x y z w = refl
-third_is (suc zero) x y z w = refl
-third_is (suc (suc zero)) x y z w = refl
 third_is (suc (suc (suc n))) x y z w = grind (arith, common_steps, ne_eqb) steps 200000
+third_is _ x y z w = refl
 
 -- at a symbol of a `$e`, `$a` or `$p`
 expression_is : (n : ℕ) (x y z : Bool) → cond (n == 0 && x) (Some F08) (cond (ltb 0 n && y) (Some F10) (cond (ltb 0 n && z) (Some F11) None)) ≡ cond (n == 0) (cond x (Some F08) None) (cond y (Some F10) (cond z (Some F11) None))
@@ -84,41 +73,20 @@ symbol_number kind before item n name = symbol_fault_of kind before item n name
 symbol_of : (kind : Kind) (before : List Item) (item : Item) (n : ℕ) (name : List ℕ) → number_of kind before item false false (at_name n name) ≡ symbol_number kind before item n name
 symbol_of kind before item n name = grind (arith, common_steps, expression_is, or-false, third_is) steps 200000
 
--- where no symbol is
-before_symbols : (test : ℕ → List ℕ → Bool) (item : Item) (word : ℕ) → word < first_symbol item → at_symbol test item word ≡ false
-before_symbols test item word l = grind (arith, common_steps, and_left) steps 200000
-
-at_closing : (test : ℕ → List ℕ → Bool) (item : Item) → at_symbol test item (closing_word item) ≡ false
-at_closing test item = grind (arith, common_steps, slice_get_past item.symbols (closing_word item - first_symbol item) (omega arith), and_right) steps 200000
-
--- where a symbol is
-at_place : (test : ℕ → List ℕ → Bool) (item : Item) (n : ℕ) (name : List ℕ) → slice_get item.symbols n ≡ Some name → at_symbol test item (first_symbol item + n) ≡ test n name
-at_place test item n name g = grind (arith, common_steps, le-leb) steps 200000
-
+-- a word that is not the closing one
 not_closing : (item : Item) (word : ℕ) → (word ≡ closing_word item → ⊥) → (is_short item.kind (length item.symbols) && word == closing_word item) ≡ false
 not_closing item word n = and_right (is_short item.kind (length item.symbols)) (word == closing_word item) (ne_eqb word (closing_word item) n)
 
 -- what is found at the words of a statement
-start_is : (before : List Item) (item : Item) → number_at before item 0 ≡ number_of item.kind before item false true nothing
-start_is before item = by_word before item 0 false true nothing (not_closing item 0 (λ e. omega arith)) refl (λ test. before_symbols test item 0 (omega arith))
-
 keyword_is : (before : List Item) (item : Item) (word : ℕ) → 0 < word → word < first_symbol item → number_at before item word ≡ None
-keyword_is before item word l m = by_word before item word false false nothing (not_closing item word (λ e. omega arith)) (ne_eqb word 0 (λ e. omega arith)) (λ test. before_symbols test item word m) ∙ keyword_of item.kind before item
-
-symbol_is : (before : List Item) (item : Item) (n : ℕ) (name : List ℕ) → slice_get item.symbols n ≡ Some name → number_at before item (first_symbol item + n) ≡ symbol_number item.kind before item n name
-symbol_is before item n name g =
-    let l = slice_get_within item.symbols n name g in
-    by_word before item (first_symbol item + n) false false (at_name n name) (not_closing item (first_symbol item + n) (λ e. omega arith))
-    (ne_eqb (first_symbol item + n) 0 (λ e. omega arith)) (λ test. at_place test item n name g) ∙ symbol_of item.kind before item n name
+keyword_is before item word l m = grind (arith, common_steps, by_word, nothing, not_closing, ne_eqb, and_left) steps 200000
 
 end_is : (before : List Item) (item : Item) → number_at before item (closing_word item) ≡ end_fault item
 end_is before item = by_word before item (closing_word item) (is_short item.kind (length item.symbols)) false nothing
-    (at_end (is_short item.kind (length item.symbols)) (closing_word item == closing_word item) (eq-eqb (closing_word item) (closing_word item) refl))
-    (ne_eqb (closing_word item) 0 (λ e. omega arith)) (λ test. at_closing test item) ∙ end_of item.kind before item (is_short item.kind (length item.symbols))
-  where
-    at_end : (x y : Bool) → y ≡ true → (x && y) ≡ x
-    at_end true y e = e
-    at_end false y e = refl
+    (grind (arith, common_steps, eq-eqb (closing_word item) (closing_word item) refl) steps 200000)
+    (ne_eqb (closing_word item) 0 (λ e. omega arith))
+    (λ test. (grind (arith, common_steps, slice_get_past item.symbols (closing_word item - first_symbol item) (omega arith), and_right) steps 200000))
+    ∙ end_of item.kind before item (is_short item.kind (length item.symbols))
 
 -- the label of a statement, of which there is one or none
 abbrev is_one_at_most : {X : Type 0} → List X → Bool
@@ -126,24 +94,23 @@ is_one_at_most [] = true
 is_one_at_most (x ∷ []) = true
 is_one_at_most _ = false
 
-one_label : (item : Item) → is_one_at_most (labels_of item) ≡ true
-one_label item = grind (arith, common_steps) steps 200000
-
 label_is : (before : List Item) (labels : List (List ℕ)) → is_one_at_most labels ≡ true → cond (list_any (is_label before) labels) (Some F06) (cond (list_any (is_declared before) labels) (Some F07) None) ≡ labels_fault before labels
 label_is before labels h = grind (arith, common_steps, false≢true, or-false) steps 200000
 
 front_is : (before : List Item) (item : Item) → number_at before item 0 ≡ front_fault before item
-front_is before item = start_is before item ∙ start_of item.kind before item ∙ ap (λ w. cond (is_constants item.kind && is_inside before) (Some F02) w) (label_is before (labels_of item) (one_label item))
+front_is before item =
+    (by_word before item 0 false true nothing (not_closing item 0 (λ e. omega arith)) refl (λ test. (grind (arith, common_steps, and_left) steps 200000)))
+    ∙ (grind (arith, common_steps) steps 200000)
+    ∙ ap (λ w. cond (is_constants item.kind && is_inside before) (Some F02) w) (label_is before (labels_of item) (grind (arith, common_steps) steps 200000))
 
 -- words at which nothing is found are passed over
 pass_over : (before : List Item) (item : Item) (start gap more : ℕ) → ((word : ℕ) → start ≤ word → word < start + gap → number_at before item word ≡ None) → fault_from before item start (gap + more) ≡ fault_from before item (start + gap) more
 pass_over before item start zero more h = grind (arith, common_steps) steps 200000
 pass_over before item start (suc gap) more h =
     let next : suc gap + more ≡ suc (gap + more) = omega arith in
-    let there : suc start + gap ≡ start + suc gap = omega arith in
     ap (fault_from before item start) next ∙ ap (λ o. fault_or start o (fault_from before item (suc start) (gap + more)))
     (h start (omega arith) (omega arith)) ∙ pass_over before item (suc start) gap more (λ word l m. h word (omega arith) (omega arith))
-    ∙ ap (λ w. fault_from before item w more) there
+    ∙ ap (λ w. fault_from before item w more) (omega arith)
 
 -- the symbols from one on, and the word after them
 from_symbol : (before : List Item) (item : Item) (test : ℕ → List ℕ → Option FrameNumber) (word n : ℕ) (symbols : List (List ℕ)) → ((k : ℕ) (name : List ℕ) → slice_get symbols k ≡ Some name → number_at before item (word + k) ≡ test (n + k) name)
@@ -161,10 +128,8 @@ from_symbol before item test word n (name ∷ symbols) h =
 
 -- after a third symbol of a `$f` nothing is looked at
 third_first : (before : List Item) (item : Item) (word : ℕ) (symbols : List (List ℕ)) → first_fault (third_fault before item) word 0 symbols ≡ first_fault (floating_fault before item) word 0 symbols
-third_first before item word [] = refl
-third_first before item word (x ∷ []) = refl
-third_first before item word (x ∷ y ∷ []) = refl
 third_first before item word (x ∷ y ∷ z ∷ symbols) = refl
+third_first before item word _ = refl
 
 number_first : (kind : Kind) (before : List Item) (item : Item) (word : ℕ) (symbols : List (List ℕ)) → first_fault (symbol_number kind before item) word 0 symbols ≡ first_fault (symbol_fault_of kind before item) word 0 symbols
 number_first Floating before item word symbols = third_first before item word symbols
@@ -176,7 +141,12 @@ fault_is before item =
     let count : closing_word item + 1 ≡ suc (length (labels_of item) + (length item.symbols + 1)) = omega arith in
     let there : 1 + length (labels_of item) ≡ first_symbol item = omega arith in
     let words = pass_over before item 1 (length (labels_of item)) (length item.symbols + 1) (λ word l m. keyword_is before item word (omega arith) (omega arith)) ∙ ap (λ w. fault_from before item w (length item.symbols + 1)) there in
-    let symbols = from_symbol before item (symbol_number item.kind before item) (first_symbol item) 0 item.symbols (λ k name g. symbol_is before item k name g ∙ ap (λ w. symbol_number item.kind before item w name) (omega arith)) in
+    let symbols =
+    from_symbol before item (symbol_number item.kind before item) (first_symbol item) 0 item.symbols
+    (λ k name g. (let l = slice_get_within item.symbols k name g in
+    by_word before item (first_symbol item + k) false false (at_name k name) (not_closing item (first_symbol item + k) (λ e. omega arith))
+    (ne_eqb (first_symbol item + k) 0 (λ e. omega arith)) (λ test. (grind (arith, common_steps, le-leb) steps 200000)) ∙ symbol_of item.kind before item k name)
+    ∙ ap (λ w. symbol_number item.kind before item w name) (omega arith)) in
     let ended : option_or (first_fault (symbol_number item.kind before item) (first_symbol item) 0 item.symbols) (fault_or (closing_word item) (number_at before item (closing_word item)) None) ≡ option_or (symbols_fault before item)
     (fault_or (closing_word item) (end_fault item) None) = λ i. option_or (number_first item.kind before item (first_symbol item) item.symbols i) (fault_or (closing_word item) (end_is before item i) None) in
     ap (fault_from before item 0) count ∙ (λ i. fault_or 0 (front_is before item i) ((words ∙ symbols ∙ ended) i))

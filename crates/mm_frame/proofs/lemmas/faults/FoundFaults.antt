@@ -1,14 +1,13 @@
 -- What is found is the fault, and what is kept is sound.
-use Rattle.std.proofs.lemmas.{Grind.{common_steps}, Bool.{false≢true, and_right, and_left, or_from, ne_eqb}, Option.{slice_get_past}}
-use Rattle.std.proofs.Common.{◌≡◌, ℕ, zero, suc, pred, ◌+◌, ◌-◌, ◌≤◌, ◌<◌, Bool, true, false, cond, ◌||◌, ◌==◌, Option, Some, None, List, [], ◌∷◌, ◌++◌, find, slice_get, refl, sym, ◌∙◌, ap, subst}
-use Rattle.std.proofs.Common.{append_assoc, append-nil, arith, inl, inr, ◌⊎◌}
+use Rattle.std.proofs.Common.{length, length-append, ap, arith, ◌≡◌, ℕ, zero, suc, pred, ◌+◌, ◌-◌, ◌≤◌, ◌<◌, Bool, true, false, cond, ◌||◌, ◌==◌, Option, Some, None, List, [], ◌∷◌, ◌++◌, find}
+use Rattle.std.proofs.{Common.{slice_get, refl, sym, ◌∙◌, subst, inl, inr, ◌⊎◌}, lemmas.{Grind.{common_steps}, Bool.{false≢true, and_right, and_left, or_from, ne_eqb}, Option.{slice_get_past}}}
+use Rattle.mm_frame.proofs.lemmas.scope.Facts.{sound_more}
+use Rattle.mm_frame.specs.Language.Sound.{AreSound, closing_word, at_symbol, each, first, second, later, is_third, is_repeated, is_declared, is_active_symbol, is_label, is_no_constant, is_no_variable}
+use Rattle.mm_frame.specs.Language.Sound.{is_no_active_symbol, is_untyped, is_typed, is_typed_otherwise, line_holds, IsSound, row, IsStatementFault, numbers, number_at, fault_or, fault_from, fault}
+use Rattle.mm_frame.specs.{Language.{Sound.{judged, sound_items_after, sound_items}, Scope.{is_inside}}, declared.FrameNumber.{FrameNumber}}
+use Rattle.mm_frame.specs.declared.FrameNumber.TheVariants.{F01, F02, F03, F04, F05, F08, F09, F10, F11, F12, F13, F14}
 use native.Mathlib.Decide.{dec_lt}
-use Rattle.mm_statement.specs.Language.Item.{first_symbol, Item, passed, is_constants, is_variables, is_disjoint, is_floating, is_declaring, is_expression, is_labelled}
-use Rattle.mm_frame.specs.Language.Scope.{is_inside}
-use Rattle.mm_frame.specs.Language.Sound.{closing_word, at_symbol, each, first, second, later, is_third, is_repeated, is_declared, is_active_symbol, is_label, is_no_constant, is_no_variable}
-use Rattle.mm_frame.specs.Language.Sound.{is_no_active_symbol, is_untyped, is_typed, is_typed_otherwise, line_holds, StatementLineHolds, IsSound, row, IsStatementFault, numbers, number_at, fault_or}
-use Rattle.mm_frame.specs.{Language.Sound.{fault_from, fault, judged, sound_items_after, sound_items}, declared.FrameNumber.{FrameNumber}}
-use Rattle.mm_frame.{specs.declared.FrameNumber.TheVariants.{F01, F02, F03, F04, F05, F08, F09, F10, F11, F12, F13, F14}, proofs.lemmas.scope.Facts.{AreKept}}
+use Rattle.mm_statement.specs.Language.Item.{first_symbol, Item, is_constants, is_variables, is_disjoint, is_floating, is_declaring, is_expression, is_labelled}
 
 -- no line holds after the statement's words
 past_symbols : (test : ℕ → List ℕ → Bool) (item : Item) (word : ℕ) → closing_word item < word → at_symbol test item word ≡ false
@@ -32,9 +31,6 @@ past_line before item word _ l = and_left (word == 0) _ (ne_eqb word 0 (λ e. om
 -- the numbers, by their places
 number_there : (n : FrameNumber) → slice_get numbers (pred (row n)) ≡ Some n
 number_there n = grind (arith, common_steps) steps 200000
-
-same_number : (n m : FrameNumber) → row n ≡ row m → n ≡ m
-same_number n m e = let a = sym (number_there n) ∙ ap (λ w. slice_get numbers (pred w)) e ∙ number_there m in (cc)
 
 abbrev row_or : Option FrameNumber → ℕ
 row_or None = 0
@@ -83,14 +79,13 @@ pub record IsLeast (before : List Item) (item : Item) (start word : ℕ) (n : Fr
 least_at : (before : List Item) (item : Item) (start : ℕ) (o : Option FrameNumber) (later : Option (ℕ × FrameNumber)) (w : ℕ) (n : FrameNumber)
     → number_at before item start ≡ o → fault_or start o later ≡ Some (w, n) → (later ≡ Some (w, n) → IsLeast before item (suc start) w n × (suc start ≤ w))
     → IsLeast before item start w n × (start ≤ w)
-least_at before item start (Some m) later w n t e r = grind (arith, common_steps, same_number) steps 200000
+least_at before item start (Some m) later w n t e r = grind (arith, common_steps, number_there, slice_get) steps 200000
 least_at before item start None later w n t e r =
     let i = r e in
-    let l = i.1 in
-    (record { found = i.0.found; least = λ v a b. at_start v a b (eq_or v a) }, omega arith) where
-      eq_or : (v : ℕ) → start ≤ v → (start ≡ v) ⊎ (suc start ≤ v)
-      eq_or v a = elim (dec_lt start v) [ yes l ↦ inr (omega arith) | no m ↦ inl (omega arith) ]
-
+    let l = i.1 in (
+      record { found = i.0.found; least = λ v a b. at_start v a b (elim (dec_lt start v) [ yes l ↦ inr (omega arith) | no m ↦ inl (omega arith) ]) },
+      omega arith,
+    ) where
       at_start : (v : ℕ) → start ≤ v → v < w → (start ≡ v) ⊎ (suc start ≤ v) → number_at before item v ≡ None
       at_start v a b (inl q) = subst (λ x. number_at before item x ≡ None) q t
       at_start v a b (inr l) = (r e).0.least v l b
@@ -134,9 +129,7 @@ one_fault before item w v n m a b =
     let x = a.least_word v m b.holds in
     let y = b.least_word w n a.holds in
     let same : w ≡ v = omega arith in
-    let p = a.lowest_number m (subst (λ k. StatementLineHolds before item k m) (sym same) b.holds) in
-    let q = b.lowest_number n (subst (λ k. StatementLineHolds before item k n) same a.holds) in
-    (same, same_number n m (omega arith))
+    grind (arith, common_steps, number_there, slice_get) steps 200000
 
 pub fault_cases : (before : List Item) (item : Item) → ((w : ℕ) × (n : FrameNumber) × IsStatementFault before item w n) ⊎ IsSound before item
 fault_cases before item = by_fault (fault before item) refl
@@ -159,23 +152,16 @@ sound_found before item s = by_fault (fault before item) refl
     by_fault (Some at) e = absurd (false≢true (sym (s at.0 at.1) ∙ (found_fault before item at.0 at.1 e).holds))
     by_fault None e = e
 
--- what is passed over has no fault
-pub passed_sound : (before : List Item) → IsSound before passed
-passed_sound before = grind (arith, common_steps) steps 200000
-
+-- an item as it is judged is sound
 judged_sound : (before : List Item) (item : Item) (o : Option (ℕ × FrameNumber)) → fault before item ≡ o → IsSound before (judged item o)
-judged_sound before item o e = grind (arith, common_steps, no_fault_sound, passed_sound) steps 200000
+judged_sound before item o e = grind (arith, common_steps, no_fault_sound) steps 200000
 
-pub kept_more : (before front : List Item) (x : Item) → AreKept before front → IsSound (before ++ front) x → AreKept before (front ++ x ∷ [])
-kept_more before [] x k s = (subst (λ w. IsSound w x) (append-nil before) s, tt)
-kept_more before (y ∷ front) x k s = (k.0, kept_more (before ++ y ∷ []) front x k.1 (subst (λ w. IsSound w x) (sym (append_assoc before (y ∷ []) front)) s))
+pub none_sound : AreSound []
+none_sound front item back e = absurd (omega (arith, ap length e, length-append front (item ∷ back)))
 
-kept_after_sound : (before items : List Item) → AreKept [] before → AreKept [] (sound_items_after before items)
+pub kept_after_sound : (before items : List Item) → AreSound before → AreSound (sound_items_after before items)
 kept_after_sound before [] k = k
-kept_after_sound before (item ∷ items) k = kept_after_sound (before ++ judged item (fault before item) ∷ []) items (kept_more [] before (judged item (fault before item)) k (judged_sound before item (fault before item) refl))
-
-pub kept_is_sound : (items : List Item) → AreKept [] (sound_items items)
-kept_is_sound items = kept_after_sound [] items tt
+kept_after_sound before (item ∷ items) k = kept_after_sound (before ++ judged item (fault before item) ∷ []) items (sound_more before (judged item (fault before item)) k (judged_sound before item (fault before item) refl))
 
 -- how the items are kept, from left to right
 pub kept_after_append : (before xs ys : List Item) → sound_items_after before (xs ++ ys) ≡ sound_items_after (sound_items_after before xs) ys

@@ -1,24 +1,18 @@
 -- What is kept of an item at its number, and the hypotheses of a frame by their numbers.
-use Rattle.std.proofs.lemmas.{Grind.{common_steps}, Bool.{and_from, and_parts}, List.{take-take, Elements.{All-from_get_or}}}
-use Rattle.std.proofs.lemmas.Option.{same_Some, slice_get_within, slice_get_cases, slice_get-get_or, get_or_from_slice_get}
+use Rattle.std.proofs.lemmas.{Option.{slice_get_within, get_or_from_slice_get, same_Some, slice_get_cases, slice_get-get_or}, Grind.{common_steps}, Bool.{and_from, and_parts}, List.{take-take}}
+use Rattle.std.proofs.lemmas.List.Elements.{All-from_get_or}
 use Rattle.std.proofs.Common.{◌≡◌, ◌↔◌, ℕ, zero, suc, ◌<◌, Bool, true, false, ◌&&◌, ◌||◌, Option, Some, None, List, [], ◌∷◌, length, map, take, take_all, slice_get, get_or, is_none, is_some, refl}
 use Rattle.std.{proofs.Common.{sym, ◌∙◌, ap, subst, arith, inl, inr}, specs.{Option.{option_map, IfSome}, Prelude.{Contains}, List.{AllZip}}}
-use Rattle.mm_store.specs.Language.FilesView.{FilesView}
-use Rattle.mm_frame.specs.{declared.FrameNumber.{FrameNumber}, Language.{Sound.{fault, judged, sound_items}, Framing.{is_mandatory, mandatory_variables, expression, hypothesis, mandatory_numbers}}}
-use Rattle.mm_frame.specs.Language.{Base.{BaseView, before, said_at, fault_by, hypothesis_at, is_sound_at, is_shown_at, is_framed_at, IsMandatoryAt, AreHypotheses}, Answering.{numbers_if}}
-use Rattle.mm_frame.{specs.Code.KeptBase.{is_float_item, hypotheses_at}, proofs.lemmas.{lists.Members.{In, in_contains, contains_in}, frames.Frames.{in_at}}}
+use Rattle.mm_frame.proofs.lemmas.lists.Members.{get_taken, front_get, get_between, In, in_contains, contains_in}
+use Rattle.mm_frame.proofs.lemmas.{base.BaseLemmas.{item_there, kept_item_at, none_told, kept_count, kept_at, kept_front_at, kept_are_sound}, frames.Frames.{in_at}}
 use Rattle.mm_frame.proofs.lemmas.{frames.HypothesisNumbers.{to_active_number, from_active_number, active_numbers_rise, hypotheses_by_numbers}, scope.SoundItems.{map_same}}
-use Rattle.mm_frame.proofs.lemmas.pairs.ActivePairLemmas.{expression_at_number, get_between}
-use Rattle.mm_frame.proofs.lemmas.base.BaseLemmas.{kept_item_at, none_told, labelled_there, kept_count, kept_at, kept_front_at, kept_are_sound}
+use Rattle.mm_frame.{proofs.lemmas.pairs.ActivePairLemmas.{expression_at_number}, specs.{declared.FrameNumber.{FrameNumber}, Language.Sound.{fault, judged, sound_items}}}
+use Rattle.mm_frame.specs.Language.Framing.{is_mandatory, mandatory_variables, hypothesis, mandatory_numbers}
+use Rattle.mm_frame.specs.Language.{Base.{BaseView, before, said_at, fault_by, hypothesis_at, is_sound_at, is_shown_at, is_framed_at, IsMandatoryAt, AreHypotheses}, Answering.{numbers_if}}
+use Rattle.mm_frame.specs.Code.KeptBase.{is_float_item, hypotheses_at}
+use Rattle.mm_store.specs.Language.FilesView.{FilesView}
 use Rattle.mm_statement.specs.Language.{Item.{Kind, Item, passed, is_floating, is_essential, is_labelled, has, variable_of, item_at}, Statement.{kind_of, Says}}
 use Rattle.mm_store.specs.declared.item.Item as store
-
--- an element of the front of a list
-pub get_front : {X : Type 0} (xs : List X) (i n : ℕ) (x : X) → slice_get (take i xs) n ≡ Some x → (n < i) × (slice_get xs n ≡ Some x)
-get_front xs zero n x e = cc
-get_front [] (suc i) n x e = cc
-get_front (y ∷ ys) (suc i) zero x e = (omega arith, e)
-get_front (y ∷ ys) (suc i) (suc n) x e = let r = get_front ys i n x e in (omega arith, r.1)
 
 -- the front of what is kept is what is kept of the front
 pub kept_front : (said : List Item) (i : ℕ) → take i (sound_items said) ≡ sound_items (take i said)
@@ -27,17 +21,7 @@ kept_front said i = elim (slice_get_cases said i).1 [
   | inr past ↦ (let c = kept_count said in let p = past.0 in take_all i (sound_items said) (omega arith) ∙ ap sound_items (sym (take_all i said p)))
 ]
 
--- what is kept at a number is what is said there, judged by the sound items before it
-pub kept_judged : (said : List Item) (n : ℕ) (x : Item) → slice_get (sound_items said) n ≡ Some x → x ≡ judged (item_at said n) (fault (sound_items (take n said)) (item_at said n))
-kept_judged said n x e =
-    let w = slice_get_within (sound_items said) n x e in
-    let c = kept_count said in
-    let item = item_at said n in
-    let k = kept_at said n item (slice_get-get_or said n passed (omega arith)) in
-    let one = judged item (fault (sound_items (take n said)) item) in
-    let here : slice_get (sound_items said) n ≡ Some one = ap (λ m. slice_get (sound_items said) m) (sym k.number) ∙ ap (λ v. slice_get v (length (sound_items (take n said)))) k.whole ∙ get_between (sound_items (take n said)) one k.rest in
-    cc
-
+-- an item that is judged and still has a label has no fault
 judged_labelled : (item : Item) (found : Option (ℕ × FrameNumber)) (x : Item) → x ≡ judged item found → is_labelled x.kind ≡ true → (x ≡ item) × (found ≡ None)
 judged_labelled item found x e t = grind (arith, common_steps) steps 200000
 
@@ -48,7 +32,13 @@ labelled_told kind t = grind (arith, common_steps) steps 200000
 pub shown_kept : (base : BaseView) (n : ℕ) (x : Item) → slice_get (sound_items base.said) n ≡ Some x → is_labelled x.kind ≡ true → (x ≡ said_at base n) × (is_shown_at base n ≡ true)
 shown_kept base n x e t =
     let item = said_at base n in
-    let j = judged_labelled item (fault (before base n) item) x (kept_judged base.said n x e) t in
+    let j =
+    judged_labelled item (fault (before base n) item) x
+    (let w = slice_get_within (sound_items base.said) n x e in let c = kept_count base.said in let item = item_at base.said n in
+    let k = kept_at base.said n item (slice_get-get_or base.said n passed (omega arith)) in
+    let one = judged item (fault (sound_items (take n base.said)) item) in
+    let here : slice_get (sound_items base.said) n ≡ Some one = ap (λ m. slice_get (sound_items base.said) m) (sym k.number)
+    ∙ ap (λ v. slice_get v (length (sound_items (take n base.said)))) k.whole ∙ get_between (sound_items (take n base.said)) one k.rest in cc) t in
     let u = sym (ap (λ (w : Item). is_labelled w.kind) j.0) ∙ t in
     (j.0, and_from (is_none (fault_by item.kind (fault (before base n) item))) (is_labelled item.kind) (ap (λ f. is_none (fault_by item.kind f)) j.1 ∙ ap is_none (labelled_told item.kind u)) u)
 
@@ -68,26 +58,19 @@ mandatory_at base i n k =
     let mandatory = mandatory_variables front (said_at base i) in
     let r = from_active_number (is_mandatory mandatory) front n k in
     let x = r.0 in
-    let g = get_front (sound_items base.said) i n x (subst (λ w. slice_get w n ≡ Some x) (sym (kept_front base.said i)) r.1) in
+    let g = get_taken (sound_items base.said) i n x (subst (λ w. slice_get w n ≡ Some x) (sym (kept_front base.said i)) r.1) in
     let t = hypothesis_labelled x.kind (has mandatory (variable_of x)) r.3 in
     let s = shown_kept base n x g.1 t in
     let there = get_or_from_slice_get front n x passed r.1 in
     let place : take n front ≡ before base n = ap (take n) (sym (kept_front base.said i)) ∙ take-take n i (sound_items base.said) (omega arith) ∙ kept_front base.said n in
-    let read = expression_at_number front (kept_are_sound (take i base.said)) n x r.1 r.2 t ∙ ap (λ w. expression w x) place in
-    grind (arith, common_steps) steps 200000
+    grind (arith, common_steps, expression_at_number front (kept_are_sound (take i base.said)) n x r.1 r.2 t, kept_are_sound (take i base.said)) steps 200000
 
 -- a sound item with a label is in the sound items
 pub shown_there : (base : BaseView) (j : ℕ) → is_shown_at base j ≡ true → slice_get (sound_items base.said) j ≡ Some (said_at base j)
 shown_there base j s =
     let p = and_parts (is_sound_at base j) (is_labelled (said_at base j).kind) s in
-    kept_item_at base.said j (said_at base j) (labelled_there base.said j p.1) (none_told (said_at base j).kind (fault (before base j) (said_at base j)) p.0)
-
--- an element of a list is one of a front that is long enough
-pub front_get : {X : Type 0} (xs : List X) (i n : ℕ) (x : X) → n < i → slice_get xs n ≡ Some x → slice_get (take i xs) n ≡ Some x
-front_get [] i n x l e = cc
-front_get (y ∷ ys) zero n x l e = absurd (omega arith)
-front_get (y ∷ ys) (suc i) zero x l e = e
-front_get (y ∷ ys) (suc i) (suc n) x l e = front_get ys i n x (omega arith) e
+    kept_item_at base.said j (said_at base j) (item_there is_labelled refl base.said j p.1)
+    (none_told (said_at base j).kind (fault (before base j) (said_at base j)) p.0)
 
 -- it is among the items before a later one
 pub shown_before : (base : BaseView) (i j : ℕ) → j < i → is_shown_at base j ≡ true → slice_get (before base i) j ≡ Some (said_at base j)

@@ -1,23 +1,21 @@
 -- The four facts of a frame.
-use Rattle.std.proofs.lemmas.{Grind.{common_steps}, Bool.{true≢false, or_cases, or_right, and_from, false_from_ne_true, and_parts}, List.Kept.{AllPairs-cons, AllPairs-filter}}
+use Rattle.std.proofs.lemmas.{List.{get_or-map, length-map, Kept.{AllPairs-cons, AllPairs-filter}}, Bool.{lt-ltb, not-false, true≢false, or_cases, or_right, and_from, false_from_ne_true, and_parts}}
+use Rattle.std.proofs.lemmas.Grind.{common_steps}
 use Rattle.std.proofs.Common.{◌≡◌, ◌≢◌, ℕ, zero, suc, ◌<◌, Bool, true, false, cond, ◌&&◌, Some, List, [], ◌∷◌, ◌++◌, length, map, filter, take, slice_get, slice_index_or, get_or, refl, sym, ◌∙◌, ap}
-use Rattle.std.{proofs.Common.{subst, append_assoc, arith, inl, inr, ◌⊎◌}, specs.Prelude.{Contains, All, AllPairs}}
+use Rattle.std.{proofs.Common.{subst, append_assoc, arith, inl, inr, ◌⊎◌}, specs.Prelude.{All, AllPairs}}
+use Rattle.mm_frame.proofs.lemmas.scope.Facts.{sound_front, and_rest, no_symbol_of, not_constant, first_constant, known, float_variable, float_new, float_two}
+use Rattle.mm_frame.proofs.lemmas.{scope.ActiveBySplit.{stays_join, active_split, split_active, stays_front}, faults.FoundFaults.{none_sound, kept_after_sound}}
+use Rattle.mm_frame.proofs.lemmas.lists.Members.{In, in_contains, contains_in, in_left, in_right, in_cases, in_map, from_map, in_filter, from_filter, from_flat, in_get, has_in, in_has, from_symbols}
+use Rattle.mm_frame.{proofs.lemmas.lists.Members.{to_symbols, in_cond}, specs.Language.Sound.{AreSound, is_untyped, later, IsSound, sound_items}}
+use Rattle.mm_frame.specs.Language.Scope.{Neither, mark_of, stays, active, symbols_by, constants, active_variables, typed, floats}
+use Rattle.mm_frame.specs.Language.Framing.{symbol, expression, mandatory_variables, is_mandatory, hypothesis, mandatory_hypotheses, pairs_of, active_pairs, is_mandatory_pair, frame, meaning}
+use Rattle.mm_frame.specs.{Language.Framing.{resolve_from, setting_of}, declared.FrameNumber.TheVariants.{F11}}
 use Rattle.mm_machine.specs.Language.{Frame.{Symbol, Mandatory, Frame, Hypothesis, Assertion, Inactive, HasVariable}, Typing.{IsTyped, IsTyping, IsFrame, HasFrames}}
 use Rattle.mm_statement.specs.Language.Item.{Kind, Item, is_variables, is_disjoint, is_floating, is_essential, is_expression, is_labelled, is_assertion, has, labels_of, variable_of}
-use Rattle.mm_frame.specs.Language.{Scope.{Neither, mark_of, stays, active, symbols_by, constants, active_variables, typed, floats}, Sound.{IsSound, sound_items}}
-use Rattle.mm_frame.specs.Language.Framing.{symbol, expression, mandatory_variables, is_mandatory, hypothesis, mandatory_hypotheses, pairs_of, active_pairs, is_mandatory_pair, frame, meaning}
-use Rattle.mm_frame.specs.Language.Framing.{resolve_from, setting_of}
-use Rattle.mm_frame.proofs.lemmas.lists.Members.{In, in_contains, contains_in, in_left, in_right, in_cases, in_map, from_map, in_filter, from_filter, from_flat, in_get, has_in, in_has, from_symbols}
-use Rattle.mm_frame.proofs.lemmas.{lists.Members.{to_symbols, in_cond}, scope.ActiveBySplit.{active_split, split_active, active_later, stays_front}}
-use Rattle.mm_frame.proofs.lemmas.scope.Facts.{AreKept, sound_at, kept_front, not_constant, first_constant, known, typed_there, float_variable, float_new, float_two}
-use Rattle.mm_frame.proofs.lemmas.faults.FoundFaults.{kept_is_sound}
 
 -- kinds
 pub float_labelled : (k : Kind) → is_floating k ≡ true → is_labelled k ≡ true
 float_labelled k e = grind (arith, common_steps) steps 200000
-
-pub float_neither : (k : Kind) → is_floating k ≡ true → mark_of k ≡ Neither
-float_neither k e = grind (arith, common_steps) steps 200000
 
 pub essential_expression : (k : Kind) → is_essential k ≡ true → is_expression k ≡ true
 essential_expression k e = grind (arith, common_steps) steps 200000
@@ -38,7 +36,7 @@ constants_later front e back n h = grind (arith, common_steps, from_symbols, in_
 pub variables_later : (front : List Item) (e : Item) (back : List Item) (n : List ℕ) → mark_of e.kind ≡ Neither → stays back ≡ true → In n (active_variables front) → In n (active_variables (front ++ e ∷ back))
 variables_later front e back n m s h =
     let r = from_symbols is_variables n (active front) h in
-    to_symbols is_variables n (active (front ++ e ∷ back)) r.0 (active_later front e back r.0 m s r.1) r.2 r.3
+    to_symbols is_variables n (active (front ++ e ∷ back)) r.0 (grind (arith, common_steps, active_split, split_active, stays_join, r.1) steps 200000) r.2 r.3
 
 -- an active `$f` with its variable
 pub from_typed : (xs : List Item) (n : List ℕ) → In n (typed xs) → (f : Item) × In f (active xs) × (is_floating f.kind ≡ true) × (variable_of f ≡ n)
@@ -48,16 +46,17 @@ pub to_typed : (xs : List Item) (f : Item) → In f (active xs) → is_floating 
 to_typed xs f h t = in_map variable_of f (floats (active xs)) (in_filter (λ (item : Item). is_floating item.kind) f (active xs) h t)
 
 typed_later : (front : List Item) (e : Item) (back : List Item) (n : List ℕ) → mark_of e.kind ≡ Neither → stays back ≡ true → In n (typed front) → In n (typed (front ++ e ∷ back))
-typed_later front e back n m s h =
-    grind (arith, common_steps, from_typed front n h, to_typed (front ++ e ∷ back) (from_typed front n h).0 (active_later front e back (from_typed front n h).0 m s (from_typed front n h).1) (from_typed front n h).2) steps 200000
+typed_later front e back n m s h = grind (arith, common_steps, from_typed, to_typed, active_split, split_active, stays_join) steps 200000
 
 -- each variable of a sound expression is typed
-variable_typed : (before : List Item) (item : Item) (name : List ℕ) → AreKept [] before → IsSound before item → is_expression item.kind ≡ true → In name item.symbols → In name (active_variables before) → In name (typed before)
+variable_typed : (before : List Item) (item : Item) (name : List ℕ) → AreSound before → IsSound before item → is_expression item.kind ≡ true → In name item.symbols → In name (active_variables before) → In name (typed before)
 variable_typed before item name k s t h v = by_place (in_get name item.symbols h)
   where
     by_place : (p : (k : ℕ) × (slice_get item.symbols k ≡ Some name)) → In name (typed before)
     by_place (zero, g) = absurd (not_constant before k name (first_constant before item name s (expression_labelled item.kind t) g) v)
-    by_place (suc j, g) = typed_there before item j name s t g v
+    by_place (suc j, g) =
+        let f = no_symbol_of (is_expression item.kind) (later (is_untyped before)) item (λ word. s word F11) t (suc j) name g in
+        grind (arith, common_steps, and_rest, lt-ltb, in_has, has_in, not-false) steps 200000
 
 -- a name of a sound expression is a constant or an active variable
 name_known : (before : List Item) (item : Item) (name : List ℕ) → IsSound before item → is_expression item.kind ≡ true → In name item.symbols → In name (constants before) ⊎ In name (active_variables before)
@@ -68,19 +67,20 @@ name_known before item name s t h = by_place (in_get name item.symbols h)
     by_place (suc j, g) = known before item j name s t g
 
 -- each variable of an active `$e` is typed
-pub essential_typed : (before : List Item) (e : Item) (name : List ℕ) → AreKept [] before → In e (active before) → is_essential e.kind ≡ true → In name e.symbols → In name (active_variables before) → In name (typed before)
+pub essential_typed : (before : List Item) (e : Item) (name : List ℕ) → AreSound before → In e (active before) → is_essential e.kind ≡ true → In name e.symbols → In name (active_variables before) → In name (typed before)
 essential_typed before e name k h t n v =
     let s = active_split before e h in
-    let kept_all = subst (λ w. AreKept [] w) s.whole k in
-    let sound = sound_at [] s.front e s.back kept_all in
+    let sound = k s.front e s.back s.whole in
     let x = essential_expression e.kind t in
     elim (name_known s.front e name sound x n) [
       | inl c ↦ absurd (not_constant before k name (subst (λ w. In name (constants w)) (sym s.whole) (constants_later s.front e s.back name c)) v)
-      | inr a ↦ subst (λ w. In name (typed w)) (sym s.whole) (typed_later s.front e s.back name (essential_neither e.kind t) s.stayed (variable_typed s.front e name (kept_front [] s.front (e ∷ s.back) kept_all) sound x n a))
+      | inr a ↦ subst (λ w. In name (typed w)) (sym s.whole)
+          (typed_later s.front e s.back name (essential_neither e.kind t) s.stayed
+          (variable_typed s.front e name (sound_front s.front (e ∷ s.back) (subst AreSound s.whole k)) sound x n a))
     ]
 
 -- each mandatory variable is typed
-pub mandatory_typed : (before : List Item) (item : Item) (name : List ℕ) → AreKept [] before → IsSound before item → is_expression item.kind ≡ true
+pub mandatory_typed : (before : List Item) (item : Item) (name : List ℕ) → AreSound before → IsSound before item → is_expression item.kind ≡ true
     → In name (mandatory_variables before item) → In name (active_variables before) × In name (typed before)
 mandatory_typed before item name k s t h =
     let f = from_filter (has (active_variables before)) name (item.symbols ++ symbols_by is_essential (active before)) h in
@@ -100,20 +100,28 @@ pub record Float (before : List Item) (f : Item) : Type 0 where
   pub constant : has (active_variables before) typecode ≡ false
   pub variable : has (active_variables before) name ≡ true
 
-pub float_of : (before : List Item) (f : Item) → AreKept [] before → In f (active before) → is_floating f.kind ≡ true → Float before f
+pub float_of : (before : List Item) (f : Item) → AreSound before → In f (active before) → is_floating f.kind ≡ true → Float before f
 float_of before f k h t =
     let s = active_split before f h in
-    let sound = sound_at [] s.front f s.back (subst (λ w. AreKept [] w) s.whole k) in
+    let sound = k s.front f s.back s.whole in
     let two = float_two s.front f sound t in
-    let c = first_constant s.front f two.0 sound (float_labelled f.kind t) (ap (λ w. slice_get w 0) two.2) in
     let v = float_variable s.front f two.1 sound t (ap (λ w. slice_get w 1) two.2) in
-    grind (arith, common_steps, constants_later s.front f s.back two.0 c, variables_later s.front f s.back two.1 (float_neither f.kind t) s.stayed v, false_from_ne_true, not_constant, has_in, in_has) steps 200000
+    grind (
+      arith,
+      common_steps,
+      constants_later s.front f s.back two.0 (first_constant s.front f two.0 sound (float_labelled f.kind t) (ap (λ w. slice_get w 0) two.2)),
+      variables_later s.front f s.back two.1 (grind (arith, common_steps) steps 200000) s.stayed v,
+      false_from_ne_true,
+      not_constant,
+      has_in,
+      in_has,
+    ) steps 200000
 
 pub float_name : (before : List Item) (f : Item) (x : Float before f) → variable_of f ≡ x.name
 float_name before f x = ap (λ w. slice_index_or w 1 []) x.both
 
 -- a mandatory variable has a mandatory `$f`
-named_typed : (before : List Item) (item : Item) (name : List ℕ) → AreKept [] before → IsSound before item → is_expression item.kind ≡ true → In name (mandatory_variables before item) → IsTyped (mandatory_hypotheses before item) (symbol before name)
+named_typed : (before : List Item) (item : Item) (name : List ℕ) → AreSound before → IsSound before item → is_expression item.kind ≡ true → In name (mandatory_variables before item) → IsTyped (mandatory_hypotheses before item) (symbol before name)
 named_typed before item name k s t h =
     let r = from_typed before name (mandatory_typed before item name k s t h).1 in
     let x = float_of before r.0 k r.1 r.2 in
@@ -138,11 +146,10 @@ in_at [] k d l = absurd (omega arith)
 in_at (x ∷ xs) zero d l = inl refl
 in_at (x ∷ xs) (suc k) d l = inr (in_at xs k d (omega arith))
 
-others : (front : List Item) (x : Item) (back : List Item) → AreKept [] (front ++ x ∷ back) → stays back ≡ true → (y : Item) → In y (active back) → TypeOthers x y
+others : (front : List Item) (x : Item) (back : List Item) → AreSound (front ++ x ∷ back) → stays back ≡ true → (y : Item) → In y (active back) → TypeOthers x y
 others front x back k s y h fx fy e =
     let t = active_split back y h in
-    let whole : front ++ x ∷ back ≡ (front ++ x ∷ t.front) ++ y ∷ t.back = ap (λ w. front ++ x ∷ w) t.whole ∙ sym (append_assoc front (x ∷ t.front) (y ∷ t.back)) in
-    let sound = sound_at [] (front ++ x ∷ t.front) y t.back (subst (λ w. AreKept [] w) whole k) in
+    let sound = k (front ++ x ∷ t.front) y t.back (ap (λ w. front ++ x ∷ w) t.whole ∙ sym (append_assoc front (x ∷ t.front) (y ∷ t.back))) in
     let there = to_typed (front ++ x ∷ t.front) x (split_active front x t.front (stays_front t.front (y ∷ t.back) (subst (λ w. stays w ≡ true) t.whole s))) fx in
     let two = float_two (front ++ x ∷ t.front) y sound fy in
     let name : variable_of y ≡ two.1 = ap (λ w. slice_index_or w 1 []) two.2 in
@@ -152,27 +159,26 @@ pairs_if : (b : Bool) (x : Item) (xs : List Item) → (b ≡ true → All (TypeO
 pairs_if true x xs a p = AllPairs-cons TypeOthers x xs (a refl) p
 pairs_if false x xs a p = p
 
-active_typed_once : (front xs : List Item) → AreKept [] (front ++ xs) → AllPairs TypeOthers (active xs)
+active_typed_once : (front xs : List Item) → AreSound (front ++ xs) → AllPairs TypeOthers (active xs)
 active_typed_once front [] k = λ i j d l m. absurd (omega arith)
 active_typed_once front (x ∷ xs) k =
-    pairs_if (stays xs) x (active xs) (λ s. λ i d l. others front x xs k s (get_or (active xs) i d) (in_at (active xs) i d l)) (active_typed_once (front ++ x ∷ []) xs (subst (λ w. AreKept [] w) (sym (append_assoc front (x ∷ []) xs)) k))
+    pairs_if (stays xs) x (active xs) (λ s. λ i d l. others front x xs k s (get_or (active xs) i d) (in_at (active xs) i d l)) (active_typed_once (front ++ x ∷ []) xs (subst AreSound (sym (append_assoc front (x ∷ []) xs)) k))
 
 pairs_map : {X Y : Type 0} (R : X → X → Type 0) (S : Y → Y → Type 0) (f : X → Y) (xs : List X) → ((x y : X) → In x xs → In y xs → R x y → S (f x) (f y)) → AllPairs R xs → AllPairs S (map f xs)
-pairs_map R S f [] g p = λ i j d l m. absurd (omega arith)
-pairs_map R S f (x ∷ xs) g p =
-    AllPairs-cons S (f x) (map f xs) (all_map R S f x xs (λ y h. g x y (inl refl) (inr h)) (λ i d l. p 0 (suc i) d (omega arith) (omega arith)))
-    (pairs_map R S f xs (λ a b h k. g a b (inr h) (inr k)) (λ i j d l m. p (suc i) (suc j) d (omega arith) (omega arith))) where
-      all_map : {X Y : Type 0} (R : X → X → Type 0) (S : Y → Y → Type 0) (f : X → Y) (x : X) (xs : List X) → ((y : X) → In y xs → R x y → S (f x) (f y)) → All (R x) xs → All (S (f x)) (map f xs)
-      all_map R S f x [] g a i d l = absurd (omega arith)
-      all_map R S f x (y ∷ ys) g a zero d l = g y (inl refl) (a 0 y (omega arith))
-      all_map R S f x (y ∷ ys) g a (suc i) d l = all_map R S f x ys (λ z h. g z (inr h)) (λ k e m. a (suc k) e (omega arith)) i d (omega arith)
+pairs_map R S f [] g p i j d l m = absurd (omega arith)
+pairs_map R S f (x ∷ xs) g p i j d l m =
+    let w : j < length (x ∷ xs) = omega (arith, m, length-map (x ∷ xs) f) in
+    let v : i < length (x ∷ xs) = omega arith in
+    subst (λ b. S (get_or (map f (x ∷ xs)) i d) b) (sym (get_or-map f (x ∷ xs) j x d w))
+    (subst (λ a. S a (f (get_or (x ∷ xs) j x))) (sym (get_or-map f (x ∷ xs) i x d v))
+    (g (get_or (x ∷ xs) i x) (get_or (x ∷ xs) j x) (in_at (x ∷ xs) i x v) (in_at (x ∷ xs) j x w) (p i j x l w)))
 
 -- what a hypothesis of a frame comes from
 hypothesis_from : (before : List Item) (item : Item) (h : Mandatory) → In h (mandatory_hypotheses before item) → (f : Item) × In f (active before) × (is_mandatory (mandatory_variables before item) f ≡ true) × (hypothesis before f ≡ h)
 hypothesis_from before item h c = grind (arith, common_steps, from_filter, from_map) steps 200000
 
 -- each variable of a mandatory hypothesis is mandatory
-hypothesis_mandatory : (before : List Item) (item f : Item) (name : List ℕ) → AreKept [] before → In f (active before)
+hypothesis_mandatory : (before : List Item) (item f : Item) (name : List ℕ) → AreSound before → In f (active before)
     → is_mandatory (mandatory_variables before item) f ≡ true → In name f.symbols → In name (active_variables before)
     → In name (mandatory_variables before item)
 hypothesis_mandatory before item f name k h m n v = elim (or_cases (is_essential f.kind) (is_floating f.kind && has (mandatory_variables before item) (variable_of f)) m) [
@@ -187,36 +193,18 @@ hypothesis_mandatory before item f name k h m n v = elim (or_cases (is_essential
       ])
 ]
 
-expression_typed : (before : List Item) (item : Item) → AreKept [] before → IsSound before item → is_expression item.kind ≡ true → (v : Symbol) → HasVariable (expression before item) v → IsTyped (mandatory_hypotheses before item) v
+expression_typed : (before : List Item) (item : Item) → AreSound before → IsSound before item → is_expression item.kind ≡ true → (v : Symbol) → HasVariable (expression before item) v → IsTyped (mandatory_hypotheses before item) v
 expression_typed before item k s t v h =
     let r = read_variable before item.symbols v h in
     let m = in_filter (has (active_variables before)) r.0 (item.symbols ++ symbols_by is_essential (active before)) (in_left r.0 item.symbols (symbols_by is_essential (active before)) r.1) (in_has (active_variables before) r.0 r.2) in
     subst (IsTyped (mandatory_hypotheses before item)) r.3 (named_typed before item r.0 k s t m)
 
-hypothesis_typed : (before : List Item) (item : Item) → AreKept [] before → IsSound before item → is_expression item.kind ≡ true → (h : Mandatory)
-    → Contains (mandatory_hypotheses before item) h → (v : Symbol) → HasVariable h.expression v → IsTyped (mandatory_hypotheses before item) v
-hypothesis_typed before item k s t h c v w =
-    let f = hypothesis_from before item h (contains_in h (mandatory_hypotheses before item) c) in
-    let r = read_variable before (f.0).symbols v (subst (λ (x : Mandatory). HasVariable x.expression v) (sym f.3) w) in
-    subst (IsTyped (mandatory_hypotheses before item)) r.3 (named_typed before item r.0 k s t (hypothesis_mandatory before item f.0 r.0 k f.1 f.2 r.1 r.2))
-
-typing : (before : List Item) (item : Item) → AreKept [] before → (h : Mandatory) → In h (mandatory_hypotheses before item) → h.floating ≡ true → IsTyping h.expression
-typing before item k h c t =
-    let f = hypothesis_from before item h c in
-    let x = float_of before f.0 k f.1 (ap (λ (w : Mandatory). w.floating) f.3 ∙ t) in
-    subst (λ (w : Mandatory). IsTyping w.expression) f.3 (symbol before x.typecode, symbol before x.name, ap (map (symbol before)) x.both, x.constant, x.variable)
-
-typed_once : (before : List Item) (item : Item) → AreKept [] before → AllPairs (λ h g. h.floating ≡ true → g.floating ≡ true → slice_get h.expression 1 ≢ slice_get g.expression 1) (mandatory_hypotheses before item)
+typed_once : (before : List Item) (item : Item) → AreSound before → AllPairs (λ h g. h.floating ≡ true → g.floating ≡ true → slice_get h.expression 1 ≢ slice_get g.expression 1) (mandatory_hypotheses before item)
 typed_once before item k =
     pairs_map TypeOthers (λ (h g : Mandatory). h.floating ≡ true → g.floating ≡ true → slice_get h.expression 1 ≢ slice_get g.expression 1) (hypothesis before) (filter (is_mandatory (mandatory_variables before item)) (active before))
     (λ x y hx hy r fx fy e.
-    let ax = (from_filter (is_mandatory (mandatory_variables before item)) x (active before) hx).0 in
-    let ay = (from_filter (is_mandatory (mandatory_variables before item)) y (active before) hy).0 in
-    let u = float_of before x k ax fx in
-    let v = float_of before y k ay fy in
-    let a : slice_get (expression before x) 1 ≡ Some (symbol before u.name) = ap (λ w. slice_get (map (symbol before) w) 1) u.both in
-    let b : slice_get (expression before y) 1 ≡ Some (symbol before v.name) = ap (λ w. slice_get (map (symbol before) w) 1) v.both in
-    let o : Some (symbol before u.name) ≡ Some (symbol before v.name) = sym a ∙ e ∙ b in
+    let u = float_of before x k (from_filter (is_mandatory (mandatory_variables before item)) x (active before) hx).0 fx in
+    let v = float_of before y k (from_filter (is_mandatory (mandatory_variables before item)) y (active before) hy).0 fy in
     let n : symbol before u.name ≡ symbol before v.name = cc in
     r fx fy (float_name before x u ∙ ap (λ (w : Symbol). w.name) n ∙ sym (float_name before y v)))
     (AllPairs-filter TypeOthers (is_mandatory (mandatory_variables before item)) (active before) (active_typed_once [] before k))
@@ -229,14 +217,14 @@ from_pairs pair (x ∷ xs) h = elim (in_cases pair (map (λ y. (x, y)) xs) (pair
   | inr b ↦ (let r = from_pairs pair xs b in (inr r.0, inr r.1))
 ]
 
-side_typed : (before : List Item) (item d : Item) → AreKept [] before → IsSound before item → is_expression item.kind ≡ true → (s : Symbol)
+side_typed : (before : List Item) (item d : Item) → AreSound before → IsSound before item → is_expression item.kind ≡ true → (s : Symbol)
     → In s (expression before d) → has (mandatory_variables before item) s.name ≡ true → (s.variable ≡ true) × IsTyped (mandatory_hypotheses before item) s
 side_typed before item d k t x s h m =
     let r = from_map (symbol before) s d.symbols h in
     let n = subst (λ (w : Symbol). In w.name (mandatory_variables before item)) (sym r.2) (has_in (mandatory_variables before item) s.name m) in
     (ap (λ (w : Symbol). w.variable) (sym r.2) ∙ (in_has (active_variables before) r.0 (mandatory_typed before item r.0 k t x n).0), subst (IsTyped (mandatory_hypotheses before item)) r.2 (named_typed before item r.0 k t x n))
 
-pub pairs_typed_at : (before : List Item) (item : Item) → AreKept [] before → IsSound before item → is_expression item.kind ≡ true
+pub pairs_typed_at : (before : List Item) (item : Item) → AreSound before → IsSound before item → is_expression item.kind ≡ true
     → (pair : Symbol × Symbol) → In pair (filter (is_mandatory_pair (mandatory_variables before item)) (active_pairs before))
     → (pair.0.variable ≡ true) × (pair.1.variable ≡ true) × IsTyped (mandatory_hypotheses before item) pair.0 × IsTyped (mandatory_hypotheses before item) pair.1
 pairs_typed_at before item k s t pair h =
@@ -244,35 +232,40 @@ pairs_typed_at before item k s t pair h =
     let r = from_flat (λ (d : Item). cond (is_disjoint d.kind) (pairs_of (expression before d)) []) pair (active before) f.0 in
     let p = from_pairs pair (expression before r.0) (in_cond (is_disjoint (r.0).kind) pair (pairs_of (expression before r.0)) r.2).1 in
     let m = and_parts (has (mandatory_variables before item) pair.0.name) (has (mandatory_variables before item) pair.1.name) f.1 in
-    let x = side_typed before item r.0 k s t pair.0 p.0 m.0 in
-    let y = side_typed before item r.0 k s t pair.1 p.1 m.1 in
-    (x.0, y.0, x.1, y.1)
+    grind (arith, common_steps, side_typed before item r.0 k s t pair.0 p.0 m.0, side_typed before item r.0 k s t pair.1 p.1 m.1) steps 200000
 
-pub is_frame : (before : List Item) (item : Item) → AreKept [] before → IsSound before item → is_expression item.kind ≡ true → IsFrame (frame before item)
+pub is_frame : (before : List Item) (item : Item) → AreSound before → IsSound before item → is_expression item.kind ≡ true → IsFrame (frame before item)
 is_frame before item k s t = record {
   expression_typed = expression_typed before item k s t;
-  hypotheses_typed = hypothesis_typed before item k s t;
+  hypotheses_typed =
+      (λ h c v w. let f = hypothesis_from before item h (contains_in h (mandatory_hypotheses before item) c) in
+      let r = read_variable before (f.0).symbols v (subst (λ (x : Mandatory). HasVariable x.expression v) (sym f.3) w) in
+      subst (IsTyped (mandatory_hypotheses before item)) r.3 (named_typed before item r.0 k s t (hypothesis_mandatory before item f.0 r.0 k f.1 f.2 r.1 r.2)));
   pairs_typed = λ i d l. pairs_typed_at before item k s t (get_or (frame before item).pairs i d) (in_at (frame before item).pairs i d l);
-  typings = λ i d l. typing before item k (get_or (mandatory_hypotheses before item) i d) (in_at (mandatory_hypotheses before item) i d l);
+  typings =
+      λ i d l. (λ t. let f = hypothesis_from before item (get_or (mandatory_hypotheses before item) i d) (in_at (mandatory_hypotheses before item) i d l) in
+      let x = float_of before f.0 k f.1 (ap (λ (w : Mandatory). w.floating) f.3 ∙ t) in
+      subst (λ (w : Mandatory). IsTyping w.expression) f.3
+      (symbol before x.typecode, symbol before x.name, ap (map (symbol before)) x.both, x.constant, x.variable));
   typed_once = typed_once before item k;
 }
 
 -- what resolves to an assertion is one that is sound
-resolved_at : (whole front : List Item) (item : Item) (back : List Item) (label : List ℕ) (f : Frame) (b : Bool) → AreKept [] (front ++ item ∷ back)
+resolved_at : (whole front : List Item) (item : Item) (back : List Item) (label : List ℕ) (f : Frame) (b : Bool) → AreSound (front ++ item ∷ back)
     → cond b (meaning whole front item back) (resolve_from whole (front ++ item ∷ []) back label) ≡ Assertion f
     → (resolve_from whole (front ++ item ∷ []) back label ≡ Assertion f → IsFrame f) → IsFrame f
 resolved_at whole front item back label f true k e r = by_kind (is_assertion item.kind) (stays back) refl e
   where
     by_kind : (a s : Bool) → is_assertion item.kind ≡ a → cond a (Assertion (frame front item)) (cond s (Hypothesis (expression whole item)) Inactive) ≡ Assertion f → IsFrame f
-    by_kind true s t h = let same : frame front item ≡ f = cc in subst IsFrame same (is_frame front item (kept_front [] front (item ∷ back) k) (sound_at [] front item back k) (assertion_expression item.kind t))
+    by_kind true s t h = let same : frame front item ≡ f = cc in subst IsFrame same (is_frame front item (sound_front front (item ∷ back) k) (k front item back refl) (assertion_expression item.kind t))
     by_kind false true t h = cc
     by_kind false false t h = cc
 resolved_at whole front item back label f false k e r = r e
 
-resolved : (whole front back : List Item) (label : List ℕ) (f : Frame) → AreKept [] (front ++ back) → resolve_from whole front back label ≡ Assertion f → IsFrame f
+resolved : (whole front back : List Item) (label : List ℕ) (f : Frame) → AreSound (front ++ back) → resolve_from whole front back label ≡ Assertion f → IsFrame f
 resolved whole front [] label f k e = cc
 resolved whole front (item ∷ back) label f k e = resolved_at whole front item back label f (has (labels_of item) label) k e
-    (λ h. resolved whole (front ++ item ∷ []) back label f (subst (λ w. AreKept [] w) (sym (append_assoc front (item ∷ []) back)) k) h)
+    (λ h. resolved whole (front ++ item ∷ []) back label f (subst AreSound (sym (append_assoc front (item ∷ []) back)) k) h)
 
 pub has_frames : (items : List Item) (j : ℕ) → HasFrames (setting_of items j)
-has_frames items j label f e = resolved (sound_items (take j items)) [] (sound_items (take j items)) label f (kept_is_sound (take j items)) e
+has_frames items j label f e = resolved (sound_items (take j items)) [] (sound_items (take j items)) label f (kept_after_sound [] (take j items) none_sound) e

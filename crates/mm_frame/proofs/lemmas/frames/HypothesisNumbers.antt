@@ -1,16 +1,15 @@
 -- The mandatory hypotheses of a statement are those whose numbers the tables give.
 use Rattle.std.proofs.lemmas.{Grind.{common_steps}, Bool.{or_cases, or_left, or_right, and_from, false_from_ne_true, and_parts}, Option.{get_or_from_slice_get, slice_get_within}}
-use Rattle.std.proofs.lemmas.{List.{length-take-le, Kept.{AllPairs-cons}}, Simd.{map-map}}
+use Rattle.std.proofs.lemmas.{List.{length-take-le, Kept.{AllPairs-cons}}, Simd.{map-map}, Slice.Eq.{bytes_eq-Decides}}
 use Rattle.std.proofs.Common.{◌≡◌, ℕ, zero, suc, ◌+◌, ◌<◌, Bool, true, false, cond, ◌&&◌, Option, Some, None, List, [], ◌∷◌, ◌++◌, length, map, filter, take, drop, slice_get, get_or, refl, sym, ◌∙◌}
-use Rattle.std.{proofs.{Common.{ap, subst, append_assoc, arith, inl, inr}, Math.Seq.{drop-nil}}, specs.Prelude.{Contains, ◌↔◌}}
-use Rattle.mm_statement.specs.Language.Item.{Item, passed, is_floating, is_essential, is_expression, has, variable_of, item_at}
+use Rattle.std.{proofs.{Common.{ap, subst, append_assoc, arith, inl, inr, bytes_eq}, Math.Seq.{drop-nil}}, specs.Prelude.{Contains, ◌↔◌}}
+use Rattle.mm_frame.proofs.lemmas.lists.Members.{in_right, get_between, first_cases, in_first, in_later, In, in_contains, contains_in, in_get, has_in, in_has}
+use Rattle.mm_frame.proofs.lemmas.scope.{ActiveBySplit.{closed_join, split_active, stays_front}, Facts.{float_new}, SoundItems.{split_at}}
+use Rattle.mm_frame.proofs.lemmas.{scope.TableLemmas.{last_cases, last_none, last_number, last_is, stands_in, typed_by, float_second, typed_last}, frames.Frames.{to_typed, mandatory_typed, in_at}}
 use Rattle.mm_frame.specs.Language.{Scope.{Closes, mark_of, stays, active, typed, active_numbers_from, active_numbers}, Sound.{IsSound, AreSound}}
 use Rattle.mm_frame.specs.Language.Framing.{mandatory_variables, is_mandatory, hypothesis, mandatory_hypotheses, mandatory_numbers}
 use Rattle.mm_frame.specs.Code.LastItems.{last_where, is_active_at, is_active_last, types, is_essential_item, IsHypothesisNumber, IsRising}
-use Rattle.mm_frame.proofs.lemmas.{lists.Members.{In, in_contains, contains_in, in_get, has_in, in_has}, scope.{ActiveBySplit.{split_active, in_first, in_later, stays_front}, Facts.{float_new}}}
-use Rattle.mm_frame.proofs.lemmas.scope.SoundItems.{split_at, sound_kept}
-use Rattle.mm_frame.proofs.lemmas.scope.TableLemmas.{last_cases, last_none, last_number, last_is, first_cases, stands_in, typing, typed_by, float_second, typed_last, closed_next}
-use Rattle.mm_frame.proofs.lemmas.frames.Frames.{to_typed, mandatory_typed, in_at}
+use Rattle.mm_statement.specs.Language.Item.{Item, passed, is_floating, is_essential, is_expression, has, variable_of, item_at}
 
 -- an active item that passes has its number among the numbers
 numbered : (test : Item → Bool) (n : ℕ) (items : List Item) (k : ℕ) (x : Item) → slice_get items k ≡ Some x → stays (drop (suc k) items) ≡ true → test x ≡ true → In (n + k) (active_numbers_from test n items)
@@ -80,7 +79,7 @@ next_step false n ms ns = refl
 
 next_from : (test : Item → Bool) (n : ℕ) (items : List Item) (item : Item) → (mark_of item.kind ≡ Closes → ⊥) → active_numbers_from test n (items ++ item ∷ []) ≡ active_numbers_from test n items ++ cond (test item) ((n + length items) ∷ []) []
 next_from test n [] item c = let z : n ≡ n + 0 = omega arith in ap (λ w. cond (test item) (w ∷ []) []) z
-next_from test n (x ∷ xs) item c = grind (arith, common_steps, next_from test (suc n) xs item c, closed_next, next_step) steps 200000
+next_from test n (x ∷ xs) item c = grind (arith, common_steps, next_from test (suc n) xs item c, closed_join, next_step) steps 200000
 
 pub active_numbers_more : (test : Item → Bool) (items : List Item) (item : Item) → (mark_of item.kind ≡ Closes → ⊥) → active_numbers test (items ++ item ∷ []) ≡ active_numbers test items ++ cond (test item) (length items ∷ []) []
 active_numbers_more test items item c = let z : 0 + length items ≡ length items = omega arith in next_from test 0 items item c ∙ ap (λ w. active_numbers test items ++ cond (test item) (w ∷ []) []) z
@@ -96,6 +95,12 @@ above n ns m r h =
 
 pub behind : (n : ℕ) (ns : List ℕ) → IsRising (n ∷ ns) → IsRising ns
 behind n ns r i j d l m = r (suc i) (suc j) d (omega arith) (omega arith)
+
+-- of rising numbers those of a beginning are less than those after it
+pub front_below : (numbers rest : List ℕ) (n m : ℕ) → IsRising (numbers ++ rest) → In n numbers → In m rest → n < m
+front_below [] rest n m r h k = absurd h
+front_below (x ∷ xs) rest n m r (inl e) k = let l = above x (xs ++ rest) m r (in_right m xs rest k) in omega arith
+front_below (x ∷ xs) rest n m r (inr h) k = front_below xs rest n m (behind x (xs ++ rest) r) h k
 
 same_first : (m n : ℕ) (ms ns : List ℕ) → IsRising (m ∷ ms) → IsRising (n ∷ ns) → In m (n ∷ ns) → In n (m ∷ ms) → m ≡ n
 same_first m n ms ns r s (inl e) k = sym e
@@ -123,7 +128,8 @@ active_float_last before h n x e s t =
     let whole = split_at before n x e in
     let w = slice_get_within before n x e in
     ap (last_where (types name)) whole
-    ∙ last_is (types name) front x back (typing name x t refl) (λ y k. false_from_ne_true (types name y) (λ u.
+    ∙ last_is (types name) front x back (and_from (is_floating x.kind) (bytes_eq (variable_of x) name) t ((bytes_eq-Decides (variable_of x) name).1 refl))
+    (λ y k. false_from_ne_true (types name y) (λ u.
     let p = stands_in y back k in
     let q = typed_by name y u in
     let sound = h (front ++ x ∷ p.front) y p.back (whole ∙ ap (λ v. front ++ x ∷ v) p.whole ∙ sym (append_assoc front (x ∷ p.front) (y ∷ p.back))) in
@@ -137,14 +143,11 @@ AreTyped before item = (name : List ℕ) → In name (mandatory_variables before
 
 -- this holds if the statement is sound
 pub sound_typed : (before : List Item) → AreSound before → (item : Item) → IsSound before item → is_expression item.kind ≡ true → AreTyped before item
-sound_typed before h item s t name m = (mandatory_typed before item name (sound_kept before h) s t m).1
+sound_typed before h item s t name m = (mandatory_typed before item name h s t m).1
 
 -- a mandatory variable has a last `$f`, which is active
 some_active : (before : List Item) (o : Option ℕ) → is_active_last before o ≡ true → (n : ℕ) × (o ≡ Some n) × (is_active_at before n ≡ true)
 some_active before o h = grind (arith, common_steps) steps 200000
-
-pub mandatory_last : (before : List Item) → AreSound before → (item : Item) → AreTyped before item → (name : List ℕ) → In name (mandatory_variables before item) → (n : ℕ) × (last_where (types name) before ≡ Some n) × (is_active_at before n ≡ true)
-mandatory_last before h item t name m = some_active before (last_where (types name) before) (sym (typed_last before h name) ∙ in_has (typed before) name (t name m))
 
 -- the item of the last number passes
 pub last_there : (test : Item → Bool) (before : List Item) (n : ℕ) → last_where test before ≡ Some n → (x : Item) × (slice_get before n ≡ Some x) × (test x ≡ true)
@@ -156,21 +159,8 @@ last_there test before n e = elim (last_cases test before) [
     l.good,
   ))
 ]
-  where
-    get_between : (front : List Item) (item : Item) (back : List Item) → slice_get (front ++ item ∷ back) (length front) ≡ Some item
-    get_between [] item back = refl
-    get_between (x ∷ front) item back = get_between front item back
 
 -- the number of a mandatory hypothesis is that of an active `$e`, or of the last `$f` of a mandatory variable
-number_from : (before : List Item) → AreSound before → (item : Item) (n : ℕ) → In n (mandatory_numbers before item) → IsHypothesisNumber before item n
-number_from before h item n m =
-    let r = from_active_number (is_mandatory (mandatory_variables before item)) before n m in
-    elim (or_cases (is_essential (r.0).kind) (is_floating (r.0).kind && has (mandatory_variables before item) (variable_of r.0)) r.3) [
-      | inl e ↦ inl (in_contains n (active_numbers is_essential_item before) (to_active_number is_essential_item before n r.0 r.1 r.2 e))
-      | inr b ↦ (let p = and_parts (is_floating (r.0).kind) (has (mandatory_variables before item) (variable_of r.0)) b in
-          inr (variable_of r.0, in_contains (variable_of r.0) (mandatory_variables before item) (has_in (mandatory_variables before item) (variable_of r.0) p.1), active_float_last before h n r.0 r.1 r.2 p.0))
-    ]
-
 number_to : (before : List Item) → AreSound before → (item : Item) → AreTyped before item → (n : ℕ) → IsHypothesisNumber before item n → In n (mandatory_numbers before item)
 number_to before h item t n (inl c) =
     let mandatory = mandatory_variables before item in
@@ -179,7 +169,7 @@ number_to before h item t n (inl c) =
 number_to before h item t n (inr p) =
     let mandatory = mandatory_variables before item in
     let m = contains_in p.0 mandatory p.1 in
-    let a = mandatory_last before h item t p.0 m in
+    let a = (some_active before (last_where (types p.0) before) (sym (typed_last before h p.0) ∙ in_has (typed before) p.0 (t p.0 m))) in
     let z : a.0 ≡ n = cc in
     let r = last_there (types p.0) before n p.2 in
     let f = typed_by p.0 r.0 r.2 in
@@ -195,4 +185,16 @@ hypotheses_by_numbers before item = ap (map (hypothesis before)) (sym (active_nu
 pub mandatory_numbers_built : (before : List Item) → AreSound before → (item : Item) → AreTyped before item → (built : List ℕ) → IsRising built → ((n : ℕ) → Contains built n ↔ IsHypothesisNumber before item n) → built ≡ mandatory_numbers before item
 mandatory_numbers_built before h item t built r f = same_rising built (mandatory_numbers before item) r (active_numbers_rise (is_mandatory (mandatory_variables before item)) before)
     (λ n k. number_to before h item t n ((f n).0 (in_contains n built k)))
-    (λ n k. contains_in n built ((f n).1 (number_from before h item n k)))
+    (λ n k. contains_in n built
+    ((f n).1 (let r = from_active_number (is_mandatory (mandatory_variables before item)) before n k in
+    elim (or_cases (is_essential (r.0).kind) (is_floating (r.0).kind && has (mandatory_variables before item) (variable_of r.0)) r.3) [
+      | inl e ↦ inl
+          (in_contains n (active_numbers is_essential_item before) (to_active_number is_essential_item before n r.0 r.1 r.2 e))
+      | inr b ↦
+          (let p = and_parts (is_floating (r.0).kind) (has (mandatory_variables before item) (variable_of r.0)) b in
+          inr (
+            variable_of r.0,
+            in_contains (variable_of r.0) (mandatory_variables before item) (has_in (mandatory_variables before item) (variable_of r.0) p.1),
+            active_float_last before h n r.0 r.1 r.2 p.0,
+          ))
+    ])))

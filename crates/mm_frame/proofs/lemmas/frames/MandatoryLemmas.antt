@@ -1,27 +1,25 @@
 -- The numbers of the mandatory hypotheses, as the code collects them.
-use Rattle.std.proofs.Common.{arith, Contains, ◌≡◌, ℕ, Bool, true, cond, Option, Some, List, [], ◌++◌, flat_map, slice_get, refl, sym, ◌∙◌, ap, subst, eqb, inl, inr, All, option_to_list}
+use Rattle.std.proofs.Common.{◌⊎◌, arith, Contains, ◌≡◌, ℕ, Bool, true, cond, Option, Some, List, [], ◌++◌, flat_map, slice_get, refl, sym, ◌∙◌, ap, subst, eqb, inl, inr, All, option_to_list}
 use Rattle.std.proofs.lemmas.{Grind.{common_steps}, List.{Elements.{All-contains}, Sorted.{IsPermutation-sym, Contains-permutation}, Filters.{dedup_is}}}
 use Rattle.std.{proofs.lemmas.{List.Kept.{Contains-dedup_nat, Contains-from_dedup, AllPairs-from_increasing}, Map.Keys.{IsStrictlyIncreasing-dedup}}, specs.List.{dedup}}
 use Rattle.std.specs.{List.{Sorted.{IsPermutation, IsSorted}, Retain.{IsFiltered, DiffersFromLast}}, Ordering.{nat_cmp}}
+use Rattle.mm_frame.proofs.lemmas.frames.{VariableLemmas.{known_to}, Frames.{assertion_expression, essential_expression, expression_labelled}}
+use Rattle.mm_frame.proofs.lemmas.frames.HypothesisNumbers.{to_active_number, from_active_number, sound_typed, mandatory_numbers_built}
+use Rattle.mm_frame.proofs.lemmas.lists.Members.{in_cond, In, in_contains, contains_in, in_left, in_right, in_cases, in_map, from_map, in_filter, from_filter, in_flat, from_flat, from_symbols}
+use Rattle.mm_frame.proofs.lemmas.{lists.{Members.{to_symbols}, Rising.{among_in}}, names.NumberLemmas.{declared_named, name_there}, scope.KnownLemmas.{float_in}}
+use Rattle.mm_frame.{proofs.lemmas.pairs.ActivePairLemmas.{expression_at_number, active_at_number, number_of_active}, specs.Code.PairOrder.{is_among}}
+use Rattle.mm_frame.specs.Code.{LastItems.{last_where, types, is_active_at, is_essential_item, IsHypothesisNumber}, Numbers.{IsNameNumber}, KeptTables.{Knows, declared_at, float_of}}
+use Rattle.mm_frame.specs.Code.{KeptSymbols.{expression_kept, AreExpressions, AreNumbered, float_number, float_numbers}, KeptVariables.{AreVariablesOf, known_float}}
+use Rattle.mm_frame.specs.Language.{Scope.{active, symbols_by, active_variables, active_numbers}, Sound.{AreSound, IsSound}, Framing.{symbol, expression, mandatory_variables, mandatory_numbers}}
+use Rattle.mm_frame.specs.declared.{tables.Tables.{Tables}, essential.EssentialVariable.{EssentialVariable}}
 use Rattle.mm_machine.specs.{Language.{Frame.{Symbol}, Names.{name_at}, NumberedSymbols.{symbol_of, symbols_of, IsNumbered, AreSymbolsRead}}, declared.symbol.NumberedSymbol.{NumberedSymbol}}
 use Rattle.mm_statement.specs.Language.Item.{Kind, Item, is_floating, is_essential, is_assertion, has}
-use Rattle.mm_frame.specs.Language.{Scope.{active, symbols_by, active_variables, active_numbers}, Sound.{AreSound, IsSound}, Framing.{symbol, expression, mandatory_variables, mandatory_numbers}}
-use Rattle.mm_frame.specs.Code.{LastItems.{last_where, types, is_active_at, is_essential_item, IsHypothesisNumber}, Numbers.{IsNameNumber}, KeptTables.{Knows, declared_at, float_of}}
-use Rattle.mm_frame.specs.{Code.{KeptSymbols.{expression_kept, AreExpressions, AreNumbered, float_number, float_numbers}, KeptVariables.{AreVariablesOf, known_float}}, declared.tables.Tables.{Tables}}
-use Rattle.mm_frame.specs.declared.essential.EssentialVariable.{EssentialVariable}
-use Rattle.mm_frame.proofs.lemmas.lists.Members.{In, in_contains, contains_in, in_left, in_right, in_cases, in_map, from_map, in_filter, from_filter, in_flat, from_flat, from_symbols, to_symbols}
-use Rattle.mm_frame.proofs.lemmas.frames.Frames.{assertion_expression, essential_expression, expression_labelled}
-use Rattle.mm_frame.proofs.lemmas.frames.{HypothesisNumbers.{to_active_number, from_active_number, sound_typed, mandatory_numbers_built}, VariableLemmas.{known_from, known_to}}
-use Rattle.mm_frame.proofs.lemmas.{names.NumberLemmas.{declared_named, name_there}, scope.KnownLemmas.{float_in}, pairs.ActivePairLemmas.{expression_at_number, active_at_number, number_of_active}}
 
 -- the number of the `$f` of a variable
 under : (b : Bool) (n : ℕ) (o : Option ℕ) → In n (cond b (option_to_list o) []) → (b ≡ true) × (o ≡ Some n)
 under true n (Some m) (inl e) = (refl, ap Some e)
 under true n (Some m) (inr z) = absurd z
 under _ n _ h = absurd h
-
-to_under : (b : Bool) (n : ℕ) (o : Option ℕ) → b ≡ true → o ≡ Some n → In n (cond b (option_to_list o) [])
-to_under b n o t e = subst (λ c. In n (cond c (option_to_list o) [])) (sym t) (subst (λ p. In n (option_to_list p)) (sym e) (inl refl))
 
 float_last : (all : List (List ℕ)) (before : List Item) (tables : Tables) (n : ℕ) (name : List ℕ) → AreSound before → Knows all before tables → IsNameNumber all n name → float_of (declared_at tables n) ≡ last_where (types name) before
 float_last all before tables n name h k there = ap float_of (declared_named all tables n name k.distinct there ∙ k.names name) ∙ float_in before h name
@@ -44,7 +42,9 @@ float_to all before tables kept s n h k a m t e =
     let r = from_map (symbol_of all) s kept m in
     let same = r.2 in
     let found = float_last all before tables (r.0).name (name_at all (r.0).name) h k (name_of all kept r.0 a r.1) in
-    in_flat (float_number tables) r.0 n kept r.1 (to_under (r.0).variable n (float_of (declared_at tables (r.0).name)) (ap (λ (x : Symbol). x.variable) same ∙ t) (found ∙ ap (λ (x : Symbol). last_where (types x.name) before) same ∙ e))
+    in_flat (float_number tables) r.0 n kept r.1
+    (subst (λ c. In n (cond c (option_to_list (float_of (declared_at tables (r.0).name))) [])) (sym (ap (λ (x : Symbol). x.variable) same ∙ t))
+    (subst (λ p. In n (option_to_list p)) (sym (found ∙ ap (λ (x : Symbol). last_where (types x.name) before) same ∙ e)) (inl refl)))
 
 -- the variables of an assertion and of an active `$e` are mandatory
 named_in : (before : List Item) (item : Item) (s : Symbol) → In s (expression before item) → In s.name item.symbols × (has (active_variables before) s.name ≡ s.variable)
@@ -76,79 +76,77 @@ pub record IsAssertionBehind (all : List (List ℕ)) (before : List Item) (item 
   pub assertion : is_assertion item.kind ≡ true
   pub symbols : AreSymbolsRead all (expression before item) own
 
--- the numbers that are collected
-abbrev pub collected : Tables → List (List NumberedSymbol) → List ℕ → List NumberedSymbol → List ℕ
-collected tables expressions essentials own = (essentials ++ float_numbers tables own) ++ flat_map (λ n. float_numbers tables (expression_kept expressions n)) essentials
+-- a number that is collected
+abbrev pub IsCollected : Tables → List (List NumberedSymbol) → List NumberedSymbol → ℕ → List ℕ → Type 0
+IsCollected tables expressions own n essentials =
+    In n essentials ⊎ (In n (float_numbers tables own) ⊎ In n (flat_map (λ m. float_numbers tables (expression_kept expressions m)) essentials))
 
 collected_from : (all : List (List ℕ)) (before : List Item) (item : Item) (tables : Tables) (expressions : List (List NumberedSymbol)) (own : List NumberedSymbol) → IsAssertionBehind all before item tables expressions own → (n : ℕ)
-    → In n (collected tables expressions (active_numbers is_essential_item before) own) → IsHypothesisNumber before item n
-collected_from all before item tables expressions own b n m =
-    let essentials = active_numbers is_essential_item before in
-    elim (in_cases n (essentials ++ float_numbers tables own) (flat_map (λ m. float_numbers tables (expression_kept expressions m)) essentials) m) [
-      | inl p ↦ elim (in_cases n essentials (float_numbers tables own) p) [
-        | inl e ↦ inl (in_contains n essentials e)
-        | inr f ↦ (
-            let r = float_from all before tables own n b.sound b.known b.symbols.numbered f in
-            inr ((r.0).name, in_contains (r.0).name (mandatory_variables before item) (own_mandatory before item r.0 (subst (In r.0) b.symbols.symbols r.1) r.2), r.3)
-            )
-      ]
-      | inr f ↦ of_essential (from_flat (λ m. float_numbers tables (expression_kept expressions m)) n essentials f)
-    ] where
-      of_essential : (m : ℕ) × In m (active_numbers is_essential_item before) × In n (float_numbers tables (expression_kept expressions m)) → IsHypothesisNumber before item n
-      of_essential p =
-          let e = from_active_number is_essential_item before p.0 p.1 in
-          let r = float_from all before tables (expression_kept expressions p.0) n b.sound b.known (b.numbered p.0) p.2 in
-          let there = subst (In r.0) (kept_essential all before expressions p.0 e.0 b.sound b.expressions e.1 e.2 e.3) r.1 in
-          inr ((r.0).name, in_contains (r.0).name (mandatory_variables before item) (essential_mandatory before item e.0 r.0 (active_at_number before p.0 e.0 e.1 e.2) e.3 there r.2), r.3)
+    → IsCollected tables expressions own n (active_numbers is_essential_item before) → IsHypothesisNumber before item n
+collected_from all before item tables expressions own b n (inl e) = inl (in_contains n (active_numbers is_essential_item before) e)
+collected_from all before item tables expressions own b n (inr (inl f)) =
+    let r = float_from all before tables own n b.sound b.known b.symbols.numbered f in
+    inr ((r.0).name, in_contains (r.0).name (mandatory_variables before item) (own_mandatory before item r.0 (subst (In r.0) b.symbols.symbols r.1) r.2), r.3)
+collected_from all before item tables expressions own b n (inr (inr f)) =
+    let p = from_flat (λ m. float_numbers tables (expression_kept expressions m)) n (active_numbers is_essential_item before) f in
+    let e = from_active_number is_essential_item before p.0 p.1 in
+    let r = float_from all before tables (expression_kept expressions p.0) n b.sound b.known (b.numbered p.0) p.2 in
+    let there = subst (In r.0) (kept_essential all before expressions p.0 e.0 b.sound b.expressions e.1 e.2 e.3) r.1 in
+    inr ((r.0).name, in_contains (r.0).name (mandatory_variables before item) (essential_mandatory before item e.0 r.0 (active_at_number before p.0 e.0 e.1 e.2) e.3 there r.2), r.3)
 
 collected_to : (all : List (List ℕ)) (before : List Item) (item : Item) (tables : Tables) (expressions : List (List NumberedSymbol)) (own : List NumberedSymbol) → IsAssertionBehind all before item tables expressions own → (n : ℕ)
-    → IsHypothesisNumber before item n → In n (collected tables expressions (active_numbers is_essential_item before) own)
-collected_to all before item tables expressions own b n (inl c) = grind (arith, common_steps, contains_in, in_left) steps 200000
+    → IsHypothesisNumber before item n → IsCollected tables expressions own n (active_numbers is_essential_item before)
+collected_to all before item tables expressions own b n (inl c) = inl (contains_in n (active_numbers is_essential_item before) c)
 collected_to all before item tables expressions own b n (inr p) =
-    let essentials = active_numbers is_essential_item before in
-    let found = flat_map (λ m. float_numbers tables (expression_kept expressions m)) essentials in
     let name = p.0 in
     let r = from_filter (has (active_variables before)) name (item.symbols ++ symbols_by is_essential (active before)) (contains_in name (mandatory_variables before item) p.1) in
     elim (in_cases name item.symbols (symbols_by is_essential (active before)) r.0) [
       | inl i ↦ (
           let there = subst (In (symbol before name)) (sym b.symbols.symbols) (in_map (symbol before) name item.symbols i) in
-          in_left n (essentials ++ float_numbers tables own) found (in_right n essentials (float_numbers tables own) (float_to all before tables own (symbol before name) n b.sound b.known b.symbols.numbered there r.1 p.2))
+          inr (inl (float_to all before tables own (symbol before name) n b.sound b.known b.symbols.numbered there r.1 p.2))
           )
-      | inr i ↦ in_right n (essentials ++ float_numbers tables own) found (of_essential name r.1 p.2 (from_symbols is_essential name (active before) i))
-    ] where
-      of_essential : (name : List ℕ) → has (active_variables before) name ≡ true → last_where (types name) before ≡ Some n → (e : Item) × In e (active before) × (is_essential e.kind ≡ true) × In name e.symbols
-          → In n (flat_map (λ m. float_numbers tables (expression_kept expressions m)) (active_numbers is_essential_item before))
-      of_essential name v last q =
+      | inr i ↦ (
+          let q = from_symbols is_essential name (active before) i in
           let e = q.0 in
           let at = number_of_active before e q.1 in
           let same = kept_essential all before expressions at.number e b.sound b.expressions at.there at.stayed q.2 in
-          in_flat (λ m. float_numbers tables (expression_kept expressions m)) at.number n (active_numbers is_essential_item before) (to_active_number is_essential_item before at.number e at.there at.stayed q.2)
-          (float_to all before tables (expression_kept expressions at.number) (symbol before name) n b.sound b.known (b.numbered at.number) (subst (In (symbol before name)) (sym same) (in_map (symbol before) name e.symbols q.3)) v last)
+          inr (inr (in_flat (λ m. float_numbers tables (expression_kept expressions m)) at.number n (active_numbers is_essential_item before) (to_active_number is_essential_item before at.number e at.there at.stayed q.2)
+          (float_to all before tables (expression_kept expressions at.number) (symbol before name) n b.sound b.known (b.numbered at.number) (subst (In (symbol before name)) (sym same) (in_map (symbol before) name e.symbols q.3)) r.1 p.2)))
+          )
+    ]
 
 -- the same with the variables that are kept of the `$e`
 abbrev pub collected_known : Tables → List ℕ → List EssentialVariable → List NumberedSymbol → List ℕ
 collected_known tables essentials found own = (float_numbers tables own ++ flat_map (known_float tables essentials) found) ++ essentials
 
 known_collected : (tables : Tables) (expressions : List (List NumberedSymbol)) (essentials : List ℕ) (found : List EssentialVariable) (own : List NumberedSymbol) → AreVariablesOf essentials expressions found → (n : ℕ)
-    → In n (collected_known tables essentials found own) → In n (collected tables expressions essentials own)
+    → In n (collected_known tables essentials found own) → IsCollected tables expressions own n essentials
 known_collected tables expressions essentials found own are n h =
     let floats = float_numbers tables own in
     let known = flat_map (known_float tables essentials) found in
-    let first = essentials ++ floats in
-    let all = flat_map (λ m. float_numbers tables (expression_kept expressions m)) essentials in
     elim (in_cases n (floats ++ known) essentials h) [
-      | inl a ↦ elim (in_cases n floats known a) [ inl f ↦ in_left n first all (in_right n essentials floats f) | inr b ↦ in_right n first all (known_from tables essentials expressions found are n b) ]
-      | inr e ↦ in_left n first all (in_left n essentials floats e)
+      | inl a ↦ elim (in_cases n floats known a) [
+        | inl f ↦ inr (inl f)
+        | inr b ↦ (
+            let r = from_flat (known_float tables essentials) n found b in
+            let v = r.0 in
+            let known = in_cond (is_among essentials v.number) n (float_number tables v.symbol) r.2 in
+            inr (inr (in_flat (λ m. float_numbers tables (expression_kept expressions m)) v.number n essentials (among_in essentials v.number known.0)
+            (in_flat (float_number tables) v.symbol n (expression_kept expressions v.number)
+            (contains_in v.symbol (expression_kept expressions v.number) (are.from v (in_contains v found r.1))) known.1)))
+            )
+      ]
+      | inr e ↦ inl e
     ]
 
 collected_is_known : (tables : Tables) (expressions : List (List NumberedSymbol)) (essentials : List ℕ) (found : List EssentialVariable) (own : List NumberedSymbol) → AreVariablesOf essentials expressions found → (n : ℕ)
-    → In n (collected tables expressions essentials own) → In n (collected_known tables essentials found own)
+    → IsCollected tables expressions own n essentials → In n (collected_known tables essentials found own)
 collected_is_known tables expressions essentials found own are n h =
     let floats = float_numbers tables own in
     let known = flat_map (known_float tables essentials) found in
-    elim (in_cases n (essentials ++ floats) (flat_map (λ m. float_numbers tables (expression_kept expressions m)) essentials) h) [
-      | inl a ↦ elim (in_cases n essentials floats a) [ inl e ↦ in_right n (floats ++ known) essentials e | inr f ↦ in_left n (floats ++ known) essentials (in_left n floats known f) ]
-      | inr b ↦ in_left n (floats ++ known) essentials (in_right n floats known (known_to tables essentials expressions found are n b))
+    elim h [
+      | inl e ↦ in_right n (floats ++ known) essentials e
+      | inr a ↦ in_left n (floats ++ known) essentials (elim a [ inl f ↦ in_left n floats known f | inr b ↦ in_right n floats known (known_to tables essentials expressions found are n b) ])
     ]
 
 -- sorted, and each once
@@ -161,7 +159,7 @@ pub hypotheses_sorted : (tables : Tables) (expressions : List (List NumberedSymb
     → essentials ≡ active_numbers is_essential_item before → kept ≡ mandatory_numbers before item
 hypotheses_sorted tables expressions essentials found own numbers once sorted kept whole fewer moved rising filtered all before item b are e =
     let first = dedup_is eqb numbers once fewer in
-    let here = λ (n : ℕ). subst (λ (ns : List ℕ). In n (collected tables expressions ns own)) e in
+    let here = λ (n : ℕ). subst (IsCollected tables expressions own n) e in
     let typed = sound_typed before b.sound item b.item_sound (assertion_expression item.kind b.assertion) in
     (dedup_is eqb sorted kept filtered) ∙ mandatory_numbers_built before b.sound item typed (dedup eqb sorted) (AllPairs-from_increasing (dedup eqb sorted) (IsStrictlyIncreasing-dedup sorted rising)) (λ n. (
       λ m. collected_from all before item tables expressions own b n (here n (known_collected tables expressions essentials found own are n (subst (In n) whole (contains_in n numbers
@@ -169,7 +167,7 @@ hypotheses_sorted tables expressions essentials found own numbers once sorted ke
       λ f. Contains-dedup_nat sorted n (Contains-permutation once sorted n moved
           (subst (λ w. Contains w n) (sym first) (Contains-dedup_nat numbers n (in_contains n numbers
           (subst (In n) (sym whole) (collected_is_known tables expressions essentials found own are n
-          ((λ (n : ℕ). subst (λ (ns : List ℕ). In n (collected tables expressions ns own)) (sym e)) n (collected_to all before item tables expressions own b n f)))))))),
+          (subst (IsCollected tables expressions own n) (sym e) (collected_to all before item tables expressions own b n f)))))))),
     ))
 
 -- a `$f` is no `$e`

@@ -1,35 +1,24 @@
 -- Frames are the same exactly when their expressions, their hypotheses and their pairs in one order are.
-use Rattle.std.proofs.{Common.{arith, ◌≡◌, ℕ, Bool, true, false, ◌&&◌, ◌||◌, List, map, bytes_eq, refl, sym, ◌∙◌, subst, inl, inr, IsTrue, ◌↔◌, All}, lemmas.Grind.{common_steps}}
-use Rattle.std.proofs.lemmas.Bool.{false≢true, and_from, and_parts, or_left, or_right}
+use Rattle.std.proofs.{lemmas.{Bool.{and_from, and_parts}, Grind.{common_steps}}, Common.{arith, ◌≡◌, ℕ, Bool, true, ◌&&◌, ◌||◌, List, map, sym, ◌∙◌, subst, inl, inr, IsTrue, ◌↔◌}}
+use Rattle.mm_frame.proofs.lemmas.{pairs.ActivePairLemmas.{is_pair}, faults.FaultLemmas.{same_test}, lists.Members.{in_contains, contains_in}, scope.SoundItems.{filter_same, in_any}}
+use Rattle.mm_frame.{proofs.lemmas.scope.TableLemmas.{any_in}, specs.Language.Base.{BaseView, is_shown_at, is_framed_at, hypothesis_at, frame_at, AreHypotheses}}
+use Rattle.mm_frame.specs.Language.Answering.{are_paired, pairs_in_order}
 use Rattle.mm_machine.specs.Language.Frame.{Symbol, Frame, ArePair, AreSamePairs, AreSameFrame}
-use Rattle.mm_frame.specs.Language.{Base.{BaseView, is_shown_at, is_framed_at, hypothesis_at, frame_at, AreHypotheses}, Answering.{are_paired, pairs_in_order}}
-use Rattle.mm_frame.proofs.lemmas.{lists.Members.{in_contains, contains_in}, scope.{SoundItems.{filter_same, in_any}, TableLemmas.{any_in}}}
-
--- the names of the two are those of a pair, in one order or the other
-abbrev are_names : Symbol × Symbol → Symbol × Symbol → Bool
-are_names named pair = (bytes_eq pair.0.name named.0.name && bytes_eq pair.1.name named.1.name) || (bytes_eq pair.0.name named.1.name && bytes_eq pair.1.name named.0.name)
 
 swapped : (a b c d : Bool) → ((a && b) || (c && d)) ≡ true → ((d && c) || (b && a)) ≡ true
-swapped true true c d t = or_right (d && c) true refl
-swapped true false c d t = let p = and_parts c d t in or_left (d && c) false (and_from d c p.1 p.0)
-swapped false b c d t = let p = and_parts c d t in or_left (d && c) (b && false) (and_from d c p.1 p.0)
+swapped a b c d t = grind (arith, common_steps) steps 200000
 
 paired_from : (pairs others : List (Symbol × Symbol)) → AreSamePairs pairs others → (named : Symbol × Symbol) → are_paired pairs named ≡ true → are_paired others named ≡ true
 paired_from pairs others s named t =
-    let r = any_in (are_names named) pairs t in
+    let r = any_in (is_pair named) pairs t in
     let pair = r.0 in
     elim ((s pair.0 pair.1).0 (inl (in_contains pair pairs r.1))) [
-      | inl c ↦ in_any (are_names named) pair others (contains_in pair others c) r.2
+      | inl c ↦ in_any (is_pair named) pair others (contains_in pair others c) r.2
       | inr c ↦ grind (arith, common_steps, contains_in, in_any, swapped) steps 200000
     ]
 
-both_ways : (a b : Bool) → (a ≡ true → b ≡ true) → (b ≡ true → a ≡ true) → a ≡ b
-both_ways true b f g = sym (f refl)
-both_ways false true f g = absurd (false≢true (g refl))
-both_ways false false f g = refl
-
 pub same_paired : (pairs others : List (Symbol × Symbol)) → AreSamePairs pairs others → (named : Symbol × Symbol) → are_paired pairs named ≡ are_paired others named
-same_paired pairs others s named = both_ways (are_paired pairs named) (are_paired others named) (paired_from pairs others s named) (paired_from others pairs (λ x y. ((s x y).1, (s x y).0)) named)
+same_paired pairs others s named = same_test (are_paired pairs named) (are_paired others named) (paired_from pairs others s named) (paired_from others pairs (λ x y. ((s x y).1, (s x y).0)) named)
 
 -- frames with their pairs in one order are the same if their expressions, hypotheses and pairs in that order are
 pub same_from_order : (frame other : Frame) → AreSamePairs (pairs_in_order frame) frame.pairs → AreSamePairs (pairs_in_order other) other.pairs
@@ -54,7 +43,3 @@ framed_shown base i e = grind (arith, common_steps, and_from, and_parts) steps 2
 pub same_by_numbers : (base copy : BaseView) (i j : ℕ) (mine yours : List ℕ) (P : Type 0) → AreHypotheses base i mine → AreHypotheses copy j yours
     → P ↔ (map (hypothesis_at base) mine ≡ map (hypothesis_at copy) yours) → P ↔ ((frame_at base i).hypotheses ≡ (frame_at copy j).hypotheses)
 same_by_numbers base copy i j mine yours P a b p = (λ x. sym a.are ∙ p.0 x ∙ b.are, λ e. p.1 (a.are ∙ e ∙ sym b.are))
-
--- the numbers of hypotheses are those of sound items with labels
-pub all_shown : (base : BaseView) (i : ℕ) (numbers : List ℕ) → AreHypotheses base i numbers → All (λ n. is_shown_at base n ≡ true) numbers
-all_shown base i numbers a k d l = (a.each k d l).1

@@ -1,7 +1,6 @@
 -- Lists that are the same element by element, and readings of numbers that are the same.
-use Rattle.std.proofs.lemmas.{Grind.{common_steps}, Bool.{false≢true}, List.{length-map}, Option.{slice_get-map, slice_get-get_or}}
-use Rattle.std.{proofs.Common.{◌≡◌, ℕ, suc, ◌+◌, ◌<◌, Bool, true, false, ◌&&◌, ◌==◌, Some, List, [], ◌∷◌, length, map, slice_get, refl, sym, ◌∙◌, ap, arith, All}, specs.Bool.{Decides, beq}}
-use native.Mathlib.Decide.{dec_lt}
+use Rattle.std.proofs.lemmas.{Grind.{common_steps}, Bool.{false≢true}, Option.{slice_get-get_or}}
+use Rattle.std.{proofs.Common.{◌≡◌, ℕ, suc, ◌+◌, ◌<◌, Bool, true, false, ◌&&◌, Some, List, [], ◌∷◌, length, map, slice_get, refl, sym, ◌∙◌, arith, All}, specs.Bool.{Decides}}
 use Rattle.mm_machine.specs.{declared.symbol.NumberedSymbol.{NumberedSymbol}, Language.Names.{AreDistinct, name_at}}
 use Rattle.mm_machine.specs.Language.NumberedSymbols.{symbol_of, symbols_of, pair_of, kept_pairs, IsNumbered, IsPairNumbered}
 
@@ -10,24 +9,14 @@ abbrev pub AreSameTo : {X Y Z : Type 0} → (X → Z) → (Y → Z) → List X �
 AreSameTo {X} {Y} f g xs ys k = (m : ℕ) (x : X) (y : Y) → m < k → slice_get xs m ≡ Some x → slice_get ys m ≡ Some y → f x ≡ g y
 
 -- the elements at one place
-same_at : {X : Type 0} (xs : List X) (k : ℕ) (x y : X) → slice_get xs k ≡ Some x → slice_get xs k ≡ Some y → x ≡ y
-same_at xs k x y a b = let q : Some x ≡ Some y = sym a ∙ b in cc
-
 pub same_more : {X Y Z : Type 0} (f : X → Z) (g : Y → Z) (xs : List X) (ys : List Y) (k : ℕ) (x : X) (y : Y) → AreSameTo f g xs ys k → slice_get xs k ≡ Some x → slice_get ys k ≡ Some y → f x ≡ g y → AreSameTo f g xs ys (k + 1)
-same_more {X} {Y} f g xs ys k x y h p q e n v w b c d = grind (arith, common_steps, dec_lt n k, same_at) steps 200000
+same_more {X} {Y} f g xs ys k x y h p q e n v w b c d = grind (arith, common_steps) steps 200000
 
 pub same_whole : {X Y Z : Type 0} (f : X → Z) (g : Y → Z) (xs : List X) (ys : List Y) → AreSameTo f g xs ys (length xs) → length xs ≡ length ys → map f xs ≡ map g ys
 same_whole f g [] [] h l = refl
 same_whole f g (x ∷ xs) (y ∷ ys) h l =
     λ i. (h 0 x y (omega arith) refl refl) i ∷ (same_whole f g xs ys (λ m v w n c d. h (suc m) v w (omega arith) c d) (omega arith)) i
 same_whole f g _ _ h l = absurd (omega arith)
-
--- if all are, each is
-pub same_each : {X Y Z : Type 0} (f : X → Z) (g : Y → Z) (xs : List X) (ys : List Y) (k : ℕ) (x : X) (y : Y) → map f xs ≡ map g ys → slice_get xs k ≡ Some x → slice_get ys k ≡ Some y → f x ≡ g y
-same_each f g xs ys k x y e p q = grind (arith, common_steps, slice_get-map f xs k, slice_get-map g ys k) steps 200000
-
-pub same_long : {X Y Z : Type 0} (f : X → Z) (g : Y → Z) (xs : List X) (ys : List Y) → map f xs ≡ map g ys → length xs ≡ length ys
-same_long f g xs ys e = sym (length-map xs f) ∙ ap length e ∙ length-map ys g
 
 -- equal readings have equal numbers
 number_from_reading : (all : List (List ℕ)) → AreDistinct all → (x y : NumberedSymbol) → IsNumbered all x → IsNumbered all y → symbol_of all x ≡ symbol_of all y → x ≡ y
@@ -57,12 +46,3 @@ pub both_decide : {P Q : Type 0} (p q : Bool) → Decides p P → Decides q Q �
 both_decide true true p q = (λ t. (p.0 refl, q.0 refl), λ e. refl)
 both_decide true false p q = (λ t. absurd (false≢true t), λ e. absurd (false≢true (q.1 e.1)))
 both_decide false r p q = (λ t. absurd (false≢true t), λ e. absurd (false≢true (p.1 e.0)))
-
--- two symbols are equal exactly when their numbers and their sorts are
-pub symbols_decide : (a b : NumberedSymbol) → Decides ((a.name == b.name) && (beq a.variable b.variable)) (a ≡ b)
-symbols_decide a b = grind (arith, common_steps, both_decide) steps 200000
-
--- two pairs are equal exactly when their parts are
-pub pairs_decide : (a b : NumberedSymbol × NumberedSymbol)
-    → Decides (((a.0.name == b.0.name) && (beq a.0.variable b.0.variable)) && ((a.1.name == b.1.name) && (beq a.1.variable b.1.variable))) (a ≡ b)
-pairs_decide a b = grind (arith, common_steps, both_decide, symbols_decide) steps 200000

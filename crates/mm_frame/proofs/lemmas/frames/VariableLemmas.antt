@@ -3,11 +3,11 @@ use Rattle.std.proofs.Common.{◌≡◌, ℕ, zero, suc, ◌+◌, ◌<◌, ◌�
 use Rattle.std.proofs.{Common.{subst, take-append-drop, append_assoc, length-append, arith, inl, inr, ◌⊎◌}, lemmas.{Bool.{false≢true}, List.{take_more}}}
 use Rattle.std.proofs.lemmas.{List.Elements.{Contains-append_left, Contains-append_right, Contains-append_cases}, Option.{slice_get_within}}
 use native.Mathlib.Decide.{dec_lt}
-use Rattle.mm_frame.specs.{declared.{essential.EssentialVariable.{EssentialVariable}, tables.Tables.{Tables}}, Language.Scope.{Mark, Neither, Closes, mark_of, active_numbers}}
+use Rattle.mm_frame.specs.{declared.{essential.EssentialVariable.{EssentialVariable}, tables.Tables.{Tables}}, Language.Scope.{Neither, Closes, active_numbers}}
 use Rattle.mm_frame.specs.Code.{LastItems.{is_active_at, is_essential_item}, KeptSymbols.{expression_kept, kept_or_none, float_number, float_numbers}}
 use Rattle.mm_frame.specs.Code.{KeptVariables.{by_essential, AddsOne, AddsAll, IsKeptVariable, AreVariablesOf, IsKeptBy, known_float}, PairOrder.{is_among}}
 use Rattle.mm_frame.proofs.lemmas.frames.{Frames.{essential_neither}, HypothesisNumbers.{to_active_number, from_active_number, active_numbers_more}}
-use Rattle.mm_frame.proofs.lemmas.{lists.{Members.{In, in_contains, contains_in, in_left, in_flat, from_flat, in_cond}, Rising.{among_in, in_among}}, scope.BlockLemmas.{get_front, get_cases}}
+use Rattle.mm_frame.proofs.lemmas.{lists.{Members.{In, in_contains, contains_in, in_left, in_flat, from_flat}, Rising.{in_among}}, scope.BlockLemmas.{get_front, get_cases}}
 use Rattle.mm_frame.proofs.lemmas.{scope.EndLemmas.{active_at_front}, names.NamedLemmas.{get_before}, pairs.AskedLemmas.{active_below}}
 use Rattle.mm_machine.specs.declared.symbol.NumberedSymbol.{NumberedSymbol}
 use Rattle.mm_statement.specs.Language.Item.{Item}
@@ -26,7 +26,7 @@ adds_more essentials number symbols k d old mid new l so_far one = record {
   more = so_far.more ++ one.more;
   whole = one.whole ∙ ap (λ w. w ++ one.more) so_far.whole ∙ append_assoc old so_far.more one.more;
   own = λ v c. elim (Contains-append_cases so_far.more one.more v c) [
-    | inl a ↦ (let r = so_far.own v a in (r.0, longer v.symbol r.1))
+    | inl a ↦ (let r = so_far.own v a in (r.0, subst (λ w. Contains w v.symbol) (sym more) (Contains-append_left (take k symbols) (x ∷ []) v.symbol r.1)))
     | inr b ↦ (let e = one.own v b in (
       ap (λ (w : EssentialVariable). w.number) e,
       subst (λ w. Contains w v.symbol) (sym more)
@@ -45,9 +45,6 @@ adds_more essentials number symbols k d old mid new l so_far one = record {
     more : take (k + 1) symbols ≡ take k symbols ++ x ∷ []
     more = take_more symbols k d l
 
-    longer : (s : NumberedSymbol) → Contains (take k symbols) s → Contains (take (k + 1) symbols) s
-    longer s c = subst (λ w. Contains w s) (sym more) (Contains-append_left (take k symbols) (x ∷ []) s c)
-
     last : (s : NumberedSymbol) → s.variable ≡ true → In s (x ∷ []) → IsKeptBy essentials new s
     last s t (inl e) = subst (IsKeptBy essentials new) e (one.there (ap (λ (w : NumberedSymbol). w.variable) e ∙ t))
     last s t (inr z) = absurd z
@@ -63,19 +60,15 @@ still_active before item m n l h k = elim (dec_lt n (length before)) [
       )
   | no w ↦ (
       let later = from_active_number is_essential_item (before ++ item ∷ []) n k in
-      subst (In m) (sym (active_numbers_more is_essential_item before item (not_closed (last_is n later.0 w (get_cases before item later.0 n later.1) later.3)))) (in_left m (active_numbers is_essential_item before) _ h)
+      subst (In m) (sym (active_numbers_more is_essential_item before item
+      ((λ e. let q : Neither ≡ Closes = sym (essential_neither item.kind (last_is n later.0 w (get_cases before item later.0 n later.1) later.3)) ∙ e in
+      cc)))) (in_left m (active_numbers is_essential_item before) _ h)
       )
 ]
   where
     last_is : (n : ℕ) (x : Item) → (n < length before → ⊥) → (slice_get before n ≡ Some x) ⊎ ((n ≡ length before) × (item ≡ x)) → is_essential_item x ≡ true → is_essential_item item ≡ true
     last_is n x w (inl e) t = absurd (w (slice_get_within before n x e))
     last_is n x w (inr e) t = ap is_essential_item e.1 ∙ t
-
-    closes_not : (m : Mark) → m ≡ Neither → m ≡ Closes → ⊥
-    closes_not m e f = let q : Neither ≡ Closes = sym e ∙ f in cc
-
-    not_closed : is_essential_item item ≡ true → mark_of item.kind ≡ Closes → ⊥
-    not_closed t e = closes_not (mark_of item.kind) (essential_neither item.kind t) e
 
 -- which is one of those before, or the item
 earlier_or_last : (before : List Item) (item : Item) (n : ℕ) → In n (active_numbers is_essential_item (before ++ item ∷ [])) → In n (active_numbers is_essential_item before) ⊎ (n ≡ length before)
@@ -107,11 +100,15 @@ left : (before : List Item) (item : Item) (old : List (List NumberedSymbol)) (sy
 left before item old symbols found count long are gone = record {
   within = λ v c. (let w = are.within v (was v c) in let l = length-append old (symbols ∷ []) in omega arith);
   from = λ v c. subst (λ w. Contains w v.symbol) (sym (same_kept old symbols v.number (are.within v (was v c)))) (are.from v (was v c));
-  to = λ n s l e c t. (
-      let first = contains_in n behind e in
+  to =
+      let active : List ℕ = active_numbers is_essential_item before in
+      λ n s l e c t. (
+      let first = contains_in n (active_numbers is_essential_item (before ++ item ∷ [])) e in
       let at : In n active = elim (earlier_or_last before item n first) [ inl h ↦ h | inr z ↦ absurd (omega arith) ] in
       let kept = are.to n s (in_contains n active at) (subst (λ w. Contains w s) (same_kept old symbols n (let w = earlier_within before n at in omega arith)) c) t in
-      let stays = in_contains kept.first behind (still_active before item kept.first n kept.earlier (contains_in kept.first active kept.active) first) in
+      let stays =
+      in_contains kept.first (active_numbers is_essential_item (before ++ item ∷ []))
+      (still_active before item kept.first n kept.earlier (contains_in kept.first active kept.active) first) in
       record {
         first = kept.first;
         earlier = kept.earlier;
@@ -124,12 +121,6 @@ left before item old symbols found count long are gone = record {
       );
 }
   where
-    active : List ℕ
-    active = active_numbers is_essential_item before
-
-    behind : List ℕ
-    behind = active_numbers is_essential_item (before ++ item ∷ [])
-
     was : (v : EssentialVariable) → Contains (take count found) v → Contains found v
     was v c = subst (λ w. Contains w v) (take-append-drop count found) (Contains-append_left (take count found) (drop count found) v c)
 
@@ -168,17 +159,30 @@ pub variables_added : (before : List Item) (item : Item) (old : List (List Numbe
 variables_added before item old symbols found new count long are gone among adds = record {
   within = λ v c. elim (cases v c) [ inl a ↦ l.within v a | inr b ↦ (let e = (adds.own v b).0 in let k = length-append old (symbols ∷ []) in omega arith) ];
   from = λ v c. elim (cases v c) [ inl a ↦ l.from v a | inr b ↦ (let r = adds.own v b in subst (λ w. Contains (expression_kept (old ++ symbols ∷ []) w) v.symbol) (sym r.0) r.1) ];
-  to = λ n s e c t. elim (earlier_or_last before item n (contains_in n behind e)) [
-    | inl h ↦ (let kept = l.to n s (earlier_within before n h) e c t in record {
-      first = kept.first;
-      earlier = kept.earlier;
-      active = kept.active;
-      there =
-          subst (λ w. Contains w (by_essential kept.first s)) (sym adds.whole) (Contains-append_left (take count found) adds.more (by_essential kept.first s)
-          kept.there);
-    })
-    | inr z ↦ last n s z (adds.there s (subst (λ w. Contains (expression_kept (old ++ symbols ∷ []) w) s) z c) t)
-  ];
+  to =
+      let last : (n : ℕ) (s : NumberedSymbol) → n ≡ length before → IsKeptBy behind new s → IsKeptVariable behind new n s =
+      λ n s z r. record {
+        first = r.0;
+        earlier = elim
+            (earlier_or_last before item r.0 (contains_in r.0 behind r.1)) [
+              | inl h ↦
+                  (let w = earlier_within before r.0 h in omega arith)
+              | inr e ↦ omega arith
+            ];
+        active = r.1;
+        there = r.2;
+      } in
+      λ n s e c t. elim (earlier_or_last before item n (contains_in n behind e)) [
+        | inl h ↦ (let kept = l.to n s (earlier_within before n h) e c t in record {
+          first = kept.first;
+          earlier = kept.earlier;
+          active = kept.active;
+          there =
+              subst (λ w. Contains w (by_essential kept.first s)) (sym adds.whole) (Contains-append_left (take count found) adds.more (by_essential kept.first s)
+              kept.there);
+        })
+        | inr z ↦ last n s z (adds.there s (subst (λ w. Contains (expression_kept (old ++ symbols ∷ []) w) s) z c) t)
+      ];
 }
   where
     behind : List ℕ
@@ -190,35 +194,12 @@ variables_added before item old symbols found new count long are gone among adds
     cases : (v : EssentialVariable) → Contains new v → Contains (take count found) v ⊎ Contains adds.more v
     cases v c = Contains-append_cases (take count found) adds.more v (subst (λ w. Contains w v) adds.whole c)
 
-    last : (n : ℕ) (s : NumberedSymbol) → n ≡ length before → IsKeptBy behind new s → IsKeptVariable behind new n s
-    last n s z r = record {
-      first = r.0;
-      earlier = elim (earlier_or_last before item r.0 (contains_in r.0 behind r.1)) [
-        | inl h ↦ (let w = earlier_within before r.0 h in omega arith)
-        | inr e ↦ omega arith
-      ];
-      active = r.1;
-      there = r.2;
-    }
-
 -- ---- the numbers of the `$f` of the variables
 
 -- those of the variables that are kept are those of all symbols of the active `$e`
-float_variable : (b : Bool) (n : ℕ) (ns : List ℕ) → In n (cond b ns []) → b ≡ true
+pub float_variable : (b : Bool) (n : ℕ) (ns : List ℕ) → In n (cond b ns []) → b ≡ true
 float_variable true n ns h = refl
 float_variable false n ns h = absurd h
-
-pub under_true : (b : Bool) (n : ℕ) (ns : List ℕ) → b ≡ true → In n ns → In n (cond b ns [])
-under_true b n ns t h = subst (λ c. In n (cond c ns [])) (sym t) h
-
-pub known_from : (tables : Tables) (essentials : List ℕ) (expressions : List (List NumberedSymbol)) (found : List EssentialVariable) → AreVariablesOf essentials expressions found → (n : ℕ)
-    → In n (flat_map (known_float tables essentials) found) → In n (flat_map (λ m. float_numbers tables (expression_kept expressions m)) essentials)
-known_from tables essentials expressions found are n h =
-    let r = from_flat (known_float tables essentials) n found h in
-    let v = r.0 in
-    let kept = contains_in v.symbol (expression_kept expressions v.number) (are.from v (in_contains v found r.1)) in
-    in_flat (λ m. float_numbers tables (expression_kept expressions m)) v.number n essentials (among_in essentials v.number (float_variable (is_among essentials v.number) n (float_number tables v.symbol) r.2))
-    (in_flat (float_number tables) v.symbol n (expression_kept expressions v.number) kept (in_cond (is_among essentials v.number) n (float_number tables v.symbol) r.2).1)
 
 pub known_to : (tables : Tables) (essentials : List ℕ) (expressions : List (List NumberedSymbol)) (found : List EssentialVariable) → AreVariablesOf essentials expressions found → (n : ℕ)
     → In n (flat_map (λ m. float_numbers tables (expression_kept expressions m)) essentials) → In n (flat_map (known_float tables essentials) found)
@@ -227,4 +208,4 @@ known_to tables essentials expressions found are n h =
     let s = from_flat (float_number tables) n (expression_kept expressions r.0) r.2 in
     let kept = are.to r.0 s.0 (in_contains r.0 essentials r.1) (in_contains s.0 (expression_kept expressions r.0) s.1) (float_variable (s.0).variable n _ s.2) in
     in_flat (known_float tables essentials) (by_essential kept.first s.0) n found (contains_in (by_essential kept.first s.0) found kept.there)
-    (under_true (is_among essentials kept.first) n (float_number tables s.0) (in_among essentials kept.first (contains_in kept.first essentials kept.active)) s.2)
+    (subst (λ c. In n (cond c (float_number tables s.0) [])) (sym (in_among essentials kept.first (contains_in kept.first essentials kept.active))) s.2)

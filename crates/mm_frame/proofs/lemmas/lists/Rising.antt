@@ -17,9 +17,8 @@ rising_more numbers n r h i j d l m = elim (dec_lt j (length numbers)) [
   | yes k ↦ grind (arith, get_or_append_left numbers (n ∷ []) d i (omega arith), get_or_append_left numbers (n ∷ []) d j k) steps 200000
   | no k ↦ (
       let long = length_push numbers n in
-      let last : j ≡ length numbers = omega arith in
       let a = get_or_append_left numbers (n ∷ []) d i (omega arith) in
-      let b : get_or (numbers ++ n ∷ []) j d ≡ n = ap (λ k. get_or (numbers ++ n ∷ []) k d) last ∙ get_or-append_seam numbers n [] d in
+      let b : get_or (numbers ++ n ∷ []) j d ≡ n = ap (λ k. get_or (numbers ++ n ∷ []) k d) (omega arith) ∙ get_or-append_seam numbers n [] d in
       let c = h (get_or numbers i d) (in_at numbers i d (omega arith)) in
       omega arith
       )
@@ -40,11 +39,10 @@ found_or_not xs x (Err place) s h =
       refl,
       λ i.
           let g = in_get x xs i in
-          let w = slice_get_within xs g.0 x g.1 in
           let v : get_or xs g.0 0 ≡ x = get_or_from_slice_get xs g.0 x 0 g.1 in
           elim (dec_lt g.0 place) [
             | yes l ↦ (let b = m.1 g.0 l in omega arith)
-            | no n ↦ (let b = m.2 g.0 (omega arith) w in omega arith)
+            | no n ↦ (let b = m.2 g.0 (omega arith) (slice_get_within xs g.0 x g.1) in omega arith)
           ],
     )
 

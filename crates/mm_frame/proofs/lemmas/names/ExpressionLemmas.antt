@@ -1,9 +1,9 @@
 -- The parts of one list by their ends: how many there are, each of them, and one more.
 use Rattle.std.proofs.lemmas.{Grind.{common_steps}, Option.{slice_get-map, slice_get_past}, List.{take-append-le, drop-append-le, take_all, length-drop, length-map}}
 use Rattle.std.proofs.Common.{◌≡◌, ℕ, zero, suc, ◌+◌, ◌-◌, ◌<◌, ◌≤◌, Some, None, List, [], ◌∷◌, ◌++◌, length, map, take, drop, get_or, slice_get, refl, ◌∙◌, ap, arith, length-append}
-use Rattle.std.specs.{List.{slice_range}, Option.{option_map}}
+use Rattle.std.specs.List.{slice_range}
 use native.Mathlib.Decide.{dec_lt}
-use Rattle.mm_frame.specs.Code.{KeptParts.{cut_from, EndsFrom, start_at}, KeptSparse.{first_of, value_or_none, value_kept}}
+use Rattle.mm_frame.specs.Code.{KeptParts.{cut_from, EndsFrom, start_at}, KeptSparse.{first_of, value_kept}}
 
 pub cut_length : {X : Type 0} (symbols : List X) (from : ℕ) (ends : List ℕ) → length (cut_from symbols from ends) ≡ length ends
 cut_length symbols from [] = refl
@@ -33,22 +33,13 @@ end_there [] n l = absurd (omega arith)
 end_there (x ∷ ends) zero l = omega arith
 end_there (x ∷ ends) (suc n) l = let m = end_there ends n l in omega arith
 
-pub end_within : (ends : List ℕ) (last n : ℕ) → EndsFrom 0 ends last → get_or ends n 0 ≤ last
-end_within ends last n e = elim (dec_lt 0 (get_or ends n 0)) [
-  | yes l ↦ (part_within 0 ends last n e (end_there ends n l)).1
-  | no m ↦ omega arith
-]
-
 -- one more part
 range_front : {X : Type 0} (symbols more : List X) (from end : ℕ) → from ≤ end → end ≤ length symbols → slice_range (symbols ++ more) from end ≡ slice_range symbols from end
 range_front symbols more from end l m = grind (arith, common_steps, drop-append-le, length-drop, take-append-le) steps 200000
 
-range_back : {X : Type 0} (symbols more : List X) (from end : ℕ) → from ≡ length symbols → end ≡ length symbols + length more → slice_range (symbols ++ more) from end ≡ more
-range_back symbols more from end e m = grind (arith, common_steps, take_all) steps 200000
-
 cut_more : {X : Type 0} (symbols more : List X) (from : ℕ) (ends : List ℕ) (end : ℕ) → EndsFrom from ends (length symbols) → end ≡ length symbols + length more
     → cut_from (symbols ++ more) from (ends ++ end ∷ []) ≡ cut_from symbols from ends ++ more ∷ []
-cut_more symbols more from [] end e m = ap (λ w. w ∷ []) (range_back symbols more from end e m)
+cut_more symbols more from [] end e m = ap (λ w. w ∷ []) (grind (arith, common_steps, take_all) steps 200000)
 cut_more symbols more from (x ∷ ends) end e m =
     (λ i. range_front symbols more from x e.0 (ends_within x ends (length symbols) e.1) i ∷ cut_more symbols more x ends end e.1 m i)
 
@@ -74,15 +65,21 @@ first_there xs start end l = taken (end - start) (drop start xs) (omega arith) �
     dropped (suc n) (x ∷ xs) = dropped n xs
     dropped _ _ = refl
 
-first_past : {X : Type 0} (xs : List X) (start end : ℕ) → end ≤ start → first_of (slice_range xs start end) ≡ None
-first_past xs start end l = let none : end - start ≡ 0 = omega arith in ap (λ n. first_of (take n (drop start xs))) none
-
 -- the value of an item, and that it has none
-kept : {X : Type 0} (values : List X) (ends : List ℕ) (n : ℕ) → n < length ends → value_kept (map first_of (cut_from values 0 ends)) n ≡ first_of (slice_range values (start_at 0 ends n) (get_or ends n 0))
-kept values ends n l = ap value_or_none (slice_get-map first_of (cut_from values 0 ends) n ∙ ap (option_map first_of) (cut_there values 0 ends n l))
-
 pub value_there : {X : Type 0} (values : List X) (ends : List ℕ) (n start end : ℕ) → start ≡ start_at 0 ends n → end ≡ get_or ends n 0 → start < end → slice_get values start ≡ value_kept (map first_of (cut_from values 0 ends)) n
-value_there values ends n start end s e l = grind (arith, common_steps, kept values ends n (end_there ends n (omega (arith, e, l))), first_there values start end l) steps 200000
+value_there values ends n start end s e l = grind (arith, common_steps, end_there, first_there, slice_get-map, cut_there) steps 200000
 
 pub value_missing : {X : Type 0} (values : List X) (ends : List ℕ) (n start end : ℕ) → start ≡ start_at 0 ends n → end ≡ get_or ends n 0 → end ≤ start → None ≡ value_kept (map first_of (cut_from values 0 ends)) n
-value_missing values ends n start end s e l = grind (arith, common_steps, dec_lt n (length ends), first_past values start end l, kept, cut_length, length-map, slice_get_past) steps 500000
+value_missing values ends n start end s e l =
+    grind (
+      arith,
+      common_steps,
+      dec_lt n (length ends),
+      let none : end - start ≡ 0 = omega arith in
+          ap (λ n. first_of (take n (drop start values))) none,
+      slice_get-map,
+      cut_there,
+      cut_length,
+      length-map,
+      slice_get_past,
+    ) steps 500000

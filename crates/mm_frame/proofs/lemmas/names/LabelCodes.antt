@@ -1,8 +1,7 @@
 -- Short labels have codes of their own, which fit into 64 bits, and middle ones into 128; what is kept of labels after one more.
-use Rattle.std.proofs.lemmas.{Grind.{common_steps}, Bool.{false≢true, cases_Bool, cond-true, cond-false, leb-true, and_parts, false_from_ne_true}, Slice.Eq.{bytes_eq-Decides}}
+use Rattle.std.proofs.lemmas.{Bool.{and_right, false≢true, cases_Bool, cond-true, cond-false, leb-true, and_parts, false_from_ne_true}, Grind.{common_steps}, Slice.Eq.{bytes_eq-Decides}}
 use Rattle.std.proofs.Common.{◌≡◌, ℕ, zero, suc, ◌*◌, ◌-◌, ◌^◌, ◌<◌, ◌≤◌, Bool, true, false, cond, not, Option, Some, List, [], ◌∷◌, length, drop, length-drop, slice_index_or, ◌&&◌, nat_eq, nat_le}
-use Rattle.std.{proofs.Common.{nat_lt, bytes_eq, Vec, Global, refl, sym, ◌∙◌, ap, arith}, specs.{HashMap.{HashMap, UpdatesBy, get_by}, Map.{KeepsOthers, IsKeyTest, AreApart, lookup}}}
-use Rattle.std.specs.Cmp.Lexicographic.{nat_list_eq_equiv}
+use Rattle.std.{proofs.Common.{nat_lt, bytes_eq, Vec, Global, refl, ◌∙◌, ap, arith}, specs.{HashMap.{HashMap, UpdatesBy, get_by}, Map.{KeepsOthers, IsKeyTest, AreApart, lookup}}}
 use Rattle.mm_frame.specs.{declared.label_numbers.LabelNumbers.{LabelNumbers}, Code.KeptLabels.{are_ascii, label_code, is_coded, is_wide_coded, later_number, label_number}}
 
 code_positive : (bs : List ℕ) → 1 ≤ label_code bs
@@ -36,9 +35,6 @@ same_code xs ys s t = grind (arith, common_steps, cases_Bool (bytes_eq xs ys), b
 other_test : (test : List ℕ → Bool) (xs ys : List ℕ) (b : Bool) → test xs ≡ b → test ys ≡ not b → bytes_eq xs ys ≡ false
 other_test test xs ys b s t = grind (arith, common_steps, bytes_eq-Decides, false_from_ne_true, false≢true) steps 200000
 
-apart : (bs cs ks : List ℕ) → bytes_eq bs cs ≡ false → bytes_eq bs ks ≡ true → bytes_eq cs ks ≡ false
-apart bs cs ks n y = nat_list_eq_equiv.symm cs ks ∙ sym (nat_list_eq_equiv.congr bs ks cs y) ∙ n
-
 other_entries : {K X : Type 0} (eq : K → K → Bool) (test : K → Bool) (old new : List (K × X)) → KeepsOthers eq test old new → (other : K → Bool) → IsKeyTest eq other → AreApart test other → lookup other new ≡ lookup other old
 unfolding KeepsOthers
 other_entries eq test old new h = h
@@ -47,29 +43,21 @@ other_entries eq test old new h = h
 pub inserted : {X S : Type 0} (ks bs : List ℕ) (m n : HashMap (Vec ℕ Global) X S) (x : X) → ks ≡ bs
     → UpdatesBy (λ a b. bytes_eq a.items b.items) (λ k. bytes_eq ks k.items) m n (Some x) → (cs : List ℕ)
     → get_by (λ k. bytes_eq cs k.items) n ≡ cond (bytes_eq bs cs) (Some x) (get_by (λ k. bytes_eq cs k.items) m)
-inserted ks bs m n x e h cs = grind (arith, common_steps, apart, bytes_eq-Decides, cases_Bool, cond-false, cond-true, other_entries) steps 200000
+inserted ks bs m n x e h cs = grind (arith, common_steps, bytes_eq-Decides, cases_Bool, cond-false, cond-true, other_entries) steps 200000
 
 -- the look-ups of two sorts of labels after one more of the first sort
 put_first : (test : List ℕ → Bool) (old new old_rest new_rest : List ℕ → Option ℕ) (label other : List ℕ) (number : ℕ) → test label ≡ true
     → ((l : List ℕ) → test l ≡ true → new l ≡ cond (bytes_eq label l) (Some number) (old l)) → ((l : List ℕ) → new_rest l ≡ old_rest l)
     → cond (test other) (new other) (new_rest other) ≡ cond (bytes_eq label other) (Some number) (cond (test other) (old other) (old_rest other))
-put_first test old new old_rest new_rest label other number s put same = by_test (test other) refl
-  where
-    by_test : (b : Bool) → test other ≡ b
-        → cond b (new other) (new_rest other) ≡ cond (bytes_eq label other) (Some number) (cond b (old other) (old_rest other))
-    by_test true t = put other t
-    by_test false t = same other ∙ ap (λ b. cond b (Some number) (old_rest other)) (sym (other_test test label other true s t))
+put_first test old new old_rest new_rest label other number s put same =
+    grind (arith, common_steps, put other, same other, other_test test label other true s) steps 200000
 
 -- and after one more of the second sort
 put_later : (test : List ℕ → Bool) (old new old_rest new_rest : List ℕ → Option ℕ) (label other : List ℕ) (number : ℕ) → test label ≡ false
     → ((l : List ℕ) → new l ≡ old l) → ((l : List ℕ) → new_rest l ≡ cond (bytes_eq label l) (Some number) (old_rest l))
     → cond (test other) (new other) (new_rest other) ≡ cond (bytes_eq label other) (Some number) (cond (test other) (old other) (old_rest other))
-put_later test old new old_rest new_rest label other number s same put = by_test (test other) refl
-  where
-    by_test : (b : Bool) → test other ≡ b
-        → cond b (new other) (new_rest other) ≡ cond (bytes_eq label other) (Some number) (cond b (old other) (old_rest other))
-    by_test true t = same other ∙ ap (λ b. cond b (Some number) (old other)) (sym (other_test test label other false s t))
-    by_test false t = put other
+put_later test old new old_rest new_rest label other number s same put =
+    grind (arith, common_steps, put other, same other, other_test test label other false s) steps 200000
 
 -- what is kept after one more short label
 pub short_put : (old new : LabelNumbers) (label other : List ℕ) (number : ℕ) → is_coded label ≡ true → new.middle ≡ old.middle → new.long ≡ old.long
@@ -111,18 +99,10 @@ long_put old new label other number n s short middle put =
     (λ l. get_by (λ key. bytes_eq l key.items) old.long) (λ l. get_by (λ key. bytes_eq l key.items) new.long) label k number s
     (λ l. ap (λ m. get_by (nat_eq (label_code l)) m) middle) put)
 
-and_false : (a b : Bool) → b ≡ false → a && b ≡ false
-and_false true b e = e
-and_false false b e = refl
-
-not_ascii : (n : ℕ) (bs : List ℕ) → n < length bs → nat_lt (slice_index_or bs n 0) 128 ≡ false → are_ascii bs ≡ false
+pub not_ascii : (n : ℕ) (bs : List ℕ) → n < length bs → nat_lt (slice_index_or bs n 0) 128 ≡ false → are_ascii bs ≡ false
 not_ascii n [] k e = absurd (omega arith)
 not_ascii zero (b ∷ bs) k e = ap (λ t. t && are_ascii bs) e
-not_ascii (suc n) (b ∷ bs) k e = and_false (nat_lt b 128) (are_ascii bs) (not_ascii n bs (omega arith) e)
-
--- a label with a byte that is no ASCII has no code
-pub no_code : (most n : ℕ) (bs : List ℕ) → n < length bs → nat_lt (slice_index_or bs n 0) 128 ≡ false → nat_le (length bs) most && are_ascii bs ≡ false
-no_code most n bs k e = and_false (nat_le (length bs) most) (are_ascii bs) (not_ascii n bs k e)
+not_ascii (suc n) (b ∷ bs) k e = and_right (nat_lt b 128) (are_ascii bs) (not_ascii n bs (omega arith) e)
 
 -- there is room for one more, in a code of so many digits and one more
 pub code_fits : (most left : ℕ) (bs : List ℕ) → 0 < left → left ≤ length bs → length bs ≤ suc most → are_ascii (drop left bs) ≡ true

@@ -1,29 +1,17 @@
 -- Names by their numbers, and lists of names that grow.
-use Rattle.std.proofs.lemmas.{Grind.{common_steps}, Bool.{false≢true, ltb-true, ltb-false, Decides.{Decides-eqb, eqb_tells}}, Slice.Eq.{bytes_eq-Decides}, List.{map_push, length-map}}
-use Rattle.std.proofs.lemmas.{Map.Keys.{apart_from_distinct}, Option.{same_Some, slice_get_within, slice_get-get_or, get_or_from_slice_get}}
-use Rattle.std.proofs.Common.{◌≡◌, ℕ, zero, suc, ◌+◌, ◌<◌, nat_eq, Option, inl, inr, Bool, true, false, not, ◌||◌, cond, Some, None, List, [], ◌∷◌, ◌++◌, length, map, get_or, refl, sym, ap, ◌∙◌}
-use Rattle.std.{proofs.Common.{arith, slice_get, position, Vec, if◌then◌else◌, Result, IfOk, OnErr}, specs.{List.{IsDistinct, list_any, position_or_len}, Str.{bytes_eq}}}
+use Rattle.std.proofs.Common.{OnErr, Result, IfOk, ◌≡◌, ℕ, zero, suc, ◌+◌, ◌<◌, Option, Bool, true, false, not, ◌||◌, cond, Some, None, List, [], ◌∷◌, ◌++◌, length, map, get_or, refl, sym, ap, ◌∙◌}
+use Rattle.std.proofs.{Common.{arith, slice_get, position, Vec, if◌then◌else◌}, lemmas.{Grind.{common_steps}, Bool.{false≢true, ltb-true, ltb-false}, Slice.Eq.{bytes_eq-Decides}}}
+use Rattle.std.proofs.lemmas.{List.{map_push, length-map}, Map.Keys.{apart_from_distinct}, Option.{same_Some, slice_get_within, slice_get-get_or, get_or_from_slice_get}}
+use Rattle.std.specs.{List.{IsDistinct, list_any, position_or_len}, Str.{bytes_eq}}
+use Rattle.mm_frame.{proofs.lemmas.lists.Members.{get_join}, specs.Code.{Numbers.{number_in, IsNameNumber, AreNameNumbers}, KeptTables.{declared_at, declared_for, table_name}}}
+use Rattle.mm_frame.specs.declared.tables.Tables.{Tables}
 use native.Mathlib.Decide.{dec_lt}
 use Rattle.indexmap.specs.IndexSet.{insert_key}
 use Rattle.mm_machine.specs.Language.Names.{Begins, AreDistinct, name_at}
-use Rattle.mm_frame.specs.{Code.{Numbers.{number_in, IsNameNumber, AreNameNumbers}, KeptTables.{declared_at, declared_for, table_name}}, declared.tables.Tables.{Tables}}
-
-same_tests : (b : Bool) (m n : ℕ) → m ≡ n → cond (not b) (1 + m) 0 ≡ cond (not b) (1 + n) 0
-same_tests b m n e = ap (λ (k : ℕ). cond (not b) (1 + k) 0) e
 
 -- what begins with a list begins with all that the list begins with
 pub begins_on : (one two three : List (List ℕ)) → Begins one two → Begins two three → Begins one three
 begins_on one two three a b n name p = b n name (a n name p)
-
--- names after a list leave it in front
-pub begins_more : (names more : List (List ℕ)) → Begins names (names ++ more)
-begins_more [] more n name p = cc
-begins_more (x ∷ names) more zero name p = p
-begins_more (x ∷ names) more (suc n) name p = begins_more names more n name p
-
-pub last_at : (names : List (List ℕ)) (name : List ℕ) → slice_get (names ++ name ∷ []) (length names) ≡ Some name
-last_at [] name = refl
-last_at (x ∷ names) name = last_at names name
 
 -- the element that a list of values has at a place
 pub there_from_map : {X Y : Type 0} (f : X → Y) (xs : List X) (n : ℕ) (y : Y) → slice_get (map f xs) n ≡ Some y → (x : X) × (slice_get xs n ≡ Some x) × (y ≡ f x)
@@ -60,16 +48,13 @@ module _ {Y : Type 0} where
 
 before_map : {X Y : Type 0} (test : Y → Bool) (f : X → Y) (xs : List X) → position_or_len test (map f xs) ≡ position_or_len (λ x. test (f x)) xs
 before_map test f [] = refl
-before_map test f (x ∷ xs) = same_tests (test (f x)) _ _ (before_map test f xs)
-
-position_map : {X Y : Type 0} (test : Y → Bool) (f : X → Y) (xs : List X) → position test (map f xs) ≡ position (λ x. test (f x)) xs
-position_map test f xs = rw (before_map test f xs, length-map xs f) refl
+before_map test f (x ∷ xs) = ap (λ (k : ℕ). cond (not (test (f x))) (1 + k) 0) (before_map test f xs)
 
 -- the number by the keys is that by the names
 pub number_by_keys : {Y : Type 0} (name : List ℕ) (keys : List (Vec ℕ Y)) → position (λ key. bytes_eq name key.items) keys ≡ number_in (map (λ key. key.items) keys) name
-number_by_keys name keys = sym (position_map (bytes_eq name) (λ key. key.items) keys)
+number_by_keys name keys = sym (rw (before_map (bytes_eq name) (λ key. key.items) keys, length-map keys (λ key. key.items)) refl)
 
-first_found : (name : List ℕ) (names : List (List ℕ)) → position_or_len (bytes_eq name) names < length names → slice_get names (position_or_len (bytes_eq name) names) ≡ Some name
+pub first_found : (name : List ℕ) (names : List (List ℕ)) → position_or_len (bytes_eq name) names < length names → slice_get names (position_or_len (bytes_eq name) names) ≡ Some name
 first_found name [] h = absurd (omega (arith, h))
 first_found name (x ∷ names) h = by (bytes_eq name x) refl h (λ l. first_found name names l)
   where
@@ -88,34 +73,21 @@ any_by_keys name [] = refl
 any_by_keys name (x ∷ keys) = ap (λ r. bytes_eq name x.items || r) (any_by_keys name keys)
 
 -- what a new name after the others leaves
-pub added_named : {E : Type 0} (r : Result ℕ E) (old new : List (List ℕ)) (name : List ℕ) → IfOk r (λ n. (n ≡ length old) × (new ≡ old ++ name ∷ [])) → IfOk r (λ n. slice_get new n ≡ Some name)
-added_named r old new name h = grind (arith, common_steps, last_at) steps 200000
-
 pub added_grows : {E : Type 0} (r : Result ℕ E) (old new : List (List ℕ)) (name : List ℕ) → IfOk r (λ n. (n ≡ length old) × (new ≡ old ++ name ∷ [])) → OnErr r (new ≡ old) → Begins old new
-added_grows r old new name h e = grind (arith, common_steps, begins_more) steps 200000
+added_grows r old new name h e = grind (arith, common_steps, get_join) steps 200000
 
 first_within : (name : List ℕ) (names : List (List ℕ)) (n : ℕ) → slice_get names n ≡ Some name → position_or_len (bytes_eq name) names < length names
 first_within name [] n h = cc
 first_within name (x ∷ names) zero h = grind (arith, common_steps, bytes_eq-Decides, false≢true, same_Some) steps 200000
 first_within name (x ∷ names) (suc n) h = grind (arith, common_steps, first_within name names n h) steps 200000
 
--- a name that is at a place has a number
-named_somewhere : (names : List (List ℕ)) (name : List ℕ) (n : ℕ) → slice_get names n ≡ Some name → number_in names name ≡ None → ⊥
-named_somewhere names name n there none = grind (arith, common_steps, first_within, ltb-false) steps 200000
-
 -- if names are distinct, it is that place
 pub number_of_named : (names : List (List ℕ)) (name : List ℕ) (n : ℕ) → AreDistinct names → slice_get names n ≡ Some name → number_in names name ≡ Some n
 number_of_named names name n distinct there = by (number_in names name) refl
   where
     by : (r : Option ℕ) → number_in names name ≡ r → number_in names name ≡ Some n
-    by None e = absurd (named_somewhere names name n there e)
-    by (Some m) e = e ∙ ap Some (distinct m n name (number_names names name m e) there)
-
-pub same_number : (n : ℕ) → nat_eq n n ≡ true
-same_number n = (Decides-eqb n n).1 refl
-
-pub other_number : (m n : ℕ) → (m ≡ n → ⊥) → nat_eq m n ≡ false
-other_number m n h = elim (eqb_tells m n) [ inl p ↦ absurd (h p.1) | inr p ↦ p.0 ]
+    by None e = absurd (grind (arith, common_steps, first_within, ltb-false) steps 200000)
+    by (Some m) e = e ∙ ap Some (distinct m n name (grind (arith, common_steps, first_found, ltb-true, same_Some) steps 200000) there)
 
 -- what the tables say of a name is what they say by its number
 pub declared_named : (all : List (List ℕ)) (tables : Tables) (n : ℕ) (name : List ℕ) → AreDistinct all → IsNameNumber all n name → declared_at tables n ≡ table_name all tables name

@@ -1,16 +1,16 @@
 -- Active pairs: they grow by those of each `$d`, an active statement reads at its own place as after all items, and which `$d` has a pair.
-use Rattle.std.proofs.lemmas.{Grind.{common_steps}, Bool.{false≢true, or_cases, or_left, or_right, or_parts, and_from, false_from_ne_true, not-false, and_parts}, Option.{get_or_from_slice_get}}
-use Rattle.std.proofs.lemmas.Slice.Eq.{bytes_eq-Decides}
-use Rattle.std.proofs.Common.{◌≡◌, ◌≢◌, ℕ, zero, suc, ◌+◌, ◌<◌, Bool, true, false, cond, ◌&&◌, ◌||◌, Some, List, [], ◌∷◌, ◌++◌, length, map, filter, flat_map, take, drop, slice_get, get_or, bytes_eq}
-use Rattle.std.proofs.Common.{refl, sym, ◌∙◌, ap, subst, arith, inl, inr, ◌⊎◌}
-use Rattle.mm_machine.specs.Language.Frame.{Symbol}
-use Rattle.mm_statement.specs.Language.Item.{Kind, Item, passed, is_declaring, is_disjoint, is_labelled, has, item_at}
+use Rattle.std.proofs.lemmas.{List.{map_push}, Grind.{common_steps}, Bool.{false≢true, or_cases, or_left, or_right, or_parts, and_from, false_from_ne_true, not-false, and_parts}}
+use Rattle.std.proofs.lemmas.{Option.{get_or_from_slice_get}, Slice.Eq.{bytes_eq-Decides}}
+use Rattle.std.proofs.Common.{take-suc, ◌≡◌, ◌≢◌, ℕ, suc, ◌+◌, ◌<◌, Bool, true, false, cond, ◌&&◌, ◌||◌, Some, List, [], ◌∷◌, ◌++◌, length, map, filter, flat_map, take, drop, slice_get, get_or}
+use Rattle.std.proofs.{Common.{bytes_eq, refl, sym, ◌∙◌, ap, subst, arith, inl, inr, ◌⊎◌}, Math.Seq.{drop-cons}}
+use Rattle.mm_frame.proofs.lemmas.scope.{TableLemmas.{any_in, active_between}, SoundItems.{in_any, split_at, map_same, expression_stays}, ActiveBySplit.{active_split, split_active}}
+use Rattle.mm_frame.proofs.lemmas.{scope.Facts.{no_symbol_of}, lists.Members.{get_between, In, in_left, in_right, in_cases, in_map, from_map, from_flat, in_get, has_in, in_has, in_cond}}
+use Rattle.mm_frame.proofs.lemmas.frames.{Frames.{variables_later}, HypothesisNumbers.{from_active_number, active_number_items}}
 use Rattle.mm_frame.specs.Language.{Scope.{Neither, mark_of, stays, active, active_variables, active_numbers}, Sound.{each, is_no_variable, is_repeated, IsSound, AreSound}}
 use Rattle.mm_frame.specs.{Language.{Framing.{symbol, expression, pairs_of, active_pairs}, Answering.{are_paired}}, declared.FrameNumber.TheVariants.{F03, F09}}
 use Rattle.mm_frame.specs.Code.LastItems.{is_active_at, is_disjoint_item}
-use Rattle.mm_frame.proofs.lemmas.lists.Members.{In, in_left, in_right, in_cases, in_map, from_map, in_flat, from_flat, in_get, has_in, in_has, in_cond}
-use Rattle.mm_frame.proofs.lemmas.scope.{ActiveBySplit.{active_split, split_active}, Facts.{no_symbol_of}, SoundItems.{split_at, map_same, expression_stays}, TableLemmas.{active_between}}
-use Rattle.mm_frame.proofs.lemmas.frames.{Frames.{variables_later}, HypothesisNumbers.{from_active_number, active_number_items}}
+use Rattle.mm_machine.specs.Language.Frame.{Symbol}
+use Rattle.mm_statement.specs.Language.Item.{Kind, Item, passed, is_declaring, is_disjoint, is_labelled, has, item_at}
 
 -- a `$d` opens and closes no block
 pub disjoint_neither : (k : Kind) → is_disjoint k ≡ true → mark_of k ≡ Neither
@@ -22,27 +22,19 @@ disjoint_named before item name s t h =
     let g = in_get name item.symbols h in
     has_in (active_variables before) name (not-false (has (active_variables before) name) (no_symbol_of (is_disjoint item.kind) (each (is_no_variable before)) item (λ word. (or_parts _ _ (s word F09)).0) t g.0 name g.1))
 
--- and stays one as long as the `$d` is active
-pub disjoint_variable : (items front : List Item) (item : Item) (back : List Item) (name : List ℕ) → AreSound items → items ≡ front ++ item ∷ back
-    → is_disjoint item.kind ≡ true → stays back ≡ true → In name item.symbols → In name (active_variables items)
-disjoint_variable items front item back name h e t s n = subst (λ w. In name (active_variables w)) (sym e) (variables_later front item back name (disjoint_neither item.kind t) s (disjoint_named front item name (h front item back e) t n))
-
 -- an active `$d` reads as at its own place
-disjoint_symbol : (items front : List Item) (item : Item) (back : List Item) (name : List ℕ) → AreSound items → items ≡ front ++ item ∷ back
-    → is_disjoint item.kind ≡ true → stays back ≡ true → In name item.symbols → symbol items name ≡ symbol front name
-disjoint_symbol items front item back name h e t s n =
-    let same = (in_has (active_variables items) name (disjoint_variable items front item back name h e t s n)) ∙ sym (in_has (active_variables front) name (disjoint_named front item name (h front item back e) t n)) in
-    λ i. record { name = name; variable = same i }
-
 pub disjoint_stays : (items front : List Item) (item : Item) (back : List Item) → AreSound items → items ≡ front ++ item ∷ back → is_disjoint item.kind ≡ true → stays back ≡ true → expression items item ≡ expression front item
-disjoint_stays items front item back h e t s = map_same (symbol items) (symbol front) item.symbols (λ name n. disjoint_symbol items front item back name h e t s n)
+disjoint_stays items front item back h e t s =
+    map_same (symbol items) (symbol front) item.symbols
+    (λ name n. (let same =
+    (in_has (active_variables items) name
+    (subst (λ w. In name (active_variables w)) (sym e)
+    (variables_later front item back name (disjoint_neither item.kind t) s (disjoint_named front item name (h front item back e) t n))))
+    ∙ sym (in_has (active_variables front) name (disjoint_named front item name (h front item back e) t n)) in λ i. record { name = name; variable = same i }))
 
 -- the same by the number of the item: an active `$f`, `$e`, `$a` or `$p`, and an active `$d`
 pub expression_at_number : (before : List Item) → AreSound before → (n : ℕ) (item : Item) → slice_get before n ≡ Some item → is_active_at before n ≡ true → is_labelled item.kind ≡ true → expression before item ≡ expression (take n before) item
 expression_at_number before h n item e s t = expression_stays before (take n before) item (drop (suc n) before) h (split_at before n item e) t s
-
-pub disjoint_at_number : (before : List Item) → AreSound before → (n : ℕ) (item : Item) → slice_get before n ≡ Some item → is_active_at before n ≡ true → is_disjoint item.kind ≡ true → expression before item ≡ expression (take n before) item
-disjoint_at_number before h n item e s t = disjoint_stays before (take n before) item (drop (suc n) before) h (split_at before n item e) t s
 
 -- the pairs of an item, as it reads after these items
 abbrev pub item_pairs : List Item → Item → List (Symbol × Symbol)
@@ -56,15 +48,9 @@ flat_same f g (x ∷ xs) h = let a = h x (inl refl) in let b = flat_same f g xs 
 abbrev pub pairs_at : List Item → ℕ → List (Symbol × Symbol)
 pairs_at items n = pairs_of (expression (take n items) (item_at items n))
 
-disjoint_only_at : (items : List Item) (x : Item) (xs : List Item) (b : Bool) (ps : List (Symbol × Symbol))
-    → ps ≡ flat_map (λ y. pairs_of (expression items y)) xs → cond b (pairs_of (expression items x)) [] ++ ps ≡ flat_map
-    (λ y. pairs_of (expression items y)) (cond b (x ∷ xs) xs)
-disjoint_only_at items x xs true ps e = ap (λ w. pairs_of (expression items x) ++ w) e
-disjoint_only_at items x xs false ps e = e
-
 disjoint_only : (items xs : List Item) → flat_map (item_pairs items) xs ≡ flat_map (λ y. pairs_of (expression items y)) (filter is_disjoint_item xs)
 disjoint_only items [] = refl
-disjoint_only items (x ∷ xs) = disjoint_only_at items x (filter is_disjoint_item xs) (is_disjoint x.kind) (flat_map (item_pairs items) xs) (disjoint_only items xs)
+disjoint_only items (x ∷ xs) = grind (arith, common_steps, disjoint_only items xs) steps 200000
 
 pub flat_of_map : {X Y Z : Type 0} (f : Y → List Z) (g : X → Y) (xs : List X) → flat_map f (map g xs) ≡ flat_map (λ x. f (g x)) xs
 flat_of_map f g [] = refl
@@ -74,12 +60,12 @@ pub active_pairs_by_numbers : (before : List Item) → AreSound before → activ
 active_pairs_by_numbers before h =
     let said = λ (y : Item). pairs_of (expression before y) in
     disjoint_only before (active before) ∙ ap (flat_map said) (sym (active_number_items is_disjoint_item before)) ∙ flat_of_map said (item_at before)
-    (active_numbers is_disjoint_item before) ∙ flat_same (λ n. said (item_at before n)) (pairs_at before) (active_numbers is_disjoint_item before) same where
-      same : (n : ℕ) → In n (active_numbers is_disjoint_item before) → pairs_of (expression before (item_at before n)) ≡ pairs_at before n
-      same n k =
-          let r = from_active_number is_disjoint_item before n k in
-          let there = get_or_from_slice_get before n r.0 passed r.1 in
-          ap (λ w. pairs_of (expression before w)) there ∙ ap pairs_of (disjoint_at_number before h n r.0 r.1 r.2 r.3) ∙ ap (λ w. pairs_of (expression (take n before) w)) (sym there)
+    (active_numbers is_disjoint_item before)
+    ∙ flat_same (λ n. said (item_at before n)) (pairs_at before) (active_numbers is_disjoint_item before)
+    (λ n k. let r = from_active_number is_disjoint_item before n k in let there = get_or_from_slice_get before n r.0 passed r.1 in
+    ap (λ w. pairs_of (expression before w)) there
+    ∙ ap pairs_of (disjoint_stays before (take n before) r.0 (drop (suc n) before) h (split_at before n r.0 r.1) r.3 r.2)
+    ∙ ap (λ w. pairs_of (expression (take n before) w)) (sym there))
 
 -- an active item and its number
 pub active_at_number : (before : List Item) (n : ℕ) (item : Item) → slice_get before n ≡ Some item → is_active_at before n ≡ true → In item (active before)
@@ -89,10 +75,6 @@ pub record ActiveNumber (before : List Item) (item : Item) : Type 0 where
   pub number : ℕ
   pub there : slice_get before number ≡ Some item
   pub stayed : is_active_at before number ≡ true
-
-pub get_between : (front : List Item) (item : Item) (back : List Item) → slice_get (front ++ item ∷ back) (length front) ≡ Some item
-get_between [] item back = refl
-get_between (x ∷ front) item back = get_between front item back
 
 pub number_of_active : (before : List Item) (item : Item) → In item (active before) → ActiveNumber before item
 number_of_active before item a =
@@ -104,35 +86,22 @@ abbrev pub pairs_with : Symbol → List Symbol → List (Symbol × Symbol)
 pairs_with s others = map (λ y. (s, y)) others
 
 -- one more pair of a variable, and the pairs of one more variable
-row_next : {X : Type 0} (f : X → Symbol) (s : Symbol) (later : List X) (n : ℕ) (d : X) → n < length later → pairs_with s (map f (take (suc n) later)) ≡ pairs_with s (map f (take n later)) ++ (s, f (get_or later n d)) ∷ []
-row_next f s [] n d l = absurd (omega arith)
-row_next f s (z ∷ zs) zero d l = refl
-row_next f s (z ∷ zs) (suc n) d l = ap (λ w. pairs_with s (f z ∷ []) ++ w) (row_next f s zs n d (omega arith))
+pub row_next : {X : Type 0} (f : X → Symbol) (s : Symbol) (later : List X) (n : ℕ) (d : X) → n < length later → pairs_with s (map f (take (suc n) later)) ≡ pairs_with s (map f (take n later)) ++ (s, f (get_or later n d)) ∷ []
+row_next f s later n d l = grind (arith, common_steps, take-suc later n d l, map_push) steps 200000
 
-pub row_last : {X : Type 0} (f : X → Symbol) (s : Symbol) (later : List X) (n : ℕ) (d : X) → n < length later → pairs_with s (map f (take (n + 1) later)) ≡ pairs_with s (map f (take n later)) ++ (s, f (get_or later n d)) ∷ []
-row_last f s later n d l = let z : n + 1 ≡ suc n = omega arith in ap (λ k. pairs_with s (map f (take k later))) z ∙ row_next f s later n d l
-
-all_next : {X : Type 0} (f : X → Symbol) (variables : List X) (n : ℕ) (d : X) → n < length variables
+pub all_next : {X : Type 0} (f : X → Symbol) (variables : List X) (n : ℕ) (d : X) → n < length variables
     → pairs_of (map f (drop n variables)) ≡ pairs_with (f (get_or variables n d)) (map f (drop (suc n) variables)) ++ pairs_of
     (map f (drop (suc n) variables))
-all_next f [] n d l = absurd (omega arith)
-all_next f (z ∷ zs) zero d l = refl
-all_next f (z ∷ zs) (suc n) d l = all_next f zs n d (omega arith)
-
-pub all_more : {X : Type 0} (f : X → Symbol) (variables : List X) (n : ℕ) (d : X) → n < length variables
-    → pairs_of (map f (drop n variables)) ≡ pairs_with (f (get_or variables n d)) (map f (drop (n + 1) variables)) ++ pairs_of
-    (map f (drop (n + 1) variables))
-all_more f variables n d l = let z : suc n ≡ n + 1 = omega arith in all_next f variables n d l ∙ ap (λ k. pairs_with (f (get_or variables n d)) (map f (drop k variables)) ++ pairs_of (map f (drop k variables))) z
+all_next f variables n d l = ap (λ w. pairs_of (map f w)) (drop-cons variables n d l)
 
 -- of two elements of a list, one comes before the other
-with_first : (x y z : Symbol) (xs : List Symbol) → z ≡ x → In y xs → In (x, y) (pairs_with z xs)
-with_first x y z xs e k = subst (λ w. In (w, y) (pairs_with z xs)) e (in_map (λ (t : Symbol). (z, t)) y xs k)
-
 pub in_order : (x y : Symbol) (xs : List Symbol) → (x ≡ y → ⊥) → In x xs → In y xs → In (x, y) (pairs_of xs) ⊎ In (y, x) (pairs_of xs)
 in_order x y [] n h k = absurd h
 in_order x y (z ∷ xs) n (inl a) (inl b) = absurd (n (sym a ∙ b))
-in_order x y (z ∷ xs) n (inl a) (inr k) = inl (in_left (x, y) (pairs_with z xs) (pairs_of xs) (with_first x y z xs a k))
-in_order x y (z ∷ xs) n (inr h) (inl b) = inr (in_left (y, x) (pairs_with z xs) (pairs_of xs) (with_first y x z xs b h))
+in_order x y (z ∷ xs) n (inl a) (inr k) =
+    inl (in_left (x, y) (pairs_with z xs) (pairs_of xs) (subst (λ w. In (w, y) (pairs_with z xs)) a (in_map (λ (t : Symbol). (z, t)) y xs k)))
+in_order x y (z ∷ xs) n (inr h) (inl b) =
+    inr (in_left (y, x) (pairs_with z xs) (pairs_of xs) (subst (λ w. In (w, x) (pairs_with z xs)) b (in_map (λ (t : Symbol). (z, t)) x xs h)))
 in_order x y (z ∷ xs) n (inr h) (inr k) = grind (arith, common_steps, in_order x y xs n h k, in_right) steps 200000
 
 -- the names of a pair, in one order or the other
@@ -146,28 +115,16 @@ pub same_names : (named pair : Symbol × Symbol) → is_pair named pair ≡ true
 same_names named pair t = grind (arith, common_steps, or_cases, and_parts, bytes_eq-Decides) steps 200000
 
 pub found_pair : (named : Symbol × Symbol) (pairs : List (Symbol × Symbol)) → are_paired pairs named ≡ true → (pair : Symbol × Symbol) × In pair pairs × SameNames named pair
-found_pair named [] t = absurd (false≢true t)
-found_pair named (pair ∷ pairs) t = elim (or_cases (is_pair named pair) (are_paired pairs named) t) [
-  | inl a ↦ (pair, inl refl, same_names named pair a)
-  | inr b ↦ (let r = found_pair named pairs b in (r.0, inr r.1, r.2))
-]
+found_pair named pairs t = let r = any_in (is_pair named) pairs t in (r.0, r.1, same_names named r.0 r.2)
 
 pub to_paired : (named pair : Symbol × Symbol) (pairs : List (Symbol × Symbol)) → In pair pairs → is_pair named pair ≡ true → are_paired pairs named ≡ true
-to_paired named pair [] h t = absurd h
-to_paired named pair (other ∷ pairs) (inl e) t = or_left (is_pair named other) (are_paired pairs named) (ap (is_pair named) e ∙ t)
-to_paired named pair (other ∷ pairs) (inr h) t = or_right (is_pair named other) (are_paired pairs named) (to_paired named pair pairs h t)
-
-same_bytes : (name : List ℕ) → bytes_eq name name ≡ true
-same_bytes name = (bytes_eq-Decides name name).1 refl
-
-both_same : (a b : List ℕ) → (bytes_eq a a && bytes_eq b b) ≡ true
-both_same a b = and_from (bytes_eq a a) (bytes_eq b b) (same_bytes a) (same_bytes b)
+to_paired named pair pairs h t = in_any (is_pair named) pair pairs h t
 
 pub pair_here : (x y : Symbol) → is_pair (x, y) (x, y) ≡ true
-pair_here x y = or_left (bytes_eq x.name x.name && bytes_eq y.name y.name) (bytes_eq x.name y.name && bytes_eq y.name x.name) (both_same x.name y.name)
+pair_here x y = grind (arith, common_steps, or_left, bytes_eq, and_from, bytes_eq-Decides) steps 200000
 
 pub pair_turned : (x y : Symbol) → is_pair (y, x) (x, y) ≡ true
-pair_turned x y = or_right (bytes_eq x.name y.name && bytes_eq y.name x.name) (bytes_eq x.name x.name && bytes_eq y.name y.name) (both_same x.name y.name)
+pair_turned x y = grind (arith, common_steps, or_right, bytes_eq, and_from, bytes_eq-Decides) steps 200000
 
 -- two variables of a sound `$d` have different names
 abbrev pub AreUnrepeated : List (List ℕ) → Type 0
@@ -179,22 +136,16 @@ disjoint_unrepeated before item s t k name e = no_symbol_of (is_declaring item.k
 apart_names : (before : List Item) (names : List (List ℕ)) → AreUnrepeated names → (pair : Symbol × Symbol) → In pair (pairs_of (map (symbol before) names)) → pair.0.name ≢ pair.1.name
 apart_names before [] u pair h = absurd h
 apart_names before (x ∷ names) u pair h = elim (in_cases pair (pairs_with (symbol before x) (map (symbol before) names)) (pairs_of (map (symbol before) names)) h) [
-  | inl a ↦ first (from_map (λ (y : Symbol). (symbol before x, y)) pair (map (symbol before) names) a)
+  | inl a ↦ (λ q. let s = from_map (symbol before) (from_map (λ (y : Symbol). (symbol before x, y)) pair (map (symbol before) names) a).0 names
+      (from_map (λ (y : Symbol). (symbol before x, y)) pair (map (symbol before) names) a).1 in let g = in_get s.0 names s.1 in
+      let same : x ≡ s.0 = ap (λ (p : Symbol × Symbol). p.0.name) (from_map (λ (y : Symbol). (symbol before x, y)) pair (map (symbol before) names) a).2 ∙ q
+      ∙ ap (λ (p : Symbol × Symbol). p.1.name) (sym (from_map (λ (y : Symbol). (symbol before x, y)) pair (map (symbol before) names) a).2)
+      ∙ ap (λ (w : Symbol). w.name) (sym s.2) in false≢true (sym (u (suc g.0) s.0 g.1) ∙ in_has (x ∷ take g.0 names) s.0 (inl same)))
   | inr b ↦ apart_names before names (λ k name e. false_from_ne_true (has (take k names) name) (λ t. false≢true (sym (u (suc k) name e) ∙ or_right (bytes_eq name x) (has (take k names) name) t))) pair b
 ]
-  where
-    first : (y : Symbol) × In y (map (symbol before) names) × ((symbol before x, y) ≡ pair) → pair.0.name ≢ pair.1.name
-    first r q =
-        let s = from_map (symbol before) r.0 names r.1 in
-        let g = in_get s.0 names s.1 in
-        let same : x ≡ s.0 = ap (λ (p : Symbol × Symbol). p.0.name) r.2 ∙ q ∙ ap (λ (p : Symbol × Symbol). p.1.name) (sym r.2) ∙ ap (λ (w : Symbol). w.name) (sym s.2) in
-        false≢true (sym (u (suc g.0) s.0 g.1) ∙ in_has (x ∷ take g.0 names) s.0 (inl same))
 
 pub from_active_pairs : (before : List Item) (pair : Symbol × Symbol) → In pair (active_pairs before) → (item : Item) × In item (active before) × (is_disjoint item.kind ≡ true) × In pair (pairs_of (expression before item))
 from_active_pairs before pair m = grind (arith, common_steps, from_flat, in_cond) steps 200000
-
-pub to_active_pairs : (before : List Item) (pair : Symbol × Symbol) (item : Item) → In item (active before) → is_disjoint item.kind ≡ true → In pair (pairs_of (expression before item)) → In pair (active_pairs before)
-to_active_pairs before pair item a d m = in_flat (item_pairs before) item pair (active before) a (subst (λ b. In pair (cond b (pairs_of (expression before item)) [])) (sym d) m)
 
 -- no active pair has one name twice
 pub apart_active : (before : List Item) → AreSound before → (pair : Symbol × Symbol) → In pair (active_pairs before) → pair.0.name ≢ pair.1.name

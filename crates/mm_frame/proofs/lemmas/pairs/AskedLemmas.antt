@@ -1,12 +1,12 @@
 -- What was found for pairs that were looked up: after one more item, and what it says of active pairs.
-use Rattle.std.proofs.lemmas.{Grind.{common_steps}, Bool.{false≢true}, List.{drop-append-le}, Option.{slice_get_within}}
-use Rattle.std.proofs.Common.{◌≡◌, ℕ, zero, suc, ◌<◌, ◌≤◌, Bool, true, false, Option, Some, None, List, [], ◌∷◌, ◌++◌, length, take, drop, get_or, refl, sym, ◌∙◌, ap, take-append-drop, length-append}
-use Rattle.std.{proofs.Common.{arith}, specs.Prelude.{Contains, IfSome, IfNone, is_some}}
-use native.Mathlib.Decide.{dec_lt}
-use Rattle.mm_frame.specs.{declared.{asked.AskedPairs.{AskedPairs}, paired.PairTable.{PairTable}}, Language.{Scope.{Mark}, Framing.{active_pairs}, Answering.{are_paired}}, Code.BlockMarks.{stays_by}}
-use Rattle.mm_frame.specs.Code.{LastItems.{is_active_at}, Numbers.{IsNameNumber}, KeptPairTable.{row_at, IsDisjointAt, IsCommon, ReadsPairs}, KeptAsked.{IsFoundBefore, IsPairAnswer, KnowsAsked}}
-use Rattle.mm_frame.proofs.lemmas.scope.ActiveBySplit.{stays_join, stays_front}
+use Rattle.std.proofs.Common.{subst, ◌≡◌, ℕ, zero, suc, ◌<◌, ◌≤◌, Bool, true, false, Option, Some, None, List, [], ◌∷◌, ◌++◌, length, take, drop, get_or, refl, sym, ◌∙◌, ap, take-append-drop}
+use Rattle.std.proofs.{Common.{length-append, arith}, lemmas.{Grind.{common_steps}, Bool.{false≢true}, List.{drop-append-le}, Option.{slice_get_within}}}
+use Rattle.std.specs.Prelude.{Contains, IfSome, IfNone, is_some}
+use Rattle.mm_frame.specs.Code.{LastItems.{IsRising, is_active_at}, BlockMarks.{stays_by}, Numbers.{IsNameNumber}, KeptPairTable.{row_at, IsDisjointAt, IsCommon, ReadsPairs}}
+use Rattle.mm_frame.specs.{Code.KeptAsked.{IsFoundBefore, IsPairAnswer, KnowsAsked}, declared.{asked.AskedPairs.{AskedPairs}, paired.PairTable.{PairTable}}, Language.Scope.{Mark}}
+use Rattle.mm_frame.{specs.Language.{Framing.{active_pairs}, Answering.{are_paired}}, proofs.lemmas.scope.ActiveBySplit.{stays_join, stays_front}}
 use Rattle.mm_frame.proofs.lemmas.pairs.PairTableLemmas.{disjoint_front, disjoint_cases, active_before, HavePair, paired_from, paired_to, active_at_marks}
+use native.Mathlib.Decide.{dec_lt}
 use Rattle.mm_statement.specs.Language.Item.{Item}
 use Rattle.mm_machine.specs.Language.NumberedSymbols.{as_variable}
 
@@ -36,15 +36,12 @@ disjoint_back before item name n l d = grind (arith, common_steps, disjoint_case
 
 answer_more : (before : List Item) (item : Item) (x y : List ℕ) (upto : ℕ) (common : Option ℕ) → IsPairAnswer before x y upto common → IsPairAnswer (before ++ item ∷ []) x y upto common
 answer_more before item x y upto common a =
-    let w = a.within in
     let long = length-append before (item ∷ []) in
     record {
       within = omega arith;
       cover = λ n l p q active. (
-          let within = a.within in
           let first = disjoint_back before item x n (omega arith) p in
-          let second = disjoint_back before item y n (omega arith) q in
-          let found = a.cover n l first second (active_before before item x n first active) in
+          let found = a.cover n l first (disjoint_back before item y n (omega arith) q) (active_before before item x n first active) in
           record { first = found.first; found = found.found; least = found.least; active = active_below before item found.first n found.least (omega arith) found.active active }
           );
       there = λ f e. let d = a.there f e in (disjoint_front before item x f d.0, disjoint_front before item y f d.1);
@@ -54,14 +51,6 @@ pub asked_more : (all : List (List ℕ)) (before : List Item) (item : Item) (ask
 asked_more all before item asked knows k d l x y a b = answer_more before item x y (get_or asked.answers.items k d).upto (get_or asked.answers.items k d).common (knows k d l x y a b)
 
 -- ---- what an answer says
-
-common_pair : (all : List (List ℕ)) (before : List Item) (table : PairTable) (blocks : List Mark) (first second : ℕ) (x y : List ℕ) → ReadsPairs all before table blocks → IsNameNumber all first x → IsNameNumber all second y → (n : ℕ)
-    → IsCommon blocks (row_at table first) (row_at table second) n → HavePair before x y n
-common_pair all before table blocks first second x y k a b n common = record {
-  first = (k.knows first x a).there n common.0;
-  second = (k.knows second y b).there n common.1;
-  stayed = active_at_marks before blocks n k.marks ∙ common.2;
-}
 
 pair_common : (all : List (List ℕ)) (before : List Item) (table : PairTable) (blocks : List Mark) (first second : ℕ) (x y : List ℕ) → ReadsPairs all before table blocks → IsNameNumber all first x → IsNameNumber all second y → (n : ℕ)
     → HavePair before x y n → IsCommon blocks (row_at table first) (row_at table second) n
@@ -87,7 +76,7 @@ active_told all before table blocks first second x y upto common k a b apart ans
     sym (paired_to before x y yet.0 (names_apart all first second x y before table blocks k a b apart) (record { first = there.0; second = there.1; stayed = active_at_marks before blocks yet.0 k.marks ∙ yet.2 }))
 
 -- if none is active of those that were looked at, an active one is no earlier
-later_common : (all : List (List ℕ)) (before : List Item) (table : PairTable) (blocks : List Mark) (first second : ℕ) (x y : List ℕ) (upto : ℕ)
+pub later_common : (all : List (List ℕ)) (before : List Item) (table : PairTable) (blocks : List Mark) (first second : ℕ) (x y : List ℕ) (upto : ℕ)
     (common : Option ℕ) → ReadsPairs all before table blocks → IsNameNumber all first x → IsNameNumber all second y
     → IsPairAnswer before x y upto common → IsEnded blocks common → (n : ℕ) → HavePair before x y n → upto ≤ n
 later_common all before table blocks first second x y upto common k a b answer ended n have = grind (arith, common_steps, active_at_marks, dec_lt, false≢true) steps 200000
@@ -98,22 +87,30 @@ pub record IsFirstFrom (blocks : List Mark) (row other : List ℕ) (from : ℕ) 
   pub least : IfSome common (λ n. (m : ℕ) → from ≤ m → IsCommon blocks row other m → n ≤ m)
   pub none : IfNone common ((n : ℕ) → from ≤ n → IsCommon blocks row other n → ⊥)
 
-first_told : (all : List (List ℕ)) (before : List Item) (table : PairTable) (blocks : List Mark) (first second : ℕ) (x y : List ℕ) (from : ℕ)
+-- of rows that are those of a table
+pub first_in_rows : (blocks : List Mark) (row other left right : List ℕ) (from : ℕ) (common : Option ℕ) → row ≡ left → other ≡ right → IsRising left
+    → IsRising right
+    → (IsRising row → IsRising other → IsFirstFrom blocks row other from common) → IsFirstFrom blocks left right from common
+first_in_rows blocks row other left right from common e f r s first =
+    subst (λ w. IsFirstFrom blocks w right from common) e
+    (subst (λ w. IsFirstFrom blocks row w from common) f (first (subst IsRising (sym e) r) (subst IsRising (sym f) s)))
+
+pub first_told : (all : List (List ℕ)) (before : List Item) (table : PairTable) (blocks : List Mark) (first second : ℕ) (x y : List ℕ) (from : ℕ)
     (common : Option ℕ) → ReadsPairs all before table blocks → IsNameNumber all first x → IsNameNumber all second y
     → (first ≡ second → ⊥) → ((n : ℕ) → HavePair before x y n → from ≤ n) → IsFirstFrom blocks (row_at table first) (row_at table second) from common → is_some common ≡ are_paired (active_pairs before) (as_variable x, as_variable y)
 first_told all before table blocks first second x y from (Some n) k a b apart later f =
-    sym (paired_to before x y n (names_apart all first second x y before table blocks k a b apart) (common_pair all before table blocks first second x y k a b n f.some))
+    sym (paired_to before x y n (names_apart all first second x y before table blocks k a b apart)
+    (record {
+      first = (k.knows first x a).there n f.some.0;
+      second =
+          (k.knows second y b).there n f.some.1;
+      stayed = active_at_marks before blocks n k.marks ∙ f.some.2;
+    }))
 first_told all before table blocks first second x y from None k a b apart later f = by_test (are_paired (active_pairs before) (as_variable x, as_variable y)) refl
   where
     by_test : (r : Bool) → are_paired (active_pairs before) (as_variable x, as_variable y) ≡ r → false ≡ are_paired (active_pairs before) (as_variable x, as_variable y)
     by_test false e = sym e
     by_test true e = let p = paired_from before x y k.sound e in absurd (f.none p.1 (later p.1 p.2) (pair_common all before table blocks first second x y k a b p.1 p.2))
-
-pub ended_told : (all : List (List ℕ)) (before : List Item) (table : PairTable) (blocks : List Mark) (first second : ℕ) (x y : List ℕ) (upto : ℕ)
-    (known common : Option ℕ) → ReadsPairs all before table blocks → IsNameNumber all first x → IsNameNumber all second y
-    → (first ≡ second → ⊥) → IsPairAnswer before x y upto known → IsEnded blocks known → IsFirstFrom blocks (row_at table first) (row_at table second) upto common → is_some common ≡ are_paired (active_pairs before) (as_variable x, as_variable y)
-ended_told all before table blocks first second x y upto known common k a b apart answer ended f =
-    first_told all before table blocks first second x y upto common k a b apart (later_common all before table blocks first second x y upto known k a b answer ended) f
 
 -- so there is one more answer
 pub next_answer : (all : List (List ℕ)) (before : List Item) (table : PairTable) (blocks : List Mark) (first second : ℕ) (x y : List ℕ) (upto end : ℕ)

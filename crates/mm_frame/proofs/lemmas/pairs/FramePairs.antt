@@ -1,31 +1,30 @@
 -- The pairs of a frame: those of its variables, in order, that an active `$d` has.
-use Rattle.std.proofs.lemmas.{Grind.{common_steps, flat_map-append}, Bool.{or_cases, and_from, false_from_ne_true, and_parts}, List.{map-append, map_push}}
-use Rattle.std.proofs.lemmas.{List.Elements.{All-contains, All-push, filter-append}, Map.Views.{any-filter_same}, Option.{same_Some, get_or_from_slice_get}}
+use Rattle.std.{specs.Prelude.{Contains}, proofs.lemmas.{Grind.{common_steps}, Bool.{or_cases, and_from, false_from_ne_true, and_parts}, List.{map-append, Elements.{All-contains, filter-append}}}}
+use Rattle.std.proofs.lemmas.{Map.Views.{any-filter_same}, Option.{same_Some, get_or_from_slice_get}}
 use Rattle.std.proofs.Common.{◌≡◌, ℕ, suc, ◌+◌, ◌<◌, ◌≤◌, Bool, true, false, cond, ◌&&◌, Some, None, List, [], ◌∷◌, ◌++◌, length, map, filter, flat_map, All, option_to_list, take, drop, slice_get}
-use Rattle.std.proofs.Common.{get_or, refl, sym, ◌∙◌, ap, subst, append-nil, take-suc, arith, inl, inr, ◌⊎◌}
-use Rattle.mm_machine.specs.{declared.symbol.NumberedSymbol.{NumberedSymbol}, Language.{Frame.{Symbol, Mandatory, ArePair, AreSamePairs}, Typing.{IsTyped}, Names.{name_at}}}
-use Rattle.mm_machine.specs.Language.NumberedSymbols.{symbol_of, symbols_of, pair_of, IsNumbered, IsPairNumbered, ArePairsRead}
-use Rattle.mm_frame.specs.{declared.paired.PairTable.{PairTable}, Language.{Scope.{Mark, active, active_numbers}, Sound.{IsSound, AreSound}}}
+use Rattle.std.proofs.Common.{get_or, refl, sym, ◌∙◌, ap, subst, arith, inl, inr, ◌⊎◌}
+use Rattle.mm_machine.specs.Language.{Frame.{Symbol, Mandatory, ArePair, AreSamePairs}, Typing.{IsTyped}, NumberedSymbols.{symbol_of, symbols_of, IsNumbered, ArePairsRead}}
+use Rattle.mm_machine.specs.declared.symbol.NumberedSymbol.{NumberedSymbol}
+use Rattle.mm_frame.specs.Language.{Scope.{active, active_numbers}, Sound.{IsSound, AreSound}}
 use Rattle.mm_frame.specs.Language.Framing.{symbol, expression, mandatory_variables, is_mandatory, hypothesis, mandatory_hypotheses, pairs_of, active_pairs, is_mandatory_pair, frame}
 use Rattle.mm_frame.specs.{Language.{Framing.{mandatory_numbers}, Answering.{are_paired, typed_variables, pairs_in_order}}, Code.LastItems.{is_active_at, is_essential_item}}
-use Rattle.mm_frame.specs.Code.{KeptSymbols.{expression_kept, AreExpressions, AreNumbered}, KeptPairTable.{row_at, ReadsPairs}, PairOrder.{is_among, float_variable, float_variables}}
-use Rattle.mm_frame.proofs.lemmas.{lists.{Members.{In, in_contains, contains_in, get_in, from_map, in_filter, from_filter, in_flat, from_flat}, Rising.{in_among, among_in}}, scope.Facts.{float_two}}
-use Rattle.mm_frame.proofs.lemmas.{scope.SoundItems.{split_at, filter_same, sound_kept}, frames.Frames.{in_at, float_of, float_name, float_labelled, from_pairs, pairs_typed_at, assertion_expression}}
-use Rattle.mm_frame.proofs.lemmas.{frames.{HypothesisNumbers.{to_active_number, from_active_number, hypotheses_by_numbers}, MandatoryLemmas.{not_both}}, names.NumberLemmas.{name_there}}
-use Rattle.mm_frame.proofs.lemmas.pairs.ActivePairLemmas.{expression_at_number, flat_same, flat_of_map, pairs_with, row_last, all_more, in_order, is_pair, SameNames, same_names, found_pair, to_paired}
-use Rattle.mm_frame.proofs.lemmas.pairs.{ActivePairLemmas.{pair_here, pair_turned, apart_active}, PairTableLemmas.{none_told}}
+use Rattle.mm_frame.specs.Code.{KeptSymbols.{expression_kept, AreExpressions, AreNumbered}, PairOrder.{is_among, float_variable, float_variables}}
+use Rattle.mm_frame.proofs.lemmas.pairs.ActivePairLemmas.{all_next, row_next, expression_at_number, pairs_with, in_order, is_pair, SameNames, same_names, found_pair, to_paired, pair_here, pair_turned}
+use Rattle.mm_frame.proofs.lemmas.{pairs.ActivePairLemmas.{apart_active}, lists.Members.{In, in_contains, contains_in, from_map, in_filter, from_filter, in_flat, from_flat}}
+use Rattle.mm_frame.proofs.lemmas.{lists.Rising.{in_among, among_in}, scope.{Facts.{float_two}, SoundItems.{split_at, filter_same}}}
+use Rattle.mm_frame.proofs.lemmas.frames.Frames.{in_at, float_of, float_name, float_labelled, from_pairs, pairs_typed_at, assertion_expression}
+use Rattle.mm_frame.proofs.lemmas.frames.{HypothesisNumbers.{to_active_number, from_active_number}, MandatoryLemmas.{not_both}}
 use Rattle.mm_statement.specs.Language.Item.{Item, passed, is_floating, is_essential, is_assertion, has, variable_of, item_at}
 
 -- the variables of the mandatory `$f`
-abbrev variables_if : Bool → List Symbol → List Symbol
+abbrev pub variables_if : Bool → List Symbol → List Symbol
 variables_if floating symbols = cond floating (drop 1 symbols) []
 
 second_read : (all : List (List ℕ)) (kept : List NumberedSymbol) → symbols_of all (option_to_list (slice_get kept 1)) ≡ option_to_list (slice_get (symbols_of all kept) 1)
-second_read all [] = refl
-second_read all (x ∷ []) = refl
 second_read all (x ∷ y ∷ kept) = refl
+second_read all _ = refl
 
-variables_at : (all : List (List ℕ)) (before : List Item) (item : Item) (expressions : List (List NumberedSymbol)) (n : ℕ) → AreSound before → AreExpressions all before expressions → In n (mandatory_numbers before item)
+pub variables_at : (all : List (List ℕ)) (before : List Item) (item : Item) (expressions : List (List NumberedSymbol)) (n : ℕ) → AreSound before → AreExpressions all before expressions → In n (mandatory_numbers before item)
     → symbols_of all (float_variable (active_numbers is_essential_item before) expressions n) ≡ variables_if (is_floating (item_at before n).kind) (expression before (item_at before n))
 variables_at all before item expressions n h a m =
     let r = from_active_number (is_mandatory (mandatory_variables before item)) before n m in
@@ -34,43 +33,27 @@ variables_at all before item expressions n h a m =
       essentials : List ℕ
       essentials = active_numbers is_essential_item before
 
-      no_float : (x : Item) → is_essential x.kind ≡ true → is_floating x.kind ≡ false
-      no_float x e = false_from_ne_true (is_floating x.kind) (λ f. not_both x.kind f e)
-
-      no_essential : (x : Item) → slice_get before n ≡ Some x → is_floating x.kind ≡ true → is_among essentials n ≡ false
-      no_essential x there f = false_from_ne_true (is_among essentials n) (λ t.
-          let r = from_active_number is_essential_item before n (among_in essentials n t) in
-          not_both x.kind f (ap (λ (y : Item). is_essential y.kind) (same_Some x r.0 (sym there ∙ r.1)) ∙ r.3))
-
       by_kind : (x : Item) → slice_get before n ≡ Some x → is_active_at before n ≡ true → (is_essential x.kind ≡ true) ⊎ ((is_floating x.kind && has (mandatory_variables before item) (variable_of x)) ≡ true)
           → symbols_of all (float_variable essentials expressions n) ≡ variables_if (is_floating x.kind) (expression before x)
       by_kind x there stayed (inl e) =
           ap (λ b. symbols_of all (cond b [] (option_to_list (slice_get (expression_kept expressions n) 1)))) (in_among essentials n (to_active_number is_essential_item before n x there stayed e))
-          ∙ sym (ap (λ b. variables_if b (expression before x)) (no_float x e))
+          ∙ sym (ap (λ b. variables_if b (expression before x)) (false_from_ne_true (is_floating x.kind) (λ f. not_both x.kind f e)))
       by_kind x there stayed (inr b) =
           let f = (and_parts (is_floating x.kind) (has (mandatory_variables before item) (variable_of x)) b).0 in
           let labelled = float_labelled x.kind f in
           let two = float_two (take n before) x (h (take n before) x (drop (suc n) before) (split_at before n x there)) f in
           let symbols : expression before x ≡ symbol before two.0 ∷ symbol before two.1 ∷ [] = ap (map (symbol before)) two.2 in
-          ap (λ b. symbols_of all (cond b [] (option_to_list (slice_get (expression_kept expressions n) 1)))) (no_essential x there f)
+          ap (λ b. symbols_of all (cond b [] (option_to_list (slice_get (expression_kept expressions n) 1))))
+          (false_from_ne_true (is_among essentials n)
+          (λ t. let r = from_active_number is_essential_item before n (among_in essentials n t) in
+          not_both x.kind f (ap (λ (y : Item). is_essential y.kind) (same_Some x r.0 (sym there ∙ r.1)) ∙ r.3)))
           ∙ second_read all (expression_kept expressions n)
           ∙ ap (λ w. option_to_list (slice_get w 1)) ((a n x there labelled ∙ sym (expression_at_number before h n x there stayed labelled)) ∙ symbols)
           ∙ sym (ap (λ b. variables_if b (expression before x)) f ∙ ap (drop 1) symbols)
 
-read_each : {X : Type 0} (all : List (List ℕ)) (f : X → List NumberedSymbol) (xs : List X) → symbols_of all (flat_map f xs) ≡ flat_map (λ x. symbols_of all (f x)) xs
+pub read_each : {X : Type 0} (all : List (List ℕ)) (f : X → List NumberedSymbol) (xs : List X) → symbols_of all (flat_map f xs) ≡ flat_map (λ x. symbols_of all (f x)) xs
 read_each all f [] = refl
 read_each all f (x ∷ xs) = map-append (symbol_of all) (f x) (flat_map f xs) ∙ ap (λ w. symbols_of all (f x) ++ w) (read_each all f xs)
-
-pub variables_are : (all : List (List ℕ)) (before : List Item) (item : Item) (essentials numbers : List ℕ) (expressions : List (List NumberedSymbol)) → AreSound before → essentials ≡ active_numbers is_essential_item before
-    → AreExpressions all before expressions → numbers ≡ mandatory_numbers before item → symbols_of all (float_variables essentials expressions numbers) ≡ typed_variables (mandatory_hypotheses before item)
-variables_are all before item essentials numbers expressions h e a m =
-    let said = λ (x : Mandatory). variables_if x.floating x.expression in
-    let hypothesis_of = λ (n : ℕ). hypothesis before (item_at before n) in
-    (λ i. symbols_of all (float_variables (e i) expressions (m i)))
-    ∙ read_each all (float_variable (active_numbers is_essential_item before) expressions) (mandatory_numbers before item)
-    ∙ flat_same (λ n. symbols_of all (float_variable (active_numbers is_essential_item before) expressions n)) (λ n. said (hypothesis_of n)) (mandatory_numbers before item) (λ n k. variables_at all before item expressions n h a k)
-    ∙ sym (flat_of_map said hypothesis_of (mandatory_numbers before item))
-    ∙ ap typed_variables (sym (hypotheses_by_numbers before item))
 
 -- each has the number of a name
 second_kept : (b : Bool) (kept : List NumberedSymbol) (v : NumberedSymbol) → In v (cond b [] (option_to_list (slice_get kept 1))) → In v kept
@@ -101,15 +84,7 @@ typed_variable before item v h m =
     let u = floating_in (r.0).floating v (r.0).expression r.2 in
     of_float s.0 t.0 t.1 (ap (λ (x : Mandatory). x.floating) s.2 ∙ u.0) (subst (λ (x : Mandatory). In v (drop 1 x.expression)) (sym s.2) u.1) where
       of_float : (f : Item) → In f (active before) → is_mandatory (mandatory_variables before item) f ≡ true → is_floating f.kind ≡ true → In v (drop 1 (expression before f)) → TypedVariable before item v
-      of_float f a t e k =
-          let x = float_of before f (sound_kept before h) a e in
-          elim (subst (λ w. In v (drop 1 (map (symbol before) w))) x.both k) [
-            | inl q ↦ grind (arith, common_steps, float_name before f x) steps 200000
-            | inr z ↦ absurd z
-          ]
-        where
-          has_name : (f : Item) → is_mandatory (mandatory_variables before item) f ≡ true → is_floating f.kind ≡ true → has (mandatory_variables before item) (variable_of f) ≡ true
-          has_name f t e = grind (arith, common_steps, or_cases (is_essential f.kind) (is_floating f.kind && has (mandatory_variables before item) (variable_of f)) t, not_both, and_parts) steps 200000
+      of_float f a t e k = grind (arith, common_steps, float_name before f (float_of before f h a e)) steps 200000
 
 -- mandatory variables are a pair of the frame exactly when they are an active pair
 paired_same : (mandatory : List (List ℕ)) (pairs : List (Symbol × Symbol)) (named : Symbol × Symbol) → has mandatory named.0.name ≡ true
@@ -126,40 +101,13 @@ active_in_order before item h = filter_same (are_paired (active_pairs before)) (
     paired_same (mandatory_variables before item) (active_pairs before) pair (typed_variable before item pair.0 h p.0).mandatory (typed_variable before item pair.1 h p.1).mandatory)
 
 -- one more hypothesis
-no_second : (symbols : List NumberedSymbol) → length symbols ≤ 1 → slice_get symbols 1 ≡ None
+pub no_second : (symbols : List NumberedSymbol) → length symbols ≤ 1 → slice_get symbols 1 ≡ None
 no_second (x ∷ y ∷ symbols) l = absurd (omega arith)
 no_second _ l = refl
 
-nothing : (b : Bool) → cond {A = List NumberedSymbol} b [] [] ≡ []
+pub nothing : (b : Bool) → cond {A = List NumberedSymbol} b [] [] ≡ []
 nothing true = refl
 nothing false = refl
-
--- nor has one of the active `$e`, wherever it is among them
-pub no_variable : (essentials : List ℕ) (expressions : List (List NumberedSymbol)) (n place : ℕ) → slice_get essentials place ≡ Some n → float_variable essentials expressions n ≡ []
-no_variable essentials expressions n place e = grind (arith, common_steps, in_among essentials n (get_in n essentials place e)) steps 200000
-
-pub nothing_second : (essentials : List ℕ) (expressions : List (List NumberedSymbol)) (n : ℕ) (symbols so_far : List NumberedSymbol)
-    → symbols ≡ expression_kept expressions n → length symbols ≤ 1 → so_far ≡ so_far ++ float_variable essentials expressions n
-nothing_second essentials expressions n symbols so_far e l = grind (arith, common_steps, append-nil so_far, no_second symbols l, nothing (is_among essentials n)) steps 200000
-
-pub variables_more : (essentials : List ℕ) (expressions : List (List NumberedSymbol)) (numbers : List ℕ) (n : ℕ) → n < length numbers
-    → float_variables essentials expressions (take (n + 1) numbers) ≡ float_variables essentials expressions (take n numbers) ++ float_variable essentials expressions (get_or numbers n 0)
-variables_more essentials expressions numbers n l = grind (arith, common_steps, append-nil, flat_map-append, take-suc) steps 200000
-
--- a pair that is kept if it passes a test
-pub pair_added : (all : List (List ℕ)) (test : Symbol × Symbol → Bool) (said : List (Symbol × Symbol)) (kept : List (NumberedSymbol × NumberedSymbol))
-    (x y : NumberedSymbol) → IsNumbered all x → IsNumbered all y → test (symbol_of all x, symbol_of all y) ≡ true → ArePairsRead all said kept
-    → ArePairsRead all (said ++ filter test ((symbol_of all x, symbol_of all y) ∷ [])) (kept ++ (x, y) ∷ [])
-pair_added all test said kept x y a b t r =
-    let pair : Symbol × Symbol = (symbol_of all x, symbol_of all y) in
-    record {
-      pairs = map_push (pair_of all) kept (x, y) ∙ ap (λ w. w ++ pair ∷ []) r.pairs ∙ sym (ap (λ c. said ++ cond c (pair ∷ []) []) t);
-      numbered = All-push (IsPairNumbered all) kept (x, y) r.numbered (a, b);
-    }
-
-pub pair_left : (all : List (List ℕ)) (test : Symbol × Symbol → Bool) (said : List (Symbol × Symbol)) (kept : List (NumberedSymbol × NumberedSymbol))
-    (pair : Symbol × Symbol) → test pair ≡ false → ArePairsRead all said kept → ArePairsRead all (said ++ filter test (pair ∷ [])) kept
-pair_left all test said kept pair t r = subst (λ w. ArePairsRead all w kept) (sym (append-nil said) ∙ sym (ap (λ c. said ++ cond c (pair ∷ []) []) t)) r
 
 -- one more pair of a variable, and none
 pub with_more : (all : List (List ℕ)) (test : Symbol × Symbol → Bool) (s : Symbol) (later : List NumberedSymbol) (n : ℕ) (d : NumberedSymbol) (said : List (Symbol × Symbol)) (kept : List (NumberedSymbol × NumberedSymbol)) → n < length later
@@ -167,37 +115,37 @@ pub with_more : (all : List (List ℕ)) (test : Symbol × Symbol → Bool) (s : 
     kept → ArePairsRead all (said ++ filter test (pairs_with s (symbols_of all (take (n + 1) later)))) kept
 with_more all test s later n d said kept l r =
     let one : List (Symbol × Symbol) = (s, symbol_of all (get_or later n d)) ∷ [] in
-    grind (arith, common_steps, pairs_with s (symbols_of all (take n later)), filter-append test (pairs_with s (symbols_of all (take n later))) one, row_last (symbol_of all) s later n d l) steps 200000
+    grind (
+      arith,
+      common_steps,
+      pairs_with s (symbols_of all (take n later)),
+      filter-append test (pairs_with s (symbols_of all (take n later))) one,
+      let z : n + 1 ≡ suc n = omega arith in
+          ap (λ k. pairs_with s (map (symbol_of all) (take k later))) z ∙ row_next (symbol_of all) s later n d l,
+    ) steps 200000
 
-no_pairs : (test : Symbol × Symbol → Bool) (s : Symbol) (others : List Symbol) → ((y : Symbol) → test (s, y) ≡ false) → filter test (pairs_with s others) ≡ []
+pub no_pairs : (test : Symbol × Symbol → Bool) (s : Symbol) (others : List Symbol) → ((y : Symbol) → test (s, y) ≡ false)
+    → filter test (pairs_with s others) ≡ []
 no_pairs test s [] h = refl
 no_pairs test s (y ∷ others) h = ap (λ b. cond b ((s, y) ∷ filter test (pairs_with s others)) (filter test (pairs_with s others))) (h y) ∙ no_pairs test s others h
-
-pub with_none : (all : List (List ℕ)) (before : List Item) (table : PairTable) (blocks : List Mark) (x : NumberedSymbol) (others : List Symbol)
-    (said : List (Symbol × Symbol)) (kept : List (NumberedSymbol × NumberedSymbol)) → ReadsPairs all before table blocks
-    → IsNumbered all x → row_at table x.name ≡ [] → ArePairsRead all said kept → ArePairsRead all (said ++ filter (are_paired (active_pairs before)) (pairs_with (symbol_of all x) others)) kept
-with_none all before table blocks x others said kept k a e r =
-    let told = λ (y : Symbol). none_told all before table blocks x.name (name_at all x.name) y.name k (name_there all x.name a) e in
-    subst (λ w. ArePairsRead all w kept) (sym (append-nil said) ∙ ap (λ w. said ++ w) (sym (no_pairs (are_paired (active_pairs before)) (symbol_of all x) others told))) r
 
 -- one more variable
 pub among_more : (all : List (List ℕ)) (test : Symbol × Symbol → Bool) (variables : List NumberedSymbol) (n : ℕ) (d : NumberedSymbol)
     (said whole : List (Symbol × Symbol)) → n < length variables → said ++ filter test (pairs_of (symbols_of all (drop n variables))) ≡ whole
     → (said ++ filter test (pairs_with (symbol_of all (get_or variables n d)) (symbols_of all (drop (n + 1) variables)))) ++ filter test (pairs_of (symbols_of all (drop (n + 1) variables))) ≡ whole
-among_more all test variables n d said whole l so_far = grind (arith, common_steps, all_more, filter-append, pairs_with) steps 500000
+among_more all test variables n d said whole l so_far = grind (arith, common_steps, all_next, pairs_with, get_or, filter-append, pairs_with) steps 500000
 
--- the pairs in order are those of the frame
-pair_same : (a b c d : Symbol) → a ≡ b → c ≡ d → ◌≡◌ {A = Symbol × Symbol} (a, c) (b, d)
-pair_same a b c d e f = λ i. (e i, f i)
-
+-- two variables with one name are the same
 symbol_same : (a b : Symbol) → a.name ≡ b.name → a.variable ≡ true → b.variable ≡ true → a ≡ b
 symbol_same a b e s t = let f = s ∙ sym t in λ i. record { name = e i; variable = f i }
 
-pub swapped : (pairs : List (Symbol × Symbol)) (x y : Symbol) → ArePair pairs x y → ArePair pairs y x
-swapped pairs x y h = grind (arith, common_steps) steps 200000
+-- the pairs of a list are those of another one if each is in its own order
+pub each_pair : (ps qs : List (Symbol × Symbol)) → ((x y : Symbol) → Contains ps (x, y) → ArePair qs x y) → (x y : Symbol) → ArePair ps x y → ArePair qs x y
+each_pair ps qs f x y (inl c) = f x y c
+each_pair ps qs f x y (inr c) = elim (f y x c) [ inl a ↦ inr a | inr b ↦ inl b ]
 
 pub same_pairs : (before : List Item) (item : Item) → AreSound before → IsSound before item → is_assertion item.kind ≡ true → AreSamePairs (pairs_in_order (frame before item)) (frame before item).pairs
-same_pairs before item h s a = λ x y. (both_from x y, both_to x y)
+same_pairs before item h s a x y = (each_pair in_frame_order of_frame from x y, each_pair of_frame in_frame_order to x y)
   where
     of_frame : List (Symbol × Symbol)
     of_frame = (frame before item).pairs
@@ -208,39 +156,31 @@ same_pairs before item h s a = λ x y. (both_from x y, both_to x y)
     typed : List Symbol
     typed = typed_variables (mandatory_hypotheses before item)
 
-    known : (pair : Symbol × Symbol) → In pair of_frame → (pair.0.variable ≡ true) × (pair.1.variable ≡ true) × IsTyped (mandatory_hypotheses before item) pair.0 × IsTyped (mandatory_hypotheses before item) pair.1
-    known pair m = pairs_typed_at before item (sound_kept before h) s (assertion_expression item.kind a) pair m
-
     in_typed : (v : Symbol) → IsTyped (mandatory_hypotheses before item) v → In v typed
     in_typed v t = in_flat (λ (x : Mandatory). variables_if x.floating x.expression) (record { floating = true; expression = t.0 ∷ v ∷ [] }) v
         (mandatory_hypotheses before item) (contains_in (record { floating = true; expression = t.0 ∷ v ∷ [] }) (mandatory_hypotheses before item) t.2)
         (inl refl)
 
-    from : (x y : Symbol) → In (x, y) in_frame_order → ArePair of_frame x y
-    from x y m =
-        let r = from_filter (are_paired of_frame) (x, y) (pairs_of typed) m in
+    from : (x y : Symbol) → Contains in_frame_order (x, y) → ArePair of_frame x y
+    from x y c =
+        let r = from_filter (are_paired of_frame) (x, y) (pairs_of typed) (contains_in (x, y) in_frame_order c) in
         let p = from_pairs (x, y) typed r.0 in
         let vx = (typed_variable before item x h p.0).variable in
         let vy = (typed_variable before item y h p.1).variable in
         let f = found_pair (x, y) of_frame r.1 in
-        let t = known f.0 f.1 in
+        let t = (pairs_typed_at before item h s (assertion_expression item.kind a) f.0 f.1) in
         elim f.2 [
-          | inl e ↦ inl (in_contains (x, y) of_frame (subst (λ w. In w of_frame) (pair_same (f.0).0 x (f.0).1 y (symbol_same (f.0).0 x e.0 t.0 vx) (symbol_same (f.0).1 y e.1 t.1 vy)) f.1))
-          | inr e ↦ inr (in_contains (y, x) of_frame (subst (λ w. In w of_frame) (pair_same (f.0).0 y (f.0).1 x (symbol_same (f.0).0 y e.0 t.0 vy) (symbol_same (f.0).1 x e.1 t.1 vx)) f.1))
+          | inl e ↦ inl (in_contains (x, y) of_frame
+              (subst (λ w. In w of_frame) (λ i. ((symbol_same (f.0).0 x e.0 t.0 vx) i, (symbol_same (f.0).1 y e.1 t.1 vy) i)) f.1))
+          | inr e ↦ inr (in_contains (y, x) of_frame
+              (subst (λ w. In w of_frame) (λ i. ((symbol_same (f.0).0 y e.0 t.0 vy) i, (symbol_same (f.0).1 x e.1 t.1 vx) i)) f.1))
         ]
 
-    to : (x y : Symbol) → In (x, y) of_frame → ArePair in_frame_order x y
-    to x y m =
-        let t = known (x, y) m in
+    to : (x y : Symbol) → Contains of_frame (x, y) → ArePair in_frame_order x y
+    to x y c =
+        let m = contains_in (x, y) of_frame c in
+        let t = (pairs_typed_at before item h s (assertion_expression item.kind a) (x, y) m) in
         elim (in_order x y typed (λ e. (apart_active before h (x, y) (from_filter (is_mandatory_pair (mandatory_variables before item)) (x, y) (active_pairs before) m).0) (ap (λ (w : Symbol). w.name) e)) (in_typed x t.2) (in_typed y t.3)) [
           | inl b ↦ inl (in_contains (x, y) in_frame_order (in_filter (are_paired of_frame) (x, y) (pairs_of typed) b (to_paired (x, y) (x, y) of_frame m (pair_here x y))))
           | inr b ↦ inr (in_contains (y, x) in_frame_order (in_filter (are_paired of_frame) (y, x) (pairs_of typed) b (to_paired (y, x) (x, y) of_frame m (pair_turned x y))))
         ]
-
-    both_from : (x y : Symbol) → ArePair in_frame_order x y → ArePair of_frame x y
-    both_from x y (inl c) = from x y (contains_in (x, y) in_frame_order c)
-    both_from x y (inr c) = swapped of_frame y x (from y x (contains_in (y, x) in_frame_order c))
-
-    both_to : (x y : Symbol) → ArePair of_frame x y → ArePair in_frame_order x y
-    both_to x y (inl c) = to x y (contains_in (x, y) of_frame c)
-    both_to x y (inr c) = swapped in_frame_order y x (to y x (contains_in (y, x) of_frame c))

@@ -1,22 +1,23 @@
 -- The active pairs are those after the items up to the last active `$d`, and the lists that are made of them.
-use Rattle.std.proofs.lemmas.{Grind.{common_steps, flat_map-append}, Simd.{map-map}, List.{map-append, take-append-le, drop-append-le, take-append-drop}}
+use Rattle.std.proofs.lemmas.{Bool.{or_right, false≢true, Decides.{eqb_tells}}, Grind.{common_steps, flat_map-append}, Simd.{map-map}}
+use Rattle.std.proofs.lemmas.List.{map-append, take-append-le, drop-append-le, take-append-drop}
 use Rattle.std.proofs.lemmas.List.Elements.{Contains-append_right, Contains-append_cases, All-nil, All-append, All-map, All-contains, All-contains_itself}
-use Rattle.std.proofs.lemmas.{List.{Sorted.{IsPermutation-sym, Contains-permutation}, Filters.{dedup_is}, Kept.{Contains-dedup, Contains-from_dedup}}, Bool.{false≢true, Decides.{eqb_tells}}}
+use Rattle.std.proofs.lemmas.List.{Sorted.{IsPermutation-sym, Contains-permutation}, Filters.{dedup_is}, Kept.{Contains-dedup, Contains-from_dedup}}
 use Rattle.std.proofs.lemmas.Option.{get_or_from_slice_get, slice_get_within, slice_get-get_or, none-some}
-use Rattle.std.proofs.Common.{◌≡◌, ℕ, zero, suc, ◌+◌, ◌-◌, ◌<◌, ◌≤◌, Bool, true, false, cond, ◌&&◌, ◌||◌, Option, Some, None, List, [], ◌∷◌, ◌++◌, length, All, Contains, Decides, ◌⊎◌, ◌↔◌, leb, map}
-use Rattle.std.{proofs.{Common.{flat_map, take, drop, slice_get, get_or, nat_eq, refl, sym, ◌∙◌, ap, subst, append-nil, arith, length-take-le, inl, inr}, Math.Bool.{beq}}, specs.Cmp.{decided}}
-use Rattle.std.specs.List.{dedup, Sorted.{IsPermutation}, Retain.{IsFiltered, DiffersFromLast}}
+use Rattle.std.proofs.Common.{◌≡◌, ℕ, suc, ◌+◌, ◌-◌, ◌<◌, ◌≤◌, Bool, true, false, cond, ◌&&◌, Option, Some, None, List, [], ◌∷◌, ◌++◌, length, All, Contains, Decides, ◌⊎◌, ◌↔◌, leb, map, flat_map}
+use Rattle.std.{proofs.{Common.{take, drop, slice_get, get_or, nat_eq, refl, sym, ◌∙◌, ap, subst, append-nil, arith, length-take-le, inl, inr}, Math.Bool.{beq}}, specs.Cmp.{decided}}
+use Rattle.std.specs.List.{Sorted.{IsPermutation}, Retain.{IsFiltered, DiffersFromLast}}
+use Rattle.mm_frame.proofs.lemmas.scope.{Facts.{sound_front}, ActiveBySplit.{stays_join, stays_front}}
+use Rattle.mm_frame.proofs.lemmas.{frames.HypothesisNumbers.{front_below, to_active_number, from_active_number, active_numbers_rise, same_rising}, pairs.SharedPairs.{read_each, HasEitherWay}}
+use Rattle.mm_frame.proofs.lemmas.pairs.{FramePairs.{each_pair}, ActivePairLemmas.{pairs_at, flat_same, active_pairs_by_numbers}}
+use Rattle.mm_frame.proofs.lemmas.lists.{Members.{get_join, In, in_left, in_cases, in_get, get_in, in_contains, contains_in, in_map, from_map, front_get}, Rising.{rising_front}}
+use Rattle.mm_frame.{proofs.lemmas.base.BaseLemmas.{rows_more}, specs.{declared.pair_lists.PairLists.{PairLists}, Language.{Scope.{stays, active_numbers}, Sound.{AreSound, sound_items}}}}
+use Rattle.mm_frame.specs.{Language.{Framing.{expression, pairs_of, active_pairs}, Answering.{AreRows, is_told_proof}}, Code.LastItems.{is_active_at, is_disjoint_item, IsRising}}
+use Rattle.mm_frame.specs.Code.KeptSymbols.{expression_kept, AreSymbols, AreNumbered}
+use Rattle.mm_frame.specs.Code.{KeptPairLists.{pairs_among, with_low_first, IsThere, IsList, list_made, IsMadeFor, AreMade, KeepsLists, AreFrontNumbers, HasEach, HasSame}, KeptAssertions.{TellsPairs}}
 use native.Mathlib.Decide.{dec_lt}
 use Rattle.mm_machine.specs.{declared.symbol.NumberedSymbol.{NumberedSymbol}, Language.Frame.{Symbol, ArePair, AreSamePairs}}
 use Rattle.mm_machine.specs.Language.NumberedSymbols.{symbol_of, symbols_of, pair_of, kept_pairs, IsNumbered, IsPairNumbered, ArePairsRead, AreSamePairsRead, AreInOrder}
-use Rattle.mm_frame.specs.{declared.pair_lists.PairLists.{PairLists}, Language.{Scope.{stays, active_numbers}, Sound.{AreSound, sound_items}, Framing.{expression, pairs_of, active_pairs}}}
-use Rattle.mm_frame.specs.{Language.Answering.{AreRows, is_told_proof}, Code.{LastItems.{is_active_at, is_disjoint_item, IsRising}, KeptSymbols.{expression_kept, AreSymbols, AreNumbered}}}
-use Rattle.mm_frame.specs.Code.KeptPairLists.{pairs_among, with_low_first, pairs_or_none, list_kept, IsThere, IsList, list_made, IsMadeFor, AreMade, KeepsLists, AreFrontNumbers, HasEach, HasSame}
-use Rattle.mm_frame.{specs.Code.KeptAssertions.{TellsPairs}, proofs.lemmas.frames.FrameNumbers.{front_get}}
-use Rattle.mm_frame.proofs.lemmas.{frames.HypothesisNumbers.{to_active_number, from_active_number, active_numbers_rise, same_rising, above, behind}, pairs.FramePairs.{swapped}}
-use Rattle.mm_frame.proofs.lemmas.pairs.ActivePairLemmas.{pairs_at, flat_same, active_pairs_by_numbers}
-use Rattle.mm_frame.proofs.lemmas.lists.{Members.{In, in_left, in_right, in_cases, in_get, get_in, in_contains, contains_in, in_map, from_map}, Rising.{rising_front}}
-use Rattle.mm_frame.proofs.lemmas.{scope.{ActiveBySplit.{stays_join, stays_front}, SoundItems.{sound_take}}, base.BaseLemmas.{rows_more}}
 use Rattle.mm_statement.specs.Language.Item.{Item, passed, is_labelled, is_disjoint}
 
 -- the last of rising numbers is the greatest
@@ -33,15 +34,9 @@ at_most_last numbers n r e m h =
     ]
 
 -- what has no last one is empty
-none_last : {X : Type 0} (xs : List X) → slice_get xs (length xs - 1) ≡ None → xs ≡ []
+pub none_last : {X : Type 0} (xs : List X) → slice_get xs (length xs - 1) ≡ None → xs ≡ []
 none_last [] e = refl
 none_last (x ∷ xs) e = absurd (none-some (get_or (x ∷ xs) (length (x ∷ xs) - 1) x) (sym e ∙ slice_get-get_or (x ∷ xs) (length (x ∷ xs) - 1) x (omega arith)))
-
--- elements of a beginning
-get_join : {X : Type 0} (xs ys : List X) (n : ℕ) (x : X) → slice_get xs n ≡ Some x → slice_get (xs ++ ys) n ≡ Some x
-get_join [] ys n x e = cc
-get_join (z ∷ xs) ys zero x e = e
-get_join (z ∷ xs) ys (suc n) x e = get_join xs ys n x e
 
 -- a number of an active item of a beginning, after which the items close no block, is one of all items
 number_of_front : (test : Item → Bool) (a d : List Item) → stays d ≡ true → (m : ℕ) → In m (active_numbers test a) → In m (active_numbers test (a ++ d))
@@ -51,15 +46,21 @@ number_of_front test a d s m h =
     let stayed : is_active_at (a ++ d) m ≡ true = ap stays (drop-append-le (suc m) a d (omega arith)) ∙ stays_join (drop (suc m) a) d r.2 s in
     to_active_number test (a ++ d) m r.0 (get_join a d m r.0 r.1) stayed r.3
 
--- of rising numbers those of a beginning are less than those after it
-front_below : (numbers rest : List ℕ) (n m : ℕ) → IsRising (numbers ++ rest) → In n numbers → In m rest → n < m
-front_below [] rest n m r h k = absurd h
-front_below (x ∷ xs) rest n m r (inl e) k = let l = above x (xs ++ rest) m r (in_right m xs rest k) in omega arith
-front_below (x ∷ xs) rest n m r (inr h) k = front_below xs rest n m (behind x (xs ++ rest) r) h k
-
 -- the first numbers of the active items are those of the active ones among the items up to the last of them
-front_numbers : (test : Item → Bool) (before : List Item) (numbers rest : List ℕ) (n : ℕ) → numbers ++ rest ≡ active_numbers test before → slice_get numbers (length numbers - 1) ≡ Some n → active_numbers test (take (suc n) before) ≡ numbers
-front_numbers test before numbers rest n w e = same_rising (active_numbers test a) numbers (active_numbers_rise test a) rising to from
+pub front_numbers : (test : Item → Bool) (before : List Item) (numbers rest : List ℕ) (n : ℕ) → numbers ++ rest ≡ active_numbers test before → slice_get numbers (length numbers - 1) ≡ Some n → active_numbers test (take (suc n) before) ≡ numbers
+front_numbers test before numbers rest n w e =
+    let rising : IsRising numbers = rising_front numbers rest (subst IsRising (sym w) (active_numbers_rise test before)) in
+    same_rising (active_numbers test a) numbers (active_numbers_rise test a) rising
+    (λ m h. let r = from_active_number test before n (subst (In n) w (in_left n numbers rest last)) in let here = from_active_number test a m h in
+    let within = slice_get_within a m here.0 here.1 in let reached = slice_get_within before n r.0 r.1 in
+    let count = length-take-le (suc n) before (omega arith) in
+    let all = subst (λ w. In m (active_numbers test w)) (take-append-drop (suc n) before) (number_of_front test a d r.2 m h) in
+    to_by m (omega arith) (in_cases m numbers rest (subst (In m) (sym w) all)))
+    (λ m h. let r = from_active_number test before m (subst (In m) w (in_left m numbers rest h)) in let l = at_most_last numbers n rising e m h in
+    let there = front_get before (suc n) m r.0 (omega arith) r.1 in let within = slice_get_within a m r.0 there in
+    let stayed : stays (drop (suc m) a ++ d) ≡ true = ap stays
+    (sym (drop-append-le (suc m) a d (omega arith)) ∙ ap (drop (suc m)) (take-append-drop (suc n) before)) ∙ r.2 in
+    to_active_number test a m r.0 there (stays_front (drop (suc m) a) d stayed) r.3)
   where
     a : List Item
     a = take (suc n) before
@@ -67,59 +68,24 @@ front_numbers test before numbers rest n w e = same_rising (active_numbers test 
     d : List Item
     d = drop (suc n) before
 
-    whole : a ++ d ≡ before
-    whole = take-append-drop (suc n) before
-
-    rise : IsRising (numbers ++ rest)
-    rise = subst IsRising (sym w) (active_numbers_rise test before)
-
-    rising : IsRising numbers
-    rising = rising_front numbers rest rise
-
-    active_one : (m : ℕ) → In m numbers → In m (active_numbers test before)
-    active_one m h = subst (In m) w (in_left m numbers rest h)
-
     last : In n numbers
     last = get_in n numbers (length numbers - 1) e
 
     to_by : (m : ℕ) → m < suc n → In m numbers ⊎ In m rest → In m numbers
     to_by m l (inl h) = h
-    to_by m l (inr h) = let k = front_below numbers rest n m rise last h in absurd (omega arith)
-
-    to : (m : ℕ) → In m (active_numbers test a) → In m numbers
-    to m h =
-        let r = from_active_number test before n (active_one n last) in
-        let here = from_active_number test a m h in
-        let within = slice_get_within a m here.0 here.1 in
-        let reached = slice_get_within before n r.0 r.1 in
-        let count = length-take-le (suc n) before (omega arith) in
-        let all = subst (λ w. In m (active_numbers test w)) whole (number_of_front test a d r.2 m h) in
-        to_by m (omega arith) (in_cases m numbers rest (subst (In m) (sym w) all))
-
-    from : (m : ℕ) → In m numbers → In m (active_numbers test a)
-    from m h =
-        let r = from_active_number test before m (active_one m h) in
-        let l = at_most_last numbers n rising e m h in
-        let there = front_get before (suc n) m r.0 (omega arith) r.1 in
-        let within = slice_get_within a m r.0 there in
-        let stayed : stays (drop (suc m) a ++ d) ≡ true = ap stays (sym (drop-append-le (suc m) a d (omega arith)) ∙ ap (drop (suc m)) whole) ∙ r.2 in
-        to_active_number test a m r.0 there (stays_front (drop (suc m) a) d stayed) r.3
-
--- what a `$d` of a beginning says is the same in the whole list
-pairs_of_front : (a d : List Item) (m : ℕ) → In m (active_numbers is_disjoint_item a) → pairs_at a m ≡ pairs_at (a ++ d) m
-pairs_of_front a d m h =
-    let r = from_active_number is_disjoint_item a m h in
-    let w = slice_get_within a m r.0 r.1 in
-    let there = get_or_from_slice_get (a ++ d) m r.0 passed (get_join a d m r.0 r.1) in
-    λ i. pairs_of (expression (sym (take-append-le m a d (omega arith)) i) ((get_or_from_slice_get a m r.0 passed r.1 ∙ sym there) i))
+    to_by m l (inr h) = let k = front_below numbers rest n m (subst IsRising (sym w) (active_numbers_rise test before)) last h in absurd (omega arith)
 
 -- the active pairs after this many of the items are those of their active `$d`
 pub front_pairs : (before : List Item) (numbers : List ℕ) (count : ℕ) → AreSound before → AreFrontNumbers before numbers count → active_pairs (take count before) ≡ flat_map (pairs_at before) numbers
 front_pairs before numbers count h front =
     let a = take count before in
     let d = drop count before in
-    let whole = take-append-drop count before in
-    active_pairs_by_numbers a (sound_take before count h) ∙ (flat_same (pairs_at a) (pairs_at (a ++ d)) (active_numbers is_disjoint_item a) (λ m k. pairs_of_front a d m k)) ∙ (λ i. flat_map (pairs_at (whole i)) (sym front.active i))
+    active_pairs_by_numbers a (sound_front (take count before) (drop count before) (subst AreSound (sym (take-append-drop count before)) h))
+    ∙ (flat_same (pairs_at a) (pairs_at (a ++ d)) (active_numbers is_disjoint_item a)
+    (λ m k. (let r = from_active_number is_disjoint_item a m k in let w = slice_get_within a m r.0 r.1 in
+    let there = get_or_from_slice_get (a ++ d) m r.0 passed (get_join a d m r.0 r.1) in
+    λ i. pairs_of (expression (sym (take-append-le m a d (omega arith)) i) ((get_or_from_slice_get a m r.0 passed r.1 ∙ sym there) i)))))
+    ∙ (λ i. flat_map (pairs_at ((take-append-drop count before) i)) (sym front.active i))
 
 -- so the items up to the last active `$d` have the active pairs
 pub whole_front : (before : List Item) (numbers : List ℕ) (count : ℕ) → AreSound before → numbers ≡ active_numbers is_disjoint_item before → AreFrontNumbers before numbers count → active_pairs (take count before) ≡ active_pairs before
@@ -130,20 +96,10 @@ abbrev pub number_last : List ℕ → Option ℕ
 number_last numbers = slice_get numbers (length numbers - 1)
 
 -- the number of an active item is that of something
-number_there : (before : List Item) (numbers rest : List ℕ) (n : ℕ) → numbers ++ rest ≡ active_numbers is_disjoint_item before → number_last numbers ≡ Some n → n < length before
+pub number_there : (before : List Item) (numbers rest : List ℕ) (n : ℕ) → numbers ++ rest ≡ active_numbers is_disjoint_item before → number_last numbers ≡ Some n → n < length before
 number_there before numbers rest n e last =
     let r = from_active_number is_disjoint_item before n (subst (In n) e (in_left n numbers rest (get_in n numbers (length numbers - 1) last))) in
     slice_get_within before n r.0 r.1
-
-pub count_of_last : (before : List Item) (numbers rest : List ℕ) (n count : ℕ) → numbers ++ rest ≡ active_numbers is_disjoint_item before → number_last numbers ≡ Some n → count ≡ n + 1 → AreFrontNumbers before numbers count
-count_of_last before numbers rest n count e last c = grind (arith, common_steps, number_there before numbers rest n e last, front_numbers is_disjoint_item before numbers rest n e last) steps 200000
-
-pub count_of_none : (before : List Item) (numbers : List ℕ) → number_last numbers ≡ None → AreFrontNumbers before numbers 0
-count_of_none before numbers last = record { within = omega arith; active = none_last numbers last }
-
-pub number_within : (all : List (List ℕ)) (before : List Item) (expressions : List (List NumberedSymbol)) (numbers rest : List ℕ) (n : ℕ)
-    → AreSymbols all before expressions → numbers ++ rest ≡ active_numbers is_disjoint_item before → number_last numbers ≡ Some n → n < length expressions
-number_within all before expressions numbers rest n a e last = grind (arith, common_steps, number_there before numbers rest n e last) steps 200000
 
 -- each symbol with each later one, in turn, and the pairs that are read of these
 abbrev in_turn : List NumberedSymbol → List (NumberedSymbol × NumberedSymbol)
@@ -192,67 +148,45 @@ pairs_kept all before expressions numbers a are = record {
     read_at : ℕ → List (Symbol × Symbol)
     read_at n = pairs_of (symbols_of all (expression_kept expressions n))
 
-    read_disjoint : (labelled disjoint : Bool) → disjoint ≡ true → (labelled || disjoint) ≡ true
-    read_disjoint true disjoint t = refl
-    read_disjoint false disjoint t = t
-
     same : (n : ℕ) → In n numbers → read_at n ≡ pairs_at before n
     same n k =
         let r = are n k in
-        ap pairs_of (a.each n r.0 r.1 (read_disjoint (is_labelled (r.0).kind) (is_disjoint (r.0).kind) r.2) ∙ ap (expression (take n before)) (sym (get_or_from_slice_get before n r.0 passed r.1)))
+        ap pairs_of (a.each n r.0 r.1 (or_right (is_labelled (r.0).kind) (is_disjoint (r.0).kind) r.2) ∙ ap (expression (take n before)) (sym (get_or_from_slice_get before n r.0 passed r.1)))
 
 -- the pairs of a list with the lower number first, in whatever order and whatever often, are the same
 turned_or_not : (b : Bool) (p q : NumberedSymbol × NumberedSymbol) → cond b p (p.1, p.0) ≡ q → (p ≡ q) ⊎ (p ≡ (q.1, q.0))
 turned_or_not true p q e = inl e
 turned_or_not false p q e = inr (ap (λ (w : NumberedSymbol × NumberedSymbol). (w.1, w.0)) e)
 
-read_pair : (all : List (List ℕ)) (kept : List (NumberedSymbol × NumberedSymbol)) (p : NumberedSymbol × NumberedSymbol) (x y : Symbol) → pair_of all p ≡ (x, y) → In p kept → ArePair (kept_pairs all kept) x y
-read_pair all kept p x y e h = inl (in_contains (x, y) (kept_pairs all kept) (subst (λ w. In w (kept_pairs all kept)) e (in_map (pair_of all) p kept h)))
-
-read_turned : (all : List (List ℕ)) (kept : List (NumberedSymbol × NumberedSymbol)) (p : NumberedSymbol × NumberedSymbol) (x y : Symbol) → pair_of all p ≡ (x, y) → In (p.1, p.0) kept → ArePair (kept_pairs all kept) x y
-read_turned all kept p x y e h = inr (in_contains (y, x) (kept_pairs all kept) (subst (λ w. In w (kept_pairs all kept)) (ap (λ (w : Symbol × Symbol). (w.1, w.0)) e) (in_map (pair_of all) (p.1, p.0) kept h)))
-
 same_read : (all : List (List ℕ)) (said : List (Symbol × Symbol)) (raw kept : List (NumberedSymbol × NumberedSymbol)) → ArePairsRead all said raw
     → ((p : NumberedSymbol × NumberedSymbol) → In p kept ↔ In p (map with_low_first raw)) → AreSamePairsRead all said kept
 same_read all said raw kept read same = record {
-  pairs = subst (AreSamePairs (kept_pairs all kept)) read.pairs (λ x y. (both_from x y, both_to x y));
-  numbered = λ k d l. numbered_at (get_or kept k d) ((same (get_or kept k d)).0 (contains_in (get_or kept k d) kept (All-contains_itself kept k d l)));
+  pairs = subst (AreSamePairs (kept_pairs all kept)) read.pairs (λ x y. (read_each all raw kept from x y, read_each all kept raw to x y));
+  numbered =
+      λ k d l. (let r = from_map with_low_first (get_or kept k d) raw
+      ((same (get_or kept k d)).0 (contains_in (get_or kept k d) kept (All-contains_itself kept k d l))) in
+      subst (IsPairNumbered all) r.2
+      (numbered_by (leb (r.0).0.name (r.0).1.name) r.0 (All-contains (IsPairNumbered all) raw r.0 read.numbered (in_contains r.0 raw r.1))));
 }
   where
-    from : (x y : Symbol) → Contains (kept_pairs all kept) (x, y) → ArePair (kept_pairs all raw) x y
-    from x y c =
-        let r = from_map (pair_of all) (x, y) kept (contains_in (x, y) (kept_pairs all kept) c) in
-        let t = from_map with_low_first r.0 raw ((same r.0).0 r.1) in
-        elim (turned_or_not (leb (t.0).0.name (t.0).1.name) t.0 r.0 t.2) [
-          | inl e ↦ read_pair all raw r.0 x y r.2 (subst (λ w. In w raw) e t.1)
-          | inr e ↦ read_turned all raw r.0 x y r.2 (subst (λ w. In w raw) e t.1)
+    from : HasEitherWay raw kept
+    from p c =
+        let t = from_map with_low_first p raw ((same p).0 (contains_in p kept c)) in
+        elim (turned_or_not (leb (t.0).0.name (t.0).1.name) t.0 p t.2) [
+          | inl e ↦ inl (in_contains p raw (subst (λ w. In w raw) e t.1))
+          | inr e ↦ inr (in_contains (p.1, p.0) raw (subst (λ w. In w raw) e t.1))
         ]
 
-    to_by : (b : Bool) (p : NumberedSymbol × NumberedSymbol) (x y : Symbol) → pair_of all p ≡ (x, y) → In (cond b p (p.1, p.0)) kept → ArePair (kept_pairs all kept) x y
-    to_by true p x y e h = read_pair all kept p x y e h
-    to_by false p x y e h = read_turned all kept p x y e h
+    to_by : (b : Bool) (p : NumberedSymbol × NumberedSymbol) → In (cond b p (p.1, p.0)) kept → Contains kept p ⊎ Contains kept (p.1, p.0)
+    to_by true p h = inl (in_contains p kept h)
+    to_by false p h = inr (in_contains (p.1, p.0) kept h)
 
-    to : (x y : Symbol) → Contains (kept_pairs all raw) (x, y) → ArePair (kept_pairs all kept) x y
-    to x y c =
-        let r = from_map (pair_of all) (x, y) raw (contains_in (x, y) (kept_pairs all raw) c) in
-        to_by (leb (r.0).0.name (r.0).1.name) r.0 x y r.2 ((same (with_low_first r.0)).1 (in_map with_low_first r.0 raw r.1))
-
-    both_from : (x y : Symbol) → ArePair (kept_pairs all kept) x y → ArePair (kept_pairs all raw) x y
-    both_from x y (inl c) = from x y c
-    both_from x y (inr c) = swapped (kept_pairs all raw) y x (from y x c)
-
-    both_to : (x y : Symbol) → ArePair (kept_pairs all raw) x y → ArePair (kept_pairs all kept) x y
-    both_to x y (inl c) = to x y c
-    both_to x y (inr c) = swapped (kept_pairs all kept) y x (to y x c)
+    to : HasEitherWay kept raw
+    to p c = to_by (leb p.0.name p.1.name) p ((same (with_low_first p)).1 (in_map with_low_first p raw (contains_in p raw c)))
 
     numbered_by : (b : Bool) (p : NumberedSymbol × NumberedSymbol) → IsPairNumbered all p → IsPairNumbered all (cond b p (p.1, p.0))
     numbered_by true p n = n
     numbered_by false p n = (n.1, n.0)
-
-    numbered_at : (p : NumberedSymbol × NumberedSymbol) → In p (map with_low_first raw) → IsPairNumbered all p
-    numbered_at p h =
-        let r = from_map with_low_first p raw h in
-        subst (IsPairNumbered all) r.2 (numbered_by (leb (r.0).0.name (r.0).1.name) r.0 (All-contains (IsPairNumbered all) raw r.0 read.numbered (in_contains r.0 raw r.1)))
 
 -- the test of two pairs
 abbrev is_same_symbol : NumberedSymbol → NumberedSymbol → Bool
@@ -270,12 +204,11 @@ pair_decides p q = grind (arith, common_steps, symbol_decides) steps 200000
 -- sorted, and each once
 pub sorted_once : (listed sorted kept : List (NumberedSymbol × NumberedSymbol)) → IsPermutation listed sorted → IsFiltered (DiffersFromLast is_same_pair) [] sorted kept → HasSame listed kept
 sorted_once listed sorted kept moved filtered = (
-  λ p h. subst (λ w. Contains w p) (sym is) (Contains-dedup (decided is_same_pair pair_decides) (λ a b. (pair_decides a b).0) sorted p (Contains-permutation listed sorted p moved h)),
-  λ p h. Contains-permutation sorted listed p (IsPermutation-sym listed sorted moved) (Contains-from_dedup is_same_pair sorted p (subst (λ w. Contains w p) is h)),
+  λ p h. subst (λ w. Contains w p) (sym (dedup_is is_same_pair sorted kept filtered))
+      (Contains-dedup (decided is_same_pair pair_decides) (λ a b. (pair_decides a b).0) sorted p (Contains-permutation listed sorted p moved h)),
+  λ p h. Contains-permutation sorted listed p (IsPermutation-sym listed sorted moved)
+      (Contains-from_dedup is_same_pair sorted p (subst (λ w. Contains w p) (dedup_is is_same_pair sorted kept filtered) h)),
 )
-  where
-    is : kept ≡ dedup is_same_pair sorted
-    is = dedup_is is_same_pair sorted kept filtered
 
 -- what is collected for the active `$d` are these pairs, with the lower number first
 low_among : (xs : List NumberedSymbol) → pairs_among xs ≡ map with_low_first (in_turn xs)
@@ -300,11 +233,10 @@ active_read all before expressions numbers a active = low_read all before expres
 pub front_read : (all : List (List ℕ)) (before : List Item) (expressions : List (List NumberedSymbol)) (numbers : List ℕ) (count : ℕ) → AreSound before → AreSymbols all before expressions → AreFrontNumbers before numbers count
     → AreSamePairsRead all (active_pairs (take count before)) (flat_map (λ n. pairs_among (expression_kept expressions n)) numbers)
 front_read all before expressions numbers count h a front =
-    subst (λ w. AreSamePairsRead all w (flat_map (λ n. pairs_among (expression_kept expressions n)) numbers)) (sym (front_pairs before numbers count h front)) (low_read all before expressions numbers a there) where
-      there : AreDisjoint before numbers
-      there n k =
-          let r = from_active_number is_disjoint_item (take count before) n (subst (In n) front.active k) in
-          (r.0, subst (λ w. slice_get w n ≡ Some r.0) (take-append-drop count before) (get_join (take count before) (drop count before) n r.0 r.1), r.3)
+    subst (λ w. AreSamePairsRead all w (flat_map (λ n. pairs_among (expression_kept expressions n)) numbers)) (sym (front_pairs before numbers count h front))
+    (low_read all before expressions numbers a
+    (λ n k. let r = from_active_number is_disjoint_item (take count before) n (subst (In n) front.active k) in
+    (r.0, subst (λ w. slice_get w n ≡ Some r.0) (take-append-drop count before) (get_join (take count before) (drop count before) n r.0 r.1), r.3)))
 
 -- the pairs after this many of the items, with those of the later `$d`, are the active ones
 pub front_and_own : (before : List Item) (outer own : List ℕ) (count : ℕ) → AreSound before → outer ++ own ≡ active_numbers is_disjoint_item before
@@ -318,19 +250,7 @@ pub front_and_more : (before : List Item) (outer done own : List ℕ) (count fro
 front_and_more before outer done own count front h e all first =
     ap (λ w. w ++ flat_map (pairs_at before) own) (front_pairs before done front h first) ∙ sym (flat_map-append (pairs_at before) done own) ∙ ap (flat_map (pairs_at before)) e ∙ sym (front_pairs before outer count h all)
 
--- pairs of a list that has each of some pairs, and of two lists one after another
-pair_more : (all : List (List ℕ)) (xs ys : List (NumberedSymbol × NumberedSymbol)) (x y : Symbol) → HasEach ys xs → ArePair (kept_pairs all xs) x y → ArePair (kept_pairs all ys) x y
-pair_more all xs ys x y each are = by are
-  where
-    one : (x y : Symbol) → Contains (kept_pairs all xs) (x, y) → ArePair (kept_pairs all ys) x y
-    one x y c =
-        let r = from_map (pair_of all) (x, y) xs (contains_in (x, y) (kept_pairs all xs) c) in
-        read_pair all ys r.0 x y r.2 (contains_in r.0 ys (each r.0 (in_contains r.0 xs r.1)))
-
-    by : ArePair (kept_pairs all xs) x y → ArePair (kept_pairs all ys) x y
-    by (inl c) = one x y c
-    by (inr c) = swapped (kept_pairs all ys) y x (one y x c)
-
+-- pairs of two lists one after another
 pair_left : (ps qs : List (Symbol × Symbol)) (x y : Symbol) → ArePair ps x y → ArePair (ps ++ qs) x y
 pair_left ps qs x y h = grind (arith, common_steps) steps 200000
 
@@ -338,34 +258,33 @@ pair_right : (ps qs : List (Symbol × Symbol)) (x y : Symbol) → ArePair qs x y
 pair_right ps qs x y (inl c) = inl (Contains-append_right ps qs (x, y) c)
 pair_right ps qs x y (inr c) = inr (Contains-append_right ps qs (y, x) c)
 
-pair_parts : (ps qs : List (Symbol × Symbol)) (x y : Symbol) → ArePair (ps ++ qs) x y → ArePair ps x y ⊎ ArePair qs x y
-pair_parts ps qs x y (inl c) = elim (Contains-append_cases ps qs (x, y) c) [ inl a ↦ inl (inl a) | inr b ↦ inr (inl b) ]
-pair_parts ps qs x y (inr c) = elim (Contains-append_cases ps qs (y, x) c) [ inl a ↦ inl (inr a) | inr b ↦ inr (inr b) ]
-
 -- a list with the same pairs reads the same
 pub same_members : (all : List (List ℕ)) (said : List (Symbol × Symbol)) (xs ys : List (NumberedSymbol × NumberedSymbol)) → HasSame xs ys → AreSamePairsRead all said xs → AreSamePairsRead all said ys
 same_members all said xs ys same read = record {
-  pairs = λ x y. (λ h. (read.pairs x y).0 (pair_more all ys xs x y same.1 h), λ h. pair_more all xs ys x y same.0 ((read.pairs x y).1 h));
+  pairs =
+      λ x y. (
+        λ h. (read.pairs x y).0 (read_each all xs ys (λ p c. inl (same.1 p c)) x y h),
+        λ h. read_each all ys xs (λ p c. inl (same.0 p c)) x y ((read.pairs x y).1 h),
+      );
   numbered = λ k d l. All-contains (IsPairNumbered all) xs (get_or ys k d) read.numbered (same.1 (get_or ys k d) (All-contains_itself ys k d l));
 }
 
 -- two lists one after another
 both_read : (all : List (List ℕ)) (said added : List (Symbol × Symbol)) (base own : List (NumberedSymbol × NumberedSymbol)) → AreSamePairsRead all said base → AreSamePairsRead all added own → AreSamePairsRead all (said ++ added) (own ++ base)
 both_read all said added base own b o = record {
-  pairs = λ x y. (λ h. from x y (pair_parts (kept_pairs all own) (kept_pairs all base) x y (subst (λ w. ArePair w x y) split h)), λ h. subst (λ w. ArePair w x y) (sym split) (to x y (pair_parts said added x y h)));
+  pairs = subst (λ w. AreSamePairs w (said ++ added)) (sym (map-append (pair_of all) own base)) (λ x y. (
+    each_pair (kept_pairs all own ++ kept_pairs all base) (said ++ added)
+        (λ x y c. elim (Contains-append_cases (kept_pairs all own) (kept_pairs all base) (x, y) c) [
+          | inl a ↦ pair_right said added x y ((o.pairs x y).0 (inl a))
+          | inr a ↦ pair_left said added x y ((b.pairs x y).0 (inl a))
+        ]) x y,
+    each_pair (said ++ added) (kept_pairs all own ++ kept_pairs all base) (λ x y c. elim (Contains-append_cases said added (x, y) c) [
+      | inl a ↦ pair_right (kept_pairs all own) (kept_pairs all base) x y ((b.pairs x y).1 (inl a))
+      | inr a ↦ pair_left (kept_pairs all own) (kept_pairs all base) x y ((o.pairs x y).1 (inl a))
+    ]) x y,
+  ));
   numbered = All-append (IsPairNumbered all) own base o.numbered b.numbered;
 }
-  where
-    split : kept_pairs all (own ++ base) ≡ kept_pairs all own ++ kept_pairs all base
-    split = map-append (pair_of all) own base
-
-    from : (x y : Symbol) → ArePair (kept_pairs all own) x y ⊎ ArePair (kept_pairs all base) x y → ArePair (said ++ added) x y
-    from x y (inl h) = pair_right said added x y ((o.pairs x y).0 h)
-    from x y (inr h) = pair_left said added x y ((b.pairs x y).0 h)
-
-    to : (x y : Symbol) → ArePair said x y ⊎ ArePair added x y → ArePair (kept_pairs all own ++ kept_pairs all base) x y
-    to x y (inl h) = pair_right (kept_pairs all own) (kept_pairs all base) x y ((b.pairs x y).1 h)
-    to x y (inr h) = pair_left (kept_pairs all own) (kept_pairs all base) x y ((o.pairs x y).1 h)
 
 pub joined_read : (all : List (List ℕ)) (said added : List (Symbol × Symbol)) (base own kept : List (NumberedSymbol × NumberedSymbol))
     → AreSamePairsRead all said base → AreSamePairsRead all added own → HasSame (own ++ base) kept → AreSamePairsRead all (said ++ added) kept
@@ -384,13 +303,6 @@ list_stays all old new k pairs keeps is = record {
   order = is.order;
 }
 
--- what is read of the list with this number
-pub list_read : (all : List (List ℕ)) (lists : PairLists) (k : ℕ) (pairs : List (Symbol × Symbol)) → IsList all lists k pairs → AreSamePairsRead all pairs (list_kept lists k)
-list_read all lists k pairs is = subst (λ o. AreSamePairsRead all pairs (pairs_or_none o)) (sym is.there) is.read
-
-pub list_in_order : (all : List (List ℕ)) (lists : PairLists) (k : ℕ) (pairs : List (Symbol × Symbol)) → IsList all lists k pairs → AreInOrder (list_kept lists k)
-list_in_order all lists k pairs is = subst (λ o. AreInOrder (pairs_or_none o)) (sym is.there) is.order
-
 -- the lists that are made stay right after more items
 pub made_more : (all : List (List ℕ)) (before later : List Item) (lists : PairLists) → AreMade all before lists → AreMade all (before ++ later) lists
 made_more all before later lists m count k e =
@@ -405,18 +317,14 @@ made_one_more all before old new count k keeps made within is told other j e = b
     this : other ≡ count → k ≡ j → IsMadeFor all before new other j
     this z y = subst (λ c. IsMadeFor all before new c j) (sym z) (record { within = within; list = subst (λ i. IsList all new i (active_pairs (take count before))) y is })
 
-    before_it : list_made old other ≡ Some j → IsMadeFor all before new other j
-    before_it q = let r = made other j q in record { within = r.within; list = list_stays all old new j (active_pairs (take other before)) keeps r.list }
-
-    same : Some k ≡ Some j → k ≡ j
-    same q = cc
-
     by_test : (b : Bool) → nat_eq count other ≡ b → IsMadeFor all before new other j
     by_test true t = elim (eqb_tells count other) [
-      | inl p ↦ this (sym p.1) (same (sym (ap (λ b. cond b (Some k) (list_made old other)) t) ∙ sym (told other) ∙ e))
+      | inl p ↦ this (sym p.1) (grind (arith, common_steps, sym (ap (λ b. cond b (Some k) (list_made old other)) t) ∙ sym (told other) ∙ e) steps 200000)
       | inr p ↦ absurd (false≢true (sym p.0 ∙ t))
     ]
-    by_test false t = before_it (sym (ap (λ b. cond b (Some k) (list_made old other)) t) ∙ sym (told other) ∙ e)
+    by_test false t =
+        let r = made other j (sym (ap (λ b. cond b (Some k) (list_made old other)) t) ∙ sym (told other) ∙ e) in
+        record { within = r.within; list = list_stays all old new j (active_pairs (take other before)) keeps r.list }
 
 -- the list with this number is of pairs with this reading
 pub is_list : (all : List (List ℕ)) (lists : PairLists) (k : ℕ) (kept : List (NumberedSymbol × NumberedSymbol)) (pairs : List (Symbol × Symbol)) → IsThere lists k kept → AreSamePairsRead all pairs kept → AreInOrder kept → IsList all lists k pairs

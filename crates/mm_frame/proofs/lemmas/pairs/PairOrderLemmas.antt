@@ -9,13 +9,6 @@ use Rattle.mm_frame.{specs.Code.{KeptSymbols.{expression_kept}, KeptPairLists.{p
 abbrev Pair : Type 0
 Pair = NumberedSymbol × NumberedSymbol
 
--- the order goes on, and nothing comes before itself
-not_before_on : (a b c : ℕ × ℕ) → comes_before b a ≡ false → comes_before c b ≡ false → comes_before c a ≡ false
-not_before_on a b c h k = grind (arith, nat_tests)
-
-not_before_itself : (a : ℕ × ℕ) → comes_before a a ≡ false
-not_before_itself a = grind (arith, nat_tests)
-
 -- none of the later pairs comes before this one
 abbrev IsBefore : Pair → Pair → Type 0
 IsBefore p q = comes_before (name_numbers q) (name_numbers p) ≡ false
@@ -32,18 +25,15 @@ sorts_before p q = is_lt (ordering_then (nat_cmp p.0.name q.0.name) (nat_cmp p.1
 sorts_so : (p q : Pair) → sorts_before q p ≡ false → IsBefore p q
 sorts_so p q h = grind (arith, nat_tests)
 
-rest_sorted : (p : Pair) (ps : List Pair) → IsSortedBy sorts_before (p ∷ ps) → IsSortedBy sorts_before ps
-rest_sorted p ps up k d l m =
-    let next : suc (k + 1) ≡ suc k + 1 = omega arith in
-    ap (λ n. sorts_before (get_or (p ∷ ps) n d) (get_or ps k d)) next ∙ up (suc k) d (omega arith) (omega arith)
-
 sorted_rise : (ps : List Pair) → IsSortedBy sorts_before ps → Rise ps
 sorted_rise [] up = tt
 sorted_rise (p ∷ []) up = (All-nil (IsBefore p), tt)
 sorted_rise (p ∷ q ∷ ps) up =
-    let rest = sorted_rise (q ∷ ps) (rest_sorted p (q ∷ ps) up) in
+    let rest =
+    sorted_rise (q ∷ ps) ((λ k d l m. let next : suc (k + 1) ≡ suc k + 1 = omega arith in
+    ap (λ n. sorts_before (get_or (p ∷ (q ∷ ps)) n d) (get_or (q ∷ ps) k d)) next ∙ up (suc k) d (omega arith) (omega arith))) in
     let next = sorts_so p q (up 0 p (omega arith) (omega arith)) in
-    (All-cons (IsBefore p) q ps next (λ k d l. not_before_on (name_numbers p) (name_numbers q) (name_numbers (get_or ps k d)) next (rest.0 k d l)), rest)
+    (All-cons (IsBefore p) q ps next (λ k d l. (grind (arith, common_steps, nat_tests, rest.0 k d l) steps 200000)), rest)
 
 -- if each is kept once, they still rise
 module _ (same : Pair → Pair → Bool) where
@@ -63,7 +53,7 @@ module _ (same : Pair → Pair → Bool) where
 
 rise_at : (ps : List Pair) → Rise ps → (i j : ℕ) (p q : Pair) → i ≤ j → slice_get ps i ≡ Some p → slice_get ps j ≡ Some q → IsBefore p q
 rise_at [] h i j p q l e f = absurd (none-some p e)
-rise_at (x ∷ xs) h zero zero p q l e f = subst (IsBefore p) (same_Some p q (sym e ∙ f)) (not_before_itself (name_numbers p))
+rise_at (x ∷ xs) h zero zero p q l e f = subst (IsBefore p) (same_Some p q (sym e ∙ f)) (grind (arith, common_steps, nat_tests) steps 200000)
 rise_at (x ∷ xs) h zero (suc j) p q l e f = subst (λ w. IsBefore w q) (same_Some x p e) (All-contains (IsBefore x) xs q h.0 (in_contains q xs (get_in q xs j f)))
 rise_at (x ∷ xs) h (suc i) zero p q l e f = absurd (omega arith)
 rise_at (x ∷ xs) h (suc i) (suc j) p q l e f = rise_at xs h.1 i j p q (omega arith) e f
@@ -72,12 +62,9 @@ rise_at (x ∷ xs) h (suc i) (suc j) p q l e f = rise_at xs h.1 i j p q (omega a
 abbrev pub IsLowFirst : Pair → Type 0
 IsLowFirst p = p.0.name ≤ p.1.name
 
-low_first : (p : Pair) → IsLowFirst (with_low_first p)
-low_first p = grind (arith, common_steps, leb-true, nat_tests) steps 200000
-
 each_low : (x : NumberedSymbol) (xs : List NumberedSymbol) → All IsLowFirst (map (λ y. with_low_first (x, y)) xs)
 each_low x [] = All-nil IsLowFirst
-each_low x (y ∷ ys) = All-cons IsLowFirst (with_low_first (x, y)) (map (λ y. with_low_first (x, y)) ys) (low_first (x, y)) (each_low x ys)
+each_low x (y ∷ ys) = grind (arith, common_steps, each_low x ys, leb-true, nat_tests) steps 200000
 
 among_low : (xs : List NumberedSymbol) → All IsLowFirst (pairs_among xs)
 among_low [] = All-nil IsLowFirst
@@ -92,9 +79,7 @@ all_low expressions (n ∷ numbers) = All-append IsLowFirst (pairs_among (expres
 pub sorted_in_order : (same : Pair → Pair → Bool) (listed sorted kept : List Pair) → IsPermutation listed sorted → IsSortedBy sorts_before sorted → IsFiltered (DiffersFromLast same) [] sorted kept
     → All IsLowFirst listed → AreInOrder kept
 sorted_in_order same listed sorted kept moved up filtered low = record {
-  low = subst (All IsLowFirst) (sym is) (All-dedup same IsLowFirst sorted (All-permutation IsLowFirst listed sorted moved low));
-  rising = rise_at kept (subst Rise (sym is) (once same sorted (sorted_rise sorted up)));
+  low =
+      subst (All IsLowFirst) (sym (dedup_is same sorted kept filtered)) (All-dedup same IsLowFirst sorted (All-permutation IsLowFirst listed sorted moved low));
+  rising = rise_at kept (subst Rise (sym (dedup_is same sorted kept filtered)) (once same sorted (sorted_rise sorted up)));
 }
-  where
-    is : kept ≡ dedup same sorted
-    is = dedup_is same sorted kept filtered

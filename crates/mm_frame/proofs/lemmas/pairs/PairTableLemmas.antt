@@ -1,39 +1,25 @@
 -- The table of pairs: its rows after a write and after one more item, and what they say of active pairs.
-use Rattle.std.proofs.lemmas.{Grind.{common_steps}, Bool.{false≢true, false_from_ne_true}, Option.{same_Some, get_or_from_slice_get, slice_get_within, slice_get-get_or}}
-use Rattle.std.proofs.Common.{◌≡◌, ◌≢◌, ℕ, zero, suc, ◌+◌, ◌<◌, Bool, true, false, Some, List, [], ◌∷◌, ◌++◌, length, take, drop, slice_get, get_or, refl, sym, ◌∙◌, ap, subst, take-suc, arith, inl}
-use Rattle.std.{proofs.{Common.{inr, ◌⊎◌, Global, Contains, MatchBool, Vec}, Math.ListN.{set}}, specs.Vec.{with_item}}
+use Rattle.std.proofs.Common.{Global, Vec, cond, ◌≡◌, ◌≢◌, ℕ, zero, suc, ◌+◌, ◌<◌, Bool, true, false, Some, List, [], ◌∷◌, ◌++◌, length, take, drop, slice_get, get_or, refl, sym, ◌∙◌, ap, subst}
+use Rattle.std.proofs.{Common.{take-suc, arith, inl, inr, ◌⊎◌, Contains, MatchBool}, lemmas.{List.{length-set, get_or-set_same}, Grind.{common_steps}, Bool.{false≢true, false_from_ne_true}}}
+use Rattle.std.{proofs.{lemmas.Option.{same_Some, get_or_from_slice_get, slice_get_within, slice_get-get_or}, Math.ListN.{set}}, specs.Vec.{with_item}}
+use Rattle.mm_frame.proofs.lemmas.frames.Frames.{from_pairs}
+use Rattle.mm_frame.proofs.lemmas.lists.Members.{get_taken, in_flat, In, in_contains, contains_in, in_left, in_right, in_cases, in_map, from_map, in_get, get_in, has_in, in_has}
+use Rattle.mm_frame.proofs.lemmas.lists.Rising.{rising_front, rising_more, in_among, among_in}
+use Rattle.mm_frame.proofs.lemmas.pairs.ActivePairLemmas.{item_pairs, active_at_number, number_of_active, SameNames, in_order, found_pair, to_paired, pair_here, pair_turned, AreUnrepeated}
+use Rattle.mm_frame.proofs.lemmas.{pairs.ActivePairLemmas.{disjoint_unrepeated, from_active_pairs, apart_active}, scope.BlockLemmas.{get_front, get_last, get_cases}}
+use Rattle.mm_frame.{proofs.lemmas.scope.EndLemmas.{active_at_front, active_by_marks}, specs.Language.{Framing.{pairs_of, symbol, expression, active_pairs}, Scope.{active, Mark}}}
+use Rattle.mm_frame.specs.{Language.{Sound.{IsSound, AreSound}, Answering.{are_paired}}, declared.paired.PairTable.{PairTable}, Code.{BlockMarks.{stays_by, block_marks}, KeptActive.{IsPruned}}}
+use Rattle.mm_frame.specs.Code.{LastItems.{IsRising, is_active_at}, Numbers.{IsNameNumber, AreNameNumbers}, PairOrder.{is_among}, KeptScope.{taken}}
+use Rattle.mm_frame.specs.Code.KeptPairTable.{row_at, Puts, PutsAll, AreOnce, IsDisjointAt, IsRow, KnowsPairs, IsCommon, ReadsPairs}
 use native.Mathlib.Decide.{dec_lt}
-use Rattle.mm_frame.specs.{declared.paired.PairTable.{PairTable}, Language.{Scope.{Mark, active}, Sound.{IsSound, AreSound}, Framing.{symbol, expression, active_pairs}, Answering.{are_paired}}}
-use Rattle.mm_frame.specs.Code.{BlockMarks.{stays_by, block_marks}, KeptActive.{IsPruned}, LastItems.{IsRising, is_active_at}, Numbers.{IsNameNumber, AreNameNumbers}, PairOrder.{is_among}}
-use Rattle.mm_frame.specs.Code.{KeptScope.{taken}, KeptPairTable.{row_at, Puts, PutsAll, AreOnce, IsDisjointAt, IsRow, KnowsPairs, IsCommon, ReadsPairs}}
-use Rattle.mm_frame.proofs.lemmas.lists.Members.{In, in_contains, contains_in, in_left, in_right, in_cases, in_map, from_map, in_get, get_in, has_in, in_has}
-use Rattle.mm_frame.proofs.lemmas.{lists.Rising.{rising_front, rising_more, in_among, among_in}, frames.Frames.{from_pairs}, scope.BlockLemmas.{get_front, get_last, get_cases}}
-use Rattle.mm_frame.proofs.lemmas.scope.EndLemmas.{active_at_front, active_by_marks}
-use Rattle.mm_frame.proofs.lemmas.pairs.ActivePairLemmas.{active_at_number, number_of_active, SameNames, in_order, found_pair, to_paired, pair_here, pair_turned, AreUnrepeated, disjoint_unrepeated}
-use Rattle.mm_frame.proofs.lemmas.pairs.ActivePairLemmas.{from_active_pairs, to_active_pairs, apart_active}
 use Rattle.mm_machine.specs.Language.{Frame.{Symbol}, Names.{AreDistinct}, NumberedSymbols.{as_variable}}
 use Rattle.mm_statement.specs.Language.Item.{Item, is_disjoint, has}
 
--- a number is put into one row after another
-in_take : (names : List ℕ) (k n : ℕ) → In n (take k names) → (i : ℕ) × (i < k) × (slice_get names i ≡ Some n)
-in_take [] zero n h = absurd h
-in_take [] (suc k) n h = absurd h
-in_take (x ∷ names) zero n h = absurd h
-in_take (x ∷ names) (suc k) n (inl e) = (0, omega arith, ap Some e)
-in_take (x ∷ names) (suc k) n (inr h) = let r = in_take names k n h in let l = r.1 in (suc r.0, omega arith, r.2)
-
-once_apart : (names : List ℕ) (k : ℕ) → AreOnce names → k < length names → In (get_or names k 0) (take k names) → ⊥
-once_apart names k once l h =
-    let same : (in_take names k (get_or names k 0) h).0 ≡ k = once (in_take names k (get_or names k 0) h).0 k (get_or names k 0) (in_take names k (get_or names k 0) h).2 (slice_get-get_or names k 0 l) in
-    grind (arith, common_steps, in_take names k (get_or names k 0) h) steps 200000
-
 -- one row in the place of another
-get_set_here : {X : Type 0} (xs : List X) (n : ℕ) (y : X) → n < length xs → slice_get (set xs n y) n ≡ Some y
-get_set_here [] n y l = absurd (omega arith)
-get_set_here (x ∷ xs) zero y l = refl
-get_set_here (x ∷ xs) (suc n) y l = get_set_here xs n y (omega arith)
+pub get_set_here : {X : Type 0} (xs : List X) (n : ℕ) (y : X) → n < length xs → slice_get (set xs n y) n ≡ Some y
+get_set_here xs n y l = slice_get-get_or (set xs n y) n y (omega (arith, length-set xs n y)) ∙ ap Some (get_or-set_same xs n y y l)
 
-get_set_other : {X : Type 0} (xs : List X) (n m : ℕ) (y : X) → (m ≡ n → ⊥) → slice_get (set xs n y) m ≡ slice_get xs m
+pub get_set_other : {X : Type 0} (xs : List X) (n m : ℕ) (y : X) → (m ≡ n → ⊥) → slice_get (set xs n y) m ≡ slice_get xs m
 get_set_other (x ∷ xs) zero zero y apart = absurd (apart refl)
 get_set_other (x ∷ xs) (suc n) (suc m) y apart = get_set_other xs n m y (λ e. apart (ap suc e))
 get_set_other _ _ _ y apart = refl
@@ -44,16 +30,21 @@ puts_row old grown marks name number left row pushed there same is pruned added 
 
 pub puts_more : (old mid new : PairTable) (marks : List Mark) (names : List ℕ) (k number : ℕ) → AreOnce names → k < length names
     → PutsAll old marks (take k names) number mid → Puts mid marks (get_or names k 0) number new → PutsAll old marks (take (k + 1) names) number new
-puts_more old mid new marks names k number once l a p = subst (λ w. PutsAll old marks w number new) (sym more) (record { each = λ n c. each n (in_cases n (take k names) (x ∷ []) (contains_in n (take k names ++ x ∷ []) c)); others = others })
+puts_more old mid new marks names k number once l a p =
+    let others : (n : ℕ) → (Contains (take k names ++ x ∷ []) n → ⊥) → row_at new n ≡ row_at old n =
+    λ n out. p.others n (λ e. out (in_contains n (take k names ++ x ∷ []) (in_right n (take k names) (x ∷ []) (inl (sym e)))))
+    ∙ a.others n (λ c. out (in_contains n (take k names ++ x ∷ []) (in_left n (take k names) (x ∷ []) (contains_in n (take k names) c)))) in
+    subst (λ w. PutsAll old marks w number new) (sym (let z : k + 1 ≡ suc k = omega arith in ap (λ j. take j names) z ∙ take-suc names k 0 l))
+    (record { each = λ n c. each n (in_cases n (take k names) (x ∷ []) (contains_in n (take k names ++ x ∷ []) c)); others = others })
   where
     x : ℕ
     x = get_or names k 0
 
-    more : take (k + 1) names ≡ take k names ++ x ∷ []
-    more = let z : k + 1 ≡ suc k = omega arith in ap (λ j. take j names) z ∙ take-suc names k 0 l
-
     new_one : In x (take k names) → ⊥
-    new_one = once_apart names k once l
+    new_one =
+        (λ h. let g = in_get x (take k names) h in
+        let f = get_taken names k g.0 x g.1 in
+        let same = once g.0 k x f.1 (slice_get-get_or names k 0 l) in omega arith)
 
     each : (n : ℕ) → In n (take k names) ⊎ In n (x ∷ []) → (left : List ℕ) × IsPruned marks (row_at old n) left × (row_at new n ≡ left ++ number ∷ [])
     each n (inl h) =
@@ -65,11 +56,6 @@ puts_more old mid new marks names k number once l a p = subst (λ w. PutsAll old
       p.here,
     )
     each n (inr (inr z)) = absurd z
-
-    others : (n : ℕ) → (Contains (take k names ++ x ∷ []) n → ⊥) → row_at new n ≡ row_at old n
-    others n out =
-        p.others n (λ e. out (in_contains n (take k names ++ x ∷ []) (in_right n (take k names) (x ∷ []) (inl (sym e)))))
-        ∙ a.others n (λ c. out (in_contains n (take k names ++ x ∷ []) (in_left n (take k names) (x ∷ []) (contains_in n (take k names) c))))
 
 -- one more item
 pub disjoint_front : (before : List Item) (item : Item) (name : List ℕ) (n : ℕ) → IsDisjointAt before name n → IsDisjointAt (before ++ item ∷ []) name n
@@ -107,39 +93,33 @@ pairs_passed all before item sound table h k = pairs_other all before (taken sou
 row_next : (before : List Item) (item : Item) (name : List ℕ) (row left : List ℕ) (marks : List Mark) → is_disjoint item.kind ≡ true → has item.symbols name ≡ true → marks ≡ block_marks before → IsRow before name row → IsPruned marks row left
     → IsRow (before ++ item ∷ []) name (left ++ length before ∷ [])
 row_next before item name row left marks d h m r p = record {
-  rising = rising_more left (length before) (rising_front left p.gone (subst IsRising p.parts r.rising)) (λ n i. (let at = old n i in slice_get_within before n at.item at.there));
+  rising =
+      rising_more left (length before) (rising_front left p.gone (subst IsRising p.parts r.rising))
+      (λ n i. (let at = r.there n (in_contains n row (subst (In n) (sym p.parts) (in_left n left p.gone i))) in slice_get_within before n at.item at.there));
   there = λ n c. there n (in_cases n left (length before ∷ []) (contains_in n (left ++ length before ∷ []) c));
   cover = λ n at a. in_contains n (left ++ length before ∷ []) (elim (disjoint_cases before item name n at) [
-    | inl before_it ↦ in_left n left (length before ∷ []) (kept n before_it (active_before before item name n before_it a))
+    | inl before_it ↦ in_left n left (length before ∷ [])
+        (elim (in_cases n left p.gone
+        (subst (In n) p.parts (contains_in n row (r.cover n before_it (active_before before item name n before_it a))))) [
+          | inl i ↦ i
+          | inr i ↦ absurd
+              (false≢true (sym (p.ended n (in_contains n p.gone i)) ∙ ap (λ w. stays_by (drop (n + 1) w)) m ∙ sym (active_by_marks before n)
+              ∙ (active_before before item name n before_it a)))
+        ])
     | inr new ↦ in_right n left (length before ∷ []) (inl (sym new.0))
   ]);
 }
   where
-    old : (n : ℕ) → In n left → IsDisjointAt before name n
-    old n i = r.there n (in_contains n row (subst (In n) (sym p.parts) (in_left n left p.gone i)))
-
     there : (n : ℕ) → In n left ⊎ In n (length before ∷ []) → IsDisjointAt (before ++ item ∷ []) name n
-    there n (inl i) = disjoint_front before item name n (old n i)
+    there n (inl i) = disjoint_front before item name n (r.there n (in_contains n row (subst (In n) (sym p.parts) (in_left n left p.gone i))))
     there n (inr (inl e)) = record { item = item; there = get_last before item n (sym e); disjoint = d; named = h }
     there n (inr (inr z)) = absurd z
-
-    kept : (n : ℕ) → IsDisjointAt before name n → is_active_at before n ≡ true → In n left
-    kept n at a = elim (in_cases n left p.gone (subst (In n) p.parts (contains_in n row (r.cover n at a)))) [
-      | inl i ↦ i
-      | inr i ↦ absurd (false≢true (sym (p.ended n (in_contains n p.gone i)) ∙ ap (λ w. stays_by (drop (n + 1) w)) m ∙ sym (active_by_marks before n) ∙ a))
-    ]
 
 -- the numbers of names
 name_at_place : (all : List (List ℕ)) (numbers : List ℕ) (names : List (List ℕ)) (i n : ℕ) (name : List ℕ) → AreNameNumbers all numbers names → slice_get numbers i ≡ Some n → IsNameNumber all n name → slice_get names i ≡ Some name
 name_at_place all numbers names i n name a e there =
     let w = slice_get_within numbers i n e in
     slice_get-get_or names i [] (omega arith) ∙ sym (a.each i n e) ∙ there
-
-number_at_place : (all : List (List ℕ)) (numbers : List ℕ) (names : List (List ℕ)) (i n : ℕ) (name : List ℕ) → AreDistinct all → AreNameNumbers all numbers names → slice_get names i ≡ Some name → IsNameNumber all n name → slice_get numbers i ≡ Some n
-number_at_place all numbers names i n name distinct a e there =
-    let w = slice_get_within names i name e in
-    let at = slice_get-get_or numbers i 0 (omega arith) in
-    at ∙ ap Some (distinct (get_or numbers i 0) n name (a.each i (get_or numbers i 0) at ∙ ap Some (get_or_from_slice_get names i name [] e)) there)
 
 place_in : (names : List (List ℕ)) (i k : ℕ) (name : List ℕ) → slice_get names i ≡ Some name → i < k → In name (take k names)
 place_in [] i k name e l = cc
@@ -149,19 +129,16 @@ place_in (x ∷ names) (suc i) (suc k) name e l = inr (place_in names i k name e
 
 numbers_once : (all : List (List ℕ)) (numbers : List ℕ) (names : List (List ℕ)) → AreNameNumbers all numbers names → AreUnrepeated names → AreOnce numbers
 numbers_once all numbers names a u i j n p q = elim (dec_lt i j) [
-  | yes l ↦ absurd (later i j p q l)
+  | yes l ↦ absurd (let w = slice_get_within numbers j n q in let name = get_or names j [] in
+      let first = name_at_place all numbers names i n name a p (a.each j n q) in
+      false≢true (sym (u j name (slice_get-get_or names j [] (omega arith))) ∙ in_has (take j names) name (place_in names i j name first l)))
   | no no_less ↦ elim (dec_lt j i) [
-    | yes l ↦ absurd (later j i q p l)
+    | yes l ↦ absurd (let w = slice_get_within numbers i n p in let name = get_or names i [] in
+        let first = name_at_place all numbers names j n name a q (a.each i n p) in
+        false≢true (sym (u i name (slice_get-get_or names i [] (omega arith))) ∙ in_has (take i names) name (place_in names j i name first l)))
     | no no_more ↦ omega arith
   ]
 ]
-  where
-    later : (i j : ℕ) → slice_get numbers i ≡ Some n → slice_get numbers j ≡ Some n → i < j → ⊥
-    later i j p q l =
-        let w = slice_get_within numbers j n q in
-        let name = get_or names j [] in
-        let first = name_at_place all numbers names i n name a p (a.each j n q) in
-        false≢true (sym (u j name (slice_get-get_or names j [] (omega arith))) ∙ in_has (take j names) name (place_in names i j name first l))
 
 -- a sound `$d` goes into the rows of its variables
 pub pairs_taken : (all : List (List ℕ)) (before : List Item) (item : Item) (numbers : List ℕ) (old new : PairTable) (marks : List Mark) (number : ℕ)
@@ -175,9 +152,6 @@ pairs_taken all before item numbers old new marks number distinct sound d are l 
     named : In n numbers → has item.symbols name ≡ true
     named i = let r = in_get n numbers i in in_has item.symbols name (get_in name item.symbols r.0 (name_at_place all numbers item.symbols r.0 n name are r.1 there))
 
-    numbered : has item.symbols name ≡ true → In n numbers
-    numbered h = let r = in_get name item.symbols (has_in item.symbols name h) in get_in n numbers r.0 (number_at_place all numbers item.symbols r.0 n name distinct are r.1 there)
-
     by_test : (b : Bool) → is_among numbers n ≡ b → IsRow (before ++ item ∷ []) name (row_at new n)
     by_test true e =
         let i = among_in numbers n e in
@@ -185,7 +159,12 @@ pairs_taken all before item numbers old new marks number distinct sound d are l 
         subst (IsRow (before ++ item ∷ []) name) (ap (λ w. p.0 ++ w ∷ []) l ∙ sym p.2) (row_next before item name (row_at old n) p.0 marks d (named i) m (k n name there) p.1)
     by_test false e =
         let out : In n numbers → ⊥ = λ i. false≢true (sym e ∙ in_among numbers n i) in
-        subst (IsRow (before ++ item ∷ []) name) (sym (puts.others n (λ c. out (contains_in n numbers c)))) (row_stays before item name (row_at old n) (λ t h. out (numbered h)) (k n name there))
+        subst (IsRow (before ++ item ∷ []) name) (sym (puts.others n (λ c. out (contains_in n numbers c))))
+        (row_stays before item name (row_at old n)
+        (λ t h. out (let r = in_get name item.symbols (has_in item.symbols name h) in
+        get_in n numbers r.0 (let w = slice_get_within item.symbols r.0 name r.1 in let at = slice_get-get_or numbers r.0 0 (omega arith) in
+        at ∙ ap Some (distinct (get_or numbers r.0 0) n name
+        (are.each r.0 (get_or numbers r.0 0) at ∙ ap Some (get_or_from_slice_get item.symbols r.0 name [] r.1)) there)))) (k n name there))
 
 -- an active `$d` that has two names
 pub record HavePair (before : List Item) (x y : List ℕ) (n : ℕ) : Type 0 where
@@ -220,24 +199,21 @@ paired_from before x y h t = by_names f.2
     by_names (inr e) = let r = found y x e.0 e.1 in (λ s. r.0 (sym s), r.1, r.3)
 
 pub paired_to : (before : List Item) (x y : List ℕ) (n : ℕ) → x ≢ y → HavePair before x y n → are_paired (active_pairs before) (as_variable x, as_variable y) ≡ true
-paired_to before x y n apart p = elim (in_order (symbol before x) (symbol before y) (expression before item) (λ e. apart (ap (λ (s : Symbol). s.name) e)) (there x p.first.named) (there y named)) [
-  | inl m ↦ to_paired (as_variable x, as_variable y) (symbol before x, symbol before y) (active_pairs before)
-      (to_active_pairs before (symbol before x, symbol before y) item an_active p.first.disjoint m) (pair_here (symbol before x) (symbol before y))
-  | inr m ↦ to_paired (as_variable x, as_variable y) (symbol before y, symbol before x) (active_pairs before)
-      (to_active_pairs before (symbol before y, symbol before x) item an_active p.first.disjoint m) (pair_turned (symbol before y) (symbol before x))
-]
-  where
-    item : Item
-    item = p.first.item
-
-    an_active : In item (active before)
-    an_active = active_at_number before n item p.first.there p.stayed
-
-    named : has item.symbols y ≡ true
-    named = ap (λ (i : Item). has i.symbols y) (same_Some item p.second.item (sym p.first.there ∙ p.second.there)) ∙ p.second.named
-
-    there : (name : List ℕ) → has item.symbols name ≡ true → In (symbol before name) (expression before item)
-    there name h = in_map (symbol before) name item.symbols (has_in item.symbols name h)
+paired_to before x y n apart p =
+    let item : Item = p.first.item in
+    elim (in_order (symbol before x) (symbol before y) (expression before item) (λ e. apart (ap (λ (s : Symbol). s.name) e))
+    (in_map (symbol before) x item.symbols (has_in item.symbols x p.first.named))
+    (in_map (symbol before) y item.symbols
+    (has_in item.symbols y (ap (λ (i : Item). has i.symbols y) (same_Some item p.second.item (sym p.first.there ∙ p.second.there)) ∙ p.second.named)))) [
+      | inl m ↦ to_paired (as_variable x, as_variable y) (symbol before x, symbol before y) (active_pairs before)
+          (in_flat (item_pairs before) item (symbol before x, symbol before y) (active before) (active_at_number before n item p.first.there p.stayed)
+          (subst (λ b. In (symbol before x, symbol before y) (cond b (pairs_of (expression before item)) [])) (sym p.first.disjoint) m))
+          (pair_here (symbol before x) (symbol before y))
+      | inr m ↦ to_paired (as_variable x, as_variable y) (symbol before y, symbol before x) (active_pairs before)
+          (in_flat (item_pairs before) item (symbol before y, symbol before x) (active before) (active_at_number before n item p.first.there p.stayed)
+          (subst (λ b. In (symbol before y, symbol before x) (cond b (pairs_of (expression before item)) [])) (sym p.first.disjoint) m))
+          (pair_turned (symbol before y) (symbol before x))
+    ]
 
 -- activity by the marks, as a question reads it
 pub active_at_marks : (before : List Item) (marks : List Mark) (n : ℕ) → marks ≡ block_marks before → is_active_at before n ≡ stays_by (drop (suc n) marks)
@@ -283,10 +259,7 @@ pub pair_turned_told : (all : List (List ℕ)) (before : List Item) (table : Pai
 pair_turned_told all before table blocks first second row other x y r e f k a b apart c =
     pair_told all before table blocks first second row other x y r e f k a b apart (λ _. common_turned blocks other row r (c (subst IsRising (sym e) (k.knows first x a).rising)))
 
--- a name and itself are no active pair, and a name that no `$d` has is in none
-pub same_told : (all : List (List ℕ)) (before : List Item) (n : ℕ) (x y : List ℕ) → AreSound before → IsNameNumber all n x → IsNameNumber all n y → are_paired (active_pairs before) (as_variable x, as_variable y) ≡ false
-same_told all before n x y h a b = false_from_ne_true (are_paired (active_pairs before) (as_variable x, as_variable y)) (λ t. (paired_from before x y h t).0 (same_Some x y (sym a ∙ b)))
-
+-- a name that no `$d` has is in no active pair
 pub none_told : (all : List (List ℕ)) (before : List Item) (table : PairTable) (blocks : List Mark) (n : ℕ) (x y : List ℕ)
     → ReadsPairs all before table blocks → IsNameNumber all n x → row_at table n ≡ [] → are_paired (active_pairs before) (as_variable x, as_variable y) ≡
     false

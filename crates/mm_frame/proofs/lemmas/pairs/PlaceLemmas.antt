@@ -1,20 +1,18 @@
 -- The places of the variables of a frame: with one more of them, and those of the ones that an active `$d` has together with one.
-use Rattle.std.proofs.lemmas.{Grind.{common_steps}, Bool.{false_from_ne_true, eqb-true, eq-eqb, lt-ltb, ltb-true, or_right}, List.{map-append, Elements.{All-append, All-contains}, Filters.{dedup_is}}}
-use Rattle.std.proofs.lemmas.{List.{Kept.{Contains-dedup_nat, Contains-from_dedup, AllPairs-from_increasing}, Sorted.{IsPermutation-sym, Contains-permutation}}, Map.Keys.{IsStrictlyIncreasing-dedup}}
-use Rattle.std.proofs.lemmas.Option.{same_Some, slice_get_within}
-use Rattle.std.proofs.Common.{◌≡◌, ℕ, zero, suc, ◌+◌, ◌-◌, ◌<◌, ◌≤◌, Bool, true, false, cond, nat_eq, Option, Some, None, List, [], ◌∷◌, ◌++◌, length, All, option_to_list, nat_lt, ◌↔◌, filter}
-use Rattle.std.{proofs.Common.{flat_map, take, drop, slice_get, get_or, refl, sym, ◌∙◌, ap, subst, arith, inl, inr, Contains, eqb}, specs.List.{dedup, Sorted.{IsPermutation, IsSorted}}}
-use Rattle.std.specs.{List.Retain.{IsFiltered, DiffersFromLast}, Ordering.{nat_cmp}}
+use Rattle.std.proofs.lemmas.{Option.{slice_get_within, same_Some}, List.{map-append, Kept.{Contains-dedup_nat, Contains-from_dedup}, Elements.{All-append, All-contains}, Filters.{dedup_is}}}
+use Rattle.std.proofs.lemmas.{List.Sorted.{IsPermutation-sym, Contains-permutation}, Grind.{common_steps}, Bool.{false_from_ne_true, eqb-true, eq-eqb, lt-ltb, ltb-true, or_right}}
+use Rattle.std.proofs.Common.{◌≤◌, length, ◌≡◌, ℕ, zero, suc, ◌+◌, ◌-◌, ◌<◌, Bool, true, false, cond, nat_eq, Some, None, List, [], ◌∷◌, ◌++◌, All, option_to_list, nat_lt, ◌↔◌, filter, flat_map, take}
+use Rattle.std.{proofs.Common.{drop, slice_get, get_or, refl, sym, ◌∙◌, ap, subst, arith, inl, inr, Contains, eqb}, specs.List.{Sorted.{IsPermutation}, Retain.{IsFiltered, DiffersFromLast}}}
 use native.Mathlib.Decide.{dec_lt}
 use Rattle.mm_machine.specs.{declared.symbol.NumberedSymbol.{NumberedSymbol}, Language.{Frame.{Symbol}, Names.{name_at}}}
 use Rattle.mm_machine.specs.Language.NumberedSymbols.{symbol_of, symbols_of, pair_of, kept_pairs, IsNumbered, IsPairNumbered, ArePairsRead}
 use Rattle.mm_frame.specs.{declared.{paired.PairTable.{PairTable}, places.Places.{Places}, mandatory.Earlier.{Earlier}}, Language.{Scope.{Mark}, Framing.{symbol, expression, active_pairs}}}
 use Rattle.mm_frame.specs.{Language.Answering.{are_paired}, Code.{BlockMarks.{stays_by}, KeptEarlier.{KnowsEarlier}, KeptPairTable.{row_at, IsDisjointAt, ReadsPairs}}}
 use Rattle.mm_frame.specs.Code.{KeptPlaces.{place_of, ArePlaces, later_place, later_places_at, pair_at}, KeptSymbols.{expression_kept, AreSymbols}, LastItems.{IsRising}, Numbers.{IsNameNumber}}
-use Rattle.mm_frame.proofs.lemmas.frames.{VariableLemmas.{under_true}, Frames.{in_at}, HypothesisNumbers.{rise_step, same_rising, drop_step}}
-use Rattle.mm_frame.proofs.lemmas.lists.{Members.{In, in_contains, contains_in, in_map, from_map, in_filter, from_filter, in_flat, from_flat, get_in, has_in, in_cond}, Rising.{get_drop}}
-use Rattle.mm_frame.proofs.lemmas.{scope.{ActiveBySplit.{in_first, in_later}, TableLemmas.{first_cases}}, names.NumberLemmas.{name_there}, pairs.ActivePairLemmas.{pairs_with}}
-use Rattle.mm_frame.proofs.lemmas.pairs.{PairTableLemmas.{named_in, paired_from, paired_to, active_at_marks}, AskedLemmas.{names_apart}}
+use Rattle.mm_frame.proofs.lemmas.frames.{Frames.{in_at}, HypothesisNumbers.{rise_step, same_rising, drop_step}}
+use Rattle.mm_frame.proofs.lemmas.lists.Members.{In, in_contains, contains_in, in_map, from_map, in_filter, from_filter, in_flat, from_flat, get_in, has_in, in_cond, first_cases, in_first, in_later}
+use Rattle.mm_frame.proofs.lemmas.{lists.Rising.{get_drop}, names.NumberLemmas.{name_there}, pairs.{ActivePairLemmas.{pairs_with}, PairTableLemmas.{named_in, paired_from, paired_to, active_at_marks}}}
+use Rattle.mm_frame.proofs.lemmas.pairs.AskedLemmas.{names_apart}
 use Rattle.mm_statement.specs.Language.Item.{Item, is_labelled, is_disjoint}
 
 -- ---- one more symbol
@@ -71,16 +69,14 @@ picked all test first whole n [] e = refl
 picked all test first whole n (x ∷ xs) e =
     grind (arith, common_steps, drop_step whole n x xs e, pairs_with (symbol_of all first) (symbols_of all xs), picked all test first whole (suc n) xs (drop_step whole n x xs e).0, picked_first) steps 200000
 
-from_option : {X : Type 0} (x : X) (o : Option X) → In x (option_to_list o) → o ≡ Some x
-from_option x o h = grind (arith, common_steps) steps 200000
-
 picked_numbered : (all : List (List ℕ)) (first : NumberedSymbol) (whole : List NumberedSymbol) (places : List ℕ) → IsNumbered all first → All (IsNumbered all) whole → All (IsPairNumbered all) (flat_map (pair_at first whole) places)
 picked_numbered all first whole places a others k d l =
     let pairs = flat_map (pair_at first whole) places in
     let r = from_flat (pair_at first whole) (get_or pairs k d) places (in_at pairs k d l) in
     let s = from_map (λ (y : NumberedSymbol). (first, y)) (get_or pairs k d) (option_to_list (slice_get whole r.0)) r.2 in
     let y = s.0 in
-    subst (IsPairNumbered all) s.2 (a, (All-contains (IsNumbered all) whole y others (in_contains y whole (get_in y whole r.0 (from_option y (slice_get whole r.0) s.1)))))
+    subst (IsPairNumbered all) s.2
+    (a, (All-contains (IsNumbered all) whole y others (in_contains y whole (get_in y whole r.0 (grind (arith, common_steps, s.1) steps 200000)))))
 
 -- ---- those that an active `$d` has together with a variable
 
@@ -115,7 +111,7 @@ found_from all before table marks expressions places variables n first s k m =
     let one = from_flat (later_place places n) k kept stayed.1 in
     let later = from_filter (nat_lt n) k (option_to_list (place_of places (one.0).name)) one.2 in
     let less : n < k = ltb-true n k later.1 in
-    let found = (s.placed).only k (one.0).name (from_option k (place_of places (one.0).name) later.0) in
+    let found = (s.placed).only k (one.0).name (grind (arith, common_steps, later.0) steps 200000) in
     let y = found.0 in
     let yname = name_at all y.name in
     let a = named_there all variables n first s.numbered s.there in
@@ -152,7 +148,8 @@ found_to all before table marks expressions places variables n first s k m =
     let same : (one.0).name ≡ y.name = (s.reads).distinct (one.0).name y.name yname ((name_there all (one.0).name (All-contains (IsNumbered all) kept one.0 ((s.symbols).numbered d) (in_contains one.0 kept one.1))) ∙ ap Some name) b in
     let later = in_filter (nat_lt n) k (option_to_list (place_of places (one.0).name)) (subst (λ w. In k (option_to_list w)) (sym (ap (place_of places) same ∙ (s.placed).each k y there)) (inl refl)) (lt-ltb n k less) in
     in_flat (later_places_at places marks expressions n) d k (row_at table first.name) (contains_in d (row_at table first.name) (((s.reads).knows first.name x a).cover d have.first have.stayed))
-    (under_true (stays_by (drop (suc d) marks)) k (flat_map (later_place places n) kept) (sym (active_at_marks before marks d (s.reads).marks) ∙ have.stayed) (in_flat (later_place places n) one.0 k kept one.1 later))
+    (subst (λ c. In k (cond c (flat_map (later_place places n) kept) [])) (sym (sym (active_at_marks before marks d (s.reads).marks) ∙ have.stayed))
+    (in_flat (later_place places n) one.0 k kept one.1 later))
 
 pub partners_added : (all : List (List ℕ)) (before : List Item) (table : PairTable) (marks : List Mark) (expressions : List (List NumberedSymbol)) (places : Places) (variables : List NumberedSymbol) (n : ℕ) (first : NumberedSymbol)
     → Searches all before table marks expressions places variables n first → (found : List ℕ) → IsRising found → ((k : ℕ) → Contains found k ↔ Contains (flat_map (later_places_at places marks expressions n) (row_at table first.name)) k)
@@ -181,9 +178,6 @@ pub reads_earlier : (all : List (List ℕ)) (before : List Item) (earlier : Earl
 reads_earlier all before earlier known = record { distinct = known.known.distinct; sound = known.sound; knows = known.pairs; marks = known.marks }
 
 -- ---- sorted, and each once
-pub rising_once : (numbers sorted once : List ℕ) → IsSorted nat_cmp sorted → IsFiltered (DiffersFromLast eqb) [] sorted once → IsRising once
-rising_once numbers sorted once s f = subst IsRising (sym (dedup_is eqb sorted once f)) (AllPairs-from_increasing (dedup eqb sorted) (IsStrictlyIncreasing-dedup sorted s))
-
 pub same_once : (numbers sorted once : List ℕ) → IsPermutation numbers sorted → IsFiltered (DiffersFromLast eqb) [] sorted once → (k : ℕ) → Contains once k ↔ Contains numbers k
 same_once numbers sorted once moved f k = (
   λ m. Contains-permutation sorted numbers k (IsPermutation-sym numbers sorted moved) (Contains-from_dedup eqb sorted k (subst (λ w. Contains w k) (dedup_is eqb sorted once f) m)),

@@ -3,7 +3,7 @@ use Rattle.std.proofs.Common.{◌≡◌, ◌<◌, ◌+◌, ℕ, suc, List, [], �
 use Rattle.std.proofs.lemmas.{Option.{slice_get-get_or}, List.Elements.{All-contains, Contains-append_cases}}
 use Rattle.mm_machine.specs.{declared.symbol.NumberedSymbol.{NumberedSymbol}, Language.{Frame.{Symbol, ArePair, AreSamePairs}, Names.{AreDistinct}}}
 use Rattle.mm_machine.specs.Language.NumberedSymbols.{pair_of, kept_pairs, IsPairNumbered}
-use Rattle.mm_frame.proofs.lemmas.{pairs.FramePairs.{swapped}, lists.Members.{in_contains, contains_in, contains_cases, get_in, in_map, from_map}, frames.SameLemmas.{pair_from_reading}}
+use Rattle.mm_frame.proofs.lemmas.{pairs.FramePairs.{each_pair}, lists.Members.{in_contains, contains_in, get_in, in_map, from_map}, frames.SameLemmas.{pair_from_reading}}
 
 -- ---- the same unordered pairs
 
@@ -24,7 +24,7 @@ pub all_either_way : (mine yours : List (NumberedSymbol × NumberedSymbol)) → 
 all_either_way mine yours e = (λ p c. inl (subst (λ w. Contains w p) (sym e) c), λ p c. inl (subst (λ w. Contains w p) e c))
 
 -- each pair of symbols of the one list is one of the other
-abbrev HasPairs : List (Symbol × Symbol) → List (Symbol × Symbol) → Type 0
+abbrev pub HasPairs : List (Symbol × Symbol) → List (Symbol × Symbol) → Type 0
 HasPairs list pairs = (x y : Symbol) → ArePair pairs x y → ArePair list x y
 
 -- a pair that is kept is read
@@ -32,18 +32,14 @@ read_here : (all : List (List ℕ)) (list : List (NumberedSymbol × NumberedSymb
 read_here all list p c = in_contains (pair_of all p) (kept_pairs all list) (in_map (pair_of all) p list (contains_in p list c))
 
 -- what lists of numbers have, their readings have
-read_one : (all : List (List ℕ)) (list pairs : List (NumberedSymbol × NumberedSymbol)) → HasEitherWay list pairs → (x y : Symbol) → Contains (kept_pairs all pairs) (x, y) → ArePair (kept_pairs all list) x y
-read_one all list pairs h x y c =
+pub read_each : (all : List (List ℕ)) (list pairs : List (NumberedSymbol × NumberedSymbol)) → HasEitherWay list pairs → HasPairs (kept_pairs all list) (kept_pairs all pairs)
+read_each all list pairs h = each_pair (kept_pairs all pairs) (kept_pairs all list) (λ x y c.
     let r = from_map (pair_of all) (x, y) pairs (contains_in (x, y) (kept_pairs all pairs) c) in
     let there : ArePair (kept_pairs all list) (pair_of all r.0).0 (pair_of all r.0).1 = elim (h r.0 (in_contains r.0 pairs r.1)) [
       | inl a ↦ inl (read_here all list r.0 a)
       | inr b ↦ inr (read_here all list ((r.0).1, (r.0).0) b)
     ] in
-    subst (λ (w : Symbol × Symbol). ArePair (kept_pairs all list) w.0 w.1) r.2 there
-
-pub read_each : (all : List (List ℕ)) (list pairs : List (NumberedSymbol × NumberedSymbol)) → HasEitherWay list pairs → HasPairs (kept_pairs all list) (kept_pairs all pairs)
-read_each all list pairs h x y (inl c) = read_one all list pairs h x y c
-read_each all list pairs h x y (inr c) = swapped (kept_pairs all list) y x (read_one all list pairs h y x c)
+    subst (λ (w : Symbol × Symbol). ArePair (kept_pairs all list) w.0 w.1) r.2 there)
 
 -- and what the readings have, the lists of numbers have
 module _ (all : List (List ℕ)) (distinct : AreDistinct all) (list pairs : List (NumberedSymbol × NumberedSymbol)) (m : All (IsPairNumbered all) list) (n : All (IsPairNumbered all) pairs) where
@@ -91,5 +87,5 @@ either_way_more list pairs n d l so_far new p c =
     let next : take (n + 1) pairs ≡ take n pairs ++ get_or pairs n d ∷ [] = (let z : n + 1 ≡ suc n = omega arith in ap (λ k. take k pairs) z ∙ take-suc pairs n d l) in
     elim (Contains-append_cases (take n pairs) (get_or pairs n d ∷ []) p (subst (λ w. Contains w p) next c)) [
       | inl there ↦ so_far p there
-      | inr last ↦ grind (arith, contains_cases (get_or pairs n d) [] p last, contains_in) steps 200000
+      | inr last ↦ grind (arith, contains_in p (get_or pairs n d ∷ []) last) steps 200000
     ]

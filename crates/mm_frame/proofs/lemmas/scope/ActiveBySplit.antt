@@ -1,7 +1,7 @@
 -- What is active, by how the list is split.
-use Rattle.std.proofs.{lemmas.{Grind.{common_steps}, Bool.{false≢true}}, Common.{◌≡◌, ℕ, zero, suc, ◌≤◌, Bool, true, false, cond, List, [], ◌∷◌, ◌++◌, refl, sym, ◌∙◌, ap, subst, arith, inl, inr}}
+use Rattle.std.proofs.{lemmas.{Grind.{common_steps}, Bool.{false≢true}}, Common.{◌≡◌, ℕ, zero, suc, ◌≤◌, true, List, [], ◌∷◌, ◌++◌, refl, sym, ◌∙◌, ap, subst, arith, inl, inr}}
+use Rattle.mm_frame.{proofs.lemmas.lists.Members.{first_cases, in_first, in_later, In, in_right}, specs.Language.Scope.{Mark, Opens, Neither, mark_of, closed_at, closed, is_zero, stays, active}}
 use Rattle.mm_statement.specs.Language.Item.{Item}
-use Rattle.mm_frame.{specs.Language.Scope.{Mark, Opens, Neither, mark_of, closed_at, closed, is_zero, stays, active}, proofs.lemmas.lists.Members.{In, in_right}}
 
 is_none : (n : ℕ) → is_zero n ≡ true → n ≡ 0
 is_none zero h = refl
@@ -37,26 +37,12 @@ pub record Split (xs : List Item) (x : Item) : Type 0 where
   pub whole : xs ≡ front ++ x ∷ back
   pub stayed : stays back ≡ true
 
-later : (y : Item) (ys : List Item) (x : Item) → Split ys x → Split (y ∷ ys) x
-later y ys x s = record { front = y ∷ s.front; back = s.back; whole = ap (λ w. y ∷ w) s.whole; stayed = s.stayed }
-
-split_at : (y : Item) (ys : List Item) (x : Item) (b : Bool) → stays ys ≡ b → In x (cond b (y ∷ active ys) (active ys)) → (In x (active ys) → Split ys x) → Split (y ∷ ys) x
-split_at y ys x true e (inl q) r = record { front = []; back = ys; whole = ap (λ w. w ∷ ys) q; stayed = e }
-split_at y ys x true e (inr h) r = later y ys x (r h)
-split_at y ys x false e h r = later y ys x (r h)
-
 pub active_split : (xs : List Item) (x : Item) → In x (active xs) → Split xs x
 active_split [] x h = absurd h
-active_split (y ∷ ys) x h = split_at y ys x (stays ys) refl h (λ k. active_split ys x k)
-
--- what is in a list whose first element is kept under a condition
-pub in_first : {X : Type 0} (b : Bool) (x : X) (xs : List X) → b ≡ true → In x (cond b (x ∷ xs) xs)
-in_first true x xs e = inl refl
-in_first false x xs e = absurd (false≢true e)
-
-pub in_later : {X : Type 0} (b : Bool) (x y : X) (xs : List X) → In x xs → In x (cond b (y ∷ xs) xs)
-in_later true x y xs h = inr h
-in_later false x y xs h = h
+active_split (y ∷ ys) x h = elim (first_cases (stays ys) y x (active ys) h) [
+  | inl p ↦ record { front = []; back = ys; whole = ap (λ w. w ∷ ys) p.0; stayed = p.1 }
+  | inr k ↦ (let r = active_split ys x k in record { front = y ∷ r.front; back = r.back; whole = ap (λ w. y ∷ w) r.whole; stayed = r.stayed })
+]
 
 pub split_active : (front : List Item) (x : Item) (back : List Item) → stays back ≡ true → In x (active (front ++ x ∷ back))
 split_active [] x back h = in_first (stays back) x (active back) h
@@ -64,7 +50,3 @@ split_active (y ∷ front) x back h = in_later (stays (front ++ x ∷ back)) x y
 
 pub active_in : (xs : List Item) (x : Item) → In x (active xs) → In x xs
 active_in xs x h = let s = active_split xs x h in subst (λ w. In x w) (sym s.whole) (in_right x s.front (x ∷ s.back) (inl refl))
-
--- what was active before an active statement is active
-pub active_later : (front : List Item) (e : Item) (back : List Item) (x : Item) → mark_of e.kind ≡ Neither → stays back ≡ true → In x (active front) → In x (active (front ++ e ∷ back))
-active_later front e back x m h k = grind (arith, common_steps, active_split, split_active, stays_join) steps 200000

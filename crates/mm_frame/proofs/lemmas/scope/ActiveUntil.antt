@@ -1,19 +1,15 @@
 -- Up to where an item is active.
 use Rattle.std.proofs.lemmas.{Grind.{common_steps}, Bool.{le-leb, lt-leb, false≢true}, List.{drop-take, length-drop, length-append}, Option.{slice_get-get_or}}
-use Rattle.std.proofs.Common.{◌≡◌, ℕ, suc, ◌+◌, ◌-◌, ◌<◌, ◌≤◌, leb, ◌++◌, ◌∷◌, Bool, true, Option, Some, None, List, [], length, min, take, drop, get_or, refl, sym, ◌∙◌, ap, subst, arith, ◌↔◌}
-use Rattle.std.proofs.Common.{slice_range}
+use Rattle.std.proofs.Common.{◌≡◌, ℕ, suc, ◌+◌, ◌-◌, ◌<◌, leb, ◌++◌, ◌∷◌, Bool, true, Option, Some, None, List, [], length, take, drop, get_or, sym, ◌∙◌, ap, subst, arith, ◌↔◌, slice_range}
 use native.Mathlib.Decide.{dec_lt}
 use Rattle.mm_frame.specs.{Language.{Scope.{Mark, Closes}, Resolving.{IsUpTo}}, Code.{BlockMarks.{stays_by}, BlockEnds.{end_of_block}, KeptBlocks.{marks_from, StandsEnded, Stands, AreBlockEndsKept}}}
-use Rattle.mm_frame.proofs.lemmas.scope.BlockLemmas.{length_marks, before_none, is_active_open, is_active_ended}
+use Rattle.mm_frame.proofs.lemmas.scope.BlockLemmas.{length_marks, is_active_open, is_active_ended}
 
 -- what is between an item and a later place, with or without an item there
 behind_range : (marks : List Mark) (from at : ℕ) → from < at → slice_range marks (from + 1) at ≡ drop (suc from) (take at marks)
 behind_range marks from at l = grind (arith, common_steps, drop-take (from + 1) (at - (from + 1)) marks) steps 200000
 
--- nothing comes after an item that there is not
-pub until_absent : (marks : List Mark) (from at : ℕ) → length marks ≤ from → (stays_by (drop (suc from) (take at marks)) ≡ true) ↔ IsUpTo at None
-until_absent marks from at l = (λ e. tt, λ u. before_none marks from at (min at (length marks)) refl (omega arith))
-
+-- an item whose block stays open, and one whose block ends
 pub until_open :
     (blocks : List ℕ) (ends : List (Option ℕ)) (outer : List ℕ) (current begun ended from at block : ℕ) → AreBlockEndsKept blocks ends outer current begun ended →
     from < at → from < length blocks → block ≡ get_or blocks from block → end_of_block ends block ≡ None →

@@ -1,15 +1,15 @@
 -- Blocks by marks: what ties marks to items, and what one more mark makes of the block numbers.
 use Rattle.std.proofs.lemmas.{Grind.{common_steps}, Bool.{eq-eqb, ne_eqb, le-leb, lt-leb}}
-use Rattle.std.proofs.lemmas.List.{length_push, take-append-drop, drop-append-le, length-drop, length-take, take_min, drop-take, drop_all, take_rest, take-append-le, length-set, get_or-set_same}
-use Rattle.std.proofs.lemmas.{List.{get_or-set_other, Sums.{sum_by_push, count_by-le-length}}, Option.{slice_get_within, slice_get-get_or, same_Some}}
+use Rattle.std.proofs.lemmas.List.{length_push, take-append-drop, drop-append-le, length-drop, length-take, take_min, drop-take, drop_all, take-append-le, length-set, get_or-set_same}
+use Rattle.std.proofs.lemmas.{List.{get_or-set_other, Sums.{sum_by_push}}, Option.{slice_get_within, slice_get-get_or, same_Some}}
 use Rattle.std.proofs.Common.{◌≡◌, ◌≢◌, ℕ, zero, suc, pred, ◌+◌, ◌-◌, ◌≤◌, ◌<◌, ◌==◌, leb, Bool, true, false, cond, Option, Some, None, List, [], ◌∷◌, ◌++◌, Result, Ok, is_ok, IsSome, slice_range}
 use Rattle.std.proofs.Common.{unwrap_or, option_to_list, length, min, take, drop, get_or, set, count_by, slice_get, refl, sym, ◌∙◌, ap, subst, append_assoc, append-nil, arith, ◌⊎◌, inl, inr}
 use Rattle.std.proofs.Math.Seq.{take-append-add}
-use native.Mathlib.Decide.{dec_lt}
-use Rattle.mm_statement.specs.Language.Item.{Item}
+use Rattle.mm_frame.proofs.lemmas.{lists.Members.{get_join, get_between}, scope.ActiveBySplit.{closed_more}}
 use Rattle.mm_frame.specs.{Language.Scope.{Mark, Opens, Closes, Neither, mark_of, closed_at, closed, is_zero, stays, opens, closes}, Code.BlockMarks.{closed_by, stays_by, block_marks}}
 use Rattle.mm_frame.specs.Code.{BlockEnds.{end_of_block}, KeptBlocks.{is_at, mark_between, marks_from, last_block, LeavesOpen, StandsOpen, StandsEnded, Stands, AreBlocks, AreBlockEndsKept}}
-use Rattle.mm_frame.proofs.lemmas.scope.ActiveBySplit.{closed_more}
+use native.Mathlib.Decide.{dec_lt}
+use Rattle.mm_statement.specs.Language.Item.{Item}
 
 -- marks and items
 closed_of : (items : List Item) → closed items ≡ closed_by (block_marks items)
@@ -21,14 +21,10 @@ stays_of items = ap is_zero (closed_of items)
 
 -- a list with one more element
 pub get_front : {X : Type 0} (xs : List X) (y x : X) (n : ℕ) → slice_get xs n ≡ Some x → slice_get (xs ++ y ∷ []) n ≡ Some x
-get_front [] y x n e = cc
-get_front (z ∷ xs) y x zero e = e
-get_front (z ∷ xs) y x (suc n) e = get_front xs y x n e
+get_front xs y x n e = get_join xs (y ∷ []) n x e
 
 pub get_last : {X : Type 0} (xs : List X) (y : X) (n : ℕ) → n ≡ length xs → slice_get (xs ++ y ∷ []) n ≡ Some y
-get_last [] y zero e = refl
-get_last (z ∷ xs) y (suc n) e = get_last xs y n (omega arith)
-get_last _ y _ e = absurd (omega arith)
+get_last xs y n e = ap (slice_get (xs ++ y ∷ [])) e ∙ get_between xs y []
 
 pub get_cases : {X : Type 0} (xs : List X) (y x : X) (n : ℕ) → slice_get (xs ++ y ∷ []) n ≡ Some x → (slice_get xs n ≡ Some x) ⊎ ((n ≡ length xs) × (y ≡ x))
 get_cases [] y x zero e = inr (refl, same_Some y x e)
@@ -73,11 +69,8 @@ one_less : (c d e : ℕ) → e ≡ suc d → pred c - d ≡ c - e
 one_less zero d e q = omega arith
 one_less (suc c) d e q = omega arith
 
-one_more : (c d e : ℕ) → d ≡ suc e → suc c - d ≡ c - e
-one_more c d e q = omega arith
-
 leaves_less : (marks : List Mark) (d e : ℕ) → d ≡ suc e → LeavesOpen marks d → LeavesOpen (marks ++ Closes ∷ []) e
-leaves_less marks d e q h later = ap closed_by (append_assoc marks (Closes ∷ []) later) ∙ h (Closes ∷ later) ∙ one_more (closed_by later) d e q
+leaves_less marks d e q h later = ap closed_by (append_assoc marks (Closes ∷ []) later) ∙ h (Closes ∷ later) ∙ (omega arith)
 
 -- activity by what is left open
 closed_front : (marks later : List Mark) → closed_by marks ≤ closed_by (marks ++ later)
@@ -130,68 +123,65 @@ stand_more : (old stack : List ℕ) (behind : List Mark) (mark : Mark) (block it
     → (StandsOpen old behind block → StandsOpen stack (behind ++ mark ∷ []) block) → Stands stack (behind ++ mark ∷ []) block item end
 stand_more old stack behind mark block item end s f = grind (arith, common_steps) steps 200000
 
--- the last item is in the innermost block
-stand_last : (outer : List ℕ) (behind : List Mark) (block item : ℕ) (end : Option ℕ) → end ≡ None → behind ≡ [] → Stands (outer ++ block ∷ []) behind block item end
-stand_last outer behind block item end e q = grind (arith, common_steps, length_push outer block, get_last outer block (length outer) refl) steps 200000
-
 -- the blocks of all items, if those of the earlier ones are known
 stands_all : (blocks : List ℕ) (ends : List (Option ℕ)) (outer : List ℕ) (next : ℕ) (marks : List Mark) (mark : Mark) → length marks ≡ length blocks → end_of_block ends next ≡ None
     → ((item block : ℕ) → slice_get blocks item ≡ Some block → Stands (outer ++ next ∷ []) (drop (suc item) marks ++ mark ∷ []) block item (end_of_block ends block)) → (item block : ℕ) → slice_get (blocks ++ next ∷ []) item ≡ Some block
     → Stands (outer ++ next ∷ []) (drop (suc item) (marks ++ mark ∷ [])) block item (end_of_block ends block)
-stands_all blocks ends outer next marks mark count e h = each_more (λ item block. Stands (outer ++ next ∷ []) (drop (suc item) (marks ++ mark ∷ [])) block item (end_of_block ends block)) blocks next earlier
-    (stand_last outer (drop (suc (length blocks)) (marks ++ mark ∷ [])) next (length blocks) (end_of_block ends next) e (let p = length_push marks mark in drop_all (suc (length blocks)) (marks ++ mark ∷ []) (omega arith)))
-  where
-    earlier : (item block : ℕ) → slice_get blocks item ≡ Some block → Stands (outer ++ next ∷ []) (drop (suc item) (marks ++ mark ∷ [])) block item (end_of_block ends block)
-    earlier item block there =
-        let l = slice_get_within blocks item block there in
-        subst (λ behind. Stands (outer ++ next ∷ []) behind block item (end_of_block ends block)) (sym (drop-append-le (suc item) marks (mark ∷ []) (omega arith))) (h item block there)
+stands_all blocks ends outer next marks mark count e h =
+    each_more (λ item block. Stands (outer ++ next ∷ []) (drop (suc item) (marks ++ mark ∷ [])) block item (end_of_block ends block)) blocks next
+    (λ item block there. let l = slice_get_within blocks item block there in
+    subst (λ behind. Stands (outer ++ next ∷ []) behind block item (end_of_block ends block)) (sym (drop-append-le (suc item) marks (mark ∷ []) (omega arith)))
+    (h item block there))
+    (grind (
+      arith,
+      common_steps,
+      length_push outer next,
+      get_last outer next (length outer) refl,
+      let p = length_push marks mark in
+          drop_all (suc (length blocks)) (marks ++ mark ∷ []) (omega arith),
+    ) steps 200000)
 
 -- no number is there twice in a list
 abbrev pub IsDistinct : List ℕ → Type 0
 IsDistinct xs = (one other x : ℕ) → slice_get xs one ≡ Some x → slice_get xs other ≡ Some x → one ≡ other
 
-distinct_more : (xs : List ℕ) (y : ℕ) → IsDistinct xs → ((n x : ℕ) → slice_get xs n ≡ Some x → x ≢ y) → IsDistinct (xs ++ y ∷ [])
-distinct_more xs y h f one other x a b = grind (arith, common_steps, get_cases) steps 200000
-
 -- an item that neither begins nor ends a block
 passed : (blocks : List ℕ) (ends : List (Option ℕ)) (outer : List ℕ) (current : ℕ) (marks : List Mark) → length marks ≡ length blocks
     → AreBlocks blocks ends outer current marks → AreBlocks (blocks ++ current ∷ []) ends outer current (marks ++ Neither ∷ [])
 passed blocks ends outer current marks count k = record {
-  stand = stands_all blocks ends outer current marks Neither count (k.unended (length outer) current (get_last outer current (length outer) refl)) earlier;
+  stand =
+      stands_all blocks ends outer current marks Neither count (k.unended (length outer) current (get_last outer current (length outer) refl))
+      (λ item block there. grind (arith, common_steps, k.stand item block there, stand_more) steps 200000);
   unended = k.unended;
   distinct = k.distinct;
   numbered = k.numbered;
   newest = k.newest;
   last = last_push 0 blocks current;
 }
-  where
-    earlier : (item block : ℕ) → slice_get blocks item ≡ Some block → Stands (outer ++ current ∷ []) (drop (suc item) marks ++ Neither ∷ []) block item (end_of_block ends block)
-    earlier item block there = grind (arith, common_steps, k.stand item block there, stand_more) steps 200000
-
-mark_neither : (ends : List (Option ℕ)) (item before current : ℕ) → before ≡ current → end_of_block ends current ≡ None → mark_between ends item before current ≡ Neither
-mark_neither ends item before current e z = grind (arith, common_steps, eq-eqb current current refl) steps 200000
 
 pub passed_marks : (blocks : List ℕ) (ends : List (Option ℕ)) (outer : List ℕ) (current : ℕ) (marks : List Mark) → AreBlocks blocks ends outer current marks → marks_from ends 0 0 (blocks ++ current ∷ []) ≡ marks_from ends 0 0 blocks ++ Neither ∷ []
 passed_marks blocks ends outer current marks k =
     marks_push ends 0 0 blocks current (length blocks) (omega arith) ∙ ap (λ m. marks_from ends 0 0 blocks ++ m ∷ [])
-    (mark_neither ends (length blocks) (last_block 0 blocks) current k.last (k.unended (length outer) current
-    (get_last outer current (length outer) refl)))
+    (grind (
+      arith,
+      common_steps,
+      eq-eqb current current refl,
+      k.last,
+      k.unended (length outer) current (get_last outer current (length outer) refl),
+    ) steps 200000)
 
 -- an item that begins a block
-begun : (blocks : List ℕ) (ends : List (Option ℕ)) (outer : List ℕ) (current next : ℕ) (marks : List Mark) → length marks ≡ length blocks → current < length ends → next ≡ length ends → AreBlocks blocks ends outer current marks
+pub begun : (blocks : List ℕ) (ends : List (Option ℕ)) (outer : List ℕ) (current next : ℕ) (marks : List Mark) → length marks ≡ length blocks → current < length ends → next ≡ length ends → AreBlocks blocks ends outer current marks
     → AreBlocks (blocks ++ next ∷ []) ends (outer ++ current ∷ []) next (marks ++ Opens ∷ [])
 begun blocks ends outer current next marks count l q k = record {
   stand = stands_all blocks ends (outer ++ current ∷ []) next marks Opens count (end_of_past ends next (omega arith)) earlier;
   unended = each_more (λ level block. end_of_block ends block ≡ None) (outer ++ current ∷ []) next k.unended (end_of_past ends next (omega arith));
-  distinct = distinct_more (outer ++ current ∷ []) next k.distinct (λ level block there e. (let a = known level block there in absurd (omega arith)));
-  numbered = known;
+  distinct = (λ one other x a1 b. grind (arith, common_steps, get_cases) steps 200000);
+  numbered = each_more (λ level block. block < length ends) outer current k.numbered l;
   newest = omega arith;
   last = last_push 0 blocks next;
 }
   where
-    known : (level block : ℕ) → slice_get (outer ++ current ∷ []) level ≡ Some block → block < length ends
-    known = each_more (λ level block. block < length ends) outer current k.numbered l
-
     earlier : (item block : ℕ) → slice_get blocks item ≡ Some block → Stands ((outer ++ current ∷ []) ++ next ∷ []) (drop (suc item) marks ++ Opens ∷ []) block item (end_of_block ends block)
     earlier item block there = stand_more (outer ++ current ∷ []) ((outer ++ current ∷ []) ++ next ∷ []) (drop (suc item) marks) Opens block item (end_of_block ends block) (k.stand item block there) (λ s. record {
       level = s.level;
@@ -199,13 +189,16 @@ begun blocks ends outer current next marks count l q k = record {
       leaves = grind (arith, common_steps, length_push, slice_get_within, one_less) steps 200000;
     })
 
-mark_opens : (ends : List (Option ℕ)) (item before current next : ℕ) → before ≡ current → end_of_block ends current ≡ None → current ≢ next → mark_between ends item before next ≡ Opens
-mark_opens ends item before current next e z n = subst (λ w. mark_between ends item w next ≡ Opens) (sym e) (ap (λ end. cond (is_at end item) Closes (cond (current == next) Neither Opens)) z ∙ ap (λ w. cond w Neither Opens) (ne_eqb current next n))
-
 pub begun_marks : (blocks : List ℕ) (ends : List (Option ℕ)) (outer : List ℕ) (current next : ℕ) (marks : List Mark) → current < length ends
     → next ≡ length ends → AreBlocks blocks ends outer current marks → marks_from ends 0 0 (blocks ++ next ∷ []) ≡ marks_from ends 0 0 blocks ++ Opens ∷ []
 begun_marks blocks ends outer current next marks l q k =
-    grind (arith, common_steps, marks_push ends 0 0 blocks next (length blocks) (omega arith), k.unended (length outer) current (get_last outer current (length outer) refl), mark_opens) steps 500000
+    grind (
+      arith,
+      common_steps,
+      marks_push ends 0 0 blocks next (length blocks) (omega arith),
+      k.unended (length outer) current (get_last outer current (length outer) refl),
+      ne_eqb,
+    ) steps 500000
 
 -- what is left of the outer blocks when the innermost one ends, and the block that is innermost then
 abbrev pub Popped : List ℕ → List ℕ → ℕ → ℕ → Type 0
@@ -243,49 +236,43 @@ module _ (blocks : List ℕ) (ends : List (Option ℕ)) (outer rest : List ℕ) 
   innermost : end_of_block ends current ≡ None
   innermost = k.unended (length outer) current (get_last outer current (length outer) refl)
 
-  outer_apart : (level block : ℕ) → slice_get outer level ≡ Some block → block ≢ current
-  outer_apart level block there e =
-      let w = slice_get_within outer level block there in
-      let q = k.distinct level (length outer) block (get_front outer current block level there) (get_last outer current (length outer) refl ∙ ap Some (sym e)) in
-      omega arith
-
   outer_open : (level block : ℕ) → slice_get outer level ≡ Some block → end_of_block (closing ends current (length blocks)) block ≡ None
-  outer_open level block there = end_of_other ends current (length blocks) block (outer_apart level block there) ∙ k.unended level block (get_front outer current block level there)
-
-  fresh_open : (block : ℕ) → block ≡ length ends → end_of_block (closing ends current (length blocks)) block ≡ None
-  fresh_open block e = (let n = length-set ends current (Some (length blocks)) in end_of_past (closing ends current (length blocks)) block (omega arith))
+  outer_open level block there =
+      end_of_other ends current (length blocks) block (λ e. let w = slice_get_within outer level block there in
+      let q =
+      k.distinct level (length outer) block (get_front outer current block level there) (get_last outer current (length outer) refl ∙ ap Some (sym e)) in
+      omega arith)
+      ∙ k.unended level block (get_front outer current block level there)
 
   ended_unended : (level block : ℕ) → slice_get (rest ++ next ∷ []) level ≡ Some block → end_of_block (closing ends current (length blocks)) block ≡ None
   ended_unended level block there = elim (stood_there outer rest next (length ends) level block p there) [
     | inl h ↦ outer_open level block h
-    | inr h ↦ fresh_open block (h.2)
+    | inr h ↦ end_of_past (closing ends current (length blocks)) block (omega (arith, h.2, length-set ends current (Some (length blocks))))
   ]
 
   ended_distinct : (one other block : ℕ) → slice_get (rest ++ next ∷ []) one ≡ Some block → slice_get (rest ++ next ∷ []) other ≡ Some block → one ≡ other
-  ended_distinct one other block a b = by_cases (stood_there outer rest next (length ends) one block p a) (stood_there outer rest next (length ends) other block p b)
-    where
-      by_cases : ((slice_get outer one ≡ Some block) ⊎ ((outer ≡ []) × (one ≡ 0) × (block ≡ length ends))) → ((slice_get outer other ≡ Some block) ⊎ ((outer ≡ []) × (other ≡ 0) × (block ≡ length ends))) → one ≡ other
-      by_cases (inl x) (inl y) = k.distinct one other block (get_front outer current block one x) (get_front outer current block other y)
-      by_cases (inl x) (inr y) = absurd (no_element one block (subst (λ w. slice_get w one ≡ Some block) (y.0) x))
-      by_cases (inr x) (inl y) = absurd (no_element other block (subst (λ w. slice_get w other ≡ Some block) (x.0) y))
-      by_cases (inr x) (inr y) = x.1 ∙ sym (y.1)
+  ended_distinct one other block a b =
+      grind (
+        arith,
+        common_steps,
+        stood_there outer rest next (length ends) one block p a,
+        stood_there outer rest next (length ends) other block p b,
+        k.distinct one other block,
+        get_front,
+        no_element,
+      ) steps 200000
 
-  ended_numbered : (level block : ℕ) → slice_get rest level ≡ Some block → block < length (closing ends current (length blocks))
-  ended_numbered level block there =
-      let n = length-set ends current (Some (length blocks)) in
-      let known : block < length ends = elim p [
-        | inl e ↦ k.numbered level block (subst (λ w. slice_get w level ≡ Some block) (sym e) (get_front rest next block level there))
-        | inr e ↦ absurd (no_element level block (subst (λ w. slice_get w level ≡ Some block) (e.1) there))
-      ] in
-      omega arith
+  ended_numbered : (level block : ℕ) → slice_get rest level ≡ Some block → block < length ends
+  ended_numbered level block there = elim p [
+    | inl e ↦ k.numbered level block (subst (λ w. slice_get w level ≡ Some block) (sym e) (get_front rest next block level there))
+    | inr e ↦ absurd (no_element level block (subst (λ w. slice_get w level ≡ Some block) (e.1) there))
+  ]
 
-  ended_newest : next ≤ length (closing ends current (length blocks))
-  ended_newest =
-      let n = length-set ends current (Some (length blocks)) in
-      elim p [
-        | inl e ↦ (let a = k.numbered (length rest) next (subst (λ w. slice_get w (length rest) ≡ Some next) (sym e) (get_last rest next (length rest) refl)) in omega arith)
-        | inr e ↦ (omega arith)
-      ]
+  ended_newest : next ≤ length ends
+  ended_newest = elim p [
+    | inl e ↦ (let a = k.numbered (length rest) next (subst (λ w. slice_get w (length rest) ≡ Some next) (sym e) (get_last rest next (length rest) refl)) in omega arith)
+    | inr e ↦ omega arith
+  ]
 
   -- the block of an earlier item ended, or ends now, or is open
   ended_block : (count : length marks ≡ length blocks) (item block : ℕ) (end : Option ℕ) → item < length blocks → end_of_block ends block ≡ end → Stands (outer ++ current ∷ []) (drop (suc item) marks) block item end
@@ -323,8 +310,8 @@ module _ (blocks : List ℕ) (ends : List (Option ℕ)) (outer rest : List ℕ) 
         (λ item block there. ended_block count item block (end_of_block ends block) (slice_get_within blocks item block there) refl (k.stand item block there));
     unended = ended_unended;
     distinct = ended_distinct;
-    numbered = ended_numbered;
-    newest = ended_newest;
+    numbered = λ level block there. omega (arith, ended_numbered level block there, length-set ends current (Some (length blocks)));
+    newest = omega (arith, ended_newest, length-set ends current (Some (length blocks)));
     last = last_push 0 blocks next;
   }
 
@@ -353,7 +340,7 @@ pub kept_entered : (blocks : List ℕ) (ends more : List (Option ℕ)) (outer : 
     → AreBlockEndsKept blocks more outer current begun ended
 kept_entered blocks ends more outer current begun ended h l k = grind (arith, common_steps, entered_marks) steps 200000
 
-same_count : (test : Mark → Bool) (marks more : List Mark) (mark : Mark) (n m : ℕ) → more ≡ marks ++ mark ∷ [] → n ≡ count_by test marks → m ≡ n + cond (test mark) 1 0 → m ≡ count_by test more
+pub same_count : (test : Mark → Bool) (marks more : List Mark) (mark : Mark) (n m : ℕ) → more ≡ marks ++ mark ∷ [] → n ≡ count_by test marks → m ≡ n + cond (test mark) 1 0 → m ≡ count_by test more
 same_count test marks more mark n m e q r = r ∙ ap (λ w. w + cond (test mark) 1 0) q ∙ sym (sum_by_push (λ m. cond (test m) 1 0) marks mark) ∙ ap (count_by test) (sym e)
 
 pub kept_passed : (blocks : List ℕ) (ends : List (Option ℕ)) (outer : List ℕ) (current begun ended : ℕ) → AreBlockEndsKept blocks ends outer current begun ended → AreBlockEndsKept (blocks ++ current ∷ []) ends outer current begun ended
@@ -364,17 +351,6 @@ kept_passed blocks ends outer current begun ended k =
       are_blocks = subst (λ w. AreBlocks (blocks ++ current ∷ []) ends outer current w) (sym more) (passed blocks ends outer current marks (length_marks ends 0 0 blocks) k.are_blocks);
       begun_is = same_count opens marks _ Neither begun begun more k.begun_is (omega arith);
       ended_is = same_count closes marks _ Neither ended ended more k.ended_is (omega arith);
-    }
-
-pub kept_begun : (blocks : List ℕ) (ends : List (Option ℕ)) (outer : List ℕ) (current next begun ended : ℕ) → current < length ends → next ≡ length ends → AreBlockEndsKept blocks ends outer current begun ended
-    → AreBlockEndsKept (blocks ++ next ∷ []) ends (outer ++ current ∷ []) next (begun + 1) ended
-kept_begun blocks ends outer current next begun_count ended l q k =
-    let marks = marks_from ends 0 0 blocks in
-    let more = begun_marks blocks ends outer current next marks l q k.are_blocks in
-    record {
-      are_blocks = subst (λ w. AreBlocks (blocks ++ next ∷ []) ends (outer ++ current ∷ []) next w) (sym more) (begun blocks ends outer current next marks (length_marks ends 0 0 blocks) l q k.are_blocks);
-      begun_is = same_count opens marks _ Opens begun_count (begun_count + 1) more k.begun_is refl;
-      ended_is = same_count closes marks _ Opens ended ended more k.ended_is (omega arith);
     }
 
 pub kept_ended : (blocks : List ℕ) (ends : List (Option ℕ)) (outer rest : List ℕ) (current next begun ended : ℕ) → current < length ends → Popped outer rest next (length ends) → AreBlockEndsKept blocks ends outer current begun ended
@@ -388,28 +364,9 @@ kept_ended blocks ends outer rest current next begun ended_count l p k =
       ended_is = same_count closes marks _ Closes ended_count (ended_count + 1) more k.ended_is refl;
     }
 
--- the counts are no larger than that of the items
-pub count_within : (test : Mark → Bool) (ends : List (Option ℕ)) (blocks : List ℕ) (n : ℕ) → n ≡ count_by test (marks_from ends 0 0 blocks) → n ≤ length blocks
-count_within test ends blocks n e = omega (arith, count_by-le-length test (marks_from ends 0 0 blocks), length_marks ends 0 0 blocks)
-
-pub items_within : (ends : List (Option ℕ)) (blocks : List ℕ) (marks : List Mark) (n : ℕ) → marks_from ends 0 0 blocks ≡ marks → n ≤ length marks → n ≤ length blocks
-items_within ends blocks marks n e l = omega (arith, ap length e, length_marks ends 0 0 blocks)
-
 -- there are as many items as marks
 pub marks_count : (ends : List (Option ℕ)) (blocks : List ℕ) (marks : List Mark) → marks_from ends 0 0 blocks ≡ marks → length marks ≡ length blocks
 marks_count ends blocks marks e = sym (ap length e) ∙ length_marks ends 0 0 blocks
-
--- what comes after an item up to the last one
-pub behind_item : (marks : List Mark) (from count : ℕ) → count ≡ length marks → slice_range marks (from + 1) count ≡ drop (suc from) marks
-behind_item marks from count e = grind (arith, common_steps, take_rest marks (from + 1)) steps 200000
-
--- nothing comes after an item that is yet to come
-pub behind_none : (marks : List Mark) (from : ℕ) → length marks ≤ from → stays_by (drop (suc from) marks) ≡ true
-behind_none marks from l = ap stays_by (drop_all (suc from) marks (omega arith))
-
--- the number of an item, or of the one that is yet to come, if there is none
-pub end_within : (ends : List (Option ℕ)) (blocks : List ℕ) (marks : List Mark) (at count end : ℕ) → marks_from ends 0 0 blocks ≡ marks → count ≡ length blocks → end ≡ min at count → end ≡ min at (length marks)
-end_within ends blocks marks at count end v c e = e ∙ ap (min at) (c ∙ sym (marks_count ends blocks marks v))
 
 -- what comes after an item before another
 pub behind_before : (marks : List Mark) (from at end : ℕ) → end ≡ min at (length marks) → from < end → slice_range marks (from + 1) end ≡ drop (suc from) (take at marks)

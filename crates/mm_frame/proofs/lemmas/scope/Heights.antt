@@ -18,11 +18,8 @@ inside_at : (high : ℕ → ℕ) → IsHeight high → (b e k : ℕ) → EndsAt 
 inside_at high h b e zero d s l = grind (arith, common_steps) steps 200000
 inside_at high h b e (suc k) d s l =
     let r = inside_at high h b e k d s (omega arith) in
-    let w = h.down (suc (b + k)) in
     let n : high (suc (suc (b + k))) ≡ high b → ⊥ = λ z. d.first (suc (b + k)) (omega arith) (omega arith) z in
-    subst (λ w. high b < high (suc w)) (sym (omega arith)) (by_order (high b) (high (suc (suc (b + k)))) n (omega arith)) where
-      by_order : (x y : ℕ) → (y ≡ x → ⊥) → x ≤ y → x < y
-      by_order x y n l = elim (dec_lt x y) [ yes a ↦ a | no m ↦ absurd (n (omega arith)) ]
+    grind (arith, common_steps) steps 200000
 
 pub inside : (high : ℕ → ℕ) → IsHeight high → (b e k : ℕ) → EndsAt high b e → high (suc b) ≡ suc (high b) → b ≤ k → k < e → high b < high (suc k)
 inside high h b e k d s l m = grind (arith, common_steps, inside_at high h b e (k - b) d s (omega arith)) steps 200000
@@ -74,16 +71,15 @@ step_above high i k low before y r n c d (no g) =
 step_holds : (high : ℕ → ℕ) (i low : ℕ) → (r : Rise high low (suc i)) (e : ℕ) → EndsAt high r.at e → Dec (i < e) → i < e
 step_holds high i low r e d h = grind (arith, common_steps) steps 200000
 
-step_outer : (high : ℕ → ℕ) (i low : ℕ) → high (suc i) ≡ high i → (r : Rise high low (suc i)) → r.at < i
-step_outer high i low flat r = grind (arith, common_steps, dec_lt r.at i) steps 200000
-
 step : (high : ℕ → ℕ) → IsHeight high → (i j k : ℕ) → high (suc i) ≡ high i → Around high i j → suc (i + suc k) ≤ j
     → ((n : ℕ) → n ≤ k → high (suc i) ≤ high (suc (i + n))) → Rise high (high (suc (i + suc k))) (suc i) → high (suc (i + suc k)) < high (suc i) → ⊥
 step high h i j k flat blocks l before r y =
     let t = r.there in
     let low = high (suc (i + suc k)) in
     let ends : EndsAt high r.at (i + suc k) = record { behind = omega arith; even = sym t; first = λ n c d f. (let w = step_above high i k low before y r (suc n) (omega arith) (omega arith) (dec_lt (suc n) (suc i)) in omega arith) } in
-    let z = blocks r.at (step_outer high i low flat r) (r.rises ∙ ap suc (sym t)) (λ e d. step_holds high i low r e d (dec_lt i e)) (i + suc k) ends in
+    let z =
+    blocks r.at (grind (arith, common_steps, dec_lt r.at i) steps 200000) (r.rises ∙ ap suc (sym t)) (λ e d. step_holds high i low r e d (dec_lt i e))
+    (i + suc k) ends in
     omega arith
 
 step_case : (high : ℕ → ℕ) → IsHeight high → (i j k : ℕ) → high (suc i) ≡ high i → Around high i j → suc (i + suc k) ≤ j

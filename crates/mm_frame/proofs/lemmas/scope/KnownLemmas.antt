@@ -1,15 +1,16 @@
 -- What the tables of names and labels keep, and what one more item makes of what is declared.
-use Rattle.std.proofs.lemmas.{Grind.{common_steps, get_or-set_at}, Bool.{false≢true, false_from_ne_true, and_parts}, Option.{same_Some}, List.Folds.{list_any-append}, Slice.Eq.{bytes_eq-Decides}}
-use Rattle.std.proofs.Common.{◌≡◌, ℕ, suc, ◌<◌, ◌≤◌, Bool, true, false, cond, ◌&&◌, ◌||◌, Option, Some, None, List, [], ◌∷◌, ◌++◌, length, take, get_or-set_other, is_some, option_to_list, take_all}
-use Rattle.std.{proofs.{Common.{get_or, set, nat_eq, bytes_eq, refl, sym, ◌∙◌, ap, subst, ◌⊎◌, arith}, Math.{Seq.{take-suc}, Bool.{or-false}}}, specs.Cmp.Lexicographic.{nat_list_eq_equiv}}
-use Rattle.mm_store.specs.declared.item.ItemKind.{ItemKind}
-use Rattle.mm_statement.specs.Language.{Statement.{kind_of}, Item.{Kind, Constants, Variables, Floating, Item, passed, is_constants, is_variables, is_floating, is_labelled, has}}
+use Rattle.std.proofs.Common.{append-nil, ◌≡◌, ℕ, suc, ◌<◌, ◌≤◌, Bool, true, false, cond, ◌&&◌, ◌||◌, Option, Some, None, List, [], ◌∷◌, ◌++◌, length, take, is_some, option_to_list, take_all, get_or}
+use Rattle.std.proofs.{Common.{nat_eq, bytes_eq, refl, sym, ◌∙◌, ap, subst, ◌⊎◌, arith}, lemmas.{Grind.{flat_map-append, common_steps}, Bool.{ltb-true, false≢true, false_from_ne_true, and_parts}}}
+use Rattle.std.proofs.{lemmas.{Bool.Decides.{eqb_tells}, Option.{same_Some}, List.Folds.{list_any-append}, Slice.Eq.{bytes_eq-Decides}}, Math.{Seq.{take-suc}, Bool.{or-false}}}
+use Rattle.std.specs.Cmp.Lexicographic.{nat_list_eq_equiv}
+use Rattle.mm_frame.proofs.lemmas.scope.{Facts.{sound_front, float_variable, float_two}, ActiveBySplit.{active_in}}
+use Rattle.mm_frame.proofs.lemmas.scope.TableLemmas.{last_where_next, last_cases, last_none, Last, variable_last, constant_or_variable, float_second, typed_by as types_it}
+use Rattle.mm_frame.proofs.lemmas.{names.NumberLemmas.{first_found, number_of_named, number_at, declared_named}, lists.Members.{In, in_has, from_symbols, to_symbols, in_left}}
 use Rattle.mm_frame.specs.{declared.tables.{Tables.{Tables}, Declared.{Declared, TheVariants.{Constant, Variable}}}, Language.Scope.{constants, variables, active}}
 use Rattle.mm_frame.specs.{Language.Sound.{is_declared, IsSound, AreSound}, Code.{LastItems.{last_where, declares_variable, types}, Numbers.{IsNameNumber, AreNameNumbers}, KeptLabels.{label_number}}}
 use Rattle.mm_frame.specs.Code.KeptTables.{declared_at, table_name, table_label, variable_at, is_constant_as, declared_in, variable_number, float_of, typed_by, Knows, Declares, TypesName, Carries}
-use Rattle.mm_frame.proofs.lemmas.names.NumberLemmas.{number_names, number_of_named, same_number, other_number, number_at, declared_named}
-use Rattle.mm_frame.proofs.lemmas.{lists.Members.{In, in_has, from_symbols, to_symbols, in_left}, scope.{ActiveBySplit.{active_in}, Facts.{float_variable, float_two}, SoundItems.{sound_front}}}
-use Rattle.mm_frame.proofs.lemmas.scope.TableLemmas.{last_where_next, last_cases, last_none, Last, constants_next, variable_last, constant_or_variable, float_second, typed_by as types_it}
+use Rattle.mm_store.specs.declared.item.ItemKind.{ItemKind}
+use Rattle.mm_statement.specs.Language.{Statement.{kind_of}, Item.{Kind, Floating, Item, passed, is_constants, is_variables, is_floating, is_labelled, has}}
 use Rattle.mm_machine.specs.Language.Names.{AreDistinct}
 use Rattle.mm_store.specs.declared.item.ItemKind.TheVariants as items
 use Rattle.mm_statement.specs.Language.Item as meant
@@ -19,34 +20,19 @@ pub has_one : (bs cs : List ℕ) → bytes_eq bs cs ≡ has (bs ∷ []) cs
 has_one bs cs = nat_list_eq_equiv.symm bs cs ∙ sym (or-false (bytes_eq cs bs))
 
 -- what is reported of names, after what is reported by one number has changed
-told_of : (all : List (List ℕ)) (old new : Tables) (n : ℕ) (name other : List ℕ) (f : Option Declared → Option Declared) → AreDistinct all
+pub told_of : (all : List (List ℕ)) (old new : Tables) (n : ℕ) (name other : List ℕ) (f : Option Declared → Option Declared) → AreDistinct all
     → IsNameNumber all n name → ((m : ℕ) → declared_at new m ≡ cond (nat_eq m n) (f (declared_at old m)) (declared_at old m))
     → table_name all new other ≡ cond (bytes_eq name other) (f (table_name all old other)) (table_name all old other)
-told_of all old new n name other f distinct there put = grind (arith, common_steps, bytes_eq-Decides, false≢true, number_names, number_of_named, other_number, same_Some, same_number) steps 200000
+told_of all old new n name other f distinct there put =
+    grind (arith, common_steps, bytes_eq-Decides, false≢true, first_found, ltb-true, same_Some, number_of_named, eqb_tells, same_Some) steps 200000
 
 -- what is put at the number of a name
-pub declares_one : (all : List (List ℕ)) (old new : Tables) (n : ℕ) (name : List ℕ) (declared : Declared) → AreDistinct all → IsNameNumber all n name
-    → ((m : ℕ) → declared_at new m ≡ cond (nat_eq m n) (Some declared) (declared_at old m)) → new.labels ≡ old.labels
-    → Declares all old (name ∷ []) (λ _. declared) new
-declares_one all old new n name declared distinct there put l = record {
-  names = λ other. told_of all old new n name other (λ _. Some declared) distinct there put ∙ ap (λ b. cond b (Some declared) (table_name all old other)) (has_one name other);
-  labels = λ label. ap (λ labels. label_number labels label) l;
-}
-
 pub types_one : (all : List (List ℕ)) (old new : Tables) (n : ℕ) (name : List ℕ) (number : ℕ) → AreDistinct all → IsNameNumber all n name
     → ((m : ℕ) → declared_at new m ≡ cond (nat_eq m n) (typed_by number (declared_at old m)) (declared_at old m)) → new.labels ≡ old.labels → TypesName all old name number new
 types_one all old new n name number distinct there put l = record {
   names = λ other. told_of all old new n name other (typed_by number) distinct there put;
   labels = λ label. ap (λ labels. label_number labels label) l;
 }
-
--- a variable is typed in its place, and what is no variable stays as it is
-pub typed_there : (told : List (Option Declared)) (n m number declared : ℕ) (float : Option ℕ) → get_or told n None ≡ Some (Variable declared float)
-    → get_or (set told n (Some (Variable declared (Some number)))) m None ≡ cond (nat_eq m n) (typed_by number (get_or told m None)) (get_or told m None)
-typed_there told n m number declared float e = grind (arith, common_steps, false≢true, get_or-set_at, get_or-set_other) steps 200000
-
-pub stays_there : (tables : Tables) (n m number : ℕ) → typed_by number (declared_at tables n) ≡ declared_at tables n → declared_at tables m ≡ cond (nat_eq m n) (typed_by number (declared_at tables m)) (declared_at tables m)
-stays_there tables n m number e = grind (arith, common_steps) steps 200000
 
 -- one more name is declared
 pub declares_more : (all : List (List ℕ)) (old mid new : Tables) (symbols : List (List ℕ)) (n more : ℕ) (declared : Option Declared → Declared)
@@ -57,9 +43,6 @@ declares_more all old mid new symbols n more declared name last s again l e d w 
   labels = λ label. m.labels label ∙ d.labels label;
 }
   where
-    longer : (other : List ℕ) → has (take more symbols) other ≡ (has (take n symbols) other || has (name ∷ []) other)
-    longer other = ap (λ w. has w other) (ap (λ m. take m symbols) s ∙ take-suc symbols n [] l ∙ ap (λ x. take n symbols ++ x ∷ []) (sym e)) ∙ list_any-append (bytes_eq other) (take n symbols) (name ∷ [])
-
     join : (a b : Bool) (o : Option Declared) (x : Declared) → (b ≡ true → x ≡ declared (cond a (Some (declared o)) o)) → cond b (Some x) (cond a (Some (declared o)) o) ≡ cond (a || b) (Some (declared o)) o
     join true true o x h = ap Some (h refl ∙ again o)
     join true false o x h = refl
@@ -71,7 +54,9 @@ declares_more all old mid new symbols n more declared name last s again l e d w 
         m.names other
         ∙ ap (cond (has (name ∷ []) other) (Some last)) (d.names other)
         ∙ join (has (take n symbols) other) (has (name ∷ []) other) (table_name all old other) last (λ t. w ∙ ap declared (ap (table_name all mid) ((bytes_eq-Decides name other).0 (has_one name other ∙ t)) ∙ d.names other))
-        ∙ ap (λ b. cond b (Some (declared (table_name all old other))) (table_name all old other)) (sym (longer other))
+        ∙ ap (λ b. cond b (Some (declared (table_name all old other))) (table_name all old other))
+        (sym (ap (λ w. has w other) (ap (λ m. take m symbols) s ∙ take-suc symbols n [] l ∙ ap (λ x. take n symbols ++ x ∷ []) (sym e))
+        ∙ list_any-append (bytes_eq other) (take n symbols) (name ∷ [])))
 
 -- the names of the first of some numbers are declared
 abbrev pub DeclaresFirst : List ℕ → ℕ → Tables → (Option Declared → Declared) → Tables → Type 0
@@ -106,14 +91,11 @@ typed_variable before h name l =
 pub untyped : (before : List Item) → AreSound before → (name : List ℕ) → has (variables before) name ≡ false → last_where (types name) before ≡ None
 untyped before h name e = grind (arith, common_steps, last_cases (types name) before, last_none, false≢true, typed_variable) steps 200000
 
-pub without_number : (o : Option ℕ) → is_some o ≡ false → o ≡ None
-without_number o e = grind (arith, common_steps) steps 200000
-
 no_variable : (before : List Item) (name : List ℕ) → last_where (declares_variable name) before ≡ None → has (variables before) name ≡ false
 no_variable before name e = variable_last before name ∙ ap is_some e
 
 pub constant_no_variable : (before : List Item) → AreSound before → (name : List ℕ) → has (constants before) name ≡ true → last_where (declares_variable name) before ≡ None
-constant_no_variable before h name t = without_number (last_where (declares_variable name) before) (sym (variable_last before name) ∙ constant_or_variable before h name t)
+constant_no_variable before h name t = grind (arith, common_steps, sym (variable_last before name) ∙ constant_or_variable before h name t) steps 200000
 
 -- what is reported of the last `$v` and the last `$f` of a name
 pub variable_in : (before : List Item) → AreSound before → (name : List ℕ) → variable_number (declared_in before name) ≡ last_where (declares_variable name) before
@@ -169,14 +151,18 @@ not_floating k e = grind (arith, common_steps) steps 200000
 
 pub declared_next : (before : List Item) (item : Item) (name : List ℕ) → AreSound (before ++ item ∷ []) → declared_in (before ++ item ∷ []) name ≡ name_next item.kind item.symbols (length before) name (declared_in before name)
 declared_next before item name h =
+    let there : types name item ≡ true → is_some (last_where (declares_variable name) before) ≡ true =
+    λ t. let p =
+    types_it name item t in let s = h before item [] refl in
+    let r = from_symbols is_variables name (active before) (float_variable before item name s p.0 (float_second before item s p.0 ∙ ap Some p.1)) in
+    sym (variable_last before name) ∙ in_has (variables before) name (to_symbols is_variables name before r.0 (active_in before r.0 r.1) r.2 r.3) in
     (λ i. cond (constant i) (Some Constant) (variable_at (last_where_next (declares_variable name) before item i) (last_where_next (types name) before item i)))
     ∙ join_next (is_constants item.kind && has item.symbols name) (declares_variable name item) (types name item) (has (constants before) name) (last_where (declares_variable name) before) (last_where (types name) before) (length before)
-    fresh apart_kinds there (constant_no_variable before front name) (λ e. untyped before front name (no_variable before name e)) where
-      front : AreSound before
-      front = sound_front before (item ∷ []) h
-
+    fresh apart_kinds there (constant_no_variable before (sound_front before (item ∷ []) h) name)
+    (λ e. untyped before (sound_front before (item ∷ []) h) name (no_variable before name e)) where
       constant : has (constants (before ++ item ∷ [])) name ≡ (has (constants before) name || (is_constants item.kind && has item.symbols name))
-      constant = ap (λ w. has w name) (constants_next before item) ∙ list_any-append (bytes_eq name) (constants before)
+      constant =
+          ap (λ w. has w name) (grind (arith, common_steps, flat_map-append, append-nil) steps 200000) ∙ list_any-append (bytes_eq name) (constants before)
           (cond (is_constants item.kind) item.symbols []) ∙ ap (λ b. has (constants before) name || b) (has_under (is_constants item.kind) item.symbols name)
 
       fresh : declares_variable name item ≡ true → has (constants before) name ≡ false
@@ -186,13 +172,6 @@ declared_next before item name h =
 
       apart_kinds : declares_variable name item ≡ true → types name item ≡ false
       apart_kinds t = ap (λ b. b && bytes_eq (meant.variable_of item) name) (not_floating item.kind (and_parts (is_variables item.kind) (has item.symbols name) t).0)
-
-      there : types name item ≡ true → is_some (last_where (declares_variable name) before) ≡ true
-      there t =
-          let p = types_it name item t in
-          let s = h before item [] refl in
-          let r = from_symbols is_variables name (active before) (float_variable before item name s p.0 (float_second before item s p.0 ∙ ap Some p.1)) in
-          sym (variable_last before name) ∙ in_has (variables before) name (to_symbols is_variables name before r.0 (active_in before r.0 r.1) r.2 r.3)
 
 -- the tables that take an item as its kind says
 pub record Takes (all : List (List ℕ)) (kind : Kind) (item : Item) (number : ℕ) (old new : Tables) : Type 0 where
@@ -206,15 +185,9 @@ knows_next all before item kind number old new e h l k t = grind (arith, common_
 
 -- what takes the place of a statement at fault changes nothing
 pub knows_passed : (all : List (List ℕ)) (before : List Item) (tables : Tables) → Knows all before tables → Knows all (before ++ passed ∷ []) tables
-knows_passed all before tables k = grind (arith, common_steps, constants_next, last_where_next, list_any-append, or-false) steps 200000
+knows_passed all before tables k = grind (arith, common_steps, flat_map-append, append-nil, last_where_next, list_any-append, or-false) steps 200000
 
 -- the kinds
-pub takes_constants : (all : List (List ℕ)) (item : Item) (number : ℕ) (old new : Tables) → Declares all old item.symbols (λ _. Constant) new → Takes all Constants item number old new
-takes_constants all item number old new d = record { names = d.names; labels = d.labels }
-
-pub takes_variables : (all : List (List ℕ)) (item : Item) (number : ℕ) (old new : Tables) → Declares all old item.symbols (λ told. Variable number (float_of told)) new → Takes all Variables item number old new
-takes_variables all item number old new d = record { names = d.names; labels = d.labels }
-
 -- a sound `$f` has a second symbol
 pub takes_sound_float : (all : List (List ℕ)) (before : List Item) (item : Item) (number : ℕ) (old mid new : Tables) → IsSound before item → Floating ≡ item.kind
     → (1 < length item.symbols → TypesName all old (meant.variable_of item) number mid) → Carries all mid (option_to_list item.label) number new
@@ -227,9 +200,3 @@ pub takes_label : (all : List (List ℕ)) (kind : ItemKind) (item : Item) (numbe
     → (kind ≡ items.Essential) ⊎ ((kind ≡ items.Axiom) ⊎ (kind ≡ items.Theorem)) → Carries all old (option_to_list item.label) number new
     → Takes all (kind_of kind) item number old new
 takes_label all kind item number old new h c = grind (arith, common_steps) steps 200000
-
--- what declares and carries nothing
-pub takes_nothing : (all : List (List ℕ)) (kind : ItemKind) (item : Item) (number : ℕ) (tables : Tables)
-    → (kind ≡ items.Disjoint) ⊎ ((kind ≡ items.BlockStart) ⊎ ((kind ≡ items.BlockEnd) ⊎ (kind ≡ items.Missing)))
-    → Takes all (kind_of kind) item number tables tables
-takes_nothing all kind item number tables h = grind (arith, common_steps) steps 200000

@@ -1,18 +1,16 @@
 -- Sound lists keep their items, and labels keep their meaning.
-use Rattle.std.proofs.Common.{arith, ◌≡◌, ℕ, zero, suc, Bool, true, false, cond, Some, List, [], ◌∷◌, ◌++◌, map, filter, take, drop, slice_get, refl, sym, ◌∙◌, ap, subst, append_assoc, append-nil}
-use Rattle.std.{proofs.{Common.{inl, inr, ◌⊎◌, take-append-drop}, lemmas.{Grind.{common_steps}, Bool.{false≢true, or_left, or_right, false_from_ne_true}}}, specs.List.{list_any}}
-use Rattle.mm_machine.specs.Language.Frame.{Unknown}
-use Rattle.mm_statement.specs.Language.Item.{Kind, Item, is_floating, is_labelled, has, labels_of}
-use Rattle.mm_frame.specs.Language.{Scope.{Neither, mark_of, stays, constants, labels, active_variables}, Sound.{is_label, IsSound, AreSound}}
+use Rattle.std.proofs.Common.{subst, ◌∙◌, arith, ◌≡◌, ℕ, zero, suc, Bool, true, false, cond, Some, List, [], ◌∷◌, ◌++◌, map, filter, take, drop, slice_get, refl, sym, ap, append_assoc, append-nil}
+use Rattle.std.proofs.{Common.{inl, inr, ◌⊎◌}, Math.Seq.{split_at as seam}, lemmas.{Option.{slice_get_within, get_or_from_slice_get}, Grind.{common_steps}}}
+use Rattle.std.{proofs.lemmas.Bool.{false≢true, or_left, or_right, false_from_ne_true}, specs.List.{list_any}}
+use Rattle.mm_frame.proofs.lemmas.{scope.Facts.{sound_front, not_constant, first_constant, known, float_variable, float_two}, lists.Members.{In, in_flat, in_get, has_in, in_has}}
+use Rattle.mm_frame.{proofs.lemmas.frames.Frames.{constants_later, variables_later}, specs.Language.{Scope.{stays, constants, labels, active_variables}, Sound.{is_label, IsSound, AreSound}}}
 use Rattle.mm_frame.specs.{Language.Framing.{symbol, expression, meaning, resolve_from, resolve}, declared.FrameNumber.TheVariants.{F06}}
-use Rattle.mm_frame.proofs.lemmas.{lists.Members.{In, in_flat, in_get, has_in, in_has}, scope.Facts.{AreKept, sound_at, kept_front, not_constant, first_constant, known, float_variable, float_two}}
-use Rattle.mm_frame.proofs.lemmas.{faults.FoundFaults.{kept_more}, frames.Frames.{constants_later, variables_later}}
+use Rattle.mm_machine.specs.Language.Frame.{Unknown}
+use Rattle.mm_statement.specs.Language.Item.{Item, is_floating, is_labelled, has, labels_of}
 
 -- an item by its number
 pub split_at : {X : Type 0} (xs : List X) (i : ℕ) (x : X) → slice_get xs i ≡ Some x → xs ≡ take i xs ++ x ∷ drop (suc i) xs
-split_at [] i x e = cc
-split_at (y ∷ xs) zero x e = let q : y ≡ x = cc in ap (λ w. w ∷ xs) q
-split_at (y ∷ xs) (suc i) x e = ap (λ w. y ∷ w) (split_at xs i x e)
+split_at xs i x e = seam xs i x (slice_get_within xs i x e) ∙ ap (λ w. take i xs ++ w ∷ drop (suc i) xs) (get_or_from_slice_get xs i x x e)
 
 pub map_same : {X Y : Type 0} (f g : X → Y) (xs : List X) → ((x : X) → In x xs → f x ≡ g x) → map f xs ≡ map g xs
 map_same f g [] h = refl
@@ -21,34 +19,6 @@ map_same f g (x ∷ xs) h = let a = h x (inl refl) in let b = map_same f g xs (�
 pub filter_same : {X : Type 0} (p q : X → Bool) (xs : List X) → ((x : X) → In x xs → p x ≡ q x) → filter p xs ≡ filter q xs
 filter_same p q [] h = refl
 filter_same p q (x ∷ xs) h = let a = h x (inl refl) in let b = filter_same p q xs (λ y k. h y (inr k)) in λ i. cond (a i) (x ∷ b i) (b i)
-
--- each item is sound against those before it: by splits of the list, and by recursion
-kept_from_splits : (before items : List Item) → ((front : List Item) (item : Item) (back : List Item) → items ≡ front ++ item ∷ back → IsSound (before ++ front) item) → AreKept before items
-kept_from_splits before [] h = tt
-kept_from_splits before (x ∷ xs) h = (
-  subst (λ w. IsSound w x) (append-nil before) (h [] x xs refl),
-  kept_from_splits (before ++ x ∷ []) xs
-      (λ front item back e. subst (λ w. IsSound w item) (sym (append_assoc before (x ∷ []) front)) (h (x ∷ front) item back (ap (λ w. x ∷ w) e))),
-)
-
-pub sound_kept : (items : List Item) → AreSound items → AreKept [] items
-sound_kept items h = kept_from_splits [] items h
-
-pub kept_sound : (items : List Item) → AreKept [] items → AreSound items
-kept_sound items k front item back e = sound_at [] front item back (subst (AreKept []) e k)
-
-pub sound_front : (front back : List Item) → AreSound (front ++ back) → AreSound front
-sound_front front back h = kept_sound front (kept_front [] front back (sound_kept (front ++ back) h))
-
-pub sound_take : (items : List Item) (j : ℕ) → AreSound items → AreSound (take j items)
-sound_take items j h = sound_front (take j items) (drop j items) (subst AreSound (sym (take-append-drop j items)) h)
-
-pub sound_more : (items : List Item) (item : Item) → AreSound items → IsSound items item → AreSound (items ++ item ∷ [])
-sound_more items item h s = kept_sound (items ++ item ∷ []) (kept_more [] items item (sound_kept items h) s)
-
--- a labelled statement is in no other block than before it
-pub labelled_neither : (k : Kind) → is_labelled k ≡ true → mark_of k ≡ Neither
-labelled_neither k e = grind (arith, common_steps) steps 200000
 
 -- each symbol of a sound labelled statement is a constant or an active variable
 float_symbol : (before : List Item) (item : Item) (k : ℕ) (name : List ℕ) → IsSound before item → is_floating item.kind ≡ true → slice_get item.symbols (suc k) ≡ Some name → In name (active_variables before)
@@ -66,25 +36,19 @@ has_not : (names : List (List ℕ)) (name : List ℕ) → (In name names → ⊥
 has_not names name n = false_from_ne_true (has names name) (λ e. n (has_in names name e))
 
 -- a symbol of an active statement means what it meant there
-pub variable_kept : (front : List Item) (item : Item) (back : List Item) (name : List ℕ) → AreKept [] (front ++ item ∷ back) → is_labelled item.kind ≡ true
+pub variable_kept : (front : List Item) (item : Item) (back : List Item) (name : List ℕ) → AreSound (front ++ item ∷ back) → is_labelled item.kind ≡ true
     → stays back ≡ true → In name item.symbols → has (active_variables (front ++ item ∷ back)) name ≡ has (active_variables front) name
 variable_kept front item back name k t s h =
     let whole = front ++ item ∷ back in
-    elim (named front item name (sound_at [] front item back k) t h) [
-      | inl c ↦ has_not (active_variables whole) name (λ v. not_constant whole k name (constants_later front item back name c) v) ∙ sym (has_not (active_variables front) name (λ v. not_constant front (kept_front [] front (item ∷ back) k) name c v))
-      | inr v ↦ in_has (active_variables whole) name (variables_later front item back name (labelled_neither item.kind t) s v) ∙ sym (in_has (active_variables front) name v)
+    elim (named front item name (k front item back refl) t h) [
+      | inl c ↦ has_not (active_variables whole) name (λ v. not_constant whole k name (constants_later front item back name c) v) ∙ sym (has_not (active_variables front) name (λ v. not_constant front (sound_front front (item ∷ back) k) name c v))
+      | inr v ↦ in_has (active_variables whole) name (variables_later front item back name (grind (arith, common_steps) steps 200000) s v)
+          ∙ sym (in_has (active_variables front) name v)
     ]
 
-symbol_kept_at : (front : List Item) (item : Item) (back : List Item) (name : List ℕ) → AreKept [] (front ++ item ∷ back) → is_labelled item.kind ≡ true
-    → stays back ≡ true → In name item.symbols → symbol (front ++ item ∷ back) name ≡ symbol front name
-symbol_kept_at front item back name k t s h = let e = variable_kept front item back name k t s h in λ i. record { name = name; variable = e i }
-
-pub symbol_stays : (items front : List Item) (item : Item) (back : List Item) (name : List ℕ) → AreSound items → items ≡ front ++ item ∷ back
-    → is_labelled item.kind ≡ true → stays back ≡ true → In name item.symbols → symbol items name ≡ symbol front name
-symbol_stays items front item back name h e t s n = ap (λ w. symbol w name) e ∙ symbol_kept_at front item back name (subst (AreKept []) e (sound_kept items h)) t s n
-
 pub expression_stays : (items front : List Item) (item : Item) (back : List Item) → AreSound items → items ≡ front ++ item ∷ back → is_labelled item.kind ≡ true → stays back ≡ true → expression items item ≡ expression front item
-expression_stays items front item back h e t s = map_same (symbol items) (symbol front) item.symbols (λ name n. symbol_stays items front item back name h e t s n)
+expression_stays items front item back h e t s =
+    map_same (symbol items) (symbol front) item.symbols (λ name n. (grind (arith, common_steps, variable_kept front item back name (subst AreSound e h) t s n) steps 200000))
 
 -- labels
 pub in_any : {X : Type 0} (p : X → Bool) (x : X) (xs : List X) → In x xs → p x ≡ true → list_any p xs ≡ true

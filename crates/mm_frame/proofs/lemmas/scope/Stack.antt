@@ -1,14 +1,11 @@
 -- The stack of scopes, and activity by counts.
+use Rattle.std.proofs.Common.{◌∙◌, ◌≡◌, ℕ, zero, suc, pred, ◌+◌, ◌≤◌, ◌<◌, ◌↔◌, Bool, true, false, cond, List, [], ◌∷◌, ◌++◌, length, take, drop, count_by, refl, sym, ap, subst, append-nil, arith}
 use Rattle.std.proofs.lemmas.{Grind.{common_steps}, List.Sums.{sum_by-cons}}
-use Rattle.std.proofs.Common.{◌≡◌, ℕ, zero, suc, pred, ◌+◌, ◌≤◌, ◌<◌, ◌↔◌, Bool, true, false, cond, List, [], ◌∷◌, ◌++◌, length, take, drop, count_by, refl, sym, ◌∙◌, ap, subst, append-nil, arith}
 use Rattle.mm_statement.specs.Language.Item.{Item}
 use Rattle.mm_frame.specs.Language.Scope.{Mark, Opens, Closes, Neither, mark_of, closed_at, closed, is_zero, stays, active, opens, closes, is_start, is_end}
 use Rattle.mm_frame.{specs.Language.ScopeStack.{all_of, turn, read_scopes, is_statement_mark, statements}, proofs.lemmas.scope.ActiveBySplit.{closed_none}}
 
 -- staying by counts
-pub ends_cons : (x : Item) (xs : List Item) → count_by is_end (x ∷ xs) ≡ cond (closes (mark_of x.kind)) 1 0 + count_by is_end xs
-ends_cons x xs = sum_by-cons (λ i. cond (is_end i) 1 0) x xs
-
 pub starts_cons : (x : Item) (xs : List Item) → count_by is_start (x ∷ xs) ≡ cond (opens (mark_of x.kind)) 1 0 + count_by is_start xs
 starts_cons x xs = sum_by-cons (λ i. cond (is_start i) 1 0) x xs
 
@@ -25,7 +22,7 @@ counts : (items : List Item) (k : ℕ) → count_by is_end (take k items) ≤ cl
 counts [] zero = omega arith
 counts [] (suc k) = omega arith
 counts (x ∷ xs) zero = omega arith
-counts (x ∷ xs) (suc k) = shift _ _ _ _ (closed (x ∷ xs)) (ends_cons x (take k xs)) (starts_cons x (take k xs)) (counts_at (mark_of x.kind) (closed xs) (count_by is_end (take k xs)) (count_by is_start (take k xs)) (counts xs k))
+counts (x ∷ xs) (suc k) = grind (arith, common_steps, counts xs k, shift, starts_cons, counts_at, count_by, sum_by-cons) steps 200000
 
 closed_least : (m : Mark) (n d : ℕ) (a b : ℕ → ℕ) → a 0 ≡ 0 → b 0 ≡ 0 → ((e : ℕ) → ((k : ℕ) → a k ≤ e + b k) → n ≤ e) → ((k : ℕ) → cond (closes m) 1 0 + a k ≤ d + (cond (opens m) 1 0 + b k)) → closed_at m n ≤ d
 closed_least Opens zero d a b za zb r h = omega arith
@@ -37,7 +34,7 @@ closed_least Neither n d a b za zb r h = r d (λ k. let l = h k in omega arith)
 by_counts : (items : List Item) (d : ℕ) → ((k : ℕ) → count_by is_end (take k items) ≤ d + count_by is_start (take k items)) → closed items ≤ d
 by_counts [] d h = omega arith
 by_counts (x ∷ xs) d h = closed_least (mark_of x.kind) (closed xs) d (λ k. count_by is_end (take k xs)) (λ k. count_by is_start (take k xs)) refl refl
-    (λ e r. by_counts xs e r) (λ k. shift _ _ _ _ d (sym (ends_cons x (take k xs))) (sym (starts_cons x (take k xs))) (h (suc k)))
+    (λ e r. by_counts xs e r) (λ k. shift _ _ _ _ d (sym (sum_by-cons (λ i. cond (is_end i) 1 0) x (take k xs))) (sym (starts_cons x (take k xs))) (h (suc k)))
 
 pub stays_by_counts : (items : List Item) → (stays items ≡ true) ↔ ((k : ℕ) → count_by is_end (take k items) ≤ count_by is_start (take k items))
 stays_by_counts items = ((λ h k. let z = closed_none items h in let l = counts items k in omega arith), (λ h. let l = by_counts items 0 (λ k. let l = h k in omega arith) in let n : closed items ≡ 0 = omega arith in ap is_zero n))

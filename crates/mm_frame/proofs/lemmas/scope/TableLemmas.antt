@@ -1,32 +1,23 @@
 -- What is looked up by number is what the definitions say.
-use Rattle.std.proofs.Common.{arith, ◌≡◌, ℕ, suc, Bool, true, false, cond, not, ◌&&◌, Option, Some, None, List, [], ◌∷◌, ◌++◌, length, take, drop, slice_get, slice_index_or, bytes_eq, refl, sym, ◌∙◌}
-use Rattle.std.proofs.{Common.{ap, subst, append_assoc, append-nil, inl, inr, ◌⊎◌}, lemmas.Grind.{common_steps, flat_map-append}}
-use Rattle.std.{proofs.lemmas.{Bool.{false≢true, or_parts, or_cases, and_from, false_from_ne_true, and_parts}, Slice.Eq.{bytes_eq-Decides}}, specs.{Prelude.{is_some}, List.{list_any}}}
-use Rattle.mm_statement.specs.Language.Item.{Kind, Item, is_constants, is_variables, is_floating, has, labels_of, typecode_of, variable_of, item_at}
-use Rattle.mm_frame.specs.Language.Scope.{Mark, Closes, Neither, mark_of, closed_at, closed, stays, active, symbols_by, constants, variables, labels, active_variables, floats, typed}
+use Rattle.std.proofs.Common.{arith, ◌≡◌, ℕ, suc, Bool, true, false, cond, not, ◌&&◌, Some, None, List, [], ◌∷◌, ◌++◌, length, drop, slice_get, slice_index_or, bytes_eq, refl, sym, ◌∙◌, ap, subst}
+use Rattle.std.proofs.{Common.{append_assoc, inl, inr, ◌⊎◌}, lemmas.{Grind.{common_steps}, Bool.{false≢true, or_parts, or_cases, and_from, false_from_ne_true, and_parts}, Slice.Eq.{bytes_eq-Decides}}}
+use Rattle.std.specs.{Prelude.{is_some}, List.{list_any}}
+use Rattle.mm_frame.proofs.lemmas.lists.Members.{first_cases, in_first, in_later, In, in_right, in_cases, in_filter, from_filter, in_flat, from_flat, in_get, has_in, in_has, from_symbols, to_symbols}
+use Rattle.mm_frame.proofs.lemmas.scope.{ActiveBySplit.{active_in, split_active, stays_front}, Facts.{no_symbol_of, apart, float_two, float_new}, SoundItems.{label_new, in_any}}
+use Rattle.mm_frame.{proofs.lemmas.frames.Frames.{from_typed, to_typed}, specs.Language.Scope.{stays, active, constants, variables, labels, active_variables, floats, typed}}
 use Rattle.mm_frame.specs.{Language.Sound.{each, second, is_active_symbol, is_typed_otherwise, IsSound, AreSound}, declared.FrameNumber.TheVariants.{F04, F13}}
 use Rattle.mm_frame.specs.Code.LastItems.{number_or_first, last_where, is_active_at, is_active_last, declares_variable, types, carries, is_otherwise_at}
-use Rattle.mm_frame.proofs.lemmas.lists.Members.{In, in_right, in_cases, in_filter, from_filter, in_flat, from_flat, in_get, has_in, in_has, from_symbols, to_symbols}
-use Rattle.mm_frame.proofs.lemmas.scope.{ActiveBySplit.{active_in, split_active, in_first, in_later, closed_join, stays_front}, Facts.{no_symbol_of, apart, float_two, float_new}}
-use Rattle.mm_frame.proofs.lemmas.{scope.SoundItems.{sound_kept, label_new, in_any}, frames.Frames.{from_typed, to_typed}}
+use Rattle.mm_statement.specs.Language.Item.{Item, is_variables, is_floating, has, labels_of, typecode_of, variable_of, item_at}
 
 -- one more item: it is the last that passes, or else the same one is
-next_at : (b c : Bool) (o : Option ℕ) (n : ℕ) → number_or_first (cond b (Some n) o) c ≡ cond b (Some (suc n)) (number_or_first o c)
-next_at true c o n = refl
-next_at false c o n = refl
-
 pub last_where_next : (test : Item → Bool) (items : List Item) (item : Item) → last_where test (items ++ item ∷ []) ≡ cond (test item) (Some (length items)) (last_where test items)
 last_where_next test [] item = refl
-last_where_next test (x ∷ items) item = ap (λ o. number_or_first o (test x)) (last_where_next test items item) ∙ next_at (test item) (test x) (last_where test items) (length items)
+last_where_next test (x ∷ items) item = grind (arith, common_steps, last_where_next test items item) steps 200000
 
 -- the item between those before it and those after it
 pub item_between : (front : List Item) (item : Item) (back : List Item) → item_at (front ++ item ∷ back) (length front) ≡ item
 item_between [] item back = refl
 item_between (x ∷ front) item back = item_between front item back
-
-pub take_between : (front : List Item) (item : Item) (back : List Item) → take (length front) (front ++ item ∷ back) ≡ front
-take_between [] item back = refl
-take_between (x ∷ front) item back = ap (λ w. x ∷ w) (take_between front item back)
 
 pub drop_between : (front : List Item) (item : Item) (back : List Item) → drop (suc (length front)) (front ++ item ∷ back) ≡ back
 drop_between [] item back = refl
@@ -72,12 +63,6 @@ last_cases test (x ∷ xs) = elim (last_cases test xs) [
 pub last_number : (test : Item → Bool) (items : List Item) (l : Last test items) → last_where test items ≡ Some (length l.front)
 last_number test items l = ap (last_where test) l.whole ∙ last_is test l.front l.item l.back l.good l.later
 
--- an element of a list whose first one is kept under a condition
-pub first_cases : {X : Type 0} (b : Bool) (x i : X) (xs : List X) → In i (cond b (x ∷ xs) xs) → ((x ≡ i) × (b ≡ true)) ⊎ In i xs
-first_cases true x i xs (inl e) = inl (e, refl)
-first_cases true x i xs (inr h) = inr h
-first_cases false x i xs h = inr h
-
 -- an active item comes before an item and was active there, or is that item, or comes after it
 pub active_cases : (front : List Item) (item : Item) (back : List Item) (i : Item) → In i (active (front ++ item ∷ back)) → In i (active front) ⊎ (((item ≡ i) × (stays back ≡ true)) ⊎ In i (active back))
 active_cases [] item back i h = inr (first_cases (stays back) item i (active back) h)
@@ -96,42 +81,35 @@ last_active test before alone b from to = elim (last_cases test before) [
   | inr l ↦ by_stays l (stays l.back) refl ∙ sym (ap (is_active_last before) (last_number test before l) ∙ ap (λ w. is_active_at w (length l.front)) l.whole ∙ active_between l.front l.item l.back)
 ]
   where
-    clash : (l : Last test before) → stays l.back ≡ false → (y : Item) → In y (active before) → test y ≡ true → ⊥
-    clash l e y h t = elim (active_cases l.front l.item l.back y (subst (λ w. In y (active w)) l.whole h)) [
-      | inl a ↦ alone l.front l.item l.back l.whole l.good y a t
-      | inr c ↦ grind (arith, common_steps, l.later, false≢true, active_in) steps 200000
-    ]
-
     by_stays : (l : Last test before) (s : Bool) → stays l.back ≡ s → b ≡ stays l.back
     by_stays l true e = to l.item (subst (λ w. In l.item (active w)) (sym l.whole) (split_active l.front l.item l.back e)) l.good ∙ sym e
-    by_stays l false e = false_from_ne_true b (λ t. let r = from t in clash l e r.0 r.1 r.2) ∙ sym e
+    by_stays l false e =
+        false_from_ne_true b (λ t. let r = from t in
+        elim (active_cases l.front l.item l.back r.0
+        (subst (λ w. In r.0 (active w)) l.whole r.1)) [
+          | inl a ↦ alone l.front l.item l.back l.whole l.good r.0 a r.2
+          | inr c ↦ grind
+              (arith, common_steps, l.later, false≢true, active_in) steps 200000
+        ]) ∙ sym e
 
 -- the test of a `$v` of a name, and that of a `$f` of a variable
-pub declares : (name : List ℕ) (item : Item) → is_variables item.kind ≡ true → In name item.symbols → declares_variable name item ≡ true
-declares name item t h = and_from (is_variables item.kind) (has item.symbols name) t (in_has item.symbols name h)
-
 pub declared : (name : List ℕ) (item : Item) → declares_variable name item ≡ true → (is_variables item.kind ≡ true) × In name item.symbols
 declared name item h = let p = and_parts (is_variables item.kind) (has item.symbols name) h in (p.0, has_in item.symbols name p.1)
-
-pub typing : (name : List ℕ) (item : Item) → is_floating item.kind ≡ true → variable_of item ≡ name → types name item ≡ true
-typing name item t e = and_from (is_floating item.kind) (bytes_eq (variable_of item) name) t ((bytes_eq-Decides (variable_of item) name).1 e)
 
 pub typed_by : (name : List ℕ) (item : Item) → types name item ≡ true → (is_floating item.kind ≡ true) × (variable_of item ≡ name)
 typed_by name item h = let p = and_parts (is_floating item.kind) (bytes_eq (variable_of item) name) h in (p.0, (bytes_eq-Decides (variable_of item) name).0 p.1)
 
--- a `$v` of an active variable is at fault
-new_active : (before : List Item) (item : Item) (name : List ℕ) → IsSound before item → is_variables item.kind ≡ true → In name item.symbols → In name (active_variables before) → ⊥
-new_active before item name s t h v =
-    let g = in_get name item.symbols h in
-    let f = no_symbol_of (is_variables item.kind) (each (is_active_symbol before)) item (λ word. (or_parts _ _ (s word F04)).1) t g.0 name g.1 in
-    false≢true (sym (or_parts (has (constants before) name) (has (active_variables before) name) f).1 ∙ in_has (active_variables before) name v)
-
 -- a variable is active exactly when the last `$v` of it is
 pub active_variable_last : (before : List Item) → AreSound before → (name : List ℕ) → has (active_variables before) name ≡ is_active_last before (last_where (declares_variable name) before)
 active_variable_last before h name = last_active (declares_variable name) before
-    (λ front item back e t y k u. let p = declared name item t in let q = declared name y u in new_active front item name (h front item back e) p.0 p.1 (to_symbols is_variables name (active front) y k q.0 q.1))
+    (λ front item back e t y k u. let p = declared name item t in let q = declared name y u in let g = in_get name item.symbols p.1 in
+    let f = no_symbol_of (is_variables item.kind) (each (is_active_symbol front)) item
+    (λ word. (or_parts _ _ ((h front item back e) word F04)).1) p.0 g.0 name g.1 in
+    false≢true (sym (or_parts (has (constants front) name) (has (active_variables front) name) f).1
+    ∙ in_has (active_variables front) name (to_symbols is_variables name (active front) y k q.0 q.1)))
     (has (active_variables before) name)
-    (λ t. let r = from_symbols is_variables name (active before) (has_in (active_variables before) name t) in (r.0, r.1, declares name r.0 r.2 r.3))
+    (λ t. let r = from_symbols is_variables name (active before) (has_in (active_variables before) name t) in
+    (r.0, r.1, and_from (is_variables r.0.kind) (has r.0.symbols name) r.2 (in_has r.0.symbols name r.3)))
     (λ y k t. let p = declared name y t in in_has (active_variables before) name (to_symbols is_variables name (active before) y k p.0 p.1))
 
 -- the second symbol of a sound `$f` is its variable
@@ -147,7 +125,8 @@ typed_last before h name = last_active (types name) before
     let s = h front item back e in
     float_new front item (variable_of item) s p.0 (float_second front item s p.0) (subst (λ w. In w (typed front)) (q.1 ∙ sym p.1) (to_typed front y k q.0)))
     (has (typed before) name)
-    (λ t. let r = from_typed before name (has_in (typed before) name t) in (r.0, r.1, typing name r.0 r.2 r.3))
+    (λ t. let r = from_typed before name (has_in (typed before) name t) in
+    (r.0, r.1, and_from (is_floating r.0.kind) (bytes_eq (variable_of r.0) name) r.2 ((bytes_eq-Decides (variable_of r.0) name).1 r.3)))
     (λ y k t. let p = typed_by name y t in in_has (typed before) name (subst (λ w. In w (typed before)) p.1 (to_typed before y k p.0)))
 
 -- what tests find
@@ -163,8 +142,7 @@ otherwise_from : (before : List Item) (item : Item) (name : List ℕ) → is_typ
 otherwise_from before item name h =
     let r = any_in (differs name item) (floats before) h in
     let f = from_filter (λ (i : Item). is_floating i.kind) r.0 before r.1 in
-    let d = and_parts (bytes_eq (variable_of r.0) name) (not (bytes_eq (typecode_of r.0) (typecode_of item))) r.2 in
-    (r.0, f.0, and_from (is_floating (r.0).kind) (bytes_eq (variable_of r.0) name) f.1 d.0, d.1)
+    grind (arith, common_steps, and_parts, bytes_eq, and_from) steps 200000
 
 to_otherwise : (before : List Item) (item : Item) (name : List ℕ) (y : Item) → In y before → types name y ≡ true → not (bytes_eq (typecode_of y) (typecode_of item)) ≡ true → is_typed_otherwise before item name ≡ true
 to_otherwise before item name y h t n = grind (arith, common_steps, and_from, and_parts, in_any, in_filter) steps 200000
@@ -196,23 +174,22 @@ typed_otherwise_last before h name item = elim (last_cases (types name) before) 
       (typecode_of item))) l.whole ∙ ap (λ w. not (bytes_eq (typecode_of w) (typecode_of item))) (item_between l.front l.item l.back))
 ]
   where
-    same : (l : Last (types name) before) (y : Item) → In y before → types name y ≡ true → typecode_of y ≡ typecode_of l.item
-    same l y k t = elim (in_cases y l.front (l.item ∷ l.back) (subst (λ w. In y w) l.whole k)) [
-      | inl a ↦ same_typecode l.front l.item name y (h l.front l.item l.back l.whole) l.good a t
-      | inr c ↦ grind (arith, l.later, false≢true) steps 200000
-    ]
-
     by_test : (l : Last (types name) before) (b : Bool) → bytes_eq (typecode_of l.item) (typecode_of item) ≡ b → is_typed_otherwise before item name ≡ not (bytes_eq (typecode_of l.item) (typecode_of item))
     by_test l false e = to_otherwise before item name l.item (subst (λ w. In l.item w) (sym l.whole) (in_right l.item l.front (l.item ∷ l.back) (inl refl))) l.good (ap not e) ∙ sym (ap not e)
     by_test l true e =
         false_from_ne_true (is_typed_otherwise before item name) (λ t.
         let r = otherwise_from before item name t in
-        false≢true (sym (ap (λ w. not (bytes_eq w (typecode_of item))) (same l r.0 r.1 r.2) ∙ ap not e) ∙ r.3))
+        false≢true (sym (ap (λ w. not (bytes_eq w (typecode_of item)))
+        (elim (in_cases r.0 l.front (l.item ∷ l.back) (subst (λ w. In r.0 w) l.whole r.1)) [
+          | inl a ↦ same_typecode l.front l.item name r.0
+              (h l.front l.item l.back l.whole) l.good a r.2
+          | inr c ↦ grind (arith, l.later, false≢true) steps 200000
+        ]) ∙ ap not e) ∙ r.3))
         ∙ sym (ap not e)
 
 -- a constant is no variable
 pub constant_or_variable : (before : List Item) → AreSound before → (name : List ℕ) → has (constants before) name ≡ true → has (variables before) name ≡ false
-constant_or_variable before h name t = false_from_ne_true (has (variables before) name) (λ v. apart before (sound_kept before h) name (has_in (constants before) name t) (has_in (variables before) name v))
+constant_or_variable before h name t = false_from_ne_true (has (variables before) name) (λ v. apart before h name (has_in (constants before) name t) (has_in (variables before) name v))
 
 -- some item passes exactly when there is a last one
 last_some : (test : Item → Bool) (before : List Item) (b : Bool) → (b ≡ true → (y : Item) × In y before × (test y ≡ true)) → ((y : Item) → In y before → test y ≡ true → b ≡ true) → b ≡ is_some (last_where test before)
@@ -223,7 +200,8 @@ last_some test before b from to = elim (last_cases test before) [
 
 pub variable_last : (before : List Item) (name : List ℕ) → has (variables before) name ≡ is_some (last_where (declares_variable name) before)
 variable_last before name = last_some (declares_variable name) before (has (variables before) name)
-    (λ t. let r = from_symbols is_variables name before (has_in (variables before) name t) in (r.0, r.1, declares name r.0 r.2 r.3))
+    (λ t. let r = from_symbols is_variables name before (has_in (variables before) name t) in
+    (r.0, r.1, and_from (is_variables r.0.kind) (has r.0.symbols name) r.2 (in_has r.0.symbols name r.3)))
     (λ y k t. let p = declared name y t in in_has (variables before) name (to_symbols is_variables name before y k p.0 p.1))
 
 pub label_last : (before : List Item) (label : List ℕ) → has (labels before) label ≡ is_some (last_where (carries label) before)
@@ -250,20 +228,3 @@ label_first before h label front item back e t = ap (last_where (carries label))
     let s = h (front ++ item ∷ p.front) y p.back (e ∙ ap (λ w. front ++ item ∷ w) p.whole ∙ sym (append_assoc front (item ∷ p.front) (y ∷ p.back))) in
     false≢true (sym (label_new (front ++ item ∷ p.front) y label s u) ∙ in_has (labels (front ++ item ∷ p.front)) label
     (in_flat labels_of item label (front ++ item ∷ p.front) (in_right item front (item ∷ p.front) (inl refl)) (has_in (labels_of item) label t)))))
-
--- one more item
-pub symbols_next : (test : Kind → Bool) (before : List Item) (item : Item) → symbols_by test (before ++ item ∷ []) ≡ symbols_by test before ++ cond (test item.kind) item.symbols []
-symbols_next test before item = flat_map-append (λ (i : Item). cond (test i.kind) i.symbols []) before (item ∷ []) ∙ ap (λ w. symbols_by test before ++ w) (append-nil (cond (test item.kind) item.symbols []))
-
-pub constants_next : (before : List Item) (item : Item) → constants (before ++ item ∷ []) ≡ constants before ++ cond (is_constants item.kind) item.symbols []
-constants_next before item = symbols_next is_constants before item
-
--- nothing is closed by an item that is no `$}`
-closes_none : (m : Mark) → (m ≡ Closes → ⊥) → closed_at m 0 ≡ 0
-closes_none m n = grind (arith, common_steps) steps 200000
-
-pub not_closing : (m : Mark) → m ≡ Neither → m ≡ Closes → ⊥
-not_closing m e c = let q : Neither ≡ Closes = sym e ∙ c in cc
-
-pub closed_next : (before : List Item) (item : Item) → (mark_of item.kind ≡ Closes → ⊥) → closed (before ++ item ∷ []) ≡ closed before
-closed_next before item n = closed_join before (item ∷ []) (closes_none (mark_of item.kind) n)

@@ -1,10 +1,16 @@
-use Rattle.std.proofs.Common.{◌++◌, false, subst, filter, take, take_all}
-use Rattle.mm_machine.specs.{declared.symbol.NumberedSymbol.{NumberedSymbol}, Language.NumberedSymbols.{symbol_of, symbols_of, ArePairsRead}}
-use Rattle.mm_frame.{specs.Language.{Framing.{active_pairs}, Answering.{are_paired}}, proofs.lemmas.pairs.{ActivePairLemmas.{pairs_with}, FramePairs.{with_more, with_none}}}
+use Rattle.std.proofs.Common.{ap, append-nil, sym, ◌∙◌, ◌++◌, false, subst, filter, take, take_all}
+use Rattle.mm_frame.proofs.lemmas.{names.NumberLemmas.{name_there}, pairs.{FramePairs.{no_pairs, with_more}, PairTableLemmas.{none_told}, ActivePairLemmas.{pairs_with}}}
+use Rattle.mm_frame.specs.Language.{Framing.{active_pairs}, Answering.{are_paired}}
+use Rattle.mm_machine.specs.{Language.{Frame.{Symbol}, Names.{name_at}, NumberedSymbols.{symbol_of, symbols_of, ArePairsRead}}, declared.symbol.NumberedSymbol.{NumberedSymbol}}
 use Rattle.mm_frame.proofs.mandatory.add_active_with.Goals as goal
 
 pub returns-then-not-has-clause-pairs : goal.returns-then-not-has-clause-pairs
-returns-then-not-has-clause-pairs c all before said reads m a others r = with_none all before c.args.table.now c.args.blocks.now c.args.first (symbols_of all c.args.later.now) said c.args.pairs.now.items reads a (c.has.ensures c.if-not-has.true) r
+returns-then-not-has-clause-pairs c all before said reads m a others r =
+    let told = λ (y : Symbol). none_told all before c.args.table.now c.args.blocks.now c.args.first.name (name_at all c.args.first.name) y.name reads
+    (name_there all c.args.first.name a) (c.has.ensures c.if-not-has.true) in
+    subst (λ w. ArePairsRead all w c.args.pairs.now.items)
+    (sym (append-nil said)
+    ∙ ap (λ w. said ++ w) (sym (no_pairs (are_paired (active_pairs before)) (symbol_of all c.args.first) (symbols_of all c.args.later.now) told))) r
 
 pub loop-second-preserved : goal.loop-second-preserved
 loop-second-preserved c = record {

@@ -1,5 +1,5 @@
 use Rattle.std.proofs.Common.{ℕ, List, ◌<◌, ◌≤◌, sym, subst, ◌∙◌, Contains}
-use Rattle.mm_frame.{specs.Code.{LastItems.{IsRising}, Numbers.{IsNameNumber}, KeptPairTable.{row_at}}, proofs.lemmas.pairs.AskedLemmas.{IsFirstFrom, active_told, ended_told, next_answer}}
+use Rattle.mm_frame.{proofs.lemmas.pairs.AskedLemmas.{first_in_rows, first_told, later_common, active_told, next_answer}, specs.Code.Numbers.{IsNameNumber}}
 use Rattle.mm_frame.proofs.paired.ask.Goals as goal
 
 pub returns-then-is_active_number-clause-value : goal.returns-then-is_active_number-clause-value
@@ -13,23 +13,18 @@ returns c = record {
   value = λ all before x y table reads e f m a b apart. let blocks = c.args.blocks.now in
       let known = c.known-known.result in
       let answer = c.known-known.ensures.known all before m x y (subst (λ n. IsNameNumber all n x) (sym c.known-known.ensures.first) a) (subst (λ n. IsNameNumber all n y) (sym c.known-known.ensures.second) b) in
-      let rising = subst IsRising (sym e) (reads.knows c.args.first x a).rising in
-      let others = subst IsRising (sym f) (reads.knows c.args.second y b).rising in
       let common = c.first_common-common.ensures in
-      let here : IsFirstFrom blocks c.args.row.now c.args.other.now known.upto c.first_common-common.result = record { some = common.some rising others; least = common.least rising others; none = common.none rising others } in
-      let first = subst (λ (w : List ℕ). IsFirstFrom blocks w c.args.other.now known.upto c.first_common-common.result) e here in
-      let both = subst (λ (w : List ℕ). IsFirstFrom blocks (row_at table c.args.first) w known.upto c.first_common-common.result) f first in
-      c.is_some.ensures ∙ ended_told all before table blocks c.args.first c.args.second x y known.upto known.common c.first_common-common.result reads a b apart answer c.if-is_active_number.ensures both;
+      let both = first_in_rows blocks c.args.row.now c.args.other.now _ _ known.upto c.first_common-common.result e f (reads.knows c.args.first x a).rising (reads.knows c.args.second y b).rising
+      (λ r s. record { some = common.some r s; least = common.least r s; none = common.none r s }) in
+      c.is_some.ensures ∙ (first_told all before table blocks c.args.first c.args.second x y known.upto c.first_common-common.result reads a b apart
+      (later_common all before table blocks c.args.first c.args.second x y known.upto known.common reads a b answer c.if-is_active_number.ensures) both);
   asked = λ table e f all before reads m. c.in_ok-keep.ensures all before m (λ x y a b. (
       let blocks = c.args.blocks.now in
       let known = c.known-known.result in
       let answer = c.known-known.ensures.known all before m x y (subst (λ n. IsNameNumber all n x) (sym c.known-known.ensures.first) a) (subst (λ n. IsNameNumber all n y) (sym c.known-known.ensures.second) b) in
-      let rising = subst IsRising (sym e) (reads.knows c.args.first x a).rising in
-      let others = subst IsRising (sym f) (reads.knows c.args.second y b).rising in
       let common = c.first_common-common.ensures in
-      let here : IsFirstFrom blocks c.args.row.now c.args.other.now known.upto c.first_common-common.result = record { some = common.some rising others; least = common.least rising others; none = common.none rising others } in
-      let first = subst (λ (w : List ℕ). IsFirstFrom blocks w c.args.other.now known.upto c.first_common-common.result) e here in
-      let both = subst (λ (w : List ℕ). IsFirstFrom blocks (row_at table c.args.first) w known.upto c.first_common-common.result) f first in
+      let both = first_in_rows blocks c.args.row.now c.args.other.now _ _ known.upto c.first_common-common.result e f (reads.knows c.args.first x a).rising (reads.knows c.args.second y b).rising
+      (λ r s. record { some = common.some r s; least = common.least r s; none = common.none r s }) in
       let short = subst (λ (w : List ℕ). (count : ℕ) → ((n : ℕ) → Contains w n → n < count) → c.end_of.result ≤ count) e c.end_of.ensures in
       next_answer all before table blocks c.args.first c.args.second x y known.upto c.end_of.result known.common c.first_common-common.result reads a b answer c.if-is_active_number.ensures both short));
 }

@@ -1,4 +1,4 @@
-use Rattle.std.proofs.{lemmas.{Grind.{common_steps, elements}, List.{take_rest}}, Common.{arith}}
+use Rattle.std.proofs.{lemmas.{Grind.{elements, common_steps}, List.{take_rest}}, Common.{arith}}
 use Rattle.mm_frame.proofs.lemmas.lists.Rising.{rest_whole}
 use Rattle.mm_frame.proofs.paired.rest_from.Goals as goal
 

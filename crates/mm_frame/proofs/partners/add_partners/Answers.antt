@@ -12,8 +12,7 @@ returns c = on_ok_weaker c.add_partners_at.result (λ added all before said firs
     let expressions = earlier.expressions.now in
     let variables = c.args.variables.now in
     let found = c.in_ok-found.found.items in
-    let none : NumberedSymbol = record { name = 0; variable = false } in
-    let here = get_or_from_slice_get variables c.args.n first none there in
+    let here = get_or_from_slice_get variables c.args.n first (record { name = 0; variable = false }) there in
     let reached = λ (row : List ℕ). flat_map (later_places_at c.args.places.now marks expressions c.args.n) row in
     let same = subst (λ w. (k : ℕ) → Contains found k ↔ Contains (reached w) k) (c.row-row.ensures ∙ ap (λ (s : NumberedSymbol). row_at table s.name) here) c.in_ok-found.ensures.same in
     let whole = added ∙ (λ i. c.args.pairs.now.items ++ flat_map (pair_at (here i) variables) (c.deref.ensures.value i)) in

@@ -1,5 +1,5 @@
 use Rattle.std.proofs.{Common.{IsTrue, sym, ◌∙◌, subst}, lemmas.Bool.{false≢true}}
-use Rattle.mm_frame.{specs.Language.Base.{AreHypotheses}, proofs.lemmas.frames.SameFrames.{framed_shown, same_by_numbers, all_shown}}
+use Rattle.mm_frame.{specs.Language.Base.{AreHypotheses}, proofs.lemmas.frames.SameFrames.{framed_shown, same_by_numbers}}
 use Rattle.mm_frame.proofs.same.same_but_pairs.Goals as goal
 
 pub returns-then-same_expression : goal.returns-then-same_expression
@@ -9,7 +9,7 @@ returns-then-same_expression c names base copy is are s t =
     let mine = subst (AreHypotheses base i) (sym c.deref.ensures.value) (c.in-Some-Some.ensures.means base (names, is)) in
     let yours = subst (AreHypotheses copy j) (sym c.deref-then-same_expression.ensures.value) (c.in-Some-Some.ensures'.means copy (names, are)) in
     let hypotheses = same_by_numbers base copy i j c.deref.result.now c.deref-then-same_expression.result.now (IsTrue c.same_hypotheses.result) mine yours
-    (c.same_hypotheses.ensures names base copy is are (all_shown base i c.deref.result.now mine) (all_shown copy j c.deref-then-same_expression.result.now yours)) in
+    (c.same_hypotheses.ensures names base copy is are ((λ k d l. (mine.each k d l).1)) ((λ k d l. (yours.each k d l).1))) in
     (λ b. (((c.same_expression.ensures names base copy is are (framed_shown base i s) (framed_shown copy j t)).0 c.if-same_expression.true), hypotheses.0 b), λ p. hypotheses.1 p.1)
 
 pub returns-else-same_expression : goal.returns-else-same_expression

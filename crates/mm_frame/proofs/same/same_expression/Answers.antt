@@ -4,7 +4,6 @@ use Rattle.mm_frame.proofs.same.same_expression.Goals as goal
 
 pub returns : goal.returns
 returns c names base copy is are s t =
-    let other = c.known_expression-2.result.now in
     let mine = c.known_expression.ensures.symbols names base is s in
     let yours = c.known_expression-2.ensures.symbols names copy are t in
     let same = c.same_symbols.ensures in

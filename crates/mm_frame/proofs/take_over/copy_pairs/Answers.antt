@@ -1,13 +1,14 @@
-use Rattle.std.proofs.{Common.{arith, Some, None, ◌++◌, ◌∷◌, [], ◌∙◌, sym, subst}, lemmas.Grind.{common_steps}}
-use Rattle.mm_frame.specs.{Language.{Sound.{sound_items}, Framing.{active_pairs}, Answering.{AreRows}}, Code.KeptAssertions.{TellsPairs}}
-use Rattle.mm_frame.proofs.lemmas.{base.TakenOverLemmas.{before_next, proof_next}, pairs.PairListLemmas.{pairs_more, keeps_all, no_number, some_number}}
+use Rattle.std.proofs.{Common.{ap, arith, Some, None, ◌++◌, ◌∷◌, [], ◌∙◌, sym, subst}, lemmas.Grind.{common_steps}}
+use Rattle.mm_frame.specs.{Language.{Answering.{is_told_proof, AreRows}, Base.{is_proof_at}, Sound.{sound_items}, Framing.{active_pairs}}, Code.KeptAssertions.{TellsPairs}}
+use Rattle.mm_frame.proofs.lemmas.{base.TakenOverLemmas.{before_next}, pairs.PairListLemmas.{pairs_more, keeps_all, no_number, some_number}}
 use Rattle.mm_machine.specs.Language.{Frame.{AreSamePairs}, NumberedSymbols.{AreSamePairsRead, kept_pairs}}
 use Rattle.mm_frame.proofs.take_over.copy_pairs.Goals as goal
 
 pub returns-in_default-clause-pairs : goal.returns-in_default-clause-pairs
 returns-in_default-clause-pairs c all base said item next number symbols disjoints made rows =
     let lists = c.args.lists.now in
-    let none = c.in_default.ensures.some base (all, next.by) ∙ proof_next all c.args.old.base.now base said item c.args.old.number next number in
+    let none =
+    c.in_default.ensures.some base (all, next.by) ∙ (ap (is_proof_at base) number ∙ (λ j. is_told_proof (sound_items (next.front j)) (next.here j))) in
     grind (arith, common_steps, pairs_more all said item lists lists c.args.numbers.now None (keeps_all lists) rows (no_number all lists (sound_items said) item none)) steps 500000
 
 pub returns-clause-made : goal.returns-clause-made
@@ -26,4 +27,5 @@ returns-clause-pairs c all base said item next number symbols disjoints made row
     let list = c.in_ok-k.ensures.list all base said next.by next.front number (sym some) read (c.in-Some.ensures.order base (all, next.by)) symbols disjoints made rows in
     subst (λ w. AreRows (TellsPairs all new) (said ++ item ∷ []) w) (sym c.in_ok-add.ensures)
     (pairs_more all said item c.args.lists.now new c.args.numbers.now (Some c.in_ok-k.k) c.in_ok-k.ensures.kept rows
-    (some_number all new (sound_items said) item c.in_ok-k.k (some ∙ proof_next all c.args.old.base.now base said item c.args.old.number next number) list))
+    (some_number all new (sound_items said) item c.in_ok-k.k
+    (some ∙ (ap (is_proof_at base) number ∙ (λ j. is_told_proof (sound_items (next.front j)) (next.here j)))) list))

@@ -1,13 +1,12 @@
-use Rattle.std.proofs.{Common.{◌≡◌, ◌<◌, ◌+◌, ◌∷◌, [], ℕ, Option, Some, None, length, map, sym, ◌∙◌, ap, subst, subst₂, arith}, lemmas.Option.{none-some, same_Some}}
-use Rattle.std.proofs.lemmas.List.{length-map, length_push, map-append}
+use Rattle.std.proofs.lemmas.{Grind.{common_steps}, Option.{none-some, same_Some}, List.{length-map, length_push, map-append}}
+use Rattle.std.proofs.Common.{◌≡◌, ◌<◌, ◌+◌, ◌∷◌, [], ℕ, Option, Some, length, map, sym, ◌∙◌, ap, subst, subst₂, arith}
 use Rattle.mm_proof.specs.mm_frame.Language.Base.{BaseView}
 use Rattle.mm_keep.{specs.Code.{KeptPlan.{number_planned}, Planned.{ArePlanned, IsPlanned}}, proofs.PlanLemmas.{each_more}}
 use Rattle.mm_keep.proofs.planning.planned.Goals as goal
 
 -- what is kept is of an item of the old base
 planned_within : (base copy : BaseView) (j i : ℕ) (from : Option ℕ) → from ≡ Some i → IsPlanned base copy j from → i < length base.said
-planned_within base copy j i (Some k) e kept = subst (λ n. n < length base.said) (same_Some k i e) kept.within
-planned_within base copy j i None e kept = absurd (none-some i e)
+planned_within base copy j i from e kept = grind (arith, common_steps, same_Some, none-some) steps 200000
 
 pub old_with_same_view-from-requires-clause-item : goal.old_with_same_view-from-requires-clause-item
 old_with_same_view-from-requires-clause-item c =

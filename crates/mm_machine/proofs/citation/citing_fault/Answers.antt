@@ -1,5 +1,5 @@
 use Rattle.std.proofs.Common.{map}
-use Rattle.mm_machine.{specs.{Code.{Flat.{read_all}, Citation.{frame_from}}, Language.CitedFrames.{meant_pairs}}, proofs.lemmas.machine.EntryFaults.{gives_all, hypotheses_known, count_of}}
+use Rattle.mm_machine.{specs.{Code.{Flat.{read_all}, Citation.{frame_from}}, Language.CitedFrames.{meant_pairs}}, proofs.lemmas.machine.EntryFaults.{gives_all, hypotheses_known}}
 use Rattle.mm_machine.proofs.lemmas.machine.CitingFaults.{says09, says_pairs, says12}
 use Rattle.mm_machine.proofs.citation.citing_fault.Goals as goal
 
@@ -12,29 +12,24 @@ pairs_fault-requires g c = record {
 }
 
 pub returns-then-not-essentials_fit : goal.returns-then-not-essentials_fit
-returns-then-not-essentials_fit g c =
+returns-then-not-essentials_fit g c stack l at =
     let m = g.S.Symbol.means in
     let frame = frame_from m c.args.taken.now.hypotheses.now c.args.expression.now c.args.pairs.now in
-    let es = read_all (map m c.args.taken.now.symbols.now) c.args.taken.now.entries.now in
-    says09 (meant_pairs m c.args.active.now.pairs.now) frame es c.requires.frame (count_of m (map m c.args.taken.now.symbols.now)
-    c.args.taken.now.entries.now c.args.taken.now.hypotheses.now c.requires.count) c.requires.typecodes c.if-not-essentials_fit.ensures
+    says09 (meant_pairs m c.args.active.now.pairs.now) frame c.requires.frame _ stack l at c.requires.typecodes c.if-not-essentials_fit.ensures
 
 pub returns-in-Some : goal.returns-in-Some
-returns-in-Some g c =
+returns-in-Some g c stack l at =
     let m = g.S.Symbol.means in
     let frame = frame_from m c.args.taken.now.hypotheses.now c.args.expression.now c.args.pairs.now in
-    let es = read_all (map m c.args.taken.now.symbols.now) c.args.taken.now.entries.now in
-    says_pairs (meant_pairs m c.args.active.now.pairs.now) frame es c.requires.frame (count_of m (map m c.args.taken.now.symbols.now)
-    c.args.taken.now.entries.now c.args.taken.now.hypotheses.now c.requires.count) c.requires.typecodes c.if-not-essentials_fit.ensures
+    says_pairs (meant_pairs m c.args.active.now.pairs.now) frame c.requires.frame _ stack l at c.requires.typecodes c.if-not-essentials_fit.ensures
     c.in-Some.number (rw c.in-Some.is at c.in_ok-number.ensures)
 
 pub returns-then-not-is_short : goal.returns-then-not-is_short
-returns-then-not-is_short g c =
+returns-then-not-is_short g c stack l at =
     let m = g.S.Symbol.means in
     let frame = frame_from m c.args.taken.now.hypotheses.now c.args.expression.now c.args.pairs.now in
     let es = read_all (map m c.args.taken.now.symbols.now) c.args.taken.now.entries.now in
-    says12 (meant_pairs m c.args.active.now.pairs.now) frame es c.requires.frame (count_of m (map m c.args.taken.now.symbols.now)
-    c.args.taken.now.entries.now c.args.taken.now.hypotheses.now c.requires.count) c.requires.typecodes c.if-not-essentials_fit.ensures
+    says12 (meant_pairs m c.args.active.now.pairs.now) frame c.requires.frame es stack l at c.requires.typecodes c.if-not-essentials_fit.ensures
     (rw c.in_default.is at c.in_ok-number.ensures)
     (λ given gives. c.if-not-is_short.ensures given (gives_all frame.hypotheses given es frame.expression (hypotheses_known frame c.requires.frame) gives c.requires.frame.expression_typed))
 

@@ -1,6 +1,6 @@
 use Rattle.std.proofs.{Common.{map, get_or, sym, ◌∙◌, arith}, lemmas.{Bool.{false≢true}, List.{length-map}}}
 use Rattle.mm_machine.{specs.{Code.{Flat.{read_all}, Citation.{OtherEssential}}, Language.CitedFrames.{hypotheses_of, mandatory_of}}, proofs.lemmas.machine.FlatLemmas.{mapped_or_get}}
-use Rattle.mm_machine.proofs.lemmas.machine.EntryFaults.{none_more, none_all, any_at, gives_essential}
+use Rattle.mm_machine.proofs.lemmas.{machine.EntryFaults.{none_more, none_all, gives_essential}, lists.Zips.{any_at}}
 use Rattle.mm_machine.proofs.citation.essentials_fit.Goals as goal
 
 pub returns-then-is_other_essential : goal.returns-then-is_other_essential

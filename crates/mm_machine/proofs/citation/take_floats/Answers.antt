@@ -1,8 +1,8 @@
 use Rattle.std.proofs.{Common.{rules, ◌≡◌, ◌<◌, ◌+◌, ℕ, true, false, Some, List, map, sym, ◌∙◌, ap, arith, slice_get}, lemmas.{Grind.{common_steps}, Bool.{false≢true}, List.{length-map}}}
 use Rattle.std.proofs.{lemmas.Option.{same_Some, slice_get_within}, Math.Decide.{ℕ_discrete}}
 use Rattle.mm_machine.specs.{Language.{Frame.{Symbol, Mandatory}, CitedFrames.{hypotheses_of, mandatory_of}}, Code.{Flat.{read_all}, Citation.{OtherTypecode}}}
-use Rattle.mm_machine.proofs.lemmas.machine.{FlatLemmas.{mapped_get}, EntryFaults.{NoneUpTo, none_more, none_all, any_at}}
-use Rattle.mm_machine.proofs.citation.take_floats.Goals.{then-hypothesis+else-not-have_same_typecode, else-hypothesis+then-place-first, else-hypothesis+else-place-first}
+use Rattle.mm_machine.proofs.lemmas.{machine.{FlatLemmas.{mapped_get}, EntryFaults.{NoneUpTo, none_more, none_all}}, lists.Zips.{any_at}}
+use Rattle.mm_machine.proofs.citation.take_floats.Goals.{else-hypothesis+else-place-first, else-hypothesis+then-place-first, then-hypothesis+else-not-have_same_typecode}
 use Rattle.mm_machine.proofs.citation.take_floats.Goals as goal
 
 -- one place more, at which there is a `$f`

@@ -1,11 +1,11 @@
 -- Elements of lists, one after another, and which of them are apart.
 use Rattle.std.proofs.lemmas.{Grind.{common_steps}, Option.{slice_get_within, get_or_from_slice_get, slice_get-get_or, same_Some}}
-use Rattle.std.proofs.lemmas.List.{length-drop, get_or-drop, get_or_at, take_rest, drop-map, take_all, take_more, drop-append-le, take-append-le, take-append-drop}
-use Rattle.std.proofs.lemmas.List.Elements.{Contains-append_left, Contains-append_right, Contains-append_cases}
-use Rattle.std.proofs.Common.{◌≡◌, ℕ, zero, suc, ◌+◌, ◌-◌, ◌<◌, ◌≤◌, Bool, true, Some, List, [], ◌∷◌, ◌++◌, length, map, take, drop, refl, sym, ◌∙◌, ap, subst, arith, inl, inr, ◌⊎◌, length-append}
-use Rattle.std.proofs.Common.{slice_get, Contains}
+use Rattle.std.proofs.lemmas.List.{length-drop, get_or-drop, get_or_at, take_rest, drop-map, take_all, drop-append-le, take-append-le, take-append-drop}
+use Rattle.std.proofs.Common.{◌≡◌, ℕ, zero, suc, ◌+◌, ◌-◌, ◌<◌, ◌≤◌, Bool, Some, List, ◌∷◌, ◌++◌, length, map, take, drop, refl, sym, ◌∙◌, ap, subst, arith, inl, inr, ◌⊎◌, length-append, slice_get}
+use Rattle.std.proofs.Common.{Contains, [], true}
+use native.Mathlib.Decide.{dec_lt}
 use Rattle.mm_machine.specs.{Language.Frame.{Symbol, ArePair, HasVariable}, declared.{pattern.Entry.{Entry}, assertion.Hypothesis.{Hypothesis}}, Code.Flat.{read, IsEntryWithin}}
-use Rattle.mm_machine.{specs.Code.PairClause.{IsPair, GatheredUpTo, GathersOne, GathersEntry, Gathers}, proofs.lemmas.lists.Members.{contains_cases}}
+use Rattle.mm_machine.{specs.Code.PairClause.{IsPair, GatheredUpTo, GathersOne, GathersEntry, Gathers}, proofs.lemmas.lists.Members.{contains_cases, contains_at, contains_get, pushed, take_next}}
 
 -- it is said of each element up to a place
 abbrev pub EachUpTo : {X : Type 0} → (X → Type 0) → List X → ℕ → Type 0
@@ -13,12 +13,6 @@ EachUpTo {X} P xs n = (k : ℕ) (x : X) → k < n → slice_get xs k ≡ Some x 
 
 pub each_more : {X : Type 0} (P : X → Type 0) (xs : List X) (n : ℕ) (x : X) → slice_get xs n ≡ Some x → P x → EachUpTo P xs n → EachUpTo P xs (n + 1)
 each_more P xs n x at p f k y l b = grind (arith, common_steps, same_Some) steps 200000
-
-pub contains_get : {X : Type 0} (xs : List X) (x : X) → (c : Contains xs x) → slice_get xs c.0 ≡ Some x
-contains_get xs x c = slice_get-get_or xs c.0 x c.1 ∙ ap Some c.2
-
-pub contains_at : {X : Type 0} (xs : List X) (n : ℕ) (x : X) → slice_get xs n ≡ Some x → Contains xs x
-contains_at xs n x e = (n, slice_get_within xs n x e, get_or_from_slice_get xs n x x e)
 
 pub each_all : {X : Type 0} (P : X → Type 0) (xs : List X) (n : ℕ) → length xs ≤ n → EachUpTo P xs n → (x : X) → Contains xs x → P x
 each_all P xs n l f x c = f c.0 x (omega arith) (contains_get xs x c)
@@ -46,33 +40,30 @@ only s v c = elim (contains_cases s [] v c) [ inl e ↦ e | inr d ↦ (absurd (o
 pub gathered_more : (symbols front before after : List Symbol) (n : ℕ) (s : Symbol) → slice_get symbols n ≡ Some s → GathersOne (length front) s before after → GatheredUpTo symbols front before n → GatheredUpTo symbols front after (n + 1)
 gathered_more symbols front before after n s at (inl a) f =
     let grown = ap (drop (length front)) a.1 ∙ drop-append-le (length front) before (s ∷ []) f.long in
-    let more = take_more symbols n s (slice_get_within symbols n s at) ∙ ap (λ w. take n symbols ++ w ∷ []) (get_or_from_slice_get symbols n s s at) in
+    let more = take_next symbols n s at in
     record {
       kept = ap (take (length front)) a.1 ∙ take-append-le (length front) before (s ∷ []) f.long ∙ f.kept;
       long = (let e = ap length a.1 in omega (arith, length-append before (s ∷ [])));
-      same = λ v. (
-        λ h. subst (λ w. Contains w v) (sym grown) (elim (Contains-append_cases (take n symbols) (s ∷ []) v (subst (λ w. Contains w v) more h.0)) [
-          | inl c ↦ Contains-append_left (drop (length front) before) (s ∷ []) v ((f.same v).0 (c, h.1))
-          | inr c ↦ Contains-append_right (drop (length front) before) (s ∷ []) v c
-        ]),
-        λ c. elim (Contains-append_cases (drop (length front) before) (s ∷ []) v (subst (λ w. Contains w v) grown c)) [
-          | inl b ↦ (let h = (f.same v).1 b in (subst (λ w. Contains w v) (sym more) (Contains-append_left (take n symbols) (s ∷ []) v h.0), h.1))
-          | inr b ↦ (subst (λ w. Contains w v) (sym more) (Contains-append_right (take n symbols) (s ∷ []) v b), ap (λ (w : Symbol). w.variable) (sym (only s v b)) ∙ a.0)
-        ],
-      );
+      same = λ v.
+          let is_variable : Symbol → Type 0 = λ w. w.variable ≡ true in
+          let p = pushed (take n symbols) s v in
+          let q = pushed (drop (length front) before) s v in
+          rw (more, grown) (
+            λ h. q.1 (elim (p.0 h.0) [ inl c ↦ inl ((f.same v).0 (c, h.1)) | inr e ↦ inr e ]),
+            λ c. elim (q.0 c) [ inl b ↦ (let h = (f.same v).1 b in (p.1 (inl h.0), h.1)) | inr e ↦ (p.1 (inr e), subst is_variable e a.0) ],
+          );
     }
 gathered_more symbols front before after n s at (inr a) f =
-    let more = take_more symbols n s (slice_get_within symbols n s at) ∙ ap (λ w. take n symbols ++ w ∷ []) (get_or_from_slice_get symbols n s s at) in
-    subst (λ w. GatheredUpTo symbols front w (n + 1)) (sym a.0) (record {
+    let more = take_next symbols n s at in
+    rw a.0 (record {
       kept = f.kept;
       long = f.long;
-      same = λ v. (
-        λ h. elim (Contains-append_cases (take n symbols) (s ∷ []) v (subst (λ w. Contains w v) more h.0)) [
-          | inl c ↦ (f.same v).0 (c, h.1)
-          | inr c ↦ (let e = only s v c in subst (λ w. Contains (drop (length front) before) w) e (a.1 (ap (λ (w : Symbol). w.variable) e ∙ h.1)))
-        ],
-        λ c. (let h = (f.same v).1 c in (subst (λ w. Contains w v) (sym more) (Contains-append_left (take n symbols) (s ∷ []) v h.0), h.1)),
-      );
+      same = λ v.
+          let p = pushed (take n symbols) s v in
+          rw more (
+            λ h. elim (p.0 h.0) [ inl c ↦ (f.same v).0 (c, h.1) | inr e ↦ rw (← e) (a.1 (ap (λ (w : Symbol). w.variable) e ∙ h.1)) ],
+            λ c. (let h = (f.same v).1 c in (p.1 (inl h.0), h.1)),
+          );
     })
 
 -- what is at a place of a list that has grown
@@ -87,26 +78,17 @@ front_at (x ∷ xs) ys (suc k) l = front_at xs ys k (omega arith)
 -- one more entry
 pub read_kept : (before after : List Symbol) (s : Entry) → take (length before) after ≡ before → s.end ≤ length before → read after s ≡ read before s
 read_kept before after s kept l =
-    by_cases (ℕ_cases s.start s.end) where
-      ℕ_cases : (a b : ℕ) → (a ≤ b) ⊎ (b < a)
-      ℕ_cases a b = grind arith
-
-      rest : List Symbol
-      rest = drop (length before) after
-
-      whole : after ≡ before ++ rest
-      whole = sym (take-append-drop (length before) after) ∙ ap (λ w. w ++ rest) kept
-
-      by_cases : (s.start ≤ s.end) ⊎ (s.end < s.start) → read after s ≡ read before s
-      by_cases (inl o) =
+    let rest = drop (length before) after in
+    let whole : after ≡ before ++ rest = sym (take-append-drop (length before) after) ∙ ap (λ w. w ++ rest) kept in
+    elim (dec_lt s.end s.start) [
+      | yes o ↦ (let none : s.end - s.start ≡ 0 = omega arith in rw none refl)
+      | no o ↦
           let low : s.start ≤ length before = omega arith in
           let room : s.end - s.start ≤ length (drop s.start before) = omega (arith, length-drop s.start before) in
           ap (λ w. take (s.end - s.start) (drop s.start w)) whole
           ∙ ap (take (s.end - s.start)) (drop-append-le s.start before rest low)
           ∙ take-append-le (s.end - s.start) (drop s.start before) rest room
-      by_cases (inr o) =
-          let none : s.end - s.start ≡ 0 = omega arith in
-          ap (λ k. take k (drop s.start after)) none ∙ ap (λ k. take k (drop s.start before)) (sym none)
+    ]
 
 read_last : (before after : List Symbol) (s : Entry) → s.start ≡ length before → s.end ≡ length after → read after s ≡ drop (length before) after
 read_last before after s a b = grind (arith, common_steps, take_rest) steps 200000
@@ -120,14 +102,13 @@ gathers_step {S = S} hypotheses es before after spans more n h e at_h at_e a f =
     | inl b ↦ (let w = f.within k s b.1 in (w.0, omega arith))
     | inr b ↦ subst (IsEntryWithin (length after)) b.1 ((omega arith, omega arith))
   ];
-  right = λ k s g d at_s at_g paired at_d. elim (at_or_before k s at_s) [
-    | inl b ↦ (λ v. (let w = f.within k s b.1 in let same = read_kept before after s a.kept w.1 in let r = f.right k s g d b.1 at_g paired at_d v in (λ x. subst (λ z. Contains z v) (sym same) (r.0 x), λ x. r.1 (subst (λ z. Contains z v) same x))))
-    | inr b ↦ (λ v. (
+  right = λ k s g d at_s at_g paired at_d v. elim (at_or_before k s at_s) [
+    | inl b ↦ rw (read_kept before after s a.kept (f.within k s b.1).1) (f.right k s g d b.1 at_g paired at_d v)
+    | inr b ↦
         let same = ap (read after) (sym b.1) ∙ read_last before after a.span a.start a.end in
-        let one : h.floating ≡ true = ap (λ (w : Hypothesis S). w.floating) (same_Some h g (sym at_h ∙ ap (slice_get hypotheses) (sym b.0) ∙ at_g)) ∙ paired in
-        let entry : e ≡ d = same_Some e d (sym at_e ∙ ap (slice_get es) (sym b.0) ∙ at_d) in
-        let r = a.same one v in
-        (λ x. subst (λ z. Contains z v) (sym same) (r.0 (subst (λ z. HasVariable (drop 1 z) v) (sym entry) x)), λ x. subst (λ z. HasVariable (drop 1 z) v) entry (r.1 (subst (λ z. Contains z v) same x)))))
+        let one = same_Some h g (sym at_h ∙ ap (slice_get hypotheses) (sym b.0) ∙ at_g) in
+        let entry = same_Some e d (sym at_e ∙ ap (slice_get es) (sym b.0) ∙ at_d) in
+        rw (same, ← entry) (a.same (ap (λ (w : Hypothesis S). w.floating) one ∙ paired) v)
   ];
 }
   where

@@ -1,8 +1,8 @@
 -- How long an expression is at most under what entries give.
-use Rattle.std.proofs.{Common.{◌≡◌, ℕ, zero, suc, ◌+◌, ◌*◌, ◌-◌, ◌≤◌, true, Some, List, [], ◌∷◌, length, drop, get_or, refl, ap, arith, inl, inr, length-append, slice_get}, lemmas.Bool.{cases_Bool}}
+use Rattle.std.proofs.{Common.{◌≡◌, ℕ, zero, suc, ◌+◌, ◌*◌, ◌-◌, ◌≤◌, true, Some, List, ◌∷◌, length, drop, get_or, refl, ap, arith, inl, inr, length-append, slice_get, []}, lemmas.Bool.{cases_Bool}}
 use Rattle.std.proofs.lemmas.{List.{length-map, length-take, length-drop}, Option.{slice_get_within}}
 use Rattle.mm_machine.specs.{Language.{Frame.{Symbol, Mandatory}, Substitution.{substituted, replacement}}, declared.pattern.Entry.{Entry}, Code.{Flat.{read, read_all}, Citation.{GivesVariables}}}
-use Rattle.mm_machine.proofs.lemmas.{verdicts.Unique.{replacement-variable, replacement-constant}, machine.{FlatLemmas.{mapped_or}, ApartLemmas.{contains_at, contains_get}}}
+use Rattle.mm_machine.proofs.lemmas.{verdicts.Unique.{replacement-variable, replacement-constant}, machine.FlatLemmas.{mapped_or}, lists.Members.{contains_at, contains_get}}
 
 -- if nothing that takes the place of a symbol is longer than this
 pub short_by : (given : Symbol → List Symbol) (n : ℕ) (expression : List Symbol) → ((k : ℕ) (s : Symbol) → slice_get expression k ≡ Some s → length (replacement given s) ≤ n) → length (substituted given expression) ≤ length expression * n

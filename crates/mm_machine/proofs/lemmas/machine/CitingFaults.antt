@@ -1,93 +1,77 @@
 -- The lowest number that holds when an assertion is cited.
-use Rattle.std.proofs.{lemmas.Grind.{elements}, Common.{◌≡◌, ◌-◌, ◌<◌, ◌≤◌, Some, None, List, [], ◌∷◌, ◌++◌, length, take, sym, ◌∙◌, subst, arith, All, Any}}
+use Rattle.std.proofs.{lemmas.{Grind.{common_steps}, List.{length-drop}}, Common.{◌≡◌, ◌-◌, ◌<◌, ◌≤◌, Some, None, List, ◌∷◌, ◌++◌, length, take, sym, subst, arith, Any, [], ap}}
 use Rattle.mm_machine.specs.Language.{Frame.{Symbol, Frame}, Typing.{IsFrame}, Substitution.{substituted}, Derivation.{AreApart, ShareVariable}, Steps.{Cites}}
-use Rattle.mm_machine.specs.{Language.Faults.{AnyZip, CitingFails, entries_for, row_of, LackPair}, declared.ProofNumber.{ProofNumber, TheVariants.{P07, P08, P09, P10, P11, P12}}}
+use Rattle.mm_machine.specs.{Language.Faults.{AnyZip, CitingFails, entries_for, LackPair, UnderGiven}, declared.ProofNumber.{ProofNumber, TheVariants.{P07, P08, P09, P10, P11, P12}}}
 use Rattle.mm_machine.specs.Code.{Citation.{GivesEntries, OtherTypecode, OtherEssential, CitingSays, IsLowestCiting}, PairClause.{PairsSay}}
-use Rattle.mm_machine.proofs.lemmas.machine.{Given.{given_by, floats_match, all_match}, Turning.{NoneBelow, none_more, none_first, cites_by}}
-
-lowest : (P : ProofNumber → Type 0) (number : ProofNumber) → NoneBelow P (row_of number) → P number → P number × ((other : ProofNumber) → P other → row_of number ≤ row_of other)
-lowest P number below p = grind (arith, elements) steps 200000
+use Rattle.mm_machine.proofs.lemmas.{machine.{Given.{given_by, floats_match, all_match}, Turning.{NoneBelow, none_more, none_first, cites_by, lowest}}, verdicts.Lines.{any_all}}
 
 -- there are too few entries
 pub says07 : (active : List (Symbol × Symbol)) (frame : Frame) (stack : List (List Symbol)) → length stack < length frame.hypotheses → IsLowestCiting active frame stack P07
 says07 active frame stack few = lowest (CitingFails active frame stack) P07 (none_first active frame stack) few
 
-module _ (active : List (Symbol × Symbol)) (frame : Frame) (es : List (List Symbol)) (is : IsFrame frame) (count : length es ≡ length frame.hypotheses) where
-  below08 : (stack : List (List Symbol)) → length frame.hypotheses ≤ length stack → NoneBelow (CitingFails active frame stack) 8
-  below08 stack l = none_more (CitingFails active frame stack) P07 (none_first active frame stack) (λ few. absurd (omega arith))
+module _ (active : List (Symbol × Symbol)) (frame : Frame) (is : IsFrame frame) (es stack : List (List Symbol)) (l : length frame.hypotheses ≤ length stack)
+    (at : entries_for frame stack ≡ es) where
+  abbrev Fails : ProofNumber → Type 0
+  Fails number = CitingFails active frame stack number
 
-  pub says08 : AnyZip OtherTypecode frame.hypotheses es → CitingSays active frame es (Some P08)
-  says08 q stack l at = lowest (CitingFails active frame stack) P08 (below08 stack l) (subst (λ w. AnyZip OtherTypecode frame.hypotheses w) (sym at) q)
+  -- it holds of each substitution that gives the entries
+  abbrev Each : ((Symbol → List Symbol) → Type 0) → Type 0
+  Each P = (given : Symbol → List Symbol) → GivesEntries given frame.hypotheses es → P given
+
+  count : length frame.hypotheses ≡ length es
+  count = omega (arith, l, ap length at, length-drop (length stack - length frame.hypotheses) stack)
+
+  below08 : NoneBelow Fails 8
+  below08 = none_more Fails P07 (none_first active frame stack) (λ few. absurd (omega (arith, l)))
+
+  pub says08 : AnyZip OtherTypecode frame.hypotheses es → IsLowestCiting active frame stack P08
+  says08 q = lowest Fails P08 below08 (subst (λ w. AnyZip OtherTypecode frame.hypotheses w) (sym at) q)
 
   module _ (n8 : AnyZip OtherTypecode frame.hypotheses es → ⊥) where
     -- what the entries give
-    pub gives : GivesEntries (given_by frame.hypotheses es) frame.hypotheses es
-    gives = floats_match frame.hypotheses es (sym count) is.typings is.typed_once n8
+    abbrev own : Symbol → List Symbol
+    own = given_by frame.hypotheses es
 
-    below09 : (stack : List (List Symbol)) → length frame.hypotheses ≤ length stack → entries_for frame stack ≡ es → NoneBelow (CitingFails active frame stack) 9
-    below09 stack l at = none_more (CitingFails active frame stack) P08 (below08 stack l) (λ q. n8 (subst (λ w. AnyZip OtherTypecode frame.hypotheses w) at q))
+    gives : GivesEntries own frame.hypotheses es
+    gives = floats_match frame.hypotheses es count is.typings is.typed_once n8
 
-    pub says09 : ((given : Symbol → List Symbol) → GivesEntries given frame.hypotheses es → AnyZip (OtherEssential given) frame.hypotheses es) → CitingSays active frame es (Some P09)
-    says09 q stack l at = lowest (CitingFails active frame stack) P09 (below09 stack l at) (
-      given_by frame.hypotheses es,
-      subst (λ w. GivesEntries (given_by frame.hypotheses es) frame.hypotheses w) (sym at) gives,
-      subst (λ w. AnyZip (OtherEssential
-          (given_by frame.hypotheses es)) frame.hypotheses w) (sym at) (q (given_by frame.hypotheses es) gives),
-    )
+    -- a fault that this substitution shows, and one that none shows
+    shown : (P : (Symbol → List Symbol) → Type 0) → P own → UnderGiven frame (entries_for frame stack) P
+    shown P p = (own, subst (λ w. GivesEntries own frame.hypotheses w) (sym at) gives, p)
 
-    module _ (n9 : (given : Symbol → List Symbol) → GivesEntries given frame.hypotheses es → AnyZip (OtherEssential given) frame.hypotheses es → ⊥) where
-      below10 : (stack : List (List Symbol)) → length frame.hypotheses ≤ length stack → entries_for frame stack ≡ es → NoneBelow (CitingFails active frame stack) 10
-      below10 stack l at = none_more (CitingFails active frame stack) P09 (below09 stack l at) (λ q. n9 q.0 (subst (λ w. GivesEntries q.0 frame.hypotheses w) at q.1) (subst (λ w. AnyZip (OtherEssential q.0) frame.hypotheses w) at q.2))
+    hidden : (P : (Symbol → List Symbol) → Type 0) → Each (λ given. P given → ⊥) → UnderGiven frame (entries_for frame stack) P → ⊥
+    hidden P n u = n u.0 (subst (λ w. GivesEntries u.0 frame.hypotheses w) at u.1) u.2
 
-      says10 : ((given : Symbol → List Symbol) → GivesEntries given frame.hypotheses es → Any (λ pair. ShareVariable (given pair.0) (given pair.1)) frame.pairs) → CitingSays active frame es (Some P10)
-      says10 q stack l at = lowest (CitingFails active frame stack) P10 (below10 stack l at) (
-        given_by frame.hypotheses es,
-        subst
-            (λ w. GivesEntries (given_by frame.hypotheses es) frame.hypotheses w) (sym at) gives,
-        q (given_by frame.hypotheses es) gives,
-      )
+    below09 : NoneBelow Fails 9
+    below09 = none_more Fails P08 below08 (λ q. n8 (subst (λ w. AnyZip OtherTypecode frame.hypotheses w) at q))
 
-      below11 : ((given : Symbol → List Symbol) → GivesEntries given frame.hypotheses es → Any (λ pair. ShareVariable (given pair.0) (given pair.1))
-          frame.pairs → ⊥) → (stack : List (List Symbol)) → length frame.hypotheses ≤ length stack → entries_for frame stack ≡ es →
-          NoneBelow (CitingFails active frame stack) 11
-      below11 n10 stack l at = none_more (CitingFails active frame stack) P10 (below10 stack l at) (λ q. n10 q.0 (subst (λ w. GivesEntries q.0 frame.hypotheses w) at q.1) q.2)
+    pub says09 : Each (λ given. AnyZip (OtherEssential given) frame.hypotheses es) → IsLowestCiting active frame stack P09
+    says09 q = lowest Fails P09 below09 (shown _ (subst (λ w. AnyZip (OtherEssential own) frame.hypotheses w) (sym at) (q own gives)))
 
-      says11 : ((given : Symbol → List Symbol) → GivesEntries given frame.hypotheses es → (Any (λ pair. ShareVariable (given pair.0) (given pair.1))
-          frame.pairs → ⊥) × Any (λ pair. LackPair active (given pair.0) (given pair.1)) frame.pairs) → CitingSays active frame es (Some P11)
-      says11 q stack l at = lowest (CitingFails active frame stack) P11 (below11 (λ given g. (q given g).0) stack l at) (
-        given_by frame.hypotheses es,
-        subst (λ w. GivesEntries (given_by frame.hypotheses es) frame.hypotheses w) (sym at) gives,
-        (q (given_by frame.hypotheses es) gives).1,
-      )
+    module _ (n9 : Each (λ given. AnyZip (OtherEssential given) frame.hypotheses es → ⊥)) where
+      below10 : NoneBelow Fails 10
+      below10 = none_more Fails P09 below09 (hidden _ (λ given g p. n9 given g (subst (λ w. AnyZip (OtherEssential given) frame.hypotheses w) at p)))
+
+      below11 : Each (λ given. Any (λ pair. ShareVariable (given pair.0) (given pair.1)) frame.pairs → ⊥) → NoneBelow Fails 11
+      below11 n10 = none_more Fails P10 below10 (hidden _ n10)
 
       -- a number that is said of pairs
-      pub says_pairs : (number : ProofNumber) → ((given : Symbol → List Symbol) → GivesEntries given frame.hypotheses es → PairsSay active given frame.pairs (Some number)) → CitingSays active frame es (Some number)
-      says_pairs P10 q = says10 q
-      says_pairs P11 q = says11 q
-      says_pairs _ q = absurd (q (given_by frame.hypotheses es) gives)
+      pub says_pairs : (number : ProofNumber) → Each (λ given. PairsSay active given frame.pairs (Some number)) → IsLowestCiting active frame stack number
+      says_pairs P10 q = lowest Fails P10 below10 (shown _ (q own gives))
+      says_pairs P11 q = lowest Fails P11 (below11 (λ given g. (q given g).0)) (shown _ (q own gives).1)
+      says_pairs _ q = absurd (q own gives)
 
-      module _ (n11 : (given : Symbol → List Symbol) → GivesEntries given frame.hypotheses es → All (λ pair. AreApart active (given pair.0) (given pair.1)) frame.pairs) where
-        below12 : (stack : List (List Symbol)) → length frame.hypotheses ≤ length stack → entries_for frame stack ≡ es → NoneBelow (CitingFails active frame stack) 12
-        below12 stack l at = none_more (CitingFails active frame stack) P11 (below11 (λ given g a. (let x = n11 given g a.0 a.1 a.2 in (subst (λ (w : Symbol × Symbol). AreApart active (given w.0) (given w.1)) a.3 x).unshared a.4)) stack l at)
-            (λ q. (let g = subst (λ w. GivesEntries q.0 frame.hypotheses w) at q.1 in let a = q.2 in let x = subst
-            (λ (w : Symbol × Symbol). AreApart active (q.0 w.0) (q.0 w.1)) a.3 (n11 q.0 g a.0 a.1 a.2) in let y = a.4 in y.5
-            (x.paired y.0 y.1 y.2 y.3 y.4)))
+      pub says12 : Each (λ given. PairsSay active given frame.pairs None) → Each (λ given. 1000000 < length (substituted given frame.expression)) →
+          IsLowestCiting active frame stack P12
+      says12 n11 q = lowest Fails P12 (none_more Fails P11 (below11 (λ given g a. (
+          let z = any_all (λ pair. ShareVariable (given pair.0) (given pair.1)) (λ pair. AreApart active (given pair.0) (given pair.1)) frame.pairs a
+          (n11 given g) in
+          z.2.unshared z.1))) (hidden _ (λ given g a. (
+          let z = any_all (λ pair. LackPair active (given pair.0) (given pair.1)) (λ pair. AreApart active (given pair.0) (given pair.1)) frame.pairs a
+          (n11 given g) in
+          z.1.5 (z.2.paired z.1.0 z.1.1 z.1.2 z.1.3 z.1.4))))) (shown _ (q own gives))
 
-        pub says12 : ((given : Symbol → List Symbol) → GivesEntries given frame.hypotheses es → 1000000 < length (substituted given frame.expression)) → CitingSays active frame es (Some P12)
-        says12 q stack l at = lowest (CitingFails active frame stack) P12 (below12 stack l at) (
-          given_by frame.hypotheses es,
-          subst
-              (λ w. GivesEntries (given_by frame.hypotheses es) frame.hypotheses w) (sym at) gives,
-          q (given_by frame.hypotheses es) gives,
-        )
-
--- if nothing is wrong, the assertion is cited, and its result is any that the entries give
-pub cited_by : (active : List (Symbol × Symbol)) (frame : Frame) (stack : List (List Symbol)) (es : List (List Symbol)) → IsFrame frame
-    → length es ≡ length frame.hypotheses → length frame.hypotheses ≤ length stack → entries_for frame stack ≡ es → CitingSays active frame es None →
-    (result : List Symbol) → ((given : Symbol → List Symbol) → GivesEntries given frame.hypotheses es → result ≡ substituted given frame.expression) → Cites active frame stack (take (length stack - length frame.hypotheses) stack ++ result ∷ [])
-cited_by active frame stack es is count l at says result r =
-    let given = given_by frame.hypotheses es in
-    let g = gives active frame es is count says.0 in
-    let s = says.1 given g in
-    let c = cites_by active frame stack given (λ few. absurd (omega arith)) (all_match given frame.hypotheses es (sym count) g s.0 ∙ sym at) s.1 (λ long. absurd (omega arith)) in
-    subst (λ w. Cites active frame stack (take (length stack - length frame.hypotheses) stack ++ w ∷ [])) (sym (r given g)) c
+  -- if nothing is wrong, the assertion is cited, and its result is any that the entries give
+  pub cited_by : CitingSays active frame es None → (result : List Symbol) → Each (λ given. result ≡ substituted given frame.expression) →
+      Cites active frame stack (take (length stack - length frame.hypotheses) stack ++ result ∷ [])
+  cited_by says result r = grind (arith, common_steps, all_match, cites_by, count, given_by, gives) steps 200000

@@ -2,8 +2,7 @@
 use Rattle.std.proofs.lemmas.Grind.{common_steps, elements, flat_map-append}
 use Rattle.std.proofs.lemmas.List.{append-nil, take_more, take-append-drop, take-map, drop-map, length-map, drop_all, drop-drop, get_or-map, get_or_default, append_cancel_left, take_at}
 use Rattle.std.proofs.lemmas.Option.{slice_get_within, get_or_from_slice_get, slice_get-get_or}
-use Rattle.std.proofs.Common.{Bool, true, false, ◌≡◌, ℕ, zero, suc, ◌+◌, ◌-◌, ◌<◌, ◌≤◌, Some, List, [], ◌∷◌, ◌++◌, length, map, take, drop, get_or, sym, ◌∙◌, ap, length-append, ◌↔◌, arith, slice_get}
-use Rattle.std.proofs.Common.{if◌then◌else◌}
+use Rattle.std.proofs.Common.{◌≡◌, ℕ, zero, suc, ◌+◌, ◌-◌, ◌<◌, ◌≤◌, Some, List, [], ◌∷◌, ◌++◌, length, map, take, drop, get_or, sym, ◌∙◌, ap, length-append, ◌↔◌, arith, slice_get, refl}
 use Rattle.mm_machine.specs.{Language.{Frame.{Symbol}, Substitution.{substituted, replacement}, CitedFrames.{range_of}}, declared.pattern.Entry.{Entry}, Code.Flat.{read}}
 
 -- what is at a place of a list that is mapped
@@ -12,6 +11,18 @@ mapped_at f xs n x y l is e = grind (arith, common_steps, get_or_from_slice_get 
 
 pub mapped_get : {X Y : Type 0} (f : X → Y) (xs : List X) (n : ℕ) (x : X) → n < length xs → x ≡ get_or xs n x → slice_get (map f xs) n ≡ Some (f x)
 mapped_get f xs n x l is = grind (arith, common_steps, length-map xs f, slice_get-get_or (map f xs) n (f x) (omega (arith, length-map xs f)), get_or-map f xs n x (f x) l) steps 200000
+
+-- there is an element at each place
+pub there_at : {X Y : Type 0} (f : X → Y) (xs : List X) (n : ℕ) → n < length xs → (y : Y) × (slice_get (map f xs) n ≡ Some y)
+there_at f [] n l = absurd (omega arith)
+there_at f (x ∷ xs) zero l = (f x, refl)
+there_at f (x ∷ xs) (suc n) l = there_at f xs n (omega arith)
+
+-- an element of a list that is mapped
+pub unmapped : {X Y : Type 0} (f : X → Y) (xs : List X) (n : ℕ) (y : Y) → slice_get (map f xs) n ≡ Some y → (x : X) × (slice_get xs n ≡ Some x) × (f x ≡ y)
+unmapped f [] n y e = cc
+unmapped f (x ∷ xs) zero y e = (x, refl, (cc))
+unmapped f (x ∷ xs) (suc n) y e = unmapped f xs n y e
 
 -- the same at any default
 pub mapped_or : {X Y : Type 0} (f : X → Y) (xs : List X) (n : ℕ) (d : X) (y : Y) → n < length xs → slice_get (map f xs) n ≡ Some y → y ≡ f (get_or xs n d)
@@ -34,13 +45,6 @@ put_more given expression k s e =
     ∙ flat_map-append (replacement given) (take k expression) (get_or expression k s ∷ [])
     ∙ ap (λ w. substituted given (take k expression) ++ w) (append-nil (replacement given (get_or expression k s)))
     ∙ ap (λ w. substituted given (take k expression) ++ replacement given w) (get_or_from_slice_get expression k s s e)
-
--- what stands for a constant, and for a variable
-pub of_constant : (variable : Bool) (xs ys : List Symbol) → variable ≡ false → (if variable then xs else ys) ≡ ys
-of_constant variable xs ys e = ap (λ (b : Bool). if b then xs else ys) e
-
-pub of_variable : (variable : Bool) (xs ys : List Symbol) → variable ≡ true → (if variable then xs else ys) ≡ xs
-of_variable variable xs ys e = ap (λ (b : Bool). if b then xs else ys) e
 
 -- if the lists mean the same, so do their elements
 pub same_at : {S M : Type 0} (f : S → M) (xs ys : List S) (i : ℕ) (x y : S) → x ≡ get_or xs i x → y ≡ get_or ys i y → i < length xs → i < length ys → map f xs ≡ map f ys → f x ≡ f y

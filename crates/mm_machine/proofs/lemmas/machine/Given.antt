@@ -1,10 +1,10 @@
 -- The substitution that the entries of the mandatory `$f` give.
-use Rattle.std.proofs.lemmas.{Grind.{common_steps}, List.Elements.{All-head, All-tail}}
-use Rattle.std.proofs.Common.{◌≡◌, ◌≢◌, suc, Bool, true, false, Option, Some, None, List, [], ◌∷◌, length, map, drop, refl, sym, ◌∙◌, ap, subst, arith, inl, inr, slice_get, Contains, All, AllPairs}
+use Rattle.std.proofs.lemmas.{Grind.{common_steps}, List.Elements.{All-head, All-tail}, Bool.{cases_Bool}}
+use Rattle.std.proofs.Common.{◌≡◌, ◌≢◌, suc, true, false, Option, Some, None, List, ◌∷◌, length, map, drop, refl, sym, ◌∙◌, ap, subst, arith, inl, inr, slice_get, Contains, All, AllPairs, []}
 use Rattle.std.proofs.Math.Decide.{map_dec}
 use mathlib.Core.Bool.{Bool-discrete}
 use Rattle.mm_machine.{specs.Language.{Frame.{Symbol, Mandatory}, Substitution.{substituted}, Typing.{IsTyping}, Faults.{AnyZip}}, proofs.lemmas.lists.Members.{Contains-here, contains_there}}
-use Rattle.mm_machine.proofs.lemmas.verdicts.{Lines.{FloatsMatch}, Choices.{symbol_discrete, expression_discrete, both_of}}
+use Rattle.mm_machine.proofs.lemmas.verdicts.{Choices.{symbol_discrete, expression_discrete, both_of}, Unique.{FloatsMatch}}
 
 -- the hypothesis is a `$f` of this variable
 abbrev pub Types : Mandatory → Symbol → Type 0
@@ -17,37 +17,22 @@ dec_second (Some w) v = map_dec (λ e. ap Some e) (λ e. (cc)) (symbol_discrete 
 pub dec_types : (h : Mandatory) (v : Symbol) → Dec (Types h v)
 dec_types h v = both_of (Bool-discrete h.floating true) (dec_second (slice_get h.expression 1) v)
 
-pick : {P : Type 0} → Dec P → List Symbol → List Symbol → List Symbol
-pick (yes p) a b = a
-pick (no n) a b = b
-
-pick-yes : {P : Type 0} (d : Dec P) (a b : List Symbol) → P → pick d a b ≡ a
-unfolding pick
-pick-yes d a b h = grind (arith, common_steps) steps 200000
-
-pick-no : {P : Type 0} (d : Dec P) (a b : List Symbol) → (P → ⊥) → pick d a b ≡ b
-unfolding pick
-pick-no d a b h = grind (arith, common_steps) steps 200000
-
 -- the entry after its typecode, of the first `$f` of the variable
 pub given_by : List Mandatory → List (List Symbol) → Symbol → List Symbol
-given_by (h ∷ hs) (e ∷ es) v = pick (dec_types h v) (drop 1 e) (given_by hs es v)
+given_by (h ∷ hs) (e ∷ es) v = elim (dec_types h v) [ yes t ↦ drop 1 e | no n ↦ given_by hs es v ]
 given_by _ _ v = []
 
 given_here : (h : Mandatory) (hs : List Mandatory) (e : List Symbol) (es : List (List Symbol)) (v : Symbol) → Types h v → given_by (h ∷ hs) (e ∷ es) v ≡ drop 1 e
 unfolding given_by
-given_here h hs e es v t = pick-yes (dec_types h v) (drop 1 e) (given_by hs es v) t
+given_here h hs e es v t = grind (arith, common_steps, dec_types h v) steps 200000
 
 given_there : (h : Mandatory) (hs : List Mandatory) (e : List Symbol) (es : List (List Symbol)) (v : Symbol) → (Types h v → ⊥) → given_by (h ∷ hs) (e ∷ es) v ≡ given_by hs es v
 unfolding given_by
-given_there h hs e es v n = pick-no (dec_types h v) (drop 1 e) (given_by hs es v) n
+given_there h hs e es v n = grind (arith, common_steps, dec_types h v) steps 200000
 
 -- an entry that has the typecode of its `$f`
 entry_is : (f : Symbol → List Symbol) (h : Mandatory) (e : List Symbol) → IsTyping h.expression → slice_get h.expression 0 ≡ slice_get e 0 → ((v : Symbol) → slice_get h.expression 1 ≡ Some v → f v ≡ drop 1 e) → substituted f h.expression ≡ e
 entry_is f h e t s g = grind (arith, common_steps) steps 200000
-
-typecode_of : {a b : Option Symbol} → ((a ≢ b) → ⊥) → Dec (a ≡ b) → a ≡ b
-typecode_of n h = grind (arith, common_steps) steps 200000
 
 pub dec_option : (a b : Option Symbol) → Dec (a ≡ b)
 dec_option None None = yes refl
@@ -77,8 +62,9 @@ floats_match_by :
     ((v : Symbol) (h : Mandatory) → Contains hs h → Types h v → f v ≡ given_by hs es v) → FloatsMatch f hs es
 floats_match_by f [] [] l t o n a = tt
 floats_match_by f (h ∷ hs) (e ∷ es) l t o n a = (
-  λ is. entry_is f h e (All-head (λ h. h.floating ≡ true → IsTyping h.expression) h hs t is) (typecode_of (λ m. n (inl (is, m)))
-      (dec_option (slice_get h.expression 0) (slice_get e 0))) (λ v s. a v h (Contains-here h hs) (is, s) ∙ given_here h hs e es v (is, s)),
+  λ is. entry_is f h e (All-head (λ h. h.floating ≡ true → IsTyping h.expression) h hs t is)
+      (elim (dec_option (slice_get h.expression 0) (slice_get e 0)) [ yes s ↦ s | no m ↦ absurd (n (inl (is, m))) ]) (λ v s. a v h (Contains-here h hs) (is, s)
+      ∙ given_here h hs e es v (is, s)),
   floats_match_by f hs es (cc) (All-tail (λ h. h.floating ≡ true → IsTyping h.expression) h hs t) (once_tail h hs o) (λ z. n (inr z)) (λ v g c u. a v g (contains_there h hs g c) u ∙ given_there h hs e es v (λ w. once_head h hs v o w g c u)),
 )
 floats_match_by f _ _ l t o n a = cc
@@ -94,12 +80,8 @@ all_match f [] (e ∷ es) l m n = cc
 all_match f (h ∷ hs) [] l m n = cc
 all_match f (h ∷ hs) (e ∷ es) l m n =
     let tail = all_match f hs es (cc) m.1 (λ z. n (inr z)) in
-    let head = one_matches f h e h.floating refl m.0 (λ k. n (inl k)) (expression_discrete (substituted f h.expression) e) in
-    cc where
-      one_matches : (f : Symbol → List Symbol) (h : Mandatory) (e : List Symbol) (b : Bool) → h.floating ≡ b
-          → (h.floating ≡ true → substituted f h.expression ≡ e) → ((h.floating ≡ false) × (substituted f h.expression ≢ e) → ⊥)
-          → Dec (substituted f h.expression ≡ e) →
-          substituted f h.expression ≡ e
-      one_matches f h e true is m n d = m is
-      one_matches f h e false is m n (yes s) = s
-      one_matches f h e false is m n (no k) = absurd (n (is, k))
+    let head : substituted f h.expression ≡ e = elim (cases_Bool h.floating) [
+      | inl is ↦ m.0 is
+      | inr is ↦ elim (expression_discrete (substituted f h.expression) e) [ yes s ↦ s | no k ↦ absurd (n (inl (is, k))) ]
+    ] in
+    cc

@@ -1,10 +1,10 @@
 -- Steps that stop before one that lacks an entry, or at it.
 use Rattle.std.proofs.lemmas.{Grind.{common_steps}, Bool.{cases_Bool}, List.{take-append-le}, Option.{slice_get_within}}
-use Rattle.std.proofs.Common.{◌≡◌, ◌≢◌, ℕ, ◌+◌, ◌<◌, ◌≤◌, Some, List, [], ◌∷◌, ◌++◌, length, refl, sym, ◌∙◌, ap, subst, arith, slice_get}
-use Rattle.mm_machine.specs.Language.{Frame.{Symbol, Frame, Resolved, Assertion, Setting}, Typing.{HasFrames}, Expansion.{Step, Named, NotKnown}, Faults.{LabelFails, StepLineHolds, row_of}}
-use Rattle.mm_machine.specs.{Language.{Machine.{AreAllKnown}, Reaches.{Reaches, IsStepFault}, Run.{is_unknown, run_part}, NamedSteps.{AreDoneTo, RunSays, StopsAt}}, declared.ProofNumber.{ProofNumber}}
-use Rattle.mm_machine.{specs.declared.{ProofNumber.TheVariants.{P07}, stepping.Outcome.{Outcome, TheVariants.{Fault, Unknown}}}, proofs.lemmas.machine.{ApartLemmas.{front_at}, CitingFaults.{says07}}}
-use Rattle.mm_machine.proofs.lemmas.{machine.{Reaching.{at_start}, Running.{faulty, runs_reach, runs_follow}, StepLemmas.{kept_at, part_ends}}, verdicts.Part.{part_one, part_none, known_one}}
+use Rattle.std.proofs.Common.{◌≡◌, ◌≢◌, ℕ, ◌+◌, ◌<◌, Some, List, ◌∷◌, ◌++◌, length, refl, sym, ◌∙◌, ap, subst, arith, slice_get, []}
+use Rattle.mm_machine.specs.Language.{Frame.{Symbol, Frame, Resolved, Assertion, Setting}, Typing.{HasFrames}, Expansion.{Step, Named, NotKnown}, Faults.{LabelFails, IsLowest}, Machine.{AreAllKnown}}
+use Rattle.mm_machine.specs.{Language.{Reaches.{Reaches, IsStepFault}, Run.{is_unknown, run_part}, NamedSteps.{AreDoneTo, RunSays, StopsAt}}, declared.ProofNumber.{ProofNumber, TheVariants.{P07}}}
+use Rattle.mm_machine.{specs.declared.stepping.Outcome.{Outcome, TheVariants.{Fault, Unknown}}, proofs.lemmas.machine.{ApartLemmas.{front_at}, CitingFaults.{says07}, Reaching.{at_start}}}
+use Rattle.mm_machine.proofs.lemmas.{machine.{Running.{faulty, runs_reach, runs_follow}, StepLemmas.{kept_at, part_ends}}, verdicts.Part.{part_one, part_none, known_one}}
 
 -- if steps stop, a run says so, whatever the statement is
 pub stopped_says : (place : Setting) (steps : List Step) (statement : List Symbol) (outcome : Outcome) → StopsAt place steps outcome → RunSays place steps statement outcome
@@ -49,6 +49,8 @@ lacks_entry place is front behind label frame stack done at few =
     let runs = (runs_reach place is front stack).1 done.1 in
     let follows = runs_follow place [] front _ runs.0 (at_start place) runs.1 in
     let says = says07 place.active frame runs.0.stack (subst (λ (w : List (List Symbol)). length w < length frame.hypotheses) (sym runs.2) few) in
-    let holds = subst (λ (r : Resolved). LabelFails place.active r runs.0.stack P07) (sym at) says.0 in
-    let lowest : (other : ProofNumber) → StepLineHolds place (Named label) runs.0.stack other → row_of P07 ≤ row_of other = λ other p. says.1 other (subst (λ (r : Resolved). LabelFails place.active r runs.0.stack other) at p) in
-    grind (arith, common_steps, faulty place is front (run_part behind) runs.0 (Named label) P07 follows (holds, lowest), known_longer) steps 200000
+    let lowest : IsLowest place (Named label) runs.0.stack P07 = record {
+      holds = subst (λ (r : Resolved). LabelFails place.active r runs.0.stack P07) (sym at) says.0;
+      lowest = λ other p. says.1 other (subst (λ (r : Resolved). LabelFails place.active r runs.0.stack other) at p);
+    } in
+    grind (arith, common_steps, faulty place is front (run_part behind) runs.0 (Named label) P07 follows lowest, known_longer) steps 200000

@@ -1,16 +1,10 @@
 -- What is gathered, and the pair clause.
-use Rattle.std.proofs.Common.{rules, ◌≡◌, ℕ, zero, suc, ◌<◌, Some, List, [], ◌∷◌, length, map, get_or, refl, sym, ◌∙◌, ap, subst, arith, inl, inr, ◌↔◌, slice_get, Contains, All, Any}
-use Rattle.std.proofs.lemmas.{List.Elements.{All-contains}, Option.{slice_get_within, get_or_from_slice_get, slice_get-get_or}}
-use Rattle.mm_machine.specs.Language.{Frame.{Symbol, Mandatory, HasVariable}, Derivation.{AreApart, ShareVariable}, Faults.{LackPair}, CitedFrames.{hypotheses_of, mandatory_of}}
-use Rattle.mm_machine.specs.{declared.{pattern.Entry.{Entry}, assertion.Hypothesis.{Hypothesis}}, Code.Citation.{IsSlot, AreAllTyped, GivesEntries}}
-use Rattle.mm_machine.{specs.Code.PairClause.{EachApart, SomeNotApart, SomeShared, AtSlots, span_of, Gathers}, proofs.lemmas.machine.{ApartLemmas.{contains_at}, FlatLemmas.{mapped_get}}}
-use Rattle.mm_machine.proofs.lemmas.machine.EntryFaults.{slot_gives}
-
--- an element of a list that is mapped
-pub unmapped : {X Y : Type 0} (f : X → Y) (xs : List X) (n : ℕ) (y : Y) → slice_get (map f xs) n ≡ Some y → (x : X) × (slice_get xs n ≡ Some x) × (f x ≡ y)
-unmapped f [] n y e = cc
-unmapped f (x ∷ xs) zero y e = (x, refl, (cc))
-unmapped f (x ∷ xs) (suc n) y e = unmapped f xs n y e
+use Rattle.std.proofs.{Common.{rules, ◌≡◌, ℕ, ◌<◌, Some, List, length, get_or, refl, sym, ◌∙◌, ap, subst, arith, inl, inr, ◌↔◌, slice_get, Contains, All, Any}, lemmas.List.Elements.{All-contains}}
+use Rattle.std.proofs.lemmas.Option.{slice_get_within, get_or_from_slice_get, slice_get-get_or}
+use Rattle.mm_machine.specs.Language.{Typing.{IsTyped}, CitedFrames.{meant_pair, meant_pairs, hypotheses_of, mandatory_of}, Frame.{Symbol, Mandatory, HasVariable}}
+use Rattle.mm_machine.specs.{Language.{Derivation.{AreApart, ShareVariable}, Faults.{LackPair}}, Code.PairClause.{AreTypedPairs, EachApart, SomeNotApart, SomeShared, AtSlots, span_of, Gathers}}
+use Rattle.mm_machine.specs.{Code.Citation.{IsSlot, AreAllTyped, GivesEntries}, declared.{pattern.Entry.{Entry}, assertion.Hypothesis.{Hypothesis}}}
+use Rattle.mm_machine.proofs.lemmas.{machine.{FlatLemmas.{mapped_get, unmapped}, EntryFaults.{slot_gives}}, lists.Members.{contains_at}}
 
 module _ {S : Type 0} (means : S → Symbol) (hypotheses : List (Hypothesis S)) (es : List (List Symbol)) (all : List Symbol) (spans : List Entry) (given : Symbol →
     List Symbol) (is : AreAllTyped (hypotheses_of means hypotheses)) (gives : GivesEntries given (hypotheses_of means hypotheses) es) (gathers : Gathers hypotheses es all spans (length hypotheses)) where
@@ -65,6 +59,8 @@ module _ {S : Type 0} (means : S → Symbol) (hypotheses : List (Hypothesis S)) 
         | inr n ↦ any_pair (LackPair active) pairs k p at (s.0, s.1, first, second, n.0, n.1)
       ]
 
--- what is said of all of a list that is mapped
-pub mapped_all : {X Y : Type 0} (f : X → Y) (P : Y → Type 0) (xs : List X) (n : ℕ) (x : X) → n < length xs → x ≡ get_or xs n x → All P (map f xs) → P (f x)
-mapped_all f P xs n x l is all = All-contains P (map f xs) (f x) all (contains_at (map f xs) n (f x) (mapped_get f xs n x l is))
+-- the variables of a pair are typed
+pub pair_typed : {S : Type 0} (means : S → Symbol) (hs : List Mandatory) (pairs : List (S × S)) (n : ℕ) (x : S × S) → n < length pairs → x ≡ get_or pairs n x →
+    AreTypedPairs hs (meant_pairs means pairs) → IsTyped hs (means x.0) × IsTyped hs (means x.1)
+pair_typed means hs pairs n x l is all = All-contains (λ p. IsTyped hs p.0 × IsTyped hs p.1) (meant_pairs means pairs) (meant_pair means x) all
+    (contains_at (meant_pairs means pairs) n (meant_pair means x) (mapped_get (meant_pair means) pairs n x l is))

@@ -1,9 +1,10 @@
 -- The machine and what is reached.
 use Rattle.std.proofs.lemmas.{Grind.{common_steps}, List.{append-nil, same_from_push}}
-use Rattle.std.{proofs.Common.{◌≡◌, ℕ, zero, suc, Option, Some, None, List, [], ◌∷◌, ◌++◌, length, refl, sym, ◌∙◌, ap, subst, arith, length-append, slice_get}, specs.List.{AllZip}}
+use Rattle.std.{proofs.Common.{◌≡◌, ℕ, Option, Some, None, List, ◌∷◌, ◌++◌, length, refl, sym, ◌∙◌, ap, subst, arith, length-append, slice_get, []}, specs.List.{AllZip}}
 use Rattle.mm_machine.specs.Language.{Frame.{Symbol, Setting}, Derivation.{Derives, DeriveInOrder, nothing, first_then}, Typing.{HasFrames}, Steps.{Moves}}
 use Rattle.mm_machine.specs.Language.{Expansion.{Step, Named, Saved, Save, NotKnown, Expanded, expand_one, expand_from, expansion, last_part, with_saved, with_again}, Reaches.{Reaches}}
 use Rattle.mm_machine.{specs.Language.Machine.{State, Turns}, proofs.lemmas.verdicts.{Joins.{join, alone, cut}, Unique.{go_on, last_of, same_stack}, Weights.{last_part_is}}}
+use Rattle.mm_machine.proofs.lemmas.lists.{Members.{last_element}, Zips.{both_joined, flipped, zip_at}}
 
 -- one more step of an expansion
 pub expand_more : (place : Setting) (x : Expanded) (so_far : Option Expanded) (steps : List Step) (step : Step) → expand_from place so_far steps ≡ Some x → expand_from place so_far (steps ++ step ∷ []) ≡ expand_one place x step
@@ -12,38 +13,12 @@ expand_more place x None [] step e = cc
 expand_more place x (Some s) (y ∷ steps) step e = expand_more place x (expand_one place s y) steps step e
 expand_more place x None (y ∷ steps) step e = cc
 
--- what goes on with one more step has gone on before it
-pub expand_less : (place : Setting) (so_far : Option Expanded) (x : Expanded) (steps : List Step) (step : Step)
-    → expand_from place so_far (steps ++ step ∷ []) ≡ Some x → (y : Expanded) × (expand_from place so_far steps ≡ Some y) ×
-    (expand_one place y step ≡ Some x)
-expand_less place (Some s) x [] step e = (s, refl, e)
-expand_less place None x [] step e = cc
-expand_less place (Some s) x (y ∷ steps) step e = expand_less place (expand_one place s y) x steps step e
-expand_less place None x (y ∷ steps) step e = cc
-
 -- what the machine's state is after the steps
 pub record Follows (place : Setting) (steps : List Step) (state : State) : Type 0 where
   pub expanded : Expanded
   pub expands : expansion place steps ≡ Some expanded
   pub in_order : DeriveInOrder place expanded.labels state.stack
   pub of_saved : AllZip (λ part e. Derives place part e) expanded.saved state.saved
-
-zip_at : {A B : Type 0} (R : A → B → Type 0) (xs : List A) (ys : List B) (n : ℕ) (y : B) → AllZip R xs ys → slice_get ys n ≡ Some y → (x : A) × (slice_get xs n ≡ Some x) × R x y
-zip_at R [] [] n y a e = cc
-zip_at R (x ∷ xs) (z ∷ ys) zero y a e = let f : z ≡ y = cc in (x, refl, subst (R x) f a.0)
-zip_at R (x ∷ xs) (z ∷ ys) (suc n) y a e = zip_at R xs ys n y a.1 e
-zip_at R _ _ n y a e = absurd a
-
-zip_at_first : {A B : Type 0} (R : A → B → Type 0) (xs : List A) (ys : List B) (n : ℕ) (x : A) → AllZip R xs ys → slice_get xs n ≡ Some x → (y : B) × (slice_get ys n ≡ Some y) × R x y
-zip_at_first R [] [] n x a e = cc
-zip_at_first R (w ∷ xs) (z ∷ ys) zero x a e = let f : w ≡ x = cc in (z, refl, subst (λ v. R v z) f a.0)
-zip_at_first R (w ∷ xs) (z ∷ ys) (suc n) x a e = zip_at_first R xs ys n x a.1 e
-zip_at_first R _ _ n x a e = absurd a
-
-zip_push : {A B : Type 0} (R : A → B → Type 0) (xs : List A) (ys : List B) (x : A) (y : B) → AllZip R xs ys → R x y → AllZip R (xs ++ x ∷ []) (ys ++ y ∷ [])
-zip_push R [] [] x y a r = (r, a)
-zip_push R (w ∷ xs) (z ∷ ys) x y a r = (a.0, zip_push R xs ys x y a.1 r)
-zip_push R _ _ x y a r = absurd a
 
 -- a join of one
 pub only : {place : Setting} {a : List (List ℕ)} {e : List Symbol} → DeriveInOrder place a (e ∷ []) → Derives place a e
@@ -60,19 +35,18 @@ top_of {place} {labels} below e stack d is =
 -- the machine goes on as the expansion does
 pub follows_on : (place : Setting) (steps : List Step) (step : Step) (before after : State) → Follows place steps before → Turns place step before after → Follows place (steps ++ step ∷ []) after
 follows_on place steps (Named label) before after f t = grind (arith, expand_more place f.expanded _ steps (Named label) f.expands, go_on label (place.resolve label) refl f.in_order t.0) steps 200000
-follows_on place steps (Saved n) before after f t = grind (arith, common_steps, expand_more place f.expanded _ steps (Saved n) f.expands, join, alone, zip_at) steps 200000
-follows_on place steps Save before after f t = grind (arith, common_steps, top_of t.0 t.1 before.stack f.in_order t.2, expand_more place f.expanded _ steps Save f.expands, zip_push) steps 200000
+follows_on place steps (Saved n) before after f t =
+    let saved = flipped (λ part e. Derives place part e) (λ e part. Derives place part e) f.expanded.saved before.saved (λ part e d. d) f.of_saved in
+    let at = zip_at (λ e part. Derives place part e) before.saved f.expanded.saved n t.0 saved t.1 in
+    grind (arith, common_steps, expand_more place f.expanded _ steps (Saved n) f.expands, join, alone, at) steps 200000
+follows_on place steps Save before after f t =
+    grind (arith, common_steps, top_of t.0 t.1 before.stack f.in_order t.2, expand_more place f.expanded _ steps Save f.expands, both_joined) steps 200000
 follows_on place steps NotKnown before after f t = absurd t
 
 -- a join of no expressions is of no labels
 pub no_stack : {place : Setting} {labels : List (List ℕ)} {stack : List (List Symbol)} → DeriveInOrder place labels stack → stack ≡ [] → labels ≡ []
 no_stack nothing e = refl
 no_stack (first_then h t) e = cc
-
--- a last entry, if there is one
-pub last_entry : (x : List Symbol) (xs : List (List Symbol)) → (below : List (List Symbol)) × (e : List Symbol) × (x ∷ xs ≡ below ++ e ∷ [])
-last_entry x [] = ([], x, refl)
-last_entry x (y ∷ ys) = let l = last_entry y ys in (x ∷ l.0, l.1, ap (λ s. x ∷ s) l.2)
 
 -- what the machine's turn has to be, if something is reached
 pub record Goes (place : Setting) (step : Step) (before : State) (next : List (List Symbol)) : Type 0 where
@@ -103,7 +77,7 @@ goes_saved :
     AllZip (λ part e. Derives place part e) so_far.saved before.saved → DeriveInOrder place expanded.labels next → Goes place (Saved n) before next
 goes_saved place is n before next so_far expanded None at e d z d' = cc
 goes_saved place is n before next so_far expanded (Some part) at e d z d' =
-    let x = zip_at_first (λ part e. Derives place part e) so_far.saved before.saved n part z at in
+    let x = zip_at (λ part e. Derives place part e) so_far.saved before.saved n part z at in
     let labels : so_far.labels ++ part ≡ expanded.labels = cc in
     record {
       after = record before { stack = before.stack ++ x.0 ∷ [] };
@@ -118,7 +92,7 @@ goes_save :
 goes_save place is before next stack so_far expanded None at e s d d' = cc
 goes_save place is before next [] so_far expanded (Some part) at e s d d' = grind (arith, common_steps, no_stack d refl) steps 200000
 goes_save place is before next (x ∷ xs) so_far expanded (Some part) at e s d d' =
-    let l = last_entry x xs in
+    let l = last_element x xs in
     let labels : so_far.labels ≡ expanded.labels = cc in
     record {
       after = record before { saved = before.saved ++ l.1 ∷ [] };

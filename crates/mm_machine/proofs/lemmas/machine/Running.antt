@@ -1,24 +1,15 @@
 -- Whole runs of the machine: what it ends with is what is reached, and its first fault is the step at fault.
 use Rattle.std.proofs.lemmas.{Grind.{common_steps}, Option.{slice_get_within}}
-use Rattle.std.proofs.Common.{◌≡◌, ◌≢◌, ℕ, ◌+◌, ◌≤◌, ◌<◌, Some, Result, Ok, Err, List, [], ◌∷◌, ◌++◌, length, take, refl, sym, ◌∙◌, ap, subst, append_assoc, arith, length-append, slice_get, ◌↔◌}
-use Rattle.std.proofs.Common.{append-nil, take_at, take_all}
-use Rattle.mm_machine.specs.Language.{Frame.{Symbol, Setting}, Typing.{HasFrames}, Expansion.{Step, NotKnown}, Faults.{StepLineHolds, row_of}, Reaches.{Reaches, IsStepFault}}
-use Rattle.mm_machine.specs.{Language.Machine.{State, Turns, IsReady, Runs, nothing_yet, AreAllKnown, AreDecodedAfter}, declared.ProofNumber.{ProofNumber}}
-use Rattle.mm_machine.proofs.lemmas.machine.{Reaching.{Follows, follows_on, goes, reached, at_start, one_stack}, Turning.{turn, turn_says, no_turn, Says, same_number}}
-use Rattle.mm_machine.proofs.lemmas.verdicts.Fronts.{reached_earlier, reached_front}
+use Rattle.std.proofs.Common.{◌≡◌, ◌≢◌, ℕ, ◌+◌, ◌≤◌, ◌<◌, Some, List, ◌∷◌, ◌++◌, length, take, refl, sym, ◌∙◌, ap, subst, append_assoc, arith, length-append, slice_get, ◌↔◌, append-nil, take_at}
+use Rattle.std.proofs.Common.{take_all, inl, inr, ◌⊎◌, []}
+use Rattle.mm_machine.specs.Language.{Run.{AreDone, run_part}, Frame.{Symbol, Setting}, Typing.{HasFrames}, Expansion.{Step, NotKnown}, Faults.{StepLineHolds, row_of, IsLowest}}
+use Rattle.mm_machine.specs.Language.{Reaches.{Reaches, IsStepFault}, Machine.{State, Turns, IsReady, Runs, nothing_yet, AreAllKnown, AreDecodedAfter, AreDecoded}}
+use Rattle.mm_machine.{specs.declared.ProofNumber.{ProofNumber}, proofs.lemmas.machine.Reaching.{Follows, follows_on, goes, reached, at_start, one_stack}}
+use Rattle.mm_machine.proofs.lemmas.{machine.{Turning.{no_turn, same_number, turns_or_fails}, Threaded.{threaded}}, verdicts.{Fronts.{reached_earlier, reached_front}, Part.{part_decoded, part_known}}}
 
--- the steps from step n on, as far as the first fault
-pub run_from : Setting → ℕ → State → List Step → Result State (ℕ × ProofNumber)
-run_from place n s [] = Ok s
-run_from place n s (step ∷ rest) = elim (turn place s step) [ Ok after ↦ run_from place (n + 1) after rest | Err number ↦ Err (n, number) ]
-
-pub run : Setting → List Step → Result State (ℕ × ProofNumber)
-run place steps = run_from place 0 (record { stack = []; saved = [] }) steps
-
--- what the end of a run says
-abbrev pub RunSays : Setting → List Step → Result State (ℕ × ProofNumber) → Type 0
-RunSays place steps (Ok s) = Follows place steps s
-RunSays place steps (Err fault) = IsStepFault place steps fault.0 fault.1
+-- a run ends with a state, or there is a step at fault
+abbrev pub RunSays : Setting → List Step → Type 0
+RunSays place steps = ((s : State) × Follows place steps s) ⊎ ((n : ℕ) × (number : ProofNumber) × IsStepFault place steps n number)
 
 seam : (done rest : List Step) (step : Step) → slice_get (done ++ step ∷ rest) (length done) ≡ Some step
 seam [] rest step = refl
@@ -30,8 +21,7 @@ take_seam done rest step = ap (λ l. take (length done + 1) l) (sym (append_asso
 -- if the machine has no turn, the step is at fault
 pub faulty :
     (place : Setting) → HasFrames place → (done rest : List Step) (s : State) (step : Step) (number : ProofNumber) → Follows place done s →
-    StepLineHolds place step s.stack number × ((other : ProofNumber) → StepLineHolds place step s.stack other → row_of number ≤ row_of other) →
-    IsStepFault place (done ++ step ∷ rest) (length done) number
+    IsLowest place step s.stack number → IsStepFault place (done ++ step ∷ rest) (length done) number
 faulty place is done rest s step number f p = record {
   stack = s.stack;
   step = step;
@@ -39,8 +29,8 @@ faulty place is done rest s step number f p = record {
   at_fault = seam done rest step;
   nothing_after = λ next r.
       let g = goes place is done step s next f (subst (λ l. Reaches place l next) (take_seam done rest step) r) in
-      no_turn place is s g.after step number p.0 g.turns;
-  number_is = record { holds = p.0; lowest = p.1 };
+      no_turn place is s g.after step number p.holds g.turns;
+  number_is = p;
 }
 
 pub decoded_on : (place : Setting) (s after : State) (step : Step) (rest : List Step) → step ≢ NotKnown
@@ -48,24 +38,16 @@ pub decoded_on : (place : Setting) (s after : State) (step : Step) (rest : List 
     → AreDecodedAfter place (length after.saved) rest)
 decoded_on place s after step rest k d = grind (arith, common_steps) steps 200000
 
-run_case :
-    (place : Setting) → HasFrames place → (done rest : List Step) (s : State) (step : Step) (r : Result State ProofNumber) → Follows place done s →
-    Says (λ after. Turns place step s after) (StepLineHolds place step s.stack) r →
-    ((after : State) → Turns place step s after → RunSays place (done ++ step ∷ rest) (run_from place (length done + 1) after rest)) →
-    RunSays place (done ++ step ∷ rest) (elim r [ Ok after ↦ run_from place (length done + 1) after rest | Err number ↦ Err (length done, number) ])
-run_case place is done rest s step (Ok after) f p k = k after p
-run_case place is done rest s step (Err number) f p k = faulty place is done rest s step number f p
-
 pub run_says : (place : Setting) → HasFrames place → (done : List Step) (s : State) (rest : List Step) → Follows place done s
-    → AreDecodedAfter place (length s.saved) rest → AreAllKnown rest → RunSays place (done ++ rest) (run_from place (length done) s rest)
-unfolding run_from
-run_says place is done s [] f d k = subst (λ l. Follows place l s) (sym (append-nil done)) f
+    → AreDecodedAfter place (length s.saved) rest → AreAllKnown rest → RunSays place (done ++ rest)
+run_says place is done s [] f d k = inl (s, subst (λ l. Follows place l s) (sym (append-nil done)) f)
 run_says place is done s (step ∷ rest) f d k =
-    run_case place is done rest s step (turn place s step) f (turn_says place is s step (decoded_on place s s step rest k.0 d).0)
-    (λ after t.
-    let whole = append_assoc done (step ∷ []) rest in
-    let r = run_says place is (done ++ step ∷ []) after rest (follows_on place done step s after f t) ((decoded_on place s after step rest k.0 d).1 t) k.1 in
-    subst (λ l. RunSays place l (run_from place (length done + 1) after rest)) whole (subst (λ n. RunSays place ((done ++ step ∷ []) ++ rest) (run_from place n after rest)) (length-append done (step ∷ [])) r))
+    let ready = decoded_on place s s step rest k.0 d in
+    elim (turns_or_fails place is s step ready.0) [
+      | inl t ↦ subst (RunSays place) (append_assoc done (step ∷ []) rest)
+          (run_says place is (done ++ step ∷ []) t.0 rest (follows_on place done step s t.0 f t.1) ((decoded_on place s t.0 step rest k.0 d).1 t.1) k.1)
+      | inr w ↦ inr (length done, w.0, faulty place is done rest s step w.0 f w.1)
+    ]
 
 -- one stack is reached
 pub same_reached : (place : Setting) → HasFrames place → (steps : List Step) (xs ys : List (List Symbol)) → Reaches place steps xs → Reaches place steps ys → xs ≡ ys
@@ -103,9 +85,9 @@ same_fault place is steps n m a b f g =
     (e, same_number a b (same_row place is steps n m a b e f g))
 
 -- the machine ends with what is reached
-pub run_right : (place : Setting) → HasFrames place → (steps : List Step) → AreDecodedAfter place 0 steps → AreAllKnown steps → RunSays place steps (run place steps)
-unfolding run
-run_right place is steps d k = run_says place is [] (record { stack = []; saved = [] }) steps (at_start place) d k
+pub run_right : (place : Setting) → HasFrames place → (steps : List Step) → AreDecoded place steps → RunSays place (run_part steps)
+run_right place is steps d =
+    run_says place is [] nothing_yet (run_part steps) (at_start place) (part_decoded place 0 steps (threaded place steps d)) (part_known steps)
 
 -- the runs of the machine and what is reached
 pub runs_follow : (place : Setting) (done rest : List Step) (s after : State) → Follows place done s → Runs place s rest after → Follows place (done ++ rest) after
@@ -115,7 +97,7 @@ runs_follow place done (step ∷ rest) s after f r = subst (λ l. Follows place 
 follow_runs : (place : Setting) → HasFrames place → (done rest : List Step) (s : State) (stack : List (List Symbol)) → Follows place done s → Reaches place (done ++ rest) stack → (after : State) × Runs place s rest after × (after.stack ≡ stack)
 follow_runs place is done [] s stack f r = (s, refl, same_reached place is done s.stack stack (reached place done s f) (subst (λ l. Reaches place l stack) (append-nil done) r))
 follow_runs place is done (step ∷ rest) s stack f r =
-    let early = reached_front place (length rest) (done ++ step ∷ []) rest stack (omega arith) (subst (λ l. Reaches place l stack) (sym (append_assoc done (step ∷ []) rest)) r) in
+    let early = reached_front place (done ++ step ∷ []) rest stack (subst (λ l. Reaches place l stack) (sym (append_assoc done (step ∷ []) rest)) r) in
     let g = goes place is done step s early.0 f early.1 in
     let on = follow_runs place is (done ++ step ∷ []) rest g.after stack (follows_on place done step s g.after f g.turns) (subst (λ l. Reaches place l stack) (sym (append_assoc done (step ∷ []) rest)) r) in
     (on.0, (g.after, g.turns, on.1), on.2)
@@ -125,3 +107,19 @@ runs_reach place is steps stack = (
   λ r. let f = runs_follow place [] steps nothing_yet r.0 (at_start place) r.1 in subst (Reaches place steps) r.2 (reached place steps r.0 f),
   λ r. follow_runs place is [] steps nothing_yet stack (at_start place) r,
 )
+
+-- ---- how many steps are done
+
+-- one number at most
+pub one_count : (place : Setting) → HasFrames place → (steps : List Step) (a b : ℕ) → AreDone place steps a → AreDone place steps b → a ≡ b
+one_count place is steps a b (inl f) (inl g) = f.3 ∙ ap (λ (n : ℕ). n + 1) (same_fault place is (run_part steps) f.0 g.0 f.1 g.1 f.2 g.2).0 ∙ sym g.3
+one_count place is steps a b (inl f) (inr r) = absurd (no_fault place (run_part steps) r.0.0 f.0 f.1 r.0.1 f.2)
+one_count place is steps a b (inr r) (inl g) = absurd (no_fault place (run_part steps) r.0.0 g.0 g.1 r.0.1 g.2)
+one_count place is steps a b (inr r) (inr t) = r.1 ∙ sym t.1
+
+-- and one at least
+pub some_count : (place : Setting) → HasFrames place → (steps : List Step) → AreDecoded place steps → (count : ℕ) × AreDone place steps count
+some_count place is steps decoded = elim (run_right place is steps decoded) [
+  | inl f ↦ (length (run_part steps), inr ((f.0.stack, reached place (run_part steps) f.0 f.1), refl))
+  | inr f ↦ (f.0 + 1, inl (f.0, f.1, f.2, refl))
+]

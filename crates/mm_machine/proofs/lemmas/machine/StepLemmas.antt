@@ -1,14 +1,15 @@
 -- Tasks of the code and steps of a proof.
-use Rattle.std.proofs.Common.{rules, ◌≡◌, ◌≢◌, ℕ, zero, suc, ◌+◌, ◌<◌, ◌≤◌, false, Option, Some, None, List, [], ◌∷◌, ◌++◌, length, take, drop, get_or, refl, sym, ◌∙◌, ap, subst, arith, append_assoc}
-use Rattle.std.proofs.{Common.{zero-add, add-zero, length-append, slice_get, MatchOption, IfNone, map}, lemmas.Grind.{common_steps, elements}}
-use Rattle.std.proofs.lemmas.List.{take_more, take-append-drop, drop_more, take_all, length-map, Sums.{sum_by-cons, sum_by-append}}
+use Rattle.std.proofs.Common.{rules, ◌≡◌, ◌≢◌, ℕ, zero, suc, ◌+◌, ◌<◌, ◌≤◌, false, Option, Some, None, List, ◌∷◌, ◌++◌, length, take, drop, get_or, refl, sym, ◌∙◌, ap, subst, arith, append_assoc}
+use Rattle.std.proofs.{Common.{zero-add, add-zero, length-append, slice_get, MatchOption, IfNone, map, []}, lemmas.Grind.{common_steps, elements}}
+use Rattle.std.proofs.lemmas.List.{take_more, take-append-drop, drop_more, take_all, length-map, get_or_append_left, Sums.{sum_by-cons, sum_by-append}}
 use Rattle.std.{proofs.lemmas.Option.{slice_get_within, get_or_from_slice_get, slice_get-get_or}, specs.List.{AllZip}}
-use Rattle.mm_machine.specs.Language.{Frame.{Symbol, Frame, Resolved, Hypothesis, Assertion, Setting, AreSameFrame, AreSamePairs}, Typing.{HasFrames}, Steps.{Cites, Moves}}
+use Rattle.mm_machine.specs.Language.{Frame.{Symbol, Frame, Resolved, Hypothesis, Assertion, Setting, AreSameFrame, AreSamePairs}, Typing.{HasFrames}, Steps.{Cites}}
 use Rattle.mm_machine.specs.Language.{Expansion.{Step, Named, Saved, Save, NotKnown}, Machine.{State, Turns, AreAllKnown}, Faults.{LabelFails, IsLowest}, Reaches.{Reaches, IsStepFault}}
 use Rattle.mm_machine.specs.Language.{Run.{is_unknown, run_part, IsReached}, Verdict.{IsFirstUnknown}, NamedSteps.{meant, MeansUse, actions_mean, saves_by, saves_in}}
 use Rattle.mm_machine.specs.{declared.{ProofNumber.{ProofNumber}, stepping.Task.{Task}, named.Use.{Use}, machine.Machine.{Machine}, step.ProofStep.{ProofStep}}, Code.Citation.{IsLowestCiting}}
 use Rattle.mm_machine.{specs.Code.{MachineState.{state_of}, Ranges.{Saves}, Tasks.{HasState, MeansTask}, Flat.{read}}, proofs.lemmas.verdicts.Moving.{takes_moved, frame_back, label_moved}}
 use Rattle.mm_machine.proofs.lemmas.{verdicts.Part.{known_one, one_known, part_one, part_none}, machine.{Reaching.{Follows, follows_on, reached}, Running.{faulty}, FlatLemmas.{mapped_or_get}}}
+use Rattle.mm_machine.proofs.lemmas.lists.{Zips.{zip_at}, Members.{take_next}}
 use Rattle.mm_machine.specs.declared.stepping.Task.TheVariants as tasks
 use Rattle.mm_machine.specs.declared.named.Use.TheVariants as uses
 
@@ -58,9 +59,7 @@ cite_turns active place label kept frame stack before after (Some number) pairs 
 -- ---- after what is kept
 
 pub kept_at : {X : Type 0} (front back : List X) (n : ℕ) (x : X) → slice_get front n ≡ Some x → slice_get (front ++ back) n ≡ Some x
-kept_at [] back n x e = cc
-kept_at (y ∷ front) back zero x e = e
-kept_at (y ∷ front) back (suc n) x e = kept_at front back n x e
+kept_at front back n x e = grind (arith, elements, get_or_append_left, get_or_from_slice_get, length-append, slice_get-get_or, slice_get_within) steps 200000
 
 pub saved_at : {X : Type 0} (front back : List X) (n : ℕ) → slice_get (front ++ back) (length front + n) ≡ slice_get back n
 saved_at [] back n = ap (slice_get back) (zero-add n)
@@ -113,7 +112,7 @@ fault_of : (place : Setting) → HasFrames place → (steps : List Step) (k : �
 fault_of place is steps k s state number at f low =
     let l = slice_get_within steps k s at in
     let whole : take k steps ++ s ∷ drop (k + 1) steps ≡ steps = ap (λ w. take k steps ++ w) (sym (drop_more steps k s l ∙ ap (λ w. w ∷ drop (k + 1) steps) (get_or_from_slice_get steps k s s at))) ∙ take-append-drop k steps in
-    grind (arith, common_steps, faulty place is (take k steps) (drop (k + 1) steps) state s number f (low.holds, low.lowest)) steps 200000
+    grind (arith, common_steps, faulty place is (take k steps) (drop (k + 1) steps) state s number f low) steps 200000
 
 -- the next step is at fault
 pub fault_here : (place : Setting) → HasFrames place → (steps : List Step) (k : ℕ) (s : Step) (state : State) (number : ProofNumber) → KnownUpTo steps k
@@ -128,37 +127,22 @@ unknown_here place steps k state known at f = grind (arith, common_steps, part_e
 pub reached_all : (place : Setting) (steps : List Step) (k : ℕ) (state : State) → length steps ≤ k → Follows place (take k steps) state → Reaches place steps state.stack
 reached_all place steps k state l f = subst (λ (w : List Step). Reaches place w state.stack) (take_all k steps l) (reached place (take k steps) state f)
 
--- one more of a list
-pub take_next : {X : Type 0} (xs : List X) (n : ℕ) (x : X) → slice_get xs n ≡ Some x → take (n + 1) xs ≡ take n xs ++ x ∷ []
-take_next xs n x at = take_more xs n x (slice_get_within xs n x at) ∙ ap (λ w. take n xs ++ w ∷ []) (get_or_from_slice_get xs n x x at)
-
 -- ---- what a task makes of the machine
 
 -- the machine has the state after a turn
 abbrev pub TurnsTo : {S : Type 0} → (S → Symbol) → List (List Symbol) → Machine S → Setting → Step → State → Type 0
 TurnsTo means expressions machine place step before = (after : State) × HasState means expressions machine after × Turns place step before after
 
-pub pushed_turns :
-    {S : Type 0} (means : S → Symbol) (expressions : List (List Symbol)) (place : Setting) (label : List ℕ) (step : Step) (e : List Symbol) (before : State) (old new : Machine S) →
-    step ≡ Named label → place.resolve label ≡ Hypothesis e → HasState means expressions old before →
-    (state_of means new).stack ≡ (state_of means old).stack ++ e ∷ [] → (state_of means new).saved ≡ (state_of means old).saved → TurnsTo means expressions new place step before
-pushed_turns means expressions place label step e before old new is at state stack saved =
-    let after : State = record { stack = before.stack ++ e ∷ []; saved = before.saved } in (
-      after,
-      record { stack = stack ∙ ap (λ w. w ++ e ∷ []) state.stack; saved = saved ∙ state.saved },
-      subst (λ (s : Step). Turns place s before after) (sym is) (subst (λ (r : Resolved). Moves place.active r before.stack after.stack) (sym at) refl, refl),
-    )
+pub named_turns : (place : Setting) (label : List ℕ) (step : Step) (e : List Symbol) (before : State) → step ≡ Named label →
+    place.resolve label ≡ Hypothesis e → Turns place step before (record before { stack = before.stack ++ e ∷ [] })
+named_turns place label step e before is at = rw is (rw at refl, refl)
 
-pub again_turns :
-    {S : Type 0} (means : S → Symbol) (expressions : List (List Symbol)) (place : Setting) (n : ℕ) (step : Step) (e : List Symbol) (before : State) (old new : Machine S) →
-    step ≡ Saved n → slice_get before.saved n ≡ Some e → HasState means expressions old before →
+pub pushed_turns :
+    {S : Type 0} (means : S → Symbol) (expressions : List (List Symbol)) (place : Setting) (step : Step) (e : List Symbol) (before : State)
+    (old new : Machine S) →
+    Turns place step before (record before { stack = before.stack ++ e ∷ [] }) → HasState means expressions old before →
     (state_of means new).stack ≡ (state_of means old).stack ++ e ∷ [] → (state_of means new).saved ≡ (state_of means old).saved → TurnsTo means expressions new place step before
-again_turns means expressions place n step e before old new is at state stack saved =
-    let after : State = record { stack = before.stack ++ e ∷ []; saved = before.saved } in (
-      after,
-      record { stack = stack ∙ ap (λ w. w ++ e ∷ []) state.stack; saved = saved ∙ state.saved },
-      subst (λ (s : Step). Turns place s before after) (sym is) (e, at, refl, refl),
-    )
+pushed_turns means expressions place step e before old new turns state stack saved = grind (arith, common_steps) steps 200000
 
 pub kept_turns :
     {S : Type 0} (means : S → Symbol) (expressions : List (List Symbol)) (place : Setting) (step : Step) (before : State) (old new : Machine S) →
@@ -185,10 +169,7 @@ cited_turns means expressions place label before after new found has t = grind (
 pub used_at :
     (expressions : List (List Symbol)) (frames : List Frame) (place : Setting) (all : List Use) (names : List Step) (k : ℕ) (used : Use) →
     slice_get all k ≡ Some used → AllZip (MeansUse expressions frames place) all names → MeansUse expressions frames place used (get_or names k NotKnown)
-used_at expressions frames place [] names k used at zip = cc
-used_at expressions frames place (u ∷ all) [] k used at zip = absurd zip
-used_at expressions frames place (u ∷ all) (x ∷ names) zero used at zip = let same : u ≡ used = cc in subst (λ w. MeansUse expressions frames place w x) same zip.0
-used_at expressions frames place (u ∷ all) (x ∷ names) (suc k) used at zip = used_at expressions frames place all names k used at zip.1
+used_at expressions frames place all names k used at zip = search (rules, get_or_from_slice_get, zip_at) steps 200000
 
 pub unused_at :
     (expressions : List (List Symbol)) (frames : List Frame) (place : Setting) (all : List Use) (names : List Step) (k : ℕ) →

@@ -1,16 +1,12 @@
 -- Frames and settings whose symbols are renamed.
 use Rattle.std.proofs.lemmas.{Grind.{common_steps}, List.{length-map, get_or-map, Elements.{All-map}}, Option.{slice_get-map}}
 use Rattle.std.proofs.Common.{◌≡◌, ◌≢◌, ℕ, true, List, map, get_or, refl, sym, ap, ◌∙◌, subst, subst₂, arith, slice_get, All, AllPairs}
-use Rattle.mm_machine.specs.Language.{Frame.{Symbol, Mandatory, Frame, Resolved, Assertion, Setting, ArePair, AreSamePairs}, Typing.{IsTyped, IsTyping, IsFrame, HasFrames}, SameProof.{AreSameMeaning}}
-use Rattle.mm_machine.specs.Language.{Renaming.{IsRenaming, renamed_pair, renamed_pairs, renamed_mandatory, renamed_frame, renamed_meaning, IsRenamedSetting, renamed_setting}, Names.{AreDistinct}}
+use Rattle.mm_machine.specs.Language.{Frame.{Symbol, Mandatory, Frame, Resolved, Assertion, Setting, ArePair, AreSamePairs}, Typing.{IsTyped, IsTyping, IsFrame, HasFrames}}
+use Rattle.mm_machine.specs.Language.{Renaming.{IsRenaming, renamed_pair, renamed_pairs, renamed_mandatory, renamed_frame, renamed_meaning, renamed_setting}, Names.{AreDistinct}}
 use Rattle.mm_machine.specs.Language.{NumberedSymbols.{kept_pairs, IsPairNumbered, by_number}, Expansion.{Step}, CitedFrames.{meant_pairs}, NamedSteps.{RunSays}, Numbering.{naming, unnaming}}
 use Rattle.mm_machine.{specs.declared.{symbol.NumberedSymbol.{NumberedSymbol}, stepping.Outcome.{Outcome}}, proofs.lemmas.renaming.NumberingLemmas.{naming_is_renaming, pairs_numbered}}
 use Rattle.mm_machine.proofs.lemmas.renaming.RenamingLemmas.{map_back, contains_map, contains_back, pair_there, pair_back, renaming_back, mandatory_there, has_there, has_back, setting_back}
 use Rattle.mm_machine.proofs.lemmas.renaming.RenamingLemmas.{run_renamed}
-
--- what means the same means the same when renamed
-same_there : (r : Resolved) → AreSameMeaning r r
-same_there r = grind (arith, common_steps) steps 200000
 
 -- a symbol after another renamed
 second_own : (f : Symbol → Symbol) (g : Symbol → Symbol) → ((s : Symbol) → g (f s) ≡ s) → (xs ys : List Symbol) → slice_get (map f xs) 1 ≡ slice_get (map f ys) 1 → slice_get xs 1 ≡ slice_get ys 1
@@ -65,13 +61,6 @@ module _ (to back : Symbol → Symbol) (is : IsRenaming to back) where
       one : (ps qs : List (Symbol × Symbol)) → ((u v : Symbol) → ArePair ps u v → ArePair qs u v) → ArePair (renamed_pairs to ps) x y → ArePair (renamed_pairs to qs) x y
       one ps qs each are = subst₂ (ArePair (renamed_pairs to qs)) (is.again x) (is.again y) (pair_there to qs (back x) (back y) (each (back x) (back y) (pair_back to back is.there ps x y are)))
 
-  -- what is renamed is renamed back
-  setting_restored : (place : Setting) → IsRenamedSetting back (renamed_setting to place) place
-  setting_restored place = setting_back to back is place (renamed_setting to place) (record {
-    resolve = λ label. same_there (renamed_meaning to (place.resolve label));
-    active = λ x y. (λ are. are, λ are. are);
-  })
-
 -- numbers in place of names
 module _ (names : List (List ℕ)) where
   by_numbers : IsRenaming (unnaming names) (naming names)
@@ -93,7 +82,7 @@ module _ (names : List (List ℕ)) where
   pub run_named : (place : Setting) (steps : List Step) (statement : List Symbol) (outcome : Outcome) →
       RunSays (renamed_setting (unnaming names) place) steps (map (unnaming names) statement) outcome → RunSays place steps statement outcome
   run_named place steps statement outcome says =
-      let is = naming_is_renaming names in
-      let numbered = renamed_setting (unnaming names) place in
-      let there = run_renamed (naming names) (unnaming names) is numbered place (setting_restored (unnaming names) (naming names) by_numbers place) steps (map (unnaming names) statement) outcome says in
-      subst (λ (e : List Symbol). RunSays place steps e outcome) (map_back (unnaming names) (naming names) is.again statement) there
+      subst₂ (λ (p : Setting) (e : List Symbol). RunSays p steps e outcome) (setting_back (unnaming names) (naming names) by_numbers place)
+      (map_back (unnaming names) (naming names) by_numbers.there statement)
+      (run_renamed (naming names) (unnaming names) (naming_is_renaming names) (renamed_setting (unnaming names) place) steps (map (unnaming names) statement)
+      outcome says)

@@ -1,15 +1,16 @@
 -- A renaming of symbols, one to one, keeps verdicts.
-use Rattle.std.proofs.lemmas.{Grind.{common_steps}, List.{length-map, get_or-map, map-append, drop-map, Elements.{All-map}}}
-use Rattle.std.proofs.Common.{◌≡◌, ◌≢◌, ℕ, ◌+◌, ◌-◌, ◌<◌, Bool, true, false, Option, Some, None, List, [], ◌∷◌, ◌++◌, length, map, take, drop, get_or, refl, sym, ap, ap₂, ◌∙◌, subst, subst₂, arith}
-use Rattle.std.{proofs.Common.{inl, inr, slice_get, Contains, All, Any, pos, if◌then◌else◌}, specs.{List.{AllZip}, Ordering.{int_eq}}}
-use Rattle.mm_machine.specs.Language.Frame.{Symbol, Mandatory, Frame, Resolved, Hypothesis, Assertion, Inactive, Unknown, Setting, ArePair, HasVariable, AreSamePairs}
-use Rattle.mm_machine.specs.Language.{Substitution.{replacement, substituted}, Derivation.{Derives, DeriveInOrder, by_hypothesis, by_assertion, nothing, first_then, Takes, AreApart, ShareVariable}}
+use Rattle.std.proofs.lemmas.{Grind.{common_steps}, Option.{slice_get-map}, List.{length-map, get_or-map, map-append, drop-map, Elements.{All-map}}}
+use Rattle.std.proofs.Common.{◌≡◌, ◌≢◌, ℕ, ◌+◌, ◌-◌, Option, Some, None, Ok, Err, List, ◌∷◌, length, map, take, get_or, refl, sym, ap, ap₂, ◌∙◌, subst, subst₂, arith, slice_get, Contains, All, Any}
+use Rattle.std.{proofs.Common.{pos, if◌then◌else◌, []}, specs.{List.{AllZip}, Ordering.{int_eq}}}
+use Rattle.mm_machine.specs.Language.{Frame.{Symbol, Mandatory, Frame, Resolved, Hypothesis, Assertion, Unknown, Setting, ArePair, HasVariable}, Substitution.{substituted}}
+use Rattle.mm_machine.specs.Language.Derivation.{Derives, DeriveInOrder, by_hypothesis, by_assertion, nothing, first_then, Takes, AreApart}
 use Rattle.mm_machine.specs.Language.Expansion.{Step, Named, Save, Expanded, expand_one, expand_from, last_part, or_else, weight, taken_by}
 use Rattle.mm_machine.specs.Language.{Faults.{AnyZip, UnderGiven, LackPair, entries_for, CitingFails, LabelFails, SaveFails, StepLineHolds}, Reaches.{Reaches, IsStepFault}, Run.{run_part}}
-use Rattle.mm_machine.specs.Language.{Verdict.{Decoded, IsWrongBy, IsVerdictOnSteps}, SameProof.{AreSameMeaning, IsSameStep}}
+use Rattle.mm_machine.specs.Language.{Verdict.{Decoded, IsVerdictOnSteps}, SameProof.{IsSameStep, IsSameProof}}
 use Rattle.mm_machine.specs.Language.Renaming.{IsRenaming, renamed_pair, renamed_pairs, renamed_mandatory, renamed_frame, renamed_meaning, IsRenamedSetting, renamed_setting}
-use Rattle.mm_machine.specs.{Language.{Laws.{RenamingKeepsVerdict}, NamedSteps.{RunSays}}, declared.{Spot.{Spot}, ProofNumber.{ProofNumber, TheVariants.{P07, P08, P09, P10, P11, P12, P13, P14, P15}}}}
-use Rattle.mm_machine.{specs.declared.{Verdict.{Verdict, TheVariants.{Proved, Incomplete, Wrong}}, stepping.Outcome.{Outcome}}, proofs.lemmas.verdicts.Moving.{reached_moved, line_moved}}
+use Rattle.mm_machine.specs.{Language.{Laws.{RenamingKeepsVerdict}, NamedSteps.{RunSays}}, declared.ProofNumber.{ProofNumber, TheVariants.{P07, P08, P09, P10, P11, P12, P13, P14, P15}}}
+use Rattle.mm_machine.{specs.declared.{Verdict.{Verdict, TheVariants.{Proved, Incomplete, Wrong}}, stepping.Outcome.{Outcome}}, proofs.lemmas.verdicts.Moving.{verdict_moved}}
+use Rattle.mm_machine.proofs.lemmas.lists.Zips.{any_at, any_place}
 use Rattle.mm_machine.specs.declared.stepping.Outcome.TheVariants as outcomes
 
 -- a list under a map, and under its inverse
@@ -26,19 +27,17 @@ contains_map f xs x c = grind (arith, common_steps, length-map xs f, get_or-map 
 pub contains_back : {X Y : Type 0} (f : X → Y) (g : Y → X) → ((x : X) → g (f x) ≡ x) → (xs : List X) (y : Y) → Contains (map f xs) y → Contains xs (g y)
 contains_back f g e xs y c = subst (λ l. Contains l (g y)) (map_back f g e xs) (contains_map g (map f xs) y c)
 
-any_map : {X Y : Type 0} (P : X → Type 0) (Q : Y → Type 0) (f : X → Y) (xs : List X) → ((x : X) → P x → Q (f x)) → Any P xs → Any Q (map f xs)
-any_map P Q f xs each a = grind (arith, common_steps, contains_map) steps 200000
+any_map : {X Y : Type 0} (P : X → Type 0) (Q : Y → Type 0) (f : X → Y) (xs : List X) → Any P xs → ((x : X) → P x → Q (f x)) → Any Q (map f xs)
+any_map P Q f xs a each = grind (arith, common_steps, contains_map) steps 200000
 
-any_zip_map : {A B C D : Type 0} (R : A → B → Type 0) (S : C → D → Type 0) (f : A → C) (g : B → D) (xs : List A) (ys : List B) → ((x : A) (y : B) → R x y → S (f x) (g y)) → AnyZip R xs ys → AnyZip S (map f xs) (map g ys)
-any_zip_map R S f g (x ∷ xs) (y ∷ ys) each a = elim a [
-  | inl r ↦ inl (each x y r)
-  | inr b ↦ inr (any_zip_map R S f g xs ys each b)
-]
-any_zip_map R S f g _ _ each a = absurd a
+any_zip_map : {A B C D : Type 0} (R : A → B → Type 0) (S : C → D → Type 0) (f : A → C) (g : B → D) (xs : List A) (ys : List B) → AnyZip R xs ys →
+    ((x : A) (y : B) → R x y → S (f x) (g y)) → AnyZip S (map f xs) (map g ys)
+any_zip_map R S f g xs ys a each = let p =
+    any_place R xs ys a in grind (arith, common_steps, slice_get-map f xs p.0, slice_get-map g ys p.0, any_at) steps 200000
 
 all_zip_map : {A B C D : Type 0} (R : A → B → Type 0) (S : C → D → Type 0) (f : A → C) (g : B → D) (xs : List A) (ys : List B) → ((x : A) (y : B) → R x y → S (f x) (g y)) → AllZip R xs ys → AllZip S (map f xs) (map g ys)
-all_zip_map R S f g [] [] each a = tt
 all_zip_map R S f g (x ∷ xs) (y ∷ ys) each a = (each x y a.0, all_zip_map R S f g xs ys each a.1)
+all_zip_map R S f g [] [] each a = a
 all_zip_map R S f g _ _ each a = absurd a
 
 -- pairs, there and back
@@ -81,16 +80,9 @@ module _ (to back : Symbol → Symbol) (is : IsRenaming to back) where
   moved_at : (given : Symbol → List Symbol) (s : Symbol) → moved given (to s) ≡ map to (given s)
   moved_at given s = ap (λ (w : Symbol). map to (given w)) (is.there s)
 
-  chosen : (b c : Bool) (s : Symbol) (xs ys : List Symbol) → b ≡ c → ys ≡ map to xs → (if b then ys else (to s ∷ [])) ≡ map to (if c then xs else (s ∷ []))
-  chosen true true s xs ys e same = same
-  chosen false false s xs ys e same = refl
-  chosen _ _ s xs ys e same = cc
-
   pub substituted_renamed : (given : Symbol → List Symbol) (e : List Symbol) → substituted (moved given) (map to e) ≡ map to (substituted given e)
   substituted_renamed given [] = refl
-  substituted_renamed given (s ∷ e) =
-      let first = chosen (to s).variable s.variable s (given s) (moved given (to s)) (is.kinds s) (moved_at given s) in
-      ap₂ ◌++◌ first (substituted_renamed given e) ∙ sym (map-append to (replacement given s) (substituted given e))
+  substituted_renamed given (s ∷ e) = grind (arith, common_steps, substituted_renamed given e, map-append, moved_at) steps 200000
 
   entries_renamed :
       (given : Symbol → List Symbol) (hs : List Mandatory) →
@@ -107,9 +99,6 @@ module _ (to back : Symbol → Symbol) (is : IsRenaming to back) where
 
   other_back : (x y : Symbol) → x ≢ y → back x ≢ back y
   other_back x y n e = n (sym (is.again x) ∙ ap to e ∙ is.again y)
-
-  other_there : (x y : Symbol) → x ≢ y → to x ≢ to y
-  other_there x y n e = n (sym (is.there x) ∙ ap back e ∙ is.there y)
 
   apart_renamed : (active : List (Symbol × Symbol)) (xs ys : List Symbol) → AreApart active xs ys → AreApart (renamed_pairs to active) (map to xs) (map to ys)
   apart_renamed active xs ys a = record {
@@ -128,12 +117,7 @@ module _ (to back : Symbol → Symbol) (is : IsRenaming to back) where
   takes_renamed :
       (active : List (Symbol × Symbol)) (frame : Frame) (given : Symbol → List Symbol) (entries : List (List Symbol)) (result : List Symbol) →
       Takes active frame given entries result → Takes (renamed_pairs to active) (renamed_frame to frame) (moved given) (map (map to) entries) (map to result)
-  takes_renamed active frame given entries result t = record {
-    entries_match = entries_renamed given frame.hypotheses ∙ ap (map (map to)) t.entries_match;
-    result_matches = substituted_renamed given frame.expression ∙ ap (map to) t.result_matches;
-    apart = all_apart active frame.pairs given t.apart;
-    short = (let long = length-map result to in omega arith);
-  }
+  takes_renamed active frame given entries result t = grind (arith, common_steps, all_apart, entries_renamed, length-map, substituted_renamed) steps 200000
 
   mutual
     -- what a list derives, it derives renamed
@@ -147,97 +131,48 @@ module _ (to back : Symbol → Symbol) (is : IsRenaming to back) where
     joined_renamed place (first_then h t) = first_then (derived_renamed place h) (joined_renamed place t)
 
   reached_renamed : (place : Setting) (steps : List Step) (stack : List (List Symbol)) → Reaches place steps stack → Reaches (renamed_setting to place) steps (map (map to) stack)
-  reached_renamed place steps stack r = record {
-    expanded = r.expanded;
-    expands = from_renamed to place (Some (record { labels = []; saved = [] })) steps ∙ r.expands;
-    in_order = joined_renamed place r.in_order;
-  }
+  reached_renamed place steps stack r = grind (arith, common_steps, from_renamed, joined_renamed) steps 200000
 
   -- a line that holds, renamed
   entries_for_renamed : (frame : Frame) (stack : List (List Symbol)) → entries_for (renamed_frame to frame) (map (map to) stack) ≡ map (map to) (entries_for frame stack)
-  entries_for_renamed frame stack =
-      ap₂ (λ (n m : ℕ). drop (n - m) (map (map to) stack)) (length-map stack (map to)) (length-map frame.hypotheses (renamed_mandatory to))
-      ∙ drop-map (map to) (length stack - length frame.hypotheses) stack
+  entries_for_renamed frame stack = grind (arith, common_steps, drop-map, length-map) steps 200000
 
   under_renamed :
-      (frame : Frame) (entries : List (List Symbol)) (P Q : (Symbol → List Symbol) → Type 0) →
-      ((given : Symbol → List Symbol) → P given → Q (moved given)) → UnderGiven frame entries P → UnderGiven (renamed_frame to frame) (map (map to) entries) Q
-  under_renamed frame entries P Q each u =
-      let given = u.0 in (
-        moved given,
-        all_zip_map
-            (λ (h : Mandatory) (e : List Symbol). h.floating ≡ true → substituted given h.expression ≡ e)
-            (λ (h : Mandatory) (e : List Symbol). h.floating ≡ true → substituted (moved given) h.expression ≡ e)
-            (renamed_mandatory to) (map to) frame.hypotheses entries
-            (λ h e same floating. substituted_renamed given h.expression ∙ ap (map to) (same floating)) u.1,
-        each given u.2,
-      )
+      (frame : Frame) (stack : List (List Symbol)) (P Q : (Symbol → List Symbol) → Type 0) → UnderGiven frame (entries_for frame stack) P →
+      ((given : Symbol → List Symbol) → P given → Q (moved given)) → UnderGiven (renamed_frame to frame) (map (map to) (entries_for frame stack)) Q
+  under_renamed frame stack P Q u each = grind (arith, common_steps, all_zip_map, substituted_renamed) steps 200000
 
   heads_own : (xs ys : List Symbol) → slice_get (map to xs) 0 ≡ slice_get (map to ys) 0 → slice_get xs 0 ≡ slice_get ys 0
-  heads_own [] [] e = refl
-  heads_own (x ∷ xs) (y ∷ ys) e = let same : to x ≡ to y = cc in ap Some (sym (is.there x) ∙ ap back same ∙ is.there y)
-  heads_own _ _ e = cc
-
-  share_renamed : (xs ys : List Symbol) → ShareVariable xs ys → ShareVariable (map to xs) (map to ys)
-  share_renamed xs ys s = (to s.0, has_there xs s.0 s.1, has_there ys s.0 s.2)
+  heads_own xs ys e = grind (arith, common_steps, is.there, slice_get-map) steps 200000
 
   lack_renamed : (active : List (Symbol × Symbol)) (xs ys : List Symbol) → LackPair active xs ys → LackPair (renamed_pairs to active) (map to xs) (map to ys)
-  lack_renamed active xs ys l = (
-    to l.0,
-    to l.1,
-    has_there xs l.0 l.2,
-    has_there ys l.1 l.3,
-    other_there l.0 l.1 l.4,
-    λ are. l.5 (subst₂ (ArePair active) (is.there l.0) (is.there l.1) (pair_back to back is.there active (to l.0) (to l.1) are)),
-  )
+  lack_renamed active xs ys l =
+      let other : to l.0 ≢ to l.1 = λ e. l.4 (sym (is.there l.0) ∙ ap back e ∙ is.there l.1) in
+      let lacks : ArePair (renamed_pairs to active) (to l.0) (to l.1) → ⊥ = λ are.
+      l.5 (subst₂ (ArePair active) (is.there l.0) (is.there l.1) (pair_back to back is.there active (to l.0) (to l.1) are)) in
+      (to l.0, to l.1, has_there xs l.0 l.2, has_there ys l.1 l.3, other, lacks)
 
   citing_renamed : (active : List (Symbol × Symbol)) (frame : Frame) (stack : List (List Symbol)) (number : ProofNumber)
       → CitingFails active frame stack number → CitingFails (renamed_pairs to active) (renamed_frame to frame) (map (map to) stack) number
   citing_renamed active frame stack P07 c = let n = length-map stack (map to) in let m = length-map frame.hypotheses (renamed_mandatory to) in omega arith
-  citing_renamed active frame stack P08 c =
-      let R : Mandatory → List Symbol → Type 0 = λ h e. (h.floating ≡ true) × (slice_get h.expression 0 ≢ slice_get e 0) in
-      subst
-      (λ es. AnyZip R (map (renamed_mandatory to) frame.hypotheses) es) (sym (entries_for_renamed frame stack))
-      (any_zip_map R R (renamed_mandatory to) (map to) frame.hypotheses (entries_for frame stack) (λ h e r. (r.0, λ same. r.1 (heads_own h.expression e same))) c)
-  citing_renamed active frame stack P09 c =
-      let R : (Symbol → List Symbol) → Mandatory → List Symbol → Type 0 = λ given h e. (h.floating ≡ false) × (substituted given h.expression ≢ e) in
-      subst
-      (λ es. UnderGiven (renamed_frame to frame) es (λ given. AnyZip (R given) (map (renamed_mandatory to) frame.hypotheses) es)) (sym (entries_for_renamed frame stack))
-      (under_renamed
-      frame (entries_for frame stack) (λ given. AnyZip (R given) frame.hypotheses (entries_for frame stack))
-      (λ given. AnyZip (R given) (map (renamed_mandatory to) frame.hypotheses) (map (map to) (entries_for frame stack)))
-      (λ given. any_zip_map
-      (R given) (R (moved given)) (renamed_mandatory to) (map to) frame.hypotheses (entries_for frame stack)
-      (λ h e r. (r.0, λ same. r.1 (map_own to back is.there (substituted given h.expression) e (sym (substituted_renamed given h.expression) ∙ same))))) c)
-  citing_renamed active frame stack P10 c =
-      let P : (Symbol → List Symbol) → Symbol × Symbol → Type 0 = λ given pair. ShareVariable (given pair.0) (given pair.1) in
-      subst
-      (λ es. UnderGiven (renamed_frame to frame) es (λ given. Any (P given) (renamed_pairs to frame.pairs))) (sym (entries_for_renamed frame stack))
-      (under_renamed
-      frame (entries_for frame stack) (λ given. Any (P given) frame.pairs) (λ given. Any (P given) (renamed_pairs to frame.pairs))
-      (λ given. any_map
-      (P given) (P (moved given)) (renamed_pair to) frame.pairs
-      (λ pair s. subst₂ ShareVariable (sym (moved_at given pair.0)) (sym (moved_at given pair.1)) (share_renamed (given pair.0) (given pair.1) s))) c)
-  citing_renamed active frame stack P11 c =
-      let P : List (Symbol × Symbol) → (Symbol → List Symbol) → Symbol × Symbol → Type 0 = λ pairs given pair. LackPair pairs (given pair.0) (given pair.1) in
-      subst
-      (λ es. UnderGiven (renamed_frame to frame) es (λ given. Any (P (renamed_pairs to active) given) (renamed_pairs to frame.pairs))) (sym (entries_for_renamed frame stack))
-      (under_renamed
-      frame (entries_for frame stack) (λ given. Any (P active given) frame.pairs) (λ given. Any (P (renamed_pairs to active) given) (renamed_pairs to frame.pairs))
-      (λ given. any_map
-      (P active given) (P (renamed_pairs to active) (moved given)) (renamed_pair to) frame.pairs
-      (λ pair l. subst₂ (LackPair (renamed_pairs to active)) (sym (moved_at given pair.0)) (sym (moved_at given pair.1)) (lack_renamed active (given pair.0) (given pair.1) l))) c)
-  citing_renamed active frame stack P12 c =
-      subst
-      (λ es. UnderGiven (renamed_frame to frame) es (λ given. 1000000 < length (substituted given (map to frame.expression)))) (sym (entries_for_renamed frame stack))
-      (under_renamed
-      frame (entries_for frame stack) (λ given. 1000000 < length (substituted given frame.expression)) (λ given. 1000000 < length (substituted given (map to frame.expression)))
-      (λ given long. (let same = ap length (substituted_renamed given frame.expression) ∙ length-map (substituted given frame.expression) to in omega arith)) c)
+  citing_renamed active frame stack P08 c = grind (arith, common_steps, any_zip_map, entries_for_renamed, heads_own) steps 200000
+  citing_renamed active frame stack P09 c = rw (entries_for_renamed frame stack) (under_renamed frame stack _ _ c (λ given z.
+      any_zip_map _ _ (renamed_mandatory to) (map to) frame.hypotheses (entries_for frame stack) z
+      (λ h e r. (r.0, λ same. r.1 (map_own to back is.there (substituted given h.expression) e (sym (substituted_renamed given h.expression) ∙ same))))))
+  citing_renamed active frame stack P10 c = rw (entries_for_renamed frame stack) (under_renamed frame stack _ _ c (λ given a.
+      any_map _ _ (renamed_pair to) frame.pairs a
+      (λ pair s. (to s.0, rw (moved_at given pair.0) (has_there (given pair.0) s.0 s.1), rw (moved_at given pair.1) (has_there (given pair.1) s.0 s.2)))))
+  citing_renamed active frame stack P11 c = rw (entries_for_renamed frame stack) (under_renamed frame stack _ _ c (λ given a.
+      any_map _ _ (renamed_pair to) frame.pairs a
+      (λ pair l. subst₂ (LackPair (renamed_pairs to active)) (sym (moved_at given pair.0)) (sym (moved_at given pair.1))
+      (lack_renamed active (given pair.0) (given pair.1) l))))
+  citing_renamed active frame stack P12 c = rw (entries_for_renamed frame stack) (under_renamed frame stack _ _ c
+      (λ given long. (let same = ap length (substituted_renamed given frame.expression) ∙ length-map (substituted given frame.expression) to in omega arith)))
   citing_renamed active frame stack _ c = absurd c
 
   label_renamed : (active : List (Symbol × Symbol)) (r : Resolved) (stack : List (List Symbol)) (number : ProofNumber) → LabelFails active r stack number → LabelFails (renamed_pairs to active) (renamed_meaning to r) (map (map to) stack) number
   label_renamed active (Assertion frame) stack number c = citing_renamed active frame stack number c
-  label_renamed active _ stack number c = absurd c
+  label_renamed active _ stack number c = c
 
   save_renamed : (stack : List (List Symbol)) (number : ProofNumber) → SaveFails stack number → SaveFails (map (map to) stack) number
   save_renamed stack P13 c = ap (map (map to)) c
@@ -249,97 +184,76 @@ module _ (to back : Symbol → Symbol) (is : IsRenaming to back) where
   line_renamed place _ stack number c = absurd c
 
 -- a renamed setting the other way round
-pairs_back :
-    (to back : Symbol → Symbol) → IsRenaming to back → (pairs others : List (Symbol × Symbol)) →
-    AreSamePairs (renamed_pairs to pairs) others → AreSamePairs (renamed_pairs back others) pairs
-pairs_back to back is pairs others s = λ x y. (
-  λ are. subst₂ (ArePair pairs) (is.there x) (is.there y) (pair_back to back is.there pairs (to x) (to y) ((s (to x) (to y)).1 (pair_back back to is.again others x y are))),
-  λ are. subst₂ (ArePair (renamed_pairs back others)) (is.there x) (is.there y) (pair_there back others (to x) (to y) ((s (to x) (to y)).0 (pair_there to pairs x y are))),
-)
-
 pub mandatory_there : (to back : Symbol → Symbol) → IsRenaming to back → (h : Mandatory) → renamed_mandatory back (renamed_mandatory to h) ≡ h
 mandatory_there to back is h = λ i. record { floating = h.floating; expression = map_back to back is.there h.expression i }
 
-meaning_back : (to back : Symbol → Symbol) → IsRenaming to back → (r s : Resolved) → AreSameMeaning (renamed_meaning to r) s → AreSameMeaning (renamed_meaning back s) r
-meaning_back to back is (Hypothesis e) (Hypothesis f) m = ap (map back) (sym m) ∙ map_back to back is.there e
-meaning_back to back is (Assertion a) (Assertion b) m =
-    grind (arith, map_back to back is.there a.expression, map_back (renamed_mandatory to) (renamed_mandatory back) (mandatory_there to back is) a.hypotheses, pairs_back to back is a.pairs b.pairs m.pairs) steps 200000
-meaning_back to back is Inactive Inactive m = m
-meaning_back to back is Unknown Unknown m = m
-meaning_back to back is _ _ m = absurd m
+meaning_back : (to back : Symbol → Symbol) → IsRenaming to back → (r : Resolved) → renamed_meaning back (renamed_meaning to r) ≡ r
+meaning_back to back is (Hypothesis e) = ap Hypothesis (map_back to back is.there e)
+meaning_back to back is (Assertion frame) = grind (arith, common_steps, mandatory_there, map_back, pair_inverse) steps 200000
+meaning_back to back is _ = refl
 
-pub setting_back : (to back : Symbol → Symbol) → IsRenaming to back → (place other : Setting) → IsRenamedSetting to place other → IsRenamedSetting back other place
-setting_back to back is place other s = grind (arith, common_steps, place.resolve, other.resolve, s.resolve, pairs_back to back is place.active other.active s.active, meaning_back) steps 200000
+pub setting_back : (to back : Symbol → Symbol) → IsRenaming to back → (place : Setting) → renamed_setting back (renamed_setting to place) ≡ place
+setting_back to back is place = grind (arith, common_steps, map_back, meaning_back, pair_inverse) steps 200000
 
--- a step means the same if its label does
-step_alike : (to : Symbol → Symbol) (place other : Setting) → IsRenamedSetting to place other → (step : Step) → IsSameStep (renamed_setting to place) other step step
-step_alike to place other s step = grind (arith, common_steps) steps 200000
+reached_back : (to back : Symbol → Symbol) → IsRenaming to back → (place : Setting) (steps : List Step) (stack : List (List Symbol)) →
+    Reaches (renamed_setting to place) steps stack → Reaches place steps (map (map back) stack)
+reached_back to back is place steps stack r =
+    subst (λ p. Reaches p steps (map (map back) stack)) (setting_back to back is place)
+    (reached_renamed back to (renaming_back to back is) (renamed_setting to place) steps stack r)
 
-steps_alike : (to : Symbol → Symbol) (place other : Setting) → IsRenamedSetting to place other → (steps : List Step) → AllZip (IsSameStep (renamed_setting to place) other) steps steps
-steps_alike to place other s [] = tt
-steps_alike to place other s (step ∷ steps) = (step_alike to place other s step, steps_alike to place other s steps)
+line_back : (to back : Symbol → Symbol) → IsRenaming to back → (place : Setting) (step : Step) (stack : List (List Symbol)) (number : ProofNumber) →
+    StepLineHolds (renamed_setting to place) step (map (map to) stack) number → StepLineHolds place step stack number
+line_back to back is place step stack number l =
+    subst₂ (λ p s. StepLineHolds p step s number) (setting_back to back is place) (map_back (map to) (map back) (map_back to back is.there) stack)
+    (line_renamed back to (renaming_back to back is) (renamed_setting to place) step (map (map to) stack) number l)
 
--- what the steps reach at the other place, and which line holds there
-pub reached_there :
-    (to back : Symbol → Symbol) → IsRenaming to back → (place other : Setting) → IsRenamedSetting to place other →
-    (steps : List Step) (stack : List (List Symbol)) → Reaches place steps stack → Reaches other steps (map (map to) stack)
-reached_there to back is place other s steps stack r =
-    reached_moved (renamed_setting to place) other s.active steps steps (map (map to) stack) (steps_alike to place other s steps) (reached_renamed to back is place steps stack r)
+fault_renamed : (to back : Symbol → Symbol) → IsRenaming to back → (place : Setting) (steps : List Step) (n : ℕ) (number : ProofNumber) →
+    IsStepFault place steps n number → IsStepFault (renamed_setting to place) steps n number
+fault_renamed to back is place steps n number f = record {
+  stack = map (map to) f.stack;
+  step = f.step;
+  reached = reached_renamed to back is place (take n steps) f.stack f.reached;
+  at_fault = f.at_fault;
+  nothing_after = λ next r. f.nothing_after (map (map back) next) (reached_back to back is place (take (n + 1) steps) next r);
+  number_is = record {
+    holds = line_renamed to back is place f.step f.stack number f.number_is.holds;
+    lowest = λ other l. f.number_is.lowest other (line_back to back is place f.step f.stack other l);
+  };
+}
 
-line_there :
-    (to back : Symbol → Symbol) → IsRenaming to back → (place other : Setting) → IsRenamedSetting to place other →
-    (step : Step) (stack : List (List Symbol)) (number : ProofNumber) → StepLineHolds place step stack number → StepLineHolds other step (map (map to) stack) number
-line_there to back is place other s step stack number l =
-    line_moved (renamed_setting to place) other step step (map (map to) stack) number s.active (step_alike to place other s step) (line_renamed to back is place step stack number l)
-
-pub fault_there :
-    (to back : Symbol → Symbol) → IsRenaming to back → (place other : Setting) → IsRenamedSetting to place other →
-    (steps : List Step) (n : ℕ) (number : ProofNumber) → IsStepFault place steps n number → IsStepFault other steps n number
-fault_there to back is place other s steps n number f =
-    let inverse = renaming_back to back is in
-    let from = setting_back to back is place other s in
-    record {
-      stack = map (map to) f.stack;
-      step = f.step;
-      reached = reached_there to back is place other s (take n steps) f.stack f.reached;
-      at_fault = f.at_fault;
-      nothing_after = λ next r. f.nothing_after (map (map back) next) (reached_there back to inverse other place from (take (n + 1) steps) next r);
-      number_is = record {
-        holds = line_there to back is place other s f.step f.stack number f.number_is.holds;
-        lowest = λ another l. f.number_is.lowest another (subst
-            (λ stack. StepLineHolds place f.step stack another) (map_back (map to) (map back) (map_back to back is.there) f.stack)
-            (line_there back to inverse other place from f.step (map (map to) f.stack) another l));
-      };
-    }
-
-other_length : (to : Symbol → Symbol) (stack : List (List Symbol)) → length stack ≢ 1 → length (map (map to) stack) ≢ 1
-other_length to stack n e = n (sym (length-map stack (map to)) ∙ e)
-
--- what a run says of steps, it says of the renamed statement at the other place
+-- what a run says of steps, it says of the renamed statement at the renamed place
 pub run_renamed :
-    (to back : Symbol → Symbol) → IsRenaming to back → (place other : Setting) → IsRenamedSetting to place other →
-    (steps : List Step) (statement : List Symbol) (outcome : Outcome) → RunSays place steps statement outcome → RunSays other steps (map to statement) outcome
-run_renamed to back is place other s steps statement outcomes.Proved r = (r.0, reached_there to back is place other s steps (statement ∷ []) r.1)
-run_renamed to back is place other s steps statement (outcomes.Fault number n) r = fault_there to back is place other s (run_part steps) n number r
-run_renamed to back is place other s steps statement (outcomes.Unknown n) r = grind (arith, common_steps, reached_there to back is place other s (run_part steps) r.1.0 r.1.1) steps 200000
-run_renamed to back is place other s steps statement outcomes.NotOne r = grind (arith, common_steps, reached_there to back is place other s steps r.1 r.2, other_length to r.1 r.3) steps 200000
-run_renamed to back is place other s steps statement outcomes.Other r =
-    (r.0, map to r.1, reached_there to back is place other s steps (r.1 ∷ []) r.2, λ e. r.3 (map_own to back is.there r.1 statement e))
-
-wrong_renamed :
-    (to back : Symbol → Symbol) → IsRenaming to back → (place other : Setting) → IsRenamedSetting to place other →
-    (statement : List Symbol) (d : Decoded) (number : ProofNumber) (spot : Spot) → IsWrongBy place statement d number spot → IsWrongBy other (map to statement) d number spot
-wrong_renamed to back is place other s statement d P14 spot w = grind (arith, common_steps, reached_there to back is place other s d.steps w.1 w.2, other_length to w.1 w.3) steps 200000
-wrong_renamed to back is place other s statement d P15 spot w =
-    (w.0, map to w.1, reached_there to back is place other s d.steps (w.1 ∷ []) w.2, (λ e. w.3 (map_own to back is.there w.1 statement e)), w.4)
-wrong_renamed to back is place other s statement d number spot w = (w.0, fault_there to back is place other s (run_part d.steps) w.0 number w.1, w.2)
+    (to back : Symbol → Symbol) → IsRenaming to back → (place : Setting) (steps : List Step) (statement : List Symbol) (outcome : Outcome) →
+    RunSays place steps statement outcome → RunSays (renamed_setting to place) steps (map to statement) outcome
+run_renamed to back is place steps statement outcomes.Proved r = (r.0, reached_renamed to back is place steps (statement ∷ []) r.1)
+run_renamed to back is place steps statement (outcomes.Fault number n) r = fault_renamed to back is place (run_part steps) n number r
+run_renamed to back is place steps statement (outcomes.Unknown n) r =
+    grind (arith, common_steps, reached_renamed to back is place (run_part steps) r.1.0 r.1.1) steps 200000
+run_renamed to back is place steps statement outcomes.NotOne r =
+    grind (arith, common_steps, reached_renamed to back is place steps r.1 r.2, length-map r.1 (map to)) steps 200000
+run_renamed to back is place steps statement outcomes.Other r =
+    (r.0, map to r.1, reached_renamed to back is place steps (r.1 ∷ []) r.2, λ e. r.3 (map_own to back is.there r.1 statement e))
 
 verdict_renamed :
-    (to back : Symbol → Symbol) → IsRenaming to back → (place other : Setting) → IsRenamedSetting to place other →
-    (statement : List Symbol) (d : Decoded) (v : Verdict) → IsVerdictOnSteps place statement d v → IsVerdictOnSteps other (map to statement) d v
-verdict_renamed to back is place other s statement d Proved v = (v.0, reached_there to back is place other s d.steps (statement ∷ []) v.1)
-verdict_renamed to back is place other s statement d (Incomplete spot) v = grind (arith, common_steps, reached_there to back is place other s (run_part d.steps) v.3.0 v.3.1) steps 200000
-verdict_renamed to back is place other s statement d (Wrong number spot) v = wrong_renamed to back is place other s statement d number spot v
+    (to back : Symbol → Symbol) → IsRenaming to back → (place : Setting) (statement : List Symbol) (d : Decoded) (v : Verdict) →
+    IsVerdictOnSteps place statement d v → IsVerdictOnSteps (renamed_setting to place) (map to statement) d v
+verdict_renamed to back is place statement d Proved v = run_renamed to back is place d.steps statement outcomes.Proved v
+verdict_renamed to back is place statement d (Incomplete spot) v =
+    grind (arith, common_steps, reached_renamed to back is place (run_part d.steps) v.3.0 v.3.1) steps 200000
+verdict_renamed to back is place statement d (Wrong P14 spot) v =
+    grind (arith, common_steps, run_renamed to back is place d.steps statement outcomes.NotOne (v.0, v.1, v.2, v.3)) steps 200000
+verdict_renamed to back is place statement d (Wrong P15 spot) v =
+    grind (arith, common_steps, run_renamed to back is place d.steps statement outcomes.Other (v.0, v.1, v.2, v.3)) steps 200000
+verdict_renamed to back is place statement d (Wrong number spot) v = (v.0, fault_renamed to back is place (run_part d.steps) v.0 number v.1, v.2)
+
+-- and the other place, where labels mean the same, has the same verdict
+steps_alike : (to : Symbol → Symbol) (place other : Setting) → IsRenamedSetting to place other → (steps : List Step) → AllZip (IsSameStep (renamed_setting to place) other) steps steps
+steps_alike to place other s [] = tt
+steps_alike to place other s (step ∷ steps) = grind (arith, common_steps, s.resolve, steps_alike to place other s steps) steps 200000
 
 pub keeps_verdicts : RenamingKeepsVerdict
-keeps_verdicts = grind (arith, common_steps, verdict_renamed) steps 200000
+keeps_verdicts to back is place other s statement (Err fault) v is_verdict = is_verdict
+keeps_verdicts to back is place other s statement (Ok d) v is_verdict =
+    let same : IsSameProof (renamed_setting to place) other d d =
+    record { active = s.active; steps = steps_alike to place other s d.steps; spots = refl; close = refl } in
+    verdict_moved (renamed_setting to place) other (map to statement) d d v same (verdict_renamed to back is place statement d v is_verdict)

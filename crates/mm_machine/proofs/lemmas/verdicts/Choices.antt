@@ -2,7 +2,7 @@
 use Rattle.std.proofs.{lemmas.Grind.{common_steps}, Common.{◌≡◌, ◌≢◌, true, List, [], ◌∷◌, refl, sym, ap, subst, arith, inl, inr, ◌⊎◌, Contains, Any}, Math.Decide.{map_dec}}
 use native.Mathlib.Decide.{ℕ_discrete}
 use mathlib.Core.{Bool.{Bool-discrete}, List.{List-discrete}}
-use Rattle.mm_machine.specs.Language.{Frame.{Symbol, ArePair, HasVariable}, Derivation.{AreApart, ShareVariable}, Faults.{AnyZip, LackPair}}
+use Rattle.mm_machine.specs.Language.{Frame.{Symbol, ArePair}, Derivation.{AreApart, ShareVariable}, Faults.{AnyZip, LackPair}}
 use Rattle.mm_machine.proofs.lemmas.lists.Members.{contains_cases, contains_there, Contains-here}
 
 pub both_of : {P Q : Type 0} → Dec P → Dec Q → Dec (P × Q)
@@ -27,12 +27,13 @@ expression_discrete = List-discrete symbol_discrete
 -- some element of which this is said
 pub dec_some : {X : Type 0} {P : X → Type 0} → ((x : X) → Dec (P x)) → (xs : List X) → Dec ((x : X) × Contains xs x × P x)
 dec_some d [] = no (λ s. absurd (omega arith))
-dec_some {P = P} d (x ∷ xs) = dec_some_at P x xs (d x) (dec_some d xs)
-  where
-    dec_some_at : {X : Type 0} (P : X → Type 0) (x : X) (xs : List X) → Dec (P x) → Dec ((y : X) × Contains xs y × P y) → Dec ((y : X) × Contains (x ∷ xs) y × P y)
-    dec_some_at P x xs (yes p) e = yes (x, Contains-here x xs, p)
-    dec_some_at P x xs (no p) (yes s) = yes (s.0, contains_there x xs s.0 s.1, s.2)
-    dec_some_at P x xs (no p) (no n) = no (λ s. elim (contains_cases x xs s.0 s.1) [ inl e ↦ p (subst P (sym e) s.2) | inr c ↦ n (s.0, c, s.2) ])
+dec_some {P = P} d (x ∷ xs) = elim (d x) [
+  | yes p ↦ yes (x, Contains-here x xs, p)
+  | no p ↦ elim (dec_some d xs) [
+    | yes s ↦ yes (s.0, contains_there x xs s.0 s.1, s.2)
+    | no n ↦ no (λ s. elim (contains_cases x xs s.0 s.1) [ inl e ↦ p (subst P (sym e) s.2) | inr c ↦ n (s.0, c, s.2) ])
+  ]
+]
 
 pub dec_any : {X : Type 0} {P : X → Type 0} → ((x : X) → Dec (P x)) → (xs : List X) → Dec (Any P xs)
 dec_any d xs = map_dec (λ s. (s.1.0, s.0, s.1.1, s.1.2, s.2)) (λ a. (a.1, (a.0, a.2, a.3), a.4)) (dec_some d xs)
@@ -67,11 +68,5 @@ dec_lack active xs ys =
 
 -- if they share none and lack none, they are apart
 pub are_apart : (active : List (Symbol × Symbol)) (xs ys : List Symbol) → (ShareVariable xs ys → ⊥) → (LackPair active xs ys → ⊥) → AreApart active xs ys
-are_apart active xs ys share lack = record {
-  unshared = share;
-  paired = λ x y a b n. paired_of x y a b n (dec_pair active x y);
-}
-  where
-    paired_of : (x y : Symbol) → HasVariable xs x → HasVariable ys y → x ≢ y → Dec (ArePair active x y) → ArePair active x y
-    paired_of x y a b n (yes p) = p
-    paired_of x y a b n (no m) = absurd (lack (x, y, a, b, n, m))
+are_apart active xs ys share lack =
+    record { unshared = share; paired = λ x y a b n. elim (dec_pair active x y) [ yes p ↦ p | no m ↦ absurd (lack (x, y, a, b, n, m)) ] }

@@ -1,13 +1,13 @@
 -- A verdict depends on what the labels mean alone.
-use Rattle.std.proofs.Common.{arith, ◌≡◌, ℕ, zero, suc, ◌+◌, Bool, true, false, Option, Some, None, List, [], ◌∷◌, ◌++◌, take, get_or, refl, sym, ◌∙◌, ap, subst, inl, inr, slice_get, All, Any}
-use Rattle.std.{proofs.{Common.{if◌then◌else◌}, lemmas.{Grind.{common_steps}, List.{get_or_default, Elements.{All-contains}}}}, specs.List.{AllZip}}
+use Rattle.std.proofs.Common.{arith, ◌≡◌, ℕ, zero, suc, ◌+◌, Bool, true, false, Option, Some, None, List, ◌∷◌, ◌++◌, take, get_or, refl, sym, ◌∙◌, ap, subst, inl, inr, slice_get, All, Any}
+use Rattle.std.{proofs.{Common.{if◌then◌else◌, []}, lemmas.{Grind.{common_steps}, List.{get_or_default, Elements.{All-contains}}}}, specs.List.{AllZip}}
 use Rattle.mm_machine.specs.Language.Frame.{Symbol, Mandatory, Frame, Resolved, Hypothesis, Assertion, Inactive, Unknown, Setting, ArePair, AreSamePairs, AreSameFrame}
 use Rattle.mm_machine.specs.Language.Derivation.{Derives, DeriveInOrder, by_hypothesis, by_assertion, nothing, first_then, Takes, AreApart, ShareVariable}
 use Rattle.mm_machine.specs.Language.Expansion.{Step, NotKnown, Expanded, expand_one, expand_from, expansion, last_part, weight, with_again}
 use Rattle.mm_machine.specs.Language.{Faults.{LackPair, CitingFails, LabelFails, StepLineHolds}, Reaches.{Reaches, IsStepFault}, Machine.{AreAllKnown}, Run.{run_part}}
 use Rattle.mm_machine.specs.{Language.{Verdict.{Decoded, IsFirstUnknown, IsWrongBy, IsVerdictOnSteps}, SameProof.{AreSameMeaning, IsSameStep, IsSameProof}}, declared.Spot.{Spot}}
-use Rattle.mm_machine.specs.declared.{ProofNumber.{ProofNumber, TheVariants.{P07, P08, P09, P10, P11, P12, P14, P15}}, Verdict.{Verdict, TheVariants.{Proved, Incomplete, Wrong}}}
-use Rattle.mm_machine.proofs.lemmas.verdicts.Part.{part_same}
+use Rattle.mm_machine.specs.declared.{ProofNumber.{ProofNumber, TheVariants.{P10, P11, P14, P15}}, Verdict.{Verdict, TheVariants.{Proved, Incomplete, Wrong}}}
+use Rattle.mm_machine.proofs.lemmas.{verdicts.Part.{part_same}, lists.Zips.{both_joined, flipped, zip_at}}
 
 -- the lists of labels mean the same, one by one
 abbrev pub AreSameLabels : Setting → Setting → List (List ℕ) → List (List ℕ) → Type 0
@@ -28,19 +28,8 @@ beside R (x ∷ xs) ys (z ∷ zs) a =
     let b = beside R xs ys zs a.1 in
     record { front = z ∷ b.front; back = b.back; whole = ap (λ w. z ∷ w) b.whole; of_front = (a.0, b.of_front); of_back = b.of_back }
 
-both_joined : {A B : Type 0} (R : A → B → Type 0) (xs ys : List A) (zs ws : List B) → AllZip R xs zs → AllZip R ys ws → AllZip R (xs ++ ys) (zs ++ ws)
-both_joined R [] ys [] ws a b = b
-both_joined R (x ∷ xs) ys (z ∷ zs) ws a b = (a.0, both_joined R xs ys zs ws a.1 b)
-both_joined R _ ys _ ws a b = absurd a
-
 alone_beside : {A B : Type 0} (R : A → B → Type 0) (x : A) (zs : List B) → AllZip R (x ∷ []) zs → (z : B) × (zs ≡ z ∷ []) × R x z
 alone_beside R x zs a = grind (arith, common_steps) steps 200000
-
-flipped : {A B : Type 0} (R : A → B → Type 0) (S : B → A → Type 0) (xs : List A) (ys : List B) → ((x : A) (y : B) → R x y → S y x) → AllZip R xs ys → AllZip S ys xs
-flipped R S [] [] f a = a
-flipped R S [] (y ∷ ys) f a = a
-flipped R S (x ∷ xs) [] f a = a
-flipped R S (x ∷ xs) (y ∷ ys) f a = (f x y a.0, flipped R S xs ys f a.1)
 
 taken_beside : {A B : Type 0} (R : A → B → Type 0) (n : ℕ) (xs : List A) (ys : List B) → AllZip R xs ys → AllZip R (take n xs) (take n ys)
 taken_beside R (suc n) [] (y ∷ ys) a = absurd a
@@ -124,9 +113,6 @@ BothOrNone R (Some x) (Some y) = R x y
 BothOrNone R None (Some y) = ⊥
 BothOrNone R (Some x) None = ⊥
 
-there : {A B : Type 0} (R : A → B → Type 0) (x : A) (o : Option A) (r : Option B) → o ≡ Some x → BothOrNone R o r → (y : B) × (r ≡ Some y) × R x y
-there R x o r e b = grind (arith, common_steps) steps 200000
-
 tested : {A B : Type 0} (R : A → B → Type 0) (b c : Bool) (x : A) (y : B) → b ≡ c → R x y → BothOrNone R (if b then Some x else None) (if c then Some y else None)
 tested R true true x y e r = r
 tested R false false x y e r = tt
@@ -169,7 +155,7 @@ same_from p q o r _ _ s a = absurd a
 expansion_moved : (p q : Setting) (xs ys : List Step) (x : Expanded) → AllZip (IsSameStep p q) xs ys → expansion p xs ≡ Some x → (y : Expanded) × (expansion q ys ≡ Some y) × AreSameExpanded p q x y
 expansion_moved p q xs ys x a e =
     let start : Expanded = record { labels = []; saved = [] } in
-    there (AreSameExpanded p q) x (expansion p xs) (expansion q ys) e (same_from p q (Some start) (Some start) xs ys (record { labels = tt; saved = tt }) a)
+    grind (arith, common_steps, same_from p q (Some start) (Some start) xs ys (record { labels = tt; saved = tt }) a) steps 200000
 
 pub reached_moved : (p q : Setting) → AreSamePairs p.active q.active → (xs ys : List Step) (stack : List (List Symbol)) → AllZip (IsSameStep p q) xs ys → Reaches p xs stack → Reaches q ys stack
 reached_moved p q s xs ys stack a r =
@@ -198,13 +184,9 @@ pairs_moved :
 pairs_moved active others expression hypotheses pairs b stack number s f e h c =
     by_number number (subst (λ (w : Frame). CitingFails active w stack number) (λ i. record { expression = e i; hypotheses = h i; pairs = pairs }) c) where
       by_number : (number : ProofNumber) → CitingFails active (record b { pairs = pairs }) stack number → CitingFails others b stack number
-      by_number P07 c = c
-      by_number P08 c = c
-      by_number P09 c = c
       by_number P10 c = (c.0, c.1, any_moved (λ x y. ShareVariable (c.0 x) (c.0 y)) pairs b.pairs (λ x y z. (z.0, z.2, z.1)) f c.2)
       by_number P11 c = (c.0, c.1, any_moved (λ x y. LackPair others (c.0 x) (c.0 y)) pairs b.pairs (λ x y z. lack_back others (c.0 x) (c.0 y) z) f (c.2.0, c.2.1, c.2.2, c.2.3, lack_moved active others (c.0 c.2.1.0) (c.0 c.2.1.1) s c.2.4))
-      by_number P12 c = c
-      by_number _ c = absurd c
+      by_number _ c = c
 
 pub label_moved : (active others : List (Symbol × Symbol)) (r t : Resolved) (stack : List (List Symbol)) (number : ProofNumber) → AreSamePairs active others → AreSameMeaning r t → LabelFails active r stack number → LabelFails others t stack number
 label_moved active others (Assertion a) (Assertion b) stack number s m c = pairs_moved active others a.expression a.hypotheses a.pairs b stack number s m.pairs m.expression m.hypotheses c
@@ -219,7 +201,7 @@ steps_back p q xs ys a = flipped (IsSameStep p q) (IsSameStep q p) xs ys (step_b
 
 fault_moved : (p q : Setting) → AreSamePairs p.active q.active → (xs ys : List Step) (n : ℕ) (number : ProofNumber) → AllZip (IsSameStep p q) xs ys → IsStepFault p xs n number → IsStepFault q ys n number
 fault_moved p q s xs ys n number a f =
-    let z = there (IsSameStep p q) f.step (slice_get xs n) (slice_get ys n) f.at_fault (found_beside (IsSameStep p q) xs ys n a) in
+    let z = zip_at (IsSameStep p q) xs ys n f.step a f.at_fault in
     let back : AreSamePairs q.active p.active = λ x y. ((s x y).1, (s x y).0) in
     record {
       stack = f.stack;
@@ -232,18 +214,14 @@ fault_moved p q s xs ys n number a f =
 
 known_moved : (p q : Setting) (xs ys : List Step) → AllZip (IsSameStep p q) xs ys → AreAllKnown xs → AreAllKnown ys
 known_moved p q [] [] a k = k
-known_moved p q [] (y ∷ ys) a k = absurd a
-known_moved p q (x ∷ xs) [] a k = absurd a
 known_moved p q (x ∷ xs) (y ∷ ys) a k = grind (arith, common_steps, known_moved p q xs ys a.1 k.1) steps 200000
+known_moved p q _ _ a k = absurd a
 
-unknown_at : (p q : Setting) (x y : Option Step) → BothOrNone (IsSameStep p q) x y → x ≡ Some NotKnown → y ≡ Some NotKnown
-unknown_at p q x y b e = grind (arith, common_steps) steps 200000
+unknown_at : (p q : Setting) (xs ys : List Step) (n : ℕ) → AllZip (IsSameStep p q) xs ys → slice_get xs n ≡ Some NotKnown → slice_get ys n ≡ Some NotKnown
+unknown_at p q xs ys n a e = grind (arith, common_steps, zip_at (IsSameStep p q) xs ys n NotKnown a e) steps 200000
 
 first_unknown_moved : (p q : Setting) (xs ys : List Step) (n : ℕ) → AllZip (IsSameStep p q) xs ys → IsFirstUnknown xs n → IsFirstUnknown ys n
-first_unknown_moved p q xs ys n a f = (
-  unknown_at p q (slice_get xs n) (slice_get ys n) (found_beside (IsSameStep p q) xs ys n a) f.0,
-  λ k l e. f.1 k l (unknown_at q p (slice_get ys k) (slice_get xs k) (found_beside (IsSameStep q p) ys xs k (steps_back p q xs ys a)) e),
-)
+first_unknown_moved p q xs ys n a f = (unknown_at p q xs ys n a f.0, λ k l e. f.1 k l (unknown_at q p ys xs k (steps_back p q xs ys a) e))
 
 wrong_moved : (p q : Setting) (statement : List Symbol) (c d : Decoded) (number : ProofNumber) (spot : Spot) → IsSameProof p q c d → IsWrongBy p statement c number spot → IsWrongBy q statement d number spot
 wrong_moved p q statement c d P14 spot s w = (known_moved p q c.steps d.steps s.steps w.0, w.1, reached_moved p q s.active c.steps d.steps w.1 s.steps w.2, w.3, w.4 ∙ s.close)

@@ -1,11 +1,11 @@
 -- There is one verdict on each proof.
 use Rattle.std.proofs.lemmas.{Grind.{common_steps}, Option.{slice_get_within, slice_get-get_or}}
-use Rattle.std.proofs.Common.{◌≡◌, ◌≢◌, ℕ, zero, suc, ◌<◌, Some, Result, Ok, Err, List, [], ◌∷◌, length, get_or, refl, sym, ◌∙◌, ap, subst, arith, inl, inr, ◌⊎◌, slice_get, ◌↔◌}
-use Rattle.mm_machine.specs.Language.{Frame.{Symbol, Setting}, Typing.{HasFrames}, Expansion.{Step, Named, Saved, Save, NotKnown}, Reaches.{Reaches, IsStepFault}}
-use Rattle.mm_machine.specs.Language.{Machine.{State, AreDecoded, AreAllKnown}, Run.{run_part, IsReached}, Verdict.{Decoded, IsFirstUnknown, StepsDerive, IsWrongBy, IsVerdictOnSteps, IsVerdict}}
-use Rattle.mm_machine.specs.declared.{Spot.{Spot}, ProofNumber.{ProofNumber, TheVariants.{P14, P15}}, Verdict.{Verdict, TheVariants.{Proved, Incomplete, Wrong}}, step.ProofFault.{ProofFault}}
-use Rattle.mm_machine.proofs.lemmas.{verdicts.{Part.{known_part, part_known, part_front, part_decoded}, Choices.{expression_discrete}, Joins.{alone}}, machine.Reaching.{reached, only}}
-use Rattle.mm_machine.proofs.lemmas.machine.{Threaded.{threaded}, Running.{run, run_right, RunSays, same_reached, no_fault, same_fault}}
+use Rattle.std.proofs.Common.{◌≡◌, ◌≢◌, ℕ, zero, suc, ◌<◌, Some, Result, Ok, List, ◌∷◌, length, get_or, refl, sym, ◌∙◌, ap, subst, arith, inl, inr, ◌⊎◌, slice_get, ◌↔◌, []}
+use Rattle.mm_machine.specs.Language.{Frame.{Symbol, Setting}, Typing.{HasFrames}, Expansion.{Step, NotKnown}, Reaches.{Reaches, IsStepFault}, Machine.{AreDecoded, AreAllKnown}}
+use Rattle.mm_machine.specs.{Language.{Run.{run_part, IsReached}, Verdict.{Decoded, IsFirstUnknown, StepsDerive, IsWrongBy, IsVerdictOnSteps, IsVerdict}}, declared.Spot.{Spot}}
+use Rattle.mm_machine.specs.declared.{ProofNumber.{ProofNumber, TheVariants.{P14, P15}}, Verdict.{Verdict, TheVariants.{Proved, Incomplete, Wrong}}, step.ProofFault.{ProofFault}}
+use Rattle.mm_machine.proofs.lemmas.{verdicts.{Part.{known_part, part_front}, Choices.{expression_discrete}, Joins.{alone}}, machine.Reaching.{reached, only}}
+use Rattle.mm_machine.proofs.lemmas.machine.Running.{run_right, RunSays, same_reached, no_fault, same_fault}
 
 -- so the verdict on known steps is Proved exactly when they derive the statement
 pub proved_derived : (place : Setting) (statement : List Symbol) (d : Decoded) → IsVerdict place statement (Ok d) Proved ↔ (AreAllKnown d.steps × StepsDerive place d.steps statement)
@@ -88,9 +88,7 @@ later x steps k u = elim u [
 first_unknown : (steps : List Step) → AreAllKnown steps ⊎ ((n : ℕ) × IsFirstUnknown steps n)
 first_unknown [] = inl tt
 first_unknown (NotKnown ∷ steps) = inr (0, (refl, λ k l. absurd (omega arith)))
-first_unknown (Named label ∷ steps) = later (Named label) steps (λ e. (cc)) (first_unknown steps)
-first_unknown (Saved n ∷ steps) = later (Saved n) steps (λ e. (cc)) (first_unknown steps)
-first_unknown (Save ∷ steps) = later Save steps (λ e. (cc)) (first_unknown steps)
+first_unknown (x ∷ steps) = later x steps (λ e. (cc)) (first_unknown steps)
 
 -- the spot of a step
 spot_at : (d : Decoded) (n : ℕ) (step : Step) → length d.spots ≡ length d.steps → slice_get d.steps n ≡ Some step → (spot : Spot) × (slice_get d.spots n ≡ Some spot)
@@ -105,13 +103,16 @@ one_stack_verdict place statement d k (x ∷ []) r = by_choice (expression_discr
     by_choice (yes e) = (Proved, (k, subst (λ w. Reaches place d.steps (w ∷ [])) e r))
     by_choice (no n) = (Wrong P15 d.close, (k, x, r, n, refl))
 
-part_verdict : (place : Setting) (statement : List Symbol) (d : Decoded) → length d.spots ≡ length d.steps → AreAllKnown d.steps ⊎ ((n : ℕ) × IsFirstUnknown d.steps n) → (r : Result State (ℕ × ProofNumber)) → RunSays place (run_part d.steps) r →
+part_verdict : (place : Setting) (statement : List Symbol) (d : Decoded) → length d.spots ≡ length d.steps →
+    AreAllKnown d.steps ⊎ ((n : ℕ) × IsFirstUnknown d.steps n) → RunSays place (run_part d.steps) →
     (v : Verdict) × IsVerdictOnSteps place statement d v
-part_verdict place statement d l (inl k) (Ok s) f = one_stack_verdict place statement d k s.stack (subst (λ w. Reaches place w s.stack) (known_part d.steps k) (reached place (run_part d.steps) s f))
-part_verdict place statement d l (inr u) (Ok s) f = let t = spot_at d u.0 NotKnown l u.1.0 in (Incomplete t.0, (u.0, u.1, t.1, (s.stack, reached place (run_part d.steps) s f)))
-part_verdict place statement d l u (Err fault) f = let t = spot_at d fault.0 f.step l (part_front d.steps fault.0 f.step f.at_fault) in (Wrong fault.1 t.0, wrong_by_fault place statement d fault.0 fault.1 t.0 f t.1)
+part_verdict place statement d l (inl k) (inl f) =
+    one_stack_verdict place statement d k f.0.stack (subst (λ w. Reaches place w f.0.stack) (known_part d.steps k) (reached place (run_part d.steps) f.0 f.1))
+part_verdict place statement d l (inr u) (inl f) = let t =
+    spot_at d u.0 NotKnown l u.1.0 in (Incomplete t.0, (u.0, u.1, t.1, (f.0.stack, reached place (run_part d.steps) f.0 f.1)))
+part_verdict place statement d l u (inr f) = let t =
+    spot_at d f.0 f.2.step l (part_front d.steps f.0 f.2.step f.2.at_fault) in (Wrong f.1 t.0, wrong_by_fault place statement d f.0 f.1 t.0 f.2 t.1)
 
 -- and one at least, for steps as decoding gives them
 pub some_verdict : (place : Setting) → HasFrames place → (statement : List Symbol) (d : Decoded) → AreDecoded place d.steps → length d.spots ≡ length d.steps → (v : Verdict) × IsVerdict place statement (Ok d) v
-some_verdict place is statement d decoded l = part_verdict place statement d l (first_unknown d.steps) (run place (run_part d.steps))
-    (run_right place is (run_part d.steps) (part_decoded place 0 d.steps (threaded place d.steps decoded)) (part_known d.steps))
+some_verdict place is statement d decoded l = part_verdict place statement d l (first_unknown d.steps) (run_right place is d.steps decoded)

@@ -1,9 +1,9 @@
 -- One label at the end of a join, and that a list derives at most one expression.
-use Rattle.std.proofs.lemmas.{Grind.{common_steps}, List.{append-nil, same_from_push, length-map, get_or-map, Elements.{Contains-append_right}}}
-use Rattle.std.proofs.Common.{◌≡◌, ℕ, zero, suc, ◌≤◌, Bool, true, false, List, [], ◌∷◌, ◌++◌, length, map, refl, sym, ◌∙◌, ap, subst, arith, length-append, Contains}
+use Rattle.std.proofs.lemmas.{Grind.{elements, common_steps}, List.{append-nil, same_from_push, length-map, take_at, drop_at, Elements.{Contains-append_right}}}
+use Rattle.std.{proofs.Common.{rules, ◌≡◌, ℕ, zero, suc, ◌≤◌, true, false, List, ◌∷◌, ◌++◌, length, map, refl, sym, ap, arith, length-append, take, ◌-◌, []}, specs.List.{AllZip}}
 use Rattle.mm_machine.specs.Language.{Frame.{Symbol, Mandatory, Frame, Resolved, Hypothesis, Assertion, Inactive, Unknown, Setting, HasVariable}, Substitution.{substituted, replacement}}
 use Rattle.mm_machine.specs.Language.{Derivation.{Derives, DeriveInOrder, by_hypothesis, by_assertion, nothing, first_then}, Typing.{IsTyped, IsFrame, HasFrames}, Steps.{Cites, Moves}}
-use Rattle.mm_machine.proofs.lemmas.{machine.FlatLemmas.{of_constant, of_variable}, lists.Members.{Contains-here}, verdicts.Joins.{join, alone, cut}}
+use Rattle.mm_machine.{specs.Language.Faults.{entries_for}, proofs.lemmas.{lists.{Members.{contains_get}, Zips.{zip_at}}, verdicts.Joins.{join, alone, cut}}}
 
 -- a label goes on from a join
 pub go_on : {place : Setting} {labels : List (List ℕ)} {stack next : List (List Symbol)} (label : List ℕ) (r : Resolved) → place.resolve label ≡ r
@@ -50,57 +50,51 @@ last_label {place} {first} {e = e} h (first_then {first = f} {rest = r} {e = x} 
           (x ∷ xs) l.moves;
     }
 
--- two substitutions that give the same at each hypothesis give each typed variable the same
-same_at : (f g : Mandatory → List Symbol) (xs : List Mandatory) (x : Mandatory) → map f xs ≡ map g xs → Contains xs x → f x ≡ g x
-same_at f g xs x e c = grind (arith, common_steps, get_or-map f xs c.0 x (f x) c.1, get_or-map g xs c.0 x (f x) c.1) steps 200000
-
 -- what takes the place of a variable, and of a constant
 pub replacement-variable : (f : Symbol → List Symbol) (s : Symbol) → s.variable ≡ true → replacement f s ≡ f s
-replacement-variable f s e = of_variable s.variable (f s) (s ∷ []) e
+replacement-variable f s e = rw e refl
 
 pub replacement-constant : (f : Symbol → List Symbol) (s : Symbol) → s.variable ≡ false → replacement f s ≡ s ∷ []
-replacement-constant f s e = of_constant s.variable (f s) (s ∷ []) e
+replacement-constant f s e = rw e refl
 
 -- the expression of a `$f`
 pub substituted-typing : (f : Symbol → List Symbol) (c v : Symbol) → c.variable ≡ false → v.variable ≡ true → substituted f (c ∷ v ∷ []) ≡ c ∷ f v
 substituted-typing f c v constant variable = grind (arith, common_steps, replacement-constant f c constant, replacement-variable f v variable, append-nil (replacement f v)) steps 200000
 
-pub same_typed : (f g : Symbol → List Symbol) (hs : List Mandatory) (v : Symbol) → v.variable ≡ true → map (λ h. substituted f h.expression) hs ≡ map (λ h. substituted g h.expression) hs → IsTyped hs v → f v ≡ g v
-same_typed f g hs v is e t =
-    let h : Mandatory = record { floating = true; expression = t.0 ∷ v ∷ [] } in
-    let s = same_at (λ h. substituted f h.expression) (λ h. substituted g h.expression) hs h e t.2 in
-    let a = substituted-typing f t.0 v t.1 is in
-    let b = substituted-typing g t.0 v t.1 is in
-    cc
+-- substitutions by which each mandatory `$f` gives its entry agree on each typed variable
+abbrev pub FloatsMatch : (Symbol → List Symbol) → List Mandatory → List (List Symbol) → Type 0
+FloatsMatch given hs es = AllZip (λ h e. h.floating ≡ true → substituted given h.expression ≡ e) hs es
 
-pub same_replacement : (f g : Symbol → List Symbol) (s : Symbol) (b : Bool) → s.variable ≡ b → (s.variable ≡ true → f s ≡ g s) → replacement f s ≡ replacement g s
-same_replacement f g s true is h = replacement-variable f s is ∙ h is ∙ sym (replacement-variable g s is)
-same_replacement f g s false is h = replacement-constant f s is ∙ sym (replacement-constant g s is)
+pub agree : (f g : Symbol → List Symbol) (hs : List Mandatory) (es : List (List Symbol)) (v : Symbol) → FloatsMatch f hs es → FloatsMatch g hs es → v.variable ≡ true → IsTyped hs v → f v ≡ g v
+agree f g hs es v a b is t = grind (arith, elements, contains_get, substituted-typing, zip_at) steps 200000
 
 -- substitutions that agree on an expression's variables give the same
 pub same_substituted : (f g : Symbol → List Symbol) (e : List Symbol) → ((v : Symbol) → HasVariable e v → f v ≡ g v) → substituted f e ≡ substituted g e
 same_substituted f g [] h = refl
 same_substituted f g (s ∷ e) h =
-    let tail = same_substituted f g e (λ v w. h v (Contains-append_right (s ∷ []) e v w.0, w.1)) in
-    let head = same_replacement f g s s.variable refl (λ w. h s (Contains-here s e, w)) in
-    cc
+    search (rules, same_substituted f g e (λ v w. h v (Contains-append_right (s ∷ []) e v w.0, w.1)), replacement-constant, replacement-variable) steps 200000
 
--- two cuts of one list with backs of one length are one cut
-pub same_cut : {X : Type 0} (a b c d : List X) → a ++ b ≡ c ++ d → length b ≡ length d → (a ≡ c) × (b ≡ d)
-same_cut [] b [] d e l = (refl, e)
-same_cut [] b (x ∷ c) d e l = absurd (let n = ap length e in omega (arith, length-append c d))
-same_cut (x ∷ a) b [] d e l = absurd (let n = ap length e in omega (arith, length-append a b))
-same_cut (x ∷ a) b (y ∷ c) d e l = grind (arith, common_steps, same_cut a b c d (cc) l) steps 200000
+-- what a citation takes, and what it leaves
+pub parts_are : (active : List (Symbol × Symbol)) (frame : Frame) (stack next : List (List Symbol)) → (m : Cites active frame stack next) →
+    (take (length stack - length frame.hypotheses) stack ≡ m.below) × (entries_for frame stack ≡ m.entries)
+parts_are active frame stack next m = grind (arith, common_steps, take_at, drop_at, length-append, length-map) steps 200000
+
+own_floats : (f : Symbol → List Symbol) (hs : List Mandatory) → FloatsMatch f hs (map (λ h. substituted f h.expression) hs)
+own_floats f [] = tt
+own_floats f (h ∷ hs) = (λ _. refl, own_floats f hs)
+
+pub floats_of : (active : List (Symbol × Symbol)) (frame : Frame) (stack next : List (List Symbol)) → (m : Cites active frame stack next) →
+    FloatsMatch m.given frame.hypotheses (entries_for frame stack)
+floats_of active frame stack next m = grind (arith, common_steps, own_floats, parts_are, stack) steps 200000
 
 -- citing a frame gives one result
 pub same_result : (active : List (Symbol × Symbol)) (frame : Frame) (stack next next' : List (List Symbol)) → IsFrame frame → Cites active frame stack next → Cites active frame stack next' → next ≡ next'
 same_result active frame stack next next' is m n =
-    let hs = frame.hypotheses in
-    let ml = ap length (sym m.takes.entries_match) ∙ length-map hs (λ h. substituted m.given h.expression) in
-    let nl = ap length (sym n.takes.entries_match) ∙ length-map hs (λ h. substituted n.given h.expression) in
-    let c = same_cut m.below m.entries n.below n.entries (sym m.before ∙ n.before) (ml ∙ sym nl) in
-    let matches : map (λ h. substituted m.given h.expression) hs ≡ map (λ h. substituted n.given h.expression) hs = m.takes.entries_match ∙ c.1 ∙ sym n.takes.entries_match in
-    let s = same_substituted m.given n.given frame.expression (λ v w. same_typed m.given n.given hs v w.1 matches (is.expression_typed v w)) in
+    let a = parts_are active frame stack next m in
+    let b = parts_are active frame stack next' n in
+    let s = same_substituted m.given n.given frame.expression (λ v w.
+    agree m.given n.given frame.hypotheses (entries_for frame stack) v (floats_of active frame stack next m) (floats_of active frame stack next' n) w.1
+    (is.expression_typed v w)) in
     cc
 
 -- a label has one outcome
@@ -118,11 +112,7 @@ last_of (first_then h t) = last_label h t
 
 -- one stack, given that the labels before the last reach one stack
 same_by_last : (place : Setting) → HasFrames place → {a b : List (List ℕ)} {xs ys : List (List Symbol)} → a ≡ b → (l : LastLabel place a xs) → (m : LastLabel place b ys) → (l.labels ≡ m.labels → l.stack ≡ m.stack) → xs ≡ ys
-same_by_last place is {xs = xs} {ys = ys} e l m same =
-    let s = same_from_push l.labels m.labels l.label m.label (sym l.whole ∙ e ∙ m.whole) in
-    let P : List ℕ → List (List Symbol) → Type 0 = λ w k. Moves place.active (place.resolve w) k ys in
-    let moved : Moves place.active (place.resolve l.label) l.stack ys = subst (λ w. P w l.stack) (sym s.1) (subst (P m.label) (sym (same s.0)) m.moves) in
-    same_next place.active (place.resolve l.label) l.stack xs ys (is l.label) l.moves moved
+same_by_last place is {xs = xs} {ys = ys} e l m same = search (rules, same_from_push, same_next) steps 200000
 
 -- a list is a join in at most one way
 pub same_stack : (place : Setting) → HasFrames place → (n : ℕ) {a b : List (List ℕ)} (xs ys : List (List Symbol)) → length a ≤ n → a ≡ b → DeriveInOrder place a xs → DeriveInOrder place b ys → xs ≡ ys

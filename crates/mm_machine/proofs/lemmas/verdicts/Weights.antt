@@ -1,7 +1,6 @@
 -- What deriving lists weigh, and which part a save keeps.
-use Rattle.std.proofs.lemmas.{Grind.{common_steps}, Int.{ints}, Bool.Decides.{Decides-int_eq}, List.{length-map}}
-use Rattle.std.proofs.Common.{◌≡◌, ◌≢◌, ℕ, suc, ◌+◌, ◌≤◌, Bool, true, false, Option, Some, None, List, [], ◌∷◌, ◌++◌, length, refl, sym, ◌∙◌, ap, subst, arith, length-append, ℤ, pos, ◌-ℤ◌, ◌≤ℤ◌}
-use Rattle.std.{proofs.Common.{if◌then◌else◌}, specs.Ordering.{int_eq}}
+use Rattle.std.proofs.Common.{rules, ◌≡◌, ◌≢◌, ℕ, suc, ◌+◌, ◌≤◌, Bool, true, false, Option, Some, None, List, [], ◌∷◌, ◌++◌, length, refl, sym, ◌∙◌, ap, subst, arith, length-append, pos, ◌-ℤ◌, ◌≤ℤ◌}
+use Rattle.std.{proofs.{Common.{if◌then◌else◌, inl, inr, ◌⊎◌}, lemmas.{Grind.{common_steps}, Int.{ints}, Bool.{cases_Bool, Decides.{Decides-int_eq}}, List.{length-map}}}, specs.Ordering.{int_eq}}
 use Rattle.mm_machine.specs.Language.{Frame.{Symbol, Resolved, Hypothesis, Assertion, Setting}, Substitution.{substituted}}
 use Rattle.mm_machine.specs.Language.{Derivation.{Derives, DeriveInOrder, by_hypothesis, by_assertion, nothing, first_then}, Expansion.{taken_by, weight, last_part, or_else, IsLastPart}}
 
@@ -61,38 +60,23 @@ mutual
   joined_weighs place nothing = record { total = refl; light = tt }
   joined_weighs place (first_then {first = first} {rest = rest} {es = es} h t) = weighs_join place (length es) first rest (derived_weighs place h) (joined_weighs place t)
 
--- the test of a weight
-pub int_eq-same : (x y : ℤ) → x ≡ y → int_eq x y ≡ true
-int_eq-same x y e = grind (arith, Decides-int_eq x y)
-
-pub int_eq-other : (x y : ℤ) → x ≢ y → int_eq x y ≡ false
-int_eq-other x y e = grind (arith, Decides-int_eq x y)
-
 not_one : (place : Setting) (labels : List (List ℕ)) → length labels ≤ taken place labels → weight place labels ≢ pos 1
 not_one place labels h e = let w = weight_is place labels in omega (arith, ints)
 
 is_one : (place : Setting) (labels : List (List ℕ)) → length labels ≡ 1 + taken place labels → weight place labels ≡ pos 1
 is_one place labels h = let w = weight_is place labels in omega (arith, ints)
 
-part_of : (b : Bool) (xs : List (List ℕ)) → b ≡ true → (if b then Some xs else None) ≡ Some xs
-part_of true xs e = refl
-part_of false xs e = cc
-
-no_part_of : (b : Bool) (xs : List (List ℕ)) → b ≡ false → (if b then Some xs else None) ≡ None
-no_part_of false xs e = refl
-no_part_of true xs e = cc
-
 -- no suffix is kept if each is light
 no_part : (place : Setting) (x : List ℕ) (a : List (List ℕ)) → IsLight place 1 (x ∷ a) → last_part place a ≡ None
 no_part place x [] l = refl
 no_part place x (y ∷ a) l =
-    grind (arith, common_steps, no_part_of (int_eq (weight place (y ∷ a)) (pos 1)) (y ∷ a) (int_eq-other (weight place (y ∷ a)) (pos 1) (not_one place (y ∷ a) (omega arith))), no_part place y a l.1) steps 200000
+    let other = not_one place (y ∷ a) (omega arith) in
+    grind (arith, common_steps, Decides-int_eq (weight place (y ∷ a)) (pos 1), cases_Bool, other, no_part place y a l.1) steps 200000
 
 -- a list of weight one whose shorter suffixes are light is its own last part
 own_part : (place : Setting) (part : List (List ℕ)) → Weighs place 1 part → last_part place part ≡ Some part
 own_part place [] w = absurd (omega arith)
-own_part place (x ∷ a) w =
-    grind (arith, no_part place x a w.light, is_one place (x ∷ a) w.total, part_of (int_eq (weight place (x ∷ a)) (pos 1)) (x ∷ a) (int_eq-same (weight place (x ∷ a)) (pos 1) (is_one place (x ∷ a) w.total))) steps 200000
+own_part place (x ∷ a) w = grind (arith, common_steps, is_one place (x ∷ a) w.total, no_part place x a w.light) steps 200000
 
 behind : (place : Setting) (front part : List (List ℕ)) (whole : List (List ℕ)) → last_part place part ≡ Some whole → last_part place (front ++ part) ≡ Some whole
 behind place [] part whole e = e
@@ -116,29 +100,9 @@ weight_of_suffix place labels e d (x ∷ front) back is n =
     grind (arith, common_steps, light_suffix place x front back (subst (λ l. IsLight place 1 l) is (derived_weighs place d).light), weight_is place back, ints) steps 200000
 
 -- the function and the words
-found_part : (place : Setting) (x : List ℕ) (labels part : List (List ℕ)) → IsLastPart place labels part → IsLastPart place (x ∷ labels) part
-found_part place x labels part p = record {
-  front = x ∷ p.front;
-  whole = ap (λ w. x ∷ w) p.whole;
-  weighs_one = p.weighs_one;
-  shortest = further;
-}
-  where
-    further : (ahead back : List (List ℕ)) → x ∷ labels ≡ ahead ++ back → weight place back ≡ pos 1 → length part ≤ length back
-    further [] back e w = let l = ap length p.whole in let m = ap length e in omega (arith, length-append p.front part)
-    further (y ∷ ahead) back e w = p.shortest ahead back (cc) w
-
-whole_part : (place : Setting) (x : List ℕ) (labels : List (List ℕ)) → weight place (x ∷ labels) ≡ pos 1 → ((front back : List (List ℕ)) → labels ≡ front ++ back → weight place back ≢ pos 1) → IsLastPart place (x ∷ labels) (x ∷ labels)
-whole_part place x labels w none = record {
-  front = [];
-  whole = refl;
-  weighs_one = w;
-  shortest = further;
-}
-  where
-    further : (ahead back : List (List ℕ)) → x ∷ labels ≡ ahead ++ back → weight place back ≡ pos 1 → length (x ∷ labels) ≤ length back
-    further [] back e v = let m = ap length e in omega arith
-    further (y ∷ ahead) back e v = absurd (none ahead back (cc) v)
+suffix_cases : {X : Type 0} (x : X) (xs ahead back : List X) → x ∷ xs ≡ ahead ++ back → (back ≡ x ∷ xs) ⊎ ((rest : List X) × (xs ≡ rest ++ back))
+suffix_cases x xs [] back e = inl (sym e)
+suffix_cases x xs (y ∷ ahead) back e = inr (ahead, cc)
 
 -- what the answer says
 abbrev PartSays : Setting → List (List ℕ) → Option (List (List ℕ)) → Type 0
@@ -147,21 +111,18 @@ PartSays place labels None = (front back : List (List ℕ)) → labels ≡ front
 
 part_more : (place : Setting) (x : List ℕ) (labels : List (List ℕ)) (o : Option (List (List ℕ))) (b : Bool) → int_eq (weight place (x ∷ labels)) (pos 1) ≡ b
     → PartSays place labels o → PartSays place (x ∷ labels) (or_else o (if b then Some (x ∷ labels) else None))
-part_more place x labels (Some part) b t p = found_part place x labels part p
-part_more place x labels None true t p = whole_part place x labels ((Decides-int_eq (weight place (x ∷ labels)) (pos 1)).0 t) p
-part_more place x labels None false t p = none_of
-  where
-    none_of : (front back : List (List ℕ)) → x ∷ labels ≡ front ++ back → weight place back ≢ pos 1
-    none_of [] back e w = let u = (Decides-int_eq (weight place (x ∷ labels)) (pos 1)).1 (ap (weight place) e ∙ w) in cc
-    none_of (y ∷ front) back e w = p front back (cc) w
+part_more place x labels (Some part) b t p = record {
+  front = x ∷ p.front;
+  whole = ap (λ w. x ∷ w) p.whole;
+  weighs_one = p.weighs_one;
+  shortest = λ ahead back e w. elim (suffix_cases x labels ahead back e)
+      [ inl f ↦ omega (arith, ap length f, ap length p.whole, length-append p.front part) | inr r ↦ p.shortest r.0 back r.1 w ];
+}
+part_more place x labels None true t p = grind (arith, common_steps, suffix_cases) steps 200000
+part_more place x labels None false t p = search (rules, suffix_cases) steps 200000
 
 part_says : (place : Setting) (labels : List (List ℕ)) → PartSays place labels (last_part place labels)
-part_says place [] = none_of
-  where
-    none_of : (front back : List (List ℕ)) → [] ≡ front ++ back → weight place back ≢ pos 1
-    none_of [] [] e w = cc
-    none_of [] (y ∷ back) e w = cc
-    none_of (y ∷ front) back e w = cc
+part_says place [] = λ front back e w. grind (arith, common_steps, length-append front back) steps 200000
 part_says place (x ∷ labels) = part_more place x labels (last_part place labels) (int_eq (weight place (x ∷ labels)) (pos 1)) refl (part_says place labels)
 
 pub last_part_shortest : (place : Setting) (labels : List (List ℕ)) → ((part : List (List ℕ)) → last_part place labels ≡ Some part

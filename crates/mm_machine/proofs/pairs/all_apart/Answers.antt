@@ -1,27 +1,15 @@
 use Rattle.std.proofs.{Common.{List, map, subst, arith}, lemmas.{List.{length-map}, Option.{slice_get_within}}}
-use Rattle.mm_machine.specs.{Language.{Frame.{Symbol}, Typing.{IsTyped}, CitedFrames.{meant_pairs, meant_pair, hypotheses_of}}, Code.PairClause.{EachApart, SomeNotApart, AtSlots, span_of}}
-use Rattle.mm_machine.proofs.lemmas.machine.{FlatLemmas.{mapped_get}, ApartLemmas.{each_more}, PairClauseLemmas.{mapped_all}}
+use Rattle.mm_machine.specs.{Language.{Frame.{Symbol}, CitedFrames.{meant_pairs, meant_pair, hypotheses_of}}, Code.PairClause.{EachApart, SomeNotApart, AtSlots, span_of}}
+use Rattle.mm_machine.proofs.lemmas.machine.{FlatLemmas.{mapped_get}, ApartLemmas.{each_more}, PairClauseLemmas.{pair_typed}}
 use Rattle.mm_machine.proofs.pairs.all_apart.Goals as goal
 
-pub variables_of-first-requires : goal.variables_of-first-requires
-variables_of-first-requires g c =
-    let m = g.S.Symbol.means in
-    let hs = hypotheses_of m c.args.taken.now.hypotheses.now in
-    record {
-      typed = (mapped_all (meant_pair m) (λ (p : Symbol × Symbol). IsTyped hs p.0 × IsTyped hs p.1) c.args.pairs.now c.loop-n.n c.index-pairs-n.result c.loop-n-test.true c.index-pairs-n.is c.requires.typed).0;
-      spans = c.requires.spans;
-      count = c.requires.count;
-    }
+pub variables_of-first-requires-clause-typed : goal.variables_of-first-requires-clause-typed
+variables_of-first-requires-clause-typed g c =
+    (pair_typed g.S.Symbol.means _ c.args.pairs.now c.loop-n.n c.index-pairs-n.result c.loop-n-test.true c.index-pairs-n.is c.requires.typed).0
 
-pub variables_of-second-requires : goal.variables_of-second-requires
-variables_of-second-requires g c =
-    let m = g.S.Symbol.means in
-    let hs = hypotheses_of m c.args.taken.now.hypotheses.now in
-    record {
-      typed = (mapped_all (meant_pair m) (λ (p : Symbol × Symbol). IsTyped hs p.0 × IsTyped hs p.1) c.args.pairs.now c.loop-n.n c.index-pairs-n.result c.loop-n-test.true c.index-pairs-n.is c.requires.typed).1;
-      spans = c.requires.spans;
-      count = c.requires.count;
-    }
+pub variables_of-second-requires-clause-typed : goal.variables_of-second-requires-clause-typed
+variables_of-second-requires-clause-typed g c =
+    (pair_typed g.S.Symbol.means _ c.args.pairs.now c.loop-n.n c.index-pairs-n.result c.loop-n-test.true c.index-pairs-n.is c.requires.typed).1
 
 pub loop-n-preserved : goal.loop-n-preserved
 loop-n-preserved g c =

@@ -1,7 +1,6 @@
-use Rattle.std.proofs.lemmas.{Grind.{common_steps}, List.{length-map, take_all}, Nat.{mul-le}, Option.{slice_get-get_or}}
-use Rattle.std.proofs.Common.{◌≤◌, ◌+◌, ◌++◌, [], false, map, take, drop, length, get_or, ap, arith, length-append}
+use Rattle.std.proofs.{lemmas.{Grind.{common_steps}, List.{length-map, take_all}, Nat.{mul-le}}, Common.{◌≤◌, ◌+◌, ◌++◌, false, map, take, drop, length, ap, arith, length-append}}
 use Rattle.mm_machine.{specs.Language.{Frame.{Symbol}, Substitution.{substituted, replacement}, CitedFrames.{hypotheses_of}}, proofs.lemmas.machine.BoundLemmas.{short_by, given_short}}
-use Rattle.mm_machine.proofs.lemmas.machine.FlatLemmas.{put_more, put_rest}
+use Rattle.mm_machine.proofs.lemmas.machine.FlatLemmas.{put_more, put_rest, there_at}
 use Rattle.mm_machine.proofs.pattern.is_short.Goals as goal
 
 pub returns-then-taken-lt10000 : goal.returns-then-taken-lt10000
@@ -28,13 +27,13 @@ returns-then-saturating_mul-half g c given slots =
 pub returns-then-more-count : goal.returns-then-more-count
 returns-then-more-count g c given slots =
     let expression = map g.S.Symbol.means c.args.expression.now in
-    let d : Symbol = record { name = []; variable = false } in
     let k = c.loop-place.place in
-    let s = get_or expression k d in
-    let here = slice_get-get_or expression k d (omega (arith, length-map c.args.expression.now g.S.Symbol.means, c.loop-place-test.true)) in
-    let whole = ap length (put_rest given expression k s here) in
-    let part = ap length (c.replacement_of.ensures given s slots here) in
-    omega (arith, length-append (substituted given (take k expression)) (replacement given s ++ substituted given (drop (k + 1) expression)), length-append (replacement given s) (substituted given (drop (k + 1) expression)), c.count-more.ensures)
+    let there = there_at g.S.Symbol.means c.args.expression.now k (omega (arith, c.loop-place-test.true)) in
+    let whole = ap length (put_rest given expression k there.0 there.1) in
+    let part = ap length (c.replacement_of.ensures given there.0 slots there.1) in
+    let rest = substituted given (drop (k + 1) expression) in
+    let long = length-append (substituted given (take k expression)) (replacement given there.0 ++ rest) in
+    omega (arith, long, length-append (replacement given there.0) rest, c.count-more.ensures)
 
 pub loop-place-preserved : goal.loop-place-preserved
 loop-place-preserved g c = record {
@@ -42,14 +41,12 @@ loop-place-preserved g c = record {
   so_far = λ given slots.
       let m = g.S.Symbol.means in
       let expression = map m c.args.expression.now in
-      let d : Symbol = record { name = []; variable = false } in
       let k = c.loop-place.place in
-      let s = get_or expression k d in
-      let here = slice_get-get_or expression k d (omega (arith, length-map c.args.expression.now m, c.loop-place-test.true)) in
-      let more = ap length (put_more given expression k s here) in
+      let there = there_at m c.args.expression.now k (omega (arith, c.loop-place-test.true)) in
+      let more = ap length (put_more given expression k there.0 there.1) in
       let so_far = c.loop-place.invariant.so_far given slots in
-      let part = ap length (c.replacement_of.ensures given s slots here) in
-      omega (arith, length-append (substituted given (take k expression)) (replacement given s), c.count-more.ensures);
+      let part = ap length (c.replacement_of.ensures given there.0 slots there.1) in
+      omega (arith, length-append (substituted given (take k expression)) (replacement given there.0), c.count-more.ensures);
 }
 
 pub returns : goal.returns

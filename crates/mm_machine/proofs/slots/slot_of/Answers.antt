@@ -1,6 +1,5 @@
-use Rattle.std.proofs.{Common.{sym, ◌∙◌, arith}, lemmas.{Bool.{false≢true}, List.{length-map}}}
-use Rattle.mm_machine.{specs.{Language.CitedFrames.{mandatory_of, hypotheses_of}, Code.Citation.{IsTypingOf}}, proofs.lemmas.machine.{FlatLemmas.{mapped_get}, ApartLemmas.{each_more}}}
-use Rattle.mm_machine.proofs.lemmas.machine.SlotLemmas.{not_typed}
+use Rattle.std.proofs.{Common.{true, [], ◌∷◌, refl, sym, ◌∙◌, arith}, lemmas.{Bool.{false≢true}, List.{length-map}}}
+use Rattle.mm_machine.{specs.{Language.CitedFrames.{mandatory_of, hypotheses_of}, Code.Citation.{IsTypingOf}}, proofs.lemmas.machine.{FlatLemmas.{mapped_get}, ApartLemmas.{each_more, each_all}}}
 use Rattle.mm_machine.proofs.slots.slot_of.Goals as goal
 
 pub returns-then-is_float_of : goal.returns-then-is_float_of
@@ -27,5 +26,8 @@ loop-place-preserved g c =
 
 pub returns : goal.returns
 returns g c typed =
-    let m = g.S.Symbol.means in
-    absurd (not_typed (hypotheses_of m c.args.hypotheses.now) c.loop-place.place (m c.args.variable.now) (omega (arith, length-map c.args.hypotheses.now (mandatory_of m), c.loop-place-test.false)) c.loop-place.invariant typed)
+    let v = g.S.Symbol.means c.args.variable.now in
+    let long = length-map c.args.hypotheses.now (mandatory_of g.S.Symbol.means) in
+    absurd (each_all (λ h. IsTypingOf h v → ⊥) (hypotheses_of g.S.Symbol.means c.args.hypotheses.now) c.loop-place.place
+    (omega (arith, long, c.loop-place-test.false))
+    c.loop-place.invariant (record { floating = true; expression = typed.0 ∷ v ∷ [] }) typed.2 (refl, refl))

@@ -2,8 +2,8 @@ use Rattle.std.proofs.{Common.{◌≡◌, ◌+◌, ◌-◌, ◌++◌, map, lengt
 use Rattle.mm_machine.specs.Language.{Frame.{Frame, AreSameFrame}, Expansion.{Step}, Faults.{IsLowest}, Machine.{State}, CitedFrames.{frame_of, hypotheses_of, meant_pairs}}
 use Rattle.mm_machine.specs.{Language.NamedSteps.{named_expressions, named_frames}, declared.{pattern.Entry.{Entry}, stepping.Task.{Task}}, Code.{Flat.{read}, MachineState.{state_of}}}
 use Rattle.mm_machine.{specs.Code.Tasks.{HasState, IsTaskWithin, saves_of}, proofs.lemmas.machine.FlatLemmas.{mapped_or, mapped_or_get}}
-use Rattle.mm_machine.proofs.lemmas.machine.StepLemmas.{means_push, means_cite, means_again, means_keep, cite_turns, kept_at, saved_at, TurnsTo, pushed_turns, again_turns, kept_turns, cited_turns}
-use Rattle.mm_machine.proofs.lemmas.machine.StepLemmas.{saved_same, saved_more, if_none}
+use Rattle.mm_machine.proofs.lemmas.machine.StepLemmas.{means_push, means_cite, means_again, means_keep, cite_turns, kept_at, saved_at, TurnsTo, pushed_turns, kept_turns, cited_turns, saved_same}
+use Rattle.mm_machine.proofs.lemmas.machine.StepLemmas.{saved_more, if_none, named_turns}
 use Rattle.mm_machine.proofs.stepping.do_task.Goals as goal
 
 pub returns-in_ok-push_saved-in-Push : goal.returns-in_ok-push_saved-in-Push
@@ -12,7 +12,8 @@ returns-in_ok-push_saved-in-Push g c = record {
       let expressions = named_expressions m c.args.named.now in
       let k = means_push expressions (named_frames m c.args.named.now) place c.in-Push.n c.args.task step c.in-Push.is means in
       let at = ap (λ w. slice_get w c.in-Push.n) state.saved ∙ kept_at expressions before.saved c.in-Push.n k.1 k.3 in
-      pushed_turns m expressions place k.0 step k.1 before c.args.machine.now c.push_saved.new.self k.2 k.4 state (c.in_ok-push_saved-in-Push.ensures.stack k.1 at) c.in_ok-push_saved-in-Push.ensures.saved;
+      pushed_turns m expressions place step k.1 before c.args.machine.now c.push_saved.new.self (named_turns place k.0 step k.1 before k.2 k.4) state
+      (c.in_ok-push_saved-in-Push.ensures.stack k.1 at) c.in_ok-push_saved-in-Push.ensures.saved;
   whole = c.in_ok-push_saved-in-Push.ensures.whole;
   saves = omega (arith, saved_same g.S.Symbol.means c.args.machine.now c.push_saved.new.self c.in_ok-push_saved-in-Push.ensures.saved, ap saves_of c.in-Push.is);
 }
@@ -57,7 +58,8 @@ returns-in_ok-push_saved-in-Again g c = record {
       let count : length expressions + n ≡ place_of = omega (arith, c.len.ensures, named.hypotheses.ok, length-map named.hypotheses.items (λ e. map m e.now)) in
       let saved = sym (saved_at expressions before.saved n) ∙ ap (slice_get (expressions ++ before.saved)) count ∙ ap (λ w. slice_get w place_of) (sym state.saved) ∙ at in
       let is = means_again expressions (named_frames m named) place n c.args.task step c.in-Again.is means in
-      again_turns m expressions place n step e before c.args.machine.now c.push_saved-in-Again.new.self is saved state (c.in_ok-push_saved-in-Again.ensures.stack e at) c.in_ok-push_saved-in-Again.ensures.saved;
+      pushed_turns m expressions place step e before c.args.machine.now c.push_saved-in-Again.new.self (rw is (e, saved, refl, refl)) state
+      (c.in_ok-push_saved-in-Again.ensures.stack e at) c.in_ok-push_saved-in-Again.ensures.saved;
   whole = c.in_ok-push_saved-in-Again.ensures.whole;
   saves = omega (arith, saved_same g.S.Symbol.means c.args.machine.now c.push_saved-in-Again.new.self c.in_ok-push_saved-in-Again.ensures.saved, ap saves_of c.in-Again.is);
 }

@@ -1,5 +1,5 @@
 use Rattle.std.proofs.{Common.{arith}, lemmas.Grind.{common_steps}}
-use Rattle.mm_machine.proofs.lemmas.machine.{FlatLemmas.{mapped_get}, StepLemmas.{take_next}}
+use Rattle.mm_machine.proofs.lemmas.{machine.FlatLemmas.{mapped_get}, lists.Members.{take_next}}
 use Rattle.mm_machine.proofs.stepping.load.Goals as goal
 
 pub loop-n-preserved : goal.loop-n-preserved

@@ -1,6 +1,6 @@
-use Rattle.std.proofs.{Common.{◌≡◌, ◌≤◌, length-append, ◌-◌, ◌<◌, [], ℕ, Some, map, length, take, get_or, sym, ◌∙◌, ap, subst, arith}, lemmas.{List.{length-map}, Option.{slice_get-get_or}}}
+use Rattle.std.proofs.{lemmas.{Grind.{elements}, List.{length-map}, Option.{slice_get-get_or}}, Common.{◌≡◌, ◌≤◌, length-append, ◌-◌, ◌<◌, ℕ, Some, length, take, get_or, sym, ◌∙◌, ap, subst, arith}}
 use Rattle.mm_machine.specs.{Language.{Reaches.{Reaches}, NamedSteps.{meant, IsSavedWithin, actions_mean, named_expressions, named_frames, saves_in}}, declared.step.ProofStep.{ProofStep}}
-use Rattle.mm_machine.{specs.Code.Flat.{read}, proofs.lemmas.machine.Reaching.{at_start}}
+use Rattle.mm_machine.proofs.lemmas.machine.Reaching.{at_start}
 use Rattle.mm_machine.proofs.lemmas.machine.StepLemmas.{nothing_known, known_more, known_all, follows_more, fault_here, unknown_here, reached_all, means_known, action_at, saves_next}
 use Rattle.mm_machine.specs.declared.step.Action.TheVariants as actions
 use Rattle.mm_machine.proofs.stepping.run_through.Goals as goal
@@ -10,11 +10,7 @@ abbrev nowhere : ProofStep
 nowhere = record { action = actions.Label 0; spot = record { word = 0; letter = 0 } }
 
 pub loop-place-init : goal.loop-place-init
-loop-place-init g c =
-    let m = g.S.Symbol.means in
-    let expressions = named_expressions m c.args.named.now in
-    let machine = c.load.new.machine in
-    grind (arith, length-map machine.saved.items (read (map m machine.symbols.items)), length-append expressions [], length-map, nothing_known, at_start) steps 200000
+loop-place-init g c = grind (arith, elements, at_start, length-append, length-map, nothing_known) steps 200000
 
 pub do_task-requires : goal.do_task-requires
 do_task-requires g c =

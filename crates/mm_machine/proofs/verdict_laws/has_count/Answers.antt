@@ -1,4 +1,4 @@
-use Rattle.mm_machine.proofs.lemmas.machine.Counting.{some_count}
+use Rattle.mm_machine.proofs.lemmas.machine.Running.{some_count}
 use Rattle.mm_machine.proofs.verdict_laws.has_count.Goals as goal
 
 pub returns : goal.returns

@@ -1,5 +1,5 @@
-use Rattle.std.proofs.Common.{arith, List, ℕ, length, subst}
-use Rattle.mm_proof.{specs.Code.TwoTheorems.{AreUnnamed}, proofs.{InStepLemmas.{in_step_kept}, UnnamedLemmas.{all_named, all_with, got_within, none_changed, not_true}}}
+use Rattle.std.proofs.{Common.{arith, List, ℕ, length, subst}, lemmas.Option.{slice_get_within}}
+use Rattle.mm_proof.{specs.Code.TwoTheorems.{AreUnnamed}, proofs.{InStepLemmas.{in_step_kept}, UnnamedLemmas.{all_named, all_with, none_changed, not_true}}}
 use Rattle.mm_proof.proofs.view.are_kept.Goals as goal
 
 pub returns-then-is_in_step : goal.returns-then-is_in_step
@@ -9,5 +9,6 @@ returns-then-is_in_step c said says t base copy f g are =
     let marked = c.is_in_step.ensures.0 c.if-is_in_step.true in
     let unnamed = subst (λ (changed : List ℕ). AreUnnamed two said.proof changed (length changed)) c.changed.ensures (c.may_name_any.ensures said says (not_true c.may_name_any.result t)) in
     let none = none_changed copy marks.changed two.j said.proof (
-    λ label told. unnamed told.place told.m (got_within marks.changed told.place told.m told.told) told.told copy (two.names.now, g) told.earlier label told.label_is) in
+    λ label told. unnamed told.place told.m (slice_get_within marks.changed told.place told.m told.told) told.told copy (two.names.now, g) told.earlier label
+    told.label_is) in
     grind (arith, in_step_kept base copy marks are two.i two.j marked.0 marked.1, all_named, all_with) steps 200000

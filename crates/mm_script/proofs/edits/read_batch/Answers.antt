@@ -1,6 +1,7 @@
-use Rattle.std.proofs.{lemmas.{Grind.{common_steps}, Bool.{not-false, not-true}}, Common.{◌≡◌, ◌<◌, ◌+◌, ◌++◌, ◌∷◌, [], ◌∙◌, ap, sym, subst, arith, length, length-append, false, rules, List}}
-use Rattle.mm_script.{specs.{declared.entry.EditAt.{EditAt}, Code.Batches.{IsBatchRead}, Language.Commands.{pending}}, proofs.GrowLemmas.{grows_not, grows_then, same_error}}
-use Rattle.mm_script.proofs.{EditLemmas.{behind_within}, BatchReadLemmas.{batch_begun, batch_front, batch_line_last, batch_one_more, edits_counted, fed_by}}
+use Rattle.std.proofs.{Common.{[], ◌≡◌, ◌<◌, ◌+◌, ◌++◌, ◌∷◌, ◌∙◌, ap, sym, subst, arith, length, length-append, false, rules, List}, lemmas.{Grind.{common_steps}, Bool.{not-false, not-true}}}
+use Rattle.mm_script.specs.{declared.{entry.{Complete.{Complete}, EditAt.{EditAt}}, error.ScriptError.{ScriptError}}, Code.Batches.{IsBatchRead}, Language.Commands.{pending}}
+use Rattle.mm_script.proofs.{GrowLemmas.{grows_not, grows_then, same_error}, EditLemmas.{behind_within}}
+use Rattle.mm_script.proofs.BatchReadLemmas.{batch_begun, batch_front, batch_line_last, batch_one_more, edits_counted, fed_by}
 use Rattle.mm_script.proofs.edits.read_batch.Goals.{else-not-line-via-then-not-line+else-count-gt0, else-not-line-via-else-not-line}
 use Rattle.mm_script.proofs.edits.read_batch.Goals as goal
 
@@ -28,20 +29,18 @@ returns-in_err-read g c =
     let fed = fed_by c.loop-input.fed (length c.loop-input.edits.items) c.args.count c.loop-input.invariant.last fewer in
     let front = batch_front (pending c.loop-input.input) _ c.args.count c.loop-input.end c.loop-input.edits.items c.loop-input.fed read fed fewer in
     let few = edits_counted (pending c.loop-input.input) c.loop-input.edits.items read.front read.edits in
-    let last = c.from_residual.result in
-    let error = c.in_err-read.field-0.0 in
-    let is = c.from_residual.ensures.1 in
+    let same = λ (e : ScriptError). same_error {T = Complete EditAt} c.from_residual.result c.in_err-read.field-0.0 e c.from_residual.ensures.1 in
     let fails = c.in_err-read.ensures in
     record {
       grows = grows_then _ _ _ _ _ _ c.loop-input.invariant.grows fails.grows;
       batch = search rules;
       all = search rules;
       fewer = search rules;
-      bad = λ bad. fails.bad (same_error last error _ is bad) c.args.count read.front front (omega (arith, few, fewer));
-      cut = λ cut. fails.cut (same_error last error _ is cut) c.args.count read.front front (omega (arith, few, fewer));
-      read = λ stop. fails.read (same_error last error _ is stop) c.args.count read.front front (omega (arith, few, fewer));
-      failed = λ stop. fails.failed (same_error last error _ is stop);
-      told = λ write. fails.told (same_error last error _ is write);
+      bad = λ bad. fails.bad (same _ bad) c.args.count read.front front (omega (arith, few, fewer));
+      cut = λ cut. fails.cut (same _ cut) c.args.count read.front front (omega (arith, few, fewer));
+      read = λ stop. fails.read (same _ stop) c.args.count read.front front (omega (arith, few, fewer));
+      failed = λ stop. fails.failed (same _ stop);
+      told = λ write. fails.told (same _ write);
     }
 
 pub returns-in_err-push-clause-grows : goal.returns-in_err-push-clause-grows

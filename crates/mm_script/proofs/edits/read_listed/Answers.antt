@@ -1,17 +1,16 @@
-use Rattle.std.proofs.{Common.{◌≡◌, ◌<◌, ◌∙◌, ap, arith, false, refl, inl, inr, rules, slice_range}, lemmas.Bool.{false_from_ne_true, not-true}}
-use Rattle.mm_script.specs.{declared.error.ScriptError.{ScriptError}, Code.{Growing.{line_bytes}, Stops.{IsBadEditLine}}, Language.Commands.{pending, edit_in}}
-use Rattle.mm_script.proofs.GrowLemmas.{blanks_grown, grows_then, other_error, same_error}
-use Rattle.mm_script.proofs.BatchLemmas.{bad_listed, bad_text, begun_holds, edit_missing, line_cut, line_some, none_left, short_cut, short_holds}
+use Rattle.std.proofs.{Common.{◌≡◌, ◌<◌, ◌∙◌, ap, arith, false, refl, rules, slice_range}, lemmas.Bool.{false_from_ne_true, not-true}}
+use Rattle.mm_script.specs.{declared.{entry.{Complete.{Complete}, EditAt.{EditAt}}, script_lines.LineAt.{LineAt}, error.ScriptError.{ScriptError}}, Code.{Growing.{line_bytes}, Stops.{IsBadEditLine}}}
+use Rattle.mm_script.{specs.Language.Commands.{pending, edit_in}, proofs.GrowLemmas.{blanks_grown, grows_then, other_error, same_error}}
+use Rattle.mm_script.proofs.BatchLemmas.{bad_listed, bad_text, begun_holds, edit_missing, line_some, none_left, short_holds, text_stops}
 use Rattle.mm_script.specs.declared.error.ScriptError.TheVariants as errors
 use Rattle.mm_script.proofs.edits.read_listed.Goals as goal
 
 pub returns-in_err-line : goal.returns-in_err-line
 returns-in_err-line g c =
     let fails = c.in_err-line.ensures in
-    let last = c.from_residual.result in
-    let error = c.in_err-line.field-0.0 in
-    let is = c.from_residual.ensures.1 in
-    let other = λ (e : ScriptError). other_error last _ error errors.Read errors.Memory e is refl fails.told in
+    let same = λ (e : ScriptError). same_error {T = LineAt} c.from_residual.result c.in_err-line.field-0.0 e c.from_residual.ensures.1 in
+    let other = λ (e : ScriptError). other_error c.from_residual.result _ c.in_err-line.field-0.0 errors.Read errors.Memory e c.from_residual.ensures.1 refl
+    fails.told in
     record {
       grows = fails.grows;
       edit = search rules;
@@ -19,9 +18,9 @@ returns-in_err-line g c =
       fewer = search rules;
       bad = λ bad n front f count. absurd (other _ (λ e. cc) (λ e. cc) bad);
       cut = λ cut n front f count. absurd (other _ (λ e. cc) (λ e. cc) cut);
-      read = λ read n front f count. let begun = fails.read (same_error last error _ is read) in
+      read = λ read n front f count. let begun = fails.read (same _ read) in
           begun_holds c.args.input.now c.read_some_line.new.input _ _ n front c.args.from begun.start f fails.grows begun.blanks begun.one_line;
-      failed = λ read. fails.failed (same_error last error _ is read);
+      failed = λ read. fails.failed (same _ read);
       told = λ write. other _ (λ e. cc) (λ e. cc) write;
     }
 
@@ -52,22 +51,19 @@ returns-in_err-read g c =
     let fails = c.in_err-read.ensures in
     let blanks = blanks_grown c.read_some_line.new.input c.read_edit.new.input _ _ c.args.from line.start fails.grows c.in_ok-line.ensures.start in
     let grows = grows_then _ _ _ _ _ _ c.in_ok-line.ensures.grows fails.grows in
-    let last = c.from_residual-in_err-read.result in
-    let error = c.in_err-read.field-0.0 in
-    let is = c.from_residual-in_err-read.ensures.1 in
+    let same = λ (e : ScriptError). same_error {T = Complete EditAt} c.from_residual-in_err-read.result c.in_err-read.field-0.0 e
+    c.from_residual-in_err-read.ensures.1 in
     record {
       grows = grows;
       edit = search rules;
       last = search rules;
       fewer = search rules;
-      bad = λ bad n front f count. bad_text c.args.input.now c.read_edit.new.input _ _ n front c.args.from line.start f grows blanks (fails.bad (same_error last error _ is bad));
-      cut = λ cut n front f count. let ended = fails.cut (same_error last error _ is cut) in elim ended.1 [
-        | inl short ↦ short_cut c.args.input.now c.read_edit.new.input _ _ n front c.args.from line.start f grows blanks short ended.0
-        | inr whole ↦ line_cut c.args.input.now c.read_edit.new.input _ _ n front c.args.from line.start f grows blanks whole ended.0
-      ];
-      read = λ read n front f count. short_holds c.args.input.now c.read_edit.new.input _ _ n front c.args.from line.start f grows blanks (fails.read (same_error last error _ is read));
-      failed = λ read. fails.failed (same_error last error _ is read);
-      told = λ write. fails.told (same_error last error _ is write);
+      bad = λ bad n front f count. bad_text c.args.input.now c.read_edit.new.input _ _ n front c.args.from line.start f grows blanks (fails.bad (same _ bad));
+      cut = λ cut n front f count. let ended = fails.cut (same _ cut) in
+          text_stops c.args.input.now c.read_edit.new.input _ _ n front c.args.from line.start f grows blanks ended.1 ended.0;
+      read = λ read n front f count. short_holds c.args.input.now c.read_edit.new.input _ _ n front c.args.from line.start f grows blanks (fails.read (same _ read));
+      failed = λ read. fails.failed (same _ read);
+      told = λ write. fails.told (same _ write);
     }
 
 pub returns-then-missing-gt1-clause-grows : goal.returns-then-missing-gt1-clause-grows

@@ -1,6 +1,6 @@
-use Rattle.std.proofs.{lemmas.Grind.{common_steps}, Common.{◌≡◌, ◌<◌, ◌∙◌, ap, sym, subst, arith, refl, List, ℕ, codes, slice_range}}
-use Rattle.mm_script.specs.{declared.{line.CommandLine.{CommandLine}, script_lines.LineAt.{LineAt}}, Code.{Growing.{line_bytes}, Lines.{SaysLine}, Stops.{IsBadLine}}}
-use Rattle.mm_script.{specs.Language.{Commands.{pending, bytes_of_part, IsCommandIn}, Script.{Report, Verdict, Axioms, Cites, Users}}, proofs.{BatchLemmas.{line_some}, GrowLemmas.{same_error}}}
+use Rattle.std.proofs.{lemmas.Grind.{common_steps}, Common.{◌≡◌, ◌<◌, ◌∙◌, ap, arith, refl, List, ℕ, codes, slice_range}}
+use Rattle.mm_script.specs.{declared.{line.CommandLine.{CommandLine}, script_lines.LineAt.{LineAt}}, Code.{Growing.{line_bytes}, Lines.{SaysLine}, Stops.{IsBadLine}}, Language.Commands.{pending}}
+use Rattle.mm_script.{specs.Language.Script.{Report, Verdict, Axioms, Cites, Users}, proofs.{BatchLemmas.{line_some}, GrowLemmas.{same_error}}}
 use Rattle.mm_script.proofs.CommandLemmas.{bad_first, bad_edit, cut_edit, held_edit, batch_next, label_next, line_next}
 use Rattle.mm_script.proofs.entry.read_command.Goals as goal
 
@@ -40,43 +40,36 @@ returns-in_ok-read-in-Batch-clause-found g c =
 
 pub returns-in-Report-clause-found : goal.returns-in-Report-clause-found
 returns-in-Report-clause-found g c =
-    let bytes = pending c.args.input.now in
-    let says = said_line c.pending.result.now bytes c.args.line _ _ c.pending.ensures c.in-Some.ensures.some c.in-Report.is in
-    line_next bytes _ c.args.line Report c.of_line.result c.requires.line c.requires.start says refl tt
-    (subst (λ k. IsCommandIn bytes k Report) (sym c.of_line.ensures.command) refl) tt c.of_line.ensures.fed c.of_line.ensures.end c.of_line.ensures.unfed
+    line_next (pending c.args.input.now) _ c.args.line Report c.of_line.result _ c.requires.line c.requires.start
+    (said_line c.pending.result.now _ c.args.line _ _ c.pending.ensures c.in-Some.ensures.some c.in-Report.is)
+    refl tt c.of_line.ensures.command refl tt c.of_line.ensures.fed c.of_line.ensures.end c.of_line.ensures.unfed
 
 pub returns-in-Verdict-clause-found : goal.returns-in-Verdict-clause-found
 returns-in-Verdict-clause-found g c =
-    let bytes = pending c.args.input.now in
-    let says = said_line c.pending.result.now bytes c.args.line _ _ c.pending.ensures c.in-Some.ensures.some c.in-Verdict.is in
-    label_next bytes _ c.args.line c.in-Verdict.label (codes "verdict") Verdict c.of_line-in-Verdict.result c.requires.line c.requires.start
-    says (λ name. refl) (λ name. refl) (λ name good. good) (λ name. tt)
-    (λ within. subst (λ k. IsCommandIn bytes k (Verdict (bytes_of_part bytes c.in-Verdict.label))) (sym c.of_line-in-Verdict.ensures.command) (within, refl))
-    c.of_line-in-Verdict.ensures.fed c.of_line-in-Verdict.ensures.end c.of_line-in-Verdict.ensures.unfed
+    label_next (pending c.args.input.now) _ c.args.line c.in-Verdict.label (codes "verdict") Verdict c.of_line-in-Verdict.result _ c.requires.line
+    c.requires.start
+    (said_line c.pending.result.now _ c.args.line _ _ c.pending.ensures c.in-Some.ensures.some c.in-Verdict.is) (λ name. refl) (λ name. refl)
+    (λ name good. good)
+    (λ name. tt) c.of_line-in-Verdict.ensures.command (λ within. (within, refl)) c.of_line-in-Verdict.ensures.fed c.of_line-in-Verdict.ensures.end
+    c.of_line-in-Verdict.ensures.unfed
 
 pub returns-in-Axioms-clause-found : goal.returns-in-Axioms-clause-found
 returns-in-Axioms-clause-found g c =
-    let bytes = pending c.args.input.now in
-    let says = said_line c.pending.result.now bytes c.args.line _ _ c.pending.ensures c.in-Some.ensures.some c.in-Axioms.is in
-    label_next bytes _ c.args.line c.in-Axioms.label (codes "axioms") Axioms c.of_line-in-Axioms.result c.requires.line c.requires.start
-    says (λ name. refl) (λ name. refl) (λ name good. good) (λ name. tt)
-    (λ within. subst (λ k. IsCommandIn bytes k (Axioms (bytes_of_part bytes c.in-Axioms.label))) (sym c.of_line-in-Axioms.ensures.command) (within, refl))
-    c.of_line-in-Axioms.ensures.fed c.of_line-in-Axioms.ensures.end c.of_line-in-Axioms.ensures.unfed
+    label_next (pending c.args.input.now) _ c.args.line c.in-Axioms.label (codes "axioms") Axioms c.of_line-in-Axioms.result _ c.requires.line c.requires.start
+    (said_line c.pending.result.now _ c.args.line _ _ c.pending.ensures c.in-Some.ensures.some c.in-Axioms.is) (λ name. refl) (λ name. refl) (λ name good. good)
+    (λ name. tt) c.of_line-in-Axioms.ensures.command (λ within. (within, refl)) c.of_line-in-Axioms.ensures.fed c.of_line-in-Axioms.ensures.end
+    c.of_line-in-Axioms.ensures.unfed
 
 pub returns-in-Cites-clause-found : goal.returns-in-Cites-clause-found
 returns-in-Cites-clause-found g c =
-    let bytes = pending c.args.input.now in
-    let says = said_line c.pending.result.now bytes c.args.line _ _ c.pending.ensures c.in-Some.ensures.some c.in-Cites.is in
-    label_next bytes _ c.args.line c.in-Cites.label (codes "cites") Cites c.of_line-in-Cites.result c.requires.line c.requires.start
-    says (λ name. refl) (λ name. refl) (λ name good. good) (λ name. tt)
-    (λ within. subst (λ k. IsCommandIn bytes k (Cites (bytes_of_part bytes c.in-Cites.label))) (sym c.of_line-in-Cites.ensures.command) (within, refl))
-    c.of_line-in-Cites.ensures.fed c.of_line-in-Cites.ensures.end c.of_line-in-Cites.ensures.unfed
+    label_next (pending c.args.input.now) _ c.args.line c.in-Cites.label (codes "cites") Cites c.of_line-in-Cites.result _ c.requires.line c.requires.start
+    (said_line c.pending.result.now _ c.args.line _ _ c.pending.ensures c.in-Some.ensures.some c.in-Cites.is) (λ name. refl) (λ name. refl) (λ name good. good)
+    (λ name. tt) c.of_line-in-Cites.ensures.command (λ within. (within, refl)) c.of_line-in-Cites.ensures.fed c.of_line-in-Cites.ensures.end
+    c.of_line-in-Cites.ensures.unfed
 
 pub returns-in-Users-clause-found : goal.returns-in-Users-clause-found
 returns-in-Users-clause-found g c =
-    let bytes = pending c.args.input.now in
-    let says = said_line c.pending.result.now bytes c.args.line _ _ c.pending.ensures c.in-Some.ensures.some c.in-Users.is in
-    label_next bytes _ c.args.line c.in-Users.label (codes "users") Users c.of_line-in-Users.result c.requires.line c.requires.start
-    says (λ name. refl) (λ name. refl) (λ name good. good) (λ name. tt)
-    (λ within. subst (λ k. IsCommandIn bytes k (Users (bytes_of_part bytes c.in-Users.label))) (sym c.of_line-in-Users.ensures.command) (within, refl))
-    c.of_line-in-Users.ensures.fed c.of_line-in-Users.ensures.end c.of_line-in-Users.ensures.unfed
+    label_next (pending c.args.input.now) _ c.args.line c.in-Users.label (codes "users") Users c.of_line-in-Users.result _ c.requires.line c.requires.start
+    (said_line c.pending.result.now _ c.args.line _ _ c.pending.ensures c.in-Some.ensures.some c.in-Users.is) (λ name. refl) (λ name. refl) (λ name good. good)
+    (λ name. tt) c.of_line-in-Users.ensures.command (λ within. (within, refl)) c.of_line-in-Users.ensures.fed c.of_line-in-Users.ensures.end
+    c.of_line-in-Users.ensures.unfed

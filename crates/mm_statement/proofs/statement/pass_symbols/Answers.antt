@@ -1,28 +1,22 @@
-use Rattle.std.proofs.Common.{◌∷◌, [], ◌++◌, sym, ◌∙◌}
-use Rattle.mm_statement.proofs.SpokenLemmas.{symbols_passed, symbols_more, symbols_closed, symbols_ended}
+use Rattle.std.proofs.Common.{◌++◌, sym, ◌∙◌}
+use Rattle.mm_statement.proofs.{SpokenLemmas.{Symbols, symbols_passed, symbols_more, symbols_closed, symbols_ended}, statement.pass_symbols.Goals.{After-skip_plain}}
 use Rattle.mm_statement.proofs.statement.pass_symbols.Goals as goal
+
+-- the symbols so far, with the plain words that are passed over
+skipped : (c : After-skip_plain) → Symbols c.args.words.now.words c.skip_plain.new.self.words (c.loop-word.invariant.1.0 ++ c.skip_plain.ensures.skips.passed)
+skipped c =
+    let so_far = c.loop-word.invariant.1 in
+    symbols_passed c.args.words.now.words c.loop-word.words.words c.skip_plain.new.self.words so_far.0 c.skip_plain.ensures.skips so_far.1
 
 pub returns-in_default-clause-rest : goal.returns-in_default-clause-rest
 returns-in_default-clause-rest c =
-    let words = c.args.words.now.words in
-    let so_far = c.loop-word.invariant.1 in
-    let skips = c.skip_plain.ensures.skips in
-    let skipped = symbols_passed words c.loop-word.words.words c.skip_plain.new.self.words so_far.0 skips so_far.1 in
-    (symbols_closed words c.skip_plain.new.self.words c.next_word.new.self.words (so_far.0 ++ skips.passed) c.in-Some.word skipped c.in-Some.ensures.word (sym c.if-is_plain.ensures)).rest
+    (symbols_closed _ _ _ _ _ (skipped (goal.at.returns-in_default-clause-rest c).After-skip_plain) c.in-Some.ensures.word (sym c.if-is_plain.ensures)).rest
 
 pub returns-in_default-2-clause-rest : goal.returns-in_default-2-clause-rest
 returns-in_default-2-clause-rest c =
-    let words = c.args.words.now.words in
-    let so_far = c.loop-word.invariant.1 in
-    let skips = c.skip_plain.ensures.skips in
-    let skipped = symbols_passed words c.loop-word.words.words c.skip_plain.new.self.words so_far.0 skips so_far.1 in
-    (symbols_ended words c.skip_plain.new.self.words c.next_word.new.self.words (so_far.0 ++ skips.passed) skipped c.in_default.ensures.word.0 c.in_default.ensures.word.1).rest
+    (symbols_ended _ _ _ _ (skipped (goal.at.returns-in_default-2-clause-rest c).After-skip_plain) c.in_default.ensures.word.0 c.in_default.ensures.word.1).rest
 
 pub loop-word-preserved : goal.loop-word-preserved
 loop-word-preserved c =
-    let words = c.args.words.now.words in
-    let so_far = c.loop-word.invariant.1 in
-    let skips = c.skip_plain.ensures.skips in
-    let skipped = symbols_passed words c.loop-word.words.words c.skip_plain.new.self.words so_far.0 skips so_far.1 in
-    let more = symbols_more words c.skip_plain.new.self.words c.next_word.new.self.words (so_far.0 ++ skips.passed) c.in-Some.word skipped c.in-Some.ensures.word (sym c.if-is_plain.ensures) in
-    (c.in-Some.ensures.text ∙ c.skip_plain.ensures.text ∙ c.loop-word.invariant.0, ((so_far.0 ++ skips.passed) ++ c.in-Some.word ∷ [], more))
+    let more = symbols_more _ _ _ _ _ (skipped (goal.at.loop-word-preserved c).After-skip_plain) c.in-Some.ensures.word (sym c.if-is_plain.ensures) in
+    (c.in-Some.ensures.text ∙ c.skip_plain.ensures.text ∙ c.loop-word.invariant.0, (_, more))

@@ -1,7 +1,7 @@
 -- Each edit is accepted, or refused for one reason.
 use Rattle.std.proofs.{Common.{rules, ◌≡◌, ◌≢◌, ◌⊎◌, inl, inr, ℕ, ◌-◌, ◌<◌, ◌≤◌, List, [], Option, Some, None, length, get_or, refl, arith, slice_get}, lemmas.{Grind.{common_steps}, Bool.{cases_eq}}}
 use Rattle.std.proofs.lemmas.{Bool.Decides.{nat_tests}, Option.{slice_get-get_or, cond_some}}
-use Rattle.mm_text.specs.{declared.fault.TextFault.{TextFault}, Language.{Cut.{IsCut, IsFirstFault}, Asked.{Asked, Insert, Replace, Delete, Move, edited_name, edited_text, IsAmong}}}
+use Rattle.mm_text.specs.{declared.fault.TextFault.{TextFault}, Language.{Cut.{IsCut, IsFirstFault}, Asked.{Asked, Move, edited_name, edited_text, IsAmong}}}
 use Rattle.mm_store.specs.{declared.edit.EditError.{EditError}, Language.FilesView.{File, file_number, bytes_of}}
 use Rattle.mm_store.specs.Language.{Edits.{IsEditedFile, IsPlaced, BringsOneUnit, BringsFault, BringsNotOne, IsEditOf, after_edit}, Answers.{IsEditError}}
 use Rattle.mm_store.specs.declared.edit.EditError.TheVariants as edits
@@ -13,10 +13,8 @@ le_or : (m n : ℕ) → (m ≤ n) ⊎ (n < m)
 le_or m n = grind (arith, common_steps, cases_eq (m - n) 0) steps 200000
 
 is_among : (edit : Asked) (count : ℕ) → IsAmong edit count ⊎ (¬ IsAmong edit count)
-is_among (Insert file at text) count = grind (arith, common_steps, le_or at count) steps 200000
-is_among (Replace file at text) count = grind (arith, common_steps, le_or count at) steps 200000
-is_among (Delete file at) count = grind (arith, common_steps, le_or count at) steps 200000
 is_among (Move file at to) count = grind (arith, common_steps, le_or count at, le_or count to) steps 200000
+is_among edit count = grind (arith, common_steps, le_or) steps 200000
 
 text_is : SomeCut → (brought : Option (List ℕ)) → BringsOneUnit brought ⊎ (((fault : TextFault) × BringsFault brought fault) ⊎ ((count : ℕ) × BringsNotOne brought count))
 text_is some None = inl tt

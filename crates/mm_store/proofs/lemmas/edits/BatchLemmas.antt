@@ -1,10 +1,10 @@
 -- Edits that were done one after another, undone and settled.
-use Rattle.std.proofs.{lemmas.{Grind.{common_steps}, Option.{none-some}}, Common.{◌≡◌, ◌≢◌, ℕ, ◌+◌, List, [], ◌∷◌, ◌++◌, Option, Some, length, refl, sym, ap, ◌∙◌, subst, arith, Result, IfOk, OnOk}}
+use Rattle.std.proofs.{lemmas.{Grind.{common_steps}, Option.{none-some}}, Common.{◌≡◌, ◌≢◌, ℕ, ◌+◌, List, [], ◌∷◌, ◌++◌, Option, Some, refl, sym, ap, ◌∙◌, subst, arith, Result, IfOk, OnOk}}
 use Rattle.mm_store.specs.{declared.edit.EditError.{EditError}, Language.{EditedKeys.{IsEditByKeys, parks}, Batches.{CanSettleAll, CanUndoAll, IsSpendable, settled_all, undone_all}}}
-use Rattle.mm_store.specs.Language.{FileFacts.{parked_in}, FilesView.{FilesView}, Pieces.{Standing, Parked, Removal, HeldPiece, IsParked, Pieces, parked_pieces, parked_state, state_in, with_state}}
+use Rattle.mm_store.specs.Language.{FileFacts.{parked_in}, FilesView.{FilesView}, Pieces.{Standing, Removal, HeldPiece, IsParked, Pieces, parked_pieces, parked_state, state_in, with_state}}
 use Rattle.mm_store.specs.{Language.Undoing.{UndoView, EditAction, CanSettle, CanUndo, Fits, IsUndoable, key_at, reversed, settled, spent, undone}, Code.{Batched.{StandOnce}, Kept.{standing_count}}}
 use Rattle.mm_store.proofs.lemmas.files.{MapLemmas.{get_drop_other, get_drop_same}, PieceLemmas.{get_state_other, get_state_same}, StoreLemmas.{parked_changed, parked_dropped}}
-use Rattle.mm_store.proofs.lemmas.edits.{ReplaceLemmas.{key_stands}, StepLemmas.{parked}}
+use Rattle.mm_store.proofs.lemmas.edits.StepLemmas.{key_stands, parked}
 use Rattle.mm_text.specs.Language.Asked.{Asked}
 use Rattle.std.specs.FinMap as finite
 use Rattle.mm_store.specs.Language.Undoing as action
@@ -26,10 +26,6 @@ pub undo_others : (front : List UndoView) (undo : UndoView) (view : FilesView) �
 undo_others [] undo view can = tt
 undo_others (first ∷ front) undo view can = (undo_others front undo view can.0, subst (CanUndo first) (undone_last front undo view) can.1)
 
--- no edits
-pub undone_none : (undos : List UndoView) (view : FilesView) → length undos ≡ 0 → undone_all undos view ≡ view
-undone_none undos view none = grind (arith, common_steps) steps 200000
-
 pub settled_last : (front : List UndoView) (undo : UndoView) (view : FilesView) → settled_all (front ++ undo ∷ []) view ≡ settled_all front (settled undo view)
 settled_last [] undo view = refl
 settled_last (first ∷ front) undo view = ap (settled first) (settled_last front undo view)
@@ -50,21 +46,16 @@ settle_others (first ∷ front) undo view can = (settle_others front undo view c
 abbrev pub KeepsParked : FilesView → FilesView → Type 0
 KeepsParked a b = (key file : ℕ) (kind : Removal) → IsParked a.pieces key file kind → IsParked b.pieces key file kind
 
-not_dropped : (p : Pieces) (k key file : ℕ) (kind : Removal) → IsParked (finite.remove p k) key file kind → key ≢ k
-not_dropped p k key file kind is same = none-some (Parked file kind) (ap state_in (sym (get_drop_same p k) ∙ ap (finite.get (finite.remove p k)) (sym same)) ∙ is)
-
 dropped_parked : (p : Pieces) (k key file : ℕ) (kind : Removal) → IsParked (finite.remove p k) key file kind → IsParked p key file kind
-dropped_parked p k key file kind is = ap state_in (sym (get_drop_other p k key (not_dropped p k key file kind is))) ∙ is
+dropped_parked p k key file kind is = grind (arith, common_steps, get_drop_other, none-some, get_drop_same) steps 200000
 
 other_parked : (p : Pieces) (k key file : ℕ) (kind : Removal) → key ≢ k → IsParked p key file kind → IsParked (finite.remove p k) key file kind
 other_parked p k key file kind differs is = ap state_in (get_drop_other p k key differs) ∙ is
 
-spent_keeps : (a b : FilesView) (act : EditAction) → KeepsParked a b → KeepsParked (spent act a) (spent act b)
-spent_keeps a b act keeps = grind (arith, common_steps, dropped_parked, not_dropped, other_parked) steps 200000
-
 settled_keeps : (a b : FilesView) (undos : List UndoView) → KeepsParked a b → KeepsParked (settled_all undos a) (settled_all undos b)
 settled_keeps a b [] keeps = keeps
-settled_keeps a b (undo ∷ undos) keeps = spent_keeps (settled_all undos a) (settled_all undos b) undo.action (settled_keeps a b undos keeps)
+settled_keeps a b (undo ∷ undos) keeps =
+    grind (arith, common_steps, settled_keeps a b undos keeps, dropped_parked, other_parked, none-some, get_drop_same) steps 200000
 
 can_settle_kept : (a b : FilesView) (number : ℕ) (act : EditAction) → KeepsParked a b → CanSettle number act a → CanSettle number act b
 can_settle_kept a b number act keeps can = grind (arith, common_steps) steps 200000

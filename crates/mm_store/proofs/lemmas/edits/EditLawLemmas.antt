@@ -1,10 +1,10 @@
 -- Edits over files without keys: what they leave as it was, and what reverses them.
 use Rattle.std.proofs.lemmas.{Grind.{common_steps}, List.{Edits.{length-remove}, Folds.{position_or_len-set}, Sums.{sum_by-cons, sum_by-insert, sum_by-remove}}}
 use Rattle.std.proofs.lemmas.Option.{get_or_from_slice_get, none-some, same_Some}
-use Rattle.std.proofs.Common.{◌≡◌, ◌≢◌, ℕ, zero, suc, ◌+◌, ◌<◌, ◌≤◌, List, [], ◌∷◌, ◌++◌, Option, Some, None, length, map, get_or, set, refl, sym, ap, ◌∙◌, append_assoc, arith, length-append}
-use Rattle.std.{proofs.{Common.{slice_get, length-set}, Math.Seq.{map-set_same}}, specs.{List.{concat, sum_by, insert, remove}, Str.{bytes_eq}}}
+use Rattle.std.proofs.Common.{◌≡◌, ◌≢◌, ℕ, suc, ◌+◌, ◌<◌, ◌≤◌, List, [], ◌∷◌, ◌++◌, Some, length, map, get_or, set, refl, sym, ap, ◌∙◌, append_assoc, arith, length-append, slice_get, length-set}
+use Rattle.std.{proofs.Math.Seq.{map-set_same}, specs.{List.{concat, sum_by, insert, remove}, Str.{bytes_eq}}}
 use Rattle.mm_text.specs.Language.{Cut.{ended}, Asked.{Asked, Insert, Replace, Delete, Move}}
-use Rattle.mm_store.specs.Language.{FilesView.{File, file_number, file_at, find_file, bytes_of, text_of}, Edits.{edited, with_members, IsEditOf}}
+use Rattle.mm_store.specs.Language.{FilesView.{File, file_number, find_file, bytes_of, text_of}, Edits.{edited, with_members, IsEditOf}}
 
 -- one element of a list set
 module _ {X : Type 0} where
@@ -13,40 +13,33 @@ module _ {X : Type 0} where
   set_set _ _ x y = refl
 
   set_back : (xs : List X) (n : ℕ) (x : X) → slice_get xs n ≡ Some x → set xs n x ≡ xs
-  set_back [] n x there = refl
-  set_back (z ∷ xs) zero x there = ap (λ y. y ∷ xs) (sym (same_Some z x there))
   set_back (z ∷ xs) (suc n) x there = ap (λ ys. z ∷ ys) (set_back xs n x there)
+  set_back xs n x there = grind (arith, common_steps, same_Some) steps 200000
 
   get_set : (xs : List X) (n : ℕ) (x y : X) → slice_get xs n ≡ Some x → slice_get (set xs n y) n ≡ Some y
-  get_set [] n x y there = absurd (none-some x there)
-  get_set (z ∷ xs) zero x y there = refl
   get_set (z ∷ xs) (suc n) x y there = get_set xs n x y there
+  get_set xs n x y there = grind (arith, common_steps, none-some) steps 200000
 
   get_other : (xs : List X) (n m : ℕ) (y : X) → m ≢ n → slice_get (set xs n y) m ≡ slice_get xs m
-  get_other (z ∷ xs) zero zero y differs = absurd (differs refl)
   get_other (z ∷ xs) (suc n) (suc m) y differs = get_other xs n m y (λ e. differs (ap suc e))
-  get_other _ _ _ y differs = refl
+  get_other xs n m y differs = grind (arith, common_steps) steps 200000
 
   longer : (xs : List X) (i : ℕ) (x : X) → i ≤ length xs → length (insert xs i x) ≡ suc (length xs)
-  longer [] (suc i) x le = absurd (omega arith)
   longer (y ∷ xs) (suc i) x le = ap suc (longer xs i x (omega arith))
-  longer _ zero x le = refl
+  longer xs i x le = grind (arith, common_steps) steps 200000
 
   -- the member that was put in is there, and the list without it is that of before
   put_there : (xs : List X) (i : ℕ) (x d : X) → i ≤ length xs → get_or (insert xs i x) i d ≡ x
-  put_there [] (suc i) x d le = absurd (omega arith)
   put_there (y ∷ xs) (suc i) x d le = put_there xs i x d (omega arith)
-  put_there _ zero x d le = refl
+  put_there xs i x d le = grind (arith, common_steps) steps 200000
 
   remove_put : (xs : List X) (i : ℕ) (x : X) → i ≤ length xs → remove (insert xs i x) i ≡ xs
-  remove_put xs zero x le = refl
-  remove_put [] (suc i) x le = absurd (omega arith)
   remove_put (y ∷ xs) (suc i) x le = ap (λ ys. y ∷ ys) (remove_put xs i x (omega arith))
+  remove_put xs i x le = grind (arith, common_steps) steps 200000
 
   put_removed : (xs : List X) (i : ℕ) (d : X) → i < length xs → insert (remove xs i) i (get_or xs i d) ≡ xs
-  put_removed [] i d lt = absurd (omega arith)
-  put_removed (y ∷ xs) zero d lt = refl
   put_removed (y ∷ xs) (suc i) d lt = ap (λ ys. y ∷ ys) (put_removed xs i d (omega arith))
+  put_removed xs i d lt = grind (arith, common_steps) steps 200000
 
   -- in a list of three parts
   put_at : (before behind : List X) (x : X) → insert (before ++ behind) (length before) x ≡ before ++ x ∷ behind
@@ -103,17 +96,12 @@ module _ (files : List File) (n : ℕ) (file other : File) (there : slice_get fi
       rw (a, b) refl
 
 bytes_set : (files : List File) (n : ℕ) (file other : File) → slice_get files n ≡ Some file → bytes_of (set files n other) + length (text_of file) ≡ bytes_of files + length (text_of other)
-bytes_set [] n file other there = absurd (none-some file there)
-bytes_set (first ∷ files) zero file other there = omega (arith, ap (λ (file : File). length (text_of file)) (same_Some first file there))
 bytes_set (first ∷ files) (suc n) file other there = omega (arith, bytes_set files n file other there)
+bytes_set files n file other there = grind (arith, common_steps, none-some, same_Some) steps 200000
 
 size_is : (texts : List (List ℕ)) → length (concat texts) ≡ sum_by length texts
 size_is [] = refl
 size_is (text ∷ texts) = omega (arith, length-append text (concat texts), sum_by-cons length text texts, size_is texts)
-
--- how many bytes a file has
-bytes_in : (file : File) → length (text_of file) ≡ sum_by length file.pieces + length file.tail
-bytes_in file = omega (arith, length-append (concat file.pieces) file.tail, size_is file.pieces)
 
 -- an edit of the edited file that gives its members of before gives the files of before
 module _ (edit : Asked) (files between : List File) (is : IsEditOf edit files between) where
@@ -133,21 +121,14 @@ module _ (edit : Asked) (files between : List File) (is : IsEditOf edit files be
   changed_there = ap (λ fs. slice_get fs is.number) is.is_after ∙ get_set files is.number is.file changed is.placed.file_there.there
 
   pub given_back : (members : List (List ℕ)) → members ≡ is.file.pieces → files ≡ set between is.number (with_members changed members)
-  given_back members same = sym (
-      ap (λ fs. set fs is.number (with_members changed members)) is.is_after ∙ set_set files is.number changed (with_members changed members)
-      ∙ ap (λ pieces. set files is.number (with_members is.file pieces)) same ∙ set_back files is.number is.file is.placed.file_there.there)
+  given_back members same = grind (arith, common_steps, set_back, set_set) steps 200000
 
   pub bytes_before : bytes_of between + sum_by length is.file.pieces ≡ bytes_of files + sum_by length (edited edit is.file.pieces)
-  bytes_before = omega (arith, ap bytes_of is.is_after, bytes_set files is.number is.file changed is.placed.file_there.there, bytes_in is.file, bytes_in changed)
-
-  other_file : (name : List ℕ) (number : Option ℕ) → file_number files name ≡ number → number ≢ Some is.number → find_file between name ≡ find_file files name
-  other_file name None at differs = ap (file_at between) (number_kept name ∙ at) ∙ sym (ap (file_at files) at)
-  other_file name (Some number) at differs =
-      ap (file_at between) (number_kept name ∙ at) ∙ ap (λ fs. slice_get fs number) is.is_after ∙ get_other files is.number number changed (λ e. differs (ap Some e)) ∙ sym (ap (file_at files) at)
+  bytes_before = grind (arith, common_steps, bytes_set files is.number is.file changed is.placed.file_there.there, length-append, size_is) steps 200000
 
   -- a file of another number is as it was
   pub others_kept : (name : List ℕ) → file_number files name ≢ Some is.number → find_file between name ≡ find_file files name
-  others_kept name differs = other_file name (file_number files name) refl differs
+  others_kept name differs = grind (arith, common_steps, number_kept, get_other) steps 200000
 
 -- the deletion of what was inserted
 pub insert_reversed : (name text : List ℕ) (at : ℕ) (files between : List File) → IsEditOf (Insert name at text) files between → IsEditOf (Delete name at) between files

@@ -1,8 +1,8 @@
 -- Files each piece of which holds one unit: edits keep this, and keys can be given to the files.
 use Rattle.std.proofs.lemmas.{Grind.{common_steps, elements}, List.Elements.{All-nil, All-cons}, Option.{none-some, same_Some, slice_get-map}}
-use Rattle.std.proofs.Common.{◌≡◌, ℕ, zero, suc, ◌+◌, ◌<◌, Some, is_some, List, [], ◌∷◌, ◌++◌, length, map, take, drop, get_or, set, refl, sym, ap, ◌∙◌, subst, arith, All, IsSome, slice_get}
+use Rattle.std.proofs.Common.{◌≡◌, ℕ, suc, ◌+◌, ◌<◌, Some, is_some, List, [], ◌∷◌, ◌++◌, length, map, refl, sym, ap, ◌∙◌, subst, arith, All, IsSome, slice_get}
 use Rattle.std.specs.{List.{AllByRecursion, insert, remove}, Option.{option_map}}
-use Rattle.mm_text.specs.Language.{Cut.{HoldsOne, IsCut, ended}, Asked.{Asked, Insert, Replace, Delete, Move, edited_text, IsAmong}}
+use Rattle.mm_text.specs.Language.{Cut.{HoldsOne, IsCut, ended}, Asked.{Asked, edited_text, IsAmong}}
 use Rattle.mm_store.specs.Language.{Edits.{edited, with_members, BringsOneUnit, HasUnitCount, IsEditOf}, FileFacts.{HoldsPieces}}
 use Rattle.mm_store.specs.Language.{FilesView.{File, FileView, FilesView, KeyedFile, PieceView, file_view, files_in, piece_view, plain, plain_file}, Holding.{HoldOneEach}}
 use Rattle.mm_store.{specs.{Language.Pieces.{Pieces, HeldPiece, standing_piece, text_in, text_under}, Code.Gains.{HoldUnits}}, proofs.lemmas.files.MapLemmas.{get_put_same, get_put_other}}
@@ -12,43 +12,23 @@ use Rattle.std.specs.FinMap as finite
 -- ---- what holds of each element
 
 module _ {X : Type 0} (P : X → Type 0) where
-  all_there : (xs : List X) (n : ℕ) (x : X) → AllByRecursion P xs → slice_get xs n ≡ Some x → P x
-  all_there [] n x h e = absurd (none-some x e)
-  all_there (y ∷ xs) zero x h e = subst P (same_Some y x e) h.0
+  pub all_there : (xs : List X) (n : ℕ) (x : X) → AllByRecursion P xs → slice_get xs n ≡ Some x → P x
   all_there (y ∷ xs) (suc n) x h e = all_there xs n x h.1 e
+  all_there xs n x h e = grind (arith, common_steps, none-some, same_Some) steps 200000
 
   all_from : (xs : List X) → ((n : ℕ) (x : X) → slice_get xs n ≡ Some x → P x) → AllByRecursion P xs
   all_from [] f = tt
   all_from (x ∷ xs) f = (f 0 x refl, all_from xs (λ n y e. f (suc n) y e))
 
-  all_take : (n : ℕ) (xs : List X) → AllByRecursion P xs → AllByRecursion P (take n xs)
-  all_take (suc n) (x ∷ xs) h = (h.0, all_take n xs h.1)
-  all_take _ _ h = tt
-
-  all_drop : (n : ℕ) (xs : List X) → AllByRecursion P xs → AllByRecursion P (drop n xs)
-  all_drop zero xs h = h
-  all_drop (suc n) [] h = tt
-  all_drop (suc n) (x ∷ xs) h = all_drop n xs h.1
-
   all_joined : (xs ys : List X) → AllByRecursion P xs → AllByRecursion P ys → AllByRecursion P (xs ++ ys)
   all_joined [] ys h k = k
   all_joined (x ∷ xs) ys h k = (h.0, all_joined xs ys h.1 k)
 
-  all_set : (xs : List X) (n : ℕ) (x : X) → AllByRecursion P xs → P x → AllByRecursion P (set xs n x)
-  all_set [] n x h p = tt
-  all_set (y ∷ xs) zero x h p = (p, h.1)
-  all_set (y ∷ xs) (suc n) x h p = (h.0, all_set xs n x h.1 p)
-
-  all_at : (xs : List X) (n : ℕ) (d : X) → AllByRecursion P xs → n < length xs → P (get_or xs n d)
-  all_at [] n d h l = absurd (omega arith)
-  all_at (y ∷ xs) zero d h l = h.0
-  all_at (y ∷ xs) (suc n) d h l = all_at xs n d h.1 (omega arith)
-
   all_put : (xs : List X) (n : ℕ) (x : X) → AllByRecursion P xs → P x → AllByRecursion P (insert xs n x)
-  all_put xs n x h p = all_joined (take n xs) (x ∷ drop n xs) (all_take n xs h) (p, all_drop n xs h)
+  all_put xs n x h p = grind (arith, common_steps) steps 200000
 
   all_less : (xs : List X) (n : ℕ) → AllByRecursion P xs → AllByRecursion P (remove xs n)
-  all_less xs n h = all_joined (take n xs) (drop (suc n) xs) (all_take n xs h) (all_drop (suc n) xs h)
+  all_less xs n h = grind (arith, common_steps, all_joined) steps 200000
 
 -- ---- with keys and without
 
@@ -88,15 +68,11 @@ one_of law text _ tail cut count = absurd (omega arith)
 brought : OneUnitOfCut → (text : List ℕ) → HasUnitCount text 1 → HoldsOne (ended text)
 brought law text has = one_of law text has.pieces has.tail has.is_cut has.is_count
 
-edited_each : OneUnitOfCut → (edit : Asked) (pieces : List (List ℕ)) → AllByRecursion HoldsOne pieces → IsAmong edit (length pieces) → BringsOneUnit (edited_text edit) → AllByRecursion HoldsOne (edited edit pieces)
-edited_each law (Insert file at text) pieces h among one = all_put HoldsOne pieces at (ended text) h (brought law text one)
-edited_each law (Replace file at text) pieces h among one = all_set HoldsOne pieces at (ended text) h (brought law text one)
-edited_each law (Delete file at) pieces h among one = all_less HoldsOne pieces at h
-edited_each law (Move file at to) pieces h among one = all_put HoldsOne (remove pieces at) to (get_or pieces at []) (all_less HoldsOne pieces at h) (all_at HoldsOne pieces at [] h among.0)
+pub edited_each : OneUnitOfCut → (edit : Asked) (pieces : List (List ℕ)) → AllByRecursion HoldsOne pieces → IsAmong edit (length pieces) → BringsOneUnit (edited_text edit) → AllByRecursion HoldsOne (edited edit pieces)
+edited_each law edit pieces h among one = grind (arith, common_steps, all_put, brought, all_less) steps 200000
 
 pub edits_keep : OneUnitOfCut → (edit : Asked) (files after : List File) → HoldOneEach files → IsEditOf edit files after → HoldOneEach after
-edits_keep law edit files after h is =
-    grind (arith, common_steps, edited_each law edit is.file.pieces (all_there (λ (file : File). AllByRecursion HoldsOne file.pieces) files is.number is.file h is.placed.file_there.there) is.placed.among is.one_unit) steps 200000
+edits_keep law edit files after h is = grind (arith, common_steps, all_there, edited_each) steps 200000
 
 -- ---- keys that are given to files
 

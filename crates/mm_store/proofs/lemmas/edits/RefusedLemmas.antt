@@ -1,6 +1,6 @@
 -- Edits that are done one after another, and why one of them is refused.
-use Rattle.std.proofs.lemmas.{Grind.{common_steps, elements}, Option.{none-some}}
-use Rattle.std.proofs.{Common.{◌≡◌, ℕ, zero, suc, ◌+◌, ◌<◌, List, [], ◌∷◌, ◌++◌, Some, is_some, length, map, take, get_or, refl, sym, ap, subst, arith, slice_get}, Math.Numerals.{suc-eq-add-one}}
+use Rattle.std.proofs.{Common.{rules, ◌≡◌, ℕ, suc, ◌+◌, ◌<◌, List, [], ◌∷◌, ◌++◌, Some, is_some, length, map, take, get_or, refl, ap, subst, arith, slice_get}, lemmas.Grind.{common_steps, elements}}
+use Rattle.std.proofs.{lemmas.Option.{none-some}, Math.Numerals.{suc-eq-add-one}}
 use Rattle.mm_store.specs.{declared.batch.BatchError.{BatchError}, Language.{Batches.{IsBatchError, IsBatchOf, KeepsReading, StartsPlaced}, EditedKeys.{IsBatchByKeys, IsEditByKeys}}}
 use Rattle.mm_store.{specs.{Language.{Edits.{IsEditOf, IsPlaced}, FilesView.{File, FilesView}, Undoing.{KeepsKeys, UndoView}}, Code.Batched.{IsNextError}}, proofs.lemmas.files.ViewLemmas.{some_is}}
 use Rattle.mm_text.specs.Language.Asked.{Asked, asked}
@@ -21,40 +21,30 @@ by_keys_last _ edit old between new _ undo are is = absurd are
 
 -- the edits of a list of which this many are done
 pub mapped_there : (edits : List code.Edit) (n : ℕ) (default : code.Edit) → n < length edits → slice_get (map asked edits) n ≡ Some (asked (get_or edits n default))
-mapped_there [] n default lt = absurd (omega arith)
-mapped_there (edit ∷ edits) zero default lt = refl
 mapped_there (edit ∷ edits) (suc n) default lt = mapped_there edits n default (omega arith)
+mapped_there edits n default lt = grind (arith, common_steps) steps 200000
 
 next_taken : (edits : List code.Edit) (n : ℕ) (default : code.Edit) → n < length edits → take (suc n) (map asked edits) ≡ take n (map asked edits) ++ asked (get_or edits n default) ∷ []
-next_taken [] n default lt = absurd (omega arith)
-next_taken (edit ∷ edits) zero default lt = refl
 next_taken (edit ∷ edits) (suc n) default lt = ap (λ rest. asked edit ∷ rest) (next_taken edits n default (omega arith))
-
-pub take_whole : (edits : List code.Edit) (n : ℕ) → n ≡ length edits → take n (map asked edits) ≡ map asked edits
-take_whole [] n is = ap (λ n. take n (map asked [])) is
-take_whole (edit ∷ edits) zero is = absurd (omega arith)
-take_whole (edit ∷ edits) (suc n) is = ap (λ rest. asked edit ∷ rest) (take_whole edits n (omega arith))
+next_taken edits n default lt = grind (arith, common_steps) steps 200000
 
 pub batch_next : (edits : List code.Edit) (n : ℕ) (default : code.Edit) (files between after : List File)
     → n < length edits → IsBatchOf (take n (map asked edits)) files between → IsEditOf (asked (get_or edits n default)) between after → IsBatchOf (take (n + 1) (map asked edits)) files after
 batch_next edits n default files between after lt are is =
-    let more = batch_last (take n (map asked edits)) (asked (get_or edits n default)) files between after are is in
-    subst (λ n. IsBatchOf (take n (map asked edits)) files after) (suc-eq-add-one n) (subst (λ edits. IsBatchOf edits files after) (sym (next_taken edits n default lt)) more)
+    search (rules, batch_last (take n (map asked edits)) (asked (get_or edits n default)) files between after are is, next_taken edits n default lt, suc-eq-add-one n) steps 200000
 
 pub by_keys_next : (edits : List code.Edit) (n : ℕ) (default : code.Edit) (old between new : FilesView) (undos : List UndoView) (undo : UndoView)
     → n < length edits → IsBatchByKeys (take n (map asked edits)) old between undos → IsEditByKeys (asked (get_or edits n default)) between new undo
     → IsBatchByKeys (take (n + 1) (map asked edits)) old new (undos ++ undo ∷ [])
 by_keys_next edits n default old between new undos undo lt are is =
-    let more = by_keys_last (take n (map asked edits)) (asked (get_or edits n default)) old between new undos undo are is in
-    subst (λ n. IsBatchByKeys (take n (map asked edits)) old new (undos ++ undo ∷ [])) (suc-eq-add-one n) (subst (λ edits. IsBatchByKeys edits old new (undos ++ undo ∷ [])) (sym (next_taken edits n default lt)) more)
+    search (rules, by_keys_last (take n (map asked edits)) (asked (get_or edits n default)) old between new undos undo are is, next_taken edits n default lt, suc-eq-add-one n) steps 200000
 
 pub keys_then : (a b c : FilesView) → KeepsKeys a b → KeepsKeys b c → KeepsKeys a c
 keys_then a b c first then = grind (arith, elements) steps 200000
 
 starts_placed : (edits : List Asked) (files between : List File) (n : ℕ) (edit : Asked) → IsBatchOf (take n edits) files between → slice_get edits n ≡ Some edit → (at : ℕ) (file : File) → IsPlaced between edit at file → StartsPlaced edits files
-starts_placed [] files between n edit are there at file placed = absurd (none-some edit there)
-starts_placed (first ∷ edits) files between zero edit are there at file placed = (edit, at, file, there, subst (λ files. IsPlaced files edit at file) are placed)
 starts_placed (first ∷ edits) files between (suc n) edit are there at file placed = (first, are.1.number, are.1.file, refl, are.1.placed)
+starts_placed edits files between n edit are there at file placed = grind (arith, common_steps, none-some) steps 200000
 
 -- why the edit after others is not done is why they all are not
 pub batch_error : (edits : List Asked) (files between : List File) (n : ℕ) (edit : Asked) (error : BatchError) → IsBatchOf (take n edits) files between

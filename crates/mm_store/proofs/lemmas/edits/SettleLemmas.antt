@@ -1,7 +1,7 @@
 -- What settling leaves as it was.
 use Rattle.std.proofs.lemmas.{Grind.{common_steps}, Bool.{cases_eq}, List.Sums.{sum_by-cons}, Option.{none-some, same_Some}}
-use Rattle.std.proofs.Common.{◌≡◌, ◌≢◌, inl, inr, ℕ, zero, suc, ◌≤◌, List, [], ◌∷◌, Some, map, refl, ap, ◌∙◌, arith, slice_get}
-use Rattle.mm_store.specs.Language.{Batches.{KeepsStanding}, FilesView.{FilesView, KeyedFile, PieceView, file_view, files_in, piece_view, plain}, Pieces.{Removal, IsParked, Pieces, text_under}}
+use Rattle.std.proofs.Common.{◌≡◌, ◌≢◌, inl, inr, ℕ, suc, ◌≤◌, List, [], ◌∷◌, Some, map, refl, ap, ◌∙◌, arith, slice_get}
+use Rattle.mm_store.specs.Language.{Batches.{KeepsStanding}, FilesView.{FilesView, KeyedFile, file_view, files_in, piece_view, plain}, Pieces.{Removal, IsParked, Pieces, text_under}}
 use Rattle.mm_store.{specs.{Language.Undoing.{EditAction, CanSettle, spent}, Code.{Batched.{StandOnce}, Kept.{one, places, times}}}, proofs.lemmas.files.ListLemmas.{one_same, plain_same}}
 use Rattle.mm_store.proofs.lemmas.{files.{MapLemmas.{get_drop_other}, PieceLemmas.{text_drop_other}}, edits.StepLemmas.{parked}}
 use Rattle.std.specs.FinMap as finite
@@ -9,14 +9,12 @@ use Rattle.mm_store.specs.Language.Undoing as action
 
 -- a key that is in a file is at a place
 times_there : (keys : List ℕ) (at key : ℕ) → slice_get keys at ≡ Some key → 1 ≤ times key keys
-times_there [] at key is = absurd (none-some key is)
-times_there (x ∷ keys) zero key is = omega (arith, sum_by-cons (one key) x keys, one_same key, ap (one key) (same_Some x key is))
 times_there (x ∷ keys) (suc at) key is = omega (arith, sum_by-cons (one key) x keys, times_there keys at key is)
+times_there keys at key is = grind (arith, common_steps, none-some, one_same, same_Some, sum_by-cons) steps 200000
 
 places_there : (files : List KeyedFile) (n key : ℕ) (file : KeyedFile) → slice_get files n ≡ Some file → times key file.keys ≤ places key files
-places_there [] n key file is = absurd (none-some file is)
-places_there (first ∷ files) zero key file is = omega (arith, ap (λ (file : KeyedFile). times key file.keys) (same_Some first file is))
 places_there (first ∷ files) (suc n) key file is = omega (arith, places_there files n key file is)
+places_there files n key file is = grind (arith, common_steps, none-some, same_Some) steps 200000
 
 -- files of which no piece has this key, after what is under it has changed
 module _ (p p' : Pieces) (k : ℕ) (same : (q : ℕ) → q ≢ k → text_under p' q ≡ text_under p q) where
@@ -31,9 +29,7 @@ module _ (p p' : Pieces) (k : ℕ) (same : (q : ℕ) → q ≢ k → text_under 
 
   keyed_same : (files : List KeyedFile) → places k files ≡ 0 → map (file_view p') files ≡ map (file_view p) files
   keyed_same [] none = refl
-  keyed_same (file ∷ files) none =
-      ap (λ (pieces : List PieceView). record { name = file.name; pieces = pieces; tail = file.tail } ∷ map (file_view p') files) (views_same file.keys (omega arith))
-      ∙ ap (λ fs. file_view p file ∷ fs) (keyed_same files (omega arith))
+  keyed_same (file ∷ files) none = grind (arith, common_steps, keyed_same files (omega arith), views_same file.keys (omega arith)) steps 200000
 
 -- the files stay as they are, and what is in them can be read as before
 pub record Stays (old new : FilesView) : Type 0 where

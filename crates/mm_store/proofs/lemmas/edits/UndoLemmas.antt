@@ -1,30 +1,27 @@
 -- Edits are done, and their undoing gives the files of before.
 use Rattle.std.proofs.lemmas.{Grind.{common_steps}, Bool.{cases_eq}, List.{set-set, set-get_or, get_or-set_same, length-set, Edits.{length-insert, length-remove, get_or-insert_at}}}
-use Rattle.std.proofs.Common.{◌≡◌, ◌≢◌, inl, inr, ℕ, zero, suc, ◌<◌, ◌≤◌, List, [], ◌∷◌, Option, Some, None, is_some, true, length, get_or, set, refl, sym, ap, ◌∙◌, subst, arith}
-use Rattle.std.specs.List.{insert, remove}
+use Rattle.std.{proofs.Common.{◌≡◌, ◌≢◌, inl, inr, ℕ, suc, ◌<◌, ◌≤◌, List, ◌∷◌, Option, Some, None, is_some, true, length, get_or, set, refl, sym, ap, ◌∙◌, subst, arith}, specs.List.{insert, remove}}
 use Rattle.mm_store.specs.{declared.undo.{Action.{Action}, Undo.TheInside.{Inside}}, Code.{Undone.{undo_by, undo_view}, Edited.{IsReplaced, IsInserted, IsDeleted, IsMoved}}}
 use Rattle.mm_store.specs.{Code.Kept.{places, standing_count}, Language.{EditedKeys.{replaced, inserted, deleted}, FilesView.{KeyedFile, FilesView, plain, bytes_of}}}
-use Rattle.mm_store.specs.Language.Pieces.{PieceState, Standing, Parked, Removal, Replaced, Deleted, HeldPiece, Pieces, in_state, with_state, standing_piece, state_in, IsParked}
-use Rattle.mm_store.specs.Language.Undoing.{UndoView, EditAction, KeepsOthers, reversed, spent, undone_key, settled_key, keys_in, key_at, moved_list, moved, undone}
+use Rattle.mm_store.specs.Language.Pieces.{PieceState, Standing, Parked, Removal, Replaced, Deleted, HeldPiece, Pieces, in_state, with_state, standing_piece, IsParked}
+use Rattle.mm_store.specs.Language.Undoing.{UndoView, EditAction, KeepsOthers, reversed, undone_key, keys_in, key_at, moved_list, moved, undone}
 use Rattle.mm_store.proofs.lemmas.files.{PieceLemmas.{text_drop_other, text_put_other, text_state, get_state_same, get_state_other}, MapLemmas.{get_put_other, get_drop_same, get_drop_other, same_but}}
-use Rattle.mm_store.proofs.lemmas.{files.{ListLemmas.{in_files, back, keys_with}, EntryLemmas.{same_view}}, edits.ReplaceLemmas.{key_stands, plain_replaced, old_other}}
-use Rattle.mm_store.proofs.lemmas.edits.StepLemmas.{plain_inserted, plain_deleted, plain_moved, bytes_deleted, bytes_moved}
+use Rattle.mm_store.proofs.lemmas.{files.{ListLemmas.{in_files, back, keys_with}, EntryLemmas.{same_view}}, edits.StepLemmas.{key_stands, old_other}}
 use Rattle.std.specs.FinMap as finite
 use Rattle.mm_store.specs.Language.Undoing as action
+use Rattle.mm_store.proofs.lemmas.edits.StepLemmas as steps
 
 -- what an undo says, by what was done
 pub undo_is : (inside : Inside) (did : Action) (undo : UndoView) → undo_view inside ≡ undo → inside.action ≡ did → undo_by inside.file did ≡ undo
 undo_is inside did undo is same = ap (undo_by inside.file) (sym same) ∙ is
 
 pub insert_removed : (xs : List ℕ) (i : ℕ) → i < length xs → insert (remove xs i) i (get_or xs i 0) ≡ xs
-insert_removed [] i lt = absurd (omega arith)
-insert_removed (x ∷ xs) zero lt = refl
 insert_removed (x ∷ xs) (suc i) lt = ap (λ ys. x ∷ ys) (insert_removed xs i (omega arith))
+insert_removed xs i lt = grind (arith, common_steps) steps 200000
 
 pub remove_inserted : (xs : List ℕ) (i y : ℕ) → i ≤ length xs → remove (insert xs i y) i ≡ xs
-remove_inserted xs zero y le = refl
-remove_inserted [] (suc i) y le = absurd (omega arith)
 remove_inserted (x ∷ xs) (suc i) y le = ap (λ ys. x ∷ ys) (remove_inserted xs i y (omega arith))
+remove_inserted xs i y le = grind (arith, common_steps) steps 200000
 
 -- a piece of a file is there
 pub record StandsIn (o : Option HeldPiece) : Type 0 where
@@ -32,21 +29,12 @@ pub record StandsIn (o : Option HeldPiece) : Type 0 where
   pub is : o ≡ Some piece
   pub state : piece.state ≡ Standing
 
-stands_in : (o : Option HeldPiece) → standing_count o ≡ 1 → StandsIn o
-stands_in o e = grind (arith, common_steps) steps 200000
-
-same_piece : (piece : HeldPiece) (s : PieceState) → piece.state ≡ s → record { text = piece.text; state = s } ≡ piece
-same_piece piece s e = λ i. record { text = piece.text; state = sym e i }
-
 twice : (o : Option HeldPiece) (s t : PieceState) → in_state (Some (in_state o s)) t ≡ in_state o t
 twice o s t = grind (arith, common_steps) steps 200000
 
-state_is : (o : Option HeldPiece) (s : PieceState) → (in_state o s).state ≡ s
-state_is o s = grind (arith, common_steps) steps 200000
-
 module _ (p : Pieces) (old : ℕ) (stands : StandsIn (finite.get p old)) where
   revived : in_state (finite.get p old) Standing ≡ stands.piece
-  revived = ap (λ o. in_state o Standing) stands.is ∙ same_piece stands.piece Standing stands.state
+  revived = grind (arith, common_steps) steps 200000
 
   -- parked, and put back
   pub parked_back : (n : ℕ) (kind : Removal) → with_state (with_state p old (Parked n kind)) old Standing ≡ p
@@ -68,7 +56,7 @@ state_drop p old k s differs = same_but _ _ k
     ])
 
 parked_is : (p : Pieces) (old n : ℕ) (kind : Removal) → IsParked (with_state p old (Parked n kind)) old n kind
-parked_is p old n kind = ap state_in (get_state_same p old (Parked n kind)) ∙ ap Some (state_is (finite.get p old) (Parked n kind))
+parked_is p old n kind = grind (arith, common_steps, get_state_same) steps 200000
 
 -- a key that has a piece keeps it
 kept_state : (p : Pieces) (old : ℕ) (s : PieceState) (q : ℕ) → is_some (finite.get p q) ≡ true → is_some (finite.get (with_state p old s) q) ≡ true
@@ -113,7 +101,7 @@ module _ (view : FilesView) (n at : ℕ)
         is = refl;
         undo_is = refl;
         done = record {
-          means = plain_inserted fs p n at once k text file fresh;
+          means = (steps.inserted fs p n at once k text fresh file).means;
           keeps = λ q some. record {
             there = ap is_some (get_put_other p k (standing_piece text) q (not_fresh p k q fresh some)) ∙ some;
             text = text_put_other p k (standing_piece text) q (not_fresh p k q fresh some);
@@ -126,7 +114,7 @@ module _ (view : FilesView) (n at : ℕ)
 
   module _ (there : at < length keys) where
     stands : StandsIn (finite.get p old)
-    stands = stands_in (finite.get p old) (key_stands fs p n at once there)
+    stands = grind (arith, common_steps, key_stands) steps 200000
 
     file_there : n < length fs
     file_there = in_files fs n at there
@@ -136,7 +124,7 @@ module _ (view : FilesView) (n at : ℕ)
         let undo : UndoView = record { file = n; action = action.Replaced at old } in
         let new = replaced view n at k text in
         let p1 = finite.insert p k (standing_piece text) in
-        let differs : old ≢ k = old_other fs p n at k text once there fresh in
+        let differs : old ≢ k = old_other fs p n at once k text fresh there in
         let has = keys_with fs n (set keys at k) file_there in
         let key : key_at new n at ≡ k = ap (λ ks. get_or ks at 0) has ∙ get_or-set_same keys at k 0 there in
         let pieces : with_state (finite.remove new.pieces (key_at new n at)) old Standing ≡ p =
@@ -152,7 +140,7 @@ module _ (view : FilesView) (n at : ℕ)
           is = refl;
           undo_is = refl;
           done = record {
-            means = plain_replaced fs p n at k text once there fresh;
+            means = (steps.replaced fs p n at once k text fresh there).means;
             keeps = λ q some. record {
               there = kept_state p1 old (Parked n Replaced) q (ap is_some (get_put_other p k (standing_piece text) q (not_fresh p k q fresh some)) ∙ some);
               text = text_state p1 old (Parked n Replaced) q ∙ text_put_other p k (standing_piece text) q (not_fresh p k q fresh some);
@@ -174,9 +162,9 @@ module _ (view : FilesView) (n at : ℕ)
         record {
           is = refl;
           undo_is = refl;
-          within = omega (arith, small, bytes_deleted fs p n at once there);
+          within = omega (arith, small, (steps.deleted fs p n at once there).bytes);
           done = record {
-            means = plain_deleted fs p n at once there;
+            means = (steps.deleted fs p n at once there).means;
             keeps = λ q some. record { there = kept_state p old (Parked n Deleted) q some; text = text_state p old (Parked n Deleted) q };
             can_undo = record { fits = (omega (arith, ap length has, length-remove keys at there, there), parked_is p old n Deleted); within = within undo new again };
             can_settle = parked_is p old n Deleted;
@@ -198,9 +186,9 @@ module _ (view : FilesView) (n at : ℕ)
         record {
           is = refl;
           undo_is = refl;
-          within = omega (arith, small, bytes_moved fs p n at once there to);
+          within = omega (arith, small, (steps.moved fs p n at once there to).bytes);
           done = record {
-            means = plain_moved fs p n at once there to;
+            means = (steps.moved fs p n at once there to).means;
             keeps = λ q some. record { there = some; text = refl };
             can_undo = record { fits = (omega (arith, ap length has, shorter, length-insert (remove keys at) to old le, there), omega (arith, ap length has, shorter, length-insert (remove keys at) to old le, too)); within = within undo new again };
             can_settle = tt;
@@ -211,6 +199,3 @@ module _ (view : FilesView) (n at : ℕ)
 -- every key but the dropped one keeps its piece, with its text
 pub keeps_undone : (n : ℕ) (a : EditAction) (view : FilesView) → KeepsOthers (undone_key n a view) view (reversed n a view)
 keeps_undone n a view = grind (arith, common_steps, get_drop_other, text_drop_other, text_state, cases_eq, get_state_other, get_state_same) steps 200000
-
-pub keeps_settled : (a : EditAction) (view : FilesView) → KeepsOthers (settled_key a) view (spent a view)
-keeps_settled a view = grind (arith, common_steps, get_drop_other, text_drop_other) steps 200000

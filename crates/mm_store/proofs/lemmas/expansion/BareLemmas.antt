@@ -1,15 +1,11 @@
 -- The steps of a walk do not go by keys.
-use Rattle.std.proofs.{Common.{arith, ◌≡◌, ℕ, List, [], ◌∷◌, Option, Some, map, refl, sym, ap, ◌∙◌, subst, inl, inr, slice_get}, lemmas.{Grind.{common_steps}, Option.{slice_get-map}}}
-use Rattle.std.specs.{List.{AllByRecursion}, Option.{option_map}}
-use Rattle.mm_text.specs.Language.Cut.{HoldsOne}
+use Rattle.std.{proofs.{Common.{rules, arith, ◌≡◌, ℕ, List, [], ◌∷◌, map, refl, sym, ap, ◌∙◌, subst, inl, inr}, lemmas.{Grind.{common_steps}, Option.{slice_get-map}}}, specs.List.{AllByRecursion}}
+use Rattle.std.specs.Option.{option_map}
 use Rattle.mm_store.specs.{declared.walk.Spot.{Spot}, Language.{FilesView.{PieceView, FileView, FilesView, files_in, plain, number_of}, Expansion.{Placed, IsInclusion}}}
 use Rattle.mm_store.specs.{Language.{Keyless.{bare, keyless_placed}, Walking.{LevelView, WalkView}}, Code.Gains.{HoldUnits}}
-use Rattle.mm_store.{specs.Code.Steps.{piece_in, piece_at, IsHere, IncludesNothing, Includes, spot_at, Tells, IsStep}, proofs.lemmas.files.ViewLemmas.{there_from_map}}
+use Rattle.mm_store.{specs.Code.Steps.{piece_at, IsHere, IncludesNothing, Includes, spot_at, Tells, IsStep}, proofs.lemmas.files.ViewLemmas.{there_from_map}}
 use Rattle.mm_store.proofs.lemmas.expansion.KeylessLemmas.{keyless_piece, keyless_file, number_keyless, parts_keyless, keyless_bare}
 use Rattle.mm_store.specs.declared.walk.Step.TheVariants as steps
-
-in_keyless : (o : Option FileView) (n : ℕ) → piece_in (option_map keyless_file o) n ≡ option_map keyless_piece (piece_in o n)
-in_keyless o n = grind (arith, common_steps, keyless_piece, slice_get-map) steps 200000
 
 own_keyless : (parts : List Placed) → AllByRecursion (λ part. ¬ IsInclusion part) parts → AllByRecursion (λ part. ¬ IsInclusion part) (map keyless_placed parts)
 own_keyless [] h = tt
@@ -23,7 +19,7 @@ includes_keyless file n piece name h = grind (arith, common_steps, parts_keyless
 
 module _ (files : List FileView) where
   at_keyless : (level : LevelView) → piece_at (map keyless_file files) level ≡ option_map keyless_piece (piece_at files level)
-  at_keyless level = ap (λ file. piece_in file level.piece) (slice_get-map keyless_file files level.file) ∙ in_keyless (slice_get files level.file) level.piece
+  at_keyless level = grind (arith, common_steps, keyless_file, slice_get-map, keyless_piece) steps 200000
 
   here_keyless : (levels front : List LevelView) (level : LevelView) (piece : PieceView) → IsHere files levels front level piece → IsHere (map keyless_file files) levels front level (keyless_piece piece)
   here_keyless levels front level piece h = record { last = h.last; there = at_keyless level ∙ ap (option_map keyless_piece) h.there }
@@ -31,16 +27,8 @@ module _ (files : List FileView) where
   module _ (old new : WalkView) where
     nothing_step : IsStep files old steps.Nothing new → IsStep (map keyless_file files) old steps.Nothing new
     nothing_step (inl l) = inl (record { front = l.front; level = l.level; last = l.last; none = at_keyless l.level ∙ ap (option_map keyless_piece) l.none; after = l.after })
-    nothing_step (inr (inl a)) = inr (inl (record {
-      front = a.front;
-      level = a.level;
-      piece = keyless_piece a.piece;
-      is_here = here_keyless old.levels a.front a.level a.piece a.is_here;
-      name = a.name;
-      includes = includes_keyless a.level.file a.level.piece a.piece a.name a.includes;
-      known = a.known;
-      after = a.after;
-    }))
+    nothing_step (inr (inl a)) =
+        search (rules, here_keyless old.levels a.front a.level a.piece a.is_here, includes_keyless a.level.file a.level.piece a.piece a.name a.includes, keyless_piece a.piece) steps 200000
     nothing_step (inr (inr e)) = inr (inr (record {
       front = e.front;
       level = e.level;
@@ -85,27 +73,11 @@ module _ (files : List FileView) where
     )
 
     tells_step : (name : List ℕ) → Tells files old name new → Tells (map keyless_file files) old name new
-    tells_step name t = record {
-      front = t.front;
-      level = t.level;
-      piece = keyless_piece t.piece;
-      is_here = here_keyless old.levels t.front t.level t.piece t.is_here;
-      includes = includes_keyless t.level.file t.level.piece t.piece name t.includes;
-      fresh = t.fresh;
-      none = number_keyless files name ∙ t.none;
-      untold = t.untold;
-      after = t.after;
-    }
-
-  hold_keyless : HoldUnits files → HoldUnits (map keyless_file files)
-  hold_keyless hold number file there n piece here =
-      let f = there_from_map keyless_file files number file there in
-      let p = there_from_map keyless_piece f.0.pieces n piece (subst (λ (file : FileView). slice_get file.pieces n ≡ Some piece) f.2 here) in
-      subst (λ (piece : PieceView). HoldsOne piece.text) (sym p.2) (hold number f.0 f.1 n p.0 p.1)
+    tells_step name t = search (rules, here_keyless, includes_keyless, keyless_piece, number_keyless) steps 200000
 
 module _ (view : FilesView) where
   pub hold_bare : HoldUnits (files_in view) → HoldUnits (bare (plain view))
-  hold_bare hold = subst HoldUnits (keyless_bare view) (hold_keyless (files_in view) hold)
+  hold_bare hold = grind (arith, common_steps, keyless_bare, keyless_file, keyless_piece, there_from_map) steps 200000
 
   pub number_bare : (name : List ℕ) → number_of (bare (plain view)) name ≡ number_of (files_in view) name
   number_bare name = ap (λ files. number_of files name) (sym (keyless_bare view)) ∙ number_keyless (files_in view) name

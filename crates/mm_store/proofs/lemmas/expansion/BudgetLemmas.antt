@@ -1,8 +1,7 @@
 -- What the files weigh whose names are not taken. Each inclusion of a file takes its name, and its weight with it.
-use Rattle.std.proofs.lemmas.{Grind.{common_steps}, Bool.{false≢true}, Slice.Eq.{bytes_eq-Decides}, List.Elements.{Contains-append_left, Contains-append_right, Contains-append_cases}}
-use Rattle.std.proofs.lemmas.{Option.{none-some, same_Some}, Simd.{map-map}}
-use Rattle.std.proofs.Common.{◌≡◌, ℕ, zero, suc, ◌+◌, ◌≤◌, Bool, true, false, ◌||◌, List, [], ◌∷◌, ◌++◌, Some, length, map, refl, sym, ap, ◌∙◌, subst, arith, length-append, Contains, ◌⊎◌, inl, inr}
-use Rattle.std.{proofs.Common.{if◌then◌else◌, slice_get}, specs.{List.{list_any, concat}, Str.{bytes_eq}}}
+use Rattle.std.proofs.lemmas.{Grind.{common_steps}, Bool.{false≢true}, Slice.Eq.{bytes_eq-Decides}, List.Elements.{Contains-append_right}, Option.{none-some, same_Some}, Simd.{map-map}}
+use Rattle.std.proofs.Common.{◌≡◌, ℕ, zero, suc, ◌+◌, ◌≤◌, Bool, true, false, ◌||◌, List, [], ◌∷◌, ◌++◌, Some, length, map, refl, sym, ap, ◌∙◌, arith, length-append, Contains, if◌then◌else◌}
+use Rattle.std.{proofs.Common.{slice_get}, specs.{List.{list_any, concat}, Str.{bytes_eq}}}
 use Rattle.mm_store.specs.{declared.item.Item.{Item}, Language.{Pieces.{text_under}, FilesView.{KeyedFile, FileView, FilesView, files_in, file_view, piece_texts, plain, plain_file, bytes_of}}}
 use Rattle.mm_store.{specs.Language.Expansion.{Placed, Expands, nothing, own, again, missing, included, IsExpansion}, proofs.lemmas.expansion.CountLemmas.{placed_few}}
 use Rattle.mm_store.proofs.lemmas.files.GrowthLemmas.{name_of_number}
@@ -18,36 +17,18 @@ pub contains_from_among : (name : List ℕ) (names : List (List ℕ)) → is_amo
 contains_from_among name [] h = absurd (false≢true h)
 contains_from_among name (other ∷ names) h = contains_case name other names (bytes_eq name other) refl h (contains_from_among name names)
 
-one_is : (y name : List ℕ) → Contains (y ∷ []) name → name ≡ y
-one_is y name h = grind (arith, common_steps) steps 200000
-
-among_case : (name other : List ℕ) (names : List (List ℕ)) (b : Bool) → bytes_eq name other ≡ b → Contains (other ∷ []) name ⊎ Contains names name → (Contains names name → is_among name names ≡ true) → (b || is_among name names) ≡ true
-among_case name other names true e h later = refl
-among_case name other names false e (inl h) later = absurd (false≢true (sym e ∙ (bytes_eq-Decides name other).1 (one_is other name h)))
-among_case name other names false e (inr h) later = later h
-
 pub among_from_contains : (name : List ℕ) (names : List (List ℕ)) → Contains names name → is_among name names ≡ true
 among_from_contains name [] h = absurd (omega (arith, h.1))
-among_from_contains name (other ∷ names) h = among_case name other names (bytes_eq name other) refl (Contains-append_cases (other ∷ []) names name h) (among_from_contains name names)
+among_from_contains name (other ∷ names) h = grind (arith, common_steps, among_from_contains name names, false≢true, bytes_eq-Decides) steps 200000
 
 module _ (w : FileView → ℕ) where
   abbrev pub weight : List FileView → List (List ℕ) → ℕ
   weight [] names = 0
   weight (file ∷ files) names = (if is_among file.name names then 0 else w file) + weight files names
 
-  head_less : (file : FileView) (names : List (List ℕ)) (name : List ℕ) (b : Bool) → is_among file.name names ≡ b → (if is_among file.name (names ++ name ∷ []) then 0 else w file) ≤ (if b then 0 else w file)
-  head_less file names name true e =
-      let more = among_from_contains file.name (names ++ name ∷ []) (Contains-append_left names (name ∷ []) file.name (contains_from_among file.name names e)) in
-      rw more (omega arith)
-  head_less file names name false e = case (is_among file.name (names ++ name ∷ []))
-    where
-      case : (b : Bool) → (if b then 0 else w file) ≤ w file
-      case true = omega arith
-      case false = omega arith
-
   pub weight_less : (files : List FileView) (names : List (List ℕ)) (name : List ℕ) → weight files (names ++ name ∷ []) ≤ weight files names
   weight_less [] names name = omega arith
-  weight_less (file ∷ files) names name = omega (arith, head_less file names name (is_among file.name names) refl, weight_less files names name)
+  weight_less (file ∷ files) names name = grind (arith, common_steps, weight_less files names name, among_from_contains, contains_from_among) steps 200000
 
   -- a file whose name is taken weighs no more
   weight_taken : (files : List FileView) (names : List (List ℕ)) (n : ℕ) (file : FileView) → slice_get files n ≡ Some file → is_among file.name names ≡ false → weight files (names ++ file.name ∷ []) + w file ≤ weight files names
@@ -61,17 +42,11 @@ module _ (w : FileView → ℕ) where
       let b : (if is_among other.name names then 0 else w other) ≡ w other = ap (λ b. if b then 0 else w other) fresh in
       omega (arith, a, b, ap w same, weight_less files names file.name)
   weight_taken (other ∷ files) names (suc n) file there new =
-      omega (arith, head_less other names file.name (is_among other.name names) refl, weight_taken files names n file there new)
+      grind (arith, common_steps, weight_taken files names n file there new, among_from_contains, contains_from_among) steps 200000
 
   pub weight_entered : (files : List FileView) (names : List (List ℕ)) (name : List ℕ) (n : ℕ) (file : FileView) → slice_get files n ≡ Some file
       → name ≡ file.name → ¬ Contains names name → weight files (names ++ name ∷ []) + w file ≤ weight files names
-  weight_entered files names name n file there is new =
-      let fresh = case (is_among file.name names) (λ t. new (subst (Contains names) (sym is) (contains_from_among file.name names t))) in
-      subst (λ name. weight files (names ++ name ∷ []) + w file ≤ weight files names) (sym is) (weight_taken files names n file there fresh)
-    where
-      case : (b : Bool) → (b ≡ true → ⊥) → b ≡ false
-      case true h = absurd (h refl)
-      case false h = refl
+  weight_entered files names name n file there is new = grind (arith, common_steps, contains_from_among, weight_taken) steps 200000
 
 -- the bytes of the pieces of a file
 abbrev pub piece_bytes : FileView → ℕ
@@ -84,14 +59,7 @@ expands_few (own not d) = omega (arith, expands_few d)
 expands_few (again is old d) = omega (arith, expands_few d)
 expands_few {files} (missing {part = part} {names = names} is new none d) = omega (arith, expands_few d, weight_less piece_bytes files names part.name)
 expands_few {files} (included {part = part} {inner = inner} {names = names} {gained = gained} {items = items} {number = number} {file = file} is new at there placed inside d) =
-    omega (
-      arith,
-      expands_few inside,
-      expands_few d,
-      length-append gained items,
-      placed_few number 0 file.pieces inner placed,
-      weight_entered piece_bytes files names part.name number file there (name_of_number files part.name number file at there) new,
-    )
+    grind (arith, common_steps, expands_few inside, expands_few d, length-append, name_of_number, placed_few, weight_entered) steps 200000
 
 -- all files weigh no more than all of their pieces
 abbrev pub all_bytes : List FileView → ℕ

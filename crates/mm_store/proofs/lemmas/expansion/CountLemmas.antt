@@ -1,17 +1,13 @@
 -- Items are no more than bytes.
-use Rattle.std.proofs.{lemmas.{Grind.{common_steps}, List.{length-map}}, Common.{◌≡◌, ℕ, suc, ◌+◌, ◌<◌, ◌≤◌, Bool, false, if◌then◌else◌, List, [], ◌∷◌, ◌++◌, length, ap, arith, length-append}}
+use Rattle.std.proofs.{lemmas.{Grind.{common_steps}, List.{length-map}}, Common.{ℕ, suc, ◌+◌, ◌≤◌, Bool, if◌then◌else◌, List, [], ◌∷◌, ◌++◌, length, ap, arith, length-append}}
 use Rattle.std.specs.List.{flat_map, concat}
 use Rattle.mm_text.specs.Language.{Run.{Run, runs, runs_from, with_front, is_white, ends_run}, Reading.{Single, Comment, segment_words, segment_runs}}
-use Rattle.mm_text.specs.Language.{Unit.{Shape, Units, Nothing, Simple, Block, shape_tokens, unit_tokens, token_of}, Part.{parts_of}}
+use Rattle.mm_text.specs.Language.{Unit.{Units, Nothing, Simple, Block, unit_tokens, token_of}, Part.{parts_of}}
 use Rattle.mm_store.{specs.Language.{FilesView.{PieceView, piece_texts}, Expansion.{Placed, ArePartsOf, ArePlaced}}, proofs.lemmas.expansion.NameLemmas.{named_are}}
 use Rattle.mm_text.specs.Language.Reading as reading
 
-front_count : (at b : ℕ) (runs : List Run) → length (with_front at b runs) ≡ length runs
-front_count at b runs = grind (arith, common_steps) steps 200000
-
 run_count : (w e : Bool) (at b n : ℕ) (run : Run) (runs : List Run) → length runs ≤ n → length (if w then runs else if e then run ∷ runs else with_front at b runs) ≤ suc n
-run_count false false at b n run runs h = omega (arith, front_count at b runs)
-run_count _ _ at b n run runs h = omega arith
+run_count w e at b n run runs h = grind (arith, common_steps) steps 200000
 
 runs_few : (at : ℕ) (bytes : List ℕ) → length (runs_from at bytes) ≤ length bytes
 runs_few at [] = omega arith
@@ -22,12 +18,9 @@ words_in_parts [] = omega arith
 words_in_parts (Single run word ∷ parts) = omega (arith, words_in_parts parts)
 words_in_parts (Comment first inside last ∷ parts) = grind (arith, common_steps, words_in_parts parts, length-append (first ∷ (inside ++ last ∷ [])) (flat_map segment_runs parts)) steps 200000
 
-shape_some : (shape : Shape) → 0 < length (shape_tokens shape)
-shape_some shape = grind (arith, common_steps) steps 200000
-
 parts_few : (units : Units) → length (parts_of units) ≤ length (unit_tokens units)
 parts_few Nothing = omega arith
-parts_few (Simple shape later) = omega (arith, parts_few later, shape_some shape, length-append (shape_tokens shape) (unit_tokens later))
+parts_few (Simple shape later) = grind (arith, common_steps, parts_few later, length-append) steps 200000
 parts_few (Block begin inner end later) = grind (arith, common_steps, parts_few inner, parts_few later, length-append) steps 200000
 
 of_piece : (file n : ℕ) (piece : PieceView) (placed : List Placed) → ArePartsOf file n piece placed → length placed ≤ length piece.text

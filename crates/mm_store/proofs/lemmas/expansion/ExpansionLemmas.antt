@@ -1,6 +1,6 @@
 -- Files give one list of items at most.
-use Rattle.std.proofs.{Common.{arith, ◌≡◌, ℕ, ◌+◌, true, List, [], ◌∷◌, ◌++◌, Some, None, map, refl, sym, ap, ◌∙◌, subst, Contains, ◌⊎◌, inl, inr, slice_get}, lemmas.Grind.{elements}}
-use Rattle.std.proofs.lemmas.Option.{none-some, same_Some}
+use Rattle.std.proofs.lemmas.{Grind.{common_steps, elements}, Option.{none-some, same_Some}}
+use Rattle.std.proofs.Common.{arith, ◌≡◌, ℕ, ◌+◌, true, List, [], ◌∷◌, ◌++◌, Some, None, map, refl, sym, ap, ◌∙◌, Contains, ◌⊎◌, inl, inr, slice_get}
 use Rattle.mm_text.specs.{declared.word.Word.{Word}, Language.{Reading.{HasWords}, Unit.{Units, AreUnits, unit_tokens, tokens_of}}}
 use Rattle.mm_store.specs.{declared.item.Item.{Item}, Language.FilesView.{PieceView, FileView, number_of}}
 use Rattle.mm_store.specs.Language.Expansion.{Placed, IsInclusion, placed_item, named_parts, placed_part, ArePartsOf, ArePlaced, Expands, nothing, own, again, missing, included, IsExpansion}
@@ -64,17 +64,11 @@ One files parts names items after = (b : List Item) (y : List (List ℕ)) → Ex
 
 own_one : {files : List FileView} {part : Placed} {parts : List Placed} {names after y : List (List ℕ)} {items b : List Item} → ¬ IsInclusion part
     → One files parts names items after → Way files (part ∷ parts) names b y → (placed_item part ∷ items ≡ b) × (after ≡ y)
-own_one {part = part} {y = y} not one (inl (inl o)) = (let r = one o.rest y o.later in (ap (λ l. placed_item part ∷ l) r.0 ∙ sym o.is, r.1))
-own_one not one (inl (inr g)) = absurd (not g.is_inclusion)
-own_one not one (inr (inl l)) = absurd (not l.is_inclusion)
-own_one not one (inr (inr t)) = absurd (not t.is_inclusion)
+own_one not one either = grind (arith, common_steps) steps 200000
 
 again_one : {files : List FileView} {part : Placed} {parts : List Placed} {names after y : List (List ℕ)} {items b : List Item} → IsInclusion part
     → Contains names part.name → One files parts names items after → Way files (part ∷ parts) names b y → (items ≡ b) × (after ≡ y)
-again_one is old one (inl (inl o)) = absurd (o.is_own is)
-again_one {y = y} {b = b} is old one (inl (inr g)) = one b y g.later
-again_one is old one (inr (inl l)) = absurd (l.new old)
-again_one is old one (inr (inr t)) = absurd (t.new old)
+again_one is old one either = grind (arith, common_steps) steps 200000
 
 missing_one : {files : List FileView} {part : Placed} {parts : List Placed} {names after y : List (List ℕ)} {items b : List Item} → IsInclusion part → ¬ Contains names part.name
     → number_of files part.name ≡ None → One files parts (names ++ part.name ∷ []) items after → Way files (part ∷ parts) names b y → (placed_item part ∷ items ≡ b) × (after ≡ y)
@@ -95,13 +89,6 @@ module _ (one_reading : OneReading) (one_division : OneDivision) where
   placed_one file n (piece ∷ pieces) a b p q =
       p.4 ∙ ap (λ l. l ++ p.1) (parts_one file n piece p.0 q.0 p.2 q.2) ∙ ap (λ l. q.0 ++ l) (placed_one file (n + 1) pieces p.1 q.1 p.3 q.3) ∙ sym q.4
 
-  file_one : (files : List FileView) (m n : ℕ) (f g : FileView) → slice_get files m ≡ Some f → slice_get files n ≡ Some g → m ≡ n → f ≡ g
-  file_one files m n f g p q e = same_Some f g (sym p ∙ ap (slice_get files) e ∙ q)
-
-  inner_one : (files : List FileView) (m n : ℕ) (f g : FileView) (a b : List Placed) → slice_get files m ≡ Some f → slice_get files n ≡ Some g → m ≡ n → ArePlaced m 0 f.pieces a → ArePlaced n 0 g.pieces b → a ≡ b
-  inner_one files m n f g a b p q e x y =
-      placed_one n 0 g.pieces a b (subst (λ (file : FileView). ArePlaced n 0 file.pieces a) (file_one files m n f g p q e) (subst (λ k. ArePlaced k 0 f.pieces a) e x)) y
-
   included_one : {files : List FileView} {part : Placed} {parts inner : List Placed} {names between after y : List (List ℕ)} {gained items b : List Item} {number : ℕ} {file : FileView}
       → IsInclusion part → ¬ Contains names part.name → number_of files part.name ≡ Some number → slice_get files number ≡ Some file → ArePlaced number 0 file.pieces inner
       → One files inner (names ++ part.name ∷ []) gained between → One files parts between items after → Way files (part ∷ parts) names b y → (gained ++ items ≡ b) × (after ≡ y)
@@ -109,11 +96,7 @@ module _ (one_reading : OneReading) (one_division : OneDivision) where
   included_one is new at there placed inside later (inl (inr g)) = absurd (new g.known)
   included_one {number = number} is new at there placed inside later (inr (inl l)) = absurd (none-some number (sym l.none ∙ at))
   included_one {files} {part} {parts} {inner = inner} {names = names} {y = y} {items = items} {number = number} {file = file} is new at there placed inside later (inr (inr t)) =
-      let n : number ≡ t.number = same_Some number t.number (sym at ∙ t.is_number) in
-      let i = inner_one files number t.number file t.file inner t.inner there t.there n placed t.placed in
-      let r = inside t.gained t.between (subst (λ l. Expands files l (names ++ part.name ∷ []) t.gained t.between) (sym i) t.inside) in
-      let q = later t.rest y (subst (λ l. Expands files parts l t.rest y) (sym r.1) t.later) in
-      (ap (λ l. l ++ items) r.0 ∙ ap (λ l. t.gained ++ l) q.0 ∙ sym t.is, q.1)
+      grind (arith, common_steps, same_Some, placed_one) steps 200000
 
   same : {files : List FileView} {parts : List Placed} {names x y : List (List ℕ)} {a b : List Item} → Expands files parts names a x → Expands files parts names b y → (a ≡ b) × (x ≡ y)
   same nothing e = (let w = way e in (sym w.0, sym w.1))
@@ -123,7 +106,4 @@ module _ (one_reading : OneReading) (one_division : OneDivision) where
   same (included is new at there placed inside d) e = included_one is new at there placed (λ b y inner. same inside inner) (λ b y later. same d later) (way e)
 
   pub expansion_one : (files : List FileView) (top : List ℕ) (a b : List Item) → IsExpansion files top a → IsExpansion files top b → a ≡ b
-  expansion_one files top a b p q =
-      let n : p.number ≡ q.number = same_Some p.number q.number (sym p.is_top ∙ q.is_top) in
-      let i = inner_one files p.number q.number p.file q.file p.parts q.parts p.there q.there n p.placed q.placed in
-      (same (subst (λ l. Expands files l (top ∷ []) a p.after) i p.expands) q.expands).0
+  expansion_one files top a b p q = grind (arith, common_steps, same, same_Some, placed_one) steps 200000

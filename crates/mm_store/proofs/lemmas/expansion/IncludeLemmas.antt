@@ -4,7 +4,7 @@ use Rattle.std.{proofs.Common.{◌≡◌, ℕ, ◌<◌, true, false, length, ari
 use Rattle.mm_text.specs.{declared.{word.Word.{Word}, part.Part.{Part}}, Language.{Reading.{HasWords}, Unit.{Units, Nothing, Simple, Block, AreUnits}, Part.{HasUnits, HasParts, part, part_bytes}}}
 use Rattle.mm_text.specs.Language.Cut.{IsOne, HoldsOne}
 use Rattle.mm_store.specs.{declared.files.PieceKey.{PieceKey}, Language.{FileFacts.{second_word}, Expansion.{Named, Placed, IsInclusion, nameless, named_parts, placed_part, ArePartsOf}}}
-use Rattle.mm_store.{specs.Code.Steps.{IncludesNothing, Includes}, proofs.lemmas.expansion.NameLemmas.{StandsAlone, all_and, all_named, named_are, inner_kind, declared_kind, labelled_kind}}
+use Rattle.mm_store.{specs.Code.Steps.{IncludesNothing, Includes}, proofs.lemmas.expansion.NameLemmas.{StandsAlone, all_and, all_named, named_are, inner_kind}}
 use Rattle.mm_text.specs.declared.part.PartKind.TheVariants as kinds
 
 abbrev IsOwn : Named → Type 0
@@ -31,7 +31,7 @@ abbrev Alone : Units → Type 0
 Alone units = (named : Named) × (named_parts units ≡ named ∷ []) × (named.part.kind ≡ kinds.Inclusion)
 
 one_cases : (units : Units) → AreUnits true units → IsOne units → Alone units ⊎ AllByRecursion IsOwn (named_parts units)
-one_cases units are one = grind (arith, common_steps, all_and, declared_kind, end_own, inner_own, labelled_kind, start_own) steps 200000
+one_cases units are one = grind (arith, common_steps, all_and, end_own, inner_own, start_own) steps 200000
 
 -- no parts have no first
 pub no_first : (parts : List Part) (part : Part) → slice_get parts 0 ≡ Some part → (length parts == 0) ≡ true → ⊥

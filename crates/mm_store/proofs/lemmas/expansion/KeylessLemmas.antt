@@ -1,10 +1,10 @@
 -- Files that differ in the keys of their pieces alone give items that differ in their keys alone.
-use Rattle.std.proofs.{Common.{arith, ◌≡◌, ℕ, ◌+◌, List, [], ◌∷◌, Some, map, bytes_eq, refl, sym, ap, ◌∙◌, subst, slice_get}, lemmas.{Grind.{common_steps}, List.{map-append}, Option.{slice_get-map}}}
-use Rattle.std.{proofs.lemmas.Simd.{map-map}, specs.Option.{option_map}}
-use Rattle.mm_store.specs.{declared.item.Item.{Item}, Language.FilesView.{PieceView, FileView, FilesView, files_in, plain, number_of, without_keys}}
+use Rattle.std.proofs.{Common.{rules, arith, ◌≡◌, ℕ, ◌+◌, List, [], ◌∷◌, Some, map, refl, sym, ap, ◌∙◌, subst, slice_get}, lemmas.{List.{length-map, map-append}, Grind.{common_steps}}}
+use Rattle.std.{proofs.lemmas.{Option.{slice_get-map}, Simd.{map-map}}, specs.Option.{option_map}}
+use Rattle.mm_store.{proofs.lemmas.{files.ViewLemmas.{before_map}, expansion.ExpansionLemmas.{OneReading, OneDivision, expansion_one}}, specs.declared.item.Item.{Item}}
+use Rattle.mm_store.specs.Language.FilesView.{PieceView, FileView, FilesView, files_in, plain, number_of, without_keys}
 use Rattle.mm_store.specs.Language.Expansion.{Placed, named_parts, placed_part, ArePartsOf, ArePlaced, Expands, nothing, own, again, missing, included, IsExpansion}
-use Rattle.mm_store.{specs.Language.Keyless.{one_key, bare_file, bare, keyless_placed, keyless_item}, proofs.lemmas.expansion.ExpansionLemmas.{OneReading, OneDivision, expansion_one}}
-use Rattle.mm_store.proofs.lemmas.files.ViewLemmas.{position_map}
+use Rattle.mm_store.specs.Language.Keyless.{one_key, bare_file, bare, keyless_placed, keyless_item}
 
 -- a piece, and a file, under one key
 abbrev pub keyless_piece : PieceView → PieceView
@@ -13,12 +13,9 @@ keyless_piece piece = record { key = one_key; text = piece.text }
 abbrev pub keyless_file : FileView → FileView
 keyless_file file = record { name = file.name; pieces = map keyless_piece file.pieces; tail = file.tail }
 
-keyless_from : (file : FileView) → keyless_file file ≡ bare_file (without_keys file)
-keyless_from file = ap (λ (pieces : List PieceView). record { name = file.name; pieces = pieces; tail = file.tail }) (sym (map-map (λ text. record { key = one_key; text = text }) (λ (piece : PieceView). piece.text) file.pieces))
-
 all_keyless : (files : List FileView) → map keyless_file files ≡ map bare_file (map without_keys files)
 all_keyless [] = refl
-all_keyless (file ∷ files) = ap (λ file. file ∷ map keyless_file files) (keyless_from file) ∙ ap (λ l. bare_file (without_keys file) ∷ l) (all_keyless files)
+all_keyless (file ∷ files) = grind (arith, common_steps, all_keyless files, map-map) steps 200000
 
 -- the files with keys and texts, without keys
 pub keyless_bare : (view : FilesView) → map keyless_file (files_in view) ≡ bare (plain view)
@@ -29,7 +26,7 @@ same_keyless a b same = all_keyless a ∙ ap (map bare_file) same ∙ sym (all_k
 
 -- a name has the same number among the files without keys
 pub number_keyless : (files : List FileView) (name : List ℕ) → number_of (map keyless_file files) name ≡ number_of files name
-number_keyless files name = position_map (λ (file : FileView). bytes_eq name file.name) keyless_file files
+number_keyless files name = grind (arith, common_steps, before_map, length-map) steps 200000
 
 there_keyless : (files : List FileView) (number : ℕ) (file : FileView) → slice_get files number ≡ Some file → slice_get (map keyless_file files) number ≡ Some (keyless_file file)
 there_keyless files number file there = slice_get-map keyless_file files number ∙ ap (option_map keyless_file) there
@@ -53,8 +50,7 @@ expands_keyless {files} {names = names} {after = after} (included {part = part} 
     (included is new (number_keyless files part.name ∙ at) (there_keyless files number file there) (placed_keyless number 0 file.pieces inner placed) (expands_keyless inside) (expands_keyless d))
 
 pub expansion_keyless : (files : List FileView) (top : List ℕ) (items : List Item) → IsExpansion files top items → IsExpansion (map keyless_file files) top (map keyless_item items)
-expansion_keyless files top items is =
-    grind (arith, common_steps, number_keyless files top, there_keyless files is.number is.file is.there, placed_keyless is.number 0 is.file.pieces is.parts is.placed, expands_keyless is.expands) steps 200000
+expansion_keyless files top items is = search (rules, expands_keyless, number_keyless, placed_keyless, there_keyless) steps 200000
 
 pub same_items : OneReading → OneDivision → (a b : List FileView) (top : List ℕ) (items others : List Item) → map without_keys a ≡ map without_keys b
     → IsExpansion a top items → IsExpansion b top others → map keyless_item items ≡ map keyless_item others

@@ -1,8 +1,6 @@
 -- A set of names, and what it takes.
-use Rattle.std.proofs.lemmas.{Grind.{common_steps}, Bool.{false≢true, false_from_ne_true}, Slice.Eq.{bytes_eq-Decides}, List.{map_push, Elements.{Contains-append_right, Contains-append_cases}}}
-use Rattle.std.proofs.Common.{◌≡◌, ℕ, zero, suc, ◌<◌, Bool, true, false, Result, Err, ◌||◌, List, [], ◌∷◌, ◌++◌, map, get_or, refl, sym, ap, ◌∙◌, arith, Contains, ◌⊎◌, inl, inr, Vec, if◌then◌else◌}
-use Rattle.std.specs.{Result.{IsErrAnd}, List.{list_any}, Str.{bytes_eq}}
-use Rattle.mm_store.specs.declared.error.StoreError.{StoreError, TheVariants.{NoTop, Memory}}
+use Rattle.std.proofs.lemmas.{Grind.{common_steps}, Bool.{false≢true, false_from_ne_true}, Slice.Eq.{bytes_eq-Decides}, List.{map_push, Elements.{Contains-append_right}}}
+use Rattle.std.{proofs.Common.{◌≡◌, ℕ, Bool, true, false, ◌||◌, List, [], ◌∷◌, ◌++◌, map, refl, sym, ap, ◌∙◌, arith, Contains, Vec, if◌then◌else◌}, specs.{List.{list_any}, Str.{bytes_eq}}}
 use Rattle.indexmap.specs.IndexSet.{insert_key}
 
 abbrev pub tests : {Y : Type 0} → List ℕ → List (Vec ℕ Y) → Bool
@@ -10,10 +8,6 @@ tests name names = list_any (λ key. bytes_eq name key.items) names
 
 abbrev names_of : {Y : Type 0} → List (Vec ℕ Y) → List (List ℕ)
 names_of names = map (λ key. key.items) names
-
-one_is : (y name : List ℕ) (k : ℕ) → k < 1 → get_or (y ∷ []) k name ≡ name → y ≡ name
-one_is y name zero h e = e
-one_is y name (suc k) h e = absurd (omega arith)
 
 found : {Y : Type 0} (name : List ℕ) (x : Vec ℕ Y) (names : List (Vec ℕ Y)) (b : Bool) → bytes_eq name x.items ≡ b → (b || tests name names) ≡ true
     → (tests name names ≡ true → Contains (names_of names) name) → Contains (x.items ∷ names_of names) name
@@ -25,16 +19,9 @@ pub contains_from_test : {Y : Type 0} (name : List ℕ) (names : List (Vec ℕ Y
 contains_from_test name [] h = absurd (false≢true h)
 contains_from_test name (x ∷ names) h = found name x names (bytes_eq name x.items) refl h (contains_from_test name names)
 
-missed : {Y : Type 0} (name : List ℕ) (x : Vec ℕ Y) (names : List (Vec ℕ Y)) (b : Bool) → bytes_eq name x.items ≡ b
-    → Contains (x.items ∷ []) name ⊎ Contains (names_of names) name → (Contains (names_of names) name → tests name names ≡ true)
-    → (b || tests name names) ≡ true
-missed name x names true e h later = refl
-missed name x names false e (inl here) later = absurd (false≢true (sym e ∙ (bytes_eq-Decides name x.items).1 (sym (one_is x.items name here.0 here.1 here.2))))
-missed name x names false e (inr there) later = later there
-
 pub test_from_contains : {Y : Type 0} (name : List ℕ) (names : List (Vec ℕ Y)) → Contains (names_of names) name → tests name names ≡ true
 test_from_contains name [] h = absurd (omega (arith, h.1))
-test_from_contains name (x ∷ names) h = missed name x names (bytes_eq name x.items) refl (Contains-append_cases (x.items ∷ []) (names_of names) name h) (test_from_contains name names)
+test_from_contains name (x ∷ names) h = grind (arith, common_steps, test_from_contains name names, bytes_eq-Decides, false≢true) steps 200000
 
 -- a new name goes after the others
 pub inserted : {Y : Type 0} (names : List (Vec ℕ Y)) (key : Vec ℕ Y) (name : List ℕ) → key.items ≡ name → ¬ Contains (names_of names) name → names_of (insert_key (λ x y. bytes_eq x.items y.items) names key) ≡ names_of names ++ name ∷ []
@@ -42,7 +29,3 @@ inserted names key name is new =
     let fresh : tests name names ≡ false = false_from_ne_true (tests name names) (λ t. new (contains_from_test name names t)) in
     let none : tests key.items names ≡ false = ap (λ n. tests n names) is ∙ fresh in
     ap (λ b. names_of (if b then names else names ++ key ∷ [])) none ∙ map_push (λ key. key.items) names key ∙ ap (λ n. names_of names ++ n ∷ []) is
-
--- out of memory is not the lack of a top file
-pub not_no_top : {T : Type 0} (r : Result T StoreError) → IsErrAnd r (λ e. e ≡ Memory) → r ≡ Err NoTop → ⊥
-not_no_top r h e = grind (arith, common_steps) steps 200000

@@ -1,8 +1,8 @@
 -- A walk takes a number of turns at most: each step but the last makes what is left smaller.
-use Rattle.std.proofs.lemmas.{Grind.{common_steps}, Option.{none-some, slice_get_within}}
-use Rattle.std.proofs.Common.{◌≡◌, ℕ, ◌+◌, ◌*◌, ◌-◌, ◌<◌, ◌≤◌, Bool, true, false, List, [], ◌∷◌, ◌++◌, Option, Some, None, length, ap, ◌∙◌, arith, inl, inr, slice_get}
+use Rattle.std.proofs.{Common.{rules, ◌≡◌, ℕ, ◌+◌, ◌*◌, ◌-◌, ◌<◌, Bool, true, false, List, [], ◌∷◌, ◌++◌, Option, Some, None, length, ap, ◌∙◌, arith, inl, inr, slice_get}, lemmas.Grind.{common_steps}}
+use Rattle.std.proofs.lemmas.Option.{none-some, slice_get_within}
 use Rattle.mm_store.specs.{declared.walk.Spot.{Spot}, Language.{FilesView.{PieceView, FileView}, Walking.{LevelView, WalkView}}}
-use Rattle.mm_store.{specs.Code.Steps.{behind, beginning, IsHere, Leaves, ComesAgain, Enters, Passes, PassesTold, Tells, IsStep}, proofs.lemmas.files.GrowthLemmas.{name_of_number, there_number}}
+use Rattle.mm_store.{specs.Code.Steps.{behind, beginning, IsHere, ComesAgain, Enters, Passes, PassesTold, Tells, IsStep}, proofs.lemmas.files.GrowthLemmas.{name_of_number, there_number}}
 use Rattle.mm_store.proofs.lemmas.expansion.BudgetLemmas.{weight, weight_less, weight_entered}
 use Rattle.mm_store.specs.declared.walk.Step.TheVariants as steps
 
@@ -31,38 +31,22 @@ level_turns_last : (files : List FileView) (front : List LevelView) (level : Lev
 level_turns_last files [] level = omega arith
 level_turns_last files (first ∷ front) level = omega (arith, level_turns_last files front level)
 
-some_turn : (file : Option FileView) (piece : ℕ) → 1 ≤ turns_in file piece
-some_turn file piece = grind (arith, common_steps) steps 200000
-
 -- the turns that are left after a piece
 moved : (files : List FileView) (levels front : List LevelView) (level : LevelView) (piece : PieceView) → IsHere files levels front level piece → level_turns files (front ++ behind level ∷ []) + 1 ≡ level_turns files levels
 moved files levels front level piece h = grind (arith, common_steps, level_turns_last, none-some, slice_get_within) steps 200000
 
 module _ (files : List FileView) (old new : WalkView) where
-  leaves_less : Leaves files old new → turns files new < turns files old
-  leaves_less l =
-      let after = ap (turns files) l.after in
-      omega (arith, after, level_turns_last files l.front l.level, some_turn (slice_get files l.level.file) l.level.piece, ap (level_turns files) l.last)
-
   again_less : ComesAgain files old new → turns files new < turns files old
-  again_less a =
-      let after = ap (turns files) a.after in
-      omega (arith, after, moved files old.levels a.front a.level a.piece a.is_here)
+  again_less a = grind (arith, common_steps, moved files old.levels a.front a.level a.piece a.is_here) steps 200000
 
   passes_less : (spot : Spot) → Passes files old spot new → turns files new < turns files old
-  passes_less spot p =
-      let after = ap (turns files) p.after in
-      omega (arith, after, moved files old.levels p.front p.level p.piece p.is_here)
+  passes_less spot p = grind (arith, common_steps, moved files old.levels p.front p.level p.piece p.is_here) steps 200000
 
   told_less : (spot : Spot) → PassesTold files old spot new → turns files new < turns files old
-  told_less spot p =
-      let after = ap (turns files) p.after in
-      omega (arith, after, moved files old.levels p.front p.level p.piece p.is_here, weight_less file_turns files old.names p.name)
+  told_less spot p = search (rules, moved files old.levels p.front p.level p.piece p.is_here, weight_less file_turns files old.names p.name) steps 200000
 
   pub tells_less : (name : List ℕ) → Tells files old name new → turns files new < turns files old
-  tells_less name t =
-      let after = ap (turns files) t.after in
-      omega (arith, after, ap untold t.untold)
+  tells_less name t = grind (arith, common_steps) steps 200000
 
   enters_less : Enters files old new → turns files new < turns files old
   enters_less e =
@@ -79,7 +63,7 @@ module _ (files : List FileView) (old new : WalkView) where
       )
 
   pub nothing_less : IsStep files old steps.Nothing new → turns files new < turns files old
-  nothing_less (inl l) = leaves_less l
+  nothing_less (inl l) = grind (arith, common_steps, level_turns_last) steps 200000
   nothing_less (inr (inl a)) = again_less a
   nothing_less (inr (inr e)) = enters_less e
 

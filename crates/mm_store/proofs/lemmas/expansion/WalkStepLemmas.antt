@@ -1,7 +1,8 @@
 -- The steps of a walk go through the expansion.
-use Rattle.std.proofs.lemmas.{Grind.{elements, common_steps}, List.{drop_all, get_or_at}, Option.{none-some, slice_get_within, slice_get-get_or, get_or_from_slice_get}}
-use Rattle.std.proofs.Common.{◌≡◌, ℕ, ◌+◌, ◌<◌, false, List, [], ◌∷◌, ◌++◌, Some, None, length, map, drop, refl, sym, ap, ◌∙◌, subst, append_assoc, append-nil, arith, length-append, Contains}
-use Rattle.std.proofs.{Common.{slice_get}, Math.Seq.{drop-cons}}
+use Rattle.std.proofs.lemmas.{Grind.{elements, common_steps}, List.{drop_all}, Option.{none-some, slice_get_within, get_or_from_slice_get}}
+use Rattle.std.proofs.Common.{◌≡◌, ℕ, suc, ◌+◌, false, List, [], ◌∷◌, ◌++◌, Some, None, map, drop, refl, sym, ap, ◌∙◌, subst, append_assoc, append-nil, arith, Contains, slice_get}
+use Rattle.std.proofs.Math.Seq.{drop-cons}
+use Rattle.mm_text.specs.Language.Cut.{HoldsOne}
 use Rattle.mm_store.specs.{declared.{item.Item.{Item}, walk.Spot.{Spot}}, Language.FilesView.{PieceView, FileView, number_of}}
 use Rattle.mm_store.specs.Language.Expansion.{Placed, placed_item, named_parts, placed_part, ArePartsOf, ArePlaced, IsExpansion}
 use Rattle.mm_store.specs.{Language.Walking.{LevelView, WalkView, IsRest, ArePending, Goes, here, again, missing, included, IsWalk}, Code.Gains.{HoldUnits}}
@@ -43,19 +44,18 @@ pub no_piece : (files : List FileView) (level : LevelView) (parts : List Placed)
 no_piece files level parts rest none = grind (arith, elements, drop_all, none-some) steps 200000
 
 -- each piece has parts
-module _ (files : List FileView) (hold : HoldUnits files) where
-  placed_from : (number : ℕ) (file : FileView) (at n : ℕ) (front pieces : List PieceView) → slice_get files number ≡ Some file → file.pieces ≡ front ++ pieces → n ≡ length front → (parts : List Placed) × ArePlaced at n pieces parts
-  placed_from number file at n front [] there whole e = ([], refl)
-  placed_from number file at n front (piece ∷ pieces) there whole e =
-      let long : n < length (front ++ piece ∷ pieces) = omega (arith, length-append front (piece ∷ pieces)) in
-      let here : slice_get file.pieces n ≡ Some piece = ap (λ l. slice_get l n) whole ∙ slice_get-get_or (front ++ piece ∷ pieces) n piece long ∙ ap Some (get_or_at front piece pieces piece n (sym e)) in
-      let unit = hold number file there n piece here in
-      let rest = placed_from number file at (n + 1) (front ++ piece ∷ []) pieces there (whole ∙ sym (append_assoc front (piece ∷ []) pieces)) (omega (arith, length-append front (piece ∷ []))) in
-      let own = map (placed_part at n piece.key) (named_parts unit.units) in
-      (own ++ rest.0, (own, rest.0, record { words = unit.words; units = unit.units; has_words = unit.has_words; are_units = unit.are_units; spells = unit.spells; parts = refl }, rest.1, refl))
+placed_from : (number n : ℕ) (pieces : List PieceView) → ((k : ℕ) (piece : PieceView) → slice_get pieces k ≡ Some piece → HoldsOne piece.text)
+    → (parts : List Placed) × ArePlaced number n pieces parts
+placed_from number n [] each = ([], refl)
+placed_from number n (piece ∷ pieces) each =
+    let unit = each 0 piece refl in
+    let rest = placed_from number (n + 1) pieces (λ k. each (suc k)) in
+    let own = map (placed_part number n piece.key) (named_parts unit.units) in
+    (own ++ rest.0, (own, rest.0, record { words = unit.words; units = unit.units; has_words = unit.has_words; are_units = unit.are_units; spells = unit.spells; parts = refl }, rest.1, refl))
 
-  pub parts_there : (number : ℕ) (file : FileView) → slice_get files number ≡ Some file → (parts : List Placed) × ArePlaced number 0 file.pieces parts
-  parts_there number file there = placed_from number file number 0 [] file.pieces there refl refl
+pub parts_there : (files : List FileView) → HoldUnits files → (number : ℕ) (file : FileView) → slice_get files number ≡ Some file
+    → (parts : List Placed) × ArePlaced number 0 file.pieces parts
+parts_there files hold number file there = placed_from number 0 file.pieces (hold number file there)
 
 -- a step goes on from what is still to come
 pub record Went (files : List FileView) (old new : WalkView) (pending : List Placed) (items : List Item) : Type 0 where

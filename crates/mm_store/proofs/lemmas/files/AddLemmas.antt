@@ -1,7 +1,7 @@
 -- What a file more makes of the files.
-use Rattle.std.proofs.lemmas.{Grind.{common_steps, elements}, Bool.Decides.{nat_tests}, List.{length-map, map-append, Elements.{All-nil}, Sums.{sum_by-cons}}}
-use Rattle.std.proofs.Common.{◌≡◌, ◌≢◌, is_some, true, ℕ, suc, ◌+◌, ◌≤◌, List, [], ◌∷◌, ◌++◌, Option, Some, None, length, map, refl, sym, ap, ◌∙◌, subst, arith, length-append, Global, Vec, All}
-use Rattle.std.{proofs.Common.{position, Bool, false, not, cond, ltb, Result, Ok}, specs.{Result.{OnOk}, List.{position_or_len, concat}, Map.{keys_of, lookup}}}
+use Rattle.std.proofs.Common.{rules, ◌≡◌, ◌≢◌, is_some, true, ℕ, suc, ◌+◌, ◌≤◌, List, [], ◌∷◌, ◌++◌, Option, None, length, map, refl, sym, ap, ◌∙◌, subst, arith, length-append, Global, Vec, All}
+use Rattle.std.proofs.{Common.{position, Bool, Result, Ok}, lemmas.{Grind.{common_steps}, Bool.Decides.{nat_tests}, List.{length-map, map-append, Elements.{All-nil}, Sums.{sum_by-cons}}}}
+use Rattle.std.specs.{Result.{OnOk}, List.{position_or_len, concat}, Map.{keys_of, lookup}}
 use Rattle.mm_text.specs.Language.{Cut.{ArePieces}, Reading.{HasWords}}
 use Rattle.mm_store.specs.Code.{Inside.{CanBeKept, ArePut}, Starts.{HasStarts}, Room.{HasRoom}}
 use Rattle.mm_store.specs.{Code.Kept.{files_view, keyed_file, one, times, places, standing_count, deletions, IsRoomy, HaveRoom, HaveStarts, AreFilesKept}, declared.file_text.FileText.{FileText}}
@@ -45,14 +45,11 @@ stands_some o some = grind (arith, common_steps) steps 200000
 texts_kept : (p p' : Pieces) (keys : List ℕ) → ((q : ℕ) → 1 ≤ times q keys → text_under p' q ≡ text_under p q) → map (text_under p') keys ≡ map (text_under p) keys
 texts_kept p p' [] same = refl
 texts_kept p p' (k ∷ keys) same =
-    ap (λ t. t ∷ map (text_under p') keys) (same k (omega (arith, sum_by-cons (one k) k keys, one_same k)))
-    ∙ ap (λ ts. text_under p k ∷ ts) (texts_kept p p' keys (λ q some. same q (omega (arith, some, sum_by-cons (one q) k keys))))
+    grind (arith, common_steps, texts_kept p p' keys (λ q some. same q (omega (arith, some, sum_by-cons (one q) k keys))), one_same, sum_by-cons) steps 200000
 
 pub plain_kept : (p p' : Pieces) (files : List KeyedFile) → ((q : ℕ) → 1 ≤ places q files → text_under p' q ≡ text_under p q) → map (plain_file p') files ≡ map (plain_file p) files
 plain_kept p p' [] same = refl
-plain_kept p p' (file ∷ files) same =
-    ap (λ (texts : List (List ℕ)). record { name = file.name; pieces = texts; tail = file.tail } ∷ map (plain_file p') files) (texts_kept p p' file.keys (λ q some. same q (omega (arith, some))))
-    ∙ ap (λ fs. plain_file p file ∷ fs) (plain_kept p p' files (λ q some. same q (omega (arith, some))))
+plain_kept p p' (file ∷ files) same = grind (arith, common_steps, plain_kept p p' files (λ q some. same q (omega (arith, some))), texts_kept) steps 200000
 
 places_more : {Y : Type 0} (e : Vec ℕ Y × FileText) (q : ℕ) (es : List (Vec ℕ Y × FileText)) → places q (map keyed_file (es ++ e ∷ [])) ≡ places q (map keyed_file es) + times q e.1.keys.items
 places_more e q [] = omega arith
@@ -63,10 +60,9 @@ room_more p e start [] has room = let same : start + 0 ≡ start = omega arith i
 room_more p e start (x ∷ es) has room = let same : start + suc (length es) ≡ suc start + length es = omega arith in (room.0, room_more p e (suc start) es (subst (λ n. IsRoomy p n e.1) same has) room.1)
 
 starts_more : {Y : Type 0} (file : File) (e : Vec ℕ Y × FileText) (files : List File) (es : List (Vec ℕ Y × FileText)) → HasStarts file.pieces e.1 → HasWords e.1.tail.items [] → HaveStarts files es → HaveStarts (files ++ file ∷ []) (es ++ e ∷ [])
-starts_more file e [] [] are tail have = (are, tail, refl)
-starts_more file e (x ∷ files) [] are tail have = grind (arith, elements) steps 200000
 starts_more file e [] (y ∷ es) are tail have = absurd have
 starts_more file e (x ∷ files) (y ∷ es) are tail have = (have.0, have.1, starts_more file e files es are tail have.2)
+starts_more file e files [] are tail have = grind (arith, common_steps) steps 200000
 
 pub bytes_more : (files : List File) (file : File) → bytes_of (files ++ file ∷ []) ≡ bytes_of files + length (text_of file)
 bytes_more [] file = omega arith
@@ -83,10 +79,7 @@ module _ (inside : Inside) (kept : AreFilesKept inside) (e : Vec ℕ Global × F
   keeps_texts q some = ap text_in (put_keeps inside.pieces now texts e.1.keys.items put q (stands_some (finite.get inside.pieces q) (omega (arith, some, kept.once q))))
 
   pub plain_added : map (plain_file now) (map keyed_file (es ++ e ∷ [])) ≡ map (plain_file inside.pieces) (map keyed_file es) ++ new_file ∷ []
-  plain_added =
-      ap (map (plain_file now)) (map-append (keyed_file {Y = Global}) es (e ∷ [])) ∙ map-append (plain_file now) (map keyed_file es) (keyed_file e ∷ [])
-      ∙ ap (λ fs. fs ++ plain_file now (keyed_file e) ∷ []) (plain_kept inside.pieces now (map keyed_file es) keeps_texts)
-      ∙ ap (λ (ts : List (List ℕ)). map (plain_file inside.pieces) (map keyed_file es) ++ record { name = e.0.items; pieces = ts; tail = e.1.tail.items } ∷ []) (put_texts inside.pieces now texts e.1.keys.items put)
+  plain_added = search (rules, keeps_texts, map-append, plain_kept, put_texts) steps 200000
 
   pub kept_added : (after : Inside) → after.files.entries ≡ es ++ e ∷ [] → after.pieces ≡ now → e.1.deleted ≡ 0 → HasRoom e.1 → HasStarts texts e.1 → HasWords e.1.tail.items []
       → after.bytes ≡ inside.bytes + length (concat texts ++ e.1.tail.items) → after.bytes ≤ 4294967295 → AreFilesKept after
@@ -112,20 +105,13 @@ module _ (inside : Inside) (kept : AreFilesKept inside) (e : Vec ℕ Global × F
 pub done_ok : {T E : Type 0} (r : Result T E) (x : T) (P : Type 0) → r ≡ Ok x → OnOk r P → P
 done_ok r x P is h = subst (λ r. OnOk r P) is h
 
-absent_step : (b : Bool) {T : Type 0} (v : T) (o : Option T) (m n : ℕ) → suc n ≤ cond (not b) (1 + m) 0 → (n ≤ m → o ≡ None) → cond b (Some v) o ≡ None
-absent_step true v o m n le later = absurd (omega arith)
-absent_step false v o m n le later = later (omega arith)
-
 absent_from : {K T : Type 0} (test : K → Bool) (es : List (K × T)) → length es ≤ position_or_len test (keys_of es) → lookup test es ≡ None
 absent_from test [] le = refl
-absent_from test (e ∷ es) le = absent_step (test e.0) e.1 (lookup test es) (position_or_len test (keys_of es)) (length es) le (absent_from test es)
-
-none_or : (n m : ℕ) → cond (ltb n m) (Some n) None ≡ None → m ≤ n
-none_or n m e = grind (arith, nat_tests)
+absent_from test (e ∷ es) le = grind (arith, common_steps, absent_from test es) steps 200000
 
 -- a name without a number has no file
 pub no_file : {T : Type 0} (test : Vec ℕ Global → Bool) (es : List (Vec ℕ Global × T)) → position test (keys_of es) ≡ None → lookup test es ≡ None
-no_file {T} test es none = absent_from test es (omega (arith, none_or (position_or_len test (keys_of es)) (length (keys_of es)) none, length-map es (λ (e : Vec ℕ Global × T). e.0)))
+no_file {T} test es none = grind (arith, common_steps, absent_from, length-map, nat_tests) steps 200000
 
 pub can_be_kept : {X : Type 0} (bytes : X → List ℕ) (pieces : List X) (tail : List ℕ) → ArePieces (map bytes pieces) tail → length (concat (map bytes pieces)) ≤ 4294967295 → All (λ piece. CanBeKept (bytes piece)) pieces
 can_be_kept bytes [] tail are small = All-nil (λ piece. CanBeKept (bytes piece))

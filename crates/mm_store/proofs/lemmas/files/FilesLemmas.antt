@@ -1,7 +1,7 @@
 -- Files by name and by number, their keys and their texts.
-use Rattle.std.proofs.{Common.{◌≡◌, ℕ, ◌<◌, ◌≤◌, List, Some, None, is_some, true, length, map, get_or, sym, ap, ◌∙◌, arith, slice_get, position, Vec}, lemmas.Grind.{get_or_default_zero}}
-use Rattle.std.{proofs.lemmas.Option.{slice_get-map}, specs.{List.{concat}, Option.{option_map}, Str.{bytes_eq}, Map.{keys_of}}}
-use Rattle.mm_store.specs.{declared.file_text.FileText.{FileText}, Language.{Pieces.{Pieces, text_under}, FilesView.{KeyedFile, plain_file, find_file, file_at, bytes_of}, Undoing.{keys_in}}}
+use Rattle.std.proofs.lemmas.{Grind.{common_steps, get_or_default_zero}, Option.{slice_get-map}}
+use Rattle.std.{proofs.Common.{◌≡◌, ℕ, ◌<◌, ◌≤◌, List, Some, is_some, true, length, map, get_or, ap, ◌∙◌, arith, slice_get, position, Vec}, specs.{List.{concat}, Str.{bytes_eq}, Map.{keys_of}}}
+use Rattle.mm_store.specs.{declared.file_text.FileText.{FileText}, Language.{Pieces.{Pieces, text_under}, FilesView.{KeyedFile, plain_file, find_file, bytes_of}, Undoing.{keys_in}}}
 use Rattle.mm_store.{specs.Code.Kept.{keyed_file, places, standing_count}, proofs.lemmas.files.{AddLemmas.{stands_some}, ListLemmas.{times_at, places_in, members_within, plain_pieces}}}
 use Rattle.mm_store.proofs.lemmas.files.NumberLemmas.{number_is}
 use Rattle.std.specs.FinMap as finite
@@ -9,12 +9,7 @@ use Rattle.std.specs.FinMap as finite
 module _ {Y : Type 0} (p : Pieces) (name : List ℕ) (entries : List (Vec ℕ Y × FileText)) where
   pub found_is : (n : ℕ) (entry : Vec ℕ Y × FileText) → Some n ≡ position (λ key. bytes_eq name key.items) (keys_of entries)
       → slice_get entries n ≡ Some entry → find_file (map (plain_file p) (map keyed_file entries)) name ≡ Some (plain_file p (keyed_file entry))
-  found_is n entry at there =
-      ap (file_at (map (plain_file p) (map keyed_file entries))) (number_is p name entries ∙ sym at)
-      ∙ slice_get-map (plain_file p) (map keyed_file entries) n ∙ ap (option_map (plain_file p)) (slice_get-map (keyed_file {Y = Y}) entries n ∙ ap (option_map (keyed_file {Y = Y})) there)
-
-  pub none_is : None ≡ position (λ key. bytes_eq name key.items) (keys_of entries) → find_file (map (plain_file p) (map keyed_file entries)) name ≡ None
-  none_is at = ap (file_at (map (plain_file p) (map keyed_file entries))) (number_is p name entries ∙ sym at)
+  found_is n entry at there = grind (arith, common_steps, number_is, slice_get-map) steps 200000
 
 -- the key of a place has a piece
 pub key_some : (files : List KeyedFile) (p : Pieces) → ((q : ℕ) → places q files ≡ standing_count (finite.get p q)) → (n at d : ℕ) → at < length (keys_in files n) → is_some (finite.get p (get_or (keys_in files n) at d)) ≡ true

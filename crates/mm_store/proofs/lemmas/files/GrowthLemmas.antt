@@ -1,47 +1,18 @@
 -- The numbers that names have, and what one more file changes.
-use Rattle.std.proofs.lemmas.{Grind.{elements}, Bool.{ltb-true, ltb-false, lt-ltb, le-ltb, ne_eqb, eq-eqb, false_from_ne_true}, Slice.Eq.{bytes_eq-Decides}, List.Elements.{Contains-append_right}}
-use Rattle.std.proofs.lemmas.{List.{Folds.{position_or_len_push}, Quantifiers.{position-Some}}, Option.{none-some, get_or_from_slice_get, cond_some}}
-use Rattle.std.proofs.Common.{◌≡◌, ℕ, zero, suc, ◌+◌, ◌<◌, ◌≤◌, Bool, true, false, not, cond, ltb, List, [], ◌∷◌, ◌++◌, Some, None, length, refl, sym, ap, ◌∙◌, subst, arith, length-append, Contains}
-use Rattle.std.{proofs.Common.{position, slice_get}, specs.{List.{position_or_len}, Str.{bytes_eq}}}
+use Rattle.std.proofs.lemmas.{Grind.{common_steps, elements}, Bool.{ltb-true, ltb-false, lt-ltb, le-ltb, ne_eqb, eq-eqb, false_from_ne_true}, Slice.Eq.{bytes_eq-Decides}}
+use Rattle.std.proofs.lemmas.{List.{Elements.{Contains-append_right}, Folds.{position_or_len_push}, Quantifiers.{position-Some}}, Option.{none-some, get_or_from_slice_get, cond_some}}
+use Rattle.std.proofs.Common.{◌≡◌, ℕ, zero, suc, ◌<◌, Bool, false, not, ltb, List, [], ◌∷◌, ◌++◌, Some, None, length, refl, subst, arith, length-append, Contains, position, slice_get}
+use Rattle.std.specs.{List.{position_or_len}, Str.{bytes_eq}}
 use Rattle.mm_store.specs.{declared.item.Item.{Item}, Language.{FilesView.{FileView, number_of}, Expansion.{Placed}}}
 use Rattle.mm_store.{specs.Language.Walking.{LevelView, WalkView, IsRest, ArePending, Goes, here, own, again, missing, included, IsWalk}, proofs.lemmas.expansion.GoesLemmas.{goes_grows}}
 
-no_place : (b : Bool) (m : ℕ) → cond b (Some m) None ≡ None → b ≡ false
-no_place true m e = absurd (none-some m (sym e))
-no_place false m e = refl
-
 module _ {X : Type 0} (test : X → Bool) where
-  step_within : (b : Bool) (k n : ℕ) → k ≤ n → cond (not b) (1 + k) 0 ≤ suc n
-  step_within true k n h = omega arith
-  step_within false k n h = omega arith
-
-  place_within : (xs : List X) → position_or_len test xs ≤ length xs
-  place_within [] = omega arith
-  place_within (x ∷ xs) = step_within (test x) (position_or_len test xs) (length xs) (place_within xs)
-
-  place_kept : (xs : List X) (y : X) (k : ℕ) → position test xs ≡ Some k → position test (xs ++ y ∷ []) ≡ Some k
-  place_kept xs y k e =
-      let h = cond_some (ltb (position_or_len test xs) (length xs)) (position_or_len test xs) k e in
-      let within = ltb-true (position_or_len test xs) (length xs) h.0 in
-      let other = ne_eqb (position_or_len test xs) (length xs) (λ e. absurd (omega arith)) in
-      let same : position_or_len test (xs ++ y ∷ []) ≡ k = position_or_len_push test xs y ∙ ap (λ b. cond b (length xs + cond (test y) 0 1) (position_or_len test xs)) other ∙ h.1 in
-      let less = lt-ltb k (length (xs ++ y ∷ [])) (omega (arith, length-append xs (y ∷ []))) in
-      ap (λ k. cond (ltb k (length (xs ++ y ∷ []))) (Some k) None) same ∙ ap (λ b. cond b (Some k) None) less
-
   none_kept : (xs : List X) (y : X) → position test xs ≡ None → test y ≡ false → position test (xs ++ y ∷ []) ≡ None
-  none_kept xs y e fails =
-      let n = position_or_len test xs in
-      let whole = ltb-false n (length xs) (no_place (ltb n (length xs)) n e) in
-      let at : n ≡ length xs = omega (arith, place_within xs) in
-      let push : position_or_len test (xs ++ y ∷ []) ≡ length xs + 1 =
-      position_or_len_push test xs y ∙ ap (λ b. cond b (length xs + cond (test y) 0 1) n) (eq-eqb n (length xs) at) ∙ ap (λ b. length xs + cond b 0 1) fails in
-      let past = le-ltb (length xs + 1) (length (xs ++ y ∷ [])) (omega (arith, length-append xs (y ∷ []))) in
-      ap (λ k. cond (ltb k (length (xs ++ y ∷ []))) (Some k) None) push ∙ ap (λ b. cond b (Some (length xs + 1)) None) past
+  none_kept xs y e fails = grind (arith, common_steps, eq-eqb, le-ltb, length-append, ltb-false, position_or_len_push, none-some) steps 200000
 
 there_kept : {X : Type 0} (xs : List X) (y : X) (n : ℕ) (x : X) → slice_get xs n ≡ Some x → slice_get (xs ++ y ∷ []) n ≡ Some x
-there_kept [] y n x e = absurd (none-some x e)
-there_kept (z ∷ xs) y zero x e = e
 there_kept (z ∷ xs) y (suc n) x e = there_kept xs y n x e
+there_kept xs y n x e = grind (arith, common_steps, none-some) steps 200000
 
 -- a name that has a number has a file
 pub there_number : (files : List FileView) (name : List ℕ) (n : ℕ) → number_of files name ≡ Some n → (file : FileView) × (slice_get files n ≡ Some file)
@@ -60,7 +31,7 @@ name_of_number files name n file e there = grind (arith, elements, position-Some
 -- one more file, whose name was not taken
 module _ (files : List FileView) (file : FileView) where
   pub number_kept : (name : List ℕ) (n : ℕ) → number_of files name ≡ Some n → number_of (files ++ file ∷ []) name ≡ Some n
-  number_kept name n e = place_kept (λ (file : FileView). bytes_eq name file.name) files file n e
+  number_kept name n e = grind (arith, common_steps, cond_some, length-append, lt-ltb, ltb-true, ne_eqb, position_or_len_push) steps 200000
 
   pub file_kept : (n : ℕ) (other : FileView) → slice_get files n ≡ Some other → slice_get (files ++ file ∷ []) n ≡ Some other
   file_kept n other e = there_kept files file n other e

@@ -1,22 +1,17 @@
 -- The files after a change of the keys of one file and of the pieces.
-use Rattle.std.proofs.lemmas.{Grind.{common_steps}, Bool.{cases_eq}, Option.{slice_get_within, none-some}, List.{length-map}}
-use Rattle.std.proofs.Common.{◌≡◌, ◌≢◌, ℕ, zero, suc, ◌-◌, ◌<◌, ◌≤◌, List, [], ◌∷◌, Some, length, map, get_or, deque_len, refl, sym, ap, ◌∙◌, subst, arith, Global, Vec, slice_get}
-use Rattle.indexmap.specs.IndexMap.{set_value_at, with_value_at}
+use Rattle.std.proofs.{Common.{◌+◌, ◌≡◌, ◌≢◌, ℕ, suc, ◌<◌, ◌≤◌, List, ◌∷◌, Some, length, map, get_or, deque_len, refl, sym, ap, ◌∙◌, subst, arith, Vec, slice_get}, lemmas.Grind.{common_steps}}
+use Rattle.std.proofs.lemmas.{Bool.{cases_eq}, Option.{slice_get_within, none-some}, List.{length-map}}
+use Rattle.mm_store.proofs.lemmas.{places.{ChangeLemmas.{texts_after}, StartLemmas.{starts_stay}}, files.ListLemmas.{with_same, plain_pieces, with_pieces_same}}
+use Rattle.mm_store.proofs.lemmas.{files.EntryLemmas.{texts_of, keys_at, view_set, room_at, room_set, starts_at, starts_set, tail_at}, edits.StepLemmas.{Step, parked, settled_here}}
 use Rattle.mm_store.specs.{declared.{file_text.FileText.{FileText}, files.Files.TheInside.{Inside}, start.Start.{Start}}, Code.{Starts.{HasStarts, KnowsStarts}, Room.{HasRoom}}}
-use Rattle.mm_store.specs.Code.{Edited.{pieces_in, with_pieces}, Kept.{files_view, keyed_file, places, standing_count, deletions, HaveStarts, AreFilesKept}}
-use Rattle.mm_store.specs.Language.{FilesView.{FilesView, plain, KeyedFile, plain_file, bytes_of}, Pieces.{Replaced, Deleted, text_under, Pieces, IsParked}, Undoing.{keys_in, with_keys}}
-use Rattle.mm_store.proofs.lemmas.files.{PieceLemmas.{stands_settled, text_drop_other}, ListLemmas.{with_same, plain_same, plain_pieces, with_pieces_same}}
-use Rattle.mm_store.proofs.lemmas.{files.EntryLemmas.{texts_of, keys_at, view_set, room_at, room_same, room_set, starts_at, starts_set, tail_at, same_view}, expansion.WeightLemmas.{weight_dropped}}
-use Rattle.mm_store.proofs.lemmas.{edits.{ReplaceLemmas.{replaced_weight}, StepLemmas.{parked, settled_here}}, places.{ChangeLemmas.{starts_after}, StartLemmas.{starts_stay}}}
-use Rattle.mm_text.specs.Language.Reading.{HasWords}
+use Rattle.mm_store.specs.Code.{Edited.{pieces_in, with_pieces}, Kept.{files_view, keyed_file, places, standing_count, deletions, AreFilesKept}}
+use Rattle.mm_store.specs.Language.{FilesView.{FilesView, plain, KeyedFile, plain_file, bytes_of}, Pieces.{Deleted, text_under, Pieces, IsParked}, Undoing.{keys_in, with_keys}}
+use Rattle.indexmap.specs.IndexMap.{set_value_at, with_value_at}
 use Rattle.std.specs.FinMap as finite
 
 pub length_set : {Y : Type 0} (es : List (Vec ℕ Y × FileText)) (n : ℕ) (w : FileText) → length (set_value_at es n w) ≡ length es
 length_set (e ∷ es) (suc n) w = omega (arith, length_set es n w)
 length_set _ _ w = refl
-
-pub file_in : {Y : Type 0} (es : List (Vec ℕ Y × FileText)) (n : ℕ) (v : FileText) → slice_get (texts_of es) n ≡ Some v → n < length es
-file_in {Y} es n v here = omega (arith, slice_get_within (texts_of es) n v here, length-map es (λ (e : Vec ℕ Y × FileText). e.1))
 
 module _ (inside : Inside) (n : ℕ) (v w : FileText) (here : slice_get (texts_of inside.files.entries) n ≡ Some v) (tail : w.tail ≡ v.tail)
     (keys : List ℕ) (items : w.keys.items ≡ keys) (actual now : Pieces) (pieces : actual ≡ now) (bytes : ℕ) where
@@ -26,11 +21,8 @@ module _ (inside : Inside) (n : ℕ) (v w : FileText) (here : slice_get (texts_o
   abbrev after : Inside
   after = record { files = with_value_at inside.files n w; pieces = actual; bytes = bytes }
 
-  files_is : map keyed_file (set_value_at inside.files.entries n w) ≡ with_keys (map keyed_file inside.files.entries) n keys
-  files_is = view_set inside.files.entries n v w here tail ∙ ap (with_keys (map keyed_file inside.files.entries) n) items
-
   pub view_after : files_view after ≡ record { keyed = with_keys (map keyed_file inside.files.entries) n keys; pieces = now }
-  view_after = same_view _ _ files_is pieces
+  view_after = grind (arith, common_steps, view_set) steps 200000
 
   pub kept_after : AreFilesKept inside
       → ((q : ℕ) → places q (with_keys (map keyed_file inside.files.entries) n keys) ≡ standing_count (finite.get now q))
@@ -43,28 +35,18 @@ module _ (inside : Inside) (n : ℕ) (v w : FileText) (here : slice_get (texts_o
       → map (plain_file now) (with_keys (map keyed_file inside.files.entries) n keys) ≡ with_pieces (map (plain_file inside.pieces) (map keyed_file inside.files.entries)) n members
       → HasStarts members w
       → AreFilesKept after
-  kept_after kept once others parked room counted within members means starts = record {
-    once = λ q. ap (places q) files_is ∙ once q ∙ ap (λ p. standing_count (finite.get p q)) (sym pieces);
-    room = room_set inside.pieces actual 0 inside.files.entries n n w (omega arith) (λ m d. ap (deletions m) pieces ∙ others m d) (record { parked = parked ∙ ap (deletions n) (sym pieces); room = room }) kept.room;
-    known = λ m le. ap (deletions m) pieces ∙ others m (λ e. omega (arith, e, file_in inside.files.entries n v here, length_set inside.files.entries n w, le)) ∙ kept.known m (omega (arith, length_set inside.files.entries n w, le));
-    counted = counted ∙ ap (λ p. bytes_of (map (plain_file p) (with_keys (map keyed_file inside.files.entries) n keys))) (sym pieces) ∙ ap (λ gs. bytes_of (map (plain_file actual) gs)) (sym files_is);
-    within = within;
-    starts = subst (λ files. HaveStarts files (set_value_at inside.files.entries n w)) (sym (ap (λ v. plain v) view_after ∙ means))
-        (starts_set (plain (files_view inside)) inside.files.entries n w members kept.starts starts (subst (λ (t : Vec ℕ Global). HasWords t.items []) (sym tail) (tail_at (plain (files_view inside)) inside.files.entries n v kept.starts here)));
-  }
+  kept_after kept once others parked room counted within members means starts =
+      grind (arith, common_steps, length_set, parked, room_set, starts_set, tail_at, view_after, slice_get_within, texts_of, length-map, view_set) steps 200000
 
-  pub kept_edited : AreFilesKept inside
-      → ((q : ℕ) → places q (with_keys (map keyed_file inside.files.entries) n keys) ≡ standing_count (finite.get now q))
-      → ((m : ℕ) → m ≢ n → deletions m now ≡ deletions m inside.pieces)
-      → w.deleted ≡ deletions n now
-      → HasRoom w
-      → bytes ≡ bytes_of (map (plain_file now) (with_keys (map keyed_file inside.files.entries) n keys))
-      → bytes ≤ 4294967295
-      → (members : List (List ℕ))
-      → map (plain_file now) (with_keys (map keyed_file inside.files.entries) n keys) ≡ with_pieces (map (plain_file inside.pieces) (map keyed_file inside.files.entries)) n members
-      → (p : Pieces) → map (text_under p) keys ≡ map (text_under now) keys → n < length (map (keyed_file {Y = Global}) inside.files.entries) → KnowsStarts p w → AreFilesKept after
-  kept_edited kept once others parked room counted within members means p same there knows =
-      kept_after kept once others parked room counted within members means (starts_after (map keyed_file inside.files.entries) inside.pieces p now n keys members there means same w items knows)
+  pub kept_edited : {members : List (List ℕ)} {from : Pieces} {less more fewer further : ℕ} → AreFilesKept inside
+      → Step (map keyed_file inside.files.entries) inside.pieces n keys now members from less more fewer further
+      → w.deleted + fewer ≡ v.deleted + further → HasRoom w → bytes + less ≡ inside.bytes + more → bytes ≤ 4294967295 → KnowsStarts from w → AreFilesKept after
+  kept_edited {members} {from} kept step deleted room counted within knows =
+      let had = room_at inside.pieces 0 inside.files.entries n n v (omega arith) kept.room here in
+      let texts = texts_after (map keyed_file inside.files.entries) inside.pieces from now n keys members step.file step.means step.texts in
+      kept_after kept step.once step.others (omega (arith, deleted, had.parked, step.here)) room (omega (arith, counted, kept.counted, step.bytes)) within
+      members step.means
+      (subst (λ texts. HasStarts texts w) (ap (map (text_under from)) items ∙ texts) knows)
 
 -- the files after room was made in one of them, or it was found where more of its pieces begin
 module _ (inside : Inside) (n : ℕ) (v w : FileText) (here : slice_get (texts_of inside.files.entries) n ≡ Some v) (tail : w.tail ≡ v.tail)
@@ -100,19 +82,8 @@ module _ (inside : Inside) (n : ℕ) (v w : FileText) (here : slice_get (texts_o
   reserved kept is deleted room known starts = (reserved_kept deleted room (starts_stay inside.pieces v w items known starts) kept, reserved_view ∙ is)
 
 pub texts_set : {Y : Type 0} (es : List (Vec ℕ Y × FileText)) (n : ℕ) (v w : FileText) → slice_get (texts_of es) n ≡ Some v → slice_get (texts_of (set_value_at es n w)) n ≡ Some w
-texts_set [] n v w there = absurd (none-some v there)
-texts_set (e ∷ es) zero v w there = refl
 texts_set (e ∷ es) (suc n) v w there = texts_set es n v w there
-
--- the files after a piece that was replaced is dropped
-pub settled_kept :
-    (inside : Inside) (n old : ℕ) → IsParked inside.pieces old n Replaced → (actual : Pieces) → actual ≡ finite.remove inside.pieces old → AreFilesKept inside
-    → AreFilesKept (record { files = inside.files; pieces = actual; bytes = inside.bytes })
-settled_kept inside n old is_parked actual is kept = grind (arith, common_steps, parked, plain_same, replaced_weight, room_same, stands_settled, text_drop_other, weight_dropped) steps 200000
-
--- below a bound, from what holds beyond it
-below_bound : (n bound d : ℕ) → (bound ≤ n → d ≡ 0) → 0 < d → n < bound
-below_bound n bound d beyond some = grind (arith, common_steps, cases_eq (bound - n) 0) steps 200000
+texts_set es n v w there = grind (arith, common_steps, none-some) steps 200000
 
 -- a file has the pieces that were deleted from it
 pub deleted_from : {view : FilesView} (inside : Inside) (n old : ℕ) → AreFilesKept inside → files_view inside ≡ view → IsParked view.pieces old n Deleted → 0 < deletions n inside.pieces
@@ -120,4 +91,4 @@ deleted_from inside n old kept is is_parked =
     omega (arith, settled_here (map keyed_file inside.files.entries) inside.pieces n 0 kept.once old (subst (λ (view : FilesView). IsParked view.pieces old n Deleted) (sym is) is_parked))
 
 pub deleted_file : {view : FilesView} (inside : Inside) (n old : ℕ) → AreFilesKept inside → files_view inside ≡ view → IsParked view.pieces old n Deleted → n < length inside.files.entries
-deleted_file inside n old kept is is_parked = below_bound n (length inside.files.entries) (deletions n inside.pieces) (kept.known n) (deleted_from inside n old kept is is_parked)
+deleted_file inside n old kept is is_parked = grind (arith, common_steps, deleted_from inside n old kept is is_parked, cases_eq) steps 200000

@@ -1,6 +1,6 @@
 -- Keys in lists of files, and what the files mean.
-use Rattle.std.proofs.{Common.{◌≡◌, ◌≢◌, inl, inr, ℕ, zero, suc, ◌+◌, ◌<◌, ◌≤◌, List, [], ◌∷◌, length, map, get_or, set, refl, ap, ◌∙◌, arith, length-append}, lemmas.Bool.{cases_eq}}
-use Rattle.std.{proofs.lemmas.{Bool.Decides.{nat_tests}, List.{get_or-map, length-map, Sums.{sum_by-cons, sum_by-insert, sum_by-set, get_or-le-sum_by}}}, specs.List.{concat, sum_by, insert}}
+use Rattle.std.proofs.lemmas.{Grind.{common_steps}, Bool.{cases_eq, Decides.{nat_tests}}, List.{get_or-map, length-map, Sums.{sum_by-cons, sum_by-insert, sum_by-set, get_or-le-sum_by}}}
+use Rattle.std.{proofs.Common.{◌≡◌, ◌≢◌, inl, inr, ℕ, suc, ◌+◌, ◌<◌, ◌≤◌, List, [], ◌∷◌, length, map, get_or, set, refl, ap, ◌∙◌, arith, length-append}, specs.List.{concat, sum_by, insert}}
 use Rattle.mm_store.specs.{Code.{Edited.{pieces_in, with_pieces}, Kept.{one, times, places}}, Language.{FilesView.{File, KeyedFile, plain_file, bytes_of}, Pieces.{Pieces, text_under}}}
 use Rattle.mm_store.specs.Language.Undoing.{keys_in, with_keys}
 
@@ -14,18 +14,16 @@ pub times_at : (keys : List ℕ) (at : ℕ) → at < length keys → 1 ≤ times
 times_at keys at lt = omega (arith, one_same (get_or keys at 0), get_or-le-sum_by (one (get_or keys at 0)) keys at 0 lt)
 
 pub places_with : (q : ℕ) (files : List KeyedFile) (n : ℕ) (keys : List ℕ) → n < length files → places q (with_keys files n keys) + times q (keys_in files n) ≡ places q files + times q keys
-places_with q [] n keys lt = absurd (omega arith)
-places_with q (file ∷ files) zero keys lt = omega arith
 places_with q (file ∷ files) (suc n) keys lt = omega (arith, places_with q files n keys (omega arith))
+places_with q files n keys lt = grind (arith, common_steps) steps 200000
 
 pub places_in : (q : ℕ) (files : List KeyedFile) (n : ℕ) → times q (keys_in files n) ≤ places q files
 places_in q (file ∷ files) (suc n) = omega (arith, places_in q files n)
 places_in q _ _ = omega arith
 
 pub in_files : (files : List KeyedFile) (n at : ℕ) → at < length (keys_in files n) → n < length files
-in_files [] n at lt = absurd (omega arith)
-in_files (file ∷ files) zero at lt = omega arith
 in_files (file ∷ files) (suc n) at lt = omega (arith, in_files files n at lt)
+in_files files n at lt = grind (arith, common_steps) steps 200000
 
 -- keys once more, and the keys that are there
 pub with_with : (files : List KeyedFile) (n : ℕ) (a b : List ℕ) → with_keys (with_keys files n a) n b ≡ with_keys files n b
@@ -37,9 +35,8 @@ with_same (file ∷ files) (suc n) = ap (λ fs. file ∷ fs) (with_same files n)
 with_same _ _ = refl
 
 pub keys_with : (files : List KeyedFile) (n : ℕ) (a : List ℕ) → n < length files → keys_in (with_keys files n a) n ≡ a
-keys_with [] n a lt = absurd (omega arith)
-keys_with (file ∷ files) zero a lt = refl
 keys_with (file ∷ files) (suc n) a lt = keys_with files n a (omega arith)
+keys_with files n a lt = grind (arith, common_steps) steps 200000
 
 -- what a change back gives
 pub back : (files : List KeyedFile) (n : ℕ) (a b : List ℕ) → b ≡ keys_in files n → with_keys (with_keys files n a) n b ≡ files
@@ -57,9 +54,7 @@ module _ (p p' : Pieces) (k : ℕ) (same : (q : ℕ) → q ≢ k → text_under 
 
   pub plain_same : (files : List KeyedFile) → places k files ≡ 0 → map (plain_file p') files ≡ map (plain_file p) files
   plain_same [] none = refl
-  plain_same (file ∷ files) none =
-      ap (λ (texts : List (List ℕ)). record { name = file.name; pieces = texts; tail = file.tail } ∷ map (plain_file p') files) (texts_same file.keys (omega arith))
-      ∙ ap (λ fs. plain_file p file ∷ fs) (plain_same files (omega arith))
+  plain_same (file ∷ files) none = grind (arith, common_steps, plain_same files (omega arith), texts_same file.keys (omega arith)) steps 200000
 
 pub plain_with : (p : Pieces) (files : List KeyedFile) (n : ℕ) (keys : List ℕ) → map (plain_file p) (with_keys files n keys) ≡ with_pieces (map (plain_file p) files) n (map (text_under p) keys)
 plain_with p (file ∷ files) (suc n) keys = ap (λ fs. plain_file p file ∷ fs) (plain_with p files n keys)
@@ -78,9 +73,8 @@ size_is [] = refl
 size_is (text ∷ texts) = omega (arith, length-append text (concat texts), sum_by-cons length text texts, size_is texts)
 
 pub bytes_with : (files : List File) (n : ℕ) (texts : List (List ℕ)) → n < length files → bytes_of (with_pieces files n texts) + size (pieces_in files n) ≡ bytes_of files + size texts
-bytes_with [] n texts lt = absurd (omega arith)
-bytes_with (file ∷ files) zero texts lt = omega (arith, length-append (concat file.pieces) file.tail, length-append (concat texts) file.tail, size_is texts, size_is file.pieces)
 bytes_with (file ∷ files) (suc n) texts lt = omega (arith, bytes_with files n texts (omega arith))
+bytes_with files n texts lt = grind (arith, common_steps, length-append, size_is) steps 200000
 
 -- no text of a piece is longer than all texts
 pub text_within : (p : Pieces) (files : List KeyedFile) (n at : ℕ) → at < length (keys_in files n) → length (text_under p (get_or (keys_in files n) at 0)) ≤ bytes_of (map (plain_file p) files)
@@ -113,12 +107,10 @@ with_pieces_same (file ∷ files) (suc n) = ap (λ fs. file ∷ fs) (with_pieces
 with_pieces_same _ _ = refl
 
 pub pieces_with : (files : List File) (n : ℕ) (members : List (List ℕ)) → n < length files → pieces_in (with_pieces files n members) n ≡ members
-pieces_with [] n members lt = absurd (omega arith)
-pieces_with (file ∷ files) zero members lt = refl
 pieces_with (file ∷ files) (suc n) members lt = pieces_with files n members (omega arith)
+pieces_with files n members lt = grind (arith, common_steps) steps 200000
 
 -- the members of a file are no longer than all texts
 pub members_within : (files : List File) (n : ℕ) → length (concat (pieces_in files n)) ≤ bytes_of files
-members_within [] n = omega arith
-members_within (file ∷ files) zero = omega (arith, length-append (concat file.pieces) file.tail)
 members_within (file ∷ files) (suc n) = omega (arith, members_within files n)
+members_within files n = grind (arith, common_steps, length-append) steps 200000

@@ -1,7 +1,7 @@
 -- Files by name: each name has one number, and a file that comes last is found if no other has its name.
 use Rattle.std.proofs.lemmas.{Grind.{common_steps}, Bool.{false_from_ne_true, Decides.{nat_tests}}, List.{Folds.{find_at}, Sums.{passes_at_first}}}
 use Rattle.std.proofs.lemmas.{Option.{get_or_from_slice_get, none-some, same_Some, slice_get_past, cond_some}, Slice.Eq.{bytes_eq-Decides}}
-use Rattle.std.{proofs.Common.{◌≡◌, ◌≢◌, ℕ, Bool, true, false, cond, nat_lt, List, [], ◌∷◌, ◌++◌, Some, None, length, get_or, refl, sym, ap, ◌∙◌, arith, slice_get}, specs.List.{find, position_or_len}}
+use Rattle.std.{proofs.Common.{◌≡◌, ◌≢◌, ℕ, Bool, true, false, cond, nat_lt, List, [], ◌∷◌, ◌++◌, Some, None, length, get_or, sym, ap, ◌∙◌, arith, slice_get}, specs.List.{find, position_or_len}}
 use Rattle.std.specs.{Option.{option_map}, Str.{bytes_eq}}
 use Rattle.mm_text.specs.Language.{Cut.{IsCut, ended}, Asked.{Asked, edited_name}}
 use Rattle.mm_store.specs.Language.{FilesView.{File, file_number, file_at, find_file, text_of}, FileFacts.{IsAdded}, Edits.{edited, with_members, IsEditOf}}
@@ -25,12 +25,8 @@ pub edited_kept : (edit : Asked) (files after : List File) (file : File) → IsE
 edited_kept edit files after file is found = grind (arith, common_steps, number_kept edit files after is (edited_name edit), changed_there edit files after is, same_Some) steps 200000
 
 -- the file of a name is the first with it
-at_place : (files : List File) (m : ℕ) (b : Bool) → nat_lt m (length files) ≡ b → file_at files (cond b (Some m) None) ≡ slice_get files m
-at_place files m true e = refl
-at_place files m false e = sym (slice_get_past files m (grind (arith, nat_tests)))
-
 found_first : (files : List File) (name : List ℕ) → find_file files name ≡ find (λ file. bytes_eq name file.name) files
-found_first files name = grind (arith, common_steps, at_place, find_at) steps 200000
+found_first files name = grind (arith, common_steps, find_at, slice_get_past, nat_tests) steps 200000
 
 module _ (test : File → Bool) (file : File) where
   find_last : (files : List File) → find test files ≡ None → test file ≡ true → find test (files ++ file ∷ []) ≡ Some file
@@ -53,16 +49,10 @@ added_text old new name text none is =
     ∙ ap (option_map text_of) (found_first (old ++ is.file ∷ []) name ∙ find_last (λ (file : File). bytes_eq name file.name) is.file old absent test) ∙ ap Some is.is_cut.joined
 
 pub added_others : (old new : List File) (name text other : List ℕ) → IsAdded old new name text → other ≢ name → find_file new other ≡ find_file old other
-added_others old new name text other is differs =
-    let test = false_from_ne_true (bytes_eq other is.file.name) (λ e. differs ((bytes_eq-Decides other is.file.name).0 e ∙ is.is_name)) in
-    ap (λ files. find_file files other) is.last ∙ found_first (old ++ is.file ∷ []) other ∙ find_other (λ (file : File). bytes_eq other file.name) is.file old test ∙ sym (found_first old other)
+added_others old new name text other is differs = grind (arith, common_steps, bytes_eq-Decides, false_from_ne_true, find_other, found_first) steps 200000
 
 abbrev pub OneCut : Type 0
 OneCut = (text : List ℕ) (a b : List (List ℕ)) (s t : List ℕ) → IsCut text a s → IsCut text b t → (a ≡ b) × (s ≡ t)
 
 pub one_added : OneCut → (old a b : List File) (name text : List ℕ) → IsAdded old a name text → IsAdded old b name text → a ≡ b
-one_added one_cut old a b name text is other =
-    let cut = one_cut text is.file.pieces other.file.pieces is.file.tail other.file.tail is.is_cut other.is_cut in
-    let name : is.file.name ≡ other.file.name = is.is_name ∙ sym other.is_name in
-    let file : is.file ≡ other.file = λ i. record { name = name i; pieces = cut.0 i; tail = cut.1 i } in
-    is.last ∙ ap (λ file. old ++ file ∷ []) file ∙ sym other.last
+one_added one_cut old a b name text is other = grind (arith, common_steps) steps 200000

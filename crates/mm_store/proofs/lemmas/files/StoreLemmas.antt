@@ -2,7 +2,7 @@
 use Rattle.std.proofs.lemmas.{Grind.{common_steps, elements}, Bool.{cases_eq}, Option.{same_Some, none-some}, List.{nil_from_length, Sums.{sum_by-cons}}}
 use Rattle.std.proofs.Common.{◌≡◌, inl, inr, is_some, true, ℕ, zero, suc, ◌+◌, ◌≤◌, List, [], ◌∷◌, ◌++◌, Option, Some, None, map, cond, get_or, count_by, refl, sym, ap, ◌∙◌, subst, arith, All}
 use Rattle.std.specs.{List.{sum_by}, Option.{option_map}, FinMap.{get-from_entries}, Ordering.{nat_cmp}, Cmp.{nat_cmp_total}}
-use Rattle.slab.specs.Slab.{Slab, get, entries_from, Updates, slab_len}
+use Rattle.slab.specs.Slab.{Slab, get, entries_from, Updates}
 use Rattle.mm_store.specs.declared.{piece_text.PieceText.{PieceText}, pieces.Piece.{Piece}}
 use Rattle.mm_store.specs.Language.Pieces.{HeldPiece, Pieces, PieceState, standing_piece, with_state, parked_state, parked_count, parked_under, parked_pieces, text_in, text_under}
 use Rattle.mm_store.specs.Code.{Inside.{IsPieceKept, ArePut}, Kept.{weigh}, States.{piece_state}, Slots.{held, entry_view, pieces_of, AreKeptIn, ArePutIn}}
@@ -45,7 +45,7 @@ pub nothing_parked : parked_pieces finite.empty ≡ 0
 nothing_parked = ap (sum_by (λ (entry : ℕ × HeldPiece). parked_state entry.1.state)) (nil_from_length (finite.entries finite.empty) (sym (finite.len-entries finite.empty) ∙ finite.len-empty nat_cmp HeldPiece))
 
 -- the map of the pieces weighs what the slots do
-weigh_slots : (first : ℕ) (slots : List (Option Piece)) → weigh parked_weight (finite.entries (finite.from_entries {R = nat_cmp}
+pub weigh_slots : (first : ℕ) (slots : List (Option Piece)) → weigh parked_weight (finite.entries (finite.from_entries {R = nat_cmp}
     (map entry_view (entries_from first slots)))) ≡ sum_by (λ (entry : ℕ × Piece). parked_state (piece_state entry.1.state)) (entries_from first slots)
 weigh_slots first [] = sym (parked_is finite.empty) ∙ nothing_parked
 weigh_slots first (None ∷ rest) = weigh_slots (first + 1) rest
@@ -54,25 +54,18 @@ weigh_slots first (Some piece ∷ rest) =
     let fresh : finite.get later first ≡ None = get-from_entries nat_cmp_total (map entry_view (entries_from (first + 1) rest)) first ∙ below first (first + 1) rest (omega arith) in
     omega (arith, weight_fresh parked_weight later first (held piece) fresh, weigh_slots (first + 1) rest, sum_by-cons (λ (entry : ℕ × Piece). parked_state (piece_state entry.1.state)) (first, piece) (entries_from (first + 1) rest))
 
-at_most_one : (s : PieceState) → parked_state s ≤ 1
-at_most_one s = grind (arith, common_steps) steps 200000
-
 no_more : (first : ℕ) (slots : List (Option Piece)) → sum_by (λ (entry : ℕ × Piece). parked_state (piece_state entry.1.state)) (entries_from first slots) ≤ count_by is_some slots
 no_more first [] = omega arith
 no_more first (None ∷ rest) = omega (arith, no_more (first + 1) rest, sum_by-cons (λ (o : Option Piece). cond (is_some o) 1 0) None rest)
-no_more first (Some piece ∷ rest) = grind (arith, common_steps, no_more (first + 1) rest, at_most_one (piece_state piece.state), sum_by-cons) steps 200000
+no_more first (Some piece ∷ rest) = grind (arith, common_steps, no_more (first + 1) rest, sum_by-cons) steps 200000
 
-one_less : (first at : ℕ) (slots : List (Option Piece)) (piece : Piece) → get_or slots at None ≡ Some piece
+pub one_less : (first at : ℕ) (slots : List (Option Piece)) (piece : Piece) → get_or slots at None ≡ Some piece
     → sum_by (λ (entry : ℕ × Piece). parked_state (piece_state entry.1.state)) (entries_from first slots) + 1 ≤ count_by is_some slots + parked_state
     (piece_state piece.state)
 one_less first (suc at) (None ∷ rest) piece there = omega (arith, one_less (first + 1) at rest piece there, sum_by-cons (λ (o : Option Piece). cond (is_some o) 1 0) None rest)
 one_less first zero (Some x ∷ rest) piece there = grind (arith, common_steps, no_more (first + 1) rest, same_Some x piece there, sum_by-cons) steps 200000
-one_less first (suc at) (Some x ∷ rest) piece there = grind (arith, common_steps, one_less (first + 1) at rest piece there, at_most_one (piece_state x.state), sum_by-cons) steps 200000
+one_less first (suc at) (Some x ∷ rest) piece there = grind (arith, common_steps, one_less (first + 1) at rest piece there, sum_by-cons) steps 200000
 one_less first _ _ piece there = absurd (none-some piece there)
-
--- the other pieces that are parked are fewer than all
-pub others_parked : (slab : Slab Piece) (key : ℕ) (piece : Piece) → get slab key ≡ Some piece → parked_pieces (pieces_of slab) + 1 ≤ slab_len slab + parked_state (piece_state piece.state)
-others_parked slab key piece there = omega (arith, one_less 0 key slab.slots piece there, parked_is (pieces_of slab), weigh_slots 0 slab.slots)
 
 -- pieces put one after another
 pub put_more : (old mid new : Slab Piece) (pieces : List PieceText) (keys : List ℕ) (kept : PieceText) (key : ℕ) → ArePutIn old pieces keys mid

@@ -1,8 +1,8 @@
 -- The starts of a file after its keys and the pieces have changed.
-use Rattle.std.proofs.{Common.{◌≡◌, ℕ, ◌<◌, List, Some, length, map, sym, ap, ◌∙◌, subst, arith, Vec, slice_get}, lemmas.List.{length-map}}
-use Rattle.mm_store.specs.{declared.file_text.FileText.{FileText}, Language.{Pieces.{Pieces, text_under}, FilesView.{KeyedFile, plain_file}, Undoing.{keys_in, with_keys}}}
-use Rattle.mm_store.specs.Code.{Starts.{HasStarts, KnowsStarts}, Edited.{pieces_in, with_pieces}, Kept.{keyed_file, HaveStarts}}
-use Rattle.mm_store.proofs.lemmas.files.{ListLemmas.{plain_pieces, keys_with, pieces_with}, EntryLemmas.{texts_of, keys_at, starts_at}}
+use Rattle.std.proofs.{Common.{◌≡◌, ℕ, ◌<◌, List, Some, length, map, sym, ap, ◌∙◌, arith, Vec, slice_get}, lemmas.List.{length-map}}
+use Rattle.mm_store.specs.{declared.file_text.FileText.{FileText}, Language.{Pieces.{Pieces, text_under}, FilesView.{KeyedFile, plain_file}, Undoing.{keys_in, with_keys}}, Code.Starts.{KnowsStarts}}
+use Rattle.mm_store.{specs.Code.{Edited.{pieces_in, with_pieces}, Kept.{keyed_file, HaveStarts}}, proofs.lemmas.files.ListLemmas.{plain_pieces, keys_with, pieces_with}}
+use Rattle.mm_store.proofs.lemmas.files.EntryLemmas.{texts_of, keys_at, starts_at}
 
 -- where the pieces of a file begin, by its keys
 pub starts_here : {Y : Type 0} (p p1 : Pieces) (es : List (Vec ℕ Y × FileText)) (n : ℕ) (v : FileText) → HaveStarts (map (plain_file p) (map keyed_file es)) es → slice_get (texts_of es) n ≡ Some v
@@ -16,6 +16,3 @@ module _ (fs : List KeyedFile) (p p1 p2 : Pieces) (n : ℕ) (keys : List ℕ) (m
   texts_after =
       let long : n < length (map (plain_file p) fs) = omega (arith, there, length-map fs (plain_file p)) in
       same ∙ ap (map (text_under p2)) (sym (keys_with fs n keys there)) ∙ sym (plain_pieces p2 (with_keys fs n keys) n) ∙ ap (λ gs. pieces_in gs n) means ∙ pieces_with (map (plain_file p) fs) n members long
-
-  pub starts_after : (w : FileText) → w.keys.items ≡ keys → KnowsStarts p1 w → HasStarts members w
-  starts_after w items are = subst (λ texts. HasStarts texts w) (ap (map (text_under p1)) items ∙ texts_after) are

@@ -1,26 +1,18 @@
 -- Lines and columns after joined bytes, and where the bytes of a piece are.
 use Rattle.std.proofs.lemmas.{Grind.{common_steps}, Bool.Decides.{nat_tests}, List.{append-nil, length-drop, length-reverse, reverse-append, take_more, drop_more, take-append-drop, take-append-le}}
 use Rattle.std.proofs.lemmas.List.{Sums.{sum_by-cons, sum_by-append, suffix_len-le-length}, Sorted.{sum_by-IsPermutation, IsPermutation-reverse}, Folds.{prefix_len-append, concat-append}}
-use Rattle.std.proofs.lemmas.Option.{get_or_from_slice_get, slice_get_within}
-use Rattle.std.proofs.Common.{◌≡◌, ℕ, zero, suc, ◌+◌, ◌-◌, ◌<◌, ◌≤◌, Bool, true, false, not, eqb, cond, List, [], ◌∷◌, ◌++◌, Some, length, take, drop, get_or, reverse, count_by, refl, sym, ap, ◌∙◌}
-use Rattle.std.{proofs.{Common.{subst, arith, length-append}, Math.Seq.{take-append-add}}, specs.{Prelude.{slice_get}, List.{suffix_len, prefix_len, after_last, concat}}}
+use Rattle.std.proofs.Common.{◌≡◌, ℕ, zero, suc, ◌+◌, ◌-◌, ◌<◌, ◌≤◌, Bool, not, eqb, cond, List, [], ◌∷◌, ◌++◌, length, take, drop, get_or, reverse, count_by, refl, sym, ap, ◌∙◌, subst, arith}
+use Rattle.std.{proofs.{Common.{length-append}, Math.Seq.{take-append-add}}, specs.List.{suffix_len, prefix_len, after_last, concat}}
 use Rattle.mm_text.specs.Language.Place.{is_line_feed}
-use Rattle.mm_store.specs.{Language.{FilesView.{File, text_of}, FileFacts.{piece_offset}}, Code.Lines.{bytes_before}}
+use Rattle.mm_store.specs.Code.Lines.{bytes_before}
 
 abbrev is_other : ℕ → Bool
 is_other b = not (is_line_feed b)
 
 -- no line feed is among bytes exactly when all are other bytes
-other_step : (b : Bool) (p n c : ℕ) → (p ≡ n → c ≡ 0) × (c ≡ 0 → p ≡ n) → (cond (not b) (1 + p) 0 ≡ suc n → cond b 1 0 + c ≡ 0) × (cond b 1 0 + c ≡ 0 → cond (not b) (1 + p) 0 ≡ suc n)
-other_step true p n c h = (λ e. absurd (omega arith), λ e. absurd (omega arith))
-other_step false p n c h = (λ e. (omega arith), λ e. (omega arith))
-
 all_other : (bytes : List ℕ) → (prefix_len is_other bytes ≡ length bytes → count_by is_line_feed bytes ≡ 0) × (count_by is_line_feed bytes ≡ 0 → prefix_len is_other bytes ≡ length bytes)
 all_other [] = (λ e. refl, λ e. refl)
-all_other (b ∷ bytes) =
-    let s = other_step (is_line_feed b) (prefix_len is_other bytes) (length bytes) (count_by is_line_feed bytes) (all_other bytes) in
-    let more = sum_by-cons (λ x. cond (is_line_feed x) 1 0) b bytes in
-    (λ e. more ∙ s.0 e, λ e. s.1 (sym more ∙ e))
+all_other (b ∷ bytes) = grind (arith, common_steps, all_other bytes, sum_by-cons) steps 200000
 
 length_after : (before : List ℕ) → length (after_last is_line_feed before) ≡ suffix_len is_other before
 length_after before = omega (arith, length-drop (length before - suffix_len is_other before) before, suffix_len-le-length is_other before)
@@ -42,11 +34,10 @@ lines_joined a b = sum_by-append (λ x. cond (is_line_feed x) 1 0) a b
 
 -- what holds of the elements of a list by their places, and of one more after them
 pub each_more : {X : Type 0} (P : ℕ → X → Type 0) (xs : List X) (x : X) (n : ℕ) → length xs ≡ n → ((k : ℕ) (d : X) → k < n → P k (get_or xs k d)) → P n x → (k : ℕ) (d : X) → k < n + 1 → P k (get_or (xs ++ x ∷ []) k d)
-each_more P [] x n long each last zero d h = subst (λ m. P m x) (sym long) last
-each_more P [] x n long each last (suc k) d h = absurd (omega arith)
 each_more P (y ∷ xs) x n long each last zero d h = each 0 d (omega arith)
 each_more P (y ∷ xs) x n long each last (suc k) d h = each_more (λ j z. P (suc j) z) xs x (n - 1) (omega arith) (λ j e lt. each (suc j) e (omega arith))
     (let same : suc (n - 1) ≡ n = omega arith in subst (λ m. P m x) (sym same) last) k d (omega arith)
+each_more P [] x n long each last k d h = grind (arith, common_steps) steps 200000
 
 pub concat_one : (texts : List (List ℕ)) (n : ℕ) → n < length texts → concat (take (n + 1) texts) ≡ concat (take n texts) ++ get_or texts n []
 concat_one texts n h = rw (take_more texts n [] h, concat-append) (ap (λ l. concat (take n texts) ++ l) (append-nil (get_or texts n [])))
@@ -68,15 +59,10 @@ within_joined texts n at h =
 pub piece_within : (texts : List (List ℕ)) (n : ℕ) → n < length texts → length (concat (take n texts)) + length (get_or texts n []) ≤ length (concat texts)
 piece_within texts n h = omega (arith, within_joined texts n 0 h, ap length (append-nil (concat (take n texts))))
 
-before_in : (texts : List (List ℕ)) (n at : ℕ) (tail : List ℕ) → n < length texts → at ≤ length (get_or texts n []) → take (length (concat (take n texts)) + at) (concat texts ++ tail) ≡ bytes_before texts n at
+pub before_in : (texts : List (List ℕ)) (n at : ℕ) (tail : List ℕ) → n < length texts → at ≤ length (get_or texts n []) → take (length (concat (take n texts)) + at) (concat texts ++ tail) ≡ bytes_before texts n at
 before_in texts n at tail h within =
     let a = concat (take n texts) in
     let x = get_or texts n [] in
     let d = concat (drop (n + 1) texts) in
     let whole : concat texts ≡ a ++ (x ++ d) = ap concat (sym (take-append-drop n texts)) ∙ concat-append (take n texts) (drop n texts) ∙ ap (λ l. a ++ concat l) (drop_more texts n [] h) in
     grind (arith, common_steps, take-append-add a ((x ++ d) ++ tail) at, take-append-le at x (d ++ tail) within) steps 200000
-
--- the bytes of a file before a byte of a piece
-pub before_byte : (file : File) (n at : ℕ) (text : List ℕ) → slice_get file.pieces n ≡ Some text → at ≤ length text → take (piece_offset file n + at) (text_of file) ≡ bytes_before file.pieces n at
-before_byte file n at text there within =
-    grind (arith, get_or_from_slice_get file.pieces n text [] there, before_in file.pieces n at file.tail (slice_get_within file.pieces n text there) (rw (get_or_from_slice_get file.pieces n text [] there) within)) steps 200000

@@ -1,25 +1,19 @@
 -- Where pieces begin, after a change of their list.
 use Rattle.std.proofs.lemmas.{Grind.{common_steps}, Bool.{cases_eq}, List.{length-map, get_or-set_same, get_or-set_other, take-map}}
-use Rattle.std.{proofs.Common.{◌≡◌, ℕ, zero, suc, ◌+◌, ◌<◌, ◌≤◌, List, [], ◌∷◌, length, deque_len, take, get_or, set, refl, ap, arith}, specs.List.{concat, insert, remove}}
+use Rattle.std.{proofs.Common.{◌≡◌, ℕ, suc, ◌+◌, ◌<◌, ◌≤◌, List, ◌∷◌, length, deque_len, take, get_or, set, ap, arith}, specs.List.{concat, insert, remove}}
 use Rattle.mm_store.specs.{declared.{start.Start.{Start}, file_text.FileText.{FileText}}, Language.Pieces.{Pieces, text_under}, Code.{Starts.{HasStarts, KnowsStarts}, Lines.{IsStart, AreStartsTo}}}
 
 pub take_insert : (xs : List ℕ) (at key n : ℕ) → n ≤ at → at ≤ length xs → take n (insert xs at key) ≡ take n xs
-take_insert xs at key zero le there = refl
-take_insert xs zero key (suc n) le there = absurd (omega arith)
-take_insert [] (suc at) key (suc n) le there = absurd (omega arith)
 take_insert (x ∷ xs) (suc at) key (suc n) le there = ap (λ ys. x ∷ ys) (take_insert xs at key n (omega arith) (omega arith))
+take_insert xs at key n le there = grind (arith, common_steps) steps 200000
 
 pub take_remove : (xs : List ℕ) (at n : ℕ) → n ≤ at → take n (remove xs at) ≡ take n xs
-take_remove xs at zero le = refl
-take_remove xs zero (suc n) le = absurd (omega arith)
-take_remove [] (suc at) (suc n) le = refl
 take_remove (x ∷ xs) (suc at) (suc n) le = ap (λ ys. x ∷ ys) (take_remove xs at n (omega arith))
+take_remove xs at n le = grind (arith, common_steps) steps 200000
 
 pub take_set : (xs : List ℕ) (at key n : ℕ) → n ≤ at → take n (set xs at key) ≡ take n xs
-take_set xs at key zero le = refl
-take_set xs zero key (suc n) le = absurd (omega arith)
-take_set [] (suc at) key (suc n) le = refl
 take_set (x ∷ xs) (suc at) key (suc n) le = ap (λ ys. x ∷ ys) (take_set xs at key n (omega arith))
+take_set xs at key n le = grind (arith, common_steps) steps 200000
 
 -- what is known of the keys of a file holds of other keys as far as both are one
 pub known_same : (p : Pieces) (v w : FileText) → w.known ≤ v.known → w.known ≤ length w.keys.items → ((n : ℕ) → n ≤ w.known → take n w.keys.items ≡ take n v.keys.items)

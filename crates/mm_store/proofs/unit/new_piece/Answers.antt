@@ -1,15 +1,9 @@
-use Rattle.std.proofs.{lemmas.Grind.{common_steps, elements}, Common.{ℕ, List, sym, ap, subst, length, arith}}
-use Rattle.mm_store.{specs.{declared.edit.EditError.{EditError, TheVariants.{Text, NotOne, Memory}}, Code.Units.{IsUnit, IsUnitError, IsTextRefused}}, proofs.lemmas.edits.EditLemmas.{if_err}}
+use Rattle.std.proofs.{lemmas.Grind.{common_steps, elements}, Common.{sym, ap, subst, length, arith}}
+use Rattle.mm_store.{specs.Code.Units.{IsUnit}, proofs.lemmas.edits.EditLemmas.{if_err}}
 use Rattle.mm_store.proofs.unit.new_piece.Goals as goal
 
-new_error : (held : ℕ) (text : List ℕ) (error : EditError) → IsUnitError text error → IsTextRefused held text error
-new_error held text (Text fault) fails = fails
-new_error held text (NotOne count) fails = fails
-new_error held text Memory fails = tt
-new_error held text _ fails = absurd fails
-
 pub returns-in_err-unit-clause-err : goal.returns-in_err-unit-clause-err
-returns-in_err-unit-clause-err c = grind (arith, common_steps, new_error c.args.held c.args.text.now c.in_err-unit.field-0.0 c.in_err-unit.ensures.err, if_err) steps 200000
+returns-in_err-unit-clause-err c = grind (arith, common_steps, if_err) steps 200000
 
 pub returns-then-not-fits-clause-err : goal.returns-then-not-fits-clause-err
 returns-then-not-fits-clause-err c = grind (arith, elements) steps 200000

@@ -1,20 +1,18 @@
 use Rattle.std.proofs.{Common.{◌≡◌, ℕ, All, map, List, [], ◌∷◌, ◌++◌, Option, Some, length, length-append, sym, ap, ◌∙◌, subst, arith}, lemmas.{List.{append-nil}, Grind.{common_steps}}}
 use Rattle.std.specs.Option.{option_to_list}
-use Rattle.mm_text.specs.{declared.{pieces.DividedPiece.{DividedPiece}, fault.TextError.{TextError, TheVariants.{Fault, Memory}}}, Language.{Cut.{IsCut, IsCutError, ended}, Part.{HasOwnParts}}}
+use Rattle.mm_text.specs.{declared.{pieces.DividedPiece.{DividedPiece}, fault.TextError.{TextError}}, Language.{Cut.{IsCut, IsCutError, ended}, Part.{HasOwnParts}}}
 use Rattle.mm_store.{specs.{Language.Answers.{edit_error_of}, Code.Units.{IsUnitError}}, proofs.lemmas.edits.EditLemmas.{if_err}}
 use Rattle.mm_store.proofs.unit.read_unit.Goals as goal
 
 -- what is reported of a text that has no cut
 not_cut : (text : List ℕ) (error : TextError) → IsCutError text error → IsUnitError text (edit_error_of error)
-not_cut text (Fault fault) is = is
-not_cut text Memory is = tt
+not_cut text error is = grind (arith, common_steps) steps 200000
 
 pub returns-in_err-pieces-clause-err : goal.returns-in_err-pieces-clause-err
 returns-in_err-pieces-clause-err c = grind (arith, common_steps, not_cut c.args.text.now c.in_err-pieces.field-0.0 (rw c.in_ok-whole.ensures at c.in_err-pieces.ensures.fault), if_err) steps 200000
 
 one_only : {X : Type 0} (all rest : List X) (last : Option X) (x : X) → length all ≡ 1 → all ≡ rest ++ option_to_list last → last ≡ Some x → all ≡ x ∷ []
-one_only all [] last x one e is = e ∙ ap option_to_list is
-one_only all (y ∷ rest) last x one e is = grind (arith, common_steps, length-append rest (x ∷ [])) steps 200000
+one_only all rest last x one e is = grind (arith, common_steps, length-append) steps 200000
 
 pub returns-clause-parts : goal.returns-clause-parts
 returns-clause-parts c = λ units has.

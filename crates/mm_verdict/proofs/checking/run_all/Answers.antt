@@ -1,11 +1,10 @@
+use Rattle.std.proofs.Common.{rules}
 use Rattle.mm_verdict.specs.{Language.{BaseLabels.{setting_at}, VerdictAt.{statement_at}, DecodedSteps.{entry_steps}}, Code.{DecodedProof.{steps_of}, NumberedBase.{numbered_setting}}}
 use Rattle.mm_verdict.proofs.lemmas.{base.FrameLemmas.{shown_proof}, decoding.DecodedProofs.{decoded_saved, used_named}, machine.UsedLemmas.{part_entries, part_means}}
 use Rattle.mm_verdict.proofs.checking.run_all.Goals as goal
 
 pub name_all-requires-clause-labels : goal.name_all-requires-clause-labels
-name_all-requires-clause-labels c =
-    let has = c.requires.decoded in
-    used_named c.args.proof.base.now has.0 c.args.proof.i has.1.theorem.base has.2 c.args.proof.decoding.now.labels.items c.args.used.now c.requires.used.part has.1.entries
+name_all-requires-clause-labels c = search (rules, used_named) steps 200000
 
 pub run-requires : goal.run-requires
 run-requires c = record {

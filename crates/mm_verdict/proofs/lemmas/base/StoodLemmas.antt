@@ -1,12 +1,12 @@
 -- A label that means an assertion at an item is the label of one that comes before the item.
-use Rattle.std.proofs.lemmas.{Grind.{common_steps}, Slice.Eq.{bytes_eq-Decides}, Bool.{cases_Bool, false≢true, and_from}}
-use Rattle.std.proofs.Common.{◌≡◌, ◌<◌, ◌≤◌, ◌⊎◌, ℕ, zero, suc, cond, Bool, true, bytes_eq, option_to_list, Option, Some, None, List, [], ◌∷◌, ◌++◌, length, take, slice_get, refl, sym, ◌∙◌, ap, subst}
-use Rattle.std.proofs.{Common.{inl, inr, arith, is_none, append-nil}, Math.{Decide.{dec_lt}, Seq.{take-suc, take-length}}}
+use Rattle.std.proofs.lemmas.{Grind.{common_steps}, Slice.Eq.{bytes_eq-Decides}, Bool.{cases_Bool, false≢true, and_from}, List.{take-append-le, take_all}, Option.{slice_get_within}}
+use Rattle.std.proofs.Common.{◌≡◌, ◌<◌, ◌≤◌, ℕ, zero, suc, cond, Bool, true, bytes_eq, option_to_list, Option, Some, None, List, [], ◌∷◌, ◌++◌, length, take, slice_get, refl, sym, ◌∙◌, ap, subst, inl}
+use Rattle.std.proofs.{Common.{inr, arith, is_none, append-nil, append_assoc, length-append}, Math.{Decide.{dec_lt}, Seq.{take-suc, take-length}}}
 use Rattle.mm_frame.specs.{declared.FrameNumber.{FrameNumber}, Language.{Base.{BaseView, said_at, before, is_sound_at, fault_by}, Framing.{frame, meaning, resolve, resolve_from}, Laws.{KeptNext}}}
 use Rattle.mm_frame.specs.Language.{Resolving.{Resolves}, Scope.{stays}, Sound.{fault, judged, sound_items}}
 use Rattle.mm_frame.specs.mm_statement.Language.Item.{Kind, Item, passed, is_assertion, is_labelled, labels_of, has}
 use Rattle.mm_machine.specs.Language.Frame.{Assertion}
-use Rattle.mm_verdict.specs.Language.Citing.{means_assertion}
+use Rattle.mm_verdict.{specs.Language.Citing.{means_assertion}, proofs.lemmas.lists.Members.{before_or_last}}
 use Rattle.mm_frame.specs.declared.base.Resolved.TheVariants as answers
 
 labelled : (b : Bool) (o : Option (List ℕ)) (label : List ℕ) → has (cond b (option_to_list o) []) label ≡ true → (b ≡ true) × (o ≡ Some label)
@@ -17,35 +17,10 @@ sound_label : (kind : Kind) → is_labelled kind ≡ true → is_none (fault_by 
 sound_label kind e = grind (arith, common_steps) steps 200000
 
 take_end : {X : Type 0} (xs : List X) (n : ℕ) → (n < length xs → ⊥) → take (suc n) xs ≡ take n xs
-take_end [] zero h = refl
-take_end [] (suc n) h = refl
-take_end (x ∷ xs) zero h = absurd (h (omega arith))
-take_end (x ∷ xs) (suc n) h = ap (λ w. x ∷ w) (take_end xs n (λ l. h (omega (arith, l))))
-
--- what is at a place of a longer list
-longer : {X : Type 0} (xs : List X) (x : X) (n : ℕ) (y : X) → slice_get (xs ++ x ∷ []) n ≡ Some y → (slice_get xs n ≡ Some y) ⊎ ((n ≡ length xs) × (y ≡ x))
-longer [] x zero y e = inr (refl, cc)
-longer [] x (suc n) y e = cc
-longer (z ∷ xs) x zero y e = inl e
-longer (z ∷ xs) x (suc n) y e = elim (longer xs x n y e) [ inl h ↦ inl h | inr h ↦ inr (ap suc h.0, h.1) ]
-
-within : {X : Type 0} (xs : List X) (n : ℕ) (y : X) → slice_get xs n ≡ Some y → n < length xs
-within [] n y e = cc
-within (x ∷ xs) zero y e = omega arith
-within (x ∷ xs) (suc n) y e = let l = within xs n y e in omega (arith, l)
-
-take_less : {X : Type 0} (xs ys : List X) (n : ℕ) → n ≤ length xs → take n (xs ++ ys) ≡ take n xs
-take_less xs ys zero l = refl
-take_less [] ys (suc n) l = absurd (omega (arith, l))
-take_less (x ∷ xs) ys (suc n) l = ap (λ w. x ∷ w) (take_less xs ys n (omega (arith, l)))
-
-one_moved : {X : Type 0} (xs : List X) (x : X) (ys : List X) → (xs ++ x ∷ []) ++ ys ≡ xs ++ x ∷ ys
-one_moved [] x ys = refl
-one_moved (z ∷ xs) x ys = ap (λ w. z ∷ w) (one_moved xs x ys)
+take_end xs n h = take_all (suc n) xs (omega (arith, h)) ∙ sym (take_all n xs (omega (arith, h)))
 
 pub longer_by_one : {X : Type 0} (xs : List X) (x : X) → length (xs ++ x ∷ []) ≡ suc (length xs)
-longer_by_one [] x = refl
-longer_by_one (z ∷ xs) x = ap suc (longer_by_one xs x)
+longer_by_one xs x = omega (arith, length-append xs (x ∷ []))
 
 module _ (view : BaseView) (next : KeptNext) where
   -- item n, judged
@@ -73,21 +48,21 @@ module _ (view : BaseView) (next : KeptNext) where
       Dec (i < length view.said) → Stood (suc i) n item
   stood_next i n item less e (yes l) =
       let count = count_before i (omega (arith, l)) in
-      elim (longer (before view i) (judged_at i) n item (ap (λ items. slice_get items n) (sym (one_more i l)) ∙ e)) [
+      elim (before_or_last (before view i) (judged_at i) item n (ap (λ items. slice_get items n) (sym (one_more i l)) ∙ e)) [
         | inl h ↦
             let s = less h in
-            let few = within (before view i) n item h in
+            let few = slice_get_within (before view i) n item h in
             let m = s.earlier in
             record {
               earlier = omega (arith, m);
               is = s.is;
-              front = ap (take n) (one_more i l) ∙ take_less (before view i) (judged_at i ∷ []) n (omega (arith, few)) ∙ s.front;
+              front = ap (take n) (one_more i l) ∙ take-append-le n (before view i) (judged_at i ∷ []) (omega (arith, few)) ∙ s.front;
             }
         | inr h ↦
             let last : n ≡ i = h.0 ∙ count in
-            let whole = take_less (before view i) (judged_at i ∷ []) (length (before view i)) (omega arith) ∙ take-length (before view i) in
+            let whole = take-append-le (length (before view i)) (before view i) (judged_at i ∷ []) (omega arith) ∙ take-length (before view i) in
             let same = ap (λ m. take m (before view i ++ judged_at i ∷ [])) h.0 ∙ whole ∙ ap (before view) (sym last) in
-            record { earlier = omega (arith, last); is = h.1 ∙ ap judged_at (sym last); front = ap (take n) (one_more i l) ∙ same }
+            record { earlier = omega (arith, last); is = sym h.1 ∙ ap judged_at (sym last); front = ap (take n) (one_more i l) ∙ same }
       ]
   stood_next i n item less e (no m) =
       let s = less (ap (λ items. slice_get items n) (sym (no_more i m)) ∙ e) in
@@ -124,7 +99,7 @@ found whole front (item ∷ back) label h = elim (cases_Bool (has (labels_of ite
         there = f.there;
         label_is = f.label_is;
         framed = f.framed;
-        means = rw e (f.means ∙ ap (λ items. Assertion (frame items f.item)) (one_moved front item (take f.place back)));
+        means = rw e (f.means ∙ ap (λ items. Assertion (frame items f.item)) (append_assoc front (item ∷ []) (take f.place back)));
       }
 ]
 

@@ -1,6 +1,6 @@
 -- The words that the code gives are those that cite.
-use Rattle.std.proofs.Common.{arith, ◌≡◌, ℕ, zero, suc, ◌+◌, Bool, true, false, not, ◌&&◌, List, [], ◌∷◌, ◌++◌, length, map, drop, refl, sym, ap, ◌∙◌, inl, inr, eqb-true, eq-eqb, filter, bytes_eq}
-use Rattle.std.proofs.{Common.{codes, nat_eq, slice_get, slice_index_or}, lemmas.{Grind.{common_steps}, Bool.{cases_Bool, false≢true}, Slice.Eq.{bytes_eq-Decides}}}
+use Rattle.std.proofs.Common.{rules, arith, ◌≡◌, ℕ, zero, suc, ◌+◌, Bool, true, false, not, ◌&&◌, List, [], ◌∷◌, ◌++◌, length, map, drop, refl, sym, ap, ◌∙◌, inl, inr, filter, bytes_eq, codes, nat_eq}
+use Rattle.std.proofs.{Common.{slice_get, slice_index_or}, lemmas.{Grind.{common_steps}, Bool.{cases_Bool, Decides.{nat_tests}}, Slice.Eq.{bytes_eq-Decides}}}
 use Rattle.std.specs.List.{list_any, enumerate_from, before_first}
 use Rattle.mm_frame.specs.{Language.Base.{BaseView, is_shown_at}, declared.base.Resolved.{Resolved}}
 use Rattle.mm_verdict.specs.Language.{BaseLabels.{NoLabelTwice, label_at, setting_at}, Citing.{firsts, means_assertion, names_assertion, is_cited, cited_words}}
@@ -41,32 +41,23 @@ module _ (view : BaseView) where
   Aligned n words [] = words ≡ []
   Aligned n words (answers.Assertion j ∷ labels) = (rest : Words) × (words ≡ (n, label_at view j) ∷ rest) × Aligned (n + 1) rest labels
   Aligned n words (answers.Hypothesis j ∷ labels) = (rest : Words) × (words ≡ (n, label_at view j) ∷ rest) × Aligned (n + 1) rest labels
-  Aligned n words (answers.Inactive ∷ labels) = Aligned (n + 1) words labels
-  Aligned n words (answers.Unknown ∷ labels) = Aligned (n + 1) words labels
+  Aligned n words (_ ∷ labels) = Aligned (n + 1) words labels
 
   -- the test of labels is that of items
   abbrev Agrees : (List ℕ → Bool) → (ℕ → Bool) → List Resolved → Type 0
   Agrees P S [] = Unit {0}
   Agrees P S (answers.Assertion j ∷ labels) = (is_shown_at view j ≡ true) × (P (label_at view j) ≡ S j) × Agrees P S labels
   Agrees P S (answers.Hypothesis j ∷ labels) = (P (label_at view j) ≡ false) × Agrees P S labels
-  Agrees P S (answers.Inactive ∷ labels) = Agrees P S labels
-  Agrees P S (answers.Unknown ∷ labels) = Agrees P S labels
+  Agrees P S (_ ∷ labels) = Agrees P S labels
 
   own_eq : NoLabelTwice view → (j k : ℕ) → is_shown_at view j ≡ true → is_shown_at view k ≡ true → bytes_eq (label_at view j) (label_at view k) ≡ nat_eq j k
-  own_eq own j k s t = elim (cases_Bool (nat_eq j k)) [
-    | inl e ↦ let same : j ≡ k = eqb-true j k e in (bytes_eq-Decides (label_at view j) (label_at view k)).1 (ap (label_at view) same) ∙ sym e
-    | inr e ↦ elim (cases_Bool (bytes_eq (label_at view j) (label_at view k))) [
-      | inl f ↦ let same : j ≡ k = own j k s t ((bytes_eq-Decides (label_at view j) (label_at view k)).0 f) in absurd (false≢true (sym e ∙ eq-eqb j k same))
-      | inr f ↦ f ∙ sym e
-    ]
-  ]
+  own_eq own j k s t = search (rules, bytes_eq-Decides (label_at view j) (label_at view k), nat_tests) steps 200000
 
   agrees_less : NoLabelTwice view → (P : List ℕ → Bool) (S : ℕ → Bool) (j : ℕ) (labels : List Resolved) → is_shown_at view j ≡ true → Agrees P S labels → Agrees (less P (label_at view j)) (without S j) labels
   agrees_less own P S j [] s a = tt
   agrees_less own P S j (answers.Assertion i ∷ labels) s a = (a.0, rw (a.1, own_eq own j i s a.0) refl, agrees_less own P S j labels s a.2)
   agrees_less own P S j (answers.Hypothesis i ∷ labels) s a = (rw a.0 refl, agrees_less own P S j labels s a.1)
-  agrees_less own P S j (answers.Inactive ∷ labels) s a = agrees_less own P S j labels s a
-  agrees_less own P S j (answers.Unknown ∷ labels) s a = agrees_less own P S j labels s a
+  agrees_less own P S j (_ ∷ labels) s a = agrees_less own P S j labels s a
 
   -- the words of the entries
   told_items : NoLabelTwice view → (P : List ℕ → Bool) (S : ℕ → Bool) (n : ℕ) (words : Words) (labels : List Resolved) → Aligned n words labels → Agrees P S labels → told P words ≡ item_cites S n labels
@@ -76,24 +67,23 @@ module _ (view : BaseView) where
     | inr f ↦ rw f (ap (told P) e.1 ∙ told_no P n (label_at view j) e.0 (a.1 ∙ f) ∙ told_items own P S (n + 1) e.0 labels e.2 a.2)
   ]
   told_items own P S n words (answers.Hypothesis j ∷ labels) e a = ap (told P) e.1 ∙ told_no P n (label_at view j) e.0 a.0 ∙ told_items own P S (n + 1) e.0 labels e.2 a.1
-  told_items own P S n words (answers.Inactive ∷ labels) e a = told_items own P S (n + 1) words labels e a
-  told_items own P S n words (answers.Unknown ∷ labels) e a = told_items own P S (n + 1) words labels e a
+  told_items own P S n words (_ ∷ labels) e a = told_items own P S (n + 1) words labels e a
 
   first_is : (s t : Step) (ss ts : List Step) → s ∷ ss ≡ t ∷ ts → (s ≡ t) × (ss ≡ ts)
   first_is s t ss ts e = (cc, cc)
 
+  aligned_label : (n : ℕ) (word : List ℕ) (words : Words) (label : Resolved) (labels : List Resolved) → entry_step view label ≡ Named word → Aligned (n + 1) words labels → Aligned n ((n, word) ∷ words) (label ∷ labels)
+  aligned_label n word words (answers.Assertion j) labels f rest = let g : label_at view j ≡ word = cc in (words, ap (λ (w : List ℕ). (n, w) ∷ words) (sym g), rest)
+  aligned_label n word words (answers.Hypothesis j) labels f rest = let g : label_at view j ≡ word = cc in (words, ap (λ (w : List ℕ). (n, w) ∷ words) (sym g), rest)
+  aligned_label n word words _ labels f rest = cc
+
   -- the words of a list of labels
   aligned_list : (n : ℕ) (labels : List Resolved) (listed : List (List ℕ)) → entry_steps view labels ≡ map Named listed → Aligned n (enumerate_from n listed) labels
   aligned_list n [] [] e = refl
-  aligned_list n [] (word ∷ listed) e = cc
-  aligned_list n (label ∷ labels) [] e = cc
-  aligned_list n (label ∷ labels) (word ∷ listed) e = let p = first_is (entry_step view label) (Named word) (entry_steps view labels) (map Named listed) e in one label p.0 (aligned_list (n + 1) labels listed p.1)
-    where
-      one : (label : Resolved) → entry_step view label ≡ Named word → Aligned (n + 1) (enumerate_from (n + 1) listed) labels → Aligned n ((n, word) ∷ enumerate_from (n + 1) listed) (label ∷ labels)
-      one (answers.Assertion j) f rest = let g : label_at view j ≡ word = cc in (enumerate_from (n + 1) listed, ap (λ (w : List ℕ). (n, w) ∷ enumerate_from (n + 1) listed) (sym g), rest)
-      one (answers.Hypothesis j) f rest = let g : label_at view j ≡ word = cc in (enumerate_from (n + 1) listed, ap (λ (w : List ℕ). (n, w) ∷ enumerate_from (n + 1) listed) (sym g), rest)
-      one answers.Inactive f rest = cc
-      one answers.Unknown f rest = cc
+  aligned_list n (label ∷ labels) (word ∷ listed) e =
+      let p = first_is (entry_step view label) (Named word) (entry_steps view labels) (map Named listed) e in
+      aligned_label n word (enumerate_from (n + 1) listed) label labels p.0 (aligned_list (n + 1) labels listed p.1)
+  aligned_list n _ _ e = cc
 
   -- the words of a normal proof
   abbrev known : ℕ → List (List ℕ) → Words
@@ -103,11 +93,6 @@ module _ (view : BaseView) where
   aligned_unknown n words answers.Inactive labels e rest = rest
   aligned_unknown n words answers.Unknown labels e rest = rest
   aligned_unknown n words _ labels e rest = cc
-
-  aligned_label : (n : ℕ) (word : List ℕ) (words : Words) (label : Resolved) (labels : List Resolved) → entry_step view label ≡ Named word → Aligned (n + 1) words labels → Aligned n ((n, word) ∷ words) (label ∷ labels)
-  aligned_label n word words (answers.Assertion j) labels f rest = let g : label_at view j ≡ word = cc in (words, ap (λ (w : List ℕ). (n, w) ∷ words) (sym g), rest)
-  aligned_label n word words (answers.Hypothesis j) labels f rest = let g : label_at view j ≡ word = cc in (words, ap (λ (w : List ℕ). (n, w) ∷ words) (sym g), rest)
-  aligned_label n word words _ labels f rest = cc
 
   aligned_words : (n : ℕ) (labels : List Resolved) (words : List (List ℕ)) → entry_steps view labels ≡ map word_step words → Aligned n (known n words) labels
   aligned_words n [] [] e = refl
@@ -120,13 +105,7 @@ module _ (view : BaseView) where
   aligned_words n _ _ e = cc
 
   eq_turned : (j k : ℕ) → nat_eq j k ≡ nat_eq k j
-  eq_turned j k = elim (cases_Bool (nat_eq j k)) [
-    | inl e ↦ let same : j ≡ k = eqb-true j k e in ap (λ (w : ℕ). nat_eq j w) (sym same) ∙ ap (λ (w : ℕ). nat_eq w j) same
-    | inr e ↦ elim (cases_Bool (nat_eq k j)) [
-      | inl f ↦ let same : k ≡ j = eqb-true k j f in absurd (false≢true (sym e ∙ eq-eqb j k (sym same)))
-      | inr f ↦ e ∙ sym f
-    ]
-  ]
+  eq_turned j k = grind (arith, nat_tests)
 
   -- an entry is of no assertion
   entry_none : (i j : ℕ) → IsEntry view i (answers.Hypothesis j) → means_assertion ((setting_at view i).resolve (label_at view j)) ≡ false
@@ -143,8 +122,7 @@ module _ (view : BaseView) where
   label_named own i j [] k all s a = refl
   label_named own i j (answers.Assertion m ∷ labels) zero all s a = own_eq own j m s all.0.0.carrier.shown ∙ eq_turned j m
   label_named own i j (answers.Hypothesis m ∷ labels) zero all s a = other_label (setting_at view i) (setting_at view i) (setting_at view i) (label_at view j) (label_at view m) a (entry_none i m all.0)
-  label_named own i j (answers.Inactive ∷ labels) zero all s a = refl
-  label_named own i j (answers.Unknown ∷ labels) zero all s a = refl
+  label_named own i j (_ ∷ labels) zero all s a = refl
   label_named own i j (label ∷ labels) (suc k) all s a = label_named own i j labels k all.1 s a
 
   action_named :
@@ -173,8 +151,7 @@ module _ (view : BaseView) where
     agree own i labels steps entries all some.1,
   )
   agree own i labels steps (answers.Hypothesis j ∷ entries) all some = (rw (entry_none i j some.0) refl, agree own i labels steps entries all some.1)
-  agree own i labels steps (answers.Inactive ∷ entries) all some = agree own i labels steps entries all some.1
-  agree own i labels steps (answers.Unknown ∷ entries) all some = agree own i labels steps entries all some.1
+  agree own i labels steps (_ ∷ entries) all some = agree own i labels steps entries all some.1
 
   behind_steps : (numbers : List ℕ) (labels : List Resolved) (listed : List (List ℕ)) → entry_steps view labels ≡ map Named (labels_at view numbers ++ listed) → entry_steps view (drop (length numbers) labels) ≡ map Named listed
   behind_steps [] labels listed e = e

@@ -22,6 +22,4 @@ cites_alike S T n (answers.Assertion j ∷ labels) same = elim (cases_Bool (T j)
   | inl f ↦ rw (same j (listed_here j labels), f) (ap (◌∷◌ n) (cites_alike (without S j) (without T j) (n + 1) labels (λ i e. rw (same i (listed_on (answers.Assertion j) labels i e)) refl)))
   | inr f ↦ rw (same j (listed_here j labels), f) (cites_alike S T (n + 1) labels (λ i e. same i (listed_on (answers.Assertion j) labels i e)))
 ]
-cites_alike S T n (answers.Hypothesis j ∷ labels) same = cites_alike S T (n + 1) labels (λ i e. same i e)
-cites_alike S T n (answers.Inactive ∷ labels) same = cites_alike S T (n + 1) labels (λ i e. same i e)
-cites_alike S T n (answers.Unknown ∷ labels) same = cites_alike S T (n + 1) labels (λ i e. same i e)
+cites_alike S T n (_ ∷ labels) same = cites_alike S T (n + 1) labels (λ i e. same i e)

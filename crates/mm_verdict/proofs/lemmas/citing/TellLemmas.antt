@@ -1,7 +1,8 @@
 -- The words that cite are labels of exactly the assertions that decoded steps name.
-use Rattle.std.proofs.lemmas.{Grind.{common_steps}, Bool.{false≢true, and_parts, and_from, or_left, or_right}, Option.{same_Some}, Slice.Eq.{bytes_eq-Decides}}
-use Rattle.std.proofs.Common.{◌≡◌, ◌⊎◌, ℕ, zero, suc, ◌+◌, ◌-◌, Bool, true, false, not, cond, ◌||◌, Some, Result, Ok, Err, List, [], ◌∷◌, ◌++◌, length, map, drop, take, slice_get, refl, sym, ap, ◌∙◌}
-use Rattle.std.{proofs.Common.{subst, inl, inr, arith}, specs.Prelude.{◌↔◌, Contains, filter, bytes_eq, codes}}
+use Rattle.std.proofs.lemmas.{Grind.{common_steps}, Bool.{false≢true, and_parts, and_from, or_left, or_right, cases_Bool}, Option.{same_Some}, Slice.Eq.{bytes_eq-Decides}, List.{take-append-drop}}
+use Rattle.std.proofs.lemmas.List.Elements.{Contains-append_right, Contains-append_cases}
+use Rattle.std.proofs.Common.{◌≡◌, ◌⊎◌, ℕ, suc, ◌+◌, ◌-◌, Bool, true, false, not, cond, Some, Result, Ok, Err, List, [], ◌∷◌, ◌++◌, length, map, drop, take, slice_get, refl, sym, ap, ◌∙◌, subst, inl}
+use Rattle.std.{proofs.Common.{inr, arith}, specs.Prelude.{◌↔◌, Contains, filter, bytes_eq, codes}}
 use Rattle.std.specs.List.{AllZip, AllByRecursion, list_any, enumerate_from, before_first, after_first, range_with_len}
 use Rattle.mm_frame.specs.Language.{Base.{BaseView, AreSaid, said_at, frame_at}, Laws.{KeptNext}}
 use Rattle.mm_machine.specs.{Language.{Frame.{Mandatory, Setting}, Expansion.{Step, Named, Saved}, Verdict.{Decoded}}, declared.{Spot.{Spot}, ProofNumber.{ProofNumber, TheVariants.{P03}}}}
@@ -9,8 +10,9 @@ use Rattle.mm_machine.specs.declared.step.ProofFault.{ProofFault}
 use Rattle.mm_verdict.specs.Language.{BaseLabels.{setting_at}, Citing.{label_words, firsts, means_assertion, names_assertion, is_cited, cites}, CitingLaws.{NamesAssertionAt, IsCiteOf}}
 use Rattle.mm_verdict.specs.Language.Decoding.{Reading, Steps, with_step, read_first, in_order, word_spot, read_label, read_word, each_word, nameable, named, is_save_letter, each_group, if_read}
 use Rattle.mm_verdict.specs.Language.{Decoding.{is_close, is_compressed, letter_steps, steps_in, decoding}, ItemLaws.{MandatoryLabelsMean, MeansHypothesis}, Letters.{Group, groups, letters_from}}
-use Rattle.mm_verdict.{specs.Language.{SameToDecode.{labels_named}, VerdictAt.{mandatory_labels, decoding_at, cites_at}}, proofs.lemmas.lists.Members.{Contains-here, contains_there, contains_cases}}
-use Rattle.mm_verdict.proofs.lemmas.{base.StoodLemmas.{assertion_stands}, decoding.SureLemmas.{decoded_ok}}
+use Rattle.mm_verdict.specs.Language.{SameToDecode.{labels_named}, VerdictAt.{mandatory_labels, decoding_at, cites_at}}
+use Rattle.mm_verdict.proofs.lemmas.{lists.{Members.{Contains-here, contains_there, contains_cases, kept_at}, Every.{all_at, joined, mapped}}, base.StoodLemmas.{assertion_stands}}
+use Rattle.mm_verdict.proofs.lemmas.decoding.SureLemmas.{decoded_ok}
 
 -- ---- what is in a list, by recursion
 
@@ -28,13 +30,10 @@ contains_in x [] c = absurd (omega arith)
 contains_in x (y ∷ ys) c = elim (contains_cases y ys x c) [ inl e ↦ inl e | inr d ↦ inr (contains_in x ys d) ]
 
 in_right : {X : Type 0} (x : X) (xs ys : List X) → In x ys → In x (xs ++ ys)
-in_right x [] ys h = h
-in_right x (y ∷ xs) ys h = inr (in_right x xs ys h)
+in_right x xs ys h = contains_in x (xs ++ ys) (Contains-append_right xs ys x (in_contains x ys h))
 
 in_cases : {X : Type 0} (x : X) (xs ys : List X) → In x (xs ++ ys) → In x xs ⊎ In x ys
-in_cases x [] ys h = inr h
-in_cases x (y ∷ xs) ys (inl e) = inl (inl e)
-in_cases x (y ∷ xs) ys (inr h) = elim (in_cases x xs ys h) [ inl a ↦ inl (inr a) | inr b ↦ inr b ]
+in_cases x xs ys h = elim (Contains-append_cases xs ys x (in_contains x (xs ++ ys) h)) [ inl a ↦ inl (contains_in x xs a) | inr b ↦ inr (contains_in x ys b) ]
 
 in_map : {X Y : Type 0} (f : X → Y) (x : X) (xs : List X) → In x xs → In (f x) (map f xs)
 in_map f x [] h = absurd h
@@ -46,24 +45,21 @@ from_map f y [] h = absurd h
 from_map f y (x ∷ xs) (inl e) = (x, inl refl, e)
 from_map f y (x ∷ xs) (inr h) = let r = from_map f y xs h in (r.0, inr r.1, r.2)
 
-in_filter_at : {X : Type 0} (p : X → Bool) (x y : X) (xs : List X) (b : Bool) → p y ≡ b → In x (y ∷ xs) → p x ≡ true → (In x xs → In x (filter p xs)) → In x (cond b (y ∷ filter p xs) (filter p xs))
-in_filter_at p x y xs true e (inl q) t r = inl q
-in_filter_at p x y xs true e (inr h) t r = inr (r h)
-in_filter_at p x y xs false e (inl q) t r = absurd (false≢true (sym e ∙ ap p q ∙ t))
-in_filter_at p x y xs false e (inr h) t r = r h
-
 in_filter : {X : Type 0} (p : X → Bool) (x : X) (xs : List X) → In x xs → p x ≡ true → In x (filter p xs)
 in_filter p x [] h t = absurd h
-in_filter p x (y ∷ xs) h t = in_filter_at p x y xs (p y) refl h t (λ k. in_filter p x xs k t)
-
-from_filter_at : {X : Type 0} (p : X → Bool) (x y : X) (xs : List X) (b : Bool) → p y ≡ b → In x (cond b (y ∷ filter p xs) (filter p xs)) → (In x (filter p xs) → In x xs × (p x ≡ true)) → In x (y ∷ xs) × (p x ≡ true)
-from_filter_at p x y xs true e (inl q) r = (inl q, ap p (sym q) ∙ e)
-from_filter_at p x y xs true e (inr h) r = (inr (r h).0, (r h).1)
-from_filter_at p x y xs false e h r = (inr (r h).0, (r h).1)
+in_filter p x (y ∷ xs) (inl e) t = rw (ap p e ∙ t) (inl e)
+in_filter p x (y ∷ xs) (inr h) t = elim (cases_Bool (p y)) [ inl f ↦ rw f (inr (in_filter p x xs h t)) | inr f ↦ rw f (in_filter p x xs h t) ]
 
 from_filter : {X : Type 0} (p : X → Bool) (x : X) (xs : List X) → In x (filter p xs) → In x xs × (p x ≡ true)
 from_filter p x [] h = absurd h
-from_filter p x (y ∷ xs) h = from_filter_at p x y xs (p y) refl h (λ k. from_filter p x xs k)
+from_filter p x (y ∷ xs) h = elim (cases_Bool (p y)) [
+  | inl f ↦ elim (rw f at h) [ inl q ↦ (inl q, ap p (sym q) ∙ f) | inr k ↦ (let r = from_filter p x xs k in (inr r.0, r.1)) ]
+  | inr f ↦ (let r = from_filter p x xs (rw f at h) in (inr r.0, r.1))
+]
+
+every : {X : Type 0} (P : X → Type 0) (xs : List X) → ((x : X) → In x xs → P x) → AllByRecursion P xs
+every P [] h = tt
+every P (x ∷ xs) h = (h x (inl refl), every P xs (λ y i. h y (inr i)))
 
 member : {X : Type 0} (P : X → Type 0) (xs : List X) (x : X) → AllByRecursion P xs → In x xs → P x
 member P [] x h i = absurd i
@@ -108,24 +104,14 @@ words_of p labels n (word ∷ words) h = (λ step q. word_of p labels word step 
 -- ---- compressed ones
 
 names_of : (labels : List (List ℕ)) (saves : ℕ) → AllByRecursion (IsOf labels) (nameable (map Named labels) saves)
-names_of labels saves = both (map Named labels) (map Saved (range_with_len 0 saves)) (all labels (λ l i. i)) (saved (range_with_len 0 saves))
-  where
-    all : (some : List (List ℕ)) → ((l : List ℕ) → In l some → In l labels) → AllByRecursion (IsOf labels) (map Named some)
-    all [] h = tt
-    all (l ∷ some) h = (h l (inl refl), all some (λ m i. h m (inr i)))
-
-    saved : (ns : List ℕ) → AllByRecursion (IsOf labels) (map Saved ns)
-    saved [] = tt
-    saved (n ∷ ns) = (tt, saved ns)
-
-    both : (xs ys : List Step) → AllByRecursion (IsOf labels) xs → AllByRecursion (IsOf labels) ys → AllByRecursion (IsOf labels) (xs ++ ys)
-    both [] ys f g = g
-    both (x ∷ xs) ys f g = (f.0, both xs ys f.1 g)
+names_of labels saves =
+    let saved : (n : ℕ) → In n (range_with_len 0 saves) → IsOf labels (Saved n) = λ n i. tt in
+    joined (IsOf labels) (map Named labels) (map Saved (range_with_len 0 saves))
+    (mapped (IsOf labels) Named labels (every (λ l. In l labels) labels (λ l i. i)))
+    (mapped (IsOf labels) Saved (range_with_len 0 saves) (every (λ n. IsOf labels (Saved n)) (range_with_len 0 saves) saved))
 
 got_of : (labels : List (List ℕ)) (names : List Step) (n : ℕ) (step : Step) → AllByRecursion (IsOf labels) names → named (slice_get names n) ≡ Ok step → IsOf labels step
-got_of labels [] n step h q = cc
-got_of labels (s ∷ names) zero step h q = let same : s ≡ step = cc in subst (λ (t : Step). IsOf labels t) same h.0
-got_of labels (s ∷ names) (suc n) step h q = got_of labels names n step h.1 q
+got_of labels names n step h q = grind (arith, common_steps, all_at (IsOf labels) names n step h) steps 200000
 
 groups_of : (labels : List (List ℕ)) (close : Spot) (saves : ℕ) (gs : List Group) → OfReadings (IsOf labels) (each_group (map Named labels) close saves gs)
 groups_of labels close saves [] = tt
@@ -157,17 +143,14 @@ steps_of p mandatory words close = by (is_compressed words) refl
     by true e = rw e (if_of _ (in_order (each_word (read_label p) 1 listed)) _ (letters (list_any is_close (drop 1 words))))
     by false e = rw e (of_order _ _ (words_of p (mandatory ++ filter is_label words) 0 words plain))
 
-only_steps : (P : Step → Type 0) (steps : List (Step × Spot)) → AllByRecursion (λ s. P s.0) steps → AllByRecursion P (map (λ (s : Step × Spot). s.0) steps)
-only_steps P [] h = tt
-only_steps P (s ∷ steps) h = (h.0, only_steps P steps h.1)
-
 -- each label that a decoded step names is that of a mandatory hypothesis, or one that the words name
 labels_of_steps : (p : Setting) (mandatory words : List (List ℕ)) (d : Decoded) → decoding p mandatory words ≡ Ok d → AllByRecursion (IsOf (mandatory ++ labels_named words)) d.steps
 labels_of_steps p mandatory words d e =
     let close = word_spot (length words) in
     let k = decoded_ok close (steps_in p mandatory words close) d e in
     let P = IsOf (mandatory ++ labels_named words) in
-    subst (λ (x : Decoded). AllByRecursion P x.steps) (sym k.2) (only_steps P k.0 (subst (OfSteps P) k.1 (steps_of p mandatory words close)))
+    subst (λ (x : Decoded). AllByRecursion P x.steps) (sym k.2)
+    (mapped P (λ (s : Step × Spot). s.0) k.0 (subst (OfSteps P) k.1 (steps_of p mandatory words close)))
 
 -- ---- words with their numbers
 
@@ -182,11 +165,7 @@ numbered_at n (y ∷ xs) w x (inl e) = (0, sym (ap (λ (z : ℕ × List ℕ). z.
 numbered_at n (y ∷ xs) w x (inr i) = let r = numbered_at (n + 1) xs w x i in (suc r.0, r.1 ∙ omega arith, r.2)
 
 get_take : (xs : List (List ℕ)) (n k : ℕ) (x : List ℕ) → slice_get (take n xs) k ≡ Some x → slice_get xs k ≡ Some x
-get_take [] zero k x e = e
-get_take [] (suc n) k x e = e
-get_take (y ∷ xs) zero k x e = cc
-get_take (y ∷ xs) (suc n) zero x e = e
-get_take (y ∷ xs) (suc n) (suc k) x e = get_take xs n k x e
+get_take xs n k x e = subst (λ w. slice_get w k ≡ Some x) (take-append-drop n xs) (kept_at (take n xs) (drop n xs) k x e)
 
 -- the same holds of a word with its number
 abbrev is_label_at : ℕ × List ℕ → Bool
@@ -210,11 +189,12 @@ label_there words w label i = grind (arith, common_steps, from_filter, get_take,
 in_firsts : (ws : List (ℕ × List ℕ)) (w : ℕ) (label : List ℕ) → In (w, label) ws → (v : ℕ) × In (v, label) (firsts ws)
 in_firsts [] w label i = absurd i
 in_firsts (a ∷ ws) w label (inl e) = (w, inl e)
-in_firsts (a ∷ ws) w label (inr i) = by (in_firsts ws w label i) (bytes_eq a.1 label) refl
-  where
-    by : (v : ℕ) × In (v, label) (firsts ws) → (b : Bool) → bytes_eq a.1 label ≡ b → (v : ℕ) × In (v, label) (firsts (a ∷ ws))
-    by r true e = let same : a.1 ≡ label = (bytes_eq-Decides a.1 label).0 e in (a.0, inl (λ i. (a.0, same i)))
-    by r false e = (r.0, inr (in_filter (λ other. not (bytes_eq a.1 other.1)) (r.0, label) (firsts ws) r.1 (ap not e)))
+in_firsts (a ∷ ws) w label (inr i) =
+    let r = in_firsts ws w label i in
+    elim (cases_Bool (bytes_eq a.1 label)) [
+      | inl e ↦ (let same = (bytes_eq-Decides a.1 label).0 e in (a.0, inl (λ i. (a.0, same i))))
+      | inr e ↦ (r.0, inr (in_filter (λ other. not (bytes_eq a.1 other.1)) (r.0, label) (firsts ws) r.1 (ap not e)))
+    ]
 
 from_firsts : (ws : List (ℕ × List ℕ)) (x : ℕ × List ℕ) → In x (firsts ws) → In x ws
 from_firsts [] x i = absurd i
@@ -233,11 +213,8 @@ named_by label s h = grind (arith, common_steps, bytes_eq-Decides, false≢true)
 
 names_any : (label : List ℕ) (steps : List Step) → list_any (names_assertion label) steps ≡ true → In (Named label) steps
 names_any label [] e = absurd (false≢true e)
-names_any label (s ∷ steps) e = by (names_assertion label s) refl e (λ h. names_any label steps h)
-  where
-    by : (b : Bool) → names_assertion label s ≡ b → (b || list_any (names_assertion label) steps) ≡ true → (list_any (names_assertion label) steps ≡ true → In (Named label) steps) → In (Named label) (s ∷ steps)
-    by true h w more = inl (named_by label s h)
-    by false h w more = inr (more w)
+names_any label (s ∷ steps) e =
+    elim (cases_Bool (names_assertion label s)) [ inl h ↦ inl (named_by label s h) | inr h ↦ inr (names_any label steps (rw h at e)) ]
 
 -- ---- the words that cite
 

@@ -1,22 +1,14 @@
 -- The decoding that the code has.
-use Rattle.std.proofs.{Common.{arith, ◌≡◌, ℕ, true, false, Ok, List, [], ◌∷◌, length, map, drop, refl, ap}, lemmas.Grind.{common_steps}}
+use Rattle.std.proofs.{Common.{arith, ◌≡◌, ℕ, true, false, Ok, List, length, map, drop, refl}, lemmas.{Grind.{common_steps}, Simd.{map-map}}}
 use Rattle.mm_machine.specs.{Language.{Frame.{Setting}, Expansion.{Step}, NamedSteps.{meant}, Verdict.{Decoded}}, declared.{Spot.{Spot}, step.ProofStep.{ProofStep}}}
 use Rattle.mm_verdict.specs.Language.{DecodedSteps.{TellsFault, label_table, word_step}, Decoding.{in_order, each_word, read_word, compressed_steps, is_compressed, word_spot, decoded, decoding}}
 use Rattle.mm_verdict.specs.{Code.Coded.{meant_steps, TellsSteps}, declared.undecoded.Undecoded.{Undecoded}}
-
-only_steps : (names : List Step) (steps : List ProofStep) → map (λ (step : Step × Spot). step.0) (meant_steps names steps) ≡ map (λ (step : ProofStep). meant names step.action) steps
-only_steps names [] = refl
-only_steps names (step ∷ steps) = ap (λ (w : List Step). meant names step.action ∷ w) (only_steps names steps)
-
-only_spots : (names : List Step) (steps : List ProofStep) → map (λ (step : Step × Spot). step.1) (meant_steps names steps) ≡ map (λ (step : ProofStep). step.spot) steps
-only_spots names [] = refl
-only_spots names (step ∷ steps) = ap (λ (w : List Spot). step.spot ∷ w) (only_spots names steps)
 
 abbrev made : List Step → List ProofStep → Spot → Decoded
 made names steps close = record { steps = map (λ (step : ProofStep). meant names step.action) steps; spots = map (λ (step : ProofStep). step.spot) steps; close = close }
 
 decoded_is : (names : List Step) (steps : List ProofStep) (close : Spot) → decoded close (Ok (meant_steps names steps)) ≡ Ok (made names steps close)
-decoded_is names steps close = rw (only_steps names steps, only_spots names steps) refl
+decoded_is names steps close = grind (arith, common_steps, map-map) steps 200000
 
 pub compressed_done :
     (place : Setting) (mandatory words : List (List ℕ)) (names : List Step) (steps : List ProofStep) → is_compressed words ≡ true →

@@ -1,6 +1,6 @@
 -- A proof that is decoded, and what a run says of it.
+use Rattle.std.proofs.Common.{rules, ◌≡◌, ℕ, zero, suc, ◌<◌, true, false, cond, Some, Ok, List, [], ◌∷◌, length, take, get_or, refl, sym, ◌∙◌, ap, subst, arith, inl, inr, slice_get, All, count_by}
 use Rattle.std.proofs.lemmas.{Grind.{common_steps, elements}, List.{take-map, length-take-le, Elements.{All-nil, All-cons}, Sums.{sum_by-cons}}, Option.{slice_get-map, slice_get_within}}
-use Rattle.std.proofs.Common.{◌≡◌, ℕ, zero, suc, ◌<◌, true, false, cond, Some, Ok, List, [], ◌∷◌, length, take, get_or, refl, sym, ◌∙◌, ap, subst, arith, inl, inr, slice_get, All, count_by}
 use Rattle.std.specs.Option.{option_map}
 use Rattle.mm_frame.specs.{declared.base.{Base.{Base}, Resolved.{Resolved}}, Language.{Base.{BaseView, before, said_at, is_framed_at}, Framing.{mandatory_numbers}, Answering.{IsBase}}}
 use Rattle.mm_machine.specs.Language.{Frame.{Symbol, Setting}, Expansion.{Step, Saved, NotKnown}, Machine.{AreDecoded, is_save}, Run.{AreDone}}
@@ -9,7 +9,7 @@ use Rattle.mm_machine.specs.declared.{step.ProofStep.{ProofStep}, stepping.Outco
 use Rattle.mm_verdict.specs.Language.{BaseLabels.{AreActive, setting_at}, DecodingLaws.{DecodesSurely, MandatoryAreActive}, VerdictAt.{mandatory_labels}}
 use Rattle.mm_verdict.specs.{Language.DecodedSteps.{decoded_steps, decoding_of, AreEntries, entry_steps, label_table, labels_at}, Code.{Decoded.{WhereActive}, Judged.{IsDecoding, IsTheorem, done_by}}}
 use Rattle.mm_verdict.{specs.{Code.{NamedItems.{IsNamedBy}, UsedLabels.{IsPart}}, declared.reading.Decoding.{Decoding}}, proofs.lemmas.base.FrameLemmas.{framed_proof}}
-use Rattle.mm_verdict.proofs.lemmas.{verdicts.ItemLemmas.{active_usable}, machine.UsedLemmas.{part_entries}}
+use Rattle.mm_verdict.proofs.lemmas.{verdicts.ItemLemmas.{active_usable}, machine.UsedLemmas.{part_entries}, decoding.ReadOnLemmas.{parts}}
 use Rattle.mm_machine.specs.declared.step.Action.TheVariants as actions
 
 -- ---- entries
@@ -71,8 +71,6 @@ decoded code i proof d numbers view theorem mandatory active ok entries table = 
 pub done_says : PartsAreRun → (place : Setting) (statement : List Symbol) (steps : List Step) (outcome : Outcome) → RunSays place steps statement outcome → AreDone place steps (done_by (length steps) outcome)
 done_says parts place statement steps Proved r = inr ((statement ∷ [], rw (parts.known steps r.0) r.1), sym (ap length (parts.known steps r.0)))
 done_says parts place statement steps (Fault number n) r = inl (n, number, r, refl)
-done_says parts place statement steps (Unknown n) r =
-    let l = slice_get_within steps n NotKnown r.0.0 in
-    inr (r.1, sym (ap length (parts.unknown steps n r.0) ∙ length-take-le n steps (omega arith)))
+done_says parts place statement steps (Unknown n) r = search (rules, length-take-le, slice_get_within) steps 200000
 done_says parts place statement steps NotOne r = inr ((r.1, rw (parts.known steps r.0) r.2), sym (ap length (parts.known steps r.0)))
 done_says parts place statement steps Other r = inr ((r.1 ∷ [], rw (parts.known steps r.0) r.2), sym (ap length (parts.known steps r.0)))

@@ -2,10 +2,10 @@
 use Rattle.std.proofs.{Common.{arith, ◌≡◌, true, Option, List, [], ◌∷◌, ◌++◌, refl, sym, ap, ◌∙◌, inl, inr, append_assoc, append-nil, flat_map, option_to_list, ◌↔◌}, lemmas.Grind.{common_steps}}
 use Rattle.std.proofs.lemmas.Bool.{cases_Bool}
 use Rattle.mm_verdict.specs.Language.{Numbers.{is_digit}, Letters.{Letter, Group, cut_group, groups_behind, groups, group_letters, AreDigits, EndsGroup, AreGroups, IsDivided}}
+use Rattle.mm_verdict.proofs.lemmas.lists.Every.{joined}
 
 pub digits_more : (ds : List Letter) (l : Letter) → AreDigits ds → is_digit l.byte ≡ true → AreDigits (ds ++ l ∷ [])
-digits_more [] l all e = (e, tt)
-digits_more (d ∷ ds) l all e = (all.0, digits_more ds l all.1 e)
+digits_more ds l all e = joined (λ (letter : Letter). is_digit letter.byte ≡ true) ds (l ∷ []) all (e, tt)
 
 joined_behind : (ds ls : List Letter) → flat_map group_letters (groups_behind ds ls) ≡ ds ++ ls
 joined_behind [] [] = refl

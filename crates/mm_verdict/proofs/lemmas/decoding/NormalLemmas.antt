@@ -1,12 +1,12 @@
 -- A normal proof as the code reads it.
-use Rattle.std.proofs.lemmas.{Grind.{common_steps}, List.{append-nil, map-append, length-append, length-map, map_more, take_all}, Bool.{cases_Bool}}
+use Rattle.std.proofs.lemmas.{Grind.{common_steps}, List.{append-nil, map-append, length-append, length-map, map_more, take_all, drop_more}, Bool.{cases_Bool}}
 use Rattle.std.proofs.Common.{◌≡◌, ℕ, ◌+◌, ◌<◌, ◌≤◌, Result, Ok, List, [], ◌∷◌, ◌++◌, length, map, drop, get_or, refl, sym, ap, ◌∙◌, append_assoc, arith, bytes_eq, codes}
 use Rattle.std.proofs.Math.ListN.{drop_of_length-le}
 use Rattle.mm_machine.specs.{Language.{Frame.{Setting}, Expansion.{Step}, NamedSteps.{meant}}, declared.{Spot.{Spot}, ProofNumber.{ProofNumber}, step.{Action.{Action}, ProofStep.{ProofStep}}}}
 use Rattle.mm_frame.specs.{Language.Base.{BaseView}, declared.base.Resolved.{Resolved}}
 use Rattle.mm_verdict.specs.Language.{BaseLabels.{setting_at}, DecodedSteps.{entry_step, entry_steps, IsEntry, word_step}, Decoding.{read_first, in_order, each_word, read_word, word_spot}}
 use Rattle.mm_verdict.specs.{Code.{Coded.{TellsSteps, meant_steps}, Labels.{TellsWord, Normal}, LeftToRight.{with_steps}}, declared.undecoded.Undecoded.{Undecoded}}
-use Rattle.mm_verdict.proofs.lemmas.decoding.{SureLemmas.{usable_is}, ReaderLemmas.{next_is, with_one, meant_more}, TableLemmas.{entries_more}}
+use Rattle.mm_verdict.proofs.lemmas.{decoding.{SureLemmas.{usable_is}, ReaderLemmas.{with_one, meant_more}}, lists.Every.{joined}}
 use Rattle.mm_verdict.specs.declared.undecoded.Undecoded.TheVariants as errors
 
 count_more : (labels : List Resolved) (n : ℕ) (meaning : Resolved) → length labels ≡ n → length (labels ++ meaning ∷ []) ≡ n + 1
@@ -25,7 +25,7 @@ module _ (view : BaseView) (i : ℕ) (words : List (List ℕ)) (n : ℕ) (labels
       with_steps (meant_steps (entry_steps view labels ++ more) steps) (read_first (word_spot n) (read_word (setting_at view i) word)
       (in_order (each_word (read_word (setting_at view i)) (n + 1) (drop (n + 1) words)))) ≡ in_order (each_word (read_word (setting_at view i)) 0 words)
   by_word word more less is = ap (λ (w : List (List ℕ)). with_steps (meant_steps (entry_steps view labels ++ more) steps)
-      (in_order (each_word (read_word (setting_at view i)) n w))) (ap (λ (w : List ℕ). w ∷ drop (n + 1) words) is ∙ sym (next_is words n [] less)) ∙
+      (in_order (each_word (read_word (setting_at view i)) n w))) (ap (λ (w : List ℕ). w ∷ drop (n + 1) words) is ∙ sym (drop_more words n [] less)) ∙
       normal.rest more
 
   -- one more word
@@ -36,7 +36,7 @@ module _ (view : BaseView) (i : ℕ) (words : List (List ℕ)) (n : ℕ) (labels
       IsEntry view i meaning → Normal view i words (n + 1) (labels ++ meaning ∷ []) (steps ++ record { action = action; spot = word_spot n } ∷ [])
   word_on word meaning action less is read acts entry = record {
     count = count_more labels n meaning normal.count;
-    entries = entries_more view i labels meaning normal.entries entry;
+    entries = joined (IsEntry view i) labels (meaning ∷ []) normal.entries (entry, tt);
     table = map-append (entry_step view) labels (meaning ∷ []) ∙ rw (normal.table, ← is_word (setting_at view i) word (entry_step view meaning) read, is) (sym (map_more word_step words n [] less));
     rest = λ more.
         let names = entry_steps view labels ++ entry_step view meaning ∷ more in

@@ -3,6 +3,7 @@ use Rattle.std.proofs.lemmas.{Grind.{common_steps}, Bool.{and_parts, leb-true, l
 use Rattle.std.proofs.{Common.{◌≡◌, ℕ, zero, suc, ◌+◌, ◌-◌, ◌*◌, ◌/◌, ◌%◌, ◌^◌, ◌<◌, ◌≤◌, true, List, [], ◌∷◌, ◌++◌, length, map, refl, sym, ap, ◌∙◌, arith, inl, inr, ◌⊎◌}, Math.Nat.{pow-succ'}}
 use Rattle.std.specs.List.{AllByRecursion}
 use Rattle.mm_verdict.{specs.Language.{Numbers.{in_base_five, is_digit, is_last, digit_worth, value_of}, DecodingLaws.{IsWrittenNumber}}, proofs.lemmas.base.StoodLemmas.{longer_by_one}}
+use Rattle.mm_verdict.proofs.lemmas.lists.Every.{joined}
 
 power_more : (ds : List ℕ) (d : ℕ) → 5 ^ length (ds ++ d ∷ []) ≡ 5 * 5 ^ length ds
 power_more ds d = rw (longer_by_one ds d) (pow-succ' 5 (length ds))
@@ -69,10 +70,6 @@ apart_within (suc n) ds es few a b same = elim (has_last ds) [
 pub digits_apart : (ds es : List ℕ) → AreWorth ds → AreWorth es → in_base_five ds ≡ in_base_five es → ds ≡ es
 digits_apart ds es a b same = apart_within (length ds) ds es (omega arith) a b same
 
-worth_more : (front : List ℕ) (d : ℕ) → AreWorth front → IsWorth d → AreWorth (front ++ d ∷ [])
-worth_more [] d all is = (is, tt)
-worth_more (x ∷ front) d all is = (all.0, worth_more front d all.1 is)
-
 abbrev Writes : ℕ → List ℕ → Type 0
 Writes n ds = AreWorth ds × (in_base_five ds ≡ n)
 
@@ -82,7 +79,7 @@ written_within (suc fuel) zero few = ([], (tt, refl))
 written_within (suc fuel) (suc n) few =
     let front = written_within fuel (n / 5) (omega arith) in
     let e = base_five_more front.0 (n % 5 + 1) in
-    (front.0 ++ (n % 5 + 1) ∷ [], (worth_more front.0 (n % 5 + 1) front.1.0 (omega arith, omega arith), (omega (arith, front.1.1))))
+    (front.0 ++ (n % 5 + 1) ∷ [], (joined IsWorth front.0 ((n % 5 + 1) ∷ []) front.1.0 ((omega arith, omega arith), tt), (omega (arith, front.1.1))))
 
 -- each number has digits
 pub written : (n : ℕ) → (ds : List ℕ) × Writes n ds

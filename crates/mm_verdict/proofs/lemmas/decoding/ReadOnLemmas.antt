@@ -1,7 +1,7 @@
 -- Letters read on over the ends of words.
-use Rattle.std.{specs.List.{before_first, list_any, prefix_len, enumerate_from, after_first}, proofs.lemmas.{Grind.{common_steps}, Bool.{cases_Bool, or_parts}, List.{map-append}}}
-use Rattle.std.proofs.Common.{◌≡◌, ℕ, suc, ◌+◌, Bool, false, not, cond, Some, Result, Ok, Err, List, [], ◌∷◌, ◌++◌, length, map, drop, refl, sym, ap, ◌∙◌, arith, inl, inr, add-one, flat_map, codes}
-use Rattle.std.proofs.Math.Seq.{take-append_seam}
+use Rattle.std.proofs.Common.{rules, ◌≡◌, ℕ, suc, ◌+◌, Bool, false, not, cond, Some, Result, Ok, Err, List, [], ◌∷◌, ◌++◌, length, map, drop, refl, sym, ap, ◌∙◌, arith, inl, inr, add-one, flat_map}
+use Rattle.std.proofs.{Common.{codes}, lemmas.{Grind.{common_steps}, Bool.{cases_Bool, or_parts}, List.{map-append}}, Math.Seq.{take-append_seam}}
+use Rattle.std.specs.List.{before_first, list_any, prefix_len, enumerate_from, after_first}
 use Rattle.mm_machine.specs.{Language.{Frame.{Setting}, Expansion.{Step, Named, Save, NotKnown}}, declared.{Spot.{Spot}, ProofNumber.{ProofNumber, TheVariants.{P03}}}}
 use Rattle.mm_verdict.specs.Language.{Numbers.{is_digit}, Letters.{Letter, Group, letters_in, letters_from, cut_group, groups_behind, groups}}
 use Rattle.mm_verdict.specs.Language.Decoding.{Steps, in_order, alone, read_letter, each_group, is_close, compressed_steps, letter_steps, if_read, each_word, read_label, decoding, word_spot}
@@ -103,7 +103,4 @@ pub reads_on :
     (place : Setting) (mandatory listed some others : List (List ℕ)) →
     list_any is_close listed ≡ false → flat_map (λ word. word) some ≡ flat_map (λ word. word) others →
     without_spots (decoding place mandatory (compressed_words listed some)) ≡ without_spots (decoding place mandatory (compressed_words listed others))
-reads_on place mandatory listed some others e f =
-    told_words place mandatory listed some e
-    ∙ told_if (in_order (each_word (read_label place) 1 listed)) _ _ (letters_same mandatory listed (length listed + 2) _ _ some others f)
-    ∙ sym (told_words place mandatory listed others e)
+reads_on place mandatory listed some others e f = search (rules, letters_same, told_if, told_words) steps 200000

@@ -1,6 +1,6 @@
 -- The reader of letters, letter by letter.
-use Rattle.std.proofs.Common.{arith, ◌≡◌, ℕ, ◌+◌, Bool, false, ◌==◌, cond, Result, Ok, List, [], ◌∷◌, ◌++◌, map, refl, ap, ne_eqb, ◌<◌, length, get_or, drop, add-one, drop-cons, IfErr}
-use Rattle.std.{proofs.lemmas.{Grind.{common_steps}, List.{map-append}}, specs.List.{enumerate_from}}
+use Rattle.std.proofs.Common.{rules, arith, ◌≡◌, ℕ, ◌+◌, Bool, false, ◌==◌, cond, Result, Ok, List, [], ◌∷◌, ◌++◌, map, refl, ap, ne_eqb, ◌<◌, length, get_or, drop, IfErr}
+use Rattle.std.{proofs.lemmas.{Grind.{common_steps}, List.{map-append, drop_more}}, specs.List.{enumerate_from}}
 use Rattle.mm_machine.specs.{Language.{Expansion.{Step}, NamedSteps.{meant}}, declared.{Spot.{Spot}, ProofNumber.{ProofNumber}, step.{Action.{Action}, ProofStep.{ProofStep}}}}
 use Rattle.mm_verdict.specs.{Language.{Numbers.{is_digit}, Letters.{Letter, letter_at}, Decoding.{Steps, with_step, nameable, word_spot}}, Code.LeftToRight.{read_behind, read_on, with_steps}}
 use Rattle.mm_verdict.specs.Code.{Coded.{meant_steps, letters_give}, Reader.{Aim}}
@@ -22,8 +22,7 @@ pub step_rest :
     more ≡ steps ++ record { action = action; spot = spot } ∷ [] → next ≡ cond (byte == 90) (saves + 1) saves →
     with_steps (meant_steps names steps) (read_on names close saves n (record { byte = byte; spot = spot } ∷ ls)) ≡ total →
     with_steps (meant_steps names more) (read_on names close next 0 ls) ≡ total
-step_rest names close total saves n byte spot action ls steps more next other says more_is next_is rest =
-    rw (more_is, next_is, meant_more names steps action spot, with_one (meant_steps names steps) (meant names action) spot (read_on names close (cond (byte == 90) (saves + 1) saves) 0 ls)) (rw (other, ← says) at rest)
+step_rest names close total saves n byte spot action ls steps more next other says more_is next_is rest = search (rules, meant_more, with_one) steps 200000
 
 not_saved : (b : Bool) (saves : ℕ) → b ≡ false → saves ≡ cond b (saves + 1) saves
 not_saved b saves e = rw e refl
@@ -31,16 +30,12 @@ not_saved b saves e = rw e refl
 pub no_save : (byte saves : ℕ) → (byte ≡ 90 → ⊥) → saves ≡ cond (byte == 90) (saves + 1) saves
 no_save byte saves other = not_saved (byte == 90) saves (ne_eqb byte 90 other)
 
--- the next element of a list, and those after it
-pub next_is : {X : Type 0} (xs : List X) (k : ℕ) (d : X) → k < length xs → drop k xs ≡ get_or xs k d ∷ drop (k + 1) xs
-next_is xs k d less = rw (add-one) (drop-cons xs k d less)
-
 -- the letters of a word from the k-th on
 abbrev pub letters_on : ℕ → ℕ → List ℕ → List Letter
 letters_on n k word = map (letter_at n) (enumerate_from k (drop k word))
 
 pub letter_more : (n k : ℕ) (word : List ℕ) → k < length word → letters_on n k word ≡ record { byte = get_or word k 0; spot = record { word = n; letter = k } } ∷ letters_on n (k + 1) word
-letter_more n k word less = ap (λ (w : List ℕ). map (letter_at n) (enumerate_from k w)) (next_is word k 0 less)
+letter_more n k word less = ap (λ (w : List ℕ). map (letter_at n) (enumerate_from k w)) (drop_more word k 0 less)
 
 -- what the reader is to give for the letters of a proof
 abbrev pub aim_of : List Step → List (List ℕ) → ℕ → Aim

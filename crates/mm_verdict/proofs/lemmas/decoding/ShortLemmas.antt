@@ -1,10 +1,9 @@
 -- There are at most as many steps as bytes.
-use Rattle.std.proofs.lemmas.{Grind.{common_steps}, Bool.{cases_Bool}, List.{length-map, length-append}}
-use Rattle.std.proofs.Common.{◌≡◌, ℕ, suc, ◌+◌, ◌<◌, ◌≤◌, cond, Result, Ok, List, [], ◌∷◌, ◌++◌, length, map, drop, refl, sym, ap, ◌∙◌, arith, inl, inr, flat_map}
-use Rattle.std.specs.List.{AllByRecursion, list_any, before_first, after_first}
-use Rattle.mm_verdict.specs.Language.Decoding.{Reading, in_order, each_word, read_label, read_word, each_group, is_save_letter, is_close, is_compressed, compressed_steps, letter_steps, steps_in}
-use Rattle.mm_verdict.specs.Language.{Decoding.{word_spot, decoding}, Letters.{Letter, Group, cut_group, groups_behind, groups, letters_from}, Numbers.{is_digit}}
-use Rattle.mm_verdict.proofs.lemmas.decoding.{OrderLemmas.{read_ok}, ReadOnLemmas.{bytes_from}, SureLemmas.{read_behind, decoded_ok}}
+use Rattle.std.proofs.{Common.{rules, ◌≡◌, ℕ, suc, ◌+◌, ◌<◌, ◌≤◌, cond, Result, Ok, List, [], ◌∷◌, ◌++◌, length, map, drop, refl, sym, ap, ◌∙◌, arith, inl, inr, flat_map}, lemmas.Grind.{common_steps}}
+use Rattle.std.{proofs.lemmas.{Bool.{cases_Bool}, List.{length-map, length-append}}, specs.List.{AllByRecursion, list_any, before_first, after_first}}
+use Rattle.mm_verdict.specs.Language.Decoding.{Reading, in_order, each_word, read_label, each_group, is_save_letter, is_close, compressed_steps, letter_steps, steps_in, decoding}
+use Rattle.mm_verdict.{specs.Language.{Letters.{Letter, Group, cut_group, groups_behind, groups, letters_from}, Numbers.{is_digit}}, proofs.lemmas.decoding.OrderLemmas.{read_ok}}
+use Rattle.mm_verdict.proofs.lemmas.decoding.{ReadOnLemmas.{bytes_from}, SureLemmas.{read_behind, decoded_ok}}
 use Rattle.mm_machine.specs.{Language.{Expansion.{Step, Named}, Frame.{Setting}, Verdict.{Decoded}}, declared.{Spot.{Spot}, ProofNumber.{ProofNumber}}}
 
 abbrev bytes_of : List (List ℕ) → ℕ
@@ -60,12 +59,7 @@ compressed_short place mandatory words close steps e =
     ]
 
 steps_short : (place : Setting) (mandatory words : List (List ℕ)) (close : Spot) (steps : List (Step × Spot)) → AllByRecursion (λ word. 0 < length word) words → steps_in place mandatory words close ≡ Ok steps → length steps ≤ bytes_of words
-steps_short place mandatory words close steps all e =
-    grind (arith, common_steps, cases_Bool (is_compressed words), behind_short 1 words, words_length (read_word place) 0 words, words_short words all, compressed_short, order_length) steps 200000
+steps_short place mandatory words close steps all e = search (rules, behind_short, compressed_short, order_length, words_length, words_short) steps 200000
 
 pub decodes_short : (place : Setting) (mandatory words : List (List ℕ)) (d : Decoded) → AllByRecursion (λ word. 0 < length word) words → decoding place mandatory words ≡ Ok d → length d.steps ≤ length (flat_map (λ word. word) words)
-decodes_short place mandatory words d all e =
-    let s = decoded_ok (word_spot (length words)) (steps_in place mandatory words (word_spot (length words))) d e in
-    let t = steps_short place mandatory words (word_spot (length words)) s.0 all s.1 in
-    let k : length d.steps ≡ length s.0 = ap (λ (w : Decoded). length w.steps) s.2 ∙ length-map s.0 (λ (step : Step × Spot). step.0) in
-    omega arith
+decodes_short place mandatory words d all e = search (rules, decoded_ok, length-map, steps_short) steps 200000

@@ -1,24 +1,13 @@
 -- The spots that decoding gives are in the words of the proof, and so is that of the verdict.
 use Rattle.std.proofs.lemmas.{Grind.{common_steps}, Bool.{cases_Bool}, List.Folds.{length-prefix_len}}
-use Rattle.std.proofs.Common.{◌≡◌, ℕ, true, zero, suc, ◌+◌, ◌<◌, ◌≤◌, cond, Some, Result, Ok, Err, List, [], ◌∷◌, ◌++◌, length, map, drop, sym, ap, ◌∙◌, subst, arith, inl, inr, slice_get}
-use Rattle.std.{proofs.Common.{slice_index_or, not, length-take, length-drop, drop-drop}, specs.List.{AllByRecursion, list_any, prefix_len, enumerate_from, before_first, after_first}}
+use Rattle.std.proofs.Common.{◌≡◌, ℕ, true, zero, suc, ◌+◌, ◌<◌, ◌≤◌, cond, Result, Ok, Err, List, [], ◌∷◌, ◌++◌, length, map, drop, sym, ap, ◌∙◌, subst, arith, inl, inr, slice_index_or, not}
+use Rattle.std.{proofs.Common.{length-take, length-drop, drop-drop}, specs.List.{AllByRecursion, list_any, prefix_len, enumerate_from, before_first, after_first}}
 use Rattle.mm_frame.specs.Language.Base.{BaseView, said_at}
 use Rattle.mm_machine.specs.{Language.{Frame.{Symbol, Setting}, Expansion.{Step, Named}, Verdict.{Decoded, IsVerdict, IsWrongBy}}, declared.ProofNumber.{ProofNumber, TheVariants.{P14, P15}}}
 use Rattle.mm_machine.specs.declared.{Spot.{Spot}, Verdict.{Verdict, TheVariants.{Proved, Incomplete, Wrong}}, step.ProofFault.{ProofFault}}
-use Rattle.mm_verdict.specs.Language.BaseLabels.{setting_at}
-use Rattle.mm_verdict.specs.Language.Decoding.{Reading, Steps, read_first, in_order, each_word, read_label, read_word, each_group, group_spot, is_save_letter, is_close, is_compressed}
-use Rattle.mm_verdict.specs.Language.{Decoding.{compressed_steps, if_read, steps_in, word_spot, decoded}, ItemLaws.{IsSpotIn, TellsSpotIn}}
-use Rattle.mm_verdict.specs.Language.{Letters.{Letter, letter_at, letters_in, letters_from, Group, cut_group, groups_behind}, Numbers.{is_digit}}
-use Rattle.mm_verdict.specs.Language.VerdictAt.{mandatory_labels, statement_at, decoding_at, IsVerdictAt}
-
-all_at : {X : Type 0} (P : X → Type 0) (xs : List X) (n : ℕ) (x : X) → AllByRecursion P xs → slice_get xs n ≡ Some x → P x
-all_at P [] n x a e = cc
-all_at P (y ∷ ys) zero x a e = let k : y ≡ x = cc in subst P k a.0
-all_at P (y ∷ ys) (suc n) x a e = all_at P ys n x a.1 e
-
-joined : {X : Type 0} (P : X → Type 0) (xs ys : List X) → AllByRecursion P xs → AllByRecursion P ys → AllByRecursion P (xs ++ ys)
-joined P [] ys a b = b
-joined P (x ∷ xs) ys a b = (a.0, joined P xs ys a.1 b)
+use Rattle.mm_verdict.specs.Language.Decoding.{Reading, Steps, read_first, in_order, each_word, read_label, each_group, group_spot, is_save_letter, is_close, is_compressed, compressed_steps, if_read}
+use Rattle.mm_verdict.specs.Language.{Decoding.{steps_in, word_spot, decoded}, ItemLaws.{IsSpotIn, TellsSpotIn}, Letters.{Letter, letter_at, letters_in, letters_from, Group, cut_group, groups_behind}}
+use Rattle.mm_verdict.{specs.Language.{Numbers.{is_digit}, VerdictAt.{IsVerdictAt}}, proofs.lemmas.lists.Every.{all_at, joined, mapped}}
 
 -- what is left from a word on begins with it
 begins : (words : List (List ℕ)) (n : ℕ) (word : List ℕ) (rest : List (List ℕ)) → drop n words ≡ word ∷ rest → (slice_index_or words n [] ≡ word) × (drop (suc n) words ≡ rest) × (n < length words)
@@ -123,26 +112,19 @@ module _ (words : List (List ℕ)) where
       ])
 
   steps_are_in : (place : Setting) (mandatory : List (List ℕ)) → StepsIn (steps_in place mandatory words close)
-  steps_are_in place mandatory = elim (cases_Bool (is_compressed words)) [
-    | inl is ↦ rw is (compressed_in place mandatory (some_words words is))
-    | inr normal ↦ rw normal (order_in (each_word (read_word place) 0 words) (each_in (read_word place) 0 words (omega arith)))
-  ]
+  steps_are_in place mandatory = grind (arith, common_steps, compressed_in, each_in, order_in, some_words) steps 200000
 
   -- ---- what decoding gives, and the verdict on it
 
   abbrev AreSpotsIn : List Spot → Type 0
   AreSpotsIn spots = AllByRecursion (λ spot. IsSpotIn words spot) spots
 
-  spots_of : (steps : List (Step × Spot)) → AllByRecursion (λ step. IsSpotIn words step.1) steps → AreSpotsIn (map (λ step. step.1) steps)
-  spots_of [] all = tt
-  spots_of (step ∷ steps) all = (all.0, spots_of steps all.1)
-
   abbrev IsDecodedIn : Result Decoded ProofFault → Type 0
   IsDecodedIn (Ok d) = AreSpotsIn d.spots × IsSpotIn words d.close
   IsDecodedIn (Err fault) = IsSpotIn words fault.spot
 
   decoded_in : (steps : Steps) → StepsIn steps → IsDecodedIn (decoded close steps)
-  decoded_in (Ok steps) all = (spots_of steps all, end_in)
+  decoded_in (Ok steps) all = (mapped (λ spot. IsSpotIn words spot) (λ step. step.1) steps all, end_in)
   decoded_in (Err fault) is = is
 
   wrong_in : (place : Setting) (statement : List Symbol) (d : Decoded) (number : ProofNumber) (spot : Spot) → IsDecodedIn (Ok d) → IsWrongBy place statement d number spot → IsSpotIn words spot
@@ -157,7 +139,4 @@ module _ (words : List (List ℕ)) where
   judged_in place statement (Ok d) (Wrong number spot) all v = wrong_in place statement d number spot all v
 
 pub spots_at : (view : BaseView) (i : ℕ) (v : Verdict) → IsVerdictAt view i v → TellsSpotIn (said_at view i).proof v
-spots_at view i v is =
-    let words = (said_at view i).proof in
-    judged_in words (setting_at view i) (statement_at view i) (decoding_at view i) v
-    (decoded_in words (steps_in (setting_at view i) (mandatory_labels view i) words (word_spot (length words))) (steps_are_in words (setting_at view i) (mandatory_labels view i))) is
+spots_at view i v is = grind (arith, common_steps, decoded_in, judged_in, steps_are_in) steps 200000

@@ -1,12 +1,12 @@
 -- What decoding makes sure of.
-use Rattle.std.proofs.lemmas.{Grind.{common_steps}, Bool.{cases_Bool}}
-use Rattle.std.proofs.Common.{◌≡◌, ℕ, zero, suc, ◌+◌, ◌<◌, Bool, true, false, ◌==◌, Option, Some, Result, Ok, List, [], ◌∷◌, ◌++◌, length, map, refl, ap, arith, subst, cond, slice_get, bytes_eq}
-use Rattle.std.{proofs.Common.{codes}, specs.List.{AllByRecursion, range_with_len}}
+use Rattle.std.proofs.lemmas.{Grind.{common_steps}, Bool.{cases_Bool}, List.{length-map}}
+use Rattle.std.proofs.Common.{◌≡◌, ℕ, zero, suc, ◌+◌, ◌<◌, Bool, true, false, ◌==◌, Option, Some, Result, Ok, List, [], ◌∷◌, ◌++◌, length, map, refl, arith, subst, cond, slice_get, bytes_eq, codes}
+use Rattle.std.{proofs.Common.{sym, ◌∙◌}, specs.List.{AllByRecursion, range_with_len}}
 use Rattle.mm_machine.specs.Language.{Frame.{Resolved, Setting}, Expansion.{Step, Named, Saved, Save, NotKnown}, Machine.{IsUsable, AreDecoded, AreDecodedAfter}, Verdict.{Decoded}}
 use Rattle.mm_machine.specs.{Language.RunLaws.{SureByCounting}, declared.{Spot.{Spot}, ProofNumber.{ProofNumber}}}
 use Rattle.mm_verdict.specs.Language.Letters.{Letter, Group}
 use Rattle.mm_verdict.specs.Language.Decoding.{Steps, in_order, usable, read_label, read_word, each_word, nameable, read_letter, read_group, group_spot, is_save_letter, each_group, is_compressed}
-use Rattle.mm_verdict.{specs.Language.Decoding.{steps_in, word_spot, decoded, decoding, if_read}, proofs.lemmas.decoding.OrderLemmas.{read_ok}}
+use Rattle.mm_verdict.{specs.Language.Decoding.{steps_in, word_spot, decoded, decoding, if_read}, proofs.lemmas.{decoding.OrderLemmas.{read_ok}, lists.Every.{joined, mapped}}}
 
 abbrev step_list : List (Step × Spot) → List Step
 step_list steps = map (λ step. step.0) steps
@@ -14,16 +14,13 @@ step_list steps = map (λ step. step.0) steps
 -- a label that can be used
 abbrev pub IsSure : Setting → Step → Type 0
 IsSure place (Named label) = IsUsable (place.resolve label)
-IsSure place (Saved n) = ⊥
-IsSure place Save = ⊥
-IsSure place NotKnown = ⊥
+IsSure place _ = ⊥
 
 -- a step of a normal proof
 abbrev IsWord : Setting → Step → Type 0
 IsWord place (Named label) = IsUsable (place.resolve label)
-IsWord place (Saved n) = ⊥
-IsWord place Save = ⊥
 IsWord place NotKnown = Unit {0}
+IsWord place _ = ⊥
 
 abbrev AreSure : Setting → List Step → Type 0
 AreSure place steps = AllByRecursion (IsSure place) steps
@@ -62,9 +59,7 @@ list_sure place n (word ∷ words) steps e =
     ((usable_is word (place.resolve word) r.0 r.2).1, list_sure place (n + 1) words r.1 r.3)
 
 all_sure : (place : Setting) (some more : List (List ℕ)) → AllByRecursion (λ label. IsUsable (place.resolve label)) some → AllByRecursion (λ label. IsUsable (place.resolve label)) more → AreSure place (map Named (some ++ more))
-all_sure place [] [] a b = tt
-all_sure place [] (label ∷ more) a b = (b.0, all_sure place [] more a b.1)
-all_sure place (label ∷ some) more a b = (a.0, all_sure place some more a.1 b)
+all_sure place some more a b = mapped (IsSure place) Named (some ++ more) (joined (λ label. IsUsable (place.resolve label)) some more a b)
 
 saved_at : (from saves k : ℕ) (step : Step) → slice_get (map Saved (range_with_len from saves)) k ≡ Some step → (n : ℕ) × (step ≡ Saved n) × (n < from + saves)
 saved_at from zero k step e = cc
@@ -105,8 +100,7 @@ pub decoded_ok : (close : Spot) (s : Steps) (d : Decoded) → decoded close s �
 decoded_ok close s d e = grind (arith, common_steps) steps 200000
 
 same_count : (steps : List (Step × Spot)) → length (map (λ (step : Step × Spot). step.1) steps) ≡ length (map (λ (step : Step × Spot). step.0) steps)
-same_count [] = refl
-same_count (step ∷ steps) = ap suc (same_count steps)
+same_count steps = length-map steps (λ (step : Step × Spot). step.1) ∙ sym (length-map steps (λ (step : Step × Spot). step.0))
 
 pub decodes_surely : SureByCounting → (place : Setting) (mandatory words : List (List ℕ)) (d : Decoded) → AllByRecursion (λ label. IsUsable (place.resolve label)) mandatory
     → decoding place mandatory words ≡ Ok d → AreDecoded place d.steps × (length d.spots ≡ length d.steps)

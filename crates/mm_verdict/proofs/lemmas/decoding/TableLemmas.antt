@@ -1,18 +1,15 @@
 -- The list of labels as the code reads it.
-use Rattle.std.proofs.Common.{arith, ◌≡◌, ℕ, ◌+◌, ◌<◌, ◌≤◌, true, false, Ok, Err, List, [], ◌∷◌, ◌++◌, length, map, drop, get_or, refl, sym, ap, ◌∙◌, subst, append_assoc}
-use Rattle.std.{proofs.{lemmas.{Grind.{common_steps}, List.{append-nil, map-append}}, Math.ListN.{drop_of_length-le}}, specs.List.{before_first}}
+use Rattle.std.proofs.lemmas.{Grind.{elements, common_steps}, List.{append-nil, map-append, drop_more}, Simd.{map-map}}
+use Rattle.std.proofs.Common.{rules, arith, ◌≡◌, ℕ, ◌+◌, ◌<◌, ◌≤◌, true, false, Ok, Err, List, [], ◌∷◌, ◌++◌, length, map, drop, get_or, refl, sym, ap, ◌∙◌, subst, append_assoc}
+use Rattle.std.{proofs.Math.ListN.{drop_of_length-le}, specs.List.{before_first}}
 use Rattle.mm_machine.specs.{Language.Expansion.{Step, Named}, declared.{step.ProofStep.{ProofStep}, ProofNumber.TheVariants.{P03}}}
 use Rattle.mm_frame.specs.{Language.Base.{BaseView}, declared.base.Resolved.{Resolved}}
 use Rattle.mm_verdict.specs.Language.{BaseLabels.{label_at, setting_at, AreActive}, Decoding.{read_label, is_close, compressed_steps, word_spot}}
 use Rattle.mm_verdict.specs.{Language.DecodedSteps.{labels_at, entry_step, entry_steps, IsEntry, AreEntries}, Code.Coded.{TellsSteps, meant_steps, letters_give}}
 use Rattle.mm_verdict.specs.{Code.{Labels.{Lists, IsListed, TellsWord, BeginsTable}, Left.{AreLeft}, LeftToRight.{list_on}}, declared.undecoded.Undecoded.{Undecoded}}
-use Rattle.mm_verdict.proofs.lemmas.decoding.{ListLemmas.{list_is, word_is, none_more}, ReadOnLemmas.{before_close}, ReaderLemmas.{next_is}, SureLemmas.{usable_is}}
+use Rattle.mm_verdict.proofs.lemmas.{decoding.{ListLemmas.{list_is, word_is, none_more}, ReadOnLemmas.{before_close}, SureLemmas.{usable_is}}, lists.Every.{joined, mapped}}
 use Rattle.mm_frame.specs.declared.base.Resolved.TheVariants as answers
 use Rattle.mm_verdict.specs.declared.undecoded.Undecoded.TheVariants as errors
-
-pub entries_more : (view : BaseView) (i : ℕ) (labels : List Resolved) (meaning : Resolved) → AreEntries view i labels → IsEntry view i meaning → AreEntries view i (labels ++ meaning ∷ [])
-entries_more view i [] meaning all is = (is, tt)
-entries_more view i (label ∷ labels) meaning all is = (all.0, entries_more view i labels meaning all.1 is)
 
 -- before the first label
 pub starts : (view : BaseView) (i : ℕ) (mandatory words : List (List ℕ)) (labels : List Resolved) → entry_steps view labels ≡ map Named mandatory → AreEntries view i labels → Lists view i mandatory words 1 labels
@@ -21,23 +18,17 @@ starts view i mandatory words labels e all = grind (arith, common_steps, append-
 module _ (view : BaseView) (i : ℕ) (mandatory words : List (List ℕ)) (n : ℕ) (labels : List Resolved) (lists : Lists view i mandatory words n labels) where
   -- the words after the first, by the one at n
   by_next : (word : List ℕ) → n < length words → word ≡ get_or words n [] → drop 1 words ≡ lists.listed ++ word ∷ drop (n + 1) words
-  by_next word less is = lists.before ∙ ap (λ (w : List (List ℕ)). lists.listed ++ w) (next_is words n [] less ∙ ap (λ (w : List ℕ). w ∷ drop (n + 1) words) (sym is))
+  by_next word less is = grind (arith, elements, drop_more words n [] less) steps 200000
 
   -- what the words from there on give, by the first of them
   by_word : (word : List ℕ) → n < length words → word ≡ get_or words n [] → compressed_steps (setting_at view i) mandatory (drop 1 words)
       (word_spot (length words)) ≡ list_on (setting_at view i) mandatory (word_spot (length words)) lists.listed n (word ∷ drop (n + 1) words)
-  by_word word less is = lists.rest ∙ ap (list_on (setting_at view i) mandatory (word_spot (length words)) lists.listed n) (next_is words n [] less ∙ ap (λ (w : List ℕ). w ∷ drop (n + 1) words) (sym is))
+  by_word word less is = grind (arith, elements, drop_more words n [] less) steps 200000
 
   -- at the `)`
   pub ends : (word : List ℕ) → n < length words → word ≡ get_or words n [] → is_close word ≡ true → IsListed view i mandatory words n labels
-  ends word less is close = record {
-    listed = lists.listed;
-    labels_are = lists.labels_are;
-    entries = lists.entries;
-    within = less;
-    whole = ap (before_first is_close) (by_next word less is ∙ ap (λ (w : List ℕ). lists.listed ++ w ∷ drop (n + 1) words) (word_is word close)) ∙ before_close lists.listed (drop (n + 1) words) lists.open_yet;
-    rest = by_word word less is ∙ rw close refl;
-  }
+  ends word less is close =
+      search (rules, before_close lists.listed (drop (n + 1) words) lists.open_yet, by_next word less is, by_word word less is, word_is word close) steps 200000
 
   -- at a label that can be used
   pub goes_on : (word : List ℕ) (meaning : Resolved) → n < length words → word ≡ get_or words n [] → is_close word ≡ false
@@ -48,7 +39,7 @@ module _ (view : BaseView) (i : ℕ) (mandatory words : List (List ℕ)) (n : �
       record {
         listed = lists.listed ++ word ∷ [];
         labels_are = map-append (entry_step view) labels (meaning ∷ []) ∙ rw (lists.labels_are, named, ← append_assoc) (sym (map-append Named (mandatory ++ lists.listed) (word ∷ [])));
-        entries = entries_more view i labels meaning lists.entries entry;
+        entries = joined (IsEntry view i) labels (meaning ∷ []) lists.entries (entry, tt);
         before = by_next word less is ∙ sym (append_assoc lists.listed (word ∷ []) (drop (n + 1) words));
         open_yet = none_more lists.listed word lists.open_yet other;
         rest = by_word word less is ∙ rw (other, read) refl;
@@ -67,18 +58,13 @@ module _ (view : BaseView) (i : ℕ) (mandatory words : List (List ℕ)) (n : �
 
 -- the mandatory hypotheses as entries
 pub hypothesis_steps : (view : BaseView) (numbers : List ℕ) → entry_steps view (map answers.Hypothesis numbers) ≡ map Named (labels_at view numbers)
-hypothesis_steps view [] = refl
-hypothesis_steps view (j ∷ numbers) = ap (λ (w : List Step). Named (label_at view j) ∷ w) (hypothesis_steps view numbers)
-
-pub hypothesis_entries : (view : BaseView) (i : ℕ) (numbers : List ℕ) → AreActive view i numbers → AreEntries view i (map answers.Hypothesis numbers)
-hypothesis_entries view i [] all = tt
-hypothesis_entries view i (j ∷ numbers) all = (all.0, hypothesis_entries view i numbers all.1)
+hypothesis_steps view numbers = map-map (entry_step view) answers.Hypothesis numbers ∙ sym (map-map Named (label_at view) numbers)
 
 -- after the `(`, with the mandatory hypotheses as entries
 pub list_begins : (view : BaseView) (i : ℕ) (numbers : List ℕ) (words behind : List (List ℕ)) (labels : List Resolved)
     → labels ≡ map answers.Hypothesis numbers → AreActive view i numbers → AreLeft words behind 1 → BeginsTable view i (labels_at view numbers) words behind
     labels
-list_begins view i numbers words behind labels e active left = record { left = left; labels_are = rw e (hypothesis_steps view numbers); entries = rw e (hypothesis_entries view i numbers active) }
+list_begins view i numbers words behind labels e active left = grind (arith, common_steps, hypothesis_steps, mapped) steps 200000
 
 -- the letters after the list
 pub compressed_ok :

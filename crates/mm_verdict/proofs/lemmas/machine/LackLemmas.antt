@@ -1,20 +1,15 @@
 -- The first steps of a proof, by the numbers of names.
 use Rattle.std.proofs.lemmas.{Grind.{common_steps}, List.{take-append-le, take-append-drop, drop_more, length-map, length-take-le, map-append}}
 use Rattle.std.proofs.lemmas.Option.{slice_get_within, slice_get-map, get_or_from_slice_get}
-use Rattle.std.{proofs.Common.{◌≡◌, ℕ, zero, suc, ◌+◌, ◌<◌, Some, List, [], ◌∷◌, ◌++◌, length, take, drop, sym, ◌∙◌, ap, subst, arith, slice_get}, specs.Option.{option_map}}
+use Rattle.std.{proofs.Common.{◌≡◌, ℕ, ◌+◌, ◌<◌, Some, List, [], ◌∷◌, ◌++◌, length, take, drop, sym, ◌∙◌, ap, subst, arith, slice_get}, specs.Option.{option_map}}
 use Rattle.mm_machine.specs.Language.{Frame.{Symbol, Setting}, Typing.{HasFrames}, Expansion.{Step, Named, NotKnown}, NamedSteps.{AreDoneTo, FrontSays, AreSavedBefore, StopsAt, actions_mean, meant}}
 use Rattle.mm_machine.specs.Language.{Renaming.{renamed_mandatory, renamed_meaning, renamed_setting}, Numbering.{unnaming}, RunLaws.{LackStops, NumbersSayTheSame, StopsStay}}
 use Rattle.mm_machine.specs.declared.{ProofNumber.TheVariants.{P07}, stepping.{Front.TheVariants.{Leaves}, Outcome.{Outcome, TheVariants.{Fault, Unknown}}}, step.ProofStep.{ProofStep}}
 use Rattle.mm_frame.specs.Language.Base.{BaseView, frame_at}
 use Rattle.mm_verdict.specs.{Language.{BaseLabels.{label_at, setting_at}, DecodedSteps.{AreEntries, IsEntry, entry_step, entry_steps}}, Code.NumberedBase.{numbered_frame, numbered_setting}}
-use Rattle.mm_verdict.{specs.Code.{ShortSteps.{TakesMore}, UsedLabels.{KeepsUsed}}, proofs.lemmas.machine.{NamedLemmas.{kept_at}, UsedLemmas.{part_means}}}
+use Rattle.mm_verdict.{specs.Code.{ShortSteps.{TakesMore}, UsedLabels.{KeepsUsed}}, proofs.lemmas.{machine.UsedLemmas.{part_means}, lists.{Every.{all_at}, Members.{kept_at}}}}
 use Rattle.mm_frame.specs.declared.base.Resolved as listed
 use Rattle.mm_frame.specs.declared.base.Resolved.TheVariants as answers
-
-entry_at : (view : BaseView) (i : ℕ) (labels : List listed.Resolved) (k : ℕ) (label : listed.Resolved) → AreEntries view i labels → slice_get labels k ≡ Some label → IsEntry view i label
-entry_at view i [] k label entries e = cc
-entry_at view i (l ∷ labels) zero label entries e = let same : l ≡ label = cc in subst (IsEntry view i) same entries.0
-entry_at view i (l ∷ labels) (suc k) label entries e = entry_at view i labels k label entries.1 e
 
 -- if steps stop by numbers, they stop by names
 stops_named : NumbersSayTheSame → (names : List (List ℕ)) (place : Setting) (steps : List Step) (outcome : Outcome) → StopsAt (renamed_setting (unnaming names) place) steps outcome → StopsAt place steps outcome
@@ -53,7 +48,7 @@ module _ (same : NumbersSayTheSame) (stay : StopsStay) (lack : LackStops) (names
       let behind = actions_mean table (drop (n + 1) steps) in
       let whole : actions_mean table steps ≡ front ++ Named (label_at view number) ∷ behind = divided table steps n ∙ ap (λ (w : List ProofStep). front ++ actions_mean table w) next ∙ ap (λ (s : Step). front ++ s ∷ behind) means in
       let count : length front ≡ n = length-map (take n steps) (λ (step : ProofStep). meant table step.action) ∙ length-take-le n steps (omega (arith, within)) in
-      let entry : IsEntry view i (answers.Assertion number) = entry_at view i labels t.k (answers.Assertion number) entries there in
+      let entry : IsEntry view i (answers.Assertion number) = all_at (IsEntry view i) labels t.k (answers.Assertion number) entries there in
       let known = subst (λ (w : List Step). AreDoneTo numbered w stack) (part_means view labels used (take n steps) keeps) done in
       let few : length stack < length (numbered_frame names view number).hypotheses = omega (arith, t.names.more, length-map (frame_at view number).hypotheses (renamed_mandatory (unnaming names))) in
       let lacks = lack numbered is front behind (label_at view number) (numbered_frame names view number) stack known (ap (renamed_meaning (unnaming names)) entry.2) few in

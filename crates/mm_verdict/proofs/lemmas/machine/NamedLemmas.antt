@@ -1,21 +1,16 @@
 -- What was named so far, when more is named.
 use Rattle.std.proofs.lemmas.{Grind.{common_steps}, List.Elements.{All-nil, All-cons}, Option.{slice_get_within, same_Some}}
-use Rattle.std.{proofs.Common.{◌≡◌, ℕ, zero, suc, Some, List, [], ◌∷◌, ◌++◌, length, take, refl, sym, ◌∙◌, ap, ap₂, arith, ◌⊎◌, inl, inr, slice_get, All}, specs.List.{AllZip}}
+use Rattle.std.{proofs.Common.{◌≡◌, ℕ, zero, suc, Some, List, [], ◌∷◌, ◌++◌, length, take, refl, sym, ◌∙◌, ap, ap₂, arith, slice_get, All}, specs.List.{AllZip}}
+use Rattle.mm_verdict.specs.Code.{NamedItems.{NamingGrows, AreCited, AreNamed, IsUseOf, Stays, expressions_named, frames_cited}, NumberedBase.{numbered_frame, numbered_setting}}
+use Rattle.mm_verdict.{specs.{Language.DecodedSteps.{AreEntries, IsEntry, entry_step, entry_steps}, declared.named.Naming.{Naming}}, proofs.lemmas.lists.Members.{before_or_last, kept_at, last_there}}
 use Rattle.mm_frame.specs.{declared.base.{Base.{Base}, Resolved.{Resolved}}, Language.{Base.{BaseView}, Answering.{IsBaseBy}}}
 use Rattle.mm_machine.specs.{Language.{Frame.{Hypothesis}, Renaming.{renamed_meaning}, Numbering.{unnaming}, NamedSteps.{IsUseWithin, MeansUse}}, declared.symbol.NumberedSymbol.{NumberedSymbol}}
 use Rattle.mm_machine.specs.declared.{assertion.Cited.{Cited}, named.Use.{Use}}
-use Rattle.mm_verdict.specs.{Language.DecodedSteps.{AreEntries, IsEntry, entry_step, entry_steps}, Code.NamedItems.{AreCited, AreNamed, NamingGrows, IsUseOf, Stays, expressions_named, frames_cited}}
-use Rattle.mm_verdict.specs.{Code.NumberedBase.{numbered_frame, numbered_setting}, declared.named.Naming.{Naming}}
 use Rattle.mm_frame.specs.declared.base.Resolved.TheVariants as answers
 use Rattle.mm_machine.specs.declared.assertion.Hypothesis as assertion
 use Rattle.mm_machine.specs.declared.named.Use.TheVariants as uses
 
 -- ---- one more of a list
-
-pub kept_at : {X : Type 0} (front back : List X) (n : ℕ) (x : X) → slice_get front n ≡ Some x → slice_get (front ++ back) n ≡ Some x
-kept_at [] back n x e = cc
-kept_at (y ∷ front) back zero x e = e
-kept_at (y ∷ front) back (suc n) x e = kept_at front back n x e
 
 pub stays_more : (old new : List ℕ) (j : ℕ) → new ≡ old ++ j ∷ [] → Stays old new
 stays_more old new j e n k at = ap (λ w. slice_get w n) e ∙ kept_at old (j ∷ []) n k at
@@ -31,17 +26,6 @@ pub cited_first :
     (code : Base) (old new : List ℕ) (mandatory : List (assertion.Hypothesis NumberedSymbol)) (all : List (Cited NumberedSymbol)) →
     AreCited code old mandatory all → Stays old new → AreCited code (take (length all) new) mandatory all
 cited_first code old new mandatory all are s = grind (arith, common_steps, stays_begins old new s) steps 200000
-
-pub last_there : {X : Type 0} (xs : List X) (x : X) → slice_get (xs ++ x ∷ []) (length xs) ≡ Some x
-last_there [] x = refl
-last_there (y ∷ xs) x = grind (arith, common_steps, last_there xs x) steps 200000
-
--- what is in a list with one more was in it before, or is that one
-pub before_or_last : {X : Type 0} (xs : List X) (x y : X) (n : ℕ) → slice_get (xs ++ x ∷ []) n ≡ Some y → (slice_get xs n ≡ Some y) ⊎ ((n ≡ length xs) × (x ≡ y))
-before_or_last [] x y zero e = inr (refl, same_Some x y e)
-before_or_last [] x y (suc n) e = cc
-before_or_last (z ∷ xs) x y zero e = inl e
-before_or_last (z ∷ xs) x y (suc n) e = grind (arith, common_steps, before_or_last xs x y n e) steps 200000
 
 -- what a list has for each number of another, it has with one more of each
 pub placed_more :

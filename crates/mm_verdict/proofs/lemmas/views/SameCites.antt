@@ -1,22 +1,18 @@
 -- Proofs that mean the same cite by the same words.
-use Rattle.std.proofs.Common.{arith, ◌≡◌, ℕ, ◌+◌, Bool, true, false, not, Ok, Err, List, [], ◌∷◌, length, map, drop, refl, sym, ap, ◌∙◌, inl, inr, filter, bytes_eq, codes}
-use Rattle.std.{proofs.lemmas.{Grind.{common_steps}, Bool.{cases_Bool, false≢true}, Slice.Eq.{bytes_eq-Decides}}, specs.List.{AllZip, AllByRecursion, list_any, enumerate_from, before_first}}
+use Rattle.std.proofs.{Common.{arith, ◌≡◌, ℕ, ◌+◌, Bool, true, false, not, Ok, Err, List, [], ◌∷◌, length, map, drop, refl, ap, inl, inr, filter, bytes_eq, codes}, lemmas.Grind.{common_steps}}
+use Rattle.std.{proofs.lemmas.{Bool.{cases_Bool, false≢true}, Slice.Eq.{bytes_eq-Decides}}, specs.List.{AllZip, AllByRecursion, list_any, enumerate_from, before_first}}
 use Rattle.mm_machine.specs.Language.{Frame.{Resolved, Hypothesis, Assertion, Inactive, Unknown, Setting}, Expansion.{Step, Named, Saved, Save, NotKnown}, SameProof.{AreSameMeaning}}
 use Rattle.mm_machine.specs.declared.Spot.{Spot}
 use Rattle.mm_verdict.specs.Language.Citing.{label_words, firsts, means_assertion, names_assertion, is_cited, cites}
 use Rattle.mm_verdict.specs.Language.{Decoding.{Steps, is_close, is_compressed, word_spot, steps_in, decoded, decoding}, SameToDecode.{IsSameLabel, labels_named, AreSameToDecode}}
-use Rattle.mm_verdict.proofs.lemmas.views.SameLemmas.{IsBoth, AreSame, steps_same}
+use Rattle.mm_verdict.proofs.lemmas.{views.SameLemmas.{IsBoth, AreSame, steps_same}, lists.Every.{kept_all}}
 
 -- the same test keeps the same elements
 filter_same : {X : Type 0} (f g : X → Bool) (xs : List X) → AllByRecursion (λ x. f x ≡ g x) xs → filter f xs ≡ filter g xs
 filter_same f g [] all = refl
 filter_same f g (x ∷ xs) all = rw (all.0, filter_same f g xs all.1) refl
 
-pub kept_all : {X : Type 0} (P : X → Type 0) (f : X → Bool) (xs : List X) → AllByRecursion P xs → AllByRecursion P (filter f xs)
-kept_all P f [] all = tt
-kept_all P f (x ∷ xs) all = grind (arith, common_steps, cases_Bool (f x), kept_all P f xs all.1) steps 200000
-
-firsts_all : (P : ℕ × List ℕ → Type 0) (words : List (ℕ × List ℕ)) → AllByRecursion P words → AllByRecursion P (firsts words)
+pub firsts_all : (P : ℕ × List ℕ → Type 0) (words : List (ℕ × List ℕ)) → AllByRecursion P words → AllByRecursion P (firsts words)
 firsts_all P [] all = tt
 firsts_all P (word ∷ words) all = (all.0, kept_all P (λ other. not (bytes_eq word.1 other.1)) (firsts words) (firsts_all P words all.1))
 
@@ -47,16 +43,10 @@ module _ (p q : Setting) where
 
   -- a label of no assertion is not this one, which is of one
   pub other_label : (place : Setting) (label a : List ℕ) → means_assertion (place.resolve label) ≡ true → means_assertion (place.resolve a) ≡ false → bytes_eq label a ≡ false
-  other_label place label a is other = elim (cases_Bool (bytes_eq label a)) [
-    | inl e ↦ let same = (bytes_eq-Decides label a).0 e in absurd (false≢true (sym other ∙ ap (λ (w : List ℕ). means_assertion (place.resolve w)) (sym same) ∙ is))
-    | inr e ↦ e
-  ]
+  other_label place label a is other = grind (arith, common_steps, bytes_eq-Decides, false≢true) steps 200000
 
   name_same : (label : List ℕ) (s t : Step) → means_assertion (p.resolve label) ≡ true → means_assertion (q.resolve label) ≡ true → IsBoth p q s t → names_assertion label s ≡ names_assertion label t
-  name_same label (Named a) (Named b) f g both = elim both.1 [
-    | inl e ↦ ap (bytes_eq label) e
-    | inr n ↦ other_label p label a f n.0 ∙ sym (other_label q label b g n.1)
-  ]
+  name_same label (Named a) (Named b) f g both = grind (arith, common_steps, other_label) steps 200000
   name_same label (Saved n) (Saved m) f g both = refl
   name_same label Save Save f g both = refl
   name_same label NotKnown NotKnown f g both = refl
@@ -72,10 +62,7 @@ module _ (p q : Setting) where
 
   cited_same : (label : List ℕ) (steps others : List (Step × Spot)) → AllZip (λ s t. IsBoth p q s.0 t.0 × (s.1 ≡ t.1)) steps others → IsSameLabel p q label
       → is_cited p (map (λ (s : Step × Spot). s.0) steps) label ≡ is_cited q (map (λ (s : Step × Spot). s.0) others) label
-  cited_same label steps others all s = elim (cases_Bool (means_assertion (q.resolve label))) [
-    | inl e ↦ let f = assertion_same (p.resolve label) (q.resolve label) s ∙ e in rw (f, e) (any_same label steps others f e all)
-    | inr e ↦ rw (assertion_same (p.resolve label) (q.resolve label) s, e) refl
-  ]
+  cited_same label steps others all s = grind (arith, common_steps, any_same, assertion_same) steps 200000
 
   each_same :
       (words : List (ℕ × List ℕ)) (steps others : List (Step × Spot)) → AllZip (λ s t. IsBoth p q s.0 t.0 × (s.1 ≡ t.1)) steps others →

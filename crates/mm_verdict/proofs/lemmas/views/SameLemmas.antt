@@ -1,11 +1,11 @@
 -- Proofs that mean the same decode to the same.
-use Rattle.std.proofs.Common.{◌≡◌, ℕ, zero, suc, ◌+◌, ◌-◌, false, not, ◌==◌, cond, Option, Some, None, Result, Ok, Err, List, [], ◌∷◌, ◌++◌, length, map, drop, refl, inl, inr, ◌⊎◌, slice_get, filter}
-use Rattle.std.{proofs.{Common.{bytes_eq, codes}, lemmas.Bool.{cases_Bool}}, specs.List.{AllZip, AllByRecursion, range_with_len, before_first, list_any, after_first}}
-use Rattle.mm_machine.specs.Language.{Frame.{Resolved, Hypothesis, Assertion, Inactive, Unknown, Setting, AreSamePairs}, Expansion.{Step, Named, Saved, Save, NotKnown}}
+use Rattle.std.proofs.Common.{arith, ◌≡◌, ℕ, zero, suc, ◌+◌, false, not, cond, Option, Some, None, Result, Ok, Err, List, [], ◌∷◌, ◌++◌, map, refl, inl, inr, ◌⊎◌, slice_get, filter, bytes_eq, codes}
+use Rattle.std.{proofs.lemmas.{Grind.{common_steps}, Bool.{cases_Bool}}, specs.List.{AllZip, AllByRecursion, range_with_len, before_first}}
+use Rattle.mm_machine.specs.Language.{Frame.{Resolved, Hypothesis, Assertion, Inactive, Unknown, Setting, AreSamePairs}, Expansion.{Step, Named, Saved, NotKnown}}
 use Rattle.mm_machine.specs.{Language.SameProof.{AreSameMeaning, IsSameStep, IsSameDecoding}, declared.{Spot.{Spot}, ProofNumber.{ProofNumber}}}
-use Rattle.mm_verdict.specs.Language.{Numbers.{is_last, value_of}, Letters.{Letter, Group, groups, letters_from}}
-use Rattle.mm_verdict.specs.Language.Decoding.{Steps, with_step, read_first, in_order, usable, read_label, read_word, each_word, nameable, named, alone, read_letter, read_group, group_spot}
-use Rattle.mm_verdict.specs.Language.{Decoding.{is_save_letter, each_group, is_close, is_compressed, compressed_steps, steps_in, word_spot, decoded, decoding, if_read}, Citing.{means_assertion}}
+use Rattle.mm_verdict.specs.Language.Letters.{Letter, Group}
+use Rattle.mm_verdict.specs.Language.Decoding.{Steps, with_step, read_first, in_order, usable, read_label, read_word, each_word, nameable, named, alone, read_letter, read_group, is_save_letter}
+use Rattle.mm_verdict.specs.Language.{Decoding.{each_group, is_close, compressed_steps, steps_in, word_spot, decoded, decoding, if_read}, Citing.{means_assertion}}
 use Rattle.mm_verdict.specs.Language.SameToDecode.{IsSameHypothesis, IsSameLabel, AreSameToDecode}
 
 module _ (p q : Setting) where
@@ -85,16 +85,7 @@ module _ (p q : Setting) where
   alone_same (d ∷ digits) step e = refl
 
   letter_same : (labels others : List Step) (saves : ℕ) (digits : List Letter) (byte : ℕ) → AllZip IsBoth labels others → IsSameResult (read_letter (nameable labels saves) digits byte) (read_letter (nameable others saves) digits byte)
-  letter_same labels others saves digits byte all = elim (cases_Bool (is_last byte)) [
-    | inl e ↦ rw e (named_same _ _ (named_at labels others saves (value_of (map (λ digit. digit.byte) digits) byte - 1) all))
-    | inr e ↦ elim (cases_Bool (byte == 90)) [
-      | inl f ↦ rw (e, f) (alone_same digits Save (tt, tt))
-      | inr f ↦ elim (cases_Bool (byte == 63)) [
-        | inl g ↦ rw (e, f, g) (alone_same digits NotKnown (tt, tt))
-        | inr g ↦ rw (e, f, g) refl
-      ]
-    ]
-  ]
+  letter_same labels others saves digits byte all = grind (arith, common_steps, alone_same, named_at, named_same) steps 200000
 
   group_same : (labels others : List Step) (saves : ℕ) (digits : List Letter) (last : Option Letter) → AllZip IsBoth labels others → IsSameResult (read_group (nameable labels saves) digits last) (read_group (nameable others saves) digits last)
   group_same labels others saves digits (Some letter) all = letter_same labels others saves digits letter.byte all
@@ -103,9 +94,7 @@ module _ (p q : Setting) where
   groups_same : (labels others : List Step) (close : Spot) (saves : ℕ) (gs : List Group) → AllZip IsBoth labels others → AreSame (in_order (each_group labels close saves gs)) (in_order (each_group others close saves gs))
   groups_same labels others close saves [] all = tt
   groups_same labels others close saves (g ∷ gs) all =
-      first_same (group_spot close g.last) (read_group (nameable labels saves) g.digits g.last) (read_group (nameable others saves) g.digits g.last) _ _
-      (group_same labels others saves g.digits g.last all)
-      (groups_same labels others close (cond (is_save_letter g.last) (saves + 1) saves) gs all)
+      grind (arith, common_steps, groups_same labels others close (cond (is_save_letter g.last) (saves + 1) saves) gs all, first_same, group_same) steps 200000
 
   hypothesis_both : (a b : List ℕ) → IsSameHypothesis p q a b → IsBoth (Named a) (Named b)
   hypothesis_both a b h = (rw (h.1, h.2) refl, inr (rw h.1 refl, rw h.2 refl))
@@ -124,20 +113,10 @@ module _ (p q : Setting) where
   compressed_same : (mandatory others words : List (List ℕ)) (close : Spot) → AllZip (IsSameHypothesis p q) mandatory others
       → AllByRecursion (IsSameLabel p q) (before_first is_close words) → AreSame (compressed_steps p mandatory words close)
       (compressed_steps q others words close)
-  compressed_same mandatory others words close h all = elim (cases_Bool (list_any is_close words)) [
-    | inl e ↦
-        let listed = before_first is_close words in
-        let letters = letters_from (length listed + 2) (after_first is_close words) in
-        let after = groups_same (map Named (mandatory ++ listed)) (map Named (others ++ listed)) close 0 (groups letters) (named_all mandatory others listed h all) in
-        rw e (read_same _ _ _ _ (list_same 1 listed all) after)
-    | inr e ↦ rw e (read_same _ _ _ _ (list_same 1 (before_first is_close words) all) refl)
-  ]
+  compressed_same mandatory others words close h all = grind (arith, common_steps, groups_same, list_same, named_all, read_same) steps 200000
 
   pub steps_same : (mandatory others words : List (List ℕ)) (close : Spot) → AreSameToDecode p q mandatory others words → AreSame (steps_in p mandatory words close) (steps_in q others words close)
-  steps_same mandatory others words close s = elim (cases_Bool (is_compressed words)) [
-    | inl e ↦ rw e (compressed_same mandatory others (drop 1 words) close s.hypotheses (rw e at s.labels))
-    | inr e ↦ rw e (words_same 0 words (rw e at s.labels))
-  ]
+  steps_same mandatory others words close s = grind (arith, common_steps, compressed_same, words_same) steps 200000
 
   only_steps : (steps others : List (Step × Spot)) → AllZip (λ s t. IsBoth s.0 t.0 × (s.1 ≡ t.1)) steps others → AllZip (IsSameStep p q) (map (λ (s : Step × Spot). s.0) steps) (map (λ (s : Step × Spot). s.0) others)
   only_steps [] [] all = tt
@@ -155,5 +134,4 @@ module _ (p q : Setting) where
   decoded_same close _ _ a all = absurd all
 
   pub decodes_same : (mandatory others words : List (List ℕ)) → AreSameToDecode p q mandatory others words → IsSameDecoding p q (decoding p mandatory words) (decoding q others words)
-  decodes_same mandatory others words s = decoded_same (word_spot (length words)) (steps_in p mandatory words (word_spot (length words)))
-      (steps_in q others words (word_spot (length words))) s.active (steps_same mandatory others words (word_spot (length words)) s)
+  decodes_same mandatory others words s = grind (arith, common_steps, decoded_same, steps_same) steps 200000

@@ -1,7 +1,7 @@
-use Rattle.std.proofs.{Common.{refl, sym, subst, ℕ, List, All}, lemmas.Result.{err_from_is_err_and}}
-use Rattle.mm_frame.specs.declared.base.Resolved.{Resolved}
-use Rattle.mm_verdict.{specs.{Language.{BaseLabels.{AreActive}, DecodedSteps.{decoded_steps, entry_steps}}, Code.NamedItems.{IsNamedBy}}, proofs.lemmas.base.FrameLemmas.{framed_proof}}
-use Rattle.mm_verdict.proofs.lemmas.{base.SaysLemmas.{read_at, theorem_at}, decoding.DecodedProofs.{decoded, decoded_saved, named_by}}
+use Rattle.std.proofs.{Common.{refl, sym, subst, ℕ, List, ◌≡◌, true}, lemmas.Result.{err_from_is_err_and}}
+use Rattle.mm_verdict.{specs.{Language.{BaseLabels.{AreActive}, DecodedSteps.{decoded_steps, entry_steps}, ReadIn.{IsReadIn}}, Code.Judged.{IsDecoding}}, proofs.lemmas.base.FrameLemmas.{framed_proof}}
+use Rattle.mm_verdict.proofs.{lemmas.{base.SaysLemmas.{read_at, theorem_at}, decoding.DecodedProofs.{decoded, decoded_saved, named_by}}, program.program_of.Goals.{In_ok-decoding}}
+use Rattle.mm_frame.specs.Language.Base.{BaseView, is_proof_at}
 use Rattle.mm_verdict.proofs.program.program_of.Goals as goal
 
 pub item-requires : goal.item-requires
@@ -13,15 +13,20 @@ words_of_proof-proof-requires c = read_at c.requires.0 c.args.files.now c.args.b
 pub mandatory-mandatory-requires : goal.mandatory-mandatory-requires
 mandatory-mandatory-requires c = let has = c.requires.1 in (has.0, (c.requires.0, has.1.base), framed_proof has.0 c.args.i has.3)
 
+-- what decoding gave for the theorem
+the_decoding : (c : In_ok-decoding) (names : List (List ℕ)) (view : BaseView) → IsReadIn names c.args.files.now c.args.base.now view →
+    is_proof_at view c.args.i ≡ true → IsDecoding c.args.base.now c.args.i c.words_of_proof-proof.result c.in_ok-decoding.decoding view
+the_decoding c names view read proof =
+    let found = c.item.ensures.found view (names, read.base) in
+    let theorem = theorem_at _ _ _ _ c.item.result.now _ view read proof found c.words_of_proof-proof.ensures.words in
+    decoded _ _ _ c.in_ok-decoding.decoding _ view theorem c.mandatory-mandatory.ensures (c.mandatory_are_active.ensures view c.args.i theorem.said)
+    c.in_ok-decoding.ensures.ok c.in_ok-decoding.ensures.entries c.in_ok-decoding.ensures.table
+
 pub name_all-requires-clause-labels : goal.name_all-requires-clause-labels
 name_all-requires-clause-labels c =
     let has = c.requires.1 in
-    let view = has.0 in
-    let theorem = theorem_at _ _ _ _ c.item.result.now _ view has.1 has.3 (c.item.ensures.found view (c.requires.0, has.1.base)) c.words_of_proof-proof.ensures.words in
-    let d = c.in_ok-decoding.decoding in
-    let is = decoded _ _ _ d _ view theorem c.mandatory-mandatory.ensures (c.mandatory_are_active.ensures view c.args.i theorem.said)
-    c.in_ok-decoding.ensures.ok c.in_ok-decoding.ensures.entries c.in_ok-decoding.ensures.table in
-    subst (λ (ls : List Resolved). All (IsNamedBy c.args.base.now) ls) (sym c.deref.ensures.value) (named_by c.args.base.now view c.args.i theorem.base has.2 d.labels.items is.entries)
+    let is = the_decoding (goal.at.name_all-requires-clause-labels c).In_ok-decoding c.requires.0 has.0 has.1 has.3 in
+    rw c.deref.ensures.value (named_by c.args.base.now has.0 c.args.i is.theorem.base has.2 c.in_ok-decoding.decoding.labels.items is.entries)
 
 pub name_all-requires-clause-known : goal.name_all-requires-clause-known
 name_all-requires-clause-known c = c.new-3.ensures c.args.base.now
@@ -29,22 +34,15 @@ name_all-requires-clause-known c = c.new-3.ensures c.args.base.now
 pub returns-clause-saved : goal.returns-clause-saved
 returns-clause-saved c =
     let has = c.requires.1 in
-    let view = has.0 in
-    let theorem = theorem_at _ _ _ _ c.item.result.now _ view has.1 has.3 (c.item.ensures.found view (c.requires.0, has.1.base)) c.words_of_proof-proof.ensures.words in
-    let d = c.in_ok-decoding.decoding in
-    let is = decoded _ _ _ d _ view theorem c.mandatory-mandatory.ensures (c.mandatory_are_active.ensures view c.args.i theorem.said)
-    c.in_ok-decoding.ensures.ok c.in_ok-decoding.ensures.entries c.in_ok-decoding.ensures.table in
-    decoded_saved c.mandatory_are_active.ensures c.decodes_surely.ensures c.args.base.now c.args.i c.words_of_proof-proof.result d view is
+    decoded_saved c.mandatory_are_active.ensures c.decodes_surely.ensures _ _ _ _ _
+    (the_decoding (goal.at.returns-clause-saved c).In_ok-decoding c.requires.0 has.0 has.1 has.3)
 
 pub returns-clause-means : goal.returns-clause-means
 returns-clause-means c names view read proof =
-    let theorem = theorem_at _ _ _ _ c.item.result.now _ view read proof (c.item.ensures.found view (names, read.base)) c.words_of_proof-proof.ensures.words in
-    let d = c.in_ok-decoding.decoding in
-    let is = decoded _ _ _ d _ view theorem c.mandatory-mandatory.ensures (c.mandatory_are_active.ensures view c.args.i theorem.said)
-    c.in_ok-decoding.ensures.ok c.in_ok-decoding.ensures.entries c.in_ok-decoding.ensures.table in
+    let is = the_decoding (goal.at.returns-clause-means c).In_ok-decoding names view read proof in
     record {
-      labels = entry_steps view d.labels.items;
-      decoded = decoded_steps view d c.words_of_proof-proof.result;
+      labels = entry_steps view c.in_ok-decoding.decoding.labels.items;
+      decoded = decoded_steps view c.in_ok-decoding.decoding c.words_of_proof-proof.result;
       decodes = is.decodes;
       steps = refl;
       uses = (rw c.deref.ensures.value at c.in_ok-named.ensures.means) names view read.base c.args.i is.entries;

@@ -1,6 +1,6 @@
-use Rattle.std.proofs.Common.{◌++◌, ◌∷◌, [], ◌∙◌, ap, sym}
-use Rattle.mm_frame.{specs.Language.Scope.{active_numbers}, proofs.lemmas.scope.EndLemmas.{active_numbers_passed}}
+use Rattle.std.proofs.{Common.{arith}, lemmas.Grind.{common_steps}}
+use Rattle.mm_frame.proofs.lemmas.frames.HypothesisNumbers.{active_numbers_more}
 use Rattle.mm_frame.proofs.active.ActiveNumbers.push.Goals as goal
 
 pub returns-clause-next : goal.returns-clause-next
-returns-clause-next c test before item m t n o = c.in_ok-push.ensures.items ∙ ap (λ w. w ++ c.args.number ∷ []) (c.self.view_is ∙ o) ∙ ap (λ k. active_numbers test before ++ k ∷ []) n ∙ sym (active_numbers_passed test before item m t)
+returns-clause-next c test before item m t n o = grind (arith, common_steps, active_numbers_more) steps 200000

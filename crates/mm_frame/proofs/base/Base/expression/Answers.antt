@@ -1,12 +1,12 @@
-use Rattle.std.proofs.{Common.{arith, ◌∙◌, sym}, lemmas.Grind.{common_steps}}
-use Rattle.mm_frame.proofs.lemmas.base.{AnswerLemmas.{expression_read, expression_numbered}, BaseLemmas.{expression_none, shown_read}}
+use Rattle.std.proofs.{lemmas.{Bool.{and_from, and_parts}, Grind.{common_steps}}, Common.{arith}}
+use Rattle.mm_frame.proofs.lemmas.base.AnswerLemmas.{expression_read, expression_numbered}
 use Rattle.mm_frame.proofs.base.Base.expression.Goals as goal
 
 pub returns-then-is_shown-clause-symbols : goal.returns-then-is_shown-clause-symbols
-returns-then-is_shown-clause-symbols c names base is = grind (arith, common_steps, expression_read, shown_read) steps 200000
+returns-then-is_shown-clause-symbols c names base is = grind (arith, common_steps, expression_read, and_parts, and_from) steps 200000
 
 pub returns-then-is_shown-clause-numbered : goal.returns-then-is_shown-clause-numbered
 returns-then-is_shown-clause-numbered c names base is = grind (arith, common_steps, expression_numbered names base.said c.args.self.now.expressions c.args.i is.expressions) steps 200000
 
 pub returns-else-is_shown-clause-symbols : goal.returns-else-is_shown-clause-symbols
-returns-else-is_shown-clause-symbols c names base is = sym (expression_none base c.args.i (sym (c.is_shown.ensures base (names, is)) ∙ c.if-is_shown.false))
+returns-else-is_shown-clause-symbols c names base is = grind (arith, common_steps) steps 200000

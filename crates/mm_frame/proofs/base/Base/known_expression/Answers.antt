@@ -1,9 +1,9 @@
-use Rattle.std.proofs.{Common.{arith}, lemmas.Grind.{common_steps}}
-use Rattle.mm_frame.proofs.lemmas.base.{AnswerLemmas.{expression_read, expression_numbered}, BaseLemmas.{shown_read}}
+use Rattle.std.proofs.{lemmas.{Bool.{and_from, and_parts}, Grind.{common_steps}}, Common.{arith}}
+use Rattle.mm_frame.proofs.lemmas.base.AnswerLemmas.{expression_read, expression_numbered}
 use Rattle.mm_frame.proofs.base.Base.known_expression.Goals as goal
 
 pub returns-clause-symbols : goal.returns-clause-symbols
-returns-clause-symbols c names base is shown = grind (arith, common_steps, expression_read, shown_read) steps 200000
+returns-clause-symbols c names base is shown = grind (arith, common_steps, expression_read, and_parts, and_from) steps 200000
 
 pub returns-clause-numbered : goal.returns-clause-numbered
 returns-clause-numbered c names base is = grind (arith, common_steps, expression_numbered names base.said c.args.self.now.expressions c.args.i is.expressions) steps 200000

@@ -1,6 +1,6 @@
 use Rattle.std.proofs.{lemmas.Grind.{common_steps}, Common.{◌≡◌, ◌<◌, ◌+◌, List, suc, true, length, take, drop, arith, sym, ◌∙◌, ap, subst, ◌↔◌, Some, None}}
-use Rattle.mm_frame.{specs.{Language.{Scope.{Mark}, Resolving.{IsUpTo}}, Code.{BlockMarks.{stays_by}, BlockEnds.{end_of_block}}}, proofs.lemmas.scope.BlockLemmas.{marks_count}}
-use Rattle.mm_frame.proofs.lemmas.scope.ActiveUntil.{until_absent, until_open, until_ended, end_there}
+use Rattle.mm_frame.{proofs.lemmas.scope.{BlockLemmas.{before_none, marks_count}, ActiveUntil.{until_open, until_ended, end_there}}, specs.Language.{Scope.{Mark}, Resolving.{IsUpTo}}}
+use Rattle.mm_frame.specs.Code.{BlockMarks.{stays_by}, BlockEnds.{end_of_block}}
 use Rattle.mm_frame.proofs.blocks.Blocks.active_until.Goals as goal
 
 pub index-requires : goal.index-requires
@@ -16,7 +16,7 @@ overflow_add-result c =
     omega (arith, there, inside.block_of.ok)
 
 pub returns-then-from-len : goal.returns-then-from-len
-returns-then-from-len c at l = grind (arith, common_steps, marks_count, until_absent) steps 200000
+returns-then-from-len c at l = grind (arith, common_steps, marks_count, before_none) steps 200000
 
 pub returns-in-None : goal.returns-in-None
 returns-in-None c at l =

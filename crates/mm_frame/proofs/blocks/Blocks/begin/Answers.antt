@@ -1,6 +1,6 @@
-use Rattle.std.proofs.{lemmas.Grind.{common_steps}, Common.{◌≡◌, ◌++◌, ◌∷◌, [], length, refl, ◌∙◌, ap, arith}}
-use Rattle.mm_frame.specs.{Language.Scope.{Opens, opens}, Code.KeptBlocks.{marks_from}}
-use Rattle.mm_frame.proofs.lemmas.scope.BlockLemmas.{kept_moved, kept_entered, kept_begun, entered_marks, begun_marks, count_within, pushed}
+use Rattle.std.proofs.{lemmas.{List.Sums.{count_by-le-length}, Grind.{common_steps}}, Common.{subst, sym, ◌+◌, ◌≡◌, ◌++◌, ◌∷◌, [], length, refl, ◌∙◌, ap, arith}}
+use Rattle.mm_frame.{proofs.lemmas.scope.BlockLemmas.{begun, length_marks, same_count, kept_moved, kept_entered, entered_marks, begun_marks, pushed}, specs.Code.KeptBlocks.{AreBlocks, marks_from}}
+use Rattle.mm_frame.specs.Language.Scope.{closes, Opens, opens}
 use Rattle.mm_frame.proofs.blocks.Blocks.begin.Goals as goal
 
 pub invariant_of-self-in_err-reserve : goal.invariant_of-self-in_err-reserve
@@ -16,7 +16,7 @@ invariant_of-self-in_err-push c =
     (kept_entered i.block_of.items i.ends.items c.enter.new.ends.items i.outer.items i.current i.begun i.ended c.enter.ensures.same c.enter.ensures.longer c.self.invariant)
 
 pub overflow_add-self : goal.overflow_add-self
-overflow_add-self c = grind (arith, common_steps, count_within opens c.self.inside.ends.items c.self.inside.block_of.items c.self.inside.begun c.self.invariant.begun_is) steps 200000
+overflow_add-self c = grind (arith, common_steps, count_by-le-length, length_marks) steps 200000
 
 pub invariant_of-self-2 : goal.invariant_of-self-2
 invariant_of-self-2 c =
@@ -27,7 +27,17 @@ invariant_of-self-2 c =
     let outer =
     pushed c.push-2.result c.unwrap.result c.push-2.new.self.items (c.reserve.new.self.items ++ i.current ∷ []) c.reserve.new.self.items c.unwrap.ensures c.push-2.ensures.items ∙ ap (λ w. w ++ i.current ∷ []) c.reserve.ensures.items in
     kept_moved _ c.push.new.self.items _ ends.items _ c.push-2.new.self.items c.len-block.result _ i.ended c.in_ok-push.ensures.items refl outer
-    (kept_begun i.block_of.items ends.items i.outer.items i.current c.len-block.result i.begun i.ended c.in_ok-enter.ensures.ok next kept)
+    (let marks = marks_from ends.items 0 0 i.block_of.items in
+    let more = begun_marks i.block_of.items ends.items i.outer.items i.current c.len-block.result marks c.in_ok-enter.ensures.ok next kept.are_blocks in
+    record {
+      are_blocks = subst
+          (λ w. AreBlocks (i.block_of.items ++ c.len-block.result ∷ []) ends.items (i.outer.items ++ i.current ∷ []) c.len-block.result w) (sym more)
+          (begun i.block_of.items ends.items i.outer.items i.current c.len-block.result marks
+          (length_marks ends.items 0 0 i.block_of.items) c.in_ok-enter.ensures.ok next kept.are_blocks);
+      begun_is = same_count opens marks _ Opens i.begun
+          (i.begun + 1) more kept.begun_is refl;
+      ended_is = same_count closes marks _ Opens i.ended i.ended more kept.ended_is (omega arith);
+    })
 
 pub returns-clause-ok : goal.returns-clause-ok
 returns-clause-ok c =

@@ -1,6 +1,6 @@
-use Rattle.std.proofs.{lemmas.Grind.{common_steps}, Common.{◌≡◌, ◌++◌, ◌∷◌, [], length, refl, ◌∙◌, ap, arith, unwrap_or}}
-use Rattle.mm_frame.specs.{Language.Scope.{Closes, closes}, Code.KeptBlocks.{marks_from}}
-use Rattle.mm_frame.proofs.lemmas.scope.BlockLemmas.{popped_is, closing, kept_moved, kept_entered, kept_ended, entered_marks, ended_marks, count_within, pushed}
+use Rattle.std.proofs.{lemmas.{List.Sums.{count_by-le-length}, Grind.{common_steps}}, Common.{◌≡◌, ◌++◌, ◌∷◌, [], length, refl, ◌∙◌, ap, arith, unwrap_or}}
+use Rattle.mm_frame.{proofs.lemmas.scope.BlockLemmas.{length_marks, popped_is, closing, kept_moved, kept_entered, kept_ended, entered_marks, ended_marks, pushed}, specs.Language.Scope.{Closes}}
+use Rattle.mm_frame.specs.Code.KeptBlocks.{marks_from}
 use Rattle.mm_frame.proofs.blocks.Blocks.end.Goals as goal
 
 pub invariant_of-self-in_err-reserve : goal.invariant_of-self-in_err-reserve
@@ -10,7 +10,7 @@ invariant_of-self-in_err-reserve c =
     (kept_entered i.block_of.items i.ends.items c.enter.new.ends.items i.outer.items i.current i.begun i.ended c.enter.ensures.same c.enter.ensures.longer c.self.invariant)
 
 pub overflow_add-self : goal.overflow_add-self
-overflow_add-self c = grind (arith, common_steps, count_within closes c.self.inside.ends.items c.self.inside.block_of.items c.self.inside.ended c.self.invariant.ended_is) steps 200000
+overflow_add-self c = grind (arith, common_steps, count_by-le-length, length_marks) steps 200000
 
 pub invariant_of-self-2 : goal.invariant_of-self-2
 invariant_of-self-2 c =

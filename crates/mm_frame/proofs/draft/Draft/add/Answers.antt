@@ -1,6 +1,6 @@
-use Rattle.std.proofs.Common.{◌≡◌, true, ◌++◌, ◌∷◌, [], ◌∙◌, sym, subst}
+use Rattle.std.proofs.{Common.{ap, arith, is_none, ◌≡◌, true, ◌++◌, ◌∷◌, [], ◌∙◌, sym, subst}, lemmas.Grind.{common_steps}}
 use Rattle.mm_statement.specs.Language.Statement.{kind_of}
-use Rattle.mm_frame.{specs.{Language.Sound.{sound_items}, Code.KeptAssertions.{AreAssertions}}, proofs.lemmas.base.BaseLemmas.{kept_are_sound, sound_found_none, none_found, none_fault, framed_parts}}
+use Rattle.mm_frame.{specs.{Language.Sound.{sound_items}, Code.KeptAssertions.{AreAssertions}}, proofs.lemmas.base.BaseLemmas.{kept_are_sound, sound_found_none, none_found, framed_parts}}
 use Rattle.mm_frame.proofs.lemmas.base.NumbersAside.{apart, on_ok_both, with_assertions}
 use Rattle.mm_frame.proofs.draft.Draft.add.Goals as goal
 
@@ -10,14 +10,14 @@ returns c = on_ok_both c.follow.result (λ follows same all said d told numbers 
     let before = sound_items said in
     let found = c.args.fault.now in
     let flag = c.is_none.result in
-    let are_sound = kept_are_sound said in
     let none = none_found found flag c.is_none.ensures in
-    let is_sound = λ (t : flag ≡ true). sound_found_none (λ f. (f.word, f.number)) before item found told (none ∙ t) in
     let kind = c.kind.ensures.kind in
-    let earlier = c.earlier-earlier.ensures all before are_sound d.scope d.pair_table d.active d.symbols in
-    let assertions = c.in_ok-keep.ensures all said item earlier (c.disjoints-disjoints.ensures ∙ d.active.disjoints) kind (none_fault (λ f. (f.word, f.number)) before item found told ∙ none)
+    let earlier = c.earlier-earlier.ensures all before (kept_are_sound said) d.scope d.pair_table d.active d.symbols in
+    let assertions =
+    c.in_ok-keep.ensures all said item earlier (c.disjoints-disjoints.ensures ∙ d.active.disjoints) kind
+    ((ap is_none (sym told) ∙ (grind (arith, common_steps) steps 200000)) ∙ none)
     (λ t. let parts = framed_parts flag (kind_of c.kind.result) item.kind kind t in record {
-      sound = is_sound parts.0;
+      sound = (λ (t : flag ≡ true). sound_found_none (λ f. (f.word, f.number)) before item found told (none ∙ t)) parts.0;
       assertion = parts.1;
       symbols = record { symbols = kept.read (none ∙ parts.0) parts.2; numbered = kept.numbered };
     }) d.assertions in

@@ -7,8 +7,7 @@ pub returns : goal.returns
 returns c = on_ok_both c.follow.result (λ follows same all base said next sound read symbols numbered numbers d.
     let item = c.args.statement.now in
     let before = sound_items said in
-    let none : is_none (told_fault before item) ≡ true = sym (λ i. is_none (told_fault (sound_items (next.front i)) (next.here i))) ∙ sound in
-    let no_fault = none_told item.kind (fault before item) none in
+    let no_fault = none_told item.kind (fault before item) (sym (λ i. is_none (told_fault (sound_items (next.front i)) (next.here i))) ∙ sound) in
     let here : c.count-number.result ≡ length said = c.count-number.ensures ∙ d.rows.count in
     let kept : AreSymbolsOf all before item true c.args.symbols.now = record { numbered = numbered; read = λ t r. symbols } in
     with_assertions all (said ++ item ∷ []) c.follow.new.self (follows all said (apart all said c.args.self.now c.take_over.new.self d) (sym no_fault) numbers kept)

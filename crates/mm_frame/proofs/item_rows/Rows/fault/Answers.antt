@@ -1,6 +1,6 @@
-use Rattle.std.proofs.Common.{sym, ap, ◌∙◌}
-use Rattle.mm_frame.{specs.Code.KeptRows.{fault_kept, fault_told}, proofs.lemmas.base.RowLemmas.{fault_there}}
+use Rattle.std.proofs.{Common.{arith}, lemmas.{Grind.{common_steps}, Option.{slice_get_past}}}
+use Rattle.mm_frame.proofs.lemmas.base.RowLemmas.{no_row, row_at}
 use Rattle.mm_frame.proofs.item_rows.Rows.fault.Goals as goal
 
 pub returns : goal.returns
-returns c = ap fault_told (c.kept_fault.ensures ∙ ap (λ w. fault_kept w c.args.n) c.deref.ensures.value) ∙ sym (fault_there c.args.self.now c.requires c.args.n)
+returns c = grind (arith, common_steps, no_row, row_at, slice_get_past) steps 200000

@@ -1,4 +1,4 @@
-use Rattle.std.proofs.{Common.{ℕ, [], Some, cond, nat_eq, List, take, drop, take-append-drop, append-nil, flat_map, sym, ap, subst, ◌∙◌, arith}, lemmas.{List.{take_rest}, Grind.{common_steps}}}
+use Rattle.std.proofs.{Common.{arith, ℕ, [], Some, cond, nat_eq, List, take, drop, take-append-drop, append-nil, flat_map, sym, ap, subst, ◌∙◌}, lemmas.{Grind.{common_steps}, List.{take_rest}}}
 use Rattle.std.specs.HashMap.{get}
 use Rattle.mm_frame.specs.{Language.Framing.{active_pairs}, declared.pair_lists.PairLists.{PairLists}, Code.{KeptPairLists.{KeepsLists, IsList, pairs_among}, KeptSymbols.{expression_kept}}}
 use Rattle.mm_frame.proofs.lemmas.{lists.Members.{In, in_right}, pairs.{ActivePairLemmas.{pairs_at}, PairListLemmas.{made_one_more, whole_front, front_and_own, active_read}}}

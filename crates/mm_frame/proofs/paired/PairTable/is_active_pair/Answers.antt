@@ -1,9 +1,9 @@
-use Rattle.std.proofs.{Common.{arith, sym, subst}, lemmas.{Grind.{common_steps}, Result.{on_ok_weaker}}}
-use Rattle.mm_frame.{specs.Code.Numbers.{IsNameNumber}, proofs.lemmas.pairs.PairTableLemmas.{pair_told, pair_turned_told, same_told}}
+use Rattle.std.proofs.{lemmas.{Bool.{false_from_ne_true}, Option.{same_Some}, Grind.{common_steps}, Result.{on_ok_weaker}}, Common.{arith}}
+use Rattle.mm_frame.proofs.lemmas.pairs.PairTableLemmas.{paired_from, pair_told, pair_turned_told}
 use Rattle.mm_frame.proofs.paired.PairTable.is_active_pair.Goals as goal
 
 pub returns-then-first-second-clause-value : goal.returns-then-first-second-clause-value
-returns-then-first-second-clause-value c all before x y reads m a b = sym (same_told all before c.args.second x y reads.sound (subst (λ n. IsNameNumber all n x) c.if-first-second.true a) b)
+returns-then-first-second-clause-value c all before x y reads m a b = grind (arith, common_steps, false_from_ne_true, paired_from, same_Some) steps 200000
 
 pub returns-then-row-le-SHORT_ROW-clause-value : goal.returns-then-row-le-SHORT_ROW-clause-value
 returns-then-row-le-SHORT_ROW-clause-value c all before x y reads m a b =

@@ -1,14 +1,13 @@
-use Rattle.std.proofs.{Common.{false, sym, ◌∙◌}, lemmas.Option.{slice_get-get_or}}
-use Rattle.mm_machine.specs.declared.symbol.NumberedSymbol.{NumberedSymbol}
-use Rattle.mm_frame.proofs.lemmas.{scope.KnownLemmas.{without_number}, pairs.PlaceLemmas.{placed_more, placed_all}}
+use Rattle.std.proofs.{Common.{arith, false, sym, ◌∙◌}, lemmas.{Grind.{common_steps}, Option.{slice_get-get_or}}}
+use Rattle.mm_frame.proofs.lemmas.pairs.PlaceLemmas.{placed_more, placed_all}
 use Rattle.mm_frame.proofs.places.Places.of.Goals as goal
 
 pub loop-n-preserved : goal.loop-n-preserved
 loop-n-preserved c =
-    let none : NumberedSymbol = record { name = 0; variable = false } in
     placed_more c.loop-n.n c.args.symbols.now (record { places = c.loop-n.places }) (record { places = c.insert.new.self }) _
-    (slice_get-get_or c.args.symbols.now c.loop-n.n none c.loop-n-test.true) c.loop-n.invariant (sym c.in_ok-twice.ensures.old ∙ without_number
-    c.in_ok-twice.twice (sym c.is_some.ensures ∙ c.if-is_some.false)) (λ name. c.in_ok-twice.ensures.updates.0 name)
+    (slice_get-get_or c.args.symbols.now c.loop-n.n (record { name = 0; variable = false }) c.loop-n-test.true) c.loop-n.invariant
+    (sym c.in_ok-twice.ensures.old ∙ (grind (arith, common_steps, sym c.is_some.ensures ∙ c.if-is_some.false) steps 200000))
+    (λ name. c.in_ok-twice.ensures.updates.0 name)
 
 pub returns : goal.returns
 returns c = placed_all c.loop-n.n c.args.symbols.now (record { places = c.loop-n.places }) c.loop-n-test.false c.loop-n.invariant

@@ -1,6 +1,6 @@
-use Rattle.std.proofs.{Common.{[], refl, ap, sym}, lemmas.Result.{on_ok_weaker}}
+use Rattle.std.proofs.{Common.{arith, [], refl, ap, sym}, lemmas.{Grind.{common_steps}, Result.{on_ok_weaker}}}
 use Rattle.mm_statement.specs.Language.{Item.{Constants, Variables, Floating}, Statement.{kind_of}}
-use Rattle.mm_frame.{specs.Code.KeptScope.{uses_numbers}, proofs.lemmas.scope.KnownLemmas.{knows_next, takes_constants, takes_variables, takes_sound_float, takes_label, takes_nothing}}
+use Rattle.mm_frame.{specs.Code.KeptScope.{uses_numbers}, proofs.lemmas.scope.KnownLemmas.{knows_next, takes_sound_float, takes_label}}
 use Rattle.mm_frame.proofs.tables.Tables.add.Goals as goal
 
 pub returns-in-Constants : goal.returns-in-Constants
@@ -8,7 +8,11 @@ returns-in-Constants c =
     let item = c.args.statement.now in
     on_ok_weaker c.take_constants.result
     (λ d all before h l a k. knows_next all before item Constants c.args.number c.args.self.now c.take_constants.new.self c.in-Constants.ensures.kind h l k
-    (takes_constants all item c.args.number c.args.self.now c.take_constants.new.self (d all item.symbols k.distinct (a (ap uses_numbers (sym c.in-Constants.ensures.kind))))))
+    (record {
+      names = (d all item.symbols k.distinct (a (ap uses_numbers (sym c.in-Constants.ensures.kind)))).names;
+      labels =
+          (d all item.symbols k.distinct (a (ap uses_numbers (sym c.in-Constants.ensures.kind)))).labels;
+    }))
     c.take_constants.ensures
 
 pub returns-in-Variables : goal.returns-in-Variables
@@ -16,7 +20,11 @@ returns-in-Variables c =
     let item = c.args.statement.now in
     on_ok_weaker c.take_variables.result
     (λ d all before h l a k. knows_next all before item Variables c.args.number c.args.self.now c.take_variables.new.self c.in-Variables.ensures.kind h l k
-    (takes_variables all item c.args.number c.args.self.now c.take_variables.new.self (d all item.symbols k.distinct (a (ap uses_numbers (sym c.in-Variables.ensures.kind))))))
+    (record {
+      names = (d all item.symbols k.distinct (a (ap uses_numbers (sym c.in-Variables.ensures.kind)))).names;
+      labels =
+          (d all item.symbols k.distinct (a (ap uses_numbers (sym c.in-Variables.ensures.kind)))).labels;
+    }))
     c.take_variables.ensures
 
 pub returns-in-Floating : goal.returns-in-Floating
@@ -38,5 +46,5 @@ returns-in-Essential c =
 
 pub returns-in-Disjoint : goal.returns-in-Disjoint
 returns-in-Disjoint c all before h l a k =
-    let item = c.args.statement.now in
-    knows_next all before item (kind_of c.kind.result) c.args.number c.args.self.now c.args.self.now c.kind.ensures.kind h l k (takes_nothing all c.kind.result item c.args.number c.args.self.now c.in-Disjoint.is)
+    knows_next all before c.args.statement.now (kind_of c.kind.result) c.args.number c.args.self.now c.args.self.now c.kind.ensures.kind h l k
+    (grind (arith, common_steps, c.in-Disjoint.is) steps 200000)

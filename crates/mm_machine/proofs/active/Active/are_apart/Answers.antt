@@ -1,6 +1,6 @@
 use Rattle.std.proofs.{lemmas.{Grind.{common_steps}, List.{length-map}}, Common.{map, arith, Contains}}
-use Rattle.mm_machine.{specs.{Language.{Frame.{Symbol}, CitedFrames.{meant_pairs}}, Code.PairClause.{Apart}}, proofs.lemmas.machine.FlatLemmas.{mapped_get}}
-use Rattle.mm_machine.proofs.lemmas.machine.ApartLemmas.{each_more, each_all, contains_at}
+use Rattle.mm_machine.{specs.{Language.{Frame.{Symbol}, CitedFrames.{meant_pairs}}, Code.PairClause.{Apart}}, proofs.lemmas.machine.{FlatLemmas.{mapped_get}, ApartLemmas.{each_more, each_all}}}
+use Rattle.mm_machine.proofs.lemmas.lists.Members.{contains_at}
 use Rattle.mm_machine.proofs.active.Active.are_apart.Goals as goal
 
 pub loop-i-preserved : goal.loop-i-preserved

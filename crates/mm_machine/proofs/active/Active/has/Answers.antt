@@ -1,6 +1,6 @@
-use Rattle.std.proofs.{Common.{rules, [], false, get_or, arith, refl, sym, ◌∙◌, ap}, lemmas.{Bool.{false≢true}, List.{length-map}, Option.{slice_get-get_or}}}
+use Rattle.std.proofs.{Common.{rules, false, arith, refl, sym, ◌∙◌, ap}, lemmas.{Bool.{false≢true}, List.{length-map}}}
 use Rattle.mm_machine.specs.{Language.{Frame.{Symbol}, NumberedSymbols.{comes_before}, CitedFrames.{meant_pairs, meant_pair}, Keys.{pair_keys}}, Code.PairClause.{IsPair}}
-use Rattle.mm_machine.proofs.lemmas.machine.{ApartLemmas.{pair_found, pair_nowhere, each_more}, KeyOrderLemmas.{none_before, none_behind}}
+use Rattle.mm_machine.proofs.lemmas.machine.{ApartLemmas.{pair_found, pair_nowhere, each_more}, KeyOrderLemmas.{none_before, none_behind}, FlatLemmas.{there_at}}
 use Rattle.mm_machine.proofs.active.Active.has.Goals as goal
 
 pub loop-place-init : goal.loop-place-init
@@ -12,31 +12,28 @@ loop-place-init g c =
 pub returns-then-is_before : goal.returns-then-is_before
 returns-then-is_before g c =
     let m = g.S.Symbol.means in
-    let d : Symbol = record { name = []; variable = false } in
     let pairs = meant_pairs m c.args.self.now.pairs.now in
-    let at = get_or pairs c.loop-place.place (d, d) in
-    let there = slice_get-get_or pairs c.loop-place.place (d, d) (omega (arith, length-map c.args.self.now.pairs.now (meant_pair m), c.loop-place-test.true)) in
-    let before = (λ i. comes_before (sym c.keys-wanted.ensures i) (sym (c.keys_at.ensures at there) i)) ∙ sym c.is_before.ensures ∙ c.if-is_before.true in
+    let there = there_at (meant_pair m) c.args.self.now.pairs.now c.loop-place.place (omega (arith, c.loop-place-test.true)) in
+    let before =
+    (λ i. comes_before (sym c.keys-wanted.ensures i) (sym (c.keys_at.ensures there.0 there.1) i)) ∙ sym c.is_before.ensures ∙ c.if-is_before.true in
     search (rules, false≢true, none_behind) steps 500000
 
 pub returns-then-is_at : goal.returns-then-is_at
 returns-then-is_at g c =
     let m = g.S.Symbol.means in
-    let d : Symbol = record { name = []; variable = false } in
     let pairs = meant_pairs m c.args.self.now.pairs.now in
     let n = c.loop-place.place in
-    let at = slice_get-get_or pairs n (d, d) (omega (arith, length-map c.args.self.now.pairs.now (meant_pair m), c.loop-place-test.true)) in
-    (λ _. pair_found pairs n (get_or pairs n (d, d)) (m c.args.x.now) (m c.args.y.now) at ((c.is_at.ensures (get_or pairs n (d, d)) at).0 c.if-is_at.true), λ _. refl)
+    let there = there_at (meant_pair m) c.args.self.now.pairs.now n (omega (arith, c.loop-place-test.true)) in
+    (λ _. pair_found pairs n there.0 (m c.args.x.now) (m c.args.y.now) there.1 ((c.is_at.ensures there.0 there.1).0 c.if-is_at.true), λ _. refl)
 
 pub loop-place-preserved : goal.loop-place-preserved
 loop-place-preserved g c =
     let m = g.S.Symbol.means in
-    let d : Symbol = record { name = []; variable = false } in
     let pairs = meant_pairs m c.args.self.now.pairs.now in
     let n = c.loop-place.place in
-    let at = get_or pairs n (d, d) in
-    let there = slice_get-get_or pairs n (d, d) (omega (arith, length-map c.args.self.now.pairs.now (meant_pair m), c.loop-place-test.true)) in
-    each_more (λ p. IsPair p (m c.args.x.now) (m c.args.y.now) → ⊥) pairs n at there (λ is. false≢true (sym c.if-is_at.false ∙ (c.is_at.ensures at there).1 is)) c.loop-place.invariant
+    let there = there_at (meant_pair m) c.args.self.now.pairs.now n (omega (arith, c.loop-place-test.true)) in
+    each_more (λ p. IsPair p (m c.args.x.now) (m c.args.y.now) → ⊥) pairs n there.0 there.1
+    (λ is. false≢true (sym c.if-is_at.false ∙ (c.is_at.ensures there.0 there.1).1 is)) c.loop-place.invariant
 
 pub returns : goal.returns
 returns g c =

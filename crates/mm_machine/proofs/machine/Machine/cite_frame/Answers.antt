@@ -36,8 +36,7 @@ returns g c =
     let here : length stack - length frame.hypotheses ≡ below = omega (arith, length-map es (read (map m symbols)), length-map hs (mandatory_of m), k, c.len-2.ensures) in
     let result = map m c.in_ok-self.field-0.items in
     record {
-      cites = let whole = cited_by active frame stack (read_all (map m c.deref-symbols.result.now) entries) c.requires.frame
-          (ap length taken ∙ omega (arith, length-map (drop below es) (read (map m symbols)), length-drop below es, length-map hs (mandatory_of m), c.len.ensures, c.len-2.ensures, k, c.if-len-count.false))
+      cites = let whole = cited_by active frame c.requires.frame (read_all (map m c.deref-symbols.result.now) entries) stack
           (omega (arith, c.len.ensures, k, c.if-len-count.false, length-map es (read (map m symbols)), length-map hs (mandatory_of m)))
           (entries_taken m hs c.args.expression.now c.args.pairs.now (map m symbols) es below (omega (arith, c.len.ensures, c.len-2.ensures, k, c.if-len-count.false)) ∙ sym taken)
           (rw c.in_default-2.is at c.in_ok-number.ensures) result
@@ -85,11 +84,11 @@ returns-in_default g c =
     let entries : List Entry = take (length c.deref.result.now - below) (drop below c.deref.result.now) in
     let taken = slice_taken c.deref-symbols.result.now symbols m c.deref.result.now es below c.deref-symbols.ensures.value c.deref.ensures.value in
     record {
-      cites = says08 (meant_pairs m c.args.active.now.pairs.now) (frame_from m hs c.args.expression.now c.args.pairs.now) (read_all (map m c.deref-symbols.result.now) entries) c.requires.frame
-          (ap length taken ∙ omega (arith, length-map (drop below es) (read (map m symbols)), length-drop below es, length-map hs (mandatory_of m), c.len.ensures, c.len-2.ensures, k, c.if-len-count.false))
-          c.in_default.ensures (read_all (map m symbols) es)
+      cites = says08 (meant_pairs m c.args.active.now.pairs.now) (frame_from m hs c.args.expression.now c.args.pairs.now) c.requires.frame
+          (read_all (map m c.deref-symbols.result.now) entries) (read_all (map m symbols) es)
           (omega (arith, c.len.ensures, k, c.if-len-count.false, length-map es (read (map m symbols)), length-map hs (mandatory_of m)))
-          (entries_taken m hs c.args.expression.now c.args.pairs.now (map m symbols) es below (omega (arith, c.len.ensures, c.len-2.ensures, k, c.if-len-count.false)) ∙ sym taken);
+          (entries_taken m hs c.args.expression.now c.args.pairs.now (map m symbols) es below (omega (arith, c.len.ensures, c.len-2.ensures, k, c.if-len-count.false)) ∙ sym taken)
+          c.in_default.ensures;
       whole = c.requires.whole;
       saved = refl;
     }

@@ -1,4 +1,4 @@
-use Rattle.std.proofs.{Common.{map, length, sym, arith}, lemmas.{List.{length-map}, Grind.{elements}}}
+use Rattle.std.proofs.{Common.{rules, map, length, sym, arith}, lemmas.{List.{length-map}, Grind.{elements}}}
 use Rattle.mm_machine.{specs.declared.pattern.Entry.{Entry}, proofs.lemmas.machine.StackLemmas.{pushed_all, grown_all, wider}}
 use Rattle.mm_machine.proofs.machine.Machine.load.Goals as goal
 
@@ -15,13 +15,7 @@ returns-clause-saved g c =
     (omega (arith, c.len-start.ensures, k, length-map c.args.self.now.symbols.items m)) (omega (arith, c.len-end.ensures, l, length-map c.append.new.to.items m))
 
 pub returns-clause-stack : goal.returns-clause-stack
-returns-clause-stack g c =
-    let m = g.S.Symbol.means in
-    grown_all (map m c.args.self.now.symbols.items) (map m c.args.expression.now) (map m c.append.new.to.items) (length c.args.self.now.symbols.items) c.args.self.now.stack.items c.in_ok-append.ensures (omega (
-      arith,
-      length-map c.args.self.now.symbols.items
-          m,
-    )) c.requires.within
+returns-clause-stack g c = search (rules, grown_all, length-map) steps 200000
 
 pub returns-clause-whole : goal.returns-clause-whole
 returns-clause-whole g c = grind (arith, elements)

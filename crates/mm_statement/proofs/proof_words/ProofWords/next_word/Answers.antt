@@ -1,13 +1,10 @@
-use Rattle.std.proofs.{Common.{arith, ◌∷◌, sym, ◌∙◌, ap, subst}, lemmas.Grind.{common_steps}}
+use Rattle.std.proofs.{Common.{arith, sym, ◌∙◌, ap, subst}, lemmas.Grind.{common_steps}}
 use Rattle.mm_store.specs.mm_text.Language.WordsLeft.{WordsLeft}
 use Rattle.mm_statement.{specs.Code.PlainWords.{AreFewWords, word_bytes, plain_bytes}, proofs.SpokenLemmas.{few_more, proof_more}}
 use Rattle.mm_statement.proofs.proof_words.ProofWords.next_word.Goals as goal
 
 pub returns : goal.returns
-returns c =
-    let text = c.self.inside.text.now in
-    let words = ap (λ (left : WordsLeft). left.words) (sym c.again-ahead.ensures) ∙ c.in_ok-word.ensures.word in
-    sym c.self.view_is ∙ proof_more text c.self.inside.cursor.words c.next_word.new.self.words c.in_ok-word.word words (sym c.if-not-is_plain.ensures) ∙ ap (λ bytes. bytes ∷ plain_bytes text c.next_word.new.self.words) (sym c.bytes_of.ensures)
+returns c = grind (arith, common_steps, proof_more) steps 200000
 
 pub invariant_of-self : goal.invariant_of-self
 invariant_of-self c =

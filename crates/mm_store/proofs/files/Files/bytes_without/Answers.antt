@@ -1,7 +1,6 @@
-use Rattle.std.proofs.{Common.{◌≡◌, [], is_some, length, map, get_or, ap, ◌∙◌, arith}, lemmas.List.{get_or_read}}
+use Rattle.std.proofs.{Common.{rules, ◌≡◌, [], length, map, get_or, ap, ◌∙◌, arith}, lemmas.List.{get_or_read}}
 use Rattle.mm_store.specs.{Code.{Edited.{pieces_in}, Kept.{keyed_file}}, Language.{FilesView.{FilesView, plain, bytes_of}, Pieces.{text_under}, Undoing.{keys_in}}}
 use Rattle.mm_store.proofs.lemmas.{files.{FileLemmas.{shown, piece_is, in_keys, old_key}, ListLemmas.{read_member}}, edits.StepLemmas.{here_is_some}}
-use Rattle.std.specs.FinMap as finite
 use Rattle.mm_store.proofs.files.Files.bytes_without.Goals as goal
 
 pub unwrap-requires : goal.unwrap-requires
@@ -14,12 +13,7 @@ index-requires c =
     in_keys c.self.inside c.args.number c.args.at c.unwrap.result.1.now file piece
 
 pub text-requires : goal.text-requires
-text-requires c =
-    let piece = piece_is c.self.inside c.args.number c.args.at c.self.invariant c.self.view_is c.requires in
-    let file = (shown c.self.inside c.args.number c.self.invariant c.as_slice.ensures.entries c.get_index.ensures.entry c.unwrap.ensures).file in
-    let key : c.index.result.now ≡ get_or (keys_in (map keyed_file c.self.inside.files.entries) c.args.number) c.args.at 0 =
-    old_key file c.args.at (get_or_read c.unwrap.result.1.now.keys.items c.args.at c.index.result.now (omega (arith, piece.there, ap length file.keys)) c.index.ensures 0) in
-    ap (λ q. is_some (finite.get c.self.inside.pieces q)) key ∙ here_is_some (map keyed_file c.self.inside.files.entries) c.self.inside.pieces c.args.number c.args.at c.self.invariant.once piece.there
+text-requires c = search (rules, get_or_read, here_is_some, old_key, piece_is, shown) steps 200000
 
 pub overflow_sub-result : goal.overflow_sub-result
 overflow_sub-result c =

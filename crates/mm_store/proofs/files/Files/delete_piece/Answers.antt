@@ -1,9 +1,7 @@
-use Rattle.std.{proofs.{lemmas.Grind.{common_steps}, Common.{◌≡◌, ◌-◌, List, is_some, length, map, get_or, sym, ap, ◌∙◌, subst, arith}}, specs.List.{remove}}
-use Rattle.mm_store.specs.Language.{EditedKeys.{deleted}, FilesView.{KeyedFile, plain_file}, Pieces.{Parked, Deleted, with_state, text_under}, Undoing.{keys_in, key_at}}
-use Rattle.mm_store.{specs.Code.{Edited.{pieces_in, IsDeleted}, Kept.{keyed_file}}, proofs.lemmas.files.FileLemmas.{lent, piece_is, in_keys, old_key, once_in, small_in}}
-use Rattle.mm_store.proofs.lemmas.{files.{KeptLemmas.{view_after, kept_edited}, PieceLemmas.{text_state}}, edits.UndoLemmas.{is_deleted}}
+use Rattle.std.{proofs.{lemmas.Grind.{common_steps}, Common.{◌≡◌, List, is_some, length, map, get_or, sym, ap, ◌∙◌, arith}}, specs.List.{remove}}
+use Rattle.mm_store.proofs.lemmas.{files.{EntryLemmas.{view_set, same_view}, FileLemmas.{lent, piece_is, in_keys, old_key, once_in, small_in}, KeptLemmas.{kept_edited}}, edits.UndoLemmas.{is_deleted}}
+use Rattle.mm_store.specs.{Language.{EditedKeys.{deleted}, FilesView.{KeyedFile}, Pieces.{Parked, Deleted, with_state, text_under}, Undoing.{keys_in}}, Code.Kept.{keyed_file}}
 use Rattle.std.specs.FinMap as finite
-use Rattle.mm_store.specs.Language.Undoing as action
 use Rattle.mm_store.proofs.lemmas.edits.StepLemmas as lemmas
 use Rattle.mm_store.proofs.files.Files.delete_piece.Goals as goal
 
@@ -39,29 +37,16 @@ invariant_of-self c =
     let file = lent inside n c.self.invariant c.get_index_mut.ensures.value c.unwrap-file.ensures in
     let done = c.delete_key-old.ensures in
     let old : c.delete_key-old.result ≡ get_or (keys_in fs n) at 0 = old_key file at done.value in
-    let parked = with_state p (get_or (keys_in fs n) at 0) (Parked n Deleted) in
     let text = c.set_state-less.ensures.len ∙ ap (λ q. length (text_under p q)) old in
     kept_edited inside n c.unwrap-file.result.now c.delete_key-old.new.self file.here done.tail (remove (keys_in fs n) at) (done.items ∙ ap (λ ks. remove ks at) (sym file.keys))
-    c.set_state-less.new.self parked (c.set_state-less.ensures.pieces ∙ ap (λ q. with_state p q (Parked n Deleted)) old) _ c.self.invariant
-    (lemmas.once_deleted fs p n at once there) (lemmas.deletions_others fs p n at once there) (omega (arith, done.deleted, file.has.parked, lemmas.deletions_here fs p n at once there)) done.room
-    (omega (arith, lemmas.bytes_deleted fs p n at once there, c.self.invariant.counted, text)) (omega (arith, c.self.invariant.within))
-    (remove (pieces_in (map (plain_file p) fs) n) at) (lemmas.plain_deleted fs p n at once there)
-    p (sym (lemmas.texts_all p parked (text_state p (get_or (keys_in fs n) at 0) (Parked n Deleted)) (remove (keys_in fs n) at))) piece.file (done.starts p file.starts)
+    c.set_state-less.new.self _ (c.set_state-less.ensures.pieces ∙ ap (λ q. with_state p q (Parked n Deleted)) old) _ c.self.invariant
+    (lemmas.deleted fs p n at once there) (omega (arith, done.deleted)) done.room
+    (omega (arith, text, piece.within)) (omega (arith, c.self.invariant.within)) (done.starts p file.starts)
 
 pub returns : goal.returns
 returns c =
-    let n = c.args.number in
-    let at = c.args.at in
-    let inside = c.self.inside in
-    let fs : List KeyedFile = map keyed_file inside.files.entries in
-    let p = inside.pieces in
-    let file = lent inside n c.self.invariant c.get_index_mut.ensures.value c.unwrap-file.ensures in
-    let done = c.delete_key-old.ensures in
-    let old : c.delete_key-old.result ≡ get_or (keys_in fs n) at 0 = old_key file at done.value in
-    let is = view_after inside n c.unwrap-file.result.now c.delete_key-old.new.self file.here done.tail (remove (keys_in fs n) at) (done.items ∙ ap (λ ks. remove ks at) (sym file.keys)) c.set_state-less.new.self
-    (with_state p (get_or (keys_in fs n) at 0) (Parked n Deleted)) (c.set_state-less.ensures.pieces ∙ ap (λ q. with_state p q (Parked n Deleted)) old) (inside.bytes - c.set_state-less.result) ∙ ap (λ v. deleted v n at) c.self.view_is in
-    let undo_is : record { file = n; action = action.Deleted at c.delete_key-old.result } ≡ record { file = n; action = action.Deleted at (key_at c.args.self.now n at) } =
-    ap (λ o. record { file = n; action = action.Deleted at o }) (old ∙ ap (λ v. key_at v n at) c.self.view_is) in
-    subst (λ new. IsDeleted c.args.self.now new n at (record { file = n; action = action.Deleted at c.delete_key-old.result })) (sym is)
-    (subst (λ u. IsDeleted c.args.self.now (deleted c.args.self.now n at) n at u) (sym undo_is)
-    (is_deleted c.args.self.now n at (once_in c.self.invariant c.self.view_is) (small_in c.self.invariant c.self.view_is) c.requires.there))
+    let file = lent c.self.inside c.args.number c.self.invariant c.get_index_mut.ensures.value c.unwrap-file.ensures in
+    let is = view_set c.self.inside.files.entries c.args.number _ c.delete_key-old.new.self file.here c.delete_key-old.ensures.tail in
+    let small = small_in c.self.invariant c.self.view_is in
+    let gone = is_deleted c.args.self.now c.args.number c.args.at (once_in c.self.invariant c.self.view_is) small c.requires.there in
+    grind (arith, common_steps, same_view, old_key) steps 200000

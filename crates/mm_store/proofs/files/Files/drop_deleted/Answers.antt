@@ -1,8 +1,8 @@
 use Rattle.std.{proofs.{lemmas.Grind.{common_steps}, Common.{◌≡◌, List, length, map, sym, ap, ◌∙◌, subst, arith, Vec, Global}}, specs.VecDeque.{deque_len, deque_capacity}}
+use Rattle.mm_store.proofs.lemmas.files.{EntryLemmas.{view_set, same_view, starts_at}, FileLemmas.{lent}, ListLemmas.{plain_same, with_same, with_pieces_same}}
+use Rattle.mm_store.proofs.lemmas.{files.{KeptLemmas.{kept_after, deleted_from, deleted_file}, PieceLemmas.{stands_settled, text_drop_other}}, places.StartLemmas.{starts_alike}}
 use Rattle.mm_store.specs.{Code.{Kept.{keyed_file, places}, Edited.{pieces_in}}, Language.{FilesView.{FilesView, KeyedFile, plain_file, bytes_of}, Pieces.{Deleted, IsParked}, Undoing.{keys_in}}}
-use Rattle.mm_store.{specs.declared.start.Start.{Start}, proofs.lemmas.files.{FileLemmas.{lent}, ListLemmas.{plain_same, with_same, with_pieces_same}}}
-use Rattle.mm_store.proofs.lemmas.files.{KeptLemmas.{view_after, kept_after, deleted_from, deleted_file}, PieceLemmas.{stands_settled, text_drop_other}, EntryLemmas.{starts_at}}
-use Rattle.mm_store.proofs.lemmas.places.StartLemmas.{starts_alike}
+use Rattle.mm_store.specs.declared.start.Start.{Start}
 use Rattle.std.specs.FinMap as finite
 use Rattle.mm_store.proofs.lemmas.edits.StepLemmas as lemmas
 use Rattle.mm_store.proofs.files.Files.drop_deleted.Goals as goal
@@ -43,15 +43,4 @@ invariant_of-self c =
     (starts_alike (pieces_in (map (plain_file p) fs) n) v w c.forget_deleted.ensures.known c.forget_deleted.ensures.starts (starts_at (map (plain_file p) fs) es n v c.self.invariant.starts file.here))
 
 pub returns : goal.returns
-returns c =
-    let n = c.args.number in
-    let inside = c.self.inside in
-    let fs : List KeyedFile = map keyed_file c.self.inside.files.entries in
-    let p = c.self.inside.pieces in
-    let v = c.unwrap-file.result.now in
-    let file = lent inside n c.self.invariant c.get_index_mut.ensures.value c.unwrap-file.ensures in
-    let w = c.forget_deleted.new.self in
-    let items : w.keys.items ≡ keys_in fs n = ap (λ k. k.items) c.forget_deleted.ensures.keys ∙ sym file.keys in
-    view_after inside n v w file.here c.forget_deleted.ensures.tail (keys_in fs n) items c.drop_piece.new.self (finite.remove p c.args.old) c.drop_piece.ensures.pieces c.self.inside.bytes
-    ∙ ap (λ (files : List KeyedFile). record { keyed = files; pieces = finite.remove p c.args.old }) (with_same fs n)
-    ∙ ap (λ (v : FilesView). record { keyed = v.keyed; pieces = finite.remove v.pieces c.args.old }) c.self.view_is
+returns c = grind (arith, common_steps, same_view, view_set, lent, with_same) steps 200000

@@ -1,13 +1,10 @@
-use Rattle.std.proofs.{Common.{arith, ◌≡◌, sym, subst}, lemmas.Grind.{common_steps}}
-use Rattle.mm_store.{specs.Language.{FilesView.{FilesView}, Pieces.{Replaced, IsParked}}, proofs.lemmas.files.{EntryLemmas.{same_view}, KeptLemmas.{settled_kept}}}
-use Rattle.std.specs.FinMap as finite
+use Rattle.std.proofs.{Common.{arith}, lemmas.Grind.{common_steps}}
+use Rattle.mm_store.proofs.lemmas.{edits.StepLemmas.{parked, replaced_weight}, files.{ListLemmas.{plain_same}, EntryLemmas.{room_same, same_view}, PieceLemmas.{stands_settled, text_drop_other}}}
+use Rattle.mm_store.proofs.lemmas.expansion.WeightLemmas.{weight_dropped}
 use Rattle.mm_store.proofs.files.Files.drop_replaced.Goals as goal
 
 pub invariant_of-self : goal.invariant_of-self
-invariant_of-self c =
-    let is_parked = subst (λ (view : FilesView). IsParked view.pieces c.args.old c.args.number Replaced) (sym c.self.view_is) c.requires in
-    let p2 : c.drop_piece.new.self ≡ finite.remove c.self.inside.pieces c.args.old = c.drop_piece.ensures.pieces in
-    settled_kept c.self.inside c.args.number c.args.old is_parked c.drop_piece.new.self p2 c.self.invariant
+invariant_of-self c = grind (arith, common_steps, parked, plain_same, replaced_weight, room_same, stands_settled, text_drop_other, weight_dropped) steps 200000
 
 pub returns : goal.returns
 returns c = grind (arith, common_steps, same_view) steps 200000

@@ -1,6 +1,6 @@
 use Rattle.std.proofs.{lemmas.Grind.{common_steps}, Common.{◌+◌, map, sym, subst, arith, take}}
 use Rattle.mm_store.specs.Language.{Batches.{IsSpendable, KeepsReading}, EditedKeys.{IsBatchByKeys}, FilesView.{plain}}
-use Rattle.mm_store.proofs.lemmas.edits.RefusedLemmas.{batch_error, batch_next, by_keys_next, mapped_there, keys_then, reads_alike, take_whole}
+use Rattle.mm_store.proofs.lemmas.edits.RefusedLemmas.{batch_error, batch_next, by_keys_next, mapped_there, keys_then, reads_alike}
 use Rattle.mm_text.specs.Language.Asked.{asked}
 use Rattle.mm_store.proofs.files.Files.edit_all.Goals as goal
 
@@ -29,7 +29,7 @@ loop-number-preserved c = record {
 }
 
 pub returns-clause-ok : goal.returns-clause-ok
-returns-clause-ok c = grind (arith, common_steps, take_whole c.args.edits.now c.loop-number.number (omega (arith, c.loop-number-test.false, c.loop-number.auto.number-end))) steps 200000
+returns-clause-ok c = grind (arith, common_steps) steps 200000
 
 pub returns-clause-reading : goal.returns-clause-reading
 returns-clause-reading c = subst (KeepsReading c.args.self.now) (sym c.restart_all.ensures) (reads_alike c.args.self.now c.loop-number.self c.loop-number.invariant.keys)

@@ -1,18 +1,17 @@
-use Rattle.std.proofs.{lemmas.{Grind.{common_steps}, List.{length-map}, Option.{same_Some}}, Common.{◌+◌, ◌<◌, ◌≤◌, List, Result, Ok, Err, length, map, refl, sym, ap, ◌∙◌, subst, arith}}
+use Rattle.std.proofs.{lemmas.{Option.{slice_get_within, same_Some}, Grind.{common_steps}, List.{length-map}}, Common.{◌+◌, ◌<◌, ◌≤◌, List, Result, length, map, refl, sym, ap, ◌∙◌, subst, arith}}
 use Rattle.std.specs.{List.{insert}, Result.{OnErr}}
+use Rattle.mm_store.proofs.lemmas.files.{EntryLemmas.{texts_of}, FileLemmas.{lent, once_in, small_in}, KeptLemmas.{length_set, reserved, texts_set, view_after, kept_edited}}
+use Rattle.mm_store.{proofs.lemmas.{places.ChangeLemmas.{starts_here}, edits.UndoLemmas.{is_inserted}}, specs.{declared.files.Files.TheInside.{Inside}, Language.EditedKeys.{inserted}}}
+use Rattle.mm_store.specs.{Language.{FilesView.{FilesView, KeyedFile, plain, bytes_of}, Pieces.{standing_piece, text_under}, Undoing.{keys_in}}, Code.Edited.{pieces_in, with_pieces}}
+use Rattle.mm_store.specs.Code.{Kept.{keyed_file}, Starts.{KnowsStarts}}
 use Rattle.indexmap.specs.IndexMap.{with_value_at}
-use Rattle.mm_store.specs.{declared.files.Files.TheInside.{Inside}, Language.{EditedKeys.{inserted}, FilesView.{FilesView, KeyedFile, plain, plain_file, bytes_of}}}
-use Rattle.mm_store.specs.{Language.{Pieces.{standing_piece, text_under}, Undoing.{keys_in}}, Code.{Edited.{pieces_in, with_pieces}, Kept.{keyed_file}, Starts.{KnowsStarts}}}
-use Rattle.mm_store.proofs.lemmas.{files.{FileLemmas.{lent, once_in, small_in}, KeptLemmas.{file_in, length_set, reserved, texts_set, view_after, kept_edited}}, places.ChangeLemmas.{starts_here}}
-use Rattle.mm_store.proofs.lemmas.edits.UndoLemmas.{is_inserted}
 use Rattle.std.specs.FinMap as finite
 use Rattle.mm_store.specs.Language.Undoing as action
 use Rattle.mm_store.proofs.lemmas.edits.StepLemmas as lemmas
 use Rattle.mm_store.proofs.files.Files.insert_piece.Goals as goal
 
 on_err : {T E : Type 0} (r : Result T E) (P : Type 0) → P → OnErr r P
-on_err (Ok x) P p = tt
-on_err (Err e) P p = p
+on_err r P p = grind (arith, common_steps) steps 200000
 
 pub unwrap-file-requires : goal.unwrap-file-requires
 unwrap-file-requires c = grind (arith, common_steps, length-map) steps 200000
@@ -45,7 +44,7 @@ returns-in_err-key-clause-err c =
     on_err c.from_residual-in_err-key.result _ (reserved c.self.inside c.args.number _ _ file.here done.tail done.items c.put.new.self c.in_err-key.ensures.err c.self.invariant c.self.view_is done.deleted done.room done.known done.starts).1
 
 pub unwrap-file_again-requires : goal.unwrap-file_again-requires
-unwrap-file_again-requires c = grind (arith, common_steps, file_in, length_set, lent) steps 200000
+unwrap-file_again-requires c = grind (arith, common_steps, length_set, lent, slice_get_within, texts_of, length-map) steps 200000
 
 pub put_key-requires : goal.put_key-requires
 put_key-requires c =
@@ -72,16 +71,16 @@ invariant_of-self-2 c =
     let there = subst (λ (view : FilesView). n < length view.keyed) (sym made.1) c.requires.file in
     let fresh = c.in_ok-key.ensures.fresh in
     let put = c.in_ok-key.ensures.ok in
-    let same = lemmas.deletions_inserted fs p n at once k t there fresh in
-    let bytes = lemmas.bytes_inserted fs p n at once k t there fresh in
-    let means = lemmas.plain_inserted fs p n at once k t there fresh in
+    let step = lemmas.inserted fs p n at once k t fresh there in
     let allowed = subst (λ v. bytes_of (with_pieces (plain v) n (insert (pieces_in (plain v) n) at t)) ≤ 4294967295) (sym made.1) c.requires.within in
     let now = c.put_key.ensures in
-    kept_edited inside n c.unwrap-file_again.result.now c.put_key.new.self again.here now.tail (insert (keys_in fs n) at k) (now.items ∙ ap (λ ks. insert ks at k) (sym again.keys))
-    c.put.new.self (finite.insert p k (standing_piece t)) put _ made.0 (lemmas.once_inserted fs p n at once k t there fresh) (λ m d. same m) (now.deleted ∙ again.has.parked ∙ sym (same n)) now.room
-    (omega (arith, bytes, made.0.counted, c.len-more.ensures.value)) (omega (arith, bytes, made.0.counted, c.len-more.ensures.value, allowed, ap bytes_of means))
-    (insert (pieces_in (map (plain_file p) fs) n) at t) means (finite.insert p k (standing_piece t)) refl there (subst (λ m. KnowsStarts m c.put_key.new.self) put (now.starts c.put.new.self
-    (starts_here p c.put.new.self inside.files.entries n c.unwrap-file_again.result.now made.0.starts again.here (ap (λ m. map (text_under m) (keys_in fs n)) put ∙ lemmas.texts_left fs p n at once k t there fresh))))
+    kept_edited inside n c.unwrap-file_again.result.now c.put_key.new.self again.here now.tail (insert (keys_in fs n) at k)
+    (now.items ∙ ap (λ ks. insert ks at k) (sym again.keys)) c.put.new.self _ put _ made.0 step
+    (omega (arith, now.deleted)) now.room (omega (arith, c.len-more.ensures.value))
+    (omega (arith, step.bytes, made.0.counted, c.len-more.ensures.value, allowed, ap bytes_of step.means))
+    (subst (λ m. KnowsStarts m c.put_key.new.self) put (now.starts c.put.new.self
+    (starts_here p c.put.new.self inside.files.entries n c.unwrap-file_again.result.now made.0.starts again.here
+    (ap (λ m. map (text_under m) (keys_in fs n)) put ∙ lemmas.texts_left fs p n at once k t fresh))))
 
 pub returns-clause-ok : goal.returns-clause-ok
 returns-clause-ok c =

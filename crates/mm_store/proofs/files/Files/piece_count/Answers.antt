@@ -1,12 +1,12 @@
 use Rattle.std.{proofs.{Common.{arith, ℕ, Some, length, sym, ap, ◌∙◌}, lemmas.{Grind.{common_steps}, List.{length-map}}}, specs.Option.{option_map}}
-use Rattle.mm_store.{specs.Language.{Pieces.{text_under}, FilesView.{File, FilesView, plain, find_file}}, proofs.lemmas.files.FilesLemmas.{found_is, none_is}}
+use Rattle.mm_store.{proofs.lemmas.files.{NumberLemmas.{number_is}, FilesLemmas.{found_is}}, specs.Language.{Pieces.{text_under}, FilesView.{File, FilesView, plain, find_file}}}
 use Rattle.mm_store.proofs.files.Files.piece_count.Goals as goal
 
 abbrev count : File → ℕ
 count file = length file.pieces
 
 pub returns-in-None : goal.returns-in-None
-returns-in-None c = grind (arith, common_steps, none_is c.self.inside.pieces c.args.name.now c.self.inside.files.entries c.in-None.ensures.index) steps 200000
+returns-in-None c = grind (arith, common_steps, number_is) steps 200000
 
 pub returns-in-Some : goal.returns-in-Some
 returns-in-Some c =

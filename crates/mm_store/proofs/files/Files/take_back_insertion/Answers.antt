@@ -1,8 +1,7 @@
-use Rattle.std.{proofs.{lemmas.Grind.{common_steps}, Common.{◌≡◌, ◌-◌, List, length, map, get_or, sym, ap, ◌∙◌, arith}}, specs.List.{remove}}
-use Rattle.mm_store.specs.{Code.{Edited.{pieces_in}, Kept.{keyed_file}}, Language.{FilesView.{KeyedFile, plain_file}, Pieces.{text_under}, Undoing.{keys_in, reversed}}}
-use Rattle.mm_store.proofs.lemmas.files.{FileLemmas.{lent, piece_is, in_keys, old_key}, KeptLemmas.{view_after, kept_edited}}
+use Rattle.std.{proofs.{lemmas.Grind.{common_steps}, Common.{◌≡◌, List, length, map, get_or, sym, ap, ◌∙◌, arith}}, specs.List.{remove}}
+use Rattle.mm_store.{proofs.lemmas.files.{EntryLemmas.{view_set, same_view}, FileLemmas.{lent, piece_is, in_keys, old_key}, KeptLemmas.{kept_edited}}, specs.Code.Kept.{keyed_file}}
+use Rattle.mm_store.specs.Language.{FilesView.{KeyedFile}, Pieces.{text_under}, Undoing.{keys_in}}
 use Rattle.std.specs.FinMap as finite
-use Rattle.mm_store.specs.Language.Undoing as action
 use Rattle.mm_store.proofs.lemmas.edits.StepLemmas as lemmas
 use Rattle.mm_store.proofs.files.Files.take_back_insertion.Goals as goal
 
@@ -32,19 +31,13 @@ invariant_of-self c =
     let done = c.take_key-key.ensures in
     let key : c.take_key-key.result ≡ get_or (keys_in fs n) at 0 = old_key file at done.value in
     kept_edited inside n c.unwrap-file.result.now c.take_key-key.new.self file.here done.tail (remove (keys_in fs n) at) (done.items ∙ ap (λ ks. remove ks at) (sym file.keys))
-    c.drop_piece-less.new.self (finite.remove p (get_or (keys_in fs n) at 0)) (c.drop_piece-less.ensures.pieces ∙ ap (finite.remove p) key) _ c.self.invariant
-    (lemmas.once_uninserted fs p n at once there) (λ m d. lemmas.deletions_dropped fs p n at once there m) (done.deleted ∙ file.has.parked ∙ sym (lemmas.deletions_dropped fs p n at once there n)) done.room
-    (omega (arith, lemmas.bytes_uninserted fs p n at once there, c.self.invariant.counted, (c.drop_piece-less.ensures.len ∙ ap (λ q. length (text_under p q)) key))) (omega (arith, c.self.invariant.within))
-    (remove (pieces_in (map (plain_file p) fs) n) at) (lemmas.plain_uninserted fs p n at once there) p (lemmas.texts_uninserted fs p n at once there) piece.file (done.starts p file.starts)
+    c.drop_piece-less.new.self _ (c.drop_piece-less.ensures.pieces ∙ ap (finite.remove p) key) _ c.self.invariant (lemmas.uninserted fs p n at once there)
+    (omega (arith, done.deleted)) done.room
+    (omega (arith, c.drop_piece-less.ensures.len, ap (λ q. length (text_under p q)) key, piece.within)) (omega (arith, c.self.invariant.within))
+    (done.starts p file.starts)
 
 pub returns : goal.returns
 returns c =
-    let n = c.args.number in
-    let at = c.args.at in
-    let inside = c.self.inside in
-    let fs : List KeyedFile = map keyed_file inside.files.entries in
-    let file = lent inside n c.self.invariant c.get_index_mut.ensures.value c.unwrap-file.ensures in
-    let done = c.take_key-key.ensures in
-    view_after inside n c.unwrap-file.result.now c.take_key-key.new.self file.here done.tail (remove (keys_in fs n) at) (done.items ∙ ap (λ ks. remove ks at) (sym file.keys)) c.drop_piece-less.new.self
-    (finite.remove inside.pieces (get_or (keys_in fs n) at 0)) (c.drop_piece-less.ensures.pieces ∙ ap (finite.remove inside.pieces) (old_key file at done.value)) (inside.bytes - c.drop_piece-less.result)
-    ∙ ap (reversed n (action.Inserted at)) c.self.view_is
+    let file = lent c.self.inside c.args.number c.self.invariant c.get_index_mut.ensures.value c.unwrap-file.ensures in
+    let is = view_set c.self.inside.files.entries c.args.number _ c.take_key-key.new.self file.here c.take_key-key.ensures.tail in
+    grind (arith, common_steps, same_view, old_key) steps 200000

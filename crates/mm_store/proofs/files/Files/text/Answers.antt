@@ -1,5 +1,5 @@
 use Rattle.std.{proofs.{lemmas.{Grind.{common_steps}, Option.{slice_get-map}}, Common.{◌≡◌, ℕ, is_some, true, length, map, get_or, ap, ◌∙◌, subst, arith, Vec, Global}}, specs.Option.{option_map}}
-use Rattle.mm_store.{specs.{declared.file_text.FileText.{FileText}, Code.Kept.{keyed_file}}, proofs.lemmas.files.{EntryLemmas.{keys_at}, FilesLemmas.{found_is, none_is, key_some}}}
+use Rattle.mm_store.{proofs.lemmas.files.{NumberLemmas.{number_is}, EntryLemmas.{keys_at}, FilesLemmas.{found_is, key_some}}, specs.{declared.file_text.FileText.{FileText}, Code.Kept.{keyed_file}}}
 use Rattle.std.specs.FinMap as finite
 use Rattle.mm_store.proofs.files.Files.text.Goals as goal
 
@@ -12,7 +12,7 @@ joined_text-requires c =
     λ at d lt. subst (λ ks. is_some (finite.get c.self.inside.pieces (get_or ks at d)) ≡ true) keys (key_some (map keyed_file es) c.self.inside.pieces c.self.invariant.once n at d (omega (arith, lt, ap length keys)))
 
 pub returns-in-None : goal.returns-in-None
-returns-in-None c = grind (arith, common_steps, none_is c.self.inside.pieces c.args.name.now c.self.inside.files.entries c.in-None.ensures.index) steps 200000
+returns-in-None c = grind (arith, common_steps, number_is) steps 200000
 
 pub returns-in_ok-joined_text-in-Some : goal.returns-in_ok-joined_text-in-Some
 returns-in_ok-joined_text-in-Some c =

@@ -1,5 +1,5 @@
-use Rattle.std.proofs.{lemmas.Grind.{common_steps}, Common.{sym, ◌∙◌, subst, arith, rules}}
-use Rattle.mm_store.{specs.Language.Batches.{CanUndoAll}, proofs.lemmas.edits.BatchLemmas.{undo_last, undo_others, undone_last, undone_none}}
+use Rattle.std.proofs.{lemmas.Grind.{common_steps}, Common.{subst, arith, rules}}
+use Rattle.mm_store.{specs.Language.Batches.{CanUndoAll}, proofs.lemmas.edits.BatchLemmas.{undo_last, undo_others, undone_last}}
 use Rattle.mm_store.proofs.files.Files.undo_all.Goals as goal
 
 pub take_back-requires : goal.take_back-requires
@@ -9,7 +9,7 @@ pub loop-undo-preserved : goal.loop-undo-preserved
 loop-undo-preserved c = grind (arith, common_steps, undone_last c.pop.new.self.items c.in-Some.undo c.loop-undo.self, undo_others) steps 200000
 
 pub returns : goal.returns
-returns c old spendable = c.restart_all.ensures ∙ sym (undone_none c.loop-undo.undos.items c.loop-undo.self (omega (arith, c.loop-undo.undos.ok.0, c.in_default.ensures.cases.0))) ∙ c.loop-undo.invariant.back ∙ spendable.back
+returns c old spendable = grind (arith, common_steps) steps 200000
 
 pub loop-undo-init : goal.loop-undo-init
 loop-undo-init c = search rules

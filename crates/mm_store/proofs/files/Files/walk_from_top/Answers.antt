@@ -1,9 +1,9 @@
 use Rattle.std.proofs.{Common.{arith, ◌∙◌, sym, refl}, lemmas.{Grind.{common_steps}, Option.{none-some}}}
-use Rattle.mm_store.proofs.lemmas.{files.ViewLemmas.{number_plain}, expansion.SetLemmas.{not_no_top}}
+use Rattle.mm_store.proofs.lemmas.files.ViewLemmas.{number_plain}
 use Rattle.mm_store.proofs.files.Files.walk_from_top.Goals as goal
 
 pub returns-in_err-from_top-in-Some-clause-no_top : goal.returns-in_err-from_top-in-Some-clause-no_top
-returns-in_err-from_top-in-Some-clause-no_top c = grind (arith, common_steps, not_no_top, none-some) steps 200000
+returns-in_err-from_top-in-Some-clause-no_top c = grind (arith, common_steps, none-some) steps 200000
 
 pub returns-in_ok-from_top-in-Some-clause-no_top : goal.returns-in_ok-from_top-in-Some-clause-no_top
 returns-in_ok-from_top-in-Some-clause-no_top c = (λ e. (cc), λ e. absurd (none-some c.in-Some.number (sym e ∙ sym c.in-Some.ensures.number)))
@@ -15,7 +15,7 @@ pub returns-in-None-clause-no_file : goal.returns-in-None-clause-no_file
 returns-in-None-clause-no_file c = (λ e. sym (number_plain c.args.self.now c.args.top.now) ∙ sym c.in-None.ensures.number, λ e. refl)
 
 pub returns-in_err-from_top-in-Some-clause-no_file : goal.returns-in_err-from_top-in-Some-clause-no_file
-returns-in_err-from_top-in-Some-clause-no_file c = grind (arith, common_steps, number_plain c.args.self.now c.args.top.now, not_no_top, none-some) steps 200000
+returns-in_err-from_top-in-Some-clause-no_file c = grind (arith, common_steps, none-some, number_plain) steps 200000
 
 pub returns-in_ok-from_top-in-Some-clause-no_file : goal.returns-in_ok-from_top-in-Some-clause-no_file
 returns-in_ok-from_top-in-Some-clause-no_file c = grind (arith, common_steps, number_plain c.args.self.now c.args.top.now, none-some) steps 200000

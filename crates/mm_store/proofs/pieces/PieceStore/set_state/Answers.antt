@@ -1,7 +1,7 @@
 use Rattle.std.{proofs.{lemmas.{Grind.{common_steps}, Option.{none-some}}, Common.{◌≡◌, Some, is_some, refl, sym, ap, ◌∙◌, arith}}, specs.Option.{option_map}}
-use Rattle.slab.{specs.Slab.{get, with_value}, proofs.SlabLemmas.{Updates-with_value}}
+use Rattle.mm_store.proofs.lemmas.files.{StoreLemmas.{one_less, parked_is, weigh_slots, kept_put, parked_changed, parked_dropped, slot_there, parked_there}, SlabLemmas.{get_is, state_is, text_is}}
 use Rattle.mm_store.specs.{declared.pieces.Piece.{Piece}, Language.Pieces.{with_state, parked_pieces}, Code.{States.{piece_state}, Slots.{pieces_of, held}}}
-use Rattle.mm_store.proofs.lemmas.files.{SlabLemmas.{get_is, state_is, text_is}, StoreLemmas.{kept_put, parked_changed, parked_dropped, others_parked, slot_there, parked_there}}
+use Rattle.slab.{specs.Slab.{get, with_value}, proofs.SlabLemmas.{Updates-with_value}}
 use Rattle.mm_store.proofs.pieces.PieceStore.set_state.Goals as goal
 
 pub overflow_sub-others : goal.overflow_sub-others
@@ -12,7 +12,7 @@ overflow_sub-others c =
     omega (arith, c.parked_under.ensures, parked_there slab c.args.key c.args.self.now has.0 c.self.view_is has.1, parked_dropped (pieces_of slab) c.args.key (held has.0) is, c.self.invariant.counted)
 
 pub prove-unreachable-requires : goal.prove-unreachable-requires
-prove-unreachable-requires c = grind (arith, common_steps, get_is, others_parked, parked_dropped, parked_there, slot_there) steps 200000
+prove-unreachable-requires c = grind (arith, common_steps, get_is, parked_dropped, parked_there, slot_there, one_less, parked_is, weigh_slots) steps 200000
 
 pub invariant_of-self-in-Some : goal.invariant_of-self-in-Some
 invariant_of-self-in-Some c =

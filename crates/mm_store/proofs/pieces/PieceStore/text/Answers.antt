@@ -1,11 +1,10 @@
-use Rattle.std.{proofs.{Common.{arith, ◌≡◌, Option, Some, None, is_some, true, Bor, refl, sym, ap, ◌∙◌}, lemmas.Grind.{common_steps}}, specs.Option.{option_copied}}
+use Rattle.std.{proofs.{Common.{arith, ◌≡◌, Option, Some, is_some, true, Bor, sym, ap, ◌∙◌}, lemmas.Grind.{common_steps}}, specs.Option.{option_copied}}
 use Rattle.slab.specs.Slab.{get}
 use Rattle.mm_store.proofs.lemmas.files.SlabLemmas.{some_slot, text_is}
 use Rattle.mm_store.proofs.pieces.PieceStore.text.Goals as goal
 
 some_copied : {T : Type 0} (r : Option (Bor T)) → is_some (option_copied r) ≡ true → is_some r ≡ true
-some_copied None e = e
-some_copied (Some x) e = refl
+some_copied r e = grind (arith, common_steps) steps 200000
 
 pub unwrap-piece-requires : goal.unwrap-piece-requires
 unwrap-piece-requires c = grind (arith, common_steps, some_copied, some_slot) steps 200000
