@@ -89,30 +89,22 @@ fn assertion_of<'a>(
     })
 }
 
-/// The assertions with these numbers, and before them a list of their mandatory hypotheses. The lists that are passed have
-/// those of the first numbers; the others are added.
-pub fn with_assertions<'a>(
+/// Adds assertions and their mandatory hypotheses, so that the lists have those with these numbers. Before, they have those
+/// of the first numbers.
+pub fn add_assertions<'a>(
     base: &'a Base,
     numbers: &[usize],
-    mandatory: Vec<Hypothesis<'a, NumberedSymbol>>,
-    assertions: Vec<Cited<'a, NumberedSymbol>>,
-) -> Result<
-    (
-        Vec<Hypothesis<'a, NumberedSymbol>>,
-        Vec<Cited<'a, NumberedSymbol>>,
-    ),
-    AllocError,
->
+    mandatory: &mut Vec<Hypothesis<'a, NumberedSymbol>>,
+    assertions: &mut Vec<Cited<'a, NumberedSymbol>>,
+) -> Result<(), AllocError>
     requires named { All (λ j. IsNamedBy base.now (answers.Assertion j)) numbers.now }
-    requires there { AreCited base.now (take (length assertions.items) numbers.now) mandatory.items assertions.items }
-    ensures { IfOk result (λ r. AreCited base.now numbers.now r.0.items r.1.items) }
+    requires there { AreCited base.now (take (length assertions.old.items) numbers.now) mandatory.old.items assertions.old.items }
+    ensures { OnOk result (AreCited base.now numbers.now mandatory.new.items assertions.new.items) }
 {
     places_have_frames();
     numbers_keep_frames();
-    let mut mandatory = mandatory;
-    let mut assertions = assertions;
     for place in assertions.len()..numbers.len() {
-        assertions.push(assertion_of(base, numbers[place], &mut mandatory)?)?;
+        assertions.push(assertion_of(base, numbers[place], &mut *mandatory)?)?;
     }
-    Ok((mandatory, assertions))
+    Ok(())
 }

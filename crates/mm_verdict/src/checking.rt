@@ -1,6 +1,6 @@
 //! The check of a proof.
 
-ghost use Rattle.std.specs.Prelude.{true, ◌≡◌, ◌<◌, ◌≤◌, ◌+◌, ◌++◌, ◌∷◌, ◌^◌, [], ℕ, List, Err, IfOk, OnOk, OnErr, IfSome, length};
+ghost use Rattle.std.specs.Prelude.{true, ◌≡◌, ◌<◌, ◌≤◌, ◌+◌, ◌++◌, ◌∷◌, ◌^◌, [], ℕ, List, Err, All, IfOk, OnOk, OnErr, length};
 ghost use Rattle.mm_frame.specs.Language.Base.{BaseView, before, said_at, is_framed_at};
 ghost use Rattle.mm_frame.specs.Language.Framing.{mandatory_numbers};
 ghost use Rattle.mm_frame.specs.Language.Answering.{IsBase};
@@ -10,10 +10,10 @@ ghost use Rattle.mm_machine.specs.Language.Verdict.{IsVerdictOnSteps};
 ghost use Rattle.mm_verdict.specs.Language.VerdictAt.{IsVerdictAt, AreDoneAt, cites_at, statement_at};
 ghost use Rattle.mm_machine.specs.Language.Frame.{Symbol, Setting};
 ghost use Rattle.mm_verdict.specs.Language.DecodedSteps.{decoded_steps};
-ghost use Rattle.mm_verdict.specs.Code.DecodedProof.{IsDecoded, IsJudgedProof, OfDecoded, steps_of};
+ghost use Rattle.mm_verdict.specs.Code.DecodedProof.{IsDecoded, IsFrontRun, IsJudgedDecoded, IsJudgedItem, IsJudgedWith, IsRun};
 ghost use Rattle.mm_machine.specs.Language.NamedSteps.{IsOutcomeWithin, RunSays, StopsAt};
-ghost use Rattle.mm_verdict.specs.Code.Judged.{HasProof, OfProof, done_by};
-ghost use Rattle.mm_verdict.specs.Code.NamedItems.{AreKnownOf};
+ghost use Rattle.mm_verdict.specs.Code.Judged.{HasProof, done_by};
+ghost use Rattle.mm_verdict.specs.Code.NamedItems.{AreKnownOf, AreUsedNamesOf, IsNamedBy};
 ghost use Rattle.mm_verdict.specs.Language.ReadIn.{HasTheorem, OfTheorem};
 ghost use Rattle.mm_verdict.specs.Code.UsedLabels.{AreUseMarks, AreUsed};
 ghost use Rattle.mm_verdict.specs.declared.undecoded.Undecoded.TheVariants as errors;
@@ -22,7 +22,7 @@ use crate::assertion::{active, expression};
 use crate::checker::Checker;
 use crate::citing::cites_used;
 use crate::decoding_laws::{decodes_short, decodes_surely, labels_are_own, mandatory_are_active};
-use crate::known::{Known, known_after};
+use crate::known::Known;
 use crate::named::{NamingRoom, name_all};
 use crate::reading::{Decoding, MarkedDecoding, decode_marked};
 use crate::short::{steps_before, take_more, takes_more};
@@ -31,8 +31,9 @@ use crate::used::{labels_marked, labels_used};
 use crate::work::{Checked, Scratch, Work};
 use mm_frame::{Base, Files, Names, ProofWords, Resolved, places_have_frames, words_of_proof};
 use mm_machine::{
-    Active, Front, Outcome, ProofFault, ProofNumber, ProofStep, Spot, Verdict, lack_stops,
-    numbers_keep_places, numbers_say_the_same, parts_are_run, run, run_counted, stops_stay,
+    Active, Front, Machine, NumberedSymbol, Outcome, ProofFault, ProofNumber, ProofStep, Spot,
+    Verdict, lack_stops, numbers_keep_places, numbers_say_the_same, parts_are_run, run,
+    run_counted, stops_stay,
 };
 use std::alloc::{AllocError, Global};
 use std::mem;
@@ -108,20 +109,36 @@ pub struct DecodedProof<'b, 'a> {
     pub decoding: &'a Decoding,
 }
 
-/// Runs the steps of a proof before the first with too few entries, by the count of entries alone, and looks at that one. It
-/// loads no assertion for a step with too few entries. If that does not say what the steps come to, it answers `None`.
+/// Names the labels that these steps name.
+fn name_used<'b>(
+    alloc: Global,
+    room: &mut NamingRoom,
+    known: &mut Known<'b>,
+    base: &'b Base,
+    labels: &[Resolved],
+    steps: &[ProofStep],
+) -> Result<(), AllocError>
+    requires labels { All (IsNamedBy base.now) labels.now }
+    requires known { AreKnownOf base.now known.old }
+    ensures { OnOk result (AreUsedNamesOf base.now labels.now steps.now known.new) }
+{
+    let used = labels_used(alloc, labels, steps)?;
+    name_all(base, &used, room, known)
+}
+
+/// If some step may have too few entries, runs the steps of a proof before the first one, by the count of entries alone, and
+/// looks at that one. It loads no assertion for a step with too few entries. If that does not say what the steps come to, it
+/// answers `None`.
 fn run_front<'b>(
     alloc: Global,
-    scratch: &mut Scratch,
+    room: &mut NamingRoom,
+    machine: &mut Machine<NumberedSymbol>,
     known: &mut Known<'b>,
     proof: DecodedProof<'b, '_>,
 ) -> Result<Option<Outcome>, AllocError>
     requires decoded { IsDecoded proof }
     requires known { AreKnownOf proof.base.now known.old }
-    ensures within { IfOk result (λ found. IfSome found (IsOutcomeWithin (length proof.entry.decoding.now.steps.items))) }
-    ensures says { IfOk result (λ found. IfSome found (λ outcome. OfDecoded proof.entry (λ view.
-        StopsAt (setting_at view proof.entry.i) (steps_of proof.entry view) outcome))) }
-    ensures known { OnOk result (AreKnownOf proof.entry.base.now known.new) }
+    ensures { IfOk result (λ found. IsFrontRun proof.entry found known.new) }
 {
     places_have_frames();
     decodes_surely();
@@ -132,17 +149,14 @@ fn run_front<'b>(
     lack_stops();
     let labels: &[Resolved] = &proof.decoding.labels;
     let steps: &[ProofStep] = &proof.decoding.steps;
+    if !take_more(proof.base, labels, steps.len()) {
+        return Ok(None);
+    }
     let count = steps_before(proof.base, labels, steps);
     let front = &steps[..count];
-    let used = labels_used(alloc, labels, front)?;
-    let room = mem::replace(&mut scratch.naming, NamingRoom::new(alloc));
-    let before = mem::replace(known, Known::new(alloc));
-    let (named, room, numbers) = name_all(proof.base, &used, room, before)?;
-    drop(used);
-    scratch.naming = room;
+    name_used(alloc, room, &mut *known, proof.base, labels, front)?;
     let active = Active::new(active(proof.base, proof.i));
-    let came_to = run_counted(alloc, &mut scratch.machine, &named, &active, front)?;
-    *known = known_after(named, numbers);
+    let came_to = run_counted(alloc, machine, &known.named, &active, front)?;
     let entries = match came_to {
         Front::Stops(outcome) => return Ok(Some(outcome)),
         Front::Leaves(entries) => entries,
@@ -156,7 +170,8 @@ fn run_front<'b>(
 /// Runs all steps of a proof, which name these labels.
 fn run_all<'b>(
     alloc: Global,
-    scratch: &mut Scratch,
+    room: &mut NamingRoom,
+    machine: &mut Machine<NumberedSymbol>,
     known: &mut Known<'b>,
     used: &[Resolved],
     proof: DecodedProof<'b, '_>,
@@ -164,38 +179,31 @@ fn run_all<'b>(
     requires decoded { IsDecoded proof }
     requires used { AreUsed proof.decoding.now.labels.items used.now proof.decoding.now.steps.items }
     requires known { AreKnownOf proof.base.now known.old }
-    ensures within { IfOk result (IsOutcomeWithin (length proof.entry.decoding.now.steps.items)) }
-    ensures says { IfOk result (λ outcome. OfDecoded proof.entry (λ view.
-        RunSays (setting_at view proof.entry.i) (steps_of proof.entry view) (statement_at view proof.entry.i) outcome)) }
-    ensures known { OnOk result (AreKnownOf proof.entry.base.now known.new) }
+    ensures { IfOk result (λ outcome. IsRun proof.entry outcome known.new) }
 {
     places_have_frames();
     decodes_surely();
     mandatory_are_active();
     numbers_keep_places();
     numbers_say_the_same();
-    let steps: &[ProofStep] = &proof.decoding.steps;
-    let room = mem::replace(&mut scratch.naming, NamingRoom::new(alloc));
-    let before = mem::replace(known, Known::new(alloc));
-    let (named, room, numbers) = name_all(proof.base, used, room, before)?;
-    scratch.naming = room;
+    name_all(proof.base, used, room, &mut *known)?;
     let active = Active::new(active(proof.base, proof.i));
     let outcome = run(
         alloc,
-        &mut scratch.machine,
-        &named,
+        machine,
+        &known.named,
         &active,
-        steps,
+        &proof.decoding.steps,
         expression(proof.base, proof.i),
     )?;
-    *known = known_after(named, numbers);
     Ok(outcome)
 }
 
 /// Runs the steps of a proof, which name these labels.
 fn run_steps<'b>(
     alloc: Global,
-    scratch: &mut Scratch,
+    room: &mut NamingRoom,
+    machine: &mut Machine<NumberedSymbol>,
     known: &mut Known<'b>,
     used: &[Resolved],
     proof: DecodedProof<'b, '_>,
@@ -203,18 +211,12 @@ fn run_steps<'b>(
     requires decoded { IsDecoded proof }
     requires used { AreUsed proof.decoding.now.labels.items used.now proof.decoding.now.steps.items }
     requires known { AreKnownOf proof.base.now known.old }
-    ensures within { IfOk result (IsOutcomeWithin (length proof.entry.decoding.now.steps.items)) }
-    ensures says { IfOk result (λ outcome. OfDecoded proof.entry (λ view.
-        RunSays (setting_at view proof.entry.i) (steps_of proof.entry view) (statement_at view proof.entry.i) outcome)) }
-    ensures known { OnOk result (AreKnownOf proof.entry.base.now known.new) }
+    ensures { IfOk result (λ outcome. IsRun proof.entry outcome known.new) }
 {
-    let decoding = proof.decoding;
-    if take_more(proof.base, &decoding.labels, decoding.steps.len()) {
-        if let Some(outcome) = run_front(alloc, &mut *scratch, &mut *known, proof)? {
-            return Ok(outcome);
-        }
+    match run_front(alloc, &mut *room, &mut *machine, &mut *known, proof)? {
+        Some(outcome) => Ok(outcome),
+        None => run_all(alloc, room, machine, known, used, proof),
     }
-    run_all(alloc, &mut *scratch, &mut *known, used, proof)
 }
 
 /// What a check says of a proof that decodes, and how many steps are done. Marks say which labels its steps name.
@@ -228,26 +230,30 @@ fn judge_steps<'b>(
     requires decoded { IsDecoded proof }
     requires marks { AreUseMarks (length proof.decoding.now.labels.items) marks.now proof.decoding.now.steps.items }
     requires known { AreKnownOf proof.base.now known.old }
-    ensures says { IfOk result (λ judged. OfDecoded proof.entry (λ view. IsJudgedProof view proof.entry.i judged)) }
-    ensures few { IfOk result (λ judged. judged.1 ≤ 4294967295) }
-    ensures known { OnOk result (AreKnownOf proof.entry.base.now known.new) }
+    ensures { IfOk result (λ judged. IsJudgedDecoded proof.entry judged known.new) }
 {
     decodes_short();
     labels_are_own();
     parts_are_run();
     let hypotheses = mandatory(proof.base, proof.i).len();
-    let room = mem::replace(&mut scratch.used, Vec::new(alloc));
-    let used = labels_marked(room, &proof.decoding.labels, marks)?;
+    labels_marked(&mut scratch.used, &proof.decoding.labels, marks)?;
+    let used: &[Resolved] = &scratch.used;
     let cites = cites_used(
         alloc,
         &mut scratch.marks,
         proof.decoding,
-        &used,
+        used,
         hypotheses,
         proof.words,
     )?;
-    let outcome = run_steps(alloc, &mut *scratch, &mut *known, &used, proof)?;
-    scratch.used = used;
+    let outcome = run_steps(
+        alloc,
+        &mut scratch.naming,
+        &mut scratch.machine,
+        known,
+        used,
+        proof,
+    )?;
     let done = steps_done(outcome, proof.decoding.steps.len());
     let verdict = verdict(outcome, proof.decoding, proof.words.again());
     Ok((Checked::new(verdict, cites), done as u64))
@@ -264,9 +270,7 @@ fn judge<'b, 'a>(
 ) -> Result<(Checked, u64), AllocError>
     requires proof { HasProof base.now i proof.now }
     requires known { AreKnownOf base.now known.old }
-    ensures says { IfOk result (λ judged. OfProof base.now i proof.now (λ view. IsJudgedProof view i judged)) }
-    ensures few { IfOk result (λ judged. judged.1 ≤ 4294967295) }
-    ensures known { OnOk result (AreKnownOf base.now known.new) }
+    ensures { IfOk result (λ judged. IsJudgedWith base.now i proof.now judged known.new) }
 {
     mandatory_are_active();
     let mandatory = mandatory(base, i);
@@ -279,9 +283,9 @@ fn judge<'b, 'a>(
                 words: proof,
                 decoding: &marked.decoding,
             };
-            let judged = judge_steps(alloc, &mut *scratch, &mut *known, &marked.used, decoded)?;
-            scratch.decoding = marked;
-            Ok(judged)
+            let judged = judge_steps(alloc, &mut *scratch, &mut *known, &marked.used, decoded);
+            drop(mem::replace(&mut scratch.decoding, marked));
+            judged
         }
         Err(error) => {
             let fault = decoding_fault(error)?;
@@ -354,13 +358,36 @@ impl Checker<'_> {
     {
         let base = self.base();
         let proof = words_of_proof(files, base.item(i));
-        let mut scratch = work.lend(alloc);
-        scratch.widen(base.count(), names.count())?;
-        let mut known = self.lend(alloc);
-        let (checked, done) = judge(alloc, &mut scratch, &mut known, base, i, &proof)?;
-        self.take_back(known);
-        work.take_back(scratch)?;
-        work.record(i, done)?;
+        let mut scratch = work.lend(alloc, base.count(), names.count())?;
+        let (checked, done) = match self.judge(alloc, &mut scratch, i, &proof) {
+            Ok(judged) => judged,
+            Err(error) => {
+                // One call in place of a drop of each field.
+                drop(scratch);
+                return Err(error);
+            }
+        };
+        work.record(scratch, i, done)?;
         Ok(checked)
+    }
+
+    /// What a check says of a proof, and how many steps are done. The assertions that it looks up are known then; after out of
+    /// memory none is.
+    fn judge(
+        &mut self,
+        alloc: Global,
+        scratch: &mut Scratch,
+        i: usize,
+        proof: &ProofWords,
+    ) -> Result<(Checked, u64), AllocError>
+        requires { HasProof self.old i proof.now }
+        ensures base { self.new ≡ self.old }
+        ensures judged { IfOk result (IsJudgedItem self.old i proof.now) }
+    {
+        let base = self.base();
+        let mut known = self.lend(alloc);
+        let judged = judge(alloc, scratch, &mut known, base, i, proof)?;
+        self.take_back(known);
+        Ok(judged)
     }
 }

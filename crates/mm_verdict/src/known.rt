@@ -1,29 +1,24 @@
 //! What checks of a base keep of its assertions.
 
 ghost use Rattle.mm_frame.specs.declared.base.Base.{Base as Meant};
-ghost use Rattle.mm_verdict.specs.Code.NamedItems.{AreKnown, AreKnownOf};
+ghost use Rattle.std.specs.Prelude.{OnOk};
+ghost use Rattle.mm_verdict.specs.Code.NamedItems.{AreKnownOf, HasBegun};
 
 use crate::named::Numbers;
-use mm_machine::{Cited, Hypothesis, Named, NumberedSymbol, Use};
-use std::alloc::Global;
+use mm_machine::{Named, NumberedSymbol};
+use std::alloc::{AllocError, Global};
 
 /// If more assertions and mandatory hypotheses than this are known, all are forgotten. So they take some megabytes at most, and
 /// what one proof adds.
 const MOST_KNOWN: usize = 131_072;
 
-/// Assertions of a base that proofs name, with what citing them needs; most are there once. Beside them is room that the next
-/// proof uses again.
+/// Assertions of a base that proofs name, with what citing them needs; most are there once.
 #[derive(Drop)]
 pub struct Known<'a> {
     /// Their numbers.
     pub numbers: Numbers,
-    /// Their mandatory hypotheses.
-    pub mandatory: Vec<Hypothesis<'a, NumberedSymbol>>,
-    pub assertions: Vec<Cited<'a, NumberedSymbol>>,
-    /// Room for what labels are used for. It has nothing that counts.
-    pub uses: Vec<Use>,
-    /// Room for the hypotheses that a proof names. It has nothing that counts.
-    pub hypotheses: Vec<&'a [NumberedSymbol]>,
+    /// The assertions, and what the labels of the proof name that was the last one. The next proof uses its memory again.
+    pub named: Named<'a, NumberedSymbol>,
 }
 
 impl<'a> Known<'a> {
@@ -33,10 +28,12 @@ impl<'a> Known<'a> {
     {
         Known {
             numbers: Numbers::new(alloc),
-            mandatory: Vec::new(alloc),
-            assertions: Vec::new(alloc),
-            uses: Vec::new(alloc),
-            hypotheses: Vec::new(alloc),
+            named: Named {
+                uses: Vec::new(alloc),
+                hypotheses: Vec::new(alloc),
+                mandatory: Vec::new(alloc),
+                assertions: Vec::new(alloc),
+            },
         }
     }
 
@@ -44,8 +41,8 @@ impl<'a> Known<'a> {
     pub fn limited(self) -> Known<'a>
         ensures { (base : Meant) → AreKnownOf base self.entry → AreKnownOf base result }
     {
-        let assertions = self.assertions.len();
-        if assertions > MOST_KNOWN || self.mandatory.len() > MOST_KNOWN - assertions {
+        let assertions = self.named.assertions.len();
+        if assertions > MOST_KNOWN || self.named.mandatory.len() > MOST_KNOWN - assertions {
             self.emptied()
         } else {
             self
@@ -56,29 +53,22 @@ impl<'a> Known<'a> {
     fn emptied(self) -> Known<'a>
         ensures { (base : Meant) → AreKnownOf base result }
     {
-        let mut mandatory = self.mandatory;
-        let mut assertions = self.assertions;
-        mandatory.clear();
-        assertions.clear();
+        let mut named = self.named;
+        named.mandatory.clear();
+        named.assertions.clear();
         Known {
             numbers: self.numbers.emptied(),
-            mandatory,
-            assertions,
-            uses: self.uses,
-            hypotheses: self.hypotheses,
+            named,
         }
     }
-}
 
-/// What is known after a run: the lists of what was named, with the numbers of the assertions.
-pub fn known_after<'a>(named: Named<'a, NumberedSymbol>, numbers: Numbers) -> Known<'a>
-    ensures { (base : Meant) → AreKnown base numbers.items.items named.entry.mandatory.items named.entry.assertions.items → AreKnownOf base result }
-{
-    Known {
-        numbers,
-        mandatory: named.mandatory,
-        assertions: named.assertions,
-        uses: named.uses,
-        hypotheses: named.hypotheses,
+    /// Begins with this many labels: none is named yet. It changes nothing of the assertions.
+    pub fn begin(&mut self, labels: usize) -> Result<(), AllocError>
+        ensures { OnOk result (HasBegun self.old self.new) }
+    {
+        self.named.hypotheses.clear();
+        self.named.uses.clear();
+        self.named.uses.reserve(labels)?;
+        Ok(())
     }
 }

@@ -1,14 +1,11 @@
 //! What the labels of a proof name: each hypothesis and each assertion once.
 
-ghost use Rattle.std.specs.Prelude.{◌≡◌, ◌++◌, ◌∷◌, ◌<◌, [], ℕ, Some, All, IfOk, IfSome, OnOk, length, slice_get};
+ghost use Rattle.std.specs.Prelude.{◌≡◌, ◌++◌, ◌∷◌, [], ℕ, List, Some, All, IfOk, IfSome, OnOk, length, slice_get};
 ghost use Rattle.mm_frame.specs.declared.base.Resolved.TheVariants as answers;
-ghost use Rattle.mm_verdict.specs.Language.DecodedSteps.{AreEntries, entry_steps};
-ghost use Rattle.mm_verdict.specs.Code.NamedItems.{AreKnown, AreKnownOf, AreNamed, IsNamedBy, IsUseOf, NamingGrows};
-ghost use Rattle.mm_machine.specs.Language.NumberedSymbols.{by_number};
-ghost use Rattle.mm_verdict.specs.Code.NumberedBase.{ByNames, numbered_setting};
-ghost use Rattle.mm_machine.specs.Language.NamedSteps.{AreCitable, AreUses, AreUsesWithin};
+ghost use Rattle.mm_verdict.specs.Code.NamedItems.{AreEachNamed, AreEntriesOf, AreKnownOf, AreNamed, AreShown, IsNamedBy, IsOneMore, IsUseOf, Stays};
+ghost use Rattle.mm_verdict.specs.Code.NamedItems.{AreNamesOf, IsNamesOf, naming, naming_of};
 
-use crate::assertion::{expression, with_assertions};
+use crate::assertion::{add_assertions, expression};
 use crate::known::Known;
 use mm_frame::{Base, Resolved};
 use mm_machine::{Named, NumberedSymbol, Use};
@@ -69,6 +66,47 @@ impl Numbers {
         }
         Ok(place)
     }
+
+    /// These are the numbers of hypotheses that are named. So is the one with this number then.
+    fn hypothesis<'a>(
+        &mut self,
+        base: &'a Base,
+        places: &mut [u32],
+        hypotheses: &mut Vec<&'a [NumberedSymbol]>,
+        number: usize,
+    ) -> Result<Use, AllocError>
+        requires { AreShown base.now self.old.items.items hypotheses.old.items }
+        ensures named { OnOk result (AreShown base.now self.new.items.items hypotheses.new.items) }
+        ensures grows { OnOk result (Stays self.old.items.items self.new.items.items) }
+        ensures stands { IfOk result (λ used. (others : List ℕ) → IsUseOf self.new.items.items others used (answers.Hypothesis number)) }
+    {
+        if let Some(place) = self.find(places, number) {
+            return Ok(Use::Hypothesis(place));
+        }
+        hypotheses.push(expression(base, number))?;
+        let place = self.add(places, number)?;
+        Ok(Use::Hypothesis(place))
+    }
+
+    /// These are the numbers of assertions that are named. So is the one with this number then.
+    fn assertion(
+        &mut self,
+        base: &Base,
+        places: &mut [u32],
+        number: usize,
+    ) -> Result<Use, AllocError>
+        requires named { AreEntriesOf base.now self.old.items.items }
+        requires entry { IsNamedBy base.now (answers.Assertion number) }
+        ensures named { OnOk result (AreEntriesOf base.now self.new.items.items) }
+        ensures grows { OnOk result (Stays self.old.items.items self.new.items.items) }
+        ensures stands { IfOk result (λ used. (others : List ℕ) → IsUseOf others self.new.items.items used (answers.Assertion number)) }
+    {
+        if let Some(place) = self.find(places, number) {
+            return Ok(Use::Assertion(place));
+        }
+        let place = self.add(places, number)?;
+        Ok(Use::Assertion(place))
+    }
 }
 
 /// What naming uses over again, so that it takes no memory anew. By the places, known assertions are found again; no answer
@@ -88,134 +126,101 @@ impl NamingRoom {
             places: Vec::new(alloc),
         }
     }
-}
 
-/// A table with a place for each of this many items at least.
-fn widened(places: Vec<u32>, count: usize) -> Result<Vec<u32>, AllocError> {
-    let mut places = places;
-    if places.len() < count {
-        places.resize(count, 0)?;
+    /// Begins with a base of this many items: the table has a place for each, and no hypothesis is named yet.
+    fn begin(&mut self, items: usize) -> Result<(), AllocError>
+        ensures { OnOk result (self.new.hypotheses.items.items ≡ []) }
+    {
+        if self.places.len() < items {
+            self.places.resize(items, 0)?;
+        }
+        self.hypotheses.items.clear();
+        Ok(())
     }
-    Ok(places)
-}
 
-/// What was named so far, with the numbers of the items.
-#[derive(Drop)]
-pub struct Naming<'a> {
-    pub hypotheses: Vec<&'a [NumberedSymbol]>,
-    pub hypothesis_numbers: Numbers,
-    pub assertion_numbers: Numbers,
-    /// For the number of an item, where among the one or the other numbers it may be.
-    pub places: Vec<u32>,
-}
-
-impl<'a> Naming<'a> {
-    /// These assertions are known, and no hypothesis is named yet. The last list is room for hypotheses.
-    fn new(
+    /// What an entry of a table names. The numbers are those of the assertions that are named.
+    fn name<'a>(
+        &mut self,
         base: &'a Base,
-        room: NamingRoom,
-        assertions: Numbers,
-        hypotheses: Vec<&'a [NumberedSymbol]>,
-    ) -> Result<Naming<'a>, AllocError>
-        requires { All (λ j. IsNamedBy base.now (answers.Assertion j)) assertions.items.items }
-        ensures named { IfOk result (AreNamed base.now) }
-        ensures known { IfOk result (λ naming. naming.assertion_numbers ≡ assertions) }
-    {
-        let places = widened(room.places, base.count())?;
-        let mut hypotheses = hypotheses;
-        hypotheses.clear();
-        Ok(Naming {
-            hypotheses,
-            hypothesis_numbers: room.hypotheses.emptied(),
-            assertion_numbers: assertions,
-            places,
-        })
-    }
-
-    /// The hypothesis with this number is named.
-    fn hypothesis(&mut self, base: &'a Base, number: usize) -> Result<Use, AllocError>
-        requires { AreNamed base.now self.old }
-        ensures named { OnOk result (AreNamed base.now self.new) }
-        ensures grows { OnOk result (NamingGrows self.old self.new) }
-        ensures stands { IfOk result (λ used. IsUseOf self.new used (answers.Hypothesis number)) }
-    {
-        if let Some(place) = self.hypothesis_numbers.find(&self.places, number) {
-            return Ok(Use::Hypothesis(place));
-        }
-        self.hypotheses.push(expression(base, number))?;
-        let place = self.hypothesis_numbers.add(&mut self.places, number)?;
-        Ok(Use::Hypothesis(place))
-    }
-
-    /// The assertion with this number is named.
-    fn assertion(&mut self, base: &Base, number: usize) -> Result<Use, AllocError>
-        requires named { AreNamed base.now self.old }
-        requires entry { IsNamedBy base.now (answers.Assertion number) }
-        ensures named { OnOk result (AreNamed base.now self.new) }
-        ensures grows { OnOk result (NamingGrows self.old self.new) }
-        ensures stands { IfOk result (λ used. IsUseOf self.new used (answers.Assertion number)) }
-    {
-        if let Some(place) = self.assertion_numbers.find(&self.places, number) {
-            return Ok(Use::Assertion(place));
-        }
-        let place = self.assertion_numbers.add(&mut self.places, number)?;
-        Ok(Use::Assertion(place))
-    }
-
-    /// What an entry of a table names.
-    fn name(&mut self, base: &'a Base, label: Resolved) -> Result<Use, AllocError>
-        requires named { AreNamed base.now self.old }
+        numbers: &mut Numbers,
+        hypotheses: &mut Vec<&'a [NumberedSymbol]>,
+        label: Resolved,
+    ) -> Result<Use, AllocError>
+        requires named { AreNamed base.now (naming self.old numbers.old hypotheses.old.items) }
         requires entry { IsNamedBy base.now label }
-        ensures named { OnOk result (AreNamed base.now self.new) }
-        ensures grows { OnOk result (NamingGrows self.old self.new) }
-        ensures stands { IfOk result (λ used. IsUseOf self.new used label) }
+        ensures { IfOk result (λ used. IsOneMore base.now
+            (naming self.old numbers.old hypotheses.old.items) (naming self.new numbers.new hypotheses.new.items) used label) }
     {
         match label {
-            Resolved::Hypothesis(number) => self.hypothesis(base, number),
-            Resolved::Assertion(number) => self.assertion(base, number),
+            Resolved::Hypothesis(number) => {
+                self.hypotheses
+                    .hypothesis(base, &mut self.places, hypotheses, number)
+            }
+            Resolved::Assertion(number) => numbers.assertion(base, &mut self.places, number),
             Resolved::Inactive | Resolved::Unknown => Ok(Use::Nothing),
         }
     }
+
+    /// Names each of these labels. Nothing is named before but assertions that are known.
+    fn name_each<'a>(
+        &mut self,
+        base: &'a Base,
+        labels: &[Resolved],
+        known: &mut Known<'a>,
+    ) -> Result<(), AllocError>
+        requires labels { All (IsNamedBy base.now) labels.now }
+        requires named { AreNamed base.now (naming_of self.old known.old) }
+        requires uses { known.old.named.uses.items ≡ [] }
+        ensures { OnOk result (AreEachNamed base.now labels.now known.old (naming_of self.new known.new) known.new) }
+    {
+        for label in labels {
+            let used = self.name(
+                base,
+                &mut known.numbers,
+                &mut known.named.hypotheses,
+                *label,
+            )?;
+            known.named.uses.push(used)?;
+        }
+        Ok(())
+    }
 }
 
-/// What the labels of a proof's table name, in a base of which these assertions are known. The others in the answer are what
-/// naming uses over again, and the numbers of the assertions that are known now.
+/// Names what the labels of a proof's table mean, in a base of which these assertions are known. The room is what naming uses
+/// over again.
 pub fn name_all<'a>(
     base: &'a Base,
     labels: &[Resolved],
-    room: NamingRoom,
-    known: Known<'a>,
-) -> Result<(Named<'a, NumberedSymbol>, NamingRoom, Numbers), AllocError>
+    room: &mut NamingRoom,
+    known: &mut Known<'a>,
+) -> Result<(), AllocError>
     requires labels { All (IsNamedBy base.now) labels.now }
-    requires known { AreKnownOf base.now known }
-    ensures within { IfOk result (λ r. AreUsesWithin r.0) }
-    ensures frames { IfOk result (λ r. AreCitable by_number r.0) }
-    ensures means { IfOk result (λ r. ByNames base.now (λ names view. (i : ℕ) → AreEntries view i labels.now
-        → AreUses by_number r.0 (numbered_setting names view i) (entry_steps view labels.now))) }
-    ensures known { IfOk result (λ r. AreKnown base.now r.2.items.items r.0.mandatory.items r.0.assertions.items) }
+    requires known { AreKnownOf base.now known.old }
+    ensures { OnOk result (AreNamesOf base.now labels.now known.new) }
 {
-    let mut naming = Naming::new(base, room, known.numbers, known.hypotheses)?;
-    let mut uses = known.uses;
-    uses.clear();
-    uses.reserve(labels.len())?;
-    for label in labels {
-        uses.push(naming.name(base, *label)?)?;
-    }
-    let (mandatory, assertions) = with_assertions(
+    room.begin(base.count())?;
+    known.begin(labels.len())?;
+    room.name_each(base, labels, &mut *known)?;
+    let named = &mut known.named;
+    add_assertions(
         base,
-        &naming.assertion_numbers.items,
-        known.mandatory,
-        known.assertions,
-    )?;
-    let named = Named {
-        uses,
-        hypotheses: naming.hypotheses,
-        mandatory,
-        assertions,
-    };
-    let room = NamingRoom {
-        hypotheses: naming.hypothesis_numbers,
-        places: naming.places,
-    };
-    Ok((named, room, naming.assertion_numbers))
+        &known.numbers.items,
+        &mut named.mandatory,
+        &mut named.assertions,
+    )
+}
+
+/// What these labels name, and no other assertions.
+pub fn named_alone<'a>(
+    alloc: Global,
+    base: &'a Base,
+    labels: &[Resolved],
+) -> Result<Named<'a, NumberedSymbol>, AllocError>
+    requires { All (IsNamedBy base.now) labels.now }
+    ensures { IfOk result (IsNamesOf base.now labels.now) }
+{
+    let mut room = NamingRoom::new(alloc);
+    let mut known = Known::new(alloc);
+    name_all(base, labels, &mut room, &mut known)?;
+    Ok(known.named)
 }

@@ -10,8 +10,7 @@ ghost use Rattle.mm_verdict.specs.Language.VerdictAt.{decoding_at};
 
 use crate::checking::mandatory;
 use crate::decoding_laws::{decodes_surely, mandatory_are_active};
-use crate::known::Known;
-use crate::named::{NamingRoom, name_all};
+use crate::named::named_alone;
 use crate::reading::{Decoding, decode};
 use crate::undecoded::Undecoded;
 use mm_frame::{Base, Files, words_of_proof};
@@ -52,6 +51,6 @@ pub fn program_of<'a>(
     let mandatory = mandatory(base, i);
     let decoding = decode(base, i, mandatory, &proof, Decoding::new(alloc))?;
     let Decoding { labels, steps } = decoding;
-    let (named, _, _) = name_all(base, &labels, NamingRoom::new(alloc), Known::new(alloc))?;
+    let named = named_alone(alloc, base, &labels)?;
     Ok(Program { named, steps })
 }

@@ -1,6 +1,6 @@
 //! Which labels of a proof its steps name.
 
-ghost use Rattle.std.specs.Prelude.{◌≡◌, ◌<◌, ◌||◌, ℕ, List, IfOk, Some, length, slice_get};
+ghost use Rattle.std.specs.Prelude.{◌≡◌, ◌<◌, ◌||◌, ℕ, List, IfOk, OnOk, Some, length, slice_get};
 ghost use Rattle.mm_frame.specs.declared.base.Resolved.TheVariants as answers;
 ghost use Rattle.mm_machine.specs.declared.step.ProofStep.{ProofStep};
 ghost use Rattle.mm_verdict.specs.Code.Cited.{is_item, marked_at};
@@ -55,25 +55,24 @@ fn leave_out(used: &mut Vec<Resolved>, k: usize)
     used[k] = Resolved::Unknown;
 }
 
-/// The labels that are marked, each in its place, and `Unknown` in place of each other: a label that no step names needs
-/// nothing of the base. They are put in place of what a list has.
+/// Puts the labels that are marked in place of what a list has, each in its place, and `Unknown` in place of each other: a
+/// label that no step names needs nothing of the base.
 pub fn labels_marked(
-    room: Vec<Resolved>,
+    used: &mut Vec<Resolved>,
     labels: &[Resolved],
     marks: &[bool],
-) -> Result<Vec<Resolved>, AllocError>
+) -> Result<(), AllocError>
     requires { length marks.now ≡ length labels.now }
-    ensures { IfOk result (λ used. (steps : List ProofStep) → AreUseMarks (length labels.now) marks.now steps → AreUsed labels.now used.items steps) }
+    ensures { OnOk result ((steps : List ProofStep) → AreUseMarks (length labels.now) marks.now steps → AreUsed labels.now used.new.items steps) }
 {
-    let mut used = room;
     used.clear();
     used.extend_from_slice(labels)?;
     for k in 0..marks.len() {
         if !marks[k] {
-            leave_out(&mut used, k);
+            leave_out(&mut *used, k);
         }
     }
-    Ok(used)
+    Ok(())
 }
 
 /// The labels that some of these steps name, each in its place, and `Unknown` in place of each other.
@@ -85,5 +84,7 @@ pub fn labels_used(
     ensures { IfOk result (λ used. AreUsed labels.now used.items steps.now) }
 {
     let marks = marks_of(alloc, labels.len(), steps)?;
-    labels_marked(Vec::new(alloc), labels, &marks)
+    let mut used = Vec::new(alloc);
+    labels_marked(&mut used, labels, &marks)?;
+    Ok(used)
 }

@@ -35,7 +35,7 @@ impl Scratch {
 
     /// Gives the marks a place for each of this many items, and the machine's tables for each of this many keys of variables,
     /// if they have fewer.
-    pub fn widen(&mut self, items: usize, keys: usize) -> Result<(), AllocError> {
+    fn widen(&mut self, items: usize, keys: usize) -> Result<(), AllocError> {
         if self.marks.len() < items {
             self.marks.resize(items, false)?;
         }
@@ -76,27 +76,36 @@ impl Work {
         })
     }
 
-    /// Lends what checks use over again. Without it the work is the same.
-    pub(crate) fn lend(&mut self, alloc: Global) -> Scratch
+    /// Lends what checks use over again, with places for this many items and this many keys of variables. Without it the work
+    /// is the same.
+    pub(crate) fn lend(
+        &mut self,
+        alloc: Global,
+        items: usize,
+        keys: usize,
+    ) -> Result<Scratch, AllocError>
         ensures { self.new ≡ self.old }
     {
-        match self.scratch.pop() {
+        let mut scratch = match self.scratch.pop() {
             Some(scratch) => scratch,
             None => Scratch::new(alloc),
+        };
+        if let Err(error) = scratch.widen(items, keys) {
+            drop(scratch);
+            return Err(error);
         }
+        Ok(scratch)
     }
 
-    /// Takes it back for the next check.
-    pub(crate) fn take_back(&mut self, scratch: Scratch) -> Result<(), AllocError>
-        ensures { self.new ≡ self.old }
-    {
-        self.scratch.push(scratch)?;
-        Ok(())
-    }
-
-    /// Records the run of the proof of the item with this number, in which this many steps were done. Out of memory records
-    /// nothing; it cannot come if the room was taken at the beginning.
-    pub(crate) fn record(&mut self, i: usize, steps: u64) -> Result<(), AllocError>
+    /// Records the run of the proof of the item with this number, in which this many steps were done. What checks use over
+    /// again is taken back for the next one. Out of memory records nothing; it cannot come if the room was taken at the
+    /// beginning.
+    pub(crate) fn record(
+        &mut self,
+        scratch: Scratch,
+        i: usize,
+        steps: u64,
+    ) -> Result<(), AllocError>
         requires room { 0 < self.old.room }
         requires steps { self.old.steps + steps < 2 ^ 64 }
         ensures runs { OnOk result (self.new.runs ≡ self.old.runs ++ i ∷ []) }
@@ -104,6 +113,7 @@ impl Work {
         ensures room { OnOk result (self.new.room + 1 ≡ self.old.room) }
         ensures memory { OnErr result (self.new ≡ self.old) }
     {
+        self.scratch.push(scratch)?;
         self.runs.push(i)?;
         self.steps += steps;
         self.room -= 1;

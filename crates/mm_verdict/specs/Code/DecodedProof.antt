@@ -1,10 +1,16 @@
 -- The proof of an item of a base that is judged, with what it decodes to.
-use Rattle.std.specs.Prelude.{◌≡◌, ℕ, List}
+use Rattle.std.specs.Prelude.{◌≡◌, ◌≤◌, ℕ, List, Option, IfSome, length}
 use Rattle.mm_frame.specs.Language.Base.{BaseView}
 use Rattle.mm_verdict.specs.Language.DecodedSteps.{decoded_steps}
 use Rattle.mm_machine.specs.Language.Expansion.{Step}
-use Rattle.mm_verdict.specs.Language.VerdictAt.{IsVerdictAt, AreDoneAt, cites_at}
-use Rattle.mm_verdict.specs.Code.Judged.{HasDecoding, OfDecoding}
+use Rattle.mm_frame.specs.declared.base.Base.{Base}
+use Rattle.mm_machine.specs.Language.NamedSteps.{IsOutcomeWithin, RunSays, StopsAt}
+use Rattle.mm_machine.specs.declared.stepping.Outcome.{Outcome}
+use Rattle.mm_verdict.specs.Language.BaseLabels.{setting_at}
+use Rattle.mm_verdict.specs.Language.VerdictAt.{IsVerdictAt, AreDoneAt, cites_at, statement_at}
+use Rattle.mm_verdict.specs.Code.Judged.{HasDecoding, OfDecoding, OfProof}
+use Rattle.mm_verdict.specs.Code.NamedItems.{AreKnownOf}
+use Rattle.mm_verdict.specs.declared.known.Known.{Known}
 use Rattle.mm_verdict.specs.declared.checking.DecodedProof.{DecodedProof}
 use Rattle.mm_verdict.specs.declared.work.Checked.{Checked}
 
@@ -20,8 +26,36 @@ IsDecoded proof = HasDecoding proof.base.now proof.i proof.words.now proof.decod
 abbrev pub steps_of : DecodedProof → BaseView → List Step
 steps_of proof view = (decoded_steps view proof.decoding.now proof.words.now).steps
 
+-- this is what the first steps of the proof say of its run, if they say it, and the assertions that are known are the base's
+pub record IsFrontRun (proof : DecodedProof) (found : Option Outcome) (now : Known) : Type 0 where
+  pub within : IfSome found (IsOutcomeWithin (length proof.decoding.now.steps.items))
+  pub says : IfSome found (λ outcome. OfDecoded proof (λ view. StopsAt (setting_at view proof.i) (steps_of proof view) outcome))
+  pub known : AreKnownOf proof.base.now now
+
+-- this is what a run of the proof's steps comes to, and the assertions that are known are the base's
+pub record IsRun (proof : DecodedProof) (outcome : Outcome) (now : Known) : Type 0 where
+  pub within : IsOutcomeWithin (length proof.decoding.now.steps.items) outcome
+  pub says : OfDecoded proof (λ view. RunSays (setting_at view proof.i) (steps_of proof view) (statement_at view proof.i) outcome)
+  pub known : AreKnownOf proof.base.now now
+
 -- the verdict and the words that cite are those of the item's proof, and this many of its steps are done
 pub record IsJudgedProof (view : BaseView) (i : ℕ) (judged : Checked × ℕ) : Type 0 where
   pub verdict : IsVerdictAt view i judged.0.verdict
   pub cites : judged.0.cites ≡ cites_at view i
   pub done : AreDoneAt view i judged.1
+
+-- the same of the proof that is decoded, and a run has not too many steps
+pub record IsJudgedDecoded (proof : DecodedProof) (judged : Checked × ℕ) (now : Known) : Type 0 where
+  pub says : OfDecoded proof (λ view. IsJudgedProof view proof.i judged)
+  pub few : judged.1 ≤ 4294967295
+  pub known : AreKnownOf proof.base.now now
+
+-- the same of the proof of an item, of these words
+pub record IsJudgedItem (code : Base) (i : ℕ) (proof : List (List ℕ)) (judged : Checked × ℕ) : Type 0 where
+  pub says : OfProof code i proof (λ view. IsJudgedProof view i judged)
+  pub few : judged.1 ≤ 4294967295
+
+-- and the assertions that are known are the base's
+pub record IsJudgedWith (code : Base) (i : ℕ) (proof : List (List ℕ)) (told : Checked × ℕ) (now : Known) : Type 0 where
+  pub judged : IsJudgedItem code i proof told
+  pub known : AreKnownOf code now

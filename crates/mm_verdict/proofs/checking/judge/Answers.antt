@@ -1,9 +1,9 @@
-use Rattle.std.proofs.Common.{rules}
+use Rattle.std.proofs.{Common.{rules}, lemmas.Result.{IfOk-weaker}}
 use Rattle.mm_verdict.proofs.lemmas.{decoding.DecodedProofs.{decoded}, base.FrameLemmas.{framed_proof}}
 use Rattle.mm_verdict.proofs.checking.judge.Goals as goal
 
-pub judge_steps-requires-clause-decoded : goal.judge_steps-requires-clause-decoded
-judge_steps-requires-clause-decoded c =
+pub judge_steps-judged-requires-clause-decoded : goal.judge_steps-judged-requires-clause-decoded
+judge_steps-judged-requires-clause-decoded c =
     let has = c.requires.proof in (
       has.0,
       decoded c.args.base.now c.args.i c.args.proof.now c.in-Ok.marked.decoding c.mandatory-mandatory.result.now has.0 has.1 c.mandatory-mandatory.ensures (c.mandatory_are_active.ensures has.0 c.args.i has.1.said)
@@ -11,17 +11,19 @@ judge_steps-requires-clause-decoded c =
       has.2,
     )
 
-pub returns-in_ok-judged-in-Ok-clause-says : goal.returns-in_ok-judged-in-Ok-clause-says
-returns-in_ok-judged-in-Ok-clause-says c view theorem =
-    c.in_ok-judged-in-Ok.ensures.says view (decoded c.args.base.now c.args.i c.args.proof.now c.in-Ok.marked.decoding c.mandatory-mandatory.result.now view theorem c.mandatory-mandatory.ensures
-    (c.mandatory_are_active.ensures view c.args.i theorem.said)
-    c.in-Ok.ensures.ok c.in-Ok.ensures.entries c.in-Ok.ensures.table)
+pub returns-in-Ok : goal.returns-in-Ok
+returns-in-Ok c = IfOk-weaker c.judge_steps-judged.result _ _ (λ told is. record {
+  judged = record {
+    says = λ view theorem. is.says view (decoded c.args.base.now c.args.i c.args.proof.now c.in-Ok.marked.decoding c.mandatory-mandatory.result.now view theorem c.mandatory-mandatory.ensures
+        (c.mandatory_are_active.ensures view c.args.i theorem.said)
+        c.in-Ok.ensures.ok c.in-Ok.ensures.entries c.in-Ok.ensures.table);
+    few = is.few;
+  };
+  known = is.known;
+}) c.judge_steps-judged.ensures
 
 pub mandatory-mandatory-requires : goal.mandatory-mandatory-requires
 mandatory-mandatory-requires c = let has = c.requires.proof in (has.0, has.1.base, framed_proof has.0 c.args.i has.1.is_sound)
 
-pub returns-in_ok-judged-in-Ok-clause-few : goal.returns-in_ok-judged-in-Ok-clause-few
-returns-in_ok-judged-in-Ok-clause-few c = c.in_ok-judged-in-Ok.ensures.few
-
-pub returns-in_ok-fault-in-Err-clause-says : goal.returns-in_ok-fault-in-Err-clause-says
-returns-in_ok-fault-in-Err-clause-says c = search rules
+pub returns-in_ok-fault-in-Err : goal.returns-in_ok-fault-in-Err
+returns-in_ok-fault-in-Err c = search rules

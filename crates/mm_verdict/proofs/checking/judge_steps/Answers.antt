@@ -1,8 +1,8 @@
-use Rattle.std.{proofs.{Common.{◌≡◌, ◌<◌, ◌≤◌, ℕ, Result, List, length, sym, ◌∙◌, ap, subst, arith}, lemmas.List.{length-map}}, specs.List.{AllByRecursion, flat_map}}
+use Rattle.std.{proofs.{Common.{◌≡◌, ◌<◌, ◌≤◌, ℕ, Result, List, length, sym, ◌∙◌, ap, subst, arith}, lemmas.{List.{length-map}, Result.{err_from_is_err_and}}}, specs.List.{AllByRecursion, flat_map}}
 use Rattle.mm_frame.specs.Language.{Base.{before, said_at}, Framing.{mandatory_numbers}}
 use Rattle.mm_verdict.specs.Language.{BaseLabels.{setting_at}, Citing.{cites, cited_words}, VerdictAt.{mandatory_labels, statement_at}, DecodedSteps.{decoded_steps, entry_steps}}
 use Rattle.mm_verdict.{specs.Code.Judged.{done_by}, proofs.lemmas.{base.FrameLemmas.{framed_proof}, decoding.DecodedProofs.{done_says}}}
-use Rattle.mm_machine.specs.{Language.{Verdict.{Decoded}, NamedSteps.{meant, actions_mean}}, declared.step.{ProofFault.{ProofFault}, ProofStep.{ProofStep}}}
+use Rattle.mm_machine.specs.{Language.{Verdict.{Decoded}, NamedSteps.{IsOutcomeWithin, meant, actions_mean}}, declared.step.{ProofFault.{ProofFault}, ProofStep.{ProofStep}}}
 use Rattle.mm_verdict.proofs.checking.judge_steps.Goals as goal
 
 pub returns : goal.returns
@@ -30,8 +30,8 @@ returns c =
           let many : length steps ≡ c.len.result = omega (arith, c.len.ensures, d.steps.ok, length-map d.steps.items (λ (step : ProofStep). meant names step.action)) in
           let done = ap (λ n. done_by n c.in_ok-outcome.outcome) many ∙ sym c.steps_done-done.ensures.value in
           record {
-            verdict = rw (ap (λ j. j.verdict) c.new-2.ensures, is.decodes) on;
-            cites = ap (λ j. j.cites) c.new-2.ensures ∙ told ∙ sym (ap (λ (o : Result Decoded ProofFault). cites place (said_at view i).proof o) is.decodes ∙ ap (λ (words : List (List ℕ)). cited_words place words steps) is.theorem.says);
+            verdict = rw (ap (λ j. j.verdict) c.new.ensures, is.decodes) on;
+            cites = ap (λ j. j.cites) c.new.ensures ∙ told ∙ sym (ap (λ (o : Result Decoded ProofFault). cites place (said_at view i).proof o) is.decodes ∙ ap (λ (words : List (List ℕ)). cited_words place words steps) is.theorem.says);
             done = rw is.decodes (rw done at (done_says c.parts_are_run.ensures place (statement_at view i) steps c.in_ok-outcome.outcome says));
           };
       known = c.in_ok-outcome.ensures.known;
@@ -42,8 +42,23 @@ pub run_steps-requires : goal.run_steps-requires
 run_steps-requires c = record {
   known = c.requires.known;
   decoded = c.requires.decoded;
-  used = rw c.deref-3.ensures.value ((rw c.deref.ensures.value at c.in_ok-used.ensures) c.args.proof.decoding.now.steps.items c.requires.marks);
+  used = rw c.deref-used.ensures.value ((rw c.deref.ensures.value at c.in_ok-labels_marked.ensures) c.args.proof.decoding.now.steps.items c.requires.marks);
 }
 
 pub cites_used-requires : goal.cites_used-requires
-cites_used-requires c = rw c.deref-2.ensures.value ((rw c.deref.ensures.value at c.in_ok-used.ensures) c.args.proof.decoding.now.steps.items c.requires.marks)
+cites_used-requires c = rw c.deref-used.ensures.value ((rw c.deref.ensures.value at c.in_ok-labels_marked.ensures) c.args.proof.decoding.now.steps.items c.requires.marks)
+
+pub mandatory-hypotheses-requires : goal.mandatory-hypotheses-requires
+mandatory-hypotheses-requires c = let has = c.requires.decoded in (has.0, has.1.theorem.base, framed_proof has.0 c.args.proof.i has.1.theorem.is_sound)
+
+pub steps_done-done-requires : goal.steps_done-done-requires
+steps_done-done-requires c =
+    let steps = c.args.proof.decoding.now.steps in
+    let count : length steps.items ≡ c.len.result = omega (arith, c.len.ensures, steps.ok) in
+    subst (λ n. IsOutcomeWithin n c.in_ok-outcome.outcome) count c.in_ok-outcome.ensures.within
+
+pub verdict-verdict-requires-clause-within : goal.verdict-verdict-requires-clause-within
+verdict-verdict-requires-clause-within c = c.in_ok-outcome.ensures.within
+
+pub returns-in_err-labels_marked : goal.returns-in_err-labels_marked
+returns-in_err-labels_marked c = rw (err_from_is_err_and c.from_residual.result c.from_residual.ensures.1).1 tt

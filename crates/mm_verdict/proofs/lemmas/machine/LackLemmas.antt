@@ -2,9 +2,10 @@
 use Rattle.std.proofs.lemmas.{Grind.{common_steps}, List.{take-append-le, take-append-drop, drop_more, length-map, length-take-le, map-append}}
 use Rattle.std.proofs.lemmas.Option.{slice_get_within, slice_get-map, get_or_from_slice_get}
 use Rattle.std.{proofs.Common.{◌≡◌, ℕ, ◌+◌, ◌<◌, Some, List, [], ◌∷◌, ◌++◌, length, take, drop, sym, ◌∙◌, ap, subst, arith, slice_get}, specs.Option.{option_map}}
-use Rattle.mm_machine.specs.Language.{Frame.{Symbol, Setting}, Typing.{HasFrames}, Expansion.{Step, Named, NotKnown}, NamedSteps.{AreDoneTo, FrontSays, AreSavedBefore, StopsAt, actions_mean, meant}}
-use Rattle.mm_machine.specs.Language.{Renaming.{renamed_mandatory, renamed_meaning, renamed_setting}, Numbering.{unnaming}, RunLaws.{LackStops, NumbersSayTheSame, StopsStay}}
-use Rattle.mm_machine.specs.declared.{ProofNumber.TheVariants.{P07}, stepping.{Front.TheVariants.{Leaves}, Outcome.{Outcome, TheVariants.{Fault, Unknown}}}, step.ProofStep.{ProofStep}}
+use Rattle.mm_machine.specs.Language.{Frame.{Symbol, Setting}, Typing.{HasFrames}, Expansion.{Step, Named, NotKnown}}
+use Rattle.mm_machine.specs.Language.{NamedSteps.{AreDoneTo, FrontSays, AreSavedBefore, RunSays, StopsAt, actions_mean, meant}, Renaming.{renamed_mandatory, renamed_meaning, renamed_setting}}
+use Rattle.mm_machine.specs.{Language.{Numbering.{unnaming}, RunLaws.{LackStops, NumbersSayTheSame, StopsStay}}, declared.{ProofNumber.TheVariants.{P07}, stepping.Front.TheVariants.{Leaves}}}
+use Rattle.mm_machine.specs.declared.{stepping.Outcome.{Outcome, TheVariants.{Fault, Unknown}}, step.ProofStep.{ProofStep}}
 use Rattle.mm_frame.specs.Language.Base.{BaseView, frame_at}
 use Rattle.mm_verdict.specs.{Language.{BaseLabels.{label_at, setting_at}, DecodedSteps.{AreEntries, IsEntry, entry_step, entry_steps}}, Code.NumberedBase.{numbered_frame, numbered_setting}}
 use Rattle.mm_verdict.{specs.Code.{ShortSteps.{TakesMore}, UsedLabels.{KeepsUsed}}, proofs.lemmas.{machine.UsedLemmas.{part_means}, lists.{Every.{all_at}, Members.{kept_at}}}}
@@ -16,6 +17,12 @@ stops_named : NumbersSayTheSame → (names : List (List ℕ)) (place : Setting) 
 stops_named same names place steps (Fault number n) s = same names place steps [] (Fault number n) s
 stops_named same names place steps (Unknown n) s = same names place steps [] (Unknown n) s
 stops_named same names place steps _ s = absurd s
+
+-- and that is what their run comes to, whatever the statement
+pub stops_says : (place : Setting) (steps : List Step) (statement : List Symbol) (outcome : Outcome) → StopsAt place steps outcome → RunSays place steps statement outcome
+stops_says place steps statement (Fault number n) s = s
+stops_says place steps statement (Unknown n) s = s
+stops_says place steps statement _ s = absurd s
 
 divided : (names : List Step) (steps : List ProofStep) (n : ℕ) → actions_mean names steps ≡ actions_mean names (take n steps) ++ actions_mean names (drop n steps)
 divided names steps n = ap (actions_mean names) (sym (take-append-drop n steps)) ∙ map-append (λ (step : ProofStep). meant names step.action) (take n steps) (drop n steps)

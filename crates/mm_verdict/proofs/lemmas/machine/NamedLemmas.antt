@@ -1,8 +1,8 @@
 -- What was named so far, when more is named.
 use Rattle.std.proofs.lemmas.{Grind.{common_steps}, List.Elements.{All-nil, All-cons}, Option.{slice_get_within, same_Some}}
 use Rattle.std.{proofs.Common.{◌≡◌, ℕ, zero, suc, Some, List, [], ◌∷◌, ◌++◌, length, take, refl, sym, ◌∙◌, ap, ap₂, arith, slice_get, All}, specs.List.{AllZip}}
-use Rattle.mm_verdict.specs.Code.{NamedItems.{NamingGrows, AreCited, AreNamed, IsUseOf, Stays, expressions_named, frames_cited}, NumberedBase.{numbered_frame, numbered_setting}}
-use Rattle.mm_verdict.{specs.{Language.DecodedSteps.{AreEntries, IsEntry, entry_step, entry_steps}, declared.named.Naming.{Naming}}, proofs.lemmas.lists.Members.{before_or_last, kept_at, last_there}}
+use Rattle.mm_verdict.specs.Code.{NamedItems.{NamingGrows, AreCited, AreNamed, IsUseIn, Naming, Stays, expressions_named, frames_cited}, NumberedBase.{numbered_frame, numbered_setting}}
+use Rattle.mm_verdict.{specs.Language.DecodedSteps.{AreEntries, IsEntry, entry_step, entry_steps}, proofs.lemmas.lists.Members.{before_or_last, kept_at, last_there}}
 use Rattle.mm_frame.specs.{declared.base.{Base.{Base}, Resolved.{Resolved}}, Language.{Base.{BaseView}, Answering.{IsBaseBy}}}
 use Rattle.mm_machine.specs.{Language.{Frame.{Hypothesis}, Renaming.{renamed_meaning}, Numbering.{unnaming}, NamedSteps.{IsUseWithin, MeansUse}}, declared.symbol.NumberedSymbol.{NumberedSymbol}}
 use Rattle.mm_machine.specs.declared.{assertion.Cited.{Cited}, named.Use.{Use}}
@@ -41,33 +41,33 @@ stands_last old new n j e f = ap (λ w. slice_get w n) e ∙ ap (slice_get (old 
 
 -- ---- all uses
 
-pub uses_grow : (old new : Naming) → NamingGrows old new → (all : List Use) (labels : List Resolved) → AllZip (IsUseOf old) all labels → AllZip (IsUseOf new) all labels
+pub uses_grow : (old new : Naming) → NamingGrows old new → (all : List Use) (labels : List Resolved) → AllZip (IsUseIn old) all labels → AllZip (IsUseIn new) all labels
 uses_grow old new g [] [] z = tt
 uses_grow old new g [] (l ∷ labels) z = absurd z
 uses_grow old new g (u ∷ all) [] z = absurd z
 uses_grow old new g (u ∷ all) (l ∷ labels) z = grind (arith, common_steps, uses_grow old new g all labels z.1) steps 200000
 
-pub uses_more : (naming : Naming) (all : List Use) (labels : List Resolved) (u : Use) (l : Resolved) → AllZip (IsUseOf naming) all labels → IsUseOf naming u l → AllZip (IsUseOf naming) (all ++ u ∷ []) (labels ++ l ∷ [])
+pub uses_more : (naming : Naming) (all : List Use) (labels : List Resolved) (u : Use) (l : Resolved) → AllZip (IsUseIn naming) all labels → IsUseIn naming u l → AllZip (IsUseIn naming) (all ++ u ∷ []) (labels ++ l ∷ [])
 uses_more naming [] [] u l z s = (s, tt)
 uses_more naming (v ∷ all) (m ∷ labels) u l z s = (z.0, uses_more naming all labels u l z.1 s)
 uses_more naming _ _ u l z s = absurd z
 
 -- they are in range
-one_within : (code : Base) (naming : Naming) → AreNamed code naming → (u : Use) (l : Resolved) → IsUseOf naming u l → IsUseWithin (length naming.hypotheses.items) (length naming.assertion_numbers.items.items) u
+one_within : (code : Base) (naming : Naming) → AreNamed code naming → (u : Use) (l : Resolved) → IsUseIn naming u l → IsUseWithin (length naming.hypotheses) (length naming.assertion_numbers) u
 one_within code naming is u l s = grind (arith, common_steps, slice_get_within) steps 200000
 
-pub uses_within : (code : Base) (naming : Naming) → AreNamed code naming → (all : List Use) (labels : List Resolved) → AllZip (IsUseOf naming) all labels →
-    All (IsUseWithin (length naming.hypotheses.items) (length naming.assertion_numbers.items.items)) all
-uses_within code naming is [] labels z = All-nil (IsUseWithin (length naming.hypotheses.items) (length naming.assertion_numbers.items.items))
+pub uses_within : (code : Base) (naming : Naming) → AreNamed code naming → (all : List Use) (labels : List Resolved) → AllZip (IsUseIn naming) all labels →
+    All (IsUseWithin (length naming.hypotheses) (length naming.assertion_numbers)) all
+uses_within code naming is [] labels z = All-nil (IsUseWithin (length naming.hypotheses) (length naming.assertion_numbers))
 uses_within code naming is (u ∷ all) [] z = absurd z
-uses_within code naming is (u ∷ all) (l ∷ labels) z = All-cons (IsUseWithin (length naming.hypotheses.items) (length naming.assertion_numbers.items.items)) u all (one_within code naming is u l z.0) (uses_within code naming is all labels z.1)
+uses_within code naming is (u ∷ all) (l ∷ labels) z = All-cons (IsUseWithin (length naming.hypotheses) (length naming.assertion_numbers)) u all (one_within code naming is u l z.0) (uses_within code naming is all labels z.1)
 
 -- and mean what the entries mean
 one_means :
     (code : Base) (naming : Naming) → AreNamed code naming → (mandatory : List (assertion.Hypothesis NumberedSymbol)) (cited : List (Cited NumberedSymbol)) →
-    AreCited code naming.assertion_numbers.items.items mandatory cited → (names : List (List ℕ)) (view : BaseView) (i : ℕ) → IsBaseBy names view code →
-    (u : Use) (l : Resolved) → IsUseOf naming u l → IsEntry view i l → MeansUse (expressions_named naming) (frames_cited mandatory cited) (numbered_setting names view i) u (entry_step view l)
-one_means code naming is hs cited are names view i base (uses.Hypothesis n) (answers.Hypothesis j) s e = let h = is.hypotheses names view base n j s e.0.carrier.shown in (h.0, h.1, ap (renamed_meaning (unnaming names)) e.1 ∙ ap Hypothesis (sym h.2))
+    AreCited code naming.assertion_numbers mandatory cited → (names : List (List ℕ)) (view : BaseView) (i : ℕ) → IsBaseBy names view code →
+    (u : Use) (l : Resolved) → IsUseIn naming u l → IsEntry view i l → MeansUse (expressions_named naming.hypotheses) (frames_cited mandatory cited) (numbered_setting names view i) u (entry_step view l)
+one_means code naming is hs cited are names view i base (uses.Hypothesis n) (answers.Hypothesis j) s e = let h = is.shown.each names view base n j s e.0.carrier.shown in (h.0, h.1, ap (renamed_meaning (unnaming names)) e.1 ∙ ap Hypothesis (sym h.2))
 one_means code naming is hs cited are names view i base (uses.Assertion n) (answers.Assertion j) s e = let h = are.frames names view base n j s e.1 in (h.0, numbered_frame names view j, h.1, ap (renamed_meaning (unnaming names)) e.2, h.2)
 one_means code naming is hs cited are names view i base uses.Nothing answers.Inactive s e = tt
 one_means code naming is hs cited are names view i base uses.Nothing answers.Unknown s e = tt
@@ -75,8 +75,8 @@ one_means code naming is hs cited are names view i base _ _ s e = absurd s
 
 pub uses_mean :
     (code : Base) (naming : Naming) → AreNamed code naming → (mandatory : List (assertion.Hypothesis NumberedSymbol)) (cited : List (Cited NumberedSymbol)) →
-    AreCited code naming.assertion_numbers.items.items mandatory cited → (names : List (List ℕ)) (view : BaseView) (i : ℕ) → IsBaseBy names view code → (all : List Use) (labels : List Resolved) →
-    AllZip (IsUseOf naming) all labels → AreEntries view i labels → AllZip (MeansUse (expressions_named naming) (frames_cited mandatory cited) (numbered_setting names view i)) all (entry_steps view labels)
+    AreCited code naming.assertion_numbers mandatory cited → (names : List (List ℕ)) (view : BaseView) (i : ℕ) → IsBaseBy names view code → (all : List Use) (labels : List Resolved) →
+    AllZip (IsUseIn naming) all labels → AreEntries view i labels → AllZip (MeansUse (expressions_named naming.hypotheses) (frames_cited mandatory cited) (numbered_setting names view i)) all (entry_steps view labels)
 uses_mean code naming is hs cited are names view i base [] [] z e = tt
 uses_mean code naming is hs cited are names view i base (u ∷ all) (l ∷ labels) z e = (one_means code naming is hs cited are names view i base u l z.0 e.0, uses_mean code naming is hs cited are names view i base all labels z.1 e.1)
 uses_mean code naming is hs cited are names view i base _ _ z e = absurd z

@@ -6,7 +6,7 @@ use Rattle.mm_verdict.specs.{Language.DecodedSteps.{AreEntries, IsEntry, entry_s
 use Rattle.mm_frame.specs.declared.base.Resolved.TheVariants as answers
 use Rattle.mm_machine.specs.declared.step.Action.TheVariants as actions
 
-entry_of : (view : BaseView) (i : ℕ) (u : Resolved) (o : Option Resolved) (l : Resolved) → o ≡ Some l → (u ≡ answers.Unknown) ⊎ (o ≡ Some u) → IsEntry view i l → IsEntry view i u
+pub entry_of : (view : BaseView) (i : ℕ) (u : Resolved) (o : Option Resolved) (l : Resolved) → o ≡ Some l → (u ≡ answers.Unknown) ⊎ (o ≡ Some u) → IsEntry view i l → IsEntry view i u
 entry_of view i u o l e h entry = grind (arith, common_steps) steps 200000
 
 pub part_entries : (view : BaseView) (i : ℕ) (labels used : List Resolved) → IsPart labels used → AreEntries view i labels → AreEntries view i used

@@ -22,14 +22,11 @@ the_decoding c names view read proof =
     decoded _ _ _ c.in_ok-decoding.decoding _ view theorem c.mandatory-mandatory.ensures (c.mandatory_are_active.ensures view c.args.i theorem.said)
     c.in_ok-decoding.ensures.ok c.in_ok-decoding.ensures.entries c.in_ok-decoding.ensures.table
 
-pub name_all-requires-clause-labels : goal.name_all-requires-clause-labels
-name_all-requires-clause-labels c =
+pub named_alone-requires : goal.named_alone-requires
+named_alone-requires c =
     let has = c.requires.1 in
-    let is = the_decoding (goal.at.name_all-requires-clause-labels c).In_ok-decoding c.requires.0 has.0 has.1 has.3 in
+    let is = the_decoding (goal.at.named_alone-requires c).In_ok-decoding c.requires.0 has.0 has.1 has.3 in
     rw c.deref.ensures.value (named_by c.args.base.now has.0 c.args.i is.theorem.base has.2 c.in_ok-decoding.decoding.labels.items is.entries)
-
-pub name_all-requires-clause-known : goal.name_all-requires-clause-known
-name_all-requires-clause-known c = c.new-3.ensures c.args.base.now
 
 pub returns-clause-saved : goal.returns-clause-saved
 returns-clause-saved c =

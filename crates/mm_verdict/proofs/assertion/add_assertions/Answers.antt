@@ -2,7 +2,7 @@ use Rattle.std.proofs.{lemmas.{Grind.{common_steps}, List.{length-map, take_all,
 use Rattle.mm_frame.specs.Language.Base.{frame_at}
 use Rattle.mm_machine.specs.Language.{NumberedSymbols.{by_number}, CitedFrames.{IsCitable, frame_of, hypotheses_of, mandatory_of}}
 use Rattle.mm_verdict.{specs.Code.{NamedItems.{AreCited}, NumberedBase.{numbered_frame}}, proofs.lemmas.{base.FrameLemmas.{frame_moved}, machine.RangeLemmas.{cited_more}}}
-use Rattle.mm_verdict.proofs.assertion.with_assertions.Goals as goal
+use Rattle.mm_verdict.proofs.assertion.add_assertions.Goals as goal
 
 pub loop-place-preserved : goal.loop-place-preserved
 loop-place-preserved c =
