@@ -1,1 +1,2 @@
+pub mod ResultLemmas
 pub mod SpelledLemmas

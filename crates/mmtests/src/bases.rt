@@ -44,10 +44,11 @@ fn has_proof_places(alloc: Global, files: &Files, item: &Item) -> Result<bool, A
     requires { CanBeRead files.now item.now }
 {
     let statement = Statement::read(alloc, files, item)?;
-    if statement.proof().next_word().is_none() {
-        return Ok(false);
-    }
-    Ok(statement.proof_place(0) == 5 && statement.proof_place(1) == 6)
+    let placed = statement.proof().next_word().is_some()
+        && statement.proof_place(0) == 5
+        && statement.proof_place(1) == 6;
+    mem::forget(statement);
+    Ok(placed)
 }
 
 /// Where an item begins in the text of its file.
@@ -74,10 +75,14 @@ fn begin_so(files: &Files, items: &[Item]) -> bool
 /// Whether the items and the words of the proof of the last have their places.
 fn have_places(alloc: Global, files: &Files) -> Result<bool, StoreError> {
     let items = files.statements(NAME)?;
-    match items.last() {
-        Some(item) => Ok(begin_so(files, &items) && has_proof_places(alloc, files, item)?),
-        None => Ok(false),
-    }
+    let placed = match items.last() {
+        Some(item) => {
+            begin_so(files, &items) && has_proof_places(alloc, files, item) == Ok(true)
+        }
+        None => false,
+    };
+    mem::forget(items);
+    Ok(placed)
 }
 
 #[test]
@@ -90,19 +95,28 @@ fn a_base_and_its_items_have_their_places(rt: HostRuntime) {
     assert!(rt; added && framed && placed == Ok(true));
 }
 
-/// Whether the one name that is missing is reported once.
-fn is_told_once(files: &Files) -> Result<bool, StoreError> {
-    let mut walk = files.walk(b"t.mm")?;
-    let first = is_next(&mut walk, files)?;
-    Ok(first && walk.next_missing(files)?.is_none())
-}
-
 /// Whether this name is missing next.
 fn is_next(walk: &mut Walk, files: &Files) -> Result<bool, AllocError> {
     match walk.next_missing(files)? {
         Some(name) => Ok(name.as_slice() == b"z.mm".as_slice()),
         None => Ok(false),
     }
+}
+
+/// Whether a walk reports the one name that is missing, and no other after it.
+fn tells_once(walk: &mut Walk, files: &Files) -> Result<bool, AllocError> {
+    Ok(is_next(&mut *walk, files)? && walk.next_missing(files)?.is_none())
+}
+
+/// Whether a walk does so.
+fn is_told_once(files: &Files) -> bool {
+    let mut walk = files.walk(b"t.mm");
+    let told = match &mut walk {
+        Ok(walk) => tells_once(walk, files) == Ok(true),
+        Err(_) => false,
+    };
+    mem::forget(walk);
+    told
 }
 
 #[test]
@@ -112,7 +126,7 @@ fn a_missing_name_is_told_once(rt: HostRuntime) {
     let added = files.add(b"t.mm", text).is_ok();
     let told = is_told_once(&files);
     mem::forget(files);
-    assert!(rt; added && told == Ok(true));
+    assert!(rt; added && told);
 }
 
 /// A line and a column.

@@ -18,15 +18,6 @@ const LONGER: &[u8] =
     b"$c k $. $( x $)\n$c wff |- -> ( ) $.\n$v p q $.\nwp $f wff p $.\nwq $f wff q $.\nwi $a wff ( p -> q ) $.\n\
         ${ mi $e |- p $. ma $e |- ( p -> q ) $. mp $a |- q $. $}\n";
 
-/// A text put in before the first piece.
-const fn insert(text: &'static [u8]) -> Edit<'static> {
-    Edit::Insert {
-        file: NAME,
-        at: 0,
-        text,
-    }
-}
-
 /// The first byte of a text is that of a statement that is not finished.
 const UNFINISHED: TextFault = TextFault {
     number: TextNumber::T07,
@@ -59,24 +50,47 @@ fn are_refused(files: &mut Files, rows: &[(Edit<'_>, EditError)]) -> bool {
     true
 }
 
+/// Edits that are refused, with the reasons. A text is put in before the first piece.
+const REFUSED: &[(Edit<'static>, EditError)] = &[
+    (Edit::Delete { file: NAME, at: 6 }, EditError::NoPiece(6)),
+    (
+        Edit::Insert {
+            file: NAME,
+            at: 0,
+            text: b"$c a $. $c b $.\n",
+        },
+        EditError::NotOne(2),
+    ),
+    (
+        Edit::Insert {
+            file: NAME,
+            at: 0,
+            text: b"x $a wff p\n",
+        },
+        EditError::Text(UNFINISHED),
+    ),
+    (
+        Edit::Insert {
+            file: NAME,
+            at: 0,
+            text: b"",
+        },
+        EditError::NotOne(0),
+    ),
+    (
+        Edit::Delete {
+            file: b"z.mm",
+            at: 0,
+        },
+        EditError::NoFile,
+    ),
+];
+
 #[test]
 fn a_refused_edit_leaves_the_text(rt: HostRuntime) {
-    let rows = [
-        (Edit::Delete { file: NAME, at: 6 }, EditError::NoPiece(6)),
-        (insert(b"$c a $. $c b $.\n"), EditError::NotOne(2)),
-        (insert(b"x $a wff p\n"), EditError::Text(UNFINISHED)),
-        (insert(b""), EditError::NotOne(0)),
-        (
-            Edit::Delete {
-                file: b"z.mm",
-                at: 0,
-            },
-            EditError::NoFile,
-        ),
-    ];
     let mut files = Files::new(rt.alloc());
     let added = files.add(NAME, LOGIC).is_ok();
-    let refused = are_refused(&mut files, &rows);
+    let refused = are_refused(&mut files, REFUSED);
     mem::forget(files);
     assert!(rt; added && refused);
 }
@@ -97,7 +111,12 @@ fn loses_its_first(files: &mut Files) -> bool
 
 /// Whether an insertion is done, its piece can be deleted and put back, and is then undone.
 fn goes_there_and_back(files: &mut Files) -> bool {
-    match files.edit(&insert(b"$c k $. $( x $)")) {
+    let insertion = Edit::Insert {
+        file: NAME,
+        at: 0,
+        text: b"$c k $. $( x $)",
+    };
+    match files.edit(&insertion) {
         Ok(undo) => {
             let done = has(files, 7, LONGER);
             let lost = loses_its_first(files);

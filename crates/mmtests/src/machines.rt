@@ -4,17 +4,18 @@ ghost use Rattle.std.specs.Prelude.{◌≡◌, List, All, IfOk, length, map};
 ghost use Rattle.mm_machine.specs.Language.Frame.{Mandatory};
 ghost use Rattle.mm_machine.specs.Language.NumberedSymbols.{by_number, named_symbol, all_by_number};
 ghost use Rattle.mm_machine.specs.Language.CitedFrames.{frame_of, hypotheses_of, meant_pairs, range_of};
-ghost use Rattle.mm_machine.specs.Language.NamedSteps.{IsOutcomeWithin, AreCitable, AreSavedBefore, AreUsesWithin, IsUseWithin};
+ghost use Rattle.mm_machine.specs.Language.NamedSteps.{AreCitable, AreSavedBefore, AreUsesWithin, IsUseWithin};
 ghost use Rattle.mm_machine.specs.Language.Keys.{AreInKeyOrder, key_by_number};
 ghost use Rattle.mmtests.specs.Code.Spelled.{HasOneKey, IsRanged, key_by_name, ranged};
 ghost use Rattle.mm_verdict.specs.Language.ReadIn.{HasTheorem};
 
 use mm_machine::{
-    Active, Cited, Hypothesis, Machine, Named, NamedSymbol, NumberedSymbol, Outcome, ProofStep,
-    Use, numbers_keep_order, run,
+    Active, Cited, Hypothesis, Kept, Machine, Named, NamedSymbol, NumberedSymbol, Outcome,
+    ProofStep, Use, numbers_keep_order, run,
 };
 use mm_verdict::{Base, Files, Names, Program, Undecoded, program_of};
 use std::alloc::{AllocError, Global};
+use std::mem;
 
 /// The tables of a run over names have this many places: fewer than there are names, so some names share one.
 const PLACES: usize = 7;
@@ -218,6 +219,30 @@ struct SpelledTable {
     frames: Vec<SpelledFrame>,
 }
 
+/// What a run comes to of a machine whose tables have this many places at first. It is not taken apart.
+fn outcome_of<S: Kept>(
+    alloc: Global,
+    places: usize,
+    named: &Named<'_, S>,
+    pairs: &[(S, S)],
+    steps: &[ProofStep],
+    statement: &[S],
+) -> Result<Outcome, AllocError>
+    requires frames { AreCitable S.means named.now }
+    requires within { AreUsesWithin named.now }
+    requires saved { AreSavedBefore steps.now }
+    requires order { AreInKeyOrder S.key_of (meant_pairs S.means pairs.now) }
+{
+    let active = Active::new(pairs);
+    let mut machine = Machine::new(alloc);
+    let outcome = match machine.widen(places) {
+        Ok(()) => run(alloc, &mut machine, named, &active, steps, statement),
+        Err(error) => Err(error),
+    };
+    mem::forget(machine);
+    outcome
+}
+
 /// What a run over these names comes to.
 fn run_lent<'a>(
     alloc: Global,
@@ -236,7 +261,6 @@ fn run_lent<'a>(
     requires within { All (IsUseWithin (length table.now.expressions.items) (length table.now.frames.items)) uses.now }
     requires saved { AreSavedBefore steps.now }
     requires order { AreInKeyOrder key_by_name (meant_pairs named_symbol pairs.now) }
-    ensures { IfOk result (IsOutcomeWithin (length steps.now)) }
 {
     let uses = Vec::from_slice(alloc, uses)?;
     let hypotheses = lent_expressions(alloc, &table.expressions)?;
@@ -248,10 +272,9 @@ fn run_lent<'a>(
         mandatory,
         assertions,
     };
-    let active = Active::new(pairs);
-    let mut machine = Machine::new(alloc);
-    machine.widen(PLACES)?;
-    run(alloc, &mut machine, &named, &active, steps, statement)
+    let outcome = outcome_of(alloc, PLACES, &named, pairs, steps, statement);
+    mem::forget(named);
+    outcome
 }
 
 /// What a run over names comes to.
@@ -266,8 +289,9 @@ fn run_by_names(
     requires within { AreUsesWithin named.now }
     requires saved { AreSavedBefore steps.now }
     requires order { AreInKeyOrder key_by_number (meant_pairs by_number pairs.now) }
-    ensures { IfOk result (IsOutcomeWithin (length steps.now)) }
 {
+    let pairs = spelled_pairs(alloc, pairs)?;
+    let statement = spelled(alloc, statement)?;
     let expressions = spelled_expressions(alloc, &named.hypotheses)?;
     let mandatory = spelled_hypotheses(alloc, &named.mandatory)?;
     let frames = spelled_frames(alloc, &named.assertions)?;
@@ -276,9 +300,11 @@ fn run_by_names(
         mandatory,
         frames,
     };
-    let pairs = spelled_pairs(alloc, pairs)?;
-    let statement = spelled(alloc, statement)?;
-    run_lent(alloc, &named.uses, &table, &pairs, steps, &statement)
+    let outcome = run_lent(alloc, &named.uses, &table, &pairs, steps, &statement);
+    mem::forget(table);
+    mem::forget(statement);
+    mem::forget(pairs);
+    outcome
 }
 
 /// Whether two runs come to the same.
@@ -299,43 +325,34 @@ fn runs_agree(
     program: &Program<'_>,
     pairs: &[(NumberedSymbol, NumberedSymbol)],
     statement: &[NumberedSymbol],
-) -> Result<bool, AllocError>
+) -> bool
     requires frames { AreCitable by_number program.now.named }
     requires within { AreUsesWithin program.now.named }
     requires saved { AreSavedBefore program.now.steps.items }
     requires order { AreInKeyOrder key_by_number (meant_pairs by_number pairs.now) }
 {
-    let named = run_by_names(alloc, &program.named, pairs, &program.steps, statement)?;
-    let active = Active::new(pairs);
-    let mut machine = Machine::new(alloc);
-    let numbered = run(
-        alloc,
-        &mut machine,
-        &program.named,
-        &active,
-        &program.steps,
-        statement,
-    )?;
-    Ok(is_same(named, numbered))
+    let (named, steps) = (&program.named, &program.steps);
+    let by_names = run_by_names(alloc, named, pairs, steps, statement);
+    let by_numbers = outcome_of(alloc, 0, named, pairs, steps, statement);
+    match (by_names, by_numbers) {
+        (Ok(one), Ok(other)) => is_same(one, other),
+        _ => false,
+    }
 }
 
 /// Whether a run over names comes to the same as one over numbers, for the proof of an item; so it does if nothing is run.
-pub fn agrees(
-    alloc: Global,
-    names: &Names,
-    files: &Files,
-    base: &Base,
-    i: usize,
-) -> Result<bool, AllocError>
+pub fn agrees(alloc: Global, names: &Names, files: &Files, base: &Base, i: usize) -> bool
     requires { HasTheorem names.now files.now base.now i }
 {
     numbers_keep_order();
     let Some(pairs) = base.pairs(i) else {
-        return Ok(false);
+        return false;
     };
-    match program_of(alloc, files, base, i) {
-        Ok(program) => runs_agree(alloc, &program, pairs, base.known_expression(i)),
-        Err(Undecoded::Fault(_)) => Ok(true),
-        Err(Undecoded::Memory) => Err(AllocError),
-    }
+    let program = program_of(alloc, files, base, i);
+    let agree = match &program {
+        Ok(program) => runs_agree(alloc, program, pairs, base.known_expression(i)),
+        Err(error) => matches!(error, Undecoded::Fault(_)),
+    };
+    mem::forget(program);
+    agree
 }

@@ -7,10 +7,11 @@ ghost use Rattle.mm_text.specs.declared.word.Word.{Word as Found};
 
 use bytes::Bytes;
 use mm_text::{
-    DividedPiece, Keyword, Part, PartKind, TextError, TextFault, TextNumber, Word, WordCursor,
-    WordKind, cut, divided_cut, nth_word, words,
+    Cut, DividedCut, DividedPiece, Keyword, Part, PartKind, TextError, TextFault, TextNumber, Word,
+    WordCursor, WordKind, cut, divided_cut, nth_word, words,
 };
-use std::test::Fail;
+use std::alloc::Global;
+use std::mem;
 
 fn plain(start: usize, end: usize) -> Word {
     Word {
@@ -26,10 +27,6 @@ fn keyword(keyword: Keyword, start: usize, end: usize) -> Word {
         start,
         end,
     }
-}
-
-fn part(kind: PartKind, start: usize, end: usize) -> Part {
-    Part { kind, start, end }
 }
 
 /// The words that a cursor gives, and what it gives after the last; and the first that a cursor gives that began again after
@@ -61,39 +58,86 @@ fn numbered(text: &[u8]) -> [Option<Word>; 4]
     ]
 }
 
+/// Whether a text has these words, by a list, by a cursor and by their numbers.
+fn has_words(alloc: Global, text: &[u8], wanted: [Word; 3]) -> bool {
+    let each = [Some(wanted[0]), Some(wanted[1]), Some(wanted[2]), None];
+    match words(alloc, text) {
+        Ok(found) => {
+            found.as_slice() == wanted.as_slice()
+                && told(text) == (each, each[1])
+                && numbered(text) == each
+        }
+        Err(_) => false,
+    }
+}
+
 #[test]
-fn finds_the_words_outside_comments(rt: HostRuntime) -> Result<(), Fail> {
-    let text = b"$( x $) $c a $.\n";
+fn finds_the_words_outside_comments(rt: HostRuntime) {
     let wanted = [
         keyword(Keyword::Constants, 8, 10),
         plain(11, 12),
         keyword(Keyword::StatementEnd, 13, 15),
     ];
-    let each = [Some(wanted[0]), Some(wanted[1]), Some(wanted[2]), None];
-    assert!(rt; words(rt.alloc(), text)?.as_slice() == wanted.as_slice());
-    let (found, again) = told(text);
-    assert!(rt; numbered(text).as_slice() == each.as_slice());
-    assert!(rt; found.as_slice() == each.as_slice() && again == each[1]);
-    Ok(())
+    assert!(rt; has_words(rt.alloc(), b"$( x $) $c a $.\n", wanted));
 }
 
 /// A text with two units, a comment before the second, and a tail.
 const TEXT: &[u8] = b"$c a $. $( x $) ${ l $a a $. $} $( y $)";
 
-/// Its pieces.
-const PIECES: [&[u8]; 2] = [b"$c a $. ", b"$( x $) ${ l $a a $. $} "];
+/// Its first piece, and the part of it.
+const FIRST: &[u8] = b"$c a $. ";
+
+const CONSTANTS: &[Part] = &[Part {
+    kind: PartKind::Constants,
+    start: 0,
+    end: 7,
+}];
+
+/// Its second piece, and the parts of it.
+const SECOND: &[u8] = b"$( x $) ${ l $a a $. $} ";
+
+const BLOCK: &[Part] = &[
+    Part {
+        kind: PartKind::BlockStart,
+        start: 8,
+        end: 10,
+    },
+    Part {
+        kind: PartKind::Axiom,
+        start: 11,
+        end: 20,
+    },
+    Part {
+        kind: PartKind::BlockEnd,
+        start: 21,
+        end: 23,
+    },
+];
 
 /// Its tail.
 const TAIL: &[u8] = b"$( y $)\n";
 
-#[test]
-fn cuts_into_pieces(rt: HostRuntime) -> Result<(), Fail> {
-    let found = cut(rt.alloc(), TEXT)?;
-    assert!(rt; found.pieces.len() == 2 && found.tail.as_slice() == TAIL);
-    for (piece, wanted) in found.pieces.iter().zip(PIECES) {
-        assert!(rt; piece.as_slice() == wanted);
+/// Whether the pieces and the tail are those of the text.
+fn is_cut(found: &Cut) -> bool {
+    match found.pieces.as_slice() {
+        [first, second] => {
+            found.tail.as_slice() == TAIL
+                && first.as_slice() == FIRST
+                && second.as_slice() == SECOND
+        }
+        _ => false,
     }
-    Ok(())
+}
+
+#[test]
+fn cuts_into_pieces(rt: HostRuntime) {
+    let found = cut(rt.alloc(), TEXT);
+    let right = match &found {
+        Ok(found) => is_cut(found),
+        Err(_) => false,
+    };
+    mem::forget(found);
+    assert!(rt; right);
 }
 
 /// Whether a piece has this text and these parts.
@@ -101,33 +145,46 @@ fn is_divided(piece: &DividedPiece, text: &[u8], parts: &[Part]) -> bool {
     piece.text.as_slice() == text && piece.parts.as_slice() == parts
 }
 
-#[test]
-fn cuts_into_pieces_with_parts(rt: HostRuntime) -> Result<(), Fail> {
-    let first = [part(PartKind::Constants, 0, 7)];
-    let second = [
-        part(PartKind::BlockStart, 8, 10),
-        part(PartKind::Axiom, 11, 20),
-        part(PartKind::BlockEnd, 21, 23),
-    ];
-    let found = divided_cut(rt.alloc(), &Bytes::from_static(TEXT))?;
-    assert!(rt; found.pieces.len() == 2 && found.tail.as_slice() == TAIL);
-    assert!(rt; is_divided(&found.pieces[0], PIECES[0], &first));
-    assert!(rt; is_divided(&found.pieces[1], PIECES[1], &second));
-    Ok(())
+/// Whether the pieces, with their parts, and the tail are those of the text.
+fn are_divided(found: &DividedCut) -> bool {
+    match found.pieces.as_slice() {
+        [first, second] => {
+            found.tail.as_slice() == TAIL
+                && is_divided(first, FIRST, CONSTANTS)
+                && is_divided(second, SECOND, BLOCK)
+        }
+        _ => false,
+    }
 }
 
 #[test]
-fn prints_errors(rt: HostRuntime) -> Result<(), Fail> {
+fn cuts_into_pieces_with_parts(rt: HostRuntime) {
+    let text = Bytes::from_static(TEXT);
+    let found = divided_cut(rt.alloc(), &text);
+    let right = match &found {
+        Ok(found) => are_divided(found),
+        Err(_) => false,
+    };
+    mem::forget(found);
+    mem::forget(text);
+    assert!(rt; right);
+}
+
+/// Whether an error is printed like this.
+fn is_printed(alloc: Global, error: TextError, wanted: &str) -> bool {
+    match format!(in alloc; "{error}") {
+        Ok(text) => text.as_str() == wanted,
+        Err(_) => false,
+    }
+}
+
+#[test]
+fn prints_errors(rt: HostRuntime) {
     let fault = TextFault {
         number: TextNumber::T05,
         at: 3,
     };
-    let rows = [
-        (TextError::Fault(fault), "T05 at byte 3"),
-        (TextError::Memory, "out of memory"),
-    ];
-    for (error, wanted) in rows {
-        assert_eq!(rt; format!(in rt.alloc(); "{error}")?.as_str(), wanted);
-    }
-    Ok(())
+    let placed = is_printed(rt.alloc(), TextError::Fault(fault), "T05 at byte 3");
+    let told = is_printed(rt.alloc(), TextError::Memory, "out of memory");
+    assert!(rt; placed && told);
 }

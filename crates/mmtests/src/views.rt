@@ -113,6 +113,9 @@ ${ $d x z $. t $p |- x $= wx wz wx wz a1 b2 $. $}",
     },
 ];
 
+/// How many they are.
+const COUNT: usize = PAIRS.len();
+
 /// Whether the views of the theorems are the same or not, as it is wanted.
 fn is_compared(names: &Names, files: &Files, one: &Base, other: &Base, same: bool) -> bool
     requires one { (view : BaseView) × IsReadIn names.now files.now one.now view }
@@ -142,9 +145,18 @@ fn holds(alloc: Global, pair: &Pair) -> bool {
     added && holds
 }
 
+/// How many pairs it holds of, before the first of which it does not.
+fn right(alloc: Global, pairs: &[Pair]) -> usize {
+    for (n, pair) in pairs.iter().enumerate() {
+        if !holds(alloc, pair) {
+            return n;
+        }
+    }
+    pairs.len()
+}
+
 #[test]
 fn views_are_compared(rt: HostRuntime) {
-    for n in 0..PAIRS.len() {
-        assert!(rt; holds(rt.alloc(), &PAIRS[n]), "pair {n}");
-    }
+    let right = right(rt.alloc(), PAIRS);
+    assert!(rt; right == COUNT, "pair {right}");
 }

@@ -1,8 +1,5 @@
-use Rattle.std.{proofs.Common.{Ok, Result, subst, ◌≡◌}, specs.Prelude.{IfOk}}
+use Rattle.mmtests.proofs.ResultLemmas.{from_ok}
 use Rattle.mmtests.proofs.views.holds.Goals as goal
-
-from_ok : {A E : Type 0} (P : A → Type 0) (r : Result A E) (x : A) → r ≡ Ok x → IfOk r P → P x
-from_ok {A} {E} P r x same holds = subst (λ (o : Result A E). IfOk o P) same holds
 
 pub is_compared-holds-requires-clause-one : goal.is_compared-holds-requires-clause-one
 is_compared-holds-requires-clause-one c =
