@@ -14,9 +14,9 @@ TOKEN = re.compile(r"'[A-Za-z_]\w*|[A-Za-z_]\w*|\d[\w.]*?(?=\.\.|[^\w.]|$)|::|=>
 
 
 class Token(str):
-    """A token, and the number of its line."""
+    """A token, the number of its line, and its place in the text."""
 
-    line = 0
+    line, place = 0, 0
 
 
 def after_braces(text, at):
@@ -32,8 +32,11 @@ def after_braces(text, at):
 
 
 def after_ghost(text, at):
-    """The place after the `;` that ends what is for the prover."""
+    """The place after the `;` that ends what is for the prover, or after the braces of a ghost field."""
     depth = 0
+    if re.match(r"ghost\s+\w+\s*:", text[at:]):
+        end = after_braces(text, at)
+        return end + text.startswith(",", end)
     while at < len(text):
         depth += {"{": 1, "}": -1}.get(text[at], 0)
         at += 1
@@ -53,14 +56,19 @@ def end_of_hidden(text, at):
     return None
 
 
+def blank(text):
+    """A text with a space in place of all but the ends of its lines."""
+    return re.sub(r"[^\n]", " ", text)
+
+
 def code_of(text):
-    """A source without what is no code: each line keeps its number. A text is left as `""`."""
+    """A source with spaces in place of what is no code. Of a text the quotes are left."""
     parts, at = [], 0
     while at < len(text):
         end = end_of_hidden(text, at)
         if end is not None:
-            shown = '""' if text[end - 1] in "\"'#" and text[at] not in "/" else " "
-            parts.append(shown + "\n" * text.count("\n", at, end))
+            is_text = text[end - 1] in "\"'#" and text[at] not in "/"
+            parts.append(f'"{blank(text[at + 1 : end - 1])}"' if is_text else blank(text[at:end]))
             at = end
             continue
         word = WORD.match(text, at)
@@ -73,19 +81,20 @@ def code_of(text):
             parts.append(text[at:end])
             at = end
             continue
-        parts.append(" " + "\n" * text.count("\n", at, end))
+        parts.append(blank(text[at:end]))
         at = end
     return "".join(parts)
 
 
 def tokens_of(text):
-    """The tokens of a source, each with its line."""
-    found = []
+    """The tokens of a source."""
+    found, start = [], 0
     for number, line in enumerate(code_of(text).split("\n"), 1):
         for match in TOKEN.finditer(line):
             token = Token(match[0])
-            token.line = number
+            token.line, token.place = number, start + match.start()
             found.append(token)
+        start += len(line) + 1
     return found
 
 
@@ -103,10 +112,11 @@ def closing(tokens, at):
 
 
 class Function:
-    """A function: its name, what it belongs to, whether it is public, its signature and its body."""
+    """A function: its name, what it belongs to, the trait that asks for it, whether it is public, its signature, its body, and the first and last token of the latter."""
 
-    def __init__(self, name, owner, public, signature, body):
-        self.name, self.owner, self.public, self.signature, self.body = name, owner, public, signature, body
+    def __init__(self, name, owner, trait, public, signature, body, braces):
+        self.name, self.owner, self.trait, self.public = name, owner, trait, public
+        self.signature, self.body, self.braces = signature, body, braces
 
 
 def header_end(tokens, at):
@@ -117,35 +127,40 @@ def header_end(tokens, at):
 
 
 def owner_of(header):
-    """The type that an `impl` is of, or the name of a trait."""
+    """The type that an `impl` is of, or the name of a trait; and the trait that it is of the type, or nothing."""
     if header[0] == "trait":
-        return str(header[1])
+        return str(header[1]), ""
     depth, plain = 0, []
     for token in header[1:]:
         depth += {"<": 1, ">": -1, ">>": -2}.get(token, 0)
         if depth == 0 and token not in (">", ">>"):
             plain.append(token)
-    plain = plain[plain.index("for") + 1 :] if "for" in plain else plain
-    return next((token for token in reversed(plain) if WORD.fullmatch(token)), "")
+    place = plain.index("for") if "for" in plain else 0
+    return last_word(plain[place:]), last_word(plain[:place])
+
+
+def last_word(tokens):
+    """The last word among tokens, or nothing."""
+    return next((str(token) for token in reversed(tokens) if WORD.fullmatch(token)), "")
 
 
 def functions_of(tokens):
     """The functions among tokens, in order."""
     found, owners, at = [], [], 0
     while at < len(tokens):
-        owners = [(name, end) for name, end in owners if end > at]
+        owners = [owner for owner in owners if owner[-1] > at]
         token = tokens[at]
         if token in ("impl", "trait") and (at == 0 or tokens[at - 1] in ("}", ";", "]", "pub", ")", "unsafe")):
             start = header_end(tokens, at)
             if start < len(tokens) and tokens[start] == "{":
-                owners.append((owner_of(tokens[at:start]), closing(tokens, start)))
+                owners.append((*owner_of(tokens[at:start]), closing(tokens, start)))
             at = start + 1
         elif token == "fn" and at + 1 < len(tokens) and WORD.fullmatch(tokens[at + 1]):
             start = header_end(tokens, at)
             end = closing(tokens, start) if start < len(tokens) and tokens[start] == "{" else start
             public = at > 0 and tokens[at - 1] == "pub" or tokens[max(0, at - 2) : at] == ["pub", "const"]
-            owner = owners[-1][0] if owners else ""
-            found.append(Function(str(tokens[at + 1]), owner, public, tokens[at:start], tokens[start + 1 : end]))
+            owner, trait = owners[-1][:2] if owners else ("", "")
+            found.append(Function(str(tokens[at + 1]), owner, trait, public, tokens[at:start], tokens[start + 1 : end], (tokens[start], tokens[end])))
             at = start + 1
         else:
             at += 1
