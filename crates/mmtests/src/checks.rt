@@ -63,7 +63,7 @@ ${ min $e |- P $. maj $e |- ( P -> Q ) $. mp $a |- Q $. $}
 /// A variable that may stand for no symbols.
 const EMPTY: &[u8] = b"$c |- S $.\n$v x $.\nsx $f S x $.\ne $a S $.\nax $a |- x $.\n";
 
-/// The text of it.
+/// The text that a database begins with.
 fn text_of(front: Front) -> &'static [u8] {
     match front {
         Front::Formulas => FORMULAS,
