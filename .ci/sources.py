@@ -9,6 +9,8 @@ import re
 CRATES = pathlib.Path(__file__).resolve().parent.parent / "crates"
 TEXT = re.compile(r'b?r(#*)".*?"\1|b?"(?:\\.|[^"\\])*"', re.S)
 CHARACTER = re.compile(r"b?'(?:\\(?:x[0-9a-fA-F]{2}|u\{[0-9a-fA-F]+\}|.)|[^\\'\n])'")
+# What ends a part that only the prover reads, and what hides such a sign there: a text, or a comment.
+LOGIC = re.compile(r'"(?:\\.|[^"\\])*"|--[^\n]*|[{};]')
 WORD = re.compile(r"[A-Za-z_]\w*")
 TOKEN = re.compile(r"'[A-Za-z_]\w*|[A-Za-z_]\w*|\d[\w.]*?(?=\.\.|[^\w.]|$)|::|=>|->|<<|>>|==|!=|<=|>=|[-+*/%]=(?!=|>)|&&|\|\||\.\.=?|\S")
 
@@ -21,13 +23,11 @@ class Token(str):
 
 def after_braces(text, at):
     """The place after the braces that begin at or after a place."""
-    at = text.find("{", at)
     depth = 0
-    while 0 <= at < len(text):
-        depth += {"{": 1, "}": -1}.get(text[at], 0)
-        at += 1
-        if depth == 0:
-            return at
+    for found in LOGIC.finditer(text, at):
+        depth += {"{": 1, "}": -1}.get(found[0], 0)
+        if depth == 0 and found[0] == "}":
+            return found.end()
     return len(text)
 
 
@@ -37,11 +37,10 @@ def after_ghost(text, at):
     if re.match(r"ghost\s+\w+\s*:", text[at:]):
         end = after_braces(text, at)
         return end + text.startswith(",", end)
-    while at < len(text):
-        depth += {"{": 1, "}": -1}.get(text[at], 0)
-        at += 1
-        if depth == 0 and text[at - 1] == ";":
-            return at
+    for found in LOGIC.finditer(text, at):
+        depth += {"{": 1, "}": -1}.get(found[0], 0)
+        if depth == 0 and found[0] == ";":
+            return found.end()
     return len(text)
 
 
