@@ -2,6 +2,7 @@
 
 A contract is true or false by what the definitions that it cites say, and those that these cite, all the way down.
 """
+import copy
 import pathlib
 import re
 import sys
@@ -14,7 +15,9 @@ HEAD = re.compile(r"(?:abbrev |unfoldable )?(?:pub )?(?:record |data )?([^\s:({]
 INNER_HEAD = re.compile(r"  (?:abbrev |unfoldable )?pub (?:record |data )?([^\s:({]+)")
 USE = re.compile(r"(?:pub )?use (\S+?)(?:\.\{(.*)\}|(?: as (\S+)))?$")
 COMMENT = re.compile(r"( *)-- ?(.*)")
-BODY = re.compile(r"^ *\{", re.M)
+
+# A contract ends before the body, or before a semicolon, if it is that of a trait's function.
+END = re.compile(r"^ *\{|;$|\Z", re.M)
 
 # A crate names the definitions of lower crates through one that it depends on, which passes them on under their crate's name.
 PASSED_ON = re.compile(r"\bRattle\.mm_[a-z]+\.specs\.(mm_[a-z]+)\.")
@@ -108,8 +111,7 @@ class Contract:
     def __init__(self, path, owner, name, found, text):
         self.path, self.crate, self.owner, self.name = path, path.relative_to(CRATES).parts[0], owner, name
         self.line = text.count("\n", 0, found.start()) + 1
-        body = BODY.search(text, found.end())
-        self.clauses = text[found.start() : body.start() if body else len(text)]
+        self.clauses = text[found.start() : END.search(text, found.end()).start()]
         before = text[: found.start()].splitlines()
         self.comment = []
         while before and before[-1].strip().startswith(("///", "#[")):
@@ -120,17 +122,26 @@ class Contract:
         """The names in the contract, in order."""
         return WORD.findall(self.clauses)
 
+    def clause(self, name):
+        """One clause of the contract, as a contract of its own."""
+        found = re.search(rf"^ *ensures {name} \{{.*?(?=^ *(?:ensures|requires) |\Z)", self.clauses, re.M | re.S)
+        if found is None:
+            sys.exit(f"{self.crate}::{self.owner or self.path.stem}::{self.name} has no clause {name}")
+        alone = copy.copy(self)
+        alone.clauses = found[0]
+        return alone
+
 
 def public_functions(path):
-    """The public functions in a file of sources."""
+    """The public functions in a file of sources, and those of its public traits."""
     text = text_of(path)
-    owner = ""
-    for found in re.finditer(r"^(?:impl(?:<[^{]*?>)? (?:\w+(?:<[^{]*?>)? for )?(\w+)|(\}))|^ *pub fn (\w+)", text, re.M):
-        kind, _, function = found.groups()
-        if function is None:
-            owner = kind if kind else ""
-        else:
-            yield Contract(path, owner, function, found, text)
+    owner, is_trait = "", False
+    for found in re.finditer(r"^(?:impl(?:<[^{]*?>)? (?:\w+(?:<[^{]*?>)? for )?(\w+)|pub trait (\w+)|\})|^ *pub fn (\w+)|^    fn (\w+)", text, re.M):
+        kind, trait, function, inner = found.groups()
+        if function or inner and is_trait:
+            yield Contract(path, owner, function or inner, found, text)
+        elif inner is None:
+            owner, is_trait = kind or trait or "", trait is not None
 
 
 def contract(function):
@@ -158,6 +169,10 @@ class Reached:
     def take_contract(self, contract):
         """Takes what a contract reaches: what it cites, what that cites, and so on."""
         self.go_on_with(self.cited(contract))
+        self.go_on()
+
+    def go_on(self):
+        """Takes what is left open, and what that cites, and so on."""
         while self.open:
             self.take(*self.open.pop())
 
