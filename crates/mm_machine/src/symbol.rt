@@ -1,6 +1,6 @@
 //! Symbols of expressions.
 
-ghost use Rattle.std.specs.Prelude.{◌≡◌, ◌↔◌, IsTrue, IfOk};
+ghost use Rattle.std.specs.Prelude.{◌≡◌, ◌↔◌, IsTrue, IfOk, Ok};
 ghost use Rattle.mm_machine.specs.Language.NumberedSymbols.{by_number, named_symbol};
 ghost use Rattle.mm_machine.specs.Language.Frame.{Symbol as Meaning};
 
@@ -98,7 +98,11 @@ impl Symbol for NumberedSymbol {
         self.variable
     }
 
-    fn copy(&self, _alloc: Global) -> Result<Self, AllocError> {
+    /// The symbol itself: it takes no memory.
+    fn copy(&self, _alloc: Global) -> Result<Self, AllocError>
+        ensures itself { result ≡ Ok self.now }
+        ensures means { IfOk result (λ copy. by_number copy ≡ by_number self.now) }
+    {
         Ok(*self)
     }
 }
