@@ -4,7 +4,7 @@ ghost use Rattle.std.specs.Prelude.{◌≡◌, ℕ, ◌+◌, ◌++◌, ◌≤◌
 ghost use Rattle.std.specs.FinMap as finite;
 ghost use Rattle.slab.specs.Slab.{HasRoomFor};
 ghost use Rattle.mm_text.specs.Language.Cut.{HoldsOne};
-ghost use Rattle.mm_store.specs.Language.Pieces.{standing_piece, text_under, with_state, parked_pieces, parked_state, parked_under};
+ghost use Rattle.mm_store.specs.Language.Pieces.{standing_piece, text_under, with_state, parked_pieces, parked_state, parked_under, state_in};
 ghost use Rattle.mm_text.specs.Language.Part.{HasParts};
 ghost use Rattle.mm_store.specs.Code.Inside.{IsPieceKept, ArePut};
 ghost use Rattle.mm_store.specs.Code.Lines.{AreLines, IsStart, StaysSmall};
@@ -125,6 +125,15 @@ impl PieceStore {
             None => 0,
             Some(piece) => count_parked(piece.state),
         }
+    }
+
+    /// Whether the piece under a key is in a file or parked.
+    pub(crate) fn state(&self, key: usize) -> State
+        requires { IsSome (finite.get self.now key) }
+        ensures { state_in (finite.get self.now key) ≡ Some (piece_state result) }
+    {
+        let piece = self.slab.get(key).unwrap();
+        piece.state
     }
 
     /// Gives a piece another state, and answers how many bytes its text has.

@@ -1,15 +1,15 @@
 //! Edits that are undone, and old pieces that are dropped.
 
 ghost use Rattle.std.specs.Prelude.{◌≡◌, ◌+◌, ◌≤◌};
-ghost use Rattle.mm_store.specs.Language.Pieces.{IsParked, Replaced, Deleted};
+ghost use Rattle.mm_store.specs.Language.Pieces.{IsParked, Replaced, Deleted, parked_under};
 ghost use Rattle.mm_store.specs.Language.FilesView.{bytes_of, plain};
 ghost use Rattle.mm_store.specs.Language.Undoing as action;
-ghost use Rattle.mm_store.specs.Language.Undoing.{undone, reversed, settled, spent, CanUndo};
-ghost use Rattle.mm_store.specs.Language.Undoing.{CanSettle, Fits, KeepsOthers, undone_key, settled_key};
+ghost use Rattle.mm_store.specs.Language.Undoing.{undone, reversed, settled, CanUndo, CanSettle, Fits, KeepsOthers};
+ghost use Rattle.mm_store.specs.Language.Undoing.{dropped, undone_key, settled_key};
 
 use crate::files::Files;
 use crate::room::fits;
-use crate::state::State;
+use crate::state::{EditKind, State};
 use crate::undo::{Action, Undo};
 
 impl Files {
@@ -81,31 +81,43 @@ impl Files {
 
     fn drop_replaced(&mut self, number: usize, old: usize)
         requires { IsParked self.old.pieces old number Replaced }
-        ensures { self.new ≡ spent (action.Replaced 0 old) self.old }
+        ensures { self.new ≡ dropped old self.old }
     {
         self.pieces.drop_piece(old);
     }
 
     fn drop_deleted(&mut self, number: usize, old: usize)
         requires { IsParked self.old.pieces old number Deleted }
-        ensures { self.new ≡ spent (action.Deleted 0 old) self.old }
+        ensures { self.new ≡ dropped old self.old }
     {
         let file = self.files.get_index_mut(number).unwrap();
         file.forget_deleted();
         self.pieces.drop_piece(old);
     }
 
-    /// Drops the old piece of an edit, if it has one: the edit can then no longer be undone. It takes no memory.
+    /// Drops a parked piece, by what is kept beside it: the file that it was in, and the kind of the edit that parked it.
+    fn drop_parked(&mut self, old: usize)
+        requires { parked_under self.old.pieces old ≡ 1 }
+        ensures { self.new ≡ dropped old self.old }
+    {
+        match self.pieces.state(old) {
+            State::Standing => (),
+            State::Parked(file, EditKind::Replaced) => self.drop_replaced(file, old),
+            State::Parked(file, EditKind::Deleted) => self.drop_deleted(file, old),
+        }
+    }
+
+    /// Drops the old piece of an edit, if it has one: the edit can then no longer be undone. The piece may have been parked by
+    /// any edit. It takes no memory.
     pub fn settle(&mut self, undo: Undo)
-        requires { CanSettle undo.file undo.action self.old }
+        requires { CanSettle undo.action self.old }
         ensures settled { self.new ≡ settled undo self.old }
         ensures keeps { KeepsOthers (settled_key undo.action) self.old self.new }
     {
-        let Undo { file, action } = undo;
+        let Undo { file: _, action } = undo;
         match action {
             Action::Inserted(_) | Action::Moved(_, _) => (),
-            Action::Replaced(_, old) => self.drop_replaced(file, old),
-            Action::Deleted(_, old) => self.drop_deleted(file, old),
+            Action::Replaced(_, old) | Action::Deleted(_, old) => self.drop_parked(old),
         }
     }
 }

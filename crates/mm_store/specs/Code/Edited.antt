@@ -25,7 +25,7 @@ pub record IsEditDone (old new : FilesView) (number : ℕ) (members : List (List
   pub means : plain new ≡ with_pieces (plain old) number members
   pub keeps : (key : ℕ) → IsSome (finite.get old.pieces key) → KeepsText old new key
   pub can_undo : CanUndo undo new
-  pub can_settle : CanSettle undo.file undo.action new
+  pub can_settle : CanSettle undo.action new
   pub back : undone undo new ≡ old
 
 abbrev pub members_of : FilesView → ℕ → List (List ℕ)

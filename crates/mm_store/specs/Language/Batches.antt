@@ -53,7 +53,7 @@ settled_all (undo ∷ undos) view = settled undo (settled_all undos view)
 -- edits may be settled in these files, the last of them first
 abbrev pub CanSettleAll : List UndoView → FilesView → Type 0
 CanSettleAll [] view = Unit {0}
-CanSettleAll (undo ∷ undos) view = CanSettleAll undos view × CanSettle undo.file undo.action (settled_all undos view)
+CanSettleAll (undo ∷ undos) view = CanSettleAll undos view × CanSettle undo.action (settled_all undos view)
 
 -- edits may be undone or settled in these files: undoing them gives the old files, and settling them leaves as many parked pieces as before
 pub record IsSpendable (old new : FilesView) (undos : List UndoView) : Type 0 where

@@ -2,7 +2,7 @@
 use Rattle.std.specs.Prelude.{◌≡◌, ◌≢◌, ℕ, zero, suc, ◌<◌, ◌≤◌, List, [], ◌∷◌, Option, Some, None, IsSome, length, slice_index_or, slice_set}
 use Rattle.std.specs.List.{insert, remove}
 use Rattle.std.specs.FinMap as finite
-use Rattle.mm_store.specs.Language.Pieces.{Standing, with_state, IsParked, text_under}
+use Rattle.mm_store.specs.Language.Pieces.{Standing, with_state, IsParked, parked_under, text_under}
 use Rattle.mm_store.specs.Language.Pieces as removal
 use Rattle.mm_store.specs.Language.FilesView.{KeyedFile, FilesView, plain, bytes_of}
 
@@ -78,28 +78,32 @@ pub record CanUndo (undo : UndoView) (view : FilesView) : Type 0 where
   pub fits : Fits undo.file undo.action view
   pub within : bytes_of (plain (undone undo view)) ≤ 4294967295
 
+-- the files with the piece under a key dropped
+abbrev pub dropped : ℕ → FilesView → FilesView
+dropped key view = record { keyed = view.keyed; pieces = finite.remove view.pieces key }
+
 -- the files with the old piece of an edit dropped
 abbrev pub spent : EditAction → FilesView → FilesView
 spent (Inserted at) view = view
-spent (Replaced at key) view = record { keyed = view.keyed; pieces = finite.remove view.pieces key }
-spent (Deleted at key) view = record { keyed = view.keyed; pieces = finite.remove view.pieces key }
+spent (Replaced at key) view = dropped key view
+spent (Deleted at key) view = dropped key view
 spent (Moved at to) view = view
 
 -- the files with an edit settled: what was kept to undo it is dropped
 abbrev pub settled : UndoView → FilesView → FilesView
 settled undo view = spent undo.action view
 
--- an edit may be settled in these files: its old piece is parked
-abbrev pub CanSettle : ℕ → EditAction → FilesView → Type 0
-CanSettle number (Inserted at) view = Unit {0}
-CanSettle number (Replaced at key) view = IsParked view.pieces key number removal.Replaced
-CanSettle number (Deleted at key) view = IsParked view.pieces key number removal.Deleted
-CanSettle number (Moved at to) view = Unit {0}
+-- an edit may be settled in these files: its old piece, if it has one, is parked
+abbrev pub CanSettle : EditAction → FilesView → Type 0
+CanSettle (Inserted at) view = Unit {0}
+CanSettle (Replaced at key) view = parked_under view.pieces key ≡ 1
+CanSettle (Deleted at key) view = parked_under view.pieces key ≡ 1
+CanSettle (Moved at to) view = Unit {0}
 
 -- an edit may be undone or settled in these files, and undoing it gives the old files
 pub record IsUndoable (old new : FilesView) (undo : UndoView) : Type 0 where
   pub can_undo : CanUndo undo new
-  pub can_settle : CanSettle undo.file undo.action new
+  pub can_settle : CanSettle undo.action new
   pub back : undone undo new ≡ old
 
 -- a key that has a piece keeps it, with its text

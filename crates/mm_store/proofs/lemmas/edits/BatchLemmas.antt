@@ -1,8 +1,8 @@
 -- Edits that were done one after another, undone and settled.
 use Rattle.std.proofs.{lemmas.{Grind.{common_steps}, Option.{none-some}}, Common.{◌≡◌, ◌≢◌, ℕ, ◌+◌, List, [], ◌∷◌, ◌++◌, Option, Some, refl, sym, ap, ◌∙◌, subst, arith, Result, IfOk, OnOk}}
 use Rattle.mm_store.specs.{declared.edit.EditError.{EditError}, Language.{EditedKeys.{IsEditByKeys, parks}, Batches.{CanSettleAll, CanUndoAll, IsSpendable, settled_all, undone_all}}}
-use Rattle.mm_store.specs.Language.{FileFacts.{parked_in}, FilesView.{FilesView}, Pieces.{Standing, Removal, HeldPiece, IsParked, Pieces, parked_pieces, parked_state, state_in, with_state}}
-use Rattle.mm_store.specs.{Language.Undoing.{UndoView, EditAction, CanSettle, CanUndo, Fits, IsUndoable, key_at, reversed, settled, spent, undone}, Code.{Batched.{StandOnce}, Kept.{standing_count}}}
+use Rattle.mm_store.specs.Language.{FileFacts.{parked_in}, FilesView.{FilesView}, Pieces.{Standing, Removal, HeldPiece, IsParked, Pieces, parked_count, parked_pieces, parked_state, parked_under, with_state}}
+use Rattle.mm_store.specs.{Language.Undoing.{UndoView, EditAction, CanSettle, CanUndo, Fits, IsUndoable, dropped, key_at, reversed, settled, spent, undone}, Code.{Batched.{StandOnce}, Kept.{standing_count}}}
 use Rattle.mm_store.proofs.lemmas.files.{MapLemmas.{get_drop_other, get_drop_same}, PieceLemmas.{get_state_other, get_state_same}, StoreLemmas.{parked_changed, parked_dropped}}
 use Rattle.mm_store.proofs.lemmas.edits.StepLemmas.{key_stands, parked}
 use Rattle.mm_text.specs.Language.Asked.{Asked}
@@ -30,55 +30,75 @@ pub settled_last : (front : List UndoView) (undo : UndoView) (view : FilesView) 
 settled_last [] undo view = refl
 settled_last (first ∷ front) undo view = ap (settled first) (settled_last front undo view)
 
-pub can_settle_last : (front : List UndoView) (undo : UndoView) (view : FilesView) → CanSettleAll front (settled undo view) → CanSettle undo.file undo.action view → CanSettleAll (front ++ undo ∷ []) view
+pub can_settle_last : (front : List UndoView) (undo : UndoView) (view : FilesView) → CanSettleAll front (settled undo view) → CanSettle undo.action view → CanSettleAll (front ++ undo ∷ []) view
 can_settle_last [] undo view others can = (tt, can)
 can_settle_last (first ∷ front) undo view others can = grind (arith, common_steps, can_settle_last front undo view others.0 can, settled_last front undo view) steps 200000
 
-pub settle_last : (front : List UndoView) (undo : UndoView) (view : FilesView) → CanSettleAll (front ++ undo ∷ []) view → CanSettle undo.file undo.action view
+pub settle_last : (front : List UndoView) (undo : UndoView) (view : FilesView) → CanSettleAll (front ++ undo ∷ []) view → CanSettle undo.action view
 settle_last [] undo view can = can.1
 settle_last (first ∷ front) undo view can = settle_last front undo view can.0
 
 pub settle_others : (front : List UndoView) (undo : UndoView) (view : FilesView) → CanSettleAll (front ++ undo ∷ []) view → CanSettleAll front (settled undo view)
 settle_others [] undo view can = tt
-settle_others (first ∷ front) undo view can = (settle_others front undo view can.0, subst (CanSettle first.file first.action) (settled_last front undo view) can.1)
+settle_others (first ∷ front) undo view can = (settle_others front undo view can.0, subst (CanSettle first.action) (settled_last front undo view) can.1)
 
--- each piece that is parked in the one files is parked in the others, by an edit of the same file and kind
+-- each piece that is parked in the one files is parked in the others
 abbrev pub KeepsParked : FilesView → FilesView → Type 0
-KeepsParked a b = (key file : ℕ) (kind : Removal) → IsParked a.pieces key file kind → IsParked b.pieces key file kind
+KeepsParked a b = (key : ℕ) → parked_under a.pieces key ≡ 1 → parked_under b.pieces key ≡ 1
 
-dropped_parked : (p : Pieces) (k key file : ℕ) (kind : Removal) → IsParked (finite.remove p k) key file kind → IsParked p key file kind
-dropped_parked p k key file kind is = grind (arith, common_steps, get_drop_other, none-some, get_drop_same) steps 200000
+dropped_parked : (p : Pieces) (k key : ℕ) → parked_under (finite.remove p k) key ≡ 1 → parked_under p key ≡ 1
+dropped_parked p k key is = grind (arith, common_steps, get_drop_other, get_drop_same) steps 200000
 
-other_parked : (p : Pieces) (k key file : ℕ) (kind : Removal) → key ≢ k → IsParked p key file kind → IsParked (finite.remove p k) key file kind
-other_parked p k key file kind differs is = ap state_in (get_drop_other p k key differs) ∙ is
+other_parked : (p : Pieces) (k key : ℕ) → key ≢ k → parked_under p key ≡ 1 → parked_under (finite.remove p k) key ≡ 1
+other_parked p k key differs is = ap parked_count (get_drop_other p k key differs) ∙ is
 
 settled_keeps : (a b : FilesView) (undos : List UndoView) → KeepsParked a b → KeepsParked (settled_all undos a) (settled_all undos b)
 settled_keeps a b [] keeps = keeps
-settled_keeps a b (undo ∷ undos) keeps =
-    grind (arith, common_steps, settled_keeps a b undos keeps, dropped_parked, other_parked, none-some, get_drop_same) steps 200000
+settled_keeps a b (undo ∷ undos) keeps = spent_keeps (settled_all undos a) (settled_all undos b) undo.action (settled_keeps a b undos keeps)
+  where
+    dropped_keeps : (a b : FilesView) (k : ℕ) → KeepsParked a b → KeepsParked (dropped k a) (dropped k b)
+    dropped_keeps a b k keeps key is = grind (arith, common_steps, dropped_parked, other_parked, get_drop_same) steps 200000
 
-can_settle_kept : (a b : FilesView) (number : ℕ) (act : EditAction) → KeepsParked a b → CanSettle number act a → CanSettle number act b
-can_settle_kept a b number act keeps can = grind (arith, common_steps) steps 200000
+    spent_keeps : (a b : FilesView) (act : EditAction) → KeepsParked a b → KeepsParked (spent act a) (spent act b)
+    spent_keeps a b (action.Replaced at k) keeps = dropped_keeps a b k keeps
+    spent_keeps a b (action.Deleted at k) keeps = dropped_keeps a b k keeps
+    spent_keeps a b _ keeps = keeps
+
+can_settle_kept : (a b : FilesView) (act : EditAction) → KeepsParked a b → CanSettle act a → CanSettle act b
+can_settle_kept a b act keeps can = grind (arith, common_steps) steps 200000
 
 -- what can be settled in the one files can be settled in the others
 pub can_settle_all : (a b : FilesView) (undos : List UndoView) → KeepsParked a b → CanSettleAll undos a → CanSettleAll undos b
 can_settle_all a b [] keeps can = tt
 can_settle_all a b (undo ∷ undos) keeps can =
-    (can_settle_all a b undos keeps can.0, can_settle_kept (settled_all undos a) (settled_all undos b) undo.file undo.action (settled_keeps a b undos keeps) can.1)
+    (can_settle_all a b undos keeps can.0, can_settle_kept (settled_all undos a) (settled_all undos b) undo.action (settled_keeps a b undos keeps) can.1)
+
+-- a parked piece is there
+record IsParkedThere (o : Option HeldPiece) : Type 0 where
+  pub piece : HeldPiece
+  pub is : o ≡ Some piece
+  pub one : parked_state piece.state ≡ 1
+
+parked_there : (o : Option HeldPiece) → parked_count o ≡ 1 → IsParkedThere o
+parked_there o is = grind (arith, common_steps) steps 200000
+
+is_parked_one : (p : Pieces) (k n : ℕ) (kind : Removal) → IsParked p k n kind → parked_under p k ≡ 1
+is_parked_one p k n kind is = grind (arith, common_steps, parked (finite.get p k) n kind is) steps 200000
 
 -- one piece less is parked
-dropped_count : (p : Pieces) (k n : ℕ) (kind : Removal) → IsParked p k n kind → parked_pieces (finite.remove p k) + 1 ≡ parked_pieces p
-dropped_count p k n kind is =
-    grind (arith, common_steps, parked (finite.get p k) n kind is, parked_dropped p k (parked (finite.get p k) n kind is).piece (parked (finite.get p k) n kind is).is) steps 200000
+dropped_count : (p : Pieces) (k : ℕ) → parked_under p k ≡ 1 → parked_pieces (finite.remove p k) + 1 ≡ parked_pieces p
+dropped_count p k is =
+    let there = parked_there (finite.get p k) is in
+    omega (arith, there.one, parked_dropped p k there.piece there.is)
 
-spent_count : (a b : FilesView) (number : ℕ) (act : EditAction) → CanSettle number act a → CanSettle number act b → parked_in a ≡ parked_in b → parked_in (spent act a) ≡ parked_in (spent act b)
-spent_count a b number act can also same = grind (arith, common_steps, dropped_count) steps 200000
+spent_count : (a b : FilesView) (act : EditAction) → CanSettle act a → CanSettle act b → parked_in a ≡ parked_in b → parked_in (spent act a) ≡ parked_in (spent act b)
+spent_count a b act can also same = grind (arith, common_steps, dropped_count) steps 200000
 
 -- and as many pieces are then parked
 pub settled_count : (a b : FilesView) (undos : List UndoView) → CanSettleAll undos a → CanSettleAll undos b → parked_in a ≡ parked_in b → parked_in (settled_all undos a) ≡ parked_in (settled_all undos b)
 settled_count a b [] can also same = same
 settled_count a b (undo ∷ undos) can also same =
-    spent_count (settled_all undos a) (settled_all undos b) undo.file undo.action can.1 also.1 (settled_count a b undos can.0 also.0 same)
+    spent_count (settled_all undos a) (settled_all undos b) undo.action can.1 also.1 (settled_count a b undos can.0 also.0 same)
 
 -- a piece of a file is there, and is not parked
 record Stands (o : Option HeldPiece) : Type 0 where
@@ -93,14 +113,16 @@ standing_drop : (p : Pieces) (k : ℕ) → standing_count (finite.get p k) ≡ 1
 standing_drop p k is = grind (arith, common_steps, stands (finite.get p k) is, parked_dropped p k (stands (finite.get p k) is).piece (stands (finite.get p k) is).is) steps 200000
 
 -- a piece that is put back is not parked, and the others are as before
-stood : (p : Pieces) (k key file : ℕ) (kind : Removal) → IsParked (with_state p k Standing) key file kind → key ≢ k
-stood p k key file kind is same = grind (arith, common_steps, get_state_same, parked) steps 200000
+stood : (p : Pieces) (k key : ℕ) → parked_under (with_state p k Standing) key ≡ 1 → key ≢ k
+stood p k key is same = grind (arith, common_steps, get_state_same) steps 200000
 
-was_parked : (p : Pieces) (k key file : ℕ) (kind : Removal) → IsParked (with_state p k Standing) key file kind → IsParked p key file kind
-was_parked p k key file kind is = ap state_in (sym (get_state_other p k Standing key (stood p k key file kind is))) ∙ is
+was_parked : (p : Pieces) (k key : ℕ) → parked_under (with_state p k Standing) key ≡ 1 → parked_under p key ≡ 1
+was_parked p k key is = ap parked_count (sym (get_state_other p k Standing key (stood p k key is))) ∙ is
 
-stood_count : (p : Pieces) (k n : ℕ) (kind : Removal) → IsParked p k n kind → parked_pieces (with_state p k Standing) + 1 ≡ parked_pieces p
-stood_count p k n kind is = grind (arith, common_steps, parked, parked_changed) steps 200000
+stood_count : (p : Pieces) (k : ℕ) → parked_under p k ≡ 1 → parked_pieces (with_state p k Standing) + 1 ≡ parked_pieces p
+stood_count p k is =
+    let there = parked_there (finite.get p k) is in
+    omega (arith, is, parked_changed p k there.piece Standing there.is)
 
 -- the others park what the one files park, and as many pieces
 record ParksAlike (a b : FilesView) : Type 0 where
@@ -114,13 +136,20 @@ parks_alike view n (action.Replaced at old) once fits =
     let p = view.pieces in
     let k = key_at view n at in
     let here = key_stands view.keyed p n at once fits.0 in
+    let one = is_parked_one p old n _ fits.1 in
     let differs : old ≢ k = λ same. omega (arith, here, (parked (finite.get p old) n _ fits.1).none, ap (λ q. standing_count (finite.get p q)) same) in
     record {
-      keeps = λ key file kind is. other_parked p old key file kind (stood (finite.remove p k) old key file kind is) (dropped_parked p k key file kind (was_parked (finite.remove p k) old key file kind is));
-      count = omega (arith, standing_drop p k here, dropped_count p old n _ fits.1, stood_count (finite.remove p k) old n _ (other_parked p k old n _ differs fits.1));
+      keeps = λ key is. other_parked p old key (stood (finite.remove p k) old key is) (dropped_parked p k key (was_parked (finite.remove p k) old key is));
+      count = omega (arith, standing_drop p k here, dropped_count p old one, stood_count (finite.remove p k) old (other_parked p k old differs one));
     }
-parks_alike view n (action.Deleted at old) once fits = grind (arith, common_steps, dropped_count, other_parked, stood, stood_count, was_parked) steps 200000
-parks_alike view n (action.Moved at to) once fits = record { keeps = λ key file kind is. is; count = refl }
+parks_alike view n (action.Deleted at old) once fits =
+    let p = view.pieces in
+    let one = is_parked_one p old n _ fits.1 in
+    record {
+      keeps = λ key is. other_parked p old key (stood p old key is) (was_parked p old key is);
+      count = omega (arith, dropped_count p old one, stood_count p old one);
+    }
+parks_alike view n (action.Moved at to) once fits = record { keeps = λ key is. is; count = refl }
 
 -- what edits left, and what one edit more leaves
 pub spendable_more : (old between new : FilesView) (undos : List UndoView) (undo : UndoView) → StandOnce new → IsUndoable between new undo → IsSpendable old between undos → IsSpendable old new (undos ++ undo ∷ [])
@@ -141,8 +170,8 @@ parked_by (action.Replaced at k) = 1
 parked_by (action.Deleted at k) = 1
 parked_by (action.Moved at to) = 0
 
-spent_less : (view : FilesView) (n : ℕ) (act : EditAction) → CanSettle n act view → parked_in (spent act view) + parked_by act ≡ parked_in view
-spent_less view n act can = grind (arith, common_steps, dropped_count) steps 200000
+spent_less : (view : FilesView) (act : EditAction) → CanSettle act view → parked_in (spent act view) + parked_by act ≡ parked_in view
+spent_less view act can = grind (arith, common_steps, dropped_count) steps 200000
 
 -- an edit parks as many pieces more as its kind says
 pub parks_more : (edit : Asked) (old new : FilesView) (r : Result UndoView EditError) → StandOnce new → IfOk r (IsUndoable old new) → IfOk r (IsEditByKeys edit old new)

@@ -1,9 +1,9 @@
 -- What settling leaves as it was.
 use Rattle.std.proofs.lemmas.{Grind.{common_steps}, Bool.{cases_eq}, List.Sums.{sum_by-cons}, Option.{none-some, same_Some}}
 use Rattle.std.proofs.Common.{◌≡◌, ◌≢◌, inl, inr, ℕ, suc, ◌≤◌, List, [], ◌∷◌, Some, map, refl, ap, ◌∙◌, arith, slice_get}
-use Rattle.mm_store.specs.Language.{Batches.{KeepsStanding}, FilesView.{FilesView, KeyedFile, file_view, files_in, piece_view, plain}, Pieces.{Removal, IsParked, Pieces, text_under}}
-use Rattle.mm_store.{specs.{Language.Undoing.{EditAction, CanSettle, spent}, Code.{Batched.{StandOnce}, Kept.{one, places, times}}}, proofs.lemmas.files.ListLemmas.{one_same, plain_same}}
-use Rattle.mm_store.proofs.lemmas.{files.{MapLemmas.{get_drop_other}, PieceLemmas.{text_drop_other}}, edits.StepLemmas.{parked}}
+use Rattle.mm_store.specs.Language.{Batches.{KeepsStanding}, FilesView.{FilesView, KeyedFile, file_view, files_in, piece_view, plain}, Pieces.{Pieces, parked_under, text_under}}
+use Rattle.mm_store.{specs.{Language.Undoing.{EditAction, CanSettle, dropped, spent}, Code.{Batched.{StandOnce}, Kept.{one, places, times}}}, proofs.lemmas.files.ListLemmas.{one_same, plain_same}}
+use Rattle.mm_store.proofs.lemmas.{files.{MapLemmas.{get_drop_other}, PieceLemmas.{text_drop_other}}, edits.StepLemmas.{parked, parked_by_some}}
 use Rattle.std.specs.FinMap as finite
 use Rattle.mm_store.specs.Language.Undoing as action
 
@@ -53,10 +53,11 @@ stays_then a b c first then = record {
 }
 
 -- a piece that is parked is dropped
-dropped_stays : (view : FilesView) (k n : ℕ) (kind : Removal) → StandOnce view → IsParked view.pieces k n kind → Stays view (record { keyed = view.keyed; pieces = finite.remove view.pieces k })
-dropped_stays view k n kind once is =
+dropped_stays : (view : FilesView) (k : ℕ) → StandOnce view → parked_under view.pieces k ≡ 1 → Stays view (dropped k view)
+dropped_stays view k once is =
     let p = view.pieces in
-    let none : places k view.keyed ≡ 0 = once k ∙ (parked (finite.get p k) n kind is).none in
+    let some = parked_by_some (finite.get p k) is in
+    let none : places k view.keyed ≡ 0 = once k ∙ (parked (finite.get p k) some.file some.kind some.by).none in
     record {
       keys = refl;
       plain_is = plain_same p (finite.remove p k) k (text_drop_other p k) view.keyed none;
@@ -71,7 +72,7 @@ dropped_stays view k n kind once is =
           };
     }
 
-pub spent_stays : (view : FilesView) (n : ℕ) (act : EditAction) → StandOnce view → CanSettle n act view → Stays view (spent act view)
-spent_stays view n (action.Replaced at k) once can = dropped_stays view k n _ once can
-spent_stays view n (action.Deleted at k) once can = dropped_stays view k n _ once can
-spent_stays view n _ once can = stays_same view
+pub spent_stays : (view : FilesView) (act : EditAction) → StandOnce view → CanSettle act view → Stays view (spent act view)
+spent_stays view (action.Replaced at k) once can = dropped_stays view k once can
+spent_stays view (action.Deleted at k) once can = dropped_stays view k once can
+spent_stays view _ once can = stays_same view

@@ -2,7 +2,7 @@
 use Rattle.std.proofs.lemmas.{Grind.{common_steps}, List.{map-set, get_or-map, length-map, Sums.{sum_by-set, sum_by-insert, sum_by-remove}}, Bool.Decides.{nat_tests}}
 use Rattle.std.{proofs.Common.{◌≡◌, ◌≢◌, ℕ, suc, ◌+◌, ◌<◌, List, [], ◌∷◌, Option, Some, None, is_some, true, length, map, get_or, set, refl, sym, ap, ◌∙◌, arith}, specs.List.{insert, remove}}
 use Rattle.mm_store.specs.{Code.{Edited.{pieces_in, with_pieces}, Kept.{one, times, places, standing_count, deleted_state, deletions}}, Language.FilesView.{File, KeyedFile, plain_file, bytes_of}}
-use Rattle.mm_store.specs.Language.Pieces.{Standing, Parked, Removal, Replaced, Deleted, HeldPiece, PieceState, Pieces, with_state, standing_piece, text_in, text_under, state_in, IsParked}
+use Rattle.mm_store.specs.Language.Pieces.{Standing, Parked, Removal, Replaced, Deleted, HeldPiece, PieceState, Pieces, with_state, standing_piece, text_in, text_under, state_in, IsParked, parked_state, parked_count}
 use Rattle.mm_store.{specs.Language.Undoing.{keys_in, with_keys, moved_list}, proofs.lemmas.files.MapLemmas.{get_drop_other, get_put_other}}
 use Rattle.mm_store.proofs.lemmas.files.ListLemmas.{size, one_same, one_other, places_with, places_in, in_files, texts_same, plain_same, plain_with, plain_pieces, bytes_with, keys_with, times_at}
 use Rattle.mm_store.proofs.lemmas.files.PieceLemmas.{text_put_same, text_put_other, text_drop_other, text_state, stands_put, stands_parked, stands_again, stands_dropped}
@@ -42,6 +42,20 @@ pub record IsParkedPiece (o : Option HeldPiece) (n : ℕ) (kind : Removal) : Typ
 
 pub parked : (o : Option HeldPiece) (n : ℕ) (kind : Removal) → state_in o ≡ Some (Parked n kind) → IsParkedPiece o n kind
 parked o n kind is = grind (arith, common_steps) steps 200000
+
+-- a piece that some edit parked
+pub record IsParkedBySome (o : Option HeldPiece) : Type 0 where
+  pub file : ℕ
+  pub kind : Removal
+  pub by : state_in o ≡ Some (Parked file kind)
+
+pub parked_by_some : (o : Option HeldPiece) → parked_count o ≡ 1 → IsParkedBySome o
+parked_by_some None is = absurd (omega arith)
+parked_by_some (Some piece) is = by_state piece.state refl
+  where
+    by_state : (state : PieceState) → piece.state ≡ state → IsParkedBySome (Some piece)
+    by_state Standing same = absurd (omega (arith, is, ap parked_state same))
+    by_state (Parked file kind) same = record { file = file; kind = kind; by = ap Some same }
 
 -- texts that stay under all keys
 pub texts_all : (p p' : Pieces) → ((q : ℕ) → text_under p' q ≡ text_under p q) → (keys : List ℕ) → map (text_under p') keys ≡ map (text_under p) keys

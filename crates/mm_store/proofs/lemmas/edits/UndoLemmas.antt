@@ -3,7 +3,7 @@ use Rattle.std.proofs.lemmas.{Grind.{common_steps}, Bool.{cases_eq}, List.{set-s
 use Rattle.std.{proofs.Common.{◌≡◌, ◌≢◌, inl, inr, ℕ, suc, ◌<◌, ◌≤◌, List, ◌∷◌, Option, Some, None, is_some, true, length, get_or, set, refl, sym, ap, ◌∙◌, subst, arith}, specs.List.{insert, remove}}
 use Rattle.mm_store.specs.{declared.undo.{Action.{Action}, Undo.TheInside.{Inside}}, Code.{Undone.{undo_by, undo_view}, Edited.{IsReplaced, IsInserted, IsDeleted, IsMoved}}}
 use Rattle.mm_store.specs.{Code.Kept.{places, standing_count}, Language.{EditedKeys.{replaced, inserted, deleted}, FilesView.{KeyedFile, FilesView, plain, bytes_of}}}
-use Rattle.mm_store.specs.Language.Pieces.{PieceState, Standing, Parked, Removal, Replaced, Deleted, HeldPiece, Pieces, in_state, with_state, standing_piece, IsParked}
+use Rattle.mm_store.specs.Language.Pieces.{PieceState, Standing, Parked, Removal, Replaced, Deleted, HeldPiece, Pieces, in_state, with_state, standing_piece, IsParked, parked_count, parked_under}
 use Rattle.mm_store.specs.Language.Undoing.{UndoView, EditAction, KeepsOthers, reversed, undone_key, keys_in, key_at, moved_list, moved, undone}
 use Rattle.mm_store.proofs.lemmas.files.{PieceLemmas.{text_drop_other, text_put_other, text_state, get_state_same, get_state_other}, MapLemmas.{get_put_other, get_drop_same, get_drop_other, same_but}}
 use Rattle.mm_store.proofs.lemmas.{files.{ListLemmas.{in_files, back, keys_with}, EntryLemmas.{same_view}}, edits.StepLemmas.{key_stands, old_other}}
@@ -57,6 +57,9 @@ state_drop p old k s differs = same_but _ _ k
 
 parked_is : (p : Pieces) (old n : ℕ) (kind : Removal) → IsParked (with_state p old (Parked n kind)) old n kind
 parked_is p old n kind = grind (arith, common_steps, get_state_same) steps 200000
+
+parked_once : (p : Pieces) (old n : ℕ) (kind : Removal) → parked_under (with_state p old (Parked n kind)) old ≡ 1
+parked_once p old n kind = grind (arith, common_steps, get_state_same) steps 200000
 
 -- a key that has a piece keeps it
 kept_state : (p : Pieces) (old : ℕ) (s : PieceState) (q : ℕ) → is_some (finite.get p q) ≡ true → is_some (finite.get (with_state p old s) q) ≡ true
@@ -146,7 +149,7 @@ module _ (view : FilesView) (n at : ℕ)
               text = text_state p1 old (Parked n Replaced) q ∙ text_put_other p k (standing_piece text) q (not_fresh p k q fresh some);
             };
             can_undo = record { fits = (omega (arith, ap length has, length-set keys at k, there), parked_is p1 old n Replaced); within = within undo new again };
-            can_settle = parked_is p1 old n Replaced;
+            can_settle = parked_once p1 old n Replaced;
             back = again;
           };
         }
@@ -167,7 +170,7 @@ module _ (view : FilesView) (n at : ℕ)
             means = (steps.deleted fs p n at once there).means;
             keeps = λ q some. record { there = kept_state p old (Parked n Deleted) q some; text = text_state p old (Parked n Deleted) q };
             can_undo = record { fits = (omega (arith, ap length has, length-remove keys at there, there), parked_is p old n Deleted); within = within undo new again };
-            can_settle = parked_is p old n Deleted;
+            can_settle = parked_once p old n Deleted;
             back = again;
           };
         }

@@ -4,6 +4,3 @@ use Rattle.mm_store.proofs.files.Files.settle.Goals as goal
 
 pub returns-in-Replaced-clause-keeps : goal.returns-in-Replaced-clause-keeps
 returns-in-Replaced-clause-keeps c = grind (arith, common_steps, undo_is, get_drop_other, text_drop_other) steps 200000
-
-pub returns-in-Deleted-clause-keeps : goal.returns-in-Deleted-clause-keeps
-returns-in-Deleted-clause-keeps c = grind (arith, common_steps, undo_is, get_drop_other, text_drop_other) steps 200000

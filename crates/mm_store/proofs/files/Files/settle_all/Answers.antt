@@ -19,5 +19,5 @@ loop-spent-preserved c =
       can = subst (CanSettleAll others) (sym c.settle.ensures.settled) (settle_others others undo view can);
       left = ap (settled_all others) c.settle.ensures.settled ∙ sym (settled_last others undo view) ∙ ap (λ undos. settled_all undos view) (sym c.in-Some.ensures.items) ∙ c.loop-spent.invariant.left;
       stays = stays_then c.args.self.now view c.settle.new.self c.loop-spent.invariant.stays
-          (subst (Stays view) (sym c.settle.ensures.settled) (spent_stays view undo.file undo.action c.stand_once.ensures (settle_last others undo view can)));
+          (subst (Stays view) (sym c.settle.ensures.settled) (spent_stays view undo.action c.stand_once.ensures (settle_last others undo view can)));
     }
