@@ -1,5 +1,5 @@
 -- Edits that were done one after another, undone and settled.
-use Rattle.std.proofs.{lemmas.{Grind.{common_steps}, Option.{none-some}}, Common.{◌≡◌, ◌≢◌, ℕ, ◌+◌, List, [], ◌∷◌, ◌++◌, Option, Some, refl, sym, ap, ◌∙◌, subst, arith, Result, IfOk, OnOk}}
+use Rattle.std.proofs.{lemmas.{Grind.{common_steps}}, Common.{◌≡◌, ◌≢◌, ℕ, ◌+◌, List, [], ◌∷◌, ◌++◌, Option, Some, refl, sym, ap, ◌∙◌, subst, arith, Result, IfOk, OnOk}}
 use Rattle.mm_store.specs.{declared.edit.EditError.{EditError}, Language.{EditedKeys.{IsEditByKeys, parks}, Batches.{CanSettleAll, CanUndoAll, IsSpendable, settled_all, undone_all}}}
 use Rattle.mm_store.specs.Language.{FileFacts.{parked_in}, FilesView.{FilesView}, Pieces.{Standing, Removal, HeldPiece, IsParked, Pieces, parked_count, parked_pieces, parked_state, parked_under, with_state}}
 use Rattle.mm_store.specs.{Language.Undoing.{UndoView, EditAction, CanSettle, CanUndo, Fits, IsUndoable, dropped, key_at, reversed, settled, spent, undone}, Code.{Batched.{StandOnce}, Kept.{standing_count}}}

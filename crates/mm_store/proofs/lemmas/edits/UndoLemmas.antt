@@ -3,7 +3,7 @@ use Rattle.std.proofs.lemmas.{Grind.{common_steps}, Bool.{cases_eq}, List.{set-s
 use Rattle.std.{proofs.Common.{◌≡◌, ◌≢◌, inl, inr, ℕ, suc, ◌<◌, ◌≤◌, List, ◌∷◌, Option, Some, None, is_some, true, length, get_or, set, refl, sym, ap, ◌∙◌, subst, arith}, specs.List.{insert, remove}}
 use Rattle.mm_store.specs.{declared.undo.{Action.{Action}, Undo.TheInside.{Inside}}, Code.{Undone.{undo_by, undo_view}, Edited.{IsReplaced, IsInserted, IsDeleted, IsMoved}}}
 use Rattle.mm_store.specs.{Code.Kept.{places, standing_count}, Language.{EditedKeys.{replaced, inserted, deleted}, FilesView.{KeyedFile, FilesView, plain, bytes_of}}}
-use Rattle.mm_store.specs.Language.Pieces.{PieceState, Standing, Parked, Removal, Replaced, Deleted, HeldPiece, Pieces, in_state, with_state, standing_piece, IsParked, parked_count, parked_under}
+use Rattle.mm_store.specs.Language.Pieces.{PieceState, Standing, Parked, Removal, Replaced, Deleted, HeldPiece, Pieces, in_state, with_state, standing_piece, IsParked, parked_under}
 use Rattle.mm_store.specs.Language.Undoing.{UndoView, EditAction, KeepsOthers, reversed, undone_key, keys_in, key_at, moved_list, moved, undone}
 use Rattle.mm_store.proofs.lemmas.files.{PieceLemmas.{text_drop_other, text_put_other, text_state, get_state_same, get_state_other}, MapLemmas.{get_put_other, get_drop_same, get_drop_other, same_but}}
 use Rattle.mm_store.proofs.lemmas.{files.{ListLemmas.{in_files, back, keys_with}, EntryLemmas.{same_view}}, edits.StepLemmas.{key_stands, old_other}}

@@ -1,6 +1,6 @@
 use Rattle.std.{proofs.{lemmas.Grind.{common_steps}, Common.{◌≡◌, List, is_some, length, map, get_or, sym, ap, ◌∙◌, arith}}, specs.List.{remove}}
 use Rattle.mm_store.proofs.lemmas.{files.{EntryLemmas.{view_set, same_view}, FileLemmas.{lent, piece_is, in_keys, old_key, once_in, small_in}, KeptLemmas.{kept_edited}}, edits.UndoLemmas.{is_deleted}}
-use Rattle.mm_store.specs.{Language.{EditedKeys.{deleted}, FilesView.{KeyedFile}, Pieces.{Parked, Deleted, with_state, text_under}, Undoing.{keys_in}}, Code.Kept.{keyed_file}}
+use Rattle.mm_store.specs.{Language.{FilesView.{KeyedFile}, Pieces.{Parked, Deleted, with_state, text_under}, Undoing.{keys_in}}, Code.Kept.{keyed_file}}
 use Rattle.std.specs.FinMap as finite
 use Rattle.mm_store.proofs.lemmas.edits.StepLemmas as lemmas
 use Rattle.mm_store.proofs.files.Files.delete_piece.Goals as goal
