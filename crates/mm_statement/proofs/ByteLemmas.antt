@@ -1,9 +1,9 @@
 -- Bytes that occur in others, and words that are spelled by bytes of a text.
-use Rattle.std.proofs.Common.{◌≡◌, ℕ, ◌+◌, ◌-◌, Option, Some, None, List, [], ◌∷◌, length, map, take, drop, refl, sym, ◌∙◌, ap, subst, arith, slice_range, length-take, length-drop, get_or}
+use Rattle.std.proofs.Common.{◌≡◌, ℕ, ◌+◌, ◌-◌, ◌<◌, Option, Some, None, List, [], ◌∷◌, length, map, take, drop, refl, sym, ◌∙◌, ap, subst, arith, slice_range, length-take, length-drop, get_or}
 use Rattle.std.{proofs.{Common.{get_or-take, get_or-drop}, lemmas.Bool.{false≢true}}, specs.{Prelude.{◌≢◌, ◌↔◌, IsTrue, is_some}, List.{AllByRecursion}}}
 use Rattle.memchr.{specs.Find.{OccursAt, FindsNeedle}, proofs.lemmas.MatchLemmas.{OccursAt-part}}
 use Rattle.mm_store.specs.mm_text.{declared.word.Word.{Word}, Language.Unit.{tokens_of}}
-use Rattle.mm_statement.{specs.{Language.{Item.{Kind}, Statement.{symbols_from, symbols_in, item_of}}, Code.PlainWords.{plain_words, word_bytes}}, proofs.SpokenLemmas.{names_from}}
+use Rattle.mm_statement.{specs.{Language.{Item.{Kind}, Statement.{symbols_from, symbols_in, item_of}}, Code.{Occurring.{OccurIn}, PlainWords.{plain_words, word_bytes}}}, proofs.SpokenLemmas.{names_from}}
 
 -- where a search finds bytes, they occur
 found_stand : (text bytes : List ℕ) (k : ℕ) → OccursAt text bytes k → slice_range text k (k + length bytes) ≡ bytes
@@ -23,12 +23,12 @@ stand_found text (x ∷ xs) from to e =
       },
     )
 
--- the bytes occur somewhere
-abbrev pub Stand : List ℕ → List ℕ → Type 0
-Stand text bytes = (from : ℕ) × (to : ℕ) × (slice_range text from to ≡ bytes)
+-- they do not occur where there are fewer
+pub too_few : (text bytes : List ℕ) → length text < length bytes → OccurIn text bytes → ⊥
+too_few text bytes few occur = let fits = (stand_found text bytes occur.0 occur.1 occur.2).1.fits in omega (arith, fits)
 
 -- a search says whether they do
-pub search_tells : (text bytes : List ℕ) (r : Option ℕ) → FindsNeedle text bytes 0 r → IsTrue (is_some r) ↔ Stand text bytes
+pub search_tells : (text bytes : List ℕ) (r : Option ℕ) → FindsNeedle text bytes 0 r → IsTrue (is_some r) ↔ OccurIn text bytes
 search_tells text bytes (Some k) h = (λ t. (k, k + length bytes, found_stand text bytes k h.1), λ s. refl)
 search_tells text bytes None h = (
   λ t. absurd (false≢true t),
@@ -36,12 +36,12 @@ search_tells text bytes None h = (
 )
 
 -- bytes that occur nowhere in a text spell none of its words
-no_word : (text bytes : List ℕ) (words : List Word) → (Stand text bytes → ⊥) → AllByRecursion (λ word. word ≢ bytes) (map (word_bytes text) words)
+no_word : (text bytes : List ℕ) (words : List Word) → (OccurIn text bytes → ⊥) → AllByRecursion (λ word. word ≢ bytes) (map (word_bytes text) words)
 no_word text bytes [] none = tt
 no_word text bytes (word ∷ words) none = (λ e. none (word.start, word.end, e), no_word text bytes words none)
 
 pub no_proof_word :
-    (text bytes : List ℕ) (kind : Kind) (words : List Word) → (Stand text bytes → ⊥) →
+    (text bytes : List ℕ) (kind : Kind) (words : List Word) → (OccurIn text bytes → ⊥) →
     AllByRecursion (λ word. word ≢ bytes) (item_of kind (tokens_of text words)).proof
 no_proof_word text bytes kind words none =
     let from = symbols_from kind + length (symbols_in kind (tokens_of text words)) + 1 in

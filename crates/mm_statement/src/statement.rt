@@ -7,6 +7,7 @@ ghost use Rattle.std.specs.Option.{option_map};
 ghost use Rattle.mm_store.specs.Language.FileFacts.{CanBeRead};
 ghost use Rattle.mm_statement.specs.Language.Item as meant;
 ghost use Rattle.mm_statement.specs.Language.Item.{first_symbol};
+ghost use Rattle.mm_statement.specs.Code.Occurring.{OccurIn};
 ghost use Rattle.mm_statement.specs.Code.PlainWords.{AreWordsOf, LiesInText, TakesLabel, plain_words, word_bytes};
 ghost use Rattle.mm_statement.specs.Language.Statement as spoken;
 ghost use Rattle.mm_statement.specs.Language.Statement.{AreOneRange, HasBytes, Says};
@@ -381,15 +382,26 @@ pub fn same_proof(files: &Files, one: &Item, other: &Item) -> bool
     same_words(words_of_proof(files, one), words_of_proof(files, other))
 }
 
+/// Whether these bytes occur one after another in a text. A text that is shorter is not looked at, and neither are the bytes.
+fn occurs(text: &[u8], bytes: &[u8]) -> bool
+    ensures { IsTrue result ↔ OccurIn text.now bytes.now }
+{
+    if text.len() < bytes.len() {
+        return false;
+    }
+    memmem::find(text, bytes).is_some()
+}
+
 /// Whether these bytes occur one after another somewhere in those of an item. If they do not, no word of its proof is
-/// spelled like this. The words are not looked for. It takes no memory.
+/// spelled like this. The words are not looked for. It takes the time of a search of the item, and constant time if the item
+/// is shorter than the bytes. It takes no memory.
 pub fn has_bytes(files: &Files, item: &Item, bytes: &[u8]) -> bool
     requires { CanBeRead files.now item.now }
     ensures found { IsTrue result ↔ HasBytes files.now item.now bytes.now }
     ensures absent { IsFalse result → (said : meant.Item) → Says files.now item.now said → AllByRecursion (λ word. word ≢ bytes.now) said.proof }
 {
     let piece = files.piece(item.key);
-    memmem::find(&piece[item.start..item.end], bytes).is_some()
+    occurs(&piece[item.start..item.end], bytes)
 }
 
 /// Whether two items are the same bytes of one piece, read as the same kind. Nothing is read.

@@ -10,7 +10,6 @@ ghost use Rattle.mm_verdict.specs.Language.Citing.{cited_words};
 ghost use Rattle.mm_verdict.specs.Language.DecodedSteps.{decoded_steps, AreEntries, entry_steps, label_table, labels_at};
 
 use crate::reading::{Decoding, is_compressed};
-use crate::used::labels_used;
 use mm_frame::{ProofWords, Resolved};
 use std::alloc::{AllocError, Global};
 
@@ -115,7 +114,9 @@ fn cited(
     Ok(words)
 }
 
-/// The numbers of the words of a proof that cite, where these labels are in use.
+/// The numbers of the words of a proof that cite: for each assertion that a decoded step names, the first word that is its
+/// label. They rise. It takes the decoding of the proof, the labels in use, how many mandatory hypotheses there are, and the
+/// words. It marks assertions by their numbers; the marks that are there do not count.
 pub fn cites_used(
     alloc: Global,
     marks: &mut Vec<bool>,
@@ -143,23 +144,4 @@ pub fn cites_used(
         let first = FirstLabel { place: 0, word: 0 };
         cited(alloc, &mut *marks, labels, used, first, 0)
     }
-}
-
-/// The numbers of the words of a proof that cite: for each assertion that a decoded step names, the first word that is
-/// its label. They rise. It takes the words of the proof, its decoding, and how many mandatory hypotheses there are. It
-/// marks assertions by their numbers; the marks that are there do not count.
-pub fn cites(
-    alloc: Global,
-    marks: &mut Vec<bool>,
-    decoding: &Decoding,
-    mandatory: usize,
-    proof: &ProofWords,
-) -> Result<Vec<usize>, AllocError>
-    ensures { IfOk result (λ words. (view : BaseView) (i : ℕ) (numbers : List ℕ) → NoLabelTwice view → length numbers ≡ mandatory →
-        AreEntries view i decoding.now.labels.items →
-        entry_steps view decoding.now.labels.items ≡ label_table (labels_at view numbers) proof.now →
-        words.items ≡ cited_words (setting_at view i) proof.now (decoded_steps view decoding.now proof.now).steps) }
-{
-    let used = labels_used(alloc, &decoding.labels, &decoding.steps)?;
-    cites_used(alloc, marks, decoding, &used, mandatory, proof)
 }

@@ -23,7 +23,6 @@ mod work;
 
 pub use checker::Checker;
 pub use checking::check;
-pub use citing::cites;
 pub use citing_laws::cites_tell;
 pub use decoding_laws::{
     cites_rise, decodes_short, decodes_surely, each_is_written, has_number_table, has_one_division,
