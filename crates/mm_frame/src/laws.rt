@@ -3,7 +3,8 @@
 ghost use Rattle.mm_frame.specs.Language.Laws.{ActiveByBlocks, FaultIsFound, HasFaultOrIsSound, HasOneStatementFault, KeptNext, NeverFaultAndSound};
 ghost use Rattle.mm_frame.specs.Language.Laws.{PlacesHaveFrames, ReaderIsActive, SoundHasNone, StaysByCounts};
 ghost use Rattle.mm_frame.specs.Language.Laws.{AssertionsMean, HasItemOrIsUnknown, HasOwnLabels, ItemsHaveLabels, MandatoryMeans, MandatoryStandBefore};
-ghost use Rattle.mm_frame.specs.Language.Laws.{AlikeFilesSayTheSame, FilesHaveOneBase};
+ghost use Rattle.mm_frame.specs.Language.Laws.{ActiveHypothesesMean, ActiveInBlocks, AlikeFilesSayTheSame, AssertionsHaveFrames, EndedHypothesesMean};
+ghost use Rattle.mm_frame.specs.Language.Laws.{FilesHaveOneBase, FloatsAgree, FramesHavePairs};
 
 /// Each label that resolves to an assertion has a frame whose variables are typed once.
 pub fn places_have_frames()
@@ -80,6 +81,31 @@ pub fn mandatory_stand_before()
 pub fn labels_mean()
     ensures one { HasItemOrIsUnknown }
     ensures assertions { AssertionsMean }
+{}
+
+/// A label that a sound `$f` or `$e` has means it at each later item at which it is active, and at each other later item a
+/// hypothesis that is not active.
+pub fn hypotheses_mean()
+    ensures active { ActiveHypothesesMean }
+    ensures ended { EndedHypothesesMean }
+{}
+
+/// A statement is active at a later one exactly if each block that holds it holds the later one, where each block that is
+/// closed was opened.
+pub fn active_in_blocks()
+    ensures { ActiveInBlocks }
+{}
+
+/// All sound `$f` of a name give it one typecode.
+pub fn floats_agree()
+    ensures { FloatsAgree }
+{}
+
+/// Each variable in the frame of a sound assertion has one `$f` there, and the active pairs of two such variables are pairs of
+/// the frame.
+pub fn assertions_have_frames()
+    ensures floats { AssertionsHaveFrames }
+    ensures pairs { FramesHavePairs }
 {}
 
 /// Files have one base from a top file on, and the keys of their pieces do not matter for what its items say.

@@ -1,7 +1,9 @@
 -- What a base keeps of each item, and what it answers.
 
+pub mod ActiveItems
 pub mod AnswerLemmas
 pub mod BaseLemmas
+pub mod FramedItems
 pub mod OneBase
 pub mod OwnLabels
 pub mod ResolvingLemmas

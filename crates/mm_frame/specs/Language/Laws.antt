@@ -1,18 +1,27 @@
 -- What is proved of scopes, soundness and frames: each is the contract of a function.
-use Rattle.std.specs.Prelude.{◌≡◌, ℕ, ◌<◌, ◌≤◌, ◌↔◌, ◌⊎◌, true, Some, None, List, [], ◌∷◌, ◌++◌, map, take, count_by, slice_get}
+use Rattle.std.specs.Prelude.{◌≡◌, ℕ, suc, ◌<◌, ◌≤◌, ◌↔◌, ◌⊎◌, Bool, true, false, ◌&&◌, Some, None, List, [], ◌∷◌, ◌++◌, map, take, drop, count_by, slice_get, Contains}
 use Rattle.mm_store.specs.Language.FilesView.{FilesView, plain}
 use Rattle.mm_store.specs.Language.Keyless.{keyless_item}
-use Rattle.mm_machine.specs.Language.Typing.{HasFrames}
-use Rattle.mm_statement.specs.Language.Item.{Item}
+use Rattle.mm_machine.specs.Language.Frame.{Symbol, Mandatory, Frame, ArePair, HasVariable}
+use Rattle.mm_machine.specs.Language.Typing.{IsFrame, HasFrames}
+use Rattle.mm_statement.specs.Language.Item.{Item, is_floating, typecode_of, variable_of}
 use Rattle.mm_frame.specs.Language.Numbered.{IsActive, between}
 use Rattle.mm_frame.specs.Language.Scope.{Neither, mark_of, closed, stays, active, is_start, is_end}
 use Rattle.mm_frame.specs.declared.FrameNumber.{FrameNumber}
 use Rattle.mm_frame.specs.Language.Sound.{IsSound, IsStatementFault, fault, judged, sound_items}
-use Rattle.mm_frame.specs.Language.Framing.{setting_of, mandatory_numbers}
-use Rattle.mm_frame.specs.Language.Base.{BaseView, IsOfFiles, AreSaid, AreHypotheses, IsMandatoryAt, before, said_at, is_shown_at, is_framed_at}
+use Rattle.mm_frame.specs.Language.Framing.{active_pairs, setting_of, mandatory_numbers}
+use Rattle.mm_frame.specs.Language.Base.{BaseView, IsOfFiles, AreSaid, AreHypotheses, IsMandatoryAt, before, said_at, frame_at, is_shown_at, is_framed_at}
 use Rattle.mm_frame.specs.Language.Resolving.{IsCarrier, IsLabelOf, Resolves}
 use Rattle.mm_frame.specs.declared.base.Resolved.TheVariants as answers
 use Rattle.mm_frame.specs.Language.ScopeStack.{read_scopes, all_of, statements}
+
+-- the item with this number is a sound `$f`
+abbrev pub is_float_at : BaseView → ℕ → Bool
+is_float_at base i = is_shown_at base i && is_floating (said_at base i).kind
+
+-- the variable is in the frame: in its expression or in one of its hypotheses
+abbrev pub IsVariableOf : Frame → Symbol → Type 0
+IsVariableOf frame v = HasVariable frame.expression v ⊎ ((h : Mandatory) × Contains frame.hypotheses h × HasVariable h.expression v)
 
 -- At every item of every list, what the theory of proofs needs is known of each label that resolves to an assertion.
 abbrev pub PlacesHaveFrames : Type 0
@@ -73,6 +82,39 @@ HasItemOrIsUnknown = (base : BaseView) (i : ℕ) (label : List ℕ)
 abbrev pub AssertionsMean : Type 0
 AssertionsMean = (base : BaseView) (i j : ℕ) (label : List ℕ) → IsLabelOf base i j label → is_framed_at base j ≡ true
     → Resolves base i label (answers.Assertion j)
+
+-- item j is still active at item i, which comes after it: the items between them close no block that was open before them
+abbrev pub is_active_at : BaseView → ℕ → ℕ → Bool
+is_active_at base i j = stays (drop (suc j) (before base i))
+
+-- The label of a sound `$f` or `$e` means it at each later item at which it is active.
+abbrev pub ActiveHypothesesMean : Type 0
+ActiveHypothesesMean = (base : BaseView) (i j : ℕ) (label : List ℕ) → IsLabelOf base i j label → is_framed_at base j ≡ false
+    → is_active_at base i j ≡ true → Resolves base i label (answers.Hypothesis j)
+
+-- At each later item at which a sound `$f` or `$e` is not active any more, its label means such a hypothesis.
+abbrev pub EndedHypothesesMean : Type 0
+EndedHypothesesMean = (base : BaseView) (i j : ℕ) (label : List ℕ) → IsLabelOf base i j label → is_framed_at base j ≡ false
+    → is_active_at base i j ≡ false → Resolves base i label answers.Inactive
+
+-- If each block that is closed was opened, a statement is active at a later one exactly if each block that holds it holds the later one.
+abbrev pub ActiveInBlocks : Type 0
+ActiveInBlocks = (base : BaseView) (i j : ℕ) (x y : Item) → stays base.said ≡ true → slice_get base.said j ≡ Some x → slice_get base.said i ≡ Some y
+    → mark_of x.kind ≡ Neither → mark_of y.kind ≡ Neither → j < i → (is_active_at base i j ≡ true) ↔ IsActive base.said j i
+
+-- Sound `$f` of one name give it one typecode, in whatever blocks they are.
+abbrev pub FloatsAgree : Type 0
+FloatsAgree = (base : BaseView) (i j : ℕ) → is_float_at base i ≡ true → is_float_at base j ≡ true
+    → variable_of (said_at base i) ≡ variable_of (said_at base j) → typecode_of (said_at base i) ≡ typecode_of (said_at base j)
+
+-- The frame of a sound assertion is as the theory of proofs needs it: each variable in it has one `$f` among its hypotheses.
+abbrev pub AssertionsHaveFrames : Type 0
+AssertionsHaveFrames = (base : BaseView) (i : ℕ) → is_framed_at base i ≡ true → IsFrame (frame_at base i)
+
+-- Two variables of the frame of a sound assertion are a pair of it exactly if they are an active pair there.
+abbrev pub FramesHavePairs : Type 0
+FramesHavePairs = (base : BaseView) (i : ℕ) (v w : Symbol) → is_framed_at base i ≡ true → IsVariableOf (frame_at base i) v → IsVariableOf (frame_at base i) w
+    → ArePair (frame_at base i).pairs v w ↔ ArePair (active_pairs (before base i)) v w
 
 -- A mandatory hypothesis of an item is what its label means there.
 abbrev pub MandatoryMeans : Type 0

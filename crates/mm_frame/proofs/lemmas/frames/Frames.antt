@@ -134,7 +134,7 @@ named_typed before item name k s t h =
     (symbol before x.typecode, x.constant, in_contains _ (mandatory_hypotheses before item) (subst (λ w. In w (mandatory_hypotheses before item)) whole there))
 
 -- a variable of an expression that is read after these items
-read_variable : (before : List Item) (names : List (List ℕ)) (v : Symbol) → HasVariable (map (symbol before) names) v → (name : List ℕ) × In name names × In name (active_variables before) × (symbol before name ≡ v)
+pub read_variable : (before : List Item) (names : List (List ℕ)) (v : Symbol) → HasVariable (map (symbol before) names) v → (name : List ℕ) × In name names × In name (active_variables before) × (symbol before name ≡ v)
 read_variable before names v h = grind (arith, common_steps, from_map (symbol before) v names (contains_in v (map (symbol before) names) h.0), has_in) steps 200000
 
 -- two `$f` of different variables
@@ -174,11 +174,11 @@ pairs_map R S f (x ∷ xs) g p i j d l m =
     (g (get_or (x ∷ xs) i x) (get_or (x ∷ xs) j x) (in_at (x ∷ xs) i x v) (in_at (x ∷ xs) j x w) (p i j x l w)))
 
 -- what a hypothesis of a frame comes from
-hypothesis_from : (before : List Item) (item : Item) (h : Mandatory) → In h (mandatory_hypotheses before item) → (f : Item) × In f (active before) × (is_mandatory (mandatory_variables before item) f ≡ true) × (hypothesis before f ≡ h)
+pub hypothesis_from : (before : List Item) (item : Item) (h : Mandatory) → In h (mandatory_hypotheses before item) → (f : Item) × In f (active before) × (is_mandatory (mandatory_variables before item) f ≡ true) × (hypothesis before f ≡ h)
 hypothesis_from before item h c = grind (arith, common_steps, from_filter, from_map) steps 200000
 
 -- each variable of a mandatory hypothesis is mandatory
-hypothesis_mandatory : (before : List Item) (item f : Item) (name : List ℕ) → AreSound before → In f (active before)
+pub hypothesis_mandatory : (before : List Item) (item f : Item) (name : List ℕ) → AreSound before → In f (active before)
     → is_mandatory (mandatory_variables before item) f ≡ true → In name f.symbols → In name (active_variables before)
     → In name (mandatory_variables before item)
 hypothesis_mandatory before item f name k h m n v = elim (or_cases (is_essential f.kind) (is_floating f.kind && has (mandatory_variables before item) (variable_of f)) m) [
