@@ -261,6 +261,13 @@ def long_label(n):
     return [*FIRST, f"{'l' * n} $a wff p $.", f"t $p wff p $= wp {'l' * n} $."]
 
 
+def changed_long_label(n):
+    """An axiom with a label of so many letters, as many theorems after it, none of which cites it, and four edits that change it."""
+    axiom, *others = (f"{'l' * n} $a |- ( {one} -> {other} ) $." for one, other in ("pq", "qp", "pp", "qq", "pq"))
+    proofs = (f"t{k} $p wff ( p -> q ) $= wp wq wi $." for k in range(n))
+    return {"input.mm": [*FIRST, axiom, *proofs], "script": [f"replace input.mm 5 {len(text)}\n{text}" for text in others]}
+
+
 def longer_labels(n):
     """So many statements with labels of twelve bytes, half of them theorems that cite one of the others each."""
     half = n // 2

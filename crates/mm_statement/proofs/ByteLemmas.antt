@@ -3,7 +3,8 @@ use Rattle.std.proofs.Common.{◌≡◌, ℕ, ◌+◌, ◌-◌, ◌<◌, Option,
 use Rattle.std.{proofs.{Common.{get_or-take, get_or-drop}, lemmas.Bool.{false≢true}}, specs.{Prelude.{◌≢◌, ◌↔◌, IsTrue, is_some}, List.{AllByRecursion}}}
 use Rattle.memchr.{specs.Find.{OccursAt, FindsNeedle}, proofs.lemmas.MatchLemmas.{OccursAt-part}}
 use Rattle.mm_store.specs.mm_text.{declared.word.Word.{Word}, Language.Unit.{tokens_of}}
-use Rattle.mm_statement.{specs.{Language.{Item.{Kind}, Statement.{symbols_from, symbols_in, item_of}}, Code.{Occurring.{OccurIn}, PlainWords.{plain_words, word_bytes}}}, proofs.SpokenLemmas.{names_from}}
+use Rattle.mm_statement.specs.{Language.{Item.{Kind}, Statement.{symbols_from, symbols_in, item_of}}, Code.{Occurring.{OccurIn}, PlainWords.{plain_words, word_bytes}}}
+use Rattle.mm_statement.proofs.SpokenLemmas.{names_from}
 
 -- where a search finds bytes, they occur
 found_stand : (text bytes : List ℕ) (k : ℕ) → OccursAt text bytes k → slice_range text k (k + length bytes) ≡ bytes

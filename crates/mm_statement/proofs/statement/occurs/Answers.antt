@@ -1,4 +1,4 @@
-use Rattle.std.proofs.{lemmas.{Bool.{false≢true}}, Common.{sym, ◌∙◌}}
+use Rattle.std.proofs.{lemmas.Bool.{false≢true}, Common.{sym, ◌∙◌}}
 use Rattle.mm_statement.proofs.ByteLemmas.{search_tells, too_few}
 use Rattle.mm_statement.proofs.statement.occurs.Goals as goal
 

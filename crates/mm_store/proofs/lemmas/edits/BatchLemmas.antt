@@ -1,10 +1,11 @@
 -- Edits that were done one after another, undone and settled.
-use Rattle.std.proofs.{lemmas.{Grind.{common_steps}}, Common.{◌≡◌, ◌≢◌, ℕ, ◌+◌, List, [], ◌∷◌, ◌++◌, Option, Some, refl, sym, ap, ◌∙◌, subst, arith, Result, IfOk, OnOk}}
+use Rattle.std.proofs.{lemmas.Grind.{common_steps}, Common.{◌≡◌, ◌≢◌, ℕ, ◌+◌, List, [], ◌∷◌, ◌++◌, Option, Some, refl, sym, ap, ◌∙◌, subst, arith, Result, IfOk, OnOk}}
 use Rattle.mm_store.specs.{declared.edit.EditError.{EditError}, Language.{EditedKeys.{IsEditByKeys, parks}, Batches.{CanSettleAll, CanUndoAll, IsSpendable, settled_all, undone_all}}}
-use Rattle.mm_store.specs.Language.{FileFacts.{parked_in}, FilesView.{FilesView}, Pieces.{Standing, Removal, HeldPiece, IsParked, Pieces, parked_count, parked_pieces, parked_state, parked_under, with_state}}
-use Rattle.mm_store.specs.{Language.Undoing.{UndoView, EditAction, CanSettle, CanUndo, Fits, IsUndoable, dropped, key_at, reversed, settled, spent, undone}, Code.{Batched.{StandOnce}, Kept.{standing_count}}}
-use Rattle.mm_store.proofs.lemmas.files.{MapLemmas.{get_drop_other, get_drop_same}, PieceLemmas.{get_state_other, get_state_same}, StoreLemmas.{parked_changed, parked_dropped}}
-use Rattle.mm_store.proofs.lemmas.edits.StepLemmas.{key_stands, parked}
+use Rattle.mm_store.specs.Language.{FileFacts.{parked_in}, FilesView.{FilesView}}
+use Rattle.mm_store.specs.Language.Pieces.{Standing, Removal, HeldPiece, IsParked, Pieces, parked_count, parked_pieces, parked_state, parked_under, with_state}
+use Rattle.mm_store.specs.{Language.Undoing.{UndoView, EditAction, CanSettle, CanUndo, Fits, IsUndoable, dropped, key_at, reversed, settled, spent, undone}, Code.Batched.{StandOnce}}
+use Rattle.mm_store.{specs.Code.Kept.{standing_count}, proofs.lemmas.files.{MapLemmas.{get_drop_other, get_drop_same}, PieceLemmas.{get_state_other, get_state_same}}}
+use Rattle.mm_store.proofs.lemmas.{files.StoreLemmas.{parked_changed, parked_dropped}, edits.StepLemmas.{key_stands, parked}}
 use Rattle.mm_text.specs.Language.Asked.{Asked}
 use Rattle.std.specs.FinMap as finite
 use Rattle.mm_store.specs.Language.Undoing as action

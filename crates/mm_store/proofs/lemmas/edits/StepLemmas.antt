@@ -2,8 +2,8 @@
 use Rattle.std.proofs.lemmas.{Grind.{common_steps}, List.{map-set, get_or-map, length-map, Sums.{sum_by-set, sum_by-insert, sum_by-remove}}, Bool.Decides.{nat_tests}}
 use Rattle.std.{proofs.Common.{◌≡◌, ◌≢◌, ℕ, suc, ◌+◌, ◌<◌, List, [], ◌∷◌, Option, Some, None, is_some, true, length, map, get_or, set, refl, sym, ap, ◌∙◌, arith}, specs.List.{insert, remove}}
 use Rattle.mm_store.specs.{Code.{Edited.{pieces_in, with_pieces}, Kept.{one, times, places, standing_count, deleted_state, deletions}}, Language.FilesView.{File, KeyedFile, plain_file, bytes_of}}
-use Rattle.mm_store.specs.Language.Pieces.{Standing, Parked, Removal, Replaced, Deleted, HeldPiece, PieceState, Pieces, with_state, standing_piece, text_in, text_under, state_in, IsParked, parked_state, parked_count}
-use Rattle.mm_store.{specs.Language.Undoing.{keys_in, with_keys, moved_list}, proofs.lemmas.files.MapLemmas.{get_drop_other, get_put_other}}
+use Rattle.mm_store.specs.Language.Pieces.{Standing, Parked, Removal, Replaced, Deleted, HeldPiece, PieceState, Pieces, with_state, standing_piece, text_in, text_under, state_in, IsParked}
+use Rattle.mm_store.{specs.Language.{Pieces.{parked_state, parked_count}, Undoing.{keys_in, with_keys, moved_list}}, proofs.lemmas.files.MapLemmas.{get_drop_other, get_put_other}}
 use Rattle.mm_store.proofs.lemmas.files.ListLemmas.{size, one_same, one_other, places_with, places_in, in_files, texts_same, plain_same, plain_with, plain_pieces, bytes_with, keys_with, times_at}
 use Rattle.mm_store.proofs.lemmas.files.PieceLemmas.{text_put_same, text_put_other, text_drop_other, text_state, stands_put, stands_parked, stands_again, stands_dropped}
 use Rattle.mm_store.proofs.lemmas.expansion.WeightLemmas.{weight_fresh, weight_put, weight_dropped}
