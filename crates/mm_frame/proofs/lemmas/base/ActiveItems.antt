@@ -1,7 +1,7 @@
 -- Which items are active at an item of a base, and what the labels of hypotheses mean there.
 use Rattle.std.proofs.lemmas.{Grind.{common_steps}, Bool.{false≢true}, List.{drop-take, drop-map, map-append}}
-use Rattle.std.proofs.Common.{◌≡◌, ◌↔◌, ℕ, suc, ◌+◌, ◌-◌, ◌<◌, Bool, true, false, ◌&&◌, Option, Some, None, List, [], ◌∷◌, ◌++◌, map, take, drop, slice_get, append-nil, append_assoc, refl, sym, ◌∙◌}
-use Rattle.std.proofs.Common.{ap, subst, arith}
+use Rattle.std.proofs.Common.{◌≡◌, ◌↔◌, ℕ, suc, ◌+◌, ◌-◌, ◌<◌, Bool, true, false, ◌&&◌, Option, Some, None, List, [], ◌∷◌, ◌++◌, take, drop, slice_get, append-nil, append_assoc, refl, sym, ◌∙◌, ap}
+use Rattle.std.proofs.Common.{subst, arith}
 use Rattle.mm_statement.specs.Language.Item.{Kind, BlockStart, BlockEnd, Item}
 use Rattle.mm_frame.specs.{declared.FrameNumber.{FrameNumber, TheVariants.{F06, F07}}, Code.BlockMarks.{block_marks, stays_by}, Language.Numbered.{IsActive, between}}
 use Rattle.mm_frame.specs.Language.{Scope.{Neither, mark_of, stays}, Sound.{fault, judged, line_holds, sound_items, sound_items_after}, Base.{BaseView, before, is_framed_at}, Laws.{is_active_at}}

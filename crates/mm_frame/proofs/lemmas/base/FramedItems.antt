@@ -1,16 +1,15 @@
 -- What is known of the sound `$f` of a base, and of the frames of its assertions.
 use Rattle.std.proofs.lemmas.{Bool.{false≢true, and_parts, and_from}, Slice.Eq.{bytes_eq-Decides}}
-use Rattle.std.proofs.Common.{◌≡◌, ◌⊎◌, ◌↔◌, ℕ, ◌<◌, Bool, true, false, ◌&&◌, not, List, [], ◌++◌, filter, take, refl, sym, ap, ◌∙◌, subst, inl, inr, arith, Contains, bytes_eq, slice_get}
-use Rattle.std.{proofs.Common.{slice_index_or}, specs.List.{list_any}}
+use Rattle.std.proofs.Common.{◌≡◌, ◌↔◌, ℕ, ◌<◌, Bool, true, false, ◌&&◌, not, List, [], ◌++◌, take, refl, sym, ap, ◌∙◌, subst, inl, inr, arith, Contains, bytes_eq, slice_get, slice_index_or}
+use Rattle.std.specs.List.{list_any}
 use native.Mathlib.Decide.{dec_lt}
 use Rattle.mm_machine.specs.Language.{Frame.{Symbol, Mandatory, ArePair, HasVariable}, Typing.{IsFrame}}
 use Rattle.mm_statement.specs.Language.Item.{Item, has, is_assertion, is_essential, is_floating, is_labelled, typecode_of, variable_of}
-use Rattle.mm_frame.specs.{declared.FrameNumber.TheVariants.{F13}, Language.{Scope.{active, active_variables, floats, symbols_by}, Sound.{IsSound, fault, is_typed_otherwise, second, sound_items}}}
-use Rattle.mm_frame.specs.Language.Framing.{active_pairs, is_mandatory_pair, mandatory_hypotheses, mandatory_variables, symbol}
-use Rattle.mm_frame.specs.Language.{Base.{BaseView, before, frame_at, is_framed_at, is_shown_at, is_sound_at, said_at}, Laws.{IsVariableOf, is_float_at}}
-use Rattle.mm_frame.proofs.lemmas.{base.BaseLemmas.{kept_are_sound, none_told}, faults.FoundFaults.{no_fault_sound}, scope.{Facts.{float_two, no_symbol_of}, SoundItems.{in_any}}}
-use Rattle.mm_frame.proofs.lemmas.{lists.Members.{In, contains_in, from_filter, get_in, has_in, in_contains, in_filter, in_has, in_left}, frames.FrameNumbers.{shown_before}}
-use Rattle.mm_frame.proofs.lemmas.frames.{Frames.{assertion_expression, hypothesis_from, hypothesis_mandatory, is_frame, read_variable}, SameFrames.{framed_shown}}
+use Rattle.mm_frame.specs.{declared.FrameNumber.TheVariants.{F13}, Language.{Scope.{active, active_variables, floats, symbols_by}, Sound.{IsSound, fault, is_typed_otherwise, second}}}
+use Rattle.mm_frame.specs.Language.{Framing.{active_pairs, is_mandatory_pair, mandatory_variables}, Base.{BaseView, before, frame_at, is_framed_at, is_shown_at, is_sound_at, said_at}}
+use Rattle.mm_frame.{specs.Language.Laws.{IsVariableOf, is_float_at}, proofs.lemmas.{base.BaseLemmas.{kept_are_sound, none_told}, faults.FoundFaults.{no_fault_sound}}}
+use Rattle.mm_frame.proofs.lemmas.{scope.{Facts.{float_two, no_symbol_of}, SoundItems.{in_any}}, lists.Members.{In, contains_in, from_filter, get_in, in_contains, in_filter, in_has, in_left}}
+use Rattle.mm_frame.proofs.lemmas.frames.{FrameNumbers.{shown_before}, Frames.{assertion_expression, hypothesis_from, hypothesis_mandatory, is_frame, read_variable}, SameFrames.{framed_shown}}
 
 -- a sound item with a label is sound after the items before it
 shown_sound : (base : BaseView) (j : ℕ) → is_shown_at base j ≡ true → IsSound (before base j) (said_at base j)
