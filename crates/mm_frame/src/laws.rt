@@ -4,7 +4,7 @@ ghost use Rattle.mm_frame.specs.Language.Laws.{ActiveByBlocks, FaultIsFound, Has
 ghost use Rattle.mm_frame.specs.Language.Laws.{PlacesHaveFrames, ReaderIsActive, SoundHasNone, StaysByCounts};
 ghost use Rattle.mm_frame.specs.Language.Laws.{AssertionsMean, HasItemOrIsUnknown, HasOwnLabels, ItemsHaveLabels, MandatoryMeans, MandatoryStandBefore};
 ghost use Rattle.mm_frame.specs.Language.Laws.{ActiveHypothesesMean, ActiveInBlocks, AlikeFilesSayTheSame, AssertionsHaveFrames, EndedHypothesesMean};
-ghost use Rattle.mm_frame.specs.Language.Laws.{FilesHaveOneBase, FloatsAgree, FramesHavePairs};
+ghost use Rattle.mm_frame.specs.Language.Laws.{FilesHaveOneBase, FloatsAgree, FloatsAreTypings, FramesHavePairs, PairsAreOfTwo, SoundItemsStand};
 
 /// Each label that resolves to an assertion has a frame whose variables are typed once.
 pub fn places_have_frames()
@@ -96,6 +96,16 @@ pub fn active_in_blocks()
     ensures { ActiveInBlocks }
 {}
 
+/// The sound statements with a label are among the sound items, at their own numbers.
+pub fn sound_items_stand()
+    ensures { SoundItemsStand }
+{}
+
+/// A sound `$f` is a typecode, which is a constant, and a variable.
+pub fn floats_are_typings()
+    ensures { FloatsAreTypings }
+{}
+
 /// All sound `$f` of a name give it one typecode.
 pub fn floats_agree()
     ensures { FloatsAgree }
@@ -106,6 +116,11 @@ pub fn floats_agree()
 pub fn assertions_have_frames()
     ensures floats { AssertionsHaveFrames }
     ensures pairs { FramesHavePairs }
+{}
+
+/// The two variables of an active pair are different.
+pub fn pairs_are_of_two()
+    ensures { PairsAreOfTwo }
 {}
 
 /// Files have one base from a top file on, and the keys of their pieces do not matter for what its items say.

@@ -41,10 +41,10 @@ pub use examples::frames_are_read_so;
 pub use judge::FrameFault;
 pub use laws::{
     active_by_blocks, active_in_blocks, assertions_have_frames, fault_is_found,
-    files_have_one_base, floats_agree, has_fault_or_is_sound, has_one_fault, has_own_labels,
-    hypotheses_mean, items_have_labels, kept_next, labels_mean, mandatory_means,
-    mandatory_stand_before, never_both, places_have_frames, reader_is_active, sound_has_none,
-    stays_by_counts,
+    files_have_one_base, floats_agree, floats_are_typings, has_fault_or_is_sound, has_one_fault,
+    has_own_labels, hypotheses_mean, items_have_labels, kept_next, labels_mean, mandatory_means,
+    mandatory_stand_before, never_both, pairs_are_of_two, places_have_frames, reader_is_active,
+    sound_has_none, sound_items_stand, stays_by_counts,
 };
 pub use mm_machine::{NamedSymbol, NumberedSymbol, Symbol};
 pub use mm_statement::{

@@ -9,5 +9,6 @@ pub mod OwnLabels
 pub mod ResolvingLemmas
 pub mod RowLemmas
 pub mod SaidLabels
+pub mod StandingItems
 pub mod NumbersAside
 pub mod TakenOverLemmas

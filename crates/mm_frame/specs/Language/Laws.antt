@@ -1,16 +1,16 @@
 -- What is proved of scopes, soundness and frames: each is the contract of a function.
-use Rattle.std.specs.Prelude.{◌≡◌, ℕ, suc, ◌<◌, ◌≤◌, ◌↔◌, ◌⊎◌, Bool, true, false, ◌&&◌, Some, None, List, [], ◌∷◌, ◌++◌, map, take, drop, count_by, slice_get, Contains}
+use Rattle.std.specs.Prelude.{◌≡◌, ◌≢◌, ℕ, suc, ◌<◌, ◌≤◌, ◌↔◌, ◌⊎◌, Bool, true, false, ◌&&◌, Some, None, List, [], ◌∷◌, ◌++◌, map, take, drop, count_by, slice_get, Contains}
 use Rattle.mm_store.specs.Language.FilesView.{FilesView, plain}
 use Rattle.mm_store.specs.Language.Keyless.{keyless_item}
 use Rattle.mm_machine.specs.Language.Frame.{Symbol, Mandatory, Frame, ArePair, HasVariable}
 use Rattle.mm_machine.specs.Language.Typing.{IsFrame, HasFrames}
-use Rattle.mm_statement.specs.Language.Item.{Item, is_floating, typecode_of, variable_of}
+use Rattle.mm_statement.specs.Language.Item.{Item, is_floating, is_labelled, typecode_of, variable_of}
 use Rattle.mm_frame.specs.Language.Numbered.{IsActive, between}
 use Rattle.mm_frame.specs.Language.Scope.{Neither, mark_of, closed, stays, active, is_start, is_end}
 use Rattle.mm_frame.specs.declared.FrameNumber.{FrameNumber}
 use Rattle.mm_frame.specs.Language.Sound.{IsSound, IsStatementFault, fault, judged, sound_items}
 use Rattle.mm_frame.specs.Language.Framing.{active_pairs, setting_of, mandatory_numbers}
-use Rattle.mm_frame.specs.Language.Base.{BaseView, IsOfFiles, AreSaid, AreHypotheses, IsMandatoryAt, before, said_at, frame_at, is_shown_at, is_framed_at}
+use Rattle.mm_frame.specs.Language.Base.{BaseView, IsOfFiles, AreSaid, AreHypotheses, IsMandatoryAt, before, said_at, hypothesis_at, frame_at, is_shown_at, is_framed_at}
 use Rattle.mm_frame.specs.Language.Resolving.{IsCarrier, IsLabelOf, Resolves}
 use Rattle.mm_frame.specs.declared.base.Resolved.TheVariants as answers
 use Rattle.mm_frame.specs.Language.ScopeStack.{read_scopes, all_of, statements}
@@ -102,6 +102,17 @@ abbrev pub ActiveInBlocks : Type 0
 ActiveInBlocks = (base : BaseView) (i j : ℕ) (x y : Item) → stays base.said ≡ true → slice_get base.said j ≡ Some x → slice_get base.said i ≡ Some y
     → mark_of x.kind ≡ Neither → mark_of y.kind ≡ Neither → j < i → (is_active_at base i j ≡ true) ↔ IsActive base.said j i
 
+-- A statement with a label is among the sound items, at a number, exactly if it is the item with this number, and sound.
+abbrev pub SoundItemsStand : Type 0
+SoundItemsStand = (base : BaseView) (n : ℕ) (item : Item) → is_labelled item.kind ≡ true
+    → (slice_get (sound_items base.said) n ≡ Some item) ↔ ((is_shown_at base n ≡ true) × (said_at base n ≡ item))
+
+-- The expression of a sound `$f` is its typecode, a constant, and its variable.
+abbrev pub FloatsAreTypings : Type 0
+FloatsAreTypings = (base : BaseView) (i : ℕ) → is_float_at base i ≡ true
+    → (hypothesis_at base i).expression
+    ≡ record { name = typecode_of (said_at base i); variable = false } ∷ record { name = variable_of (said_at base i); variable = true } ∷ []
+
 -- Sound `$f` of one name give it one typecode, in whatever blocks they are.
 abbrev pub FloatsAgree : Type 0
 FloatsAgree = (base : BaseView) (i j : ℕ) → is_float_at base i ≡ true → is_float_at base j ≡ true
@@ -115,6 +126,10 @@ AssertionsHaveFrames = (base : BaseView) (i : ℕ) → is_framed_at base i ≡ t
 abbrev pub FramesHavePairs : Type 0
 FramesHavePairs = (base : BaseView) (i : ℕ) (v w : Symbol) → is_framed_at base i ≡ true → IsVariableOf (frame_at base i) v → IsVariableOf (frame_at base i) w
     → ArePair (frame_at base i).pairs v w ↔ ArePair (active_pairs (before base i)) v w
+
+-- The two variables of an active pair are different.
+abbrev pub PairsAreOfTwo : Type 0
+PairsAreOfTwo = (base : BaseView) (i : ℕ) (v w : Symbol) → ArePair (active_pairs (before base i)) v w → v ≢ w
 
 -- A mandatory hypothesis of an item is what its label means there.
 abbrev pub MandatoryMeans : Type 0

@@ -12,7 +12,7 @@ use Rattle.mm_frame.proofs.lemmas.{scope.{Facts.{float_two, no_symbol_of}, Sound
 use Rattle.mm_frame.proofs.lemmas.frames.{FrameNumbers.{shown_before}, Frames.{assertion_expression, hypothesis_from, hypothesis_mandatory, is_frame, read_variable}, SameFrames.{framed_shown}}
 
 -- a sound item with a label is sound after the items before it
-shown_sound : (base : BaseView) (j : ℕ) → is_shown_at base j ≡ true → IsSound (before base j) (said_at base j)
+pub shown_sound : (base : BaseView) (j : ℕ) → is_shown_at base j ≡ true → IsSound (before base j) (said_at base j)
 shown_sound base j shown =
     let item = said_at base j in
     no_fault_sound (before base j) item (none_told item.kind (fault (before base j) item) (and_parts (is_sound_at base j) (is_labelled item.kind) shown).0)
