@@ -187,3 +187,70 @@ def sources(crates=CRATES):
     """The sources of the crates, those of tests left out."""
     tests = {path for crate in crates.iterdir() for path in test_files(crate)}
     return [path for path in sorted(crates.glob("*/src/**/*.rt")) if path not in tests]
+
+
+def places(tokens, *words):
+    """Where words follow one another."""
+    return [at for at in range(len(tokens) - len(words) + 1) if tokens[at : at + len(words)] == [*words]]
+
+
+def parts_of(tokens):
+    """Parameters, fields or arguments, each as it is written."""
+    depth, start, at = 0, 0, 0
+    while at <= len(tokens):
+        word = tokens[at] if at < len(tokens) else ","
+        if word in ("(", "[", "{"):
+            at = closing(tokens, at)
+        else:
+            depth += {"<": 1, ">": -1, ">>": -2}.get(word, 0)
+            if word == "," and depth <= 0:
+                if tokens[start:at]:
+                    yield tokens[start:at]
+                start, depth = at + 1, 0
+        at += 1
+
+
+def inner_of(signature):
+    """The parameters of a signature."""
+    start = signature.index("(") if "(" in signature else len(signature)
+    return signature[start + 1 : closing(signature, start)] if start < len(signature) else []
+
+
+def pattern_before(tokens, arrow):
+    """The pattern before an arrow."""
+    depth, place = 0, arrow - 1
+    while place >= 0:
+        word = tokens[place]
+        if depth == 0 and (word in ("{", ",", ";") or word == "}" and tokens[place + 1] not in (")", "|", "if", "=>")):
+            break
+        depth += {")": 1, "]": 1, "}": 1, "(": -1, "[": -1, "{": -1}.get(word, 0)
+        place -= 1
+    return tokens[place + 1 : arrow]
+
+
+def patterns_of(body):
+    """The patterns of a body: those of `let`, of `for`, of the arms of a match, and the parameters of closures."""
+    for at, word in enumerate(body):
+        if word in ("let", "for"):
+            end = at + 1
+            while end < len(body) and body[end] not in ("=", ":", "in", ";"):
+                end = closing(body, end) + 1 if body[end] in ("(", "[", "{") else end + 1
+            yield body[at + 1 : end]
+        elif word == "=>":
+            pattern = pattern_before(body, at)
+            yield pattern[: pattern.index("if")] if "if" in pattern else pattern
+        elif word == "|" and at and body[at - 1] in ("(", ",", "=", "{", "move", "return", "=>", "&"):
+            end = next((place for place in range(at + 1, len(body)) if body[place] == "|"), at)
+            yield from (part[: part.index(":")] if ":" in part else part for part in parts_of(body[at + 1 : end]))
+
+
+def bound_in(function):
+    """The names that a function binds: its parameters, and those in its patterns."""
+    given = [part[: part.index(":")] for part in parts_of(inner_of(function.signature)) if ":" in part]
+    found = set()
+    for pattern in [*given, *patterns_of(function.body)]:
+        for at, word in enumerate(pattern):
+            behind = pattern[at + 1] if at + 1 < len(pattern) else ""
+            if WORD.fullmatch(word) and word[0].islower() and word not in ("mut", "ref") and behind not in ("(", "::", "{", ":"):
+                found.add(str(word))
+    return found
