@@ -166,6 +166,12 @@ def functions_of(tokens):
     return found
 
 
+def number_of(word):
+    """The number that a token writes, or nothing."""
+    found = re.fullmatch(r"(0x[0-9a-fA-F_]+|0b[01_]+|0o[0-7_]+|[0-9][0-9_]*)(?:[ui](?:8|16|32|64|128|size))?", word)
+    return int(found[1].replace("_", ""), 0) if found and (found[1][0] != "0" or len(found[1]) == 1 or found[1][1] in "xbo") else None
+
+
 def calls_in(tokens):
     """The names that are called among tokens, each with its place: not those of macros or of variants."""
     for place, token in enumerate(tokens[:-1]):
