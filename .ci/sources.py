@@ -260,3 +260,28 @@ def bound_in(function):
             if WORD.fullmatch(word) and word[0].islower() and word not in ("mut", "ref") and behind not in ("(", "::", "{", ":"):
                 found.add(str(word))
     return found
+
+
+def exports(tokens):
+    """The names that a root of a crate exports: its own, and those of its modules."""
+    modules = {str(tokens[at + 1]) for at, token in enumerate(tokens) if token == "mod"}
+    for at, token in enumerate(tokens[:-2]):
+        if token == "pub" and tokens[at + 1] == "use" and tokens[at + 2] in modules:
+            end = tokens.index(";", at)
+            yield from (str(word) for word in tokens[at + 3 : end] if WORD.fullmatch(word))
+        elif token == "pub" and tokens[at + 1] in ("fn", "struct", "enum", "trait"):
+            yield str(tokens[at + 2])
+
+
+def is_law(function):
+    """Whether a function answers nothing and is given nothing to change: it only borrows, and only to look."""
+    given = list(parts_of(inner_of(function.signature)))
+    looks = all("&" in (part[0], part[part.index(":") + 1] if ":" in part else "") and "mut" not in part for part in given)
+    return "->" not in function.signature and looks
+
+
+def statement_end(tokens, at):
+    """Where the item that begins at a place ends with a `;`."""
+    while at < len(tokens) and tokens[at] != ";":
+        at = closing(tokens, at) + 1 if tokens[at] in ("{", "(", "[") else at + 1
+    return at
