@@ -23,13 +23,14 @@ pub use laws::{
     items_have_findings, one_list_each, one_list_of_runs,
 };
 pub use mm_proof::{
-    Base, BatchError, Checked, Edit, EditError, Files, Frame, FrameFault, FrameNumber, Item,
-    ItemKind, Keyword, Marks, NamedSymbol, Names, NumberedSymbol, PieceKey, Place, ProofNumber,
-    ProofWords, Resolved, Spot, Statement, StoreError, Symbol, TextError, TextFault, TextNumber,
-    Undo, Undos, Verdict, Walk, Word, WordKind, Work, edits_keep_files, edits_keep_units,
-    files_have_one_base, first_faults_are_within, fits, has_expansion, has_one_verdict_at,
-    has_own_labels, items_stand, nth_word, one_edit, one_meaning, place, walks_go_on,
-    words_of_proof,
+    Action, Base, BatchError, Checked, Checker, Decoding, Edit, EditError, Files, Frame,
+    FrameFault, FrameNumber, Item, ItemKind, Keyword, Marks, Named, NamedSymbol, Names,
+    NumberedSymbol, PieceKey, Place, ProofFault, ProofNumber, ProofStep, ProofWords, Resolved,
+    Spot, Statement, StoreError, Symbol, TextError, TextFault, TextNumber, Undecoded, Undo, Undos,
+    Verdict, Walk, Word, WordCursor, WordKind, Work, check, decode, edits_keep_files,
+    edits_keep_units, files_have_one_base, first_faults_are_within, fits, has_bytes, has_expansion,
+    has_one_verdict_at, has_own_labels, items_stand, nth_of_proof, nth_word, one_edit, one_meaning,
+    place, same_proof, walks_go_on, words_of_proof,
 };
 pub use session::Session;
 pub use tally::Tally;

@@ -10,11 +10,13 @@ mod script_laws;
 pub use answer::{fault_name, write_axioms};
 pub use laws::one_report;
 pub use mm_keep::{
-    At, Base, BatchError, Checked, Edit, EditError, Files, Finding, Frame, FrameFault, FrameNumber,
-    Item, ItemKind, KeepError, Keyword, Marks, NamedSymbol, Names, NumberedSymbol, PieceKey, Place,
-    ProofNumber, ProofWords, Resolved, Session, Spot, Statement, StoreError, Symbol, Tally,
-    TextError, TextFault, TextNumber, Unbegun, Undo, Undos, Verdict, Walk, Word, WordKind, Work,
-    edits_keep_units, fits, has_expansion, nth_word, place, walks_go_on,
+    Action, At, Base, BatchError, Checked, Checker, Decoding, Edit, EditError, Files, Finding,
+    Frame, FrameFault, FrameNumber, Item, ItemKind, KeepError, Keyword, Marks, Named, NamedSymbol,
+    Names, NumberedSymbol, PieceKey, Place, ProofFault, ProofNumber, ProofStep, ProofWords,
+    Resolved, Session, Spot, Statement, StoreError, Symbol, Tally, TextError, TextFault,
+    TextNumber, Unbegun, Undecoded, Undo, Undos, Verdict, Walk, Word, WordCursor, WordKind, Work,
+    check, decode, edits_keep_units, fits, has_bytes, has_expansion, nth_of_proof, nth_word, place,
+    same_proof, walks_go_on, words_of_proof,
 };
 pub use mm_script::{
     ReadFailed, Reading, ScriptError, WriteFailed, Writing, commands_leave_nothing, has_reading,

@@ -18,5 +18,6 @@ pub use laws::{
     commands_leave_nothing, divisions_agree, has_reading, one_reading, reading_goes_on,
     readings_join, scripts_are_read_so,
 };
+pub use mm_text::{Edit, Keyword, Place, Word, WordKind, nth_word, place};
 pub use read_stream::{ReadFailed, Reading};
 pub use stream::{WriteFailed, Writing};

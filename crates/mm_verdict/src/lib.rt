@@ -34,7 +34,12 @@ pub use item_laws::{
     has_count_at, has_one_count_at, has_one_verdict_at, has_verdict_at, mandatory_labels_mean,
     proved_is_derived_at, spots_are_in,
 };
-pub use mm_frame::{Base, Files, Names, ProofWords, Resolved};
+pub use mm_frame::{
+    Base, BatchError, Edit, EditError, Files, Item, ItemKind, Keyword, NamedSymbol, Names,
+    PieceKey, Place, ProofWords, Resolved, Statement, StoreError, Symbol, TextError, TextFault,
+    TextNumber, Undo, Undos, Walk, Word, WordCursor, WordKind, fits, has_bytes, nth_of_proof,
+    nth_word, place, same_proof, words_of_proof,
+};
 pub use mm_machine::{
     Action, Named, NumberedSymbol, ProofFault, ProofNumber, ProofStep, Spot, Verdict,
 };

@@ -15,7 +15,15 @@ pub use adding::{FileError, add_file, read_all};
 pub use arguments::Command;
 pub use asking::{command, command_of, top_of};
 pub use loading::load_session;
-pub use mm_report::{ReadFailed, Reading, ScriptError, Session, StoreError, Tally, TextFault};
+pub use mm_report::{
+    Action, At, Base, BatchError, Checked, Checker, Decoding, Edit, EditError, Files, Finding,
+    Frame, FrameFault, FrameNumber, Item, ItemKind, KeepError, Keyword, Marks, Named, NamedSymbol,
+    Names, NumberedSymbol, PieceKey, Place, ProofFault, ProofNumber, ProofStep, ProofWords,
+    ReadFailed, Reading, Resolved, ScriptError, Session, Spot, Statement, StoreError, Symbol,
+    Tally, TextError, TextFault, TextNumber, Unbegun, Undecoded, Undo, Undos, Verdict, Walk, Word,
+    WordCursor, WordKind, Work, WriteFailed, Writing, check, decode, fits, has_bytes, nth_of_proof,
+    nth_word, place, same_proof, words_of_proof,
+};
 pub use outcome::{Outcome, status};
 pub use performing::{judge, perform};
 pub use source::{Source, SystemFiles};
