@@ -33,7 +33,9 @@ fn try_row(rt: &(impl Print + AllocGlobal), row: &Row) {
     storing::try_edits(rt, &mut files, row);
     if let Some(mut session) = storing::begun(rt, files, row) {
         asking::try_questions(rt, &session, row);
+        refusing::report_all_refused(rt, &session);
         editing::try_edits(rt, &mut session, row);
+        refusing::report_all_refused(rt, &session);
         mem::forget(session);
     }
     scripts::try_script(rt, row);

@@ -69,7 +69,7 @@ fn begin_nowhere(rt: &(impl Print + AllocGlobal), row: &Row) {
     }
 }
 
-/// Asks of a session: refusals of edits, alone and at once, lists for a label that is unknown, and the report.
+/// Asks of a session: refusals of edits, alone and at once, and lists for a label that is unknown.
 fn ask_session(rt: &impl Print, session: &mut Session, row: &Row) {
     let [_, of_no_file, of_no_piece] = edits_of(row);
     do_edit(rt, session, row, &of_no_file, Refused::All);
@@ -77,6 +77,10 @@ fn ask_session(rt: &impl Print, session: &mut Session, row: &Row) {
     do_batch(rt, session, row, &[of_no_file, of_no_piece], Refused::All);
     do_batch(rt, session, row, &[of_no_piece, of_no_file], Refused::All);
     ask_for_no_label(rt, session);
+}
+
+/// Prints the report of a session while all growths are refused.
+pub(crate) fn report_all_refused(rt: &impl Print, session: &Session) {
     refuse(rt, Refused::All);
     show_report(rt, session);
     refuse(rt, Refused::Nothing);

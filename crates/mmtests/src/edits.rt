@@ -136,3 +136,37 @@ fn an_insertion_is_undone(rt: HostRuntime) {
     mem::forget(files);
     assert!(rt; added && undone);
 }
+
+/// The first piece with one constant more.
+const WIDER: &[u8] = b"$c wff |- -> ( ) k $.\n";
+
+/// The logic with this piece.
+const WIDENED: &[u8] =
+    b"$c wff |- -> ( ) k $.\n$v p q $.\nwp $f wff p $.\nwq $f wff q $.\nwi $a wff ( p -> q ) $.\n\
+        ${ mi $e |- p $. ma $e |- ( p -> q ) $. mp $a |- q $. $}\n";
+
+/// Whether a replaced piece is parked, and no more once the edit is settled.
+fn settles_one(files: &mut Files) -> bool {
+    let replacement = Edit::Replace {
+        file: NAME,
+        at: 0,
+        text: WIDER,
+    };
+    match files.edit(&replacement) {
+        Ok(undo) => {
+            let is_parked = files.parked() == 1;
+            files.settle(undo);
+            is_parked && files.parked() == 0 && has(files, 6, WIDENED)
+        }
+        Err(_) => false,
+    }
+}
+
+#[test]
+fn a_replaced_piece_is_parked_until_it_is_settled(rt: HostRuntime) {
+    let mut files = Files::new(rt.alloc());
+    let added = files.add(NAME, LOGIC).is_ok();
+    let settled = settles_one(&mut files);
+    mem::forget(files);
+    assert!(rt; added && settled);
+}

@@ -11,6 +11,8 @@ mod files;
 #[cfg(test)]
 mod machines;
 #[cfg(test)]
+mod sessions;
+#[cfg(test)]
 mod streams;
 #[cfg(test)]
 mod texts;
