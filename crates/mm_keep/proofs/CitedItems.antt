@@ -4,8 +4,8 @@ use Rattle.std.proofs.Common.{◌≡◌, ◌<◌, ◌⊎◌, ℕ, Bool, true, fa
 use Rattle.mm_proof.specs.mm_frame.Language.{Base.{BaseView, AreSaid, said_at, is_proof_at}, Laws.{HasOwnLabels}, Resolving.{IsCarrier}}
 use Rattle.mm_proof.specs.mm_verdict.Language.{CitingLaws.{CitesNameAssertions, CitesTellAssertions, IsCiteOf}, BaseLabels.{setting_at}, DecodingLaws.{CitesRise}, VerdictAt.{cites_at, decoding_at}}
 use Rattle.mm_proof.specs.mm_verdict.Language.Work.{Judgement}
-use Rattle.mm_keep.specs.{Language.{Citations.{CitesItem}, Sessions.{IsAssertion}}, Code.{Cited.{AreRising, HasLabelAmong, IsAmongCited, MarksMore, IsMarked}, KeptSession.{AreChecked, IsCheckedAt}}}
-use Rattle.mm_keep.proofs.CitedWords.{rise_pairs}
+use Rattle.mm_keep.specs.{Language.{Citations.{CitesItem}, Sessions.{IsAssertion}}, Code.{Cited.{AreRising, HasLabelAmong, IsAmongCited, MarksMore, IsMarked}, KeptCheck.{Kept, said}}}
+use Rattle.mm_keep.{specs.Code.KeptSession.{AreChecked, IsCheckedAt, IsKeptAt}, proofs.CitedWords.{rise_pairs}}
 
 -- ---- assertions have labels
 
@@ -72,8 +72,15 @@ none_cited view j k none c = false≢true (sym none ∙ c.theorem)
 
 -- ---- what a check of an item says, as it is kept
 
-pub checked_at : (view : BaseView) (checked : List (Option Judgement)) (j : ℕ) (one : Option Judgement) → AreChecked view checked → j < length view.said → get_or checked j None ≡ one → IsCheckedAt view j one
-checked_at view checked j one are within e = grind (arith, common_steps, are.each j one (slice_get-get_or checked j None (omega (arith, within, are.count)) ∙ ap Some e)) steps 200000
+said_of : (view : BaseView) (j : ℕ) (kept : Kept) → IsKeptAt view j kept → IsCheckedAt view j (said kept)
+said_of view j None is = is
+said_of view j (Some None) is = absurd is
+said_of view j (Some (Some judgement)) is = is
+
+pub checked_at : (view : BaseView) (checked : List Kept) (j : ℕ) (one : Option Judgement) → AreChecked view checked → j < length view.said → said (get_or checked j None) ≡ one → IsCheckedAt view j one
+checked_at view checked j one are within e =
+    let kept = get_or checked j None in
+    subst (IsCheckedAt view j) e (said_of view j kept (are.each j kept (slice_get-get_or checked j None (omega (arith, within, are.count)))))
 
 -- the numbers of its words rise
 pub cites_rising : CitesRise → (view : BaseView) (j : ℕ) (cites : List ℕ) → cites ≡ cites_at view j → AreRising cites

@@ -3,8 +3,9 @@ use Rattle.std.proofs.{Common.{arith, ◌≡◌, ℕ, ◌<◌, true, false, Opti
 use Rattle.std.proofs.lemmas.Option.{none-some, same_Some}
 use Rattle.mm_proof.specs.{mm_store.Language.FilesView.{FilesView}, mm_frame.{Language.{Base.{BaseView, is_proof_at, is_shown_at}, Answering.{IsBaseBy}}, declared.base.Base.{Base}}}
 use Rattle.mm_proof.specs.{Language.{BaseMarks.{ItemMark, MarksView, IsMark, mark_at}, ViewLaws.{SameViewSameVerdict, SameViewSameCites}}, mm_verdict.Language.DecodingLaws.{LabelsAreOwn}}
-use Rattle.mm_proof.specs.mm_verdict.Language.{View.{view_at, AreSameViews}, Work.{Judgement}}
-use Rattle.mm_keep.{specs.{Code.{KeptSession.{IsCheckedAt}, Planned.{AreBothRead, AreMarksBy, HasItemBothRead, IsPlanned, CanCarry}}, Language.Runs.{HasSameView}}, proofs.RunLemmas.{get_front}}
+use Rattle.mm_proof.specs.mm_verdict.Language.View.{view_at, AreSameViews}
+use Rattle.mm_keep.specs.{Code.{KeptCheck.{Kept}, KeptSession.{IsKeptAt}, Planned.{AreBothRead, AreMarksBy, HasItemBothRead, IsPlanned, CanCarry}}, Language.Runs.{HasSameView}}
+use Rattle.mm_keep.proofs.RunLemmas.{get_front}
 
 -- a theorem is a sound item with a label
 pub shown : (base : BaseView) (i : ℕ) → is_proof_at base i ≡ true → is_shown_at base i ≡ true
@@ -35,18 +36,19 @@ pub one_count : (names others : List (List ℕ)) (a b : BaseView) (code : Base) 
 one_count names others a b code is other = sym is.count ∙ ap length (sym is.found ∙ other.found) ∙ other.count
 
 -- what was checked of a theorem holds of one with an equal view
-pub checked_same : SameViewSameVerdict → SameViewSameCites → (base copy : BaseView) (checked : List (Option Judgement)) (plan : List (Option ℕ))
-    (ran : List (Option Judgement)) → CanCarry base copy checked plan ran → (i j : ℕ) → HasSameView base copy i j
-    → (one : Option Judgement) → IsCheckedAt base i one → IsCheckedAt copy j one
+pub checked_same : SameViewSameVerdict → SameViewSameCites → (base copy : BaseView) (checked : List Kept) (plan : List (Option ℕ))
+    (ran : List Kept) → CanCarry base copy checked plan ran → (i j : ℕ) → HasSameView base copy i j
+    → (one : Kept) → IsKeptAt base i one → IsKeptAt copy j one
 checked_same verdicts cites base copy checked plan ran can i j same None is = absurd (false≢true (sym is ∙ same.was))
-checked_same verdicts cites base copy checked plan ran can i j same (Some judgement) is = (
+checked_same verdicts cites base copy checked plan ran can i j same (Some None) is = absurd is
+checked_same verdicts cites base copy checked plan ran can i j same (Some (Some judgement)) is = (
   same.is,
   verdicts base copy i j can.old_said can.new_said same.view judgement.verdict is.1,
   is.2 ∙ cites base copy i j can.old_said can.new_said same.view,
 )
 
 -- what was checked of one theorem is kept by one at most
-pub kept_by_one : LabelsAreOwn → (base copy : BaseView) (checked : List (Option Judgement)) (plan : List (Option ℕ)) (ran : List (Option Judgement))
+pub kept_by_one : LabelsAreOwn → (base copy : BaseView) (checked : List Kept) (plan : List (Option ℕ)) (ran : List Kept)
     → CanCarry base copy checked plan ran → (i j k : ℕ) → HasSameView base copy i j → HasSameView base copy i k → j ≡ k
 kept_by_one own base copy checked plan ran can i j k a b = grind (arith, shown copy j a.is, shown copy k b.is) steps 200000
 

@@ -5,8 +5,9 @@ use Rattle.std.proofs.lemmas.Option.{get_or_from_slice_get, slice_get-get_or, sl
 use Rattle.std.proofs.Common.{◌≡◌, ℕ, ◌<◌, ◌≤◌, ◌+◌, ◌↔◌, ◌⊎◌, true, Option, Some, None, List, [], ◌∷◌, ◌++◌, length, get_or, replicate, sym, ◌∙◌, ap, subst, arith, inl, inr, slice_get, Contains}
 use Rattle.std.{proofs.Math.Seq.{get_or-append_seam}, specs.List.{AllZip}}
 use native.Mathlib.Decide.{dec_lt}
-use Rattle.mm_proof.specs.{mm_frame.Language.Base.{BaseView, is_proof_at}, mm_verdict.Language.{VerdictAt.{AreDoneAt}, Work.{Recorded, Judgement}}}
-use Rattle.mm_keep.specs.{Language.Runs.{AreThose, AreRuns, AreStepsOf, IsRun}, Code.{KeptSession.{AreChecked}, Planned.{ArePlanned, IsRunBy, AreRunBy, RunsBy, AreRecorded, RecordsRun, RecordsIf}}}
+use Rattle.mm_proof.specs.{mm_frame.Language.Base.{BaseView, is_proof_at}, mm_verdict.Language.{VerdictAt.{AreDoneAt}, Work.{Recorded}}}
+use Rattle.mm_keep.specs.{Language.Runs.{AreThose, AreRuns, AreStepsOf, IsRun}, Code.{KeptCheck.{Kept}, KeptSession.{AreChecked}}}
+use Rattle.mm_keep.specs.Code.Planned.{ArePlanned, IsRunBy, AreRunBy, RunsBy, AreRecorded, RecordsRun, RecordsIf}
 
 -- an element is in the list with one more, and is the last or one before it
 pub get_front : {X : Type 0} (xs : List X) (y : X) (k : ℕ) (x : X) → slice_get (xs ++ y ∷ []) k ≡ Some x → ((k < length xs) × (slice_get xs k ≡ Some x)) ⊎ ((k ≡ length xs) × (y ≡ x))
@@ -57,7 +58,7 @@ pub steps_more : (base : BaseView) (runs : List ℕ) (total j count : ℕ) → A
 steps_more base runs total j count steps done = grind (arith, common_steps, zip_push (AreDoneAt base) runs steps.counts j count steps.each done, sum_by_push) steps 200000
 
 -- what one item more gives
-pub run_more : (new : BaseView) (plan : List (Option ℕ)) (checked : List (Option Judgement)) (from : Option ℕ) (one : Option Judgement)
+pub run_more : (new : BaseView) (plan : List (Option ℕ)) (checked : List Kept) (from : Option ℕ) (one : Kept)
     → AreRunBy new plan checked → slice_get plan (length checked) ≡ Some from → IsRunBy new from (length checked) one
     → AreRunBy new plan (checked ++ one ∷ [])
 run_more new plan checked from one ran there is = record {
@@ -105,7 +106,7 @@ begun_runs base plan runs count none those =
     (λ k l. grind (arith, common_steps, slice_get-get_or plan k None, none k (get_or plan k None)) steps 200000)
 
 -- what is checked by it is each theorem
-pub begun_checked : (base : BaseView) (plan : List (Option ℕ)) (checked : List (Option Judgement)) → length plan ≡ length base.said
+pub begun_checked : (base : BaseView) (plan : List (Option ℕ)) (checked : List Kept) → length plan ≡ length base.said
     → ((k : ℕ) (from : Option ℕ) → slice_get plan k ≡ Some from → from ≡ None) → AreRunBy base plan checked → length checked ≡ length plan
     → AreChecked base checked
 begun_checked base plan checked count none ran long = record {

@@ -3,7 +3,7 @@
 ghost use Rattle.std.specs.Prelude.{◌≡◌, ◌<◌, ◌++◌, ◌∷◌, [], true, None, Some, IfOk, IfSome, OnOk, is_some, length};
 ghost use Rattle.std.specs.Prelude.{slice_index, slice_index_or, slice_set};
 ghost use Rattle.std.specs.Option.{option_map};
-ghost use Rattle.mm_keep.specs.Code.KeptCheck.{numbers_in};
+ghost use Rattle.mm_keep.specs.Code.KeptCheck.{numbers_in, said};
 
 use mm_proof::{Checked, Verdict};
 use std::alloc::{AllocError, Global};
@@ -82,14 +82,6 @@ impl Model for KeptCheck {
 }
 
 impl KeptCheck {
-    /// What a check says that finds no fault and nothing that is cited. It takes no memory.
-    pub fn plain(alloc: Global) -> KeptCheck {
-        KeptCheck {
-            verdict: Verdict::Proved,
-            cites: WordNumbers::Short(Vec::new(alloc)),
-        }
-    }
-
     /// What this check said.
     pub fn of(alloc: Global, checked: &Checked) -> Result<KeptCheck, AllocError>
         ensures { IfOk result (λ check. check ≡ checked.now) }
@@ -125,23 +117,26 @@ impl KeptCheck {
 
 /// What the checks of the proofs of items said, by the numbers of all items from 0; nothing if an item is no sound `$p`, as
 /// most are not. What was said is in one list, and for each item there is a number of four bytes.
+///
+/// While an edit is done, an item that keeps what was said before has a free place in the list of the next items. So what is
+/// kept is moved there without memory, once nothing can fail.
 #[derive(Drop)]
 pub struct Checks {
-    /// What was said.
-    checks: Vec<KeptCheck>,
-    /// For each item, 0 if there was no check; else where in the list what was said of it is, counted from 1.
+    /// What was said; nothing at a free place.
+    checks: Vec<Option<KeptCheck>>,
+    /// For each item, 0 if it has no place in the list; else its place, counted from 1.
     places: Vec<u32>,
 }
 
 impl Model for Checks {
-    ghost use Rattle.std.specs.Prelude.{List, Option};
-    ghost use Rattle.mm_proof.specs.mm_verdict.Language.Work.{Judgement};
+    ghost use Rattle.std.specs.Prelude.{List};
+    ghost use Rattle.mm_keep.specs.Code.KeptCheck.{Kept};
 
-    ghost Value = { List (Option Judgement) };
+    ghost Value = { List Kept };
 
-    ghost use Rattle.mm_keep.specs.Code.KeptCheck.{judgements_in, ArePlaces};
+    ghost use Rattle.mm_keep.specs.Code.KeptCheck.{all_kept, ArePlaces};
 
-    ghost view = { judgements_in };
+    ghost view = { all_kept };
 
     ghost invariant = { ArePlaces };
 }
@@ -157,7 +152,7 @@ impl Checks {
         }
     }
 
-    /// No items, with room for this many, of which this many have a check.
+    /// No items, with room for this many, of which this many have a place.
     pub fn with_room(alloc: Global, items: usize, checks: usize) -> Result<Checks, AllocError>
         ensures { IfOk result (λ made. made ≡ []) }
     {
@@ -179,40 +174,48 @@ impl Checks {
         self.places.len()
     }
 
-    /// What the check of the proof of an item said, if there was one.
+    /// What the check of the proof of an item said, if that is kept.
     pub fn get(&self, i: usize) -> Option<&KeptCheck>
         requires { i < length self.now }
-        ensures { option_map (λ check. check.now) result ≡ slice_index_or self.now i None }
+        ensures { option_map (λ check. check.now) result ≡ said (slice_index_or self.now i None) }
     {
         match self.places[i] {
             0 => None,
-            place => self.checks.get(place as usize - 1),
+            place => self.checks.get(place as usize - 1)?.as_ref(),
         }
     }
 
     /// Adds one more item, with what its check said, if there was one. Out of memory changes nothing.
     pub fn push(&mut self, check: Option<KeptCheck>) -> Result<(), AllocError>
         requires { length self.old < 4294967295 }
-        ensures { OnOk result (self.new ≡ self.old ++ check ∷ []) }
+        ensures { OnOk result (self.new ≡ self.old ++ option_map Some check ∷ []) }
     {
         match check {
-            Some(check) => self.add(check),
+            Some(check) => self.add(Some(check)),
             None => self.pass(),
         }
     }
 
-    /// Adds one more item, whose check said this. Out of memory changes nothing.
-    fn add(&mut self, check: KeptCheck) -> Result<(), AllocError>
+    /// Adds one more item, with a free place. Out of memory changes nothing.
+    pub fn leave(&mut self) -> Result<(), AllocError>
         requires { length self.old < 4294967295 }
-        ensures { OnOk result (self.new ≡ self.old ++ Some check ∷ []) }
+        ensures { OnOk result (self.new ≡ self.old ++ Some None ∷ []) }
+    {
+        self.add(None)
+    }
+
+    /// Adds one more item, with a place that has this. Out of memory changes nothing.
+    fn add(&mut self, place: Option<KeptCheck>) -> Result<(), AllocError>
+        requires { length self.old < 4294967295 }
+        ensures { OnOk result (self.new ≡ self.old ++ Some place ∷ []) }
     {
         self.checks.reserve(1)?;
         self.places.push(self.checks.len() as u32 + 1)?;
-        self.checks.push(check).unwrap();
+        self.checks.push(place).unwrap();
         Ok(())
     }
 
-    /// Adds one more item, which has no check. Out of memory changes nothing.
+    /// Adds one more item, which has no place. Out of memory changes nothing.
     fn pass(&mut self) -> Result<(), AllocError>
         ensures { OnOk result (self.new ≡ self.old ++ None ∷ []) }
     {
@@ -220,7 +223,7 @@ impl Checks {
         Ok(())
     }
 
-    /// Exchanges what the check of an item said for what the check of an item of others said.
+    /// Exchanges what the place of an item has for what the place of an item of others has.
     pub fn exchange(&mut self, i: usize, others: &mut Checks, j: usize)
         requires own { is_some (slice_index_or self.old i None) ≡ true }
         requires other { is_some (slice_index_or others.old j None) ≡ true }

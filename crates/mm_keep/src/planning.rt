@@ -6,7 +6,7 @@ ghost use Rattle.mm_proof.specs.mm_frame.Language.Answering.{IsBase};
 ghost use Rattle.mm_proof.specs.mm_verdict.Language.ReadIn.{IsReadIn};
 ghost use Rattle.mm_keep.specs.Code.KeptPlan.{number_planned};
 ghost use Rattle.mm_keep.specs.Code.KeptSession.{AreChecked, IsCheckedAt};
-ghost use Rattle.mm_keep.specs.Code.Planned.{AreBothRead, AreMarksBy, ArePlanned, AreRecorded, AreRunBy, CanBeCarried, CanCarry};
+ghost use Rattle.mm_keep.specs.Code.Planned.{AddsOne, AreBothRead, AreMarksBy, ArePlanned, AreRecorded, AreRunBy, CanBeCarried, CanCarry};
 ghost use Rattle.mm_keep.specs.Code.Planned.{HasItemBothRead, HasItemRead, IsPlanned, IsRunBy, RecordsIf};
 
 use crate::kept::{Checks, KeptCheck};
@@ -108,29 +108,31 @@ fn run_one(
     }
 }
 
-/// What a check of the item with this number says, if it is a sound `$p` that keeps nothing. If it keeps something, this
-/// only holds the place for that.
+/// Adds what a check of the item with this number says, if it is a sound `$p` that keeps nothing. If it keeps something, it
+/// gets a free place for that.
 fn run_of(
     alloc: Global,
     source: Source<'_>,
     checker: &mut Checker<'_>,
     j: usize,
     from: Option<usize>,
+    checked: &mut Checks,
     work: &mut Work,
-) -> Result<Option<KeptCheck>, AllocError>
+) -> Result<(), AllocError>
     requires item { HasItemRead source.names.now source.files.now source.base.now j }
     requires base { checker.old ≡ source.base.now }
+    requires few { length checked.old < 4294967295 }
     requires room { 0 < work.old.room }
     requires steps { work.old.steps + 4294967295 < 2 ^ 64 }
-    ensures one { IfOk result (λ one. (view : BaseView) → IsReadIn source.entry.names.now source.entry.files.now source.entry.base.now view
-        → IsRunBy view from j one) }
+    ensures one { OnOk result (AddsOne checked.old checked.new (λ one. (view : BaseView)
+        → IsReadIn source.entry.names.now source.entry.files.now source.entry.base.now view → IsRunBy view from j one)) }
     ensures work { OnOk result ((view : BaseView) → IsReadIn source.entry.names.now source.entry.files.now source.entry.base.now view
         → RecordsIf view from j work.old work.new) }
     ensures base { checker.new ≡ checker.old }
 {
     match from {
-        Some(_) => Ok(Some(KeptCheck::plain(alloc))),
-        None => run_one(alloc, source, checker, j, work),
+        Some(_) => checked.leave(),
+        None => checked.push(run_one(alloc, source, checker, j, work)?),
     }
 }
 
@@ -164,7 +166,15 @@ pub fn run_rest(
     let mut work = Work::new(alloc, count)?;
     let mut checker = Checker::new(alloc, base);
     for j in 0..count {
-        checked.push(run_of(alloc, source, &mut checker, j, plan.at(j), &mut work)?)?;
+        run_of(
+            alloc,
+            source,
+            &mut checker,
+            j,
+            plan.at(j),
+            &mut checked,
+            &mut work,
+        )?;
     }
     Ok((checked, work))
 }

@@ -9,7 +9,7 @@ use Rattle.mm_proof.specs.mm_store.Language.FileFacts.{parked_in}
 use Rattle.mm_proof.specs.mm_store.Language.FilesView.{File, FilesView}
 use Rattle.mm_proof.specs.mm_frame.Language.Base.{BaseView, IsOfFiles}
 use Rattle.mm_proof.specs.mm_frame.declared.base.Base.{Base}
-use Rattle.mm_proof.specs.mm_verdict.Language.Work.{Judgement}
+use Rattle.mm_keep.specs.Code.KeptCheck.{Kept}
 use Rattle.mm_keep.specs.Code.KeptSession.{AreChecked}
 use Rattle.mm_keep.specs.Code.Next.{KeepsOrRuns, HasTop, IsBuilt}
 use Rattle.mm_keep.specs.Language.Sessions.{SessionView}
@@ -19,18 +19,18 @@ abbrev pub session_of : FilesView → List ℕ → SessionView
 session_of files top = record { files = files; top = top }
 
 -- the base is that of the files, and there is what a check says of each item
-pub record AreKept (files : FilesView) (top : List ℕ) (names : List (List ℕ)) (code : Base) (checked : List (Option Judgement)) (base : BaseView) : Type 0 where
+pub record AreKept (files : FilesView) (top : List ℕ) (names : List (List ℕ)) (code : Base) (checked : List Kept) (base : BaseView) : Type 0 where
   pub built : IsBuilt names files top code base
   pub checked_is : AreChecked base checked
   pub parked : parked_in files ≡ 0
 
 -- there is a base of the files, and what a check says of each item
-abbrev pub HasKept : FilesView → List ℕ → List (List ℕ) → Base → List (Option Judgement) → Type 0
+abbrev pub HasKept : FilesView → List ℕ → List (List ℕ) → Base → List Kept → Type 0
 HasKept files top names code checked = (base : BaseView) × AreKept files top names code checked base
 
 -- there was such a base of the files before edits, which can be undone and settled
 pub record WereKept
-    (before after : FilesView) (undos : List UndoView) (top : List ℕ) (names : List (List ℕ)) (code : Base) (checked : List (Option Judgement)) : Type 0 where
+    (before after : FilesView) (undos : List UndoView) (top : List ℕ) (names : List (List ℕ)) (code : Base) (checked : List Kept) : Type 0 where
   pub base : BaseView
   pub kept : AreKept before top names code checked base
   pub reading : KeepsReading before after
@@ -39,7 +39,7 @@ pub record WereKept
 
 -- there was one of the files of before, and what a session goes on with is there
 pub record CanTake
-    (before after : FilesView) (undos : List UndoView) (top : List ℕ) (names : List (List ℕ)) (checked : List (Option Judgement)) (next : Next) : Type 0 where
+    (before after : FilesView) (undos : List UndoView) (top : List ℕ) (names : List (List ℕ)) (checked : List Kept) (next : Next) : Type 0 where
   pub spendable : IsSpendable before after undos
   pub parked : parked_in before ≡ 0
   pub old : BaseView
@@ -50,7 +50,7 @@ pub record CanTake
   pub goes_on : KeepsOrRuns old base next.ran
 
 -- this holds of some files of before
-abbrev pub HasTaking : FilesView → List UndoView → List (Option Judgement) → Next → Type 0
+abbrev pub HasTaking : FilesView → List UndoView → List Kept → Next → Type 0
 HasTaking after undos checked next = (before : FilesView) × (top : List ℕ) × (names : List (List ℕ)) × CanTake before after undos top names checked next
 
 -- why edits of a session are not done: one is refused; or out of memory, once file and members of the first are known

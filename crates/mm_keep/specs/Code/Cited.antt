@@ -6,8 +6,8 @@ use Rattle.mm_proof.specs.mm_frame.Language.Base.{BaseView}
 use Rattle.mm_proof.specs.mm_frame.Language.Resolving.{IsCarrier}
 use Rattle.mm_proof.specs.mm_frame.Language.Answering.{IsBase}
 use Rattle.mm_proof.specs.mm_frame.declared.base.Base.{Base}
-use Rattle.mm_proof.specs.mm_verdict.Language.Work.{Judgement}
 use Rattle.mm_keep.specs.Language.Citations.{LeadsTo}
+use Rattle.mm_keep.specs.Code.KeptCheck.{Kept}
 use Rattle.mm_keep.specs.Code.KeptSession.{AreChecked}
 use Rattle.mm_keep.specs.Code.OfFiles.{IsOf}
 
@@ -56,10 +56,10 @@ HasPlaces code words cites count =
     (view : BaseView) × IsBase view code × ((k : ℕ) → HasLabelAmong view words cites (length cites) k → k < count)
 
 -- there are a base of these files and what a check of its theorems says, and of these this holds
-abbrev pub HasChecks : FilesView → Base → List (Option Judgement) → (BaseView → Type 0) → Type 0
+abbrev pub HasChecks : FilesView → Base → List Kept → (BaseView → Type 0) → Type 0
 HasChecks files code checked holds =
     (names : List (List ℕ)) × (view : BaseView) × IsOf names files code view × AreChecked view checked × holds view
 
 -- of each base of these files and what a check of its theorems says this holds
-abbrev pub OfChecks : FilesView → Base → List (Option Judgement) → (BaseView → Type 0) → Type 0
+abbrev pub OfChecks : FilesView → Base → List Kept → (BaseView → Type 0) → Type 0
 OfChecks files code checked holds = (names : List (List ℕ)) (view : BaseView) → IsOf names files code view → AreChecked view checked → holds view

@@ -15,14 +15,23 @@ numbers_in (Long numbers) = numbers.items
 abbrev pub judgement_kept : KeptCheck → Judgement
 judgement_kept check = record { verdict = check.verdict; cites = numbers_in check.cites }
 
--- what the check at a place said: none at place 0, the others counted from 1
-abbrev pub judgement_at : List Judgement → ℕ → Option Judgement
-judgement_at checks zero = None
-judgement_at checks (suc place) = slice_get checks place
+-- what is kept of an item: nothing; or a place, which has what the check of its proof said, or is free for that
+abbrev pub Kept : Type 0
+Kept = Option (Option Judgement)
 
--- what the check of each item said, if there was one
-abbrev pub judgements_in : Inside → List (Option Judgement)
-judgements_in inside = map (judgement_at inside.checks.items) inside.places.items
+-- what the check of its proof said, if that is kept
+abbrev pub said : Kept → Option Judgement
+said None = None
+said (Some place) = place
+
+-- what is kept at a place: nothing at place 0, the others counted from 1
+abbrev pub kept_at : List (Option Judgement) → ℕ → Kept
+kept_at checks zero = None
+kept_at checks (suc place) = slice_get checks place
+
+-- what is kept of each item
+abbrev pub all_kept : Inside → List Kept
+all_kept inside = map (kept_at inside.checks.items) inside.places.items
 
 -- the places of items in a list of this many checks: two items have no place in common but 0
 pub record IsPlaced (places : List ℕ) (count : ℕ) : Type 0 where

@@ -5,6 +5,7 @@ use Rattle.mm_proof.specs.mm_frame.Language.Base.{BaseView, IsOfFiles, is_proof_
 use Rattle.mm_proof.specs.mm_frame.Language.Answering.{IsBaseBy, StandsLater}
 use Rattle.mm_proof.specs.mm_verdict.Language.VerdictAt.{IsVerdictAt, cites_at}
 use Rattle.mm_proof.specs.mm_verdict.Language.Work.{Judgement}
+use Rattle.mm_keep.specs.Code.KeptCheck.{Kept}
 use Rattle.mm_keep.specs.declared.session.Session.TheInside.{Inside}
 use Rattle.mm_keep.specs.Language.Sessions.{SessionView}
 
@@ -13,10 +14,16 @@ abbrev pub IsCheckedAt : BaseView → ℕ → Option Judgement → Type 0
 IsCheckedAt base i None = is_proof_at base i ≡ false
 IsCheckedAt base i (Some judgement) = (is_proof_at base i ≡ true) × IsVerdictAt base i judgement.verdict × (judgement.cites ≡ cites_at base i)
 
--- there is what a check says, of each item
-pub record AreChecked (base : BaseView) (checked : List (Option Judgement)) : Type 0 where
+-- what is kept of the item with this number is what a check of it says; no place is free
+abbrev pub IsKeptAt : BaseView → ℕ → Kept → Type 0
+IsKeptAt base i None = IsCheckedAt base i None
+IsKeptAt base i (Some None) = ⊥
+IsKeptAt base i (Some (Some judgement)) = IsCheckedAt base i (Some judgement)
+
+-- this holds of each item
+pub record AreChecked (base : BaseView) (checked : List Kept) : Type 0 where
   pub count : length checked ≡ length base.said
-  pub each : (i : ℕ) (one : Option Judgement) → slice_get checked i ≡ Some one → IsCheckedAt base i one
+  pub each : (i : ℕ) (one : Kept) → slice_get checked i ≡ Some one → IsKeptAt base i one
 
 abbrev pub session_view : Inside → SessionView
 session_view inside = record { files = inside.files; top = inside.top.items }

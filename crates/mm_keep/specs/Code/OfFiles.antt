@@ -8,10 +8,10 @@ use Rattle.mm_proof.specs.mm_frame.declared.base.Base.{Base}
 use Rattle.mm_proof.specs.mm_verdict.Language.ReadIn.{IsReadIn}
 use Rattle.mm_proof.specs.mm_verdict.Language.ItemLaws.{IsSpotIn}
 use Rattle.mm_proof.specs.mm_verdict.Language.VerdictAt.{IsVerdictAt}
-use Rattle.mm_proof.specs.mm_verdict.Language.Work.{Judgement}
 use Rattle.mm_proof.specs.mm_machine.declared.Spot.{Spot}
 use Rattle.mm_proof.specs.mm_machine.declared.Verdict.{Verdict}
 use Rattle.mm_keep.specs.declared.finding.At.{At}
+use Rattle.mm_keep.specs.Code.KeptCheck.{Kept}
 use Rattle.mm_keep.specs.Code.KeptSession.{AreChecked}
 use Rattle.mm_keep.specs.Language.WordPlaces.{start_of, HasPlace}
 
@@ -37,11 +37,11 @@ HasVerdictOf files code n verdict =
     × IsVerdictAt view n verdict
 
 -- there is what the code's base answers, by some names, and what a check of its theorems says
-abbrev pub HasChecked : FilesView → Base → List (Option Judgement) → Type 0
+abbrev pub HasChecked : FilesView → Base → List Kept → Type 0
 HasChecked files code checked = (names : List (List ℕ)) × (view : BaseView) × IsOf names files code view × AreChecked view checked
 
 -- there is what the code's base answers, and what a check of its theorems says; and it has an item with this number
-abbrev pub HasCheckedItem : FilesView → Base → List (Option Judgement) → ℕ → Type 0
+abbrev pub HasCheckedItem : FilesView → Base → List Kept → ℕ → Type 0
 HasCheckedItem files code checked n =
     (names : List (List ℕ)) × (view : BaseView) × IsOf names files code view × AreChecked view checked × (n < length view.said)
 

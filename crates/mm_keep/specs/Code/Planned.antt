@@ -1,5 +1,5 @@
 -- Which theorems of a new base keep what was checked in an old one, and what the runs of the others come to.
-use Rattle.std.specs.Prelude.{◌≡◌, ◌≤◌, ◌<◌, ◌+◌, ◌⊎◌, ℕ, true, false, Option, Some, None, List, [], ◌∷◌, ◌++◌, is_some, length, slice_get}
+use Rattle.std.specs.Prelude.{◌≡◌, ◌≤◌, ◌<◌, ◌+◌, ◌⊎◌, ℕ, true, false, Option, Some, None, List, [], ◌∷◌, ◌++◌, length, slice_get}
 use Rattle.mm_proof.specs.mm_store.Language.FilesView.{FilesView}
 use Rattle.mm_proof.specs.mm_frame.Language.Base.{BaseView, AreSaid, is_proof_at}
 use Rattle.mm_proof.specs.mm_frame.declared.base.Base.{Base}
@@ -7,8 +7,9 @@ use Rattle.mm_proof.specs.mm_frame.Language.Answering.{IsBaseBy}
 use Rattle.mm_proof.specs.Language.BaseMarks.{MarksView, AreMarks}
 use Rattle.mm_proof.specs.mm_verdict.Language.VerdictAt.{AreDoneAt}
 use Rattle.mm_proof.specs.mm_verdict.Language.ReadIn.{IsReadIn}
-use Rattle.mm_proof.specs.mm_verdict.Language.Work.{Recorded, Judgement}
-use Rattle.mm_keep.specs.Code.KeptSession.{IsCheckedAt, AreChecked}
+use Rattle.mm_proof.specs.mm_verdict.Language.Work.{Recorded}
+use Rattle.mm_keep.specs.Code.KeptCheck.{Kept}
+use Rattle.mm_keep.specs.Code.KeptSession.{IsKeptAt, AreChecked}
 use Rattle.mm_keep.specs.Language.Runs.{HasSameView, HadView, AreThose, AreStepsOf}
 
 -- what is planned for item j of the new base: it keeps what was checked of item i of the old one; or it keeps nothing, for there is none
@@ -22,15 +23,19 @@ pub record ArePlanned (old new : BaseView) (plan : List (Option ℕ)) : Type 0 w
   pub count : length plan ≡ length new.said
   pub each : (j : ℕ) (from : Option ℕ) → slice_get plan j ≡ Some from → IsPlanned old new j from
 
--- what the run of item j gives, by the plan: if it keeps what was checked before, something in whose place that is put
-abbrev pub IsRunBy : BaseView → Option ℕ → ℕ → Option Judgement → Type 0
-IsRunBy new (Some i) j one = is_some one ≡ true
-IsRunBy new None j one = IsCheckedAt new j one
+-- what is kept of item j before anything is carried, by the plan: a free place, if it keeps what was checked before; else what its run says
+abbrev pub IsRunBy : BaseView → Option ℕ → ℕ → Kept → Type 0
+IsRunBy new (Some i) j one = one ≡ Some None
+IsRunBy new None j one = IsKeptAt new j one
+
+-- one more item is added, of which this is kept
+abbrev pub AddsOne : List Kept → List Kept → (Kept → Type 0) → Type 0
+AddsOne before after holds = (one : Kept) × (after ≡ before ++ one ∷ []) × holds one
 
 -- the first items have such results
-pub record AreRunBy (new : BaseView) (plan : List (Option ℕ)) (checked : List (Option Judgement)) : Type 0 where
+pub record AreRunBy (new : BaseView) (plan : List (Option ℕ)) (checked : List Kept) : Type 0 where
   pub within : length checked ≤ length plan
-  pub each : (j : ℕ) (from : Option ℕ) (one : Option Judgement) → slice_get plan j ≡ Some from → slice_get checked j ≡ Some one → IsRunBy new from j one
+  pub each : (j : ℕ) (from : Option ℕ) (one : Kept) → slice_get plan j ≡ Some from → slice_get checked j ≡ Some one → IsRunBy new from j one
 
 -- the item is a sound theorem that keeps nothing
 pub record RunsBy (new : BaseView) (plan : List (Option ℕ)) (j : ℕ) : Type 0 where
@@ -74,7 +79,7 @@ RecordsIf new (Some i) j before after = after ≡ before
 RecordsIf new None j before after = ((is_proof_at new j ≡ true) × RecordsRun new j before after) ⊎ ((is_proof_at new j ≡ false) × (after ≡ before))
 
 -- what there is of two bases before what was checked of the old one is carried to the new one
-pub record CanCarry (base copy : BaseView) (checked : List (Option Judgement)) (plan : List (Option ℕ)) (ran : List (Option Judgement)) : Type 0 where
+pub record CanCarry (base copy : BaseView) (checked : List Kept) (plan : List (Option ℕ)) (ran : List Kept) : Type 0 where
   pub old_said : AreSaid base
   pub new_said : AreSaid copy
   pub planned : ArePlanned base copy plan
@@ -83,5 +88,5 @@ pub record CanCarry (base copy : BaseView) (checked : List (Option Judgement)) (
   pub count : length ran ≡ length plan
 
 -- there are two bases of which what was checked can be carried like this
-abbrev pub CanBeCarried : List (Option Judgement) → List (Option ℕ) → List (Option Judgement) → Type 0
+abbrev pub CanBeCarried : List Kept → List (Option ℕ) → List Kept → Type 0
 CanBeCarried checked plan ran = (base : BaseView) × (copy : BaseView) × CanCarry base copy checked plan ran

@@ -1,6 +1,5 @@
-use Rattle.std.proofs.{lemmas.{Grind.{common_steps}, List.{length_push}, Option.{slice_get-get_or}}, Common.{◌≡◌, ◌+◌, Option, Some, None, List, length, sym, ◌∙◌, ap, subst, arith, slice_get}}
-use Rattle.mm_proof.specs.mm_verdict.Language.Work.{Judgement}
-use Rattle.mm_keep.{specs.Code.Planned.{AreRunBy, IsRunBy}, proofs.RunLemmas.{run_more, recorded_more, takes}}
+use Rattle.std.proofs.{lemmas.{Grind.{common_steps}, List.{length_push}, Option.{slice_get-get_or}}, Common.{◌≡◌, ◌+◌, Some, None, List, length, sym, ◌∙◌, ap, subst, arith, slice_get}}
+use Rattle.mm_keep.{specs.Code.{KeptCheck.{Kept}, Planned.{AreRunBy, IsRunBy}}, proofs.RunLemmas.{run_more, recorded_more, takes}}
 use Rattle.mm_keep.proofs.planning.run_rest.Goals as goal
 
 pub loop-j-preserved : goal.loop-j-preserved
@@ -8,7 +7,7 @@ loop-j-preserved c =
     let j = c.loop-j.j in
     let plan = c.args.plan.now in
     let from = c.at.result in
-    let one = c.in_ok-run_of.field-0 in
+    let added = c.in_ok-run_of.ensures.one in
     let has = c.requires.read in
     let taken = takes has.0 from j c.loop-j.work c.run_of.new.work (c.in_ok-run_of.ensures.work has.0 has.1) in
     let same = c.loop-j.invariant.count in
@@ -16,12 +15,12 @@ loop-j-preserved c =
     let there = slice_get-get_or plan j None (omega (arith, count, has.2, c.loop-j-test.true)) ∙ ap Some (sym c.at.ensures) in
     record {
       base = c.in_ok-run_of.ensures.base ∙ c.loop-j.invariant.base;
-      count = ap length c.in_ok-push.ensures ∙ length_push c.loop-j.checked one ∙ ap (λ n. n + 1) same;
+      count = ap length added.1 ∙ length_push c.loop-j.checked added.0 ∙ ap (λ n. n + 1) same;
       room = omega (arith, taken.1, c.loop-j.invariant.room);
       steps = omega (arith, taken.0, c.loop-j.invariant.steps);
       checked = λ view is.
-          subst (λ (xs : List (Option Judgement)). AreRunBy view plan xs) (sym c.in_ok-push.ensures)
-          (run_more view plan c.loop-j.checked from one (c.loop-j.invariant.checked view is) (ap (slice_get plan) same ∙ there) (subst (λ i. IsRunBy view from i one) (sym same) (c.in_ok-run_of.ensures.one view is)));
+          subst (λ (xs : List Kept). AreRunBy view plan xs) (sym added.1)
+          (run_more view plan c.loop-j.checked from added.0 (c.loop-j.invariant.checked view is) (ap (slice_get plan) same ∙ there) (subst (λ i. IsRunBy view from i added.0) (sym same) (added.2 view is)));
       recorded = λ view is. recorded_more view plan j from c.loop-j.work c.run_of.new.work there (c.in_ok-run_of.ensures.work view is) (c.loop-j.invariant.recorded view is);
     }
 

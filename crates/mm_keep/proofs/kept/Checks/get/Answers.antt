@@ -6,6 +6,3 @@ index-requires c = grind (arith, elements)
 
 pub returns-in-0 : goal.returns-in-0
 returns-in-0 c = grind (arith, elements)
-
-pub returns-in_default : goal.returns-in_default
-returns-in_default c = grind (arith, elements)
