@@ -10,3 +10,4 @@ pub mod LoopLemmas
 pub mod AssertionLemmas
 pub mod ScriptAnswerLemmas
 pub mod HavingLemmas
+pub mod InOrderLemmas
