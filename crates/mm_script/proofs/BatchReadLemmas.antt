@@ -1,11 +1,11 @@
 -- The edits of a batch that are read, one after another.
 use Rattle.std.proofs.Common.{[], ◌≡◌, ℕ, ◌+◌, ◌-◌, ◌<◌, ◌≤◌, Bool, true, false, List, ◌∷◌, ◌++◌, append_assoc, map, length, length-append, drop, replicate, refl, sym, ap, ◌∙◌, subst, arith, Option}
-use Rattle.std.proofs.{Common.{None, inl, inr, IfSome, Contains}, lemmas.{Grind.{common_steps}, List.{append-nil, length-drop, length-map, map-append, take_at, Concat.{flat_map-append}}}}
+use Rattle.std.proofs.{Common.{None, inl, inr, Contains}, lemmas.{Grind.{common_steps}, List.{append-nil, length-drop, length-map, map-append, take_at, Concat.{flat_map-append}}}}
 use Rattle.std.{proofs.lemmas.List.Elements.{Contains-append_left, Contains-append_right, Contains-push, Contains-push_cases}, specs.List.{flat_map}}
 use Rattle.mm_text.specs.Language.Asked.{Asked, edited_text}
 use Rattle.mm_script.specs.declared.{entry.{Complete.{Complete}, EditAt.{EditAt, TheVariants.{Insert, Replace, Delete, Move}}}, input.Input.{Input}, script_lines.LineAt.{LineAt}}
 use Rattle.mm_script.specs.Code.{Batches.{IsBatchRead, IsBatchFront, IsListedRead}, Growing.{InputGrows, IsLineAt, line_bytes}, Stops.{batch_bytes, batch_line}}
-use Rattle.mm_script.specs.Language.Commands.{pending, edit_in, AreEditsIn, IsEditWithin, StopsSo}
+use Rattle.mm_script.specs.Language.Commands.{pending, edit_in, AreEditsIn, IsEditWithin, StopsSo, rest_of_script}
 use Rattle.mm_script.specs.Language.Script.{CutShort, Listed, AreGoodEdits, IsGoodEdit, IsNumber, LastInLine, edit_bytes, edit_line, ended_text, listed_bytes}
 use Rattle.mm_script.proofs.{BatchLemmas.{at_end, batch_more, front_bytes}, EditLemmas.{bytes_grown, fed_line, unfed_line}, GrowLemmas.{grows_not}, StopLemmas.{batch_line_cut}}
 use Rattle.mm_text.specs.Language.Asked as ask
@@ -105,7 +105,7 @@ batch_begun a u line n end is start number says fed unfed within none =
     }
 
 pub batch_line_last : (bytes : List ℕ) (u : Option (List ℕ)) (line : LineAt) (n : ℕ) → IsLineAt bytes u line → line.start ≡ 0 → IsNumber n → line_bytes bytes line ≡ batch_line n → line.fed ≡ false → 0 < n
-    → IfSome u (λ more. StopsSo (bytes ++ more) CutShort)
+    → StopsSo (rest_of_script bytes u) CutShort
 batch_line_last bytes u line n is start number says unfed some =
     let whole : bytes ≡ batch_line n = sym (ap (λ (k : ℕ). drop k bytes) start) ∙ unfed_line bytes u line is unfed ∙ says in
     at_end (λ (xs : List ℕ). StopsSo xs CutShort) bytes u (is.unfed unfed).1 (subst (λ (xs : List ℕ). StopsSo xs CutShort) (sym whole) (batch_line_cut n number some))

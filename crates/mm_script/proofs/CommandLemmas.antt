@@ -1,20 +1,20 @@
 -- Commands that are read, from their lines on.
-use Rattle.std.proofs.Common.{[], ◌≡◌, ◌⊎◌, ℕ, ◌+◌, Bool, true, false, List, ◌∷◌, ◌++◌, append_assoc, length, drop, refl, sym, ap, ◌∙◌, subst, arith, Option, inl, inr, IfSome, length-drop}
+use Rattle.std.proofs.Common.{[], ◌≡◌, ◌⊎◌, ℕ, ◌+◌, Bool, true, false, List, ◌∷◌, ◌++◌, append_assoc, length, drop, refl, sym, ap, ◌∙◌, subst, arith, Option, inl, inr, length-drop}
 use Rattle.std.{proofs.lemmas.{Grind.{common_steps}, List.Folds.{drop_split}}, specs.Io.KnownBytes.{IsAtEnd}}
 use Rattle.mm_script.proofs.{ScriptLemmas.{none_so_far}, StopLemmas.{text_no_entry, bad_line, bad_last, text_cut, text_line_cut, text_bad}, BatchLemmas.{always, at_end}}
 use Rattle.mm_script.{proofs.{BatchReadLemmas.{edits_counted}, EditLemmas.{shifted_is, unfed_line}}, specs.declared.entry.{EditAt.{EditAt}, CommandAt.{CommandAt}, Complete.{Complete}, Part.{Part}}}
 use Rattle.mm_script.specs.{declared.script_lines.LineAt.{LineAt}, Code.{Batches.{IsBatchRead}, Growing.{IsLineAt, IsTextBad, IsTextLine, IsTextShort, line_bytes}, Lines.{SaysLabel}}}
-use Rattle.mm_script.specs.{Code.Stops.{IsBadLine}, Language.Commands.{bytes_of_part, AreEditsIn, IsCommandIn, IsNextCommand, IsWholeOrLast, IsPartWithin, StopsSo, HasNoEntry}}
+use Rattle.mm_script.specs.{Code.Stops.{IsBadLine}, Language.Commands.{bytes_of_part, AreEditsIn, IsCommandIn, IsNextCommand, IsWholeOrLast, IsPartWithin, StopsSo, HasNoEntry, rest_of_script}}
 use Rattle.mm_script.specs.Language.Script.{CutShort, BadLine, Command, Batch, IsGood, IsName, EndsInLine, Listed, behind_line, edit_line, line_of}
 
 all_bytes : (bytes : List ℕ) (start : ℕ) → start ≡ 0 → bytes ≡ drop start bytes
 all_bytes bytes start none = sym (ap (λ (n : ℕ). drop n bytes) none)
 
 -- a line that is that of no command
-pub bad_first : (bytes : List ℕ) (left : Option (List ℕ)) (line : LineAt) → IsLineAt bytes left line → line.start ≡ 0 → IsBadLine (line_bytes bytes line) → IfSome left (λ more. StopsSo (bytes ++ more) BadLine)
+pub bad_first : (bytes : List ℕ) (left : Option (List ℕ)) (line : LineAt) → IsLineAt bytes left line → line.start ≡ 0 → IsBadLine (line_bytes bytes line) → StopsSo (rest_of_script bytes left) BadLine
 bad_first bytes left line is start bad = by line.fed refl
   where
-    by : (fed : Bool) → line.fed ≡ fed → IfSome left (λ more. StopsSo (bytes ++ more) BadLine)
+    by : (fed : Bool) → line.fed ≡ fed → StopsSo (rest_of_script bytes left) BadLine
     by true e =
         let whole = all_bytes bytes line.start start ∙ (grind (arith, common_steps, drop_split bytes line.start line.end is.ordered) steps 200000) in
         always (λ (xs : List ℕ). StopsSo xs BadLine) bytes left (λ (more : List ℕ).
@@ -25,7 +25,7 @@ bad_first bytes left line is start bad = by line.fed refl
         at_end (λ (xs : List ℕ). StopsSo xs BadLine) bytes left (is.unfed e).1 (subst (λ (xs : List ℕ). StopsSo xs BadLine) (sym whole) (bad_last (line_bytes bytes line) bad))
 
 -- an edit whose text is not all there, or followed by another byte
-pub bad_edit : (bytes : List ℕ) (left : Option (List ℕ)) (start : ℕ) → start ≡ 0 → IsTextBad (drop start bytes) → IfSome left (λ more. StopsSo (bytes ++ more) BadLine)
+pub bad_edit : (bytes : List ℕ) (left : Option (List ℕ)) (start : ℕ) → start ≡ 0 → IsTextBad (drop start bytes) → StopsSo (rest_of_script bytes left) BadLine
 bad_edit bytes left start none t =
     let whole = all_bytes bytes start none ∙ t.are in
     always (λ (xs : List ℕ). StopsSo xs BadLine) bytes left (λ (more : List ℕ).
@@ -33,7 +33,7 @@ bad_edit bytes left start none t =
     (sym (ap (λ (xs : List ℕ). xs ++ more) whole ∙ append_assoc (edit_line t.edit) (10 ∷ (t.text ++ t.byte ∷ t.more)) more ∙ ap (λ (xs : List ℕ). edit_line t.edit ++ 10 ∷ xs) (append_assoc t.text (t.byte ∷ t.more) more)))
     (text_bad t.edit t.count t.text (t.more ++ more) t.byte t.has t.is t.other))
 
-pub cut_edit : (bytes : List ℕ) (left : Option (List ℕ)) (start : ℕ) → start ≡ 0 → IsAtEnd left → IsTextShort (drop start bytes) ⊎ IsTextLine (drop start bytes) → IfSome left (λ more. StopsSo (bytes ++ more) CutShort)
+pub cut_edit : (bytes : List ℕ) (left : Option (List ℕ)) (start : ℕ) → start ≡ 0 → IsAtEnd left → IsTextShort (drop start bytes) ⊎ IsTextLine (drop start bytes) → StopsSo (rest_of_script bytes left) CutShort
 cut_edit bytes left start none end (inl t) =
     at_end (λ (xs : List ℕ). StopsSo xs CutShort) bytes left end (subst (λ (xs : List ℕ). StopsSo xs CutShort) (sym (all_bytes bytes start none ∙ t.are)) (text_cut t.edit t.count t.part t.has t.short))
 cut_edit bytes left start none end (inr t) =

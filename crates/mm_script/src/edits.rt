@@ -1,11 +1,11 @@
 //! Reading the edits of a script: the line of each, and its text.
 
-ghost use Rattle.std.specs.Prelude.{◌≡◌, ◌≢◌, ◌≤◌, ◌<◌, ◌+◌, ◌^◌, ◌⊎◌, ◌++◌, true, false, drop, length, Err, IfOk, IfSome, IsErrOf, OnOk};
+ghost use Rattle.std.specs.Prelude.{◌≡◌, ◌≢◌, ◌≤◌, ◌<◌, ◌+◌, ◌^◌, ◌⊎◌, ◌++◌, true, false, drop, length, Err, IfOk, IsErrOf, OnOk};
 ghost use Rattle.std.specs.Io.KnownBytes.{IsAtEnd};
 ghost use Rattle.mm_script.specs.declared.error.ScriptError.TheVariants as errors;
 ghost use Rattle.mm_script.specs.Code.Batches.{EndsBatch, HoldsBatch, IsBatchRead, IsListedRead};
 ghost use Rattle.mm_script.specs.Code.Growing.{InputGrows, IsEditRead, IsLineAt, IsTextBad, IsTextLine, IsTextShort, line_bytes};
-ghost use Rattle.mm_script.specs.Language.Commands.{to_come, pending, HasNoEntry, StopsSo};
+ghost use Rattle.mm_script.specs.Language.Commands.{to_come, pending, HasNoEntry, StopsSo, rest_of_script};
 ghost use Rattle.mm_script.specs.Code.Lines.{SaysEdit};
 ghost use Rattle.mm_script.specs.Code.Stops.{batch_line};
 ghost use Rattle.mm_script.specs.Language.Script.{BadLine, CutShort, IsNumber};
@@ -146,8 +146,8 @@ pub(crate) fn read_batch<R: Read>(
     ensures batch { IfOk result (λ read. IsBatchRead (pending input.new) (unread R.remaining reading.new) count read.found.items read.end read.fed) }
     ensures all { IfOk result (λ read. length read.found.items ≡ count) }
     ensures fewer { OnOk result (to_come input.new reading.new ≤ to_come input.old reading.old) }
-    ensures bad { IsErrOf result errors.BadLine → IfSome (unread R.remaining reading.new) (λ more. StopsSo (pending input.new ++ more) BadLine) }
-    ensures cut { IsErrOf result errors.Cut → IfSome (unread R.remaining reading.new) (λ more. StopsSo (pending input.new ++ more) CutShort) }
+    ensures bad { IsErrOf result errors.BadLine → StopsSo (rest_of_script (pending input.new) (unread R.remaining reading.new)) BadLine }
+    ensures cut { IsErrOf result errors.Cut → StopsSo (rest_of_script (pending input.new) (unread R.remaining reading.new)) CutShort }
     ensures read { IsErrOf result errors.Read → HasNoEntry (pending input.new) }
     ensures failed { IsErrOf result errors.Read → cannot_read reading.new ≡ true }
     ensures told { result ≢ Err errors.Write }

@@ -4,7 +4,7 @@ ghost use Rattle.std.specs.Prelude.{◌≡◌, ◌≢◌, ◌<◌, ◌≤◌, �
 ghost use Rattle.std.specs.Io.KnownBytes.{IsAtEnd};
 ghost use Rattle.mm_text.specs.Language.Asked.{asked};
 ghost use Rattle.mm_script.specs.declared.error.ScriptError.TheVariants as errors;
-ghost use Rattle.mm_script.specs.Language.Commands.{pending, bytes_of_part, edit_in, to_come};
+ghost use Rattle.mm_script.specs.Language.Commands.{pending, bytes_of_part, edit_in, rest_of_script, to_come};
 ghost use Rattle.mm_script.specs.Language.Commands.{HasNoEntry, IsEditWithin, IsNextCommand, IsPartWithin, ReadsOn, StopsSo};
 ghost use Rattle.mm_script.specs.Code.Growing.{InputGrows, IsLineAt};
 ghost use Rattle.mm_script.specs.Code.Stops.{IsOneLine};
@@ -186,8 +186,8 @@ fn read_command<R: Read>(
     ensures grows { InputGrows input.old input.new (unread R.remaining reading.old) (unread R.remaining reading.new) }
     ensures found { IfOk result (IsNextCommand (pending input.new) (unread R.remaining reading.new)) }
     ensures fewer { OnOk result (to_come input.new reading.new ≤ to_come input.old reading.old) }
-    ensures bad { IsErrOf result errors.BadLine → IfSome (unread R.remaining reading.new) (λ more. StopsSo (pending input.new ++ more) BadLine) }
-    ensures cut { IsErrOf result errors.Cut → IfSome (unread R.remaining reading.new) (λ more. StopsSo (pending input.new ++ more) CutShort) }
+    ensures bad { IsErrOf result errors.BadLine → StopsSo (rest_of_script (pending input.new) (unread R.remaining reading.new)) BadLine }
+    ensures cut { IsErrOf result errors.Cut → StopsSo (rest_of_script (pending input.new) (unread R.remaining reading.new)) CutShort }
     ensures read { IsErrOf result errors.Read → HasNoEntry (pending input.new) }
     ensures failed { IsErrOf result errors.Read → cannot_read reading.new ≡ true }
     ensures told { result ≢ Err errors.Write }
@@ -238,8 +238,8 @@ pub fn next_command<R: Read>(
     ensures found { IfOk result (λ next. IfSome next (IsNextCommand (pending input.new) (unread R.remaining reading.new))) }
     ensures none { IfOk result (λ next. next ≡ None → (pending input.new ≡ []) × IsAtEnd (unread R.remaining reading.new)) }
     ensures fewer { OnOk result (to_come input.new reading.new ≤ to_come input.old reading.old) }
-    ensures bad { IsErrOf result errors.BadLine → IfSome (unread R.remaining reading.new) (λ more. StopsSo (pending input.new ++ more) BadLine) }
-    ensures cut { IsErrOf result errors.Cut → IfSome (unread R.remaining reading.new) (λ more. StopsSo (pending input.new ++ more) CutShort) }
+    ensures bad { IsErrOf result errors.BadLine → StopsSo (rest_of_script (pending input.new) (unread R.remaining reading.new)) BadLine }
+    ensures cut { IsErrOf result errors.Cut → StopsSo (rest_of_script (pending input.new) (unread R.remaining reading.new)) CutShort }
     ensures read { IsErrOf result errors.Read → HasNoEntry (pending input.new) }
     ensures failed { IsErrOf result errors.Read → cannot_read reading.new ≡ true }
     ensures told { result ≢ Err errors.Write }

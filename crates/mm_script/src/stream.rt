@@ -3,7 +3,7 @@
 ghost use Rattle.std.specs.Prelude.{◌≡◌, true, false, IsErr, OnOk, OnErr};
 ghost use Rattle.std.specs.Io.KnownBytes.{Keeps};
 
-use std::io::Write;
+use std::io::{BufWriter, Write};
 
 /// A write that did not go through.
 #[derive(Debug, Drop)]
@@ -84,6 +84,34 @@ impl<W: Write> Writing<W> {
         if self.failed() {
             return Err(WriteFailed);
         }
+        self.calls = self.calls.saturating_add(1);
+        match self.inner.flush() {
+            Ok(()) => Ok(()),
+            Err(_) => {
+                self.failed = true;
+                Err(WriteFailed)
+            }
+        }
+    }
+}
+
+impl<W: Write + Drop> Writing<BufWriter<W>> {
+    ghost use Rattle.std.specs.Io.Buffered.{writer_contents};
+    ghost use Rattle.mm_script.specs.Language.Stream.{gone_out, written, has_failed, HasCalled};
+
+    /// Passes on what the buffer has kept back, by one call of its `flush`: then all that is written has gone out.
+    pub fn flush_buffer(&mut self) -> Result<(), WriteFailed>
+        ensures written { Keeps (written (writer_contents W.contents) self.old) (written (writer_contents W.contents) self.new) }
+        ensures out { OnOk result (Keeps (written (writer_contents W.contents) self.old) (gone_out W.contents self.new)) }
+        ensures sound { OnOk result (has_failed self.new ≡ false) }
+        ensures calls { has_failed self.old ≡ false → HasCalled self.old self.new 1 }
+        ensures failed { OnErr result (has_failed self.new ≡ true) }
+        ensures stays { has_failed self.old ≡ true → IsErr result × (self.new ≡ self.old) }
+    {
+        if self.failed {
+            return Err(WriteFailed);
+        }
+        // Of any writer, `flush` does not promise that it keeps nothing back; of a buffer, this does.
         self.calls = self.calls.saturating_add(1);
         match self.inner.flush() {
             Ok(()) => Ok(()),

@@ -1,11 +1,11 @@
 -- How far the edits of a batch are read.
-use Rattle.std.specs.Prelude.{◌≡◌, ◌≤◌, ◌+◌, ℕ, Bool, true, false, Option, List, [], ◌∷◌, ◌++◌, length, take, drop, IfSome}
+use Rattle.std.specs.Prelude.{◌≡◌, ◌≤◌, ◌+◌, ℕ, Bool, true, false, Option, List, [], ◌∷◌, ◌++◌, length, take, drop}
 use Rattle.std.specs.List.{flat_map}
 use Rattle.std.specs.Io.KnownBytes.{IsAtEnd}
 use Rattle.mm_script.specs.declared.entry.Complete.{Complete}
 use Rattle.mm_script.specs.declared.entry.EditAt.{EditAt}
 use Rattle.mm_script.specs.Code.Growing.{HasBlanks, IsEditRead}
-use Rattle.mm_script.specs.Language.Commands.{AreEditsIn, HasNoEntry, StopsSo}
+use Rattle.mm_script.specs.Language.Commands.{AreEditsIn, HasNoEntry, StopsSo, rest_of_script}
 use Rattle.mm_script.specs.Code.Stops.{AreListed, batch_line}
 use Rattle.mm_script.specs.Language.Script.{End, Listed, listed_bytes, IsNumber, AreGoodEdits, LastInLine}
 
@@ -18,7 +18,7 @@ pub record IsBatchFront (bytes : List ℕ) (n : ℕ) (front : List Listed) (at :
 -- whatever the batch is of which this many edits are missing, the script has this end
 abbrev pub EndsBatch : ℕ → ℕ → List ℕ → List ℕ → Option (List ℕ) → End → Type 0
 EndsBatch from missing old new left end = (n : ℕ) (front : List Listed) → IsBatchFront old n front from → n ≡ length front + missing
-    → IfSome left (λ more. StopsSo (new ++ more) end)
+    → StopsSo (rest_of_script new left) end
 
 -- whatever the batch is of which this many edits are missing, the bytes are not whole
 abbrev pub HoldsBatch : ℕ → ℕ → List ℕ → List ℕ → Type 0

@@ -1,5 +1,5 @@
 -- The next command of a script, in the pending bytes: those that are read and not answered yet.
-use Rattle.std.specs.Prelude.{◌≡◌, ◌≤◌, ◌+◌, ◌*◌, ◌⊎◌, ℕ, true, false, Option, List, Contains, [], ◌∷◌, ◌++◌, length, map, drop, replicate, slice_range}
+use Rattle.std.specs.Prelude.{◌≡◌, ◌≤◌, ◌+◌, ◌*◌, ◌⊎◌, ℕ, true, false, Option, unwrap_or, List, Contains, [], ◌∷◌, ◌++◌, length, map, drop, replicate, slice_range}
 use Rattle.std.specs.Io.KnownBytes.{Consumes, IsAtEnd}
 use Rattle.mm_text.specs.Language.Asked.{Asked, Insert, Replace, Delete, Move}
 use Rattle.mm_script.specs.declared.entry.Part.{Part}
@@ -17,6 +17,10 @@ use Rattle.mm_script.specs.Language.Stream.{calls_left}
 -- the pending bytes
 abbrev pub pending : Input → List ℕ
 pending input = drop input.at input.bytes.items
+
+-- what is left of a script: the pending bytes, and then what is left to be read, if that can be seen
+abbrev pub rest_of_script : List ℕ → Option (List ℕ) → List ℕ
+rest_of_script pending left = pending ++ unwrap_or left []
 
 -- a bound on the steps to come: a step is a read call or a passed byte, and a call brings at most 4,096 bytes
 abbrev pub to_come : {R : Type 0} → Input → Reading R → ℕ

@@ -1,5 +1,7 @@
 -- What a writer that remembers its failure has written, and what such a reader has left.
 use Rattle.std.specs.Prelude.{◌≡◌, ◌≤◌, ◌<◌, ◌⊎◌, ◌+◌, ℕ, min, Bool, true, Option, List, Result, OnOk, OnErr, length, take}
+use Rattle.std.specs.declared.io.buffered.BufWriter.{BufWriter}
+use Rattle.std.specs.Io.Buffered.{writer_inner}
 use Rattle.std.specs.Io.KnownBytes.{Appends}
 use Rattle.mm_script.specs.declared.read_stream.Reading.{Reading}
 use Rattle.mm_script.specs.declared.stream.Writing.{Writing}
@@ -11,6 +13,10 @@ written contents writing = contents writing.inner
 -- a write has failed
 abbrev pub has_failed : {W : Type 0} → Writing W → Bool
 has_failed writing = writing.failed
+
+-- what has gone out through a buffer, if that can be seen: what is written, but for what the buffer keeps back
+abbrev pub gone_out : {W A : Type 0} → (W → Option (List ℕ)) → Writing (BufWriter W A) → Option (List ℕ)
+gone_out contents writing = contents (writer_inner writing.inner)
 
 -- what is written, if it can be seen, grows by some of the first of these bytes
 pub record AppendsPart (old new : Option (List ℕ)) (bytes : List ℕ) : Type 0 where
