@@ -1,6 +1,6 @@
 -- Batches whose edits are not all read, or that stop.
-use Rattle.std.proofs.Common.{[], ◌≡◌, ◌≢◌, ◌⊎◌, inl, inr, ℕ, ◌+◌, ◌-◌, ◌<◌, ◌≤◌, Bool, true, false, List, ◌∷◌, ◌++◌, append_assoc, length, drop, refl, sym, ap, ◌∙◌, subst, arith, Option, Some, None, unwrap_or, append-nil}
-use Rattle.std.{proofs.{lemmas.{Grind.{common_steps}, List.{length-drop, length-take, take-append-drop, take-append-le, drop_all}}}, specs.Io.KnownBytes.{IsAtEnd}}
+use Rattle.std.proofs.Common.{[], ◌≡◌, ◌≢◌, ◌⊎◌, inl, inr, ℕ, ◌+◌, ◌-◌, ◌<◌, ◌≤◌, Bool, true, false, List, ◌∷◌, ◌++◌, append_assoc, length, drop, refl, sym, ap, ◌∙◌, subst, arith, Option, Some, None}
+use Rattle.std.{proofs.{Common.{unwrap_or, append-nil}, lemmas.{Grind.{common_steps}, List.{length-drop, length-take, take-append-drop, take-append-le, drop_all}}}, specs.Io.KnownBytes.{IsAtEnd}}
 use Rattle.mm_script.proofs.ScriptLemmas.{none_so_far}
 use Rattle.mm_script.proofs.StopLemmas.{text_entry, no_feed_entry, batch_cut, batch_bad_line, batch_bad_last, batch_text_cut, batch_text_line_cut, batch_text_bad, batch_edit_cut}
 use Rattle.mm_script.{proofs.{EditLemmas.{fed_line, unfed_line}, GrowLemmas.{grows_not}}, specs.{declared.{input.Input.{Input}, script_lines.LineAt.{LineAt}}, Code.Batches.{IsBatchFront}}}

@@ -1,6 +1,6 @@
 use Rattle.std.proofs.{lemmas.Grind.{common_steps}, Common.{◌≡◌, ◌<◌, ◌∙◌, ap, arith, refl, List, ℕ, codes, slice_range}}
-use Rattle.mm_script.specs.{declared.{line.CommandLine.{CommandLine}, script_lines.LineAt.{LineAt}}, Code.{Growing.{line_bytes}, Lines.{SaysLine}, Stops.{IsBadLine}}, Language.{Commands.{pending}, Stream.{unread}}}
-use Rattle.mm_script.{specs.Language.Script.{Report, Verdict, Axioms, Cites, Users}, proofs.{BatchLemmas.{line_some}, GrowLemmas.{same_error}}}
+use Rattle.mm_script.specs.{declared.{line.CommandLine.{CommandLine}, script_lines.LineAt.{LineAt}}, Code.{Growing.{line_bytes}, Lines.{SaysLine}, Stops.{IsBadLine}}, Language.Commands.{pending}}
+use Rattle.mm_script.{specs.Language.{Stream.{unread}, Script.{Report, Verdict, Axioms, Cites, Users}}, proofs.{BatchLemmas.{line_some}, GrowLemmas.{same_error}}}
 use Rattle.mm_script.proofs.CommandLemmas.{bad_first, bad_edit, cut_edit, held_edit, batch_next, label_next, line_next}
 use Rattle.mm_script.proofs.entry.read_command.Goals as goal
 
@@ -23,7 +23,8 @@ returns-in_default-clause-bad g c = λ cut.
 
 pub returns-in_err-read-in-Change-clause-bad : goal.returns-in_err-read-in-Change-clause-bad
 returns-in_err-read-in-Change-clause-bad g c = λ bad.
-    bad_edit (pending c.read_edit.new.input) (unread g.R.Read.remaining c.read_edit.new.reading) c.args.line.start c.requires.start (c.in_err-read-in-Change.ensures.bad (same_error c.from_residual.result c.in_err-read-in-Change.field-0.0 _ c.from_residual.ensures.1 bad))
+    bad_edit (pending c.read_edit.new.input) (unread g.R.Read.remaining c.read_edit.new.reading) c.args.line.start c.requires.start
+    (c.in_err-read-in-Change.ensures.bad (same_error c.from_residual.result c.in_err-read-in-Change.field-0.0 _ c.from_residual.ensures.1 bad))
 
 pub returns-in_err-read-in-Change-clause-cut : goal.returns-in_err-read-in-Change-clause-cut
 returns-in_err-read-in-Change-clause-cut g c = λ cut.
