@@ -1,9 +1,9 @@
 -- A script that is answered command by command.
-use Rattle.std.proofs.Common.{arith, ◌≡◌, ℕ, zero, suc, true, Option, Some, None, List, [], ◌∷◌, ◌++◌, inl, inr, drop, take, replicate, refl, sym, ap, ◌∙◌, subst, append_assoc, append-nil, ◌≢◌}
-use Rattle.std.{proofs.{Common.{Result, Err, IfErr, IfSome, IsErrOf}, lemmas.Grind.{common_steps}, KnownBytes.{Appends-nil, Appends-trans, Consumes-nil, Consumes-trans}}, specs.Result.{IsErrAnd}}
+use Rattle.std.proofs.Common.{arith, ◌≡◌, ℕ, zero, suc, true, Option, Some, None, unwrap_or, List, [], ◌∷◌, ◌++◌, inl, inr, drop, take, replicate, refl, sym, ap, ◌∙◌, subst, append_assoc, append-nil}
+use Rattle.std.{proofs.{Common.{◌≢◌, Result, Err, IfErr, IfSome, IsErrOf}, lemmas.Grind.{common_steps}, KnownBytes.{Appends-nil, Appends-trans, Consumes-nil, Consumes-trans}}, specs.Result.{IsErrAnd}}
 use Rattle.std.specs.Io.KnownBytes.{Consumes, IsAtEnd}
 use Rattle.mm_script.specs.declared.{error.ScriptError.{ScriptError}, input.Input.{Input}, entry.{CommandAt.{CommandAt}, Complete.{Complete}}, stream.Writing.{Writing}, read_stream.Reading.{Reading}}
-use Rattle.mm_script.specs.Language.Commands.{pending, ReadsOn, IsNextCommand, IsWholeCommand, IsLast, IsWholeOrLast, HasNoEntry, StopsSo}
+use Rattle.mm_script.specs.Language.Commands.{pending, ReadsOn, IsNextCommand, IsWholeCommand, IsLast, IsWholeOrLast, HasNoEntry, StopsSo, rest_of_script}
 use Rattle.mm_script.specs.Language.Script.{Command, End, Done, CutShort, BadLine, Entry, Blank, Given, AreGood, IsGood, AreRead, IsLongestReading, LacksFeed, entries_bytes, command_bytes}
 use Rattle.mm_script.specs.Language.{Script.{commands_of}, Stream.{cannot_read, unread, written}, ReadingLaws.{CommandsLeaveNothing, ReadingsJoin}}
 use Rattle.mm_keep.specs.Language.Sessions.{SessionView}
@@ -121,76 +121,82 @@ module _ (joins : ReadingsJoin) (done : CommandsLeaveNothing) (old session : Ses
     rest = refl;
   }
 
-  -- if nothing is left, the script is what was read
-  pub all_read : (script bytes : List ℕ) → Consumes (Some script) left bytes → IsAtEnd left → script ≡ bytes
-  all_read script bytes consumes at_end = grind (arith, common_steps, append-nil bytes) steps 200000
+  -- what is read, and what is left after it, is the script
+  script_is : (whole : Option (List ℕ)) (bytes : List ℕ) → Consumes whole left bytes → IfSome whole (λ script. rest_of_script bytes left ≡ script)
+  script_is None bytes consumes = tt
+  script_is (Some script) bytes consumes = by left consumes
+    where
+      by : (more : Option (List ℕ)) → Consumes (Some script) more bytes → rest_of_script bytes more ≡ script
+      by None c = absurd c
+      by (Some rest) c = sym c
+
+  -- if nothing is left, that is what is read
+  ended_there : (bytes : List ℕ) → IsAtEnd left → bytes ≡ rest_of_script bytes left
+  ended_there bytes at_end = grind (arith, common_steps, append-nil bytes) steps 200000
 
   -- ---- where the script ends
 
   -- the last command, whose line has no line feed, is answered
   pub last_answered : (new : SessionView) (now : Option (List ℕ)) (pend : List ℕ) (command : Command) (end : ℕ) → IsGood command → IsLast pend left command end
-      → IsAnswered session new command after now → HasAnswered old session all left before after pend → IfSome all (λ script. AnswersScript old new script Done before now)
-  last_answered new now pend command end good last one so = by all so.first.consumes
-    where
-      by : (whole : Option (List ℕ)) → Consumes whole left so.first.bytes → IfSome whole (λ script. AnswersScript old new script Done before now)
-      by None c = tt
-      by (Some script) c =
-          let reading = last_read pend command end so good last in
-          record {
-            answers = so.first.answers ++ one.answer;
-            is = record {
-              entries = so.first.entries ++ Given command ∷ [];
-              rest = [];
-              reading = subst (λ bytes. IsLongestReading bytes (so.first.entries ++ Given command ∷ []) []) (sym (all_read script so.first.bytes c last.at_end)) reading;
-              answered = one_more old session new so.first.entries command so.first.answers one.answer so.first.answered one.is;
-              ends = refl;
-            };
-            out = Appends-trans before after now so.first.answers one.answer so.first.out one.out;
-          }
+      → IsAnswered session new command after now → HasAnswered old session all left before after pend → AnswersScript old new all Done before now
+  last_answered new now pend command end good last one so =
+      let entries = so.first.entries ++ Given command ∷ [] in
+      record {
+        script = rest_of_script so.first.bytes left;
+        is_script = script_is all so.first.bytes so.first.consumes;
+        answers = so.first.answers ++ one.answer;
+        is = record {
+          entries = entries;
+          rest = [];
+          reading = subst (λ bytes. IsLongestReading bytes entries []) (ended_there so.first.bytes last.at_end) (last_read pend command end so good last);
+          answered = one_more old session new so.first.entries command so.first.answers one.answer so.first.answered one.is;
+          ends = refl;
+        };
+        out = Appends-trans before after now so.first.answers one.answer so.first.out one.out;
+      }
 
   -- nothing is left
-  pub done_answered : (pend : List ℕ) → pend ≡ [] → IsAtEnd left → HasAnswered old session all left before after pend → IfSome all (λ script. AnswersScript old session script Done before after)
-  done_answered pend none at_end so = by all so.first.consumes
-    where
-      by : (whole : Option (List ℕ)) → Consumes whole left so.first.bytes → IfSome whole (λ script. AnswersScript old session script Done before after)
-      by None c = tt
-      by (Some script) c =
-          let are = subst (λ rest. AreRead so.first.bytes so.first.entries rest) none (read_as pend so) in
-          record {
-            answers = so.first.answers;
-            is = record {
-              entries = so.first.entries;
-              rest = [];
-              reading = subst (λ bytes. IsLongestReading bytes so.first.entries []) (sym (all_read script so.first.bytes c at_end)) (done so.first.bytes so.first.entries (record { good = are.good; joined = inl are.joined }));
-              answered = so.first.answered;
-              ends = refl;
-            };
-            out = so.first.out;
-          }
+  pub done_answered : (pend : List ℕ) → pend ≡ [] → IsAtEnd left → HasAnswered old session all left before after pend → AnswersScript old session all Done before after
+  done_answered pend none at_end so =
+      let are = subst (λ rest. AreRead so.first.bytes so.first.entries rest) none (read_as pend so) in
+      let reading = done so.first.bytes so.first.entries (record { good = are.good; joined = inl are.joined }) in
+      record {
+        script = rest_of_script so.first.bytes left;
+        is_script = script_is all so.first.bytes so.first.consumes;
+        answers = so.first.answers;
+        is = record {
+          entries = so.first.entries;
+          rest = [];
+          reading = subst (λ bytes. IsLongestReading bytes so.first.entries []) (ended_there so.first.bytes at_end) reading;
+          answered = so.first.answered;
+          ends = refl;
+        };
+        out = so.first.out;
+      }
 
   -- it stops before the bytes that are pending
-  pub stop_answered : (pend : List ℕ) (end : End) → IfSome left (λ more. StopsSo (pend ++ more) end) → HasAnswered old session all left before after pend
-      → IfSome all (λ script. AnswersScript old session script end before after)
-  stop_answered pend end stops so = by all left so.first.consumes stops
-    where
-      by : (whole more : Option (List ℕ)) → Consumes whole more so.first.bytes → IfSome more (λ rest. StopsSo (pend ++ rest) end) → IfSome whole (λ script. AnswersScript old session script end before after)
-      by None more c s = tt
-      by (Some script) None c s = absurd c
-      by (Some script) (Some rest) c s =
-          let entries = so.first.entries in
-          let joined : script ≡ entries_bytes entries ++ (pend ++ rest) = c ∙ ap (λ bytes. bytes ++ rest) (read_as pend so).joined ∙ append_assoc (entries_bytes entries) pend rest in
-          let reading = joins.reading script entries [] (pend ++ rest) (pend ++ rest) (record { good = so.first.are.good; joined = joined }) s.reading in
-          record {
-            answers = so.first.answers;
-            is = record {
-              entries = entries;
-              rest = pend ++ rest;
-              reading = subst (λ (all : List Entry). IsLongestReading script all (pend ++ rest)) (append-nil entries) reading;
-              answered = so.first.answered;
-              ends = s.ends;
-            };
-            out = so.first.out;
-          }
+  pub stop_answered : (pend : List ℕ) (end : End) → StopsSo (rest_of_script pend left) end → HasAnswered old session all left before after pend
+      → AnswersScript old session all end before after
+  stop_answered pend end stops so =
+      let entries = so.first.entries in
+      let script = rest_of_script so.first.bytes left in
+      let rest = rest_of_script pend left in
+      let more = unwrap_or left [] in
+      let joined : script ≡ entries_bytes entries ++ rest = ap (λ bytes. bytes ++ more) (read_as pend so).joined ∙ append_assoc (entries_bytes entries) pend more in
+      let reading = joins.reading script entries [] rest rest (record { good = so.first.are.good; joined = joined }) stops.reading in
+      record {
+        script = script;
+        is_script = script_is all so.first.bytes so.first.consumes;
+        answers = so.first.answers;
+        is = record {
+          entries = entries;
+          rest = rest;
+          reading = subst (λ (joined : List Entry). IsLongestReading script joined rest) (append-nil entries) reading;
+          answered = so.first.answered;
+          ends = stops.ends;
+        };
+        out = so.first.out;
+      }
 
   -- a read has failed
   pub read_answered : (pend : List ℕ) → HasNoEntry pend → HasAnswered old session all left before after pend → AnswersRead old session all left before after
@@ -254,8 +260,8 @@ module _ {R W : Type 0} (joins : ReadingsJoin) (done : CommandsLeaveNothing) (re
     (begun session : SessionView) (all before : Option (List ℕ)) (now : Input) (left : Reading R) (a : Writing W) where
   -- no command is read
   pub next_stops : {T : Type 0} (r : Result T ScriptError) → HasAnswered begun session all (unread remaining left) before (written contents a) (pending now)
-      → (IsErrOf r errors.BadLine → IfSome (unread remaining left) (λ more. StopsSo (pending now ++ more) BadLine))
-      → (IsErrOf r errors.Cut → IfSome (unread remaining left) (λ more. StopsSo (pending now ++ more) CutShort))
+      → (IsErrOf r errors.BadLine → StopsSo (rest_of_script (pending now) (unread remaining left)) BadLine)
+      → (IsErrOf r errors.Cut → StopsSo (rest_of_script (pending now) (unread remaining left)) CutShort)
       → (IsErrOf r errors.Read → HasNoEntry (pending now)) → (IsErrOf r errors.Read → cannot_read left ≡ true) → (r ≢ Err errors.Write)
       → (e : ScriptError) → r ≡ Err e → StopsAnswering remaining contents begun session all left before a e
   next_stops r so bad cut read failed told errors.BadLine is = stop_answered joins done begun session all (unread remaining left) before (written contents a) (pending now) BadLine (bad is) so

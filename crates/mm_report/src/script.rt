@@ -1,6 +1,6 @@
 //! Scripts: the commands that are put to a session, and their answers.
 
-ghost use Rattle.std.specs.Prelude.{◌≡◌, ◌≤◌, ◌+◌, ℕ, List, Option, true, OnOk, IfErr, IfOk, IfSome, IsErrOf};
+ghost use Rattle.std.specs.Prelude.{◌≡◌, ◌≤◌, ◌+◌, ℕ, List, Option, true, OnOk, IfErr, IfOk, IsErrOf};
 ghost use Rattle.mm_keep.specs.Language.Sessions.{SessionView};
 ghost use Rattle.mm_report.specs.Code.Answered.{HasAnswered, AnswersSoFar, StopsAnswering};
 ghost use Rattle.mm_script.specs.Language.Commands.{to_come, pending};
@@ -65,12 +65,12 @@ pub fn run_script<R: Read, W: Write>(
     reading: &mut Reading<R>,
     writing: &mut Writing<W>,
 ) -> Result<(), ScriptError>
-    ensures done { OnOk result (IfSome (unread R.remaining reading.old) (λ script.
-        AnswersScript session.old session.new script Done (written W.contents writing.old) (written W.contents writing.new))) }
-    ensures bad { IsErrOf result errors.BadLine → IfSome (unread R.remaining reading.old) (λ script.
-        AnswersScript session.old session.new script BadLine (written W.contents writing.old) (written W.contents writing.new)) }
-    ensures cut { IsErrOf result errors.Cut → IfSome (unread R.remaining reading.old) (λ script.
-        AnswersScript session.old session.new script CutShort (written W.contents writing.old) (written W.contents writing.new)) }
+    ensures done { OnOk result (AnswersScript session.old session.new (unread R.remaining reading.old) Done
+        (written W.contents writing.old) (written W.contents writing.new)) }
+    ensures bad { IsErrOf result errors.BadLine → AnswersScript session.old session.new (unread R.remaining reading.old) BadLine
+        (written W.contents writing.old) (written W.contents writing.new) }
+    ensures cut { IsErrOf result errors.Cut → AnswersScript session.old session.new (unread R.remaining reading.old) CutShort
+        (written W.contents writing.old) (written W.contents writing.new) }
     ensures read { IsErrOf result errors.Read → AnswersRead session.old session.new (unread R.remaining reading.old) (unread R.remaining reading.new)
         (written W.contents writing.old) (written W.contents writing.new) }
     ensures read_failed { IsErrOf result errors.Read → cannot_read reading.new ≡ true }

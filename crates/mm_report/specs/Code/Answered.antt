@@ -1,5 +1,5 @@
 -- How far a command of a script is answered, and how far a script is.
-use Rattle.std.specs.Prelude.{◌≡◌, ◌≤◌, ◌++◌, ℕ, true, false, Bool, Option, List, [], Result, OnOk, IfErr, IfSome, length, unwrap_or, codes}
+use Rattle.std.specs.Prelude.{◌≡◌, ◌≤◌, ◌++◌, ℕ, true, false, Bool, Option, List, [], Result, OnOk, IfErr, length, unwrap_or, codes}
 use Rattle.std.specs.List.{flat_map}
 use Rattle.std.specs.Io.KnownBytes.{Appends}
 use Rattle.mm_keep.specs.mm_store.declared.edit.EditError.{EditError}
@@ -89,15 +89,15 @@ pub record HasAnswered (old new : SessionView) (unread left before after : Optio
 -- if more may follow, the first commands are answered; else the whole script is
 abbrev pub AnswersSoFar : SessionView → SessionView → Option (List ℕ) → Option (List ℕ) → Option (List ℕ) → Option (List ℕ) → List ℕ → Bool → Type 0
 AnswersSoFar old new all left before after pending true = HasAnswered old new all left before after pending
-AnswersSoFar old new all left before after pending false = IfSome all (λ script. AnswersScript old new script Done before after)
+AnswersSoFar old new all left before after pending false = AnswersScript old new all Done before after
 
 -- why a script is not answered to its end, and how far it is
 abbrev pub StopsAnswering : {R W : Type 0} → (R → Option (List ℕ)) → (W → Option (List ℕ)) → SessionView → SessionView → Option (List ℕ) → Reading R
     → Option (List ℕ) → Writing W → ScriptError → Type 0
 StopsAnswering remaining contents old new all reading before writing errors.BadLine =
-    IfSome all (λ script. AnswersScript old new script BadLine before (written contents writing))
+    AnswersScript old new all BadLine before (written contents writing)
 StopsAnswering remaining contents old new all reading before writing errors.Cut =
-    IfSome all (λ script. AnswersScript old new script CutShort before (written contents writing))
+    AnswersScript old new all CutShort before (written contents writing)
 StopsAnswering remaining contents old new all reading before writing errors.Read =
     AnswersRead old new all (unread remaining reading) before (written contents writing) × (cannot_read reading ≡ true)
 StopsAnswering remaining contents old new all reading before writing errors.Write =

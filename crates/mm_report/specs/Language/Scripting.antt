@@ -1,12 +1,14 @@
 -- What a call that reads a script and writes its answers has done, wherever it ends.
-use Rattle.std.specs.Prelude.{◌⊎◌, ℕ, Option, List, [], ◌∷◌, ◌++◌, take}
+use Rattle.std.specs.Prelude.{◌≡◌, ◌⊎◌, ℕ, Option, IfSome, List, [], ◌∷◌, ◌++◌, take}
 use Rattle.std.specs.Io.KnownBytes.{Appends, Consumes, IsAtEnd}
 use Rattle.mm_keep.specs.Language.Sessions.{SessionView}
 use Rattle.mm_report.specs.Language.Answers.{AreAnswers, IsAnswer, IsScriptAnswer}
 use Rattle.mm_script.specs.Language.Script.{Command, End, Entry, Given, commands_of, AreRead, HasEntries, IsReadSoFar}
 
--- the answers of the whole script are written, and nothing else
-pub record AnswersScript (old new : SessionView) (script : List ℕ) (end : End) (before after : Option (List ℕ)) : Type 0 where
+-- a script is read, which is all that was unread, if that is known; the answers of the whole script are written, and nothing else
+pub record AnswersScript (old new : SessionView) (unread : Option (List ℕ)) (end : End) (before after : Option (List ℕ)) : Type 0 where
+  pub script : List ℕ
+  pub is_script : IfSome unread (λ bytes. script ≡ bytes)
   pub answers : List ℕ
   pub is : IsScriptAnswer old script answers new end
   pub out : Appends before after answers
