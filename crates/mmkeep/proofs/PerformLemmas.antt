@@ -1,8 +1,10 @@
 -- What a command has done, by what its parts have done.
-use Rattle.std.{proofs.{Common.{◌≡◌, ◌⊎◌, ℕ, List, Option, Result, Ok, Err, IfErr, inl, inr}, KnownBytes.{Keeps-refl}}, specs.Io.KnownBytes.{Appends}}
+use Rattle.std.proofs.{Common.{◌≡◌, ◌⊎◌, ℕ, List, Option, None, Some, Result, Ok, Err, IfErr, IfOk, inl, inr, refl, sym, subst}, KnownBytes.{Keeps-refl}}
+use Rattle.std.specs.{Io.{KnownBytes.{Appends, Keeps, append_known}, Buffered.{writer_buffer, writer_contents}}, declared.io.buffered.BufWriter.{BufWriter}}
 use Rattle.mm_report.specs.{mm_keep.Language.Sessions.{SessionView, HasAssertion}, mm_script.declared.{error.ScriptError.{ScriptError}, stream.Writing.{Writing}}}
-use Rattle.mm_report.specs.{mm_script.Language.Stream.{AppendsPart, written}, Language.Answers.{IsAnswer}}
-use Rattle.mmkeep.specs.{declared.outcome.Outcome.TheVariants.{Clean}, Language.Performing.{ListsAxioms, StopsAxioms}}
+use Rattle.mm_report.specs.{mm_script.Language.Stream.{AppendsPart, gone_out, written}, Language.{Answers.{IsAnswer}, Laws.{CleanIsDerived}}}
+use Rattle.mmkeep.specs.declared.{arguments.Command.{Command}, outcome.Outcome.{Outcome, TheVariants.{Clean}}}
+use Rattle.mmkeep.specs.Language.Performing.{AllInOrder, GoesOut, IsCutOff, IsDone, IsJudged, ListsAxioms, StopsAxioms}
 use Rattle.mm_report.specs.mm_script.declared.error.ScriptError.TheVariants as errors
 use Rattle.mm_report.specs.mm_script.Language.Script as script
 
@@ -27,3 +29,31 @@ stops_axioms session label word contents old new error same (inr e) write memory
 pub on_error : {T E : Type 0} {P Q : E → Type 0} (result : Result T E) → ((error : E) → P error → Q error) → IfErr result P → IfErr result Q
 on_error (Ok value) more p = tt
 on_error (Err error) more p = more error p
+
+-- a session that is judged clean is in order
+pub clean_in_order : CleanIsDerived → (session : SessionView) (outcome : Outcome) → IsJudged session outcome → outcome ≡ Clean → AllInOrder session
+clean_in_order law session outcome judged clean =
+    let is : IsJudged session Clean = subst (IsJudged session) clean judged in
+    record { base = is.base; of_files = is.of_files; each = law session is.base is.all is.of_files is.are_told is.is }
+
+-- ---- what does not go out
+
+-- what is kept back comes after what has gone out
+goes_out : (written out : Option (List ℕ)) (kept : List ℕ) → Keeps written (append_known out kept) → GoesOut written out
+goes_out None out kept is = tt
+goes_out (Some bytes) None kept is = absurd is
+goes_out (Some bytes) (Some out) kept is = (kept, sym is)
+
+-- a command is done, and then the flush fails
+pub cut_after : {W A : Type 0} (command : Command) (old new : SessionView) (unread left before : Option (List ℕ)) (contents : W → Option (List ℕ))
+    (all last : Writing (BufWriter W A)) (result : Result Outcome ScriptError) (outcome : Outcome) → result ≡ Ok outcome
+    → IfOk result (IsDone command old new unread before (written (writer_contents contents) all))
+    → Keeps (written (writer_contents contents) all) (written (writer_contents contents) last)
+    → IsCutOff command old new unread left before (gone_out contents last) errors.Write
+cut_after command old new unread left before contents all last result outcome is done kept =
+    let out = written (writer_contents contents) all in
+    record {
+      written = out;
+      why = inr (refl, outcome, subst (λ (r : Result Outcome ScriptError). IfOk r (IsDone command old new unread before out)) is done);
+      goes_out = goes_out out (gone_out contents last) (writer_buffer last.inner) kept;
+    }

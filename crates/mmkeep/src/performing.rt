@@ -1,60 +1,53 @@
 //! What a command does with a session: what it writes, and how the program then ends.
 
-ghost use Rattle.std.specs.Prelude.{◌≡◌, ◌↔◌, ℕ, List, [], IfErr, IfOk, IsTrue, length};
+ghost use Rattle.std.specs.Prelude.{◌≡◌, ◌≢◌, ◌↔◌, ℕ, List, [], true, false, IfErr, IfOk, IsErrOf, IsTrue, OnOk, length};
 ghost use Rattle.std.specs.Io.Buffered.{writer_contents};
-ghost use Rattle.std.specs.Io.KnownBytes.{Keeps};
 ghost use Rattle.mm_report.specs.mm_statement.Language.Item.{Item};
 ghost use Rattle.mm_report.specs.mm_keep.Language.Findings.{counted};
 ghost use Rattle.mm_report.specs.mm_keep.Language.Told.{Told, counts};
 ghost use Rattle.mm_report.specs.Language.Report.{lines};
-ghost use Rattle.mm_report.specs.mm_script.Language.Stream.{unread, written};
-ghost use Rattle.mmkeep.specs.Language.Performing.{EndsScript, GoesOut, IsCutOff, IsDone, IsJudged, IsStopped};
+ghost use Rattle.mm_report.specs.mm_script.declared.error.ScriptError.TheVariants as errors;
+ghost use Rattle.mm_report.specs.mm_script.Language.Stream.{cannot_read, gone_out, has_failed, unread, written};
+ghost use Rattle.mmkeep.specs.declared.outcome.Outcome.TheVariants.{Clean};
+ghost use Rattle.mmkeep.specs.Language.Performing.{AllInOrder, EndsScript, IsCutOff, IsDone, IsInOrderAfter, IsJudged, IsStopped};
 ghost use Rattle.mmkeep.specs.Language.Performing.{ListsAxioms, Reports, StopsAxioms, StopsReport, StopsScript};
 
 use crate::arguments::Command;
 use crate::outcome::Outcome;
 use mm_report::{
-    Reading, ScriptError, Session, Tally, Writing, run_script, write_axioms, write_report,
+    Reading, ScriptError, Session, Tally, Writing, clean_is_derived, run_script, write_axioms,
+    write_report,
 };
 use std::alloc::Global;
 use std::io::{BufWriter, Read, Write};
 
-/// Does a command with a session, over a writer that is buffered: how the program then ends, and the writer. If it
-/// answers an outcome, all that was written has gone out.
+/// Does a command with a session, over a writer that is buffered: how the program then ends. If it answers an outcome, all
+/// that was written has gone out, and no write has failed. If that outcome is clean, `verify` and `session` say that no item
+/// is at fault and that each theorem is derived.
 ///
-/// The reading is that of the script; the other two commands read nothing. After a failure no write is tried again.
+/// The reading is that of the script; the other two commands read nothing. `Read` and `Write` are answered only if the reading
+/// or the writing has failed. After a failure no write is tried again; a buffer that is dropped would be, so take it apart.
 pub fn perform<R: Read, W: Write + Drop>(
     alloc: Global,
     session: &mut Session,
     command: &Command<'_>,
     reading: &mut Reading<R>,
-    out: BufWriter<W>,
-) -> (Result<Outcome, ScriptError>, W)
-    ensures done { IfOk result.0 (IsDone command.now session.old session.new (unread R.remaining reading.old)
-        (writer_contents W.contents out) (W.contents result.1)) }
-    ensures stopped { IfErr result.0 (IsCutOff command.now session.old session.new (unread R.remaining reading.old) (unread R.remaining reading.new)
-        (writer_contents W.contents out) (W.contents result.1)) }
+    writing: &mut Writing<BufWriter<W>>,
+) -> Result<Outcome, ScriptError>
+    ensures done { IfOk result (IsDone command.now session.old session.new (unread R.remaining reading.old)
+        (written (writer_contents W.contents) writing.old) (gone_out W.contents writing.new)) }
+    ensures derived { IfOk result (λ outcome. outcome ≡ Clean → IsInOrderAfter command.now session.new) }
+    ensures sound { OnOk result (has_failed writing.new ≡ false) }
+    ensures stopped { IfErr result (IsCutOff command.now session.old session.new (unread R.remaining reading.old) (unread R.remaining reading.new)
+        (written (writer_contents W.contents) writing.old) (gone_out W.contents writing.new)) }
+    ensures read_failed { IsErrOf result errors.Read → cannot_read reading.new ≡ true }
+    ensures write_failed { IsErrOf result errors.Write → has_failed writing.new ≡ true }
 {
-    let mut writing = Writing::new(out);
-    let ended = answer(alloc, session, command, reading, &mut writing);
-    let (is_out, writer) = flushed(writing);
-    match ended {
-        Ok(_) if !is_out => (Err(ScriptError::Write), writer),
-        ended => (ended, writer),
+    let ended = answer(alloc, session, command, reading, writing);
+    match (ended, writing.flush_buffer()) {
+        (Ok(_), Err(_)) => Err(ScriptError::Write),
+        (ended, _) => ended,
     }
-}
-
-/// Passes on what is buffered, if nothing has failed yet: whether all has gone out, and the writer.
-fn flushed<W: Write + Drop>(writing: Writing<BufWriter<W>>) -> (bool, W)
-    ensures all { IsTrue result.0 → Keeps (written (writer_contents W.contents) writing) (W.contents result.1) }
-    ensures part { GoesOut (written (writer_contents W.contents) writing) (W.contents result.1) }
-{
-    let failed = writing.failed();
-    let mut out = writing.into_inner();
-    let is_out = !failed && out.flush().is_ok();
-    // A buffer that is dropped would be flushed once more.
-    let (writer, _) = out.into_parts();
-    (is_out, writer)
 }
 
 /// Does a command with a session, and writes what it answers.
@@ -67,8 +60,11 @@ fn answer<R: Read, W: Write>(
 ) -> Result<Outcome, ScriptError>
     ensures done { IfOk result (IsDone command.now session.old session.new (unread R.remaining reading.old)
         (written W.contents writing.old) (written W.contents writing.new)) }
+    ensures derived { IfOk result (λ outcome. outcome ≡ Clean → IsInOrderAfter command.now session.new) }
     ensures stopped { IfErr result (IsStopped command.now session.old session.new (unread R.remaining reading.old) (unread R.remaining reading.new)
         (written W.contents writing.old) (written W.contents writing.new)) }
+    ensures read_failed { IsErrOf result errors.Read → cannot_read reading.new ≡ true }
+    ensures write_failed { IsErrOf result errors.Write → has_failed writing.new ≡ true }
 {
     match *command {
         Command::Verify(_) => report(session, writing),
@@ -80,7 +76,9 @@ fn answer<R: Read, W: Write>(
 /// Writes the report of a session.
 fn report<W: Write>(session: &Session, writing: &mut Writing<W>) -> Result<Outcome, ScriptError>
     ensures done { IfOk result (Reports session.now (written W.contents writing.old) (written W.contents writing.new)) }
+    ensures derived { IfOk result (λ outcome. outcome ≡ Clean → AllInOrder session.now) }
     ensures stopped { IfErr result (StopsReport session.now (written W.contents writing.old) (written W.contents writing.new)) }
+    ensures failed { IfErr result (λ error. (error ≡ errors.Write) × (has_failed writing.new ≡ true)) }
 {
     match write_report(session, writing) {
         Ok(()) => Ok(judge(session)),
@@ -96,6 +94,8 @@ fn list_axioms<W: Write>(
 ) -> Result<Outcome, ScriptError>
     ensures done { IfOk result (ListsAxioms session.now label.now (written W.contents writing.old) (written W.contents writing.new)) }
     ensures stopped { IfErr result (StopsAxioms session.now label.now (written W.contents writing.old) (written W.contents writing.new)) }
+    ensures read_failed { IfErr result (λ error. error ≢ errors.Read) }
+    ensures write_failed { IsErrOf result errors.Write → has_failed writing.new ≡ true }
 {
     match write_axioms(session, label.as_bytes(), writing) {
         Ok(true) => Ok(Outcome::Clean),
@@ -113,8 +113,11 @@ fn answer_script<R: Read, W: Write>(
 ) -> Result<Outcome, ScriptError>
     ensures done { IfOk result (EndsScript session.old session.new (unread R.remaining reading.old)
         (written W.contents writing.old) (written W.contents writing.new)) }
+    ensures derived { IfOk result (λ outcome. outcome ≡ Clean → AllInOrder session.new) }
     ensures stopped { IfErr result (StopsScript session.old session.new (unread R.remaining reading.old) (unread R.remaining reading.new)
         (written W.contents writing.old) (written W.contents writing.new)) }
+    ensures read_failed { IsErrOf result errors.Read → cannot_read reading.new ≡ true }
+    ensures write_failed { IsErrOf result errors.Write → has_failed writing.new ≡ true }
 {
     match run_script(alloc, session, reading, writing) {
         Ok(()) => Ok(judge(session)),
@@ -122,10 +125,13 @@ fn answer_script<R: Read, W: Write>(
     }
 }
 
-/// How the program ends by the files of a session: clean if its report has no line before the summary.
+/// How the program ends by the files of a session: clean if its report has no line before the summary. Then no item is at
+/// fault, and each theorem is derived.
 pub fn judge(session: &Session) -> Outcome
-    ensures { IsJudged session.now result }
+    ensures judged { IsJudged session.now result }
+    ensures derived { result ≡ Clean → AllInOrder session.now }
 {
+    clean_is_derived();
     if is_clean(&session.tally()) {
         Outcome::Clean
     } else {

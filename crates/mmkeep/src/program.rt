@@ -7,7 +7,7 @@ use crate::loading::load_session;
 use crate::outcome::Outcome;
 use crate::performing::perform;
 use crate::source::SystemFiles;
-use mm_report::{Reading, Session};
+use mm_report::{Reading, Session, Writing};
 use std::io::{BufWriter, ErrorKind, Input};
 use std::rt::{Env, Files};
 use std::{env, io, mem};
@@ -65,7 +65,10 @@ fn answer_on_streams(
         return report_out_of_memory(rt);
     };
     let mut reading = Reading::new(rt.reader());
-    let (ended, _) = perform(rt.alloc(), session, command, &mut reading, out);
+    let mut writing = Writing::new(out);
+    let ended = perform(rt.alloc(), session, command, &mut reading, &mut writing);
+    // A buffer that is dropped would be flushed once more.
+    let _ = writing.into_inner().into_parts();
     match ended {
         Ok(outcome) => outcome,
         Err(error) => stop(rt, error),

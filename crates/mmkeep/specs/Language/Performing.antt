@@ -1,5 +1,5 @@
 -- What a command does with a session: what it writes, and how the program then ends.
-use Rattle.std.specs.Prelude.{◌≡◌, ◌≢◌, ◌⊎◌, ◌++◌, ℕ, List, [], Option, Some, None, IfSome, ⊤}
+use Rattle.std.specs.Prelude.{◌≡◌, ◌≢◌, ◌<◌, ◌⊎◌, ◌++◌, ℕ, List, [], length, Option, Some, None, ⊤}
 use Rattle.std.specs.Io.KnownBytes.{Appends, Keeps}
 use Rattle.mm_report.specs.mm_store.Language.FilesView.{plain}
 use Rattle.mm_report.specs.mm_frame.Language.Base.{BaseView, IsOfFiles}
@@ -8,6 +8,7 @@ use Rattle.mm_report.specs.mm_keep.Language.Told.{Told, AreRightlyTold}
 use Rattle.mm_report.specs.mm_script.declared.error.ScriptError.{ScriptError}
 use Rattle.mm_report.specs.mm_script.declared.error.ScriptError.TheVariants as errors
 use Rattle.mm_report.specs.Language.Answers.{IsAnswer}
+use Rattle.mm_report.specs.Language.Laws.{IsInOrder}
 use Rattle.mm_report.specs.Language.Report.{IsReport, BeginsReport, lines, names_of}
 use Rattle.mm_report.specs.mm_script.Language.Script as script
 use Rattle.mm_report.specs.Language.Scripting.{AnswersScript, AnswersFirst, AnswersRead, BeginsAnswers}
@@ -30,6 +31,12 @@ pub record IsJudged (session : SessionView) (outcome : Outcome) : Type 0 where
   pub all : List Told
   pub are_told : AreRightlyTold session.files base all
   pub is : IsByLines (lines (names_of (plain session.files)) base.said all) outcome
+
+-- no item of the files of a session is at fault, and some labels derive the statement of each theorem
+pub record AllInOrder (session : SessionView) : Type 0 where
+  pub base : BaseView
+  pub of_files : IsOfFiles session.files session.top base
+  pub each : (i : ℕ) → i < length base.said → IsInOrder base i
 
 -- the report of a session is written
 pub record Reports (session : SessionView) (before after : Option (List ℕ)) (outcome : Outcome) : Type 0 where
@@ -59,13 +66,13 @@ pub record BeginsAxioms (session : SessionView) (label : List ℕ) (before after
 
 -- a script is answered to its end
 pub record EndsScript (old new : SessionView) (unread before after : Option (List ℕ)) (outcome : Outcome) : Type 0 where
-  pub answers : IfSome unread (λ bytes. AnswersScript old new bytes script.Done before after)
+  pub answers : AnswersScript old new unread script.Done before after
   pub is_judged : IsJudged new outcome
 
 -- a script is answered up to where it stops
 abbrev pub StopsScript : SessionView → SessionView → Option (List ℕ) → Option (List ℕ) → Option (List ℕ) → Option (List ℕ) → ScriptError → Type 0
-StopsScript old new unread left before after errors.BadLine = IfSome unread (λ bytes. AnswersScript old new bytes script.BadLine before after)
-StopsScript old new unread left before after errors.Cut = IfSome unread (λ bytes. AnswersScript old new bytes script.CutShort before after)
+StopsScript old new unread left before after errors.BadLine = AnswersScript old new unread script.BadLine before after
+StopsScript old new unread left before after errors.Cut = AnswersScript old new unread script.CutShort before after
 StopsScript old new unread left before after errors.Read = AnswersRead old new unread left before after
 StopsScript old new unread left before after errors.Write = BeginsAnswers old new unread left before after
 StopsScript old new unread left before after errors.Memory = AnswersFirst old new unread left before after
@@ -75,6 +82,12 @@ abbrev pub IsDone : Command → SessionView → SessionView → Option (List ℕ
 IsDone (Verify file) old new unread before after outcome = (new ≡ old) × Reports old before after outcome
 IsDone (Axioms file label) old new unread before after outcome = (new ≡ old) × ListsAxioms old label.now before after outcome
 IsDone (Session file) old new unread before after outcome = EndsScript old new unread before after outcome
+
+-- what a clean end of a command says of the files after it: all is in order; after a list of axioms nothing is said of them
+abbrev pub IsInOrderAfter : Command → SessionView → Type 0
+IsInOrderAfter (Verify file) session = AllInOrder session
+IsInOrderAfter (Axioms file label) session = ⊤
+IsInOrderAfter (Session file) session = AllInOrder session
 
 -- a report stops only at a write that fails, and its beginning is written
 abbrev pub StopsReport : SessionView → Option (List ℕ) → Option (List ℕ) → ScriptError → Type 0
