@@ -5,7 +5,7 @@ use Rattle.mm_keep.specs.Language.Sessions.{SessionView}
 use Rattle.mm_report.specs.Language.Answers.{AreAnswers, IsAnswer, IsScriptAnswer}
 use Rattle.mm_script.specs.Language.Script.{Command, End, Entry, Given, commands_of, AreRead, HasEntries, IsReadSoFar}
 
--- a script is read, which is all that was unread, if that is known; the answers of the whole script are written, and nothing else
+-- there is a script, which is what was unread, if that is known; the answers of the whole script are written, and nothing else
 pub record AnswersScript (old new : SessionView) (unread : Option (List ℕ)) (end : End) (before after : Option (List ℕ)) : Type 0 where
   pub script : List ℕ
   pub is_script : IfSome unread (λ bytes. script ≡ bytes)
