@@ -1,7 +1,13 @@
-"""What an edit makes of sources: those in crates/*/must-fail, and those in edits/.
+"""What an edit makes of sources: those in crates/*/must-fail, and those in edits/. Twins are in the folders `twins` beside them.
 
 An edit names a file of its crate (`file:`), and then pairs of a line that is there once (`old:`) and what takes its place (`new:`).
 """
+
+
+def twin_of(edit):
+    """Where the twin of an edit is, if it has one: under the same name in the folder `twins`."""
+    folder = edit.parent.parent if edit.parent.name == "must-fail" else edit.parent
+    return folder / "twins" / edit.name
 
 
 def made(edit, text_of):
