@@ -19,3 +19,4 @@ pub mod CitationLemmas
 pub mod DecidingLemmas
 pub mod DecidedViews
 pub mod HavingLemmas
+pub mod RestLemmas
