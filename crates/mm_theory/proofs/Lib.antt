@@ -1,0 +1,11 @@
+pub mod Members
+pub mod Closing
+pub mod Citing
+pub mod Pairs
+pub mod Supply
+pub mod Known
+pub mod Floats
+pub mod Statements
+pub mod Resting
+pub mod Clean
+pub mod ExampleLemmas
