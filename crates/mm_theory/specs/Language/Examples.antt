@@ -80,7 +80,7 @@ put v s w = if bytes_eq w.name v.name then s ∷ [] else w ∷ []
 abbrev pub PairsAreNeeded : Type 0
 PairsAreNeeded = IsProvable (system (two pair ∷ [])) (two pair) × ¬ IsProvable (system (two pair ∷ [])) (two [])
 
--- `Q` is provable from `P x`, and from `Q` if `P x`, by a dummy variable; where no variable has a typecode it is not.
+-- `Q` is provable from `P x`, and from `Q` if `P x`, by a dummy variable; if no variable has a typecode, it is not.
 abbrev pub DummiesAreNeeded : Type 0
 DummiesAreNeeded = IsProvable (system (one ∷ from_one ∷ [])) goal × ¬ IsProvable (untyped (one ∷ from_one ∷ [])) goal
 

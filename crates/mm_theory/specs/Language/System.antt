@@ -15,8 +15,8 @@ abbrev pub AreApartBy : (Symbol → Symbol → Type 0) → List Symbol → List 
 AreApartBy IsPair xs ys = (x y : Symbol) → HasVariable xs x → HasVariable ys y → (x ≢ y) × IsPair x y
 
 -- The expression is in the closure of hypotheses: it is a typecode and a variable that has it; or one of the hypotheses; or what a
--- substitution makes of an axiomatic statement, if what it makes of the statement's hypotheses is in the closure, and what it gives for the
--- variables of each of the statement's pairs is kept apart.
+-- substitution makes of an axiomatic statement. Then what the substitution makes of the statement's hypotheses is in the closure, and what
+-- it gives for the two variables of each of the statement's pairs is kept apart.
 pub data IsInClosure (system : System) (IsPair : Symbol → Symbol → Type 0) (hypotheses : List Mandatory) : List Symbol → Type 0 where
   by_type : {c v : Symbol} → system.typecode v ≡ Some c → IsInClosure system IsPair hypotheses (c ∷ v ∷ [])
   by_hypothesis : {h : Mandatory} → Contains hypotheses h → IsInClosure system IsPair hypotheses h.expression
@@ -34,8 +34,8 @@ symbols_of frame = frame.expression ++ flat_map (λ h. h.expression) frame.hypot
 abbrev pub MayBePaired : Frame → Symbol → Symbol → Type 0
 MayBePaired frame x y = Contains (symbols_of frame) x → Contains (symbols_of frame) y → ArePair frame.pairs x y
 
--- the statement is provable: its expression is in the closure of its hypotheses, where a proof may use all variables, and any pair with a
--- dummy in it
+-- the statement is provable: its expression is in the closure of its hypotheses; a proof may use all variables, and any pair with a dummy
+-- in it
 abbrev pub IsProvable : System → Frame → Type 0
 IsProvable system frame = IsInClosure system (MayBePaired frame) frame.hypotheses frame.expression
 
