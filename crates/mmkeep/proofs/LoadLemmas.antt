@@ -1,12 +1,17 @@
 -- Files that are loaded: none is parked, those that are there stay, and a walk goes on among them.
-use Rattle.std.proofs.Common.{[], ◌≡◌, ◌≢◌, ℕ, ◌+◌, Bool, true, not, cond, List, ◌∷◌, ◌++◌, ◌⊎◌, Option, None, Result, Ok, Err, OnOk, IfErr, IsErrOf, map, sym, ap, ◌∙◌, subst, refl, inl, inr, arith}
-use Rattle.std.proofs.{Common.{Contains, position}, lemmas.{Grind.{common_steps}, List.{length-map, nil_from_length, Folds.{position_or_len_push}, Sums.{prefix_len-le-length}}}}
-use Rattle.std.{proofs.lemmas.Slice.Eq.{bytes_eq-Decides}, specs.{List.{position_or_len, sum_by}, Str.{bytes_eq}, Ordering.{nat_cmp}}}
-use Rattle.mm_report.specs.mm_store.{declared.{error.StoreError.{StoreError, TheVariants.{Memory, NoTop}}, item.Item.{Item}}, Language.{Answers.{IsExpansionError}, FileFacts.{IsAdded, parked_in}}}
-use Rattle.mm_report.specs.mm_store.Language.{FilesView.{File, FilesView, file_number, file_view, files_in, no_files, number_of, plain, plain_file}, Keyless.{bare, bare_file}}
-use Rattle.mm_report.specs.mm_store.Language.{Pieces.{HeldPiece, parked_state}, Walking.{WalkView, IsWalk, FindsMissing}}
-use Rattle.mmkeep.specs.Code.Loaded.{AddsIfOpened, AddsOpened, HasFile, HasWalked, KeepsFiles}
-use Rattle.mmkeep.specs.Language.Loading.{AddsFile, AreLoaded, Bytes, IsNew, KnownFile, Loads, NoFile, Opens, TakesFile, TakesTop, Unknown}
+use Rattle.std.proofs.Common.{[], ◌≡◌, ◌≢◌, ℕ, ◌+◌, ◌≤◌, Bool, true, not, cond, List, ◌∷◌, ◌++◌, ◌⊎◌, length, length-append, Option, Some, None, Result, Ok, Err, OnOk, IfErr, IsErrOf, map, sym, ap}
+use Rattle.std.proofs.{Common.{◌∙◌, subst, refl, inl, inr, arith, All, Contains, position}, lemmas.{Grind.{common_steps}, List.{length-map, nil_from_length, Elements.{All-append, All-cons, All-nil}}}}
+use Rattle.std.{proofs.{lemmas.{List.{Folds.{position_or_len_push}, Sums.{prefix_len-le-length}}, Slice.Eq.{bytes_eq-Decides}}, KnownBytes.{Consumes-trans}}, specs.Io.KnownBytes.{Consumes}}
+use Rattle.std.specs.{List.{position_or_len, sum_by}, Str.{bytes_eq}, Ordering.{nat_cmp}}
+use Rattle.mm_report.specs.mm_store.{declared.{error.StoreError.{StoreError, TheVariants.{Memory as Lacking, NoTop}}, item.Item.{Item}}, Language.Answers.{IsExpansionError}}
+use Rattle.mm_report.specs.mm_store.Language.{FileFacts.{IsAdded, parked_in}, FilesView.{File, FilesView, file_number, file_view, files_in, no_files, number_of, plain, plain_file}}
+use Rattle.mm_report.specs.mm_store.Language.{Keyless.{bare, bare_file}, Pieces.{HeldPiece, parked_state}, Walking.{WalkView, IsWalk, FindsEnd, FindsMissing}}
+use Rattle.mm_report.specs.{mm_script.{declared.read_stream.Reading.{Reading}, Language.Stream.{calls_left, unread}}, mm_text.Language.Cut.{IsCut}}
+use Rattle.mmkeep.specs.declared.{adding.FileError.{FileError}, outcome.Outcome.{Outcome, TheVariants.{Input, Memory}}}
+use Rattle.mmkeep.specs.Code.Loaded.{AddsIfOpened, AddsOpened, HasFile, IsMemoryOr, IsOutcomeOfFile, KeepsFiles, RefusesOpened}
+use Rattle.mmkeep.specs.Language.Loading.{AddsFile, AreLoaded, AreOfSource, Bytes, FindsNext, IsFileError, IsLoadError, IsNew, IsOfSource, IsRefused, IsTopRefused, KnownFile, Loads, NoFile, Opens}
+use Rattle.mmkeep.specs.Language.Loading.{ReadsOn, StopsAtFile, TakesFile, TakesTooManyNames, TakesTop, Unknown, begins, takes}
+use Rattle.mmkeep.specs.declared.adding.FileError.TheVariants as errors
 use Rattle.std.specs.FinMap as finite
 
 pub nothing_parked : parked_in no_files ≡ 0
@@ -70,12 +75,77 @@ module _ {F E T O : Type 0} (remaining : F → Option (List ℕ)) (Lacks : E →
   takes_top NoFile (Ok file) (Ok done) agrees adds = absurd agrees
   takes_top (Bytes bytes) (Ok file) (Ok done) agrees adds = subst (AddsFile (plain old) (plain new) name) agrees adds
 
--- the top file, and what loading from it on adds
-pub are_loaded : {T O : Type 0} (holds : List ℕ → KnownFile) (top : List ℕ) (first final : FilesView) (walk last : WalkView) (result : Result T O)
-    → TakesTop (holds top) no_files first top → IsWalk (bare (plain first)) top [] walk → OnOk result (Loads holds first walk final last)
-    → OnOk result (AreLoaded holds top final)
-are_loaded holds top first final walk last (Err outcome) takes begins loads = tt
-are_loaded holds top first final walk last (Ok done) takes begins loads = search (takes, begins, loads)
+-- ---- why a file is not added
+
+-- one more read has brought a part
+pub read_on : {R : Type 0} (remaining : R → Option (List ℕ)) (left : Option (List ℕ)) (calls : ℕ) (before after : Reading R) (text part : List ℕ)
+    → Consumes left (unread remaining before) text → calls ≤ calls_left before + length text
+    → Consumes (unread remaining before) (unread remaining after) part → calls_left before ≡ calls_left after + 1 → ReadsOn remaining left calls after
+read_on remaining left calls before after text part come few more one = record {
+  bytes = text ++ part;
+  come = Consumes-trans left (unread remaining before) (unread remaining after) text part come more;
+  few = omega (arith, few, one, length-append text part);
+}
+
+-- it is not read to its end, or memory runs out
+pub unread_error : (files : List File) (unread : Option (List ℕ)) (error : FileError) → (error ≡ errors.Read) ⊎ (error ≡ errors.Memory)
+    → IsFileError files unread error
+unread_error files unread error (inl is) = rw is tt
+unread_error files None error (inr is) = rw is tt
+unread_error files (Some bytes) error (inr is) = rw is tt
+
+-- ---- a file that was opened and is not added
+
+-- it is for memory, or the input is at fault
+by_error : (files : List File) (unread : Option (List ℕ)) (outcome : Outcome) → IsOutcomeOfFile files unread outcome
+    → IsMemoryOr ((error : FileError) × (error ≢ errors.Memory) × IsFileError files unread error) outcome
+by_error files unread outcome (errors.Read, is, why) = inr (is, (errors.Read, (λ e. absurd (cc)), why))
+by_error files unread outcome (errors.Text place number, is, why) = inr (is, (errors.Text place number, (λ e. absurd (cc)), why))
+by_error files unread outcome (errors.TooMany, is, why) = inr (is, (errors.TooMany, (λ e. absurd (cc)), why))
+by_error files unread outcome (errors.Memory, is, why) = inl is
+
+-- a reason that gives another one
+by_reason : {A B : Type 0} (outcome : Outcome) → (A → B) → IsMemoryOr A outcome → IsMemoryOr B outcome
+by_reason outcome f (inl memory) = inl memory
+by_reason outcome f (inr (is, why)) = inr (is, f why)
+
+module _ {F E : Type 0} (remaining : F → Option (List ℕ)) (Lacks : E → Type 0) (files : List File) where
+  abbrev OfReader : F → Type 0
+  OfReader file = (error : FileError) × (error ≢ errors.Memory) × IsFileError files (remaining file) error
+
+  -- what is known of the file is what its reader has
+  of_known : (known : KnownFile) (file : F) → Opens {E = E} remaining Lacks known (Ok file) → OfReader file → IsRefused known files
+  of_known Unknown file agrees why = tt
+  of_known NoFile file agrees why = absurd agrees
+  of_known (Bytes bytes) file agrees why = (why.0, why.1, subst (λ unread. IsFileError files unread why.0) agrees why.2)
+
+  top_of_known : (known : KnownFile) (file : F) → Opens {E = E} remaining Lacks known (Ok file) → OfReader file → IsTopRefused known files
+  top_of_known Unknown file agrees why = tt
+  top_of_known NoFile file agrees why = absurd agrees
+  top_of_known (Bytes bytes) file agrees why = of_known (Bytes bytes) file agrees why
+
+  pub refuses_file : {T : Type 0} (known : KnownFile) (opened : Result F E) (result : Result T Outcome) → Opens remaining Lacks known opened
+      → IfErr result (RefusesOpened (λ outcome. outcome ≡ Memory) remaining opened files)
+      → IfErr result (IsMemoryOr (IsRefused known files))
+  refuses_file known opened (Ok done) agrees refused = tt
+  refuses_file known (Ok file) (Err outcome) agrees refused = by_reason outcome (of_known known file agrees) (by_error files (remaining file) outcome refused)
+  refuses_file known (Err error) (Err outcome) agrees refused = inl refused
+
+  -- the top file is there, and was not opened: memory has run out
+  unopened : {T : Type 0} (known : KnownFile) (error : E) (outcome : Outcome) → Opens {F = F} remaining Lacks known (Err error)
+      → (Lacks error → IsErrOf {T = T} (Err outcome) Memory) → (outcome ≡ Memory) ⊎ (outcome ≡ Input) → IsMemoryOr (IsTopRefused known files) outcome
+  unopened known error outcome agrees memory (inl is) = inl is
+  unopened Unknown error outcome agrees memory (inr is) = inr (is, tt)
+  unopened NoFile error outcome agrees memory (inr is) = inr (is, tt)
+  unopened {T} (Bytes bytes) error outcome agrees memory (inr is) = let lacks : IsErrOf {T = T} (Err outcome) Memory = memory agrees in inl (cc)
+
+  pub refuses_top : {T : Type 0} (known : KnownFile) (opened : Result F E) (result : Result T Outcome) → Opens remaining Lacks known opened
+      → IfErr opened (λ error. Lacks error → IsErrOf result Memory)
+      → IfErr result (RefusesOpened (λ outcome. (outcome ≡ Memory) ⊎ (outcome ≡ Input)) remaining opened files)
+      → IfErr result (IsMemoryOr (IsTopRefused known files))
+  refuses_top known opened (Ok done) agrees memory refused = tt
+  refuses_top known (Ok file) (Err outcome) agrees memory refused = by_reason outcome (top_of_known known file agrees) (by_error files (remaining file) outcome refused)
+  refuses_top known (Err error) (Err outcome) agrees memory refused = unopened known error outcome agrees memory refused
 
 -- ---- why files that have the top file are not gone through
 
@@ -94,7 +164,7 @@ pub has_number : (files : FilesView) (name : List ℕ) → HasFile files name �
 has_number files name has e = has (number_plain files name ∙ e)
 
 -- it is out of memory
-pub is_memory : (error : StoreError) → IsExpansionError error → (error ≡ NoTop → ⊥) → error ≡ Memory
+pub is_memory : (error : StoreError) → IsExpansionError error → (error ≡ NoTop → ⊥) → error ≡ Lacking
 is_memory error (inl e) some = absurd (some e)
 is_memory error (inr e) some = e
 
@@ -110,12 +180,120 @@ abbrev pub WalksOn : Type 0
 WalksOn = (old new : List File) (name text top : List ℕ) (items : List Item) (walk : WalkView)
     → IsAdded old new name text → ¬ Contains walk.names name → IsWalk (bare old) top items walk → IsWalk (bare new) top items walk
 
-pub walked_on : WalksOn → (old new : FilesView) (top name : List ℕ) (items : List Item) (before after : WalkView)
-    → FindsMissing (bare (plain old)) top items before after name → MayHaveAdded old new name → HasWalked new after
-walked_on law old new top name items before after finds (inl same) = (top, items ++ finds.goes_on.more, rw same finds.goes_on.is_walk)
-walked_on law old new top name items before after finds (inr added) = (
-  top,
-  items ++ finds.goes_on.more,
-  law (plain old) (plain new) name added.0 top (items ++ finds.goes_on.more) after added.1 (λ taken. finds.stands.new (rw finds.is_name taken))
-      finds.goes_on.is_walk,
-)
+walked_on : WalksOn → (old new : FilesView) (top name : List ℕ) (items : List Item) (before after : WalkView)
+    → (finds : FindsMissing (bare (plain old)) top items before after name) → MayHaveAdded old new name
+    → IsWalk (bare (plain new)) top (items ++ finds.goes_on.more) after
+walked_on law old new top name items before after finds (inl same) = rw same finds.goes_on.is_walk
+walked_on law old new top name items before after finds (inr added) =
+    law (plain old) (plain new) name added.0 top (items ++ finds.goes_on.more) after added.1 (λ taken. finds.stands.new (rw finds.is_name taken))
+    finds.goes_on.is_walk
+
+-- ---- loading goes on
+
+module _ (holds : List ℕ → KnownFile) (top : List ℕ) where
+  -- by its walk, which has gone past some items
+  pub loads_walk : WalksOn → {names : ℕ} {files : FilesView} {walk : WalkView} → Loads holds top names files walk
+      → (items : List Item) × IsWalk (bare (plain files)) top items walk
+  loads_walk law (begins taken is_walk) = ([], is_walk)
+  loads_walk law (takes {files = files} {more = more} {walk = walk} {next = next} {name = name} loads finds taken) = (
+    finds.items ++ finds.finds.goes_on.more,
+    walked_on law files more top name finds.items walk next finds.finds (may_have (holds name) files more name taken),
+  )
+
+  -- which goes on to the next missing name
+  pub finds_next : WalksOn → {names : ℕ} {files : FilesView} {walk : WalkView} → Loads holds top names files walk → (next : WalkView) (name : List ℕ)
+      → ((top : List ℕ) (items : List Item) → IsWalk (bare (plain files)) top items walk → FindsMissing (bare (plain files)) top items walk next name)
+      → FindsNext files top walk next name
+  finds_next law loads next name found =
+      let walked = loads_walk law loads in
+      record { items = walked.0; is_walk = walked.1; finds = found top walked.0 walked.1 }
+
+  -- or to the end
+  pub all_taken : WalksOn → {names : ℕ} {files : FilesView} {walk : WalkView} → Loads holds top names files walk → (last : WalkView)
+      → ((top : List ℕ) (items : List Item) → IsWalk (bare (plain files)) top items walk → FindsEnd (bare (plain files)) top items walk last)
+      → AreLoaded holds top files
+  all_taken law {names = names} {walk = walk} loads last end =
+      let walked = loads_walk law loads in
+      record {
+        names = names;
+        walk = walk;
+        loads = loads;
+        ends = record { items = walked.0; is_walk = walked.1; last = last; ends = end top walked.0 walked.1 };
+      }
+
+  -- and stops for memory, or at the file that the walk finds missing next
+  pub stops_at : {names : ℕ} {files : FilesView} {walk next : WalkView} {name : List ℕ} (outcome : Outcome) → Loads holds top names files walk
+      → FindsNext files top walk next name → IsMemoryOr (IsRefused (holds name) (plain files)) outcome → IsLoadError holds top outcome
+  stops_at outcome loads finds (inl is) = rw is tt
+  stops_at {names = names} {files = files} {walk = walk} {next = next} {name = name} outcome loads finds (inr (is, why)) =
+      let at : StopsAtFile holds top =
+      record { names = names; files = files; walk = walk; loads = loads; next = next; name = name; finds = finds; is_refused = why } in
+      rw is (inr (inl at))
+
+  pub stops_at_top : (outcome : Outcome) → IsMemoryOr (IsTopRefused (holds top) []) outcome → IsLoadError holds top outcome
+  stops_at_top outcome (inl is) = rw is tt
+  stops_at_top outcome (inr (is, why)) = rw is (inl why)
+
+  pub stops_for_memory : (outcome : Outcome) → outcome ≡ Memory → IsLoadError holds top outcome
+  stops_for_memory outcome is = rw is tt
+
+  -- or after as many names as it may take
+  pub stops_after_all : {names : ℕ} {files : FilesView} {walk : WalkView} (outcome : Outcome) → Loads holds top names files walk → names ≡ 4294967295
+      → outcome ≡ Input → IsLoadError holds top outcome
+  stops_after_all {files = files} {walk = walk} outcome loads all is =
+      let too_many : TakesTooManyNames holds top = record { files = files; walk = walk; loads = subst (λ n. Loads holds top n files walk) all loads } in
+      rw is (inr (inr too_many))
+
+  module _ {T : Type 0} {first : FilesView} {begin : WalkView} where
+    pub all_loaded : (final : FilesView) (result : Result T Outcome) → Loads holds top 0 first begin
+        → OnOk result ((top : List ℕ) → Loads holds top 0 first begin → AreLoaded holds top final) → OnOk result (AreLoaded holds top final)
+    all_loaded final (Ok done) begun loaded = loaded top begun
+    all_loaded final (Err outcome) begun loaded = tt
+
+    pub all_stops : (result : Result T Outcome) → Loads holds top 0 first begin
+        → IfErr result (λ outcome. (top : List ℕ) → Loads holds top 0 first begin → IsLoadError holds top outcome) → IfErr result (IsLoadError holds top)
+    all_stops (Ok done) begun stops = tt
+    all_stops (Err outcome) begun stops = stops top begun
+
+  pub memory_stops : {T : Type 0} (result : Result T Outcome) → IfErr result (λ outcome. outcome ≡ Memory) → IfErr result (IsLoadError holds top)
+  memory_stops (Ok done) memory = tt
+  memory_stops (Err outcome) memory = stops_for_memory outcome memory
+
+  -- ---- the files that are loaded are those of the source
+
+  abbrev OfSource : File → Type 0
+  OfSource file = IsOfSource (holds file.name) file
+
+  of_added : (known : KnownFile) (old new : List File) (name text : List ℕ) (a : IsAdded old new name text) → holds name ≡ known
+      → IsOfSource known a.file → All OfSource old → All OfSource new
+  of_added known old new name text a is of before =
+      let own : OfSource a.file = subst (λ known. IsOfSource known a.file) (sym (ap holds a.is_name ∙ is)) of in
+      subst (All OfSource) (sym a.last) (All-append OfSource old (a.file ∷ []) before (All-cons OfSource a.file [] own (All-nil OfSource)))
+
+  of_taken : (known : KnownFile) (old new : FilesView) (name : List ℕ) → holds name ≡ known → TakesFile known old new name
+      → All OfSource (plain old) → All OfSource (plain new)
+  of_taken Unknown old new name is (inl same) before = rw same before
+  of_taken Unknown old new name is (inr a) before = of_added Unknown (plain old) (plain new) name a.text a.is_added is tt before
+  of_taken NoFile old new name is same before = rw same before
+  of_taken (Bytes bytes) old new name is a before =
+      of_added (Bytes bytes) (plain old) (plain new) name a.text a.is_added is
+      (subst (λ text. IsCut text a.is_added.file.pieces a.is_added.file.tail) a.is_text a.is_added.is_cut) before
+
+  top_taken : (known : KnownFile) (old new : FilesView) (name : List ℕ) → TakesTop known old new name → TakesFile known old new name × HasFile new name
+  top_taken Unknown old new name a = (inr a, added_there old new name a.text a.is_added)
+  top_taken NoFile old new name a = absurd a
+  top_taken (Bytes bytes) old new name a = (a, added_there old new name a.text a.is_added)
+
+  loads_of_source : {names : ℕ} {files : FilesView} {walk : WalkView} → Loads holds top names files walk → AreOfSource holds top (plain files)
+  loads_of_source (begins {files = files} added is_walk) =
+      let taken = top_taken (holds top) no_files files top added in
+      record { each = of_taken (holds top) no_files files top refl taken.0 (All-nil OfSource); has_top = taken.1 }
+  loads_of_source (takes {files = files} {more = more} {name = name} loads finds taken) =
+      let before = loads_of_source loads in
+      record {
+        each = of_taken (holds name) files more name refl taken before.each;
+        has_top = may_keep files more name (may_have (holds name) files more name taken) top before.has_top;
+      }
+
+  pub are_of_source : (files : FilesView) → AreLoaded holds top files → AreOfSource holds top (plain files)
+  are_of_source files loaded = loads_of_source loaded.loads

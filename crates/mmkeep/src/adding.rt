@@ -4,10 +4,10 @@ ghost use Rattle.std.specs.Prelude.{◌≡◌, ◌⊎◌, ◌↔◌, ℕ, List, 
 ghost use Rattle.mm_report.specs.mm_store.Language.Answers.{IsAddError, IsAddErrorIn};
 ghost use Rattle.mm_report.specs.mm_store.Language.FileFacts.{IsAdded, parked_in};
 ghost use Rattle.mm_report.specs.mm_store.Language.FilesView.{File, plain};
-ghost use Rattle.mm_report.specs.mm_script.Language.Stream.{cannot_read, unread};
+ghost use Rattle.mm_report.specs.mm_script.Language.Stream.{calls_left, cannot_read, unread};
 ghost use Rattle.mmkeep.specs.declared.adding.FileError.TheVariants as errors;
 ghost use Rattle.mmkeep.specs.Code.Loaded.{IsNewNameError};
-ghost use Rattle.mmkeep.specs.Language.Loading.{AddsFile, IsFileError, IsNew, IsTextError};
+ghost use Rattle.mmkeep.specs.Language.Loading.{AddsFile, IsFileError, IsNew, IsTextError, ReadsOn};
 
 use bytes::Bytes;
 use mm_report::{Files, Place, ReadFailed, Reading, StoreError, TextNumber, place};
@@ -49,9 +49,12 @@ impl From<AllocError> for FileError {
 }
 
 /// All bytes that are left to read. The errors are `Read`, if the reading has failed, and `Memory`.
+///
+/// It reads at most once for each byte that comes, and once more.
 pub fn read_all<R: Read>(alloc: Global, reading: &mut Reading<R>) -> Result<Vec<u8>, FileError>
     ensures text { IfOk result (λ text. IfSome (unread R.remaining reading.old) (λ bytes. text.items ≡ bytes)) }
     ensures read { IsErrOf result errors.Read ↔ (cannot_read reading.new ≡ true) }
+    ensures calls { ReadsOn R.remaining (unread R.remaining reading.old) (calls_left reading.old) reading.new }
     ensures errors { IfErr result (λ error. (error ≡ errors.Read) ⊎ (error ≡ errors.Memory)) }
 {
     let mut text = Vec::new(alloc);
@@ -65,23 +68,46 @@ pub fn read_all<R: Read>(alloc: Global, reading: &mut Reading<R>) -> Result<Vec<
     }
 }
 
-/// Reads a file to its end, and adds its text under a name that no file has, after the other files.
+/// Reads a file to its end, and adds its text under a name that no file has, after the other files. With the answer it
+/// hands back the reading, which is failed exactly if the answer is `Read`.
 ///
-/// After an error the files are as before.
+/// The reading may make 4,294,967,295 calls, of which it makes at most one for each byte that comes, and one more. After an
+/// error the files are as before.
 pub fn add_file<R: Read + Drop>(
     alloc: Global,
     files: &mut Files,
     name: &[u8],
     file: R,
-) -> Result<(), FileError>
+) -> (Result<(), FileError>, Reading<R>)
     requires { IsNew files.old name.now }
-    ensures added { OnOk result (AddsFile (plain files.old) (plain files.new) name.now (R.remaining file)) }
-    ensures parked { OnOk result (parked_in files.new ≡ parked_in files.old) }
-    ensures refused { IfErr result (IsFileError (plain files.old) (R.remaining file)) }
-    ensures unchanged { OnErr result (files.new ≡ files.old) }
+    ensures added { OnOk result.0 (AddsFile (plain files.old) (plain files.new) name.now (R.remaining file)) }
+    ensures parked { OnOk result.0 (parked_in files.new ≡ parked_in files.old) }
+    ensures refused { IfErr result.0 (IsFileError (plain files.old) (R.remaining file)) }
+    ensures read { IsErrOf result.0 errors.Read ↔ (cannot_read result.1 ≡ true) }
+    ensures calls { ReadsOn R.remaining (R.remaining file) 4294967295 result.1 }
+    ensures unchanged { OnErr result.0 (files.new ≡ files.old) }
 {
     let mut reading = Reading::new(file);
-    match read_all(alloc, &mut reading) {
+    let added = add_unread(alloc, files, name, &mut reading);
+    (added, reading)
+}
+
+/// Adds what is left to read under a name that no file has, after the other files.
+fn add_unread<R: Read>(
+    alloc: Global,
+    files: &mut Files,
+    name: &[u8],
+    reading: &mut Reading<R>,
+) -> Result<(), FileError>
+    requires { IsNew files.old name.now }
+    ensures added { OnOk result (AddsFile (plain files.old) (plain files.new) name.now (unread R.remaining reading.old)) }
+    ensures parked { OnOk result (parked_in files.new ≡ parked_in files.old) }
+    ensures refused { IfErr result (IsFileError (plain files.old) (unread R.remaining reading.old)) }
+    ensures read { IsErrOf result errors.Read ↔ (cannot_read reading.new ≡ true) }
+    ensures calls { ReadsOn R.remaining (unread R.remaining reading.old) (calls_left reading.old) reading.new }
+    ensures unchanged { OnErr result (files.new ≡ files.old) }
+{
+    match read_all(alloc, reading) {
         Ok(text) => add_text(files, name, &shared(text)?),
         Err(error) => Err(error),
     }

@@ -1,12 +1,13 @@
 //! Loads the files of a database from a source.
 
-ghost use Rattle.std.specs.Prelude.{◌≡◌, ◌≢◌, IfErr, IfOk, IsErrOf, IsOk, OnOk};
+ghost use Rattle.std.specs.Prelude.{◌≡◌, ◌≢◌, ◌⊎◌, ℕ, List, IfErr, IfOk, IsErrOf, IsOk, OnOk};
 ghost use Rattle.std.specs.IoError.{error_kind};
 ghost use Rattle.mm_report.specs.mm_store.Language.FileFacts.{parked_in};
 ghost use Rattle.mm_report.specs.mm_store.Language.FilesView.{no_files, plain};
 ghost use Rattle.mmkeep.specs.declared.outcome.Outcome.TheVariants.{Input, Memory};
-ghost use Rattle.mmkeep.specs.Code.Loaded.{AddsIfOpened, AddsOpened, HasFile, HasWalked, KeepsFiles};
-ghost use Rattle.mmkeep.specs.Language.Loading.{AddsFile, AreLoaded, IsNew, Loads, TakesFile, TakesTop};
+ghost use Rattle.mmkeep.specs.Code.Loaded.{AddsIfOpened, AddsOpened, HasBegun, HasFile, IsMemoryOr, IsOutcomeOfFile, KeepsFiles, RefusesOpened};
+ghost use Rattle.mmkeep.specs.Language.Loading.{AddsFile, AreLoaded, AreOfSource, IsLoadError, IsNew, IsRefused, IsTopRefused, Loads, TakesFile};
+ghost use Rattle.mmkeep.specs.Language.Loading.{TakesTop};
 
 use crate::adding::add_file;
 use crate::complaints::{
@@ -19,13 +20,18 @@ use std::io;
 use std::io::{ErrorKind, Read};
 
 /// Loads the files of a database from a top file on, and begins a session over them.
+///
+/// The error is `Memory`, or `Input` if the top file cannot be opened, a read of a file failed, or a text has a fault or is
+/// too much. It is reported.
 pub fn load_session<S: Source>(
     rt: &(impl Eprint + AllocGlobal),
     source: &S,
     top: &[u8],
 ) -> Result<Session, Outcome>
     ensures files { IfOk result (λ session. AreLoaded (S.holds source.now) top.now session.files) }
+    ensures of_source { IfOk result (λ session. AreOfSource (S.holds source.now) top.now (plain session.files)) }
     ensures top { IfOk result (λ session. session.top ≡ top.now) }
+    ensures error { IfErr result (IsLoadError (S.holds source.now) top.now) }
 {
     let files = load(rt, source, top)?;
     begin_session(rt, files, top)
@@ -57,8 +63,10 @@ fn load<S: Source>(
     top: &[u8],
 ) -> Result<Database, Outcome>
     ensures files { IfOk result (AreLoaded (S.holds source.now) top.now) }
+    ensures of_source { IfOk result (λ files. AreOfSource (S.holds source.now) top.now (plain files)) }
     ensures parked { IfOk result (λ files. parked_in files ≡ 0) }
     ensures top { IfOk result (λ files. HasFile files top.now) }
+    ensures error { IfErr result (IsLoadError (S.holds source.now) top.now) }
 {
     let mut files = Database::new(rt.alloc());
     match add_all(rt, source, &mut files, top) {
@@ -78,6 +86,7 @@ fn add_all<S: Source>(
     ensures files { OnOk result (AreLoaded (S.holds source.now) top.now files.new) }
     ensures parked { OnOk result (parked_in files.new ≡ parked_in files.old) }
     ensures top { OnOk result (HasFile files.new top.now) }
+    ensures error { IfErr result (IsLoadError (S.holds source.now) top.now) }
 {
     take_top(rt, source, files, top)?;
     match files.walk(top) {
@@ -97,6 +106,7 @@ fn take_top<S: Source>(
     ensures taken { OnOk result (TakesTop (S.holds source.now top.now) files.old files.new top.now) }
     ensures parked { OnOk result (parked_in files.new ≡ parked_in files.old) }
     ensures there { OnOk result (HasFile files.new top.now) }
+    ensures refused { IfErr result (IsMemoryOr (IsTopRefused (S.holds source.now top.now) (plain files.old))) }
 {
     add_top(rt, files, top, source.open(top))
 }
@@ -114,6 +124,7 @@ fn add_top<R: Read + Drop>(
     ensures there { OnOk result (HasFile files.new top.now) }
     ensures memory { IfErr opened (λ error. error_kind error ≡ ErrorKind.OutOfMemory → IsErrOf result Memory) }
     ensures unopened { IfErr opened (λ error. error_kind error ≢ ErrorKind.OutOfMemory → IsErrOf result Input) }
+    ensures refused { IfErr result (RefusesOpened (λ outcome. (outcome ≡ Memory) ⊎ (outcome ≡ Input)) R.remaining opened (plain files.old)) }
 {
     match opened {
         Ok(file) => add_opened(rt, files, top, file),
@@ -131,13 +142,15 @@ fn add_missing<S: Source>(
     files: &mut Database,
     walk: &mut Walk,
 ) -> Result<(), Outcome>
-    requires { HasWalked files.old walk.old }
-    ensures loads { OnOk result (Loads (S.holds source.now) files.old walk.old files.new walk.new) }
+    requires { HasBegun (S.holds source.now) files.old walk.old }
+    ensures loaded { OnOk result ((top : List ℕ) → Loads (S.holds source.now) top 0 files.old walk.old → AreLoaded (S.holds source.now) top files.new) }
     ensures parked { OnOk result (parked_in files.new ≡ parked_in files.old) }
     ensures kept { OnOk result (KeepsFiles files.old files.new) }
+    ensures error { IfErr result (λ outcome. (top : List ℕ) → Loads (S.holds source.now) top 0 files.old walk.old
+        → IsLoadError (S.holds source.now) top outcome) }
 {
     walks_go_on();
-    for _ in 0..u32::MAX {
+    for _names in 0..u32::MAX {
         match walk.next_missing(files) {
             Ok(Some(name)) => take_included(rt, source, files, &name)?,
             Ok(None) => return Ok(()),
@@ -158,6 +171,7 @@ fn take_included<S: Source>(
     requires { IsNew files.old name.now }
     ensures taken { OnOk result (TakesFile (S.holds source.now name.now) files.old files.new name.now) }
     ensures parked { OnOk result (parked_in files.new ≡ parked_in files.old) }
+    ensures refused { IfErr result (IsMemoryOr (IsRefused (S.holds source.now name.now) (plain files.old))) }
 {
     add_included(rt, files, name, source.open(name))
 }
@@ -174,6 +188,7 @@ fn add_included<R: Read + Drop>(
     ensures parked { OnOk result (parked_in files.new ≡ parked_in files.old) }
     ensures memory { IfErr opened (λ error. error_kind error ≡ ErrorKind.OutOfMemory → IsErrOf result Memory) }
     ensures missing { IfErr opened (λ error. error_kind error ≢ ErrorKind.OutOfMemory → IsOk result) }
+    ensures refused { IfErr result (RefusesOpened (λ outcome. outcome ≡ Memory) R.remaining opened (plain files.old)) }
 {
     match opened {
         Ok(file) => add_opened(rt, files, name, file),
@@ -194,8 +209,9 @@ fn add_opened<R: Read + Drop>(
     requires { IsNew files.old name.now }
     ensures added { OnOk result (AddsFile (plain files.old) (plain files.new) name.now (R.remaining file)) }
     ensures parked { OnOk result (parked_in files.new ≡ parked_in files.old) }
+    ensures refused { IfErr result (IsOutcomeOfFile (plain files.old) (R.remaining file)) }
 {
-    match add_file(rt.alloc(), files, name, file) {
+    match add_file(rt.alloc(), files, name, file).0 {
         Ok(()) => Ok(()),
         Err(error) => Err(refuse_file(rt, name, error)),
     }

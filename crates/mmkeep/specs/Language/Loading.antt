@@ -1,8 +1,9 @@
 -- Loading the files of a database: what is added of a file that is read, and why one is not added.
-use Rattle.std.specs.Prelude.{◌≡◌, ◌⊎◌, ℕ, List, [], Option, Some, None, Result, Ok, Err, IfSome, ⊤}
+use Rattle.std.specs.Prelude.{◌≡◌, ◌≢◌, ◌≤◌, ◌⊎◌, ◌+◌, ℕ, List, [], Option, Some, None, Result, Ok, Err, IfSome, All, length, ⊤}
+use Rattle.std.specs.Io.KnownBytes.{Consumes}
 use Rattle.mm_report.specs.mm_text.declared.fault.TextNumber.{TextNumber}
 use Rattle.mm_report.specs.mm_text.declared.location.Place.{Place}
-use Rattle.mm_report.specs.mm_text.Language.Cut.{IsFirstFault}
+use Rattle.mm_report.specs.mm_text.Language.Cut.{IsCut, IsFirstFault}
 use Rattle.mm_report.specs.mm_text.Language.Place.{line_at, column_at}
 use Rattle.mm_report.specs.mm_store.Language.Answers.{HasTooMany}
 use Rattle.mm_report.specs.mm_store.Language.FileFacts.{IsAdded}
@@ -10,8 +11,12 @@ use Rattle.mm_report.specs.mm_store.declared.item.Item.{Item}
 use Rattle.mm_report.specs.mm_store.Language.FilesView.{File, FilesView, file_number, no_files, plain}
 use Rattle.mm_report.specs.mm_store.Language.Keyless.{bare}
 use Rattle.mm_report.specs.mm_store.Language.Walking.{WalkView, IsWalk, FindsEnd, FindsMissing}
+use Rattle.mm_report.specs.mm_script.declared.read_stream.Reading.{Reading}
+use Rattle.mm_report.specs.mm_script.Language.Stream.{calls_left, unread}
 use Rattle.mmkeep.specs.declared.adding.FileError.{FileError}
 use Rattle.mmkeep.specs.declared.adding.FileError.TheVariants as errors
+use Rattle.mmkeep.specs.declared.outcome.Outcome.{Outcome}
+use Rattle.mmkeep.specs.declared.outcome.Outcome.TheVariants.{Input, Memory}
 
 -- no file has this name
 abbrev pub IsNew : FilesView → List ℕ → Type 0
@@ -38,9 +43,17 @@ IsTextError files text (errors.Text place number) = HasFaultAt text place number
 IsTextError files text errors.TooMany = HasTooMany files text
 IsTextError files text errors.Memory = Unit {0}
 
--- why a file is not added: a read failed, or the text that its reader had left is the reason, if that is known
+-- why a file is not added: a read failed; or the text that its reader had left is the reason, if that is known
 abbrev pub IsFileError : List File → Option (List ℕ) → FileError → Type 0
-IsFileError files unread error = (error ≡ errors.Read) ⊎ IfSome unread (λ text. IsTextError files text error)
+IsFileError files unread errors.Read = ⊤
+IsFileError files unread error = IfSome unread (λ text. IsTextError files text error)
+
+-- of what a reader had left some bytes have come; and of the calls that a reading could make, it has made at most one for each of these
+-- bytes, and one more
+pub record ReadsOn {R : Type 0} (remaining : R → Option (List ℕ)) (left : Option (List ℕ)) (calls : ℕ) (reading : Reading R) : Type 0 where
+  pub bytes : List ℕ
+  pub come : Consumes left (unread remaining reading) bytes
+  pub few : calls ≤ calls_left reading + length bytes + 1
 
 -- What is known of a name before it is opened: nothing, that no file of it can be opened, or the bytes of the file.
 pub data KnownFile : Type 0 where
@@ -68,20 +81,78 @@ TakesFile Unknown old new name = (new ≡ old) ⊎ AddsFile (plain old) (plain n
 TakesFile NoFile old new name = new ≡ old
 TakesFile (Bytes bytes) old new name = AddsFile (plain old) (plain new) name (Some bytes)
 
--- Loading goes on from files and a walk through them to the end: each name that the walk finds missing is opened, at its first reference
--- and once, and its file is added, if it can be opened; then the walk goes on.
-pub data Loads (holds : List ℕ → KnownFile) : FilesView → WalkView → FilesView → WalkView → Type 0 where
-  ends : {files : FilesView} {walk last : WalkView} {top : List ℕ} {items : List Item}
-      → IsWalk (bare (plain files)) top items walk → FindsEnd (bare (plain files)) top items walk last → Loads holds files walk files last
-  takes : {files more final : FilesView} {walk next last : WalkView} {top name : List ℕ} {items : List Item}
-      → IsWalk (bare (plain files)) top items walk → FindsMissing (bare (plain files)) top items walk next name
-      → TakesFile (holds name) files more name → Loads holds more next final last → Loads holds files walk final last
+-- a walk through the files, which has gone past some items, goes on to a name that it finds missing
+pub record FindsNext (files : FilesView) (top : List ℕ) (walk next : WalkView) (name : List ℕ) : Type 0 where
+  pub items : List Item
+  pub is_walk : IsWalk (bare (plain files)) top items walk
+  pub finds : FindsMissing (bare (plain files)) top items walk next name
 
--- The files of a database: the top file, and what loading from it on adds.
-pub record AreLoaded (holds : List ℕ → KnownFile) (top : List ℕ) (files : FilesView) : Type 0 where
-  pub first : FilesView
-  pub takes_top : TakesTop (holds top) no_files first top
-  pub walk : WalkView
-  pub is_walk : IsWalk (bare (plain first)) top [] walk
+-- a walk through the files, which has gone past some items, goes on to the end
+pub record ComesToEnd (files : FilesView) (top : List ℕ) (walk : WalkView) : Type 0 where
+  pub items : List Item
+  pub is_walk : IsWalk (bare (plain files)) top items walk
   pub last : WalkView
-  pub loads : Loads holds first walk files last
+  pub ends : FindsEnd (bare (plain files)) top items walk last
+
+-- Loading from a top file on, up to these files and this walk through them: the top file is added; then each of so many names that the
+-- walk finds missing is opened, at its first reference, and its file is added, if it can be opened, before the walk goes on.
+pub data Loads (holds : List ℕ → KnownFile) (top : List ℕ) : ℕ → FilesView → WalkView → Type 0 where
+  begins : {files : FilesView} {walk : WalkView}
+      → TakesTop (holds top) no_files files top → IsWalk (bare (plain files)) top [] walk → Loads holds top 0 files walk
+  takes : {names : ℕ} {files more : FilesView} {walk next : WalkView} {name : List ℕ}
+      → Loads holds top names files walk → FindsNext files top walk next name → TakesFile (holds name) files more name
+      → Loads holds top (names + 1) more next
+
+-- The files of a database: those that are loaded from the top file on when the walk has come to its end.
+pub record AreLoaded (holds : List ℕ → KnownFile) (top : List ℕ) (files : FilesView) : Type 0 where
+  pub names : ℕ
+  pub walk : WalkView
+  pub loads : Loads holds top names files walk
+  pub ends : ComesToEnd files top walk
+
+-- a file is what the source holds under its name: its pieces and its tail are the cut of these bytes
+abbrev pub IsOfSource : KnownFile → File → Type 0
+IsOfSource Unknown file = ⊤
+IsOfSource NoFile file = ⊥
+IsOfSource (Bytes bytes) file = IsCut bytes file.pieces file.tail
+
+-- each file is what the source holds under its name, and the top file is among them
+pub record AreOfSource (holds : List ℕ → KnownFile) (top : List ℕ) (files : List File) : Type 0 where
+  pub each : All (λ file. IsOfSource (holds file.name) file) files
+  pub has_top : file_number files top ≢ None
+
+-- a file is there, as far as is known, and is not added to the files under a name that is new: a read of it failed; or its text, if that
+-- is known, has a fault, or is too much
+abbrev pub IsRefused : KnownFile → List File → Type 0
+IsRefused Unknown files = ⊤
+IsRefused NoFile files = ⊥
+IsRefused (Bytes bytes) files = (error : FileError) × (error ≢ errors.Memory) × IsFileError files (Some bytes) error
+
+-- the top file is not added to the files: it cannot be opened, as far as is known, or it is refused
+abbrev pub IsTopRefused : KnownFile → List File → Type 0
+IsTopRefused Unknown files = ⊤
+IsTopRefused NoFile files = ⊤
+IsTopRefused (Bytes bytes) files = IsRefused (Bytes bytes) files
+
+-- loading has gone on to a name that the walk finds missing next, and the file of this name is refused
+pub record StopsAtFile (holds : List ℕ → KnownFile) (top : List ℕ) : Type 0 where
+  pub names : ℕ
+  pub files : FilesView
+  pub walk : WalkView
+  pub loads : Loads holds top names files walk
+  pub next : WalkView
+  pub name : List ℕ
+  pub finds : FindsNext files top walk next name
+  pub is_refused : IsRefused (holds name) (plain files)
+
+-- loading has gone on for 4,294,967,295 missing names: more than files with so many bytes refer to
+pub record TakesTooManyNames (holds : List ℕ → KnownFile) (top : List ℕ) : Type 0 where
+  pub files : FilesView
+  pub walk : WalkView
+  pub loads : Loads holds top 4294967295 files walk
+
+-- why the files of a database are not loaded: memory; or the input, at the top file, or at a file that the walk finds missing next
+abbrev pub IsLoadError : (List ℕ → KnownFile) → List ℕ → Outcome → Type 0
+IsLoadError holds top Memory = ⊤
+IsLoadError holds top Input = IsTopRefused (holds top) [] ⊎ (StopsAtFile holds top ⊎ TakesTooManyNames holds top)
+IsLoadError holds top _ = ⊥

@@ -1,32 +1,45 @@
-use Rattle.std.proofs.Common.{sym, ◌∙◌, subst}
-use Rattle.mmkeep.{specs.Language.Loading.{IsNew, TakesFile, ends, takes}, proofs.LoadLemmas.{may_have, may_keep, missing_new, walked_on}}
+use Rattle.std.proofs.Common.{refl, sym, ◌∙◌, subst, arith}
+use Rattle.mmkeep.{specs.Language.Loading.{IsNew, TakesFile, takes}, proofs.LoadLemmas.{all_taken, finds_next, may_have, may_keep, missing_new, stops_after_all, stops_for_memory}}
 use Rattle.mmkeep.proofs.loading.add_missing.Goals as goal
 
 pub take_included-requires : goal.take_included-requires
 take_included-requires g c =
-    let walked = c.loop.invariant.walked in
+    let known = g.S.Source.holds c.args.source.now in
+    let top = c.requires.0 in
+    let loads = c.loop-names.invariant.loads top c.requires.1 in
     let found = rw c.in-Ok-Some.field-0-is at c.in-Ok-Some.ensures.found in
-    subst (IsNew c.loop.files) (sym c.deref.ensures.value)
-    (missing_new c.loop.files walked.0 c.in-Ok-Some.name.items walked.1 c.loop.walk c.next_missing.new.self (found walked.0 walked.1 walked.2))
+    let next = finds_next known top c.walks_go_on.ensures.added loads c.next_missing.new.self c.in-Ok-Some.name.items found in
+    subst (IsNew c.loop-names.files) (sym c.deref.ensures.value)
+    (missing_new c.loop-names.files top c.in-Ok-Some.name.items next.items c.loop-names.walk c.next_missing.new.self next.finds)
 
-pub returns-in-Ok-None-clause-loads : goal.returns-in-Ok-None-clause-loads
-returns-in-Ok-None-clause-loads g c =
-    let walked = c.loop.invariant.walked in
+pub loop-names-init : goal.loop-names-init
+loop-names-init g c = record { loads = λ top begun. begun; parked = refl; kept = λ name there. there }
+
+pub returns-in-Ok-None-clause-loaded : goal.returns-in-Ok-None-clause-loaded
+returns-in-Ok-None-clause-loaded g c = λ top begun.
+    let known = g.S.Source.holds c.args.source.now in
     let found = rw c.in-Ok-None.field-0-is at c.in-Ok-None.ensures.end in
-    c.loop.invariant.loads c.loop.files c.next_missing.new.self (ends walked.2 (found walked.0 walked.1 walked.2))
+    all_taken known top c.walks_go_on.ensures.added (c.loop-names.invariant.loads top begun) c.next_missing.new.self found
 
-pub loop-preserved : goal.loop-preserved
-loop-preserved g c =
-    let walked = c.loop.invariant.walked in
+pub returns-in-Err-clause-error : goal.returns-in-Err-clause-error
+returns-in-Err-clause-error g c = λ top begun. stops_for_memory (g.S.Source.holds c.args.source.now) top _ c.report_out_of_memory.ensures
+
+pub returns-clause-error : goal.returns-clause-error
+returns-clause-error g c = λ top begun.
+    stops_after_all (g.S.Source.holds c.args.source.now) top _ (c.loop-names.invariant.loads top begun) (omega arith) c.refuse_size.ensures
+
+pub loop-names-preserved : goal.loop-names-preserved
+loop-names-preserved g c =
     let known = g.S.Source.holds c.args.source.now in
     let found = rw c.in-Ok-Some.field-0-is at c.in-Ok-Some.ensures.found in
     let done = c.in_ok-take_included-in-Ok-Some.ensures in
-    let taken = subst (λ name. TakesFile (known name) c.loop.files c.take_included.new.files name) c.deref.ensures.value done.taken in
-    let added = may_have (known c.in-Ok-Some.name.items) c.loop.files c.take_included.new.files c.in-Ok-Some.name.items taken in
+    let name = c.in-Ok-Some.name.items in
+    let taken = subst (λ name. TakesFile (known name) c.loop-names.files c.take_included.new.files name) c.deref.ensures.value done.taken in
+    let added = may_have (known name) c.loop-names.files c.take_included.new.files name taken in
     record {
-      loads = λ final last rest. c.loop.invariant.loads final last (takes walked.2 (found walked.0 walked.1 walked.2) taken rest);
-      parked = done.parked ∙ c.loop.invariant.parked;
-      kept = λ name there. may_keep c.loop.files c.take_included.new.files c.in-Ok-Some.name.items added name (c.loop.invariant.kept name there);
-      walked = walked_on c.walks_go_on.ensures.added c.loop.files c.take_included.new.files walked.0 c.in-Ok-Some.name.items walked.1 c.loop.walk
-          c.next_missing.new.self (found walked.0 walked.1 walked.2) added;
+      loads = λ top begun.
+          let loads = c.loop-names.invariant.loads top begun in
+          takes loads (finds_next known top c.walks_go_on.ensures.added loads c.next_missing.new.self name found) taken;
+      parked = done.parked ∙ c.loop-names.invariant.parked;
+      kept = λ name there. may_keep c.loop-names.files c.take_included.new.files c.in-Ok-Some.name.items added name (c.loop-names.invariant.kept name there);
     }
