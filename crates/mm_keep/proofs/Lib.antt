@@ -19,4 +19,3 @@ pub mod CitationLemmas
 pub mod DecidingLemmas
 pub mod DecidedViews
 pub mod HavingLemmas
-pub mod RestLemmas

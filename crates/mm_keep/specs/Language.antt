@@ -6,6 +6,4 @@ pub mod Runs
 pub mod Citations
 pub mod Sessions
 pub mod Refusals
-pub mod Derivable
-pub mod Resting
 pub mod Laws

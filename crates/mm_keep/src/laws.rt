@@ -1,7 +1,7 @@
 //! What is proved of the definitions: each law is the contract of a function.
 
 ghost use Rattle.mm_keep.specs.Language.Laws.{AxiomsHaveThemselves, ChainsLeadBack, ItemsHaveFindings, OneListEach, OneListOfRuns};
-ghost use Rattle.mm_keep.specs.Language.Laws.{FilesGiveItems, HasListEach, HasListOfRuns, LabelsAreDecided, ProvedRestsOnAxioms};
+ghost use Rattle.mm_keep.specs.Language.Laws.{FilesGiveItems, HasListEach, HasListOfRuns, LabelsAreDecided};
 
 /// Between files before and files after there is one list of runs, whatever keys their pieces have.
 pub fn one_list_of_runs()
@@ -61,12 +61,4 @@ pub fn has_list_each()
     mm_proof::files_have_one_base();
     mm_proof::has_own_labels();
     mm_proof::cites_tell();
-}
-
-/// If each theorem is proved to which chains of citations lead from an assertion, itself included, the assertion rests on its
-/// axioms: it is one of them; or labels derive its statement, and each assertion that they mean rests on these axioms.
-pub fn proved_rests_on_axioms()
-    ensures { ProvedRestsOnAxioms }
-{
-    mm_proof::proved_is_derived_at();
 }

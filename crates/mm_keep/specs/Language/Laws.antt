@@ -1,13 +1,10 @@
 -- What is proved of sessions: each is the contract of a function.
-use Rattle.std.specs.Prelude.{◌≡◌, ◌≢◌, ◌↔◌, ◌⊎◌, ◌<◌, ◌≤◌, ℕ, List, None, true, length, Contains}
+use Rattle.std.specs.Prelude.{◌≡◌, ◌≢◌, ◌↔◌, ◌⊎◌, ◌<◌, ◌≤◌, ℕ, List, None, length}
 use Rattle.mm_proof.specs.mm_store.Language.FileFacts.{HoldsPieces}
 use Rattle.mm_proof.specs.mm_store.Language.FilesView.{FilesView, file_number, plain}
 use Rattle.mm_proof.specs.mm_store.Language.Holding.{HoldOneEach}
-use Rattle.mm_proof.specs.mm_frame.Language.Base.{BaseView, IsOfFiles, is_framed_at, is_proof_at}
-use Rattle.mm_proof.specs.mm_verdict.Language.VerdictAt.{IsVerdictAt}
-use Rattle.mm_proof.specs.mm_machine.declared.Verdict.TheVariants as verdicts
+use Rattle.mm_proof.specs.mm_frame.Language.Base.{BaseView, IsOfFiles}
 use Rattle.mm_keep.specs.Language.Citations.{IsAxiomOf, LeadsTo}
-use Rattle.mm_keep.specs.Language.Resting.{RestsOn}
 use Rattle.mm_keep.specs.Language.Runs.{AreRunsOf}
 use Rattle.mm_keep.specs.Language.Sessions.{SessionView, HasAssertion, AreCitesOf, AreUsersOf, AreAxiomsOf}
 use Rattle.mm_keep.specs.Language.Told.{Told, IsAxiom, IsRightlyTold}
@@ -67,11 +64,3 @@ HasListOf AreSo = (session : SessionView) (label : List ℕ) → HasAssertion se
 -- There is a list each of what an assertion cites, of what cites it, and of its axioms.
 abbrev pub HasListEach : Type 0
 HasListEach = HasListOf AreCitesOf × HasListOf AreUsersOf × HasListOf AreAxiomsOf
-
--- An assertion rests on its axioms, if each theorem is proved to which chains of citations lead from it, itself included.
-abbrev pub ProvedRestsOnAxioms : Type 0
-ProvedRestsOnAxioms =
-    (base : BaseView) (i : ℕ) (axioms : List ℕ) → is_framed_at base i ≡ true
-    → ((k : ℕ) → IsAxiomOf base i k → Contains axioms k)
-    → ((k : ℕ) → LeadsTo base k i → is_proof_at base k ≡ true → IsVerdictAt base k verdicts.Proved)
-    → RestsOn base axioms i
