@@ -1,7 +1,7 @@
 //! The laws of the proofs of items.
 
 ghost use Rattle.mm_verdict.specs.Language.ItemLaws.{MandatoryLabelsMean, HasOneVerdictAt, HasVerdictAt, ProvedIsDerivedAt};
-ghost use Rattle.mm_verdict.specs.Language.ItemLaws.{HasOneCountAt, HasCountAt, SpotsAreIn};
+ghost use Rattle.mm_verdict.specs.Language.ItemLaws.{LabelsAreAProof, HasOneCountAt, HasCountAt, SpotsAreIn};
 
 use crate::decoding_laws::decodes_surely;
 use mm_frame::{items_have_labels, mandatory_means, mandatory_stand_before, places_have_frames};
@@ -81,4 +81,9 @@ pub fn has_count_at()
 /// For the places of wrong and of incomplete proofs.
 pub fn spots_are_in()
     ensures { SpotsAreIn }
+{}
+
+/// Labels that derive a statement are, as the words of a normal proof, a proof of it.
+pub fn labels_are_a_proof()
+    ensures { LabelsAreAProof }
 {}

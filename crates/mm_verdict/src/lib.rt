@@ -31,8 +31,8 @@ pub use decoding_laws::{
 };
 pub use examples::proofs_are_read_so;
 pub use item_laws::{
-    has_count_at, has_one_count_at, has_one_verdict_at, has_verdict_at, mandatory_labels_mean,
-    proved_is_derived_at, spots_are_in,
+    has_count_at, has_one_count_at, has_one_verdict_at, has_verdict_at, labels_are_a_proof,
+    mandatory_labels_mean, proved_is_derived_at, spots_are_in,
 };
 pub use mm_frame::{
     Base, BatchError, Edit, EditError, Files, Item, ItemKind, Keyword, NamedSymbol, Names,

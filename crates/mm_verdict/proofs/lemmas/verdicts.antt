@@ -1,3 +1,4 @@
 -- The verdict on the proof of an item, and how many of its steps are done.
 
 pub mod ItemLemmas
+pub mod NormalLemmas

@@ -1,11 +1,14 @@
 -- What is proved of the proofs of items: each is the contract of a function.
-use Rattle.std.specs.Prelude.{◌≡◌, ◌↔◌, ◌≤◌, ℕ, Ok, List, [], length, slice_index_or}
-use Rattle.std.specs.List.{AllZip}
+use Rattle.std.specs.Prelude.{◌≡◌, ◌↔◌, ◌≤◌, ℕ, Ok, true, List, [], length, slice_index_or}
+use Rattle.std.specs.List.{AllByRecursion, AllZip, list_all}
+use Rattle.mm_frame.specs.mm_text.Language.Unit.{is_label_byte}
 use Rattle.mm_frame.specs.Language.Base.{BaseView, AreSaid, frame_at, said_at}
-use Rattle.mm_machine.specs.Language.Frame.{Mandatory, Hypothesis, Setting}
+use Rattle.mm_machine.specs.Language.Frame.{Mandatory, Hypothesis, Setting, Symbol}
+use Rattle.mm_machine.specs.Language.Derivation.{Derives}
+use Rattle.mm_verdict.specs.Language.Decoding.{decoding}
 use Rattle.mm_verdict.specs.Language.BaseLabels.{setting_at}
 use Rattle.mm_machine.specs.Language.Machine.{AreAllKnown}
-use Rattle.mm_machine.specs.Language.Verdict.{Decoded, StepsDerive}
+use Rattle.mm_machine.specs.Language.Verdict.{Decoded, IsVerdict, StepsDerive}
 use Rattle.mm_verdict.specs.Language.VerdictAt.{mandatory_labels, statement_at, decoding_at, IsVerdictAt, AreDoneAt}
 use Rattle.mm_machine.specs.declared.Spot.{Spot}
 use Rattle.mm_machine.specs.declared.Verdict.{Verdict}
@@ -59,3 +62,13 @@ TellsSpotIn words (Wrong number spot) = IsSpotIn words spot
 -- The spot of the verdict on the proof of an item is in that proof.
 abbrev pub SpotsAreIn : Type 0
 SpotsAreIn = (view : BaseView) (i : ℕ) (v : Verdict) → IsVerdictAt view i v → TellsSpotIn (said_at view i).proof v
+
+-- each byte of the word is one that a label may have
+abbrev pub CouldLabel : List ℕ → Type 0
+CouldLabel word = list_all is_label_byte word ≡ true
+
+-- Labels that derive a statement are a normal proof of it: as the words of the proof, they are judged Proved.
+abbrev pub LabelsAreAProof : Type 0
+LabelsAreAProof =
+    (place : Setting) (mandatory labels : List (List ℕ)) (statement : List Symbol) → AllByRecursion CouldLabel labels → Derives place labels statement
+    → IsVerdict place statement (decoding place mandatory labels) Proved
