@@ -35,7 +35,7 @@ one_side stands alike base other e i numbers copies a b k h = grind (arith, a.ea
 one_list_of :
     AlikeFilesSayTheSame → HasOwnLabels → (stands : BaseView → ℕ → ℕ → Type 0) → AreAlike stands →
     IsOneList (λ session label numbers. AreNumbersOf session label stands numbers)
-one_list_of say own stands alike session other label numbers copies files top a b =
+one_list_of say own stands alike label session other numbers copies files top a b =
     let base = a.0 in
     let copy = b.0 in
     let is_other = subst (λ (name : List ℕ). IsOfFiles other.files name copy) (sym top) b.1 in

@@ -12,10 +12,15 @@ pub mod NumberLemmas
 pub mod RunLaws
 pub mod FoundLemmas
 pub mod FindingLaws
+pub mod AlikeItems
+pub mod AlikeBases
 pub mod CitedWords
 pub mod CitedItems
 pub mod ChainLemmas
 pub mod CitationLemmas
+pub mod OneAnswers
 pub mod DecidingLemmas
 pub mod DecidedViews
 pub mod HavingLemmas
+pub mod DerivableLemmas
+pub mod RestLemmas

@@ -6,4 +6,6 @@ pub mod Runs
 pub mod Citations
 pub mod Sessions
 pub mod Refusals
+pub mod Derivable
+pub mod Resting
 pub mod Laws

@@ -13,6 +13,8 @@ ghost use Rattle.mm_keep.specs.Code.FoundKinds.{IsFoundAs};
 ghost use Rattle.mm_keep.specs.Code.KeptSession.{AreChecked};
 ghost use Rattle.mm_keep.specs.Code.OfFiles.{IsOf, HasChecked, HasCheckedItem, HasVerdictOf};
 ghost use Rattle.mm_keep.specs.declared.answers.KeepError.TheVariants.{NoAssertion};
+ghost use Rattle.mm_keep.specs.declared.finding.Finding.TheVariants.{Proved};
+ghost use Rattle.mm_keep.specs.Language.Derivable.{IsDerivable, IsLabelDerivable};
 ghost use Rattle.mm_keep.specs.Language.Sessions.{HasAssertion, HasItem, IsAssertion, IsFinding, IsTally, IsVerdictOf, OfItems};
 ghost use Rattle.mm_keep.specs.Language.Told.{Told, IsRightlyTold, AreRightlyTold, TellsFaultAt, counts};
 
@@ -22,7 +24,8 @@ use crate::seen::{place_of_spot, seen_at};
 use crate::session::Session;
 use crate::tally::Tally;
 use mm_proof::{
-    Base, Files, FrameFault, Item, ItemKind, Verdict, files_have_one_base, spots_are_in,
+    Base, Files, FrameFault, Item, ItemKind, Verdict, files_have_one_base, proved_is_derived_at,
+    spots_are_in,
 };
 use std::alloc::AllocError;
 use thiserror::Error;
@@ -141,13 +144,16 @@ fn assertion_in(base: &Base, label: &[u8]) -> Option<usize>
 }
 
 impl Session {
-    /// What is found of the item with this number, counted from 0. It takes no memory; a place costs one look at its piece.
+    /// What is found of the item with this number, counted from 0. Of what is Proved, labels derive the statement. It takes no
+    /// memory; a place costs one look at its piece.
     pub fn finding(&self, i: usize) -> Finding<'_>
         requires { HasItem self.now i }
-        ensures { IsFinding self.now i (told result) }
+        ensures found { IsFinding self.now i (told result) }
+        ensures derived { result ≡ Proved → IsDerivable self.now i }
     {
         files_have_one_base();
         mm_proof::items_stand();
+        proved_is_derived_at();
         finding_of(&self.files, &self.base, &self.checked, i)
     }
 
@@ -160,9 +166,11 @@ impl Session {
         assertion_in(&self.base, label)
     }
 
-    /// What is found of the sound `$a` or `$p` with this label. It takes no memory; the one error is that there is none.
+    /// What is found of the sound `$a` or `$p` with this label. Of what is Proved, labels derive the statement. It takes no
+    /// memory; the one error is that there is none.
     pub fn verdict(&self, label: &[u8]) -> Result<Finding<'_>, KeepError>
         ensures ok { IfOk result (λ finding. IsVerdictOf self.now label.now (told finding)) }
+        ensures derived { IfOk result (λ finding. finding ≡ Proved → IsLabelDerivable self.now label.now) }
         ensures none { IsErrOf result NoAssertion ↔ ¬ HasAssertion self.now label.now }
         ensures err { IfErr result (λ error. error ≡ NoAssertion) }
     {

@@ -1,7 +1,8 @@
 //! What is proved of the definitions: each law is the contract of a function.
 
 ghost use Rattle.mm_keep.specs.Language.Laws.{AxiomsHaveThemselves, ChainsLeadBack, ItemsHaveFindings, OneListEach, OneListOfRuns};
-ghost use Rattle.mm_keep.specs.Language.Laws.{FilesGiveItems, HasListEach, HasListOfRuns, LabelsAreDecided};
+ghost use Rattle.mm_keep.specs.Language.Laws.{FilesGiveItems, HasListEach, HasListOfRuns, LabelsAreDecided, ProvedRestsOnAxioms};
+ghost use Rattle.mm_keep.specs.Language.Laws.{OneCount, OneFinding, OneLabel, OneTally, OneVerdict, ProvedIsDerivable};
 
 /// Between files before and files after there is one list of runs, whatever keys their pieces have.
 pub fn one_list_of_runs()
@@ -17,6 +18,23 @@ pub fn items_have_findings()
     mm_proof::items_stand();
     mm_proof::has_verdict_at();
     mm_proof::spots_are_in();
+}
+
+/// Sessions whose files are the same but for the keys of their pieces, from one top file on, have one answer each: how many
+/// items there are, the label of each, what is found of each, the verdict on each assertion, and the tally.
+pub fn one_answer_each()
+    ensures count { OneCount }
+    ensures label { OneLabel }
+    ensures finding { OneFinding }
+    ensures verdict { OneVerdict }
+    ensures tally { OneTally }
+{
+    mm_proof::one_meaning();
+    mm_proof::items_stand();
+    mm_proof::files_have_one_base();
+    mm_proof::has_own_labels();
+    mm_proof::has_one_verdict_at();
+    mm_proof::same_view_same_verdict();
 }
 
 /// Of an assertion there is one list each of what it cites, of what cites it, and of its axioms, whatever keys the pieces of
@@ -61,4 +79,19 @@ pub fn has_list_each()
     mm_proof::files_have_one_base();
     mm_proof::has_own_labels();
     mm_proof::cites_tell();
+}
+
+/// If an item is rightly reported as Proved, some labels derive its statement.
+pub fn proved_is_derivable()
+    ensures { ProvedIsDerivable }
+{
+    mm_proof::proved_is_derived_at();
+}
+
+/// If each theorem is proved to which chains of citations lead from an assertion, itself included, the assertion rests on its
+/// axioms: it is one of them; or labels derive its statement, and each assertion that they mean rests on these axioms.
+pub fn proved_rests_on_axioms()
+    ensures { ProvedRestsOnAxioms }
+{
+    mm_proof::proved_is_derived_at();
 }

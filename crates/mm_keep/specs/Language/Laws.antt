@@ -1,13 +1,18 @@
 -- What is proved of sessions: each is the contract of a function.
-use Rattle.std.specs.Prelude.{◌≡◌, ◌≢◌, ◌↔◌, ◌⊎◌, ◌<◌, ◌≤◌, ℕ, List, None, length}
+use Rattle.std.specs.Prelude.{◌≡◌, ◌≢◌, ◌↔◌, ◌⊎◌, ◌<◌, ◌≤◌, ℕ, List, None, true, length, Contains}
 use Rattle.mm_proof.specs.mm_store.Language.FileFacts.{HoldsPieces}
 use Rattle.mm_proof.specs.mm_store.Language.FilesView.{FilesView, file_number, plain}
 use Rattle.mm_proof.specs.mm_store.Language.Holding.{HoldOneEach}
-use Rattle.mm_proof.specs.mm_frame.Language.Base.{BaseView, IsOfFiles}
+use Rattle.mm_proof.specs.mm_frame.Language.Base.{BaseView, IsOfFiles, is_framed_at, is_proof_at}
+use Rattle.mm_proof.specs.mm_verdict.Language.VerdictAt.{IsVerdictAt}
+use Rattle.mm_proof.specs.mm_machine.declared.Verdict.TheVariants as verdicts
 use Rattle.mm_keep.specs.Language.Citations.{IsAxiomOf, LeadsTo}
+use Rattle.mm_keep.specs.Language.Derivable.{IsDerivableAt}
+use Rattle.mm_keep.specs.Language.Resting.{RestsOn}
 use Rattle.mm_keep.specs.Language.Runs.{AreRunsOf}
-use Rattle.mm_keep.specs.Language.Sessions.{SessionView, HasAssertion, AreCitesOf, AreUsersOf, AreAxiomsOf}
-use Rattle.mm_keep.specs.Language.Told.{Told, IsAxiom, IsRightlyTold}
+use Rattle.mm_keep.specs.Language.Sessions.{SessionView, HasAssertion, IsCount, IsLabelOfItem, IsFinding, IsVerdictOf, IsTally}
+use Rattle.mm_keep.specs.Language.Sessions.{AreCitesOf, AreUsersOf, AreAxiomsOf}
+use Rattle.mm_keep.specs.Language.Told.{Told, Proved, IsAxiom, IsRightlyTold}
 
 -- Between files before and files after there is one list of runs, whatever keys their pieces have.
 abbrev pub OneListOfRuns : Type 0
@@ -21,11 +26,35 @@ ItemsHaveFindings =
     (files : FilesView) (top : List ℕ) (base : BaseView) → IsOfFiles files top base → (i : ℕ) → i < length base.said
     → (one : Told) × IsRightlyTold files base i one
 
+-- sessions whose files are the same but for the keys of their pieces, from one top file on, have one such answer at most
+abbrev pub IsOneAnswer : {A : Type 0} → (SessionView → A → Type 0) → Type 0
+IsOneAnswer {A} IsSo =
+    (session other : SessionView) (answer copy : A) → plain session.files ≡ plain other.files → session.top ≡ other.top
+    → IsSo session answer → IsSo other copy → answer ≡ copy
+
+-- There is one count of the items.
+abbrev pub OneCount : Type 0
+OneCount = IsOneAnswer IsCount
+
+-- There is one label at most of each item.
+abbrev pub OneLabel : Type 0
+OneLabel = (i : ℕ) → IsOneAnswer (λ session label. IsLabelOfItem session i label)
+
+-- One thing is rightly reported of each item.
+abbrev pub OneFinding : Type 0
+OneFinding = (i : ℕ) → IsOneAnswer (λ session told. IsFinding session i told)
+
+-- One thing is rightly reported of the assertion with a label.
+abbrev pub OneVerdict : Type 0
+OneVerdict = (label : List ℕ) → IsOneAnswer (λ session told. IsVerdictOf session label told)
+
+-- There is one tally.
+abbrev pub OneTally : Type 0
+OneTally = IsOneAnswer IsTally
+
 -- the relation holds of a label and one list at most, in sessions of files that mean the same
 abbrev pub IsOneList : (SessionView → List ℕ → List ℕ → Type 0) → Type 0
-IsOneList AreSo =
-    (session other : SessionView) (label numbers copies : List ℕ) → plain session.files ≡ plain other.files → session.top ≡ other.top →
-    AreSo session label numbers → AreSo other label copies → numbers ≡ copies
+IsOneList AreSo = (label : List ℕ) → IsOneAnswer (λ session numbers. AreSo session label numbers)
 
 -- There is one list each of what an assertion cites, of what cites it, and of its axioms.
 abbrev pub OneListEach : Type 0
@@ -64,3 +93,15 @@ HasListOf AreSo = (session : SessionView) (label : List ℕ) → HasAssertion se
 -- There is a list each of what an assertion cites, of what cites it, and of its axioms.
 abbrev pub HasListEach : Type 0
 HasListEach = HasListOf AreCitesOf × HasListOf AreUsersOf × HasListOf AreAxiomsOf
+
+-- If an item is rightly reported as Proved, some labels derive its statement.
+abbrev pub ProvedIsDerivable : Type 0
+ProvedIsDerivable = (files : FilesView) (base : BaseView) (i : ℕ) → IsRightlyTold files base i Proved → IsDerivableAt base i
+
+-- An assertion rests on its axioms, if each theorem is proved to which chains of citations lead from it, itself included.
+abbrev pub ProvedRestsOnAxioms : Type 0
+ProvedRestsOnAxioms =
+    (base : BaseView) (i : ℕ) (axioms : List ℕ) → is_framed_at base i ≡ true
+    → ((k : ℕ) → IsAxiomOf base i k → Contains axioms k)
+    → ((k : ℕ) → LeadsTo base k i → is_proof_at base k ≡ true → IsVerdictAt base k verdicts.Proved)
+    → RestsOn base axioms i

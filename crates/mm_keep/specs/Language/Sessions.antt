@@ -12,6 +12,10 @@ pub record SessionView : Type 0 where
   pub files : FilesView
   pub top : List ℕ
 
+-- the files of the session give items
+abbrev pub HasItems : SessionView → Type 0
+HasItems session = (base : BaseView) × IsOfFiles session.files session.top base
+
 -- this holds of the items of the session's files
 abbrev pub OfItems : SessionView → (BaseView → Type 0) → Type 0
 OfItems session P = (base : BaseView) × IsOfFiles session.files session.top base × P base
