@@ -12,7 +12,7 @@ ghost use Rattle.mm_proof.specs.mm_text.Language.Asked.{asked, edited_name};
 ghost use Rattle.mm_proof.specs.mm_store.Language.Edits.{IsEditOf, NamesNoMember};
 ghost use Rattle.mm_proof.specs.mm_store.Language.FileFacts.{parked_in};
 ghost use Rattle.mm_proof.specs.mm_store.Language.FilesView.{FilesView, files_in, file_number, number_of, plain};
-ghost use Rattle.mm_keep.specs.Code.Changing.{CanTake, HasKept, HasTaking, IsChangeError, WereKept, session_of};
+ghost use Rattle.mm_keep.specs.Code.Changing.{CanTake, HasKept, HasTaking, WereKept, session_of};
 ghost use Rattle.mm_keep.specs.Code.Next.{IsFirst};
 ghost use Rattle.mm_keep.specs.Language.Refusals.{IsRefusal, IsBatchRefusal};
 ghost use Rattle.mm_keep.specs.Language.Sessions.{IsBegun, IsChanged, IsCount, IsLabelOfItem};
@@ -160,7 +160,7 @@ fn change(
     ensures kept { HasKept files.new top.now names.new base.new checked.new }
     ensures files { OnOk result (IsBatchOf (map asked edits.now) (plain files.old) (plain files.new)) }
     ensures runs { IfOk result (IsChanged (session_of files.old top.now) (session_of files.new top.now)) }
-    ensures refused { IfErr result (IsChangeError (map asked edits.now) (plain files.old)) }
+    ensures refused { IfErr result (IsBatchRefusal (map asked edits.now) (plain files.old)) }
     ensures unchanged { OnErr result (files.new ≡ files.old) }
 {
     mm_proof::edits_keep_files();
@@ -221,7 +221,7 @@ impl Session {
         ensures refused { IfErr result (IsRefusal (asked edit.now) (plain self.old.files)) }
         ensures unchanged { OnErr result (self.new ≡ self.old) }
     {
-        match self.change_all(slice::from_ref(edit)) {
+        match self.edit_all(slice::from_ref(edit)) {
             Ok(work) => Ok(work),
             Err(error) => Err(reason(error)),
         }
@@ -231,27 +231,13 @@ impl Session {
     /// order, the proofs of the sound `$p` of the files after them all. A proof is not run if the files before them all had a
     /// sound `$p` of the same label with an equal view. So each proof is run once at most.
     ///
-    /// If an edit is refused, the error has its number, from 0, and the reason, which is never out of memory. After any
-    /// error the session is as before. No edits are accepted, and run nothing.
+    /// If an edit is refused, the error has its number, from 0, and the reason, which is never out of memory. `Memory` can come
+    /// in the place of each other answer, once the file and the pieces of the first edit are known to be there, or if there are
+    /// no edits. After any error the session is as before. No edits are accepted, and run nothing.
     pub fn edit_all(&mut self, edits: &[Edit<'_>]) -> Result<Work, BatchError>
         ensures files { OnOk result (IsBatchOf (map asked edits.now) (plain self.old.files) (plain self.new.files)) }
         ensures runs { IfOk result (IsChanged self.old self.new) }
         ensures refused { IfErr result (IsBatchRefusal (map asked edits.now) (plain self.old.files)) }
-        ensures unchanged { OnErr result (self.new ≡ self.old) }
-    {
-        self.change_all(edits)
-    }
-
-    /// The allocator that all lists are made on.
-    pub(crate) fn allocator(&self) -> Global {
-        *self.top.allocator()
-    }
-
-    /// Does edits. Out of memory comes once the file and the members of the first are known, or if there are no edits.
-    fn change_all(&mut self, edits: &[Edit<'_>]) -> Result<Work, BatchError>
-        ensures files { OnOk result (IsBatchOf (map asked edits.now) (plain self.old.files) (plain self.new.files)) }
-        ensures runs { IfOk result (IsChanged self.old self.new) }
-        ensures refused { IfErr result (IsChangeError (map asked edits.now) (plain self.old.files)) }
         ensures unchanged { OnErr result (self.new ≡ self.old) }
     {
         change(
@@ -262,6 +248,11 @@ impl Session {
             &mut self.checked,
             edits,
         )
+    }
+
+    /// The allocator that all lists are made on.
+    pub(crate) fn allocator(&self) -> Global {
+        *self.top.allocator()
     }
 
     /// The files, with all edits that were accepted; none of their pieces is parked.

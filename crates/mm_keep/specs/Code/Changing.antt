@@ -1,12 +1,9 @@
 -- What a session keeps, by its parts, and how it goes on with edited files.
-use Rattle.std.specs.Prelude.{◌≡◌, ◌⊎◌, ℕ, Option, List, []}
-use Rattle.mm_proof.specs.mm_store.declared.batch.BatchError.{BatchError}
-use Rattle.mm_proof.specs.mm_store.declared.batch.BatchError.TheVariants as batch
+use Rattle.std.specs.Prelude.{◌≡◌, ℕ, Option, List}
 use Rattle.mm_proof.specs.mm_store.Language.Undoing.{UndoView}
-use Rattle.mm_proof.specs.mm_store.Language.Batches.{IsRefusedAt, IsSpendable, KeepsReading, StartsPlaced}
-use Rattle.mm_proof.specs.mm_text.Language.Asked.{Asked}
+use Rattle.mm_proof.specs.mm_store.Language.Batches.{IsSpendable, KeepsReading}
 use Rattle.mm_proof.specs.mm_store.Language.FileFacts.{parked_in}
-use Rattle.mm_proof.specs.mm_store.Language.FilesView.{File, FilesView}
+use Rattle.mm_proof.specs.mm_store.Language.FilesView.{FilesView}
 use Rattle.mm_proof.specs.mm_frame.Language.Base.{BaseView, IsOfFiles}
 use Rattle.mm_proof.specs.mm_frame.declared.base.Base.{Base}
 use Rattle.mm_keep.specs.Code.KeptCheck.{Kept}
@@ -52,8 +49,3 @@ pub record CanTake
 -- this holds of some files of before
 abbrev pub HasTaking : FilesView → List UndoView → List Kept → Next → Type 0
 HasTaking after undos checked next = (before : FilesView) × (top : List ℕ) × (names : List (List ℕ)) × CanTake before after undos top names checked next
-
--- why edits of a session are not done: one is refused; or out of memory, once file and members of the first are known
-abbrev pub IsChangeError : List Asked → List File → BatchError → Type 0
-IsChangeError edits files (batch.Edit n error) = IsRefusedAt edits files n error
-IsChangeError edits files batch.Memory = StartsPlaced edits files ⊎ (edits ≡ [])
