@@ -4,9 +4,9 @@ use Rattle.std.proofs.Common.{◌≡◌, ℕ, ◌<◌, Bool, true, false, ◌&&�
 use Rattle.mm_keep.specs.{mm_store.Language.FilesView.{FilesView, File, plain}, mm_frame.Language.{Base.{BaseView, IsOfFiles, told_fault, fault_at, is_sound_at, said_at}, Sound.{sound_items}}}
 use Rattle.mm_keep.specs.{mm_frame.declared.FrameNumber.{FrameNumber}, mm_statement.Language.Item.{Kind, Axiom, Theorem, Item, is_assertion, is_theorem, item_at}}
 use Rattle.mm_keep.specs.{mm_verdict.Language.VerdictAt.{IsVerdictAt}, mm_machine.declared.{ProofNumber.{ProofNumber}, Spot.{Spot}, Verdict.{Verdict}}, declared.finding.At.{At}}
-use Rattle.mm_keep.specs.Language.Sessions.{SessionView, IsFinding}
+use Rattle.mm_keep.specs.Language.Sessions.{SessionView}
 use Rattle.mm_keep.specs.Language.Told.{Shown, Told, Quiet, AnAxiom, Proved, Incomplete, Wrong, Fault, IsRightlyTold, IsFaultOf, HasProofVerdict, HasVerdictShown, AreRightlyTold}
-use Rattle.mm_report.{specs.Language.{Laws.{OneFinding, OneReport}, Report.{IsReport}}, proofs.DatabaseLemmas.{Laws, Database, same_items, same_spot_place, same_shown_word}}
+use Rattle.mm_report.{specs.Language.{Laws.{OneReport}, Report.{IsReport}}, proofs.DatabaseLemmas.{Laws, Database, same_items, same_spot_place, same_shown_word}}
 use Rattle.mm_keep.specs.mm_machine.declared.Verdict.TheVariants as verdicts
 
 -- ---- what is reported of one item
@@ -129,16 +129,3 @@ report_database {session} meaning top_is f = record {
 pub same_report : Laws → OneReport
 same_report laws session other bytes copy same tops f g =
     grind (arith, same_items laws (report_database same tops f) (report_database refl refl g), same_all_told laws (report_database same tops f) (report_database refl refl g) f.all g.all f.are_told g.are_told) steps 200000
-
--- ---- one finding
-
-abbrev finding_database : {session : SessionView} {means : List File} {top : List ℕ} (i : ℕ) (one : Told) → plain session.files ≡ means → session.top ≡ top → IsFinding session i one → Database means top
-finding_database {session} i one meaning top_is f = record {
-  files = session.files;
-  view = f.0;
-  meaning = meaning;
-  of_files = subst (λ (name : List ℕ). IsOfFiles session.files name f.0) top_is f.1;
-}
-
-pub same_finding : Laws → OneFinding
-same_finding laws session other i one copy same tops f g = same_told laws (finding_database i one same tops f) (finding_database i copy refl refl g) i one copy f.2 g.2

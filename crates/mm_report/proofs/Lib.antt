@@ -10,4 +10,3 @@ pub mod LoopLemmas
 pub mod AssertionLemmas
 pub mod ScriptAnswerLemmas
 pub mod HavingLemmas
-pub mod InOrderLemmas
