@@ -2,7 +2,6 @@ pub mod StreamLemmas
 pub mod FileLemmas
 pub mod ReportLemmas
 pub mod WrittenLemmas
-pub mod DatabaseLemmas
 pub mod AnswerLemmas
 pub mod LabelLemmas
 pub mod AskedLemmas
@@ -10,3 +9,4 @@ pub mod LoopLemmas
 pub mod AssertionLemmas
 pub mod ScriptAnswerLemmas
 pub mod HavingLemmas
+pub mod InOrderLemmas

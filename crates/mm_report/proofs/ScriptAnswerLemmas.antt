@@ -3,12 +3,11 @@ use Rattle.std.proofs.lemmas.{Bool.{cases_lt}, List.Elements.{filter_map-append}
 use Rattle.std.proofs.Common.{◌≡◌, ◌≢◌, ◌⊎◌, ℕ, zero, suc, ◌<◌, ◌≤◌, Some, List, [], ◌∷◌, ◌++◌, length, map, take, refl, sym, ap, ◌∙◌, subst, inl, inr, arith, append_assoc, codes, slice_get}
 use Rattle.std.proofs.Common.{append-nil, take_all}
 use Rattle.mm_keep.specs.mm_store.{declared.edit.EditError.{EditError, TheVariants.{Memory}}, Language.{Answers.{IsEditError}, Batches.{IsBatchOf, IsRefusedAt}, Edits.{IsEditOf}}}
-use Rattle.mm_keep.specs.{mm_store.Language.FilesView.{File, plain}, mm_text.Language.Asked.{Asked}, mm_frame.Language.{Base.{BaseView, IsOfFiles}, Laws.{HasOwnLabels}}}
-use Rattle.mm_keep.specs.Language.{Citations.{CitesItem, IsAxiomOf}, Laws.{IsOneList, OneListEach, OneListOfRuns}, Runs.{AreRunsOf}, Sessions.{SessionView, AreNumbersOf, HasAssertion}}
-use Rattle.mm_keep.specs.Language.Told.{IsRightlyTold}
+use Rattle.mm_keep.specs.{mm_store.Language.FilesView.{File, plain}, mm_text.Language.Asked.{Asked}, mm_frame.Language.{Base.{BaseView, IsOfFiles}, Laws.{AlikeFilesSayTheSame}}}
+use Rattle.mm_keep.specs.Language.{Citations.{CitesItem, IsAxiomOf}, Laws.{IsOneList, OneFinding, OneListEach, OneListOfRuns, OneVerdict}, Runs.{AreRunsOf}}
+use Rattle.mm_keep.specs.Language.Sessions.{SessionView, AreNumbersOf, HasAssertion, HasItems}
 use Rattle.mm_report.specs.Language.Answers.{AreAnswers, IsAnswer, IsBatchAnswer, IsEditAnswer, IsFound, IsRunAnswer, IsUnknown, IsVerdictAnswer, batch_refusal_line, numbers_listed, refusal_line}
-use Rattle.mm_report.{specs.Language.ScriptLaws.{AnswersBegin, AreAlike, AreTheFirst, HasItems, OneScriptAnswer}, proofs.AnswerLemmas.{same_report, same_told}}
-use Rattle.mm_report.proofs.{DatabaseLemmas.{Database, Laws, same_items}, AssertionLemmas.{assertion_by_said, one_assertion, saying}}
+use Rattle.mm_report.{specs.Language.ScriptLaws.{AnswersBegin, AreAlike, AreTheFirst, OneScriptAnswer}, proofs.{AnswerLemmas.{same_report, same_said}, AssertionLemmas.{assertion_by_said, saying}}}
 use Rattle.mm_script.specs.Language.Script.{Command, Change, Batch, Report, Verdict, Axioms, Cites as CitesOf, Users, EndsSo, Entry, command_of, commands_of, entries_bytes, HasEntries}
 use Rattle.mm_script.specs.Language.ReadingLaws.{DivisionsAgree, OneEnd, OneReading}
 
@@ -17,32 +16,16 @@ pub record AnswerLaws : Type 0 where
   pub reading : OneReading
   pub ends : OneEnd
   pub divisions : DivisionsAgree
-  pub database : Laws
+  pub said : AlikeFilesSayTheSame
+  pub findings : OneFinding
+  pub verdicts : OneVerdict
   pub runs : OneListOfRuns
   pub lists : OneListEach
-  pub labels : HasOwnLabels
   pub edits : (edit : Asked) (files a b : List File) → IsEditOf edit files a → IsEditOf edit files b → a ≡ b
   pub refused : (edit : Asked) (files after : List File) (error : EditError) → IsEditOf edit files after → IsEditError edit files error → error ≡ Memory
   pub reason : (edit : Asked) (files : List File) (a b : EditError) → a ≢ Memory → b ≢ Memory → IsEditError edit files a → IsEditError edit files b → a ≡ b
 
 -- ---- items of sessions that are alike
-
--- files that mean the same, from one top file on
-record AreOne (s t : SessionView) : Type 0 where
-  files : plain s.files ≡ plain t.files
-  top : s.top ≡ t.top
-
-one_of : (s t : SessionView) → AreAlike s t → AreOne s t
-one_of s t a = record { files = a.files; top = a.top }
-
-abbrev database : (s t : SessionView) (base : BaseView) → AreOne s t → IsOfFiles s.files s.top base → Database (plain t.files) t.top
-database s t base a f = record { files = s.files; view = base; meaning = a.files; of_files = subst (λ (name : List ℕ). IsOfFiles s.files name base) a.top f }
-
-abbrev itself : (t : SessionView) (base : BaseView) → IsOfFiles t.files t.top base → Database (plain t.files) t.top
-itself t base f = record { files = t.files; view = base; meaning = refl; of_files = f }
-
-same_said : Laws → (s t : SessionView) (base other : BaseView) → AreOne s t → IsOfFiles s.files s.top base → IsOfFiles t.files t.top other → base.said ≡ other.said
-same_said laws s t base other a f g = same_items laws (database s t base a f) (itself t other g)
 
 same_listed : (word : List ℕ) (base other : BaseView) (xs ys : List ℕ) → base.said ≡ other.said → xs ≡ ys → numbers_listed word base xs ≡ numbers_listed word other ys
 same_listed word base other xs ys e f = λ i. numbers_listed word (saying (e i)) (f i)
@@ -57,7 +40,7 @@ same_ran : AnswerLaws → (s t new copy : SessionView) (x y : List ℕ) → AreA
 same_ran laws s t new copy x y a files f g =
     let runs : f.runs ≡ g.runs = laws.runs s.files new.files t.files copy.files t.top f.runs g.runs a.files files (subst (λ (name : List ℕ). AreRunsOf s.files new.files name f.runs) a.top f.are_runs) g.are_runs in
     let said : f.are_runs.new.said ≡ g.are_runs.new.said =
-    same_said laws.database (record { files = new.files; top = s.top }) (record { files = copy.files; top = t.top }) f.are_runs.new g.are_runs.new (record { files = files; top = a.top }) f.are_runs.are g.are_runs.are in
+    same_said laws.said (record { files = new.files; top = s.top }) (record { files = copy.files; top = t.top }) f.are_runs.new g.are_runs.new files a.top f.are_runs.are g.are_runs.are in
     let first : HasItems new = (f.are_runs.new, subst (λ (name : List ℕ). IsOfFiles new.files name f.are_runs.new) (sym f.top) f.are_runs.are) in
     let second : HasItems copy = (g.are_runs.new, subst (λ (name : List ℕ). IsOfFiles copy.files name g.are_runs.new) (sym g.top) g.are_runs.are) in
     (f.answer_is ∙ same_listed (codes "ran") f.are_runs.new g.are_runs.new f.runs g.runs said runs ∙ sym g.answer_is, record { files = files; top = f.top ∙ a.top ∙ sym g.top; items = (λ h. second, λ h. first) })
@@ -125,21 +108,17 @@ same_batch_answer laws s t new copy edits x y a (inr f) (inr g) = (by (plain t.f
 -- the label has an assertion in both
 has_too : AnswerLaws → (s t : SessionView) (label : List ℕ) → AreAlike s t → HasAssertion t label → HasAssertion s label
 has_too laws s t label a h =
-    grind (arith, a.items.1 (h.0, h.1), assertion_by_said h.0 (a.items.1 (h.0, h.1)).0 label h.2.0 (sym (same_said laws.database s t (a.items.1 (h.0, h.1)).0 h.0 (one_of s t a) (a.items.1 (h.0, h.1)).1 h.1)) h.2.1) steps 200000
+    grind (arith, a.items.1 (h.0, h.1), assertion_by_said h.0 (a.items.1 (h.0, h.1)).0 label h.2.0 (sym (same_said laws.said s t (a.items.1 (h.0, h.1)).0 h.0 a.files a.top (a.items.1 (h.0, h.1)).1 h.1)) h.2.1) steps 200000
 
 has_there : AnswerLaws → (s t : SessionView) (label : List ℕ) → AreAlike s t → HasAssertion s label → HasAssertion t label
 has_there laws s t label a h =
-    grind (arith, a.items.0 (h.0, h.1), assertion_by_said h.0 (a.items.0 (h.0, h.1)).0 label h.2.0 (same_said laws.database s t h.0 (a.items.0 (h.0, h.1)).0 (one_of s t a) h.1 (a.items.0 (h.0, h.1)).1) h.2.1) steps 200000
+    grind (arith, a.items.0 (h.0, h.1), assertion_by_said h.0 (a.items.0 (h.0, h.1)).0 label h.2.0 (same_said laws.said s t h.0 (a.items.0 (h.0, h.1)).0 a.files a.top h.1 (a.items.0 (h.0, h.1)).1) h.2.1) steps 200000
 
 same_verdict : AnswerLaws → (s t : SessionView) (label x y : List ℕ) → AreAlike s t → IsUnknown s label x ⊎ IsVerdictAnswer s label x → IsUnknown t label y ⊎ IsVerdictAnswer t label y → x ≡ y
 same_verdict laws s t label x y a (inl f) (inl g) = f.answer_is ∙ sym g.answer_is
 same_verdict laws s t label x y a (inl f) (inr g) = absurd (f.none (has_too laws s t label a (g.1.0, g.1.1, (g.1.2.0, g.1.2.1))))
 same_verdict laws s t label x y a (inr f) (inl g) = absurd (g.none (has_there laws s t label a (f.1.0, f.1.1, (f.1.2.0, f.1.2.1))))
-same_verdict laws s t label x y a (inr f) (inr g) =
-    let said : f.1.0.said ≡ g.1.0.said = same_said laws.database s t f.1.0 g.1.0 (one_of s t a) f.1.1 g.1.1 in
-    let number : f.1.2.0 ≡ g.1.2.0 = one_assertion laws.labels f.1.0 g.1.0 label f.1.2.0 g.1.2.0 said f.1.2.1 g.1.2.1 in
-    let told : f.0 ≡ g.0 = same_told laws.database (database s t f.1.0 (one_of s t a) f.1.1) (itself t g.1.0 g.1.1) g.1.2.0 f.0 g.0 (subst (λ (i : ℕ). IsRightlyTold s.files f.1.0 i f.0) number f.1.2.2) g.1.2.2 in
-    grind (arith, common_steps, one_of s t a, a.files) steps 200000
+same_verdict laws s t label x y a (inr f) (inr g) = grind (arith, common_steps, laws.verdicts label s t f.0 g.0 a.files a.top f.1 g.1, a.files) steps 200000
 
 -- the items in a relation to the assertion of a label, if they are one list
 same_found : AnswerLaws → (s t : SessionView) (label : List ℕ) (stands : BaseView → ℕ → ℕ → Type 0) (x y : List ℕ) → IsOneList (λ session label numbers. AreNumbersOf session label stands numbers)
@@ -148,8 +127,8 @@ same_found laws s t label stands x y one a (inl f) (inl g) = f.answer_is ∙ sym
 same_found laws s t label stands x y one a (inl f) (inr g) = absurd (f.none (has_too laws s t label a (g.1.0, g.1.1, (g.1.2.0, g.1.2.1))))
 same_found laws s t label stands x y one a (inr f) (inl g) = absurd (g.none (has_there laws s t label a (f.1.0, f.1.1, (f.1.2.0, f.1.2.1))))
 same_found laws s t label stands x y one a (inr f) (inr g) =
-    let numbers : f.0 ≡ g.0 = one s t label f.0 g.0 a.files a.top f.1 g.1 in
-    let said : f.2.0.said ≡ g.2.0.said = same_said laws.database s t f.2.0 g.2.0 (one_of s t a) f.2.1 g.2.1 in
+    let numbers : f.0 ≡ g.0 = one label s t f.0 g.0 a.files a.top f.1 g.1 in
+    let said : f.2.0.said ≡ g.2.0.said = same_said laws.said s t f.2.0 g.2.0 a.files a.top f.2.1 g.2.1 in
     f.2.2 ∙ same_listed (codes "found") f.2.0 g.2.0 f.0 g.0 said numbers ∙ sym g.2.2
 
 -- ---- answers
@@ -157,7 +136,7 @@ same_found laws s t label stands x y one a (inr f) (inr g) =
 pub same_answer : AnswerLaws → (s t new copy : SessionView) (command : Command) (x y : List ℕ) → AreAlike s t → IsAnswer s command x new → IsAnswer t command y copy → (x ≡ y) × AreAlike new copy
 same_answer laws s t new copy (Change edit) x y a f g = same_edit laws s t new copy edit x y a f g
 same_answer laws s t new copy (Batch edits) x y a f g = same_batch_answer laws s t new copy (map (λ listed. listed.edit) edits) x y a f g
-same_answer laws s t new copy Report x y a f g = (same_report laws.database s t x y a.files a.top f.0 g.0, unchanged s t new copy a f.1 g.1)
+same_answer laws s t new copy Report x y a f g = (same_report laws.said laws.findings s t x y a.files a.top f.0 g.0, unchanged s t new copy a f.1 g.1)
 same_answer laws s t new copy (Verdict label) x y a f g = (same_verdict laws s t label x y a f.0 g.0, unchanged s t new copy a f.1 g.1)
 same_answer laws s t new copy (Axioms label) x y a f g = (same_found laws s t label (λ base i k. IsAxiomOf base i k) x y laws.lists.2 a f.0 g.0, unchanged s t new copy a f.1 g.1)
 same_answer laws s t new copy (CitesOf label) x y a f g = (same_found laws s t label (λ base i k. CitesItem base i k) x y laws.lists.0 a f.0 g.0, unchanged s t new copy a f.1 g.1)

@@ -1,6 +1,6 @@
-//! What holds of all reports. The function does nothing; what it promises is the law.
+//! What holds of all reports. Each function does nothing; what it promises is the law.
 
-ghost use Rattle.mm_report.specs.Language.Laws.{OneReport};
+ghost use Rattle.mm_report.specs.Language.Laws.{CleanIsDerived, OneReport};
 
 /// Files have one report at most from a top file on, which the keys of their pieces do not change.
 ///
@@ -9,8 +9,13 @@ ghost use Rattle.mm_report.specs.Language.Laws.{OneReport};
 pub fn one_report()
     ensures { OneReport }
 {
-    mm_keep::one_meaning();
-    mm_keep::items_stand();
     mm_keep::files_have_one_base();
-    mm_keep::has_one_verdict_at();
+    mm_keep::one_answer_each();
+}
+
+/// If a report has no line before its summary, no item is at fault, and some labels derive the statement of each `$p`.
+pub fn clean_is_derived()
+    ensures { CleanIsDerived }
+{
+    mm_keep::proved_is_derivable();
 }

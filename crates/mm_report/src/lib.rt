@@ -8,7 +8,7 @@ mod script;
 mod script_laws;
 
 pub use answer::{fault_name, write_axioms};
-pub use laws::one_report;
+pub use laws::{clean_is_derived, one_report};
 pub use mm_keep::{
     Action, At, Base, BatchError, Checked, Checker, Decoding, Edit, EditError, Files, Finding,
     Frame, FrameFault, FrameNumber, Item, ItemKind, KeepError, Keyword, Marks, Named, NamedSymbol,

@@ -13,12 +13,9 @@ pub fn one_script_answer()
 {
     mm_script::one_reading();
     mm_script::divisions_agree();
-    mm_keep::one_meaning();
-    mm_keep::items_stand();
     mm_keep::one_edit();
     mm_keep::files_have_one_base();
-    mm_keep::has_own_labels();
-    mm_keep::has_one_verdict_at();
+    mm_keep::one_answer_each();
     mm_keep::one_list_of_runs();
     mm_keep::one_list_each();
 }
@@ -53,12 +50,9 @@ pub fn answers_begin()
 {
     mm_script::one_reading();
     mm_script::divisions_agree();
-    mm_keep::one_meaning();
-    mm_keep::items_stand();
     mm_keep::one_edit();
     mm_keep::files_have_one_base();
-    mm_keep::has_own_labels();
-    mm_keep::has_one_verdict_at();
+    mm_keep::one_answer_each();
     mm_keep::one_list_of_runs();
     mm_keep::one_list_each();
 }

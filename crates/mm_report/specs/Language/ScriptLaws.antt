@@ -3,14 +3,9 @@ use Rattle.std.specs.Prelude.{◌≡◌, ◌↔◌, ◌⊎◌, ℕ, List, [], �
 use Rattle.mm_keep.specs.mm_store.Language.FileFacts.{HoldsPieces}
 use Rattle.mm_keep.specs.mm_store.Language.FilesView.{plain}
 use Rattle.mm_keep.specs.mm_store.Language.Holding.{HoldOneEach}
-use Rattle.mm_keep.specs.mm_frame.Language.Base.{BaseView, IsOfFiles}
-use Rattle.mm_keep.specs.Language.Sessions.{SessionView}
+use Rattle.mm_keep.specs.Language.Sessions.{SessionView, HasItems}
 use Rattle.mm_report.specs.Language.Answers.{AreAnswers, IsScriptAnswer}
 use Rattle.mm_script.specs.Language.Script.{Entry, End, commands_of, AreRead, HasEntries}
-
--- the files of the session give items
-abbrev pub HasItems : SessionView → Type 0
-HasItems session = (base : BaseView) × IsOfFiles session.files session.top base
 
 -- two sessions whose files are the same but for the keys of their pieces, with one top file; both give items, or neither does
 pub record AreAlike (session other : SessionView) : Type 0 where

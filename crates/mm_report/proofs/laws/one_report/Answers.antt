@@ -1,9 +1,5 @@
-use Rattle.std.proofs.{Common.{arith}, lemmas.Grind.{common_steps}}
-use Rattle.mm_report.proofs.{DatabaseLemmas.{Laws}, AnswerLemmas.{same_report}, laws.one_report.Goals.{After-has_one_verdict_at}}
+use Rattle.mm_report.proofs.AnswerLemmas.{same_report}
 use Rattle.mm_report.proofs.laws.one_report.Goals as goal
 
-laws : After-has_one_verdict_at → Laws
-laws c = grind (arith, common_steps) steps 200000
-
 pub returns : goal.returns
-returns c = same_report (laws c)
+returns c = same_report c.files_have_one_base.ensures.said c.one_answer_each.ensures.finding

@@ -9,7 +9,7 @@ returns-in_err-write_line-clause-err g c =
     let session = c.args.session.now in
     let i = c.loop-i.i in
     let alone = c.files_have_one_base.ensures.base in
-    let found = c.finding-finding.ensures in
+    let found = c.finding-finding.ensures.found in
     let base = found.0 in
     let labelled = label_is session i _ alone c.label.ensures base found.1 in
     let name : c.unwrap_or-label.result.now ≡ unwrap_or (said_at base i).label [] = grind (arith, labelled, c.unwrap_or-label.ensures) in
@@ -24,7 +24,7 @@ loop-i-preserved g c =
     let session = c.args.session.now in
     let i = c.loop-i.i in
     let alone = c.files_have_one_base.ensures.base in
-    let found = c.finding-finding.ensures in
+    let found = c.finding-finding.ensures.found in
     one_written session (written g.W.Write.contents c.args.to.now) (written g.W.Write.contents c.loop-i.to) i (counted c.loop-i.tally) (told c.finding-finding.result) alone found
     (written g.W.Write.contents c.write_line.new.to) (counted c.with-tally.result)
     (λ base is. within_is session c.count-i-end.result i alone c.count-i-end.ensures.count c.loop-i-test.true base is)
