@@ -1,7 +1,7 @@
 -- What rests on axioms is provable from them.
 use Rattle.std.proofs.lemmas.{Grind.{common_steps}, Bool.{false≢true, and_parts}, List.Elements.{All-contains, Contains-append_left, Contains-append_right}}
 use Rattle.std.proofs.Common.{◌≡◌, ◌≢◌, ◌⊎◌, ℕ, Bool, true, false, ◌&&◌, List, [], ◌∷◌, ◌++◌, refl, sym, ap, ◌∙◌, subst, inl, inr, arith, Contains, All}
-use Rattle.mm_frame.specs.mm_machine.Language.{Frame.{Symbol, Mandatory, Frame, Assertion, ArePair, HasVariable}, Substitution.{replacement, substituted}}
+use Rattle.mm_frame.specs.mm_machine.Language.{Frame.{Symbol, Mandatory, Frame, ArePair, HasVariable}, Substitution.{replacement, substituted}}
 use Rattle.mm_frame.specs.mm_machine.Language.Derivation.{Derives, DeriveInOrder, by_hypothesis, by_assertion, nothing, first_then, AreApart}
 use Rattle.mm_frame.specs.{mm_statement.Language.Item.{Kind, is_assertion, is_theorem}, Language.{Base.{BaseView, said_at, frame_at, is_sound_at, is_framed_at, is_proof_at}, Resolving.{Resolves}}}
 use Rattle.mm_keep.specs.{mm_verdict.Language.BaseLabels.{setting_at}, Language.{Told.{IsAxiom}, Resting.{RestsOn}}}

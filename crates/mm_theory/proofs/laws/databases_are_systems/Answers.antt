@@ -1,4 +1,4 @@
-use Rattle.mm_theory.proofs.{Known.{KnownStatements}, Supply.{is_system}, Statements.{statement}}
+use Rattle.mm_theory.proofs.{Supply.{is_system}, Statements.{statement}}
 use Rattle.mm_theory.proofs.laws.databases_are_systems.Goals as goal
 
 pub returns-clause-systems : goal.returns-clause-systems

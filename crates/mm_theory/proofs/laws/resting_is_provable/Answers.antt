@@ -1,4 +1,4 @@
-use Rattle.mm_theory.proofs.{Known.{KnownStatements, KnownMeanings}, Resting.{provable_by}}
+use Rattle.mm_theory.proofs.Resting.{provable_by}
 use Rattle.mm_theory.proofs.laws.resting_is_provable.Goals as goal
 
 pub returns : goal.returns
