@@ -222,10 +222,10 @@ def without_comments(lines):
 
 
 def reached_from(functions):
-    """What the contracts of public functions reach."""
+    """What contracts reach, or those of public functions."""
     reached = Reached(modules())
     for each in functions:
-        reached.take_contract(contract(each))
+        reached.take_contract(contract(each) if isinstance(each, str) else each)
     return reached
 
 
