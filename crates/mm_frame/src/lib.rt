@@ -53,8 +53,8 @@ pub use mm_statement::{
 pub use mm_store::{
     BatchError, Edit, EditError, Files, Item, ItemKind, Keyword, PieceKey, Place, StoreError,
     TextError, TextFault, TextNumber, Undo, Undos, Walk, Word, WordCursor, WordKind,
-    edits_keep_files, edits_keep_units, first_faults_are_within, fits, has_expansion, items_stand,
-    nth_word, one_edit, one_meaning, place, walks_go_on,
+    appending_keeps_items, edits_keep_files, edits_keep_units, first_faults_are_within, fits,
+    has_expansion, items_stand, nth_word, one_edit, one_meaning, place, walks_go_on,
 };
 pub use names::Names;
 pub use same::{

@@ -19,6 +19,7 @@ pub mod CitedItems
 pub mod ChainLemmas
 pub mod CitationLemmas
 pub mod OneAnswers
+pub mod AppendingLemmas
 pub mod DecidingLemmas
 pub mod DecidedViews
 pub mod HavingLemmas

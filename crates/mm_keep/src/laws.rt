@@ -1,6 +1,6 @@
 //! What is proved of the definitions: each law is the contract of a function.
 
-ghost use Rattle.mm_keep.specs.Language.Laws.{AxiomsHaveThemselves, ChainsLeadBack, ItemsHaveFindings, OneListEach, OneListOfRuns};
+ghost use Rattle.mm_keep.specs.Language.Laws.{AppendingKeepsFindings, AxiomsHaveThemselves, ChainsLeadBack, ItemsHaveFindings, OneListEach, OneListOfRuns};
 ghost use Rattle.mm_keep.specs.Language.Laws.{FilesGiveItems, HasListEach, HasListOfRuns, LabelsAreDecided, ProvedRestsOnAxioms};
 ghost use Rattle.mm_keep.specs.Language.Laws.{OneCount, OneFinding, OneLabel, OneTally, OneVerdict, ProvedIsDerivable};
 
@@ -79,6 +79,21 @@ pub fn has_list_each()
     mm_proof::files_have_one_base();
     mm_proof::has_own_labels();
     mm_proof::cites_tell();
+}
+
+/// If an edit inserts a unit behind all others of the top file, what is found of each earlier item stays as it was: its fault,
+/// its verdict, and the places of both.
+pub fn appending_keeps_findings()
+    ensures { AppendingKeepsFindings }
+{
+    mm_proof::one_meaning();
+    mm_proof::items_stand();
+    mm_proof::files_have_one_base();
+    mm_proof::has_own_labels();
+    mm_proof::has_one_verdict_at();
+    mm_proof::same_view_same_verdict();
+    mm_proof::appending_keeps_items();
+    items_have_findings();
 }
 
 /// If an item is rightly reported as Proved, some labels derive its statement.

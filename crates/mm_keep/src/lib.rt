@@ -19,9 +19,9 @@ mod unbegun;
 pub use answers::KeepError;
 pub use finding::{At, Finding};
 pub use laws::{
-    axioms_have_themselves, chains_lead_back, files_give_items, has_list_each, has_list_of_runs,
-    items_have_findings, one_answer_each, one_list_each, one_list_of_runs, proved_is_derivable,
-    proved_rests_on_axioms,
+    appending_keeps_findings, axioms_have_themselves, chains_lead_back, files_give_items,
+    has_list_each, has_list_of_runs, items_have_findings, one_answer_each, one_list_each,
+    one_list_of_runs, proved_is_derivable, proved_rests_on_axioms,
 };
 pub use mm_proof::{
     Action, Base, BatchError, Checked, Checker, Decoding, Edit, EditError, Files, Frame,

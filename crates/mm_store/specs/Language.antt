@@ -7,6 +7,7 @@ pub mod Walking
 pub mod Holding
 pub mod Keyless
 pub mod Edits
+pub mod Appending
 pub mod Undoing
 pub mod EditedKeys
 pub mod Answers

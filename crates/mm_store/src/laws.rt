@@ -1,6 +1,6 @@
 //! What holds of all files. Each function does nothing; what it promises is the law.
 
-ghost use Rattle.std.specs.Prelude.{◌≡◌, ◌≢◌, ◌⊎◌, ◌+◌, ◌≤◌, ℕ, All, Contains, List, ◌∷◌, ◌++◌, Some, None, length, map};
+ghost use Rattle.std.specs.Prelude.{◌≡◌, ◌≢◌, ◌⊎◌, ◌+◌, ◌≤◌, ℕ, All, Contains, List, ◌∷◌, ◌++◌, Some, None, length, map, slice_get};
 ghost use Rattle.std.specs.List.{concat};
 ghost use Rattle.std.specs.Option.{option_map};
 ghost use Rattle.mm_text.specs.Language.Cut.{ended};
@@ -11,6 +11,7 @@ ghost use Rattle.mm_store.specs.Language.Answers.{IsEditError};
 ghost use Rattle.mm_store.specs.Language.FilesView.{File, FileView, FilesView, file_number, files_in, find_file, number_of, plain, text_of, without_keys};
 ghost use Rattle.mm_store.specs.Language.FileFacts.{CanBeRead, HoldsPieces, IsAdded, IsByte, StandsIn};
 ghost use Rattle.mm_text.specs.Language.Asked.{Asked, Insert, Replace, Delete, Move, edited_name};
+ghost use Rattle.mm_store.specs.Language.Appending.{IsAppended};
 ghost use Rattle.mm_store.specs.Language.Edits.{edited, with_members, IsEditOf};
 ghost use Rattle.mm_store.specs.Language.Expansion.{IsExpansion};
 ghost use Rattle.mm_store.specs.Language.Holding.{HoldOneEach};
@@ -58,6 +59,19 @@ pub fn keys_do_not_matter()
     mm_text::one_meaning();
     mm_text::one_division();
     mm_text::one_cut();
+}
+
+/// A unit behind all others of the top file: the items of before come first, but for keys; and each file has the pieces that it
+/// had before all others.
+pub fn appending_keeps_items()
+    ensures items { (old new : FilesView) (top : List ℕ) (items others : List Item) → IsAppended top (plain old) (plain new)
+        → IsExpansion (files_in old) top items → IsExpansion (files_in new) top others
+        → (more : List Item) × (map keyless_item others ≡ map keyless_item items ++ more) }
+    ensures files { (name : List ℕ) (old new : List File) → IsAppended name old new → (n : ℕ) (file other : File)
+        → slice_get old n ≡ Some file → slice_get new n ≡ Some other → (more : List (List ℕ)) × (other.pieces ≡ file.pieces ++ more) }
+{
+    mm_text::one_meaning();
+    mm_text::one_division();
 }
 
 /// A walk goes on among more files.

@@ -37,9 +37,9 @@ pub use examples::rings_are_read_so;
 pub use files::{Files, PieceKey};
 pub use item::{Item, ItemKind};
 pub use laws::{
-    added_files_have_their_text, bytes_are_within, edits_keep_files, edits_keep_members,
-    edits_keep_units, edits_reverse, has_expansion, items_stand, keys_do_not_matter, one_edit,
-    one_expansion, pieces_join_to_text, walks_go_on,
+    added_files_have_their_text, appending_keeps_items, bytes_are_within, edits_keep_files,
+    edits_keep_members, edits_keep_units, edits_reverse, has_expansion, items_stand,
+    keys_do_not_matter, one_edit, one_expansion, pieces_join_to_text, walks_go_on,
 };
 pub use mm_text::{
     Edit, Keyword, Place, TextError, TextFault, TextNumber, Word, WordCursor, WordKind,

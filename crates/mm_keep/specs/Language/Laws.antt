@@ -1,5 +1,6 @@
 -- What is proved of sessions: each is the contract of a function.
 use Rattle.std.specs.Prelude.{◌≡◌, ◌≢◌, ◌↔◌, ◌⊎◌, ◌<◌, ◌≤◌, ℕ, List, None, true, length, Contains}
+use Rattle.mm_proof.specs.mm_store.Language.Appending.{IsAppended}
 use Rattle.mm_proof.specs.mm_store.Language.FileFacts.{HoldsPieces}
 use Rattle.mm_proof.specs.mm_store.Language.FilesView.{FilesView, file_number, plain}
 use Rattle.mm_proof.specs.mm_store.Language.Holding.{HoldOneEach}
@@ -10,7 +11,7 @@ use Rattle.mm_keep.specs.Language.Citations.{IsAxiomOf, LeadsTo}
 use Rattle.mm_keep.specs.Language.Derivable.{IsDerivableAt}
 use Rattle.mm_keep.specs.Language.Resting.{RestsOn}
 use Rattle.mm_keep.specs.Language.Runs.{AreRunsOf}
-use Rattle.mm_keep.specs.Language.Sessions.{SessionView, HasAssertion, IsCount, IsLabelOfItem, IsFinding, IsVerdictOf, IsTally}
+use Rattle.mm_keep.specs.Language.Sessions.{SessionView, HasAssertion, HasItem, HasItems, IsCount, IsLabelOfItem, IsFinding, IsVerdictOf, IsTally}
 use Rattle.mm_keep.specs.Language.Sessions.{AreCitesOf, AreUsersOf, AreAxiomsOf}
 use Rattle.mm_keep.specs.Language.Told.{Told, Proved, IsAxiom, IsRightlyTold}
 
@@ -93,6 +94,12 @@ HasListOf AreSo = (session : SessionView) (label : List ℕ) → HasAssertion se
 -- There is a list each of what an assertion cites, of what cites it, and of its axioms.
 abbrev pub HasListEach : Type 0
 HasListEach = HasListOf AreCitesOf × HasListOf AreUsersOf × HasListOf AreAxiomsOf
+
+-- If an edit inserts a unit behind all others of the top file, what is rightly reported of each earlier item stays as it was.
+abbrev pub AppendingKeepsFindings : Type 0
+AppendingKeepsFindings =
+    (old new : SessionView) (i : ℕ) (told : Told) → new.top ≡ old.top → IsAppended old.top (plain old.files) (plain new.files) → HasItems new
+    → HasItem old i → IsFinding old i told → IsFinding new i told
 
 -- If an item is rightly reported as Proved, some labels derive its statement.
 abbrev pub ProvedIsDerivable : Type 0

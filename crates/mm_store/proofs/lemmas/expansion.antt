@@ -1,5 +1,6 @@
 -- The expansion of inclusions, and the walk that makes it.
 
+pub mod AppendLemmas
 pub mod BareLemmas
 pub mod BudgetLemmas
 pub mod CountLemmas

@@ -20,7 +20,7 @@ module _ {X : Type 0} where
   get_set (z ∷ xs) (suc n) x y there = get_set xs n x y there
   get_set xs n x y there = grind (arith, common_steps, none-some) steps 200000
 
-  get_other : (xs : List X) (n m : ℕ) (y : X) → m ≢ n → slice_get (set xs n y) m ≡ slice_get xs m
+  pub get_other : (xs : List X) (n m : ℕ) (y : X) → m ≢ n → slice_get (set xs n y) m ≡ slice_get xs m
   get_other (z ∷ xs) (suc n) (suc m) y differs = get_other xs n m y (λ e. differs (ap suc e))
   get_other xs n m y differs = grind (arith, common_steps) steps 200000
 
@@ -105,7 +105,7 @@ size_is (text ∷ texts) = omega (arith, length-append text (concat texts), sum_
 
 -- an edit of the edited file that gives its members of before gives the files of before
 module _ (edit : Asked) (files between : List File) (is : IsEditOf edit files between) where
-  abbrev changed : File
+  abbrev pub changed : File
   changed = with_members is.file (edited edit is.file.pieces)
 
   pub number_kept : (name : List ℕ) → file_number between name ≡ file_number files name

@@ -84,7 +84,7 @@ module _ (one_reading : OneReading) (one_division : OneDivision) where
       let u : p.units ≡ q.units = one_division p.units q.units p.are_units q.are_units (p.spells ∙ ap (tokens_of piece.text) w ∙ sym q.spells) in
       p.parts ∙ ap (λ units. map (placed_part file n piece.key) (named_parts units)) u ∙ sym q.parts
 
-  placed_one : (file n : ℕ) (pieces : List PieceView) (a b : List Placed) → ArePlaced file n pieces a → ArePlaced file n pieces b → a ≡ b
+  pub placed_one : (file n : ℕ) (pieces : List PieceView) (a b : List Placed) → ArePlaced file n pieces a → ArePlaced file n pieces b → a ≡ b
   placed_one file n [] a b p q = p ∙ sym q
   placed_one file n (piece ∷ pieces) a b p q =
       p.4 ∙ ap (λ l. l ++ p.1) (parts_one file n piece p.0 q.0 p.2 q.2) ∙ ap (λ l. q.0 ++ l) (placed_one file (n + 1) pieces p.1 q.1 p.3 q.3) ∙ sym q.4
@@ -98,7 +98,7 @@ module _ (one_reading : OneReading) (one_division : OneDivision) where
   included_one {files} {part} {parts} {inner = inner} {names = names} {y = y} {items = items} {number = number} {file = file} is new at there placed inside later (inr (inr t)) =
       grind (arith, common_steps, same_Some, placed_one) steps 200000
 
-  same : {files : List FileView} {parts : List Placed} {names x y : List (List ℕ)} {a b : List Item} → Expands files parts names a x → Expands files parts names b y → (a ≡ b) × (x ≡ y)
+  pub same : {files : List FileView} {parts : List Placed} {names x y : List (List ℕ)} {a b : List Item} → Expands files parts names a x → Expands files parts names b y → (a ≡ b) × (x ≡ y)
   same nothing e = (let w = way e in (sym w.0, sym w.1))
   same (own not d) e = own_one not (λ b y later. same d later) (way e)
   same (again is old d) e = again_one is old (λ b y later. same d later) (way e)
