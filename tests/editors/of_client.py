@@ -1,5 +1,6 @@
-"""Tests of the client in examples/client."""
+"""Tests of the client in clients/python."""
 import doctest
+import importlib
 import pathlib
 import random
 import re
@@ -9,8 +10,7 @@ import tempfile
 
 from protocol import DATABASES, ROOT, mmkeep, position
 
-import buffers
-import explain
+from mmkeep import buffers, client, cutting, faults, reports
 
 LOGIC = b"""$c wff |- -> ( ) $. $v p q $. wp $f wff p $. wq $f wff q $.
 wi $a wff ( p -> q ) $.
@@ -35,7 +35,7 @@ TEXTS = [b"$c a $. $c b $.", b"$( $)", b"", b" \n", b"$( a $) ${ $( $} $) $} $( 
 
 def doctests():
     """The examples in the pages of the client hold."""
-    for module in (mmkeep, buffers, explain):
+    for module in (buffers, client, cutting, importlib.import_module("mmkeep.edits"), importlib.import_module("mmkeep.explain"), faults, reports):
         failed, _ = doctest.testmod(module)
         assert not failed, module.__name__
 
@@ -212,7 +212,7 @@ def in_words(program):
         assert told[0].startswith("a.mm:3:") and "(F10)" in told[0] and len(told) == 4, told
         assert told[3].startswith("2 proofs name mp, which is at fault at a.mm:3:") and "the first is th" in told[3], told
         file.write_bytes(LOGIC + b"x $a |- \x80 $.\n")
-        words = f"'{program}' verify a.mm 2>&1 | '{sys.executable}' '{ROOT / 'examples/client/explain.py'}' a.mm"
+        words = f"'{program}' verify a.mm 2>&1 | '{sys.executable}' '{ROOT / 'clients/python/bin/mmkeep-explain'}' a.mm"
         done = subprocess.run(words, shell=True, cwd=folder, capture_output=True, timeout=60, check=False)
         assert (done.returncode, done.stderr) == (1, b"") and b"a.mm:5:9: " in done.stdout and b"(T01)" in done.stdout, done
 

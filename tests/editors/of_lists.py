@@ -11,7 +11,9 @@ import xml.etree.ElementTree
 from protocol import ROOT
 
 EXAMPLES = ROOT / "examples"
-CI = EXAMPLES / "ci"
+CLIENTS = ROOT / "clients"
+CI = CLIENTS / "ci"
+CONVERT = str(CLIENTS / "python/bin/mmkeep-convert")
 # A file whose report has all kinds of lines: examples/faults.mm, an incomplete proof and a wrong one.
 MORE = "u $p |- p $= ? $.\nw $p |- p $= wp wp ax $.\n"
 
@@ -59,7 +61,7 @@ def vim(program):
         script = f"set nomore\ncompiler! mmkeep\ncfile report\ncall writefile({items}, 'out')\n"
         script += f"edit db/clean.mm\ncd db\nedit faults.mm\nlet $PATH = '{os.path.dirname(program)}:' .. $PATH\nsilent make!\ncd ..\ncall writefile({items}, 'made')\nqa!\n"
         (place.path / "script.vim").write_text(script)
-        place.run("vim", "-N", "-u", "NONE", "-i", "NONE", "-n", "-es", "--cmd", f"set rtp^={EXAMPLES / 'editor/vim'}", "-S", "script.vim")
+        place.run("vim", "-N", "-u", "NONE", "-i", "NONE", "-n", "-es", "--cmd", f"set rtp^={CLIENTS / 'editor/vim'}", "-S", "script.vim")
         found = [line.split("|") for line in (place.path / "out").read_text().splitlines()]
         assert [(each[0], int(each[1]), int(each[2])) for each in found] == places, found
         assert [each[3] for each in found] == ["W" if "incomplete" in each[4] else "E" for each in found], found
@@ -74,7 +76,7 @@ def emacs(program):
     with Place(program) as place:
         lines, places = place.report()
         (place.path / "report").write_text(lines)
-        (place.path / "script.el").write_text(f"""(load "{EXAMPLES / 'editor/mmkeep.el'}" nil t)
+        (place.path / "script.el").write_text(f"""(load "{CLIENTS / 'editor/mmkeep.el'}" nil t)
 (with-temp-buffer
   (insert-file-contents "report")
   (compilation-mode)
@@ -112,7 +114,7 @@ def matched(patterns, line):
 
 def matchers(program):
     """The problem matchers of VS Code and of a build machine take each line once, at its place."""
-    task = json.loads((EXAMPLES / "editor/vscode/tasks.json").read_text())["tasks"][0]
+    task = json.loads((CLIENTS / "editor/vscode/tasks.json").read_text())["tasks"][0]
     assert task["command"] == "mmkeep" and task["args"][0] == "verify"
     hosted = json.loads((CI / "problem-matcher.json").read_text())["problemMatcher"]
     assert len({each["owner"] for each in hosted}) == len(hosted)
@@ -147,19 +149,19 @@ def converted(program):
     """A report becomes JUnit XML and SARIF."""
     with Place(program) as place:
         lines, places = place.report()
-        told, status = place.run(str(CI / "convert"), "--junit", text=lines)
+        told, status = place.run(CONVERT, "--junit", text=lines)
         suite = xml.etree.ElementTree.fromstring(told)
         cases = suite.findall("testcase")
         assert status == 0 and suite.get("failures") == "5" and len(cases) == int(suite.get("tests")) == 7, told
         assert [(each.get("file"), int(each.get("line"))) for each in cases if each.find("failure") is not None] == [each[:2] for each in places]
-        told, status = place.run(str(CI / "convert"), "--sarif", text=lines)
+        told, status = place.run(CONVERT, "--sarif", text=lines)
         run = json.loads(told)["runs"][0]
         found = [each["locations"][0]["physicalLocation"] for each in run["results"]]
         assert status == 0 and [(each["artifactLocation"]["uri"], each["region"]["startLine"], each["region"]["startColumn"]) for each in found] == places, told
         assert {each["ruleId"] for each in run["results"]} == {each["id"] for each in run["tool"]["driver"]["rules"]}
-        told, status = place.run(str(CI / "convert"), "--junit", text="mmkeep: out of memory\n")
+        told, status = place.run(CONVERT, "--junit", text="mmkeep: out of memory\n")
         assert status == 0 and "out of memory" in told and xml.etree.ElementTree.fromstring(told).get("failures") == "1"
-        assert place.run(str(CI / "convert"), "--sarif", text="no report\n")[1] == 1 and place.run(str(CI / "convert"))[1] == 1
+        assert place.run(CONVERT, "--sarif", text="no report\n")[1] == 1 and place.run(CONVERT)[1] == 1
 
 
 def workflow(program):
@@ -170,7 +172,7 @@ def workflow(program):
     assert len(runs) == 3, runs
     with Place(program) as place:
         shutil.copytree(CI, place.path / "ci")
-        shutil.copy(EXAMPLES / "client/mmkeep.py", place.path / "ci")
+        shutil.copytree(CLIENTS / "python", place.path / "ci/python")
         (place.path / "temp").mkdir()
         (place.path / "path").touch()
         given = {"RUNNER_TEMP": str(place.path / "temp"), "TOOLS": "ci", "GITHUB_PATH": str(place.path / "path")}
@@ -238,7 +240,7 @@ def manual(program):
 
 def picture(program):
     """The picture of a session is well-formed, has its text as text, and says what docs/SCRIPTS.md says."""
-    tree = xml.etree.ElementTree.parse(EXAMPLES / "editor/session.svg")
+    tree = xml.etree.ElementTree.parse(CLIENTS / "editor/session.svg")
     lines = ["".join(each.itertext()) for each in tree.iter("{http://www.w3.org/2000/svg}text")]
     assert any("mmkeep session set.mm" in line for line in lines) and any(line.startswith("ran 1") for line in lines), lines
     assert any(re.match(r"axioms \d+ theorems \d+ proved", line) for line in lines), lines
@@ -246,8 +248,8 @@ def picture(program):
 
 def pages(program):
     """What docs/INSTALL.md and the pages of examples name is there."""
-    for page in (ROOT / "docs/INSTALL.md", EXAMPLES / "editor/README.md", EXAMPLES / "ci/README.md", EXAMPLES / "client/README.md"):
-        for name in re.findall(r"`((?:\.\./|examples/|docs/|tests/|bench/|crates/)[\w./-]+)`", page.read_text()):
+    for page in (ROOT / "docs/INSTALL.md", CLIENTS / "editor/README.md", CI / "README.md", CLIENTS / "python/README.md"):
+        for name in re.findall(r"`((?:\.\./|examples/|clients/|docs/|tests/|bench/|crates/)[\w./-]+)`", page.read_text()):
             path = page.parent / name if name.startswith("../") else ROOT / name
             assert path.exists() or name.startswith("crates/mmkeep/out"), f"{page.name}: {name}"
 

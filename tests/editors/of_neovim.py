@@ -138,18 +138,18 @@ def iset(program):
 
 
 def first_reader(program):
-    """The three commands of examples/editor/README.md bring diagnostics of examples/faults.mm."""
-    page = (ROOT / "examples/editor/README.md").read_text()
+    """The three commands of clients/editor/README.md bring diagnostics of examples/faults.mm."""
+    page = (ROOT / "clients/editor/README.md").read_text()
     commands = page.split("## In three commands", 1)[1].split("\n\n")[1:]
     block = next(part for part in commands if part.startswith("    "))
     lines = [line.strip() for line in block.split("\n")]
-    assert len(lines) == 3 and lines[0].startswith("apt-get install") and "nvim -u examples/editor/nvim/init.lua examples/faults.mm" in lines[2], lines
+    assert len(lines) == 3 and lines[0].startswith("apt-get install") and "nvim -u clients/editor/nvim/init.lua examples/faults.mm" in lines[2], lines
     assert "PATH" in lines[1], lines
     with tempfile.TemporaryDirectory() as folder:
         # As the page says: at the top of the clone, with the program on the path.
         os.symlink(program, pathlib.Path(folder, "mmkeep"))
         settings = {"PATH": f"{folder}:{os.environ['PATH']}", "MMKEEP": ""}
-        with Neovim(program, folder, "examples/faults.mm", begin=ROOT, configuration="examples/editor/nvim/init.lua", settings=settings) as editor:
+        with Neovim(program, folder, "examples/faults.mm", begin=ROOT, configuration="clients/editor/nvim/init.lua", settings=settings) as editor:
             editor.compare(program, "faults.mm")
             assert len(editor.state()["found"]) == 2, editor.state()
 

@@ -11,10 +11,10 @@ import time
 
 HERE = pathlib.Path(__file__).resolve().parent
 ROOT = HERE.parent.parent
-sys.path.insert(0, str(ROOT / "examples" / "client"))
+sys.path.insert(0, str(ROOT / "clients" / "python"))
 import mmkeep
 
-SERVER = ROOT / "examples" / "editor" / "mmkeep-lsp"
+SERVER = ROOT / "clients" / "python" / "bin" / "mmkeep-lsp"
 DATABASES = pathlib.Path("/usr/share/metamath/databases")
 SECONDS = 20
 

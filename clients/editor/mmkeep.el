@@ -1,6 +1,6 @@
 ;;; mmkeep.el --- reports of mmkeep in compilation mode  -*- lexical-binding: t; -*-
 
-;; (load "PATH/examples/editor/mmkeep.el"), and then M-x compile with `mmkeep verify FILE':
+;; (load "PATH/clients/editor/mmkeep.el"), and then M-x compile with `mmkeep verify FILE':
 ;; next-error goes from place to place.
 
 (require 'compile)

@@ -1,7 +1,9 @@
--- The language server in neovim, from version 0.7 on: nvim -u examples/editor/nvim/init.lua FILE.mm
--- To have it in your own configuration, copy this file to ~/.config/nvim/plugin/mmkeep.lua, with the path of the server.
+-- The language server in neovim, from version 0.7 on: nvim -u clients/editor/nvim/init.lua FILE.mm
+-- To have it in your own configuration, copy this file to ~/.config/nvim/plugin/mmkeep.lua. The server is the one that
+-- `vim.g.mmkeep_lsp` names, or that of the clone that this file is in, or `mmkeep-lsp` on the path.
 local here = debug.getinfo(1, 'S').source:match('^@(.*)/[^/]*$') or '.'
-local server = vim.g.mmkeep_lsp or vim.fn.fnamemodify(here .. '/../mmkeep-lsp', ':p')
+local near = vim.fn.fnamemodify(here .. '/../../python/bin/mmkeep-lsp', ':p')
+local server = vim.g.mmkeep_lsp or (vim.fn.executable(near) == 1 and near) or 'mmkeep-lsp'
 
 -- `top` and `program` may be set here, or in a mmkeep.json next to the database.
 local settings = vim.g.mmkeep or {}
@@ -12,7 +14,7 @@ local function attach(event)
     return
   end
   local root = vim.fn.fnamemodify(file, ':p:h')
-  local config = { name = 'mmkeep', cmd = { 'python3', server }, root_dir = root, init_options = settings }
+  local config = { name = 'mmkeep', cmd = { server }, root_dir = root, init_options = settings }
   if vim.lsp.start then
     -- From version 0.8 on.
     local same = function(client) return client.name == 'mmkeep' end

@@ -1,4 +1,3 @@
-#!/usr/bin/env python3
 """A language server for Metamath databases: mmkeep-lsp [--program PROGRAM] [--top FILE]. README.md next to it says more.
 
 It speaks the Language Server Protocol on standard input and output, and holds a session of mmkeep for each database of
@@ -16,10 +15,9 @@ import sys
 import threading
 import time
 
-sys.path.insert(0, str(pathlib.Path(__file__).resolve().parent.parent / "client"))
 import mmkeep
-from buffers import SPACES, Document, Held, copies, fed_behind, on_disk, one_point, path_of, stamp
-from streams import Streams
+from .buffers import SPACES, Document, Held, copies, fed_behind, on_disk, one_point, path_of, stamp
+from .streams import Streams
 
 # Seconds for which changes are gathered, and at most; so many edits that a new session is begun sooner.
 DELAY, MOST, MANY = 0.2, 1.0, 4000
@@ -781,6 +779,3 @@ def main():
         Server(options.get("--program") or mmkeep.program(), options.get("--top")).run()
     except KeyboardInterrupt:
         os._exit(1)
-
-
-main()

@@ -1,8 +1,7 @@
-#!/usr/bin/env python3
-"""Turns a report on standard input into JUnit XML or SARIF: convert --junit|--sarif < REPORT.
+"""Turns a report on standard input into JUnit XML or SARIF: mmkeep-convert --junit|--sarif < REPORT.
 
-The report is what `mmkeep verify FILE 2>&1` or `verify` next to this file prints, of one database or several. It needs
-mmkeep.py next to it, or in ../client. Ends with status 0 where it could read the report, and else with 1.
+The report is what `mmkeep verify FILE 2>&1` or `clients/ci/verify` prints, of one database or several. Ends with status 0
+where it could read the report, and else with 1.
 """
 import json
 import os
@@ -10,9 +9,8 @@ import pathlib
 import sys
 import xml.sax.saxutils
 
-HERE = pathlib.Path(__file__).resolve().parent
-sys.path[1:1] = [str(HERE), str(HERE.parent / "client")]
-import mmkeep
+from .faults import INCOMPLETE, SENTENCES
+from .reports import COUNTS, read_finding
 
 
 def quoted(text):
@@ -56,7 +54,7 @@ def result(finding):
 def sarif(findings, broken):
     """The lines of SARIF 2.1.0."""
     numbers = sorted({each.number or "incomplete" for each in findings})
-    rules = [{"id": each, "shortDescription": {"text": mmkeep.SENTENCES.get(each, mmkeep.INCOMPLETE)}} for each in numbers]
+    rules = [{"id": each, "shortDescription": {"text": SENTENCES.get(each, INCOMPLETE)}} for each in numbers]
     notices = [{"level": "error", "message": {"text": line}} for line in broken]
     run = {
         "tool": {"driver": {"name": "mmkeep", "rules": rules}},
@@ -69,15 +67,12 @@ def sarif(findings, broken):
 
 def main():
     if sys.argv[1:] not in (["--junit"], ["--sarif"]):
-        sys.exit("usage: convert --junit|--sarif < REPORT")
+        sys.exit("usage: mmkeep-convert --junit|--sarif < REPORT")
     lines = [line for line in os.fsdecode(sys.stdin.buffer.read()).split("\n") if line]
-    findings = [found for found in map(mmkeep.read_finding, lines) if found]
-    counts = [line for line in lines if mmkeep.COUNTS.fullmatch(line)]
-    broken = [line for line in lines if line.startswith("mmkeep: ") and not mmkeep.read_finding(line)]
+    findings = [found for found in map(read_finding, lines) if found]
+    counts = [line for line in lines if COUNTS.fullmatch(line)]
+    broken = [line for line in lines if line.startswith("mmkeep: ") and not read_finding(line)]
     for line in junit(findings, counts, broken) if sys.argv[1] == "--junit" else sarif(findings, broken):
         print(line.encode("utf-8", "replace").decode())
     if len(findings) + len(counts) + len(broken) < len(lines) or not lines:
-        sys.exit("convert: standard input is no report")
-
-
-main()
+        sys.exit("mmkeep-convert: standard input is no report")

@@ -12,7 +12,7 @@ import re
 import tempfile
 import urllib.parse
 
-import mmkeep
+from . import cutting
 
 CHUNK = 1 << 16
 SPACES = b" \t\n\f\r"
@@ -235,7 +235,7 @@ class Held:
     def load(self):
         """The pieces; those of a file that is not open are read when they are asked for."""
         if self.pieces is None:
-            self.take(*mmkeep.cut(self.document.text.all() if self.document else on_disk(self.path) or b""))
+            self.take(*cutting.cut(self.document.text.all() if self.document else on_disk(self.path) or b""))
         return self.pieces
 
     def fed(self):
@@ -250,7 +250,7 @@ class Held:
     def window(self, begin, end):
         """Bytes of the buffer, with what is read after it."""
         text = self.document.text.slice(begin, end)
-        return mmkeep.ended(text) if end >= self.document.text.length else text
+        return cutting.ended(text) if end >= self.document.text.length else text
 
     def first(self):
         """The first piece that may be another one now."""
@@ -282,7 +282,7 @@ class Held:
     def resynchronised(self, begin, end, length):
         """The cut from a byte on, to where it meets a piece of the session that stayed; and that piece, or None."""
         text, at = self.window(begin, end), [0]
-        for each in mmkeep.ends(text):
+        for each in cutting.ends(text):
             if each == len(text) and end < length:
                 break
             at.append(each)

@@ -1,5 +1,4 @@
-#!/usr/bin/env python3
-"""Turns a report into text for people: mmkeep verify TOP 2>&1 | explain.py [TOP].
+"""Turns a report into text for people: mmkeep verify TOP 2>&1 | mmkeep-explain [TOP].
 
 Statements at fault come first, since one of them can make thousands of proofs wrong that name it: these are counted, and
 not shown. Each finding has its line with a mark below it, and its sentence. Where TOP is named, a wrong proof has besides
@@ -14,7 +13,8 @@ import re
 import sys
 from typing import NamedTuple
 
-from mmkeep import COUNTS, SPACES, Place, blank, ended, ends, labels, read_finding
+from .cutting import SPACES, blank, ended, ends, labels
+from .reports import COUNTS, Finding, Place, Report, read_finding
 
 
 class Statement:
@@ -302,12 +302,13 @@ def causes(sources, findings):
     return found
 
 
-def explain(findings, folder=None, top=None):
+def explain(report, folder=None, top=None):
     """Findings of a report as lines for people: first the statements at fault, then incomplete and wrong proofs.
 
     Each has its line with a mark below, and its sentence. With the top file's name it also says what a step expected,
     and what it got. Proofs that are wrong because they name a statement at fault are counted, and not shown.
     """
+    findings = report.findings if isinstance(report, Report) else report
     sources = Sources(folder, [each.place for each in findings if each.kind == "fault"])
     wrong = [each for each in findings if each.kind == "wrong"]
     reading = Reading(sources, top) if top and any(each.number > "P06" for each in wrong) else None
@@ -330,7 +331,7 @@ def explain(findings, folder=None, top=None):
 
 def main():
     if len(sys.argv) > 2 or sys.argv[1:] == ["--help"]:
-        sys.exit("usage: mmkeep verify TOP 2>&1 | explain.py [TOP]")
+        sys.exit("usage: mmkeep verify TOP 2>&1 | mmkeep-explain [TOP]")
     lines = os.fsdecode(sys.stdin.buffer.read()).split("\n")
     findings = [finding for finding in map(read_finding, lines) if finding]
     rest = [line for line in lines if COUNTS.fullmatch(line) or line.startswith("mmkeep:") and not read_finding(line)]
@@ -343,6 +344,3 @@ def main():
         os._exit(1)
     sys.exit(1 if findings or not any(map(COUNTS.fullmatch, lines)) else 0)
 
-
-if __name__ == "__main__":
-    main()
