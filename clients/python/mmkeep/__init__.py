@@ -16,12 +16,13 @@ from .edits import Delete, Edit, Insert, Move, Replace, after, edits
 from .explain import explain
 from .faults import INCOMPLETE, SENTENCES, STATUSES
 from .reports import COUNTS, Counts, Finding, Place, Report, read_finding, read_report
+from .sources import Statement, statements
 
 __version__ = "0.9.0"
 __all__ = [
     *("Session", "verify", "program", "Refused", "Ended"),
     *("Insert", "Replace", "Delete", "Move", "Edit", "edits", "after"),
-    *("cut", "pieces", "ended", "ends", "blank", "labels", "inclusions"),
+    *("cut", "pieces", "ended", "ends", "blank", "labels", "inclusions", "Statement", "statements"),
     *("read_report", "read_finding", "Report", "Finding", "Counts", "Place", "COUNTS"),
     *("explain", "SENTENCES", "INCOMPLETE", "STATUSES"),
 ]

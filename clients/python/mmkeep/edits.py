@@ -3,9 +3,41 @@ from __future__ import annotations
 
 import bisect
 import os
-from typing import NamedTuple, Sequence, Union
+from typing import Iterable, NamedTuple, Sequence, Union
 
 from .cutting import ended
+
+
+LARGEST = 2**32 - 1
+
+
+def word(name: str) -> bytes:
+    """A name or a label as a word of a command. One that would be none, or another command, is a ValueError.
+
+    >>> word("ax-mp")
+    b'ax-mp'
+    >>> word("x\\ndelete a.mm 3")
+    Traceback (most recent call last):
+    ValueError: not a word of a command, for it is empty or has a space or a line feed: 'x\\ndelete a.mm 3'
+    """
+    found = os.fsencode(name)
+    if not found or b" " in found or b"\n" in found:
+        raise ValueError(f"not a word of a command, for it is empty or has a space or a line feed: {name!r}")
+    return found
+
+
+def number(value: int) -> bytes:
+    """A number as a word of a command: 0 to 4,294,967,295. Another one is a ValueError."""
+    if isinstance(value, bool) or not isinstance(value, int) or not 0 <= value <= LARGEST:
+        raise ValueError(f"not a number from 0 to {LARGEST:,}: {value!r}")
+    return b"%d" % value
+
+
+def with_text(text: bytes) -> bytes:
+    """The count of a text's bytes, and the text, as they end a command."""
+    if not isinstance(text, (bytes, bytearray)):
+        raise ValueError(f"a text is bytes, and this is {type(text).__name__}")
+    return b"%b\n%b\n" % (number(len(text)), text)
 
 
 class Insert(NamedTuple):
@@ -15,9 +47,9 @@ class Insert(NamedTuple):
     at: int
     text: bytes
 
-    def command(self):
+    def command(self) -> bytes:
         """The bytes of the command."""
-        return b"insert %b %d %d\n%b\n" % (os.fsencode(self.file), self.at, len(self.text), self.text)
+        return b"insert %b %b %b" % (word(self.file), number(self.at), with_text(self.text))
 
 
 class Replace(NamedTuple):
@@ -27,9 +59,11 @@ class Replace(NamedTuple):
     at: int
     text: bytes
 
-    def command(self):
+    def command(self) -> bytes:
         """The bytes of the command."""
-        return b"replace %b %d %d\n%b\n" % (os.fsencode(self.file), self.at, len(self.text), self.text)
+        if not self.text.strip(b" \t\n\f\r"):
+            raise ValueError("a piece is not replaced by nothing: Delete takes it out")
+        return b"replace %b %b %b" % (word(self.file), number(self.at), with_text(self.text))
 
 
 class Delete(NamedTuple):
@@ -38,9 +72,9 @@ class Delete(NamedTuple):
     file: str
     at: int
 
-    def command(self):
+    def command(self) -> bytes:
         """The bytes of the command."""
-        return b"delete %b %d\n" % (os.fsencode(self.file), self.at)
+        return b"delete %b %b\n" % (word(self.file), number(self.at))
 
 
 class Move(NamedTuple):
@@ -50,15 +84,15 @@ class Move(NamedTuple):
     at: int
     to: int
 
-    def command(self):
+    def command(self) -> bytes:
         """The bytes of the command."""
-        return b"move %b %d %d\n" % (os.fsencode(self.file), self.at, self.to)
+        return b"move %b %b %b\n" % (word(self.file), number(self.at), number(self.to))
 
 
 Edit = Union[Insert, Replace, Delete, Move]
 
 
-def rising(pairs):
+def rising(pairs: Sequence[tuple]) -> list:
     """The most pairs whose second numbers rise, of pairs whose first ones do.
 
     >>> rising([(0, 4), (1, 0), (2, 1), (3, 5), (4, 2)])
@@ -77,7 +111,7 @@ def rising(pairs):
     return found[::-1]
 
 
-def kept(old, new):
+def kept(old: Sequence[bytes], new: Sequence[bytes]) -> list:
     """Pieces that stay: pairs of their places in two lists whose ends differ, rising in both, and a last one after the lists."""
     count, seen = {}, {}
     for text in new:
@@ -95,7 +129,7 @@ def kept(old, new):
     return [*rising(sorted(places.items())), (len(old), len(new))]
 
 
-def edits(file, old, new):
+def edits(file: str, old: Sequence[bytes], new: Sequence[bytes]) -> list:
     """Few edits that make one list of pieces of a file from another: what begins and ends both lists stays.
 
     >>> edits("a.mm", [b"a", b"b", b"c", b"d"], [b"a", b"x", b"d"])
@@ -112,7 +146,7 @@ def edits(file, old, new):
     return min(between(file, begin, new, at_ends), between(file, begin, new, kept(old, new)), key=len)
 
 
-def between(file, begin, new, stay):
+def between(file: str, begin: int, new: Sequence[bytes], stay: Iterable[tuple]) -> list:
     """The edits that make one list of pieces from another, of which some stay: what is between two of them is replaced."""
     found, at, from_old, from_new = [], begin, 0, 0
     for to_old, to_new in stay:
@@ -125,7 +159,7 @@ def between(file, begin, new, stay):
     return found
 
 
-def after(given, changes):
+def after(given: Sequence[bytes], changes: Iterable[Edit]) -> list:
     """A list of pieces as edits leave it, each with the line feed that a session puts after it.
 
     >>> after([b"a ", b"b "], [Delete("a.mm", 0), Insert("a.mm", 1, b"c"), Move("a.mm", 1, 0)])
@@ -133,10 +167,19 @@ def after(given, changes):
     """
     left = [*given]
     for change in changes:
-        if isinstance(change, (Replace, Delete, Move)):
-            taken = left.pop(change.at)
-        if isinstance(change, Move):
-            left.insert(change.to, taken)
-        elif not isinstance(change, Delete):
-            left.insert(change.at, ended(change.text))
+        do(left, change)
     return left
+
+
+def do(left: list, change: Edit) -> Edit:
+    """Does an edit of a list of pieces. Answers the one that takes it back."""
+    if isinstance(change, Move):
+        left.insert(change.to, left.pop(change.at))
+        return Move(change.file, change.to, change.at)
+    if isinstance(change, Delete):
+        return Insert(change.file, change.at, left.pop(change.at))
+    if isinstance(change, Insert):
+        left.insert(change.at, ended(change.text))
+        return Delete(change.file, change.at)
+    old, left[change.at] = left[change.at], ended(change.text)
+    return Replace(change.file, change.at, old)
