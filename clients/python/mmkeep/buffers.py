@@ -302,12 +302,27 @@ class Held:
             return min(max(at - self.length + length + self.fed(), 0), length)
         return min(self.before, length)
 
+    def lines(self):
+        """How many lines end before each piece."""
+        if self.first_lines is None:
+            self.first_lines = [0, *itertools.accumulate(each.count(b"\n") for each in self.load())]
+        return self.first_lines
+
+    def byte(self, row, column):
+        """The piece and the byte in it at a line and a byte of that, both from 0, of the text that the session has."""
+        piece = max(bisect.bisect_left(self.lines(), row) - 1, 0) if row else 0
+        offset = 0
+        for _ in range(row - self.first_lines[piece]):
+            offset = self.pieces[piece].find(b"\n", offset) + 1
+        at = self.starts[piece] + offset + column
+        piece = min(bisect.bisect_right(self.starts, at) - 1, len(self.pieces) - 1)
+        return piece, at - self.starts[piece]
+
     def position(self, piece, offset):
         """The position of a byte of a piece."""
         if self.document:
             return self.document.text.position(*self.document.text.row(self.now(self.starts[piece] + offset)))
-        if self.first_lines is None:
-            self.first_lines = [0, *itertools.accumulate(each.count(b"\n") for each in self.pieces)]
+        self.lines()
         before = b"".join(self.pieces[max(piece - 1, 0) : piece]) + self.pieces[piece][:offset]
         row = self.first_lines[piece] + self.pieces[piece].count(b"\n", 0, offset)
         return {"line": row, "character": len(before) - before.rfind(b"\n") - 1}

@@ -153,7 +153,12 @@ class Reading:
         self.read(top)
 
     def read(self, top: str) -> None:
-        """Reads the pieces, and those of each file at its first inclusion."""
+        """Reads all pieces."""
+        for _ in self.reading(top):
+            pass
+
+    def reading(self, top: str) -> Iterator:
+        """Reads the pieces, one after another, and those of each file at its first inclusion."""
         files = [(top, self.cut(top))]
         while files:
             file, left = files[-1]
@@ -167,6 +172,7 @@ class Reading:
             elif name not in self.files:
                 self.files.append(name)
                 files.append((name, self.cut(name)))
+            yield
 
     def cut(self, file: str) -> Iterator:
         """The pieces of a file, each with its first byte."""
@@ -179,13 +185,21 @@ class Reading:
         """Takes a piece."""
         number = len(self.pieces)
         self.pieces.append((file, begin, text))
-        for label, kind, at in labels(text):
+        found, outer = self.parts(begin, text)
+        for label, kind, at in found:
             self.declared.setdefault(label, Declared(number, kind, file, begin + at))
-        if not any(mark in text for mark in (b"$=", b"${", b"$a")):
-            for each in statements(text, begin):
-                if not self.sources.is_at_fault(file, each):
-                    self.outer.append(each)
-                    self.outer_pieces.append(number)
+        for each in outer:
+            if not self.is_at_fault(number, each):
+                self.outer.append(each)
+                self.outer_pieces.append(number)
+
+    def parts(self, begin: int, text: bytes) -> tuple:
+        """The labels of a piece, and its statements if it is no block and no assertion."""
+        return labels(text), [] if any(mark in text for mark in (b"$=", b"${", b"$a")) else statements(text, begin)
+
+    def is_at_fault(self, piece: int, statement: Statement) -> bool:
+        """Whether a statement of a piece is at fault."""
+        return self.sources.is_at_fault(self.pieces[piece][0], statement)
 
     def place(self, label: str) -> Optional[Place]:
         """Where a label is declared, or nothing."""
@@ -197,7 +211,7 @@ class Reading:
         found = self.declared.get(label)
         if found is None:
             return [], None
-        file, begin, text = self.pieces[found.piece]
+        _, begin, text = self.pieces[found.piece]
         active, marks = self.outer[: bisect.bisect_left(self.outer_pieces, found.piece)], []
         for each in statements(text, begin):
             if each.label == label:
@@ -206,7 +220,7 @@ class Reading:
                 marks.append(len(active))
             elif each.kind == "$}":
                 del active[marks.pop() :]
-            elif not self.sources.is_at_fault(file, each):
+            elif not self.is_at_fault(found.piece, each):
                 active.append(each)
         return active, None
 
@@ -221,20 +235,36 @@ class Reading:
         """The labels that the proof of each theorem names, by the label of the theorem. They are read once."""
         if self.named is None:
             self.named = {}
-            for file in self.files:
-                text = blank(self.sources.text(file))
-                for found in PROOF.finditer(text):
-                    before = text[max(0, found.start() - 300) : found.start()].split()
-                    words = found[1].split()
-                    labels = {os.fsdecode(word) for word in words[1:] or words if word not in (b"(", b"?")}
-                    self.named.setdefault(os.fsdecode(before[-1]) if before else "", labels)
-            self.used = collections.Counter(label for labels in self.named.values() for label in labels)
+            for text in self.texts():
+                for label, named in lists_in(text):
+                    self.named.setdefault(label, named)
+            self.used = self.counted()
         return self.named
+
+    def counted(self) -> collections.Counter:
+        """How many of the proofs that were read name each label."""
+        return collections.Counter(label for named in self.named.values() for label in named)
+
+    def texts(self) -> Iterator:
+        """The texts of the files."""
+        return map(self.sources.text, self.files)
 
     def uses(self) -> collections.Counter:
         """How many proofs name each label."""
         self.lists()
         return self.used
+
+
+def lists_in(text: bytes) -> Iterator:
+    """The label of each theorem of a text, with the labels that its proof names.
+
+    >>> [(label, sorted(named)) for label, named in lists_in(b"a $p x $= ( c b ) AB $. d $p x $= b ? $.")]
+    [('a', ['b', 'c']), ('d', ['b'])]
+    """
+    text = blank(text)
+    for found in PROOF.finditer(text):
+        before = text[max(0, found.start() - 300) : found.start()].split()
+        yield os.fsdecode(before[-1]) if before else "", {os.fsdecode(word) for word in found[1].split() if word not in (b"(", b"?")}
 
 
 def included(text: bytes) -> Optional[str]:
