@@ -38,15 +38,37 @@ local function keys(buffer)
   vim.keymap.set('n', 'K', vim.lsp.buf.hover, options)
   vim.keymap.set('n', 'gd', vim.lsp.buf.definition, options)
   vim.keymap.set('n', 'gr', vim.lsp.buf.references, options)
+  vim.keymap.set('n', 'gR', vim.lsp.buf.rename, options)
+  vim.keymap.set('n', 'ga', vim.lsp.buf.code_action, options)
   vim.keymap.set('n', ']d', vim.diagnostic.goto_next, options)
   vim.keymap.set('n', '[d', vim.diagnostic.goto_prev, options)
 end
+
+-- Colours are those of vim, in the folder next to this one.
+vim.opt.runtimepath:append(vim.fn.fnamemodify(here .. '/../vim', ':p'))
+-- Marks change while you type.
+vim.diagnostic.config({ update_in_insert = true })
 
 vim.api.nvim_create_autocmd({ 'BufReadPost', 'BufNewFile' }, {
   pattern = '*.mm',
   callback = function(event)
     vim.bo[event.buf].filetype = 'metamath'
+    vim.bo[event.buf].omnifunc = 'v:lua.vim.lsp.omnifunc'
     attach(event)
     keys(event.buf)
+  end,
+})
+
+-- What is being done, in the last line.
+vim.api.nvim_create_autocmd('User', {
+  pattern = { 'LspProgressUpdate' },
+  callback = function()
+    for _, client in pairs(vim.lsp.get_active_clients()) do
+      for _, each in pairs(client.messages and client.messages.progress or {}) do
+        if each.title then
+          vim.api.nvim_echo({ { each.title .. ': ' .. (each.message or '') } }, false, {})
+        end
+      end
+    end
   end,
 })
