@@ -244,6 +244,164 @@ def asked(program):
         compare(client, program, "a.mm")
 
 
+BOOK = """$( A small logic. $)
+$c wff |- -> ( ) $.
+$v p q $.
+wp $f wff p $.
+wq $f wff q $.
+wi $a wff ( p -> q ) $.
+${ mi $e |- p $. ma $e |- ( p -> q ) $.
+  $( The rule of
+     detachment. $)
+  mp $a |- q $. $}
+${ $d p q $. ae $a |- ( p -> q ) $. $}
+${ h1 $e |- p $. h2 $e |- ( p -> q ) $.
+  $( Detachment again. $)
+  th $p |- q $=
+    ( mp ) ABCDE $. $}
+x1 $p |- ( p -> q ) $= wp wq ae $.
+y1 $p wff ( p -> ( p -> p ) ) $= ( wi ) AAAB
+  B $.
+"""
+
+
+def told_more(program):
+    """What a step expected and got, where what it cites is declared, and a first label, are told with the diagnostic."""
+    with Folder(program, {"a.mm": BOOK}) as client:
+        client.open("a.mm")
+        marks = client.told_later("a.mm", lambda marks: any("to add" in each["message"] for each in marks))
+        assert [each["code"] for each in marks] == ["P11"] and "no $d keeps p and q apart" in marks[0]["message"], marks
+        related = marks[0]["relatedInformation"][0]
+        assert related["location"]["range"]["start"] == {"line": 10, "character": 13} and related["message"].startswith("ae: "), related
+        client.replace("a.mm", "ABCDE", "ABDCE")
+        marks = client.told_later("a.mm", lambda marks: any("expected |- p" in each["message"] for each in marks))
+        assert "step 5, `mp`" not in marks[0]["message"] and "got      |- ( p -> q )" in marks[0]["message"], marks
+        client.replace("a.mm", "ABDCE", "ABCDE")
+        client.replace("a.mm", "y1 $p", "wi $p")
+        marks = client.told_later("a.mm", lambda marks: any("relatedInformation" in each and each.get("code") == "F06" for each in marks))
+        [mark] = [each for each in marks if each.get("code") == "F06"]
+        assert mark["relatedInformation"][0]["location"]["range"]["start"] == {"line": 5, "character": 0}, mark
+    with Folder(program, {"a.mm": BOOK}, related=False) as client:
+        client.open("a.mm")
+        marks = client.told_later("a.mm", lambda marks: any("to add" in each["message"] for each in marks))
+        assert "relatedInformation" not in marks[0], marks
+
+
+def causes(program):
+    """Where many proofs fail for one cause, the cause is shown at its place, and each of the others has one line."""
+    users = "".join(f"t{each} $p |- ( p -> q ) $= wp wq ax $.\n" for each in range(30))
+    text = BOOK.replace("x1 $p |- ( p -> q ) $= wp wq ae $.\n", "ax $a |- ( p -> q ) $.\n" + users)
+    with Folder(program, {"a.mm": text}) as client:
+        client.open("a.mm")
+        assert client.diagnostics("a.mm") == []
+        client.replace("a.mm", "ax $a |- ( p -> q ) $.", "ax $a |- ( q -> p ) $.")
+        marks = client.told_later("a.mm", lambda marks: any(each["data"]["kind"] == "cause" for each in marks))
+        [cause] = [each for each in marks if each["data"]["kind"] == "cause"]
+        assert cause["message"].startswith("30 of 30 wrong proofs name `ax`") and cause["range"]["start"] == {"line": 15, "character": 0}, cause
+        wrong = [each for each in marks if each.get("code") == "P15"]
+        assert len(wrong) == 30 and "expected" in wrong[0]["message"] and all("\n" not in each["message"] for each in wrong[1:]), wrong[:2]
+        compare(client, program, "a.mm")
+
+
+def known(program):
+    """Hover tells the frame, the comment and what is found of a label, and what a step of a proof leaves, at a letter too."""
+    with Folder(program, {"a.mm": BOOK}) as client:
+        client.open("a.mm")
+        told = client.at("hover", "a.mm", "mp $a")["contents"]["value"]
+        for text in ("`mp` **axiom**, rests on 1 axiom, used by 1 theorem", "wp $f wff p $.\nwq $f wff q $.\nmi $e |- p $.\nma $e |- ( p -> q ) $.\nmp $a |- q $.", "The rule of detachment."):
+            assert text in told, told
+        assert "$d p q $.\nwp $f wff p $." in client.at("hover", "a.mm", "ae $a")["contents"]["value"]
+        assert client.at("hover", "a.mm", "mi $e")["contents"]["value"].startswith("`mi` hypothesis")
+        told = [client.at("hover", "a.mm", "ABCDE", at)["contents"]["value"] for at in range(5)]
+        left = ["wff p", "wff q", "|- p", "|- ( p -> q )", "|- q"]
+        assert all(f"step {at + 1}, `" in each and f"\n{left[at]}\n" in each for at, each in enumerate(told)), told
+        told = client.at("hover", "a.mm", "wp wq ae", 6)["contents"]["value"]
+        assert "step 3, `ae`, is wrong" in told and "no $d keeps p and q apart" in told and "`ae` **axiom**" in told, told
+        assert "\nwff ( p -> ( p -> p ) )\n" in client.at("hover", "a.mm", "  B $.", 2)["contents"]["value"]
+        assert "`mp` **axiom**" in client.at("hover", "a.mm", "( mp )", 2)["contents"]["value"]
+        assert client.at("hover", "a.mm", "-> ( )") is None
+
+
+def offered(program):
+    """Completion, outline, folds, lenses, hints and kinds of words; what is announced is there, and nothing else."""
+    with Folder(program, {"a.mm": BOOK}) as client:
+        client.open("a.mm")
+        able = client.started["capabilities"]
+        assert {"completionProvider", "documentSymbolProvider", "foldingRangeProvider", "renameProvider", "codeActionProvider", "codeLensProvider", "inlayHintProvider", "semanticTokensProvider"} <= {*able}
+        assert not {"documentFormattingProvider", "signatureHelpProvider", "typeDefinitionProvider"} & {*able}
+        # In a proof that is being written, labels that are declared before, and its own hypotheses.
+        at = client.texts["a.mm"].index("x1 $p")
+        client.change("a.mm", (at, at, "t $p |- q $= m"))
+        found = client.complete("a.mm", at + 14)
+        assert [each["label"] for each in found["items"]] == ["mp"] and found["items"][0]["documentation"] == "mp $a |- q $.", found
+        client.change("a.mm", (at + 13, at + 14, "w"))
+        assert [each["label"] for each in client.complete("a.mm", at + 14)["items"]] == ["wi", "wp", "wq"]
+        client.change("a.mm", (at + 13, at + 14, "y"))
+        assert client.complete("a.mm", at + 14)["items"] == []
+        client.change("a.mm", (at, at + 14, ""))
+        at = client.texts["a.mm"].index("( mp )")
+        client.change("a.mm", (at + 2, at + 4, "h"))
+        assert [each["label"] for each in client.complete("a.mm", at + 3)["items"]] == ["h1", "h2"]
+        client.change("a.mm", (at + 2, at + 3, "mp"))
+        assert client.complete("a.mm", client.texts["a.mm"].index("$c wff") + 5)["items"] == []
+        where = {"textDocument": {"uri": client.uri("a.mm")}}
+        symbols = client.ask("textDocument/documentSymbol", where)
+        assert [each["name"] for each in symbols] == ["wi", "mp", "ae", "th", "x1", "y1"] and symbols[1]["range"]["start"] == {"line": 9, "character": 2}, symbols
+        folds = sorted((each["startLine"], each["endLine"], each["kind"]) for each in client.ask("textDocument/foldingRange", where))
+        assert folds == [(6, 9, "region"), (7, 8, "comment"), (11, 14, "region"), (13, 14, "region"), (16, 17, "region")], folds
+        lenses = [(each["range"]["start"]["line"], each["command"]["title"]) for each in client.ask("textDocument/codeLens", where)]
+        assert lenses == [(5, "used by 1"), (9, "used by 1"), (10, "used by 1"), (13, "used by 0"), (15, "used by 0"), (16, "used by 0")], lenses
+        span = {"start": {"line": 9, "character": 0}, "end": {"line": 11, "character": 0}}
+        hints = [(each["position"], each["label"]) for each in client.ask("textDocument/inlayHint", {**where, "range": span})]
+        assert hints == [({"line": 9, "character": 4}, " used by 1"), ({"line": 10, "character": 15}, " used by 1")], hints
+        legend = able["semanticTokensProvider"]["legend"]["tokenTypes"]
+        words = spelled(client.texts["a.mm"], client.ask("textDocument/semanticTokens/full", where)["data"], legend)
+        for word, kind in [("$(", "comment"), ("logic.", "comment"), ("$c", "keyword"), ("wi", "function"), ("->", "operator"), ("p", "variable"), ("$=", "keyword"), ("mp", "function"), ("ABCDE", None)]:
+            assert (word, kind) in words or kind is None and word not in dict(words), (word, kind)
+        part = client.ask("textDocument/semanticTokens/range", {**where, "range": span})["data"]
+        assert part and part[0] == 9 and len(part) < len(words) * 5, part
+
+
+def spelled(text, data, legend):
+    """Tokens as words with their kinds."""
+    lines, found, row, column = text.split("\n"), [], 0, 0
+    for at in range(0, len(data), 5):
+        row, column = row + data[at], data[at + 1] + (0 if data[at] else column)
+        found.append((lines[row][column : column + data[at + 2]], legend[data[at + 3]]))
+    return found
+
+
+def rewritten(program):
+    """A label is renamed in all files at once, or not at all; the `$d` that a proof lacks is added."""
+    files = {"a.mm": "$[ b.mm $]\n" + BOOK.replace("x1 $p |- ( p -> q ) $= wp wq ae $.\n", ""), "b.mm": "$( first $)\n"}
+    files["c.mm"] = "$[ a.mm $]\nz1 $p wff ( p -> q ) $= wp wq wi $.\nz2 $p wff ( p -> p ) $= ( wi ) AAB $.\n"
+    with Folder(program, files) as client:
+        client.open("c.mm")
+        assert client.diagnostics("c.mm") == []
+        assert client.at("prepareRename", "c.mm", "z1 $p")["placeholder"] == "z1" and client.at("prepareRename", "c.mm", "$p wff") is None
+        edit = client.at("rename", "c.mm", "wq wi", 3, newName="impl")["changes"]
+        assert {pathlib.Path(uri).name: len(edits) for uri, edits in edit.items()} == {"a.mm": 2, "c.mm": 2}, edit
+        client.open("a.mm")
+        for uri, edits in edit.items():
+            name = pathlib.Path(uri).name
+            client.apply(name, edits)
+        assert client.diagnostics("a.mm") == [] == client.diagnostics("c.mm")
+        assert "impl $a wff" in client.texts["a.mm"] and "( impl ) AAB" in client.texts["c.mm"] and "wq wi" not in client.texts["c.mm"]
+        for name, why in (("mp", "is taken: it is a label"), ("wff", "is taken: it is a symbol"), ("a b", "can be no label"), ("", "can be no label")):
+            answer = client.answer(client.post("textDocument/rename", {"textDocument": {"uri": client.uri("c.mm")}, "position": {"line": 1, "character": 0}, "newName": name}))
+            assert answer["error"]["code"] == -32803 and why in answer["error"]["message"], answer
+    for text, line in ((BOOK, "${ $d p q $.\nx1 $p |- ( p -> q ) $= wp wq ae $. $}\n"), (BOOK.replace("x1 $p |- ( p -> q ) $= wp wq ae $.", "${ k $e |- p $.\n  x1 $p |- ( p -> q ) $= wp wq ae $. $}"), "  $d p q $.\n  x1 $p")):
+        with Folder(program, {"a.mm": text}) as client:
+            client.open("a.mm")
+            marks = client.told_later("a.mm", lambda marks: any("to add" in each["message"] for each in marks))
+            asked = {"textDocument": {"uri": client.uri("a.mm")}, "range": marks[0]["range"], "context": {"diagnostics": marks}}
+            [action] = client.ask("textDocument/codeAction", asked)
+            assert action["title"] == "Add $d p q $." and action["kind"] == "quickfix", action
+            client.apply("a.mm", action["edit"]["changes"][client.uri("a.mm")])
+            assert line in client.texts["a.mm"] and client.diagnostics("a.mm") == [], client.texts["a.mm"]
+            assert client.ask("textDocument/codeAction", asked) == []
+
+
 def protocol(program):
     """Requests that are cancelled or unknown, messages that are none, and what is asked too early or too late."""
     with Folder(program) as client:
@@ -501,4 +659,4 @@ def one_by_chance(text, chance):
     return at, at, chance.choice(BITS)
 
 
-TESTS = [first_steps, typed, gathered, texts, not_ascii, tails, many_at_once, files, asked, protocol, bad_input, ends_early, names, saved_faults, by_chance, files_by_chance, large]
+TESTS = [first_steps, typed, gathered, texts, not_ascii, tails, many_at_once, files, asked, told_more, causes, known, offered, rewritten, protocol, bad_input, ends_early, names, saved_faults, by_chance, files_by_chance, large]

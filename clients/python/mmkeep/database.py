@@ -17,6 +17,7 @@ from .buffers import SPACES, Held, copies, on_disk, stamp
 from .causes import causes
 from .faults import SENTENCES
 from .live import Live, Words
+from .machine import together
 from .reports import Place
 
 # Seconds for which changes are gathered at most; so many edits that a new session is begun sooner.
@@ -323,7 +324,7 @@ class Base:
         lines, cited, lacks = live.wrong_step(finding)
         name = f"{finding.label}: {finding.sentence()}"
         found = {"message": "\n".join([name, *lines])}
-        found["data"] = {"kind": "wrong", "label": finding.label, "word": None, "stale": False, **({"lacks": " ".join(f"$d {' '.join(each)} $." for each in lacks)} if lacks else {})}
+        found["data"] = {"kind": "wrong", "label": finding.label, "word": None, "stale": False, **({"lacks": " ".join(f"$d {' '.join(each)} $." for each in together(lacks))} if lacks else {})}
         return self.related(found, cited, "it is declared here") if cited in live.declared else found
 
     def related(self, found, label, text):

@@ -214,7 +214,7 @@ def places_of(text: bytes, label: str) -> Iterator[int]:
     """Where a piece declares a label, or names it in a proof.
 
     >>> [*places_of(b"a $p x a $= ( a ) a $. b $p x $= a a ? $. ", "a")]
-    [0, 14, 34, 36]
+    [0, 14, 33, 35]
     """
     for each in statements(text):
         if each.label == label:
