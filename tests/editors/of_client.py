@@ -163,7 +163,7 @@ def commands(program):
             assert session.report().clean()
         assert session.close() == 0
         with mmkeep.Session("a.mm", folder, program) as session:
-            ended(lambda: session.verdict("x x"), status=5, number="C01", line="mmkeep: C01")
+            ended(lambda: session._ask(b"verdict x x\n"), status=5, number="C01", line="mmkeep: C01")
             ended(session.report, status=5, number="C01")
         with mmkeep.Session("a.mm", folder, program) as session:
             session.child.kill()
@@ -216,8 +216,8 @@ def in_words(program):
             assert told[2].index("^") - told[1].index("|") - 2 == report.findings[0].place.column - 1, told
         file.write_bytes(LOGIC.replace(b"mp $a |- q $.", b"mp $a |- z $.") + b"${ k $p |- p $= ( mp ) A $. $}\n")
         told = mmkeep.explain(mmkeep.verify("a.mm", folder, program), folder, "a.mm")
-        assert told[0].startswith("a.mm:3:") and "(F10)" in told[0] and len(told) == 4, told
-        assert told[3].startswith("2 proofs name mp, which is at fault at a.mm:3:") and "the first is th" in told[3], told
+        assert told[0].startswith("a.mm:3:") and "(F10)" in told[0] and len(told) == 8, told
+        assert told[3] == "2 proofs name `mp`, which is at fault at a.mm:3:50" and told[4].endswith("also k") and " th: " in told[5], told
         file.write_bytes(LOGIC + b"x $a |- \x80 $.\n")
         words = f"'{program}' verify a.mm 2>&1 | '{sys.executable}' '{ROOT / 'clients/python/bin/mmkeep-explain'}' a.mm"
         done = subprocess.run(words, shell=True, cwd=folder, capture_output=True, timeout=60, check=False)
@@ -235,7 +235,9 @@ def explained(program):
         pathlib.Path(folder, "nf.mm").write_bytes(text[: found.start()] + found[3] + found[2] + found[1] + text[found.end() :])
         report = mmkeep.verify("nf.mm", folder, program)
         wrong = [each for each in report.findings if each.number == "P09"][:40]
-        told = mmkeep.explain(wrong, folder, "nf.mm")
+        told = mmkeep.explain(report, folder, "nf.mm")
+        assert len(told) < 50 and re.search(r"of [\d,]+ wrong proofs name `ax-mp` ", told[0]), told[:3]
+        told = mmkeep.explain(wrong, folder, "nf.mm", whole=True)
         assert len(wrong) == 40 and sum(line.startswith("    expected ") for line in told) == 40, told[:12]
 
 
@@ -337,22 +339,26 @@ ACCIDENTS = [
 
 
 def accidents(program):
-    """Each accident has its cause told, in at most 50 lines; and all findings with `--all`."""
+    """Each accident has its cause told, in at most 50 lines; and all findings if they are asked for."""
     with tempfile.TemporaryDirectory() as folder:
         file = pathlib.Path(folder, "a.mm")
         for old, new, told in [(b"", b"", []), *ACCIDENTS]:
             assert MANY.count(old) == 1 or not old, old
             file.write_bytes(MANY.replace(old, new) if old else MANY)
-            report = subprocess.run([program, "verify", "a.mm"], cwd=folder, capture_output=True, timeout=60, check=False)
-            lines, status = explained_so(folder, report.stdout + report.stderr, "a.mm")
-            assert len(lines) <= 50 and status == (1 if told else 0), (old, len(lines))
+            try:
+                findings = mmkeep.verify("a.mm", folder, program).findings
+            except mmkeep.Ended as error:
+                findings = [error.finding]
+            lines = mmkeep.explain(findings, folder, "a.mm")
+            assert len(lines) < 50 and bool(lines) == bool(told), (old, len(lines))
             assert all(any(each in line for line in lines) for each in told), (old, told, lines)
-            whole, _ = explained_so(folder, report.stdout + report.stderr, "--all", "a.mm")
-            findings = [found for found in map(mmkeep.read_finding, (report.stdout + report.stderr).decode().split("\n")) if found]
+            whole = mmkeep.explain(findings, folder, "a.mm", whole=True)
             assert all(any(line.startswith(f"{each.place}: ") for line in whole) for each in findings), (old, whole[:4])
         # Without the name of the top file the groups are told all the same.
         file.write_bytes(MANY.replace(b" a1i $p", b" a1ii $p"))
         report = subprocess.run([program, "verify", "a.mm"], cwd=folder, capture_output=True, timeout=60, check=False)
+        whole, status = explained_so(folder, report.stdout, "--all", "a.mm")
+        assert status == 1 and len(whole) > 900 and whole[0].startswith("axioms "), whole[:3]
         lines, _ = explained_so(folder, report.stdout)
         assert "300 proofs name `a1i`, which no earlier statement declares" in lines, lines
         # A part that is missing comes first, whatever else is told.

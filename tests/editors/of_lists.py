@@ -104,11 +104,11 @@ def emacs(program):
 
 
 def matched(patterns, line):
-    """What the patterns of a problem matcher take of a line: file, line, column and severity."""
+    """What the patterns of a problem matcher take of a line: file, line, column and severity. The message is never empty."""
     for severity, pattern in patterns:
         found = re.fullmatch(pattern["regexp"].removeprefix("^").removesuffix("$"), line)
         if found:
-            assert found[pattern["message"]] is not None and ("code" not in pattern or re.fullmatch("[FTP][0-9][0-9]", found[pattern["code"]])), line
+            assert found[pattern["message"]].strip() and ("code" not in pattern or re.fullmatch("[FTP][0-9][0-9]", found[pattern["code"]])), line
             yield found[pattern["file"]], int(found[pattern["line"]]), int(found[pattern["column"]]), severity
 
 
@@ -160,7 +160,21 @@ def converted(program):
         assert status == 0 and [(each["artifactLocation"]["uri"], each["region"]["startLine"], each["region"]["startColumn"]) for each in found] == places, told
         assert {each["ruleId"] for each in run["results"]} == {each["id"] for each in run["tool"]["driver"]["rules"]}
         told, status = place.run(CONVERT, "--junit", text="mmkeep: out of memory\n")
-        assert status == 0 and "out of memory" in told and xml.etree.ElementTree.fromstring(told).get("failures") == "1"
+        assert status == 0 and "out of memory" in told and xml.etree.ElementTree.fromstring(told).get("errors") == "1"
+        told, status = place.run(CONVERT, "--junit")
+        assert status == 1 and "nothing was verified" in told and xml.etree.ElementTree.fromstring(told).get("errors") == "1"
+        told, status = place.run(CONVERT, "--github", text=lines)
+        found = [(each[1], int(each[2]), int(each[3])) for each in re.finditer(r"^::(?:error|warning) file=(.*?),line=(\d+),col=(\d+),title=.*?::.{10}", told, re.M)]
+        assert status == 0 and found == places and told.count("::notice ") == 2, told
+        told, _ = place.run(CONVERT, "--github", text="fault a b,%:c.mm:1:2 F02 $c\n")
+        assert told.startswith("::error file=a b%2C%25%3Ac.mm,line=1,col=2,title=$c F02::a `$c` in a block\n"), told
+        told, _ = place.run(CONVERT, "--sarif", text="fault a b%c.mm:1:2 F02 $c\n")
+        run = json.loads(told)["runs"][0]
+        assert run["results"][0]["locations"][0]["physicalLocation"]["artifactLocation"]["uri"] == "a%20b%25c.mm", told
+        assert run["tool"]["driver"]["rules"][0]["helpUri"].startswith("file:///"), told
+        # A reader that has enough ends the program, with no traceback.
+        done = subprocess.run(["bash", "-c", f"yes 'wrong th a.mm:7:67 P09' | head -100000 | {CONVERT} --github | head -1"], capture_output=True, timeout=60, check=False)
+        assert done.stderr == b"" and done.stdout.count(b"\n") == 1, done
         assert place.run(CONVERT, "--sarif", text="no report\n")[1] == 1 and place.run(CONVERT)[1] == 1
 
 
@@ -219,6 +233,11 @@ def hook(program):
         assert git("commit", "-qm", "part")[1] == 1
         git("config", "mmkeep.top", "top.mm")
         assert git("commit", "-qm", "part")[1] == 0, place.told
+        told, status = git("commit", "-qm", "lost", "--allow-empty", MMKEEP="/nowhere/mmkeep")
+        (place.path / "part.mm").write_text("t8 $p wff p $= wp $.\n")
+        git("add", "part.mm")
+        assert git("commit", "-qm", "lost", MMKEEP="/nowhere/mmkeep")[1] == 1 and "could not be verified" in place.told and "found" not in place.told, place.told
+        git("reset", "-q", "--hard")
         (place.path / "note").write_text("x")
         git("add", "note")
         assert git("commit", "-qm", "no database", MMKEEP="/nowhere/mmkeep")[1] == 0, place.told
@@ -254,4 +273,35 @@ def pages(program):
             assert path.exists() or name.startswith("crates/mmkeep/out"), f"{page.name}: {name}"
 
 
-TESTS = [vim, emacs, matchers, verify, converted, workflow, hook, manual, picture, pages]
+def installation(program):
+    """`make install` puts everything where it belongs, and the tools run from there; the Debian package is built and checked, and has the same."""
+    with tempfile.TemporaryDirectory() as folder:
+        there, tree = pathlib.Path(folder, "there"), pathlib.Path(folder, "tree")
+        kept = shutil.ignore_patterns("out", ".git", "__pycache__", "build", "*.egg-info", "rows")
+        shutil.copytree(ROOT, tree, ignore=kept)
+        (tree / "crates/mmkeep/out").mkdir()
+        shutil.copy(program, tree / "crates/mmkeep/out/mmkeep")
+        subprocess.run(["make", "install", "PREFIX=/usr", f"DESTDIR={there}"], cwd=tree, check=True, capture_output=True, timeout=60)
+        installed(there)
+        if all(map(shutil.which, ("dpkg-buildpackage", "lintian", "dh"))):
+            done = subprocess.run(["dpkg-buildpackage", "-us", "-uc", "-b"], cwd=tree, capture_output=True, timeout=150, check=False)
+            assert done.returncode == 0, done.stderr[-2000:]
+            [package] = pathlib.Path(folder).glob("mmkeep_0.9.0_*.deb")
+            told = subprocess.run(["lintian", "--allow-root", "--fail-on", "error", str(package)], capture_output=True, timeout=150, check=False)
+            assert told.returncode == 0, told.stdout
+            subprocess.run(["dpkg", "-x", str(package), str(pathlib.Path(folder, "unpacked"))], check=True, timeout=60)
+            installed(pathlib.Path(folder, "unpacked"))
+
+
+def installed(there):
+    """Asserts that what is installed is whole, and runs."""
+    home = there / "usr/bin"
+    (there / "a.mm").write_text((EXAMPLES / "faults.mm").read_text())
+    settings = {**os.environ, "PATH": f"{home}:{os.environ['PATH']}", "MMKEEP": ""}
+    done = subprocess.run("mmkeep verify a.mm 2>&1 | mmkeep-explain a.mm", shell=True, cwd=there, env=settings, capture_output=True, timeout=60, check=False)
+    assert done.returncode == 1 and b"a.mm:3:4: a `$c` in a block (F02)" in done.stdout and done.stderr == b"", done
+    assert {"mmkeep", "mmkeep-lsp", "mmkeep-explain", "mmkeep-watch", "mmkeep-convert", "mmkeep-graph"} == {each.name for each in home.iterdir()}
+    assert any((there / f"usr/share/man/man1/mmkeep.1{end}").exists() for end in ("", ".gz")) and (there / "usr/share/mmkeep/editor/nvim/init.lua").exists()
+
+
+TESTS = [vim, emacs, matchers, verify, converted, workflow, hook, manual, picture, pages, installation]

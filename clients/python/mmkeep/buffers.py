@@ -304,15 +304,16 @@ class Held:
 
     def lines(self):
         """How many lines end before each piece."""
+        pieces = self.load()
         if self.first_lines is None:
-            self.first_lines = [0, *itertools.accumulate(each.count(b"\n") for each in self.load())]
+            self.first_lines = [0, *itertools.accumulate(each.count(b"\n") for each in pieces)]
         return self.first_lines
 
     def byte(self, row, column):
         """The piece and the byte in it at a line and a byte of that, both from 0, of the text that the session has."""
-        piece = max(bisect.bisect_left(self.lines(), row) - 1, 0) if row else 0
-        offset = 0
-        for _ in range(row - self.first_lines[piece]):
+        lines, offset = self.lines(), 0
+        piece = max(bisect.bisect_left(lines, row) - 1, 0)
+        for _ in range(row - lines[piece]):
             offset = self.pieces[piece].find(b"\n", offset) + 1
         at = self.starts[piece] + offset + column
         piece = min(bisect.bisect_right(self.starts, at) - 1, len(self.pieces) - 1)

@@ -90,7 +90,7 @@ def named_labels(wrong: list, reading: Optional[Reading]) -> Iterator[Cause]:
     lists, uses, left = (reading.lists(), reading.uses(), wrong) if reading and len(wrong) > 1 else ({}, {}, wrong)
     while len(left) > 1:
         named = collections.Counter(label for each in left for label in lists.get(each.label, ()))
-        label = max(named, key=lambda each: (weight(named[each], len(left), uses[each]), each), default=None)
+        label = max(named, key=lambda each: (weight(named[each], len(left), uses[each]), *reading.rank(each)), default=None)
         if label is None or named[label] < 2 or named[label] < LEAST * uses[label]:
             break
         place = reading.place(label)

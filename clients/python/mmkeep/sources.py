@@ -206,6 +206,11 @@ class Reading:
         found = self.declared.get(label)
         return found and self.sources.place(found.file, found.at)
 
+    def rank(self, label: str) -> tuple:
+        """Whether a label is that of an assertion, and how late it is declared: of labels that explain as much, the last one tells most."""
+        found = self.declared.get(label)
+        return (found.kind in "ap", found.piece, label) if found else (False, -1, label)
+
     def labelled(self, label: str) -> tuple:
         """The active statements at the one with a label, and that one; nothing in its place if there is none."""
         found = self.declared.get(label)
