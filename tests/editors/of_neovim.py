@@ -9,7 +9,7 @@ import time
 
 from protocol import DATABASES, ROOT, mmkeep
 
-CONFIGURATION = ROOT / "examples" / "editor" / "nvim" / "init.lua"
+CONFIGURATION = ROOT / "clients" / "editor" / "nvim" / "init.lua"
 SECONDS = 40
 # What the buffer's changes are counted by, and the version of the last diagnostics, with these.
 WATCH = """lua <<END

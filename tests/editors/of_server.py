@@ -326,6 +326,7 @@ def offered(program):
     """Completion, outline, folds, lenses, hints and kinds of words; what is announced is there, and nothing else."""
     with Folder(program, {"a.mm": BOOK}) as client:
         client.open("a.mm")
+        client.diagnostics("a.mm")
         able = client.started["capabilities"]
         assert {"completionProvider", "documentSymbolProvider", "foldingRangeProvider", "renameProvider", "codeActionProvider", "codeLensProvider", "inlayHintProvider", "semanticTokensProvider"} <= {*able}
         assert not {"documentFormattingProvider", "signatureHelpProvider", "typeDefinitionProvider"} & {*able}

@@ -2,10 +2,13 @@
 from __future__ import annotations
 
 import collections
-from typing import Iterable, Iterator, NamedTuple, Optional
+from typing import TYPE_CHECKING, Iterable, Iterator, NamedTuple, Optional, Union
 
 from .reports import Finding, Place
 from .sources import Reading, Sources
+
+if TYPE_CHECKING:
+    from .live import Words
 
 # A label explains wrong proofs if at least half of the proofs that name it are wrong.
 LEAST = 0.5
@@ -21,7 +24,7 @@ class Cause(NamedTuple):
     findings: list
 
 
-def causes(findings: Iterable[Finding], sources: Sources, reading: Optional[Reading] = None, before: Iterable[str] = ()) -> Iterator[Cause]:
+def causes(findings: Iterable[Finding], sources: Union[Sources, Words], reading: Optional[Reading] = None, before: Iterable[str] = ()) -> Iterator[Cause]:
     """The causes of wrong proofs, each with its proofs; every wrong proof is of one cause. Those that explain most come first.
 
     `reading` is the database, if it can be read, and `before` has the labels that there were before the last edits."""
@@ -40,7 +43,7 @@ def causes(findings: Iterable[Finding], sources: Sources, reading: Optional[Read
     yield from named_labels([each for each in wrong if each.number >= "P07"], reading)
 
 
-def statements_at_fault(findings: Iterable[Finding], sources: Sources) -> dict:
+def statements_at_fault(findings: Iterable[Finding], sources: Union[Sources, Words]) -> dict:
     """The labels of statements at fault, each with the place of its fault."""
     found: dict = {}
     for each in findings:
@@ -87,7 +90,11 @@ def is_near(one: str, other: str) -> bool:
 
 def named_labels(wrong: list, reading: Optional[Reading]) -> Iterator[Cause]:
     """The causes of proofs of which a step is wrong: the labels that explain most of them, and then the proofs that none does."""
-    lists, uses, left = (reading.lists(), reading.uses(), wrong) if reading and len(wrong) > 1 else ({}, {}, wrong)
+    lists: dict = {}
+    uses: dict = {}
+    left = wrong
+    if reading and len(wrong) > 1:
+        lists, uses = reading.lists(), reading.uses()
     while len(left) > 1:
         named = collections.Counter(label for each in left for label in lists.get(each.label, ()))
         label = max(named, key=lambda each: (weight(named[each], len(left), uses[each]), *reading.rank(each)), default=None)

@@ -25,7 +25,7 @@ class Refused(Exception):
     {'edit': 1, 'number': 'S03', 'line': 1, 'column': 5, 'fault': 'T07', 'count': None}
     """
 
-    def __init__(self, words):
+    def __init__(self, words: list) -> None:
         super().__init__(" ".join(words))
         self.edit = int(words.pop(0)) if words[0].isdigit() else None
         self.number = words.pop(0)
@@ -40,13 +40,13 @@ class Refused(Exception):
 class Ended(Exception):
     """A program that ended: its status, or minus a signal; its line on standard error; a fault of a text with its place."""
 
-    def __init__(self, status, line):
+    def __init__(self, status: Optional[int], line: str) -> None:
         self.status, self.line = status, line
         self.finding = read_finding(line)
         self.number = self.finding.number if self.finding else next(iter(re.findall(r"\b[CST]\d\d$", line)), None)
         super().__init__(self.told())
 
-    def told(self):
+    def told(self) -> str:
         """One line for people."""
         if self.status is not None and self.status < 0:
             return f"mmkeep was ended by signal {-self.status}"
@@ -77,7 +77,7 @@ class Session:
     ValueError before anything is sent.
     """
 
-    def __init__(self, top: str, folder: Optional[str] = None, path: Optional[str] = None, told: Optional[Callable] = None):
+    def __init__(self, top: str, folder: Optional[str] = None, path: Optional[str] = None, told: Optional[Callable] = None) -> None:
         self.folder, self.told = folder or ".", told
         # The edits that were done, by file, and the pieces of the files that were asked for.
         self.done: dict = {}
@@ -85,9 +85,8 @@ class Session:
         self.line = ""
         self.errors = tempfile.TemporaryFile()
         words = [path or program(), "session", top]
-        pipes = {"stdin": subprocess.PIPE, "stdout": subprocess.PIPE, "stderr": self.errors}
         try:
-            self.child = subprocess.Popen(words, cwd=folder, **pipes)
+            self.child = subprocess.Popen(words, cwd=folder, stdin=subprocess.PIPE, stdout=subprocess.PIPE, stderr=self.errors)
         except (OSError, ValueError):
             self.errors.close()
             raise
@@ -155,9 +154,10 @@ class Session:
         """Sends edits, and answers the labels of the theorems that were run."""
         words = self._ask(command)
         for change in changes:
-            self.done.setdefault(change.file, []).append(change)
             if change.file in self.held:
                 do(self.held[change.file], change)
+            else:
+                self.done.setdefault(change.file, []).append(change)
         return self._labels(words, self.told)
 
     def edit(self, change: Edit) -> list:
@@ -192,8 +192,8 @@ class Session:
                 print(len(ran), session.report().counts.wrong)
         """
         files = {change.file: [*self.pieces(change.file)] for change in changes}
-        back = [do(files[change.file], change) for change in changes]
         ran = self.batch(changes)
+        back = [do(files[change.file], change) for change in changes]
         try:
             yield ran
         finally:
@@ -216,20 +216,33 @@ class Session:
             count = self.count(file)
             if count is None:
                 raise LookupError(f"no file of this name was loaded: {file}")
-            found = after(cut(pathlib.Path(self.folder, file).read_bytes())[0], self.done.get(file, []))
+            try:
+                found = after(cut(pathlib.Path(self.folder, file).read_bytes())[0], self.done.get(file, []))
+            except (IndexError, OSError):
+                found = []
             if len(found) != count:
                 raise LookupError(f"{file} is another one than when the session began")
             self.held[file] = found
+            self.done.pop(file, None)
         return self.held[file]
 
+    def piece(self, file: str, number: int) -> bytes:
+        """A piece of a file. A LookupError says that there is none."""
+        pieces = self.pieces(file)
+        if not 0 <= number < len(pieces):
+            raise LookupError(f"{file} has {len(pieces):,} pieces, and no piece {number}")
+        return pieces[number]
+
     def place(self, file: str, piece: int, byte: int = 0) -> Place:
-        """The place in a file of a byte of one of its pieces."""
+        """The place in a file of a byte of one of its pieces, or of its end. A LookupError says that there is none."""
+        if not 0 <= byte <= len(self.piece(file, piece)):
+            raise LookupError(f"piece {piece} of {file} has {len(self.piece(file, piece)):,} bytes, and no byte {byte}")
         text = b"".join(self.pieces(file)[:piece]) + self.pieces(file)[piece][:byte]
         return Place(file, text.count(b"\n") + 1, len(text) - text.rfind(b"\n"))
 
     def statements(self, file: str, piece: int) -> list:
         """The statements of a piece: each with its label, kind, symbols, proof, and the bytes of the piece where it begins and ends."""
-        return statements(self.pieces(file)[piece])
+        return statements(self.piece(file, piece))
 
     def fault(self, file: str, text: bytes) -> Optional[tuple]:
         """The first fault of a text, that is read after whole pieces: its number, line and column there; or nothing.

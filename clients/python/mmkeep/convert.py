@@ -11,9 +11,10 @@ import pathlib
 import sys
 import urllib.parse
 import xml.sax.saxutils
-from typing import Iterable, Iterator
+from typing import Iterator
 
 from .faults import INCOMPLETE, SENTENCES
+from .programs import given, guarded
 from .reports import COUNTS, Finding, read_finding
 
 # Where each number is explained: at what MMKEEP_HELP names, or on the page of faults that is near, in a clone or as it is installed.
@@ -109,26 +110,18 @@ def github(findings: list, counts: list, broken: list) -> Iterator[str]:
 FORMS = {"--junit": junit, "--sarif": sarif, "--github": github}
 
 
-def written(lines: Iterable[str]) -> None:
-    """Writes lines; a reader that has enough of them ends the program."""
-    try:
-        for line in lines:
-            print(line.encode("utf-8", "replace").decode())
-        sys.stdout.flush()
-    except BrokenPipeError:
-        os._exit(1)
-
-
+@guarded
 def main() -> int:
     """Reads a report, and writes it in another form."""
     form = FORMS.get(sys.argv[1]) if len(sys.argv) == 2 else None
     if form is None:
         sys.exit("usage: mmkeep-convert --junit|--sarif|--github < REPORT")
-    lines = [line for line in os.fsdecode(sys.stdin.buffer.read()).split("\n") if line]
+    lines = [line for line in given().split("\n") if line]
     findings = [found for found in map(read_finding, lines) if found and found.place]
     counts = [line for line in lines if COUNTS.fullmatch(line)]
     broken = [line for line in lines if line.startswith("mmkeep: ") and not read_finding(line)]
-    written(form(findings, counts, broken))
+    for line in form(findings, counts, broken):
+        print(line)
     if len(findings) + len(counts) + len(broken) < len(lines) or not lines:
         sys.exit("mmkeep-convert: standard input is no report")
     return 0

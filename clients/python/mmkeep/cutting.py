@@ -15,7 +15,7 @@ OPENED = re.compile(rb"\$[()[]")
 LABELLED = re.compile(rb"\$([aefp])(?=%b)" % SPACE)
 
 
-def ends(text, at=0):
+def ends(text: bytes, at: int = 0) -> Iterator[int]:
     """The bytes at which pieces end, from the beginning of one on, up to where no more is one.
 
     >>> list(ends(b"$( a $) $c a $.  ${ $} x $a"))
@@ -40,12 +40,12 @@ def ends(text, at=0):
             yield SPACES.match(text, end).end()
 
 
-def ended(text):
+def ended(text: bytes) -> bytes:
     """A text with the line feed that is read after it where it does not end in white space."""
     return text if not text or text[-1] in b" \t\n\f\r" else text + b"\n"
 
 
-def cut(text):
+def cut(text: bytes) -> tuple:
     """The pieces of a text, and its tail. Of a text with a fault they are what the fault leaves: nobody may rely on more.
 
     >>> cut(b"$c a $. $( typed $) v $f a b $. $( the end $)")
@@ -56,7 +56,7 @@ def cut(text):
     return [text[begin:end] for begin, end in zip(at, at[1:])], text[at[-1] :]
 
 
-def pieces(text):
+def pieces(text: bytes) -> list:
     """The pieces of a text without a fault, each with its one unit, the comments before it and the white space after.
 
     >>> pieces(b"$( empty $) ${ $( $. $) $}")
@@ -65,7 +65,7 @@ def pieces(text):
     return cut(text)[0]
 
 
-def blank(text):
+def blank(text: bytes) -> bytes:
     """A text with spaces in the place of each byte of its comments.
 
     >>> blank(b"a $( b $) $a")
@@ -74,7 +74,7 @@ def blank(text):
     return COMMENT.sub(lambda found: b" " * len(found[0]), text) if b"$(" in text else text
 
 
-def labels(piece):
+def labels(piece: bytes) -> list:
     """The labels of a piece, each with its kind (`a`, `e`, `f` or `p`) and its first byte.
 
     >>> labels(b"${ h $( c $) $e p $. x $a p $. $} ")
@@ -91,7 +91,7 @@ def labels(piece):
     return found
 
 
-def inclusions(text):
+def inclusions(text: bytes) -> list:
     """The names of the inclusions in a text.
 
     >>> inclusions(b"$( $[ a.mm $] $) $[ b.mm $] $[ $( c $) d.mm $]")

@@ -98,13 +98,16 @@ def rising(pairs: Sequence[tuple]) -> list:
     >>> rising([(0, 4), (1, 0), (2, 1), (3, 5), (4, 2)])
     [(1, 0), (2, 1), (4, 2)]
     """
-    tops, last, before = [], [], []
+    tops: list = []
+    last: list = []
+    before: list = []
     for at, (_, second) in enumerate(pairs):
         length = bisect.bisect_left(tops, second)
         tops[length:] = [second, *tops[length + 1 :]] if length < len(tops) else [second]
         last[length : length + 1] = [at]
         before.append(last[length - 1] if length else None)
-    found, at = [], last[-1] if last else None
+    found: list = []
+    at = last[-1] if last else None
     while at is not None:
         found.append(pairs[at])
         at = before[at]
@@ -113,7 +116,8 @@ def rising(pairs: Sequence[tuple]) -> list:
 
 def kept(old: Sequence[bytes], new: Sequence[bytes]) -> list:
     """Pieces that stay: pairs of their places in two lists whose ends differ, rising in both, and a last one after the lists."""
-    count, seen = {}, {}
+    count: dict = {}
+    seen: dict = {}
     for text in new:
         count[text] = count.get(text, 0) + 1
     for text in old:
@@ -148,7 +152,8 @@ def edits(file: str, old: Sequence[bytes], new: Sequence[bytes]) -> list:
 
 def between(file: str, begin: int, new: Sequence[bytes], stay: Iterable[tuple]) -> list:
     """The edits that make one list of pieces from another, of which some stay: what is between two of them is replaced."""
-    found, at, from_old, from_new = [], begin, 0, 0
+    found: list = []
+    at, from_old, from_new = begin, 0, 0
     for to_old, to_new in stay:
         gone, come = to_old - from_old, new[from_new:to_new]
         found += [Replace(file, at + number, text) for number, text in enumerate(come[:gone])]

@@ -12,10 +12,12 @@ import itertools
 import os
 import re
 import sys
+import unicodedata
 from typing import Iterable, Iterator, Optional, Union
 
 from .causes import causes
 from .machine import Machine
+from .programs import given, guarded
 from .reports import COUNTS, Finding, Report, read_finding
 from .sources import Reading, Sources
 
@@ -58,17 +60,21 @@ def notes(sources: Sources, reading: Optional[Reading], finding: Finding) -> lis
         return byte_note(text, at)
     if finding.number == "T03":
         begin = comment_before(text, at)
-        place = [f"the comment that is open here begins at {sources.place(finding.place.file, begin)}"] if begin is not None else []
-        return [*place, *spaced(word)]
+        opened = [f"the comment that is open here begins at {sources.place(finding.place.file, begin)}"] if begin is not None else []
+        return [*opened, *spaced(word)]
     if finding.number == "T05":
         return spaced(word)
     if finding.number == "T06":
         return unfinished(text, at)
+    if finding.number == "T08":
+        return unclosed(sources, finding)
     if finding.number == "T11" and re.match("<{7}|={7}|>{7}", word):
         return ["it looks like a mark of a merge that was not resolved"]
     if finding.number == "F06" and reading:
         place = reading.place(word)
         return [f"it is that of the statement at {place}"] if place and place != finding.place else []
+    if finding.label and reading:
+        return faults_of_block(sources, reading, finding)
     if finding.number == "F14":
         return [f"names of inclusions are opened from the folder where mmkeep runs: here that is {os.path.realpath(sources.folder)}"]
     return []
@@ -83,7 +89,9 @@ def byte_note(text: bytes, at: int) -> list:
     for length in (2, 3, 4):
         try:
             letter = text[at : at + length].decode("utf-8")
-            return [f"it begins `{letter}` ({len(letter.encode())} bytes of UTF-8): a text has ASCII alone, in comments too"]
+            shown = f"`{letter}`, " if letter.isprintable() else ""
+            name = unicodedata.name(letter, "")
+            return [f"it begins {shown}U+{ord(letter):04X}{f' {name}' if name else ''} ({length} bytes of UTF-8): a text has ASCII alone, in comments too"]
         except UnicodeDecodeError:
             continue
     return [f"it is the byte 0x{text[at]:02X}: a text has ASCII alone, in comments too"]
@@ -102,6 +110,29 @@ def comment_before(text: bytes, at: int) -> Optional[int]:
         elif begin is None:
             begin = found.start()
     return begin
+
+
+def unclosed(sources: Sources, finding: Finding) -> list:
+    """Where the `$}` may be missing of a block that is not closed: before the next `${` in its column, or the end of its file."""
+    text, at = sources.text(finding.place.file), sources.byte(finding.place)
+    indent = text[text.rfind(b"\n", 0, at) + 1 : at]
+    found = re.compile(rb"^%b\$\{(?=[ \t\n\f\r])" % re.escape(indent), re.M).search(text, at + 2) if not indent.strip() else None
+    if found:
+        return [f"the next `${{` in its column is at {sources.place(finding.place.file, found.end() - 2)}: is a `$}}` missing before that?"]
+    return ["its `$}` has to come before the end of this file, since a block does not go on in another one"]
+
+
+def faults_of_block(sources: Sources, reading: Reading, finding: Finding) -> list:
+    """That statements at fault are before a theorem in its block: they are not active."""
+    declared = reading.declared.get(finding.label)
+    if declared is None:
+        return []
+    file, begin, _ = reading.pieces[declared.piece]
+    marks = sources.between(file, begin, declared.at)
+    if not marks:
+        return []
+    several = "a statement before it in its block is" if len(marks) == 1 else f"{len(marks):,} statements before it in its block are"
+    return [f"{several} at fault, from {sources.place(file, marks[0])} on"]
 
 
 def spaced(word: str) -> list:
@@ -214,6 +245,7 @@ def explain(report: Union[Report, list], folder: Optional[str] = None, top: Opti
     return [*lines(findings, folder, top, (), None if whole else LINES)]
 
 
+@guarded
 def main() -> int:
     """Reads a report from standard input, and prints what it says."""
     words = sys.argv[1:]
@@ -221,15 +253,19 @@ def main() -> int:
     words = [each for each in words if each != "--all"]
     if len(words) > 1 or words[:1] == ["--help"]:
         sys.exit("usage: mmkeep verify TOP 2>&1 | mmkeep-explain [--all] [TOP]")
-    read = os.fsdecode(sys.stdin.buffer.read()).split("\n")
+    read = given().split("\n")
     findings = [each for each in map(read_finding, read) if each and each.place]
     rest = [line for line in read if COUNTS.fullmatch(line) or line.startswith("mmkeep:") and not read_finding(line)]
-    sys.stdout.reconfigure(errors="replace")
-    try:
-        limit = None if whole else LINES - len(rest)
-        # The counts come first: they are there at once.
-        for line in itertools.chain(rest, lines(findings, None, words[0] if words else None, (), limit)):
-            print(line, flush=True)
-    except BrokenPipeError:
-        os._exit(1)
-    return 1 if findings or not any(map(COUNTS.fullmatch, read)) else 0
+    top = words[0] if words else None
+    lost = top is not None and not os.path.isfile(top) and not any(line.startswith("mmkeep:") for line in rest)
+    if lost:
+        print(f"mmkeep-explain: {top}: cannot be read, so no step is explained", file=sys.stderr, flush=True)
+    if not findings and not rest:
+        sys.exit("mmkeep-explain: standard input is no report")
+    if not whole:
+        rest = rest[:FAULTS]
+    limit = None if whole else LINES - len(rest)
+    # The counts come first: they are there at once.
+    for line in itertools.chain(rest, lines(findings, None, top, (), limit)):
+        print(line, flush=True)
+    return 1 if lost or findings or not any(map(COUNTS.fullmatch, read)) else 0

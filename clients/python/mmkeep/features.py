@@ -7,12 +7,17 @@ from __future__ import annotations
 import bisect
 import os
 import re
-from typing import Iterator, Optional
+from typing import TYPE_CHECKING, Iterator, Optional
 
 from .client import Refused
 from .cutting import COMMENT, blank
 from .machine import named
 from .sources import Statement, statements
+
+if TYPE_CHECKING:
+    from .buffers import Document
+    from .database import Base
+    from .live import Live
 
 WORD = re.compile(rb"[^ \t\n\f\r]+")
 LABEL = re.compile(r"[A-Za-z0-9._-]+")
@@ -32,7 +37,7 @@ def counted(count: int, name: str) -> str:
 class Spot:
     """A byte of an open file: its piece, as the session has it, and what statement of that it is in."""
 
-    def __init__(self, base, document, position: dict):
+    def __init__(self, base: Base, document: Document, position: dict) -> None:
         self.base, self.document = base, document
         self.held = next((held for held in base.files.values() if held.document is document), None)
         self.at = document.text.byte(position)
@@ -54,7 +59,7 @@ class Spot:
         return words[0][0] == "(" and end is not None and self.offset <= end
 
 
-def hover(base, document, position: dict) -> Optional[str]:
+def hover(base: Base, document: Document, position: dict) -> Optional[str]:
     """What is known at a place: of a step of a proof, what it leaves; of a label, its frame, its comment and what is found of it."""
     spot = Spot(base, document, position)
     word = word_at(document, position)
@@ -67,7 +72,7 @@ def hover(base, document, position: dict) -> Optional[str]:
     return "\n\n".join(filter(None, parts)) or None
 
 
-def word_at(document, position: dict) -> str:
+def word_at(document: Document, position: dict) -> str:
     """The word at a position."""
     row, column = document.text.row(document.text.byte(position))
     line = document.text.line(row)[1]
@@ -76,7 +81,7 @@ def word_at(document, position: dict) -> str:
     return os.fsdecode(found[0]) if found else ""
 
 
-def step_told(base, spot: Spot) -> Optional[str]:
+def step_told(base: Base, spot: Spot) -> Optional[str]:
     """What a step of a proof leaves."""
     done = base.live().step_at(spot.statement.label, spot.offset)
     if done is None:
@@ -88,7 +93,7 @@ def step_told(base, spot: Spot) -> Optional[str]:
     return f"step {done.number}, {named(done.step.what)}, leaves\n\n```metamath\n{' '.join(done.left)}\n```"
 
 
-def label_told(base, label: str) -> str:
+def label_told(base: Base, label: str) -> str:
     """What is found of an assertion or a hypothesis, its frame, and its comment."""
     live = base.live()
     kind = live.declared[label].kind
@@ -104,7 +109,7 @@ def label_told(base, label: str) -> str:
     return told + (f"\n\n```metamath\n{text}\n```" if text else "") + (f"\n\n{comment}" if comment else "") + late
 
 
-def completion(base, document, position: dict) -> dict:
+def completion(base: Base, document: Document, position: dict) -> dict:
     """The labels that may be named at a place in a proof: those of assertions before it, and its hypotheses."""
     at = document.text.byte(position)
     before = document.text.slice(max(0, at - 65_536), at)
@@ -127,12 +132,12 @@ def completion(base, document, position: dict) -> dict:
     return {"isIncomplete": len(found) > OFFERED, "items": items}
 
 
-def shown(base, label: str) -> str:
+def shown(base: Base, label: str) -> str:
     """The statement of a label up to its proof."""
     return " ".join((base.statement(label) or "").split())
 
 
-def assertions(base, document) -> Iterator[tuple]:
+def assertions(base: Base, document: Document) -> Iterator[tuple]:
     """The labels of the assertions of an open file, with their kinds and ranges."""
     held = next((held for held in base.files.values() if held.document is document), None)
     if held is None:
@@ -144,12 +149,12 @@ def assertions(base, document) -> Iterator[tuple]:
                 yield label, kind, {"start": start, "end": {"line": start["line"], "character": start["character"] + len(label)}}
 
 
-def document_symbols(base, document) -> list:
+def document_symbols(base: Base, document: Document) -> list:
     """The assertions of a file."""
     return [{"name": label, "detail": KINDS[kind][0], "kind": KINDS[kind][1], "range": span, "selectionRange": span} for label, kind, span in assertions(base, document)]
 
 
-def lenses(base, document) -> list:
+def lenses(base: Base, document: Document) -> list:
     """How many theorems use each assertion of a file, if these are not too many to be shown."""
     found, uses = [*assertions(base, document)], base.live().uses()
     if len(found) > LENSES:
@@ -157,7 +162,7 @@ def lenses(base, document) -> list:
     return [{"range": span, "command": {"title": f"used by {uses[label]:,}", "command": ""}} for label, _, span in found]
 
 
-def inlays(base, document, span: dict) -> list:
+def inlays(base: Base, document: Document, span: dict) -> list:
     """The same behind each label in a part of a file."""
     uses, first, last = base.live().uses(), span["start"]["line"], span["end"]["line"]
     return [{"position": where["end"], "label": f" used by {uses[label]:,}", "kind": 1} for label, _, where in assertions(base, document) if first <= where["start"]["line"] <= last]
@@ -166,7 +171,7 @@ def inlays(base, document, span: dict) -> list:
 FOLDS = re.compile(rb"\$\((?=[ \t\n\f\r]).*?[ \t\n\f\r]\$\)(?=[ \t\n\f\r]|\Z)|\$[{}=.](?=[ \t\n\f\r]|\Z)", re.DOTALL)
 
 
-def folds(document) -> list:
+def folds(document: Document) -> list:
     """What can be folded: comments, blocks and proofs of more than one line."""
     text, found, blocks, proof = document.text.all(), [], [], None
     rows = [0, *(each.end() for each in re.finditer(rb"\n", text))]
@@ -187,7 +192,7 @@ def folds(document) -> list:
     return [{"startLine": first, "endLine": last, "kind": kind} for first, last, kind in found if first < last]
 
 
-def renamed(base, old: str, new: str) -> dict:
+def renamed(base: Base, old: str, new: str) -> dict:
     """The edits that rename a label in all files of a database. A ValueError says why it cannot be."""
     live = base.live()
     if base.stale or any(held.dirty for held in base.files.values() if held.document):
@@ -225,7 +230,7 @@ def places_of(text: bytes, label: str) -> Iterator[int]:
         yield from (at for word, at in words if word == label)
 
 
-def tokens(base, document, span: Optional[dict] = None) -> list:
+def tokens(base: Base, document: Document, span: Optional[dict] = None) -> list:
     """The words of a file, or of a part of it, as the protocol has tokens: each by its line, its column, its length and its kind."""
     live = base.live()
     begin, end = (document.text.byte(span[side]) for side in ("start", "end")) if span else (0, document.text.length)
@@ -247,7 +252,7 @@ def tokens(base, document, span: Optional[dict] = None) -> list:
     return found
 
 
-def kinds_of(text: bytes, live) -> Iterator[tuple]:
+def kinds_of(text: bytes, live: Live) -> Iterator[tuple]:
     """The words of a text, each with its first byte and the number of its kind."""
     types, comments = live.typecodes(), COMMENT.finditer(text)
     comment = next(comments, None)
@@ -269,7 +274,7 @@ def kinds_of(text: bytes, live) -> Iterator[tuple]:
             yield word, at, number[types[word]] if word in types else 3
 
 
-def actions(base, document, span: dict) -> list:
+def actions(base: Base, document: Document, span: dict) -> list:
     """What mends the diagnostics in a part of a file: the `$d` that a proof lacks."""
     found = []
     for mark in document.marks:
@@ -282,7 +287,7 @@ def actions(base, document, span: dict) -> list:
     return found
 
 
-def with_pairs(base, label: str, lacks: str) -> list:
+def with_pairs(base: Base, label: str, lacks: str) -> list:
     """The edits that put `$d` before a theorem, in its block, or in one of its own."""
     live = base.live()
     declared = live.declared.get(label)

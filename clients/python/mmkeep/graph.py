@@ -7,11 +7,11 @@ longer chain makes needless are left out, so that a picture of many can be read;
 from __future__ import annotations
 
 import html
-import os
 import sys
 from typing import Iterator
 
 from .client import Ended, Refused, Session
+from .programs import guarded
 from .reports import Finding
 
 # The most boxes of a row, the size of a box and the room between two, in pixels.
@@ -23,8 +23,10 @@ LINES = {"axiom": "#3a6ea5", "proved": "#4c8c3f", "incomplete": "#b8860b", "wron
 class Graph:
     """What an assertion rests on: what each cites, and what is found of it."""
 
-    def __init__(self, session: Session, label: str):
-        self.label, self.cites, self.found = label, {}, {}
+    def __init__(self, session: Session, label: str) -> None:
+        self.label = label
+        self.cites: dict = {}
+        self.found: dict = {}
         left = [label]
         while left:
             name = left.pop()
@@ -49,7 +51,8 @@ class Graph:
 
     def needed(self) -> dict:
         """What each cites, without what another one that it cites leads to."""
-        height, below = self.height(), {}
+        height = self.height()
+        below: dict = {}
         for name in sorted(self.cites, key=lambda each: height[each]):
             below[name] = set().union(*(below[each] | {each} for each in self.cites[name]))
         return {name: [each for each in cited if not any(each in below[other] for other in cited)] for name, cited in self.cites.items()}
@@ -140,6 +143,7 @@ def box(name: str, finding: Finding, x: float, y: float, long: float) -> Iterato
     yield f'<text x="{x + long / 2:.1f}" y="{y + 15:.1f}" text-anchor="middle">{html.escape(name)}</text></g>'
 
 
+@guarded
 def main() -> int:
     """Writes the picture of an assertion of a database."""
     words = sys.argv[1:]
@@ -155,10 +159,6 @@ def main() -> int:
     except (Ended, OSError, ValueError) as error:
         sys.exit(f"mmkeep-graph: {error}")
     cites = graph.cites if "--all" in flags else graph.needed()
-    try:
-        for line in (dot if "--dot" in flags else svg)(graph, cites):
-            print(line)
-        sys.stdout.flush()
-    except BrokenPipeError:
-        os._exit(1)
+    for line in (dot if "--dot" in flags else svg)(graph, cites):
+        print(line)
     return 0

@@ -4,12 +4,15 @@ from __future__ import annotations
 import os
 import re
 import time
-from typing import Iterator, Optional
+from typing import TYPE_CHECKING, Iterable, Iterator, Optional
 
 from .cutting import COMMENT, blank, labels
 from .machine import Done, Machine
 from .reports import Finding, Place
 from .sources import Declared, Reading, Statement, frame, lists_in, statements
+
+if TYPE_CHECKING:
+    from .diagnostics import Diagnostics
 
 WORD = re.compile(rb"[^ \t\n\f\r]+")
 
@@ -17,7 +20,7 @@ WORD = re.compile(rb"[^ \t\n\f\r]+")
 class Live(Reading):
     """The pieces that a session has, in the order of reading. Of a piece that stayed, nothing is read again."""
 
-    def __init__(self, base, faults):
+    def __init__(self, base: Diagnostics, faults: Iterable[Place]) -> None:
         self.base, self.known = base, base.known
         # Statements at fault, by the number of their piece: the first byte of what is reported.
         self.faults: dict = {}
@@ -136,7 +139,7 @@ class Live(Reading):
         if found.kind in ("$a", "$p"):
             shown = frame(active, found)
             variables = sorted({name for pair in shown.pairs for name in pair})
-            lines += [f"$d {' '.join(sorted(pair))} $." for pair in sorted(map(sorted, shown.pairs))] if len(variables) < 12 else [f"$d .. ({len(shown.pairs)} pairs) $."]
+            lines += [f"$d {' '.join(pair)} $." for pair in sorted(sorted(each) for each in shown.pairs)] if len(variables) < 12 else [f"$d .. ({len(shown.pairs)} pairs) $."]
             lines += [f"{each.label} {each.kind} {' '.join(each.symbols)} $." for each in shown.hypotheses]
         return "\n".join([*lines, f"{found.label} {found.kind} {' '.join(found.symbols)} $."])
 
@@ -165,7 +168,7 @@ class Live(Reading):
 class Words:
     """What stands at the places of findings, in the text that the session has."""
 
-    def __init__(self, base):
+    def __init__(self, base: Diagnostics) -> None:
         self.base = base
 
     def at(self, place: Place) -> tuple:

@@ -3,7 +3,7 @@ from __future__ import annotations
 
 from typing import Iterator, NamedTuple, Optional, Union
 
-from .sources import Reading, Statement, frame, pairs_of
+from .sources import Frame, Reading, Statement, frame, pairs_of
 
 
 class Step(NamedTuple):
@@ -50,7 +50,7 @@ class Done(NamedTuple):
 class Machine:
     """The run of the proof of a theorem."""
 
-    def __init__(self, reading: Reading, label: str):
+    def __init__(self, reading: Reading, label: str) -> None:
         self.reading = reading
         self.stack: list = []
         self.saved: list = []
@@ -99,7 +99,7 @@ class Machine:
             return self.cite(self.reading.frame(what))
         return []
 
-    def cite(self, cited) -> list:
+    def cite(self, cited: Optional[Frame]) -> list:
         """Does a step that cites an assertion with this frame."""
         if cited is None:
             return ["it is no assertion"]

@@ -14,7 +14,7 @@ class Place(NamedTuple):
     line: int
     column: int
 
-    def __str__(self):
+    def __str__(self) -> str:
         return f"{self.file}:{self.line}:{self.column}"
 
 
@@ -27,7 +27,7 @@ class Finding(NamedTuple):
     number: Optional[str] = None
     word: Optional[str] = None
 
-    def sentence(self):
+    def sentence(self) -> str:
         """What is the matter, in a sentence of docs/FAULTS.md."""
         return INCOMPLETE if self.kind == "incomplete" else SENTENCES.get(self.number, self.kind)
 
@@ -49,7 +49,7 @@ class Report(NamedTuple):
     findings: list
     counts: Counts
 
-    def clean(self):
+    def clean(self) -> bool:
         """Whether nothing is at fault, wrong or incomplete."""
         return not self.findings
 
@@ -64,7 +64,7 @@ FINDINGS = [
 COUNTS = re.compile(r"axioms (\d+) theorems (\d+) proved (\d+) incomplete (\d+) wrong (\d+) faults (\d+)")
 
 
-def read_finding(line):
+def read_finding(line: str) -> Optional[Finding]:
     """The finding of a line, or nothing.
 
     >>> read_finding("wrong th a.mm:7:67 P09")
@@ -80,7 +80,7 @@ def read_finding(line):
     return None
 
 
-def read_report(text):
+def read_report(text: str) -> Report:
     """The report that a text is. A line of none raises ValueError.
 
     >>> read_report("axioms 2 theorems 1 proved 1 incomplete 0 wrong 0 faults 0\\n").clean()

@@ -13,7 +13,7 @@ import itertools
 import os
 import pathlib
 import re
-from typing import Callable, Iterable, Iterator, NamedTuple, Optional
+from typing import Callable, Iterable, Iterator, NamedTuple, Optional, Union
 
 from .cutting import SPACES, blank, ended, ends, labels
 from .reports import Place
@@ -23,10 +23,18 @@ WORD = re.compile(rb"[^ \t\n\f\r]+")
 PROOF = re.compile(rb"\$p[ \t\n\f\r][^$]*\$=[ \t\n\f\r]+(\([ \t\n\f\r][^)]*|[^$]*)")
 
 
+def on_disk(path: Union[str, pathlib.Path]) -> Optional[bytes]:
+    """The bytes of a file, or nothing. What is no plain file, such as a folder or a pipe, is not read."""
+    try:
+        return pathlib.Path(path).read_bytes() if os.path.isfile(path) else None
+    except (OSError, ValueError):
+        return None
+
+
 class Statement:
     """A statement, or a mark of a block: its words, and the bytes of its first word and after its last one."""
 
-    def __init__(self, words: list):
+    def __init__(self, words: list) -> None:
         self.begin, self.end = words[0][1], words[-1][1] + len(words[-1][0])
         self.label = None if words[0][0].startswith("$") else words[0][0]
         self.kind, *rest = [word for word, _ in words] if self.label is None else [word for word, _ in words[1:]]
@@ -55,7 +63,7 @@ class Sources:
 
     `faults` are the places of statements at fault: what they declare does not count."""
 
-    def __init__(self, folder: Optional[str] = None, faults: Iterable[Place] = (), read: Optional[Callable] = None):
+    def __init__(self, folder: Optional[str] = None, faults: Iterable[Place] = (), read: Optional[Callable] = None) -> None:
         self.folder, self.read = folder or ".", read or self.on_disk
         self.texts: dict = {}
         self.starts: dict = {}
@@ -63,13 +71,12 @@ class Sources:
         self.reading: Optional[Reading] = None
         for place in faults:
             self.faults.setdefault(place.file, []).append(place)
+        # The bytes of the faults of a file, in order, once they are asked for.
+        self.marks: dict = {}
 
     def on_disk(self, file: str) -> Optional[bytes]:
         """The text of a file on disk."""
-        try:
-            return pathlib.Path(self.folder, file).read_bytes()
-        except (OSError, ValueError):
-            return None
+        return on_disk(pathlib.Path(self.folder, file))
 
     def text(self, file: str) -> bytes:
         """The text of a file, empty where it cannot be read."""
@@ -81,7 +88,7 @@ class Sources:
     def byte(self, place: Place) -> int:
         """The byte of a place, or the end of the text."""
         text, starts = self.text(place.file), self.starts[place.file]
-        return min(starts[min(place.line, len(starts)) - 1] + place.column - 1, len(text))
+        return min(starts[min(max(place.line, 1), len(starts)) - 1] + max(place.column, 1) - 1, len(text))
 
     def place(self, file: str, at: int) -> Place:
         """The place of a byte."""
@@ -95,7 +102,7 @@ class Sources:
         What a terminal might take for a command is `?`."""
         text, starts = self.text(place.file), self.starts[place.file]
         at = self.byte(place)
-        begin = starts[min(place.line, len(starts)) - 1]
+        begin = starts[min(max(place.line, 1), len(starts)) - 1]
         end = text.find(b"\n", begin)
         if end - begin > length:
             begin = max(begin, at - before)
@@ -109,12 +116,20 @@ class Sources:
 
     def is_at_fault(self, file: str, statement: Statement) -> bool:
         """Whether a fault is reported at a word of a statement."""
-        return any(statement.begin <= self.byte(place) < statement.end for place in self.faults.get(file, ()))
+        return bool(self.between(file, statement.begin, statement.end))
+
+    def between(self, file: str, begin: int, end: int) -> list:
+        """The bytes of the faults in a part of a file."""
+        if file not in self.marks:
+            self.marks[file] = sorted(map(self.byte, self.faults.get(file, ())))
+        marks = self.marks[file]
+        return marks[bisect.bisect_left(marks, begin) : bisect.bisect_left(marks, end)]
 
     def label_around(self, place: Place) -> Optional[str]:
         """The label of the statement with a place, if it has one."""
         text, at = self.text(place.file), self.byte(place)
-        begin = max(text.rfind(mark, 0, at) for mark in (b"$.", b"${", b"$}", b"$)"))
+        last = max(text.rfind(b"$.", 0, at), 0)
+        begin = max(text.rfind(mark, last, at) for mark in (b"$.", b"${", b"$}", b"$)"))
         found = labels(text[max(begin, 0) : text.find(b"$.", at) + 2])
         return found[0][0] if found else None
 
@@ -139,7 +154,7 @@ class Declared(NamedTuple):
 class Reading:
     """The pieces of a database in the order of reading, from a top file on."""
 
-    def __init__(self, sources: Sources, top: str):
+    def __init__(self, sources: Sources, top: str) -> None:
         self.sources = sources
         # Each piece with its file and its first byte; where each label is declared; the outermost declarations and hypotheses, with
         # the numbers of their pieces.

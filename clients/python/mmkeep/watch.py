@@ -11,14 +11,14 @@ import sys
 import time
 from typing import Iterable, Iterator, Optional
 
-from .buffers import on_disk, stamp
+from .buffers import stamp
 from .causes import causes
 from .client import Ended, Refused, Session
 from .cutting import cut, ended, inclusions
 from .edits import edits
 from .faults import SENTENCES
 from .reports import Finding, Report
-from .sources import Sources
+from .sources import Sources, on_disk
 
 # Seconds between two looks, and how many lines are printed of what broke and of what was mended.
 PAUSE, MOST = 0.2, 12
@@ -43,7 +43,7 @@ def key(finding: Finding) -> tuple:
 class Watch:
     """A database that is followed: its files, with the stamps and the pieces of what the session has of them."""
 
-    def __init__(self, top: str, program: Optional[str] = None):
+    def __init__(self, top: str, program: Optional[str] = None) -> None:
         self.folder, self.top, self.program = os.path.dirname(top), os.path.basename(top), program
         self.session: Optional[Session] = None
         self.files: dict = {}
