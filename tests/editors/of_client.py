@@ -299,6 +299,7 @@ def parts(program):
             refused(lambda: session.try_edits([mmkeep.Insert("a.mm", 0, b"$c")]).__enter__(), number="S03")
             pathlib.Path(folder, "a.mm").write_bytes(LOGIC + b"$c l $.\n")
         with mmkeep.Session("a.mm", folder, program) as session:
+            session.report()
             pathlib.Path(folder, "a.mm").write_bytes(LOGIC)
             raises(LookupError, lambda: session.pieces("a.mm"))
 

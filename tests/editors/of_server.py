@@ -444,6 +444,40 @@ def protocol(program):
         client.leave = lambda: 0
 
 
+def bad_parameters(program):
+    """Requests without the parameters that they need, and positions that are nowhere, are answered; and on it goes."""
+    with Folder(program) as client:
+        client.open("a.mm")
+        assert client.diagnostics("a.mm") == []
+        document, far = {"uri": client.uri("a.mm")}, {"line": 10**6, "character": 10**9}
+        at, within = ["hover", "completion", "definition", "references", "prepareRename", "rename"], ["inlayHint", "semanticTokens/range", "codeAction"]
+        others = ["documentSymbol", "foldingRange", "codeLens", "semanticTokens/full"]
+        for name in (*at, *within, *others):
+            wrong = [None, [], 7, {}, {"textDocument": 7}, {"textDocument": {}}, {"textDocument": {"uri": 7}}]
+            if name not in others:
+                wrong += [{"textDocument": document, "position": bad, "range": bad} for bad in (None, 7, {}, {"line": -1, "character": 0}, {"line": "x", "character": 0}, {"start": far, "end": None})]
+            for params in wrong:
+                answer = client.answer(client.post(f"textDocument/{name}", params))
+                assert answer.get("error", {}).get("code") == -32602, (name, params, answer)
+            for span in ({"start": far, "end": far}, {"start": {"line": 0, "character": 0}, "end": far}, {"start": far, "end": {"line": 0, "character": 0}}):
+                answer = client.answer(client.post(f"textDocument/{name}", {"textDocument": document, "position": far, "range": span, "newName": "x"}))
+                assert "error" not in answer or name == "rename", (name, answer)
+            for uri in ("file://[", "untitled:x", "file:///a%00b", "file:///none.mm", ""):
+                params = {"textDocument": {"uri": uri}, "position": far, "range": span, "newName": 7}
+                assert "result" in client.answer(client.post(f"textDocument/{name}", params)) or name == "rename", (name, uri)
+        for message in ({"method": "$/cancelRequest", "params": [1]}, {"id": [1], "result": None}, {"id": {"a": 1}, "result": 7}, {"id": "odd", "method": {"a": 1}}):
+            client.send(message)
+        for name in ("didOpen", "didChange", "didClose", "didSave"):
+            client.notify(f"textDocument/{name}", {})
+        client.notify("workspace/didChangeConfiguration", {"settings": [1]})
+        client.notify("workspace/didChangeConfiguration", {"settings": {"mmkeep": {"program": 7, "top": [], "delay": "x"}}})
+        client.replace("a.mm", "h1 h2 mp", "h2 h1 mp")
+        compare(client, program, "a.mm")
+        client.raw(b"Content-Length: 99999999999999999999999\r\n\r\n")
+        client.raw(b"Content-Length: x\r\n\r\n")
+        assert client.at("hover", "a.mm", "mp $a")
+
+
 def said(client, text):
     """Waits for a message with a text in it."""
     client.until(lambda: any(text in each for each in client.messages), f"message {text!r}: {client.messages}")
@@ -660,4 +694,4 @@ def one_by_chance(text, chance):
     return at, at, chance.choice(BITS)
 
 
-TESTS = [first_steps, typed, gathered, texts, not_ascii, tails, many_at_once, files, asked, told_more, causes, known, offered, rewritten, protocol, bad_input, ends_early, names, saved_faults, by_chance, files_by_chance, large]
+TESTS = [first_steps, typed, gathered, texts, not_ascii, tails, many_at_once, files, asked, told_more, causes, known, offered, rewritten, protocol, bad_parameters, bad_input, ends_early, names, saved_faults, by_chance, files_by_chance, large]

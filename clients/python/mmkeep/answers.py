@@ -4,7 +4,7 @@ from __future__ import annotations
 import os
 import pathlib
 import re
-from typing import Optional
+from typing import Any, Optional
 
 from . import features
 from .buffers import Document, one_point, path_of
@@ -13,7 +13,36 @@ from .database import Base, Failed
 from .features import KINDS
 from .streams import Streams
 
-REFUSED = -32803
+REFUSED, INVALID_PARAMETERS = -32803, -32602
+# What asks for something at a position, and in a range.
+AT_POSITION = {f"textDocument/{name}" for name in ("hover", "completion", "prepareRename", "rename", "definition", "references")}
+IN_RANGE = {f"textDocument/{name}" for name in ("inlayHint", "semanticTokens/range", "codeAction")}
+
+
+def checked(method: str, params: Any) -> dict:
+    """The parameters of a message, if they are some of the protocol: the document, the positions and the ranges that it names."""
+    if params is None:
+        params = {}
+    if not isinstance(params, dict):
+        raise Failed(INVALID_PARAMETERS, "the parameters have no names")
+    if method.startswith("textDocument/"):
+        document = params.get("textDocument")
+        if not isinstance(document, dict) or not isinstance(document.get("uri"), str):
+            raise Failed(INVALID_PARAMETERS, "no textDocument is named")
+    needed = ["position"] if method in AT_POSITION else ["range"] if method in IN_RANGE else []
+    for name in needed:
+        found = params.get(name)
+        places = [found.get(side) for side in ("start", "end")] if name == "range" and isinstance(found, dict) else [found]
+        if not all(map(is_position, places)):
+            raise Failed(INVALID_PARAMETERS, f"no {name} is named")
+    return params
+
+
+def is_position(value: Any) -> bool:
+    """Whether a value is a position of the protocol: a line and a character, from 0."""
+    if not isinstance(value, dict):
+        return False
+    return all(isinstance(value.get(name), int) and value[name] >= 0 for name in ("line", "character"))
 
 
 class Answers(Streams):
@@ -129,7 +158,7 @@ class Answers(Streams):
         if not base:
             raise Failed(REFUSED, "there is no session of this file")
         try:
-            return features.renamed(base, word, str(params.get("newName", "")))
+            return features.renamed(base, word, params["newName"] if isinstance(params.get("newName"), str) else "")
         except ValueError as error:
             raise Failed(REFUSED, str(error)) from None
 

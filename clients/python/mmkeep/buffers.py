@@ -180,10 +180,12 @@ def encoded(text: str) -> bytes:
 
 def path_of(uri: str) -> Optional[str]:
     """The path that a URI names, or None where it names no file."""
-    parts = urllib.parse.urlsplit(uri)
-    if parts.scheme != "file" or not parts.path:
+    try:
+        parts = urllib.parse.urlsplit(uri)
+    except ValueError:
         return None
-    return os.path.normpath(os.fsdecode(urllib.parse.unquote_to_bytes(parts.path)))
+    path = os.fsdecode(urllib.parse.unquote_to_bytes(parts.path))
+    return os.path.normpath(path) if parts.scheme == "file" and path and "\0" not in path else None
 
 
 def stamp(path: str) -> Optional[tuple]:

@@ -5,6 +5,7 @@ import contextlib
 import os
 import pathlib
 import re
+import shutil
 import subprocess
 import tempfile
 from typing import Callable, Iterator, Optional, Sequence
@@ -60,9 +61,15 @@ def program() -> str:
     return os.environ.get("MMKEEP") or "mmkeep"
 
 
+def executable(path: Optional[str]) -> str:
+    """A program, or the one that `program` names, by a path that holds from another folder, if it is there."""
+    found = shutil.which(path or program())
+    return os.path.abspath(found) if found else path or program()
+
+
 def verify(top: str, folder: Optional[str] = None, path: Optional[str] = None) -> Report:
     """The report of the database with this top file, as it is opened from a folder. Raises Ended where it has none."""
-    words = [path or program(), "verify", top]
+    words = [executable(path), "verify", top]
     done = subprocess.run(words, cwd=folder, stdin=subprocess.DEVNULL, capture_output=True, check=False)
     if done.returncode not in (0, 1):
         raise Ended(done.returncode, os.fsdecode(done.stderr).strip())
@@ -84,7 +91,7 @@ class Session:
         self.held: dict = {}
         self.line = ""
         self.errors = tempfile.TemporaryFile()
-        words = [path or program(), "session", top]
+        words = [executable(path), "session", top]
         try:
             self.child = subprocess.Popen(words, cwd=folder, stdin=subprocess.PIPE, stdout=subprocess.PIPE, stderr=self.errors)
         except (OSError, ValueError):

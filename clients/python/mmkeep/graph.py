@@ -10,7 +10,7 @@ import html
 import sys
 from typing import Iterator
 
-from .client import Ended, Refused, Session
+from .client import Ended, Refused, Session, executable
 from .programs import guarded
 from .reports import Finding
 
@@ -156,8 +156,10 @@ def main() -> int:
             graph = Graph(session, words[1])
     except Refused:
         sys.exit(f"mmkeep-graph: no sound $a or $p has the label {words[1]} (K01)")
-    except (Ended, OSError, ValueError) as error:
+    except (Ended, ValueError) as error:
         sys.exit(f"mmkeep-graph: {error}")
+    except OSError as error:
+        sys.exit(f"mmkeep-graph: the program {executable(None)} cannot be run: {error.strerror}")
     cites = graph.cites if "--all" in flags else graph.needed()
     for line in (dot if "--dot" in flags else svg)(graph, cites):
         print(line)

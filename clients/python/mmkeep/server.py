@@ -15,11 +15,12 @@ import time
 from typing import Any, NoReturn, Optional
 
 from . import __version__
-from .answers import Answers
+from .answers import Answers, checked
 from .buffers import Document, fed_behind, path_of
 from .client import program as program_named
 from .database import INTERNAL, Base, Failed
 from .features import TOKENS
+from .programs import guarded
 from .sources import on_disk
 from .streams import ERROR
 
@@ -87,20 +88,9 @@ class Server(Answers):
 
     def handle(self, message: dict) -> None:
         """Handles a request or a notice."""
-        number, method = message.get("id"), message["method"]
-        asked, params = "id" in message, message.get("params") or {}
+        number, method, asked = message.get("id"), message["method"], "id" in message
         try:
-            if asked and str(number) in self.cancelled:
-                self.cancelled.discard(str(number))
-                raise Failed(CANCELLED, "cancelled")
-            if not self.began and method not in ("initialize", "exit"):
-                raise Failed(NOT_INITIALIZED, "not initialized")
-            if self.ended and method != "exit":
-                raise Failed(INVALID, "shut down")
-            handler = HANDLERS.get(method)
-            if handler is None:
-                raise Failed(METHOD_NOT_FOUND, method)
-            result = handler(self, params)
+            result = self.handled(number, method, message.get("params"), asked)
             if asked:
                 self.send({"id": number, "result": result})
         except Failed as failed:
@@ -111,6 +101,20 @@ class Server(Answers):
                 self.send({"id": number, "error": {"code": INTERNAL, "message": f"{type(error).__name__}: {error}"}})
             else:
                 self.message(ERROR, f"{method}: {type(error).__name__}: {error}")
+
+    def handled(self, number: Any, method: Any, params: Any, asked: bool) -> Any:
+        """What a request or a notice answers."""
+        if asked and str(number) in self.cancelled:
+            self.cancelled.discard(str(number))
+            raise Failed(CANCELLED, "cancelled")
+        if not self.began and method not in ("initialize", "exit"):
+            raise Failed(NOT_INITIALIZED, "not initialized")
+        if self.ended and method != "exit":
+            raise Failed(INVALID, "shut down")
+        handler = HANDLERS.get(method) if isinstance(method, str) else None
+        if handler is None:
+            raise Failed(METHOD_NOT_FOUND, f"there is no method {method}")
+        return handler(self, checked(method, params))
 
     def leave(self, status: int) -> NoReturn:
         """Ends the sessions, and the server."""
@@ -160,14 +164,15 @@ class Server(Answers):
     def configure(self, settings: Any) -> None:
         """Takes settings: the program, the top file, and how long changes are gathered."""
         settings = settings if isinstance(settings, dict) else {}
-        self.program = settings.get("program") or self.program
-        self.top = settings.get("top") or self.top
+        given = {name: value for name, value in settings.items() if isinstance(value, str) and value}
+        self.program, self.top = given.get("program", self.program), given.get("top", self.top)
         if isinstance(settings.get("delay"), (int, float)):
             self.delay = max(0.0, float(settings["delay"]))
 
     def reconfigured(self, params: dict) -> None:
         """Takes other settings."""
-        self.configure((params.get("settings") or {}).get("mmkeep"))
+        settings = params.get("settings")
+        self.configure(settings.get("mmkeep") if isinstance(settings, dict) else None)
         self.regroup()
 
     def regroup(self) -> None:
@@ -322,13 +327,13 @@ HANDLERS = {
 }
 
 
-def main() -> None:
+@guarded
+def main() -> int:
+    """Serves the client on standard input and output to its end."""
     words, options = sys.argv[1:], {}
     while len(words) >= 2 and words[0] in ("--program", "--top"):
         options[words[0]], words = words[1], words[2:]
     if words and words != ["--stdio"]:
         sys.exit("usage: mmkeep-lsp [--program PROGRAM] [--top FILE]")
-    try:
-        Server(options.get("--program") or program_named(), options.get("--top")).run()
-    except KeyboardInterrupt:
-        os._exit(1)
+    Server(options.get("--program") or program_named(), options.get("--top")).run()
+    return 0

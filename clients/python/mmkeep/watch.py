@@ -1,7 +1,7 @@
 """Verifies a database at each save: mmkeep-watch FILE.
 
 It holds a session over the database, follows its files on disk, and prints after each save what broke, what was mended, and how
-long that took. A file that is saved while it is read is read again. Ends with Ctrl-C.
+long that took. A file that is saved while it is read is read again. Inclusions are opened from the folder of FILE. Ends with Ctrl-C.
 """
 from __future__ import annotations
 
@@ -13,10 +13,11 @@ from typing import Iterable, Iterator, Optional
 
 from .buffers import stamp
 from .causes import causes
-from .client import Ended, Refused, Session
+from .client import Ended, Refused, Session, executable
 from .cutting import cut, ended, inclusions
 from .edits import edits
 from .faults import SENTENCES
+from .programs import guarded
 from .reports import Finding, Report
 from .sources import Sources, on_disk
 
@@ -67,21 +68,21 @@ class Watch:
 
     def begin(self) -> Iterator[str]:
         """Begins a session over the files as they are."""
-        self.close()
-        self.stamps, self.faults = {}, {}
-        texts = self.reached()
-        at = time.monotonic()
-        try:
-            self.session = Session(self.top, self.folder or None, self.program)
-            report = self.session.report()
-        except Ended as error:
-            self.session = None
-            yield from self.told(f"{RED}{error}", at)
-            return
-        if any(stamp(self.path(name)) != self.stamps[name] for name in texts):
+        while True:
+            self.close()
+            self.stamps, self.faults = {}, {}
+            texts = self.reached()
+            at = time.monotonic()
+            try:
+                self.session = Session(self.top, self.folder or None, self.program)
+                report = self.session.report()
+            except Ended as error:
+                self.session = None
+                yield from self.told(f"{RED}{error}", at)
+                return
             # It may have been loaded in the middle of a save.
-            yield from self.begin()
-            return
+            if all(stamp(self.path(name)) == self.stamps[name] for name in texts):
+                break
         self.files = {name: cut(text)[0] for name, text in texts.items() if text is not None}
         yield from self.told(f"{self.top}: {report.counts.theorems:,} theorems, {report.counts.proved:,} proved", at)
         yield from self.compared(report)
@@ -97,6 +98,10 @@ class Watch:
         at, new = time.monotonic(), {}
         for name in changed:
             self.stamps[name], text = settled(self.path(name))
+            if text is None and name in self.files:
+                # An editor may put another file in its place.
+                time.sleep(PAUSE)
+                self.stamps[name], text = settled(self.path(name))
             if text is None or name not in self.files:
                 yield from self.begin()
                 return
@@ -110,6 +115,9 @@ class Watch:
         except Ended as error:
             yield from self.told(f"{RED}{error}", at)
             yield from self.begin()
+        except ValueError:
+            # The name of a file is no word of a command.
+            yield from self.begin()
 
     def edited(self, new: dict, at: float) -> Iterator[str]:
         """Brings the session to new texts of files."""
@@ -119,7 +127,7 @@ class Watch:
             if fault:
                 self.faults[name] = fault
                 number, line, column = fault
-                yield from self.told(f"{RED}{name}:{line}:{column} {number}: {SENTENCES[number]}", at)
+                yield from self.told(f"{RED}{self.path(name)}:{line}:{column} {number}: {SENTENCES[number]}", at)
                 # It is looked at again with the next save.
                 continue
             pieces = cut(text)[0]
@@ -152,7 +160,7 @@ class Watch:
 
     def listed(self, broke: list) -> Iterator[str]:
         """What broke: of many, what they have in common."""
-        lines = [f"  {YELLOW if each.kind == 'incomplete' else RED}broke {each.label or each.word}: {each.place}{f' {each.number}' if each.number else ''} {each.sentence()}" for each in broke]
+        lines = [f"  {YELLOW if each.kind == 'incomplete' else RED}broke {each.label or each.word}: {self.path(str(each.place))}{f' {each.number}' if each.number else ''} {each.sentence()}" for each in broke]
         if len(broke) > MOST:
             faults = [line for line, each in zip(lines, broke) if each.kind == "fault"]
             yield from cut_short(faults, len(faults))
@@ -181,31 +189,34 @@ def cut_short(lines: Iterable[str], count: int) -> Iterator[str]:
         yield line
 
 
+@guarded
 def main() -> int:
     """Follows a database until it is interrupted."""
     if len(sys.argv) != 2 or sys.argv[1].startswith("-"):
         sys.exit("usage: mmkeep-watch FILE")
+    if not os.path.isfile(sys.argv[1]):
+        sys.exit(f"mmkeep-watch: {sys.argv[1]}: cannot be read")
     watch = Watch(sys.argv[1])
-    is_terminal = sys.stdout.isatty()
-
-    def show(lines: Iterable[str]) -> None:
-        for line in lines:
-            for colour in () if is_terminal else (RED, GREEN, YELLOW, GREY, PLAIN):
-                line = line.replace(colour, "")
-            print(f"{line}{PLAIN}" if is_terminal else line, flush=True)
-
     try:
         show(watch.begin())
         while True:
             time.sleep(PAUSE)
             show(watch.look())
     except KeyboardInterrupt:
-        pass
-    except BrokenPipeError:
-        os._exit(1)
+        return 0
     except OSError as error:
-        sys.exit(f"mmkeep-watch: {error.strerror}: {error.filename}")
+        if error.filename != executable(None):
+            raise
+        sys.exit(f"mmkeep-watch: the program {error.filename} cannot be run: {error.strerror}")
     finally:
         if watch.session:
             watch.session.kill()
-    return 0
+
+
+def show(lines: Iterable[str]) -> None:
+    """Prints lines, with their colours on a terminal."""
+    is_terminal = sys.stdout.isatty()
+    for line in lines:
+        for colour in () if is_terminal else (RED, GREEN, YELLOW, GREY, PLAIN):
+            line = line.replace(colour, "")
+        print(f"{line}{PLAIN}" if is_terminal else line, flush=True)
