@@ -1,4 +1,4 @@
-"""Tests of what reads a report: vim, emacs, tasks of VS Code, build machines, and a hook of git."""
+"""Tests of what reads a report: vim, tasks of VS Code, build machines, and a hook of git; and of the pages."""
 import json
 import os
 import pathlib
@@ -69,38 +69,6 @@ def vim(program):
         if os.path.basename(program) == "mmkeep":
             made = [line.split("|") for line in (place.path / "made").read_text().splitlines()]
             assert [(int(each[1]), int(each[2])) for each in made] == [(line, column) for name, line, column in places if name == "db/faults.mm"], made
-
-
-def emacs(program):
-    """Compilation mode of emacs gives the places, and what is a warning."""
-    with Place(program) as place:
-        lines, places = place.report()
-        (place.path / "report").write_text(lines)
-        (place.path / "script.el").write_text(f"""(load "{CLIENTS / 'editor/mmkeep.el'}" nil t)
-(with-temp-buffer
-  (insert-file-contents "report")
-  (compilation-mode)
-  (compilation--ensure-parse (point-max))
-  (goto-char (point-min))
-  (while (not (eobp))
-    (let ((found (get-text-property (point) 'compilation-message)))
-      (when found
-        (let ((at (compilation--message->loc found)))
-          (princ (format "%s|%s|%s|%s\\n" (caar (compilation--loc->file-struct at)) (compilation--loc->line at)
-                         (compilation--loc->col at) (compilation--message->type found))))))
-    (forward-line 1)))
-(with-current-buffer (find-file-noselect "report")
-  (compilation-mode)
-  (goto-char (point-min))
-  (compile-goto-error)
-  (set-buffer (window-buffer))
-  (princ (format "%s %s %s\\n" (file-name-nondirectory (buffer-file-name)) (line-number-at-pos) (current-column))))
-""")
-        told, status = place.run("emacs", "-Q", "--batch", "-l", "script.el")
-        *found, first = [line.split("|") for line in told.splitlines()]
-        assert status == 0 and [(each[0], int(each[1]), int(each[2])) for each in found] == places, (told, place.told)
-        assert [each[3] == "1" for each in found] == ["incomplete" in line for line in lines.splitlines() if ".mm:" in line], told
-        assert re.fullmatch(r"faults.mm \d+ \d+", first[0]), first
 
 
 def matched(patterns, line):
@@ -273,35 +241,4 @@ def pages(program):
             assert path.exists() or name.startswith("crates/mmkeep/out"), f"{page.name}: {name}"
 
 
-def installation(program):
-    """`make install` puts everything where it belongs, and the tools run from there; the Debian package is built and checked, and has the same."""
-    with tempfile.TemporaryDirectory() as folder:
-        there, tree = pathlib.Path(folder, "there"), pathlib.Path(folder, "tree")
-        kept = shutil.ignore_patterns("out", ".git", "__pycache__", "build", "*.egg-info", "rows")
-        shutil.copytree(ROOT, tree, ignore=kept)
-        (tree / "crates/mmkeep/out").mkdir()
-        shutil.copy(program, tree / "crates/mmkeep/out/mmkeep")
-        subprocess.run(["make", "install", "PREFIX=/usr", f"DESTDIR={there}"], cwd=tree, check=True, capture_output=True, timeout=60)
-        installed(there)
-        if all(map(shutil.which, ("dpkg-buildpackage", "lintian", "dh"))):
-            done = subprocess.run(["dpkg-buildpackage", "-us", "-uc", "-b"], cwd=tree, capture_output=True, timeout=150, check=False)
-            assert done.returncode == 0, done.stderr[-2000:]
-            [package] = pathlib.Path(folder).glob("mmkeep_0.9.0_*.deb")
-            told = subprocess.run(["lintian", "--allow-root", "--fail-on", "error", str(package)], capture_output=True, timeout=150, check=False)
-            assert told.returncode == 0, told.stdout
-            subprocess.run(["dpkg", "-x", str(package), str(pathlib.Path(folder, "unpacked"))], check=True, timeout=60)
-            installed(pathlib.Path(folder, "unpacked"))
-
-
-def installed(there):
-    """Asserts that what is installed is whole, and runs."""
-    home = there / "usr/bin"
-    (there / "a.mm").write_text((EXAMPLES / "faults.mm").read_text())
-    settings = {**os.environ, "PATH": f"{home}:{os.environ['PATH']}", "MMKEEP": ""}
-    done = subprocess.run("mmkeep verify a.mm 2>&1 | mmkeep-explain a.mm", shell=True, cwd=there, env=settings, capture_output=True, timeout=60, check=False)
-    assert done.returncode == 1 and b"a.mm:3:4: a `$c` in a block (F02)" in done.stdout and done.stderr == b"", done
-    assert {"mmkeep", "mmkeep-lsp", "mmkeep-explain", "mmkeep-watch", "mmkeep-convert", "mmkeep-graph"} == {each.name for each in home.iterdir()}
-    assert any((there / f"usr/share/man/man1/mmkeep.1{end}").exists() for end in ("", ".gz")) and (there / "usr/share/mmkeep/editor/nvim/init.lua").exists()
-
-
-TESTS = [vim, emacs, matchers, verify, converted, workflow, hook, manual, picture, pages, installation]
+TESTS = [vim, matchers, verify, converted, workflow, hook, manual, picture, pages]

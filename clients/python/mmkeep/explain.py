@@ -17,7 +17,7 @@ from typing import Iterable, Iterator, Optional, Union
 
 from .causes import causes
 from .machine import Machine
-from .programs import given, guarded
+from .programs import given, guarded, plain
 from .reports import COUNTS, Finding, Report, read_finding
 from .sources import Reading, Sources
 
@@ -267,5 +267,5 @@ def main() -> int:
     limit = None if whole else LINES - len(rest)
     # The counts come first: they are there at once.
     for line in itertools.chain(rest, lines(findings, None, top, (), limit)):
-        print(line, flush=True)
+        print(plain(line), flush=True)
     return 1 if lost or findings or not any(map(COUNTS.fullmatch, read)) else 0

@@ -15,6 +15,7 @@ def guarded(main: Callable[[], int]) -> Callable[[], int]:
 
     @functools.wraps(main)
     def run() -> int:
+        """Runs it, and answers its status."""
         try:
             if isinstance(sys.stdout, io.TextIOWrapper):
                 sys.stdout.reconfigure(encoding="utf-8", errors="replace")
@@ -38,6 +39,15 @@ def ends(main: Callable[[], int], why: str) -> NoReturn:
     """Ends a program with a sentence."""
     print(f"{main.__module__.replace('.', '-')}: {why}", file=sys.stderr, flush=True)
     os._exit(1)
+
+
+def plain(text: str) -> str:
+    """A text without what a terminal might take for a command, which is a question mark.
+
+    >>> plain("a\\x1b[31m\\tb")
+    'a?[31m\\tb'
+    """
+    return "".join(each if each.isprintable() or each == "\t" else "?" for each in text)
 
 
 def given() -> str:
