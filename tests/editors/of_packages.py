@@ -9,7 +9,7 @@ import tempfile
 from of_client import LOGIC
 from protocol import ROOT
 
-EXAMPLES = ROOT / "examples"
+EXAMPLES, PYTHON = ROOT / "examples", ROOT / "clients/python"
 
 
 def package(program):

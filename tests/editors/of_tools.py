@@ -301,13 +301,18 @@ def graphs(program):
         done = subprocess.run([*words, "a.mm", "u7"], cwd=folder, env=settings, capture_output=True, timeout=60, check=False)
         assert (done.returncode, done.stderr) == (0, b""), done
         texts = ["".join(each.itertext()) for each in xml.etree.ElementTree.fromstring(done.stdout).iter("{http://www.w3.org/2000/svg}text")]
-        assert sorted(texts) == sorted(["u7", "a1i", "wi", "mp", "ax", "3 axiom", "2 proved"]), texts
+        assert sorted(texts) == sorted(["u7", "a1i", "mp", "ax", "2 axioms", "2 proved", "not shown: 1 axiom with another typecode, for what an expression is"]), texts
         done = subprocess.run([*words, "--dot", "--all", "a.mm", "u7"], cwd=folder, env=settings, capture_output=True, timeout=60, check=False)
         assert b'"u7" -> "wi"' in done.stdout and b'"a1i" -> "mp"' in done.stdout, done
+        # Of very many theorems those that are nearest are drawn, and one box stands for the others.
+        pathlib.Path(folder, "b.mm").write_bytes(b"$[ a.mm $]\n${ h0 $e |- p $. c0 $p |- p $= h0 $. $}\n" + b"".join(b"${ h%d $e |- p $. c%d $p |- p $= wp h%d c%d $. $}\n" % (each, each, each, each - 1) for each in range(1, 100)))
+        done = subprocess.run([*words, "b.mm", "c99"], cwd=folder, env=settings, capture_output=True, timeout=60, check=False)
+        texts = ["".join(each.itertext()) for each in xml.etree.ElementTree.fromstring(done.stdout).iter("{http://www.w3.org/2000/svg}text")]
+        assert len(texts) == 62 and {"c99", "c40", "40 more theorems", "60 proved"} <= {*texts}, texts
         done = subprocess.run([*words, "a.mm", "none"], cwd=folder, env=settings, capture_output=True, timeout=60, check=False)
         assert done.returncode == 1 and done.stderr == b"mmkeep-graph: no sound $a or $p has the label none (K01)\n", done
-        done = subprocess.run([*words, "b.mm", "u7"], cwd=folder, env=settings, capture_output=True, timeout=60, check=False)
-        assert done.returncode == 1 and done.stderr == b"mmkeep-graph: mmkeep: b.mm: cannot be read (status 2: a file was not taken)\n", done
+        done = subprocess.run([*words, "c.mm", "u7"], cwd=folder, env=settings, capture_output=True, timeout=60, check=False)
+        assert done.returncode == 1 and done.stderr == b"mmkeep-graph: mmkeep: c.mm: cannot be read (status 2: a file was not taken)\n", done
 
 
 TESTS = [in_words, explained, accidents, large_accident, bad_reports, watched, watched_oddly, graphs, bad_words]

@@ -1,21 +1,23 @@
 """Draws what a theorem rests on: mmkeep-graph [--dot] [--all] TOP LABEL > FILE.svg.
 
 Each assertion to which chains of citations lead is a box, the theorem at the top and the axioms at the bottom. A line leads from each
-to those that its proof cites. The colour says what was found of it: an axiom, a proof that is proved, incomplete or wrong. Lines that a
-longer chain makes needless are left out, so that a picture of many can be read; --all keeps them.
+to those that its proof cites. The colour says what was found of it: an axiom, a proof that is proved, incomplete or wrong. What makes a
+picture hard to read is left out: axioms with another typecode than the theorem, lines that a longer chain makes needless, and theorems
+that are far from it, if there are many: one box counts them. --all draws everything.
 """
 from __future__ import annotations
 
 import html
 import sys
-from typing import Iterator
+from typing import Iterator, Optional
 
 from .client import Ended, Refused, Session, executable
 from .programs import guarded
 from .reports import Finding
+from .sources import Reading, Sources
 
-# The most boxes of a row, the size of a box and the room between two, in pixels.
-ACROSS, HEIGHT, GAP, DROP, LETTER = 12, 22, 14, 46, 7.2
+# How many theorems are drawn at most. The width of a page, the height of a box, and the room between two, in pixels.
+MOST, ACROSS, HEIGHT, GAP, DROP, LETTER = 60, 1100, 22, 14, 46, 7.3
 COLOURS = {"axiom": "#d8e6f8", "proved": "#dff0d8", "incomplete": "#fdf3cf", "wrong": "#f6cfcf"}
 LINES = {"axiom": "#3a6ea5", "proved": "#4c8c3f", "incomplete": "#b8860b", "wrong": "#b03030"}
 
@@ -25,6 +27,8 @@ class Graph:
 
     def __init__(self, session: Session, label: str) -> None:
         self.label = label
+        # The name of the one that stands for many, if there is one.
+        self.many: Optional[str] = None
         self.cites: dict = {}
         self.found: dict = {}
         left = [label]
@@ -35,32 +39,74 @@ class Graph:
                 self.cites[name] = session.cites(name)
                 left += self.cites[name]
 
-    def height(self) -> dict:
-        """How many citations the longest chain down from each has."""
-        found: dict = {}
-        left = [self.label]
+    def syntax(self, reading: Reading) -> set:
+        """The axioms with another typecode than the assertion: they say what an expression is, and not what holds."""
+        own = typecode(reading, self.label)
+        return {name for name, finding in self.found.items() if finding.kind == "axiom" and typecode(reading, name) not in (own, None)}
+
+    def without(self, left_out: set) -> None:
+        """Leaves some out."""
+        self.found = {name: finding for name, finding in self.found.items() if name not in left_out}
+        self.cites = {name: [each for each in cited if each not in left_out] for name, cited in self.cites.items() if name not in left_out}
+
+    def gather(self, most: int) -> None:
+        """Makes one of all theorems but so many, which are those that are nearest to the assertion."""
+        near, level = {self.label}, [self.label]
+        while level:
+            level = sorted({each for name in level for each in self.cites[name] if self.found[each].kind != "axiom"} - near)
+            if len(near) + len(level) > most:
+                break
+            near.update(level)
+        axioms = {name for name, finding in self.found.items() if finding.kind == "axiom"}
+        more = [name for name in self.found if name not in near and name not in axioms]
+        if not more:
+            return
+        kinds = [self.found[name].kind for name in more]
+        worst = next(kind for kind in ("wrong", "incomplete", "proved") if kind in kinds)
+        self.many = said = f"{len(more):,} more theorem{'' if len(more) == 1 else 's'}"
+        below = {each for name in more for each in self.cites[name] if each in axioms}
+        cites = {name: [each for each in self.cites[name] if each in near or each in axioms] for name in near}
+        for name in near:
+            if any(each not in near and each not in axioms for each in self.cites[name]):
+                cites[name].append(said)
+        self.cites = {**cites, said: sorted(below), **{name: [] for name in axioms}}
+        self.found = {**{name: self.found[name] for name in (*near, *axioms)}, said: Finding(worst)}
+
+
+def typecode(reading: Reading, label: str) -> Optional[str]:
+    """The typecode of an assertion, if it is found."""
+    statement = reading.labelled(label)[1]
+    return statement.symbols[0] if statement and statement.symbols else None
+
+
+def heights(cites: dict) -> dict:
+    """How many citations the longest chain down from each has."""
+    found: dict = {}
+    for top in cites:
+        left = [top]
         while left:
-            name = left[-1]
-            lower = [each for each in self.cites[name] if each not in found]
+            lower = [each for each in cites[left[-1]] if each not in found]
             if lower:
                 left += lower
                 continue
-            left.pop()
-            found[name] = 1 + max((found[each] for each in self.cites[name]), default=-1)
-        return found
-
-    def needed(self) -> dict:
-        """What each cites, without what another one that it cites leads to."""
-        height = self.height()
-        below: dict = {}
-        for name in sorted(self.cites, key=lambda each: height[each]):
-            below[name] = set().union(*(below[each] | {each} for each in self.cites[name]))
-        return {name: [each for each in cited if not any(each in below[other] for other in cited)] for name, cited in self.cites.items()}
+            name = left.pop()
+            found[name] = 1 + max((found[each] for each in cites[name]), default=-1)
+    return found
 
 
-def dot(graph: Graph, cites: dict) -> Iterator[str]:
+def needed(cites: dict) -> dict:
+    """What each cites, without what another one that it cites leads to."""
+    height = heights(cites)
+    below: dict = {}
+    for name in sorted(cites, key=lambda each: height[each]):
+        below[name] = set().union(*(below[each] | {each} for each in cites[name]))
+    return {name: [each for each in cited if not any(each in below[other] for other in cited)] for name, cited in cites.items()}
+
+
+def dot(graph: Graph, cites: dict, notes: list) -> Iterator[str]:
     """The lines of the graph in the language of graphviz."""
     yield "digraph {"
+    yield from (f"  // {note}" for note in notes)
     yield '  node [shape=box, style="filled,rounded", fontname="DejaVu Sans Mono", fontsize=10]'
     for name, finding in graph.found.items():
         yield f'  "{name}" [fillcolor="{COLOURS[finding.kind]}", color="{LINES[finding.kind]}"]'
@@ -69,11 +115,11 @@ def dot(graph: Graph, cites: dict) -> Iterator[str]:
 
 
 def rows(graph: Graph, cites: dict) -> list:
-    """The assertions in rows, the axioms last; each row in the order of the middle of what cites its members."""
-    height = graph.height()
-    axioms = [name for name, finding in graph.found.items() if finding.kind == "axiom"]
+    """The assertions in rows, the axioms last; each row in the order of the middle of what cites its members, and none too wide."""
+    height = heights(cites)
+    axioms = [name for name, finding in graph.found.items() if finding.kind == "axiom" and name != graph.label]
     levels: dict = {}
-    for name in graph.cites:
+    for name in cites:
         if name not in axioms:
             levels.setdefault(height[name], []).append(name)
     ordered = [levels[level] for level in sorted(levels, reverse=True)] + ([axioms] if axioms else [])
@@ -85,7 +131,25 @@ def rows(graph: Graph, cites: dict) -> list:
     for row in ordered:
         row.sort(key=lambda name: (middle([place[user] for user in users.get(name, ()) if user in place]), name))
         place.update({name: (at + 1) / (len(row) + 1) for at, name in enumerate(row)})
-    return [row[begin : begin + ACROSS] for row in ordered for begin in range(0, len(row), ACROSS)]
+    return [part for row in ordered for part in parted(row)]
+
+
+def parted(row: list) -> Iterator[list]:
+    """A row in parts of about the same width, none wider than a page."""
+    whole = sum(map(long, row))
+    most = whole / max(1, -(-whole // ACROSS)) + 1
+    part: list = []
+    for name in row:
+        if part and sum(map(long, part)) + long(name) > most + long(name) / 2:
+            yield part
+            part = []
+        part.append(name)
+    yield part
+
+
+def long(name: str) -> float:
+    """How long the box of a name is, with the room behind it."""
+    return len(name) * LETTER + 16 + GAP
 
 
 def middle(places: list) -> float:
@@ -93,39 +157,45 @@ def middle(places: list) -> float:
     return sum(places) / len(places) if places else 0.5
 
 
-def svg(graph: Graph, cites: dict) -> Iterator[str]:
+def svg(graph: Graph, cites: dict, notes: list) -> Iterator[str]:
     """The lines of a picture."""
-    lines, boxes, width = rows(graph, cites), {}, 0.0
-    for number, row in enumerate(lines):
-        at = 0.0
-        for name in row:
-            long = len(name) * LETTER + 16
-            boxes[name] = [at, 20.0 + number * (HEIGHT + DROP), long]
-            at += long + GAP
-        width = max(width, at - GAP)
+    lines = rows(graph, cites)
+    boxes: dict = {}
+    width = max([420.0, *(sum(map(long, row)) - GAP for row in lines), *(len(note) * LETTER for note in notes)])
+    down, frame = 20.0, 0.0
     for row in lines:
-        shift = 20 + (width - (boxes[row[-1]][0] + boxes[row[-1]][2])) / 2
+        if graph.many and not frame and graph.found[row[0]].kind == "axiom":
+            down, frame = down + GAP, down
+        at = 20 + (width - sum(map(long, row)) + GAP) / 2
         for name in row:
-            boxes[name][0] += shift
-    legend = len(lines) * (HEIGHT + DROP) + 10
-    size = f'width="{max(width, 420) + 40:.0f}" height="{legend + 40:.0f}"'
+            boxes[name] = (at, down, long(name) - GAP)
+            at += long(name)
+        down += HEIGHT + (GAP if frame else DROP)
+    legend = down + GAP
+    size = f'width="{width + 40:.0f}" height="{legend + 40 + 18 * len(notes):.0f}"'
     yield f'<svg xmlns="http://www.w3.org/2000/svg" {size} font-family="DejaVu Sans Mono, monospace" font-size="12">'
     yield f"<title>What {html.escape(graph.label)} rests on</title>"
     yield '<rect width="100%" height="100%" fill="white"/>'
+    if graph.many:
+        # One line leads from what stands for many to a frame that has all axioms.
+        x, y, wide = boxes[graph.many]
+        yield f'<rect x="{20 - GAP / 2}" y="{frame}" width="{width + GAP}" height="{down - frame}" rx="9" fill="none" stroke="{LINES["axiom"]}" stroke-opacity="0.55"/>'
+        yield curve(x + wide / 2, y + HEIGHT, x + wide / 2, frame, LINES["axiom"])
     for name, cited in cites.items():
-        x, y, long = boxes[name]
-        for other in cited:
-            to, below, wide = boxes[other]
-            yield curve(x + long / 2, y + HEIGHT, to + wide / 2, below, LINES[graph.found[other].kind])
-    for name, (x, y, long) in boxes.items():
-        yield from box(name, graph.found[name], x, y, long)
+        x, y, wide = boxes[name]
+        for other in cited if name != graph.many else ():
+            to, below, across = boxes[other]
+            yield curve(x + wide / 2, y + HEIGHT, to + across / 2, below, LINES[graph.found[other].kind])
+    for name, (x, y, wide) in boxes.items():
+        yield from box(name, graph.found[name], x, y, wide)
     at = 20.0
     for kind in COLOURS:
-        count = sum(finding.kind == kind for finding in graph.found.values())
+        count = sum(finding.kind == kind for name, finding in graph.found.items() if name != graph.many)
         if count:
-            said = f"{count} {kind}"
-            yield from box(said, Finding(kind), at, legend, len(said) * LETTER + 16)
-            at += len(said) * LETTER + 16 + GAP
+            said = f"{count:,} {kind}{'s' if kind == 'axiom' and count != 1 else ''}"
+            yield from box(said, Finding(kind), at, legend, long(said) - GAP)
+            at += long(said)
+    yield from (f'<text x="20" y="{legend + 44 + 18 * number}">{html.escape(note)}</text>' for number, note in enumerate(notes))
     yield "</svg>"
 
 
@@ -160,7 +230,18 @@ def main() -> int:
         sys.exit(f"mmkeep-graph: {error}")
     except OSError as error:
         sys.exit(f"mmkeep-graph: the program {executable(None)} cannot be run: {error.strerror}")
-    cites = graph.cites if "--all" in flags else graph.needed()
-    for line in (dot if "--dot" in flags else svg)(graph, cites):
+    notes = [] if "--all" in flags else simplified(graph, words[0])
+    cites = graph.cites if "--all" in flags else needed(graph.cites)
+    for line in (dot if "--dot" in flags else svg)(graph, cites, notes):
         print(line)
     return 0
+
+
+def simplified(graph: Graph, top: str) -> list:
+    """Leaves out of a graph what makes it hard to read. Answers what that is."""
+    left_out = graph.syntax(Reading(Sources(), top))
+    graph.without(left_out)
+    graph.cites = needed(graph.cites)
+    graph.gather(MOST)
+    several = "1 axiom" if len(left_out) == 1 else f"{len(left_out):,} axioms"
+    return [f"not shown: {several} with another typecode, for what an expression is"] if left_out else []
