@@ -1,43 +1,50 @@
-"""Tests of the client in examples/client."""
+"""Tests of the client in clients/python."""
+import ast
 import doctest
+import importlib
 import pathlib
 import random
 import re
+import shutil
 import subprocess
 import sys
 import tempfile
 
 from protocol import DATABASES, ROOT, mmkeep, position
 
-import buffers
-import explain
+from mmkeep import buffers
 
 LOGIC = b"""$c wff |- -> ( ) $. $v p q $. wp $f wff p $. wq $f wff q $.
 wi $a wff ( p -> q ) $.
 ${ mi $e |- p $. ma $e |- ( p -> q ) $. mp $a |- q $. $}
 ${ h1 $e |- p $. h2 $e |- ( p -> q ) $. th $p |- q $= wp wq h1 h2 mp $. $}
 """
-# Proofs that are wrong, and what their steps expected and got.
-STEPS = [
-    ("${ k1 $e |- p $. k2 $e |- ( p -> q ) $. t $p |- q $= wp wq k2 k1 mp $. $}", "P09", ["expected |- p", "got      |- ( p -> q )"]),
-    ("${ k1 $e |- p $. k2 $e |- ( p -> q ) $. t $p |- q $= ( mp ) ABDCE $. $}", "P09", ["expected |- p", "got      |- ( p -> q )"]),
-    ("${ k1 $e |- p $. k2 $e |- ( p -> q ) $. t $p |- q $= ( mp ) CABDE $. $}", "P08", ["expected wff ...", "got      |- p"]),
-    ("${ k1 $e |- p $. k2 $e |- ( p -> q ) $. t $p |- q $= wp wq k1 wp mp $. $}", "P09", ["expected |- ( p -> q )", "got      wff p"]),
-    ("t $p wff ( p -> q ) $= wp wi $.", "P07", ["expected 2 entries", "got      1"]),
-    ("t $p wff ( p -> q ) $= wp wp wi $.", "P15", ["expected wff ( p -> q )", "got      wff ( p -> p )"]),
-    ("t $p wff p $= wp wp $.", "P14", ["2 entries are left"]),
-    ("t $p wff ( ( p -> p ) -> p ) $= ( wi ) AABZAAB $.", "P14", ["2 entries are left"]),
-    ("${ $d p q $. d $a wff ( p q ) $. $} t $p wff p $= wp wp d $.", "P10", ["both have p"]),
-    ("${ $d p q $. d $a wff ( p q ) $. $} t $p wff p $= wp wq d $.", "P11", ["no $d keeps p and q apart"]),
-]
 TEXTS = [b"$c a $. $c b $.", b"$( $)", b"", b" \n", b"$( a $) ${ $( $} $) $} $( b", b"${ ${ $} $} x", b"$[ none.mm $] $[ b.mm $]\t\f\n", b"$v a $."]
 
 
 def doctests():
     """The examples in the pages of the client hold."""
-    for module in (mmkeep, buffers, explain):
+    for path in sorted((ROOT / "clients/python/mmkeep").glob("*.py")):
+        module = importlib.import_module(f"mmkeep.{path.stem}")
         failed, _ = doctest.testmod(module)
         assert not failed, module.__name__
+
+
+def hints():
+    """Each function of the package says what it takes and answers, and has its sentence; a checker of types, where one is there, finds nothing."""
+    package = ROOT / "clients/python"
+    for path in sorted((package / "mmkeep").glob("*.py")):
+        tree = ast.parse(path.read_text())
+        assert ast.get_docstring(tree) and len(path.read_text().splitlines()) <= 400, path.name
+        for each in (each for each in ast.walk(tree) if isinstance(each, (ast.FunctionDef, ast.ClassDef))):
+            assert ast.get_docstring(each) or each.name.startswith("__"), f"{path.name}: {each.name}"
+            if isinstance(each, ast.FunctionDef):
+                taken = [*each.args.args, *each.args.kwonlyargs]
+                assert each.returns and all(one.annotation for one in taken if one.arg != "self"), f"{path.name}: {each.name}"
+    if shutil.which("mypy"):
+        with tempfile.TemporaryDirectory() as folder:
+            done = subprocess.run(["mypy", "--cache-dir", folder, "mmkeep"], cwd=package, capture_output=True, timeout=150, check=False)
+            assert done.returncode == 0, done.stdout.decode()
 
 
 def sentences():
@@ -156,7 +163,7 @@ def commands(program):
             assert session.report().clean()
         assert session.close() == 0
         with mmkeep.Session("a.mm", folder, program) as session:
-            ended(lambda: session.verdict("x x"), status=5, number="C01", line="mmkeep: C01")
+            ended(lambda: session._ask(b"verdict x x\n"), status=5, number="C01", line="mmkeep: C01")
             ended(session.report, status=5, number="C01")
         with mmkeep.Session("a.mm", folder, program) as session:
             session.child.kill()
@@ -195,41 +202,67 @@ def ended(call, **parts):
     raise AssertionError(f"not ended: {parts}")
 
 
-def in_words(program):
-    """A report is explained: faults first, what they make wrong counted, and what a step expected and got."""
+def strict(program):
+    """Nothing that a caller hands over becomes another command: it is a ValueError, and the session goes on."""
     with tempfile.TemporaryDirectory() as folder:
-        file = pathlib.Path(folder, "a.mm")
-        for proof, number, lines in STEPS:
-            file.write_bytes(LOGIC + proof.encode() + b"\n")
-            report = mmkeep.verify("a.mm", folder, program)
-            told = mmkeep.explain(report, folder, "a.mm")
-            assert number in told[0] and mmkeep.SENTENCES[number] in told[0], told
-            shown = [line.strip() for line in told]
-            assert all(any(line in each for each in shown) for line in lines), told
-            assert told[2].index("^") - told[1].index("|") - 2 == report.findings[0].place.column - 1, told
-        file.write_bytes(LOGIC.replace(b"mp $a |- q $.", b"mp $a |- z $.") + b"${ k $p |- p $= ( mp ) A $. $}\n")
-        told = mmkeep.explain(mmkeep.verify("a.mm", folder, program), folder, "a.mm")
-        assert told[0].startswith("a.mm:3:") and "(F10)" in told[0] and len(told) == 4, told
-        assert told[3].startswith("2 proofs name mp, which is at fault at a.mm:3:") and "the first is th" in told[3], told
-        file.write_bytes(LOGIC + b"x $a |- \x80 $.\n")
-        words = f"'{program}' verify a.mm 2>&1 | '{sys.executable}' '{ROOT / 'examples/client/explain.py'}' a.mm"
-        done = subprocess.run(words, shell=True, cwd=folder, capture_output=True, timeout=60, check=False)
-        assert (done.returncode, done.stderr) == (1, b"") and b"a.mm:5:9: " in done.stdout and b"(T01)" in done.stdout, done
+        pathlib.Path(folder, "a.mm").write_bytes(LOGIC)
+        with mmkeep.Session("a.mm", folder, program) as session:
+            words = ["", " ", "th ", " th", "t h", "th\n", "x\ndelete a.mm 3", "\n", "a.mm 1\nreport"]
+            numbers = [-1, 2**32, 2**70, True, None, "1", 1.0]
+            for word in words:
+                for call in (session.verdict, session.axioms, session.cites, session.users, session.count):
+                    raises(ValueError, lambda: call(word))
+                for change in (mmkeep.Insert(word, 0, b"$c k $."), mmkeep.Replace(word, 0, b"$c k $."), mmkeep.Delete(word, 0), mmkeep.Move(word, 0, 0)):
+                    raises(ValueError, lambda: session.edit(change))
+                    raises(ValueError, lambda: session.batch([change]))
+                raises(ValueError, lambda: session.fault(word, b"$c k $."))
+            for number in numbers:
+                for change in (mmkeep.Insert("a.mm", number, b"$c k $."), mmkeep.Replace("a.mm", number, b"$c k $."), mmkeep.Delete("a.mm", number), mmkeep.Move("a.mm", 0, number)):
+                    raises(ValueError, lambda: session.edit(change))
+            for text in (b"", b" \n\t"):
+                raises(ValueError, lambda: session.replace("a.mm", 0, text))
+            for text in ("$c k $.", None, 7):
+                raises(ValueError, lambda: session.insert("a.mm", 0, text))
+            assert session.report().clean() and session.count("a.mm") == 7 and session.verdict("th").kind == "proved"
 
 
-def explained(program):
-    """The step of a proof of a real database is explained."""
-    if not (DATABASES / "nf.mm").exists():
+def raises(kind, call):
+    """Asserts that a call raises this."""
+    try:
+        call()
+    except kind as error:
+        assert str(error), error
         return
+    raise AssertionError(f"no {kind.__name__}")
+
+
+def parts(program):
+    """The pieces of a session, their statements and places; edits that are done, looked at, and taken back."""
     with tempfile.TemporaryDirectory() as folder:
-        text = (DATABASES / "nf.mm").read_bytes()
-        # The hypotheses of the rule of detachment are exchanged: thousands of steps get another entry than they expect.
-        found = re.search(rb"(min \$e \|- ph \$\.)(.*?)(maj \$e \|- \( ph -> ps \) \$\.)", text, re.DOTALL)
-        pathlib.Path(folder, "nf.mm").write_bytes(text[: found.start()] + found[3] + found[2] + found[1] + text[found.end() :])
-        report = mmkeep.verify("nf.mm", folder, program)
-        wrong = [each for each in report.findings if each.number == "P09"][:40]
-        told = mmkeep.explain(wrong, folder, "nf.mm")
-        assert len(wrong) == 40 and sum(line.startswith("    expected ") for line in told) == 40, told[:12]
+        pathlib.Path(folder, "a.mm").write_bytes(LOGIC)
+        with mmkeep.Session("a.mm", folder, program) as session:
+            session.insert("a.mm", 7, b"$c k $.")
+            assert session.pieces("a.mm") == [*mmkeep.pieces(LOGIC), b"$c k $.\n"]
+            assert session.place("a.mm", 6, 3) == mmkeep.Place("a.mm", 4, 4) and session.place("a.mm", 7) == mmkeep.Place("a.mm", 5, 1)
+            *_, proof, _ = session.statements("a.mm", 6)
+            assert (proof.label, proof.kind, proof.symbols, [word for word, _ in proof.proof]) == ("th", "$p", ["|-", "q"], ["wp", "wq", "h1", "h2", "mp", "$."])
+            rule = session.pieces("a.mm")[5]
+            with session.try_edits([mmkeep.Delete("a.mm", 5), mmkeep.Move("a.mm", 6, 0)]) as ran:
+                assert ran == ["th"] and session.report().counts.wrong == 1 and rule not in session.pieces("a.mm")
+            assert session.report().clean() and session.pieces("a.mm") == [*mmkeep.pieces(LOGIC), b"$c k $.\n"]
+            raises(LookupError, lambda: session.pieces("b.mm"))
+            try:
+                with session.try_edits([mmkeep.Delete("a.mm", 7)]):
+                    raise KeyError("in the middle")
+            except KeyError:
+                pass
+            assert session.count("a.mm") == 8
+            refused(lambda: session.try_edits([mmkeep.Insert("a.mm", 0, b"$c")]).__enter__(), number="S03")
+            pathlib.Path(folder, "a.mm").write_bytes(LOGIC + b"$c l $.\n")
+        with mmkeep.Session("a.mm", folder, program) as session:
+            session.report()
+            pathlib.Path(folder, "a.mm").write_bytes(LOGIC)
+            raises(LookupError, lambda: session.pieces("a.mm"))
 
 
 def splitters(program):
@@ -248,4 +281,4 @@ def splitters(program):
             assert done.returncode in (0, 1) and b"the report" in done.stdout or b"ax-mp" not in (DATABASES / "ql.mm").read_bytes(), done
 
 
-TESTS = [doctests, sentences, counts, real, few_edits, texts, commands, in_words, explained, splitters]
+TESTS = [doctests, hints, sentences, counts, real, few_edits, texts, commands, strict, parts, splitters]

@@ -1,4 +1,4 @@
-"""Tests of what reads a report: vim, emacs, tasks of VS Code, build machines, and a hook of git."""
+"""Tests of what reads a report: vim, tasks of VS Code, build machines, and a hook of git; and of the pages."""
 import json
 import os
 import pathlib
@@ -11,7 +11,9 @@ import xml.etree.ElementTree
 from protocol import ROOT
 
 EXAMPLES = ROOT / "examples"
-CI = EXAMPLES / "ci"
+CLIENTS = ROOT / "clients"
+CI = CLIENTS / "ci"
+CONVERT = str(CLIENTS / "python/bin/mmkeep-convert")
 # A file whose report has all kinds of lines: examples/faults.mm, an incomplete proof and a wrong one.
 MORE = "u $p |- p $= ? $.\nw $p |- p $= wp wp ax $.\n"
 
@@ -59,7 +61,7 @@ def vim(program):
         script = f"set nomore\ncompiler! mmkeep\ncfile report\ncall writefile({items}, 'out')\n"
         script += f"edit db/clean.mm\ncd db\nedit faults.mm\nlet $PATH = '{os.path.dirname(program)}:' .. $PATH\nsilent make!\ncd ..\ncall writefile({items}, 'made')\nqa!\n"
         (place.path / "script.vim").write_text(script)
-        place.run("vim", "-N", "-u", "NONE", "-i", "NONE", "-n", "-es", "--cmd", f"set rtp^={EXAMPLES / 'editor/vim'}", "-S", "script.vim")
+        place.run("vim", "-N", "-u", "NONE", "-i", "NONE", "-n", "-es", "--cmd", f"set rtp^={CLIENTS / 'editor/vim'}", "-S", "script.vim")
         found = [line.split("|") for line in (place.path / "out").read_text().splitlines()]
         assert [(each[0], int(each[1]), int(each[2])) for each in found] == places, found
         assert [each[3] for each in found] == ["W" if "incomplete" in each[4] else "E" for each in found], found
@@ -69,50 +71,18 @@ def vim(program):
             assert [(int(each[1]), int(each[2])) for each in made] == [(line, column) for name, line, column in places if name == "db/faults.mm"], made
 
 
-def emacs(program):
-    """Compilation mode of emacs gives the places, and what is a warning."""
-    with Place(program) as place:
-        lines, places = place.report()
-        (place.path / "report").write_text(lines)
-        (place.path / "script.el").write_text(f"""(load "{EXAMPLES / 'editor/mmkeep.el'}" nil t)
-(with-temp-buffer
-  (insert-file-contents "report")
-  (compilation-mode)
-  (compilation--ensure-parse (point-max))
-  (goto-char (point-min))
-  (while (not (eobp))
-    (let ((found (get-text-property (point) 'compilation-message)))
-      (when found
-        (let ((at (compilation--message->loc found)))
-          (princ (format "%s|%s|%s|%s\\n" (caar (compilation--loc->file-struct at)) (compilation--loc->line at)
-                         (compilation--loc->col at) (compilation--message->type found))))))
-    (forward-line 1)))
-(with-current-buffer (find-file-noselect "report")
-  (compilation-mode)
-  (goto-char (point-min))
-  (compile-goto-error)
-  (set-buffer (window-buffer))
-  (princ (format "%s %s %s\\n" (file-name-nondirectory (buffer-file-name)) (line-number-at-pos) (current-column))))
-""")
-        told, status = place.run("emacs", "-Q", "--batch", "-l", "script.el")
-        *found, first = [line.split("|") for line in told.splitlines()]
-        assert status == 0 and [(each[0], int(each[1]), int(each[2])) for each in found] == places, (told, place.told)
-        assert [each[3] == "1" for each in found] == ["incomplete" in line for line in lines.splitlines() if ".mm:" in line], told
-        assert re.fullmatch(r"faults.mm \d+ \d+", first[0]), first
-
-
 def matched(patterns, line):
-    """What the patterns of a problem matcher take of a line: file, line, column and severity."""
+    """What the patterns of a problem matcher take of a line: file, line, column and severity. The message is never empty."""
     for severity, pattern in patterns:
         found = re.fullmatch(pattern["regexp"].removeprefix("^").removesuffix("$"), line)
         if found:
-            assert found[pattern["message"]] is not None and ("code" not in pattern or re.fullmatch("[FTP][0-9][0-9]", found[pattern["code"]])), line
+            assert found[pattern["message"]].strip() and ("code" not in pattern or re.fullmatch("[FTP][0-9][0-9]", found[pattern["code"]])), line
             yield found[pattern["file"]], int(found[pattern["line"]]), int(found[pattern["column"]]), severity
 
 
 def matchers(program):
     """The problem matchers of VS Code and of a build machine take each line once, at its place."""
-    task = json.loads((EXAMPLES / "editor/vscode/tasks.json").read_text())["tasks"][0]
+    task = json.loads((CLIENTS / "editor/vscode/tasks.json").read_text())["tasks"][0]
     assert task["command"] == "mmkeep" and task["args"][0] == "verify"
     hosted = json.loads((CI / "problem-matcher.json").read_text())["problemMatcher"]
     assert len({each["owner"] for each in hosted}) == len(hosted)
@@ -147,19 +117,33 @@ def converted(program):
     """A report becomes JUnit XML and SARIF."""
     with Place(program) as place:
         lines, places = place.report()
-        told, status = place.run(str(CI / "convert"), "--junit", text=lines)
+        told, status = place.run(CONVERT, "--junit", text=lines)
         suite = xml.etree.ElementTree.fromstring(told)
         cases = suite.findall("testcase")
         assert status == 0 and suite.get("failures") == "5" and len(cases) == int(suite.get("tests")) == 7, told
         assert [(each.get("file"), int(each.get("line"))) for each in cases if each.find("failure") is not None] == [each[:2] for each in places]
-        told, status = place.run(str(CI / "convert"), "--sarif", text=lines)
+        told, status = place.run(CONVERT, "--sarif", text=lines)
         run = json.loads(told)["runs"][0]
         found = [each["locations"][0]["physicalLocation"] for each in run["results"]]
         assert status == 0 and [(each["artifactLocation"]["uri"], each["region"]["startLine"], each["region"]["startColumn"]) for each in found] == places, told
         assert {each["ruleId"] for each in run["results"]} == {each["id"] for each in run["tool"]["driver"]["rules"]}
-        told, status = place.run(str(CI / "convert"), "--junit", text="mmkeep: out of memory\n")
-        assert status == 0 and "out of memory" in told and xml.etree.ElementTree.fromstring(told).get("failures") == "1"
-        assert place.run(str(CI / "convert"), "--sarif", text="no report\n")[1] == 1 and place.run(str(CI / "convert"))[1] == 1
+        told, status = place.run(CONVERT, "--junit", text="mmkeep: out of memory\n")
+        assert status == 0 and "out of memory" in told and xml.etree.ElementTree.fromstring(told).get("errors") == "1"
+        told, status = place.run(CONVERT, "--junit")
+        assert status == 1 and "nothing was verified" in told and xml.etree.ElementTree.fromstring(told).get("errors") == "1"
+        told, status = place.run(CONVERT, "--github", text=lines)
+        found = [(each[1], int(each[2]), int(each[3])) for each in re.finditer(r"^::(?:error|warning) file=(.*?),line=(\d+),col=(\d+),title=.*?::.{10}", told, re.M)]
+        assert status == 0 and found == places and told.count("::notice ") == 2, told
+        told, _ = place.run(CONVERT, "--github", text="fault a b,%:c.mm:1:2 F02 $c\n")
+        assert told.startswith("::error file=a b%2C%25%3Ac.mm,line=1,col=2,title=$c F02::a `$c` in a block\n"), told
+        told, _ = place.run(CONVERT, "--sarif", text="fault a b%c.mm:1:2 F02 $c\n")
+        run = json.loads(told)["runs"][0]
+        assert run["results"][0]["locations"][0]["physicalLocation"]["artifactLocation"]["uri"] == "a%20b%25c.mm", told
+        assert run["tool"]["driver"]["rules"][0]["helpUri"].startswith("file:///"), told
+        # A reader that has enough ends the program, with no traceback.
+        done = subprocess.run(["bash", "-c", f"yes 'wrong th a.mm:7:67 P09' | head -100000 | {CONVERT} --github | head -1"], capture_output=True, timeout=60, check=False)
+        assert done.stderr == b"" and done.stdout.count(b"\n") == 1, done
+        assert place.run(CONVERT, "--sarif", text="no report\n")[1] == 1 and place.run(CONVERT)[1] == 1
 
 
 def workflow(program):
@@ -170,7 +154,7 @@ def workflow(program):
     assert len(runs) == 3, runs
     with Place(program) as place:
         shutil.copytree(CI, place.path / "ci")
-        shutil.copy(EXAMPLES / "client/mmkeep.py", place.path / "ci")
+        shutil.copytree(CLIENTS / "python", place.path / "ci/python")
         (place.path / "temp").mkdir()
         (place.path / "path").touch()
         given = {"RUNNER_TEMP": str(place.path / "temp"), "TOOLS": "ci", "GITHUB_PATH": str(place.path / "path")}
@@ -217,6 +201,11 @@ def hook(program):
         assert git("commit", "-qm", "part")[1] == 1
         git("config", "mmkeep.top", "top.mm")
         assert git("commit", "-qm", "part")[1] == 0, place.told
+        told, status = git("commit", "-qm", "lost", "--allow-empty", MMKEEP="/nowhere/mmkeep")
+        (place.path / "part.mm").write_text("t8 $p wff p $= wp $.\n")
+        git("add", "part.mm")
+        assert git("commit", "-qm", "lost", MMKEEP="/nowhere/mmkeep")[1] == 1 and "could not be verified" in place.told and "found" not in place.told, place.told
+        git("reset", "-q", "--hard")
         (place.path / "note").write_text("x")
         git("add", "note")
         assert git("commit", "-qm", "no database", MMKEEP="/nowhere/mmkeep")[1] == 0, place.told
@@ -238,7 +227,7 @@ def manual(program):
 
 def picture(program):
     """The picture of a session is well-formed, has its text as text, and says what docs/SCRIPTS.md says."""
-    tree = xml.etree.ElementTree.parse(EXAMPLES / "editor/session.svg")
+    tree = xml.etree.ElementTree.parse(CLIENTS / "editor/session.svg")
     lines = ["".join(each.itertext()) for each in tree.iter("{http://www.w3.org/2000/svg}text")]
     assert any("mmkeep session set.mm" in line for line in lines) and any(line.startswith("ran 1") for line in lines), lines
     assert any(re.match(r"axioms \d+ theorems \d+ proved", line) for line in lines), lines
@@ -246,10 +235,10 @@ def picture(program):
 
 def pages(program):
     """What docs/INSTALL.md and the pages of examples name is there."""
-    for page in (ROOT / "docs/INSTALL.md", EXAMPLES / "editor/README.md", EXAMPLES / "ci/README.md", EXAMPLES / "client/README.md"):
-        for name in re.findall(r"`((?:\.\./|examples/|docs/|tests/|bench/|crates/)[\w./-]+)`", page.read_text()):
+    for page in (ROOT / "docs/INSTALL.md", CLIENTS / "editor/README.md", CI / "README.md", CLIENTS / "python/README.md"):
+        for name in re.findall(r"`((?:\.\./|examples/|clients/|docs/|tests/|bench/|crates/)[\w./-]+)`", page.read_text()):
             path = page.parent / name if name.startswith("../") else ROOT / name
             assert path.exists() or name.startswith("crates/mmkeep/out"), f"{page.name}: {name}"
 
 
-TESTS = [vim, emacs, matchers, verify, converted, workflow, hook, manual, picture, pages]
+TESTS = [vim, matchers, verify, converted, workflow, hook, manual, picture, pages]

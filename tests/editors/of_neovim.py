@@ -9,7 +9,7 @@ import time
 
 from protocol import DATABASES, ROOT, mmkeep
 
-CONFIGURATION = ROOT / "examples" / "editor" / "nvim" / "init.lua"
+CONFIGURATION = ROOT / "clients" / "editor" / "nvim" / "init.lua"
 SECONDS = 40
 # What the buffer's changes are counted by, and the version of the last diagnostics, with these.
 WATCH = """lua <<END
@@ -78,6 +78,13 @@ class Neovim:
             versions = self.remote("--remote-expr", VERSIONS).split(" ")
         return self.state()
 
+    def until(self, done, what):
+        """Waits until something holds."""
+        end = time.monotonic() + SECONDS
+        while not done():
+            assert time.monotonic() < end, f"no {what}: {self.text()!r}, {self.state()}"
+            time.sleep(0.05)
+
     def text(self):
         """The buffer."""
         path = self.folder / "written"
@@ -138,18 +145,18 @@ def iset(program):
 
 
 def first_reader(program):
-    """The three commands of examples/editor/README.md bring diagnostics of examples/faults.mm."""
-    page = (ROOT / "examples/editor/README.md").read_text()
+    """The three commands of clients/editor/README.md bring diagnostics of examples/faults.mm."""
+    page = (ROOT / "clients/editor/README.md").read_text()
     commands = page.split("## In three commands", 1)[1].split("\n\n")[1:]
     block = next(part for part in commands if part.startswith("    "))
     lines = [line.strip() for line in block.split("\n")]
-    assert len(lines) == 3 and lines[0].startswith("apt-get install") and "nvim -u examples/editor/nvim/init.lua examples/faults.mm" in lines[2], lines
+    assert len(lines) == 3 and lines[0].startswith("apt-get install") and "nvim -u clients/editor/nvim/init.lua examples/faults.mm" in lines[2], lines
     assert "PATH" in lines[1], lines
     with tempfile.TemporaryDirectory() as folder:
         # As the page says: at the top of the clone, with the program on the path.
         os.symlink(program, pathlib.Path(folder, "mmkeep"))
         settings = {"PATH": f"{folder}:{os.environ['PATH']}", "MMKEEP": ""}
-        with Neovim(program, folder, "examples/faults.mm", begin=ROOT, configuration="examples/editor/nvim/init.lua", settings=settings) as editor:
+        with Neovim(program, folder, "examples/faults.mm", begin=ROOT, configuration="clients/editor/nvim/init.lua", settings=settings) as editor:
             editor.compare(program, "faults.mm")
             assert len(editor.state()["found"]) == 2, editor.state()
 
@@ -164,4 +171,71 @@ def crlf(program):
             assert [each[:3] for each in editor.settled()["found"]] == [[3, 5, "F08"]], editor.state()
 
 
-TESTS = [first_reader, iset, crlf]
+BOOK = b"""$( A ~ mp logic. $)
+$c wff |- -> ( ) $.
+$v p q $.
+wp $f wff p $.
+wq $f wff q $.
+wi $a wff ( p -> q ) $.
+${ mi $e |- p $. ma $e |- ( p -> q ) $. mp $a |- q $. $}
+${ $d p q $. ae $a |- ( p -> q ) $. $}
+${ h1 $e |- p $. h2 $e |- ( p -> q ) $. th $p |- q $= ( mp ) ABCDE $. $}
+x1 $p |- ( p -> q ) $= wp wq ae $.
+"""
+
+
+def keyed(program):
+    """The keys of the settings complete, rename and mend; marks change while one types."""
+    with tempfile.TemporaryDirectory() as folder:
+        pathlib.Path(folder, "a.mm").write_bytes(BOOK)
+        with Neovim(program, folder, "a.mm") as editor:
+            assert [each[2] for each in editor.settled()["found"]] == ["P11"]
+            # Completion, in a proof that is being written.
+            editor.keys("Goy1 $p |- ( p -> q ) $= wp wq a<C-x><C-o>")
+            editor.until(lambda: b"wq ae" in editor.text(), "completion")
+            editor.keys("<Esc>0")
+            editor.settled()
+            # Marks change while one types: still in insert mode, the text has no fault any more.
+            editor.keys("A $.")
+            editor.until(lambda: [each[2] for each in editor.state()["found"]] == ["P11", "P11"], "marks in insert mode")
+            assert editor.remote("--remote-expr", "mode()") == "i"
+            editor.keys("<Esc>dd")
+            assert [each[2] for each in editor.settled()["found"]] == ["P11"]
+            # A new name in all places.
+            editor.keys("/mp $a<CR>gR")
+            editor.keys("<C-u>detach<CR>")
+            editor.until(lambda: editor.text().count(b"detach") == 2, "rename")
+            assert b"( detach ) ABCDE" in editor.text() and b"~ mp" in editor.text()
+            assert [each[2] for each in editor.settled()["found"]] == ["P11"]
+            # The `$d` that a proof lacks.
+            editor.keys("/^x1<CR>f=wwwga")
+            editor.keys("1<CR>")
+            editor.until(lambda: b"${ $d p q $.\nx1 $p" in editor.text(), "quick fix")
+            assert editor.settled()["found"] == []
+
+
+PLACES = [("$(", "metamathComment"), ("logic", "metamathComment"), ("mp logic", "metamathReference"), ("$c", "metamathKeyword"), ("wp $f", "metamathLabel"), ("$d p", "metamathKeyword"), ("th $p", "metamathLabel"), ("|-", ""), ("$= ( mp", "metamathKeyword"), ("mp ) AB", "metamathList"), ("ABCDE", "metamathProof"), ("wq ae", "metamathProof")]
+
+
+def colours(program):
+    """What vim and neovim colour, at some places."""
+    with tempfile.TemporaryDirectory() as folder:
+        pathlib.Path(folder, "a.mm").write_bytes(BOOK)
+        text = BOOK.decode()
+        lines = []
+        for word, _ in PLACES:
+            at = text.index(word)
+            row, column = text.count("\n", 0, at) + 1, at - text.rfind("\n", 0, at)
+            lines.append(f"call add(found, synIDattr(synID({row}, {column}, 1), 'name'))")
+        script = pathlib.Path(folder, "script.vim")
+        script.write_text("\n".join(["syntax on", "edit a.mm", "let found = [&filetype]", *lines, "call writefile(found, 'out')", "qa!"]) + "\n")
+        for command in (["vim", "-N", "-es"], ["nvim", "--headless"]):
+            if shutil.which(command[0]):
+                pathlib.Path(folder, "out").unlink(missing_ok=True)
+                words = [*command, "-u", "NONE", "-i", "NONE", "-n", "--cmd", f"set rtp^={ROOT / 'clients/editor/vim'}", "--cmd", "filetype plugin on", "-S", str(script)]
+                subprocess.run(words, cwd=folder, stdin=subprocess.DEVNULL, capture_output=True, timeout=SECONDS, check=False)
+                found = pathlib.Path(folder, "out").read_text().splitlines()
+                assert found == ["metamath", *(kind for _, kind in PLACES)], (command, found)
+
+
+TESTS = [first_reader, keyed, colours, iset, crlf]

@@ -6,7 +6,7 @@ import shutil
 import tempfile
 import time
 
-from protocol import DATABASES, Client, compare, position
+from protocol import DATABASES, Client, compare
 
 LOGIC = """$( A logic. $)
 $c wff |- -> ( ) $.
@@ -208,81 +208,6 @@ def files(program):
         compare(client, program, "alone.mm")
         client.replace("alone.mm", "$c a $.", "$c a a $.")
         compare(client, program, "alone.mm")
-
-
-def asked(program):
-    """Hover, definition, references and symbols."""
-    with Folder(program) as client:
-        client.open("a.mm")
-        hover = client.at("hover", "a.mm", "mp $.")["contents"]["value"]
-        assert "`mp` **axiom**, rests on 1 axiom, used by 1 theorem" in hover and "mp $a |- q $." in hover, hover
-        hover = client.at("hover", "a.mm", "th $p")["contents"]["value"]
-        assert "`th` **proved**, rests on 1 axiom, used by 0 theorems" in hover and "$=" not in hover, hover
-        assert "hypothesis" in client.at("hover", "a.mm", "h1 h2")["contents"]["value"]
-        assert client.at("hover", "a.mm", "-> q ) $. mp") is None and client.at("hover", "a.mm", "\n$v") is None
-        text = client.texts["a.mm"]
-        place = client.at("definition", "a.mm", "mp $.\x20$}")["range"]["start"]
-        assert place == position(text, text.index("mp $a")), place
-        assert client.at("definition", "a.mm", "-> q ) $. mp") is None
-        found = client.at("references", "a.mm", "wi ) AAB")
-        assert [each["range"]["start"] for each in found] == [position(text, text.index("id $p"))], found
-        found = client.at("references", "a.mm", "mp $a", context={"includeDeclaration": True})
-        assert len(found) == 2 and client.at("references", "a.mm", "h1 $e") == []
-        symbols = client.ask("workspace/symbol", {"query": "m"})
-        assert [each["name"] for each in symbols] == ["ma", "mi", "mp"], symbols
-        assert len(client.ask("workspace/symbol", {"query": ""})) == 10
-        # What is asked is answered of what was typed before; and of a half-written text, by what was there before.
-        client.change("a.mm", (0, 0, "\n\n"))
-        place = client.at("definition", "a.mm", "mp $.\x20$}")["range"]["start"]
-        assert place == position(client.texts["a.mm"], client.texts["a.mm"].index("mp $a")), place
-        client.replace("a.mm", "wp wq h1 h2 mp", "wp wq h2 h1 mp")
-        assert "**wrong** P09" in client.at("hover", "a.mm", "th $p")["contents"]["value"]
-        client.replace("a.mm", "$( A logic. $)", "$( A logic. $) $c")
-        assert "before the text had its fault" in client.at("hover", "a.mm", "th $p")["contents"]["value"]
-        place = client.at("definition", "a.mm", "mp $.\x20$}")["range"]["start"]
-        assert place == position(client.texts["a.mm"], client.texts["a.mm"].index("mp $a")), place
-        compare(client, program, "a.mm")
-
-
-def protocol(program):
-    """Requests that are cancelled or unknown, messages that are none, and what is asked too early or too late."""
-    with Folder(program) as client:
-        client.raw(b"Content-Length: 3\r\n\r\n{x}")
-        client.raw(b"Content-Length: 4\r\nContent-Type: any\r\n\r\n[1]\n")
-        client.notify("textDocument/didChange", {"textDocument": {"uri": client.uri("none.mm"), "version": 3}, "contentChanges": [{"text": "x"}]})
-        client.notify("textDocument/didOpen", {"textDocument": {"uri": "untitled:1", "languageId": "metamath", "version": 1, "text": "$c"}})
-        client.notify("no/notice", {})
-        assert client.answer(client.post("no/request", {}))["error"]["code"] == -32601
-        client.open("a.mm")
-        compare(client, program, "a.mm")
-        # The cancellation comes while another change is looked at.
-        client.replace("a.mm", "h1 h2 mp", "h2 h1 mp")
-        place = {"textDocument": {"uri": client.uri("a.mm")}, "position": {"line": 7, "character": 40}}
-        number = client.number + 1
-        client.notify("$/cancelRequest", {"id": number})
-        assert client.answer(client.post("textDocument/hover", place)).get("error", {}).get("code") == -32800
-        beyond = {"textDocument": {"uri": client.uri("a.mm")}, "position": {"line": 99, "character": 40}}
-        assert client.ask("textDocument/hover", beyond) is None
-        assert client.ask("textDocument/definition", {**place, "textDocument": {"uri": client.uri("other.mm")}}) is None
-        assert "error" in client.answer(client.post("textDocument/hover", {}))
-        client.change("a.mm", (0, 0, ""))
-        compare(client, program, "a.mm")
-        client.ask("shutdown", None)
-        assert client.answer(client.post("textDocument/hover", place))["error"]["code"] == -32600
-        client.notify("exit", None)
-        assert client.child.wait(timeout=20) == 0
-        client.leave = lambda: 0
-    with Folder(program) as client:
-        client.notify("exit", None)
-        assert client.child.wait(timeout=20) == 1
-        client.leave = lambda: 0
-    with Folder(program, progress=False) as client:
-        client.open("a.mm")
-        compare(client, program, "a.mm")
-        assert not client.progress
-        client.child.stdin.close()
-        assert client.child.wait(timeout=20) == 1
-        client.leave = lambda: 0
 
 
 def said(client, text):
@@ -501,4 +426,4 @@ def one_by_chance(text, chance):
     return at, at, chance.choice(BITS)
 
 
-TESTS = [first_steps, typed, gathered, texts, not_ascii, tails, many_at_once, files, asked, protocol, bad_input, ends_early, names, saved_faults, by_chance, files_by_chance, large]
+TESTS = [first_steps, typed, gathered, texts, not_ascii, tails, many_at_once, files, bad_input, ends_early, names, saved_faults, by_chance, files_by_chance, large]

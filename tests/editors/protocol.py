@@ -11,10 +11,10 @@ import time
 
 HERE = pathlib.Path(__file__).resolve().parent
 ROOT = HERE.parent.parent
-sys.path.insert(0, str(ROOT / "examples" / "client"))
+sys.path.insert(0, str(ROOT / "clients" / "python"))
 import mmkeep
 
-SERVER = ROOT / "examples" / "editor" / "mmkeep-lsp"
+SERVER = ROOT / "clients" / "python" / "bin" / "mmkeep-lsp"
 DATABASES = pathlib.Path("/usr/share/metamath/databases")
 SECONDS = 20
 
@@ -22,7 +22,7 @@ SECONDS = 20
 class Client:
     """A server in a folder, with the files that are open there."""
 
-    def __init__(self, program, folder, options=None, words=(), progress=True, name="test"):
+    def __init__(self, program, folder, options=None, words=(), progress=True, name="test", related=True):
         self.folder, self.versions, self.texts = pathlib.Path(folder), {}, {}
         self.shown, self.messages, self.progress, self.answers = {}, [], [], {}
         self.number, self.incoming = 0, queue.Queue()
@@ -31,7 +31,7 @@ class Client:
         self.child = subprocess.Popen(command, stdin=subprocess.PIPE, stdout=subprocess.PIPE, stderr=self.errors, cwd=folder)
         threading.Thread(target=self.read, daemon=True).start()
         options = {"program": program, "delay": 0.0, **(options or {})}
-        capabilities = {"window": {"workDoneProgress": progress}}
+        capabilities = {"window": {"workDoneProgress": progress}, "textDocument": {"publishDiagnostics": {"relatedInformation": related}}}
         uri = self.folder.as_uri()
         self.started = self.ask("initialize", {"processId": None, "rootUri": uri, "clientInfo": {"name": name}, "capabilities": capabilities, "initializationOptions": options})
         self.notify("initialized", {})
@@ -165,6 +165,24 @@ class Client:
         self.until(lambda: self.shown.get(uri, {}).get("version") == version, f"diagnostics of {name}, {version}")
         return self.shown[uri]["diagnostics"]
 
+    def told_later(self, name, done):
+        """What is shown of a buffer as it is now, once something holds of it: it may be worked out when nothing else is to be done."""
+        uri, version = self.uri(name), self.versions[name]
+        self.until(lambda: self.shown.get(uri, {}).get("version") == version and done(self.shown[uri]["diagnostics"]), f"later diagnostics of {name}")
+        return self.shown[uri]["diagnostics"]
+
+    def complete(self, name, at):
+        """What is offered at a character of a buffer."""
+        place = position(self.texts[name], at)
+        return self.ask("textDocument/completion", {"textDocument": {"uri": self.uri(name)}, "position": place})
+
+    def apply(self, name, edits):
+        """Makes edits of the protocol in a buffer, from the last to the first."""
+        lines = self.texts[name].split("\n")
+        starts = [sum(len(line) + 1 for line in lines[:row]) for row in range(len(lines) + 1)]
+        spans = [(*(starts[each["range"][side]["line"]] + each["range"][side]["character"] for side in ("start", "end")), each["newText"]) for each in edits]
+        self.change(name, *sorted(spans, reverse=True))
+
     def at(self, method, name, text, offset=0, **more):
         """Asks at the first place of a buffer where a text is."""
         place = position(self.texts[name], self.texts[name].index(text) + offset)
@@ -218,6 +236,8 @@ def shape(finding, texts):
 
 def shapes(name, diagnostics):
     """The same of diagnostics that are not stale, and how many are."""
+    # What many findings have in common is none of the report's.
+    diagnostics = [each for each in diagnostics if each["data"]["kind"] != "cause"]
     fresh = [each for each in diagnostics if not each["data"]["stale"]]
     found = []
     for each in fresh:
