@@ -15,18 +15,24 @@
     table))
 
 (defconst metamath-font-lock-keywords
-  '(("\\(?:^\\|\\s-\\)\\(\\$(\\(?:\\s-\\|\n\\)\\(?:.\\|\n\\)*?\\s-\\$)\\)" (1 font-lock-comment-face t))
-    ("\\(\\S-+\\)\\s-+\\$[aefp]\\(?:\\s-\\|$\\)" (1 font-lock-function-name-face))
-    ("\\(?:^\\|\\s-\\)\\(\\$[][cvdfeap.{}=]\\)\\(?:\\s-\\|$\\)" (1 font-lock-keyword-face))
-    ("\\$=\\s-+\\((\\(?:.\\|\n\\)*?)\\)\\s-" (1 font-lock-variable-name-face)))
-  "What is coloured in a Metamath database.")
+  '(("\\(\\<\\S-+\\)\\s-+\\$[aefp]\\>" (1 font-lock-function-name-face))
+    ("\\<\\$[][cvdfeap.{}=]\\>" (0 font-lock-keyword-face))
+    ("\\<\\$=\\s-+\\((\\s-[^)]*)\\)" (1 font-lock-variable-name-face)))
+  "What is coloured in a Metamath database, beside comments.")
+
+(defconst metamath-syntax-propertize
+  (syntax-propertize-rules
+   ("\\<\\(\\$\\)(\\>" (1 "!"))
+   ("\\<\\$\\()\\)\\>" (1 "!")))
+  "Where comments begin and end.")
 
 (define-derived-mode metamath-mode prog-mode "Metamath"
   "A mode for Metamath databases."
   (setq-local comment-start "$( ")
   (setq-local comment-end " $)")
+  (setq-local syntax-propertize-function metamath-syntax-propertize)
   (setq-local font-lock-multiline t)
-  (setq-local font-lock-defaults '(metamath-font-lock-keywords t)))
+  (setq-local font-lock-defaults '(metamath-font-lock-keywords)))
 
 (add-to-list 'auto-mode-alist '("\\.mm\\'" . metamath-mode))
 

@@ -33,24 +33,33 @@ def package(program):
         subprocess.run([str(home / "python"), "-c", code], cwd=folder, check=True, timeout=60)
 
 
+def tree(folder, program):
+    """A copy of the clone in a folder, with the built program."""
+    found = pathlib.Path(folder, "tree")
+    shutil.copytree(ROOT, found, ignore=shutil.ignore_patterns("out", ".git", "__pycache__", "build", "*.egg-info", "rows"))
+    (found / "crates/mmkeep/out").mkdir()
+    shutil.copy(program, found / "crates/mmkeep/out/mmkeep")
+    return found
+
+
 def installation(program):
-    """`make install` puts everything where it belongs, and the tools run from there; the Debian package is built and checked, and has the same."""
+    """`make install` puts everything where it belongs, and the programs run from there."""
     with tempfile.TemporaryDirectory() as folder:
-        there, tree = pathlib.Path(folder, "there"), pathlib.Path(folder, "tree")
-        kept = shutil.ignore_patterns("out", ".git", "__pycache__", "build", "*.egg-info", "rows")
-        shutil.copytree(ROOT, tree, ignore=kept)
-        (tree / "crates/mmkeep/out").mkdir()
-        shutil.copy(program, tree / "crates/mmkeep/out/mmkeep")
-        subprocess.run(["make", "install", "PREFIX=/usr", f"DESTDIR={there}"], cwd=tree, check=True, capture_output=True, timeout=60)
+        there = pathlib.Path(folder, "there")
+        subprocess.run(["make", "install", "PREFIX=/usr", f"DESTDIR={there}"], cwd=tree(folder, program), check=True, capture_output=True, timeout=60)
         installed(there)
-        if all(map(shutil.which, ("dpkg-buildpackage", "lintian", "dh"))):
-            done = subprocess.run(["dpkg-buildpackage", "-us", "-uc", "-b"], cwd=tree, capture_output=True, timeout=150, check=False)
-            assert done.returncode == 0, done.stderr[-2000:]
-            [package] = pathlib.Path(folder).glob("mmkeep_0.9.0_*.deb")
-            told = subprocess.run(["lintian", "--allow-root", "--fail-on", "error", str(package)], capture_output=True, timeout=150, check=False)
-            assert told.returncode == 0, told.stdout
-            subprocess.run(["dpkg", "-x", str(package), str(pathlib.Path(folder, "unpacked"))], check=True, timeout=60)
-            installed(pathlib.Path(folder, "unpacked"))
+
+
+def debian(program):
+    """The package of Debian is built, lintian finds no error in it, and it has the same when it is unpacked."""
+    with tempfile.TemporaryDirectory() as folder:
+        done = subprocess.run(["dpkg-buildpackage", "-us", "-uc", "-b"], cwd=tree(folder, program), capture_output=True, timeout=150, check=False)
+        assert done.returncode == 0, done.stderr[-2000:]
+        [package] = pathlib.Path(folder).glob("mmkeep_0.9.0_*.deb")
+        told = subprocess.run(["lintian", "--allow-root", "--fail-on", "error", str(package)], capture_output=True, timeout=150, check=False)
+        assert told.returncode == 0, told.stdout
+        subprocess.run(["dpkg", "-x", str(package), str(pathlib.Path(folder, "unpacked"))], check=True, timeout=60)
+        installed(pathlib.Path(folder, "unpacked"))
 
 
 def installed(there):
@@ -64,4 +73,4 @@ def installed(there):
     assert any((there / f"usr/share/man/man1/mmkeep.1{end}").exists() for end in ("", ".gz")) and (there / "usr/share/mmkeep/editor/nvim/init.lua").exists()
 
 
-TESTS = [package, installation]
+TESTS = [package, installation, debian]

@@ -155,11 +155,28 @@ def large_accident(program):
         assert len(lines) < 12 and "which no earlier statement declares; no proof names `mpbidd` (nf.mm:" in lines[1], lines
 
 
+def first_watch(program):
+    """The three commands of clients/editor/README.md follow a database in a terminal."""
+    page = (ROOT / "clients/editor/README.md").read_text()
+    lines = re.search(r"In a terminal.*?\n\n((?:    .*\n)+)", page)[1]
+    assert len(lines.splitlines()) == 3, lines
+    with tempfile.TemporaryDirectory() as folder:
+        place = pathlib.Path(folder)
+        (place / "crates/mmkeep/out").mkdir(parents=True)
+        os.symlink(program, place / "crates/mmkeep/out/mmkeep")
+        for name in ("clients", "examples"):
+            os.symlink(ROOT / name, place / name)
+        settings = {each: value for each, value in os.environ.items() if each != "MMKEEP"}
+        with Watch(["bash", "-ec", lines.replace("    mmkeep-watch", "    exec mmkeep-watch")], folder, settings) as watch:
+            watch.until("broke ax: faults.mm:7:1 F06")
+            (place / "faults.mm").write_text((ROOT / "examples/faults.mm").read_text().replace("ax $a |- q $.\n", ""))
+            watch.until("mended ax F06")
+
+
 class Watch:
     """A watch over a file of a folder, and what it prints."""
 
-    def __init__(self, program, folder, name):
-        words, settings = [str(PYTHON / "bin/mmkeep-watch"), name], {**os.environ, "MMKEEP": program}
+    def __init__(self, words, folder, settings):
         self.child = subprocess.Popen(words, cwd=folder, stdout=subprocess.PIPE, stderr=subprocess.PIPE, env=settings)
         self.lines = queue.Queue()
         threading.Thread(target=lambda: [self.lines.put(line.decode()) for line in self.child.stdout], daemon=True).start()
@@ -182,13 +199,18 @@ class Watch:
                 raise AssertionError(f"no {text!r}, but {told}") from None
 
 
+def watch_of(program, folder, name):
+    """A watch with a program over a file of a folder."""
+    return Watch([str(PYTHON / "bin/mmkeep-watch"), name], folder, {**os.environ, "MMKEEP": program})
+
+
 def watched(program):
     """A database is followed: what breaks and what is mended is told, and no save is lost."""
     with tempfile.TemporaryDirectory() as folder:
         file, other = pathlib.Path(folder, "a.mm"), pathlib.Path(folder, "b.mm")
         file.write_bytes(b"$[ b.mm $]\n" + LOGIC)
         other.write_bytes(b"$c k $.\n")
-        with Watch(program, folder, "a.mm") as watch:
+        with watch_of(program, folder, "a.mm") as watch:
             watch.until("a.mm: 1 theorems, 1 proved (")
             file.write_bytes(b"$[ b.mm $]\n" + LOGIC.replace(b"h1 h2 mp", b"h2 h1 mp"))
             watch.until("broke th: a.mm:5:67 P09 an entry is not the mandatory")
@@ -219,14 +241,14 @@ def watched_oddly(program):
     with tempfile.TemporaryDirectory() as folder:
         file, new = pathlib.Path(folder, "my db.mm"), pathlib.Path(folder, "new")
         file.write_bytes(LOGIC)
-        with Watch(os.path.relpath(program, folder), folder, "my db.mm") as watch:
+        with watch_of(os.path.relpath(program, folder), folder, "my db.mm") as watch:
             watch.until("my db.mm: 1 theorems, 1 proved (")
             file.write_bytes(LOGIC.replace(b"h1 h2 mp", b"h2 h1 mp"))
             watch.until("broke th: my db.mm:4:67 P09")
         pathlib.Path(folder, "db").mkdir()
         file = file.rename(pathlib.Path(folder, "db/a.mm"))
         file.write_bytes(LOGIC.replace(b"\n", b"\r\n"))
-        with Watch(program, folder, "db/a.mm") as watch:
+        with watch_of(program, folder, "db/a.mm") as watch:
             watch.until("a.mm: 1 theorems, 1 proved (")
             for proof, told in ((b"h2 h1 mp", "broke th: db/a.mm:4:67 P09"), (b"h1 h2 mp", "nothing is wrong any more")):
                 new.write_bytes(LOGIC.replace(b"h1 h2 mp", proof).replace(b"\n", b"\r\n"))
@@ -315,4 +337,4 @@ def graphs(program):
         assert done.returncode == 1 and done.stderr == b"mmkeep-graph: mmkeep: c.mm: cannot be read (status 2: a file was not taken)\n", done
 
 
-TESTS = [in_words, explained, accidents, large_accident, bad_reports, watched, watched_oddly, graphs, bad_words]
+TESTS = [in_words, explained, accidents, large_accident, bad_reports, first_watch, watched, watched_oddly, graphs, bad_words]
