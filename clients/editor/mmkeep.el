@@ -39,8 +39,9 @@
 (defvar mmkeep-server
   (let ((near (expand-file-name "../python/bin/mmkeep-lsp" (file-name-directory (or load-file-name buffer-file-name)))))
     (if (file-executable-p near) near "mmkeep-lsp"))
-  "The language server: that of the clone that this file is in, or the one on the path.")
+  "The language server: that of this file's clone, or the one on the path.")
 
+(defvar eglot-server-programs)
 (with-eval-after-load 'eglot
   (add-to-list 'eglot-server-programs (list 'metamath-mode mmkeep-server)))
 

@@ -175,6 +175,8 @@ def rewritten(program):
         client.open("c.mm")
         assert client.diagnostics("c.mm") == []
         assert client.at("prepareRename", "c.mm", "z1 $p")["placeholder"] == "z1" and client.at("prepareRename", "c.mm", "$p wff") is None
+        # A file that is not open was changed on disk meanwhile.
+        (client.folder / "a.mm").write_text("$( A line\n more $)\n" + files["a.mm"])
         edit = client.at("rename", "c.mm", "wq wi", 3, newName="impl")["changes"]
         assert {pathlib.Path(uri).name: len(edits) for uri, edits in edit.items()} == {"a.mm": 2, "c.mm": 2}, edit
         client.open("a.mm")

@@ -120,6 +120,13 @@ def accidents(program):
             assert all(any(each in line for line in lines) for each in told), (old, told, lines)
             whole = mmkeep.explain(findings, folder, "a.mm", whole=True)
             assert all(any(line.startswith(f"{each.place}: ") for line in whole) for each in findings), (old, whole[:4])
+        # Many accidents at once: each has a word of its own that is unknown, or a step of its own that is wrong.
+        words = b"".join(b"w%d $p |- p $= wp z%d $.\n" % (each, each) for each in range(900))
+        words += b"".join(b"${ $d p q $. s%d $a |- ( p -> q ) $. $}\nt%d $p |- ( p -> q ) $= wp wq s%d $.\nr%d $p |- ( q -> p ) $= wq wp s%d $.\n" % (each, each, each, each, each) for each in range(300))
+        file.write_bytes(MANY + words)
+        report = subprocess.run([program, "verify", "a.mm"], cwd=folder, capture_output=True, timeout=60, check=False)
+        lines, _ = explained_so(folder, report.stdout, "a.mm")
+        assert report.stdout.count(b"\n") == 1501 and 40 < len(lines) <= 50 and lines[-1].endswith("more findings are not shown (--all shows them)"), lines
         # Without the name of the top file the groups are told all the same.
         file.write_bytes(MANY.replace(b" a1i $p", b" a1ii $p"))
         report = subprocess.run([program, "verify", "a.mm"], cwd=folder, capture_output=True, timeout=60, check=False)

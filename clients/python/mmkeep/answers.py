@@ -154,6 +154,11 @@ class Answers(Streams):
 
     def rename(self, params: dict) -> dict:
         """The edits that rename a label."""
+        document = self.document(params)
+        owner = document and self.owner(document)
+        # A file that is not open may be another one on disk by now.
+        if owner and owner.session and owner.moved():
+            owner.soon(0.0)
         base, word, _ = self.settled(params)
         if not base:
             raise Failed(REFUSED, "there is no session of this file")

@@ -14,6 +14,8 @@ if TYPE_CHECKING:
 LEAST = 0.5
 # A word that no more proofs name may be one that was typed wrongly.
 TYPED = 3
+# So many labels are looked for that explain wrong proofs.
+MOST = 20
 
 
 class Cause(NamedTuple):
@@ -37,9 +39,9 @@ def causes(findings: Iterable[Finding], sources: Union[Sources, Words], reading:
             unknown.setdefault(sources.word(each.place), []).append(each)
         elif each.number < "P07":
             plain.setdefault(each.number, []).append(each)
-    groups = [unknown_word(word, several, at_fault, reading, before) for word, several in unknown.items()]
-    groups += [Cause(f"{counted(several)} with {number}", None, several) for number, several in plain.items()]
-    yield from sorted(groups, key=lambda each: -len(each.findings))
+    groups = [*((True, *each) for each in unknown.items()), *((False, *each) for each in plain.items())]
+    for is_word, name, several in sorted(groups, key=lambda each: -len(each[2])):
+        yield unknown_word(name, several, at_fault, reading, before) if is_word else Cause(f"{counted(several)} with {name}", None, several)
     yield from named_labels([each for each in wrong if each.number >= "P07"], reading)
 
 
@@ -95,7 +97,9 @@ def named_labels(wrong: list, reading: Optional[Reading]) -> Iterator[Cause]:
     left = wrong
     if reading and len(wrong) > 1:
         lists, uses = reading.lists(), reading.uses()
-    while len(left) > 1:
+    for _ in range(MOST):
+        if len(left) < 2:
+            break
         named = collections.Counter(label for each in left for label in lists.get(each.label, ()))
         label = max(named, key=lambda each: (weight(named[each], len(left), uses[each]), *reading.rank(each)), default=None)
         if label is None or named[label] < 2 or named[label] < LEAST * uses[label]:

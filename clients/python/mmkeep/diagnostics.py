@@ -1,6 +1,7 @@
 """The diagnostics of a database that the language server holds: what the report says of it, each finding at its place."""
 from __future__ import annotations
 
+import itertools
 import re
 from typing import TYPE_CHECKING, Iterable, Optional
 
@@ -18,6 +19,8 @@ if TYPE_CHECKING:
 ERROR, WARNING = 1, 2
 # Of so many proofs each says what its step expected; of more, the first one and their cause.
 EACH = 10
+# So many causes are told.
+MOST = 30
 
 
 class Diagnostics:
@@ -67,7 +70,7 @@ class Diagnostics:
         for finding in self.findings:
             if finding.number == "F06" and finding.word in live.declared:
                 more[id(finding)] = self.related({}, finding.word, "the label is declared here")
-        for cause in causes(self.findings, Words(self), live):
+        for cause in itertools.islice(causes(self.findings, Words(self), live), MOST):
             for finding in cause.findings[: EACH if len(cause.findings) <= EACH else 1]:
                 more[id(finding)] = self.more(live, finding)
             if len(cause.findings) > EACH and cause.place:

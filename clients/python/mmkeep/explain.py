@@ -228,6 +228,8 @@ def lines(findings: list, folder: Optional[str] = None, top: Optional[str] = Non
     """Findings as lines for people, at most so many. With no limit each finding is shown."""
     left, told = limit, 0
     for count, block in blocks(findings, folder, top, before, limit is None):
+        if left is not None and left < 2:
+            break
         # The last line is left for what is not shown.
         if left is not None and len(block) > left - 1:
             block = block[:1] if left > 1 and told == 0 else []

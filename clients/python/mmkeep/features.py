@@ -9,6 +9,7 @@ import os
 import re
 from typing import TYPE_CHECKING, Iterator, Optional
 
+from .buffers import units
 from .client import Refused
 from .cutting import COMMENT, blank
 from .machine import named
@@ -247,7 +248,7 @@ def tokens(base: Base, document: Document, span: Optional[dict] = None) -> list:
             continue
         place = document.text.position(*document.text.row(first + at))
         line, column = place["line"], place["character"]
-        found += [line - last_row, column - (last_column if line == last_row else 0), len(word), kind, 0]
+        found += [line - last_row, column - (last_column if line == last_row else 0), units(word), kind, 0]
         last_row, last_column = line, column
     return found
 

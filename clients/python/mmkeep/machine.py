@@ -6,6 +6,10 @@ from typing import Iterator, NamedTuple, Optional, Union
 from .sources import Frame, Reading, Statement, frame, pairs_of
 
 
+# So many symbols the results of a proof may have together; what its steps expect is not worked out of more.
+LARGEST = 20_000_000
+
+
 class Step(NamedTuple):
     """A step of a proof: its last byte or the first of its word, and a label, the number of a saved step, `save` or `?`."""
 
@@ -54,6 +58,8 @@ class Machine:
         self.reading = reading
         self.stack: list = []
         self.saved: list = []
+        # How many symbols its results have together.
+        self.spent = 0
         # The pairs that no active `$d` keeps apart, of a step that wants them.
         self.lacks: list = []
         self.active, self.statement = reading.labelled(label)
@@ -113,7 +119,11 @@ class Machine:
             expected = [each.symbols[0], "..."] if each.kind == "$f" else replaced(each.symbols, given)
             if entry[0] != expected[0] if each.kind == "$f" else entry != expected:
                 return differs(each, expected, entry)
-        self.stack[len(self.stack) - count :] = [replaced(cited.expression, given)]
+        result = replaced(cited.expression, given)
+        self.spent += len(result)
+        if self.spent > LARGEST:
+            raise ValueError("its expressions are too long to be worked out here")
+        self.stack[len(self.stack) - count :] = [result]
         return self.joined(sorted(map(sorted, cited.pairs)), given)
 
     def joined(self, pairs: list, given: dict) -> list:

@@ -281,9 +281,10 @@ def lists_in(text: bytes) -> Iterator:
     >>> [(label, sorted(named)) for label, named in lists_in(b"a $p x $= ( c b ) AB $. d $p x $= b ? $.")]
     [('a', ['b', 'c']), ('d', ['b'])]
     """
-    text = blank(text)
+    text, last = blank(text), 0
     for found in PROOF.finditer(text):
-        before = text[max(0, found.start() - 300) : found.start()].split()
+        before = text[max(last, found.start() - 300) : found.start()].split() or text[last : found.start()].split()
+        last = found.end()
         yield os.fsdecode(before[-1]) if before else "", {os.fsdecode(word) for word in found[1].split() if word not in (b"(", b"?")}
 
 
