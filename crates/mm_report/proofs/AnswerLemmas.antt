@@ -18,7 +18,7 @@ same_report say one session other bytes copy files top f g = f.bytes_are ∙ (λ
 
     all : f.all ≡ g.all
     all = ext_get_or Quiet f.all g.all (f.are_told.count ∙ ap length said ∙ sym g.are_told.count) (λ n within.
-    let behind : n < length g.all = omega (arith, within, said, f.are_told.count, g.are_told.count) in
-    one n session other (get_or f.all n Quiet) (get_or g.all n Quiet) files top
-    (f.base, f.of_files, f.are_told.each n (get_or f.all n Quiet) (slice_get-get_or f.all n Quiet within))
-    (g.base, g.of_files, g.are_told.each n (get_or g.all n Quiet) (slice_get-get_or g.all n Quiet behind)))
+        let behind : n < length g.all = omega (arith, within, ap length said, f.are_told.count, g.are_told.count) in
+        one n session other (get_or f.all n Quiet) (get_or g.all n Quiet) files top
+        (f.base, f.of_files, f.are_told.each n (get_or f.all n Quiet) (slice_get-get_or f.all n Quiet within))
+        (g.base, g.of_files, g.are_told.each n (get_or g.all n Quiet) (slice_get-get_or g.all n Quiet behind)))

@@ -13,6 +13,7 @@ has_none Proved = true
 has_none _ = false
 
 no_line : (names : List (List ℕ)) (items : List Item) (all : List Told) → length all ≡ length items → lines names items all ≡ [] → (n : ℕ) (one : Told) → slice_get all n ≡ Some one → has_none one ≡ true
+no_line names items [] e l n one there = absurd (cc)
 no_line names (x ∷ xs) (Quiet ∷ ys) e l zero one there = ap has_none (sym (same_Some Quiet one there))
 no_line names (x ∷ xs) (AnAxiom ∷ ys) e l zero one there = ap has_none (sym (same_Some AnAxiom one there))
 no_line names (x ∷ xs) (Proved ∷ ys) e l zero one there = ap has_none (sym (same_Some Proved one there))
