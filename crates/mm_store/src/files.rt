@@ -1,7 +1,7 @@
 //! Files by name.
 
 ghost use Rattle.std.specs.Prelude.{◌≡◌, ℕ, ◌+◌, ◌<◌, ◌≤◌, ◌↔◌, IsSome};
-ghost use Rattle.std.specs.Prelude.{◌++◌, List, Some, None, IfSome, IfOk, IfErr};
+ghost use Rattle.std.specs.Prelude.{◌++◌, ◌∷◌, List, Some, None, IfSome, IfOk, IfErr};
 ghost use Rattle.std.specs.Prelude.{IsErrOf, All, length, map, slice_get, slice_index_or, []};
 ghost use Rattle.std.specs.Prelude.{false, IfNone};
 ghost use Rattle.std.specs.Option.{option_map};
@@ -186,6 +186,7 @@ impl Files {
     /// `NoTop` comes if no file has the name `top`, before memory is taken; any other error is `Memory`.
     pub fn walk(&self, top: &[u8]) -> Result<Walk, StoreError>
         ensures ok { IfOk result (λ walk. IsWalk (bare (plain self.now)) top.now [] walk) }
+        ensures first { IfOk result (λ walk. walk.names ≡ top.now ∷ []) }
         ensures untold { IfOk result (λ walk. walk.told ≡ false) }
         ensures no_top { IsErrOf result NoTop ↔ (file_number (plain self.now) top.now ≡ None) }
         ensures err { IfErr result IsExpansionError }
@@ -266,6 +267,13 @@ impl Files {
         ensures { HoldOneEach (plain self.now) }
     {
         self.hold_units();
+    }
+
+    /// The files have at most 4,294,967,295 bytes. It does nothing.
+    pub(crate) fn stay_small(&self)
+        ensures { bytes_of (plain self.now) ≤ 4294967295 }
+    {
+        let _ = &self.bytes;
     }
 
     /// A piece that is not parked is at one place of the files, and a parked one at none. It does nothing.

@@ -13,9 +13,9 @@ ghost use Rattle.mm_store.specs.Language.FileFacts.{CanBeRead, HoldsPieces, IsAd
 ghost use Rattle.mm_text.specs.Language.Asked.{Asked, Insert, Replace, Delete, Move, edited_name};
 ghost use Rattle.mm_store.specs.Language.Appending.{IsAppended};
 ghost use Rattle.mm_store.specs.Language.Edits.{edited, with_members, IsEditOf};
-ghost use Rattle.mm_store.specs.Language.Expansion.{IsExpansion};
+ghost use Rattle.mm_store.specs.Language.Expansion.{IsExpansion, Placed};
 ghost use Rattle.mm_store.specs.Language.Holding.{HoldOneEach};
-ghost use Rattle.mm_store.specs.Language.Walking.{IsWalk, WalkView};
+ghost use Rattle.mm_store.specs.Language.Walking.{IsWalk, StandsBefore, WalkView};
 ghost use Rattle.mm_store.specs.Language.Keyless.{bare, keyless_item};
 
 /// Files give one list of items at most from a top file on.
@@ -77,11 +77,17 @@ pub fn appending_keeps_items()
 /// A walk goes on among more files.
 ///
 /// If a walk has gone past items of files, it has gone past the same items once a file is added whose name it has
-/// not taken. If a walk has come to the end, the items that it has gone past are the expansion of the files
-/// without keys; and these are the items that the files give, without keys.
+/// not taken; and a walk that stands before a reference stands before the same one then, and before no other. If a walk
+/// has come to the end, the items that it has gone past are the expansion of the files without keys; and these are the
+/// items that the files give, without keys. An expansion takes one list of names.
 pub fn walks_go_on()
     ensures added { (old new : List File) (name text top : List ℕ) (items : List Item) (walk : WalkView) → IsAdded old new name text
         → ¬ Contains walk.names name → IsWalk (bare old) top items walk → IsWalk (bare new) top items walk }
+    ensures stands { (old new : List File) (name text : List ℕ) (walk : WalkView) (part : Placed) → IsAdded old new name text
+        → StandsBefore (bare old) walk part → StandsBefore (bare new) walk part }
+    ensures one { (files : List FileView) (walk : WalkView) (a b : Placed) → StandsBefore files walk a → StandsBefore files walk b → a ≡ b }
+    ensures names { (files : List FileView) (top : List ℕ) (items others : List Item) (a : IsExpansion files top items) (b : IsExpansion files top others)
+        → a.after ≡ b.after }
     ensures end { (files : FilesView) (top : List ℕ) (items others : List Item) → IsExpansion (files_in files) top items
         → IsExpansion (bare (plain files)) top others → others ≡ map keyless_item items }
 {

@@ -1,7 +1,7 @@
 //! The walk through the files, from the top file on, in the order in which they are read.
 
 ghost use Rattle.std.specs.Prelude.{◌≡◌, ℕ, ◌+◌, ◌<◌, ◌≤◌, ◌↔◌, IsTrue, false, List, [], ◌∷◌, ◌++◌, Contains};
-ghost use Rattle.std.specs.Prelude.{None, IfNone, IfSome, IfOk, OnOk, OnErr, vec_len, vec_capacity};
+ghost use Rattle.std.specs.Prelude.{None, IfNone, IfSome, IfOk, OnOk, OnErr, length, vec_len, vec_capacity};
 ghost use Rattle.mm_store.specs.declared.item.Item.{Item};
 ghost use Rattle.mm_store.specs.Language.FilesView.{FileView, files_in, number_of, plain};
 ghost use Rattle.mm_store.specs.Language.Keyless.{bare};
@@ -261,10 +261,13 @@ impl Walk {
     /// The walk is then right before that reference, and a file of that name may be added before the next call, which
     /// enters it; if none is, the next call goes past the reference. Each call goes on from where the last one
     /// stopped. After out of memory the walk may have gone on, but past no missing name that it did not report: the
-    /// next call goes on from there.
+    /// next call goes on from there. A walk takes at most 4,294,967,296 names: that of the top file, and one for each
+    /// byte of the files.
     pub fn next_missing(&mut self, files: &Files) -> Result<Option<Vec<u8>>, AllocError>
         ensures found { IfOk result (λ found. IfSome found (λ name. (top : List ℕ) (items : List Item)
             → IsWalk (bare (plain files.now)) top items self.old → FindsMissing (bare (plain files.now)) top items self.old self.new name.items)) }
+        ensures few { IfOk result (λ found. IfSome found (λ name. (top : List ℕ) (items : List Item)
+            → IsWalk (bare (plain files.now)) top items self.old → length self.new.names ≤ 4294967296)) }
         ensures end { IfOk result (λ found. IfNone found ((top : List ℕ) (items : List Item)
             → IsWalk (bare (plain files.now)) top items self.old → FindsEnd (bare (plain files.now)) top items self.old self.new)) }
         ensures err { OnErr result ((top : List ℕ) (items : List Item)
@@ -273,6 +276,7 @@ impl Walk {
         mm_text::one_meaning();
         mm_text::one_division();
         files.hold_units();
+        files.stay_small();
         loop {
             match self.step(files)? {
                 Step::End => return Ok(None),

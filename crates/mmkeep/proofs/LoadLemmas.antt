@@ -1,16 +1,17 @@
 -- Files that are loaded: none is parked, those that are there stay, and a walk goes on among them.
-use Rattle.std.proofs.Common.{[], ◌≡◌, ◌≢◌, ℕ, ◌+◌, ◌≤◌, Bool, true, not, cond, List, ◌∷◌, ◌++◌, ◌⊎◌, length, length-append, Option, Some, None, Result, Ok, Err, OnOk, IfErr, IsErrOf, map, sym, ap}
-use Rattle.std.proofs.{Common.{◌∙◌, subst, refl, inl, inr, arith, All, Contains, position}, lemmas.{Grind.{common_steps}, List.{length-map, nil_from_length, Elements.{All-append, All-cons, All-nil}}}}
-use Rattle.std.{proofs.{lemmas.{List.{Folds.{position_or_len_push}, Sums.{prefix_len-le-length}}, Slice.Eq.{bytes_eq-Decides}}, KnownBytes.{Consumes-trans}}, specs.Io.KnownBytes.{Consumes}}
-use Rattle.std.specs.{List.{position_or_len, sum_by}, Str.{bytes_eq}, Ordering.{nat_cmp}}
+use Rattle.std.proofs.Common.{[], ◌≡◌, ◌≢◌, ℕ, ◌+◌, ◌-◌, ◌*◌, ◌<◌, ◌≤◌, Bool, true, false, append-nil, not, cond, List, ◌∷◌, ◌++◌, ◌⊎◌, length, length-append, Option, Some, None, Result, Ok, Err}
+use Rattle.std.proofs.{Common.{OnOk, IfErr, IsErrOf, map, sym, ap, ◌∙◌, subst, refl, inl, inr, arith, All, Contains, position}, lemmas.{Grind.{common_steps}, Bool.{false≢true}}}
+use Rattle.std.proofs.lemmas.List.{length-map, nil_from_length, Elements.{All-append, All-cons, All-nil, Contains-push_cases}, Folds.{position_or_len_push}, Sums.{prefix_len-le-length}}
+use Rattle.std.{proofs.{lemmas.Slice.Eq.{bytes_eq-Decides}, KnownBytes.{Consumes-trans}}, specs.{Io.KnownBytes.{Consumes}, List.{position_or_len, sum_by}, Str.{bytes_eq}, Ordering.{nat_cmp}}}
 use Rattle.mm_report.specs.mm_store.{declared.{error.StoreError.{StoreError, TheVariants.{Memory as Lacking, NoTop}}, item.Item.{Item}}, Language.Answers.{IsExpansionError}}
-use Rattle.mm_report.specs.mm_store.Language.{FileFacts.{IsAdded, parked_in}, FilesView.{File, FilesView, file_number, file_view, files_in, no_files, number_of, plain, plain_file}}
-use Rattle.mm_report.specs.mm_store.Language.{Keyless.{bare, bare_file}, Pieces.{HeldPiece, parked_state}, Walking.{WalkView, IsWalk, FindsEnd, FindsMissing}}
-use Rattle.mm_report.specs.{mm_script.{declared.read_stream.Reading.{Reading}, Language.Stream.{calls_left, unread}}, mm_text.Language.Cut.{IsCut}}
+use Rattle.mm_report.specs.mm_store.Language.{FileFacts.{IsAdded, parked_in}, FilesView.{File, FileView, FilesView, file_number, file_view, files_in, no_files, number_of, plain, plain_file}}
+use Rattle.mm_report.specs.mm_store.Language.{Expansion.{IsExpansion, Placed}, Keyless.{bare, bare_file}, Pieces.{HeldPiece, parked_state}}
+use Rattle.mm_report.specs.{mm_store.Language.Walking.{WalkView, IsWalk, GoesOn, HasReported, StandsBefore, FindsEnd, FindsMissing}, mm_script.declared.read_stream.Reading.{Reading}}
+use Rattle.mm_report.specs.{mm_script.Language.Stream.{calls_left, unread}, mm_text.Language.Cut.{IsCut}}
 use Rattle.mmkeep.specs.declared.{adding.FileError.{FileError}, outcome.Outcome.{Outcome, TheVariants.{Input, Memory}}}
 use Rattle.mmkeep.specs.Code.Loaded.{AddsIfOpened, AddsOpened, HasFile, IsMemoryOr, IsOutcomeOfFile, KeepsFiles, RefusesOpened}
-use Rattle.mmkeep.specs.Language.Loading.{AddsFile, AreLoaded, AreOfSource, Bytes, FindsNext, IsFileError, IsLoadError, IsNew, IsOfSource, IsRefused, IsTopRefused, KnownFile, Loads, NoFile, Opens}
-use Rattle.mmkeep.specs.Language.Loading.{ReadsOn, StopsAtFile, TakesFile, TakesTooManyNames, TakesTop, Unknown, begins, takes}
+use Rattle.mmkeep.specs.Language.Loading.{AddsFile, AreLoaded, AreOfSource, Bytes, FindsNext, IsFileError, IsLoadError, IsNew, IsOfSource, IsRefused, IsTopRefused, KnownFile, IsLoaded, Loads, NoFile}
+use Rattle.mmkeep.specs.Language.Loading.{Opens, ReadsOn, StopsAtFile, TakesFile, TakesTop, Unknown, begins, takes}
 use Rattle.mmkeep.specs.declared.adding.FileError.TheVariants as errors
 use Rattle.std.specs.FinMap as finite
 
@@ -188,13 +189,58 @@ walked_on law old new top name items before after finds (inr added) =
     law (plain old) (plain new) name added.0 top (items ++ finds.goes_on.more) after added.1 (λ taken. finds.stands.new (rw finds.is_name taken))
     finds.goes_on.is_walk
 
+-- and stands before the same reference
+abbrev pub StandsOn : Type 0
+StandsOn = (old new : List File) (name text : List ℕ) (walk : WalkView) (part : Placed) → IsAdded old new name text
+    → StandsBefore (bare old) walk part → StandsBefore (bare new) walk part
+
+-- and no other
+abbrev pub StandsOnce : Type 0
+StandsOnce = (files : List FileView) (walk : WalkView) (a b : Placed) → StandsBefore files walk a → StandsBefore files walk b → a ≡ b
+
+-- an expansion takes one list of names
+abbrev pub TakesOnce : Type 0
+TakesOnce = (files : List FileView) (top : List ℕ) (items others : List Item) (a : IsExpansion files top items) (b : IsExpansion files top others)
+    → a.after ≡ b.after
+
+stood_on : StandsOn → (old new : FilesView) (name : List ℕ) (walk : WalkView) (part : Placed) → MayHaveAdded old new name
+    → StandsBefore (bare (plain old)) walk part → StandsBefore (bare (plain new)) walk part
+stood_on law old new name walk part (inl same) stands = rw same stands
+stood_on law old new name walk part (inr added) stands = law (plain old) (plain new) name added.0 walk part added.1 stands
+
+-- 1 before a walk has reported the name that is next
+abbrev pub unreported : Bool → ℕ
+unreported true = 0
+unreported false = 1
+
+-- twice the names that a walk may still take, and one before it reports the first
+abbrev pub names_left : WalkView → ℕ
+names_left walk = 2 * (4294967297 - length walk.names) + unreported walk.told
+
+module _ (files : List FileView) (top name : List ℕ) (items : List Item) (walk next : WalkView) (finds : FindsMissing files top items walk next name) where
+  -- the name that it has reported is one more
+  one_more : (before : List ℕ) → HasReported files walk before → (later : List (List ℕ)) → next.names ≡ walk.names ++ later → length walk.names < length next.names
+  one_more before reported [] is =
+      let known : Contains walk.names before = subst (λ names. Contains names before) (is ∙ append-nil walk.names) (finds.passed before reported) in
+      absurd (reported.2.new (subst (Contains walk.names) (sym reported.3) known))
+  one_more before reported (first ∷ later) is = omega (arith, ap length is, length-append walk.names (first ∷ later))
+
+  fewer_by : length next.names ≤ 4294967296 → (walk.told ≡ false) ⊎ ((before : List ℕ) × HasReported files walk before) → names_left next < names_left walk
+  fewer_by few (inl untold) =
+      let at : unreported walk.told ≡ 1 = ap unreported untold in
+      let after : unreported next.told ≡ 0 = ap unreported finds.told in
+      omega (arith, few, at, after, ap length finds.goes_on.keeps, length-append walk.names finds.goes_on.later)
+  fewer_by few (inr (before, reported)) =
+      let after : unreported next.told ≡ 0 = ap unreported finds.told in
+      omega (arith, few, after, one_more before reported finds.goes_on.later finds.goes_on.keeps)
+
 -- ---- loading goes on
 
 module _ (holds : List ℕ → KnownFile) (top : List ℕ) where
   -- by its walk, which has gone past some items
   pub loads_walk : WalksOn → {names : ℕ} {files : FilesView} {walk : WalkView} → Loads holds top names files walk
       → (items : List Item) × IsWalk (bare (plain files)) top items walk
-  loads_walk law (begins taken is_walk) = ([], is_walk)
+  loads_walk law (begins taken is_walk first untold) = ([], is_walk)
   loads_walk law (takes {files = files} {more = more} {walk = walk} {next = next} {name = name} loads finds taken) = (
     finds.items ++ finds.finds.goes_on.more,
     walked_on law files more top name finds.items walk next finds.finds (may_have (holds name) files more name taken),
@@ -228,7 +274,7 @@ module _ (holds : List ℕ → KnownFile) (top : List ℕ) where
   stops_at {names = names} {files = files} {walk = walk} {next = next} {name = name} outcome loads finds (inr (is, why)) =
       let at : StopsAtFile holds top =
       record { names = names; files = files; walk = walk; loads = loads; next = next; name = name; finds = finds; is_refused = why } in
-      rw is (inr (inl at))
+      rw is (inr at)
 
   pub stops_at_top : (outcome : Outcome) → IsMemoryOr (IsTopRefused (holds top) []) outcome → IsLoadError holds top outcome
   stops_at_top outcome (inl is) = rw is tt
@@ -237,12 +283,18 @@ module _ (holds : List ℕ → KnownFile) (top : List ℕ) where
   pub stops_for_memory : (outcome : Outcome) → outcome ≡ Memory → IsLoadError holds top outcome
   stops_for_memory outcome is = rw is tt
 
-  -- or after as many names as it may take
-  pub stops_after_all : {names : ℕ} {files : FilesView} {walk : WalkView} (outcome : Outcome) → Loads holds top names files walk → names ≡ 4294967295
-      → outcome ≡ Input → IsLoadError holds top outcome
-  stops_after_all {files = files} {walk = walk} outcome loads all is =
-      let too_many : TakesTooManyNames holds top = record { files = files; walk = walk; loads = subst (λ n. Loads holds top n files walk) all loads } in
-      rw is (inr (inr too_many))
+  -- each missing name that the walk goes on to is one more, but for the first
+  pub loads_reports : StandsOn → {names : ℕ} {files : FilesView} {walk : WalkView} → Loads holds top names files walk
+      → (walk.told ≡ false) ⊎ ((name : List ℕ) × HasReported (bare (plain files)) walk name)
+  loads_reports law (begins taken is_walk first untold) = inl untold
+  loads_reports law (takes {files = files} {more = more} {next = next} {name = name} loads finds taken) =
+      let stands = stood_on law files more name next finds.finds.part (may_have (holds name) files more name taken) finds.finds.stands in
+      inr (name, (finds.finds.part, finds.finds.told, stands, finds.finds.is_name))
+
+  pub fewer_left : StandsOn → {names : ℕ} {files : FilesView} {walk next : WalkView} {name : List ℕ} → Loads holds top names files walk
+      → FindsNext files top walk next name → length next.names ≤ 4294967296 → names_left next < names_left walk
+  fewer_left law {files = files} {walk = walk} {next = next} {name = name} loads finds few =
+      fewer_by (bare (plain files)) top name finds.items walk next finds.finds few (loads_reports law loads)
 
   module _ {T : Type 0} {first : FilesView} {begin : WalkView} where
     pub all_loaded : (final : FilesView) (result : Result T Outcome) → Loads holds top 0 first begin
@@ -284,8 +336,68 @@ module _ (holds : List ℕ → KnownFile) (top : List ℕ) where
   top_taken NoFile old new name a = absurd a
   top_taken (Bytes bytes) old new name a = (a, added_there old new name a.text a.is_added)
 
-  loads_of_source : {names : ℕ} {files : FilesView} {walk : WalkView} → Loads holds top names files walk → AreOfSource holds top (plain files)
-  loads_of_source (begins {files = files} added is_walk) =
+  -- each name that the walk has taken or reported is loaded, if the source has it
+  abbrev IsHad : FilesView → List ℕ → Type 0
+  IsHad files name = IsLoaded (holds name) (plain files) name
+
+  had_there : (known : KnownFile) (files : FilesView) (name : List ℕ) → HasFile files name → IsLoaded known (plain files) name
+  had_there Unknown files name there = tt
+  had_there NoFile files name there = tt
+  had_there (Bytes bytes) files name there = there
+
+  had_kept : (known : KnownFile) (old new : FilesView) (name : List ℕ) → KeepsFiles old new → IsLoaded known (plain old) name → IsLoaded known (plain new) name
+  had_kept Unknown old new name keeps had = tt
+  had_kept NoFile old new name keeps had = tt
+  had_kept (Bytes bytes) old new name keeps had = keeps name had
+
+  had_taken : (known : KnownFile) (old new : FilesView) (name : List ℕ) → TakesFile known old new name → IsLoaded known (plain new) name
+  had_taken Unknown old new name taken = tt
+  had_taken NoFile old new name taken = tt
+  had_taken (Bytes bytes) old new name taken = added_there old new name taken.text taken.is_added
+
+  record AllHad (files : FilesView) (walk : WalkView) : Type 0 where
+    names : (name : List ℕ) → Contains walk.names name → IsHad files name
+    reported : (name : List ℕ) → HasReported (bare (plain files)) walk name → IsHad files name
+
+  -- and so is each name that the walk takes as it goes on
+  had_on : (files : FilesView) (walk next : WalkView) (items : List Item) → AllHad files walk → GoesOn (bare (plain files)) top items walk next
+      → (name : List ℕ) → Contains next.names name → IsHad files name
+  had_on files walk next items had goes name known = by (goes.taken name known)
+    where
+      by : Contains walk.names name ⊎ ((number_of (bare (plain files)) name ≢ None) ⊎ HasReported (bare (plain files)) walk name) → IsHad files name
+      by (inl old) = had.names name old
+      by (inr (inl some)) =
+          had_there (holds name) files name (λ none. some (position_map (λ file. bytes_eq name file.name) bare_file (plain files) ∙ none))
+      by (inr (inr reported)) = had.reported name reported
+
+  loads_had : StandsOn → StandsOnce → {names : ℕ} {files : FilesView} {walk : WalkView} → Loads holds top names files walk → AllHad files walk
+  loads_had on once (begins {files = files} {walk = walk} added is_walk first untold) = record {
+    names = λ name known. by name (Contains-push_cases [] top name (subst (λ names. Contains names name) first known));
+    reported = λ name reported. absurd (false≢true (sym untold ∙ reported.1));
+  }
+    where
+      by : (name : List ℕ) → Contains [] name ⊎ (top ≡ name) → IsHad files name
+      by name (inl none) = absurd (omega (arith, none.1))
+      by name (inr same) = subst (IsHad files) same (had_there (holds top) files top (top_taken (holds top) no_files files top added).1)
+  loads_had on once (takes {files = files} {more = more} {walk = walk} {next = next} {name = name} loads finds taken) =
+      let before = loads_had on once loads in
+      let may = may_have (holds name) files more name taken in
+      let found = finds.finds in
+      let stands = stood_on on files more name next found.part may found.stands in
+      record {
+        names = λ other known. had_kept (holds other) files more other (may_keep files more name may) (had_on files walk next finds.items before found.goes_on other known);
+        reported = λ other reported.
+            let same = once (bare (plain more)) next found.part reported.0 stands reported.2 in
+            subst (IsHad more) (sym found.is_name ∙ ap (λ (part : Placed). part.name) same ∙ reported.3) (had_taken (holds name) files more name taken);
+      }
+
+  -- the files of the source are loaded, the top file among them
+  record LoadsOfSource (files : List File) : Type 0 where
+    each : All OfSource files
+    has_top : file_number files top ≢ None
+
+  loads_of_source : {names : ℕ} {files : FilesView} {walk : WalkView} → Loads holds top names files walk → LoadsOfSource (plain files)
+  loads_of_source (begins {files = files} added is_walk first untold) =
       let taken = top_taken (holds top) no_files files top added in
       record { each = of_taken (holds top) no_files files top refl taken.0 (All-nil OfSource); has_top = taken.1 }
   loads_of_source (takes {files = files} {more = more} {name = name} loads finds taken) =
@@ -295,5 +407,14 @@ module _ (holds : List ℕ → KnownFile) (top : List ℕ) where
         has_top = may_keep files more name (may_have (holds name) files more name taken) top before.has_top;
       }
 
-  pub are_of_source : (files : FilesView) → AreLoaded holds top files → AreOfSource holds top (plain files)
-  are_of_source files loaded = loads_of_source loaded.loads
+  pub are_of_source : StandsOn → StandsOnce → TakesOnce → (files : FilesView) → AreLoaded holds top files → AreOfSource holds top (plain files)
+  are_of_source on once one files loaded =
+      let loads = loads_of_source loaded.loads in
+      let end = loaded.ends in
+      record {
+        each = loads.each;
+        has_top = loads.has_top;
+        has_referred = λ items expansion name known.
+            let same = one (bare (plain files)) top items (end.items ++ end.ends.goes_on.more) expansion end.ends.is_expansion ∙ end.ends.names in
+            had_on files loaded.walk end.last end.items (loads_had on once loaded.loads) end.ends.goes_on name (subst (λ names. Contains names name) same known);
+      }

@@ -10,9 +10,7 @@ ghost use Rattle.mmkeep.specs.Language.Loading.{AddsFile, AreLoaded, AreOfSource
 ghost use Rattle.mmkeep.specs.Language.Loading.{TakesTop};
 
 use crate::adding::add_file;
-use crate::complaints::{
-    refuse_file, refuse_reading, refuse_size, report_out_of_memory, report_unbegun,
-};
+use crate::complaints::{refuse_file, refuse_reading, report_out_of_memory, report_unbegun};
 use crate::outcome::Outcome;
 use crate::source::Source;
 use mm_report::{Files as Database, Session, Walk, walks_go_on};
@@ -68,6 +66,7 @@ fn load<S: Source>(
     ensures top { IfOk result (λ files. HasFile files top.now) }
     ensures error { IfErr result (IsLoadError (S.holds source.now) top.now) }
 {
+    walks_go_on();
     let mut files = Database::new(rt.alloc());
     match add_all(rt, source, &mut files, top) {
         Ok(()) => Ok(files),
@@ -135,7 +134,8 @@ fn add_top<R: Read + Drop>(
     }
 }
 
-/// Adds the files that are missing, as the walk finds them.
+/// Adds the files that are missing, as the walk finds them. It ends, since a walk takes no name twice, and at most one for
+/// each byte.
 fn add_missing<S: Source>(
     rt: &(impl Eprint + AllocGlobal),
     source: &S,
@@ -150,15 +150,13 @@ fn add_missing<S: Source>(
         → IsLoadError (S.holds source.now) top outcome) }
 {
     walks_go_on();
-    for _names in 0..u32::MAX {
+    loop {
         match walk.next_missing(files) {
             Ok(Some(name)) => take_included(rt, source, files, &name)?,
             Ok(None) => return Ok(()),
             Err(_) => return Err(report_out_of_memory(rt)),
         }
     }
-    // Texts that may be added have fewer inclusions than that.
-    Err(refuse_size(rt))
 }
 
 /// Opens the file of this name, and adds it, if it can be opened.

@@ -14,6 +14,7 @@ pub mod NameLemmas
 pub mod SetLemmas
 pub mod StackLemmas
 pub mod StandLemmas
+pub mod StandingLemmas
 pub mod TurnLemmas
 pub mod WalkLemmas
 pub mod WalkStepLemmas

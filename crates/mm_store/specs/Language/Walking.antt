@@ -3,8 +3,8 @@
 use Rattle.std.specs.Prelude.{◌≡◌, ◌≢◌, ℕ, Bool, true, List, [], ◌∷◌, ◌++◌, Some, None, Contains, All, drop, slice_get, ◌⊎◌}
 use Rattle.mm_store.specs.declared.item.Item.{Item}
 use Rattle.mm_store.specs.declared.item.ItemKind.TheVariants.{Missing}
-use Rattle.mm_store.specs.Language.FilesView.{FileView, number_of}
-use Rattle.mm_store.specs.Language.Expansion.{Placed, IsInclusion, placed_item, ArePlaced, IsExpansion}
+use Rattle.mm_store.specs.Language.FilesView.{PieceView, FileView, number_of}
+use Rattle.mm_store.specs.Language.Expansion.{Placed, IsInclusion, placed_item, ArePartsOf, ArePlaced, IsExpansion}
 
 -- a file that a walk has entered and not left: its number, and which of its pieces is next, both from 0
 pub record LevelView : Type 0 where
@@ -60,12 +60,28 @@ pub record IsWalk (files : List FileView) (top : List ℕ) (items : List Item) (
   pub are_pending : ArePending files walk.levels pending
   pub goes : Goes files parts (top ∷ []) items pending walk.names
 
--- the next part of a walk is a reference to a name that it has not taken
+-- the next piece of the innermost file is this part alone
+pub record IsNextPiece (files : List FileView) (levels : List LevelView) (part : Placed) : Type 0 where
+  pub outer : List LevelView
+  pub innermost : LevelView
+  pub last : levels ≡ outer ++ innermost ∷ []
+  pub file : FileView
+  pub there : slice_get files innermost.file ≡ Some file
+  pub piece : PieceView
+  pub is_piece : slice_get file.pieces innermost.piece ≡ Some piece
+  pub are_parts : ArePartsOf innermost.file innermost.piece piece (part ∷ [])
+
+-- the next part of a walk is a reference to a name that it has not taken, and this is the next piece of the innermost file
 pub record StandsBefore (files : List FileView) (walk : WalkView) (part : Placed) : Type 0 where
   pub later : List Placed
   pub are_pending : ArePending files walk.levels (part ∷ later)
   pub is_inclusion : IsInclusion part
   pub new : ¬ Contains walk.names part.name
+  pub is_next : IsNextPiece files walk.levels part
+
+-- the walk has reported the reference that it stands before, and this is its name
+abbrev pub HasReported : List FileView → WalkView → List ℕ → Type 0
+HasReported files walk name = (part : Placed) × (walk.told ≡ true) × StandsBefore files walk part × (part.name ≡ name)
 
 -- no reference to a missing file is among the items
 abbrev pub MissNothing : List Item → Type 0
@@ -77,21 +93,29 @@ MissOnlyTold files walk items =
     MissNothing items
     ⊎ ((part : Placed) × (later : List Item) × (walk.told ≡ true) × StandsBefore files walk part × (items ≡ placed_item part ∷ later) × MissNothing later)
 
--- the walk goes on from the items past which it has gone
+-- the walk goes on from the items past which it has gone; the names that it has taken stay, and each other one that it takes is that of a
+-- file, or the one that it has reported before
 pub record GoesOn (files : List FileView) (top : List ℕ) (items : List Item) (old new : WalkView) : Type 0 where
   pub more : List Item
   pub is_walk : IsWalk files top (items ++ more) new
   pub few : MissOnlyTold files old more
+  pub later : List (List ℕ)
+  pub keeps : new.names ≡ old.names ++ later
+  pub taken : (name : List ℕ) → Contains new.names name → Contains old.names name ⊎ ((number_of files name ≢ None) ⊎ HasReported files old name)
 
--- the walk goes on to the first reference to a missing file that it has not reported, and stops before it; the file has this name
+-- the walk goes on to the first reference to a missing file that it has not reported, reports it, and stops before it; the file has this
+-- name. If the walk had reported the name of a reference before, it has taken it
 pub record FindsMissing (files : List FileView) (top : List ℕ) (items : List Item) (old new : WalkView) (name : List ℕ) : Type 0 where
   pub goes_on : GoesOn files top items old new
   pub part : Placed
   pub stands : StandsBefore files new part
   pub is_name : part.name ≡ name
   pub none : number_of files name ≡ None
+  pub told : new.told ≡ true
+  pub passed : (before : List ℕ) → HasReported files old before → Contains new.names before
 
--- the walk goes on to the end of the expansion
+-- the walk goes on to the end of the expansion, which takes the same names
 pub record FindsEnd (files : List FileView) (top : List ℕ) (items : List Item) (old new : WalkView) : Type 0 where
   pub goes_on : GoesOn files top items old new
   pub is_expansion : IsExpansion files top (items ++ goes_on.more)
+  pub names : is_expansion.after ≡ new.names

@@ -1,11 +1,12 @@
 -- Loading the files of a database: what is added of a file that is read, and why one is not added.
-use Rattle.std.specs.Prelude.{◌≡◌, ◌≢◌, ◌≤◌, ◌⊎◌, ◌+◌, ℕ, List, [], Option, Some, None, Result, Ok, Err, IfSome, All, length, ⊤}
+use Rattle.std.specs.Prelude.{◌≡◌, ◌≢◌, ◌≤◌, ◌⊎◌, ◌+◌, ℕ, false, List, [], ◌∷◌, Option, Some, None, Result, Ok, Err, IfSome, All, Contains, length, ⊤}
 use Rattle.std.specs.Io.KnownBytes.{Consumes}
 use Rattle.mm_report.specs.mm_text.declared.fault.TextNumber.{TextNumber}
 use Rattle.mm_report.specs.mm_text.declared.location.Place.{Place}
 use Rattle.mm_report.specs.mm_text.Language.Cut.{IsCut, IsFirstFault}
 use Rattle.mm_report.specs.mm_text.Language.Place.{line_at, column_at}
 use Rattle.mm_report.specs.mm_store.Language.Answers.{HasTooMany}
+use Rattle.mm_report.specs.mm_store.Language.Expansion.{IsExpansion}
 use Rattle.mm_report.specs.mm_store.Language.FileFacts.{IsAdded}
 use Rattle.mm_report.specs.mm_store.declared.item.Item.{Item}
 use Rattle.mm_report.specs.mm_store.Language.FilesView.{File, FilesView, file_number, no_files, plain}
@@ -94,11 +95,13 @@ pub record ComesToEnd (files : FilesView) (top : List ℕ) (walk : WalkView) : T
   pub last : WalkView
   pub ends : FindsEnd (bare (plain files)) top items walk last
 
--- Loading from a top file on, up to these files and this walk through them: the top file is added; then each of so many names that the
--- walk finds missing is opened, at its first reference, and its file is added, if it can be opened, before the walk goes on.
+-- Loading from a top file on, up to these files and this walk through them: the top file is added, and a walk begins that has taken its
+-- name alone and has reported none; then each of so many names that the walk finds missing is opened, at its first reference, and its file
+-- is added, if it can be opened, before the walk goes on.
 pub data Loads (holds : List ℕ → KnownFile) (top : List ℕ) : ℕ → FilesView → WalkView → Type 0 where
   begins : {files : FilesView} {walk : WalkView}
-      → TakesTop (holds top) no_files files top → IsWalk (bare (plain files)) top [] walk → Loads holds top 0 files walk
+      → TakesTop (holds top) no_files files top → IsWalk (bare (plain files)) top [] walk → walk.names ≡ top ∷ [] → walk.told ≡ false
+      → Loads holds top 0 files walk
   takes : {names : ℕ} {files more : FilesView} {walk next : WalkView} {name : List ℕ}
       → Loads holds top names files walk → FindsNext files top walk next name → TakesFile (holds name) files more name
       → Loads holds top (names + 1) more next
@@ -116,10 +119,19 @@ IsOfSource Unknown file = ⊤
 IsOfSource NoFile file = ⊥
 IsOfSource (Bytes bytes) file = IsCut bytes file.pieces file.tail
 
--- each file is what the source holds under its name, and the top file is among them
+-- a name that the source has is that of a file
+abbrev pub IsLoaded : KnownFile → List File → List ℕ → Type 0
+IsLoaded Unknown files name = ⊤
+IsLoaded NoFile files name = ⊤
+IsLoaded (Bytes bytes) files name = file_number files name ≢ None
+
+-- each file is what the source holds under its name, the top file is among them, and so is each name to which the expansion refers and which
+-- the source has; so a name to which it refers, and which no file has, is one that the source lacks
 pub record AreOfSource (holds : List ℕ → KnownFile) (top : List ℕ) (files : List File) : Type 0 where
   pub each : All (λ file. IsOfSource (holds file.name) file) files
   pub has_top : file_number files top ≢ None
+  pub has_referred : (items : List Item) (expansion : IsExpansion (bare files) top items) (name : List ℕ) → Contains expansion.after name
+      → IsLoaded (holds name) files name
 
 -- a file is there, as far as is known, and is not added to the files under a name that is new: a read of it failed; or its text, if that
 -- is known, has a fault, or is too much
@@ -145,14 +157,8 @@ pub record StopsAtFile (holds : List ℕ → KnownFile) (top : List ℕ) : Type 
   pub finds : FindsNext files top walk next name
   pub is_refused : IsRefused (holds name) (plain files)
 
--- loading has gone on for 4,294,967,295 missing names: more than files with so many bytes refer to
-pub record TakesTooManyNames (holds : List ℕ → KnownFile) (top : List ℕ) : Type 0 where
-  pub files : FilesView
-  pub walk : WalkView
-  pub loads : Loads holds top 4294967295 files walk
-
 -- why the files of a database are not loaded: memory; or the input, at the top file, or at a file that the walk finds missing next
 abbrev pub IsLoadError : (List ℕ → KnownFile) → List ℕ → Outcome → Type 0
 IsLoadError holds top Memory = ⊤
-IsLoadError holds top Input = IsTopRefused (holds top) [] ⊎ (StopsAtFile holds top ⊎ TakesTooManyNames holds top)
+IsLoadError holds top Input = IsTopRefused (holds top) [] ⊎ StopsAtFile holds top
 IsLoadError holds top _ = ⊥

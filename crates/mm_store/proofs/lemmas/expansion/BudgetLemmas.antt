@@ -1,10 +1,12 @@
 -- What the files weigh whose names are not taken. Each inclusion of a file takes its name, and its weight with it.
-use Rattle.std.proofs.lemmas.{Grind.{common_steps}, Bool.{false≢true}, Slice.Eq.{bytes_eq-Decides}, List.Elements.{Contains-append_right}, Option.{none-some, same_Some}, Simd.{map-map}}
+use Rattle.std.proofs.lemmas.{Grind.{common_steps}, Bool.{false≢true}, Slice.Eq.{bytes_eq-Decides}, List.{map-id, Elements.{Contains-append_right}}, Option.{none-some, same_Some}, Simd.{map-map}}
 use Rattle.std.proofs.Common.{◌≡◌, ℕ, zero, suc, ◌+◌, ◌≤◌, Bool, true, false, ◌||◌, List, [], ◌∷◌, ◌++◌, Some, length, map, refl, sym, ap, ◌∙◌, arith, length-append, Contains, if◌then◌else◌}
 use Rattle.std.{proofs.Common.{slice_get}, specs.{List.{list_any, concat}, Str.{bytes_eq}}}
-use Rattle.mm_store.specs.{declared.item.Item.{Item}, Language.{Pieces.{text_under}, FilesView.{KeyedFile, FileView, FilesView, files_in, file_view, piece_texts, plain, plain_file, bytes_of}}}
+use Rattle.mm_store.specs.{declared.item.Item.{Item}, Language.{Keyless.{bare, one_key}, Pieces.{text_under}, Walking.{Goes, IsWalk, WalkView}}}
+use Rattle.mm_store.specs.Language.FilesView.{File, KeyedFile, FileView, FilesView, PieceView, files_in, file_view, piece_texts, plain, plain_file, bytes_of}
 use Rattle.mm_store.{specs.Language.Expansion.{Placed, Expands, nothing, own, again, missing, included, IsExpansion}, proofs.lemmas.expansion.CountLemmas.{placed_few}}
 use Rattle.mm_store.proofs.lemmas.files.GrowthLemmas.{name_of_number}
+use Rattle.mm_store.specs.Language.Walking as walking
 
 abbrev pub is_among : List ℕ → List (List ℕ) → Bool
 is_among name names = list_any (λ other. bytes_eq name other) names
@@ -70,6 +72,34 @@ weight_all : (files : List FileView) → weight piece_bytes files [] ≤ all_byt
 weight_all [] = omega arith
 weight_all (file ∷ files) = omega (arith, weight_all files)
 
+-- so are the names that are taken, and the parts that are left
+goes_few : {files : List FileView} {parts rest : List Placed} {names after : List (List ℕ)} {items : List Item} → Goes files parts names items rest after
+    → length after + length rest + weight piece_bytes files after ≤ length names + length parts + weight piece_bytes files names
+goes_few walking.here = omega arith
+goes_few (walking.own not d) = omega (arith, goes_few d)
+goes_few (walking.again is old d) = omega (arith, goes_few d)
+goes_few {files} (walking.missing {part = part} {names = names} is new none d) =
+    omega (arith, goes_few d, weight_less piece_bytes files names part.name, length-append names (part.name ∷ []))
+goes_few {files} (walking.included {part = part} {parts = parts} {names = names} {number = number} {file = file} inner is new at there placed d) =
+    omega (
+      arith,
+      goes_few d,
+      placed_few number 0 file.pieces inner placed,
+      weight_entered piece_bytes files names part.name number file there (name_of_number files part.name number file at there) new,
+      length-append names (part.name ∷ []),
+      length-append inner parts,
+    )
+
+pub walk_few : (files : List FileView) (top : List ℕ) (items : List Item) (walk : WalkView) → IsWalk files top items walk → length walk.names ≤ all_bytes files + 1
+walk_few files top items walk is =
+    omega (
+      arith,
+      goes_few is.goes,
+      placed_few is.number 0 is.file.pieces is.parts is.placed,
+      weight_all files,
+      weight_entered piece_bytes files [] top is.number is.file is.there (name_of_number files top is.number is.file is.is_top is.there) (λ h. (omega (arith, h.1))),
+    )
+
 pub expansion_few : (files : List FileView) (top : List ℕ) (items : List Item) → IsExpansion files top items → length items ≤ all_bytes files
 expansion_few files top items is =
     omega (
@@ -81,6 +111,16 @@ expansion_few files top items is =
     )
 
 -- the bytes of the pieces are no more than those of the texts
+pub bare_few : (files : List File) → all_bytes (bare files) ≤ bytes_of files
+bare_few [] = omega arith
+bare_few (file ∷ files) =
+    omega (
+      arith,
+      bare_few files,
+      length-append (concat file.pieces) file.tail,
+      ap (λ (texts : List (List ℕ)). length (concat texts)) (map-map (λ (piece : PieceView). piece.text) (λ text. record { key = one_key; text = text }) file.pieces ∙ map-id file.pieces),
+    )
+
 pub bytes_few : (view : FilesView) → all_bytes (files_in view) ≤ bytes_of (plain view)
 bytes_few view = few view.keyed
   where

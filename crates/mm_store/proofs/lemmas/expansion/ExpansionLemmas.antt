@@ -107,3 +107,6 @@ module _ (one_reading : OneReading) (one_division : OneDivision) where
 
   pub expansion_one : (files : List FileView) (top : List ℕ) (a b : List Item) → IsExpansion files top a → IsExpansion files top b → a ≡ b
   expansion_one files top a b p q = grind (arith, common_steps, same, same_Some, placed_one) steps 200000
+
+  pub expansion_names_one : (files : List FileView) (top : List ℕ) (a b : List Item) (p : IsExpansion files top a) (q : IsExpansion files top b) → p.after ≡ q.after
+  expansion_names_one files top a b p q = grind (arith, common_steps, same, same_Some, placed_one) steps 200000

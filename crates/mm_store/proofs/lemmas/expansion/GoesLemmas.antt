@@ -1,5 +1,5 @@
 -- The expansion one part at a time, and the expansion as a whole.
-use Rattle.std.proofs.{Common.{◌≡◌, ℕ, List, [], ◌∷◌, ◌++◌, map, refl, sym, ap, ◌∙◌, subst, append_assoc, Contains, inl, inr}, lemmas.List.Elements.{Contains-append_left}}
+use Rattle.std.proofs.{Common.{◌≡◌, ℕ, List, [], ◌∷◌, ◌++◌, map, refl, sym, ap, ◌∙◌, subst, append_assoc, append-nil, Contains, inl, inr}, lemmas.List.Elements.{Contains-append_left}}
 use Rattle.std.specs.List.{AllByRecursion}
 use Rattle.mm_store.specs.{declared.item.Item.{Item}, Language.{FilesView.{FileView}, Expansion.{Placed, IsInclusion, placed_item, Expands}, Walking.{Goes, here, own, again, missing, included}}}
 use Rattle.mm_store.proofs.lemmas.expansion.ExpansionLemmas.{Way, way}
@@ -20,6 +20,20 @@ goes_grows name (own not d) h = goes_grows name d h
 goes_grows name (again is old d) h = goes_grows name d h
 goes_grows name (missing {part = part} {names = names} is new none d) h = goes_grows name d (Contains-append_left names (part.name ∷ []) name h)
 goes_grows name (included {part = part} {names = names} inner is new number there placed d) h = goes_grows name d (Contains-append_left names (part.name ∷ []) name h)
+
+-- and those that were taken stay before the others
+abbrev pub Grows : List (List ℕ) → List (List ℕ) → Type 0
+Grows names after = (later : List (List ℕ)) × (after ≡ names ++ later)
+
+grows_by : (names after : List (List ℕ)) (name : List ℕ) → Grows (names ++ name ∷ []) after → Grows names after
+grows_by names after name (later, is) = (name ∷ later, is ∙ append_assoc names (name ∷ []) later)
+
+pub goes_keeps : {files : List FileView} {a b : List Placed} {names after : List (List ℕ)} {items : List Item} → Goes files a names items b after → Grows names after
+goes_keeps {names = names} here = ([], sym (append-nil names))
+goes_keeps (own not d) = goes_keeps d
+goes_keeps (again is old d) = goes_keeps d
+goes_keeps {after = after} (missing {part = part} {names = names} is new none d) = grows_by names after part.name (goes_keeps d)
+goes_keeps {after = after} (included {part = part} {names = names} inner is new number there placed d) = grows_by names after part.name (goes_keeps d)
 
 -- parts that include nothing are items
 pub goes_own : {files : List FileView} (parts rest : List Placed) (names : List (List ℕ)) → AllByRecursion (λ part. ¬ IsInclusion part) parts → Goes files (parts ++ rest) names (map placed_item parts) rest names

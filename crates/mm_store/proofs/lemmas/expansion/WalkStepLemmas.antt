@@ -155,7 +155,7 @@ pub walk_on : (files : List FileView) (top : List ℕ) (items gained : List Item
 walk_on files top items gained old new is went = grind (arith, common_steps, goes_joined is.goes went.goes) steps 200000
 
 -- a walk at its end has gone past the whole expansion
-pub walk_ends : (files : List FileView) (top : List ℕ) (items : List Item) (walk : WalkView) → IsWalk files top items walk → walk.levels ≡ [] → IsExpansion files top items
+abbrev pub walk_ends : (files : List FileView) (top : List ℕ) (items : List Item) (walk : WalkView) → IsWalk files top items walk → walk.levels ≡ [] → IsExpansion files top items
 walk_ends files top items walk is none = record {
   number = is.number;
   file = is.file;

@@ -4,7 +4,7 @@ use Rattle.std.proofs.lemmas.{List.{Elements.{Contains-append_right}, Folds.{pos
 use Rattle.std.proofs.Common.{◌≡◌, ℕ, zero, suc, ◌<◌, Bool, false, not, ltb, List, [], ◌∷◌, ◌++◌, Some, None, length, refl, subst, arith, length-append, Contains, position, slice_get}
 use Rattle.std.specs.{List.{position_or_len}, Str.{bytes_eq}}
 use Rattle.mm_store.specs.{declared.item.Item.{Item}, Language.{FilesView.{FileView, number_of}, Expansion.{Placed}}}
-use Rattle.mm_store.{specs.Language.Walking.{LevelView, WalkView, IsRest, ArePending, Goes, here, own, again, missing, included, IsWalk}, proofs.lemmas.expansion.GoesLemmas.{goes_grows}}
+use Rattle.mm_store.{specs.Language.Walking.{LevelView, WalkView, IsRest, ArePending, Goes, here, own, again, missing, included, IsWalk, StandsBefore}, proofs.lemmas.expansion.GoesLemmas.{goes_grows}}
 
 module _ {X : Type 0} (test : X → Bool) where
   none_kept : (xs : List X) (y : X) → position test xs ≡ None → test y ≡ false → position test (xs ++ y ∷ []) ≡ None
@@ -46,7 +46,7 @@ module _ (files : List FileView) (file : FileView) where
   pending_kept [] parts are = are
   pending_kept (level ∷ inner) parts are = (are.0, are.1, pending_kept inner are.0 are.2, rest_kept level are.1 are.3, are.4)
 
-last_in : (names : List (List ℕ)) (name : List ℕ) → Contains (names ++ name ∷ []) name
+pub last_in : (names : List (List ℕ)) (name : List ℕ) → Contains (names ++ name ∷ []) name
 last_in names name = Contains-append_right names (name ∷ []) name (0, omega arith, refl)
 
 pub goes_kept : {files : List FileView} {parts rest : List Placed} {names after : List (List ℕ)} {items : List Item} (file : FileView)
@@ -58,6 +58,27 @@ goes_kept {files} {after = after} file new (missing {part = part} {names = names
     missing is fresh (none_stays files file part.name none (λ e. new (subst (Contains after) e (goes_grows part.name d (last_in names part.name))))) (goes_kept file new d)
 goes_kept {files} file new (included {part = part} {number = number} {file = other} inner is fresh at there placed d) =
     included inner is fresh (number_kept files file part.name number at) (file_kept files file number other there) placed (goes_kept file new d)
+
+-- a walk stands before the same reference among more files
+pub stands_kept : (files : List FileView) (file : FileView) (walk : WalkView) (part : Placed) → StandsBefore files walk part → StandsBefore (files ++ file ∷ []) walk part
+stands_kept files file walk part stands =
+    let next = stands.is_next in
+    record {
+      later = stands.later;
+      are_pending = pending_kept files file walk.levels (part ∷ stands.later) stands.are_pending;
+      is_inclusion = stands.is_inclusion;
+      new = stands.new;
+      is_next = record {
+        outer = next.outer;
+        innermost = next.innermost;
+        last = next.last;
+        file = next.file;
+        there = file_kept files file next.innermost.file next.file next.there;
+        piece = next.piece;
+        is_piece = next.is_piece;
+        are_parts = next.are_parts;
+      };
+    }
 
 -- a walk goes on among more files
 pub walk_kept : (files : List FileView) (file : FileView) (top : List ℕ) (items : List Item) (walk : WalkView) → IsWalk files top items walk → ¬ Contains walk.names file.name → IsWalk (files ++ file ∷ []) top items walk

@@ -6,16 +6,16 @@ pub add_missing-requires : goal.add_missing-requires
 add_missing-requires g c =
     let known = g.S.Source.holds c.args.source.now in
     let taken = subst (λ old. TakesTop (known c.args.top.now) old c.take_top.new.files c.args.top.now) c.requires c.in_ok-take_top.ensures.taken in
-    (c.args.top.now, begins taken c.in-Ok.ensures.ok)
+    (c.args.top.now, begins taken c.in-Ok.ensures.ok c.in-Ok.ensures.first c.in-Ok.ensures.untold)
 
 pub returns-in-Ok-clause-files : goal.returns-in-Ok-clause-files
 returns-in-Ok-clause-files g c =
     let known = g.S.Source.holds c.args.source.now in
     let taken = subst (λ old. TakesTop (known c.args.top.now) old c.take_top.new.files c.args.top.now) c.requires c.in_ok-take_top.ensures.taken in
-    all_loaded known c.args.top.now c.add_missing.new.files c.add_missing.result (begins taken c.in-Ok.ensures.ok) c.add_missing.ensures.loaded
+    all_loaded known c.args.top.now c.add_missing.new.files c.add_missing.result (begins taken c.in-Ok.ensures.ok c.in-Ok.ensures.first c.in-Ok.ensures.untold) c.add_missing.ensures.loaded
 
 pub returns-in-Ok-clause-error : goal.returns-in-Ok-clause-error
 returns-in-Ok-clause-error g c =
     let known = g.S.Source.holds c.args.source.now in
     let taken = subst (λ old. TakesTop (known c.args.top.now) old c.take_top.new.files c.args.top.now) c.requires c.in_ok-take_top.ensures.taken in
-    all_stops known c.args.top.now c.add_missing.result (begins taken c.in-Ok.ensures.ok) c.add_missing.ensures.error
+    all_stops known c.args.top.now c.add_missing.result (begins taken c.in-Ok.ensures.ok c.in-Ok.ensures.first c.in-Ok.ensures.untold) c.add_missing.ensures.error

@@ -1,45 +1,52 @@
-use Rattle.std.proofs.Common.{refl, sym, ◌∙◌, subst, arith}
-use Rattle.mmkeep.{specs.Language.Loading.{IsNew, TakesFile, takes}, proofs.LoadLemmas.{all_taken, finds_next, may_have, may_keep, missing_new, stops_after_all, stops_for_memory}}
+use Rattle.std.proofs.Common.{◌+◌, refl, sym, ◌∙◌, subst}
+use Rattle.mmkeep.{specs.Language.Loading.{IsNew, TakesFile, takes}, proofs.LoadLemmas.{all_taken, fewer_left, finds_next, may_have, may_keep, missing_new, stops_for_memory}}
 use Rattle.mmkeep.proofs.loading.add_missing.Goals as goal
 
 pub take_included-requires : goal.take_included-requires
 take_included-requires g c =
     let known = g.S.Source.holds c.args.source.now in
     let top = c.requires.0 in
-    let loads = c.loop-names.invariant.loads top c.requires.1 in
+    let loads = (c.loop-name.invariant.loads top c.requires.1).1 in
     let found = rw c.in-Ok-Some.field-0-is at c.in-Ok-Some.ensures.found in
     let next = finds_next known top c.walks_go_on.ensures.added loads c.next_missing.new.self c.in-Ok-Some.name.items found in
-    subst (IsNew c.loop-names.files) (sym c.deref.ensures.value)
-    (missing_new c.loop-names.files top c.in-Ok-Some.name.items next.items c.loop-names.walk c.next_missing.new.self next.finds)
+    subst (IsNew c.loop-name.files) (sym c.deref.ensures.value)
+    (missing_new c.loop-name.files top c.in-Ok-Some.name.items next.items c.loop-name.walk c.next_missing.new.self next.finds)
 
-pub loop-names-init : goal.loop-names-init
-loop-names-init g c = record { loads = λ top begun. begun; parked = refl; kept = λ name there. there }
+pub loop-name-init : goal.loop-name-init
+loop-name-init g c = record { loads = λ top begun. (0, begun); parked = refl; kept = λ name there. there }
 
 pub returns-in-Ok-None-clause-loaded : goal.returns-in-Ok-None-clause-loaded
 returns-in-Ok-None-clause-loaded g c = λ top begun.
     let known = g.S.Source.holds c.args.source.now in
     let found = rw c.in-Ok-None.field-0-is at c.in-Ok-None.ensures.end in
-    all_taken known top c.walks_go_on.ensures.added (c.loop-names.invariant.loads top begun) c.next_missing.new.self found
+    all_taken known top c.walks_go_on.ensures.added (c.loop-name.invariant.loads top begun).1 c.next_missing.new.self found
 
 pub returns-in-Err-clause-error : goal.returns-in-Err-clause-error
 returns-in-Err-clause-error g c = λ top begun. stops_for_memory (g.S.Source.holds c.args.source.now) top _ c.report_out_of_memory.ensures
 
-pub returns-clause-error : goal.returns-clause-error
-returns-clause-error g c = λ top begun.
-    stops_after_all (g.S.Source.holds c.args.source.now) top _ (c.loop-names.invariant.loads top begun) (omega arith) c.refuse_size.ensures
+pub loop-name-smaller : goal.loop-name-smaller
+loop-name-smaller g c =
+    let known = g.S.Source.holds c.args.source.now in
+    let top = c.requires.0 in
+    let loads = (c.loop-name.invariant.loads top c.requires.1).1 in
+    let name = c.in-Ok-Some.name.items in
+    let found = rw c.in-Ok-Some.field-0-is at c.in-Ok-Some.ensures.found in
+    let few = rw c.in-Ok-Some.field-0-is at c.in-Ok-Some.ensures.few in
+    let next = finds_next known top c.walks_go_on.ensures.added loads c.next_missing.new.self name found in
+    fewer_left known top c.walks_go_on.ensures.stands loads next (few top next.items next.is_walk)
 
-pub loop-names-preserved : goal.loop-names-preserved
-loop-names-preserved g c =
+pub loop-name-preserved : goal.loop-name-preserved
+loop-name-preserved g c =
     let known = g.S.Source.holds c.args.source.now in
     let found = rw c.in-Ok-Some.field-0-is at c.in-Ok-Some.ensures.found in
     let done = c.in_ok-take_included-in-Ok-Some.ensures in
     let name = c.in-Ok-Some.name.items in
-    let taken = subst (λ name. TakesFile (known name) c.loop-names.files c.take_included.new.files name) c.deref.ensures.value done.taken in
-    let added = may_have (known name) c.loop-names.files c.take_included.new.files name taken in
+    let taken = subst (λ name. TakesFile (known name) c.loop-name.files c.take_included.new.files name) c.deref.ensures.value done.taken in
+    let added = may_have (known name) c.loop-name.files c.take_included.new.files name taken in
     record {
       loads = λ top begun.
-          let loads = c.loop-names.invariant.loads top begun in
-          takes loads (finds_next known top c.walks_go_on.ensures.added loads c.next_missing.new.self name found) taken;
-      parked = done.parked ∙ c.loop-names.invariant.parked;
-      kept = λ name there. may_keep c.loop-names.files c.take_included.new.files c.in-Ok-Some.name.items added name (c.loop-names.invariant.kept name there);
+          let loads = c.loop-name.invariant.loads top begun in
+          (loads.0 + 1, takes loads.1 (finds_next known top c.walks_go_on.ensures.added loads.1 c.next_missing.new.self name found) taken);
+      parked = done.parked ∙ c.loop-name.invariant.parked;
+      kept = λ name there. may_keep c.loop-name.files c.take_included.new.files c.in-Ok-Some.name.items added name (c.loop-name.invariant.kept name there);
     }

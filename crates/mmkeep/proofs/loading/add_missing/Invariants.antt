@@ -1,11 +1,14 @@
 use Rattle.std.proofs.Common.{◌≡◌, ℕ, List}
 use Rattle.mm_report.specs.mm_store.Language.FileFacts.{parked_in}
-use Rattle.mmkeep.specs.{Code.Loaded.{KeepsFiles}, Language.Loading.{Loads}}
+use Rattle.mmkeep.{specs.{Code.Loaded.{KeepsFiles}, Language.Loading.{Loads}}, proofs.LoadLemmas.{names_left}}
 use Rattle.mmkeep.proofs.loading.add_missing.Given as goal
 
-abbrev pub invariant-loop-names : goal.invariant-loop-names
-invariant-loop-names g l = record {
-  loads : (top : List ℕ) → Loads (g.S.Source.holds l.source) top 0 l.initial.files l.initial.walk → Loads (g.S.Source.holds l.source) top l._names l.files l.walk;
+abbrev pub invariant-loop-name : goal.invariant-loop-name
+invariant-loop-name g l = record {
+  loads : (top : List ℕ) → Loads (g.S.Source.holds l.source) top 0 l.initial.files l.initial.walk → (names : ℕ) × Loads (g.S.Source.holds l.source) top names l.files l.walk;
   parked : parked_in l.files ≡ parked_in l.initial.files;
   kept : KeepsFiles l.initial.files l.files;
 }
+
+abbrev pub decreases-loop-name : goal.decreases-loop-name
+decreases-loop-name g l = names_left l.walk
