@@ -111,10 +111,12 @@ def closing(tokens, at):
 
 
 class Function:
-    """A function: its name, what it belongs to, the trait that asks for it, whether it is public, its signature, its body, and the first and last token of the latter."""
+    """A function: its name, what it belongs to, the trait that asks for it, whether it is public, its signature, its body, and the first and last token of the latter.
 
-    def __init__(self, name, owner, trait, public, signature, body, braces):
-        self.name, self.owner, self.trait, self.public = name, owner, trait, public
+    `applied` has what the type is applied to, if that is no parameter: `+BufWriter+W` of a `Writing<BufWriter<W>>`, as the prover writes it."""
+
+    def __init__(self, name, owner, trait, public, signature, body, braces, applied=""):
+        self.name, self.owner, self.trait, self.public, self.applied = name, owner, trait, public, applied
         self.signature, self.body, self.braces = signature, body, braces
 
 
@@ -138,6 +140,22 @@ def owner_of(header):
     return last_word(plain[place:]), last_word(plain[:place])
 
 
+def applied_in(header):
+    """What the type of an `impl` that is of no trait is applied to, as the prover writes it; nothing if these are its parameters alone."""
+    if header[0] == "trait" or "for" in header:
+        return ""
+    depth, given, at = 0, set(), 1
+    if header[1] == "<":
+        for at in range(1, len(header)):
+            depth += {"<": 1, ">": -1, ">>": -2}.get(header[at], 0)
+            if depth == 0:
+                break
+            given |= {header[at + 1]} if depth == 1 and header[at] in ("<", ",") else set()
+        at += 1
+    handed = [word for word in header[at + 1 :] if WORD.fullmatch(word)]
+    return "".join(f"+{word}" for word in handed) if {*handed} - given else ""
+
+
 def last_word(tokens):
     """The last word among tokens, or nothing."""
     return next((str(token) for token in reversed(tokens) if WORD.fullmatch(token)), "")
@@ -152,14 +170,14 @@ def functions_of(tokens):
         if token in ("impl", "trait") and (at == 0 or tokens[at - 1] in ("}", ";", "]", "pub", ")", "unsafe")):
             start = header_end(tokens, at)
             if start < len(tokens) and tokens[start] == "{":
-                owners.append((*owner_of(tokens[at:start]), closing(tokens, start)))
+                owners.append((*owner_of(tokens[at:start]), applied_in(tokens[at:start]), closing(tokens, start)))
             at = start + 1
         elif token == "fn" and at + 1 < len(tokens) and WORD.fullmatch(tokens[at + 1]):
             start = header_end(tokens, at)
             end = closing(tokens, start) if start < len(tokens) and tokens[start] == "{" else start
             public = at > 0 and tokens[at - 1] == "pub" or tokens[max(0, at - 2) : at] == ["pub", "const"]
-            owner, trait = owners[-1][:2] if owners else ("", "")
-            found.append(Function(str(tokens[at + 1]), owner, trait, public, tokens[at:start], tokens[start + 1 : end], (tokens[start], tokens[end])))
+            owner, trait, applied = owners[-1][:3] if owners else ("", "", "")
+            found.append(Function(str(tokens[at + 1]), owner, trait, public, tokens[at:start], tokens[start + 1 : end], (tokens[start], tokens[end]), applied))
             at = start + 1
         else:
             at += 1
