@@ -136,6 +136,21 @@ def not_ascii(program):
         assert compare(client, program, "a.mm") is False and client.diagnostics("a.mm") == []
 
 
+def open_blocks(program):
+    """A block that is begun far from the end of a large text and is not ended is shown; an inclusion behind it is shown before."""
+    many = "".join(f"x{number} $a wff ( p -> q ) $.\n" for number in range(4000))
+    for behind, code in (("", "T08"), ("$( $[ b.mm $] $)\n", "T08"), ("$[ b.mm $]\n", "T10")):
+        others = {"b.mm": "y $a wff p $.\n"}
+        with Folder(program, {"a.mm": LOGIC + many + behind + "z $a wff q $.\n", **others}) as client:
+            client.open("a.mm")
+            compare(client, program, "a.mm", others)
+            client.replace("a.mm", "wi $a", "${ wi $a")
+            assert compare(client, program, "a.mm", others)
+            assert [each["code"] for each in client.diagnostics("a.mm") if not each["data"]["stale"]] == [code]
+            client.replace("a.mm", "x7 $a", "$} x7 $a")
+            assert not compare(client, program, "a.mm", others)
+
+
 def tails(program):
     """Edits in the tail, of its comments, and of what is after the last piece."""
     with Folder(program) as client:
@@ -426,4 +441,4 @@ def one_by_chance(text, chance):
     return at, at, chance.choice(BITS)
 
 
-TESTS = [first_steps, typed, gathered, texts, not_ascii, tails, many_at_once, files, bad_input, ends_early, names, saved_faults, by_chance, files_by_chance, large]
+TESTS = [first_steps, typed, gathered, texts, not_ascii, open_blocks, tails, many_at_once, files, bad_input, ends_early, names, saved_faults, by_chance, files_by_chance, large]

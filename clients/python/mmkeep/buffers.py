@@ -282,6 +282,11 @@ class Held:
         number = bisect.bisect_left(self.starts, self.length - self.behind + CHUNK)
         return self.starts[number] + length - self.length if number < len(self.starts) else length
 
+    def includes_behind(self, near: int) -> bool:
+        """Whether a piece from this byte of the buffer on is an inclusion; one begins there, or it is the buffer's end."""
+        number = bisect.bisect_left(self.starts, near - self.document.text.length - self.fed() + self.length)
+        return any(True for piece in self.pieces[number:] for _ in cutting.inclusion_places(piece))
+
     def resynchronised(self, begin: int, end: int, length: int) -> tuple:
         """The cut from a byte on, to where it meets a piece of the session that stayed; and that piece, or None."""
         text, at = self.window(begin, end), [0]

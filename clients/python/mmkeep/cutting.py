@@ -97,10 +97,21 @@ def inclusions(text: bytes) -> list:
     >>> inclusions(b"$( $[ a.mm $] $) $[ b.mm $] $[ $( c $) d.mm $]")
     ['b.mm', 'd.mm']
     """
-    found, comment = [], False
+    found = []
+    for at in inclusion_places(text):
+        name = INCLUSION.match(text, at) or INCLUSION.match(blank(text[at : at + 65_536]))
+        found += [os.fsdecode(name[1])] if name else []
+    return found
+
+
+def inclusion_places(text: bytes) -> Iterator[int]:
+    """The bytes at which inclusions begin.
+
+    >>> list(inclusion_places(b"$( $[ a.mm $] $) $[ b.mm $] "))
+    [17]
+    """
+    comment = False
     for each in OPENED.finditer(text) if b"$[" in text else ():
         comment = each[0] == b"$(" or comment and each[0] != b"$)"
         if each[0] == b"$[" and not comment:
-            name = INCLUSION.match(text, each.start()) or INCLUSION.match(blank(text[each.start() : each.start() + 65_536]))
-            found += [os.fsdecode(name[1])] if name else []
-    return found
+            yield each.start()

@@ -203,13 +203,13 @@ class Base(Diagnostics):
     def edit(self) -> None:
         """Sends what changed as one batch, or shows the fault of a text."""
         cuts = [(held, held.recut(False)) for held in self.files.values() if held.document and held.dirty]
-        if any(self.includes(held, cut) for held, cut in cuts):
-            self.begin()
-            return
         # Where the cut does not end near, or ends with a tail, a fault is likely: the program finds it sooner.
         self.find([held for held, cut in cuts if not cut or cut[3] and cut[3].strip(SPACES)])
         if self.faults:
             self.find([held for held, _ in cuts])
+            return
+        if any(self.includes(held, cut) for held, cut in cuts):
+            self.begin()
             return
         whole: list = [(held, *(cut or held.recut(True))) for held, cut in cuts]
         changes: list = []
@@ -257,12 +257,13 @@ class Base(Diagnostics):
     def find(self, files: list) -> None:
         """Finds the faults of buffers, each from the first piece on that changed: all before it is whole.
 
-        What is missing is found at the end of a text; other faults are found where they are, and so near what changed."""
+        What is missing is found at the end of a text; other faults are found where they are, and so near what changed. A block
+        that is open near there stays open, for the pieces behind are whole; none may be an inclusion in it."""
         self.faults = {}
         for held in files:
-            begin, whole = held.starts[held.first()], held.document.text
-            found = self.session.fault(held.name, held.window(begin, held.near()))
-            if not found or found[0] in ("T02", "T07", "T08"):
+            begin, near, whole = held.starts[held.first()], held.near(), held.document.text
+            found = self.session.fault(held.name, held.window(begin, near))
+            if not found or found[0] in ("T02", "T07") or found[0] == "T08" and held.includes_behind(near):
                 found = self.session.fault(held.name, held.window(begin, whole.length))
             if found:
                 number, line, column = found

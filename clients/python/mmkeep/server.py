@@ -25,7 +25,7 @@ from .sources import on_disk
 from .streams import ERROR
 
 # Seconds for which changes are gathered, and those that are spent at once on what can wait.
-DELAY, SLICE = 0.2, 0.03
+DELAY, SLICE = 0.1, 0.03
 METHOD_NOT_FOUND, NOT_INITIALIZED, INVALID, CANCELLED = -32601, -32002, -32600, -32800
 
 
