@@ -142,6 +142,26 @@ def rows_apart_in_turn(n):
     return [*lines, *(f"$d x a $. $d y b $. k{k} $a |- x y $." for k in range(n))]
 
 
+def wide_frames(n):
+    """One `$d` and one `$e` of the outermost block with so many variables, and as many assertions after them."""
+    names, lines = variables(n)
+    return [*lines, f"$d {' '.join(names)} $.", f"h $e |- {' '.join(names)} $.", *(f"a{k} $a |- x0 $." for k in range(n))]
+
+
+def wide_pairs_and_blocks(n):
+    """A `$d` of so many variables; and then as many times a theorem outside of a block, and one in a block with a pair of its own."""
+    names, lines = variables(n)
+    lines += ["$v z $.", "wz $f wff z $.", f"$d {' '.join(names)} $."]
+    return [*lines, *(f"s{k} $p |- x0 $= ? $. ${{ $d x{k} z $. t{k} $p |- x0 $= ? $. $}}" for k in range(n))]
+
+
+def many_pairs_of_each(n):
+    """So many variables, each in as many `$d` with others, and as many assertions of all of them."""
+    names, lines = variables(n)
+    lines += [f"$d {name} {' '.join(names[k + 1 :])} $." for k, name in enumerate(names[:-1])]
+    return [*lines, *(f"a{k} $a |- {' '.join(names)} $." for k in range(n))]
+
+
 def equal_lists(n):
     """A `$d` that says nothing new, and a block with a pair of its own and a theorem, in turn."""
     lines = ["$c |- wff $.", "$v x y z $.", *(f"w{name} $f wff {name} $." for name in "xyz")]
@@ -185,6 +205,30 @@ def many_apart(n):
     lines += ["${", f"$d {' '.join(names)} $.", f"ax $a |- {' '.join(names)} $.", "$}", f"$d {' '.join(others)} $."]
     entries = " ".join(" ".join(f"w{name}" for name in others[k : k + 10]) + " wj wr" for k in range(0, 1000, 10))
     return [*lines, *(f"t{k} $p |- y0 $= {entries} ax $." for k in range(10))]
+
+
+def wide_entries_apart(n):
+    """A mandatory pair whose two entries have so many variables each, cited as many times with the same entries."""
+    names, lines = variables(n)
+    others = [f"y{k}" for k in range(n)]
+    lines += [f"$v {' '.join(others)} p q $.", *(f"w{name} $f wff {name} $." for name in (*others, "p", "q"))]
+    lines += ["wj $a wff p q $.", "${", "$d p q $.", "ax $a |- p q $.", "$}", f"$d {' '.join(names + others)} $."]
+    joined = [f"w{group[0]} " + " ".join(f"w{name} wj" for name in group[1:]) for group in (names, others)]
+    labels = {name: k for k, name in enumerate(("wj", "ax", *(f"w{name}" for name in names + others)), 2)}
+    first, second = ("".join(number(labels[label]) for label in words.split()) for words in joined)
+    saved = [number(1 + len(labels) + k) for k in (1, 2)]
+    listed = f"( {' '.join(labels)} )"
+    return [*lines, f"t $p |- p $= {listed} {first}Z{second}Z{number(3)}{(saved[0] + saved[1] + number(3)) * (n - 1)} $."]
+
+
+def long_axiom(n):
+    """An axiom of so many constants, named as many times in one proof."""
+    return [*FIRST, f"a $a |- {'( ' * n}$.", f"t $p |- p $= {'a ' * n}$."]
+
+
+def outermost_hypothesis_named(n):
+    """An `$e` of the outermost block with so many symbols, named by as many theorems."""
+    return [*FIRST, f"h $e |- {'p ' * n}$.", *(f"t{k} $p |- p $= h $." for k in range(n))]
 
 
 def number(value):
