@@ -15,6 +15,7 @@ HEAD = re.compile(r"(?:abbrev |unfoldable )?(?:pub )?(?:record |data )?([^\s:({]
 INNER_HEAD = re.compile(r"  (?:abbrev |unfoldable )?pub (?:record |data )?([^\s:({]+)")
 USE = re.compile(r"(?:pub )?use (\S+?)(?:\.\{(.*)\}|(?: as (\S+)))?$")
 COMMENT = re.compile(r"( *)-- ?(.*)")
+IN_WORDS = re.compile(r"In words: `([\w:]+)`: (.+)")
 
 # A contract ends before the body, or before a semicolon, if it is that of a trait's function.
 END = re.compile(r"^ *\{|;$|\Z", re.M)
@@ -47,7 +48,11 @@ class Imports:
 
 
 class Module:
-    """A file of definitions: what it imports, the text of each of its definitions, and what the comment above it says."""
+    """A file of definitions: what it imports, the text of each of its definitions, and what its comments say.
+
+    The comment above a definition says what it is. Lines at the end of this comment, or alone below the definition, may name laws that
+    say it in words.
+    """
 
     def __init__(self, name, path):
         self.name = name
@@ -55,17 +60,19 @@ class Module:
         self.imports = Imports()
         self.definitions = {}
         self.comments = {}
+        self.words = {}
         self.read()
 
     def read(self):
         """Reads the file, line by line."""
         current, mutual, said = None, False, []
-        for line in text_of(self.path).splitlines():
+        for line in [*text_of(self.path).splitlines(), ""]:
             comment, use = COMMENT.match(line), USE.match(line)
             inner = INNER_HEAD.match(line) if mutual else None
             if comment and (current is None or not comment.group(1)):
                 said.append(comment.group(2))
             elif not line.strip() or use or re.match(r"(pub )?mod ", line):
+                self.say_in_words(current or (None if first_in_words(said) else next(reversed(self.definitions), None)), said)
                 current, said = None, []
                 if use:
                     self.imports.take(use)
@@ -82,8 +89,25 @@ class Module:
         """The definition that a line belongs to: one that it begins, or one that has begun."""
         if re.match(r" *(abbrev |unfoldable |pub |record |data )", line) or name not in self.definitions:
             self.definitions[name] = []
-            self.comments[name] = said
+            self.comments[name] = said[: first_in_words(said)]
+        self.say_in_words(name, said)
         return name
+
+    def say_in_words(self, name, said):
+        """Takes what a comment above or below a definition says in words, and by which laws."""
+        for number in range(first_in_words(said), len(said)):
+            found = IN_WORDS.fullmatch(said[number])
+            if name is None or found is None and said[number].startswith("In words"):
+                sys.exit(f"{self.path.relative_to(TOP)}: this is not 'In words: `law`: sentence' at a definition: {said[number]}")
+            if found:
+                self.words.setdefault(name, []).append([found[1], found[2]])
+            else:
+                self.words[name][-1][1] += f" {said[number]}"
+
+
+def first_in_words(said):
+    """The number of the first line of a comment that names a law, or how many lines the comment has."""
+    return next((number for number, line in enumerate(said) if line.startswith("In words")), len(said))
 
 
 def modules():
@@ -152,6 +176,19 @@ def contract(function):
             if each.name == name and (not owner or each.owner == owner[0]):
                 return each
     return sys.exit(f"no public function {function}")
+
+
+def laws():
+    """The laws of all crates by their names, which have their crate or not: public functions of no type that answer nothing."""
+    found = {}
+    for crate in sorted(CRATE_NAMES):
+        names = exported(crate)
+        for path in sorted((CRATES / crate / "src").glob("*.rt")):
+            for each in public_functions(path):
+                if f"{path.stem}.{each.name}" in names and not each.owner and "->" not in each.clauses.split("\n", 1)[0]:
+                    found.setdefault(each.name, []).append(each)
+                    found.setdefault(f"{crate}::{each.name}", []).append(each)
+    return found
 
 
 class Reached:

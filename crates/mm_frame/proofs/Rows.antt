@@ -1,15 +1,15 @@
 -- A small database, and what is sound, active and mandatory in it, by computing.
 use Rattle.std.proofs.Common.{◌≡◌, ℕ, true, false, Some, None, List, [], ◌∷◌, ◌++◌, refl, codes}
 use Rattle.mm_machine.specs.Language.Frame.{Symbol, Hypothesis, Assertion, Unknown, Inactive}
-use Rattle.mm_statement.specs.Language.Item.{Kind, Constants, Variables, Disjoint, Floating, Essential, Axiom, Theorem, BlockStart, BlockEnd, Item, item_at, has}
+use Rattle.mm_statement.specs.Language.Item.{Kind, Constants, Variables, Disjoint, Floating, Essential, Axiom, Theorem, BlockStart, BlockEnd, Said, item_at, has}
 use Rattle.mm_frame.specs.{declared.FrameNumber.TheVariants.{F06, F08, F12}, Language.Sound.{fault, sound_items}}
 use Rattle.mm_frame.specs.Language.{Framing.{resolve, active_pairs, setting_of, before_of, expression, mandatory_numbers}, Scope.{active_variables}}
 use Rattle.mm_frame.specs.Code.LastItems.{last_where, is_active_last, declares_variable, types, carries}
 
-abbrev plain : Kind → List (List ℕ) → Item
+abbrev plain : Kind → List (List ℕ) → Said
 plain kind symbols = record { kind = kind; label = None; symbols = symbols; proof = [] }
 
-abbrev labelled : List ℕ → Kind → List (List ℕ) → Item
+abbrev labelled : List ℕ → Kind → List (List ℕ) → Said
 labelled label kind symbols = record { kind = kind; label = Some label; symbols = symbols; proof = [] }
 
 abbrev wff : List ℕ
@@ -33,7 +33,7 @@ p = codes "p"
 abbrev q : List ℕ
 q = codes "q"
 
-abbrev five : List Item
+abbrev five : List Said
 five = plain Constants (wff ∷ turnstile ∷ arrow ∷ left ∷ right ∷ []) ∷ plain Variables (p ∷ q ∷ []) ∷ labelled (codes "wp") Floating (wff ∷ p ∷ []) ∷
     labelled (codes "wq") Floating (wff ∷ q ∷ []) ∷ labelled (codes "wi") Axiom (wff ∷ left ∷ p ∷ arrow ∷ q ∷ right ∷ []) ∷ []
 
@@ -70,7 +70,7 @@ typed_twice : fault five (labelled (codes "wx") Floating (wff ∷ p ∷ [])) ≡
 typed_twice = refl
 
 -- the block of the sixth line
-abbrev block : List Item
+abbrev block : List Said
 block = plain BlockStart [] ∷ labelled (codes "mi") Essential (turnstile ∷ p ∷ []) ∷ labelled (codes "ma") Essential (turnstile ∷ left ∷ p ∷ arrow ∷ q ∷ right ∷ []) ∷ labelled (codes "mp") Axiom (turnstile ∷ q ∷ []) ∷ plain BlockEnd [] ∷ []
 
 block_sound : sound_items (five ++ block) ≡ five ++ block
@@ -89,7 +89,7 @@ mp_is : resolve (five ++ block) (codes "mp") ≡ Assertion (record {
 mp_is = refl
 
 -- `w2 $p wff ( p -> ( p -> q ) )` after the five: its place and statement
-abbrev with_w2 : List Item
+abbrev with_w2 : List Said
 with_w2 = five ++ labelled (codes "w2") Theorem (wff ∷ left ∷ p ∷ arrow ∷ left ∷ p ∷ arrow ∷ q ∷ right ∷ right ∷ []) ∷ []
 
 w2_wi : (setting_of with_w2 5).resolve (codes "wi") ≡ resolve five (codes "wi")
@@ -130,7 +130,7 @@ number_is : mandatory_numbers five (labelled (codes "w2") Axiom (wff ∷ q ∷ [
 number_is = refl
 
 -- a variable of two blocks
-abbrev twice : List Item
+abbrev twice : List Said
 twice = plain BlockStart [] ∷ plain Variables (p ∷ []) ∷ plain BlockEnd [] ∷ plain BlockStart [] ∷ plain Variables (p ∷ []) ∷ []
 
 declared_twice : last_where (declares_variable p) twice ≡ Some 4
@@ -143,7 +143,7 @@ active_no_more : is_active_last (twice ++ plain BlockEnd [] ∷ []) (Some 4) ≡
 active_no_more = refl
 
 -- why the items have to be sound: here the last `$v` is at fault, and is not active where the first one still is
-abbrev unsound : List Item
+abbrev unsound : List Said
 unsound = plain Variables (p ∷ []) ∷ plain BlockStart [] ∷ plain Variables (p ∷ []) ∷ plain BlockEnd [] ∷ []
 
 active_by_the_first : has (active_variables unsound) p ≡ true

@@ -2,7 +2,8 @@
 
 ghost use Rattle.std.specs.Prelude.{◌≡◌, ◌+◌, ℕ, Bool, true, false, List, [], ◌∷◌, ◌++◌, length, drop, OnOk, OnErr};
 ghost use Rattle.mm_statement.specs.Language.Item as meant;
-ghost use Rattle.mm_frame.specs.Language.Scope.{Neither, mark_of, active_numbers};
+ghost use Rattle.mm_frame.specs.Language.Scope.{active_numbers};
+ghost use Rattle.mm_frame.specs.Language.Marks.{Neither, mark_of};
 ghost use Rattle.mm_frame.specs.Code.BlockMarks.{stays_by, block_marks};
 ghost use Rattle.mm_frame.specs.Code.KeptActive.{IsPruned};
 
@@ -51,7 +52,7 @@ impl ActiveNumbers {
     /// No numbers. It takes no memory.
     pub fn new(alloc: Global) -> ActiveNumbers
         ensures none { result ≡ [] }
-        ensures first { (test : meant.Item → Bool) → result ≡ active_numbers test [] }
+        ensures first { (test : meant.Said → Bool) → result ≡ active_numbers test [] }
     {
         ActiveNumbers {
             numbers: Vec::new(alloc),
@@ -64,7 +65,7 @@ impl ActiveNumbers {
     /// not, and is no `$}`, changes nothing.
     pub fn push(&mut self, number: usize) -> Result<(), AllocError>
         ensures ok { OnOk result (self.new ≡ self.old ++ number ∷ []) }
-        ensures next { OnOk result ((test : meant.Item → Bool) (before : List meant.Item) (item : meant.Item) → mark_of item.kind ≡ Neither → test item ≡ true
+        ensures next { OnOk result ((test : meant.Said → Bool) (before : List meant.Said) (item : meant.Said) → mark_of item.kind ≡ Neither → test item ≡ true
             → number ≡ length before → self.old ≡ active_numbers test before → self.new ≡ active_numbers test (before ++ item ∷ [])) }
         ensures err { OnErr result (self.new ≡ self.old) }
     {
@@ -75,7 +76,7 @@ impl ActiveNumbers {
     /// Drops the numbers of what is no longer active after one more item that is not of this sort. Only a `$}` can
     /// make a difference: so it is called after each `$}`.
     pub fn prune(&mut self, blocks: &Blocks)
-        ensures { (test : meant.Item → Bool) (before : List meant.Item) (item : meant.Item) → test item ≡ false → blocks.now ≡ block_marks (before ++ item ∷ [])
+        ensures { (test : meant.Said → Bool) (before : List meant.Said) (item : meant.Said) → test item ≡ false → blocks.now ≡ block_marks (before ++ item ∷ [])
             → self.old ≡ active_numbers test before → self.new ≡ active_numbers test (before ++ item ∷ []) }
     {
         drop_ended(&mut self.numbers, blocks);

@@ -3,7 +3,9 @@
 ghost use Rattle.std.specs.Prelude.{◌≡◌, ◌∷◌, ◌++◌, ◌&&◌, Bool, List, [], OnOk, length};
 ghost use Rattle.mm_machine.specs.declared.symbol.NumberedSymbol.{NumberedSymbol as Kept};
 ghost use Rattle.mm_statement.specs.Language.Item as meant;
-ghost use Rattle.mm_frame.specs.Language.Scope.{closes, mark_of, active_numbers};
+ghost use Rattle.mm_frame.specs.Language.Scope.{active_numbers};
+ghost use Rattle.mm_frame.specs.Language.Marks.{mark_of};
+ghost use Rattle.mm_frame.specs.Code.BlockMarks.{closes};
 ghost use Rattle.mm_statement.specs.Language.Statement.{kind_of};
 ghost use Rattle.mm_frame.specs.Code.BlockMarks.{block_marks};
 ghost use Rattle.mm_frame.specs.Code.KeptActiveItems.{changes_active};
@@ -37,13 +39,13 @@ pub struct ActiveItems {
 }
 
 fn is_essential(kind: ItemKind) -> bool
-    ensures { result ≡ meant.is_essential (kind_of kind) }
+    ensures { result ≡ meant.is_kind meant.Essential (kind_of kind) }
 {
     matches!(kind, ItemKind::Essential)
 }
 
 pub fn is_disjoint(kind: ItemKind) -> bool
-    ensures { result ≡ meant.is_disjoint (kind_of kind) }
+    ensures { result ≡ meant.is_kind meant.Disjoint (kind_of kind) }
 {
     matches!(kind, ItemKind::Disjoint)
 }
@@ -72,7 +74,7 @@ fn follow(
     of_sort: bool,
     item: TakenItem,
 ) -> Result<(), AllocError>
-    ensures { OnOk result ((test : meant.Kind → Bool) (before : List meant.Item) (said : meant.Item) → IsSort test → kind_of item.kind ≡ said.kind
+    ensures { OnOk result ((test : meant.Kind → Bool) (before : List meant.Said) (said : meant.Said) → IsSort test → kind_of item.kind ≡ said.kind
         → of_sort ≡ test said.kind → item.number ≡ length before → blocks.now ≡ block_marks (before ++ taken item.sound said ∷ [])
         → numbers.old ≡ active_numbers (λ i. test i.kind) before → numbers.new ≡ active_numbers (λ i. test i.kind) (before ++ taken item.sound said ∷ [])) }
 {
@@ -137,7 +139,7 @@ impl ActiveItems {
         expressions: &Expressions,
         item: TakenItem,
     ) -> Result<(), AllocError>
-        ensures { OnOk result ((before : List meant.Item) (said : meant.Item) (old : List (List Kept)) (symbols : List Kept) → kind_of item.kind ≡ said.kind
+        ensures { OnOk result ((before : List meant.Said) (said : meant.Said) (old : List (List Kept)) (symbols : List Kept) → kind_of item.kind ≡ said.kind
             → item.number ≡ length before → blocks.now ≡ block_marks (before ++ taken item.sound said ∷ [])
             → length old ≡ length before → expressions.now ≡ old ++ symbols ∷ [] → AreActiveKept before old self.old
             → AreActiveKept (before ++ taken item.sound said ∷ []) expressions.now self.new) }

@@ -40,7 +40,7 @@ pub struct Known<'a> {
 /// Whether the item with this number in an older base is the same bytes of one piece, of the same kind.
 fn is_again(old: &Base, i: usize, item: &Item) -> bool
     requires { (base : BaseView) × IsBase base old.now }
-    ensures { IsTrue result → (base : BaseView) → IsBase base old.now → IsAgain base.found i item.now }
+    ensures { IsTrue result → IsAgain old.now.items i item.now }
 {
     i < old.count() && is_same_range(old.item(i), item)
 }
@@ -59,9 +59,9 @@ fn needs_no_names(kind: ItemKind) -> bool
 #[inline(always)]
 fn known_of<'a>(old: &'a Base, i: usize, item: &Item) -> Option<Known<'a>>
     requires { (base : BaseView) × IsBase base old.now }
-    ensures known { (names : List (List ℕ)) (files : FilesView) (base : BaseView) → IsBaseBy names base old.now → AllZip (Says files) base.found base.said
+    ensures known { (names : List (List ℕ)) (files : FilesView) (base : BaseView) → IsBaseBy names base old.now → AllZip (Says files) old.now.items base
         → IfSome result (IsKnownItem names files item.now) }
-    ensures sound { (names : List (List ℕ)) (base : BaseView) → IsBaseBy names base old.now → IfSome result (IsSoundAgain names base i item.now) }
+    ensures sound { (names : List (List ℕ)) (base : BaseView) → IsBaseBy names base old.now → IfSome result (IsSoundAgain names old.now.items base i item.now) }
 {
     if !needs_no_names(item.kind) || !is_again(old, i, item) {
         return None;
@@ -114,8 +114,8 @@ fn read_known<'a>(
 ) -> Result<(), AllocError>
     requires read { CanBeRead files.now item.now }
     requires known { IsKnownItem names.now files.now item.now known }
-    ensures { OnOk result ((one : meant.Item) × Says files.now item.now one
-        × ((said : List meant.Item) → IsDraftLater names.now said draft.old → IsDraftLater names.now (said ++ one ∷ []) draft.new)) }
+    ensures { OnOk result ((one : meant.Said) × Says files.now item.now one
+        × ((said : List meant.Said) → IsDraftLater names.now said draft.old → IsDraftLater names.now (said ++ one ∷ []) draft.new)) }
 {
     let statement = Statement::known(alloc, files, item, known.label, known.symbols.len());
     names.distinct();
@@ -146,8 +146,8 @@ fn read_again<'a>(
     requires read { CanBeRead files.now item.now }
     requires older { HasOlder names.old files.now beside.base.now }
     ensures grows { Begins names.old names.new }
-    ensures read { OnOk result ((one : meant.Item) × Says files.now item.now one
-        × ((said : List meant.Item) → IsDraftLater names.old said draft.old → IsDraftLater names.new (said ++ one ∷ []) draft.new)) }
+    ensures read { OnOk result ((one : meant.Said) × Says files.now item.now one
+        × ((said : List meant.Said) → IsDraftLater names.old said draft.old → IsDraftLater names.new (said ++ one ∷ []) draft.new)) }
 {
     let Beside { base: old, next: i } = beside;
     names.distinct();
@@ -198,9 +198,9 @@ fn take_over_known<'a>(
 ) -> Result<(), AllocError>
     requires read { CanBeRead files.now item.now }
     requires known { (names : List (List ℕ)) × IsKnownItem names files.now item.now by.known }
-    ensures read { OnOk result ((one : meant.Item) × Says files.now item.now one
-        × ((all : List (List ℕ)) (base : BaseView) (said : List meant.Item) → IsBaseBy all base by.entry.base.now → AllZip (Says files.now) base.found base.said
-        → AreFirst base said → IsKnownItem all files.now item.now by.entry.known → IsSoundAgain all base (length said) item.now by.entry.known
+    ensures read { OnOk result ((one : meant.Said) × Says files.now item.now one
+        × ((all : List (List ℕ)) (base : BaseView) (said : List meant.Said) → IsBaseBy all base by.entry.base.now → AllZip (Says files.now) by.entry.base.now.items base
+        → AreFirst base said → IsKnownItem all files.now item.now by.entry.known → IsSoundAgain all by.entry.base.now.items base (length said) item.now by.entry.known
         → IsDraft all said draft.old → IsDraft all (said ++ one ∷ []) draft.new)) }
 {
     let KnownBy { base, known } = by;
@@ -230,7 +230,7 @@ struct Reached {
 fn is_same_again(beside: BesideFrom, i: usize, item: &Item) -> bool
     requires { (base : BaseView) × IsBase base beside.base.now }
     ensures same { IsTrue result → beside.entry.same ≡ true }
-    ensures again { IsTrue result → (base : BaseView) → IsBase base beside.entry.base.now → IsAgain base.found i item.now }
+    ensures again { IsTrue result → IsAgain beside.entry.base.now.items i item.now }
 {
     beside.same && is_again(beside.base, i, item)
 }
@@ -248,8 +248,8 @@ fn read_next<'a>(
     requires read { CanBeRead files.now item.now }
     requires older { HasOlder names.old files.now beside.base.now }
     ensures grows { Begins names.old names.new }
-    ensures read { IfOk result (λ reached. (one : meant.Item) × Says files.now item.now one
-        × ((said : List meant.Item) → IsDraftLater names.old said draft.old → AreFirstIf beside.entry.same files.now beside.entry.base.now said
+    ensures read { IfOk result (λ reached. (one : meant.Said) × Says files.now item.now one
+        × ((said : List meant.Said) → IsDraftLater names.old said draft.old → AreFirstIf beside.entry.same files.now beside.entry.base.now said
         → IsDraftLater names.new (said ++ one ∷ []) draft.new × AreFirstIf reached.same files.now beside.entry.base.now (said ++ one ∷ []))) }
 {
     names.distinct();
@@ -285,7 +285,7 @@ fn read_each_again<'a>(
     requires older { HasOlder names.old files.now old.now }
     ensures grows { Begins names.old names.new }
     ensures read { OnOk result (IsDraftLater names.old [] draft.old
-        → (said : List meant.Item) × AllZip (Says files.now) items.now said × IsDraftLater names.new said draft.new) }
+        → (said : List meant.Said) × AllZip (Says files.now) items.now said × IsDraftLater names.new said draft.new) }
 {
     let mut reached = Reached {
         next: 0,
@@ -316,7 +316,7 @@ pub fn read_all_again<'a>(
     requires read { All (CanBeRead files.now) items.now }
     requires older { HasOlder names.old files.now old.now }
     ensures grows { Begins names.old names.new }
-    ensures read { IfOk result (λ draft. (said : List meant.Item) × AllZip (Says files.now) items.now said × IsDraftLater names.new said draft) }
+    ensures read { IfOk result (λ draft. (said : List meant.Said) × AllZip (Says files.now) items.now said × IsDraftLater names.new said draft) }
 {
     let mut draft = Draft::with_room(alloc, items.len(), room)?;
     match read_each_again(&mut draft, alloc, names, files, items, old) {

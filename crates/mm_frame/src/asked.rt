@@ -55,7 +55,7 @@ impl AskedPairs {
     pub fn known(&self, first: usize, second: usize) -> Answer
         ensures first { result.first ≡ first }
         ensures second { result.second ≡ second }
-        ensures known { (all : List (List ℕ)) (before : List meant.Item) → KnowsAsked all before self.now → IsKnownPair all before result }
+        ensures known { (all : List (List ℕ)) (before : List meant.Said) → KnowsAsked all before self.now → IsKnownPair all before result }
     {
         let place = self.place(first, second);
         if place < self.answers.len() {
@@ -74,7 +74,7 @@ impl AskedPairs {
 
     /// Keeps an answer. After an allocation failure the answers must not be used.
     pub fn keep(&mut self, answer: Answer) -> Result<(), AllocError>
-        ensures { OnOk result ((all : List (List ℕ)) (before : List meant.Item) → KnowsAsked all before self.old → IsKnownPair all before answer
+        ensures { OnOk result ((all : List (List ℕ)) (before : List meant.Said) → KnowsAsked all before self.old → IsKnownPair all before answer
             → KnowsAsked all before self.new) }
     {
         let place = self.place(answer.first, answer.second);

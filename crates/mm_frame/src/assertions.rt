@@ -49,7 +49,7 @@ fn is_framed(item: TakenItem) -> bool
 
 /// Whether such an item has a proof.
 fn has_proof(item: TakenItem) -> bool
-    ensures { result ≡ (item.sound && meant.is_theorem (kind_of item.kind)) }
+    ensures { result ≡ (item.sound && meant.is_kind meant.Theorem (kind_of item.kind)) }
 {
     item.sound && matches!(item.kind, ItemKind::Theorem)
 }
@@ -63,9 +63,9 @@ fn keep_frame(
     own: &[NumberedSymbol],
     framed: bool,
 ) -> Result<(), AllocError>
-    ensures asked { OnOk result ((all : List (List ℕ)) (before : List meant.Item) → KnowsEarlier all before earlier.now → KnowsAsked all before room.old.asked
+    ensures asked { OnOk result ((all : List (List ℕ)) (before : List meant.Said) → KnowsEarlier all before earlier.now → KnowsAsked all before room.old.asked
         → KnowsAsked all before room.new.asked) }
-    ensures frames { OnOk result ((all : List (List ℕ)) (said : List meant.Item) (item : meant.Item) → KnowsEarlier all (sound_items said) earlier.now
+    ensures frames { OnOk result ((all : List (List ℕ)) (said : List meant.Said) (item : meant.Said) → KnowsEarlier all (sound_items said) earlier.now
         → KnowsAsked all (sound_items said) room.old.asked → framed ≡ is_told_framed (sound_items said) item
         → (framed ≡ true → IsFramed all (sound_items said) item own.now)
         → AreRows (TellsFrame all) said frames.old → AreRows (TellsFrame all) (said ++ item ∷ []) frames.new) }
@@ -90,9 +90,9 @@ fn keep_pairs(
     expressions: &Expressions,
     proof: bool,
 ) -> Result<(), AllocError>
-    ensures made { OnOk result ((all : List (List ℕ)) (before : List meant.Item) → AreSound before → AreSymbols all before expressions.now
+    ensures made { OnOk result ((all : List (List ℕ)) (before : List meant.Said) → AreSound before → AreSymbols all before expressions.now
         → disjoints.now ≡ active_numbers is_disjoint_item before → AreMade all before pair_lists.old → AreMade all before pair_lists.new) }
-    ensures pairs { OnOk result ((all : List (List ℕ)) (said : List meant.Item) (item : meant.Item) → AreSymbols all (sound_items said) expressions.now
+    ensures pairs { OnOk result ((all : List (List ℕ)) (said : List meant.Said) (item : meant.Said) → AreSymbols all (sound_items said) expressions.now
         → disjoints.now ≡ active_numbers is_disjoint_item (sound_items said)
         → AreMade all (sound_items said) pair_lists.old → proof ≡ is_told_proof (sound_items said) item
         → AreRows (TellsPairs all pair_lists.old) said pairs.old → AreRows (TellsPairs all pair_lists.new) (said ++ item ∷ []) pairs.new) }
@@ -140,7 +140,7 @@ impl Assertions {
         own: &[NumberedSymbol],
         item: TakenItem,
     ) -> Result<(), AllocError>
-        ensures { OnOk result ((all : List (List ℕ)) (said : List meant.Item) (one : meant.Item) → KnowsEarlier all (sound_items said) earlier.now
+        ensures { OnOk result ((all : List (List ℕ)) (said : List meant.Said) (one : meant.Said) → KnowsEarlier all (sound_items said) earlier.now
             → disjoints.now ≡ active_numbers is_disjoint_item (sound_items said) → kind_of item.kind ≡ one.kind
             → is_none (fault (sound_items said) one) ≡ item.sound
             → ((item.sound && meant.is_assertion (kind_of item.kind)) ≡ true → IsFramed all (sound_items said) one own.now)

@@ -74,7 +74,7 @@ pub enum Resolved {
 }
 
 fn is_floating(kind: ItemKind) -> bool
-    ensures { result ≡ meant.is_floating (kind_of kind) }
+    ensures { result ≡ meant.is_kind meant.Floating (kind_of kind) }
 {
     matches!(kind, ItemKind::Floating)
 }
@@ -103,7 +103,7 @@ impl Base {
         files: &Files,
         top: &[u8],
     ) -> Result<Base, StoreError>
-        ensures base { IfOk result (λ built. (base : BaseView) × IsOfFiles files.now top.now base × IsBaseBy names.new base built
+        ensures base { IfOk result (λ built. (base : BaseView) × IsOfFiles files.now top.now built.items base × IsBaseBy names.new base built
             × StandsLater names.new base built) }
         ensures grows { Begins names.old names.new }
         ensures no_top { IsErrOf result NoTop ↔ (number_of (files_in files.now) top.now ≡ None) }
@@ -136,7 +136,7 @@ impl Base {
         old: &mut Base,
     ) -> Result<Base, StoreError>
         requires older { HasOlder names.old files.now old.old }
-        ensures base { IfOk result (λ built. (base : BaseView) × IsOfFiles files.now top.now base × IsBaseBy names.new base built
+        ensures base { IfOk result (λ built. (base : BaseView) × IsOfFiles files.now top.now built.items base × IsBaseBy names.new base built
             × StandsLater names.new base built) }
         ensures grows { Begins names.old names.new }
         ensures older { old.new ≡ old.old }
@@ -193,7 +193,7 @@ impl Base {
 
     /// Whether the item with this number is a `$f`. The items themselves are not looked at.
     pub fn is_floating(&self, i: usize) -> bool
-        ensures { (base : BaseView) → IsBase base self.now → result ≡ meant.is_floating (said_at base i).kind }
+        ensures { (base : BaseView) → IsBase base self.now → result ≡ meant.is_kind meant.Floating (said_at base i).kind }
     {
         match element_at(&self.floats, i) {
             Some(floating) => *floating,
@@ -203,7 +203,7 @@ impl Base {
 
     /// How many items there are: at most 4,294,967,295.
     pub fn count(&self) -> usize
-        ensures count { (base : BaseView) → IsBase base self.now → result ≡ length base.said }
+        ensures count { (base : BaseView) → IsBase base self.now → result ≡ length base }
         ensures few { (base : BaseView) → IsBase base self.now → result ≤ 4294967295 }
     {
         self.parts.rows.count()
@@ -211,8 +211,8 @@ impl Base {
 
     /// The item of the files with this number.
     pub fn item(&self, i: usize) -> &Item
-        requires { (base : BaseView) × IsBase base self.now × (i < length base.said) }
-        ensures found { (base : BaseView) → IsBase base self.now → slice_get base.found i ≡ Some result.now }
+        requires { (base : BaseView) × IsBase base self.now × (i < length base) }
+        ensures found { slice_get self.now.items i ≡ Some result.now }
         ensures kind { (base : BaseView) → IsBase base self.now → kind_of result.now.kind ≡ (said_at base i).kind }
     {
         &self.items[i]

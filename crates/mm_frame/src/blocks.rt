@@ -1,7 +1,7 @@
 //! Blocks: whether an item is active at a later one.
 
 ghost use Rattle.std.specs.Prelude.{◌≡◌, ◌↔◌, ℕ, true, suc, ◌+◌, ◌<◌, ◌≤◌, List, [], ◌∷◌, ◌++◌, length, take, drop, slice_range, IfOk, OnOk, OnErr};
-ghost use Rattle.mm_frame.specs.Language.Scope.{Opens, Closes, Neither};
+ghost use Rattle.mm_frame.specs.Language.Marks.{Opens, Closes, Neither};
 ghost use Rattle.mm_frame.specs.Language.Resolving.{IsUpTo};
 ghost use Rattle.mm_frame.specs.Code.BlockMarks.{is_inside_by, stays_by};
 ghost use Rattle.mm_frame.specs.Code.BlockEnds.{end_of_block};
@@ -32,7 +32,7 @@ pub struct Blocks {
 
 impl Model for Blocks {
     ghost use Rattle.std.specs.Prelude.{List};
-    ghost use Rattle.mm_frame.specs.Language.Scope.{Mark};
+    ghost use Rattle.mm_frame.specs.Language.Marks.{Mark};
 
     ghost Value = { List Mark };
 

@@ -146,7 +146,7 @@ fn keep_symbols(
 ) -> Result<(), AllocError>
     ensures numbered { OnOk result ((all : List (List ℕ)) → AreNameNumbers all numbers.now statement.now.symbols
         → All (IsNumbered all) symbols.new.items) }
-    ensures read { OnOk result ((all : List (List ℕ)) (before : List meant.Item) → AreSound before → Knows all before tables.now
+    ensures read { OnOk result ((all : List (List ℕ)) (before : List meant.Said) → AreSound before → Knows all before tables.now
         → AreNameNumbers all numbers.now statement.now.symbols → sound ≡ true → IsSound before statement.now
         → is_read statement.now.kind ≡ true → symbols_of all symbols.new.items ≡ expression before statement.now) }
 {
@@ -171,7 +171,7 @@ fn earlier<'b>(
     active: &'b ActiveItems,
     expressions: &'b Expressions,
 ) -> Earlier<'b>
-    ensures { (all : List (List ℕ)) (before : List meant.Item) → AreSound before → ScopeHolds all before scope.now → KnowsPairs all before pairs.now
+    ensures { (all : List (List ℕ)) (before : List meant.Said) → AreSound before → ScopeHolds all before scope.now → KnowsPairs all before pairs.now
         → AreActiveKept before expressions.now active.now → AreSymbols all before expressions.now → KnowsEarlier all before result }
 {
     Earlier {
@@ -192,9 +192,9 @@ fn follow_pairs(
     numbers: &[usize],
     item: TakenItem,
 ) -> Result<(), AllocError>
-    ensures { OnOk result ((all : List (List ℕ)) (before : List meant.Item) (said : meant.Item) → AreDistinct all → AreSound before
+    ensures { OnOk result ((all : List (List ℕ)) (before : List meant.Said) (said : meant.Said) → AreDistinct all → AreSound before
         → kind_of item.kind ≡ said.kind → item.number ≡ length before → blocks.now ≡ block_marks before
-        → (meant.is_disjoint said.kind ≡ true → AreNameNumbers all numbers.now said.symbols) → (item.sound ≡ true → IsSound before said)
+        → (meant.is_kind meant.Disjoint said.kind ≡ true → AreNameNumbers all numbers.now said.symbols) → (item.sound ≡ true → IsSound before said)
         → KnowsPairs all before pairs.old → KnowsPairs all (before ++ taken item.sound said ∷ []) pairs.new) }
 {
     let TakenItem {
@@ -258,7 +258,7 @@ impl<'a> Draft<'a> {
         fault: &Option<FrameFault>,
         expected: Option<usize>,
     ) -> Result<(), AllocError>
-        ensures follows { OnOk result ((all : List (List ℕ)) (said : List meant.Item) → IsDraftApart all said self.old
+        ensures follows { OnOk result ((all : List (List ℕ)) (said : List meant.Said) → IsDraftApart all said self.old
             → option_map (λ f. (f.word, f.number)) fault.now ≡ meaning.fault (sound_items said) statement.now
             → (uses_numbers statement.now.kind ≡ true → AreNameNumbers all self.old.numbers.items statement.now.symbols)
             → AreSymbolsOf all (sound_items said) statement.now (is_none fault.now) symbols.now
@@ -293,7 +293,7 @@ impl<'a> Draft<'a> {
         fault: &Option<FrameFault>,
         expected: Option<usize>,
     ) -> Result<(), AllocError>
-        ensures { OnOk result ((all : List (List ℕ)) (said : List meant.Item) → IsDraft all said self.old
+        ensures { OnOk result ((all : List (List ℕ)) (said : List meant.Said) → IsDraft all said self.old
             → option_map (λ f. (f.word, f.number)) fault.now ≡ meaning.fault (sound_items said) statement.now
             → (uses_numbers statement.now.kind ≡ true → AreNameNumbers all self.old.numbers.items statement.now.symbols)
             → AreSymbolsOf all (sound_items said) statement.now (is_none fault.now) symbols.now
@@ -326,7 +326,7 @@ impl<'a> Draft<'a> {
         expected: Option<usize>,
     ) -> Result<(), AllocError>
         requires { length self.old.numbers.items ≡ length statement.now.symbols }
-        ensures { OnOk result ((all : List (List ℕ)) (said : List meant.Item) → IsDraft names.now said self.old → IsDraft all said self.old
+        ensures { OnOk result ((all : List (List ℕ)) (said : List meant.Said) → IsDraft names.now said self.old → IsDraft all said self.old
             → AreNameNumbers names.now self.old.numbers.items statement.now.symbols → AreNameNumbers all self.old.numbers.items statement.now.symbols
             → IsDraft all (said ++ statement.now ∷ []) self.new) }
     {
@@ -352,7 +352,7 @@ impl<'a> Draft<'a> {
         expected: Option<usize>,
     ) -> Result<bool, AllocError>
         requires { length symbols.now ≡ length statement.now.symbols }
-        ensures { IfOk result (λ taken. MatchBool taken ((all : List (List ℕ)) (said : List meant.Item) → IsDraft names.now said self.old
+        ensures { IfOk result (λ taken. MatchBool taken ((all : List (List ℕ)) (said : List meant.Said) → IsDraft names.now said self.old
             → IsDraft all said self.old → AreNameNumbers names.now (numbers_of symbols.now) statement.now.symbols
             → AreNameNumbers all (numbers_of symbols.now) statement.now.symbols → IsDraft all (said ++ statement.now ∷ []) self.new)
             (self.new ≡ self.old)) }
@@ -381,7 +381,7 @@ impl<'a> Draft<'a> {
         symbols: &[NumberedSymbol],
         old: &Base,
     ) -> Result<(), AllocError>
-        ensures { OnOk result ((all : List (List ℕ)) (base : BaseView) (said : List meant.Item) → IsNextOf all old.now base said statement.now
+        ensures { OnOk result ((all : List (List ℕ)) (base : BaseView) (said : List meant.Said) → IsNextOf all old.now base said statement.now
             → is_sound_at base (length said) ≡ true → is_read statement.now.kind ≡ true
             → symbols_of all symbols.now ≡ expression (sound_items said) statement.now → All (IsNumbered all) symbols.now
             → (uses_numbers statement.now.kind ≡ true → AreNameNumbers all self.old.numbers.items statement.now.symbols) → IsDraft all said self.old
@@ -407,8 +407,8 @@ impl<'a> Draft<'a> {
     ) -> Result<(), AllocError>
         requires { CanBeRead files.now item.now }
         ensures grows { Begins names.old names.new }
-        ensures read { OnOk result ((one : meant.Item) × Says files.now item.now one
-            × ((said : List meant.Item) → IsDraftLater names.old said self.old → IsDraftLater names.new (said ++ one ∷ []) self.new)) }
+        ensures read { OnOk result ((one : meant.Said) × Says files.now item.now one
+            × ((said : List meant.Said) → IsDraftLater names.old said self.old → IsDraftLater names.new (said ++ one ∷ []) self.new)) }
     {
         let statement = Statement::read(alloc, files, item)?;
         number_all(alloc, names, &statement, &mut self.numbers)?;
@@ -425,7 +425,7 @@ impl<'a> Draft<'a> {
     ) -> Result<Draft<'a>, AllocError>
         requires { All (CanBeRead files.now) items.now }
         ensures grows { Begins names.old names.new }
-        ensures read { IfOk result (λ draft. (said : List meant.Item) × AllZip (Says files.now) items.now said × IsDraftLater names.new said draft) }
+        ensures read { IfOk result (λ draft. (said : List meant.Said) × AllZip (Says files.now) items.now said × IsDraftLater names.new said draft) }
     {
         let mut draft = Draft::with_room(alloc, items.len(), DraftRoom::none(alloc))?;
         match draft.read_each(alloc, names, files, items) {
@@ -447,8 +447,8 @@ impl<'a> Draft<'a> {
     ) -> Result<(), AllocError>
         requires { All (CanBeRead files.now) items.now }
         ensures grows { Begins names.old names.new }
-        ensures read { OnOk result ((more : List meant.Item) × AllZip (Says files.now) items.now more
-            × ((said : List meant.Item) → IsDraftLater names.old said self.old → IsDraftLater names.new (said ++ more) self.new)) }
+        ensures read { OnOk result ((more : List meant.Said) × AllZip (Says files.now) items.now more
+            × ((said : List meant.Said) → IsDraftLater names.old said self.old → IsDraftLater names.new (said ++ more) self.new)) }
     {
         for item in items {
             self.read(alloc, names, files, item)?;
@@ -458,7 +458,7 @@ impl<'a> Draft<'a> {
 
     /// What is kept when all items are read.
     pub fn parts(self) -> Parts
-        ensures { (all : List (List ℕ)) (said : List meant.Item) → IsDraft all said self.entry → AreParts all said result }
+        ensures { (all : List (List ℕ)) (said : List meant.Said) → IsDraft all said self.entry → AreParts all said result }
     {
         let Draft {
             scope,

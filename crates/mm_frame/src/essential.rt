@@ -145,7 +145,7 @@ impl EssentialVariables {
         expressions: &Expressions,
         number: usize,
     ) -> Result<(), AllocError>
-        ensures { OnOk result ((before : List meant.Item) (item : meant.Item) (old : List (List Kept)) (symbols : List Kept) → number ≡ length before
+        ensures { OnOk result ((before : List meant.Said) (item : meant.Said) (old : List (List Kept)) (symbols : List Kept) → number ≡ length before
             → essentials.now ≡ active_numbers is_essential_item (before ++ item ∷ []) → length old ≡ length before → expressions.now ≡ old ++ symbols ∷ []
             → AreVariablesOf (active_numbers is_essential_item before) old self.old.found.items
             → AreVariablesOf essentials.now expressions.now self.new.found.items) }

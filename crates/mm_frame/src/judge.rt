@@ -3,7 +3,7 @@
 ghost use Rattle.std.specs.Prelude.{◌≡◌, ◌<◌, ◌∷◌, ◌++◌, ℕ, true, None, List, [], IfOk, IsTrue, length, map, take, slice_index_or};
 ghost use Rattle.std.specs.Option.{option_map};
 ghost use Rattle.mm_statement.specs.Language.Item as meant;
-ghost use Rattle.mm_statement.specs.Language.Item.{Item};
+ghost use Rattle.mm_statement.specs.Language.Item.{Said};
 ghost use Rattle.mm_frame.specs.Code.FaultInOrder as judging;
 ghost use Rattle.mm_frame.specs.Language.Sound as sound;
 ghost use Rattle.mm_frame.specs.Language.Sound.{AreSound};
@@ -34,7 +34,7 @@ pub struct FrameFault {
 
 /// What is wrong with a label.
 fn label_fault(names: &Names, scope: &Scope, label: &[u8]) -> Option<FrameNumber>
-    ensures { (before : List Item) → AreSound before → ScopeHolds names.now before scope.now → result ≡ judging.label_fault before label.now }
+    ensures { (before : List Said) → AreSound before → ScopeHolds names.now before scope.now → result ≡ judging.label_fault before label.now }
 {
     if scope.is_label(label) {
         Some(FrameNumber::F06)
@@ -47,7 +47,7 @@ fn label_fault(names: &Names, scope: &Scope, label: &[u8]) -> Option<FrameNumber
 
 /// What is wrong at the first word: a `$c` is in a block, or the label is wrong.
 fn front_fault(names: &Names, scope: &Scope, statement: &Statement) -> Option<FrameNumber>
-    ensures { (before : List Item) → AreSound before → ScopeHolds names.now before scope.now → result ≡ judging.front_fault before statement.now }
+    ensures { (before : List Said) → AreSound before → ScopeHolds names.now before scope.now → result ≡ judging.front_fault before statement.now }
 {
     if matches!(statement.kind(), ItemKind::Constants) && scope.is_inside() {
         return Some(FrameNumber::F02);
@@ -58,10 +58,10 @@ fn front_fault(names: &Names, scope: &Scope, statement: &Statement) -> Option<Fr
 /// What is wrong with a symbol of a `$c` or `$v`: `repeated` says that it occurs earlier in the same statement, and
 /// `declared` that it is a symbol already and must not be declared again.
 fn declared_fault(scope: &Scope, name: &[u8], repeated: bool, declared: bool) -> Option<FrameNumber>
-    ensures constant { (all : List (List ℕ)) (before : List Item) (item : Item) (n : ℕ) → AreSound before → ScopeHolds all before scope.now
+    ensures constant { (all : List (List ℕ)) (before : List Said) (item : Said) (n : ℕ) → AreSound before → ScopeHolds all before scope.now
         → repeated ≡ sound.is_repeated item n name.now → declared ≡ sound.is_declared before name.now
         → result ≡ judging.constant_fault before item n name.now }
-    ensures variable { (all : List (List ℕ)) (before : List Item) (item : Item) (n : ℕ) → AreSound before → ScopeHolds all before scope.now
+    ensures variable { (all : List (List ℕ)) (before : List Said) (item : Said) (n : ℕ) → AreSound before → ScopeHolds all before scope.now
         → repeated ≡ sound.is_repeated item n name.now → declared ≡ sound.is_active_symbol before name.now
         → result ≡ judging.variable_fault before item n name.now }
 {
@@ -79,7 +79,7 @@ fn declared_fault(scope: &Scope, name: &[u8], repeated: bool, declared: bool) ->
 /// What is wrong with a symbol of a `$d`, given by its number, if it is known whether the symbol occurs earlier in the
 /// same statement.
 fn disjoint_fault(scope: &Scope, number: usize, repeated: bool) -> Option<FrameNumber>
-    ensures { (all : List (List ℕ)) (before : List Item) (item : Item) (n : ℕ) (name : List ℕ) → AreSound before → ScopeHolds all before scope.now
+    ensures { (all : List (List ℕ)) (before : List Said) (item : Said) (n : ℕ) (name : List ℕ) → AreSound before → ScopeHolds all before scope.now
         → IsNameNumber all number name → repeated ≡ sound.is_repeated item n name → result ≡ judging.disjoint_fault before item n name }
 {
     if repeated {
@@ -93,7 +93,7 @@ fn disjoint_fault(scope: &Scope, number: usize, repeated: bool) -> Option<FrameN
 
 /// What is wrong with the typecode that has this number.
 fn typecode_fault(scope: &Scope, number: usize) -> Option<FrameNumber>
-    ensures { (all : List (List ℕ)) (before : List Item) (name : List ℕ) → AreSound before → ScopeHolds all before scope.now → IsNameNumber all number name
+    ensures { (all : List (List ℕ)) (before : List Said) (name : List ℕ) → AreSound before → ScopeHolds all before scope.now → IsNameNumber all number name
         → result ≡ judging.typecode_fault before name }
 {
     if !scope.is_constant(number) {
@@ -104,7 +104,7 @@ fn typecode_fault(scope: &Scope, number: usize) -> Option<FrameNumber>
 
 /// What is wrong with the variable of a `$f`, given by its number, that gives it this typecode.
 fn typed_fault(scope: &Scope, number: usize, typecode: &[u8]) -> Option<FrameNumber>
-    ensures { (all : List (List ℕ)) (before : List Item) (item : Item) (name : List ℕ) → AreSound before → ScopeHolds all before scope.now
+    ensures { (all : List (List ℕ)) (before : List Said) (item : Said) (name : List ℕ) → AreSound before → ScopeHolds all before scope.now
         → IsNameNumber all number name → meant.typecode_of item ≡ typecode.now → result ≡ judging.typed_fault before item name }
 {
     if !scope.is_active_variable(number) {
@@ -126,7 +126,7 @@ fn floating_fault(
     number: usize,
 ) -> Option<FrameNumber>
     requires { n < length statement.now.symbols }
-    ensures { (all : List (List ℕ)) (before : List Item) → AreSound before → ScopeHolds all before scope.now
+    ensures { (all : List (List ℕ)) (before : List Said) → AreSound before → ScopeHolds all before scope.now
         → IsNameNumber all number (slice_index_or statement.now.symbols n [])
         → result ≡ judging.floating_fault before statement.now n (slice_index_or statement.now.symbols n []) }
 {
@@ -139,7 +139,7 @@ fn floating_fault(
 
 /// What is wrong with the symbol after a typecode that has this number.
 fn later_fault(scope: &Scope, number: usize) -> Option<FrameNumber>
-    ensures { (all : List (List ℕ)) (before : List Item) (name : List ℕ) → AreSound before → ScopeHolds all before scope.now → IsNameNumber all number name
+    ensures { (all : List (List ℕ)) (before : List Said) (name : List ℕ) → AreSound before → ScopeHolds all before scope.now → IsNameNumber all number name
         → result ≡ judging.later_fault before name }
 {
     if scope.may_follow(number) {
@@ -153,7 +153,7 @@ fn later_fault(scope: &Scope, number: usize) -> Option<FrameNumber>
 
 /// What is wrong with the n-th symbol of a `$e`, `$a` or `$p`, counted from 0, which has this number.
 fn expression_fault(scope: &Scope, n: usize, number: usize) -> Option<FrameNumber>
-    ensures { (all : List (List ℕ)) (before : List Item) (name : List ℕ) → AreSound before → ScopeHolds all before scope.now → IsNameNumber all number name
+    ensures { (all : List (List ℕ)) (before : List Said) (name : List ℕ) → AreSound before → ScopeHolds all before scope.now → IsNameNumber all number name
         → result ≡ judging.expression_fault before n name }
 {
     if n == 0 {
@@ -181,7 +181,7 @@ fn expression_symbols_fault(
 ) -> Option<FrameFault>
     requires count { length numbers.now ≡ length statement.now.symbols }
     requires expression { meant.is_expression statement.now.kind ≡ true }
-    ensures { (all : List (List ℕ)) (before : List Item) → AreSound before → ScopeHolds all before scope.now
+    ensures { (all : List (List ℕ)) (before : List Said) → AreSound before → ScopeHolds all before scope.now
         → AreNameNumbers all numbers.now statement.now.symbols
         → option_map (λ f. (f.word, f.number)) result ≡ judging.symbols_fault before statement.now }
 {
@@ -218,7 +218,7 @@ fn symbol_fault(
     repeated: bool,
 ) -> Option<FrameNumber>
     requires { n < length statement.now.symbols }
-    ensures { (all : List (List ℕ)) (before : List Item) → AreSound before → ScopeHolds all before scope.now
+    ensures { (all : List (List ℕ)) (before : List Said) → AreSound before → ScopeHolds all before scope.now
         → IsNameNumber all number (slice_index_or statement.now.symbols n [])
         → (judging.must_differ statement.now.kind ≡ true → repeated ≡ sound.is_repeated statement.now n (slice_index_or statement.now.symbols n []))
         → result ≡ judging.symbol_fault before statement.now n (slice_index_or statement.now.symbols n []) }
@@ -287,7 +287,7 @@ fn symbols_fault(
     numbers: &[usize],
 ) -> Result<Option<FrameFault>, AllocError>
     requires { length numbers.now ≡ length statement.now.symbols }
-    ensures { (all : List (List ℕ)) (before : List Item) → AreSound before → ScopeHolds all before scope.now
+    ensures { (all : List (List ℕ)) (before : List Said) → AreSound before → ScopeHolds all before scope.now
         → AreNameNumbers all numbers.now statement.now.symbols
         → IfOk result (λ found. option_map (λ f. (f.word, f.number)) found ≡ judging.symbols_fault before statement.now) }
 {
@@ -344,7 +344,7 @@ pub fn fault_of(
     numbers: &[usize],
 ) -> Result<Option<FrameFault>, AllocError>
     requires { length numbers.now ≡ length statement.now.symbols }
-    ensures { (before : List Item) → AreSound before → ScopeHolds names.now before scope.now → AreNameNumbers names.now numbers.now statement.now.symbols
+    ensures { (before : List Said) → AreSound before → ScopeHolds names.now before scope.now → AreNameNumbers names.now numbers.now statement.now.symbols
         → IfOk result (λ found. option_map (λ f. (f.word, f.number)) found ≡ sound.fault before statement.now) }
 {
     if let Some(number) = front_fault(names, scope, statement) {
@@ -359,7 +359,7 @@ pub fn fault_of(
 /// Whether the n-th symbol of a `$e`, `$a` or `$p`, counted from 0, has no fault, and is a constant or a variable as its name
 /// is.
 fn is_right(scope: &Scope, n: usize, symbol: NumberedSymbol) -> bool
-    ensures fault { IsTrue result → (all : List (List ℕ)) (before : List Item) (name : List ℕ) → AreSound before → ScopeHolds all before scope.now
+    ensures fault { IsTrue result → (all : List (List ℕ)) (before : List Said) (name : List ℕ) → AreSound before → ScopeHolds all before scope.now
         → IsNameNumber all symbol.name name → None ≡ judging.expression_fault before n name }
     ensures sort { IsTrue result → symbol ≡ symbol_by scope.now.tables symbol.name }
 {
@@ -377,7 +377,7 @@ fn is_right(scope: &Scope, n: usize, symbol: NumberedSymbol) -> bool
 fn are_right(scope: &Scope, statement: &Statement, symbols: &[NumberedSymbol]) -> bool
     requires count { length symbols.now ≡ length statement.now.symbols }
     requires expression { meant.is_expression statement.now.kind ≡ true }
-    ensures faults { IsTrue result → (all : List (List ℕ)) (before : List Item) → AreSound before → ScopeHolds all before scope.now
+    ensures faults { IsTrue result → (all : List (List ℕ)) (before : List Said) → AreSound before → ScopeHolds all before scope.now
         → AreNameNumbers all (numbers_of symbols.now) statement.now.symbols → None ≡ judging.symbols_fault before statement.now }
     ensures sorts { IsTrue result → map (symbol_by scope.now.tables) (numbers_of symbols.now) ≡ symbols.now }
 {
@@ -401,7 +401,7 @@ pub fn is_sound_as_known(
 ) -> bool
     requires { length symbols.now ≡ length statement.now.symbols }
     ensures expression { IsTrue result → meant.is_expression statement.now.kind ≡ true }
-    ensures fault { IsTrue result → (before : List Item) → AreSound before → ScopeHolds names.now before scope.now
+    ensures fault { IsTrue result → (before : List Said) → AreSound before → ScopeHolds names.now before scope.now
         → AreNameNumbers names.now (numbers_of symbols.now) statement.now.symbols → None ≡ sound.fault before statement.now }
     ensures sorts { IsTrue result → map (symbol_by scope.now.tables) (numbers_of symbols.now) ≡ symbols.now }
 {

@@ -1,7 +1,7 @@
 //! Labels with the numbers of their items, found by hash.
 
 ghost use Rattle.std.specs.Prelude.{◌≡◌, ℕ, List, true, false, None, Some, MatchOption, IfOk, OnOk, bytes_eq, if◌then◌else◌};
-ghost use Rattle.mm_frame.specs.Code.KeptLabels.{is_coded, is_wide_coded, label_code, label_number};
+ghost use Rattle.mm_frame.specs.Code.KeptLabels.{is_coded, label_code, label_number};
 
 use std::alloc::{AllocError, Global};
 use std::collections::HashMap;
@@ -9,18 +9,13 @@ use std::collections::HashMap;
 /// The most bytes of a label that is kept by its code.
 const MOST_SHORT: usize = 9;
 
-/// The most bytes of a label that is kept by a code of twice as many bits.
-const MOST_MIDDLE: usize = 18;
-
 /// Labels, each with the number of an item.
 ///
 /// Nearly all labels that proofs name have few bytes. A short label is kept as the number that its bytes make, so a look-up
-/// reads little memory. So is one of middle length, apart from these, since its number is larger. A longer one is kept by its
-/// bytes.
+/// reads little memory. A longer one is kept by its bytes.
 #[derive(Drop)]
 pub struct LabelNumbers {
     short: HashMap<u64, usize>,
-    middle: HashMap<u128, usize>,
     long: HashMap<Vec<u8>, usize>,
 }
 
@@ -45,26 +40,6 @@ fn code_of(label: &[u8]) -> Option<u64>
     Some(code)
 }
 
-/// The same of a label of middle length: its number has more bits.
-fn wide_code_of(label: &[u8]) -> Option<u128>
-    ensures { MatchOption result (is_wide_coded label.now ≡ false) (λ code. (is_wide_coded label.now ≡ true) × (code ≡ label_code label.now)) }
-{
-    if label.len() > MOST_MIDDLE {
-        return None;
-    }
-    let mut code = 1;
-    let mut left = label.len();
-    while left > 0 {
-        left -= 1;
-        let byte = label[left];
-        if !byte.is_ascii() {
-            return None;
-        }
-        code = code * 128 + u128::from(byte);
-    }
-    Some(code)
-}
-
 impl LabelNumbers {
     /// No labels, with room for this many that are short.
     #[tactic(auto, unfolding(crate::specs::Code::KeptLabels::label_number))]
@@ -74,7 +49,6 @@ impl LabelNumbers {
         let short = HashMap::with_capacity(alloc, count)?;
         Ok(LabelNumbers {
             short,
-            middle: HashMap::new(alloc),
             long: HashMap::new(alloc),
         })
     }
@@ -84,11 +58,8 @@ impl LabelNumbers {
     pub fn get(&self, label: &[u8]) -> Option<usize>
         ensures { result ≡ label_number self.now label.now }
     {
-        if let Some(code) = code_of(label) {
-            return self.short.get(&code).copied();
-        }
-        match wide_code_of(label) {
-            Some(code) => self.middle.get(&code).copied(),
+        match code_of(label) {
+            Some(code) => self.short.get(&code).copied(),
             None => self.long.get(label).copied(),
         }
     }
@@ -98,13 +69,9 @@ impl LabelNumbers {
         ensures { OnOk result ((other : List ℕ) → label_number self.new other
             ≡ (if bytes_eq label.now other then Some number else label_number self.old other)) }
     {
-        if let Some(code) = code_of(label) {
-            self.short.insert(code, number)?;
-            return Ok(());
-        }
-        match wide_code_of(label) {
+        match code_of(label) {
             Some(code) => {
-                self.middle.insert(code, number)?;
+                self.short.insert(code, number)?;
             }
             None => {
                 let key = Vec::from_slice(alloc, label)?;

@@ -3,8 +3,8 @@
 ghost use Rattle.mm_frame.specs.Language.Laws.{ActiveByBlocks, FaultIsFound, HasFaultOrIsSound, HasOneStatementFault, KeptNext, NeverFaultAndSound};
 ghost use Rattle.mm_frame.specs.Language.Laws.{PlacesHaveFrames, ReaderIsActive, SoundHasNone, StaysByCounts};
 ghost use Rattle.mm_frame.specs.Language.Laws.{AssertionsMean, HasItemOrIsUnknown, HasOwnLabels, ItemsHaveLabels, MandatoryMeans, MandatoryStandBefore};
-ghost use Rattle.mm_frame.specs.Language.Laws.{ActiveHypothesesMean, ActiveInBlocks, AlikeFilesSayTheSame, AssertionsHaveFrames, EndedHypothesesMean};
-ghost use Rattle.mm_frame.specs.Language.Laws.{FilesHaveOneBase, FloatsAgree, FloatsAreTypings, FramesHavePairs, PairsAreOfTwo, SoundItemsStand};
+ghost use Rattle.mm_frame.specs.Language.Laws.{ActiveHypothesesMean, ActiveInBlocks, AssertionsHaveFrames, EndedHypothesesMean};
+ghost use Rattle.mm_frame.specs.Language.Laws.{FloatsAgree, FloatsAreTypings, FramesHavePairs, PairsAreOfTwo, SaidAreLabelled, SoundItemsStand};
 
 /// Each label that resolves to an assertion has a frame whose variables are typed once.
 pub fn places_have_frames()
@@ -58,7 +58,8 @@ pub fn active_by_blocks()
 
 /// Each sound `$f`, `$e`, `$a` and `$p` has a label.
 pub fn items_have_labels()
-    ensures { ItemsHaveLabels }
+    ensures sound { ItemsHaveLabels }
+    ensures said { SaidAreLabelled }
 {}
 
 /// Two sound items with one label are one.
@@ -122,14 +123,3 @@ pub fn assertions_have_frames()
 pub fn pairs_are_of_two()
     ensures { PairsAreOfTwo }
 {}
-
-/// Files have one base from a top file on, and the keys of their pieces do not matter for what its items say.
-pub fn files_have_one_base()
-    ensures base { FilesHaveOneBase }
-    ensures said { AlikeFilesSayTheSame }
-{
-    mm_store::one_meaning();
-    mm_store::one_expansion();
-    mm_store::items_stand();
-    mm_store::keys_do_not_matter();
-}

@@ -40,21 +40,24 @@ pub use draft::Frame;
 pub use examples::frames_are_read_so;
 pub use judge::FrameFault;
 pub use laws::{
-    active_by_blocks, active_in_blocks, assertions_have_frames, fault_is_found,
-    files_have_one_base, floats_agree, floats_are_typings, has_fault_or_is_sound, has_one_fault,
-    has_own_labels, hypotheses_mean, items_have_labels, kept_next, labels_mean, mandatory_means,
-    mandatory_stand_before, never_both, pairs_are_of_two, places_have_frames, reader_is_active,
-    sound_has_none, sound_items_stand, stays_by_counts,
+    active_by_blocks, active_in_blocks, assertions_have_frames, fault_is_found, floats_agree,
+    floats_are_typings, has_fault_or_is_sound, has_one_fault, has_own_labels, hypotheses_mean,
+    items_have_labels, kept_next, labels_mean, mandatory_means, mandatory_stand_before, never_both,
+    pairs_are_of_two, places_have_frames, reader_is_active, sound_has_none, sound_items_stand,
+    stays_by_counts,
 };
 pub use mm_machine::{NamedSymbol, NumberedSymbol, Symbol};
 pub use mm_statement::{
-    ProofWords, Statement, has_bytes, nth_of_proof, same_proof, words_of_proof,
+    ProofWords, Statement, databases_are_read_so, databases_are_there, files_have_one_database,
+    has_bytes, items_are_located, missing_are_named, names_are_taken, nth_of_proof, same_proof,
+    words_of_proof,
 };
 pub use mm_store::{
     BatchError, Edit, EditError, Files, Item, ItemKind, Keyword, PieceKey, Place, StoreError,
     TextError, TextFault, TextNumber, Undo, Undos, Walk, Word, WordCursor, WordKind,
     appending_keeps_items, edits_keep_files, edits_keep_units, first_faults_are_within, fits,
-    has_expansion, items_stand, nth_word, one_edit, one_meaning, place, walks_go_on,
+    has_expansion, items_stand, nth_word, one_edit, one_meaning, place, texts_are_read_so,
+    walks_go_on,
 };
 pub use names::Names;
 pub use same::{

@@ -148,7 +148,7 @@ pub fn hypotheses(
     numbers: &mut Vec<usize>,
     list: Vec<usize>,
 ) -> Result<Vec<usize>, AllocError>
-    ensures { IfOk result (λ numbers. (all : List (List ℕ)) (before : List meant.Item) (item : meant.Item) → KnowsEarlier all before earlier.now
+    ensures { IfOk result (λ numbers. (all : List (List ℕ)) (before : List meant.Said) (item : meant.Said) → KnowsEarlier all before earlier.now
         → IsFramed all before item own.now → numbers.items ≡ mandatory_numbers before item) }
 {
     let (tables, essentials) = (earlier.tables, earlier.essentials);
@@ -230,7 +230,7 @@ fn add_if_active(
     second: NumberedSymbol,
     pairs: &mut Vec<(NumberedSymbol, NumberedSymbol)>,
 ) -> Result<(), AllocError>
-    ensures pairs { OnOk result ((all : List (List ℕ)) (before : List meant.Item) (said : List (Meaning × Meaning)) → ReadsPairs all before table.now blocks.now
+    ensures pairs { OnOk result ((all : List (List ℕ)) (before : List meant.Said) (said : List (Meaning × Meaning)) → ReadsPairs all before table.now blocks.now
         → KnowsAsked all before asked.old → IsNumbered all first → IsNumbered all second → ArePairsRead all said pairs.old.items
         → ArePairsRead all (said ++ filter (are_paired (active_pairs before)) ((symbol_of all first, symbol_of all second) ∷ [])) pairs.new.items) }
     ensures asked { OnOk result (AsksOn table.now blocks.now asked.old asked.new) }
@@ -251,7 +251,7 @@ fn add_active_with(
     later: &[NumberedSymbol],
     pairs: &mut Vec<(NumberedSymbol, NumberedSymbol)>,
 ) -> Result<(), AllocError>
-    ensures pairs { OnOk result ((all : List (List ℕ)) (before : List meant.Item) (said : List (Meaning × Meaning)) → ReadsPairs all before table.now blocks.now
+    ensures pairs { OnOk result ((all : List (List ℕ)) (before : List meant.Said) (said : List (Meaning × Meaning)) → ReadsPairs all before table.now blocks.now
         → KnowsAsked all before asked.old → IsNumbered all first → All (IsNumbered all) later.now → ArePairsRead all said pairs.old.items
         → ArePairsRead all (said ++ filter (are_paired (active_pairs before)) (map (λ y. (symbol_of all first, y)) (symbols_of all later.now)))
         pairs.new.items) }
@@ -277,12 +277,12 @@ fn add_pairs_with_later(
     pairs: &mut Vec<(NumberedSymbol, NumberedSymbol)>,
 ) -> Result<(), AllocError>
     requires { n < length placed.now.variables.now }
-    ensures pairs { OnOk result ((all : List (List ℕ)) (before : List meant.Item) (said : List (Meaning × Meaning)) (first : NumberedSymbol)
+    ensures pairs { OnOk result ((all : List (List ℕ)) (before : List meant.Said) (said : List (Meaning × Meaning)) (first : NumberedSymbol)
         → KnowsEarlier all before earlier.now → KnowsAsked all before asked.old → IfSome placed.now.places (ArePlaces placed.now.variables.now)
         → All (IsNumbered all) placed.now.variables.now → ArePairsRead all said pairs.old.items → slice_get placed.now.variables.now n ≡ Some first
         → ArePairsRead all (said ++ filter (are_paired (active_pairs before))
         (map (λ y. (symbol_of all first, y)) (symbols_of all (drop (n + 1) placed.now.variables.now)))) pairs.new.items) }
-    ensures asked { OnOk result ((all : List (List ℕ)) (before : List meant.Item) → KnowsEarlier all before earlier.now → KnowsAsked all before asked.old
+    ensures asked { OnOk result ((all : List (List ℕ)) (before : List meant.Said) → KnowsEarlier all before earlier.now → KnowsAsked all before asked.old
         → KnowsAsked all before asked.new) }
 {
     let (table, variables) = (earlier.pairs, placed.variables);
@@ -306,10 +306,10 @@ fn active_among(
     pairs: &mut Vec<(NumberedSymbol, NumberedSymbol)>,
     list: Vec<(NumberedSymbol, NumberedSymbol)>,
 ) -> Result<Vec<(NumberedSymbol, NumberedSymbol)>, AllocError>
-    ensures pairs { IfOk result (λ pairs. (all : List (List ℕ)) (before : List meant.Item) → KnowsEarlier all before earlier.now
+    ensures pairs { IfOk result (λ pairs. (all : List (List ℕ)) (before : List meant.Said) → KnowsEarlier all before earlier.now
         → KnowsAsked all before asked.old → All (IsNumbered all) variables.now
         → ArePairsRead all (filter (are_paired (active_pairs before)) (pairs_of (symbols_of all variables.now))) pairs.items) }
-    ensures asked { OnOk result ((all : List (List ℕ)) (before : List meant.Item) → KnowsEarlier all before earlier.now → KnowsAsked all before asked.old
+    ensures asked { OnOk result ((all : List (List ℕ)) (before : List meant.Said) → KnowsEarlier all before earlier.now → KnowsAsked all before asked.old
         → KnowsAsked all before asked.new) }
 {
     let places = places_if_many(alloc, earlier.pairs, variables)?;
@@ -332,9 +332,9 @@ pub fn mandatory_pairs(
     hypotheses: &[usize],
     list: Vec<(NumberedSymbol, NumberedSymbol)>,
 ) -> Result<Vec<(NumberedSymbol, NumberedSymbol)>, AllocError>
-    ensures asked { OnOk result ((all : List (List ℕ)) (before : List meant.Item) → KnowsEarlier all before earlier.now → KnowsAsked all before room.old.asked
+    ensures asked { OnOk result ((all : List (List ℕ)) (before : List meant.Said) → KnowsEarlier all before earlier.now → KnowsAsked all before room.old.asked
         → KnowsAsked all before room.new.asked) }
-    ensures pairs { IfOk result (λ pairs. (all : List (List ℕ)) (before : List meant.Item) (item : meant.Item) → KnowsEarlier all before earlier.now
+    ensures pairs { IfOk result (λ pairs. (all : List (List ℕ)) (before : List meant.Said) (item : meant.Said) → KnowsEarlier all before earlier.now
         → KnowsAsked all before room.old.asked → hypotheses.now ≡ mandatory_numbers before item
         → ArePairsRead all (pairs_in_order (frame before item)) pairs.items) }
 {

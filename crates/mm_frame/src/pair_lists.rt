@@ -173,7 +173,7 @@ fn count_to(number: usize, count: usize) -> usize
 
 /// The count of items up to the last of the first active `$d`: 0 if there is none.
 fn count_to_last(disjoints: &[usize], expressions: &Expressions) -> usize
-    ensures { (all : List (List ℕ)) (before : List meant.Item) (rest : List ℕ) → AreSymbols all before expressions.now
+    ensures { (all : List (List ℕ)) (before : List meant.Said) (rest : List ℕ) → AreSymbols all before expressions.now
         → disjoints.now ++ rest ≡ active_numbers is_disjoint_item before → AreFrontNumbers before disjoints.now result }
 {
     match disjoints.last() {
@@ -287,9 +287,9 @@ impl PairLists {
         count: usize,
         expressions: &Expressions,
     ) -> Result<usize, AllocError>
-        ensures pairs { IfOk result (λ k. (all : List (List ℕ)) (before : List meant.Item) → AreSound before → AreSymbols all before expressions.now
+        ensures pairs { IfOk result (λ k. (all : List (List ℕ)) (before : List meant.Said) → AreSound before → AreSymbols all before expressions.now
             → AreFrontNumbers before first.now count → AreMade all before self.old → IsList all self.new k (active_pairs (take count before))) }
-        ensures made { OnOk result ((all : List (List ℕ)) (before : List meant.Item) → AreSound before → AreSymbols all before expressions.now
+        ensures made { OnOk result ((all : List (List ℕ)) (before : List meant.Said) → AreSound before → AreSymbols all before expressions.now
             → AreFrontNumbers before first.now count → AreMade all before self.old → AreMade all before self.new) }
         ensures kept { OnOk result (KeepsLists self.old self.new) }
     {
@@ -345,11 +345,11 @@ impl PairLists {
         count: usize,
         expressions: &Expressions,
     ) -> Result<usize, AllocError>
-        ensures pairs { IfOk result (λ k. (all : List (List ℕ)) (before : List meant.Item) (rest : List ℕ) → AreSound before
+        ensures pairs { IfOk result (λ k. (all : List (List ℕ)) (before : List meant.Said) (rest : List ℕ) → AreSound before
             → AreSymbols all before expressions.now
             → outer.now ++ rest ≡ active_numbers is_disjoint_item before → AreFrontNumbers before outer.now count → AreMade all before self.old
             → IsList all self.new k (active_pairs (take count before))) }
-        ensures made { OnOk result ((all : List (List ℕ)) (before : List meant.Item) (rest : List ℕ) → AreSound before → AreSymbols all before expressions.now
+        ensures made { OnOk result ((all : List (List ℕ)) (before : List meant.Said) (rest : List ℕ) → AreSound before → AreSymbols all before expressions.now
             → outer.now ++ rest ≡ active_numbers is_disjoint_item before → AreFrontNumbers before outer.now count → AreMade all before self.old
             → AreMade all before self.new) }
         ensures kept { OnOk result (KeepsLists self.old self.new) }
@@ -375,9 +375,9 @@ impl PairLists {
         disjoints: &[usize],
         expressions: &Expressions,
     ) -> Result<usize, AllocError>
-        ensures pairs { IfOk result (λ k. (all : List (List ℕ)) (before : List meant.Item) → AreSound before → AreSymbols all before expressions.now
+        ensures pairs { IfOk result (λ k. (all : List (List ℕ)) (before : List meant.Said) → AreSound before → AreSymbols all before expressions.now
             → disjoints.now ≡ active_numbers is_disjoint_item before → AreMade all before self.old → IsList all self.new k (active_pairs before)) }
-        ensures made { OnOk result ((all : List (List ℕ)) (before : List meant.Item) → AreSound before → AreSymbols all before expressions.now
+        ensures made { OnOk result ((all : List (List ℕ)) (before : List meant.Said) → AreSound before → AreSymbols all before expressions.now
             → disjoints.now ≡ active_numbers is_disjoint_item before → AreMade all before self.old → AreMade all before self.new) }
         ensures kept { OnOk result (KeepsLists self.old self.new) }
     {
@@ -396,7 +396,7 @@ impl PairLists {
 
     /// The number of the list that is made for the active `$d` with these numbers, if one is made.
     pub fn made_list(&self, disjoints: &[usize], expressions: &Expressions) -> Option<usize>
-        ensures { IfSome result (λ k. (all : List (List ℕ)) (before : List meant.Item) → AreSound before → AreSymbols all before expressions.now
+        ensures { IfSome result (λ k. (all : List (List ℕ)) (before : List meant.Said) → AreSound before → AreSymbols all before expressions.now
             → disjoints.now ≡ active_numbers is_disjoint_item before → AreMade all before self.now → IsList all self.now k (active_pairs before)) }
     {
         self.made_for(count_to_last(disjoints, expressions))
@@ -409,7 +409,7 @@ impl PairLists {
         expressions: &Expressions,
         k: usize,
     ) -> Result<(), AllocError>
-        ensures made { OnOk result ((all : List (List ℕ)) (before : List meant.Item) → AreSound before → AreSymbols all before expressions.now
+        ensures made { OnOk result ((all : List (List ℕ)) (before : List meant.Said) → AreSound before → AreSymbols all before expressions.now
             → disjoints.now ≡ active_numbers is_disjoint_item before → IsList all self.old k (active_pairs before) → AreMade all before self.old
             → AreMade all before self.new) }
         ensures lists { OnOk result (self.new.lists ≡ self.old.lists) }

@@ -121,7 +121,7 @@ fn ask(
     row: &[usize],
     other: &[usize],
 ) -> Result<bool, AllocError>
-    ensures value { IfOk result (λ r. (all : List (List ℕ)) (before : List meant.Item) (x y : List ℕ) (table : PairTable)
+    ensures value { IfOk result (λ r. (all : List (List ℕ)) (before : List meant.Said) (x y : List ℕ) (table : PairTable)
         → ReadsPairs all before table blocks.now → row.now ≡ row_at table first → other.now ≡ row_at table second
         → KnowsAsked all before asked.old → IsNameNumber all first x → IsNameNumber all second y
         → (first ≡ second → ⊥) → r ≡ are_paired (active_pairs before) (as_variable x, as_variable y)) }
@@ -180,7 +180,7 @@ impl PairTable {
         first: usize,
         second: usize,
     ) -> Result<bool, AllocError>
-        ensures value { IfOk result (λ r. (all : List (List ℕ)) (before : List meant.Item) (x y : List ℕ) → ReadsPairs all before self.now blocks.now
+        ensures value { IfOk result (λ r. (all : List (List ℕ)) (before : List meant.Said) (x y : List ℕ) → ReadsPairs all before self.now blocks.now
             → KnowsAsked all before asked.old → IsNameNumber all first x → IsNameNumber all second y
             → r ≡ are_paired (active_pairs before) (as_variable x, as_variable y)) }
         ensures asked { OnOk result (AsksOn self.now blocks.now asked.old asked.new) }

@@ -175,7 +175,7 @@ pub fn add_partners(
     pairs: &mut Vec<(NumberedSymbol, NumberedSymbol)>,
 ) -> Result<(), AllocError>
     requires { n < length variables.now }
-    ensures { OnOk result ((all : List (List ℕ)) (before : List meant.Item) (said : List (Meaning × Meaning)) (first : NumberedSymbol)
+    ensures { OnOk result ((all : List (List ℕ)) (before : List meant.Said) (said : List (Meaning × Meaning)) (first : NumberedSymbol)
         → KnowsEarlier all before earlier.now → ArePlaces variables.now places.now → All (IsNumbered all) variables.now
         → ArePairsRead all said pairs.old.items → slice_get variables.now n ≡ Some first
         → ArePairsRead all (said ++ filter (are_paired (active_pairs before))

@@ -3,7 +3,7 @@
 ghost use Rattle.std.specs.Prelude.{◌≡◌, ℕ, is_none, true, List, [], ◌∷◌, ◌++◌, OnOk, IfOk, IsTrue, slice_index_or};
 ghost use Rattle.mm_statement.specs.Language.Item as meant;
 ghost use Rattle.mm_frame.specs.Language.Scope as scopes;
-ghost use Rattle.mm_frame.specs.Language.Scope.{mark_of};
+ghost use Rattle.mm_frame.specs.Language.Marks.{mark_of};
 ghost use Rattle.mm_statement.specs.Language.Statement.{kind_of};
 ghost use Rattle.mm_frame.specs.Language.Sound as sound;
 ghost use Rattle.mm_frame.specs.Language.Sound.{AreSound};
@@ -77,14 +77,14 @@ impl<'a> Scope<'a> {
 
     /// Whether a block is open.
     pub fn is_inside(&self) -> bool
-        ensures { (all : List (List ℕ)) (before : List meant.Item) → AreSound before → ScopeHolds all before self.now → result ≡ scopes.is_inside before }
+        ensures { (all : List (List ℕ)) (before : List meant.Said) → AreSound before → ScopeHolds all before self.now → result ≡ scopes.is_inside before }
     {
         self.blocks.is_inside()
     }
 
     /// Whether the name with this number is a constant.
     pub fn is_constant(&self, number: usize) -> bool
-        ensures { (all : List (List ℕ)) (before : List meant.Item) (name : List ℕ) → AreSound before → ScopeHolds all before self.now
+        ensures { (all : List (List ℕ)) (before : List meant.Said) (name : List ℕ) → AreSound before → ScopeHolds all before self.now
             → IsNameNumber all number name → result ≡ meant.has (scopes.constants before) name }
     {
         self.tables.is_constant(number)
@@ -92,7 +92,7 @@ impl<'a> Scope<'a> {
 
     /// Whether the name with this number is a constant or a variable, active or not.
     pub fn is_declared(&self, number: usize) -> bool
-        ensures { (all : List (List ℕ)) (before : List meant.Item) (name : List ℕ) → AreSound before → ScopeHolds all before self.now
+        ensures { (all : List (List ℕ)) (before : List meant.Said) (name : List ℕ) → AreSound before → ScopeHolds all before self.now
             → IsNameNumber all number name → result ≡ sound.is_declared before name }
     {
         self.tables.is_declared(number)
@@ -100,7 +100,7 @@ impl<'a> Scope<'a> {
 
     /// Whether an item, active or not, has this label.
     pub fn is_label(&self, label: &[u8]) -> bool
-        ensures { (all : List (List ℕ)) (before : List meant.Item) → AreSound before → ScopeHolds all before self.now
+        ensures { (all : List (List ℕ)) (before : List meant.Said) → AreSound before → ScopeHolds all before self.now
             → result ≡ sound.is_label before label.now }
     {
         self.tables.is_label(label)
@@ -108,7 +108,7 @@ impl<'a> Scope<'a> {
 
     /// Whether the name with this number is an active variable.
     pub fn is_active_variable(&self, number: usize) -> bool
-        ensures { (all : List (List ℕ)) (before : List meant.Item) (name : List ℕ) → AreSound before → ScopeHolds all before self.now
+        ensures { (all : List (List ℕ)) (before : List meant.Said) (name : List ℕ) → AreSound before → ScopeHolds all before self.now
             → IsNameNumber all number name → result ≡ meant.has (scopes.active_variables before) name }
     {
         match self.tables.variable(number) {
@@ -119,7 +119,7 @@ impl<'a> Scope<'a> {
 
     /// Whether the name with this number is a constant or an active variable.
     pub fn is_active_symbol(&self, number: usize) -> bool
-        ensures { (all : List (List ℕ)) (before : List meant.Item) (name : List ℕ) → AreSound before → ScopeHolds all before self.now
+        ensures { (all : List (List ℕ)) (before : List meant.Said) (name : List ℕ) → AreSound before → ScopeHolds all before self.now
             → IsNameNumber all number name → result ≡ sound.is_active_symbol before name }
     {
         self.is_constant(number) || self.is_active_variable(number)
@@ -127,7 +127,7 @@ impl<'a> Scope<'a> {
 
     /// Whether the item with this number is active; none is not.
     fn is_active_number(&self, number: Option<usize>) -> bool
-        ensures { (all : List (List ℕ)) (before : List meant.Item) → ScopeHolds all before self.now → result ≡ numbered.is_active_last before number }
+        ensures { (all : List (List ℕ)) (before : List meant.Said) → ScopeHolds all before self.now → result ≡ numbered.is_active_last before number }
     {
         match number {
             Some(number) => self.blocks.is_active_now(number),
@@ -138,7 +138,7 @@ impl<'a> Scope<'a> {
     /// Whether the name with this number may come after a typecode: it is a constant, or a variable that is active and
     /// typed.
     pub fn may_follow(&self, number: usize) -> bool
-        ensures { (all : List (List ℕ)) (before : List meant.Item) (name : List ℕ) → AreSound before → ScopeHolds all before self.now
+        ensures { (all : List (List ℕ)) (before : List meant.Said) (name : List ℕ) → AreSound before → ScopeHolds all before self.now
             → IsNameNumber all number name → result ≡ is_none (judging.later_fault before name) }
     {
         // A variable with an active `$f` is active, so its `$v` is not looked at.
@@ -151,7 +151,7 @@ impl<'a> Scope<'a> {
 
     /// Whether this symbol may come after a typecode, and is a constant or a variable as its name is.
     pub fn may_follow_as(&self, symbol: NumberedSymbol) -> bool
-        ensures follows { IsTrue result → (all : List (List ℕ)) (before : List meant.Item) (name : List ℕ) → AreSound before
+        ensures follows { IsTrue result → (all : List (List ℕ)) (before : List meant.Said) (name : List ℕ) → AreSound before
             → ScopeHolds all before self.now → IsNameNumber all symbol.name name → is_none (judging.later_fault before name) ≡ true }
         ensures sort { IsTrue result → symbol ≡ symbol_by self.now.tables symbol.name }
     {
@@ -166,7 +166,7 @@ impl<'a> Scope<'a> {
 
     /// The number of the last `$f` of the variable whose name has this number, active or not.
     pub fn float(&self, number: usize) -> Option<usize>
-        ensures { (all : List (List ℕ)) (before : List meant.Item) (name : List ℕ) → AreSound before → ScopeHolds all before self.now
+        ensures { (all : List (List ℕ)) (before : List meant.Said) (name : List ℕ) → AreSound before → ScopeHolds all before self.now
             → IsNameNumber all number name → result ≡ numbered.last_where (numbered.types name) before }
     {
         self.tables.float(number)
@@ -174,7 +174,7 @@ impl<'a> Scope<'a> {
 
     /// Whether an active `$f` types the name with this number.
     pub fn is_typed(&self, number: usize) -> bool
-        ensures { (all : List (List ℕ)) (before : List meant.Item) (name : List ℕ) → AreSound before → ScopeHolds all before self.now
+        ensures { (all : List (List ℕ)) (before : List meant.Said) (name : List ℕ) → AreSound before → ScopeHolds all before self.now
             → IsNameNumber all number name → result ≡ sound.is_typed before name }
     {
         match self.float(number) {
@@ -192,7 +192,7 @@ impl<'a> Scope<'a> {
 
     /// Whether a `$f`, active or not, gives the name with this number another typecode than this one.
     pub fn is_typed_otherwise(&self, number: usize, typecode: &[u8]) -> bool
-        ensures { (all : List (List ℕ)) (before : List meant.Item) (item : meant.Item) (name : List ℕ) → AreSound before → ScopeHolds all before self.now
+        ensures { (all : List (List ℕ)) (before : List meant.Said) (item : meant.Said) (name : List ℕ) → AreSound before → ScopeHolds all before self.now
             → meant.typecode_of item ≡ typecode.now → IsNameNumber all number name → result ≡ sound.is_typed_otherwise before item name }
     {
         match self.float(number) {
@@ -203,7 +203,7 @@ impl<'a> Scope<'a> {
 
     /// Whether these bytes are a constant or a variable, active or not.
     pub fn is_symbol(&self, names: &Names, name: &[u8]) -> bool
-        ensures { (before : List meant.Item) → AreSound before → ScopeHolds names.now before self.now → result ≡ sound.is_declared before name.now }
+        ensures { (before : List meant.Said) → AreSound before → ScopeHolds names.now before self.now → result ≡ sound.is_declared before name.now }
     {
         self.tables.is_symbol(names, name)
     }
@@ -259,7 +259,7 @@ impl<'a> Scope<'a> {
 
     /// What the sound items declare, and their blocks.
     pub fn tables_and_blocks(self) -> (Tables, Blocks)
-        ensures { (all : List (List ℕ)) (before : List meant.Item) → ScopeHolds all before self.entry
+        ensures { (all : List (List ℕ)) (before : List meant.Said) → ScopeHolds all before self.entry
             → Knows all before result.0 × (result.1 ≡ block_marks before) }
     {
         (self.tables, self.blocks)

@@ -76,7 +76,7 @@ impl Tables {
     /// Whether the name with this number is a constant.
     pub fn is_constant(&self, number: usize) -> bool
         ensures value { result ≡ is_constant_as (declared_at self.now number) }
-        ensures declared { (all : List (List ℕ)) (before : List meant.Item) (name : List ℕ) → Knows all before self.now → IsNameNumber all number name
+        ensures declared { (all : List (List ℕ)) (before : List meant.Said) (name : List ℕ) → Knows all before self.now → IsNameNumber all number name
             → result ≡ meant.has (constants before) name }
     {
         matches!(self.name(number), Some(Declared::Constant))
@@ -84,7 +84,7 @@ impl Tables {
 
     /// Whether the name with this number is a constant or a variable, active or not.
     pub fn is_declared(&self, number: usize) -> bool
-        ensures { (all : List (List ℕ)) (before : List meant.Item) (name : List ℕ) → Knows all before self.now → IsNameNumber all number name
+        ensures { (all : List (List ℕ)) (before : List meant.Said) (name : List ℕ) → Knows all before self.now → IsNameNumber all number name
             → result ≡ sound.is_declared before name }
     {
         self.name(number).is_some()
@@ -92,7 +92,7 @@ impl Tables {
 
     /// Whether these bytes are a constant or a variable, active or not.
     pub fn is_symbol(&self, names: &Names, name: &[u8]) -> bool
-        ensures { (before : List meant.Item) → Knows names.now before self.now → result ≡ sound.is_declared before name.now }
+        ensures { (before : List meant.Said) → Knows names.now before self.now → result ≡ sound.is_declared before name.now }
     {
         match names.number(name) {
             Some(number) => self.name(number).is_some(),
@@ -102,14 +102,14 @@ impl Tables {
 
     /// Whether an item, active or not, has this label.
     pub fn is_label(&self, label: &[u8]) -> bool
-        ensures { (all : List (List ℕ)) (before : List meant.Item) → Knows all before self.now → result ≡ sound.is_label before label.now }
+        ensures { (all : List (List ℕ)) (before : List meant.Said) → Knows all before self.now → result ≡ sound.is_label before label.now }
     {
         self.label(label).is_some()
     }
 
     /// The number of the last `$v` that declares the name with this number: none for a constant.
     pub fn variable(&self, number: usize) -> Option<usize>
-        ensures { (all : List (List ℕ)) (before : List meant.Item) (name : List ℕ) → sound.AreSound before → Knows all before self.now
+        ensures { (all : List (List ℕ)) (before : List meant.Said) (name : List ℕ) → sound.AreSound before → Knows all before self.now
             → IsNameNumber all number name → result ≡ numbered.last_where (numbered.declares_variable name) before }
     {
         match self.name(number)? {
@@ -121,7 +121,7 @@ impl Tables {
     /// The number of the last `$f` that types the name with this number: none for what is no variable.
     pub fn float(&self, number: usize) -> Option<usize>
         ensures value { result ≡ float_of (declared_at self.now number) }
-        ensures last { (all : List (List ℕ)) (before : List meant.Item) (name : List ℕ) → sound.AreSound before → Knows all before self.now
+        ensures last { (all : List (List ℕ)) (before : List meant.Said) (name : List ℕ) → sound.AreSound before → Knows all before self.now
             → IsNameNumber all number name → result ≡ numbered.last_where (numbered.types name) before }
     {
         match self.name(number)? {
@@ -231,7 +231,7 @@ impl Tables {
         numbers: &[usize],
         number: usize,
     ) -> Result<(), AllocError>
-        ensures { OnOk result ((all : List (List ℕ)) (before : List meant.Item) → sound.AreSound (before ++ statement.now ∷ []) → length before ≡ number
+        ensures { OnOk result ((all : List (List ℕ)) (before : List meant.Said) → sound.AreSound (before ++ statement.now ∷ []) → length before ≡ number
             → (uses_numbers statement.now.kind ≡ true → AreNameNumbers all numbers.now statement.now.symbols)
             → Knows all before self.old → Knows all (before ++ statement.now ∷ []) self.new) }
     {

@@ -49,7 +49,7 @@ fn copy_frame(
     gone: &mut IntoIter<Frame>,
     kept: Option<&Frame>,
 ) -> Result<(), AllocError>
-    ensures { OnOk result ((all : List (List ℕ)) (said : List meant.Item) (item : meant.Item)
+    ensures { OnOk result ((all : List (List ℕ)) (said : List meant.Said) (item : meant.Said)
         → option_map (λ frame. frame.now.hypotheses.items) kept.entry ≡ told_numbers (sound_items said) item
         → IfSome kept.entry (λ kept. ArePairsRead all (pairs_in_order (frame (sound_items said) item)) kept.now.pairs.items)
         → AreRows (TellsFrame all) said frames.old → AreRows (TellsFrame all) (said ++ item ∷ []) frames.new) }
@@ -75,7 +75,7 @@ struct OldProof<'a> {
 
 /// The number of the list of an earlier `$p`, if it shares its list with the `$p` of the older base.
 fn shared_list(numbers: &Sparse<usize>, proof: OldProof, earlier: usize) -> Option<usize>
-    ensures { IfSome result (λ k. (all : List (List ℕ)) (lists : PairLists) (base : BaseView) (said : List meant.Item) → IsBaseBy all base proof.entry.base.now
+    ensures { IfSome result (λ k. (all : List (List ℕ)) (lists : PairLists) (base : BaseView) (said : List meant.Said) → IsBaseBy all base proof.entry.base.now
         → AreFirst base said → proof.entry.number ≡ length said → is_proof_at base proof.entry.number ≡ true → AreRows (TellsPairs all lists) said numbers.now
         → IsList all lists k (active_pairs (sound_items said))) }
 {
@@ -95,7 +95,7 @@ fn copied_list(
     numbers: &Sparse<usize>,
     proof: OldProof,
 ) -> Result<usize, AllocError>
-    ensures list { IfOk result (λ k. (all : List (List ℕ)) (base : BaseView) (said : List meant.Item) → IsBaseBy all base proof.entry.base.now
+    ensures list { IfOk result (λ k. (all : List (List ℕ)) (base : BaseView) (said : List meant.Said) → IsBaseBy all base proof.entry.base.now
         → AreFirst base said → proof.entry.number ≡ length said → is_proof_at base proof.entry.number ≡ true
         → AreSamePairsRead all (active_pairs (sound_items said)) proof.entry.pairs.now → AreInOrder proof.entry.pairs.now
         → AreRows (TellsPairs all lists.old) said numbers.now → IsList all lists.new k (active_pairs (sound_items said))) }
@@ -121,13 +121,13 @@ fn list_again(
     active: ActiveDisjoints,
     proof: OldProof,
 ) -> Result<usize, AllocError>
-    ensures list { IfOk result (λ k. (all : List (List ℕ)) (base : BaseView) (said : List meant.Item) → IsBaseBy all base proof.entry.base.now
+    ensures list { IfOk result (λ k. (all : List (List ℕ)) (base : BaseView) (said : List meant.Said) → IsBaseBy all base proof.entry.base.now
         → AreFirst base said → proof.entry.number ≡ length said → is_proof_at base proof.entry.number ≡ true
         → AreSamePairsRead all (active_pairs (sound_items said)) proof.entry.pairs.now → AreInOrder proof.entry.pairs.now
         → AreSymbols all (sound_items said) active.entry.expressions.now → active.entry.numbers.now ≡ active_numbers is_disjoint_item (sound_items said)
         → AreMade all (sound_items said) lists.old → AreRows (TellsPairs all lists.old) said numbers.now
         → IsList all lists.new k (active_pairs (sound_items said))) }
-    ensures made { OnOk result ((all : List (List ℕ)) (base : BaseView) (said : List meant.Item) → IsBaseBy all base proof.entry.base.now
+    ensures made { OnOk result ((all : List (List ℕ)) (base : BaseView) (said : List meant.Said) → IsBaseBy all base proof.entry.base.now
         → AreFirst base said → proof.entry.number ≡ length said → is_proof_at base proof.entry.number ≡ true
         → AreSamePairsRead all (active_pairs (sound_items said)) proof.entry.pairs.now → AreInOrder proof.entry.pairs.now
         → AreSymbols all (sound_items said) active.entry.expressions.now → active.entry.numbers.now ≡ active_numbers is_disjoint_item (sound_items said)
@@ -152,12 +152,12 @@ fn copy_pairs(
     active: ActiveDisjoints,
     old: OldItem,
 ) -> Result<(), AllocError>
-    ensures made { OnOk result ((all : List (List ℕ)) (base : BaseView) (said : List meant.Item) (item : meant.Item)
+    ensures made { OnOk result ((all : List (List ℕ)) (base : BaseView) (said : List meant.Said) (item : meant.Said)
         → IsNextOf all old.entry.base.now base said item → old.entry.number ≡ length said
         → AreSymbols all (sound_items said) active.entry.expressions.now → active.entry.numbers.now ≡ active_numbers is_disjoint_item (sound_items said)
         → AreRows (TellsPairs all lists.old) said numbers.old
         → AreMade all (sound_items said) lists.old → AreMade all (sound_items said) lists.new) }
-    ensures pairs { OnOk result ((all : List (List ℕ)) (base : BaseView) (said : List meant.Item) (item : meant.Item)
+    ensures pairs { OnOk result ((all : List (List ℕ)) (base : BaseView) (said : List meant.Said) (item : meant.Said)
         → IsNextOf all old.entry.base.now base said item → old.entry.number ≡ length said
         → AreSymbols all (sound_items said) active.entry.expressions.now → active.entry.numbers.now ≡ active_numbers is_disjoint_item (sound_items said)
         → AreMade all (sound_items said) lists.old → AreRows (TellsPairs all lists.old) said numbers.old
@@ -186,7 +186,7 @@ impl Assertions {
         active: ActiveDisjoints,
         old: OldItem,
     ) -> Result<(), AllocError>
-        ensures { OnOk result ((all : List (List ℕ)) (base : BaseView) (said : List meant.Item) (one : meant.Item)
+        ensures { OnOk result ((all : List (List ℕ)) (base : BaseView) (said : List meant.Said) (one : meant.Said)
             → IsNextOf all old.entry.base.now base said one → old.entry.number ≡ length said
             → AreSymbols all (sound_items said) active.entry.expressions.now → active.entry.numbers.now ≡ active_numbers is_disjoint_item (sound_items said)
             → AreAssertions all said self.old → AreAssertions all (said ++ one ∷ []) self.new) }

@@ -1,10 +1,12 @@
--- Items that are alike, of files that begin alike: the same bytes of the same pieces are read, placed and shown in one way.
+-- Items that are alike, of files that begin alike: the same bytes of the same pieces, which are one item, at one place.
 use Rattle.std.proofs.lemmas.{List.{take-append-le, Folds.{concat-append}}, Option.{slice_get-map, slice_get_within, same_Some}}
-use Rattle.std.proofs.Common.{◌≡◌, ℕ, zero, suc, ◌+◌, ◌≤◌, List, [], ◌∷◌, ◌++◌, Some, length, count_by, take, slice_get, slice_range, refl, sym, ap, ◌∙◌, subst, arith, append_assoc, length-append}
-use Rattle.std.specs.{List.{after_last, concat}, Option.{option_map}}
-use Rattle.mm_proof.specs.{mm_text.{declared.word.Word.{Word}, Language.{Place.{is_line_feed}, Reading.{HasWords}}}, mm_store.Language.Pieces.{text_in, text_under}}
-use Rattle.mm_proof.specs.mm_store.Language.{FilesView.{FilesView, File, plain, plain_file}, FileFacts.{CanBeRead, IsByte, StandsIn, piece_offset}, Keyless.{keyless_item}}
-use Rattle.mm_keep.specs.{declared.finding.At.{At}, Language.{WordPlaces.{start_of, spelled, IsByteOfWord, HasPlace}, Told.{Shown, IsShown}}}
+use Rattle.std.proofs.Common.{◌≡◌, ℕ, zero, suc, ◌+◌, ◌≤◌, List, [], ◌∷◌, ◌++◌, Some, length, count_by, map, take, slice_get, slice_range, refl, sym, ap, ◌∙◌, subst, arith, append_assoc}
+use Rattle.std.{proofs.Common.{length-append}, specs.{List.{after_last, concat}, Option.{option_map}}}
+use Rattle.mm_proof.specs.mm_text.{declared.word.Word.{Word}, Language.{Place.{column_at, is_line_feed, line_at}, Reading.{HasWords}, Stretch.{moved}, Unit.{tokens_of}}}
+use Rattle.mm_proof.specs.mm_store.Language.{Pieces.{text_in, text_under}, FilesView.{FilesView, File, plain, plain_file, text_of}, FileFacts.{CanBeRead, IsByte, StandsIn, piece_offset}}
+use Rattle.mm_proof.specs.{mm_store.Language.Keyless.{keyless_item}, mm_statement.Language.{Database.{Located}, Locating.{IsLocated}, Statement.{Says, item_of, kind_of}}}
+use Rattle.mm_keep.{specs.{declared.finding.At.{At}, Code.KeyedTold.{word_spelling}, Language.WordPlaces.{HasPlace, start_of}}, proofs.PlacedLemmas.{begins_there, spelled_there}}
+use Rattle.mm_keep.proofs.SpotLemmas.{letter_within, own_text, word_is_byte}
 use Rattle.mm_proof.specs.mm_store.declared.item.Item as store
 
 -- a text has one list of words
@@ -103,25 +105,39 @@ module _ (a b : FilesView) (x y : store.Item) (alike : AreAlike a b x y) where
     pub same_words : (s : CanBeRead a x) (t : CanBeRead b y) → s.words ≡ t.words
     same_words s t = one_reading (bytes_in t.text y) s.words t.words (subst (λ bytes. HasWords bytes s.words) (same_bytes s t) s.has_words) t.has_words
 
-    module _ (v w l m : ℕ) (word : v ≡ w) (letter : l ≡ m) where
-      byte_of_word : (at there : ℕ) (f : IsByteOfWord a x v l at) (g : IsByteOfWord b y w m there) → x.start + (start_of (slice_get f.read.words v) + l) ≡ y.start + (start_of (slice_get g.read.words w) + m)
-      byte_of_word at there f g = λ i. (alike.item i).start + (start_of (slice_get (same_words f.read g.read i) (word i)) + letter i)
+-- ---- an item where it stands
 
-      -- a byte of a word has one place
-      pub same_at : (at other : At) → HasPlace a x v l at → HasPlace b y w m other → at ≡ other
-      same_at at other f g =
-          let byte = byte_of_word f.offset g.offset f.is_byte g.is_byte in
-          let front = same_front _ _ f.is_byte.text g.is_byte.text f.offset g.offset byte f.is_byte.byte g.is_byte.byte in
-          let line : at.line ≡ other.line = f.line ∙ ap (λ bytes. count_by is_line_feed bytes + 1) front ∙ sym g.line in
-          let column : at.column ≡ other.column = f.column ∙ ap (λ bytes. length (after_last is_line_feed bytes) + 1) front ∙ sym g.column in
-          λ i. record { file = (f.in_file ∙ same_number ∙ sym g.in_file) i; line = line i; column = column i }
+-- alike items are one item where they stand
+pub same_located : OneReading → (a b : FilesView) (x y : store.Item) (one two : Located) → AreAlike a b x y → IsLocated a x one → IsLocated b y two → Says a x one.said → Says b y two.said → one ≡ two
+same_located reading a b x y one two alike here there says tells =
+    let tokens : tokens_of (bytes_in says.read.text x) says.read.words ≡ tokens_of (bytes_in tells.read.text y) tells.read.words =
+    (λ i. tokens_of (same_bytes a b x y alike says.read tells.read i) (same_words a b x y alike reading says.read tells.read i)) in
+    let file : one.file ≡ two.file = here.file ∙ (λ i. (alike.item i).file) ∙ sym there.file in
+    let piece : one.piece ≡ two.piece = here.piece ∙ (λ i. (alike.item i).piece) ∙ sym there.piece in
+    let words : one.words ≡ two.words = here.words says.read ∙ (λ i. map (moved (alike.item i).start) (tokens i)) ∙ sym (there.words tells.read) in
+    let said : one.said ≡ two.said = says.is ∙ (λ i. item_of (kind_of (alike.item i).kind) (tokens i)) ∙ sym tells.is in
+    λ i. record { file = file i; piece = piece i; words = words i; said = said i }
 
-    same_spelled : (v w : ℕ) → v ≡ w → (s : CanBeRead a x) (t : CanBeRead b y) → spelled (bytes_in s.text x) (slice_get s.words v) ≡ spelled (bytes_in t.text y) (slice_get t.words w)
-    same_spelled v w number s t = λ i. spelled (same_bytes s t i) (slice_get (same_words s t i) (number i))
-
-    -- a word is shown in one way
-    pub same_shown : (v w : ℕ) (shown other : Shown) → v ≡ w → IsShown a x v shown → IsShown b y w other → shown ≡ other
-    same_shown v w shown other word f g =
-        let at : shown.at ≡ other.at = same_at v w 0 0 word refl shown.at other.at f.has_place g.has_place in
-        let spelling : shown.word ≡ other.word = f.is_word ∙ same_spelled v w word f.has_place.is_byte.read g.has_place.is_byte.read ∙ sym g.is_word in
-        λ i. record { at = at i; word = spelling i }
+-- and a byte of its words has one place in both files
+pub place_stays : (a b : FilesView) (x y : store.Item) (one : Located) → AreAlike a b x y → IsLocated a x one → IsLocated b y one → (word letter : ℕ) (at other : At)
+    → HasPlace (plain a) one word letter at → HasPlace (plain b) one word letter other → at ≡ other
+place_stays a b x y one alike here there word letter at other f g =
+    let m = start_of one (slice_get one.words word) + letter in
+    let read = here.read in
+    let less : letter ≤ length (word_spelling (bytes_in read.text x) (slice_get read.words word)) = subst (λ (bytes : List ℕ). letter ≤ length bytes) (spelled_there a x one here read word) f.within in
+    let inside : m ≤ x.end = omega (arith, letter_within a x read word letter less, begins_there a x one here read word) in
+    let first = plain_file a.pieces alike.first.file in
+    let second = plain_file b.pieces alike.second.file in
+    let mine : f.file ≡ first = same_Some f.file first (sym f.there ∙ ap (slice_get (plain a)) here.file ∙ file_there a x alike.first) in
+    let yours : g.file ≡ second = same_Some g.file second (sym g.there ∙ ap (slice_get (plain b)) there.file ∙ file_there b y alike.second) in
+    let byte = word_is_byte a x read read.text (own_text a x read) alike.first m inside in
+    let copy = word_is_byte b y there.read there.read.text (own_text b y there.read) alike.second m (subst (λ (item : store.Item). m ≤ item.end) alike.item inside) in
+    let front = same_front a b x y alike m m _ _ _ _ refl byte copy in
+    let line : at.line ≡ other.line =
+    f.line ∙ (λ i. line_at (text_of (mine i)) (piece_offset (mine i) (here.piece i) + m)) ∙ ap (λ bytes. count_by is_line_feed bytes + 1) front
+    ∙ sym (λ i. line_at (text_of (yours i)) (piece_offset (yours i) (there.piece i) + m)) ∙ sym g.line in
+    let column : at.column ≡ other.column =
+    f.column ∙ (λ i. column_at (text_of (mine i)) (piece_offset (mine i) (here.piece i) + m)) ∙ ap (λ bytes. length (after_last is_line_feed bytes) + 1) front
+    ∙ sym (λ i. column_at (text_of (yours i)) (piece_offset (yours i) (there.piece i) + m)) ∙ sym g.column in
+    let number : at.file ≡ other.file = f.in_file ∙ sym g.in_file in
+    λ i. record { file = number i; line = line i; column = column i }

@@ -75,10 +75,10 @@ behind_all view before now behind = record {
 
 -- what is cited, by the marks
 pub cites_marked :
-    (view : BaseView) (i : ℕ) (fresh marks : List Bool) (numbers : List ℕ) → i < length view.said → length fresh ≡ i → ((k : ℕ) → IsMarked fresh k → ⊥) →
-    MarksMore (CitesItem view i) fresh marks → AreThose (IsMarked marks) (length marks) numbers → AreThose (CitesItem view i) (length view.said) numbers
+    (view : BaseView) (i : ℕ) (fresh marks : List Bool) (numbers : List ℕ) → i < length view → length fresh ≡ i → ((k : ℕ) → IsMarked fresh k → ⊥) →
+    MarksMore (CitesItem view i) fresh marks → AreThose (IsMarked marks) (length marks) numbers → AreThose (CitesItem view i) (length view) numbers
 cites_marked view i fresh marks numbers within count empty more those =
-    those_moved (IsMarked marks) (CitesItem view i) (length marks) (length view.said) numbers those
+    those_moved (IsMarked marks) (CitesItem view i) (length marks) (length view) numbers those
     (λ k l m. elim ((more.each k).0 m) [
       | inl f ↦ absurd (empty k f)
       | inr c ↦ (let e = cites_earlier view i k c in (omega (arith, e, within), c))
@@ -87,10 +87,10 @@ cites_marked view i fresh marks numbers within count empty more those =
 
 -- the axioms, by the marks
 pub axioms_marked :
-    (view : BaseView) (i : ℕ) (fresh marks : List Bool) (numbers : List ℕ) → i < length view.said → length fresh ≡ i + 1 → IsMarked fresh i → ((k : ℕ) → IsMarked fresh k → k ≡ i) →
-    MarksBehind view fresh marks → AreThose (λ k. IsMarked marks k × IsAxiom view k) (length marks) numbers → AreThose (IsAxiomOf view i) (length view.said) numbers
+    (view : BaseView) (i : ℕ) (fresh marks : List Bool) (numbers : List ℕ) → i < length view → length fresh ≡ i + 1 → IsMarked fresh i → ((k : ℕ) → IsMarked fresh k → k ≡ i) →
+    MarksBehind view fresh marks → AreThose (λ k. IsMarked marks k × IsAxiom view k) (length marks) numbers → AreThose (IsAxiomOf view i) (length view) numbers
 axioms_marked view i fresh marks numbers within count here only behind those =
-    those_moved (λ k. IsMarked marks k × IsAxiom view k) (IsAxiomOf view i) (length marks) (length view.said) numbers those
+    those_moved (λ k. IsMarked marks k × IsAxiom view k) (IsAxiomOf view i) (length marks) (length view) numbers those
     (λ k l m.
     let from = (behind.each k).0 m.0 in
     (omega (arith, l, behind.count, count, within), record { is_axiom = m.1; leads = subst (λ x. LeadsTo view k x) (only from.0 from.1) from.2 }))

@@ -1,7 +1,7 @@
 -- The items that a theorem cites are those whose labels are words that cite.
 use Rattle.std.proofs.lemmas.{Grind.{common_steps}, Bool.{and_parts, and_from, false≢true}, List.{get_or_default}, Option.{same_Some, slice_get-get_or}}
 use Rattle.std.proofs.Common.{◌≡◌, ◌<◌, ◌⊎◌, ℕ, Bool, true, false, Option, Some, None, List, length, get_or, slice_get, sym, ap, ◌∙◌, subst, inl, inr, arith, ◌↔◌, Contains, slice_index}
-use Rattle.mm_proof.specs.mm_frame.Language.{Base.{BaseView, AreSaid, said_at, is_proof_at}, Laws.{HasOwnLabels}, Resolving.{IsCarrier}}
+use Rattle.mm_proof.specs.mm_frame.Language.{Base.{BaseView, AreLabelled, said_at, is_proof_at}, Laws.{HasOwnLabels}, Resolving.{IsCarrier}}
 use Rattle.mm_proof.specs.mm_verdict.Language.{CitingLaws.{CitesNameAssertions, CitesTellAssertions, IsCiteOf}, BaseLabels.{setting_at}, DecodingLaws.{CitesRise}, VerdictAt.{cites_at, decoding_at}}
 use Rattle.mm_proof.specs.mm_verdict.Language.Work.{Judgement}
 use Rattle.mm_keep.specs.{Language.{Citations.{CitesItem}, Sessions.{IsAssertion}}, Code.{Cited.{AreRising, HasLabelAmong, IsAmongCited, MarksMore, IsMarked}, KeptCheck.{Kept, said}}}
@@ -24,7 +24,7 @@ number_among words cites n label c there = grind (arith, common_steps, get_or_de
 among_number : (words : List (List ℕ)) (cites : List ℕ) (label : List ℕ) → IsAmongCited words cites (length cites) label → (n : ℕ) × Contains cites n × (slice_get words n ≡ Some label)
 among_number words cites label a = grind (arith, common_steps, get_or_default cites a.at (slice_index cites a.at) 0 a.before) steps 200000
 
-module _ (each : CitesNameAssertions) (tell : CitesTellAssertions) (own : HasOwnLabels) (view : BaseView) (said : AreSaid view) (j : ℕ) (proof : is_proof_at view j ≡ true) where
+module _ (each : CitesNameAssertions) (tell : CitesTellAssertions) (own : HasOwnLabels) (view : BaseView) (said : AreLabelled view) (j : ℕ) (proof : is_proof_at view j ≡ true) where
   -- the label of a cited item is among the words that cite
   cited_among : (k : ℕ) → CitesItem view j k → HasLabelAmong view (said_at view j).proof (cites_at view j) (length (cites_at view j)) k
   cited_among k c =
@@ -77,7 +77,7 @@ said_of view j None is = is
 said_of view j (Some None) is = absurd is
 said_of view j (Some (Some judgement)) is = is
 
-pub checked_at : (view : BaseView) (checked : List Kept) (j : ℕ) (one : Option Judgement) → AreChecked view checked → j < length view.said → said (get_or checked j None) ≡ one → IsCheckedAt view j one
+pub checked_at : (view : BaseView) (checked : List Kept) (j : ℕ) (one : Option Judgement) → AreChecked view checked → j < length view → said (get_or checked j None) ≡ one → IsCheckedAt view j one
 checked_at view checked j one are within e =
     let kept = get_or checked j None in
     subst (IsCheckedAt view j) e (said_of view j kept (are.each j kept (slice_get-get_or checked j None (omega (arith, within, are.count)))))

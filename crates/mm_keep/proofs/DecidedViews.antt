@@ -1,7 +1,7 @@
 -- Whether two views are equal is decided.
 use Rattle.std.{proofs.{lemmas.Grind.{common_steps}, Common.{◌≡◌, List, [], ◌∷◌, subst, inl, inr, arith, Contains}, Math.Decide.{map_dec}}, specs.List.{AllByRecursion}}
-use Rattle.mm_proof.specs.mm_machine.Language.{Frame.{Symbol, Mandatory, Frame, Resolved, Hypothesis, Assertion, Inactive, Unknown, ArePair, AreSamePairs, AreSameFrame}, SameProof.{AreSameMeaning}}
-use Rattle.mm_proof.specs.mm_verdict.Language.View.{View, AreSameViews}
+use Rattle.mm_proof.specs.mm_machine.Language.Frame.{Symbol, Mandatory, Frame, LabelMeaning, Hypothesis, Assertion, Inactive, Unknown, ArePair, AreSamePairs, AreSameFrame}
+use Rattle.mm_proof.specs.{mm_machine.Language.SameProof.{AreSameMeaning}, mm_verdict.Language.View.{View, AreSameViews}}
 use Rattle.mm_keep.proofs.DecidingLemmas.{dec_and, dec_or, dec_bool, dec_bytes, dec_list, dec_contains, dec_each, dec_zip, first_of_list, later_of_list, member_cases}
 
 dec_symbol : (a b : Symbol) → Dec (a ≡ b)
@@ -58,7 +58,7 @@ dec_frame frame other =
     (λ h. (h.expression, (h.hypotheses, h.pairs)))
     (dec_and (dec_symbols frame.expression other.expression) (dec_and (dec_list dec_hypothesis frame.hypotheses other.hypotheses) (dec_same_pairs frame.pairs other.pairs)))
 
-dec_meaning : (one other : Resolved) → Dec (AreSameMeaning one other)
+dec_meaning : (one other : LabelMeaning) → Dec (AreSameMeaning one other)
 dec_meaning (Hypothesis e) (Hypothesis f) = dec_symbols e f
 dec_meaning (Assertion frame) (Assertion other) = dec_frame frame other
 dec_meaning Inactive Inactive = yes tt

@@ -3,12 +3,12 @@ use Rattle.std.proofs.lemmas.{Grind.{common_steps}, Option.{get_or_from_slice_ge
 use Rattle.std.proofs.Common.{◌≡◌, ◌<◌, ◌≤◌, ◌⊎◌, ℕ, zero, suc, ◌+◌, Some, None, Option, is_none, true, false, ◌&&◌, List, ◌∷◌, length, slice_get, refl, sym, ap, subst, inl, inr, arith, All}
 use Rattle.std.{proofs.Common.{slice_range}, specs.List.{AllZip}}
 use Rattle.mm_proof.specs.{mm_text.Language.Place.{line_at, column_at}, mm_store.Language.{FilesView.{FilesView, plain_file, text_of}, FileFacts.{StandsIn, piece_offset}}}
-use Rattle.mm_proof.specs.mm_frame.{declared.FrameNumber.{FrameNumber}, Language.Base.{BaseView, said_at, fault_at, is_sound_at, is_proof_at}}
-use Rattle.mm_proof.specs.mm_statement.Language.{Item.{Kind, Axiom, Theorem, is_assertion, is_theorem, passed}, Statement.{Says}}
+use Rattle.mm_proof.specs.mm_frame.{declared.FrameNumber.{FrameNumber}, Language.{Base.{BaseView, IsOfFiles, said_at, fault_at, is_sound_at, is_proof_at}, Laws.{SaidAreLabelled}}}
+use Rattle.mm_proof.specs.mm_statement.Language.{Item.{Kind, Axiom, Theorem, is_assertion, is_kind, passed}, Statement.{Says}}
 use Rattle.mm_proof.specs.{mm_verdict.Language.{ItemLaws.{HasVerdictAt, SpotsAreIn, TellsSpotIn, IsSpotIn}, VerdictAt.{IsVerdictAt}}, mm_machine.declared.{Spot.{Spot}, Verdict.{Verdict}}}
-use Rattle.mm_keep.specs.{declared.finding.At.{At}, Code.{FoundKinds.{IsFoundAs, kind_of_verdict}, OfFiles.{IsPlaceIn}}, Language.Laws.{ItemsHaveFindings}}
-use Rattle.mm_keep.specs.Language.{Told.{Told, Quiet, AnAxiom, Proved, Incomplete, Wrong, Fault, IsRightlyTold}, WordPlaces.{start_of, spelled, IsPlaceOfSpot, proof_word}}
-use Rattle.mm_keep.proofs.{FoundLemmas.{ItemsStand}, SpotLemmas.{letter_in, letter_within, placed_in}, ZipLemmas.{zip_found}}
+use Rattle.mm_keep.specs.{declared.finding.At.{At}, Code.{FoundKinds.{IsFoundAs, kind_of_verdict}, OfFiles.{IsPlaceIn}, KeyedTold.{word_start, word_spelling, IsKeyedPlaceOfSpot, IsKeyedTold}}}
+use Rattle.mm_keep.{specs.Language.{Told.{Told, Quiet, AnAxiom, Proved, Incomplete, Wrong, Fault}, WordPlaces.{proof_word}}, proofs.FoundLemmas.{ItemsStand}}
+use Rattle.mm_keep.proofs.{SpotLemmas.{letter_in, letter_within, placed_in}, ZipLemmas.{zip_found}}
 use Rattle.mm_proof.specs.mm_store.declared.item.Item as store
 use Rattle.mm_proof.specs.mm_machine.declared.Verdict.TheVariants as verdicts
 use Rattle.mm_keep.specs.declared.finding.FindingKind.TheVariants as kinds
@@ -27,29 +27,29 @@ has_place files item stands byte less =
 kind_of : (kind : Kind) → (kind ≡ Axiom) ⊎ (kind ≡ Theorem) ⊎ (is_assertion kind ≡ false)
 kind_of kind = grind (arith, common_steps) steps 200000
 
-module _ (files : FilesView) (base : BaseView) (i : ℕ) (item : store.Item) (found : slice_get base.found i ≡ Some item) (says : Says files item (said_at base i)) (stands : StandsIn files item) where
+module _ (files : FilesView) (all : List store.Item) (base : BaseView) (i : ℕ) (item : store.Item) (found : slice_get all i ≡ Some item) (says : Says files item (said_at base i)) (stands : StandsIn files item) where
   -- its fault, at a word
-  pub fault_told : (word : ℕ) (number : FrameNumber) → fault_at base i ≡ Some (word, number) → IsFoundAs files base i kinds.Fault
+  pub fault_told : (word : ℕ) (number : FrameNumber) → fault_at base i ≡ Some (word, number) → IsFoundAs files all base i kinds.Fault
   fault_told word number fault =
       let there = says.read in
-      let at = has_place files item stands (start_of (slice_get there.words word) + 0) (letter_within files item there word 0 (omega arith)) in
+      let at = has_place files item stands (word_start (slice_get there.words word) + 0) (letter_within files item there word 0 (omega arith)) in
       let place = at.1 word 0 there refl in
       let read = place.is_byte.read in
-      let shown = spelled (slice_range read.text item.start item.end) (slice_get read.words word) in (
+      let shown = word_spelling (slice_range read.text item.start item.end) (slice_get read.words word) in (
         Fault number (record { at = at.0; word = shown }),
         record { word = word; fault = fault; item = item; there = found; is_shown = record { has_place = place; is_word = refl } },
         refl,
       )
 
   -- the place of a spot of its proof
-  spot_place : (spot : Spot) → IsSpotIn (said_at base i).proof spot → (at : At) × IsPlaceOfSpot files base i spot at
+  spot_place : (spot : Spot) → IsSpotIn (said_at base i).proof spot → (at : At) × IsKeyedPlaceOfSpot files all base i spot at
   spot_place spot is =
       let word = proof_word (said_at base i) spot.word in
-      let place = has_place files item stands (start_of (slice_get says.read.words word) + spot.letter) (letter_within files item says.read word spot.letter (letter_in files item (said_at base i) spot says is)) in
+      let place = has_place files item stands (word_start (slice_get says.read.words word) + spot.letter) (letter_within files item says.read word spot.letter (letter_in files item (said_at base i) spot says is)) in
       (place.0, record { item = item; there = found; has_place = place.1 word spot.letter says.read refl })
 
   -- the verdict on its proof
-  pub verdict_told : is_proof_at base i ≡ true → (v : Verdict) → IsVerdictAt base i v → TellsSpotIn (said_at base i).proof v → IsFoundAs files base i (kind_of_verdict v)
+  pub verdict_told : is_proof_at base i ≡ true → (v : Verdict) → IsVerdictAt base i v → TellsSpotIn (said_at base i).proof v → IsFoundAs files all base i (kind_of_verdict v)
   verdict_told proof verdicts.Proved is spot_in = (Proved, record { proof = proof; is_verdict = is }, refl)
   verdict_told proof (verdicts.Incomplete spot) is spot_in =
       let place = spot_place spot spot_in in
@@ -59,40 +59,41 @@ module _ (files : FilesView) (base : BaseView) (i : ℕ) (item : store.Item) (fo
       (Wrong number place.0, record { spot = spot; has_verdict = record { proof = proof; is_verdict = is }; is_place = place.1 }, refl)
 
   -- what it is, if it is sound
-  sound_told : ((v : Verdict) × IsVerdictAt base i v) → SpotsAreIn → is_sound_at base i ≡ true → (one : Told) × IsRightlyTold files base i one
+  sound_told : ((v : Verdict) × IsVerdictAt base i v) → SpotsAreIn → is_sound_at base i ≡ true → (one : Told) × IsKeyedTold files all base i one
   sound_told verdict spots sound =
       elim (kind_of (said_at base i).kind) [
         | inl is ↦ (AnAxiom, record { sound = sound; kind = is })
         | inr (inl is) ↦
-            let proof : is_proof_at base i ≡ true = (λ k. sound k && is_theorem (is k)) in
+            let proof : is_proof_at base i ≡ true = (λ k. sound k && is_kind Theorem (is k)) in
             let told = verdict_told proof verdict.0 verdict.1 (spots base i verdict.0 verdict.1) in
             (told.0, told.1)
         | inr (inr other) ↦ (Quiet, record { sound = sound; kind = other })
       ]
 
-  item_told : ((v : Verdict) × IsVerdictAt base i v) → SpotsAreIn → (fault : Option (ℕ × FrameNumber)) → fault_at base i ≡ fault → (one : Told) × IsRightlyTold files base i one
+  item_told : ((v : Verdict) × IsVerdictAt base i v) → SpotsAreIn → (fault : Option (ℕ × FrameNumber)) → fault_at base i ≡ fault → (one : Told) × IsKeyedTold files all base i one
   item_told verdict spots None is = sound_told verdict spots (ap is_none is)
   item_told verdict spots (Some fault) is = let told = fault_told fault.0 fault.1 is in (told.0, told.1)
 
 -- ---- the items of files
 
 -- the element of one list, if there is one of the other
-zip_there : {A B : Type 0} (R : A → B → Type 0) (xs : List A) (ys : List B) (i : ℕ) → AllZip R xs ys → i < length ys → (x : A) × (slice_get xs i ≡ Some x)
+pub zip_there : {A B : Type 0} (R : A → B → Type 0) (xs : List A) (ys : List B) (i : ℕ) → AllZip R xs ys → i < length ys → (x : A) × (slice_get xs i ≡ Some x)
 zip_there R (w ∷ xs) (z ∷ ys) zero a less = (w, refl)
 zip_there R (w ∷ xs) (z ∷ ys) (suc i) a less = zip_there R xs ys i a.1 (omega (arith, less))
 zip_there R xs ys i a less = grind (arith, common_steps) steps 200000
 
 -- the item with a number says what the base says it does, and is where it says
-pub item_at : (files : FilesView) (base : BaseView) (i : ℕ) → AllZip (Says files) base.found base.said → All (StandsIn files) base.found → i < length base.said
-    → (item : store.Item) × (slice_get base.found i ≡ Some item) × Says files item (said_at base i) × StandsIn files item
-item_at files base i each stand less =
-    let found = zip_there (Says files) base.found base.said i each less in
-    let item = found.0 in
-    let y = zip_found (Says files) base.found base.said i item each found.1 in
-    (item, found.1, subst (Says files item) (sym (get_or_from_slice_get base.said i y.0 passed y.1)) y.2, subst (StandsIn files) (get_or_from_slice_get base.found i item item found.1) (stand i item (slice_get_within base.found i item found.1)))
+pub item_at : (files : FilesView) (found : List store.Item) (base : BaseView) (i : ℕ) → AllZip (Says files) found base → All (StandsIn files) found → i < length base
+    → (item : store.Item) × (slice_get found i ≡ Some item) × Says files item (said_at base i) × StandsIn files item
+item_at files found base i each stand less =
+    let there = zip_there (Says files) found base i each less in
+    let item = there.0 in
+    let y = zip_found (Says files) found base i item each there.1 in
+    (item, there.1, subst (Says files item) (sym (get_or_from_slice_get base i y.0 passed y.1)) y.2, subst (StandsIn files) (get_or_from_slice_get found i item item there.1) (stand i item (slice_get_within found i item there.1)))
 
 -- each is reported rightly
-pub findings : ItemsStand → HasVerdictAt → SpotsAreIn → ItemsHaveFindings
-findings stand verdict spots files top base of_files i less =
-    let t = item_at files base i of_files.each (stand files top base.found of_files.expansion) less in
-    item_told files base i t.0 t.1 t.2 t.3 (verdict base i (files, of_files.each)) spots (fault_at base i) refl
+pub findings : ItemsStand → SaidAreLabelled → HasVerdictAt → SpotsAreIn → (files : FilesView) (top : List ℕ) (found : List store.Item) (base : BaseView) → IsOfFiles files top found base → (i : ℕ) → i < length base
+    → (one : Told) × IsKeyedTold files found base i one
+findings stand labelled verdict spots files top found base of_files i less =
+    let t = item_at files found base i of_files.each (stand files top found of_files.expansion) less in
+    item_told files found base i t.0 t.1 t.2 t.3 (verdict base i (labelled files found base of_files.each)) spots (fault_at base i) refl

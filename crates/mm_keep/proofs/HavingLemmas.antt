@@ -2,43 +2,38 @@
 use Rattle.std.proofs.lemmas.{Grind.{common_steps}, List.{get_or_default}, Option.{none-some, same_Some}}
 use Rattle.std.proofs.Common.{◌≡◌, ◌≢◌, ◌⊎◌, ◌<◌, ℕ, zero, suc, Bool, true, false, Some, None, List, [], ◌∷◌, length, refl, sym, ◌∙◌, subst, inl, inr, arith, slice_range, All, slice_index}
 use Rattle.std.{proofs.Math.Decide.{dec_lt, ℕ_discrete, map_dec}, specs.List.{AllZip}}
-use Rattle.mm_proof.specs.mm_store.Language.{Expansion.{IsExpansion}, FileFacts.{CanBeRead, HoldsPieces}, FilesView.{FilesView, file_number, files_in, number_of, plain}, Holding.{HoldOneEach}}
-use Rattle.mm_proof.specs.{mm_text.Language.Unit.{tokens_of}, mm_frame.Language.Base.{BaseView, AreSaid, IsOfFiles, said_at, is_framed_at, is_proof_at, is_sound_at}}
-use Rattle.mm_proof.specs.{mm_frame.Language.{Laws.{FilesHaveOneBase, HasOwnLabels}, Resolving.{IsCarrier}}, mm_statement.Language.{Item.{Item}, Statement.{Says, item_of, kind_of}}}
+use Rattle.mm_proof.specs.mm_store.Language.{FileFacts.{HoldsPieces}, FilesView.{File, FilesView, plain}}
+use Rattle.mm_proof.specs.mm_frame.Language.{Base.{BaseView, base_of, AreLabelled, IsOfFiles, said_at, is_framed_at, is_proof_at, is_sound_at}, Laws.{HasOwnLabels, SaidAreLabelled}}
+use Rattle.mm_proof.specs.{mm_frame.Language.Resolving.{IsCarrier}, mm_statement.Language.{Database.{IsDatabase, Located}, Laws.{FilesHaveOneDatabase, LocatedAreItems}, Locating.{IsLocated}}}
 use Rattle.mm_proof.specs.mm_verdict.Language.{CitingLaws.{CitesNameAssertions, CitesTellAssertions, IsCiteOf}, View.{view_at}, VerdictAt.{cites_at}}
-use Rattle.mm_keep.specs.Language.{Citations.{CitesItem, LeadsTo, none, step, IsAxiomOf}, Laws.{FilesGiveItems, HasListOfRuns, HasListOf, HasListEach, LabelsAreDecided}}
-use Rattle.mm_keep.{specs.Language.{Runs.{HasSameView, HadView, IsRun}, Sessions.{IsAssertion, HasAssertion, AreNumbersOf}}, proofs.{CitedItems.{cites_earlier, none_cited}, DecidedViews.{dec_views}}}
-use Rattle.mm_keep.proofs.{KeepLemmas.{number_plain}, DecidingLemmas.{dec_and, dec_not, dec_bool, dec_label, dec_below, have_those}}
+use Rattle.mm_keep.specs.Language.{Citations.{CitesItem, LeadsTo, none, step, IsAxiomOf}, Laws.{HasListOfRuns, HasListOf, HasListEach, LabelsAreDecided}, Runs.{HasSameView, HadView, IsRun}}
+use Rattle.mm_keep.{specs.Language.Sessions.{IsAssertion, HasAssertion, AreNumbersOf}, proofs.{CitedItems.{cites_earlier, none_cited}, DecidedViews.{dec_views}}}
+use Rattle.mm_keep.proofs.DecidingLemmas.{dec_and, dec_not, dec_bool, dec_label, dec_below, have_those}
 use Rattle.mm_proof.specs.mm_store.declared.item.Item as store
 
 -- ---- items
 
--- files that hold one unit in each piece give items
-abbrev pub ItemsThere : Type 0
-ItemsThere = (files : FilesView) (top : List ℕ) → HoldOneEach (plain files) → number_of (files_in files) top ≢ None → (items : List store.Item) × IsExpansion (files_in files) top items
+-- there are files with keys that mean what these mean
+abbrev pub KeysThere : Type 0
+KeysThere = (files : List File) → (view : FilesView) × HoldsPieces view × (plain view ≡ files)
 
-abbrev pub ItemsRead : Type 0
-ItemsRead = (files : FilesView) (top : List ℕ) (items : List store.Item) → HoldsPieces files → IsExpansion (files_in files) top items → All (CanBeRead files) items
+-- the items of files are those of some files with keys
+pub record Keyed (files : List File) (top : List ℕ) (items : List Located) : Type 0 where
+  pub view : FilesView
+  pub holds : HoldsPieces view
+  pub means : plain view ≡ files
+  pub found : List store.Item
+  pub of_files : IsOfFiles view top found (base_of items)
+  pub located : AllZip (IsLocated view) found items
 
--- each item that can be read says something
-each_says : (files : FilesView) (items : List store.Item) → All (CanBeRead files) items → (said : List Item) × AllZip (Says files) items said
-each_says files [] h = ([], tt)
-each_says files (item ∷ items) h =
-    let read : CanBeRead files item = h 0 item (omega arith) in
-    let rest = each_says files items (λ k d l. h (suc k) d (omega (arith, l))) in
-    ((item_of (kind_of item.kind) (tokens_of (slice_range read.text item.start item.end) read.words)) ∷ rest.0, (record { read = read; is = refl }, rest.1))
+pub keyed : KeysThere → LocatedAreItems → (files : List File) (top : List ℕ) (items : List Located) → IsDatabase files top items → Keyed files top items
+keyed keys located files top items is =
+    let view = keys files in
+    let placed = located view.0 top items view.1 (subst (λ (all : List File). IsDatabase all top items) (sym view.2) is) in
+    record { view = view.0; holds = view.1; means = view.2; found = placed.0; of_files = record { expansion = placed.1; each = placed.2 }; located = placed.3 }
 
-pub give_items : ItemsThere → ItemsRead → FilesGiveItems
-give_items there reads files top holds units = (from, to)
-  where
-    from : (base : BaseView) × IsOfFiles files top base → file_number (plain files) top ≢ None
-    from base e = none-some base.1.expansion.number (sym e ∙ number_plain files top ∙ base.1.expansion.is_top)
-
-    to : file_number (plain files) top ≢ None → (base : BaseView) × IsOfFiles files top base
-    to some =
-        let x = there files top units (λ e. some (number_plain files top ∙ e)) in
-        let s = each_says files x.0 (reads files top x.0 holds x.1) in
-        (record { found = x.0; said = s.0 }, record { expansion = x.1; each = s.1 })
+pub are_labelled : KeysThere → LocatedAreItems → SaidAreLabelled → (files : List File) (top : List ℕ) (items : List Located) → IsDatabase files top items → AreLabelled (base_of items)
+are_labelled keys located labelled files top items is = let k = keyed keys located files top items is in labelled k.view k.found (base_of items) k.of_files.each
 
 -- ---- runs
 
@@ -48,38 +43,40 @@ dec_same_view old new i j =
     (λ h. record { within = h.0.0; was = h.0.1; is = h.1.0; label = h.1.1.0; view = h.1.1.1 })
     (λ h. ((h.within, h.was), (h.is, (h.label, h.view))))
     (dec_and
-    (dec_and (dec_lt i (length old.said)) (dec_bool (is_proof_at old i) true))
+    (dec_and (dec_lt i (length old)) (dec_bool (is_proof_at old i) true))
     (dec_and (dec_bool (is_proof_at new j) true) (dec_and (dec_label (said_at old i).label (said_at new j).label) (dec_views (view_at old i) (view_at new j)))))
 
 dec_had_view : (old new : BaseView) (j : ℕ) → Dec (HadView old new j)
-dec_had_view old new j = map_dec (λ h. (h.0, h.2)) (λ h. (h.0, h.1.within, h.1)) (dec_below (λ i. HasSameView old new i j) (length old.said) (λ i l. dec_same_view old new i j))
+dec_had_view old new j = map_dec (λ h. (h.0, h.2)) (λ h. (h.0, h.1.within, h.1)) (dec_below (λ i. HasSameView old new i j) (length old) (λ i l. dec_same_view old new i j))
 
 dec_run : (old new : BaseView) (j : ℕ) → Dec (IsRun old new j)
 dec_run old new j = map_dec (λ h. record { theorem = h.0; changed = h.1 }) (λ h. (h.theorem, h.changed)) (dec_and (dec_bool (is_proof_at new j) true) (dec_not (dec_had_view old new j)))
 
 pub has_runs : HasListOfRuns
-has_runs before after top old new were are = grind (arith, common_steps, have_those (IsRun old new) (dec_run old new) (length new.said)) steps 200000
+has_runs before after top old new were are =
+    let those = have_those (IsRun (base_of old) (base_of new)) (dec_run (base_of old) (base_of new)) (length (base_of new)) in
+    (those.0, record { old = old; new = new; were = were; are = are; those = those.1 })
 
 -- ---- assertions
 
 dec_assertion : (base : BaseView) (label : List ℕ) (i : ℕ) → Dec (IsAssertion base label i)
 dec_assertion base label i =
     map_dec (λ h. record { within = h.0; framed = h.1.0; label_is = h.1.1 }) (λ h. (h.within, (h.framed, h.label_is)))
-    (dec_and (dec_lt i (length base.said)) (dec_and (dec_bool (is_framed_at base i) true) (dec_label (said_at base i).label (Some label))))
+    (dec_and (dec_lt i (length base)) (dec_and (dec_bool (is_framed_at base i) true) (dec_label (said_at base i).label (Some label))))
 
-pub labels_decided : FilesHaveOneBase → LabelsAreDecided
-labels_decided one session label base is = by (dec_below (IsAssertion base label) (length base.said) (λ i l. dec_assertion base label i))
+pub labels_decided : FilesHaveOneDatabase → LabelsAreDecided
+labels_decided one session label items = by (dec_below (IsAssertion (base_of items.0) label) (length (base_of items.0)) (λ i l. dec_assertion (base_of items.0) label i))
   where
-    by : Dec ((i : ℕ) × (i < length base.said) × IsAssertion base label i) → HasAssertion session label ⊎ (¬ HasAssertion session label)
-    by (yes h) = inl (base, is, (h.0, h.2))
+    by : Dec ((i : ℕ) × (i < length (base_of items.0)) × IsAssertion (base_of items.0) label i) → HasAssertion session label ⊎ (¬ HasAssertion session label)
+    by (yes h) = inl (items.0, items.1, (h.0, h.2))
     by (no n) = inr (λ has.
-        let same : has.0 ≡ base = one session.files session.top has.0 base has.1 is in
-        let there = subst (λ (b : BaseView). (i : ℕ) × IsAssertion b label i) same has.2 in
+        let same : has.0 ≡ items.0 = one session.files session.top has.0 items.0 has.1 items.1 in
+        let there = subst (λ (all : List Located). (i : ℕ) × IsAssertion (base_of all) label i) same has.2 in
         n (there.0, there.1.within, there.1))
 
 -- ---- citations
 
-module _ (each : CitesNameAssertions) (tell : CitesTellAssertions) (own : HasOwnLabels) (view : BaseView) (said : AreSaid view) where
+module _ (each : CitesNameAssertions) (tell : CitesTellAssertions) (own : HasOwnLabels) (view : BaseView) (said : AreLabelled view) where
   -- the word at this place cites the item
   abbrev CitesAt : ℕ → ℕ → ℕ → Type 0
   CitesAt i k a = IsCiteOf view i (slice_index (cites_at view i) a) k
@@ -131,13 +128,13 @@ module _ (each : CitesNameAssertions) (tell : CitesTellAssertions) (own : HasOwn
   dec_axiom : (i k : ℕ) → Dec (IsAxiomOf view i k)
   dec_axiom i k = grind (arith, common_steps, dec_bool (is_sound_at view k) true, dec_leads k (suc i) i (omega arith)) steps 200000
 
-module _ (each : CitesNameAssertions) (tell : CitesTellAssertions) (own : HasOwnLabels) where
-  list_of : (stands : BaseView → ℕ → ℕ → Type 0) → ((base : BaseView) → AreSaid base → (i k : ℕ) → Dec (stands base i k)) → HasListOf (λ session label numbers. AreNumbersOf session label stands numbers)
+module _ (keys : KeysThere) (located : LocatedAreItems) (labelled : SaidAreLabelled) (each : CitesNameAssertions) (tell : CitesTellAssertions) (own : HasOwnLabels) where
+  list_of : (stands : BaseView → ℕ → ℕ → Type 0) → ((base : BaseView) → AreLabelled base → (i k : ℕ) → Dec (stands base i k)) → HasListOf (λ session label numbers. AreNumbersOf session label stands numbers)
   list_of stands decides session label has =
-      let base = has.0 in
+      let base = base_of has.0 in
       let i = has.2.0 in
-      let h = have_those (stands base i) (decides base (session.files, has.1.each) i) (length base.said) in
-      (h.0, (base, has.1, (i, has.2.1, h.1)))
+      let h = have_those (stands base i) (decides base (are_labelled keys located labelled session.files session.top has.0 has.1) i) (length base) in
+      (h.0, (has.0, has.1, (i, has.2.1, h.1)))
 
   pub list_each : HasListEach
   list_each = (

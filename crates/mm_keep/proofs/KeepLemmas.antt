@@ -3,7 +3,7 @@ use Rattle.std.proofs.{Common.{arith, ◌≡◌, ℕ, ◌+◌, ◌⊎◌, Bool, 
 use Rattle.std.{proofs.lemmas.{List.Elements.{recursion_from_All}, Option.{none-some}}, specs.List.{AllZip, AllByRecursion, position_or_len}}
 use Rattle.mm_proof.specs.mm_store.Language.{Batches.{IsBatchOf, KeepsReading, KeepsStanding, ReadsAlike, StartsPlaced}, Edits.{IsEditOf}, Expansion.{IsExpansion}, FileFacts.{StandsIn}}
 use Rattle.mm_proof.specs.{mm_store.Language.FilesView.{File, FilesView, file_number, file_view, files_in, number_of, plain, plain_file}, mm_text.Language.Asked.{Asked}}
-use Rattle.mm_proof.specs.{mm_frame.Language.Base.{BaseView, IsOfFiles}, mm_statement.Language.{Item.{Item}, Statement.{Says}}}
+use Rattle.mm_proof.specs.{mm_frame.Language.Base.{BaseView, IsOfFiles}, mm_statement.Language.{Item.{Said}, Statement.{Says}}}
 use Rattle.mm_keep.specs.Code.Next.{HasTop}
 use Rattle.mm_proof.specs.mm_store.declared.item.Item as store
 
@@ -35,15 +35,15 @@ expansion_top files top items is none = none-some is.number (sym none ∙ is.is_
 pub batch_top : KeepsNumbers → (edits : List Asked) (files after : FilesView) (top : List ℕ) → IsBatchOf edits (plain files) (plain after) → HasTop files top → HasTop after top
 batch_top keeps edits files after top batch has none = grind (arith, number_plain files top, batch_numbers keeps edits (plain files) (plain after) top batch, number_plain after top) steps 200000
 
-says_alike : (old new : FilesView) (item : store.Item) (said : Item) (says : Says old item said) → ReadsAlike old new item says.read → Says new item said
+says_alike : (old new : FilesView) (item : store.Item) (said : Said) (says : Says old item said) → ReadsAlike old new item says.read → Says new item said
 says_alike old new item said says alike = record { read = alike.read; is = rw (alike.text, alike.words) says.is }
 
 -- what items say stays
-pub says_edited : (old new : FilesView) → KeepsReading old new → (found : List store.Item) (said : List Item) → AllZip (Says old) found said → AllZip (Says new) found said
+pub says_edited : (old new : FilesView) → KeepsReading old new → (found : List store.Item) (said : List Said) → AllZip (Says old) found said → AllZip (Says new) found said
 says_edited old new keeps (x ∷ xs) (y ∷ ys) z = (says_alike old new x y z.0 (keeps x z.0.read), says_edited old new keeps xs ys z.1)
 says_edited old new keeps found said z = grind (arith, common_steps) steps 200000
 
-says_settled : (old new : FilesView) → KeepsStanding old new → (found : List store.Item) (said : List Item) → AllByRecursion (StandsIn old) found → AllZip (Says old) found said → AllZip (Says new) found said
+says_settled : (old new : FilesView) → KeepsStanding old new → (found : List store.Item) (said : List Said) → AllByRecursion (StandsIn old) found → AllZip (Says old) found said → AllZip (Says new) found said
 says_settled old new keeps (x ∷ xs) (y ∷ ys) a z = (says_alike old new x y z.0 (keeps x z.0.read a.0), says_settled old new keeps xs ys a.1 z.1)
 says_settled old new keeps found said a z = grind (arith, common_steps) steps 200000
 
@@ -52,9 +52,9 @@ abbrev pub ItemsStand : Type 0
 ItemsStand = (files : FilesView) (top : List ℕ) (items : List store.Item) → IsExpansion (files_in files) top items → All (StandsIn files) items
 
 -- files that are settled have the base of before
-pub base_settled : ItemsStand → (old new : FilesView) (top : List ℕ) (base : BaseView) → files_in new ≡ files_in old → KeepsStanding old new → IsOfFiles old top base → IsOfFiles new top base
-base_settled stand old new top base same keeps is =
-    grind (arith, common_steps, says_settled old new keeps base.found base.said (recursion_from_All (StandsIn old) base.found (stand old top base.found is.expansion)) is.each) steps 200000
+pub base_settled : ItemsStand → (old new : FilesView) (top : List ℕ) (found : List store.Item) (base : BaseView) → files_in new ≡ files_in old → KeepsStanding old new → IsOfFiles old top found base → IsOfFiles new top found base
+base_settled stand old new top found base same keeps is =
+    grind (arith, common_steps, says_settled old new keeps found base (recursion_from_All (StandsIn old) found (stand old top found is.expansion)) is.each) steps 200000
 
 -- edits that are done start with one that names a file and members of it, if there are any
 pub batch_starts : (edits : List Asked) (files after : List File) → IsBatchOf edits files after → StartsPlaced edits files ⊎ (edits ≡ [])

@@ -11,9 +11,9 @@ pub mod ToldLemmas
 pub mod NumberLemmas
 pub mod RunLaws
 pub mod FoundLemmas
+pub mod PlacedLemmas
 pub mod FindingLaws
 pub mod AlikeItems
-pub mod AlikeBases
 pub mod CitedWords
 pub mod CitedItems
 pub mod ChainLemmas

@@ -32,8 +32,8 @@ pub plans_kept : (base copy : BaseView) (j : ℕ) (mark : ItemMark) → IsMark b
 plans_kept base copy j mark is i e was theorem view = let one = (is.old_is i).0 e in record { within = one.within; was = was; is = theorem; label = one.label; view = view }
 
 -- views of one base have as many items
-pub one_count : (names others : List (List ℕ)) (a b : BaseView) (code : Base) → IsBaseBy names a code → IsBaseBy others b code → length a.said ≡ length b.said
-one_count names others a b code is other = sym is.count ∙ ap length (sym is.found ∙ other.found) ∙ other.count
+pub one_count : (names others : List (List ℕ)) (a b : BaseView) (code : Base) → IsBaseBy names a code → IsBaseBy others b code → length a ≡ length b
+one_count names others a b code is other = sym is.count ∙ other.count
 
 -- what was checked of a theorem holds of one with an equal view
 pub checked_same : SameViewSameVerdict → SameViewSameCites → (base copy : BaseView) (checked : List Kept) (plan : List (Option ℕ))
@@ -43,8 +43,8 @@ checked_same verdicts cites base copy checked plan ran can i j same None is = ab
 checked_same verdicts cites base copy checked plan ran can i j same (Some None) is = absurd is
 checked_same verdicts cites base copy checked plan ran can i j same (Some (Some judgement)) is = (
   same.is,
-  verdicts base copy i j can.old_said can.new_said same.view judgement.verdict is.1,
-  is.2 ∙ cites base copy i j can.old_said can.new_said same.view,
+  verdicts base copy i j can.old_labelled can.new_labelled same.view judgement.verdict is.1,
+  is.2 ∙ cites base copy i j can.old_labelled can.new_labelled same.view,
 )
 
 -- what was checked of one theorem is kept by one at most

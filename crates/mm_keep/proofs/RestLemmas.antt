@@ -1,9 +1,9 @@
 -- What leads to proved theorems alone rests on axioms: citations lead to earlier items.
 use Rattle.std.proofs.lemmas.{Grind.{common_steps}, List.Elements.{Contains-append_right, Contains-append_cases}, Option.{same_Some}}
 use Rattle.std.proofs.Common.{◌≡◌, ◌<◌, ◌⊎◌, ℕ, zero, suc, ◌+◌, Bool, true, false, ◌&&◌, if◌then◌else◌, Option, Some, None, List, [], ◌∷◌, ◌++◌, slice_get, refl, sym, subst, inl, inr, arith, Contains}
-use Rattle.mm_proof.specs.{mm_frame.Language.Base.{BaseView, said_at, is_sound_at, is_framed_at, is_proof_at}, mm_statement.Language.Item.{Kind, Axiom, is_assertion, is_theorem}}
-use Rattle.mm_proof.specs.mm_machine.Language.Frame.{Setting}
-use Rattle.mm_proof.specs.mm_machine.Language.Expansion.{Step, Named, Saved, Save, NotKnown, Expanded, expand_one, expand_from, expansion, with_again, with_saved, last_part, or_else}
+use Rattle.std.specs.Option.{option_map, option_or}
+use Rattle.mm_proof.specs.{mm_frame.Language.Base.{BaseView, said_at, is_sound_at, is_framed_at, is_proof_at}, mm_statement.Language.Item.{Kind, Axiom, is_assertion, is_kind, Theorem}}
+use Rattle.mm_proof.specs.mm_machine.Language.{Frame.{Setting}, Expansion.{Step, Named, Saved, Save, NotKnown, Expanded, expand_one, expand_from, expansion, last_part}}
 use Rattle.mm_proof.specs.mm_verdict.Language.{ItemLaws.{ProvedIsDerivedAt}, BaseLabels.{setting_at}, VerdictAt.{IsVerdictAt}}
 use Rattle.mm_keep.specs.Language.{Citations.{CitesItem, LeadsTo, none, step, IsAxiomOf}, Told.{IsAxiom}, Resting.{RestsOn, by_axiom, by_labels}, Laws.{ProvedRestsOnAxioms}}
 use Rattle.mm_keep.proofs.CitedItems.{cites_earlier}
@@ -18,7 +18,7 @@ record AreNamed (steps : List Step) (x : Expanded) : Type 0 where
 
 part_cases : (first : List ℕ) (rest part : List (List ℕ)) (label : List ℕ) (inner : Option (List (List ℕ))) (test : Bool)
     → ((p : List (List ℕ)) → inner ≡ Some p → Contains p label → Contains rest label)
-    → or_else inner (if test then Some (first ∷ rest) else None) ≡ Some part → Contains part label → Contains (first ∷ rest) label
+    → option_or inner (if test then Some (first ∷ rest) else None) ≡ Some part → Contains part label → Contains (first ∷ rest) label
 part_cases first rest part label (Some p) test deeper is among =
     Contains-append_right (first ∷ []) rest label (deeper p refl (subst (λ (q : List (List ℕ)). Contains q label) (sym (same_Some p part is)) among))
 part_cases first rest part label None true deeper is among = subst (λ (q : List (List ℕ)). Contains q label) (sym (same_Some (first ∷ rest) part is)) among
@@ -32,7 +32,8 @@ part_among place (first ∷ rest) part label is among = part_cases first rest pa
 only_one : (name label : List ℕ) → Contains (name ∷ []) label → name ≡ label
 only_one name label c = grind (arith, common_steps) steps 200000
 
-again_named : (whole : List Step) (x y : Expanded) (n : ℕ) (found : Option (List (List ℕ))) → slice_get x.saved n ≡ found → AreNamed whole x → with_again x found ≡ Some y → AreNamed whole y
+again_named : (whole : List Step) (x y : Expanded) (n : ℕ) (found : Option (List (List ℕ))) → slice_get x.saved n ≡ found → AreNamed whole x →
+    option_map (λ (part : List (List ℕ)). record x { labels = x.labels ++ part }) found ≡ Some y → AreNamed whole y
 again_named whole x y n (Some part) there named is = subst (AreNamed whole) (same_Some (record x { labels = x.labels ++ part }) y is) (record {
   labels = λ label among. elim (Contains-append_cases x.labels part label among) [
     | inl old ↦ named.labels label old
@@ -48,7 +49,8 @@ saved_cases [] part found (suc n) is = absurd (cc)
 saved_cases (one ∷ saved) part found zero is = inl is
 saved_cases (one ∷ saved) part found (suc n) is = saved_cases saved part found n is
 
-save_named : (place : Setting) (whole : List Step) (x y : Expanded) (found : Option (List (List ℕ))) → last_part place x.labels ≡ found → AreNamed whole x → with_saved x found ≡ Some y → AreNamed whole y
+save_named : (place : Setting) (whole : List Step) (x y : Expanded) (found : Option (List (List ℕ))) → last_part place x.labels ≡ found → AreNamed whole x →
+    option_map (λ (part : List (List ℕ)). record x { saved = x.saved ++ part ∷ [] }) found ≡ Some y → AreNamed whole y
 save_named place whole x y (Some part) last named is = subst (AreNamed whole) (same_Some (record x { saved = x.saved ++ part ∷ [] }) y is) (record {
   labels = named.labels;
   saved = λ n other label there among. elim (saved_cases x.saved part other n there) [
@@ -100,7 +102,7 @@ named_by_step place steps x is label c = (all_named place steps steps (λ s c. c
 
 -- ---- what rests on axioms
 
-kind_cases : (sound : Bool) (kind : Kind) → (sound && is_assertion kind) ≡ true → ((sound ≡ true) × (kind ≡ Axiom)) ⊎ ((sound && is_theorem kind) ≡ true)
+kind_cases : (sound : Bool) (kind : Kind) → (sound && is_assertion kind) ≡ true → ((sound ≡ true) × (kind ≡ Axiom)) ⊎ ((sound && is_kind Theorem kind) ≡ true)
 kind_cases sound kind e = grind (arith, common_steps) steps 200000
 
 rests : ProvedIsDerivedAt → (base : BaseView) (axioms : List ℕ) (fuel i : ℕ) → i < fuel → is_framed_at base i ≡ true → ((k : ℕ) → IsAxiomOf base i k → Contains axioms k)
@@ -109,10 +111,10 @@ rests law base axioms zero i less framed are proved = absurd (omega (arith, less
 rests law base axioms (suc fuel) i less framed are proved = elim (kind_cases (is_sound_at base i) (said_at base i).kind framed) [
   | inl a ↦ (let is : IsAxiom base i = record { sound = a.0; kind = a.1 } in by_axiom is (are i (record { is_axiom = is; leads = none })))
   | inr p ↦ (let d = (law base i).0 (proved i none p) in
-      by_labels (record { theorem = p; labels = d.3.0.labels; derive = d.3.2 }) (λ label k among means.
+      by_labels (record { theorem = p; labels = d.2.0.labels; derive = d.2.2 }) (λ label k among means.
       let cites : CitesItem base i k = record {
         theorem = p;
-        names = record { decoded = d.0; decodes = d.1; label = label; named = named_by_step (setting_at base i) d.0.steps d.3.0 d.3.1 label among; means = means };
+        names = record { decoded = d.0; decodes = d.1; label = label; named = named_by_step (setting_at base i) d.0.steps d.2.0 d.2.1 label among; means = means };
       } in
       let earlier = cites_earlier base i k cites in
       rests law base axioms fuel k (omega (arith, less, earlier)) means.1

@@ -99,14 +99,14 @@ keeps_nothing plan count e k from is =
     sym (get_or_from_slice_get (replicate count None) k from None there) ∙ get_or-replicate count k None None within
 
 -- what runs by a plan that keeps nothing is each theorem
-pub begun_runs : (base : BaseView) (plan : List (Option ℕ)) (runs : List ℕ) → length plan ≡ length base.said → ((k : ℕ) (from : Option ℕ) → slice_get plan k ≡ Some from → from ≡ None) → AreThose (RunsBy base plan) (length plan) runs
-    → AreThose (λ i. is_proof_at base i ≡ true) (length base.said) runs
+pub begun_runs : (base : BaseView) (plan : List (Option ℕ)) (runs : List ℕ) → length plan ≡ length base → ((k : ℕ) (from : Option ℕ) → slice_get plan k ≡ Some from → from ≡ None) → AreThose (RunsBy base plan) (length plan) runs
+    → AreThose (λ i. is_proof_at base i ≡ true) (length base) runs
 begun_runs base plan runs count none those =
-    those_same (RunsBy base plan) (λ i. is_proof_at base i ≡ true) (length base.said) runs (subst (λ n. AreThose (RunsBy base plan) n runs) count those)
+    those_same (RunsBy base plan) (λ i. is_proof_at base i ≡ true) (length base) runs (subst (λ n. AreThose (RunsBy base plan) n runs) count those)
     (λ k l. grind (arith, common_steps, slice_get-get_or plan k None, none k (get_or plan k None)) steps 200000)
 
 -- what is checked by it is each theorem
-pub begun_checked : (base : BaseView) (plan : List (Option ℕ)) (checked : List Kept) → length plan ≡ length base.said
+pub begun_checked : (base : BaseView) (plan : List (Option ℕ)) (checked : List Kept) → length plan ≡ length base
     → ((k : ℕ) (from : Option ℕ) → slice_get plan k ≡ Some from → from ≡ None) → AreRunBy base plan checked → length checked ≡ length plan
     → AreChecked base checked
 begun_checked base plan checked count none ran long = record {
@@ -117,7 +117,7 @@ begun_checked base plan checked count none ran long = record {
 -- what runs by a plan is what the old base had no equal view of
 pub planned_runs : (old base : BaseView) (plan : List (Option ℕ)) (runs : List ℕ) → ArePlanned old base plan → AreThose (RunsBy base plan) (length plan) runs → AreRuns old base runs
 planned_runs old base plan runs planned those =
-    those_same (RunsBy base plan) (IsRun old base) (length base.said) runs (subst (λ n. AreThose (RunsBy base plan) n runs) planned.count those)
+    those_same (RunsBy base plan) (IsRun old base) (length base) runs (subst (λ n. AreThose (RunsBy base plan) n runs) planned.count those)
     (λ k l. (
       λ r. record { theorem = r.theorem; changed = planned.each k None r.nothing },
       λ r. record { theorem = r.theorem; nothing = grind (arith, planned.count, slice_get-get_or plan k None, planned.each k (get_or plan k None)) steps 200000 },

@@ -2,12 +2,12 @@
 use Rattle.std.proofs.lemmas.{Grind.{common_steps}, Bool.{cases_Bool}, Option.{same_Some, slice_get-map}, List.{length-take-le, length-drop, length-map}}
 use Rattle.std.proofs.Common.{◌≤◌, ◌≡◌, ℕ, suc, ◌+◌, Some, List, [], ◌∷◌, ◌++◌, length, take, drop, slice_get, refl, sym, ap, ◌∙◌, subst, arith, slice_range, slice_index_or}
 use Rattle.std.specs.{List.{AllByRecursion, flat_map, prefix_len}, Option.{option_map}}
-use Rattle.mm_proof.specs.mm_text.{declared.word.Word.{Word}, Language.{Place.{line_at, column_at}, Run.{Run, is_white, ends_run, with_front, runs_from}}}
+use Rattle.mm_proof.specs.mm_text.{declared.word.Word.{Word}, Language.{Place.{line_at, column_at}, Run.{Run, is_white, ends_run, with_first_byte, runs_from}}}
 use Rattle.mm_proof.specs.mm_text.Language.{Reading.{HasWords, Segment, Single, Comment, IsSegment, segment_runs, segment_words}, Unit.{Token, tokens_of}}
 use Rattle.mm_proof.specs.mm_store.Language.{FilesView.{FilesView, plain, plain_file, text_of}, FileFacts.{CanBeRead, StandsIn, IsByte, IsLive, piece_offset}}
-use Rattle.mm_proof.specs.mm_statement.Language.{Item.{Kind, Item}, Statement.{Says, kind_of, is_plain, token_names, symbols_from, symbols_in, proof_in, item_of}}
+use Rattle.mm_proof.specs.mm_statement.Language.{Item.{Kind, Said}, Statement.{Says, kind_of, is_plain, token_names, symbols_from, symbols_in, proof_in, item_of}}
 use Rattle.mm_proof.specs.{mm_verdict.Language.ItemLaws.{IsSpotIn}, mm_machine.declared.Spot.{Spot}}
-use Rattle.mm_keep.specs.{declared.finding.At.{At}, Language.WordPlaces.{start_of, spelled, proof_word}, Code.OfFiles.{IsPlaceIn}}
+use Rattle.mm_keep.specs.{declared.finding.At.{At}, Language.WordPlaces.{proof_word}, Code.{KeyedTold.{word_start, word_spelling}, OfFiles.{IsPlaceIn}}}
 use Rattle.mm_proof.specs.mm_store.declared.item.Item as store
 
 -- ---- where words begin
@@ -19,7 +19,7 @@ RunsBegin bound rs = AllByRecursion (λ (run : Run). run.start ≤ bound) rs
 abbrev WordsBegin : ℕ → List Word → Type 0
 WordsBegin bound words = AllByRecursion (λ (word : Word). word.start ≤ bound) words
 
-front_begins : (bound at b : ℕ) (rs : List Run) → at ≤ bound → RunsBegin bound rs → RunsBegin bound (with_front at b rs)
+front_begins : (bound at b : ℕ) (rs : List Run) → at ≤ bound → RunsBegin bound rs → RunsBegin bound (with_first_byte at b rs)
 front_begins bound at b rs h k = grind (arith, common_steps) steps 200000
 
 -- the runs of bytes begin in them
@@ -40,15 +40,15 @@ parts_begin bound [] each h = tt
 parts_begin bound (Single run word ∷ parts) each h = (omega (arith, each.0.start, h.0), parts_begin bound parts each.1 h.1)
 parts_begin bound (Comment first inside last ∷ parts) each h = parts_begin bound parts each.1 (behind_begin bound (first ∷ (inside ++ last ∷ [])) (flat_map segment_runs parts) h)
 
-nth_begins : (bound : ℕ) (words : List Word) (n : ℕ) → WordsBegin bound words → start_of (slice_get words n) ≤ bound
+nth_begins : (bound : ℕ) (words : List Word) (n : ℕ) → WordsBegin bound words → word_start (slice_get words n) ≤ bound
 nth_begins bound (word ∷ words) (suc n) h = nth_begins bound words n h.1
 nth_begins bound words n h = grind (arith, common_steps) steps 200000
 
-word_begins : (text : List ℕ) (words : List Word) (n : ℕ) → HasWords text words → start_of (slice_get words n) ≤ length text
+word_begins : (text : List ℕ) (words : List Word) (n : ℕ) → HasWords text words → word_start (slice_get words n) ≤ length text
 word_begins text words n has =
     let are = has.words_are in
-    let runs = subst (RunsBegin (length text)) (sym are.reading.joined) (runs_begin (length text) 0 text (omega arith)) in
-    nth_begins (length text) words n (subst (WordsBegin (length text)) are.singles (parts_begin (length text) are.parts are.reading.each runs))
+    let runs = subst (RunsBegin (length text)) (sym are.joined) (runs_begin (length text) 0 text (omega arith)) in
+    nth_begins (length text) words n (subst (WordsBegin (length text)) are.singles (parts_begin (length text) are.parts are.each runs))
 
 -- ---- the byte of a word
 
@@ -80,8 +80,8 @@ pub own_text : (files : FilesView) (item : store.Item) → (read : CanBeRead fil
 own_text files item read text live = grind (arith, common_steps, same_Some read.live.piece live.piece (sym read.live.held ∙ live.held)) steps 200000
 
 -- a byte of a word of an item is in the item, or its end
-pub letter_within : (files : FilesView) (item : store.Item) (read : CanBeRead files item) (word letter : ℕ) → letter ≤ length (spelled (slice_range read.text item.start item.end) (slice_get read.words word))
-    → item.start + (start_of (slice_get read.words word) + letter) ≤ item.end
+pub letter_within : (files : FilesView) (item : store.Item) (read : CanBeRead files item) (word letter : ℕ) → letter ≤ length (word_spelling (slice_range read.text item.start item.end) (slice_get read.words word))
+    → item.start + (word_start (slice_get read.words word) + letter) ≤ item.end
 letter_within files item read word letter less = grind (arith, common_steps, length-drop, length-take-le, word_begins) steps 200000
 
 -- so a byte of an item has a place
@@ -105,8 +105,8 @@ placed_in files item stands byte at file line column less word letter read same 
 
 -- ---- the words of a proof among those of its item
 
--- how the word with a number is spelled
-spelled_at : (text : List ℕ) (words : List Word) (n : ℕ) → spelled text (slice_get words n) ≡ slice_index_or (token_names (tokens_of text words)) n []
+-- how the word with a number is word_spelling
+spelled_at : (text : List ℕ) (words : List Word) (n : ℕ) → word_spelling text (slice_get words n) ≡ slice_index_or (token_names (tokens_of text words)) n []
 spelled_at text (word ∷ words) (suc n) = spelled_at text words n
 spelled_at text _ _ = refl
 
@@ -128,15 +128,15 @@ proof_word_is : (kind : Kind) (tokens : List Token) (n : ℕ) → proof_word (it
 proof_word_is kind tokens n = ap (λ (k : ℕ). symbols_from kind + k + 1 + n) (length-map (symbols_in kind tokens) (λ (token : Token). token.bytes))
 
 -- a spot of the proof of an item is at a byte of one of its words
-pub letter_in : (files : FilesView) (item : store.Item) (said : Item) (spot : Spot) (says : Says files item said) → IsSpotIn said.proof spot
-    → spot.letter ≤ length (spelled (slice_range says.read.text item.start item.end) (slice_get says.read.words (proof_word said spot.word)))
+pub letter_in : (files : FilesView) (item : store.Item) (said : Said) (spot : Spot) (says : Says files item said) → IsSpotIn said.proof spot
+    → spot.letter ≤ length (word_spelling (slice_range says.read.text item.start item.end) (slice_get says.read.words (proof_word said spot.word)))
 letter_in files item said spot says is =
     let kind = kind_of item.kind in
     let bytes = slice_range says.read.text item.start item.end in
     let tokens = tokens_of bytes says.read.words in
     let from = proof_from kind tokens in
-    let proof : said.proof ≡ token_names (proof_in kind tokens) = ap (λ (one : Item). one.proof) says.is in
-    let word : proof_word said spot.word ≡ from + spot.word = ap (λ (one : Item). proof_word one spot.word) says.is ∙ proof_word_is kind tokens spot.word in
+    let proof : said.proof ≡ token_names (proof_in kind tokens) = ap (λ (one : Said). one.proof) says.is in
+    let word : proof_word said spot.word ≡ from + spot.word = ap (λ (one : Said). proof_word one spot.word) says.is ∙ proof_word_is kind tokens spot.word in
     let first : length (slice_index_or said.proof spot.word []) ≡ length (slice_index_or (token_names (proof_in kind tokens)) spot.word []) = ap (λ (ws : List (List ℕ)). length (slice_index_or ws spot.word [])) proof in
     let less = taken_less (prefix_len is_plain (drop from tokens)) spot.word (drop from tokens) in
     let whole = ap length (spelled_at bytes says.read.words (proof_word said spot.word)) in

@@ -2,6 +2,7 @@
 pub mod KeptCheck
 pub mod KeptPlan
 pub mod OfFiles
+pub mod KeyedTold
 pub mod FoundKinds
 pub mod KeptSession
 pub mod Cited

@@ -1,22 +1,24 @@
 //! What a session answers of its items.
 
 ghost use Rattle.std.specs.Prelude.{◌≡◌, ◌↔◌, ◌<◌, ℕ, List, true, false, Some, None, IfOk, IfErr, IfSome, IsErrOf, length};
+ghost use Rattle.mm_proof.specs.mm_store.declared.item.Item as store;
 ghost use Rattle.mm_proof.specs.mm_store.Language.FileFacts.{CanBeRead, StandsIn};
 ghost use Rattle.mm_proof.specs.mm_store.Language.FilesView.{FilesView};
 ghost use Rattle.mm_proof.specs.mm_frame.Language.Answering.{IsBase};
 ghost use Rattle.mm_proof.specs.mm_frame.Language.Base.{BaseView, said_at, is_sound_at, is_proof_at};
-ghost use Rattle.mm_proof.specs.mm_statement.Language.Item.{is_theorem};
+ghost use Rattle.mm_proof.specs.mm_statement.Language.Item.{Theorem, is_kind};
 ghost use Rattle.mm_proof.specs.mm_statement.Language.Statement as spoken;
 ghost use Rattle.mm_proof.specs.mm_verdict.Language.VerdictAt.{IsVerdictAt};
 ghost use Rattle.mm_keep.specs.Language.Findings.{told, counted};
 ghost use Rattle.mm_keep.specs.Code.FoundKinds.{IsFoundAs};
 ghost use Rattle.mm_keep.specs.Code.KeptSession.{AreChecked};
+ghost use Rattle.mm_keep.specs.Code.KeyedTold.{AreKeyedTold, IsKeyedTold, TellsFaultAt};
 ghost use Rattle.mm_keep.specs.Code.OfFiles.{IsOf, HasChecked, HasCheckedItem, HasVerdictOf};
 ghost use Rattle.mm_keep.specs.declared.answers.KeepError.TheVariants.{NoAssertion};
 ghost use Rattle.mm_keep.specs.declared.finding.Finding.TheVariants.{Proved};
 ghost use Rattle.mm_keep.specs.Language.Derivable.{IsDerivable, IsLabelDerivable};
 ghost use Rattle.mm_keep.specs.Language.Sessions.{HasAssertion, HasItem, IsAssertion, IsFinding, IsTally, IsVerdictOf, OfItems};
-ghost use Rattle.mm_keep.specs.Language.Told.{Told, IsRightlyTold, AreRightlyTold, TellsFaultAt, counts};
+ghost use Rattle.mm_keep.specs.Language.Told.{Told, counts};
 
 use crate::finding::{Finding, FindingKind};
 use crate::kept::Checks;
@@ -24,8 +26,8 @@ use crate::seen::{place_of_spot, seen_at};
 use crate::session::Session;
 use crate::tally::Tally;
 use mm_proof::{
-    Base, Files, FrameFault, Item, ItemKind, Verdict, files_have_one_base, proved_is_derived_at,
-    spots_are_in,
+    Base, Files, FrameFault, Item, ItemKind, Verdict, files_have_one_database, items_are_located,
+    proved_is_derived_at, spots_are_in,
 };
 use std::alloc::AllocError;
 use thiserror::Error;
@@ -65,7 +67,7 @@ fn at_fault<'a>(files: &'a Files, item: &Item, fault: FrameFault) -> Finding<'a>
 fn judged<'a>(files: &'a Files, base: &Base, number: usize, verdict: Verdict) -> Finding<'a>
     requires { HasVerdictOf files.now base.now number verdict }
     ensures { (names : List (List ℕ)) (view : BaseView) → IsOf names files.now base.now view → is_proof_at view number ≡ true
-        → IsVerdictAt view number verdict → IsRightlyTold files.now view number (told result) }
+        → IsVerdictAt view number verdict → IsKeyedTold files.now base.now.items view number (told result) }
 {
     spots_are_in();
     match verdict {
@@ -79,8 +81,8 @@ fn judged<'a>(files: &'a Files, base: &Base, number: usize, verdict: Verdict) ->
 
 /// What is found of a sound item that is no theorem.
 fn unproved<'a>(kind: ItemKind) -> Finding<'a>
-    ensures { (files : FilesView) (view : BaseView) (n : ℕ) → is_sound_at view n ≡ true → is_theorem (spoken.kind_of kind) ≡ false
-        → spoken.kind_of kind ≡ (said_at view n).kind → IsRightlyTold files view n (told result) }
+    ensures { (files : FilesView) (found : List store.Item) (view : BaseView) (n : ℕ) → is_sound_at view n ≡ true → is_kind Theorem (spoken.kind_of kind) ≡ false
+        → spoken.kind_of kind ≡ (said_at view n).kind → IsKeyedTold files found view n (told result) }
 {
     match kind {
         ItemKind::Axiom => Finding::Axiom,
@@ -92,7 +94,7 @@ fn unproved<'a>(kind: ItemKind) -> Finding<'a>
 fn finding_of<'a>(files: &'a Files, base: &Base, checked: &Checks, i: usize) -> Finding<'a>
     requires { HasCheckedItem files.now base.now checked.now i }
     ensures { (names : List (List ℕ)) (view : BaseView) → IsOf names files.now base.now view → AreChecked view checked.now
-        → IsRightlyTold files.now view i (told result) }
+        → IsKeyedTold files.now base.now.items view i (told result) }
 {
     let item = base.item(i);
     if let Some(fault) = base.fault(i) {
@@ -108,7 +110,7 @@ fn finding_of<'a>(files: &'a Files, base: &Base, checked: &Checks, i: usize) -> 
 fn kind_of(base: &Base, checked: &Checks, i: usize) -> FindingKind
     requires { (files : FilesView) × HasCheckedItem files base.now checked.now i }
     ensures { (names : List (List ℕ)) (files : FilesView) (view : BaseView) → IsOf names files base.now view → AreChecked view checked.now
-        → i < length view.said → IsFoundAs files view i result }
+        → i < length view → IsFoundAs files base.now.items view i result }
 {
     spots_are_in();
     if let Some(_fault) = base.fault(i) {
@@ -124,7 +126,7 @@ fn kind_of(base: &Base, checked: &Checks, i: usize) -> FindingKind
 fn tally_of(base: &Base, checked: &Checks) -> Tally
     requires { (files : FilesView) × HasChecked files base.now checked.now }
     ensures { (names : List (List ℕ)) (files : FilesView) (view : BaseView) → IsOf names files base.now view → AreChecked view checked.now
-        → (all : List Told) × AreRightlyTold files view all × (counted result ≡ counts all) }
+        → (all : List Told) × AreKeyedTold files base.now.items view all × (counted result ≡ counts all) }
 {
     let mut tally = Tally::none();
     for i in 0..base.count() {
@@ -151,9 +153,12 @@ impl Session {
         ensures found { IsFinding self.now i (told result) }
         ensures derived { result ≡ Proved → IsDerivable self.now i }
     {
-        files_have_one_base();
+        files_have_one_database();
+        items_are_located();
         mm_proof::items_stand();
+        self.files.holds_pieces();
         proved_is_derived_at();
+        spots_are_in();
         finding_of(&self.files, &self.base, &self.checked, i)
     }
 
@@ -162,7 +167,10 @@ impl Session {
         ensures some { IfSome result (λ i. OfItems self.now (λ base. IsAssertion base label.now i)) }
         ensures none { result ≡ None → ¬ HasAssertion self.now label.now }
     {
-        files_have_one_base();
+        files_have_one_database();
+        items_are_located();
+        mm_proof::items_stand();
+        self.files.holds_pieces();
         assertion_in(&self.base, label)
     }
 
@@ -174,7 +182,7 @@ impl Session {
         ensures none { IsErrOf result NoAssertion ↔ ¬ HasAssertion self.now label.now }
         ensures err { IfErr result (λ error. error ≡ NoAssertion) }
     {
-        files_have_one_base();
+        files_have_one_database();
         match self.assertion(label) {
             Some(i) => Ok(self.finding(i)),
             None => Err(KeepError::NoAssertion),
@@ -185,7 +193,10 @@ impl Session {
     pub fn tally(&self) -> Tally
         ensures { IsTally self.now (counted result) }
     {
+        items_are_located();
         mm_proof::items_stand();
+        spots_are_in();
+        self.files.holds_pieces();
         tally_of(&self.base, &self.checked)
     }
 }

@@ -90,7 +90,7 @@ fn has_label(words: ProofWords, check: &KeptCheck, label: &[u8]) -> bool
 
 /// Marks what the item with this number cites. The words of its proof are read up to the last one that cites.
 pub fn mark_cites(files: &Files, base: &Base, checked: &Checks, j: usize, marks: &mut [bool])
-    requires item { HasChecks files.now base.now checked.now (λ view. j < length view.said) }
+    requires item { HasChecks files.now base.now checked.now (λ view. j < length view) }
     requires places { j ≤ length marks.old }
     ensures { OfChecks files.now base.now checked.now (λ view. MarksMore (CitesItem view j) marks.old marks.new) }
 {
@@ -105,7 +105,7 @@ pub fn mark_cites(files: &Files, base: &Base, checked: &Checks, j: usize, marks:
 
 /// Whether the item with this number cites the one with this label.
 pub fn cites_label(files: &Files, base: &Base, checked: &Checks, j: usize, label: &[u8]) -> bool
-    requires { HasChecks files.now base.now checked.now (λ view. j < length view.said) }
+    requires { HasChecks files.now base.now checked.now (λ view. j < length view) }
     ensures { OfChecks files.now base.now checked.now (λ view. (i : ℕ) → IsAssertion view label.now i → IsTrue result ↔ CitesItem view j i) }
 {
     cites_rise();

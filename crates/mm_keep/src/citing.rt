@@ -14,7 +14,7 @@ use crate::answers::KeepError;
 use crate::cited::{cites_label, mark_cites};
 use crate::kept::Checks;
 use crate::session::Session;
-use mm_proof::{Base, Files, ItemKind, files_have_one_base};
+use mm_proof::{Base, Files, ItemKind, files_have_one_database, items_are_located};
 use std::alloc::{AllocError, Global};
 
 /// The numbers that are marked, rising.
@@ -46,9 +46,9 @@ fn cites_of(
     checked: &Checks,
     i: usize,
 ) -> Result<Vec<usize>, AllocError>
-    requires { HasChecks files.now base.now checked.now (λ view. i < length view.said) }
+    requires { HasChecks files.now base.now checked.now (λ view. i < length view) }
     ensures { IfOk result (λ numbers. OfChecks files.now base.now checked.now (λ view.
-        AreThose (CitesItem view i) (length view.said) numbers.items)) }
+        AreThose (CitesItem view i) (length view) numbers.items)) }
 {
     // Citations lead to earlier items.
     let mut marks = no_marks(alloc, i)?;
@@ -67,7 +67,7 @@ fn users_of(
 ) -> Result<Vec<usize>, AllocError>
     requires { HasChecks files.now base.now checked.now (λ view. IsAssertion view label.now i) }
     ensures { IfOk result (λ numbers. OfChecks files.now base.now checked.now (λ view.
-        IsAssertion view label.now i → AreThose (λ k. CitesItem view k i) (length view.said) numbers.items)) }
+        IsAssertion view label.now i → AreThose (λ k. CitesItem view k i) (length view) numbers.items)) }
 {
     let mut numbers = Vec::new(alloc);
     for j in i + 1..base.count() {
@@ -81,7 +81,7 @@ fn users_of(
 /// Marks that to which chains of citations lead from the marked items, the last of these first: citations lead to earlier
 /// items.
 fn mark_behind(files: &Files, base: &Base, checked: &Checks, marks: &mut [bool])
-    requires { HasChecks files.now base.now checked.now (λ view. length marks.old ≤ length view.said) }
+    requires { HasChecks files.now base.now checked.now (λ view. length marks.old ≤ length view) }
     ensures { OfChecks files.now base.now checked.now (λ view. MarksBehind view marks.old marks.new) }
 {
     for n in 0..marks.len() {
@@ -94,7 +94,7 @@ fn mark_behind(files: &Files, base: &Base, checked: &Checks, marks: &mut [bool])
 
 /// Whether the item with this number is a sound `$a`.
 fn is_axiom(base: &Base, k: usize) -> bool
-    requires { (view : BaseView) × IsBase view base.now × (k < length view.said) }
+    requires { (view : BaseView) × IsBase view base.now × (k < length view) }
     ensures { (view : BaseView) → IsBase view base.now → IsTrue result ↔ IsAxiom view k }
 {
     base.fault(k).is_none() && matches!(base.item(k).kind, ItemKind::Axiom)
@@ -102,7 +102,7 @@ fn is_axiom(base: &Base, k: usize) -> bool
 
 /// The sound `$a` that are marked, rising.
 fn marked_axioms(alloc: Global, base: &Base, marks: &[bool]) -> Result<Vec<usize>, AllocError>
-    requires { (view : BaseView) × IsBase view base.now × (length marks.now ≤ length view.said) }
+    requires { (view : BaseView) × IsBase view base.now × (length marks.now ≤ length view) }
     ensures { IfOk result (λ numbers. (view : BaseView) → IsBase view base.now
         → AreThose (λ k. IsMarked marks.now k × IsAxiom view k) (length marks.now) numbers.items) }
 {
@@ -123,9 +123,9 @@ fn axioms_of(
     checked: &Checks,
     i: usize,
 ) -> Result<Vec<usize>, AllocError>
-    requires { HasChecks files.now base.now checked.now (λ view. i < length view.said) }
+    requires { HasChecks files.now base.now checked.now (λ view. i < length view) }
     ensures { IfOk result (λ numbers. OfChecks files.now base.now checked.now (λ view.
-        AreThose (IsAxiomOf view i) (length view.said) numbers.items)) }
+        AreThose (IsAxiomOf view i) (length view) numbers.items)) }
 {
     let _count = base.count();
     let mut marks = no_marks(alloc, i + 1)?;
@@ -143,8 +143,10 @@ impl Session {
         ensures ok { IfOk result (λ numbers. AreCitesOf self.now label.now numbers.items) }
         ensures none { IsErrOf result NoAssertion ↔ ¬ HasAssertion self.now label.now }
     {
-        files_have_one_base();
+        files_have_one_database();
+        items_are_located();
         mm_proof::items_stand();
+        self.files.holds_pieces();
         match self.assertion(label) {
             Some(citing) => Ok(cites_of(
                 self.allocator(),
@@ -164,8 +166,10 @@ impl Session {
         ensures ok { IfOk result (λ numbers. AreUsersOf self.now label.now numbers.items) }
         ensures none { IsErrOf result NoAssertion ↔ ¬ HasAssertion self.now label.now }
     {
-        files_have_one_base();
+        files_have_one_database();
+        items_are_located();
         mm_proof::items_stand();
+        self.files.holds_pieces();
         match self.assertion(label) {
             Some(cited) => Ok(users_of(
                 self.allocator(),
@@ -187,8 +191,10 @@ impl Session {
         ensures ok { IfOk result (λ numbers. AreAxiomsOf self.now label.now numbers.items) }
         ensures none { IsErrOf result NoAssertion ↔ ¬ HasAssertion self.now label.now }
     {
-        files_have_one_base();
+        files_have_one_database();
+        items_are_located();
         mm_proof::items_stand();
+        self.files.holds_pieces();
         match self.assertion(label) {
             Some(first) => Ok(axioms_of(
                 self.allocator(),

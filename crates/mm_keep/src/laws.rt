@@ -1,27 +1,30 @@
 //! What is proved of the definitions: each law is the contract of a function.
 
 ghost use Rattle.mm_keep.specs.Language.Laws.{AppendingKeepsFindings, AxiomsHaveThemselves, ChainsLeadBack, ItemsHaveFindings, OneListEach, OneListOfRuns};
-ghost use Rattle.mm_keep.specs.Language.Laws.{FilesGiveItems, HasListEach, HasListOfRuns, LabelsAreDecided, ProvedRestsOnAxioms};
+ghost use Rattle.mm_keep.specs.Language.Laws.{HasListEach, HasListOfRuns, LabelsAreDecided, ProvedRestsOnAxioms};
 ghost use Rattle.mm_keep.specs.Language.Laws.{OneCount, OneFinding, OneLabel, OneTally, OneVerdict, ProvedIsDerivable};
 
-/// Between files before and files after there is one list of runs, whatever keys their pieces have.
+/// Between files before and files after there is one list of runs.
 pub fn one_list_of_runs()
     ensures { OneListOfRuns }
 {
-    mm_proof::files_have_one_base();
+    mm_proof::files_have_one_database();
 }
 
 /// Something is rightly reported of each item of files: so what is promised of findings and tallies can be met, of all files.
 pub fn items_have_findings()
     ensures { ItemsHaveFindings }
 {
+    mm_proof::edits_keep_units();
+    mm_proof::items_have_labels();
+    mm_proof::items_are_located();
     mm_proof::items_stand();
     mm_proof::has_verdict_at();
     mm_proof::spots_are_in();
 }
 
-/// Sessions whose files are the same but for the keys of their pieces, from one top file on, have one answer each: how many
-/// items there are, the label of each, what is found of each, the verdict on each assertion, and the tally.
+/// A session has one answer each: how many items there are, the label of each, what is found of each, the verdict on each
+/// assertion, and the tally.
 pub fn one_answer_each()
     ensures count { OneCount }
     ensures label { OneLabel }
@@ -29,20 +32,16 @@ pub fn one_answer_each()
     ensures verdict { OneVerdict }
     ensures tally { OneTally }
 {
-    mm_proof::one_meaning();
-    mm_proof::items_stand();
-    mm_proof::files_have_one_base();
+    mm_proof::files_have_one_database();
     mm_proof::has_own_labels();
     mm_proof::has_one_verdict_at();
-    mm_proof::same_view_same_verdict();
 }
 
-/// Of an assertion there is one list each of what it cites, of what cites it, and of its axioms, whatever keys the pieces of
-/// the files have.
+/// Of an assertion there is one list each of what it cites, of what cites it, and of its axioms.
 pub fn one_list_each()
     ensures { OneListEach }
 {
-    mm_proof::files_have_one_base();
+    mm_proof::files_have_one_database();
     mm_proof::has_own_labels();
 }
 
@@ -56,15 +55,6 @@ pub fn chains_lead_back()
     ensures { ChainsLeadBack }
 {}
 
-/// Files each key of which has a piece, and each piece one unit, give items from each top file that is among them, and from no
-/// other.
-pub fn files_give_items()
-    ensures { FilesGiveItems }
-{
-    mm_proof::has_expansion();
-    mm_proof::items_stand();
-}
-
 /// Between files before and files after that give items there is a list of runs: so what is promised of an edit can be met.
 pub fn has_list_of_runs()
     ensures { HasListOfRuns }
@@ -76,7 +66,10 @@ pub fn has_list_each()
     ensures decided { LabelsAreDecided }
     ensures lists { HasListEach }
 {
-    mm_proof::files_have_one_base();
+    mm_proof::edits_keep_units();
+    mm_proof::items_have_labels();
+    mm_proof::items_are_located();
+    mm_proof::files_have_one_database();
     mm_proof::has_own_labels();
     mm_proof::cites_tell();
 }
@@ -86,14 +79,17 @@ pub fn has_list_each()
 pub fn appending_keeps_findings()
     ensures { AppendingKeepsFindings }
 {
+    mm_proof::edits_keep_units();
+    mm_proof::items_have_labels();
+    mm_proof::items_are_located();
     mm_proof::one_meaning();
     mm_proof::items_stand();
-    mm_proof::files_have_one_base();
-    mm_proof::has_own_labels();
+    mm_proof::files_have_one_database();
     mm_proof::has_one_verdict_at();
+    mm_proof::has_verdict_at();
+    mm_proof::spots_are_in();
     mm_proof::same_view_same_verdict();
     mm_proof::appending_keeps_items();
-    items_have_findings();
 }
 
 /// If an item is rightly reported as Proved, some labels derive its statement.

@@ -43,7 +43,7 @@ fn old_with_same_view(
 
 /// The number of an item as a plan keeps it. No base has more items than there are such numbers.
 fn entry(base: &Base, number: Option<usize>) -> u32
-    ensures { (view : BaseView) → IsBase view base.now → ((i : ℕ) → number ≡ Some i → i < length view.said) → number_planned result ≡ number }
+    ensures { (view : BaseView) → IsBase view base.now → ((i : ℕ) → number ≡ Some i → i < length view) → number_planned result ≡ number }
 {
     let _count = base.count();
     match number {
@@ -155,7 +155,7 @@ pub fn run_rest(
     base: &Base,
     plan: &Plan,
 ) -> Result<(Checks, Work), AllocError>
-    requires read { (view : BaseView) × IsReadIn names.now files.now base.now view × (length plan.now ≡ length view.said) }
+    requires read { (view : BaseView) × IsReadIn names.now files.now base.now view × (length plan.now ≡ length view) }
     ensures checked { IfOk result (λ run. (view : BaseView) → IsReadIn names.now files.now base.now view
         → AreRunBy view plan.now run.0 × (length run.0 ≡ length plan.now)) }
     ensures work { IfOk result (λ run. (view : BaseView) → IsReadIn names.now files.now base.now view → AreRecorded view plan.now (length plan.now) run.1) }

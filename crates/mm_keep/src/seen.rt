@@ -4,9 +4,7 @@ ghost use Rattle.std.specs.Prelude.{◌≡◌, ◌≤◌, ◌+◌, ℕ, List, tr
 ghost use Rattle.mm_proof.specs.mm_text.Language.Reading.{LiesIn};
 ghost use Rattle.mm_proof.specs.mm_store.Language.FileFacts.{CanBeRead, StandsIn};
 ghost use Rattle.mm_proof.specs.mm_frame.Language.Base.{BaseView, is_proof_at};
-ghost use Rattle.mm_keep.specs.Language.Told.{IsShown};
-ghost use Rattle.mm_keep.specs.Language.WordPlaces as places;
-ghost use Rattle.mm_keep.specs.Language.WordPlaces.{IsPlaceOfSpot};
+ghost use Rattle.mm_keep.specs.Code.KeyedTold.{IsKeyedPlaceOfSpot, IsKeyedShown, word_spelling, word_start};
 ghost use Rattle.mm_keep.specs.Code.OfFiles.{IsOf, HasSpotOf, IsPlaceIn};
 
 use crate::finding::At;
@@ -21,7 +19,7 @@ pub struct Seen<'a> {
 
 /// Where a word begins; 0 if there is none.
 fn start_of(word: Option<Word>) -> usize
-    ensures { result ≡ places.start_of word }
+    ensures { result ≡ word_start word }
 {
     match word {
         Some(word) => word.start,
@@ -32,7 +30,7 @@ fn start_of(word: Option<Word>) -> usize
 /// How a word of a text is spelled; no bytes if there is none.
 fn spelled(text: &[u8], word: Option<Word>) -> &[u8]
     requires { IfSome word (LiesIn text.now) }
-    ensures { result.now ≡ places.spelled text.now word }
+    ensures { result.now ≡ word_spelling text.now word }
 {
     match word {
         Some(word) => &text[word.start..word.end],
@@ -60,7 +58,7 @@ fn place_in(files: &Files, item: &Item, word: usize, letter: usize) -> At
 pub fn seen_at<'a>(files: &'a Files, item: &Item, word: usize) -> Seen<'a>
     requires read { CanBeRead files.now item.now }
     requires stands { StandsIn files.now item.now }
-    ensures { IsShown files.now item.now word (record { at = result.at; word = result.word.now }) }
+    ensures { IsKeyedShown files.now item.now word (record { at = result.at; word = result.word.now }) }
 {
     let text = &files.piece(item.key)[item.start..item.end];
     let found = nth_word(text, word);
@@ -75,7 +73,7 @@ pub fn seen_at<'a>(files: &'a Files, item: &Item, word: usize) -> Seen<'a>
 pub fn place_of_spot(files: &Files, base: &Base, number: usize, spot: Spot) -> At
     requires { HasSpotOf files.now base.now number spot }
     ensures { (names : List (List ℕ)) (view : BaseView) → IsOf names files.now base.now view → is_proof_at view number ≡ true
-        → IsPlaceOfSpot files.now view number spot result }
+        → IsKeyedPlaceOfSpot files.now base.now.items view number spot result }
 {
     let item = base.item(number);
     let word = nth_of_proof(files, item, spot.word);

@@ -12,7 +12,7 @@ ghost use Rattle.mm_proof.specs.mm_text.Language.Asked.{asked, edited_name};
 ghost use Rattle.mm_proof.specs.mm_store.Language.Edits.{IsEditOf, NamesNoMember};
 ghost use Rattle.mm_proof.specs.mm_store.Language.FileFacts.{parked_in};
 ghost use Rattle.mm_proof.specs.mm_store.Language.FilesView.{FilesView, files_in, file_number, number_of, plain};
-ghost use Rattle.mm_keep.specs.Code.Changing.{CanTake, HasKept, HasTaking, WereKept, session_of};
+ghost use Rattle.mm_keep.specs.Code.Changing.{CanTake, HasKept, HasRun, HasTaking, WereKept};
 ghost use Rattle.mm_keep.specs.Code.Next.{IsFirst};
 ghost use Rattle.mm_keep.specs.Language.Refusals.{IsRefusal, IsBatchRefusal};
 ghost use Rattle.mm_keep.specs.Language.Sessions.{IsBegun, IsChanged, IsCount, IsLabelOfItem};
@@ -21,7 +21,10 @@ use crate::keeping::{Next, Ran, first_of, next_of};
 use crate::kept::Checks;
 use crate::planning::carry;
 use crate::unbegun::Unbegun;
-use mm_proof::{Base, BatchError, Edit, EditError, Files, Names, StoreError, Undos, Work};
+use mm_proof::{
+    Base, BatchError, Edit, EditError, Files, Names, StoreError, Undos, Work, items_are_located,
+    items_stand,
+};
 use std::alloc::{AllocError, Global};
 use std::marker::Model;
 use std::slice;
@@ -103,10 +106,10 @@ fn take_next(
     ensures kept { (before : FilesView) (top : List ℕ) (names : List (List ℕ)) → CanTake before files.old undos top names checked.old next
         → HasKept files.new top names base.new checked.new }
     ensures runs { (before : FilesView) (top : List ℕ) (names : List (List ℕ)) → CanTake before files.old undos top names checked.old next
-        → IsChanged (session_of before top) (session_of files.new top) result }
+        → HasRun before files.new top result }
     ensures plain { plain files.new ≡ plain files.old }
 {
-    mm_proof::items_stand();
+    items_stand();
     let Next { base: new, ran } = next;
     let Ran {
         plan,
@@ -133,7 +136,7 @@ fn go_on(
     ensures kept { (before : FilesView) → WereKept before files.old undos top.now names.old base.old checked.old
         → HasKept files.new top.now names.new base.new checked.new }
     ensures runs { IfOk result (λ work. (before : FilesView) → WereKept before files.old undos top.now names.old base.old checked.old
-        → IsChanged (session_of before top.now) (session_of files.new top.now) work) }
+        → HasRun before files.new top.now work) }
     ensures plain { OnOk result (plain files.new ≡ plain files.old) }
     ensures undone { OnErr result ((before : FilesView) → WereKept before files.old undos top.now names.old base.old checked.old → files.new ≡ before) }
 {
@@ -159,7 +162,7 @@ fn change(
     requires { HasKept files.old top.now names.old base.old checked.old }
     ensures kept { HasKept files.new top.now names.new base.new checked.new }
     ensures files { OnOk result (IsBatchOf (map asked edits.now) (plain files.old) (plain files.new)) }
-    ensures runs { IfOk result (IsChanged (session_of files.old top.now) (session_of files.new top.now)) }
+    ensures runs { IfOk result (HasRun files.old files.new top.now) }
     ensures refused { IfErr result (IsBatchRefusal (map asked edits.now) (plain files.old)) }
     ensures unchanged { OnErr result (files.new ≡ files.old) }
 {
@@ -180,13 +183,15 @@ impl Session {
     /// If no file has the name `top`, or memory runs out, the files are returned as they were.
     pub fn begin(alloc: Global, files: Files, top: &[u8]) -> Result<(Session, Work), Unbegun>
         requires { parked_in files ≡ 0 }
-        ensures files { IfOk result (λ begun. begun.0.files ≡ files) }
+        ensures files { IfOk result (λ begun. begun.0.files ≡ plain files) }
         ensures top { IfOk result (λ begun. begun.0.top ≡ top.now) }
         ensures runs { IfOk result (λ begun. IsBegun begun.0 begun.1) }
         ensures back { IfErr result (λ unbegun. unbegun.files ≡ files) }
-        ensures no_top { IfErr result (λ unbegun. (unbegun.fault ≡ NoTop) ↔ (number_of (files_in files) top.now ≡ None)) }
+        ensures no_top { IfErr result (λ unbegun. (unbegun.fault ≡ NoTop) ↔ (file_number (plain files) top.now ≡ None)) }
         ensures told { IfErr result (λ unbegun. IsExpansionError unbegun.fault) }
     {
+        items_are_located();
+        files.holds_pieces();
         let mut names = Names::new(alloc);
         match first_with_top(alloc, &mut names, &files, top) {
             Ok((top, next)) => {
@@ -214,11 +219,11 @@ impl Session {
     /// It takes time near linear in the items of the files and in what it runs; both the old base and the new one are kept
     /// until it is done.
     pub fn edit(&mut self, edit: &Edit<'_>) -> Result<Work, EditError>
-        ensures files { OnOk result (IsEditOf (asked edit.now) (plain self.old.files) (plain self.new.files)) }
+        ensures files { OnOk result (IsEditOf (asked edit.now) self.old.files self.new.files) }
         ensures runs { IfOk result (IsChanged self.old self.new) }
-        ensures no_file { IsErrOf result NoFile ↔ (file_number (plain self.old.files) (edited_name (asked edit.now)) ≡ None) }
-        ensures no_piece { (count : ℕ) → IsErrOf result (NoPiece count) ↔ NamesNoMember (asked edit.now) (plain self.old.files) count }
-        ensures refused { IfErr result (IsRefusal (asked edit.now) (plain self.old.files)) }
+        ensures no_file { IsErrOf result NoFile ↔ (file_number self.old.files (edited_name (asked edit.now)) ≡ None) }
+        ensures no_piece { (count : ℕ) → IsErrOf result (NoPiece count) ↔ NamesNoMember (asked edit.now) self.old.files count }
+        ensures refused { IfErr result (IsRefusal (asked edit.now) self.old.files) }
         ensures unchanged { OnErr result (self.new ≡ self.old) }
     {
         match self.edit_all(slice::from_ref(edit)) {
@@ -235,19 +240,23 @@ impl Session {
     /// in the place of each other answer, once the file and the pieces of the first edit are known to be there, or if there are
     /// no edits. After any error the session is as before. No edits are accepted, and run nothing.
     pub fn edit_all(&mut self, edits: &[Edit<'_>]) -> Result<Work, BatchError>
-        ensures files { OnOk result (IsBatchOf (map asked edits.now) (plain self.old.files) (plain self.new.files)) }
+        ensures files { OnOk result (IsBatchOf (map asked edits.now) self.old.files self.new.files) }
         ensures runs { IfOk result (IsChanged self.old self.new) }
-        ensures refused { IfErr result (IsBatchRefusal (map asked edits.now) (plain self.old.files)) }
+        ensures refused { IfErr result (IsBatchRefusal (map asked edits.now) self.old.files) }
         ensures unchanged { OnErr result (self.new ≡ self.old) }
     {
-        change(
+        items_are_located();
+        self.files.holds_pieces();
+        let changed = change(
             &mut self.files,
             &mut self.names,
             &self.top,
             &mut self.base,
             &mut self.checked,
             edits,
-        )
+        );
+        self.files.holds_pieces();
+        changed
     }
 
     /// The allocator that all lists are made on.
@@ -257,7 +266,7 @@ impl Session {
 
     /// The files, with all edits that were accepted; none of their pieces is parked.
     pub fn files(&self) -> &Files
-        ensures files { result.now ≡ self.now.files }
+        ensures files { plain result.now ≡ self.now.files }
         ensures parked { parked_in result.now ≡ 0 }
     {
         &self.files
@@ -269,6 +278,9 @@ impl Session {
         ensures count { IsCount self.now result }
         ensures few { result ≤ 4294967295 }
     {
+        items_are_located();
+        items_stand();
+        self.files.holds_pieces();
         self.base.count()
     }
 
@@ -276,6 +288,9 @@ impl Session {
     pub fn label(&self, i: usize) -> Option<&[u8]>
         ensures { IsLabelOfItem self.now i (option_map (λ label. label.now) result) }
     {
+        items_are_located();
+        items_stand();
+        self.files.holds_pieces();
         self.base.label(i)
     }
 }

@@ -80,7 +80,13 @@ module _ (base copy : BaseView) (i j : ℕ) (was : is_shown_at base i ≡ true) 
   ends_mean label k m None None h g kept ends stops e =
       both_mean label (answers.Hypothesis k) (answers.Hypothesis m) (ends.active label i h.carrier kept.was h.earlier tt)
       (stops.active label j g.carrier kept.is g.earlier tt) kept.same
-  ends_mean label k m (Some a) (Some b) h g kept ends stops e = search (rules, both_mean, dec_lt, m, ordinal_back, ordinal_less, ordinal_more) steps 200000
+  ends_mean label k m (Some a) (Some b) h g kept ends stops e = elim (dec_lt i a) [
+    | yes l ↦ (let less = ordinal_less base i a was l in
+        both_mean label (answers.Hypothesis k) (answers.Hypothesis m) (ends.active label i h.carrier kept.was h.earlier l)
+        (stops.active label j g.carrier kept.is g.earlier (ordinal_back copy j b (omega (arith, less, e, level)))) kept.same)
+    | no n ↦ both_mean label answers.Inactive answers.Inactive (ends.ended label i h.carrier kept.was h.earlier n)
+        (stops.ended label j g.carrier kept.is g.earlier (λ l. n (ordinal_back base i a (let less = ordinal_less copy j b is l in omega (arith, less, e, level))))) tt
+  ]
   ends_mean label k m _ _ h g kept ends stops e = absurd e
 
   kept_means : frame.AssertionsMean → (label : List ℕ) (k m : ℕ) → IsLabelOf base i k label → IsLabelOf copy j m label → ShareFrame base copy k m ⊎ KeepsHypothesis base copy k m → IsSame label
@@ -175,7 +181,7 @@ pub in_step_kept :
     (base copy : BaseView) (marks : MarksView) → AreMarks base copy marks → (i j : ℕ) → (mark_at marks j).old ≡ Some i → (mark_at marks j).in_step ≡ true → (label : List ℕ) →
     ¬ IsToldChanged copy marks.changed j label → IsSameLabel (setting_at base i) (setting_at copy j) label
 in_step_kept base copy marks are i j old told =
-    let within : j < length copy.said = omega (arith, (marked_within marks.items j i old), are.count) in
+    let within : j < length copy = omega (arith, (marked_within marks.items j i old), are.count) in
     grind (arith, common_steps, marked_within marks.items j i old, are.each j within, are.in_step j within told i (((are.each j (omega (arith, (marked_within marks.items j i old), are.count))).old_is i).0 old)) steps 200000
 
 -- ---- what the code keeps
@@ -197,6 +203,6 @@ ordinal_hidden base n e = let z : suc n ≡ n + 1 = omega arith in subst (λ k. 
 
 -- items of one ordinal
 pub same_level :
-    (base copy : BaseView) (mine yours : List ℕ) (i j : ℕ) → AreOrdinals base (suc (length base.said)) mine → AreOrdinals copy (suc (length copy.said)) yours →
+    (base copy : BaseView) (mine yours : List ℕ) (i j : ℕ) → AreOrdinals base (suc (length base)) mine → AreOrdinals copy (suc (length copy)) yours →
     (i < length mine) × (j < length yours) × (slice_index mine i ≡ slice_index yours j) → ordinal base i ≡ ordinal copy j
 same_level base copy mine yours i j a b (l, m, e) = grind (arith, a.each, b.each) steps 200000

@@ -26,7 +26,7 @@ told_again ps qs rs ss same h k l = (
 )
 
 -- an item with a label is one of the items
-pub shown_within : (view : BaseView) (i : ℕ) → is_shown_at view i ≡ true → i < length view.said
+pub shown_within : (view : BaseView) (i : ℕ) → is_shown_at view i ≡ true → i < length view
 shown_within view i e = grind (arith, common_steps, and_parts, false≢true) steps 200000
 
 got : {X : Type 0} (xs : List X) (n : ℕ) → n < length xs → (x : X) × (slice_get xs n ≡ Some x)
@@ -126,7 +126,7 @@ marked_behind base copy n marks changed j true are = marked_less base copy n mar
 marked_behind base copy n marks changed j false are = are
 
 -- all are marked
-pub all_marked : (base copy : BaseView) (n : ℕ) (marks : MarksView) → AreItemMarks base copy n marks → n ≡ length copy.said → AreMarks base copy marks
+pub all_marked : (base copy : BaseView) (n : ℕ) (marks : MarksView) → AreItemMarks base copy n marks → n ≡ length copy → AreMarks base copy marks
 all_marked base copy n marks are e = grind arith steps 200000
 
 -- marks that say nothing, and one more

@@ -3,8 +3,8 @@ use Rattle.std.proofs.lemmas.{Grind.{common_steps}, Bool.{cases_Bool, false≢tr
 use Rattle.std.proofs.Common.{◌≡◌, ◌<◌, ℕ, zero, suc, cond, Bool, true, false, Option, Some, None, List, [], ◌∷◌, ◌++◌, length, take, refl, sym, ◌∙◌, ap, subst, arith, ◌↔◌, IsTrue, is_none}
 use Rattle.std.{proofs.{Common.{option_to_list, bytes_eq}, Math.{Decide.{dec_lt}, Seq.{take-suc}}}, specs.List.{AllByRecursion}}
 use Rattle.mm_frame.specs.{declared.FrameNumber.{FrameNumber}, Language.{Base.{BaseView, said_at, before, is_shown_at, is_framed_at, frame_at, fault_by}, Framing.{resolve, resolve_from}}}
-use Rattle.mm_frame.specs.{Language.{Resolving.{IsCarrier, IsMeaning, Resolves}, Sound.{fault, judged, sound_items}}, mm_machine.Language.Frame.{Resolved, Assertion, Unknown, AreSameFrame}}
-use Rattle.mm_frame.specs.mm_statement.Language.Item.{Kind, Item, passed, is_labelled, labels_of, has}
+use Rattle.mm_frame.specs.{Language.{Resolving.{IsCarrier, IsMeaning, Resolves}, Sound.{fault, judged, sound_items}}, mm_machine.Language.Frame.{LabelMeaning, Assertion, Unknown, AreSameFrame}}
+use Rattle.mm_frame.specs.mm_statement.Language.Item.{Kind, Said, passed, is_labelled, labels_of, has}
 use Rattle.mm_proof.specs.{Code.KeptMarks.{AreTheorems, IsOneCarrier, IsShownItem, ShareHypotheses, SharePairs, stands_for}, Language.BaseMarks.{MarksView, AreMarks, mark_at}}
 use Rattle.mm_proof.proofs.{TheoremLemmas.{shown_proof}, KeptMarkLemmas.{shown_within, one_label}}
 use Rattle.mm_verdict.specs.{Language.{BaseLabels.{setting_at}, SameToDecode.{IsSameLabel}}, mm_machine.Language.SameProof.{AreSameMeaning}}
@@ -30,7 +30,7 @@ take_end xs n h = take_all (suc n) xs (omega (arith, h)) ∙ sym (take_all n xs 
 
 module _ (view : BaseView) (label : List ℕ) (none : IsOneCarrier view label None) where
   -- the item does not carry the label
-  abbrev Lacks : Item → Type 0
+  abbrev Lacks : Said → Type 0
   Lacks item = has (labels_of item) label ≡ false
 
   judged_lacks : (n : ℕ) (found : Option (ℕ × FrameNumber)) → fault (before view n) (said_at view n) ≡ found → Lacks (judged (said_at view n) found)
@@ -43,12 +43,12 @@ module _ (view : BaseView) (label : List ℕ) (none : IsOneCarrier view label No
       let item = said_at view n in
       let here = joined Lacks (before view n) (judged item (fault (before view n) item) ∷ []) (all_lack next n)
       (judged_lacks n (fault (before view n) item) refl, tt) in
-      elim (dec_lt n (length view.said)) [
-        | yes l ↦ subst (λ items. AllByRecursion Lacks items) (sym (ap sound_items (take-suc view.said n passed l) ∙ next (take n view.said) item)) here
-        | no m ↦ subst (λ items. AllByRecursion Lacks items) (sym (ap sound_items (take_end view.said n m))) (all_lack next n)
+      elim (dec_lt n (length view)) [
+        | yes l ↦ subst (λ items. AllByRecursion Lacks items) (sym (ap sound_items (take-suc view n passed l) ∙ next (take n view) item)) here
+        | no m ↦ subst (λ items. AllByRecursion Lacks items) (sym (ap sound_items (take_end view n m))) (all_lack next n)
       ]
 
-  unknown_from : (whole front back : List Item) → AllByRecursion Lacks back → resolve_from whole front back label ≡ Unknown
+  unknown_from : (whole front back : List Said) → AllByRecursion Lacks back → resolve_from whole front back label ≡ Unknown
   unknown_from whole front [] a = refl
   unknown_from whole front (item ∷ back) a = rw a.0 (unknown_from whole (front ++ item ∷ []) back a.1)
 
@@ -57,10 +57,10 @@ module _ (view : BaseView) (label : List ℕ) (none : IsOneCarrier view label No
 
 -- ---- what two answers mean
 
-means : (base : BaseView) (i : ℕ) (label : List ℕ) (told : answer.Resolved) (m : Resolved) → IsMeaning base i label told m → (m ≡ stands_for base told) × IsShownItem base told
+means : (base : BaseView) (i : ℕ) (label : List ℕ) (told : answer.Resolved) (m : LabelMeaning) → IsMeaning base i label told m → (m ≡ stands_for base told) × IsShownItem base told
 means base i label told m h = grind (arith, common_steps) steps 200000
 
-moved : (same : Bool) (m n y z : Resolved) → m ≡ n → y ≡ z → IsTrue same ↔ AreSameMeaning n z → IsTrue same ↔ AreSameMeaning m y
+moved : (same : Bool) (m n y z : LabelMeaning) → m ≡ n → y ≡ z → IsTrue same ↔ AreSameMeaning n z → IsTrue same ↔ AreSameMeaning m y
 moved same m n y z e f s = subst (λ w. IsTrue same ↔ AreSameMeaning w y) (sym e) (subst (λ w. IsTrue same ↔ AreSameMeaning n w) (sym f) s)
 
 -- the label means the same exactly when its two answers stand for the same

@@ -1,8 +1,8 @@
 -- Equal views have equal verdicts, and their proofs cite by the same words.
-use Rattle.std.{proofs.{Common.{arith, ℕ, Result, Ok, Err, List, [], ◌∷◌, map, sym, subst}, lemmas.Grind.{common_steps}}, specs.List.{AllZip, AllByRecursion}}
-use Rattle.mm_frame.specs.{Language.{Base.{BaseView, AreSaid, before, said_at, frame_at}, Framing.{resolve}}, mm_machine.Language.Frame.{Symbol, Mandatory, Setting, Resolved}}
+use Rattle.std.{proofs.{Common.{arith, ℕ, Result, Ok, Err, List, [], ◌∷◌, map, sym, subst, ap, ◌∙◌}, lemmas.Grind.{common_steps}}, specs.List.{AllZip, AllByRecursion}}
+use Rattle.mm_frame.specs.{Language.{Base.{BaseView, AreLabelled, before, said_at, frame_at}, Framing.{resolve}}, mm_machine.Language.Frame.{Symbol, Mandatory, Setting, LabelMeaning}}
 use Rattle.mm_proof.specs.{Code.KeptMarks.{ShareHypotheses, SharePairs, ShareProof}, Language.ViewLaws.{SameViewSameCites, SameViewSameVerdict}}
-use Rattle.mm_verdict.specs.Language.{BaseLabels.{setting_at}, Decoding.{decoding}, DecodingLaws.{SameCitesSame, SameDecodesSame}, ItemLaws.{MandatoryLabelsMean, MeansHypothesis}}
+use Rattle.mm_verdict.specs.Language.{BaseLabels.{setting_at}, Citing.{cites}, Decoding.{decoding}, DecodingLaws.{SameCitesSame, SameDecodesSame}, ItemLaws.{MandatoryLabelsMean, MeansHypothesis}}
 use Rattle.mm_verdict.specs.Language.{SameToDecode.{AreSameToDecode, IsSameHypothesis, labels_named}, VerdictAt.{mandatory_labels, statement_at, decoding_at}, View.{view_at, AreSameViews}}
 use Rattle.mm_verdict.specs.mm_machine.{Language.{Laws.{SameProofSameVerdict}, SameProof.{AreSameMeaning, IsSameDecoding}, Verdict.{Decoded, IsVerdict}}, declared.Verdict.{Verdict}}
 use Rattle.mm_verdict.specs.mm_machine.declared.step.ProofFault.{ProofFault}
@@ -18,12 +18,12 @@ same_hypotheses place other (x ∷ mine) (y ∷ yours) (h ∷ hs) a b = ((h.expr
 same_hypotheses place other _ _ _ a b = absurd b
 
 -- what each of these labels means
-pub same_labels : (f g : List ℕ → Resolved) (labels : List (List ℕ)) → AllZip AreSameMeaning (map f labels) (map g labels) → AllByRecursion (λ label. AreSameMeaning (f label) (g label)) labels
+pub same_labels : (f g : List ℕ → LabelMeaning) (labels : List (List ℕ)) → AllZip AreSameMeaning (map f labels) (map g labels) → AllByRecursion (λ label. AreSameMeaning (f label) (g label)) labels
 same_labels f g [] a = tt
 same_labels f g (label ∷ labels) a = (a.0, same_labels f g labels a.1)
 
 to_decode :
-    MandatoryLabelsMean → (base copy : BaseView) (i j : ℕ) → AreSaid base → AreSaid copy → AreSameViews (view_at base i) (view_at copy j) →
+    MandatoryLabelsMean → (base copy : BaseView) (i j : ℕ) → AreLabelled base → AreLabelled copy → AreSameViews (view_at base i) (view_at copy j) →
     AreSameToDecode (setting_at base i) (setting_at copy j) (mandatory_labels base i) (mandatory_labels copy j) (said_at base i).proof
 to_decode mean base copy i j f g v =
     let mine = resolve (before base i) in
@@ -52,14 +52,19 @@ verdict_kept mean decodes same base copy i j f g v verdict h =
     let yours = mandatory_labels copy j in
     let here = decodes place other mine yours (said_at base i).proof (to_decode mean base copy i j f g v) in
     let there = subst (λ (words : List (List ℕ)). IsSameDecoding place other (decoding_at base i) (decoding other yours words)) v.proof here in
-    grind (arith, common_steps, moved same place other (statement_at base i) (decoding_at base i) (decoding_at copy j) verdict there h) steps 200000
+    subst (λ (statement : List Symbol). IsVerdict other statement (decoding_at copy j) verdict) v.expression
+    (moved same place other (statement_at base i) (decoding_at base i) (decoding_at copy j) verdict there h)
 
 pub cites_kept : MandatoryLabelsMean → SameCitesSame → SameViewSameCites
-cites_kept mean same base copy i j f g v = grind (arith, to_decode mean base copy i j f g v) steps 200000
+cites_kept mean same base copy i j f g v =
+    let other = setting_at copy j in
+    let yours = mandatory_labels copy j in
+    same (setting_at base i) other (mandatory_labels base i) yours (said_at base i).proof (to_decode mean base copy i j f g v)
+    ∙ ap (λ (words : List (List ℕ)). cites other words (decoding other yours words)) v.proof
 
 -- ---- what is compared of two views
 
-zip_labels : (f g : List ℕ → Resolved) (labels : List (List ℕ)) → AllByRecursion (λ label. AreSameMeaning (f label) (g label)) labels → AllZip AreSameMeaning (map f labels) (map g labels)
+zip_labels : (f g : List ℕ → LabelMeaning) (labels : List (List ℕ)) → AllByRecursion (λ label. AreSameMeaning (f label) (g label)) labels → AllZip AreSameMeaning (map f labels) (map g labels)
 zip_labels f g [] a = tt
 zip_labels f g (label ∷ labels) a = (a.0, zip_labels f g labels a.1)
 

@@ -19,7 +19,7 @@ pub struct Ordinals {
 
 /// The same number in half the room. No base has more items than there are such numbers.
 pub fn narrowed(base: &Base, n: usize) -> u32
-    ensures { (view : BaseView) → IsBase view base.now → n ≤ length view.said → result ≡ n }
+    ensures { (view : BaseView) → IsBase view base.now → n ≤ length view → result ≡ n }
 {
     let _count = base.count();
     if n <= 4294967295 { n as u32 } else { 0 }
@@ -44,7 +44,7 @@ pub fn is_labelled(base: &Base, n: usize) -> bool
 
 /// The ordinal of each item, and of the end.
 fn ordinals_of(alloc: Global, base: &Base) -> Result<Vec<u32>, AllocError>
-    ensures { IfOk result (λ numbers. (view : BaseView) → IsBase view base.now → AreOrdinals view (suc (length view.said)) numbers.items) }
+    ensures { IfOk result (λ numbers. (view : BaseView) → IsBase view base.now → AreOrdinals view (suc (length view)) numbers.items) }
 {
     let count = base.count();
     let mut numbers = Vec::with_capacity(alloc, count.saturating_add(1))?;

@@ -214,7 +214,7 @@ fn is_in_step(marks: &Marks, i: usize, j: usize) -> bool
 /// Whether the item `m` of the new base comes before the theorem, and its label is among the bytes of this item.
 fn may_name(two: TwoTheorems, m: usize, files: &Files, item: &Item) -> bool
     requires { CanBeRead files.now item.now }
-    ensures { (said : meant.Item) → Says files.now item.now said → IsFalse result → IsUnnamed two.entry said.proof m }
+    ensures { (said : meant.Said) → Says files.now item.now said → IsFalse result → IsUnnamed two.entry said.proof m }
 {
     m < two.j
         && match two.new.label(m) {
@@ -226,7 +226,7 @@ fn may_name(two: TwoTheorems, m: usize, files: &Files, item: &Item) -> bool
 /// Whether the label of one of these items may be named in this way.
 fn may_name_any(two: TwoTheorems, changed: &[usize], files: &Files, item: &Item) -> bool
     requires { CanBeRead files.now item.now }
-    ensures { (said : meant.Item) → Says files.now item.now said → IsFalse result → AreUnnamed two.entry said.proof changed.now (length changed.now) }
+    ensures { (said : meant.Said) → Says files.now item.now said → IsFalse result → AreUnnamed two.entry said.proof changed.now (length changed.now) }
 {
     for k in 0..changed.len() {
         if may_name(two, changed[k], files, item) {
@@ -240,7 +240,7 @@ fn may_name_any(two: TwoTheorems, changed: &[usize], files: &Files, item: &Item)
 /// same at both. Its bytes are searched for each label that is listed as changed.
 fn are_kept(two: TwoTheorems, marks: &Marks, files: &Files, item: &Item) -> bool
     requires { CanBeRead files.now item.now }
-    ensures { (said : meant.Item) → Says files.now item.now said → IsTrue result → OfTwo two.entry (λ base copy. AreMarks base copy marks.now
+    ensures { (said : meant.Said) → Says files.now item.now said → IsTrue result → OfTwo two.entry (λ base copy. AreMarks base copy marks.now
         → AllByRecursion (MeansSame two.entry base copy) (labels_named said.proof)) }
 {
     is_in_step(marks, two.i, two.j) && !may_name_any(two, marks.changed(), files, item)
@@ -251,7 +251,7 @@ fn are_kept(two: TwoTheorems, marks: &Marks, files: &Files, item: &Item) -> bool
 fn same_labels(two: TwoTheorems, files: &Files, item: &Item) -> bool
     requires read { CanBeRead files.now item.now }
     requires marked { AreMarked two }
-    ensures { (said : meant.Item) → Says files.now item.now said → TellsLabels two.entry (labels_named said.proof) result }
+    ensures { (said : meant.Said) → Says files.now item.now said → TellsLabels two.entry (labels_named said.proof) result }
 {
     match two.marks {
         Some(marks) if are_kept(two, marks, files, item) => true,

@@ -1,12 +1,13 @@
 -- What is answered, from what is written.
 use Rattle.std.proofs.lemmas.{Grind.{common_steps}, List.{length-map}, Option.{slice_get-map, slice_get_within, slice_get-get_or, same_Some}}
-use Rattle.std.proofs.Common.{◌≡◌, ◌⊎◌, ℕ, ◌<◌, Option, List, Result, Ok, Err, inr, length, map, refl, sym, ap, ◌∙◌, subst, arith, take_all, Global, codes, IfErr, IfOk, IsErrOf, IsOk, IsTrue, OnOk}
-use Rattle.std.{proofs.{Common.{Bool, true, false, ◌↔◌, Some, Vec, get_or, slice_get}, KnownBytes.{Appends-kept}}, specs.{Result.{IsErrAnd}, Io.KnownBytes.{Appends, Keeps}, Option.{option_map}}}
-use Rattle.mm_keep.specs.{declared.answers.KeepError.{KeepError}, mm_verdict.Language.Work.{Recorded}, mm_frame.Language.Base.{BaseView, IsOfFiles}, mm_text.declared.edit.Edit.{Edit}}
-use Rattle.mm_keep.specs.{mm_text.Language.Asked.{Asked, asked}, mm_store.{Language.{Batches.{IsRefusedAt}, FilesView.{plain}}, declared.edit.EditError.{EditError}}}
+use Rattle.std.proofs.Common.{◌≡◌, ◌⊎◌, ℕ, ◌<◌, Option, List, Result, Ok, Err, inl, inr, length, map, refl, sym, ap, ◌∙◌, subst, arith, take_all, Global, codes, IfErr, IfOk, IsErrOf, IsOk, IsTrue}
+use Rattle.std.{proofs.{Common.{OnOk, Bool, true, false, ◌↔◌, Some, Vec, get_or, slice_get}, KnownBytes.{Appends-kept}}, specs.{Result.{IsErrAnd}, Io.KnownBytes.{Appends, Keeps}, Option.{option_map}}}
+use Rattle.mm_keep.specs.{declared.answers.KeepError.{KeepError}, mm_verdict.Language.Work.{Recorded}, mm_frame.Language.Base.{base_of}, mm_statement.Language.Database.{Located, IsDatabase}}
+use Rattle.mm_keep.specs.{mm_text.{declared.edit.Edit.{Edit}, Language.Asked.{Asked, asked}}, mm_store.{Language.Batches.{IsRefusedAt}, declared.edit.EditError.{EditError}}}
 use Rattle.mm_keep.specs.Language.Sessions.{SessionView, AreAxiomsOf, IsChanged, HasAssertion}
-use Rattle.mm_script.specs.{declared.{error.ScriptError.{ScriptError}, stream.Writing.{Writing}}, Language.{Script.{Command, Listed, Batch, Users}, Stream.{written, has_failed, AppendsPart, Stops}}}
-use Rattle.mm_report.specs.{Code.Answered.{Answers, Finds, Lacks}, Language.Answers.{IsAnswer, IsBatchRefused, IsRunAnswer, batch_refusal_line, numbers_listed, unknown_line}}
+use Rattle.mm_script.specs.{declared.{error.ScriptError.{ScriptError}, stream.Writing.{Writing}}, Language.Script.{Command, Listed, Batch, Axioms, Cites, Users}}
+use Rattle.mm_script.specs.Language.Stream.{written, has_failed, AppendsPart, Stops}
+use Rattle.mm_report.specs.{Code.Answered.{Answers, Finds, Lacks}, Language.Answers.{IsAnswer, IsBatchRefused, IsRunAnswer, batch_refusal_line, numbers_listed}}
 use Rattle.mm_keep.specs.declared.answers.KeepError.TheVariants as keep
 use Rattle.mm_script.specs.declared.error.ScriptError.TheVariants as errors
 
@@ -23,15 +24,15 @@ answered_stop contents command old new a b r answer err is s = grind (arith, com
 -- ---- edits
 
 -- the items whose labels are reported
-pub ran_base : (old new : SessionView) (work : Recorded) (changed : IsChanged old new work) → IsOfFiles new.files new.top changed.runs.new
-ran_base old new work changed = subst (λ top. IsOfFiles new.files top changed.runs.new) (sym changed.top) changed.runs.are
+pub ran_items : (old new : SessionView) (work : Recorded) (changed : IsChanged old new work) → IsDatabase new.files new.top changed.runs.new
+ran_items old new work changed = subst (λ top. IsDatabase new.files top changed.runs.new) (sym changed.top) changed.runs.are
 
-pub ran_is : (old new : SessionView) (work : Recorded) (changed : IsChanged old new work) → IsRunAnswer old new (numbers_listed (codes "ran") changed.runs.new work.runs)
+pub ran_is : (old new : SessionView) (work : Recorded) (changed : IsChanged old new work) → IsRunAnswer old new (numbers_listed (codes "ran") (base_of changed.runs.new) work.runs)
 ran_is old new work changed = record { top = changed.top; runs = work.runs; are_runs = changed.runs; answer_is = refl }
 
 -- the refusal of a batch, of which the edit with this number is refused
 pub batch_refused_is : (session : SessionView) (edits : List Edit) (listed : List Listed) (n : ℕ) (error : EditError) (d : Edit) → map (λ (one : Listed). one.edit) listed ≡ map asked edits
-    → IsRefusedAt (map asked edits) (plain session.files) n error
+    → IsRefusedAt (map asked edits) session.files n error
     → IsAnswer session (Batch listed) (batch_refusal_line n (asked (get_or edits n d)) error) session
 batch_refused_is session edits listed n error d same refused =
     let within : n < length edits = subst (λ k. n < k) (length-map edits asked) (slice_get_within (map asked edits) n refused.edit refused.there) in
@@ -44,15 +45,18 @@ batch_refused_is session edits listed n error d same refused =
 -- ---- lists
 
 -- an assertion that has these is there
-pub finds_base : (session : SessionView) (command : Command) (numbers : List ℕ) → Finds session command numbers → (base : BaseView) × IsOfFiles session.files session.top base
-finds_base session (Users label) numbers finds = (finds.0, finds.1)
-finds_base session command numbers finds = grind (arith, common_steps) steps 200000
+pub finds_items : (session : SessionView) (command : Command) (numbers : List ℕ) → Finds session command numbers → (items : List Located) × IsDatabase session.files session.top items
+finds_items session (Users label) numbers finds = (finds.0, finds.1)
+finds_items session command numbers finds = grind (arith, common_steps) steps 200000
 
-pub found_is : (session : SessionView) (command : Command) (numbers : List ℕ) (finds : Finds session command numbers) (base : BaseView) → IsOfFiles session.files session.top base
-    → IsAnswer session command (numbers_listed (codes "found") base numbers) session
-found_is session command numbers finds base is = grind (arith, common_steps) steps 200000
+pub found_is : (session : SessionView) (command : Command) (numbers : List ℕ) (finds : Finds session command numbers) (items : List Located) → IsDatabase session.files session.top items
+    → IsAnswer session command (numbers_listed (codes "found") (base_of items) numbers) session
+found_is session (Axioms label) numbers finds items is = (inr (numbers, finds, (items, is, refl)), refl)
+found_is session (Cites label) numbers finds items is = (inr (numbers, finds, (items, is, refl)), refl)
+found_is session (Users label) numbers finds items is = (inr (numbers, finds, (items, is, refl)), refl)
+found_is session _ numbers finds items is = absurd finds
 
-pub unknown_is : (session : SessionView) (command : Command) → Lacks session command → IsAnswer session command unknown_line session
+pub unknown_is : (session : SessionView) (command : Command) → Lacks session command → IsAnswer session command (codes "refused K01\n") session
 unknown_is session command lacks = grind (arith, common_steps) steps 200000
 
 -- ---- the answers of a list of axioms
@@ -84,7 +88,8 @@ pub axioms_there : (session : SessionView) (label : List ℕ) (found : Result (V
     → IfOk r (λ there. (IsTrue there × IsOk found) ⊎ ((there ≡ false) × IsErrOf found keep.NoAssertion))
     → IfOk r (λ there. IsTrue there ↔ HasAssertion session label)
 axioms_there session label found (Ok there) are none (inr h) = (λ t. (cc), λ has. absurd (none h.1 has))
-axioms_there session label found r are none told = grind (arith, common_steps, has_found) steps 200000
+axioms_there session label found (Ok there) are none (inl h) = (λ t. has_found session label found are h.1, λ has. h.0)
+axioms_there session label found (Err e) are none told = tt
 
 -- ---- what is written is passed on
 

@@ -2,11 +2,11 @@
 use Rattle.std.proofs.Common.{◌≡◌, ◌≢◌, ◌⊎◌, ◌<◌, ℕ, zero, suc, Some, List, [], ◌∷◌, ◌++◌, length, refl, sym, ap, ◌∙◌, subst, inl, inr, arith, codes, map, slice_get}
 use Rattle.std.proofs.lemmas.Option.{none-some, same_Some}
 use Rattle.mm_keep.specs.mm_store.{declared.edit.EditError.{EditError, TheVariants.{Memory}}, Language.{Answers.{IsEditError}, Batches.{IsBatchOf, IsRefusedAt}, Edits.{IsEditOf}}}
-use Rattle.mm_keep.specs.{mm_store.Language.{FileFacts.{HoldsPieces}, FilesView.{File, FilesView, file_number, plain}, Holding.{HoldOneEach}}, mm_text.Language.Asked.{Asked}}
-use Rattle.mm_keep.specs.Language.Laws.{FilesGiveItems, HasListOf, HasListOfRuns, HasListEach, ItemsHaveFindings, LabelsAreDecided}
+use Rattle.mm_keep.specs.{mm_store.Language.{FilesView.{File, file_number}, Holding.{HoldOneEach}}, mm_text.Language.Asked.{Asked}, mm_statement.Language.Laws.{DatabasesAreThere}}
+use Rattle.mm_keep.specs.{mm_frame.Language.Base.{base_of}, Language.Laws.{HasListOf, HasListOfRuns, HasListEach, ItemsHaveFindings, LabelsAreDecided}}
 use Rattle.mm_keep.specs.Language.{Sessions.{SessionView, HasAssertion, AreAxiomsOf, AreCitesOf, AreUsersOf}, Told.{Told, IsRightlyTold}}
-use Rattle.mm_report.specs.Language.Answers.{AreAnswers, IsAnswer, IsFound, IsRunAnswer, IsUnknown, IsVerdictAnswer, batch_refusal_line, numbers_listed, refusal_line, told_line, unknown_line}
-use Rattle.mm_report.specs.Language.{Report.{names_of, report, IsReport}, ScriptLaws.{HasScriptAnswer, IsWholeSession}}
+use Rattle.mm_report.specs.Language.Answers.{AreAnswers, IsAnswer, IsFound, IsRunAnswer, IsUnknown, IsVerdictAnswer, batch_refusal_line, numbers_listed, refusal_line, told_line}
+use Rattle.mm_report.{specs.Language.{Report.{names_of, report, IsReport}, ScriptLaws.{HasScriptAnswer, IsWholeSession}}, proofs.WrittenLemmas.{as_many}}
 use Rattle.mm_script.specs.Language.{Script.{Command, Change, Batch, Report, Verdict, Axioms, Cites, Users, Listed, commands_of}, ReadingLaws.{HasReading}}
 
 -- what is known of all files and sessions
@@ -14,8 +14,7 @@ pub record HavingLaws : Type 0 where
   pub edits : (edit : Asked) (files : List File) → ((after : List File) × IsEditOf edit files after) ⊎ ((error : EditError) × (error ≢ Memory) × IsEditError edit files error)
   pub numbers : (edit : Asked) (files after : List File) (name : List ℕ) → IsEditOf edit files after → file_number after name ≡ file_number files name
   pub units : (edit : Asked) (files after : List File) → HoldOneEach files → IsEditOf edit files after → HoldOneEach after
-  pub keys : (files : List File) → (view : FilesView) × HoldsPieces view × (plain view ≡ files)
-  pub items : FilesGiveItems
+  pub databases : DatabasesAreThere
   pub findings : ItemsHaveFindings
   pub runs : HasListOfRuns
   pub decided : LabelsAreDecided
@@ -54,44 +53,38 @@ pub record Answered (session : SessionView) (command : Command) : Type 0 where
   whole : IsWholeSession new
 
 module _ (laws : HavingLaws) (session : SessionView) (whole : IsWholeSession session) where
+  -- the session with other files
+  abbrev with_files : List File → SessionView
+  with_files files = record { files = files; top = session.top }
+
   -- edits are done, and what is run is reported
   record Ran (after : List File) : Type 0 where
-    new : SessionView
-    files : plain new.files ≡ after
-    new_whole : IsWholeSession new
+    new_whole : IsWholeSession (with_files after)
     answer : List ℕ
-    ran : IsRunAnswer session new answer
+    ran : IsRunAnswer session (with_files after) answer
 
-  has_ran : (after : List File) → HoldOneEach after → ((name : List ℕ) → file_number after name ≡ file_number (plain session.files) name) → Ran after
+  has_ran : (after : List File) → HoldOneEach after → ((name : List ℕ) → file_number after name ≡ file_number session.files name) → Ran after
   has_ran after units numbers =
-      let view = laws.keys after in
-      let new : SessionView = record { files = view.0; top = session.top } in
-      let held = subst HoldOneEach (sym view.2) units in
-      let number : file_number (plain view.0) session.top ≡ file_number (plain session.files) session.top = ap (λ (files : List File). file_number files session.top) view.2 ∙ numbers session.top in
-      let had = (laws.items session.files session.top whole.pieces whole.units).0 whole.items in
-      let items = (laws.items view.0 session.top view.1 held).1 (λ e. had (sym number ∙ e)) in
-      let runs = laws.runs session.files view.0 session.top whole.items.0 items.0 whole.items.1 items.1 in
+      let had = (laws.databases session.files session.top whole.units).0 whole.items in
+      let items = (laws.databases after session.top units).1 (λ e. had (sym (numbers session.top) ∙ e)) in
+      let runs = laws.runs session.files after session.top whole.items.0 items.0 whole.items.1 items.1 in
       record {
-        new = new;
-        files = view.2;
-        new_whole = record { pieces = view.1; units = held; items = items };
-        answer = numbers_listed (codes "ran") runs.1.new runs.0;
+        new_whole = record { units = units; items = items };
+        answer = numbers_listed (codes "ran") (base_of runs.1.new) runs.0;
         ran = record { top = refl; runs = runs.0; are_runs = runs.1; answer_is = refl };
       }
 
   edit_answered : (edit : Asked) → Answered session (Change edit)
-  edit_answered edit = by (laws.edits edit (plain session.files))
-    where
-      by : ((after : List File) × IsEditOf edit (plain session.files) after) ⊎ ((error : EditError) × (error ≢ Memory) × IsEditError edit (plain session.files) error) → Answered session (Change edit)
-      by (inl e) =
-          let r = has_ran e.0 (laws.units edit (plain session.files) e.0 whole.units e.1) (λ name. laws.numbers edit (plain session.files) e.0 name e.1) in
-          record { answer = r.answer; new = r.new; is = inl (subst (IsEditOf edit (plain session.files)) (sym r.files) e.1, r.ran); whole = r.new_whole }
-      by (inr e) = record {
-        answer = refusal_line edit e.0;
-        new = session;
-        is = inr (record { error = e.0; refused = e.2; told = e.1; unchanged = refl; answer_is = refl });
-        whole = whole;
-      }
+  edit_answered edit = elim (laws.edits edit session.files) [
+    | inl e ↦ (let r = has_ran e.0 (laws.units edit session.files e.0 whole.units e.1) (λ name. laws.numbers edit session.files e.0 name e.1) in
+        record { answer = r.answer; new = with_files e.0; is = inl (e.1, r.ran); whole = r.new_whole })
+    | inr e ↦ record {
+      answer = refusal_line edit e.0;
+      new = session;
+      is = inr (record { error = e.0; refused = e.2; told = e.1; unchanged = refl; answer_is = refl });
+      whole = whole;
+    }
+  ]
 
   -- edits one after another, all of them or up to the first that is refused
   record Done (edits : List Asked) (files : List File) : Type 0 where
@@ -111,43 +104,41 @@ module _ (laws : HavingLaws) (session : SessionView) (whole : IsWholeSession ses
   ]
 
   batch_answered : (listed : List Listed) → Answered session (Batch listed)
-  batch_answered listed = by (edits_done (edits_of listed) (plain session.files) whole.units)
-    where
-      by : Done (edits_of listed) (plain session.files) ⊎ ((n : ℕ) × (error : EditError) × IsRefusedAt (edits_of listed) (plain session.files) n error) → Answered session (Batch listed)
-      by (inl d) =
-          let r = has_ran d.after d.units d.numbers in
-          record { answer = r.answer; new = r.new; is = inl (subst (IsBatchOf (edits_of listed) (plain session.files)) (sym r.files) d.batch, r.ran); whole = r.new_whole }
-      by (inr f) = record {
-        answer = batch_refusal_line f.0 f.2.edit f.1;
-        new = session;
-        is = inr (record { n = f.0; error = f.1; refused = f.2; unchanged = refl; answer_is = refl });
-        whole = whole;
-      }
+  batch_answered listed = elim (edits_done (edits_of listed) session.files whole.units) [
+    | inl d ↦ (let r = has_ran d.after d.units d.numbers in record { answer = r.answer; new = with_files d.after; is = inl (d.batch, r.ran); whole = r.new_whole })
+    | inr f ↦ record {
+      answer = batch_refusal_line f.0 f.2.edit f.1;
+      new = session;
+      is = inr (record { n = f.0; error = f.1; refused = f.2; unchanged = refl; answer_is = refl });
+      whole = whole;
+    }
+  ]
 
   -- ---- what leaves the session as it is
 
   reported : (bytes : List ℕ) × IsReport session bytes
   reported =
-      let base = whole.items.0 in
-      let c = chosen (IsRightlyTold session.files base) (length base.said) (laws.findings session.files session.top base whole.items.1) in
-      (report (names_of (plain session.files)) base.said c.all, record { base = base; of_files = whole.items.1; all = c.all; are_told = record { count = c.long; each = c.each }; bytes_are = refl })
+      let items = whole.items.0 in
+      let c = chosen (IsRightlyTold session.files items) (length items) (laws.findings session.files session.top items whole.items.1) in
+      (report (names_of session.files) (base_of items) c.all, record { items = items; of_files = whole.items.1; all = c.all; are_told = record { count = c.long; each = c.each }; bytes_are = refl })
 
   -- an assertion has the label, or none has, and the answer says so
   by_label : (label : List ℕ) (P : List ℕ → Type 0) → (HasAssertion session label → (answer : List ℕ) × P answer) → (answer : List ℕ) × (IsUnknown session label answer ⊎ P answer)
-  by_label label P f = elim (laws.decided session label whole.items.0 whole.items.1) [
+  by_label label P f = elim (laws.decided session label whole.items) [
     | inl has ↦ (let a = f has in (a.0, inr a.1))
-    | inr none ↦ (unknown_line, inl (record { none = none; answer_is = refl }))
+    | inr none ↦ (codes "refused K01\n", inl (record { none = none; answer_is = refl }))
   ]
 
   verdict_there : (label : List ℕ) → HasAssertion session label → (answer : List ℕ) × IsVerdictAnswer session label answer
   verdict_there label has =
-      let told = laws.findings session.files session.top has.0 has.1 has.2.0 has.2.1.within in
-      (told_line (names_of (plain session.files)) label told.0, (told.0, (has.0, has.1, (has.2.0, has.2.1, told.1)), refl))
+      let within : has.2.0 < length has.0 = subst (λ (n : ℕ). has.2.0 < n) (as_many has.0) has.2.1.within in
+      let told = laws.findings session.files session.top has.0 has.1 has.2.0 within in
+      (told_line (names_of session.files) label told.0, (told.0, (has.0, has.1, has.2.0, has.2.1, told.1), refl))
 
   list_there : (AreSo : SessionView → List ℕ → List ℕ → Type 0) → HasListOf AreSo → (label : List ℕ) → HasAssertion session label → (answer : List ℕ) × IsFound session (AreSo session label) answer
   list_there AreSo lists label has =
       let numbers = lists session label has in
-      (numbers_listed (codes "found") has.0 numbers.0, (numbers.0, numbers.1, (has.0, has.1, refl)))
+      (numbers_listed (codes "found") (base_of has.0) numbers.0, (numbers.0, numbers.1, (has.0, has.1, refl)))
 
   pub answered : (command : Command) → Answered session command
   answered (Change edit) = edit_answered edit

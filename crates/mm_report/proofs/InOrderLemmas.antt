@@ -1,7 +1,7 @@
 -- A report without a line: no item is at fault, and each theorem is derived.
-use Rattle.std.proofs.lemmas.{Grind.{common_steps}, Bool.{and_parts}, Option.{slice_get-get_or, same_Some}}
-use Rattle.std.proofs.Common.{◌≡◌, ◌<◌, ℕ, zero, suc, Bool, true, false, Some, List, [], ◌∷◌, length, get_or, slice_get, sym, ap, arith}
-use Rattle.mm_keep.specs.{mm_store.Language.FilesView.{FilesView, plain}, mm_frame.Language.Base.{BaseView, is_sound_at, said_at}, mm_statement.Language.Item.{Item, is_theorem}}
+use Rattle.std.proofs.lemmas.{Grind.{common_steps}, Bool.{and_parts}, List.{length-map}, Option.{slice_get-get_or, same_Some}}
+use Rattle.std.proofs.Common.{◌≡◌, ◌<◌, ℕ, zero, suc, Bool, true, false, Some, List, [], ◌∷◌, length, get_or, slice_get, sym, ap, ◌∙◌, arith}
+use Rattle.mm_keep.specs.{mm_store.Language.FilesView.{File}, mm_statement.Language.{Database.{Located}, Item.{Said, is_kind, Theorem}}, mm_frame.Language.Base.{base_of, is_sound_at, said_at}}
 use Rattle.mm_keep.specs.Language.{Laws.{ProvedIsDerivable}, Told.{Told, Quiet, AnAxiom, Proved, IsRightlyTold}}
 use Rattle.mm_report.specs.Language.{Laws.{CleanIsDerived, IsInOrder}, Report.{lines, names_of}}
 
@@ -12,7 +12,7 @@ has_none AnAxiom = true
 has_none Proved = true
 has_none _ = false
 
-no_line : (names : List (List ℕ)) (items : List Item) (all : List Told) → length all ≡ length items → lines names items all ≡ [] → (n : ℕ) (one : Told) → slice_get all n ≡ Some one → has_none one ≡ true
+no_line : (names : List (List ℕ)) (items : List Said) (all : List Told) → length all ≡ length items → lines names items all ≡ [] → (n : ℕ) (one : Told) → slice_get all n ≡ Some one → has_none one ≡ true
 no_line names items [] e l n one there = absurd (cc)
 no_line names (x ∷ xs) (Quiet ∷ ys) e l zero one there = ap has_none (sym (same_Some Quiet one there))
 no_line names (x ∷ xs) (AnAxiom ∷ ys) e l zero one there = ap has_none (sym (same_Some AnAxiom one there))
@@ -22,17 +22,18 @@ no_line names (x ∷ xs) (AnAxiom ∷ ys) e l (suc n) one there = no_line names 
 no_line names (x ∷ xs) (Proved ∷ ys) e l (suc n) one there = no_line names xs ys (cc) l n one there
 no_line names items all e l n one there = absurd (cc)
 
-in_order : ProvedIsDerivable → (files : FilesView) (base : BaseView) (i : ℕ) (one : Told) → has_none one ≡ true → IsRightlyTold files base i one → IsInOrder base i
-in_order law files base i Quiet none f = record { sound = f.sound; derivable = λ is. absurd (grind (arith, common_steps) steps 200000) }
-in_order law files base i AnAxiom none f = record { sound = f.sound; derivable = λ is. absurd (cc) }
-in_order law files base i Proved none f = record {
-  sound = (and_parts (is_sound_at base i) (is_theorem (said_at base i).kind) f.proof).0;
-  derivable = λ is. law files base i f;
+in_order : ProvedIsDerivable → (files : List File) (items : List Located) (i : ℕ) (one : Told) → has_none one ≡ true → IsRightlyTold files items i one → IsInOrder (base_of items) i
+in_order law files items i Quiet none f = record { sound = f.sound; derivable = λ is. absurd (grind (arith, common_steps) steps 200000) }
+in_order law files items i AnAxiom none f = record { sound = f.sound; derivable = λ is. absurd (cc) }
+in_order law files items i Proved none f = record {
+  sound = (and_parts (is_sound_at (base_of items) i) (is_kind Theorem (said_at (base_of items) i).kind) f.proof).0;
+  derivable = λ is. law files items i f;
 }
-in_order law files base i one none f = absurd (cc)
+in_order law files items i one none f = absurd (cc)
 
 pub clean_is_derived : ProvedIsDerivable → CleanIsDerived
-clean_is_derived law session base all of_files told clean i within =
+clean_is_derived law session items all of_files told clean i within =
     let count : i < length all = omega (arith, within, told.count) in
     let there = slice_get-get_or all i Quiet count in
-    in_order law session.files base i (get_or all i Quiet) (no_line (names_of (plain session.files)) base.said all told.count clean i (get_or all i Quiet) there) (told.each i (get_or all i Quiet) there)
+    let long : length all ≡ length (base_of items) = told.count ∙ sym (length-map items (λ (item : Located). item.said)) in
+    in_order law session.files items i (get_or all i Quiet) (no_line (names_of session.files) (base_of items) all long clean i (get_or all i Quiet) there) (told.each i (get_or all i Quiet) there)

@@ -6,7 +6,7 @@ pub mod AnswerLemmas
 pub mod LabelLemmas
 pub mod AskedLemmas
 pub mod LoopLemmas
-pub mod AssertionLemmas
 pub mod ScriptAnswerLemmas
 pub mod HavingLemmas
 pub mod InOrderLemmas
+pub mod ExampleLemmas

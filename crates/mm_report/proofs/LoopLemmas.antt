@@ -1,10 +1,10 @@
 -- A script that is answered command by command.
 use Rattle.std.proofs.Common.{arith, ◌≡◌, ℕ, zero, suc, true, Option, Some, None, unwrap_or, List, [], ◌∷◌, ◌++◌, inl, inr, drop, take, replicate, refl, sym, ap, ◌∙◌, subst, append_assoc, append-nil}
 use Rattle.std.{proofs.{Common.{◌≢◌, Result, Err, IfErr, IfSome, IsErrOf}, lemmas.Grind.{common_steps}, KnownBytes.{Appends-nil, Appends-trans, Consumes-nil, Consumes-trans}}, specs.Result.{IsErrAnd}}
-use Rattle.std.specs.Io.KnownBytes.{Consumes, IsAtEnd}
+use Rattle.std.specs.{List.{AllByRecursion}, Io.KnownBytes.{Consumes, IsAtEnd}}
 use Rattle.mm_script.specs.declared.{error.ScriptError.{ScriptError}, input.Input.{Input}, entry.{CommandAt.{CommandAt}, Complete.{Complete}}, stream.Writing.{Writing}, read_stream.Reading.{Reading}}
 use Rattle.mm_script.specs.Language.Commands.{pending, ReadsOn, IsNextCommand, IsWholeCommand, IsLast, IsWholeOrLast, HasNoEntry, StopsSo, rest_of_script}
-use Rattle.mm_script.specs.Language.Script.{Command, End, Done, CutShort, BadLine, Entry, Blank, Given, AreGood, IsGood, AreRead, IsLongestReading, LacksFeed, entries_bytes, command_bytes}
+use Rattle.mm_script.specs.Language.Script.{Command, End, Done, CutShort, BadLine, Entry, Blank, Given, IsGood, IsGoodEntry, AreRead, IsLongestReading, LacksFeed, entries_bytes, command_bytes}
 use Rattle.mm_script.specs.Language.{Script.{commands_of}, Stream.{cannot_read, unread, written}, ReadingLaws.{CommandsLeaveNothing, ReadingsJoin}}
 use Rattle.mm_keep.specs.Language.Sessions.{SessionView}
 use Rattle.mm_report.specs.{Code.Answered.{IsAnswered, BeginsAnswer, FailsSo, AnswersSoFar, HasAnswered, StopsAnswering}, Language.Answers.{AreAnswers, IsAnswer}}
@@ -13,7 +13,7 @@ use Rattle.mm_script.specs.declared.error.ScriptError.TheVariants as errors
 
 -- ---- empty lines, and commands, after entries
 
-blanks_good : (n : ℕ) → AreGood (replicate n Blank)
+blanks_good : (n : ℕ) → AllByRecursion IsGoodEntry (replicate n Blank)
 blanks_good zero = tt
 blanks_good (suc n) = (tt, blanks_good n)
 

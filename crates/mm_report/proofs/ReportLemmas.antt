@@ -1,18 +1,18 @@
 -- The lines of a report, one more at a time, and each part by part.
 use Rattle.std.proofs.{Common.{arith, ◌≡◌, ℕ, List, [], ◌∷◌, ◌++◌, length, sym, ◌∙◌, ap, append_assoc, append-nil, codes, decimal, slice_index_or}, lemmas.Grind.{common_steps}}
-use Rattle.mm_keep.specs.{mm_statement.Language.Item.{Item}, mm_frame.declared.FrameNumber.{FrameNumber}, mm_machine.declared.ProofNumber.{ProofNumber}, declared.finding.At.{At}}
+use Rattle.mm_keep.specs.{mm_statement.Language.Item.{Said}, mm_frame.declared.FrameNumber.{FrameNumber}, mm_machine.declared.ProofNumber.{ProofNumber}, declared.finding.At.{At}}
 use Rattle.mm_keep.specs.{declared.tally.Tally.{Tally}, Language.{Findings.{counted}, Told.{Told}}}
 use Rattle.mm_report.specs.Language.Report.{item_line, lines, place_in, fault_line, incomplete_line, wrong_line, code_of, proof_code, summary}
 
 -- ---- lines
 
 -- the lines of some items, and then those of more
-pub lines_join : (names : List (List ℕ)) (items more : List Item) (all others : List Told) → length all ≡ length items → lines names (items ++ more) (all ++ others) ≡ lines names items all ++ lines names more others
+pub lines_join : (names : List (List ℕ)) (items more : List Said) (all others : List Told) → length all ≡ length items → lines names (items ++ more) (all ++ others) ≡ lines names items all ++ lines names more others
 lines_join names (x ∷ xs) more (y ∷ ys) others e = ap (λ bytes. item_line names x y ++ bytes) (lines_join names xs more ys others (cc)) ∙ sym (append_assoc (item_line names x y) (lines names xs ys) (lines names more others))
 lines_join names items more all others e = grind (arith, common_steps) steps 200000
 
 -- one more item has its line after the others'
-pub lines_push : (names : List (List ℕ)) (items : List Item) (all : List Told) (item : Item) (one : Told) → length all ≡ length items → lines names (items ++ item ∷ []) (all ++ one ∷ []) ≡ lines names items all ++ item_line names item one
+pub lines_push : (names : List (List ℕ)) (items : List Said) (all : List Told) (item : Said) (one : Told) → length all ≡ length items → lines names (items ++ item ∷ []) (all ++ one ∷ []) ≡ lines names items all ++ item_line names item one
 lines_push names items all item one e = lines_join names items (item ∷ []) all (one ∷ []) e ∙ ap (λ bytes. lines names items all ++ bytes) (append-nil (item_line names item one))
 
 -- ---- the summary

@@ -1,13 +1,12 @@
--- The answers of scripts are one, of sessions that are alike.
+-- The answers of scripts are one.
 use Rattle.std.proofs.lemmas.{Bool.{cases_lt}, List.Elements.{filter_map-append}, Option.{same_Some, slice_get_within}, Grind.{common_steps}}
 use Rattle.std.proofs.Common.{◌≡◌, ◌≢◌, ◌⊎◌, ℕ, zero, suc, ◌<◌, ◌≤◌, Some, List, [], ◌∷◌, ◌++◌, length, map, take, refl, sym, ap, ◌∙◌, subst, inl, inr, arith, append_assoc, codes, slice_get}
 use Rattle.std.proofs.Common.{append-nil, take_all}
-use Rattle.mm_keep.specs.mm_store.{declared.edit.EditError.{EditError, TheVariants.{Memory}}, Language.{Answers.{IsEditError}, Batches.{IsBatchOf, IsRefusedAt}, Edits.{IsEditOf}}}
-use Rattle.mm_keep.specs.{mm_store.Language.FilesView.{File, plain}, mm_text.Language.Asked.{Asked}, mm_frame.Language.{Base.{BaseView, IsOfFiles}, Laws.{AlikeFilesSayTheSame}}}
-use Rattle.mm_keep.specs.Language.{Citations.{CitesItem, IsAxiomOf}, Laws.{IsOneList, OneFinding, OneListEach, OneListOfRuns, OneVerdict}, Runs.{AreRunsOf}}
-use Rattle.mm_keep.specs.Language.Sessions.{SessionView, AreNumbersOf, HasAssertion, HasItems}
+use Rattle.mm_keep.specs.mm_store.{declared.edit.EditError.{EditError, TheVariants.{Memory}}, Language.{Answers.{IsEditError}, Batches.{IsBatchOf, IsRefusedAt}, Edits.{IsEditOf}, FilesView.{File}}}
+use Rattle.mm_keep.specs.{mm_text.Language.Asked.{Asked}, mm_statement.Language.{Database.{Located, IsDatabase}, Laws.{FilesHaveOneDatabase}}, mm_frame.Language.Base.{BaseView, base_of}}
+use Rattle.mm_keep.specs.Language.{Citations.{CitesItem, IsAxiomOf}, Laws.{IsOneList, OneFinding, OneListEach, OneListOfRuns, OneVerdict}, Runs.{AreRunsOf}, Sessions.{SessionView, AreNumbersOf}}
 use Rattle.mm_report.specs.Language.Answers.{AreAnswers, IsAnswer, IsBatchAnswer, IsEditAnswer, IsFound, IsRunAnswer, IsUnknown, IsVerdictAnswer, batch_refusal_line, numbers_listed, refusal_line}
-use Rattle.mm_report.{specs.Language.ScriptLaws.{AnswersBegin, AreAlike, AreTheFirst, OneScriptAnswer}, proofs.{AnswerLemmas.{same_report, same_said}, AssertionLemmas.{assertion_by_said, saying}}}
+use Rattle.mm_report.{specs.Language.{Answers.{told_line}, Report.{names_of}, ScriptLaws.{AnswersBegin, OneScriptAnswer}, Scripting.{AreFirst}}, proofs.AnswerLemmas.{same_report}}
 use Rattle.mm_script.specs.Language.Script.{Command, Change, Batch, Report, Verdict, Axioms, Cites as CitesOf, Users, EndsSo, Entry, command_of, commands_of, entries_bytes, HasEntries}
 use Rattle.mm_script.specs.Language.ReadingLaws.{DivisionsAgree, OneEnd, OneReading}
 
@@ -16,7 +15,7 @@ pub record AnswerLaws : Type 0 where
   pub reading : OneReading
   pub ends : OneEnd
   pub divisions : DivisionsAgree
-  pub said : AlikeFilesSayTheSame
+  pub databases : FilesHaveOneDatabase
   pub findings : OneFinding
   pub verdicts : OneVerdict
   pub runs : OneListOfRuns
@@ -25,33 +24,30 @@ pub record AnswerLaws : Type 0 where
   pub refused : (edit : Asked) (files after : List File) (error : EditError) → IsEditOf edit files after → IsEditError edit files error → error ≡ Memory
   pub reason : (edit : Asked) (files : List File) (a b : EditError) → a ≢ Memory → b ≢ Memory → IsEditError edit files a → IsEditError edit files b → a ≡ b
 
--- ---- items of sessions that are alike
+same_listed : (word : List ℕ) (items others : List Located) (xs ys : List ℕ) → items ≡ others → xs ≡ ys → numbers_listed word (base_of items) xs ≡ numbers_listed word (base_of others) ys
+same_listed word items others xs ys e f = λ i. numbers_listed word (base_of (e i)) (f i)
 
-same_listed : (word : List ℕ) (base other : BaseView) (xs ys : List ℕ) → base.said ≡ other.said → xs ≡ ys → numbers_listed word base xs ≡ numbers_listed word other ys
-same_listed word base other xs ys e f = λ i. numbers_listed word (saying (e i)) (f i)
+-- two answers and the sessions after them are the same
+abbrev AreOne : List ℕ → List ℕ → SessionView → SessionView → Type 0
+AreOne x y new copy = (x ≡ y) × (new ≡ copy)
 
 -- ---- edits
 
--- sessions that were alike stay alike if nothing is changed
-unchanged : (s t new copy : SessionView) → AreAlike s t → new ≡ s → copy ≡ t → AreAlike new copy
-unchanged s t new copy a e f = subst (λ (x : SessionView). AreAlike x copy) (sym e) (subst (λ (x : SessionView). AreAlike s x) (sym f) a)
+same_ran : AnswerLaws → (s new copy : SessionView) (x y : List ℕ) → new.files ≡ copy.files → IsRunAnswer s new x → IsRunAnswer s copy y → AreOne x y new copy
+same_ran laws s new copy x y files f g =
+    let top : new.top ≡ copy.top = f.top ∙ sym g.top in
+    let are : AreRunsOf s.files copy.files s.top f.runs = subst (λ (fs : List File). AreRunsOf s.files fs s.top f.runs) files f.are_runs in
+    let runs : f.runs ≡ g.runs = laws.runs s.files copy.files s.top f.runs g.runs are g.are_runs in
+    let items : f.are_runs.new ≡ g.are_runs.new =
+    laws.databases copy.files s.top f.are_runs.new g.are_runs.new (subst (λ (fs : List File). IsDatabase fs s.top f.are_runs.new) files f.are_runs.are) g.are_runs.are in
+    (f.answer_is ∙ same_listed (codes "ran") f.are_runs.new g.are_runs.new f.runs g.runs items runs ∙ sym g.answer_is, λ i. record { files = files i; top = top i })
 
-same_ran : AnswerLaws → (s t new copy : SessionView) (x y : List ℕ) → AreAlike s t → plain new.files ≡ plain copy.files → IsRunAnswer s new x → IsRunAnswer t copy y → (x ≡ y) × AreAlike new copy
-same_ran laws s t new copy x y a files f g =
-    let runs : f.runs ≡ g.runs = laws.runs s.files new.files t.files copy.files t.top f.runs g.runs a.files files (subst (λ (name : List ℕ). AreRunsOf s.files new.files name f.runs) a.top f.are_runs) g.are_runs in
-    let said : f.are_runs.new.said ≡ g.are_runs.new.said =
-    same_said laws.said (record { files = new.files; top = s.top }) (record { files = copy.files; top = t.top }) f.are_runs.new g.are_runs.new files a.top f.are_runs.are g.are_runs.are in
-    let first : HasItems new = (f.are_runs.new, subst (λ (name : List ℕ). IsOfFiles new.files name f.are_runs.new) (sym f.top) f.are_runs.are) in
-    let second : HasItems copy = (g.are_runs.new, subst (λ (name : List ℕ). IsOfFiles copy.files name g.are_runs.new) (sym g.top) g.are_runs.are) in
-    (f.answer_is ∙ same_listed (codes "ran") f.are_runs.new g.are_runs.new f.runs g.runs said runs ∙ sym g.answer_is, record { files = files; top = f.top ∙ a.top ∙ sym g.top; items = (λ h. second, λ h. first) })
-
-same_edit : AnswerLaws → (s t new copy : SessionView) (edit : Asked) (x y : List ℕ) → AreAlike s t → IsEditAnswer s edit x new → IsEditAnswer t edit y copy → (x ≡ y) × AreAlike new copy
-same_edit laws s t new copy edit x y a (inl f) (inl g) = same_ran laws s t new copy x y a (laws.edits edit (plain t.files) (plain new.files) (plain copy.files) (subst (λ (fs : List File). IsEditOf edit fs (plain new.files)) a.files f.0) g.0) f.1 g.1
-same_edit laws s t new copy edit x y a (inl f) (inr g) = absurd (g.told (laws.refused edit (plain t.files) (plain new.files) g.error (subst (λ (fs : List File). IsEditOf edit fs (plain new.files)) a.files f.0) g.refused))
-same_edit laws s t new copy edit x y a (inr f) (inl g) = absurd (f.told (laws.refused edit (plain s.files) (plain copy.files) f.error (subst (λ (fs : List File). IsEditOf edit fs (plain copy.files)) (sym a.files) g.0) f.refused))
-same_edit laws s t new copy edit x y a (inr f) (inr g) =
-    let why : f.error ≡ g.error = laws.reason edit (plain t.files) f.error g.error f.told g.told (subst (λ (fs : List File). IsEditError edit fs f.error) a.files f.refused) g.refused in
-    (f.answer_is ∙ ap (refusal_line edit) why ∙ sym g.answer_is, unchanged s t new copy a f.unchanged g.unchanged)
+same_edit : AnswerLaws → (s new copy : SessionView) (edit : Asked) (x y : List ℕ) → IsEditAnswer s edit x new → IsEditAnswer s edit y copy → AreOne x y new copy
+same_edit laws s new copy edit x y (inl f) (inl g) = same_ran laws s new copy x y (laws.edits edit s.files new.files copy.files f.0 g.0) f.1 g.1
+same_edit laws s new copy edit x y (inl f) (inr g) = absurd (g.told (laws.refused edit s.files new.files g.error f.0 g.refused))
+same_edit laws s new copy edit x y (inr f) (inl g) = absurd (f.told (laws.refused edit s.files copy.files f.error g.0 f.refused))
+same_edit laws s new copy edit x y (inr f) (inr g) =
+    (f.answer_is ∙ ap (refusal_line edit) (laws.reason edit s.files f.error g.error f.told g.told f.refused g.refused) ∙ sym g.answer_is, f.unchanged ∙ sym g.unchanged)
 
 -- several edits give one list of files
 same_batch : AnswerLaws → (edits : List Asked) (files a b : List File) → IsBatchOf edits files a → IsBatchOf edits files b → a ≡ b
@@ -91,67 +87,55 @@ same_refusal laws edits files n m a b f g = by (cases_lt n m) (cases_lt m n)
     by (inr h) (inl k) = absurd (first_refused laws edits files f.before m n b k g f.accepted)
     by (inr h) (inr k) = on (omega arith)
 
-same_batch_answer : AnswerLaws → (s t new copy : SessionView) (edits : List Asked) (x y : List ℕ) → AreAlike s t → IsBatchAnswer s edits x new → IsBatchAnswer t edits y copy → (x ≡ y) × AreAlike new copy
-same_batch_answer laws s t new copy edits x y a (inl f) (inl g) =
-    same_ran laws s t new copy x y a (same_batch laws edits (plain t.files) (plain new.files) (plain copy.files) (subst (λ (fs : List File). IsBatchOf edits fs (plain new.files)) a.files f.0) g.0) f.1 g.1
-same_batch_answer laws s t new copy edits x y a (inl f) (inr g) = absurd (all_refused laws edits (plain t.files) (plain new.files) g.n g.error g.refused (subst (λ (fs : List File). IsBatchOf edits fs (plain new.files)) a.files f.0))
-same_batch_answer laws s t new copy edits x y a (inr f) (inl g) = absurd (all_refused laws edits (plain s.files) (plain copy.files) f.n f.error f.refused (subst (λ (fs : List File). IsBatchOf edits fs (plain copy.files)) (sym a.files) g.0))
-same_batch_answer laws s t new copy edits x y a (inr f) (inr g) = (by (plain t.files) a.files g.refused g.answer_is, unchanged s t new copy a f.unchanged g.unchanged)
-  where
-    by : (files : List File) → plain s.files ≡ files → (r : IsRefusedAt edits files g.n g.error) → y ≡ batch_refusal_line g.n r.edit g.error → x ≡ y
-    by files e r k =
-        let q : IsRefusedAt edits (plain s.files) g.n g.error = grind (arith, common_steps, accepted) steps 200000 in
-        f.answer_is ∙ same_refusal laws edits (plain s.files) f.n g.n f.error g.error f.refused q ∙ sym k
+same_batch_answer : AnswerLaws → (s new copy : SessionView) (edits : List Asked) (x y : List ℕ) → IsBatchAnswer s edits x new → IsBatchAnswer s edits y copy → AreOne x y new copy
+same_batch_answer laws s new copy edits x y (inl f) (inl g) = same_ran laws s new copy x y (same_batch laws edits s.files new.files copy.files f.0 g.0) f.1 g.1
+same_batch_answer laws s new copy edits x y (inl f) (inr g) = absurd (all_refused laws edits s.files new.files g.n g.error g.refused f.0)
+same_batch_answer laws s new copy edits x y (inr f) (inl g) = absurd (all_refused laws edits s.files copy.files f.n f.error f.refused g.0)
+same_batch_answer laws s new copy edits x y (inr f) (inr g) =
+    (f.answer_is ∙ same_refusal laws edits s.files f.n g.n f.error g.error f.refused g.refused ∙ sym g.answer_is, f.unchanged ∙ sym g.unchanged)
 
 -- ---- questions
 
--- the label has an assertion in both
-has_too : AnswerLaws → (s t : SessionView) (label : List ℕ) → AreAlike s t → HasAssertion t label → HasAssertion s label
-has_too laws s t label a h =
-    grind (arith, a.items.1 (h.0, h.1), assertion_by_said h.0 (a.items.1 (h.0, h.1)).0 label h.2.0 (sym (same_said laws.said s t (a.items.1 (h.0, h.1)).0 h.0 a.files a.top (a.items.1 (h.0, h.1)).1 h.1)) h.2.1) steps 200000
-
-has_there : AnswerLaws → (s t : SessionView) (label : List ℕ) → AreAlike s t → HasAssertion s label → HasAssertion t label
-has_there laws s t label a h =
-    grind (arith, a.items.0 (h.0, h.1), assertion_by_said h.0 (a.items.0 (h.0, h.1)).0 label h.2.0 (same_said laws.said s t h.0 (a.items.0 (h.0, h.1)).0 a.files a.top h.1 (a.items.0 (h.0, h.1)).1) h.2.1) steps 200000
-
-same_verdict : AnswerLaws → (s t : SessionView) (label x y : List ℕ) → AreAlike s t → IsUnknown s label x ⊎ IsVerdictAnswer s label x → IsUnknown t label y ⊎ IsVerdictAnswer t label y → x ≡ y
-same_verdict laws s t label x y a (inl f) (inl g) = f.answer_is ∙ sym g.answer_is
-same_verdict laws s t label x y a (inl f) (inr g) = absurd (f.none (has_too laws s t label a (g.1.0, g.1.1, (g.1.2.0, g.1.2.1))))
-same_verdict laws s t label x y a (inr f) (inl g) = absurd (g.none (has_there laws s t label a (f.1.0, f.1.1, (f.1.2.0, f.1.2.1))))
-same_verdict laws s t label x y a (inr f) (inr g) = grind (arith, common_steps, laws.verdicts label s t f.0 g.0 a.files a.top f.1 g.1, a.files) steps 200000
+same_verdict : AnswerLaws → (s : SessionView) (label x y : List ℕ) → IsUnknown s label x ⊎ IsVerdictAnswer s label x → IsUnknown s label y ⊎ IsVerdictAnswer s label y → x ≡ y
+same_verdict laws s label x y (inl f) (inl g) = f.answer_is ∙ sym g.answer_is
+same_verdict laws s label x y (inl f) (inr g) = absurd (f.none (g.1.0, g.1.1, (g.1.2, g.1.3)))
+same_verdict laws s label x y (inr f) (inl g) = absurd (g.none (f.1.0, f.1.1, (f.1.2, f.1.3)))
+same_verdict laws s label x y (inr f) (inr g) = f.2 ∙ ap (told_line (names_of s.files) label) (laws.verdicts label s f.0 g.0 f.1 g.1) ∙ sym g.2
 
 -- the items in a relation to the assertion of a label, if they are one list
-same_found : AnswerLaws → (s t : SessionView) (label : List ℕ) (stands : BaseView → ℕ → ℕ → Type 0) (x y : List ℕ) → IsOneList (λ session label numbers. AreNumbersOf session label stands numbers)
-    → AreAlike s t → IsUnknown s label x ⊎ IsFound s (AreNumbersOf s label stands) x → IsUnknown t label y ⊎ IsFound t (AreNumbersOf t label stands) y → x ≡ y
-same_found laws s t label stands x y one a (inl f) (inl g) = f.answer_is ∙ sym g.answer_is
-same_found laws s t label stands x y one a (inl f) (inr g) = absurd (f.none (has_too laws s t label a (g.1.0, g.1.1, (g.1.2.0, g.1.2.1))))
-same_found laws s t label stands x y one a (inr f) (inl g) = absurd (g.none (has_there laws s t label a (f.1.0, f.1.1, (f.1.2.0, f.1.2.1))))
-same_found laws s t label stands x y one a (inr f) (inr g) =
-    let numbers : f.0 ≡ g.0 = one label s t f.0 g.0 a.files a.top f.1 g.1 in
-    let said : f.2.0.said ≡ g.2.0.said = same_said laws.said s t f.2.0 g.2.0 a.files a.top f.2.1 g.2.1 in
-    f.2.2 ∙ same_listed (codes "found") f.2.0 g.2.0 f.0 g.0 said numbers ∙ sym g.2.2
+same_found : AnswerLaws → (s : SessionView) (label : List ℕ) (stands : BaseView → ℕ → ℕ → Type 0) (x y : List ℕ) → IsOneList (λ session label numbers. AreNumbersOf session label stands numbers)
+    → IsUnknown s label x ⊎ IsFound s (AreNumbersOf s label stands) x → IsUnknown s label y ⊎ IsFound s (AreNumbersOf s label stands) y → x ≡ y
+same_found laws s label stands x y one (inl f) (inl g) = f.answer_is ∙ sym g.answer_is
+same_found laws s label stands x y one (inl f) (inr g) = absurd (f.none (g.1.0, g.1.1, (g.1.2.0, g.1.2.1)))
+same_found laws s label stands x y one (inr f) (inl g) = absurd (g.none (f.1.0, f.1.1, (f.1.2.0, f.1.2.1)))
+same_found laws s label stands x y one (inr f) (inr g) =
+    let numbers : f.0 ≡ g.0 = one label s f.0 g.0 f.1 g.1 in
+    let items : f.2.0 ≡ g.2.0 = laws.databases s.files s.top f.2.0 g.2.0 f.2.1 g.2.1 in
+    f.2.2 ∙ same_listed (codes "found") f.2.0 g.2.0 f.0 g.0 items numbers ∙ sym g.2.2
 
 -- ---- answers
 
-pub same_answer : AnswerLaws → (s t new copy : SessionView) (command : Command) (x y : List ℕ) → AreAlike s t → IsAnswer s command x new → IsAnswer t command y copy → (x ≡ y) × AreAlike new copy
-same_answer laws s t new copy (Change edit) x y a f g = same_edit laws s t new copy edit x y a f g
-same_answer laws s t new copy (Batch edits) x y a f g = same_batch_answer laws s t new copy (map (λ listed. listed.edit) edits) x y a f g
-same_answer laws s t new copy Report x y a f g = (same_report laws.said laws.findings s t x y a.files a.top f.0 g.0, unchanged s t new copy a f.1 g.1)
-same_answer laws s t new copy (Verdict label) x y a f g = (same_verdict laws s t label x y a f.0 g.0, unchanged s t new copy a f.1 g.1)
-same_answer laws s t new copy (Axioms label) x y a f g = (same_found laws s t label (λ base i k. IsAxiomOf base i k) x y laws.lists.2 a f.0 g.0, unchanged s t new copy a f.1 g.1)
-same_answer laws s t new copy (CitesOf label) x y a f g = (same_found laws s t label (λ base i k. CitesItem base i k) x y laws.lists.0 a f.0 g.0, unchanged s t new copy a f.1 g.1)
-same_answer laws s t new copy (Users label) x y a f g = (same_found laws s t label (λ base i k. CitesItem base k i) x y laws.lists.1 a f.0 g.0, unchanged s t new copy a f.1 g.1)
+same_answer : AnswerLaws → (s new copy : SessionView) (command : Command) (x y : List ℕ) → IsAnswer s command x new → IsAnswer s command y copy → AreOne x y new copy
+same_answer laws s new copy (Change edit) x y f g = same_edit laws s new copy edit x y f g
+same_answer laws s new copy (Batch edits) x y f g = same_batch_answer laws s new copy (map (λ listed. listed.edit) edits) x y f g
+same_answer laws s new copy Report x y f g = (same_report laws.databases laws.findings s x y f.0 g.0, f.1 ∙ sym g.1)
+same_answer laws s new copy (Verdict label) x y f g = (same_verdict laws s label x y f.0 g.0, f.1 ∙ sym g.1)
+same_answer laws s new copy (Axioms label) x y f g = (same_found laws s label (λ base i k. IsAxiomOf base i k) x y laws.lists.2 f.0 g.0, f.1 ∙ sym g.1)
+same_answer laws s new copy (CitesOf label) x y f g = (same_found laws s label (λ base i k. CitesItem base i k) x y laws.lists.0 f.0 g.0, f.1 ∙ sym g.1)
+same_answer laws s new copy (Users label) x y f g = (same_found laws s label (λ base i k. CitesItem base k i) x y laws.lists.1 f.0 g.0, f.1 ∙ sym g.1)
 
-pub same_answers : AnswerLaws → (s t new copy : SessionView) (commands : List Command) (x y : List ℕ) → AreAlike s t → AreAnswers s commands x new → AreAnswers t commands y copy → (x ≡ y) × AreAlike new copy
-same_answers laws s t new copy [] x y a f g = (f.0 ∙ sym g.0, unchanged s t new copy a f.1 g.1)
-same_answers laws s t new copy (command ∷ commands) x y a f g =
-    grind (arith, common_steps, same_answer laws s t f.1 g.1 command f.0 g.0 a f.3 g.3, same_answers laws f.1 g.1 new copy commands f.2 g.2 (same_answer laws s t f.1 g.1 command f.0 g.0 a f.3 g.3).1 f.4 g.4) steps 200000
+same_answers : AnswerLaws → (s new copy : SessionView) (commands : List Command) (x y : List ℕ) → AreAnswers s commands x new → AreAnswers s commands y copy → AreOne x y new copy
+same_answers laws s new copy [] x y f g = (f.0 ∙ sym g.0, f.1 ∙ sym g.1)
+same_answers laws s new copy (command ∷ commands) x y f g =
+    let first = same_answer laws s f.1 g.1 command f.0 g.0 f.3 g.3 in
+    let rest = same_answers laws g.1 new copy commands f.2 g.2 (subst (λ (next : SessionView). AreAnswers next commands f.2 new) first.1 f.4) g.4 in
+    (f.5 ∙ (λ i. first.0 i ++ rest.0 i) ∙ sym g.5, rest.1)
 
 pub same_script : AnswerLaws → OneScriptAnswer
-same_script laws s t new copy script x y end ended a f g =
+same_script laws s new copy script x y end ended f g =
     let read = laws.reading script f.entries g.entries f.rest g.rest f.reading g.reading in
-    let all = same_answers laws s t new copy (commands_of g.entries) x y a (subst (λ (es : List Entry). AreAnswers s (commands_of es) x new) read.0 f.answered) g.answered in
-    record { answers_are = all.0; end_is = laws.ends g.rest end ended (subst (λ (rest : List ℕ). EndsSo rest end) read.1 f.ends) g.ends; sessions = all.1 }
+    let all = same_answers laws s new copy (commands_of g.entries) x y (subst (λ (es : List Entry). AreAnswers s (commands_of es) x new) read.0 f.answered) g.answered in
+    (all.0, all.1, laws.ends g.rest end ended (subst (λ (rest : List ℕ). EndsSo rest end) read.1 f.ends) g.ends)
 
 -- ---- the answers to the first commands
 
@@ -175,21 +159,22 @@ in_parts s (command ∷ commands) more all final f =
       are = f.5 ∙ ap (λ (w : List ℕ). f.0 ++ w) r.are ∙ sym (append_assoc f.0 r.first r.later);
     }
 
-divided_of : (bytes more : List ℕ) (entries : List Entry) (rest : List ℕ) → AreTheFirst bytes more entries rest → (left : List ℕ) × HasEntries (bytes ++ more) entries left
+divided_of : (bytes more : List ℕ) (entries : List Entry) (rest : List ℕ) → AreFirst (Some more) bytes entries rest → (left : List ℕ) × HasEntries (bytes ++ more) entries left
 divided_of bytes more entries rest (inl r) = (rest ++ more, record { good = r.good; joined = inl (ap (λ (w : List ℕ). w ++ more) r.joined ∙ append_assoc (entries_bytes entries) rest more) })
 divided_of bytes more entries rest (inr d) = (rest, subst (λ (w : List ℕ). HasEntries w entries rest) (sym (append-nil bytes) ∙ ap (λ (w : List ℕ). bytes ++ w) (sym d.0)) d.1)
 
-begin_by : AnswerLaws → (s t new final : SessionView) (commands more : List Command) (answers all : List ℕ) → AreAlike s t → AreAnswers s commands answers new → AreInParts t commands more all final → (later : List ℕ) × (all ≡ answers ++ later)
-begin_by laws s t new final commands more answers all a f parts = grind (arith, common_steps, same_answers laws s t new parts.between commands answers parts.first a f parts.answered) steps 200000
+begin_by : AnswerLaws → (s new final : SessionView) (commands more : List Command) (answers all : List ℕ) → AreAnswers s commands answers new → AreInParts s commands more all final → (later : List ℕ) × (all ≡ answers ++ later)
+begin_by laws s new final commands more answers all f parts =
+    (parts.later, parts.are ∙ ap (λ (first : List ℕ). first ++ parts.later) (sym (same_answers laws s new parts.between commands answers parts.first f parts.answered).0))
 
 pub answers_begin : AnswerLaws → AnswersBegin
-answers_begin laws s t new final bytes more answers all entries rest end a first f g = on (divided_of bytes more entries rest first)
+answers_begin laws s new final bytes more answers all entries rest end first f g = on (divided_of bytes more entries rest first)
   where
     by : (later : List Entry) → entries ++ later ≡ g.entries → (later : List ℕ) × (all ≡ answers ++ later)
     by later e =
         let commands : commands_of g.entries ≡ commands_of entries ++ commands_of later = ap commands_of (sym e) ∙ filter_map-append command_of entries later in
-        begin_by laws s t new final (commands_of entries) (commands_of later) answers all a f
-        (in_parts t (commands_of entries) (commands_of later) all final (subst (λ (cs : List Command). AreAnswers t cs all final) commands g.answered))
+        begin_by laws s new final (commands_of entries) (commands_of later) answers all f
+        (in_parts s (commands_of entries) (commands_of later) all final (subst (λ (cs : List Command). AreAnswers s cs all final) commands g.answered))
 
     on : (left : List ℕ) × HasEntries (bytes ++ more) entries left → (later : List ℕ) × (all ≡ answers ++ later)
     on d = let w = laws.divisions (bytes ++ more) entries g.entries d.0 g.rest d.1 g.reading.divided (g.reading.longest entries d.0 d.1) in by w.0 w.1

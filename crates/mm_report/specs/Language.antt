@@ -4,3 +4,4 @@ pub mod Answers
 pub mod Scripting
 pub mod Laws
 pub mod ScriptLaws
+pub mod Examples

@@ -25,7 +25,7 @@ use crate::report::{
 };
 use mm_keep::{
     BatchError, Edit, EditError, Files, Finding, KeepError, Session, TextFault, TextNumber,
-    files_have_one_base, place,
+    files_have_one_database, place,
 };
 use mm_script::{CommandAt, EditAt, ScriptError, WriteFailed, Writing, bytes_of, edit_of};
 use std::alloc::{AllocError, Global};
@@ -133,7 +133,7 @@ fn write_label_lines<W: Write>(
 ) -> Result<(), WriteFailed>
     ensures { WritesOf W.contents session.now (λ base. label_lines (map (said_at base) items.now)) to.old to.new result }
 {
-    files_have_one_base();
+    files_have_one_database();
     for i in items {
         let label = session.label(*i).unwrap_or(&[]);
         write_part(label, b"\n", to)?;
@@ -242,7 +242,7 @@ fn write_told<W: Write>(
     finding: &Finding,
     to: &mut Writing<W>,
 ) -> Result<(), WriteFailed>
-    requires { IsInFiles (length files.now.keyed) (told finding.now) }
+    requires { IsInFiles (length (plain files.now)) (told finding.now) }
     ensures { Writes W.contents to.old to.new result (told_line (names_of (plain files.now)) label.now (told finding.now)) }
 {
     match *finding {
@@ -275,7 +275,7 @@ fn write_refusal<W: Write>(
     to: &mut Writing<W>,
 ) -> Result<(), ScriptError>
     requires { (files : List File) × IsRefusal (asked edit.now) files error }
-    ensures { (session : SessionView) → IsRefusal (asked edit.now) (plain session.files) error
+    ensures { (session : SessionView) → IsRefusal (asked edit.now) session.files error
         → Answers W.contents (Change (asked edit.now)) session session to.old to.new result }
 {
     mm_keep::first_faults_are_within();
@@ -293,7 +293,7 @@ fn write_batch_refusal<W: Write>(
 ) -> Result<(), ScriptError>
     requires { (files : List File) × IsBatchRefusal (map asked edits.now) files error }
     ensures { (session : SessionView) (listed : List Listed) → map (λ one. one.edit) listed ≡ map asked edits.now
-        → IsBatchRefusal (map asked edits.now) (plain session.files) error
+        → IsBatchRefusal (map asked edits.now) session.files error
         → Answers W.contents (Batch listed) session session to.old to.new result }
 {
     mm_keep::first_faults_are_within();

@@ -2,14 +2,14 @@
 
 ghost use Rattle.mm_report.specs.Language.Laws.{CleanIsDerived, OneReport};
 
-/// Files have one report at most from a top file on, which the keys of their pieces do not change.
+/// A session has one report at most.
 ///
 /// So the bytes that `write_report` writes depend on the names and the pieces of the files, and the name of the top file.
 /// They depend on nothing else.
 pub fn one_report()
     ensures { OneReport }
 {
-    mm_keep::files_have_one_base();
+    mm_keep::files_have_one_database();
     mm_keep::one_answer_each();
 }
 

@@ -2,12 +2,14 @@
 #![tactic(auto)]
 
 mod answer;
+mod examples;
 mod laws;
 mod report;
 mod script;
 mod script_laws;
 
 pub use answer::{fault_name, write_axioms};
+pub use examples::{scripts_are_answered_so, sessions_are_told_so};
 pub use laws::{clean_is_derived, one_report};
 pub use mm_keep::{
     Action, At, Base, BatchError, Checked, Checker, Decoding, Edit, EditError, Files, Finding,
@@ -15,8 +17,9 @@ pub use mm_keep::{
     Names, NumberedSymbol, PieceKey, Place, ProofFault, ProofNumber, ProofStep, ProofWords,
     Resolved, Session, Spot, Statement, StoreError, Symbol, Tally, TextError, TextFault,
     TextNumber, Unbegun, Undecoded, Undo, Undos, Verdict, Walk, Word, WordCursor, WordKind, Work,
-    check, decode, edits_keep_units, fits, has_bytes, has_expansion, nth_of_proof, nth_word, place,
-    same_proof, walks_go_on, words_of_proof,
+    check, databases_are_read_so, decode, edits_keep_units, fits, has_bytes, missing_are_named,
+    names_are_taken, nth_of_proof, nth_word, place, same_proof, texts_are_read_so, walks_go_on,
+    words_of_proof,
 };
 pub use mm_script::{
     ReadFailed, Reading, ScriptError, WriteFailed, Writing, commands_leave_nothing, has_reading,

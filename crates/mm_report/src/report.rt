@@ -3,7 +3,7 @@
 ghost use Rattle.std.specs.Prelude.{◌≡◌, ◌<◌, ◌++◌, [], true, decimal, length, IfOk, OnOk, OnErr, ℕ, List, unwrap_or};
 ghost use Rattle.std.specs.Io.KnownBytes.{Appends};
 ghost use Rattle.mm_keep.specs.mm_store.Language.FilesView.{plain};
-ghost use Rattle.mm_keep.specs.mm_statement.Language.Item.{Item};
+ghost use Rattle.mm_keep.specs.mm_statement.Language.Item.{Said};
 ghost use Rattle.mm_keep.specs.Language.Findings.{counted, told};
 ghost use Rattle.mm_report.specs.Code.InFiles.{IsInFiles};
 ghost use Rattle.mm_report.specs.Code.Written.{AreAllWritten, FailsWithin};
@@ -13,7 +13,7 @@ ghost use Rattle.mm_script.specs.Language.Stream.{written, has_failed, Writes};
 
 use itoa::Buffer;
 use mm_keep::{
-    At, Files, Finding, FrameNumber, ProofNumber, Session, Tally, files_have_one_base,
+    At, Files, Finding, FrameNumber, ProofNumber, Session, Tally, files_have_one_database,
     items_have_findings,
 };
 use mm_script::{WriteFailed, Writing};
@@ -113,7 +113,7 @@ pub(crate) fn write_part<W: Write>(
 
 /// Writes a place: the name of the file, the line and the column.
 fn write_place<W: Write>(files: &Files, at: At, to: &mut Writing<W>) -> Result<(), WriteFailed>
-    requires { at.file < length files.now.keyed }
+    requires { at.file < length (plain files.now) }
     ensures { Writes W.contents to.old to.new result (place_in (names_of (plain files.now)) at) }
 {
     write_part(files.file_name(at.file), b":", to)?;
@@ -129,7 +129,7 @@ fn write_fault<W: Write>(
     word: &[u8],
     to: &mut Writing<W>,
 ) -> Result<(), WriteFailed>
-    requires { at.file < length files.now.keyed }
+    requires { at.file < length (plain files.now) }
     ensures { Writes W.contents to.old to.new result (fault_line (names_of (plain files.now)) number (record { at = at; word = word.now })) }
 {
     to.write_all(b"fault ")?;
@@ -146,7 +146,7 @@ pub(crate) fn write_incomplete<W: Write>(
     at: At,
     to: &mut Writing<W>,
 ) -> Result<(), WriteFailed>
-    requires { at.file < length files.now.keyed }
+    requires { at.file < length (plain files.now) }
     ensures { Writes W.contents to.old to.new result (incomplete_line (names_of (plain files.now)) label.now at) }
 {
     write_part(b"incomplete ", label, to)?;
@@ -163,7 +163,7 @@ pub(crate) fn write_wrong<W: Write>(
     at: At,
     to: &mut Writing<W>,
 ) -> Result<(), WriteFailed>
-    requires { at.file < length files.now.keyed }
+    requires { at.file < length (plain files.now) }
     ensures { Writes W.contents to.old to.new result (wrong_line (names_of (plain files.now)) label.now number at) }
 {
     write_part(b"wrong ", label, to)?;
@@ -193,8 +193,8 @@ fn write_line<W: Write>(
     finding: &Finding,
     to: &mut Writing<W>,
 ) -> Result<(), WriteFailed>
-    requires { IsInFiles (length files.now.keyed) (told finding.now) }
-    ensures { (item : Item) → label.now ≡ unwrap_or item.label []
+    requires { IsInFiles (length (plain files.now)) (told finding.now) }
+    ensures { (item : Said) → label.now ≡ unwrap_or item.label []
         → Writes W.contents to.old to.new result (item_line (names_of (plain files.now)) item (told finding.now)) }
 {
     match *finding {
@@ -210,7 +210,7 @@ fn write_lines<W: Write>(session: &Session, to: &mut Writing<W>) -> Result<Tally
     ensures ok { IfOk result (λ tally. AreAllWritten session.now (written W.contents to.old) (written W.contents to.new) (counted tally)) }
     ensures err { OnErr result (FailsWithin W.contents session.now to.old to.new) }
 {
-    files_have_one_base();
+    files_have_one_database();
     items_have_findings();
     let mut tally = Tally::none();
     for i in 0..session.count() {

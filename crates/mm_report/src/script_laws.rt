@@ -4,7 +4,7 @@ ghost use Rattle.mm_report.specs.Language.ScriptLaws.{AnswersBegin, OneScriptAns
 
 use mm_keep::Session;
 
-/// A script has one list of answers and one end, and the files after it are the same but for the keys of their pieces.
+/// A script has one list of answers in a session, one session after it, and one end.
 ///
 /// So what `run_script` writes depends on the script, the names and the pieces of the files, and the name of the top file.
 /// It depends on nothing else.
@@ -14,7 +14,7 @@ pub fn one_script_answer()
     mm_script::one_reading();
     mm_script::divisions_agree();
     mm_keep::one_edit();
-    mm_keep::files_have_one_base();
+    mm_keep::files_have_one_database();
     mm_keep::one_answer_each();
     mm_keep::one_list_of_runs();
     mm_keep::one_list_each();
@@ -28,7 +28,7 @@ pub fn has_script_answer()
     mm_keep::one_edit();
     mm_keep::edits_keep_files();
     mm_keep::edits_keep_units();
-    mm_keep::files_give_items();
+    mm_keep::databases_are_there();
     mm_keep::items_have_findings();
     mm_keep::has_list_of_runs();
     mm_keep::has_list_each();
@@ -39,7 +39,6 @@ pub fn has_script_answer()
 pub fn sessions_are_whole(session: &Session)
     ensures { IsWholeSession session.now }
 {
-    session.files().holds_pieces();
     session.files().hold_one_each();
     let _ = session.count();
 }
@@ -51,7 +50,7 @@ pub fn answers_begin()
     mm_script::one_reading();
     mm_script::divisions_agree();
     mm_keep::one_edit();
-    mm_keep::files_have_one_base();
+    mm_keep::files_have_one_database();
     mm_keep::one_answer_each();
     mm_keep::one_list_of_runs();
     mm_keep::one_list_each();

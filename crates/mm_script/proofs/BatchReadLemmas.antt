@@ -4,10 +4,10 @@ use Rattle.std.proofs.{Common.{None, inl, inr, Contains}, lemmas.{Grind.{common_
 use Rattle.std.{proofs.lemmas.List.Elements.{Contains-append_left, Contains-append_right, Contains-push, Contains-push_cases}, specs.List.{flat_map}}
 use Rattle.mm_text.specs.Language.Asked.{Asked, edited_text}
 use Rattle.mm_script.specs.declared.{entry.{Complete.{Complete}, EditAt.{EditAt, TheVariants.{Insert, Replace, Delete, Move}}}, input.Input.{Input}, script_lines.LineAt.{LineAt}}
-use Rattle.mm_script.specs.Code.{Batches.{IsBatchRead, IsBatchFront, IsListedRead}, Growing.{InputGrows, IsLineAt, line_bytes}, Stops.{batch_bytes, batch_line}}
+use Rattle.mm_script.specs.Code.{Batches.{IsBatchRead, IsBatchFront, IsListedRead}, Growing.{InputGrows, IsLineAt, line_bytes}, Stops.{batch_bytes, batch_line, AreGoodEdits}}
 use Rattle.mm_script.specs.Language.Commands.{pending, edit_in, AreEditsIn, IsEditWithin, StopsSo, rest_of_script}
-use Rattle.mm_script.specs.Language.Script.{CutShort, Listed, AreGoodEdits, IsGoodEdit, IsNumber, LastInLine, edit_bytes, edit_line, ended_text, listed_bytes}
-use Rattle.mm_script.proofs.{BatchLemmas.{at_end, batch_more, front_bytes}, EditLemmas.{bytes_grown, fed_line, unfed_line}, GrowLemmas.{grows_not}, StopLemmas.{batch_line_cut}}
+use Rattle.mm_script.{specs.Language.Script.{CutShort, Listed, IsGoodEdit, IsNumber, LastInLine, edit_bytes, edit_line, ended_text, listed_bytes}, proofs.BatchLemmas.{at_end, batch_more, front_bytes}}
+use Rattle.mm_script.proofs.{EditLemmas.{bytes_grown, fed_line, unfed_line}, GrowLemmas.{grows_not}, StopLemmas.{batch_line_cut}}
 use Rattle.mm_text.specs.Language.Asked as ask
 
 -- the parts of an edit are in the bytes as they grow

@@ -1,13 +1,12 @@
 -- A script that begins with the line of a batch and some of its edits.
-use Rattle.std.proofs.Common.{[], ◌≡◌, ◌≢◌, ◌⊎◌, ℕ, zero, suc, ◌+◌, ◌-◌, ◌<◌, ◌≤◌, List, ◌∷◌, ◌++◌, length, length-append, replicate, refl, sym, ap, ◌∙◌, subst, inl, inr, arith, append_assoc, codes}
-use Rattle.std.proofs.{Common.{decimal}, lemmas.{Grind.{common_steps}, Bool.{cases_lt}, Fmt.{decimal_injective}, List.{append-nil, length-replicate, Concat.{flat_map-append}}}}
-use Rattle.std.specs.List.{flat_map, join_with_byte}
+use Rattle.std.proofs.Common.{[], ◌≡◌, ◌≢◌, ℕ, zero, suc, ◌+◌, ◌-◌, ◌<◌, List, ◌∷◌, ◌++◌, length, length-append, replicate, refl, sym, ap, ◌∙◌, subst, arith, append_assoc, codes, decimal}
+use Rattle.std.{proofs.lemmas.{Grind.{common_steps}, Fmt.{decimal_injective}, List.{append-nil, length-replicate, Concat.{flat_map-append}}}, specs.List.{flat_map}}
 use Rattle.mm_text.specs.Language.Asked.{Asked, Delete, edited_text}
-use Rattle.mm_script.specs.Code.Stops.{AreListed, batch_line, batch_bytes}
-use Rattle.mm_script.specs.Language.Script.{Listed, Command, Batch, AreGoodEdits, EndsInLine, IsCutShort, IsGood, IsGoodEdit, IsNoneOrLine, IsNumber, MayBreak, MissesEdits, behind_line, edit_bytes}
-use Rattle.mm_script.{specs.Language.Script.{edit_line, ended_text, line_of, listed_bytes}, proofs.SplitLemmas.{Lacks, join_lacks, not_inside}}
-use Rattle.mm_script.proofs.WordLemmas.{AreSolid, BeginsEdits, edit_head, edit_lacks_feed, edit_tag, edits_begin, lack_feeds, listed_parts, same_blanks, small_number, solid_decimal, tag}
-use Rattle.mm_script.proofs.{ScriptLemmas.{NoEntry, NoLast}, ScriptLineLemmas.{edit_line_some, no_entry_by, no_last_by, not_cut_by}}
+use Rattle.mm_script.specs.{Code.Stops.{AreListed, batch_line, batch_bytes, AreGoodEdits}, Language.Commands.{StopsSo}}
+use Rattle.mm_script.specs.Language.Script.{Listed, Command, Batch, BadLine, EndsInLine, IsCutShort, IsGood, IsGoodEdit, IsNumber, behind_line, edit_line, ended_text, line_of, listed_bytes}
+use Rattle.mm_script.proofs.SplitLemmas.{Lacks, join_lacks}
+use Rattle.mm_script.proofs.WordLemmas.{AreSolid, BeginsEdits, edit_head, edit_tag, edits_begin, lack_feeds, listed_parts, same_blanks, small_number, solid_decimal, tag}
+use Rattle.mm_script.proofs.{ScriptLemmas.{NoEntry, NoLast}, ScriptLineLemmas.{IsBegun, no_entry_by, no_last_by, some_with, stops_bad}}
 
 -- ---- the line
 
@@ -93,10 +92,13 @@ pub batch_no_last : (n : ℕ) (front : List Listed) (blanks : ℕ) (inner : List
 batch_no_last n front blanks inner are none = no_last_by (batch_line n) (inside front blanks inner) (batch_lacks n are.number)
     (λ c g ends e k. none c ends (next_edit n front blanks (inner ++ 10 ∷ []) [] are c g e (sym (inside_more front blanks inner (10 ∷ [])) ∙ k ∙ sym (append-nil (behind_line c)))))
 
-pub batch_not_cut : (n : ℕ) (front : List Listed) (blanks : ℕ) (inner : List ℕ) → AreListed n front
-    → ((c : Command) (missing : List ℕ) → IsGood c → NextEdit n front blanks (inner ++ missing) [] c → MayBreak c (10 ∷ inside front blanks inner) → ⊥) → ¬ IsCutShort (batch_bytes n front blanks inner)
-batch_not_cut n front blanks inner are none = not_cut_by (batch_line n) (inside front blanks inner) (batch_lacks n are.number)
-    (λ c missing g e k m b. none c missing g (next_edit n front blanks (inner ++ missing) [] are c g e (sym (inside_more front blanks inner missing) ∙ k ∙ sym (append-nil (behind_line c)))) b)
+batch_bytes_more : (n : ℕ) (front : List Listed) (blanks : ℕ) (inner v : List ℕ) → batch_bytes n front blanks (inner ++ v) ≡ batch_bytes n front blanks inner ++ v
+batch_bytes_more n front blanks inner v = ap (λ (w : List ℕ). batch_line n ++ 10 ∷ w) (sym (inside_more front blanks inner v)) ∙ sym (append_assoc (batch_line n) (10 ∷ inside front blanks inner) v)
+
+pub batch_stops_bad : (n : ℕ) (front : List Listed) (blanks : ℕ) (inner : List ℕ) → NoEntry (batch_bytes n front blanks inner)
+    → ((missing : List ℕ) → NoEntry (batch_bytes n front blanks (inner ++ 10 ∷ missing))) → StopsSo (batch_bytes n front blanks inner) BadLine
+batch_stops_bad n front blanks inner none later = stops_bad (batch_bytes n front blanks inner) (some_with (batch_line n) (inside front blanks inner)) none
+    (λ missing. subst NoEntry (batch_bytes_more n front blanks inner (10 ∷ missing)) (later missing))
 
 -- ---- a batch that is cut short
 
@@ -115,121 +117,28 @@ good_join : (xs ys : List Listed) → AreGoodEdits xs → AreGoodEdits ys → Ar
 good_join [] ys g h = h
 good_join (x ∷ xs) ys g h = (g.0, good_join xs ys g.1 h)
 
--- the next edit is begun, or nothing but empty lines are there before it
-pub batch_is_cut : (n : ℕ) (front : List Listed) (blanks : ℕ) (inner missing : List ℕ) (next : Asked) → AreListed n front → IsGoodEdit next → inner ++ missing ≡ edit_bytes next → missing ≢ [] → IsNoneOrLine next inner
-    → IsCutShort (batch_bytes n front blanks inner)
-batch_is_cut n front blanks inner missing next are good joined some none_or_line = record {
-  command = Batch (front ++ one ∷ more);
-  good = (subst IsNumber (sym count) are.number, good_join front (one ∷ more) are.good (good, any_are_good (n - (length front + 1))));
-  part = 10 ∷ inside front blanks inner;
+-- with a line feed after it, what comes after the edits begins the next one and the empty lines before it
+pub batch_is_cut : (n : ℕ) (front : List Listed) (blanks : ℕ) (inner missing : List ℕ) (next : Listed) → AreListed n front → IsGoodEdit next.edit
+    → (replicate blanks 10 ++ inner) ++ 10 ∷ missing ≡ listed_bytes next → IsCutShort (batch_bytes n front blanks inner)
+batch_is_cut n front blanks inner missing next are good begun = record {
+  command = Batch (front ++ next ∷ more);
+  good = (subst IsNumber (sym count) are.number, good_join front (next ∷ more) are.good (good, any_are_good (n - (length front + 1))));
   missing = missing ++ flat_map listed_bytes more;
-  is = ap (λ (k : ℕ). join_with_byte 32 (batch_words k) ++ 10 ∷ inside front blanks inner) (sym count);
-  begins = ap (λ (x : List ℕ). 10 ∷ x) (grind (arith, common_steps, append_assoc, flat_map-append, inside_more, more, next, one) steps 200000);
-  some_missing = nothing missing some;
-  breaks = inr (record { front = front; next = one; later = more; are = refl; blanks = blanks; inner = inner; is = refl; none_or_line = none_or_line });
+  is = append_assoc (batch_line n) (10 ∷ inside front blanks inner) (10 ∷ (missing ++ flat_map listed_bytes more))
+      ∙ ap (λ (w : List ℕ). batch_line n ++ 10 ∷ w) edits ∙ ap (λ (k : ℕ). batch_line k ++ 10 ∷ flat_map listed_bytes (front ++ next ∷ more)) (sym count);
 }
   where
-    one : Listed
-    one = record { blanks = blanks; edit = next }
-
     more : List Listed
     more = replicate (n - (length front + 1)) any_listed
 
-    count : length (front ++ one ∷ more) ≡ n
-    count = let l : length more ≡ n - (length front + 1) = length-replicate (n - (length front + 1)) any_listed in length-append front (one ∷ more) ∙ omega (arith, are.fewer)
+    count : length (front ++ next ∷ more) ≡ n
+    count = let l : length more ≡ n - (length front + 1) = length-replicate (n - (length front + 1)) any_listed in length-append front (next ∷ more) ∙ omega (arith, are.fewer)
 
-    nothing : (bytes : List ℕ) → bytes ≢ [] → bytes ++ flat_map listed_bytes more ≢ []
-    nothing [] h = absurd (h refl)
-    nothing (x ∷ bytes) h = λ e. cc
+    edits : inside front blanks inner ++ 10 ∷ (missing ++ flat_map listed_bytes more) ≡ flat_map listed_bytes (front ++ next ∷ more)
+    edits = append_assoc (flat_map listed_bytes front) (replicate blanks 10 ++ inner) (10 ∷ (missing ++ flat_map listed_bytes more))
+        ∙ ap (λ (w : List ℕ). flat_map listed_bytes front ++ w) (sym (append_assoc (replicate blanks 10 ++ inner) (10 ∷ missing) (flat_map listed_bytes more)) ∙ ap (λ (w : List ℕ). w ++ flat_map listed_bytes more) begun)
+        ∙ sym (flat_map-append listed_bytes front (next ∷ more))
 
--- ---- a last line that is not that of an edit
-
-some_behind : (bytes : List ℕ) (n : ℕ) (line : List ℕ) → line ≢ [] → 0 < length (bytes ++ (replicate n 10 ++ line))
-some_behind [] zero [] h = absurd (h refl)
-some_behind _ _ _ h = omega arith
-
--- a batch does not break off at a line that is no line of an edit
-pub no_break : (n : ℕ) (front : List Listed) (blanks : ℕ) (line : List ℕ) (edits : List Listed) → AreGoodEdits front → AreGoodEdits edits → line ≢ [] → Lacks 10 line → ((e : Asked) → IsGoodEdit e → line ≢ edit_line e)
-    → (next : Listed) (later : List Listed) → edits ≡ front ++ next ∷ later → MissesEdits edits (10 ∷ inside front blanks line) → ⊥
-no_break n front blanks line edits good goods some l none next later are m = by (cases_lt (length m.front) (length front))
-  where
-    front_good : (xs ys : List Listed) → AreGoodEdits (xs ++ ys) → AreGoodEdits xs
-    front_good [] ys h = tt
-    front_good (x ∷ xs) ys h = (h.0, front_good xs ys h.1)
-
-    -- the line is at the place of the next edit
-    begun : (more missing : List ℕ) → line ≡ edit_line m.next.edit ++ more → more ++ missing ≡ 10 ∷ ended_text (edited_text m.next.edit) → ⊥
-    begun [] missing e k =
-        none m.next.edit (good_tail m.front (m.next ∷ m.later) (grind (arith, common_steps) steps 200000)).0 (e ∙ append-nil (edit_line m.next.edit))
-    begun (x ∷ more) missing e k = let ten : x ≡ 10 = cc in not_inside 10 line (edit_line m.next.edit) more l (e ∙ ap (λ (y : ℕ). edit_line m.next.edit ++ y ∷ more) ten)
-
-    here : replicate blanks 10 ++ line ≡ replicate m.blanks 10 ++ m.inner → ⊥
-    here e = on m.none_or_line
-      where
-        feeds : (a b : ℕ) (xs : List ℕ) → xs ≢ [] → Lacks 10 xs → replicate a 10 ++ xs ≡ replicate b 10 → ⊥
-        feeds zero b [] f g e = f refl
-        feeds zero (suc b) (x ∷ xs) f g e = let ten : x ≡ 10 = cc in g.0 ten
-        feeds (suc a) (suc b) xs f g e = let rest : replicate a 10 ++ xs ≡ replicate b 10 = cc in feeds a b xs f g rest
-        feeds _ zero _ f g e = cc
-
-        on : IsNoneOrLine m.next.edit m.inner → ⊥
-        on (inl z) = feeds blanks m.blanks line some l (e ∙ ap (λ (x : List ℕ). replicate m.blanks 10 ++ x) z ∙ append-nil (replicate m.blanks 10))
-        on (inr z) =
-            let both = line_behind_feeds blanks m.blanks line [] m.next.edit z.0 some l (ap (λ (x : List ℕ). replicate blanks 10 ++ x) (append-nil line) ∙ e ∙ ap (λ (x : List ℕ). replicate m.blanks 10 ++ x) z.2) in
-            begun z.0 z.1 (sym (append-nil line) ∙ both.1) z.3
-
-    -- or it comes after a whole edit
-    later_line : (zs : List Listed) → m.front ≡ front ++ zs → replicate blanks 10 ++ line ≡ flat_map listed_bytes zs ++ (replicate m.blanks 10 ++ m.inner) → ⊥
-    later_line [] p q = here q
-    later_line (x ∷ xs) p q = let s = ended_text (edited_text x.edit) ++ (flat_map listed_bytes xs ++ (replicate m.blanks 10 ++ m.inner)) in
-        let parts : replicate blanks 10 ++ (line ++ []) ≡ replicate x.blanks 10 ++ (edit_line x.edit ++ 10 ∷ s) = grind
-        (arith, common_steps, append-nil, append_assoc, listed_parts) steps 200000 in grind
-        (arith, common_steps, append-nil, line_behind_feeds, not_inside) steps 200000
-
-    first_same : (xs : List Listed) (x y : Listed) (ys zs : List Listed) → xs ++ x ∷ ys ≡ xs ++ y ∷ zs → x ≡ y
-    first_same [] x y ys zs e = cc
-    first_same (w ∷ xs) x y ys zs e = let rest : xs ++ x ∷ ys ≡ xs ++ y ∷ zs = cc in first_same xs x y ys zs rest
-
-    -- or the next edit is a whole one
-    earlier : (x : Listed) (xs : List Listed) → front ≡ m.front ++ x ∷ xs → replicate m.blanks 10 ++ m.inner ≡ flat_map listed_bytes (x ∷ xs) ++ (replicate blanks 10 ++ line) → ⊥
-    earlier x xs p q = on m.none_or_line
-      where
-        tail : List ℕ
-        tail = flat_map listed_bytes xs ++ (replicate blanks 10 ++ line)
-
-        parts : replicate m.blanks 10 ++ m.inner ≡ replicate x.blanks 10 ++ (edit_line x.edit ++ 10 ∷ (ended_text (edited_text x.edit) ++ tail))
-        parts = q ∙ append_assoc (listed_bytes x) (flat_map listed_bytes xs) (replicate blanks 10 ++ line) ∙ listed_parts x tail
-
-        one : m.next ≡ x
-        one = first_same m.front m.next x m.later (xs ++ next ∷ later) (sym m.are ∙ are ∙ ap (λ (w : List Listed). w ++ next ∷ later) p ∙ append_assoc m.front (x ∷ xs) (next ∷ later))
-
-        tail_long : 0 < length tail
-        tail_long = some_behind (flat_map listed_bytes xs) blanks line some
-
-        lines : (more missing : List ℕ) → m.inner ≡ edit_line m.next.edit ++ more → more ++ missing ≡ 10 ∷ ended_text (edited_text m.next.edit) → ⊥
-        lines more missing e k =
-            let good_next : IsGoodEdit m.next.edit = (good_tail m.front (m.next ∷ m.later) (grind (arith, common_steps) steps 200000)).0 in
-            let both = line_behind_feeds m.blanks x.blanks (edit_line m.next.edit) more x.edit (10 ∷ (ended_text (edited_text x.edit) ++ tail))
-            (edit_line_some m.next.edit)
-            (edit_lacks_feed m.next.edit good_next) (ap (λ (w : List ℕ). replicate m.blanks 10 ++ w) (sym e) ∙ parts) in
-            let a : length (edit_line m.next.edit) + length more ≡ length (edit_line x.edit) + suc (length (ended_text (edited_text x.edit) ++ tail)) =
-            sym (length-append (edit_line m.next.edit) more) ∙ ap length both.1 ∙ length-append (edit_line x.edit) (10 ∷ (ended_text (edited_text x.edit) ++ tail)) in
-            let b : length (ended_text (edited_text x.edit) ++ tail) ≡ length (ended_text (edited_text x.edit)) + length tail = length-append (ended_text (edited_text x.edit)) tail in
-            let c : length more + length missing ≡ suc (length (ended_text (edited_text m.next.edit))) = sym (length-append more missing) ∙ ap length k in
-            let d : length (edit_line m.next.edit) ≡ length (edit_line x.edit) = ap (λ (w : Listed). length (edit_line w.edit)) one in
-            let f : length (ended_text (edited_text m.next.edit)) ≡ length (ended_text (edited_text x.edit)) = ap (λ (w : Listed). length (ended_text (edited_text w.edit))) one in
-            omega (arith, tail_long)
-
-        on : IsNoneOrLine m.next.edit m.inner → ⊥
-        on (inl z) = feeds_no_line m.blanks x.blanks x.edit (ended_text (edited_text x.edit) ++ tail) (sym (append-nil (replicate m.blanks 10)) ∙ ap (λ (w : List ℕ). replicate m.blanks 10 ++ w) (sym z) ∙ parts)
-        on (inr z) = lines z.0 z.1 z.2 z.3
-
-    earlier_or_here : (zs : List Listed) → front ≡ m.front ++ zs → replicate m.blanks 10 ++ m.inner ≡ flat_map listed_bytes zs ++ (replicate blanks 10 ++ line) → ⊥
-    earlier_or_here [] p q = here (sym q)
-    earlier_or_here (x ∷ xs) p q = earlier x xs p q
-
-    by : (length m.front < length front) ⊎ (length front ≤ length m.front) → ⊥
-    by (inl h) = let f = edits_begin m.front front (replicate m.blanks 10 ++ m.inner) (replicate blanks 10 ++ line) (front_good m.front (m.next ∷ m.later)
-        (grind (arith, common_steps) steps 200000)) good (omega arith) (sym (grind (arith, common_steps) steps 200000)) in earlier_or_here f.later f.are f.left
-    by (inr h) = let f = edits_begin front m.front (replicate blanks 10 ++ line) (replicate m.blanks 10 ++ m.inner) good (front_good m.front (m.next ∷ m.later)
-        (grind (arith, common_steps) steps 200000)) h (grind (arith, common_steps) steps 200000) in later_line f.later f.are f.left
+pub batch_is_cut_in : (n : ℕ) (front : List Listed) (blanks : ℕ) (inner : List ℕ) → AreListed n front → IsBegun inner → IsCutShort (batch_bytes n front blanks inner)
+batch_is_cut_in n front blanks inner are b = batch_is_cut n front blanks inner b.missing (record { blanks = blanks; edit = b.edit }) are b.good
+    (append_assoc (replicate blanks 10) inner (10 ∷ b.missing) ∙ ap (λ (w : List ℕ). replicate blanks 10 ++ w) b.is)

@@ -1,10 +1,14 @@
 -- Some scripts are read by the definitions.
-use Rattle.std.{proofs.Common.{◌≡◌, ◌≢◌, ℕ, ◌<◌, List, [], ◌∷◌, length, refl, ap, arith, codes, slice_index}, specs.Fmt.{digits}}
+use Rattle.std.{proofs.{Common.{◌≡◌, ◌≢◌, ℕ, zero, suc, ◌<◌, Some, List, [], ◌∷◌, ◌++◌, length, take, refl, ap, ◌∙◌, arith, codes, slice_index}, lemmas.Bool.{false≢true}}, specs.Fmt.{digits}}
+use Rattle.std.specs.Io.{Buffered.{writer_buffer}, KnownBytes.{append_known}}
 use Rattle.mm_text.specs.Language.Asked.{Asked, Insert, Replace, Delete}
-use Rattle.mm_script.specs.{Code.Stops.{AreListed, HasTextOf}, Language.Commands.{StopsSo}}
-use Rattle.mm_script.specs.Language.Script.{Command, Change, Batch, Report, Verdict, Axioms, Users, Blank, Given, End, CutShort, BadLine, IsGood, IsGoodEdit, IsName, edit_line, line_of}
-use Rattle.mm_script.specs.Language.{ScriptExamples.{ReadsText, ReadsBatch, ReadsLastEdit, CutsText, CutsFeed, CutsLine, CutsBatch, EndsInEdit, EndsAtLine, EndsAtText}, ReadingLaws.{IsReadSo}}
-use Rattle.mm_script.proofs.{JoinLemmas.{reading_behind, reading_done, reading_last}, StopLemmas.{bad_line, batch_bad_last, batch_cut, text_bad, text_cut, text_line_cut}}
+use Rattle.mm_script.specs.{Code.Stops.{AreListed, HasTextOf, IsOneLine}, Language.Commands.{StopsSo}}
+use Rattle.mm_script.specs.Language.Script.{Command, Change, Batch, Report, Verdict, Axioms, Cites, Users, Blank, Given, End, CutShort, BadLine, AreRead, IsGood, IsGoodEdit, IsName, edit_line}
+use Rattle.mm_script.specs.Language.Script.{line_of}
+use Rattle.mm_script.specs.Language.ScriptExamples.{ReadsText, ReadsBatch, ReadsLastEdit, CutsText, CutsFeed, CutsLine, CutsBatch, CutsBatchText, EndsInEdit, EndsAtLine, EndsAtText, WaitsForFeed}
+use Rattle.mm_script.specs.Language.{ScriptExamples.{HasTwoCommands, BoundWords, GrowsByTwo, TellsWriter}, ReadingLaws.{IsReadSo}}
+use Rattle.mm_script.proofs.JoinLemmas.{reading_behind, reading_done, reading_last, so_far_behind}
+use Rattle.mm_script.proofs.StopLemmas.{bad_line, batch_bad_last, batch_cut, batch_text_cut, no_feed, text_bad, text_cut, text_line_cut}
 
 name_a : IsName (codes "a.mm")
 name_a = record { some = λ (e : codes "a.mm" ≡ []). cc; bytes = refl }
@@ -75,6 +79,11 @@ pub cuts_batch : CutsBatch
 unfolding digits
 cuts_batch = stopped (codes "batch 2\ndelete a.mm 0\n\n") CutShort (batch_cut 2 (record { blanks = 0; edit = Delete (codes "a.mm") 0 } ∷ []) 1 one_listed)
 
+pub cuts_batch_text : CutsBatchText
+unfolding digits
+cuts_batch_text = stopped (codes "batch 1\ninsert a.mm 0 3\nabc") CutShort (batch_text_cut 1 [] 0 (Insert (codes "a.mm") 0 (codes "abc")) 3 (codes "abc")
+    (record { number = omega arith; good = tt; fewer = omega arith }) (has_text (codes "abc") (omega arith)) (omega arith))
+
 no_edit : (e : Asked) → IsGoodEdit e → codes "del" ≢ edit_line e
 no_edit (Delete file at) g e = omega (arith, ap (λ (w : List ℕ). slice_index w 3) e)
 no_edit _ g e = omega (arith, ap (λ (w : List ℕ). slice_index w 0) e)
@@ -105,3 +114,48 @@ ends_at_line = record {
 pub ends_at_text : EndsAtText
 unfolding digits
 ends_at_text = stopped (codes "insert a.mm 0 3\nabcd\n") BadLine (text_bad (Insert (codes "a.mm") 0 (codes "abc")) 3 (codes "abc") (codes "\n") 100 (has_text (codes "abc") (omega arith)) refl (λ e. omega arith))
+
+-- what is read of these bytes, whatever follows them
+front_read : AreRead (codes "report\n\ncites t") (Given Report ∷ Blank ∷ []) (codes "cites t")
+front_read = record { good = (tt, (tt, tt)); joined = refl }
+
+one_line : IsOneLine (codes "cites t")
+one_line = (λ e. omega arith, (λ e. omega arith, (λ e. omega arith, (λ e. omega arith, (λ e. omega arith, (λ e. omega arith, (λ e. omega arith, tt)))))))
+
+pub waits_for_feed : WaitsForFeed
+waits_for_feed = record {
+  so_far = so_far_behind (codes "report\n\ncites t") (Given Report ∷ Blank ∷ []) (codes "cites t") front_read (no_feed (codes "cites t") one_line);
+  whole = record {
+    reading = reading_last (codes "report\n\ncites t") (Given Report ∷ Blank ∷ []) (codes "cites t") (Cites (codes "t")) front_read name_t tt refl;
+    ends = refl;
+  };
+}
+
+pub has_two_commands : HasTwoCommands
+has_two_commands = refl
+
+pub bound_words : BoundWords
+bound_words = record {
+  largest = (name_a, omega arith);
+  too_large = λ good. omega (arith, good.1);
+  empty = λ good. good.some refl;
+  spaced = λ good. false≢true good.bytes;
+  broken = λ good. false≢true good.bytes;
+}
+
+pub grows_by_two : GrowsByTwo
+grows_by_two = record { first = record { count = 2; appends = refl }; other = λ part. other part.count part.appends }
+  where
+    other : (count : ℕ) → codes "abf" ≡ codes "ab" ++ take count (codes "cdef") → ⊥
+    other zero e = cc
+    other (suc count) e = omega (arith, ap (λ (w : List ℕ). slice_index w 2) e)
+
+pub tells_writer : TellsWriter
+tells_writer = record {
+  taken = refl;
+  fails = refl;
+  kept_back = λ buffer inner back. (
+    ap (λ (out : List ℕ). append_known (Some out) (writer_buffer buffer)) inner ∙ ap (λ (out : List ℕ). append_known (Some (codes "ab")) out) back,
+    ap (λ (out : List ℕ). Some out) inner,
+  );
+}

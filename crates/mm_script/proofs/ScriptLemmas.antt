@@ -2,8 +2,8 @@
 use Rattle.std.proofs.Common.{[], ◌≡◌, ◌⊎◌, ℕ, ◌+◌, ◌<◌, ◌≤◌, Option, Some, None, List, ◌∷◌, ◌++◌, length, length-append, replicate, refl, sym, ap, ◌∙◌, subst, inl, inr, arith, append_assoc}
 use Rattle.std.{proofs.lemmas.{Grind.{common_steps}, Bool.{cases_lt}, List.{append-nil, append_cancel_left, append_cancel_right, Concat.{flat_map-append}}}, specs.List.{flat_map}}
 use Rattle.mm_script.proofs.{WordLemmas.{words_solid, has_first, same_words_by_line, same_command, line_lacks_feed}, SplitLemmas.{split_at}}
-use Rattle.mm_script.specs.Language.Script.{Listed, Command, Change, Batch, Entry, Blank, Given, listed_bytes, edit_line, entry_bytes, IsGoodEntry, AreGood, IsGood, entries_bytes, line_of, ended_text}
-use Rattle.mm_script.specs.Language.Script.{command_bytes, EndsInLine, LacksFeed, HasEntries, IsLongestReading, AreRead, IsReadSoFar}
+use Rattle.mm_script.specs.Language.Script.{Listed, Command, Change, Batch, Entry, Blank, Given, listed_bytes, edit_line, entry_bytes, IsGoodEntry, IsGood, entries_bytes, line_of, ended_text}
+use Rattle.mm_script.specs.{Language.Script.{command_bytes, EndsInLine, LacksFeed, HasEntries, IsLongestReading, AreRead, IsReadSoFar}, Code.Stops.{AreGood}}
 use Rattle.mm_text.specs.Language.Asked.{edited_text}
 
 pub blank_no : (d : Command) (s t : List ℕ) → IsGood d → 10 ∷ s ≡ command_bytes d ++ t → ⊥

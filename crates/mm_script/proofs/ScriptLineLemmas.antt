@@ -1,10 +1,10 @@
 -- A script that begins with a line, and with no whole command.
-use Rattle.std.proofs.Common.{[], ◌≡◌, ◌≢◌, ℕ, ◌+◌, ◌-◌, ◌≤◌, Some, List, ◌∷◌, ◌++◌, length, length-append, replicate, refl, sym, ap, ◌∙◌, subst, arith, append_assoc, codes, decimal}
-use Rattle.std.{proofs.lemmas.{Grind.{common_steps}, Fmt.{decimal_injective}, List.{append-nil}, Option.{same_Some, none-some}}, specs.List.{join_with_byte}}
+use Rattle.std.proofs.Common.{[], ◌≡◌, ◌≢◌, ℕ, zero, suc, ◌+◌, ◌-◌, ◌≤◌, Some, List, ◌∷◌, ◌++◌, length, length-append, replicate, refl, sym, ap, ◌∙◌, subst, arith, append_assoc, codes, decimal}
+use Rattle.std.{proofs.lemmas.{Grind.{common_steps}, Fmt.{decimal_injective}, List.{append-nil, length-replicate}, Option.{same_Some, none-some}}, specs.List.{join_with_byte}}
 use Rattle.mm_text.specs.Language.Asked.{Asked, Insert, Replace, edited_text}
 use Rattle.mm_script.specs.{Code.Stops.{HasTextOf}, Language.Commands.{StopsSo}}
-use Rattle.mm_script.specs.Language.Script.{Command, Change, Blank, Given, CutShort, BadLine, EndsInLine, MayBreak, IsCutShort, IsGood, IsGoodEdit, IsNumber, behind_line, edit_line, edit_words}
-use Rattle.mm_script.{specs.Language.Script.{line_of, command_words}, proofs.SplitLemmas.{Lacks, not_inside, split_at}}
+use Rattle.mm_script.specs.Language.Script.{Command, Change, Blank, Given, CutShort, BadLine, EndsInLine, IsCutShort, IsGood, IsGoodEdit, IsNumber, behind_line, command_bytes, edit_bytes, edit_line}
+use Rattle.mm_script.{specs.Language.Script.{edit_words, ended_text, line_of, command_words}, proofs.SplitLemmas.{Lacks, not_inside, split_at}}
 use Rattle.mm_script.proofs.{WordLemmas.{edit_head, has_first, line_lacks_feed, same_words_by_line, small_number, tag, words_solid}, ScriptLemmas.{NoEntry, NoLast, entry_ends, none_is_read}}
 
 -- ---- bytes of one line
@@ -14,13 +14,6 @@ line_no_entry line l x left g e = let f = entry_ends x in not_inside 10 line f.0
 
 pub line_no_last : (line : List ℕ) → Lacks 10 line → ((c : Command) → IsGood c → EndsInLine c → line ≡ line_of c → [] ≡ behind_line c → ⊥) → NoLast line
 line_no_last line l none c g ends e = let both = split_at 10 line (line_of c) [] (behind_line c) l (line_lacks_feed c g) e in none c g ends both.0 both.1
-
-pub line_not_cut : (line : List ℕ) → Lacks 10 line → ((c : Command) → IsGood c → line ≡ line_of c → ⊥) → ¬ IsCutShort line
-line_not_cut line l none c = by c.part c.is c.begins
-  where
-    by : (part : List ℕ) → line ≡ line_of c.command ++ part → part ++ c.missing ≡ 10 ∷ behind_line c.command → ⊥
-    by [] e k = none c.command c.good (e ∙ append-nil (line_of c.command))
-    by (b ∷ part) e k = let same : b ≡ 10 = cc in not_inside 10 line (line_of c.command) part l (e ∙ ap (λ (x : ℕ). line_of c.command ++ x ∷ part) same)
 
 -- ---- a line, its line feed, and more
 
@@ -32,10 +25,6 @@ LacksWhole line more = (c : Command) (left : List ℕ) → IsGood c → line ≡
 abbrev pub LacksLast : List ℕ → List ℕ → Type 0
 LacksLast line more = (c : Command) → IsGood c → EndsInLine c → line ≡ line_of c → more ++ 10 ∷ [] ≡ behind_line c → ⊥
 
--- the bytes are no beginning of a command that may break off
-abbrev pub LacksBeginning : List ℕ → List ℕ → Type 0
-LacksBeginning line more = (c : Command) (missing : List ℕ) → IsGood c → line ≡ line_of c → more ++ missing ≡ behind_line c → missing ≢ [] → MayBreak c (10 ∷ more) → ⊥
-
 pub no_entry_by : (line more : List ℕ) → Lacks 10 line → line ≢ [] → LacksWhole line more → NoEntry (line ++ 10 ∷ more)
 no_entry_by line more l some none Blank left g e = let both = split_at 10 line [] more left l tt e in some both.0
 no_entry_by line more l some none (Given c) left g e = let both = split_at 10 line (line_of c) more (behind_line c ++ left) l (line_lacks_feed c g) (e ∙ append_assoc (line_of c) (10 ∷ behind_line c) left) in none c left g both.0 both.1
@@ -43,29 +32,28 @@ no_entry_by line more l some none (Given c) left g e = let both = split_at 10 li
 pub no_last_by : (line more : List ℕ) → Lacks 10 line → LacksLast line more → NoLast (line ++ 10 ∷ more)
 no_last_by line more l none c g ends e = let both = split_at 10 line (line_of c) (more ++ 10 ∷ []) (behind_line c) l (line_lacks_feed c g) (sym (append_assoc line (10 ∷ more) (10 ∷ [])) ∙ e) in none c g ends both.0 both.1
 
-pub not_cut_by : (line more : List ℕ) → Lacks 10 line → LacksBeginning line more → ¬ IsCutShort (line ++ 10 ∷ more)
-not_cut_by line more l none c = by c.part c.is c.begins c.breaks
-  where
-    by : (part : List ℕ) → line ++ 10 ∷ more ≡ line_of c.command ++ part → part ++ c.missing ≡ 10 ∷ behind_line c.command → MayBreak c.command part → ⊥
-    by [] e k b = not_inside 10 (line_of c.command) line more (line_lacks_feed c.command c.good) (sym (append-nil (line_of c.command)) ∙ sym e)
-    by (x ∷ part) e k b = grind (arith, common_steps, line_lacks_feed, split_at) steps 200000
-
-some_with : (line more : List ℕ) → line ++ 10 ∷ more ≢ []
+pub some_with : (line more : List ℕ) → line ++ 10 ∷ more ≢ []
 some_with [] more e = cc
 some_with (x ∷ line) more e = cc
 
 pub stops_cut : (bytes : List ℕ) → NoEntry bytes → NoLast bytes → IsCutShort bytes → StopsSo bytes CutShort
 stops_cut bytes none last cut = record { reading = none_is_read bytes none last; ends = cut }
 
-pub stops_bad : (line more : List ℕ) → NoEntry (line ++ 10 ∷ more) → NoLast (line ++ 10 ∷ more) → ¬ IsCutShort (line ++ 10 ∷ more) → StopsSo (line ++ 10 ∷ more) BadLine
-stops_bad line more none last whole = record { reading = none_is_read (line ++ 10 ∷ more) none last; ends = (some_with line more, whole) }
+-- bytes with which no entry begins, whatever comes in a line after them
+pub stops_bad : (bytes : List ℕ) → bytes ≢ [] → NoEntry bytes → ((missing : List ℕ) → NoEntry (bytes ++ 10 ∷ missing)) → StopsSo bytes BadLine
+stops_bad bytes some none later = record {
+  reading = none_is_read bytes none (λ c g ends e. begun c [] g e);
+  ends = (some, λ cut. begun cut.command cut.missing cut.good cut.is);
+}
+  where
+    begun : (c : Command) (missing : List ℕ) → IsGood c → bytes ++ 10 ∷ missing ≡ command_bytes c → ⊥
+    begun c missing g e = later missing (Given c) [] g (e ∙ sym (append-nil (command_bytes c)))
 
--- bytes that are no beginning of a command at all are a bad line
-pub stops_bad_by : (line more : List ℕ) → Lacks 10 line → line ≢ [] → LacksWhole line more → ((c : Command) (missing : List ℕ) → IsGood c → line ≡ line_of c → more ++ missing ≡ behind_line c → missing ≢ [] → ⊥) → StopsSo (line ++ 10 ∷ more) BadLine
-stops_bad_by line more l some whole begun =
-    stops_bad line more (no_entry_by line more l some whole) (no_last_by line more l (λ c g ends e k. begun c (10 ∷ []) g e k feed)) (not_cut_by line more l (λ c missing g e k m b. begun c missing g e k m)) where
-      feed : ◌≢◌ {A = List ℕ} (10 ∷ []) []
-      feed e = cc
+-- the same with a line before its line feed
+pub stops_bad_line : (line more : List ℕ) → NoEntry (line ++ 10 ∷ more) → ((missing : List ℕ) → NoEntry (line ++ 10 ∷ (more ++ 10 ∷ missing)))
+    → StopsSo (line ++ 10 ∷ more) BadLine
+stops_bad_line line more none later = stops_bad (line ++ 10 ∷ more) (some_with line more) none
+    (λ missing. subst NoEntry (sym (append_assoc line (10 ∷ more) (10 ∷ missing))) (later missing))
 
 -- ---- the lines of edits with a text
 
@@ -109,9 +97,38 @@ with_text _ count text h l = absurd (none-some h.text h.is_text)
 pub too_long : (part text left : List ℕ) (count : ℕ) → part ≡ (text ++ 10 ∷ []) ++ left → length text ≡ count → length part ≤ count → ⊥
 too_long part text left count e l h = grind (arith, common_steps, length-append (text ++ 10 ∷ []) left, length-append text (10 ∷ [])) steps 200000
 
--- bytes by which a text that is not all there is filled up
-abbrev pub filling : List ℕ → ℕ → List ℕ
-filling part count = replicate (count - length part) 0
+-- line feeds by which a text that is not all there is filled up
+abbrev filling : List ℕ → ℕ → List ℕ
+filling part count = replicate (count - length part) 10
 
-pub filling_ends : (part : List ℕ) (count : ℕ) → filling part count ++ 10 ∷ [] ≢ []
-filling_ends part count e = let n : length (filling part count) + 1 ≡ 0 = sym (length-append (filling part count) (10 ∷ [])) ∙ ap length e in omega arith
+feeds_turn : (n : ℕ) → ◌≡◌ {A = List ℕ} (10 ∷ replicate n 10) (replicate n 10 ++ 10 ∷ [])
+feeds_turn zero = refl
+feeds_turn (suc n) = ap (λ (bytes : List ℕ). 10 ∷ bytes) (feeds_turn n)
+
+-- with a line feed after them the bytes begin an edit
+pub record IsBegun (bytes : List ℕ) : Type 0 where
+  pub edit : Asked
+  pub good : IsGoodEdit edit
+  pub missing : List ℕ
+  pub is : bytes ++ 10 ∷ missing ≡ edit_bytes edit
+
+pub line_is_begun : (edit : Asked) → IsGoodEdit edit → IsBegun (edit_line edit)
+line_is_begun edit good = record { edit = edit; good = good; missing = ended_text (edited_text edit); is = refl }
+
+pub text_is_begun : (edit : Asked) (count : ℕ) (part : List ℕ) → HasTextOf edit count → length part ≤ count → IsBegun (edit_line edit ++ 10 ∷ part)
+text_is_begun edit count part has short = with (with_text edit count (part ++ filling part count) has long)
+  where
+    long : length (part ++ filling part count) ≡ count
+    long = length-append part (filling part count) ∙ ap (λ (n : ℕ). length part + n) (length-replicate (count - length part) 10) ∙ omega (arith, short)
+
+    filled : part ++ 10 ∷ filling part count ≡ (part ++ filling part count) ++ 10 ∷ []
+    filled = ap (λ (bytes : List ℕ). part ++ bytes) (feeds_turn (count - length part)) ∙ sym (append_assoc part (filling part count) (10 ∷ []))
+
+    with : WithText edit (part ++ filling part count) → IsBegun (edit_line edit ++ 10 ∷ part)
+    with w = record {
+      edit = w.other;
+      good = w.good;
+      missing = filling part count;
+      is = append_assoc (edit_line edit) (10 ∷ part) (10 ∷ filling part count) ∙ ap (λ (line : List ℕ). line ++ 10 ∷ (part ++ 10 ∷ filling part count)) w.same_line
+          ∙ ap (λ (bytes : List ℕ). edit_line w.other ++ 10 ∷ bytes) (filled ∙ sym (ap ended_text w.is_text));
+    }

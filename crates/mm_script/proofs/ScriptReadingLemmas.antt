@@ -2,9 +2,9 @@
 use Rattle.std.proofs.Common.{[], ◌≡◌, ◌≢◌, ◌⊎◌, ℕ, zero, suc, ◌+◌, ◌≤◌, Option, Some, None, List, ◌∷◌, ◌++◌, length, length-append, replicate, refl, sym, ap, ◌∙◌, subst, inl, inr, arith}
 use Rattle.std.{proofs.{Common.{append_assoc, append-nil}, lemmas.{Grind.{common_steps}, List.Concat.{flat_map-append}}, Math.Decide.{ℕ_discrete}}, specs.List.{flat_map}}
 use Rattle.mm_text.specs.Language.Asked.{Asked, edited_text}
-use Rattle.mm_script.specs.{Code.Stops.{HasTextOf, AreListed, batch_line, batch_bytes}, Language.Commands.{StopsSo}}
-use Rattle.mm_script.specs.Language.Script.{Listed, Command, Change, Batch, Entry, Blank, Given, End, Done, CutShort, BadLine, AreGoodEdits, EndsInLine, IsGood, IsGoodEdit, IsGoodEntry, IsNumber}
-use Rattle.mm_script.specs.Language.{Script.{command_bytes, edit_bytes, edit_line, ended_text, entry_bytes, line_of, listed_bytes}, ReadingLaws.{HasReading, IsReadSo}}
+use Rattle.mm_script.specs.{Code.Stops.{HasTextOf, AreListed, batch_line, batch_bytes, AreGoodEdits}, Language.Commands.{StopsSo}}
+use Rattle.mm_script.specs.Language.Script.{Listed, Command, Change, Batch, Entry, Blank, Given, End, Done, CutShort, BadLine, EndsInLine, IsGood, IsGoodEdit, IsGoodEntry, IsNumber, command_bytes}
+use Rattle.mm_script.specs.Language.{Script.{edit_bytes, edit_line, ended_text, entry_bytes, line_of, listed_bytes}, ReadingLaws.{HasReading, IsReadSo}}
 use Rattle.mm_script.proofs.{BatchReadLemmas.{good_more, last_in_line}, SplitLemmas.{Lacks}, WordDecidingLemmas.{IsCommandLine, IsEditLine, command_line_or_not, edit_line_or_not}}
 use Rattle.mm_script.proofs.{ScriptLemmas.{entry_some}, ScriptLineLemmas.{WithText, with_text}, JoinLemmas.{reading_behind, reading_done, reading_last}}
 use Rattle.mm_script.proofs.StopLemmas.{bad_last, bad_line, batch_bad_last, batch_bad_line, batch_cut, batch_edit_cut, batch_line_cut, batch_text_bad, batch_text_cut, batch_text_line_cut, text_bad}

@@ -4,7 +4,8 @@ use Rattle.std.{proofs.lemmas.{Grind.{common_steps}, List.{append-nil}, Fmt.{dec
 use Rattle.std.specs.List.{AllByRecursion, flat_map, list_all, join_with_byte}
 use Rattle.mm_text.specs.Language.Asked.{Asked, Insert, edited_text}
 use Rattle.mm_script.specs.Language.Script.{Listed, Command, Change, Report, Verdict, Axioms, Cites, Users, Batch, edit_line, listed_bytes, edit_words, command_words, line_of, ended_text, behind_line}
-use Rattle.mm_script.{specs.Language.Script.{is_word_byte, IsNumber, IsGoodEdit, AreGoodEdits, IsGood}, proofs.SplitLemmas.{Lacks, split_at, same_words, join_lacks, solid_space, solid_feed}}
+use Rattle.mm_script.specs.{Language.Script.{is_word_byte, IsNumber, IsGoodEdit, IsGood}, Code.Stops.{AreGoodEdits}}
+use Rattle.mm_script.proofs.SplitLemmas.{Lacks, split_at, same_words, join_lacks, solid_space, solid_feed}
 
 -- a word has neither a space nor a line feed
 abbrev pub IsSolid : List ℕ → Type 0

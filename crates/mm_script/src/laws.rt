@@ -2,8 +2,9 @@
 
 ghost use Rattle.mm_script.specs.Language.ReadingLaws.{CommandsLeaveNothing, DivisionsAgree, HasReading, OneEnd, OneReading, OneReadSoFar};
 ghost use Rattle.mm_script.specs.Language.ReadingLaws.{ReadingGoesOn, ReadingsJoin};
-ghost use Rattle.mm_script.specs.Language.ScriptExamples.{CutsBatch, CutsFeed, CutsLine, CutsText};
+ghost use Rattle.mm_script.specs.Language.ScriptExamples.{CutsBatch, CutsBatchText, CutsFeed, CutsLine, CutsText};
 ghost use Rattle.mm_script.specs.Language.ScriptExamples.{EndsAtLine, EndsAtText, EndsInEdit, ReadsBatch, ReadsLastEdit, ReadsText};
+ghost use Rattle.mm_script.specs.Language.ScriptExamples.{BoundWords, GrowsByTwo, HasTwoCommands, TellsWriter, WaitsForFeed};
 
 /// A script is read in one way, and what is left of it ends it in one way at most.
 pub fn one_reading()
@@ -37,7 +38,8 @@ pub fn readings_join()
     ensures { ReadingsJoin }
 {}
 
-/// Some scripts, and how they are read: with texts and batches, cut short, and with bad lines.
+/// Some scripts, and how they are read: with texts and batches, cut short, and with bad lines. Some words, and some
+/// bytes that are written.
 pub fn scripts_are_read_so()
     ensures text { ReadsText }
     ensures batch { ReadsBatch }
@@ -46,7 +48,13 @@ pub fn scripts_are_read_so()
     ensures cut_feed { CutsFeed }
     ensures cut_line { CutsLine }
     ensures cut_batch { CutsBatch }
+    ensures cut_batch_text { CutsBatchText }
     ensures bad_edit { EndsInEdit }
     ensures bad_line { EndsAtLine }
     ensures bad_text { EndsAtText }
+    ensures feed { WaitsForFeed }
+    ensures commands { HasTwoCommands }
+    ensures bounds { BoundWords }
+    ensures written { GrowsByTwo }
+    ensures writer { TellsWriter }
 {}

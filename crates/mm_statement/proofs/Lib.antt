@@ -5,3 +5,6 @@ pub mod ShortItems
 pub mod PieceLemmas
 pub mod NthOfProof
 pub mod ByteLemmas
+pub mod LocatedLemmas
+pub mod NameLemmas
+pub mod ExampleLemmas

@@ -2,7 +2,7 @@
 use Rattle.std.proofs.lemmas.{Grind.{common_steps}, List.{drop-drop, length-map}}
 use Rattle.std.proofs.Common.{◌≡◌, ℕ, ◌+◌, ◌-◌, ◌≤◌, List, [], ◌∷◌, Option, Some, None, length, drop, slice_range, refl, sym, ◌∙◌, ap, arith, slice_get, MatchOption}
 use Rattle.mm_store.specs.{mm_text.{declared.word.Word.{Word}, Language.Unit.{tokens_of}}, Language.FilesView.{FilesView}}
-use Rattle.mm_statement.{specs.Language.{Item.{Item}, Statement.{Says, kind_of, symbols_from, symbols_in}}, proofs.{ListLemmas.{get_drop}, PieceLemmas.{IsTextOf}, SpokenLemmas.{behind_one}}}
+use Rattle.mm_statement.{specs.Language.{Item.{Said}, Statement.{Says, kind_of, symbols_from, symbols_in}}, proofs.{ListLemmas.{get_drop}, PieceLemmas.{IsTextOf}, SpokenLemmas.{behind_one}}}
 use Rattle.mm_store.specs.declared.item.Item as store
 
 -- a word further
@@ -19,7 +19,7 @@ pub left_none : (words left : List Word) (k n : ℕ) → left ≡ drop k words �
 left_none words left k n e none less = ap (λ (l : List Word). slice_get l (n - k)) (sym none ∙ e) ∙ get_drop words k (n - k) n (omega arith)
 
 -- the number of the first word of the proof, as the item says it
-pub first_said : (files : FilesView) (item : store.Item) (piece : List ℕ) → IsTextOf files item piece → (said : Item) (says : Says files item said)
+pub first_said : (files : FilesView) (item : store.Item) (piece : List ℕ) → IsTextOf files item piece → (said : Said) (says : Says files item said)
     → symbols_from (kind_of item.kind) + length (symbols_in (kind_of item.kind) (tokens_of (slice_range piece item.start item.end) says.read.words)) + 1 ≡ symbols_from said.kind + length said.symbols + 1
 first_said files item piece is said says =
     let kind = kind_of item.kind in
@@ -28,7 +28,7 @@ first_said files item piece is said says =
     grind (arith, common_steps, length-map) steps 200000
 
 -- the word with a number in the proof
-pub nth_said : (files : FilesView) (item : store.Item) (piece : List ℕ) → IsTextOf files item piece → (said : Item) (says : Says files item said) → (rest : List Word) (n : ℕ)
+pub nth_said : (files : FilesView) (item : store.Item) (piece : List ℕ) → IsTextOf files item piece → (said : Said) (says : Says files item said) → (rest : List Word) (n : ℕ)
     → rest ≡ drop (symbols_from (kind_of item.kind) + length (symbols_in (kind_of item.kind) (tokens_of (slice_range piece item.start item.end) says.read.words)) + 1) says.read.words
     → slice_get rest n ≡ slice_get says.read.words (symbols_from said.kind + length said.symbols + 1 + n)
 nth_said files item piece is said says rest n e =

@@ -2,7 +2,7 @@
 use Rattle.std.proofs.Common.{◌≡◌, ℕ, ◌<◌, ◌≤◌, List, length, slice_range, sym, ap, ◌∙◌, subst}
 use Rattle.mm_store.specs.{mm_text.{declared.word.Word.{Word}, Language.{Reading.{HasWords}, Unit.{tokens_of}}}, Language.{FilesView.{FilesView}, FileFacts.{CanBeRead, IsLive}}}
 use Rattle.mm_store.specs.Language.Pieces.{text_in, text_under}
-use Rattle.mm_statement.specs.Language.{Item.{Item}, Statement.{AreOneRange, Says, kind_of, item_of}}
+use Rattle.mm_statement.specs.Language.{Item.{Said}, Statement.{AreOneRange, Says, kind_of, item_of}}
 use Rattle.mm_store.specs.declared.item.Item as store
 
 -- what is read under the key of an item
@@ -42,14 +42,14 @@ module _ (files : FilesView) (item : store.Item) (piece : List ℕ) (r : CanBeRe
 
 -- the item that is read under the key is what it says
 pub said_is : (files : FilesView) (item : store.Item) (piece : List ℕ) → IsTextOf files item piece → (words : List Word)
-    → OnlyWords (bytes_in piece item) words → (said : Item) → Says files item said → item_of (kind_of item.kind) (tokens_of (bytes_in piece item) words) ≡
+    → OnlyWords (bytes_in piece item) words → (said : Said) → Says files item said → item_of (kind_of item.kind) (tokens_of (bytes_in piece item) words) ≡
     said
 said_is files item piece is words only said says =
     let r = says.read in
     same_item files item piece r is words (only r.words (has_words files item piece r is)) ∙ sym says.is
 
 -- the text under the key of an item is the one that the item is read in
-read_under : (files : FilesView) (item : store.Item) → (r : CanBeRead files item) → r.text ≡ text_under files.pieces item.key.at
+pub read_under : (files : FilesView) (item : store.Item) → (r : CanBeRead files item) → r.text ≡ text_under files.pieces item.key.at
 read_under files item r = r.live.is_text ∙ sym (ap text_in r.live.held)
 
 module _ (files : FilesView) (x y : store.Item) (one : AreOneRange x y) where
@@ -59,7 +59,7 @@ module _ (files : FilesView) (x y : store.Item) (one : AreOneRange x y) where
   same_range : (r : CanBeRead files x) (q : CanBeRead files y) → bytes_in r.text x ≡ bytes_in q.text y
   same_range r q = λ i. slice_range (same_text r q i) (one.start i) (one.end i)
 
-  pub same_said : OneReading → (said told : Item) → Says files x said → Says files y told → said ≡ told
+  pub same_said : OneReading → (said told : Said) → Says files x said → Says files y told → said ≡ told
   same_said law said told f g =
       let words = law (bytes_in g.read.text y) f.read.words g.read.words (subst (λ bytes. HasWords bytes f.read.words) (same_range f.read g.read) f.read.has_words) g.read.has_words in
       f.is ∙ (λ i. item_of (kind_of (one.kind i)) (tokens_of (same_range f.read g.read i) (words i))) ∙ sym g.is

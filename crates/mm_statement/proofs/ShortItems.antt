@@ -2,9 +2,9 @@
 use Rattle.std.proofs.lemmas.{Bool.{cases_Bool, false≢true}, List.{drop_all, length-map}, Grind.{common_steps}}
 use Rattle.std.proofs.Common.{◌≡◌, ℕ, ◌+◌, ◌-◌, ◌≤◌, Bool, true, false, Option, None, List, [], ◌∷◌, ◌++◌, length, drop, flat_map, refl, sym, ap, ◌∙◌, arith, slice_range, length-append, length-take}
 use Rattle.std.{proofs.Common.{inl, inr}, specs.Prelude.{if◌then◌else◌}}
-use Rattle.mm_store.specs.mm_text.{declared.word.Word.{Word}, Language.{Reading.{HasWords, Segment, Single, Comment, segment_runs, segment_words}, Run.{Run, runs, is_white, with_front}}}
+use Rattle.mm_store.specs.mm_text.{declared.word.Word.{Word}, Language.{Reading.{HasWords, Segment, Single, Comment, segment_runs, segment_words}, Run.{Run, runs, is_white, with_first_byte}}}
 use Rattle.mm_store.specs.{mm_text.Language.Unit.{Token, token_of, tokens_of}, Language.FilesView.{FilesView}}
-use Rattle.mm_statement.specs.Language.{Item.{Item, is_labelled}, Statement.{Says, kind_of, plain_from, token_names}}
+use Rattle.mm_statement.specs.Language.{Item.{Said, is_labelled}, Statement.{Says, kind_of, plain_from, token_names}}
 use Rattle.mm_store.specs.declared.item.Item as store
 
 -- two bytes are one run at most
@@ -12,7 +12,7 @@ abbrev one_run : ℕ → ℕ → Bool → List Run
 one_run at b white = if white then [] else record { start = at; bytes = b ∷ [] } ∷ []
 
 abbrev two_runs : ℕ → ℕ → Bool → Bool → List Run
-two_runs b c white end = if white then one_run 1 c end else if end then record { start = 0; bytes = b ∷ [] } ∷ one_run 1 c end else with_front 0 b (one_run 1 c end)
+two_runs b c white end = if white then one_run 1 c end else if end then record { start = 0; bytes = b ∷ [] } ∷ one_run 1 c end else with_first_byte 0 b (one_run 1 c end)
 
 short_one : (at b : ℕ) (white : Bool) → length (one_run at b white) ≤ 1
 short_one at b white = grind (arith, common_steps, cases_Bool white) steps 200000
@@ -43,7 +43,7 @@ no_label : (labelled : Bool) (o : Option (List ℕ)) → labelled ≡ false → 
 no_label true o e = absurd (false≢true (sym e))
 no_label false o e = refl
 
-pub short_mark : (files : FilesView) (item : store.Item) → is_labelled (kind_of item.kind) ≡ false → item.end ≤ item.start + 2 → (said : Item) → Says files item said
+pub short_mark : (files : FilesView) (item : store.Item) → is_labelled (kind_of item.kind) ≡ false → item.end ≤ item.start + 2 → (said : Said) → Says files item said
     → (None ≡ said.label) × (0 ≡ length said.symbols)
 short_mark files item unlabelled short said says =
     let r = says.read in
@@ -52,6 +52,6 @@ short_mark files item unlabelled short said says =
     let one = one_word text r.words r.has_words few in
     let tokens = tokens_of text r.words in
     let count : length tokens ≤ 1 = omega (arith, length-map r.words (token_of text), one) in (
-      no_label (is_labelled (kind_of item.kind)) _ unlabelled ∙ sym (ap (λ (x : Item). x.label) says.is),
-      sym (ap length (none_after (is_labelled (kind_of item.kind)) tokens count)) ∙ sym (ap (λ (x : Item). length x.symbols) says.is),
+      no_label (is_labelled (kind_of item.kind)) _ unlabelled ∙ sym (ap (λ (x : Said). x.label) says.is),
+      sym (ap length (none_after (is_labelled (kind_of item.kind)) tokens count)) ∙ sym (ap (λ (x : Said). length x.symbols) says.is),
     )

@@ -3,7 +3,7 @@ use Rattle.std.proofs.lemmas.{Grind.{common_steps}, List.{drop-map, drop-drop, t
 use Rattle.std.proofs.Common.{◌≡◌, ℕ, zero, suc, ◌+◌, ◌<◌, ◌≤◌, Bool, true, false, cond, if◌then◌else◌, List, [], ◌∷◌, ◌++◌, Option, Some, None, length, map, take, drop, refl, sym, ◌∙◌, ap, subst}
 use Rattle.std.{proofs.Common.{arith, length-append}, specs.{Prelude.{slice_get, MatchOption}, Option.{option_map}, List.{AllByRecursion, flat_map, prefix_len}}}
 use Rattle.mm_store.specs.mm_text.{declared.word.{Word.{Word}, WordKind.TheVariants.{Plain}}, Language.{WordsLeft.{SkipsPlainWords}, Unit.{Token, token_of, tokens_of, spellings}}}
-use Rattle.mm_statement.specs.Language.{Item.{Kind, Item, is_labelled}, Statement.{is_plain_kind, is_plain, token_names, plain_from, symbols_from, symbols_in, item_of}}
+use Rattle.mm_statement.specs.Language.{Item.{Kind, Said, is_labelled}, Statement.{is_plain_kind, is_plain, token_names, plain_from, symbols_from, symbols_in, item_of}}
 use Rattle.mm_statement.specs.Code.PlainWords.{AreFewWords, TakesLabel, word_bytes, plain_words, plain_bytes}
 
 prefix_len-map : {X Y : Type 0} (f : X → Y) (p : Y → Bool) (xs : List X) → prefix_len p (map f xs) ≡ prefix_len (λ x. p (f x)) xs
@@ -111,7 +111,7 @@ rest_at kind text words label symbols rest h =
     (spelled, h.all.rest ∙ ap (drop (length (plain_words h.first) + 1)) first ∙ drop-drop (length (plain_words h.first) + 1) from words ∙ ap (λ k. drop k words) places)
 
 pub item_read : (kind : Kind) (text : List ℕ) (words : List Word) (label : Option Word) (symbols rest : List Word) → Reads kind words label symbols rest
-    → ◌≡◌ {A = Item} (record { kind = kind; label = option_map (word_bytes text) label; symbols = map (word_bytes text) symbols; proof = plain_bytes text rest }) (item_of kind (tokens_of text words))
+    → ◌≡◌ {A = Said} (record { kind = kind; label = option_map (word_bytes text) label; symbols = map (word_bytes text) symbols; proof = plain_bytes text rest }) (item_of kind (tokens_of text words))
 item_read kind text words label symbols rest h =
     let labelled = label_is (is_labelled kind) text words h.behind label h.takes in
     let proof = names_from text words (symbols_from kind + length (symbols_in kind (tokens_of text words)) + 1) in

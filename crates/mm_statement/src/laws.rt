@@ -1,5 +1,7 @@
 //! What is proved of statements: each law is the contract of a function.
 
+ghost use Rattle.mm_statement.specs.Language.Laws.{DatabasesAreThere, DatabasesHaveOneListOfNames, ExpansionsTakeNames, FilesHaveOneDatabase};
+ghost use Rattle.mm_statement.specs.Language.Laws.{ItemsAreLocated, LocatedAreItems, MissingAreNamed, WalksTakeNames};
 ghost use Rattle.mm_statement.specs.Language.Statement.{OneRangeSaysOne};
 
 /// Items that are the same bytes of one piece, read as one kind, say the same.
@@ -8,4 +10,54 @@ pub fn one_range_says_one()
 {
     // A law: a text has one list of words.
     mm_store::one_meaning();
+}
+
+/// The items that are kept of files are those of the database of the files, and the other way round: they say the same, and
+/// stand at the same places.
+pub fn items_are_located()
+    ensures located { ItemsAreLocated }
+    ensures kept { LocatedAreItems }
+{
+    mm_store::one_meaning();
+    mm_store::stretches_stand_alone();
+    mm_store::items_stand();
+}
+
+/// Files have one database at most from a top file on.
+pub fn files_have_one_database()
+    ensures { FilesHaveOneDatabase }
+{
+    mm_store::one_meaning();
+    mm_store::edits_keep_units();
+    mm_store::one_expansion();
+    items_are_located();
+}
+
+/// Files each piece of which holds one unit have a database from each top file on that is among them, and from no other.
+pub fn databases_are_there()
+    ensures { DatabasesAreThere }
+{
+    mm_store::edits_keep_units();
+    mm_store::has_expansion();
+    mm_store::items_stand();
+    items_are_located();
+}
+
+/// A reference to a missing file in a database names a file that is not there, with one of the names of the database.
+pub fn missing_are_named()
+    ensures { MissingAreNamed }
+{}
+
+/// A database has one list of names: those that a walk through the files takes, in their order.
+pub fn names_are_taken()
+    ensures one { DatabasesHaveOneListOfNames }
+    ensures walk { WalksTakeNames }
+    ensures end { ExpansionsTakeNames }
+{
+    mm_store::one_meaning();
+    mm_store::one_division();
+    mm_store::stretches_stand_alone();
+    mm_store::edits_keep_units();
+    mm_store::walks_go_on();
+    databases_are_there();
 }

@@ -1,11 +1,16 @@
 //! Statements: what each item of the files says, from the words of its text.
 #![tactic(auto)]
 
+mod examples;
 mod laws;
 mod proof_words;
 mod statement;
 
-pub use laws::one_range_says_one;
+pub use examples::databases_are_read_so;
+pub use laws::{
+    databases_are_there, files_have_one_database, items_are_located, missing_are_named,
+    names_are_taken, one_range_says_one,
+};
 pub use mm_store::{
     Edit, Files, Item, ItemKind, Keyword, Place, TextError, TextFault, TextNumber, Word,
     WordCursor, WordKind, nth_word, place,

@@ -40,10 +40,10 @@ pub struct Statement<'a> {
 }
 
 impl<'a> Model for Statement<'a> {
-    ghost use Rattle.mm_statement.specs.Language.Item.{Item};
+    ghost use Rattle.mm_statement.specs.Language.Item.{Said};
     ghost use Rattle.mm_statement.specs.Code.KeptStatement.{item_inside, IsSpoken};
 
-    ghost Value = { Item };
+    ghost Value = { Said };
 
     ghost view = { item_inside };
 
@@ -97,7 +97,7 @@ fn words_of<'a>(files: &'a Files, item: &Item) -> (&'a [u8], WordCursor<'a>)
     requires { CanBeRead files.now item.now }
     ensures words { AreWordsOf result.0.now result.1 }
     ensures says { Says files.now item.now (spoken.item_of (spoken.kind_of item.now.kind) (tokens_of result.0.now result.1.words)) }
-    ensures only { (said : meant.Item) → Says files.now item.now said
+    ensures only { (said : meant.Said) → Says files.now item.now said
         → spoken.item_of (spoken.kind_of item.now.kind) (tokens_of result.0.now result.1.words) ≡ said }
 {
     let text = &files.piece(item.key)[item.start..item.end];
@@ -163,7 +163,7 @@ impl<'a> Statement<'a> {
     pub fn read(alloc: Global, files: &'a Files, item: &Item) -> Result<Self, AllocError>
         requires { CanBeRead files.now item.now }
         ensures says { IfOk result (Says files.now item.now) }
-        ensures only { IfOk result (λ read. (said : meant.Item) → Says files.now item.now said → read ≡ said) }
+        ensures only { IfOk result (λ read. (said : meant.Said) → Says files.now item.now said → read ≡ said) }
     {
         if is_short_mark(item) {
             return Ok(Statement::known(alloc, files, item, None, 0));
@@ -206,10 +206,10 @@ impl<'a> Statement<'a> {
         count: usize,
     ) -> Self
         requires read { CanBeRead files.now item.now }
-        requires label { (said : meant.Item) → Says files.now item.now said → option_map (λ label. label.now) label ≡ said.label }
-        requires count { (said : meant.Item) → Says files.now item.now said → count ≡ length said.symbols }
+        requires label { (said : meant.Said) → Says files.now item.now said → option_map (λ label. label.now) label ≡ said.label }
+        requires count { (said : meant.Said) → Says files.now item.now said → count ≡ length said.symbols }
         ensures says { Says files.now item.now result }
-        ensures only { (said : meant.Item) → Says files.now item.now said → result ≡ said }
+        ensures only { (said : meant.Said) → Says files.now item.now said → result ≡ said }
     {
         let (text, words) = words_of(files, item);
         Statement {
@@ -292,7 +292,7 @@ impl<'a> Statement<'a> {
 /// its proof. It takes no memory.
 pub fn words_of_proof<'a>(files: &'a Files, item: &Item) -> ProofWords<'a>
     requires { CanBeRead files.now item.now }
-    ensures words { (said : meant.Item) → Says files.now item.now said → result ≡ said.proof }
+    ensures words { (said : meant.Said) → Says files.now item.now said → result ≡ said.proof }
 {
     let (text, words) = words_of(files, item);
     proof_among(item.kind, text, words)
@@ -314,7 +314,7 @@ fn proof_among<'a>(kind: ItemKind, text: &'a [u8], words: WordCursor<'a>) -> Pro
 /// these words, the `$.` after them. The words before the `$=` are passed over. It takes no memory.
 pub fn nth_of_proof(files: &Files, item: &Item, n: usize) -> Option<Word>
     requires { CanBeRead files.now item.now }
-    ensures { (said : meant.Item) → (says : Says files.now item.now said)
+    ensures { (said : meant.Said) → (says : Says files.now item.now said)
         → result ≡ slice_get says.read.words (spoken.symbols_from said.kind + length said.symbols + 1 + n) }
 {
     let bytes = files.piece(item.key);
@@ -371,7 +371,7 @@ fn pass_symbols(words: &mut WordCursor)
 pub fn same_proof(files: &Files, one: &Item, other: &Item) -> bool
     requires one { CanBeRead files.now one.now }
     requires other { CanBeRead files.now other.now }
-    ensures { (said told : meant.Item) → Says files.now one.now said → Says files.now other.now told
+    ensures { (said told : meant.Said) → Says files.now one.now said → Says files.now other.now told
         → IsTrue result ↔ (said.proof ≡ told.proof) }
 {
     if is_same_range(one, other) {
@@ -398,7 +398,7 @@ fn occurs(text: &[u8], bytes: &[u8]) -> bool
 pub fn has_bytes(files: &Files, item: &Item, bytes: &[u8]) -> bool
     requires { CanBeRead files.now item.now }
     ensures found { IsTrue result ↔ HasBytes files.now item.now bytes.now }
-    ensures absent { IsFalse result → (said : meant.Item) → Says files.now item.now said → AllByRecursion (λ word. word ≢ bytes.now) said.proof }
+    ensures absent { IsFalse result → (said : meant.Said) → Says files.now item.now said → AllByRecursion (λ word. word ≢ bytes.now) said.proof }
 {
     let piece = files.piece(item.key);
     occurs(&piece[item.start..item.end], bytes)

@@ -6,17 +6,10 @@ use Rattle.mm_text.specs.Language.{Spelling.{spelling}, Reading.{Segment, Single
 use Rattle.mm_text.specs.Language.{Unit.{token_of, tokens_of, Shape, Declaration, Inclusion, IsShape, shape_tokens, Nothing, Simple}, Part.{shape_part}}
 use Rattle.mm_store.specs.{declared.item.Item.{Item}, Language.FilesView.{FileView, PieceView, key_of}}
 use Rattle.mm_store.specs.Language.Expansion.{Placed, placed_part, included_name, ArePartsOf, ArePlaced, Expands, nothing, own, again, missing, included}
-use Rattle.mm_store.specs.Language.Examples.{piece, item, ring, RingGivesThree}
+use Rattle.mm_store.{specs.Language.Examples.{piece, item, ring, RingGivesThree}, proofs.EditExampleLemmas.{no_dollar}}
 use Rattle.mm_text.specs.declared.word.WordKind.TheVariants as kinds
 use Rattle.mm_text.specs.declared.part.PartKind.TheVariants as parts
 use Rattle.mm_store.specs.declared.item.ItemKind.TheVariants as items
-
-no_dollar : (bytes : List ℕ) → list_all (λ b. not (b == 36)) bytes ≡ true → ¬ Contains bytes 36
-no_dollar bytes all there =
-    let passes : not (get_or bytes there.0 36 == 36) ≡ true = AllPass-from_list_all (λ b. not (b == 36)) bytes all there.0 36 there.1 in
-    let is : get_or bytes there.0 36 ≡ 36 = there.2 in
-    let never : not (36 == 36) ≡ true = rw is at passes in
-    cc
 
 not_among : (names : List (List ℕ)) (name : List ℕ) → list_all (λ other. not (bytes_eq name other)) names ≡ true → bytes_eq name name ≡ true → ¬ Contains names name
 not_among names name all same there =
@@ -68,7 +61,8 @@ symbol_x = record {
   allowed = refl;
   words_are = record {
     parts = declaration_parts Constants (codes "x");
-    reading = record { each = (record { kind = refl; start = refl; end = refl }, (record { kind = no_dollar (codes "x") refl; start = refl; end = refl }, (record { kind = refl; start = refl; end = refl }, tt))); joined = refl };
+    each = (record { kind = refl; start = refl; end = refl }, (record { kind = no_dollar (codes "x") refl; start = refl; end = refl }, (record { kind = refl; start = refl; end = refl }, tt)));
+    joined = refl;
     singles = refl;
   };
 }
@@ -79,7 +73,8 @@ symbol_y = record {
   allowed = refl;
   words_are = record {
     parts = declaration_parts Variables (codes "y");
-    reading = record { each = (record { kind = refl; start = refl; end = refl }, (record { kind = no_dollar (codes "y") refl; start = refl; end = refl }, (record { kind = refl; start = refl; end = refl }, tt))); joined = refl };
+    each = (record { kind = refl; start = refl; end = refl }, (record { kind = no_dollar (codes "y") refl; start = refl; end = refl }, (record { kind = refl; start = refl; end = refl }, tt)));
+    joined = refl;
     singles = refl;
   };
 }
@@ -90,7 +85,8 @@ including name text allowed joined plain_name = record {
   allowed = allowed;
   words_are = record {
     parts = inclusion_parts name;
-    reading = record { each = (record { kind = refl; start = refl; end = refl }, (record { kind = no_dollar name plain_name; start = refl; end = refl }, (record { kind = refl; start = refl; end = refl }, tt))); joined = joined };
+    each = (record { kind = refl; start = refl; end = refl }, (record { kind = no_dollar name plain_name; start = refl; end = refl }, (record { kind = refl; start = refl; end = refl }, tt)));
+    joined = joined;
     singles = refl;
   };
 }

@@ -1,3 +1,4 @@
 pub mod lemmas
 pub mod Rows
+pub mod EditExampleLemmas
 pub mod ExampleLemmas

@@ -13,3 +13,4 @@ pub mod EditedKeys
 pub mod Answers
 pub mod Batches
 pub mod Examples
+pub mod EditExamples

@@ -4,7 +4,7 @@ ghost use Rattle.std.specs.Prelude.{◌≡◌, ℕ, ◌↔◌, IsTrue, List, ◌
 ghost use Rattle.mm_text.specs.declared.word.Word.{Word};
 ghost use Rattle.mm_text.specs.declared.part.PartKind.TheVariants.{Inclusion};
 ghost use Rattle.mm_text.specs.Language.Reading.{HasWords};
-ghost use Rattle.mm_text.specs.Language.Cut.{HoldsOne};
+ghost use Rattle.mm_text.specs.Language.Cut.{HoldsOneUnit};
 ghost use Rattle.mm_text.specs.Language.Part.{HasParts, IsReadable, part_bytes};
 ghost use Rattle.mm_store.specs.declared.files.PieceKey.{PieceKey};
 ghost use Rattle.mm_store.specs.Language.FilesView.{files_in};
@@ -78,7 +78,7 @@ fn named(text: &[u8], part: Part) -> &[u8]
 
 /// The name that a piece includes; `None` if it includes nothing.
 pub(crate) fn included_name<'a>(text: &'a [u8], parts: &[KeptPart]) -> Option<&'a [u8]>
-    requires unit { HoldsOne text.now }
+    requires unit { HoldsOneUnit text.now }
     requires divided { HasParts text.now parts.now }
     ensures none { IfNone result ((file number : ℕ) (key : PieceKey) → IncludesNothing file number (record { key = key; text = text.now })) }
     ensures some { IfSome result

@@ -33,7 +33,7 @@ mod walk;
 pub use batch::{BatchError, Undos};
 pub use edit::EditError;
 pub use error::StoreError;
-pub use examples::rings_are_read_so;
+pub use examples::{edits_are_done_so, files_are_held_so, rings_are_read_so};
 pub use files::{Files, PieceKey};
 pub use item::{Item, ItemKind};
 pub use laws::{
@@ -43,7 +43,8 @@ pub use laws::{
 };
 pub use mm_text::{
     Edit, Keyword, Place, TextError, TextFault, TextNumber, Word, WordCursor, WordKind,
-    first_faults_are_within, nth_word, one_meaning, place,
+    first_faults_are_within, nth_word, one_division, one_meaning, place, stretches_stand_alone,
+    texts_are_read_so,
 };
 pub use room::fits;
 pub use undo::Undo;

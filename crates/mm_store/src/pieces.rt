@@ -3,7 +3,7 @@
 ghost use Rattle.std.specs.Prelude.{◌≡◌, ℕ, ◌+◌, ◌++◌, ◌≤◌, List, All, length, map, IsSome, IfOk, OnErr, take, vec_len, vec_capacity};
 ghost use Rattle.std.specs.FinMap as finite;
 ghost use Rattle.slab.specs.Slab.{HasRoomFor};
-ghost use Rattle.mm_text.specs.Language.Cut.{HoldsOne};
+ghost use Rattle.mm_text.specs.Language.Cut.{HoldsOneUnit};
 ghost use Rattle.mm_store.specs.Language.Pieces.{standing_piece, text_under, with_state, parked_pieces, parked_state, parked_under, state_in};
 ghost use Rattle.mm_text.specs.Language.Part.{HasParts};
 ghost use Rattle.mm_store.specs.Code.Inside.{IsPieceKept, ArePut};
@@ -189,7 +189,7 @@ impl PieceStore {
     pub(crate) fn parts(&self, key: usize) -> &[KeptPart]
         requires { IsSome (finite.get self.now key) }
         ensures parts { HasParts (text_under self.now key) result.now }
-        ensures unit { HoldsOne (text_under self.now key) }
+        ensures unit { HoldsOneUnit (text_under self.now key) }
     {
         let piece = self.slab.get(key).unwrap();
         &piece.kept.parts
@@ -197,7 +197,7 @@ impl PieceStore {
 
     /// Each piece holds one unit. It does nothing.
     pub(crate) fn hold_units(&self)
-        ensures { (key : ℕ) → IsSome (finite.get self.now key) → HoldsOne (text_under self.now key) }
+        ensures { (key : ℕ) → IsSome (finite.get self.now key) → HoldsOneUnit (text_under self.now key) }
     {
         let _ = &self.slab;
     }

@@ -4,15 +4,15 @@ use Rattle.std.proofs.{Common.{arith}, lemmas.{Bool.{cases_Bool, false≢true}, 
 use Rattle.std.proofs.lemmas.List.{append-nil, map-append, append_cancel_left, take-append-le, drop-append-le, length-append, get_or-append_right, Elements.{All-take, All-append}}
 use Rattle.std.{proofs.{lemmas.Option.{slice_get_within}, Math.Seq.{take-append_seam, drop-append_seam}}, specs.List.{concat, AllPass}}
 use Rattle.mm_text.proofs.PieceLemmas.{feed_white, ends_behind, runs-append, shift_run, shift_word, runs-shift, words-shift, line_end, ended_is, runs-ended}
-use Rattle.mm_text.proofs.{ReadingLemmas.{closer, closer_closes, close_step, read_whole, read_words, same_words, text_words, text_fault}, ReaderLemmas.{in_comment, words-append}}
+use Rattle.mm_text.proofs.{ReadingLemmas.{closer, closer_closes, close_step, in_comment, read_whole, read_words, same_words, text_words, text_fault}, ReaderLemmas.{ends_open, words-append}}
 use Rattle.mm_text.proofs.{PositionLemmas.{Lying, words_lie}, UnitReadingLemmas.{run-append, run-IsViable, IsWhole-run, run-IsWhole}}
 use Rattle.mm_text.proofs.{UnitFaultLemmas.{cut_twice, viable_front, not_viable_all, block_viable, one_stop, one_unit_fault, whole_has_no_fault}, UnitDivisionLemmas.{one_division}}
 use Rattle.mm_text.{proofs.PieceUnitLemmas.{one_words, allowed_all, all_allowed, bare, tokens-shift, tokens-front, run_bare, WholeRun}, specs.declared.{word.Word.{Word}, fault.TextFault.{TextFault}}}
 use Rattle.mm_text.specs.{declared.fault.TextNumber.{TextNumber, TheVariants.{T01, T02, T03, T04, T05, T07, T08}}, Language.Run.{Run, runs, is_white}}
 use Rattle.mm_text.specs.Language.Reading.{is_allowed, first_bad, AreWords, HasWords, AreViableRuns, IsWordsFaultAt}
 use Rattle.mm_text.specs.Language.Unit.{Token, token_of, tokens_of, Units, Nothing, Simple, Block, unit_tokens, AreUnits, IsViable, IsUnitFault}
-use Rattle.mm_text.specs.Language.Cut.{ends_white, ended, IsOne, end_of_words, HoldsOne, IsPiece, BeginsSolid, ArePieces, IsCut, HoldWords, StopsWords, StopsUnits, IsFirstFaultAt, IsFirstFault}
-use Rattle.mm_text.specs.{Language.Part.{HasUnits}, Code.LeftToRight.{Read, read_runs, with_words, words_fault_at, read_text}}
+use Rattle.mm_text.specs.Language.Cut.{ends_white, ended, IsOneUnit, end_of_words, HoldsOneUnit, IsPiece, BeginsSolid, ArePieces, IsCut, StopsWords, StopsUnits, IsFirstFaultAt, IsFirstFault}
+use Rattle.mm_text.specs.{Language.Part.{HasUnits}, Code.{Reader.{HoldWords}, LeftToRight.{Read, read_runs, with_words, words_fault_at, read_text}}}
 use Rattle.mm_text.specs.Language.Unit as units
 use Rattle.mm_text.specs.Code.UnitReading as m
 
@@ -52,9 +52,9 @@ pieces_words [] tail h = record { found = []; has_words = h; whole = refl }
 pieces_words (piece ∷ pieces) tail h =
     let rest = pieces_words pieces tail h.2 in
     subst (λ (bs : List ℕ). HoldsWhole bs) (sym (append_assoc piece (concat pieces) tail)) (record {
-      found = h.0.words ++ map (shift_word (length piece)) rest.found;
-      has_words = join_words piece (concat pieces ++ tail) h.0.words rest.found h.0.ends h.0.has_words rest.has_words;
-      whole = join_whole piece (concat pieces ++ tail) h.0.words rest.found h.0.has_words rest.has_words (IsWhole-run (tokens_of piece h.0.words) (h.0.units, h.0.are_units, h.0.spells)) rest.whole;
+      found = h.0.unit.words ++ map (shift_word (length piece)) rest.found;
+      has_words = join_words piece (concat pieces ++ tail) h.0.unit.words rest.found h.0.unit.ends h.0.unit.has_words rest.has_words;
+      whole = join_whole piece (concat pieces ++ tail) h.0.unit.words rest.found h.0.unit.has_words rest.has_words (IsWhole-run (tokens_of piece h.0.unit.words) (h.0.unit.units, h.0.unit.are_units, h.0.unit.spells)) rest.whole;
     })
 
 cut_units : (text : List ℕ) (pieces : List (List ℕ)) (tail : List ℕ) → IsCut text pieces tail → HoldsWhole text
@@ -126,7 +126,17 @@ meets text number at allowed fault h = grind (arith, common_steps) steps 200000
 
 sorted : (text : List ℕ) (number : TextNumber) (at : ℕ) → IsFirstFaultAt text number at → Sorted text number at
 sorted text T01 at h = inl (refl, h)
-sorted text T02 at h = inr (inl (record { allowed = h.0; fault = (h.0, h.1.ends); front = runs text; rest = []; joined = sym (append-nil (runs text)); found = h.1.found; held = inr h.1.read; viable = h.1.viable; stuck = λ run more e. absurd cc }))
+sorted text T02 at h = inr (inl (record {
+  allowed = h.0;
+  fault = (h.0, ends_open (runs text) h.1.found at h.1.read h.1.place);
+  front = runs text;
+  rest = [];
+  joined = sym (append-nil (runs text));
+  found = h.1.found;
+  held = inr h.1.read;
+  viable = h.1.viable;
+  stuck = λ run more e. absurd cc;
+}))
 sorted text T03 at h = inr (inl (meets text T03 at h.0 (h.0, h.1.stop) h.1))
 sorted text T04 at h = inr (inl (meets text T04 at h.0 (h.0, h.1.stop) h.1))
 sorted text T05 at h = inr (inl (meets text T05 at h.0 (h.0, h.1.stop) h.1))
@@ -235,20 +245,20 @@ cut_has_no_fault text pieces tail fault f g = none (sorted text fault.number fau
 
 -- ---- one cut
 
-one_piece_more : (u v : Units) (more : List Token) → AreUnits true u → AreUnits true v → IsOne u → IsOne v → unit_tokens u ++ more ≡ unit_tokens v → more ≡ []
+one_piece_more : (u v : Units) (more : List Token) → AreUnits true u → AreUnits true v → IsOneUnit u → IsOneUnit v → unit_tokens u ++ more ≡ unit_tokens v → more ≡ []
 one_piece_more u v more f g one_u one_v e = by_unit u f one_u e where
   later : (w : Units) × AreUnits true w × (unit_tokens w ≡ more)
   later = run-IsWhole more (sym (ap (m.run m.Begin 0) (sym e) ∙ run-append (unit_tokens u) more m.Begin 0 (m.Begin, 0) (IsWhole-run (unit_tokens u)
       (u, f, refl))) ∙ IsWhole-run (unit_tokens v) (v, g, refl))
 
-  by_unit : (u : Units) → AreUnits true u → IsOne u → unit_tokens u ++ more ≡ unit_tokens v → more ≡ []
+  by_unit : (u : Units) → AreUnits true u → IsOneUnit u → unit_tokens u ++ more ≡ unit_tokens v → more ≡ []
   by_unit Nothing are one same = absurd one
   by_unit (Simple shape rest) are one same =
       let tokens : unit_tokens (Simple shape later.0) ≡ unit_tokens v = grind (arith, common_steps, append-nil, later, more) steps 200000 in
-      (sym later.2 ∙ ap unit_tokens (subst IsOne (sym (one_division (Simple shape later.0) v (are.0, later.1) g tokens)) one_v))
+      (sym later.2 ∙ ap unit_tokens (subst IsOneUnit (sym (one_division (Simple shape later.0) v (are.0, later.1) g tokens)) one_v))
   by_unit (Block begin inner end rest) are one same =
       let tokens : unit_tokens (Block begin inner end later.0) ≡ unit_tokens v = grind (arith, common_steps, append_assoc, later, more) steps 200000 in
-      (sym later.2 ∙ ap unit_tokens (subst IsOne (sym (one_division (Block begin inner end later.0) v (are.0, are.1, are.2, later.1) g tokens)) one_v))
+      (sym later.2 ∙ ap unit_tokens (subst IsOneUnit (sym (one_division (Block begin inner end later.0) v (are.0, are.1, are.2, later.1) g tokens)) one_v))
 
 end_within : (text : List ℕ) (at : ℕ) (ws : List Word) → Lying text at ws → end_of_words ws ≤ length text
 end_within text at [] h = omega arith
@@ -265,29 +275,29 @@ no_words_left text (w ∷ us) e = absurd cc
 -- a piece is no longer than another that begins with it, if that is not followed by white space
 no_longer : (p zs rest : List ℕ) → IsPiece p → IsPiece (p ++ zs) → BeginsSolid (zs ++ rest) → zs ≡ []
 no_longer p [] rest f g solid = refl
-no_longer p (z ∷ zs) rest f g solid = absurd (false≢true (sym solid ∙ passes_at (drop (end_of_words f.words) p) zs z
-    (subst (λ (bs : List ℕ). AllPass is_white bs) (ap (λ (ws : List Word). drop (end_of_words ws) (p ++ z ∷ zs)) same ∙ drop-append-le (end_of_words f.words) p
-    (z ∷ zs) (end_within p 0 f.words (grind (arith, common_steps, words_lie) steps 200000))) g.white))) where
-      more : (us : List Word) × (g.words ≡ f.words ++ us)
-      more = more_found (runs p) (map (shift_run (length p)) (runs (z ∷ zs))) f.words g.words f.has_words.words_are (subst (λ (rs : List Run). AreWords rs g.words) (runs_joined p (z ∷ zs) f.ends) g.has_words.words_are)
+no_longer p (z ∷ zs) rest f g solid = absurd (false≢true (sym solid ∙ passes_at (drop (end_of_words f.unit.words) p) zs z
+    (subst (λ (bs : List ℕ). AllPass is_white bs) (ap (λ (ws : List Word). drop (end_of_words ws) (p ++ z ∷ zs)) same ∙ drop-append-le (end_of_words f.unit.words) p
+    (z ∷ zs) (end_within p 0 f.unit.words (grind (arith, common_steps, words_lie) steps 200000))) g.white))) where
+      more : (us : List Word) × (g.unit.words ≡ f.unit.words ++ us)
+      more = more_found (runs p) (map (shift_run (length p)) (runs (z ∷ zs))) f.unit.words g.unit.words f.unit.has_words.words_are (subst (λ (rs : List Run). AreWords rs g.unit.words) (runs_joined p (z ∷ zs) f.unit.ends) g.unit.has_words.words_are)
 
-      same : g.words ≡ f.words
-      same = more.1 ∙ ap (λ (us : List Word). f.words ++ us) (no_words_left (p ++ z ∷ zs) more.0 (one_piece_more f.units g.units
-          (tokens_of (p ++ z ∷ zs) more.0) f.are_units g.are_units f.one g.one (ap (λ (ts : List Token). ts ++ tokens_of (p ++ z ∷ zs) more.0) (f.spells
-          ∙ sym (tokens-front p (z ∷ zs) f.words 0 (grind (arith, common_steps, words_lie) steps 200000)))
-          ∙ sym (map-append (token_of (p ++ z ∷ zs)) f.words more.0) ∙ ap (tokens_of (p ++ z ∷ zs)) (sym more.1) ∙ sym g.spells))) ∙ append-nil f.words
+      same : g.unit.words ≡ f.unit.words
+      same = more.1 ∙ ap (λ (us : List Word). f.unit.words ++ us) (no_words_left (p ++ z ∷ zs) more.0 (one_piece_more f.unit.units g.unit.units
+          (tokens_of (p ++ z ∷ zs) more.0) f.unit.are_units g.unit.are_units f.unit.one g.unit.one (ap (λ (ts : List Token). ts ++ tokens_of (p ++ z ∷ zs) more.0) (f.unit.spells
+          ∙ sym (tokens-front p (z ∷ zs) f.unit.words 0 (grind (arith, common_steps, words_lie) steps 200000)))
+          ∙ sym (map-append (token_of (p ++ z ∷ zs)) f.unit.words more.0) ∙ ap (tokens_of (p ++ z ∷ zs)) (sym more.1) ∙ sym g.unit.spells))) ∙ append-nil f.unit.words
 
 -- a text with a unit has words
 piece_no_tail : (piece rest tail : List ℕ) (found : List Word) → IsPiece piece → HasWords rest found → HasWords tail [] → tail ≡ piece ++ rest → ⊥
-piece_no_tail piece rest tail found f g h is = by_units f.units f.one (f.spells ∙ ap (tokens_of piece) (empty f.words (map (shift_word (length piece)) found)
-    (same_words (runs tail) [] (f.words ++ map (shift_word (length piece)) found) h.words_are
-    (subst (λ (bs : List ℕ). AreWords (runs bs) (f.words ++ map (shift_word (length piece)) found)) (sym is) (join_words piece rest f.words found f.ends
-    f.has_words g).words_are)))) where
+piece_no_tail piece rest tail found f g h is = by_units f.unit.units f.unit.one (f.unit.spells ∙ ap (tokens_of piece) (empty f.unit.words (map (shift_word (length piece)) found)
+    (same_words (runs tail) [] (f.unit.words ++ map (shift_word (length piece)) found) h.words_are
+    (subst (λ (bs : List ℕ). AreWords (runs bs) (f.unit.words ++ map (shift_word (length piece)) found)) (sym is) (join_words piece rest f.unit.words found f.unit.ends
+    f.unit.has_words g).words_are)))) where
       empty : (ws vs : List Word) → [] ≡ ws ++ vs → ws ≡ []
       empty [] vs e = refl
       empty (w ∷ ws) vs e = absurd cc
 
-      by_units : (u : Units) → IsOne u → unit_tokens u ≡ [] → ⊥
+      by_units : (u : Units) → IsOneUnit u → unit_tokens u ≡ [] → ⊥
       by_units p0 p1 p2 = grind (arith, common_steps) steps 200000
 
 same_pieces : (ps qs : List (List ℕ)) (s t : List ℕ) → concat ps ++ s ≡ concat qs ++ t → ArePieces ps s → ArePieces qs t → (ps ≡ qs) × (s ≡ t)
@@ -312,27 +322,27 @@ one_cut text ps qs s t f g = same_pieces ps qs s t (f.joined ∙ sym g.joined) f
 -- ---- a cut with one piece
 
 -- a piece, and after it bytes without a word: the same words
-tokens_front : (piece tail : List ℕ) (h : IsPiece piece) → tokens_of (piece ++ tail) h.words ≡ tokens_of piece h.words
-tokens_front piece tail h = tokens-front piece tail h.words 0 (words_lie piece h.words h.has_words)
+tokens_front : (piece tail : List ℕ) (h : IsPiece piece) → tokens_of (piece ++ tail) h.unit.words ≡ tokens_of piece h.unit.words
+tokens_front piece tail h = tokens-front piece tail h.unit.words 0 (words_lie piece h.unit.words h.unit.has_words)
 
-holds_front : (piece tail : List ℕ) → IsPiece piece → HasWords tail [] → ends_white (piece ++ tail) ≡ true → HoldsOne (piece ++ tail)
+holds_front : (piece tail : List ℕ) → IsPiece piece → HasWords tail [] → ends_white (piece ++ tail) ≡ true → HoldsOneUnit (piece ++ tail)
 holds_front piece tail h none ends =
-    grind (arith, common_steps, tokens_front piece tail h, append-nil h.words, join_words piece tail h.words [] h.ends h.has_words none) steps 200000
+    grind (arith, common_steps, tokens_front piece tail h, append-nil h.unit.words, join_words piece tail h.unit.words [] h.unit.ends h.unit.has_words none) steps 200000
 
 module _ (text piece tail : List ℕ) (h : IsCut text (piece ∷ []) tail) where
   joined : piece ++ tail ≡ ended text
   joined = ap (λ (bs : List ℕ). bs ++ tail) (sym (append-nil piece)) ∙ h.joined
 
-  pub one_unit_of_cut : HoldsOne (ended text)
-  one_unit_of_cut = subst HoldsOne joined (holds_front piece tail h.are_pieces.0 h.are_pieces.2 (subst (λ (bs : List ℕ). ends_white bs ≡ true) (sym joined)
+  pub one_unit_of_cut : HoldsOneUnit (ended text)
+  one_unit_of_cut = subst HoldsOneUnit joined (holds_front piece tail h.are_pieces.0 h.are_pieces.2 (subst (λ (bs : List ℕ). ends_white bs ≡ true) (sym joined)
       (grind (arith, common_steps, cases_Bool (ends_white text), ends_behind text [] 10, feed_white) steps 200000)))
 
   pub units_of_cut : (units : Units) → HasUnits (ended text) units → HasUnits piece units
   units_of_cut units has =
       let whole : HasUnits (piece ++ tail) units = subst (λ (bs : List ℕ). HasUnits bs units) (sym joined) has in
       let own : IsPiece piece = h.are_pieces.0 in
-      let words : HasWords (piece ++ tail) own.words =
-      grind (arith, common_steps, join_words piece tail own.words [] own.ends own.has_words h.are_pieces.2) steps 200000 in
-      let same : whole.words ≡ own.words = one_words (piece ++ tail) whole.words own.words whole.has_words words in
+      let words : HasWords (piece ++ tail) own.unit.words =
+      grind (arith, common_steps, join_words piece tail own.unit.words [] own.unit.ends own.unit.has_words h.are_pieces.2) steps 200000 in
+      let same : whole.words ≡ own.unit.words = one_words (piece ++ tail) whole.words own.unit.words whole.has_words words in
       let spells = whole.spells ∙ ap (tokens_of (piece ++ tail)) same ∙ tokens_front piece tail own in
-      record { words = own.words; has_words = own.has_words; are_units = whole.are_units; spells = spells }
+      record { words = own.unit.words; has_words = own.unit.has_words; are_units = whole.are_units; spells = spells }

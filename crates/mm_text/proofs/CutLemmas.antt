@@ -193,8 +193,8 @@ module _ (text : List ℕ) (pieces : List (List ℕ)) (from at : ℕ) (phase : m
     pub word_lies : (from ≤ word.start) × LiesIn text word
     word_lies = let all : Standing text from (runs_at text from) = runs_stand text (take from text) (drop from text) from (runs_at text from)
         (sym (take-append-drop from text)) (sym (length-take-le from text h.within)) (laid_out from (drop from text)) in
-        lying_last text from h.part word (subst (Lying text from) reads_more.singles (parts_lie text from reads_more.parts reads_more.reading.each
-        (subst (Standing text from) (sym reads_more.reading.joined) (standing_front text from more_runs (runs_at text to)
+        lying_last text from h.part word (subst (Lying text from) reads_more.singles (parts_lie text from reads_more.parts reads_more.each
+        (subst (Standing text from) (sym reads_more.joined) (standing_front text from more_runs (runs_at text to)
         (subst (Standing text from) at_next all)))))
 
     tokens_next : tokens_of text (h.before ++ h.part) ++ token_of text word ∷ [] ≡ tokens_of text (h.before ++ more_words)

@@ -1,7 +1,7 @@
 -- The computed runs are the runs of the layout, and no others are.
 use Rattle.std.proofs.lemmas.{Grind.{common_steps}, Bool.{cases_Bool, false≢true}}
 use Rattle.std.{proofs.Common.{◌≡◌, ℕ, ◌+◌, ◌<◌, true, false, List, [], ◌∷◌, ◌++◌, length, refl, sym, ap, ◌∙◌, arith, inl, inr, append-nil}, specs.List.{AllByRecursion}}
-use Rattle.mm_text.specs.Language.{Run.{Run, is_white, ends_run, with_front, runs_from}, Layout.{IsGap, IsLaidOut}}
+use Rattle.mm_text.specs.Language.{Run.{Run, is_white, ends_run, with_first_byte, runs_from}, Layout.{IsGap, IsLaidOut}}
 
 gap_more : (at b : ℕ) (bytes : List ℕ) (runs : List Run) → is_white b ≡ true → IsLaidOut (at + 1) bytes runs → IsLaidOut at (b ∷ bytes) runs
 gap_more at b bytes [] white h = (white, h)
@@ -18,11 +18,11 @@ gap_more at b bytes (run ∷ runs) white h = record {
 }
 
 -- a run goes on in front
-run_more : (at b : ℕ) (bytes : List ℕ) (runs : List Run) → is_white b ≡ false → ends_run bytes ≡ false → IsLaidOut (at + 1) bytes runs → IsLaidOut at (b ∷ bytes) (with_front at b runs)
+run_more : (at b : ℕ) (bytes : List ℕ) (runs : List Run) → is_white b ≡ false → ends_run bytes ≡ false → IsLaidOut (at + 1) bytes runs → IsLaidOut at (b ∷ bytes) (with_first_byte at b runs)
 run_more at b [] runs solid on h = absurd cc
 run_more at b (c ∷ bytes) [] solid on h = absurd (false≢true (sym on ∙ h.0))
 run_more at b (c ∷ bytes) (run ∷ runs) solid on h = by_gap h.gap h.white h.joined h.place where
-  by_gap : (gap : List ℕ) → IsGap gap → c ∷ bytes ≡ gap ++ (run.bytes ++ h.later) → run.start ≡ at + 1 + length gap → IsLaidOut at (b ∷ c ∷ bytes) (with_front at b (run ∷ runs))
+  by_gap : (gap : List ℕ) → IsGap gap → c ∷ bytes ≡ gap ++ (run.bytes ++ h.later) → run.start ≡ at + 1 + length gap → IsLaidOut at (b ∷ c ∷ bytes) (with_first_byte at b (run ∷ runs))
   by_gap (g ∷ gap) white joined place = absurd (let same : c ≡ g = cc in false≢true (sym on ∙ ap is_white same ∙ white.0))
   by_gap [] white joined place = grind (arith, common_steps) steps 200000
 
@@ -41,7 +41,7 @@ gap_skip at (b ∷ gap) rest h = let same : at + 1 + length gap ≡ at + length 
 made : ℕ → List ℕ → Run
 made at bytes = record { start = at; bytes = bytes }
 
-pub front_step : (at b : ℕ) (bytes : List ℕ) → is_white b ≡ false → ends_run bytes ≡ false → runs_from at (b ∷ bytes) ≡ with_front at b (runs_from (at + 1) bytes)
+pub front_step : (at b : ℕ) (bytes : List ℕ) → is_white b ≡ false → ends_run bytes ≡ false → runs_from at (b ∷ bytes) ≡ with_first_byte at b (runs_from (at + 1) bytes)
 front_step at b bytes solid on = rw (solid, on) refl
 
 run_take : (at b : ℕ) (bytes later : List ℕ) → is_white b ≡ false → AllByRecursion (λ b. is_white b ≡ false) bytes → ends_run later ≡ true → runs_from at (b ∷ (bytes ++ later)) ≡ made at (b ∷ bytes) ∷ runs_from (at + length (b ∷ bytes)) later

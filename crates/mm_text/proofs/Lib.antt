@@ -27,3 +27,4 @@ pub mod PartWalkLemmas
 pub mod CutPartLemmas
 pub mod OwnWordLemmas
 pub mod ExampleLemmas
+pub mod StretchLemmas

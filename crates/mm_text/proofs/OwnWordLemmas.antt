@@ -85,7 +85,7 @@ own_alone text first more own has are =
 
 -- ---- a statement that is alone in its text
 
-last_end : (text : List ℕ) (front : List Token) (last : Token) (words : List Word) (at : ℕ) → Lying text at words → front ++ last ∷ [] ≡ tokens_of text words → token_end last ≡ end_of_words words
+pub last_end : (text : List ℕ) (front : List Token) (last : Token) (words : List Word) (at : ℕ) → Lying text at words → front ++ last ∷ [] ≡ tokens_of text words → token_end last ≡ end_of_words words
 last_end text front last [] at lie e = absurd (omega (arith, ap length e, length-append front (last ∷ [])))
 last_end text [] last (word ∷ []) at lie e = grind (arith, common_steps, slice_length) steps 200000
 last_end text [] last (word ∷ next ∷ words) at lie e = absurd (omega (arith, ap length e))

@@ -3,7 +3,7 @@ use Rattle.std.proofs.Common.{[], ◌≡◌, ◌⊎◌, ℕ, ◌-◌, ◌+◌, �
 use Rattle.std.proofs.{Common.{inl, inr, arith, slice_range, unwrap_or}, lemmas.{Grind.{common_steps}, List.{append-nil, take-append-drop, append_cancel_right, drop-drop, length-append, length-map}}}
 use Rattle.std.{proofs.{lemmas.List.Elements.{All-nil, All-cons, All-append}, Math.Bool.{or-true}}, specs.List.{AllByRecursion}}
 use Rattle.mm_text.specs.declared.{part.{Part.{Part}, PartKind.{PartKind}}, word.{Word.{Word}, WordKind.{WordKind}}}
-use Rattle.mm_text.specs.declared.{word.Keyword.TheVariants.{Constants, Variables, Disjoint, Floating, Essential, Axiom, Theorem, StatementEnd}, fault.TextNumber.{TextNumber}}
+use Rattle.mm_text.specs.declared.{word.Keyword.TheVariants.{Constants, Variables, Disjoint, Floating, Essential, Axiom, StatementEnd}, fault.TextNumber.{TextNumber}}
 use Rattle.mm_text.specs.Language.{Run.{Run, runs, runs_from, ends_run}, Reading.{first_bad, AreWords, HasWords}}
 use Rattle.mm_text.specs.Language.Unit.{Token, token_of, tokens_of, IsKeyword, IsPlain, Shape, Declaration, Labelled, Provable, Inclusion, shape_tokens, IsShape, Units, Nothing, Simple, Block}
 use Rattle.mm_text.specs.Language.{Unit.{unit_tokens, AreUnits}, Cut.{ArePieces}, Part.{HasUnits, token_end, word_part, shape_part, parts_of, IsReadable}}

@@ -1,7 +1,7 @@
 -- Reading is local: what a part of a text holds, that ends in white space.
 use Rattle.std.proofs.Common.{[], ◌≡◌, ℕ, suc, ◌+◌, ◌-◌, Bool, true, false, ◌||◌, List, ◌∷◌, ◌++◌, map, length, Option, Some, None, Ok, Err, refl, sym, ap, ◌∙◌, inl, inr, arith, append-nil, slice_get}
 use Rattle.std.{proofs.{Common.{if◌then◌else◌}, lemmas.{Grind.{common_steps}, Bool.{cases_Bool}}}, specs.Str.{bytes_eq}}
-use Rattle.mm_text.specs.{declared.{word.{Word.{Word}, WordKind.{WordKind}}, fault.TextFault.{TextFault}}, Language.{Run.{Run, runs_from, is_white, ends_run, with_front}, Spelling.{closing}}}
+use Rattle.mm_text.specs.{declared.{word.{Word.{Word}, WordKind.{WordKind}}, fault.TextFault.{TextFault}}, Language.{Run.{Run, runs_from, is_white, ends_run, with_first_byte}, Spelling.{closing}}}
 use Rattle.mm_text.{specs.{Language.{Reading.{AreWords}, Cut.{ends_white, ended}}, Code.LeftToRight.{Read, read_runs, word_alone, holds_mark}}, proofs.LayoutLemmas.{front_step}}
 use Rattle.mm_text.proofs.{ReadLemmas.{inside_end, inside_mark, inside_more, outside_open, outside_close, outside_word}, ReadingLemmas.{read_words, words_from_read, is_from, not_from}}
 
@@ -25,10 +25,10 @@ some_run at b [] solid = (made at (b ∷ []), [], alone_step at b [] solid refl)
 some_run at b (c ∷ bytes) solid =
     elim (cases_Bool (is_white c)) [
       | inl white ↦ (made at (b ∷ []), runs_from (at + 1) (c ∷ bytes), alone_step at b (c ∷ bytes) solid white)
-      | inr on ↦ let more = some_run (at + 1) c bytes on in (record { start = at; bytes = b ∷ more.0.bytes }, more.1, front_step at b (c ∷ bytes) solid on ∙ ap (with_front at b) more.2)
+      | inr on ↦ let more = some_run (at + 1) c bytes on in (record { start = at; bytes = b ∷ more.0.bytes }, more.1, front_step at b (c ∷ bytes) solid on ∙ ap (with_first_byte at b) more.2)
     ]
 
-front_there : (at c : ℕ) (a : List ℕ) (ss : List Run) → ends_run a ≡ false → with_front at c (runs_from (at + 1) a ++ ss) ≡ with_front at c (runs_from (at + 1) a) ++ ss
+front_there : (at c : ℕ) (a : List ℕ) (ss : List Run) → ends_run a ≡ false → with_first_byte at c (runs_from (at + 1) a ++ ss) ≡ with_first_byte at c (runs_from (at + 1) a) ++ ss
 front_there at c [] ss on = absurd cc
 front_there at c (d ∷ a) ss on = let some = some_run (at + 1) d a on in grind (arith, common_steps) steps 200000
 
@@ -45,7 +45,7 @@ shift_run k run = record { start = k + run.start; bytes = run.bytes }
 abbrev pub shift_word : ℕ → Word → Word
 shift_word k word = record { kind = word.kind; start = k + word.start; end = k + word.end }
 
-front-shift : (k at b : ℕ) (rs : List Run) → with_front (k + at) b (map (shift_run k) rs) ≡ map (shift_run k) (with_front at b rs)
+front-shift : (k at b : ℕ) (rs : List Run) → with_first_byte (k + at) b (map (shift_run k) rs) ≡ map (shift_run k) (with_first_byte at b rs)
 front-shift k at b rs = grind (arith, common_steps) steps 200000
 
 pub runs-shift : (k at : ℕ) (bytes : List ℕ) → runs_from (k + at) bytes ≡ map (shift_run k) (runs_from at bytes)

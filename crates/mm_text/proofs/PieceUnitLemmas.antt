@@ -5,7 +5,7 @@ use Rattle.std.proofs.lemmas.List.{append-nil, take-append-drop, append_cancel_r
 use Rattle.std.proofs.lemmas.List.{Elements.{All-append, All-take, All-drop, All-nil, All-cons}, Quantifiers.{position-Some}, Sums.{prefix_len-le-length}}
 use Rattle.std.{proofs.Math.{Seq.{take-add, take-append_seam, drop-append_seam}, Bool.{or-true}}, specs.{Prelude.{slice_range}, List.{AllByRecursion, AllPass, prefix_len}}}
 use Rattle.mm_text.specs.{declared.word.Word.{Word}, Language.{Run.{Run, runs, runs_from, is_white, ends_run}, Reading.{is_allowed, first_bad, AreWords, HasWords}}}
-use Rattle.mm_text.specs.Language.{Unit.{Token, tokens_of, shape_tokens, Units, Nothing, Simple, Block, unit_tokens, AreUnits}, Cut.{ends_white, ended, IsOne, end_of_words, IsPiece, BeginsSolid}}
+use Rattle.mm_text.specs.Language.{Unit.{Token, tokens_of, shape_tokens, Units, Nothing, Simple, Block, unit_tokens, AreUnits}, Cut.{ends_white, ended, IsOneUnit, end_of_words, IsPiece, BeginsSolid}}
 use Rattle.mm_text.{specs.{Language.Part.{HasUnits}, Code.{LeftToRight.{read_text}, Reader.{runs_at}}}, proofs.{RunLemmas.{skip_white}, ReadingLemmas.{text_words}}}
 use Rattle.mm_text.proofs.{PositionLemmas.{Lying, words_lie, none_found}, UnitReadingLemmas.{IsWhole-run, run-IsWhole}}
 use Rattle.mm_text.proofs.PieceLemmas.{feed_white, Seam, runs-append, shift_word, runs-shift, words_unshift, line_end, ended_is, runs-ended, ended-append, ends_behind}
@@ -75,7 +75,7 @@ seam_at before (w ∷ white) rest h ends = ap (λ (b : Bool). b || ends_run rest
 slice_front : (a b : ℕ) (part rest : List ℕ) → a ≤ b → b ≤ length part → slice_range (part ++ rest) a b ≡ slice_range part a b
 slice_front a b part rest le within = grind (arith, common_steps) steps 200000
 
-slice_part : (text part rest : List ℕ) (from a b : ℕ) → drop from text ≡ part ++ rest → a ≤ b → b ≤ length part → slice_range text (from + a) (from + b) ≡ slice_range part a b
+pub slice_part : (text part rest : List ℕ) (from a b : ℕ) → drop from text ≡ part ++ rest → a ≤ b → b ≤ length part → slice_range text (from + a) (from + b) ≡ slice_range part a b
 slice_part text part rest from a b joined le within = grind (arith, common_steps, drop-drop a from text, slice_front a b part rest le within) steps 200000
 
 -- a word without its place
@@ -134,7 +134,7 @@ no_later front later one some whole more = grind (arith, common_steps, length-ap
 later_none : (front : List Token) (later : Units) → HasOne (front ++ unit_tokens later) → 0 < length front → WholeRun front → later ≡ Nothing
 later_none front later one some whole = grind (arith, elements, no_later, units_some) steps 200000
 
-is_one : (tokens : List Token) (units : Units) → AreUnits true units → unit_tokens units ≡ tokens → 0 < length tokens → HasOne tokens → IsOne units
+is_one : (tokens : List Token) (units : Units) → AreUnits true units → unit_tokens units ≡ tokens → 0 < length tokens → HasOne tokens → IsOneUnit units
 is_one tokens Nothing h e some one = let none : length tokens ≡ 0 = ap length (sym e) in omega arith
 is_one tokens (Simple shape later) h e some one = later_none (shape_tokens shape) later (subst HasOne (sym e) one) (grind (arith, common_steps) steps 200000)
     (IsWhole-run (shape_tokens shape) (Simple shape Nothing, (h.0, tt), append-nil (shape_tokens shape)))
@@ -240,15 +240,17 @@ module _ (text : List ℕ) (from to : ℕ) (since : List Run) (part : List Word)
 
   pub piece_is : WholeRun (tokens_of text (part ++ word ∷ [])) → HasOne (tokens_of text (part ++ word ∷ [])) → IsPiece (ended piece_bytes)
   piece_is whole one = record {
-    words = piece_words.0;
-    units = units.0;
-    has_words = has_ended;
-    are_units = units.1;
-    spells = units.2;
-    one = is_one (tokens_of (ended piece_bytes) piece_words.0) units.0 units.1 units.2
-        (grind (arith, common_steps, length-append, length-map, long) steps 200000) has_one;
+    unit = record {
+      words = piece_words.0;
+      units = units.0;
+      has_words = has_ended;
+      are_units = units.1;
+      spells = units.2;
+      one = is_one (tokens_of (ended piece_bytes) piece_words.0) units.0 units.1 units.2
+          (grind (arith, common_steps, length-append, length-map, long) steps 200000) has_one;
+      ends = grind (arith, common_steps, cases_Bool (ends_white piece_bytes), ends_behind piece_bytes [] 10, feed_white) steps 200000;
+    };
     white = white_behind;
-    ends = grind (arith, common_steps, cases_Bool (ends_white piece_bytes), ends_behind piece_bytes [] 10, feed_white) steps 200000;
   } where
     units : (units : Units) × AreUnits true units × (unit_tokens units ≡ tokens_of (ended piece_bytes) piece_words.0)
     units = run-IsWhole (tokens_of (ended piece_bytes) piece_words.0) (grind (arith, common_steps, piece_words, run_bare, same_tokens) steps 200000)

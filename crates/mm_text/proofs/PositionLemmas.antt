@@ -146,7 +146,7 @@ token_begins text at words n token h there = subst (λ (t : Token). t.start < le
 unit_stop_lies : (text : List ℕ) (number : TextNumber) (at : ℕ) → StopsUnits text number at → at < length text
 unit_stop_lies text number at h =
     let front = standing_front text 0 h.front h.rest (subst (Standing text 0) h.joined (text_stands text)) in
-    let parts = parts_lie text 0 h.read.parts h.read.reading.each (subst (Standing text 0) (sym h.read.reading.joined) front) in
+    let parts = parts_lie text 0 h.read.parts h.read.each (subst (Standing text 0) (sym h.read.joined) front) in
     let lying : Lying text 0 h.found = subst (Lying text 0) h.read.singles parts in
     grind (arith, common_steps, token_begins text 0 h.found h.word h.stop.token lying h.stop.there) steps 200000
 

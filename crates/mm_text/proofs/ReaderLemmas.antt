@@ -1,12 +1,12 @@
 -- What the steps of a reader read, and the faults that they meet.
 use Rattle.std.proofs.Common.{[], ◌≡◌, ◌≢◌, ℕ, ◌+◌, ◌-◌, ◌<◌, ◌≤◌, List, ◌∷◌, ◌++◌, append_assoc, length, take, drop, slice_range, Option, Some, None, Err, refl, sym, ap, ◌∙◌, subst, arith}
 use Rattle.std.{proofs.{Common.{append-nil, length-take-le, length-drop}, lemmas.Grind.{common_steps}}, specs.List.{prefix_len}}
-use Rattle.mm_text.proofs.ReadingLemmas.{read_behind, open_read, placed, none_read, InComment, Behind, word_step, read_whole, stops, is_whole, goes_on, is_open, not_whole, stop_fault}
+use Rattle.mm_text.proofs.ReadingLemmas.{read_behind, placed, none_read, Behind, in_comment, word_step, read_whole, stops, goes_on, not_whole, stop_fault}
 use Rattle.mm_text.proofs.{KindLemmas.{kind_spelled, spelled_kind, no_kind, stands_mark}, RunLemmas.{front_is, takes_run}, ReadLemmas.{inside_mark, outside_close, outside_word}}
 use Rattle.mm_text.specs.{declared.{reader.Span.{Span}, word.{Word.{Word}, WordKind.{WordKind}}, fault.TextNumber.{TextNumber, TheVariants.{T02, T03, T04, T05}}}, Language.Run.{Run, runs, is_solid}}
-use Rattle.mm_text.specs.Language.{Spelling.{HoldsMark, opening, closing}, Reading.{HoldNoMarks, AreWords, EndsOpen, first_bad}, Cut.{EndsInComment, HoldWords, StopsWords, IsFirstFaultAt}}
-use Rattle.mm_text.specs.{Language.Unit.{tokens_of, IsViable}, Code.LeftToRight.{read_runs, cons_word, word_kind, words_fault_at}}
-use Rattle.mm_text.specs.Code.Reader.{runs_at, run_of, TakesSpan, SkipsComment, FailsInside, TakesWord, IsRunRefused, MeetsRun, FailsBehind}
+use Rattle.mm_text.specs.Language.{Spelling.{HoldsMark, opening, closing}, Reading.{AreWords, EndsInComment, EndsOpen, first_bad}, Cut.{StopsWords, IsFirstFaultAt}, Unit.{tokens_of, IsViable}}
+use Rattle.mm_text.specs.Code.LeftToRight.{read_runs, cons_word, word_kind, words_fault_at}
+use Rattle.mm_text.specs.Code.Reader.{runs_at, run_of, TakesSpan, SkipsComment, FailsInside, TakesWord, IsRunRefused, MeetsRun, FailsBehind, HoldNoMarks, HoldWords}
 use Rattle.mm_text.specs.Language.Reading as words
 
 -- ---- readings side by side
@@ -89,7 +89,8 @@ module _ (text : List ℕ) (from at : ℕ) (span : Span) (to : ℕ) (h : Passing
     joined = grind (arith, common_steps, append_assoc, there) steps 200000;
     reads = words-append h.seen (run_of text span ∷ (skips.inside ++ skips.last ∷ [])) [] [] h.reads (record {
       parts = words.Comment (run_of text span) skips.inside skips.last ∷ [];
-      reading = record { each = (record { opened = opens; no_marks = skips.no_marks; closed = skips.closed }, tt); joined = append-nil (run_of text span ∷ (skips.inside ++ skips.last ∷ [])) };
+      each = (record { opened = opens; no_marks = skips.no_marks; closed = skips.closed }, tt);
+      joined = append-nil (run_of text span ∷ (skips.inside ++ skips.last ∷ []));
       singles = refl;
     });
   }
@@ -121,9 +122,6 @@ word_read text from word to h =
 
 -- ---- faults
 
-pub in_comment : (runs : List Run) (found : List Word) (h : EndsInComment runs found) → InComment h.first.start runs found
-in_comment runs found h = record { front = h.front; first = h.first; inside = h.inside; joined = h.joined; before = h.before; begins = refl; opened = h.opened; no_marks = h.no_marks }
-
 -- the state of the reading before a run that is refused
 record Refusal (number : TextNumber) (front : List Run) (found : List Word) (run : Run) : Type 0 where
   state : Option ℕ
@@ -132,15 +130,14 @@ record Refusal (number : TextNumber) (front : List Run) (found : List Word) (run
   is_number : words.IsRunNumber number front run
 
 refusal : (number : TextNumber) (front : List Run) (found : List Word) (run : Run) → IsRunRefused number front found run → Refusal number front found run
-unfolding in_comment
 refusal T03 front found run h = record {
   state = Some h.0.first.start;
   behind = in_comment front found h.0;
   fails = λ tail. inside_mark h.0.first.start run tail h.2 (stands_mark run.bytes h.1);
-  is_number = (h.0.first, is_open h.0.first.start front found (in_comment front found h.0), h.1, h.2);
+  is_number = (found, h.0, h.1, h.2);
 }
-refusal T04 front found run h = record { state = None; behind = h.0; fails = λ tail. outside_close run tail h.1; is_number = (is_whole front found h.0, h.1) }
-refusal T05 front found run h = grind (arith, common_steps, is_whole front found h.0, no_kind run.bytes h.3, outside_word, spelled_kind) steps 200000
+refusal T04 front found run h = record { state = None; behind = h.0; fails = λ tail. outside_close run tail h.1; is_number = (found, h.0, h.1) }
+refusal T05 front found run h = grind (arith, common_steps, no_kind run.bytes h.3, outside_word, spelled_kind) steps 200000
 refusal _ front found run h = absurd h
 
 abbrev stop_of : (runs : List Run) (found : List Word) (number : TextNumber) (at : ℕ) → MeetsRun runs found number at → words.StopsAtRun runs number at
@@ -155,20 +152,17 @@ stop_of runs found number at h = record {
   is_number = (refusal number h.front found h.run h.refused).is_number;
 }
 
-ends_open : (runs : List Run) (found : List Word) (at : ℕ) (h : EndsInComment runs found) → at ≡ h.first.start → EndsOpen runs at
-unfolding in_comment
+pub ends_open : (runs : List Run) (found : List Word) (at : ℕ) (h : EndsInComment runs found) → at ≡ h.first.start → EndsOpen runs at
 ends_open runs found at h place = record {
-  first = h.first;
-  open_comment = is_open h.first.start runs found (in_comment runs found h);
+  found = found;
+  comment = h;
   place = place;
   goes_on = goes_on (Some h.first.start) runs found (in_comment runs found h);
   not_whole = not_whole h.first.start runs found (in_comment runs found h);
 }
 
 pub fails_read : (runs : List Run) (found : List Word) (number : TextNumber) (at : ℕ) → FailsBehind runs found number at → read_runs None runs ≡ Err (words_fault_at number at)
-fails_read runs found T02 at h = let inside = open_read runs (ends_open runs found at h.0 h.1).first (ends_open runs found at h.0 h.1).open_comment in
-    placed T02 runs (ends_open runs found at h.0 h.1).first.start at (ends_open runs found at h.0 h.1).place (ap (read_runs None) (sym (append-nil runs))
-    ∙ read_behind (Some (ends_open runs found at h.0 h.1).first.start) runs inside.0 inside.1 [])
+fails_read runs found T02 at h = placed T02 runs h.0.first.start at h.1 (ap (read_runs None) (sym (append-nil runs)) ∙ read_behind (Some h.0.first.start) runs found (in_comment runs found h.0) [])
 fails_read runs found number at h = stop_fault number runs at (stop_of runs found number at h)
 
 pub fails_more : (a b : List Run) (ws vs : List Word) (number : TextNumber) (at : ℕ) → AreWords a ws → FailsBehind b vs number at → FailsBehind (a ++ b) (ws ++ vs) number at
@@ -196,7 +190,7 @@ stops_words text found number at viable h = record { stop = stop_of (runs text) 
 
 -- a fault of words that is met after words with which units go on
 pub first_of_words : (text : List ℕ) (found : List Word) (number : TextNumber) (at : ℕ) → first_bad text ≡ None → IsViable (tokens_of text found) → FailsBehind (runs text) found number at → IsFirstFaultAt text number at
-first_of_words text found T02 at allowed viable h = (allowed, record { ends = ends_open (runs text) found at h.0 h.1; found = found; read = h.0; viable = viable })
+first_of_words text found T02 at allowed viable h = (allowed, record { found = found; read = h.0; place = h.1; viable = viable })
 first_of_words text found T03 at allowed viable h = (allowed, stops_words text found T03 at viable h)
 first_of_words text found T04 at allowed viable h = (allowed, stops_words text found T04 at viable h)
 first_of_words text found T05 at allowed viable h = (allowed, stops_words text found T05 at viable h)

@@ -3,9 +3,9 @@ use Rattle.std.proofs.Common.{[], arith, ◌≡◌, ◌≢◌, ℕ, true, false,
 use Rattle.std.{proofs.lemmas.{Grind.{common_steps}, Bool.{cases_Bool, false≢true}, Slice.Eq.{bytes_eq-Decides}}, specs.{List.{flat_map, AllByRecursion}, Str.{bytes_eq}}}
 use Rattle.mm_text.specs.{declared.{word.{Word.{Word}, WordKind.{WordKind}}, fault.{TextFault.{TextFault}, TextNumber.{TextNumber, TheVariants.{T01, T02, T03, T04, T05}}}}, Language.Run.{Run, runs}}
 use Rattle.mm_text.specs.Language.Spelling.{IsWord, IsSpelled, HoldsMark, opening, closing}
-use Rattle.mm_text.specs.Language.Reading.{Segment, Single, Comment, segment_runs, segment_words, HoldNoMarks, IsSegment, IsReading, AreWords, HaveReading, AreViableRuns, IsOpen, IsRunNumber}
-use Rattle.mm_text.specs.Language.Reading.{StopsAtRun, IsRunFault, first_bad, HasWords, IsWordsFault, IsWordsFaultAt}
-use Rattle.mm_text.specs.Code.LeftToRight.{Read, read_runs, word_kind, word_alone, word_at, words_fault_at, cons_word, with_words, holds_mark, checked, read_text}
+use Rattle.mm_text.specs.Language.Reading.{Segment, Single, Comment, segment_runs, segment_words, IsSegment, AreWords, AreViableRuns, EndsInComment, EndsOpen, IsRunNumber, StopsAtRun, IsRunFault}
+use Rattle.mm_text.specs.Language.Reading.{first_bad, HasWords, IsWordsFault, IsWordsFaultAt}
+use Rattle.mm_text.specs.Code.{LeftToRight.{Read, read_runs, word_kind, word_alone, word_at, words_fault_at, cons_word, with_words, holds_mark, checked, read_text}, Reader.{HoldNoMarks}}
 use Rattle.mm_text.proofs.{KindLemmas.{kind_spelled, spelled_kind, no_kind, mark_stands, stands_mark}, ReadLemmas.{inside_end, inside_mark, inside_more, outside_open, outside_close, outside_word}}
 
 pub all_append : {X : Type 0} (P : X → Type 0) (xs ys : List X) → AllByRecursion P xs → AllByRecursion P ys → AllByRecursion P (xs ++ ys)
@@ -30,7 +30,7 @@ Behind None seen words = AreWords seen words
 Behind (Some start) seen words = InComment start seen words
 
 pub with_part : (seen : List Run) (words : List Word) (part : Segment) → AreWords seen words → IsSegment part → AreWords (seen ++ segment_runs part) (words ++ segment_words part)
-with_part seen words part h is = grind (arith, common_steps, all_append IsSegment h.parts (part ∷ []) h.reading.each (is, tt)) steps 200000
+with_part seen words part h is = grind (arith, common_steps, all_append IsSegment h.parts (part ∷ []) h.each (is, tt)) steps 200000
 
 pub word_step : (seen : List Run) (words : List Word) (run : Run) (word : Word) → AreWords seen words → IsWord run word → AreWords (seen ++ run ∷ []) (words ++ word ∷ [])
 word_step seen words run word h is = with_part seen words (Single run word) h is
@@ -63,7 +63,7 @@ read_parts (Single run word ∷ parts) each tail = (grind (arith, common_steps, 
 read_parts (Comment first inside last ∷ parts) each tail = grind (arith, common_steps, read_parts parts each.1 tail, inside_end, outside_open, read_inside) steps 200000
 
 pub read_whole : (seen : List Run) (words : List Word) → AreWords seen words → (tail : List Run) → read_runs None (seen ++ tail) ≡ with_words words (read_runs None tail)
-read_whole seen words h tail = ap (λ (rs : List Run). read_runs None (rs ++ tail)) (sym h.reading.joined) ∙ read_parts h.parts h.reading.each tail ∙ ap (λ (ws : List Word). with_words ws (read_runs None tail)) h.singles
+read_whole seen words h tail = ap (λ (rs : List Run). read_runs None (rs ++ tail)) (sym h.joined) ∙ read_parts h.parts h.each tail ∙ ap (λ (ws : List Word). with_words ws (read_runs None tail)) h.singles
 
 pub read_behind : (state : Option ℕ) (seen : List Run) (words : List Word) → Behind state seen words → (tail : List Run) → read_runs None (seen ++ tail) ≡ with_words words (read_runs state tail)
 read_behind None seen words h tail = read_whole seen words h tail
@@ -80,19 +80,12 @@ same_words runs a b f g = let e : read_runs None runs ≡ Ok a = read_words runs
 
 -- ---- where no reading goes on
 
-pub whole_words : (runs : List Run) (parts : List Segment) → IsReading runs parts → AreWords runs (flat_map segment_words parts)
-whole_words runs parts h = record { parts = parts; reading = h; singles = refl }
-
 pub stops : (state : Option ℕ) (seen : List Run) (words : List Word) (run : Run) (fault : TextFault) → Behind state seen words → ((tail : List Run) → read_runs state (run ∷ tail) ≡ Err fault) → ¬ AreViableRuns (seen ++ run ∷ [])
 stops state seen words run fault h fails goes =
-    let all : read_runs None ((seen ++ run ∷ []) ++ goes.0) ≡ Ok (flat_map segment_words goes.1.0) =
-    read_words ((seen ++ run ∷ []) ++ goes.0) (flat_map segment_words goes.1.0) (whole_words ((seen ++ run ∷ []) ++ goes.0) goes.1.0 goes.1.1) in
+    let all : read_runs None ((seen ++ run ∷ []) ++ goes.0) ≡ Ok goes.1 = read_words ((seen ++ run ∷ []) ++ goes.0) goes.1 goes.2 in
     let none : read_runs None ((seen ++ run ∷ []) ++ goes.0) ≡ Err fault = ap (read_runs None) (append_assoc seen (run ∷ []) goes.0) ∙ read_behind state seen words h (run ∷ goes.0)
     ∙ (ap (with_words words) (fails goes.0)) in
     cc
-
-pub is_whole : (seen : List Run) (words : List Word) → AreWords seen words → HaveReading seen
-is_whole seen words h = (h.parts, h.reading)
 
 pub closer : Run
 closer = record { start = 0; bytes = closing }
@@ -102,15 +95,18 @@ unfolding closer
 closer_closes = refl
 
 pub goes_on : (state : Option ℕ) (seen : List Run) (words : List Word) → Behind state seen words → AreViableRuns seen
-goes_on None seen words h = ([], subst HaveReading (sym (append-nil seen)) (is_whole seen words h))
-goes_on (Some start) seen words h = (closer ∷ [], is_whole (seen ++ closer ∷ []) words (close_step start seen words closer h closer_closes))
+goes_on None seen words h = ([], words, subst (λ (rs : List Run). AreWords rs words) (sym (append-nil seen)) h)
+goes_on (Some start) seen words h = (closer ∷ [], words, close_step start seen words closer h closer_closes)
 
-pub is_open : (start : ℕ) (seen : List Run) (words : List Word) (h : InComment start seen words) → IsOpen seen h.first
-is_open start seen words h = record { front = h.front; inside = h.inside; joined = h.joined; before = is_whole h.front words h.before; opened = h.opened; no_marks = h.no_marks }
+abbrev pub is_open : (start : ℕ) (seen : List Run) (words : List Word) → InComment start seen words → EndsInComment seen words
+is_open start seen words h = record { front = h.front; first = h.first; inside = h.inside; joined = h.joined; before = h.before; opened = h.opened; no_marks = h.no_marks }
 
-pub not_whole : (start : ℕ) (seen : List Run) (words : List Word) → InComment start seen words → ¬ HaveReading seen
-not_whole start seen words h whole =
-    grind (arith, common_steps, read_words seen (flat_map segment_words whole.0) (whole_words seen whole.0 whole.1), append-nil seen, read_behind (Some start) seen words h []) steps 200000
+abbrev pub in_comment : (runs : List Run) (found : List Word) (h : EndsInComment runs found) → InComment h.first.start runs found
+in_comment runs found h = record { front = h.front; first = h.first; inside = h.inside; joined = h.joined; before = h.before; begins = refl; opened = h.opened; no_marks = h.no_marks }
+
+pub not_whole : (start : ℕ) (seen : List Run) (words : List Word) → InComment start seen words → (others : List Word) → ¬ AreWords seen others
+not_whole start seen words h others whole =
+    grind (arith, common_steps, read_words seen others whole, append-nil seen, read_behind (Some start) seen words h []) steps 200000
 
 -- ---- what is read
 
@@ -142,7 +138,7 @@ alone_is seen words run runs None h no_open no_close is later =
     let fails : (tail : List Run) → read_runs None (run ∷ tail) ≡ Err (words_fault_at T05 run.start) = λ tail. outside_word run tail no_open no_close ∙ ap (λ (k : Option WordKind). word_alone run k (read_runs None tail)) is in
     at_fault (seen ++ run ∷ runs) words (words_fault_at T05 run.start) (read_runs None (run ∷ runs)) (fails runs)
     (stops_at None seen words run runs T05 h fails
-    (is_whole seen words h, no_kind run.bytes is, no_close, λ kind spelled. (let found : word_kind run.bytes ≡ Some kind = spelled_kind kind run.bytes spelled in cc)))
+    (words, h, no_kind run.bytes is, no_close, λ kind spelled. (let found : word_kind run.bytes ≡ Some kind = spelled_kind kind run.bytes spelled in cc)))
 
 pub not_from : (bytes part : List ℕ) → bytes_eq bytes part ≡ false → bytes ≢ part
 not_from bytes part e is = false≢true (sym e ∙ (bytes_eq-Decides bytes part).1 is)
@@ -152,7 +148,13 @@ is_from bytes part e = (bytes_eq-Decides bytes part).0 e
 
 outcome : (state : Option ℕ) (runs : List Run) (seen : List Run) (words : List Word) → Behind state seen words → Outcome (seen ++ runs) words (read_runs state runs)
 outcome None [] seen words h = subst (λ (ws : List Word). AreWords (seen ++ []) ws) (sym (append-nil words)) (subst (λ (rs : List Run). AreWords rs words) (sym (append-nil seen)) h)
-outcome (Some start) [] seen words h = grind (arith, append-nil seen, is_open start seen words h, goes_on (Some start) seen words h, not_whole start seen words h, goes_on, not_whole) steps 200000
+outcome (Some start) [] seen words h = subst (λ (rs : List Run). EndsOpen rs start) (sym (append-nil seen)) (record {
+  found = words;
+  comment = is_open start seen words h;
+  place = sym h.begins;
+  goes_on = goes_on (Some start) seen words h;
+  not_whole = not_whole start seen words h;
+})
 outcome None (run ∷ runs) seen words h =
     elim (cases_Bool (bytes_eq run.bytes opening)) [
       | inl opens ↦
@@ -163,7 +165,7 @@ outcome None (run ∷ runs) seen words h =
         | inl closes ↦
             let is = is_from run.bytes closing closes in
             at_fault (seen ++ run ∷ runs) words (words_fault_at T04 run.start) (read_runs None (run ∷ runs)) (outside_close run runs is)
-            (stops_at None seen words run runs T04 h (λ tail. outside_close run tail is) (is_whole seen words h, is))
+            (stops_at None seen words run runs T04 h (λ tail. outside_close run tail is) (words, h, is))
         | inr no_close ↦ alone_is seen words run runs (word_kind run.bytes) h (not_from run.bytes opening no_open) (not_from run.bytes closing no_close) refl
             (λ word is. outcome None runs (seen ++ run ∷ []) (words ++ word ∷ []) (word_step seen words run word h is))
       ]
@@ -177,7 +179,7 @@ outcome (Some start) (run ∷ runs) seen words h =
         | inl mark ↦
             let differs = not_from run.bytes closing no_close in
             at_fault (seen ++ run ∷ runs) words (words_fault_at T03 run.start) (read_runs (Some start) (run ∷ runs)) (inside_mark start run runs differs mark)
-            (stops_at (Some start) seen words run runs T03 h (λ tail. inside_mark start run tail differs mark) (h.first, is_open start seen words h, mark_stands run.bytes mark, differs))
+            (stops_at (Some start) seen words run runs T03 h (λ tail. inside_mark start run tail differs mark) (words, is_open start seen words h, mark_stands run.bytes mark, differs))
         | inr no_mark ↦
             let more = more_step start seen words run h (λ marked. false≢true (sym no_mark ∙ stands_mark run.bytes marked)) in
             grind (arith, common_steps, outcome (Some start) runs (seen ++ run ∷ []) words more, moved, not_from) steps 200000
@@ -185,16 +187,13 @@ outcome (Some start) (run ∷ runs) seen words h =
     ]
 
 pub none_read : AreWords [] []
-none_read = record { parts = []; reading = record { each = tt; joined = refl }; singles = refl }
+none_read = record { parts = []; each = tt; joined = refl; singles = refl }
 
 -- what is read from all the runs
 pub words_from_read : (runs : List Run) (words : List Word) → read_runs None runs ≡ Ok words → AreWords runs words
 words_from_read runs words e = subst (λ (r : Read). Outcome runs [] r) e (outcome None runs [] [] none_read)
 
 -- ---- a fault is what is read
-
-pub open_read : (runs : List Run) (first : Run) (h : IsOpen runs first) → (words : List Word) × InComment first.start runs words
-open_read runs first h = (flat_map segment_words h.before.0, record { front = h.front; first = first; inside = h.inside; joined = h.joined; before = whole_words h.front h.before.0 h.before.1; begins = refl; opened = h.opened; no_marks = h.no_marks })
 
 split_read : (runs front : List Run) (run : Run) (rest : List Run) (state : Option ℕ) (words : List Word) (fault : TextFault) → runs ≡ front ++ run ∷ rest → Behind state front words
     → read_runs state (run ∷ rest) ≡ Err fault → read_runs None runs ≡ Err fault
@@ -210,19 +209,18 @@ no_kind_found run (Some kind) e none = absurd (none kind (kind_spelled run.bytes
 
 pub stop_fault : (number : TextNumber) (runs : List Run) (at : ℕ) → StopsAtRun runs number at → read_runs None runs ≡ Err (words_fault_at number at)
 stop_fault T03 runs at h =
-    let inside = open_read h.front h.is_number.0 h.is_number.1 in
-    placed T03 runs h.run.start at h.place (split_read runs h.front h.run h.rest (Some h.is_number.0.start) inside.0 (words_fault_at T03 h.run.start) h.joined inside.1
-    (inside_mark h.is_number.0.start h.run h.rest h.is_number.3 (stands_mark h.run.bytes h.is_number.2)))
+    let comment = h.is_number.1 in
+    placed T03 runs h.run.start at h.place (split_read runs h.front h.run h.rest (Some comment.first.start) h.is_number.0 (words_fault_at T03 h.run.start) h.joined
+    (in_comment h.front h.is_number.0 comment) (inside_mark comment.first.start h.run h.rest h.is_number.3 (stands_mark h.run.bytes h.is_number.2)))
 stop_fault T04 runs at h =
-    let before = whole_words h.front h.is_number.0.0 h.is_number.0.1 in
-    placed T04 runs h.run.start at h.place (split_read runs h.front h.run h.rest None (flat_map segment_words h.is_number.0.0) (words_fault_at T04 h.run.start) h.joined before (outside_close h.run h.rest h.is_number.1))
+    placed T04 runs h.run.start at h.place (split_read runs h.front h.run h.rest None h.is_number.0 (words_fault_at T04 h.run.start) h.joined h.is_number.1
+    (outside_close h.run h.rest h.is_number.2))
 stop_fault T05 runs at h =
-    let before = whole_words h.front h.is_number.0.0 h.is_number.0.1 in
-    let words = flat_map segment_words h.is_number.0.0 in
-    let none : word_kind h.run.bytes ≡ None = no_kind_found h.run (word_kind h.run.bytes) refl h.is_number.3 in
-    placed T05 runs h.run.start at h.place (split_read runs h.front h.run h.rest None words (words_fault_at T05 h.run.start) h.joined before
+    let words = h.is_number.0 in
+    let none : word_kind h.run.bytes ≡ None = no_kind_found h.run (word_kind h.run.bytes) refl h.is_number.4 in
+    placed T05 runs h.run.start at h.place (split_read runs h.front h.run h.rest None words (words_fault_at T05 h.run.start) h.joined h.is_number.1
     (outside_word h.run h.rest (λ opens. h.stops (goes_on (Some h.run.start) (h.front ++ h.run ∷ []) words (grind (arith, common_steps) steps 200000)))
-    h.is_number.2
+    h.is_number.3
     ∙ ap (λ (k : Option WordKind). word_alone h.run k (read_runs None h.rest)) none))
 stop_fault number runs at h = absurd h.is_number
 
@@ -234,8 +232,8 @@ text_words text words h = ap (λ (o : Option ℕ). checked o (read_runs None (ru
 pub text_fault : (text : List ℕ) (number : TextNumber) (at : ℕ) → IsWordsFaultAt text number at → read_text text ≡ Err (words_fault_at number at)
 text_fault text T01 at h = ap (λ (o : Option ℕ). checked o (read_runs None (runs text))) h
 text_fault text T02 at h = ap (λ (o : Option ℕ). checked o (read_runs None (runs text))) h.0
-    ∙ (let inside = open_read (runs text) h.1.first h.1.open_comment in placed T02 (runs text) h.1.first.start at h.1.place
-    (ap (read_runs None) (sym (append-nil (runs text))) ∙ read_behind (Some h.1.first.start) (runs text) inside.0 inside.1 []))
+    ∙ placed T02 (runs text) h.1.comment.first.start at h.1.place (ap (read_runs None) (sym (append-nil (runs text)))
+    ∙ read_behind (Some h.1.comment.first.start) (runs text) h.1.found (in_comment (runs text) h.1.found h.1.comment) [])
 text_fault text number at h = ap (λ (o : Option ℕ). checked o (read_runs None (runs text))) h.0 ∙ stop_fault number (runs text) at h.1
 
 checked_fault : (text : List ℕ) (bad : Option ℕ) (fault : TextFault) → first_bad text ≡ bad → checked bad (read_runs None (runs text)) ≡ Err fault → IsWordsFault text fault

@@ -2,8 +2,8 @@
 use Rattle.std.proofs.lemmas.{Grind.{common_steps}, Bool.{cases_Bool, false_from_ne_true, or_parts}}
 use Rattle.std.proofs.Common.{◌≡◌, ℕ, zero, suc, get_or, ◌+◌, ◌≤◌, ◌<◌, true, false, not, eqb, Ok, List, [], ◌∷◌, ◌++◌, length, take, drop, map, refl, ap, arith, drop-drop, length-take-le}
 use Rattle.std.{proofs.Common.{take-append-drop}, specs.List.{AllByRecursion}}
-use Rattle.mm_text.specs.{declared.word.Word.{Word}, Language.{Run.{Run, with_front, runs_from}, Reading.{HoldNoMarks, AreWords}, Unit.{tokens_of, IsPlain}}}
-use Rattle.mm_text.{specs.Code.{LeftToRight.{Read, with_words, has_dollar, word_at}, Reader.{ArePlain, SkipsPlain}}, proofs.KindLemmas.{kind_spelled, plain_word, no_mark}}
+use Rattle.mm_text.specs.{declared.word.Word.{Word}, Language.{Run.{Run, with_first_byte, runs_from}, Reading.{AreWords}, Unit.{tokens_of, IsPlain}}}
+use Rattle.mm_text.{specs.Code.{LeftToRight.{Read, with_words, has_dollar, word_at}, Reader.{ArePlain, SkipsPlain, HoldNoMarks}}, proofs.KindLemmas.{kind_spelled, plain_word, no_mark}}
 use Rattle.mm_text.proofs.{PieceLemmas.{Seam, runs-append}, ReaderLemmas.{Skipping, words-append}, ReadingLemmas.{all_append, none_read, word_step}}
 use Rattle.mm_text.specs.declared.word.WordKind.TheVariants as kinds
 
@@ -16,7 +16,7 @@ none_before (suc r) (b ∷ bytes) le h = rw (false_from_ne_true (eqb b 36) (h 0 
 
 -- ---- runs of bytes without a `$`
 
-front_plain : (at b : ℕ) (runs : List Run) → eqb b 36 ≡ false → ArePlain runs → ArePlain (with_front at b runs)
+front_plain : (at b : ℕ) (runs : List Run) → eqb b 36 ≡ false → ArePlain runs → ArePlain (with_first_byte at b runs)
 front_plain at b runs other h = grind (arith, common_steps) steps 200000
 
 runs_plain : (at : ℕ) (bytes : List ℕ) → has_dollar bytes ≡ false → ArePlain (runs_from at bytes)

@@ -5,8 +5,8 @@ use Rattle.std.specs.List.{AllByRecursion}
 use Rattle.mm_text.specs.declared.word.Keyword.{Keyword}
 use Rattle.mm_text.specs.declared.word.Keyword.TheVariants.{BlockStart, BlockEnd, Constants, Variables, Floating, Essential, Disjoint, Axiom, Theorem, StatementEnd, ProofStart, InclusionStart}
 use Rattle.mm_text.specs.declared.{word.{Keyword.TheVariants.{InclusionEnd}, WordKind.{WordKind}}, fault.TextNumber.{TextNumber, TheVariants.{T06, T07, T08, T09, T10, T11}}}
-use Rattle.mm_text.specs.Language.Unit.{Token, IsKeyword, IsPlain, Shape, shape_tokens, IsShape, Units, Nothing, Simple, Block, unit_tokens, AreUnits, IsWhole, IsViable, a_block, MayBegin}
-use Rattle.mm_text.specs.{Language.Unit.{EndsInInclusion, IsUnitNumber, StopsAtWord, EndsInUnit, EndsInBlock, IsUnitFault}, Code.BlockCounts.{is_start_word, is_end_word, starts, ends}}
+use Rattle.mm_text.specs.Language.Unit.{Token, IsKeyword, IsPlain, Shape, shape_tokens, IsShape, Units, Nothing, Simple, Block, unit_tokens, AreUnits, IsWhole, IsViable, MayBegin, EndsInInclusion}
+use Rattle.mm_text.specs.{Language.Unit.{IsUnitNumber, StopsAtWord, EndsInUnit, EndsInBlock, IsUnitFault}, Code.BlockCounts.{is_start_word, is_end_word, starts, ends}}
 use Rattle.mm_text.proofs.UnitReadingLemmas.{run-append, run-IsViable, run-not_viable, IsWhole-run, through_units, blocks, blocks_run, key, key-kind, whole_run, Completes, Closes}
 use Rattle.mm_text.specs.declared.word.WordKind.TheVariants as kinds
 use Rattle.mm_text.specs.Code.UnitReading as m
@@ -45,18 +45,22 @@ run_next tokens word token phase depth there e = ap (m.run m.Begin 0) (let one :
 pub begins_only : (phase : m.Phase) (depth : ℕ) (b : Bool) (s : m.Phase × ℕ) → m.next phase depth (kinds.Keyword BlockStart) b ≡ Ok s → phase ≡ m.Begin
 begins_only phase depth b s e = grind (arith, common_steps) steps 200000
 
+abbrev some_start : Token
+some_start = record { kind = kinds.Keyword BlockStart; bytes = []; start = 0 }
+
 pub may_begin_from : (front : List Token) (depth : ℕ) → m.run m.Begin 0 front ≡ Ok (m.phase_state m.Begin depth) → MayBegin front
-may_begin_from front depth e = run-IsViable (front ++ a_block ∷ []) (m.Begin, suc depth) (run_push front a_block m.Begin depth e)
+may_begin_from front depth e = (some_start, refl, run-IsViable (front ++ some_start ∷ []) (m.Begin, suc depth) (run_push front some_start m.Begin depth e))
 
 pub may_begin_phase : (front : List Token) (phase : m.Phase) (depth : ℕ) → m.run m.Begin 0 front ≡ Ok (m.phase_state phase depth) → MayBegin front → phase ≡ m.Begin
-may_begin_phase front phase depth e h =
-    let all = viable_run (front ++ a_block ∷ []) h in begins_only phase depth (m.could_label a_block) all.0 (sym (run_push front a_block phase depth e) ∙ all.1)
+may_begin_phase front phase depth e (begin, is, viable) =
+    let all = viable_run (front ++ begin ∷ []) viable in
+    begins_only phase depth (m.could_label begin) all.0 (ap (λ (k : WordKind). m.next phase depth k (m.could_label begin)) (sym is) ∙ (sym (run_push front begin phase depth e) ∙ all.1))
 
 pub may_begin : (front : List Token) → MayBegin front ↔ ((depth : ℕ) × (m.run m.Begin 0 front ≡ Ok (m.Begin, depth)))
 may_begin front = (to, λ h. may_begin_from front h.0 h.1) where
   to : MayBegin front → (depth : ℕ) × (m.run m.Begin 0 front ≡ Ok (m.Begin, depth))
   to h =
-      let before = viable_run front (viable_front front (a_block ∷ []) h) in
+      let before = viable_run front (viable_front front (h.0 ∷ []) h.2) in
       (before.0.1, before.1 ∙ ap (λ (p : m.Phase). Ok (p, before.0.1)) (may_begin_phase front before.0.0 before.0.1 before.1 h))
 
 -- ---- where an inclusion has begun
@@ -175,7 +179,9 @@ number_of phase depth kinds.Plain b front token number e is stops = numbered T06
 
 -- a word that stops, with any number that it may have
 pub stops_fault : (tokens : List Token) (number : TextNumber) (word : ℕ) → StopsAtWord tokens number word → IsUnitFault tokens number word
-stops_fault tokens number word h = grind (arith, common_steps) steps 200000
+stops_fault tokens T07 word h = absurd h.is_number
+stops_fault tokens T08 word h = absurd h.is_number
+stops_fault tokens number word h = h
 
 abbrev pub stop_at : (tokens : List Token) (word : ℕ) (token : Token) (phase : m.Phase) (depth : ℕ) (number : TextNumber) → slice_get tokens word ≡ Some token → m.run m.Begin 0 (take word tokens) ≡ Ok (m.phase_state phase depth)
     → m.next phase depth token.kind (m.could_label token) ≡ Err number → StopsAtWord tokens number word
@@ -336,7 +342,7 @@ block_begins : (tokens : List Token) (word : ℕ) → EndsInBlock tokens word �
 block_begins tokens word h = let last = block_run tokens word h in may_begin_from tokens (suc last.0) last.1
 
 pub block_viable : (tokens : List Token) (word : ℕ) → EndsInBlock tokens word → IsViable tokens
-block_viable tokens word h = viable_front tokens (a_block ∷ []) (block_begins tokens word h)
+block_viable tokens word h = let begins = block_begins tokens word h in viable_front tokens (begins.0 ∷ []) begins.2
 
 -- ---- one fault, and none of a whole list
 

@@ -7,6 +7,8 @@ pub mod Place
 pub mod Unit
 pub mod Cut
 pub mod Part
+pub mod Stretch
 pub mod Asked
 pub mod WordsLeft
 pub mod Examples
+pub mod StandardExamples

@@ -8,9 +8,10 @@ ghost use Rattle.mm_text.specs.Language.Run.{Run, runs};
 ghost use Rattle.mm_text.specs.Language.Layout.{IsLaidOut};
 ghost use Rattle.mm_text.specs.Language.Reading.{HasWords, IsWordsFault};
 ghost use Rattle.mm_text.specs.declared.fault.TextNumber.{TextNumber};
-ghost use Rattle.mm_text.specs.Language.Cut.{HoldsOne, IsCut, IsFirstFault, end_of_words, ended};
-ghost use Rattle.mm_text.specs.Language.Part.{HasUnits, part_bytes, parts_of, shape_part, IsReadable};
-ghost use Rattle.mm_text.specs.Language.Unit.{Token, spellings, Shape, shape_tokens, IsShape, Units, Nothing, Simple, unit_tokens, AreUnits, IsWhole};
+ghost use Rattle.mm_text.specs.Language.Cut.{HoldsOneUnit, IsCut, IsFirstFault, end_of_words, ended};
+ghost use Rattle.mm_text.specs.Language.Part.{HasUnits, part_bytes, parts_of, shape_part, token_end, IsReadable};
+ghost use Rattle.mm_text.specs.Language.Stretch.{IsStretch, moved};
+ghost use Rattle.mm_text.specs.Language.Unit.{Token, spellings, tokens_of, Shape, shape_tokens, IsShape, Units, Nothing, Simple, unit_tokens, AreUnits, IsWhole};
 ghost use Rattle.mm_text.specs.Language.Unit.{IsUnitFault};
 
 /// Each text has its words or its fault: one list of words or one fault, and never both.
@@ -66,6 +67,13 @@ pub fn words_stand_alone()
         → spellings (part_bytes text (shape_part shape)) own ≡ map (λ token. token.bytes) (shape_tokens shape) }
 {}
 
+/// The bytes of a text from any of its words to a later one are a text with the words between these, each at the same byte.
+pub fn stretches_stand_alone()
+    ensures { (text : List ℕ) (all own : List Word) (words : List Token) (first last : Token) → HasWords text all
+        → IsStretch (tokens_of text all) words first last → HasWords (slice_range text first.start (token_end last)) own
+        → map (moved first.start) (tokens_of (slice_range text first.start (token_end last)) own) ≡ words }
+{}
+
 /// A text has one cut or one first fault, and never both.
 ///
 /// So `cut` cuts each text that can be cut, and reports the fault only of a text that cannot, unless memory runs
@@ -87,6 +95,6 @@ pub fn first_faults_are_within()
 /// This holds of the text as it is cut: with one line feed added, if it does not end in white space. Its unit is that of
 /// the piece, with each word at the same byte, so it has the parts of the piece.
 pub fn one_unit_of_cut()
-    ensures unit { (text piece tail : List ℕ) → IsCut text (piece ∷ []) tail → HoldsOne (ended text) }
+    ensures unit { (text piece tail : List ℕ) → IsCut text (piece ∷ []) tail → HoldsOneUnit (ended text) }
     ensures same { (text piece tail : List ℕ) (units : Units) → IsCut text (piece ∷ []) tail → HasUnits (ended text) units → HasUnits piece units }
 {}

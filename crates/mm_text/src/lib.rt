@@ -27,6 +27,7 @@ mod placing;
 mod reader;
 mod skipping;
 mod spelling;
+mod standard_words;
 mod whole_text;
 mod word;
 
@@ -37,12 +38,13 @@ pub use examples::texts_are_read_so;
 pub use fault::{TextError, TextFault, TextNumber};
 pub use laws::{
     first_faults_are_within, one_cut, one_division, one_layout, one_meaning, one_unit_fault,
-    one_unit_of_cut, parts_are_texts, words_stand_alone,
+    one_unit_of_cut, parts_are_texts, stretches_stand_alone, words_stand_alone,
 };
 pub use location::Place;
 pub use part::{Part, PartKind};
 pub use pieces::{Cut, DividedCut, DividedPiece};
 pub use placing::place;
 pub use spelling::could_label;
+pub use standard_words::standard_words_mean;
 pub use whole_text::{nth_word, words};
 pub use word::{Keyword, Word, WordKind};

@@ -1,11 +1,13 @@
 -- What is provable in small systems, and what is not.
 use Rattle.std.proofs.lemmas.{Option.{same_Some}, List.{append-nil}}
-use Rattle.std.proofs.Common.{◌≡◌, ◌≢◌, ◌⊎◌, ℕ, Bool, true, false, cond, Some, None, List, [], ◌∷◌, ◌++◌, refl, sym, ap, ◌∙◌, subst, inl, inr, arith, Contains, slice_index_or}
+use Rattle.std.proofs.Common.{◌≡◌, ◌≢◌, ◌⊎◌, ℕ, Bool, true, false, cond, Some, None, List, [], ◌∷◌, ◌++◌, length, refl, sym, ap, ◌∙◌, subst, inl, inr, arith, codes, Contains, slice_index_or}
 use Rattle.std.specs.Prelude.{nat_eq}
-use Rattle.mm_frame.specs.mm_machine.Language.{Frame.{Symbol, Mandatory, Frame, ArePair}, Substitution.{substituted}}
+use Rattle.mm_frame.specs.{mm_machine.Language.{Frame.{Symbol, Mandatory, Frame, ArePair}, Substitution.{substituted}}, Language.Base.{frame_at}}
 use Rattle.mm_theory.specs.Language.System.{AreApartBy, IsInClosure, by_type, by_hypothesis, by_axiom, symbols_of, MayBePaired, IsProvable}
-use Rattle.mm_theory.specs.Language.Examples.{X, P, Q, x, y, float, system, untyped, pair, two, turned, one, from_one, from_two, goal, PairsAreNeeded, DummiesAreNeeded, DummiesArePaired}
-use Rattle.mm_theory.{specs.Language.Examples.{AxiomsAreNeeded, VariablesAreReplacedAtOnce}, proofs.Members.{none, only_one, here, there, first_or_later}}
+use Rattle.mm_theory.specs.Language.Examples.{X, P, Q, x, y, float, system, untyped, pair, two, turned, one, from_one, from_two, goal, PairsAreNeeded, DummiesAreNeeded, DummiesArePaired, AxiomIsUsed}
+use Rattle.mm_theory.specs.Language.{Examples.{AxiomsAreNeeded, VariablesAreReplacedAtOnce, VariablesAreTyped, implied, small_system}, Databases.{system_of}}
+use Rattle.mm_theory.proofs.Members.{none, only_one, here, there, first_or_later}
+use Rattle.mm_frame.specs.Language.Examples as small
 
 -- ---- symbols, and lists of few members
 
@@ -261,3 +263,37 @@ axioms_are_needed p = rest_Q (Q ∷ []) p refl
 
 pub replaced_at_once : VariablesAreReplacedAtOnce
 replaced_at_once = (turned_proved, refl)
+
+-- ---- a database
+
+pub variables_are_typed : VariablesAreTyped
+variables_are_typed = (refl, refl, refl, refl)
+
+abbrev wp : Mandatory
+wp = small.typing (codes "wp")
+
+abbrev InSmall : List Symbol → Type 0
+InSmall e = IsInClosure small_system (MayBePaired implied) (wp ∷ []) e
+
+abbrev p_for_each : Symbol → List Symbol
+p_for_each v = small.p ∷ []
+
+-- without an axiom no expression of six symbols is in the closure
+too_long : (e : List Symbol) → IsInClosure (system_of small.base []) (MayBePaired implied) (wp ∷ []) e → length e ≡ 6 → ⊥
+too_long e (by_type t) six = let two : ◌≡◌ {A = ℕ} 2 6 = six in omega (arith, two)
+too_long e (by_hypothesis {h = h} has) six =
+    let two : ◌≡◌ {A = ℕ} 2 6 = ap (λ (g : Mandatory). length g.expression) (only_one wp h has) ∙ six in
+    omega (arith, two)
+too_long e (by_axiom {frame = frame} among entries apart) six = none frame among
+
+pub axiom_is_used : AxiomIsUsed
+axiom_is_used = (used, λ provable. too_long implied.expression provable refl)
+  where
+    entries : (h : Mandatory) → Contains (wp ∷ small.typing (codes "wq") ∷ []) h → InSmall (substituted p_for_each h.expression)
+    entries h c = elim (one_of_two wp (small.typing (codes "wq")) h c) [
+      | inl e ↦ subst (λ (g : Mandatory). InSmall (substituted p_for_each g.expression)) e (by_hypothesis {h = wp} (here wp []))
+      | inr e ↦ subst (λ (g : Mandatory). InSmall (substituted p_for_each g.expression)) e (by_hypothesis {h = wp} (here wp []))
+    ]
+
+    used : IsProvable small_system implied
+    used = by_axiom {frame = frame_at small.base 5} {given = p_for_each} (here (frame_at small.base 5) []) entries (λ v w are. absurd (no_pair v w are))

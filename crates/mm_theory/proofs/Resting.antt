@@ -3,12 +3,12 @@ use Rattle.std.proofs.lemmas.{Grind.{common_steps}, Bool.{false≢true, and_part
 use Rattle.std.proofs.Common.{◌≡◌, ◌≢◌, ◌⊎◌, ℕ, Bool, true, false, ◌&&◌, List, [], ◌∷◌, ◌++◌, refl, sym, ap, ◌∙◌, subst, inl, inr, arith, Contains, All}
 use Rattle.mm_frame.specs.mm_machine.Language.{Frame.{Symbol, Mandatory, Frame, ArePair, HasVariable}, Substitution.{replacement, substituted}}
 use Rattle.mm_frame.specs.mm_machine.Language.Derivation.{Derives, DeriveInOrder, by_hypothesis, by_assertion, nothing, first_then, AreApart}
-use Rattle.mm_frame.specs.{mm_statement.Language.Item.{Kind, is_assertion, is_theorem}, Language.{Base.{BaseView, said_at, frame_at, is_sound_at, is_framed_at, is_proof_at}, Resolving.{Resolves}}}
+use Rattle.mm_frame.specs.{mm_statement.Language.Item.{Kind, is_assertion, is_kind, Theorem}, Language.Base.{BaseView, said_at, frame_at, is_sound_at, is_framed_at, is_proof_at}}
+use Rattle.mm_frame.specs.Language.Resolving.{IsLabelOf}
 use Rattle.mm_keep.specs.{mm_verdict.Language.BaseLabels.{setting_at}, Language.{Told.{IsAxiom}, Resting.{RestsOn}}}
 use Rattle.mm_theory.specs.Language.{System.{AreApartBy, IsInClosure, MayBePaired, IsProvable, IsStatement}, Databases.{system_of}, Laws.{RestingIsProvable}}
 use Rattle.mm_theory.proofs.{Known.{KnownStatements, KnownMeanings}, Supply.{is_system}, Citing.{acts}, Statements.{AreHeld, held, cited_at, statement, pairs_kept, different}}
 use Rattle.mm_theory.proofs.Members.{none, only_one, here, first_or_later, in_map}
-use Rattle.mm_frame.specs.declared.base.Resolved.TheVariants as answers
 use Rattle.mm_keep.specs.Language.Resting as resting
 use Rattle.mm_theory.specs.Language.System as systems
 
@@ -31,12 +31,12 @@ sound_asserts : (sound assertion : Bool) → sound ≡ true → assertion ≡ tr
 sound_asserts true assertion s a = a
 sound_asserts false assertion s a = absurd (false≢true s)
 
-theorem_asserts : (kind : Kind) → is_theorem kind ≡ true → is_assertion kind ≡ true
+theorem_asserts : (kind : Kind) → is_kind Theorem kind ≡ true → is_assertion kind ≡ true
 theorem_asserts kind t = grind (arith, common_steps) steps 200000
 
 proof_framed : (base : BaseView) (i : ℕ) → is_proof_at base i ≡ true → is_framed_at base i ≡ true
 proof_framed base i t =
-    let p = and_parts (is_sound_at base i) (is_theorem (said_at base i).kind) t in
+    let p = and_parts (is_sound_at base i) (is_kind Theorem (said_at base i).kind) t in
     sound_asserts (is_sound_at base i) (is_assertion (said_at base i).kind) p.0 (theorem_asserts (said_at base i).kind p.1)
 
 axiom_framed : (base : BaseView) (i : ℕ) → IsAxiom base i → is_framed_at base i ≡ true
@@ -58,7 +58,7 @@ module _ (known : KnownStatements) (meanings : KnownMeanings) (base : BaseView) 
     from_held e (inr h) = subst InFrame h.2 (systems.by_hypothesis {h = h.0} h.1)
 
     abbrev AllAvailable : List (List ℕ) → Type 0
-    AllAvailable labels = (label : List ℕ) (k : ℕ) → Contains labels label → Resolves base i label (answers.Assertion k) → IsAvailable k
+    AllAvailable labels = (label : List ℕ) (k : ℕ) → Contains labels label → IsLabelOf base i k label × (is_framed_at base k ≡ true) → IsAvailable k
 
     apart_by : (xs ys : List Symbol) → AreApart (setting_at base i).active xs ys → AreApartBy (MayBePaired (frame_at base i)) xs ys
     apart_by xs ys a x y h k =

@@ -2,13 +2,12 @@
 use Rattle.std.proofs.lemmas.{Grind.{common_steps}, Bool.{and_parts, and_from, or_left}, List.Elements.{Contains-append_cases, All-contains}}
 use Rattle.std.{proofs.Common.{◌≡◌, ◌≢◌, ◌<◌, ◌⊎◌, ℕ, Bool, true, false, ◌&&◌, Some, List, [], ◌∷◌, refl, sym, ap, ◌∙◌, subst, inl, inr, arith, Contains}, specs.List.{flat_map}}
 use Rattle.mm_frame.specs.mm_machine.Language.{Frame.{Symbol, Mandatory, Frame, Hypothesis, Assertion, Inactive, Unknown, ArePair, HasVariable}, Typing.{IsTyped, IsFrame}}
-use Rattle.mm_frame.specs.mm_statement.Language.Item.{Kind, is_floating, is_essential, is_labelled, is_assertion, variable_of, has}
+use Rattle.mm_frame.specs.mm_statement.Language.Item.{Kind, is_kind, Essential, Floating, is_labelled, is_assertion, variable_of, has}
 use Rattle.mm_frame.specs.Language.Framing.{active_pairs, mandatory_numbers, mandatory_variables, resolve}
-use Rattle.mm_frame.specs.Language.{Base.{BaseView, before, said_at, hypothesis_at, frame_at, is_sound_at, is_shown_at, is_framed_at, IsMandatoryAt}, Resolving.{IsLabelOf, Resolves}}
+use Rattle.mm_frame.specs.Language.{Base.{BaseView, before, said_at, hypothesis_at, frame_at, is_sound_at, is_shown_at, is_framed_at, IsMandatoryAt}, Resolving.{IsLabelOf}}
 use Rattle.mm_frame.specs.Language.Laws.{IsVariableOf, is_active_at}
 use Rattle.mm_theory.{specs.Language.{System.{symbols_of, IsStatement}, Databases.{system_of}}, proofs.{Known.{KnownStatements, KnownMeanings}, Floats.{IsTypingOf, float_is}}}
 use Rattle.mm_theory.proofs.Members.{here, there, in_map, from_map, from_flat}
-use Rattle.mm_frame.specs.declared.base.Resolved.TheVariants as answers
 
 -- ---- variables of a frame
 
@@ -63,7 +62,7 @@ module _ (known : KnownStatements) (base : BaseView) (i : ℕ) where
       let c = t.0 in
       let h : Mandatory = record { floating = true; expression = c ∷ v ∷ [] } in
       let from = hypothesis_of h t.2 in
-      let floating = and_from (is_shown_at base from.0) (is_floating (said_at base from.0).kind) from.1 (ap (λ (g : Mandatory). g.floating) from.2) in
+      let floating = and_from (is_shown_at base from.0) (is_kind Floating (said_at base from.0).kind) from.1 (ap (λ (g : Mandatory). g.floating) from.2) in
       let is = float_is known base axioms from.0 floating in
       let same = same_two is.c is.v c v (sym is.is ∙ ap (λ (g : Mandatory). g.expression) from.2) in
       (c, ap (system_of base axioms).typecode (sym same.1) ∙ is.typed ∙ ap Some same.0, (h, t.2, refl))
@@ -77,7 +76,7 @@ module _ (known : KnownStatements) (meanings : KnownMeanings) (base : BaseView) 
   abbrev pub AreHeld : List Symbol → Type 0
   AreHeld e = IsTypingOf base axioms e ⊎ ((h : Mandatory) × Contains (frame_at base i).hypotheses h × (h.expression ≡ e))
 
-  kind_cases : (kind : Kind) → is_labelled kind ≡ true → is_assertion kind ≡ false → (is_floating kind ≡ true) ⊎ (is_essential kind ≡ true)
+  kind_cases : (kind : Kind) → is_labelled kind ≡ true → is_assertion kind ≡ false → (is_kind Floating kind ≡ true) ⊎ (is_kind Essential kind ≡ true)
   kind_cases kind l a = grind (arith, common_steps) steps 200000
 
   unframed_kind : (sound assertion : Bool) → sound ≡ true → (sound && assertion) ≡ false → assertion ≡ false
@@ -86,8 +85,8 @@ module _ (known : KnownStatements) (meanings : KnownMeanings) (base : BaseView) 
 
   -- an active hypothesis is a typing, or one of the frame's
   active_held : (j : ℕ) (label : List ℕ) → IsLabelOf base i j label → is_active_at base i j ≡ true
-      → (is_floating (said_at base j).kind ≡ true) ⊎ (is_essential (said_at base j).kind ≡ true) → AreHeld (hypothesis_at base j).expression
-  active_held j label is active (inl t) = inl (float_is known base axioms j (and_from (is_shown_at base j) (is_floating (said_at base j).kind) is.carrier.shown t))
+      → (is_kind Floating (said_at base j).kind ≡ true) ⊎ (is_kind Essential (said_at base j).kind ≡ true) → AreHeld (hypothesis_at base j).expression
+  active_held j label is active (inl t) = inl (float_is known base axioms j (and_from (is_shown_at base j) (is_kind Floating (said_at base j).kind) is.carrier.shown t))
   active_held j label is active (inr t) =
       let item = said_at base j in
       let numbers = mandatory_numbers (before base i) (said_at base i) in
@@ -96,7 +95,7 @@ module _ (known : KnownStatements) (meanings : KnownMeanings) (base : BaseView) 
         earlier = is.earlier;
         shown = is.carrier.shown;
         active = active;
-        mandatory = or_left (is_essential item.kind) (is_floating item.kind && has (mandatory_variables (before base i) (said_at base i)) (variable_of item)) t;
+        mandatory = or_left (is_kind Essential item.kind) (is_kind Floating item.kind && has (mandatory_variables (before base i) (said_at base i)) (variable_of item)) t;
       } in
       let there = in_map (hypothesis_at base) numbers j ((are.which j).1 at) in
       inr (hypothesis_at base j, subst (λ (hs : List Mandatory). Contains hs (hypothesis_at base j)) are.are there, refl)
@@ -109,7 +108,7 @@ module _ (known : KnownStatements) (meanings : KnownMeanings) (base : BaseView) 
     where
       by_activity : (j : ℕ) → IsLabelOf base i j label → is_framed_at base j ≡ false → (b : Bool) → is_active_at base i j ≡ b → AreHeld e
       by_activity j is unframed true active =
-          let q : Hypothesis (hypothesis_at base j).expression ≡ Hypothesis e = sym (meanings.active base i j label is unframed active).1 ∙ means in
+          let q : Hypothesis (hypothesis_at base j).expression ≡ Hypothesis e = sym (meanings.active base i j label is unframed active) ∙ means in
           let same : (hypothesis_at base j).expression ≡ e = cc in
           let p = and_parts (is_sound_at base j) (is_labelled (said_at base j).kind) is.carrier.shown in
           subst AreHeld same
@@ -122,7 +121,7 @@ module _ (known : KnownStatements) (meanings : KnownMeanings) (base : BaseView) 
 
   -- a label that means an assertion is that of an earlier one
   abbrev pub IsCitedAt : List ℕ → Frame → Type 0
-  IsCitedAt label g = (k : ℕ) × Resolves base i label (answers.Assertion k) × (frame_at base k ≡ g)
+  IsCitedAt label g = (k : ℕ) × (IsLabelOf base i k label × (is_framed_at base k ≡ true)) × (frame_at base k ≡ g)
 
   pub cited_at : (label : List ℕ) (g : Frame) → resolve (before base i) label ≡ Assertion g → IsCitedAt label g
   cited_at label g means = elim (meanings.one base i label) [
@@ -132,14 +131,14 @@ module _ (known : KnownStatements) (meanings : KnownMeanings) (base : BaseView) 
     where
       by_activity : (j : ℕ) → IsLabelOf base i j label → is_framed_at base j ≡ false → (b : Bool) → is_active_at base i j ≡ b → IsCitedAt label g
       by_activity j is unframed true active =
-          let q : Hypothesis (hypothesis_at base j).expression ≡ Assertion g = sym (meanings.active base i j label is unframed active).1 ∙ means in absurd (cc)
+          let q : Hypothesis (hypothesis_at base j).expression ≡ Assertion g = sym (meanings.active base i j label is unframed active) ∙ means in absurd (cc)
       by_activity j is unframed false ended = let q : Inactive ≡ Assertion g = sym (meanings.ended base i j label is unframed ended) ∙ means in absurd (cc)
 
       by_kind : (j : ℕ) → IsLabelOf base i j label → (b : Bool) → is_framed_at base j ≡ b → IsCitedAt label g
       by_kind j is true framed =
           let r = meanings.assertions base i j label is framed in
           let q : Assertion (frame_at base j) ≡ Assertion g = sym r.2 ∙ means in
-          let same : frame_at base j ≡ g = cc in (j, r, same)
+          let same : frame_at base j ≡ g = cc in (j, (is, framed), same)
       by_kind j is false unframed = by_activity j is unframed (is_active_at base i j) refl
 
   -- ---- pairs

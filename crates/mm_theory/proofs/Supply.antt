@@ -1,9 +1,8 @@
 -- Variables without end: copies of the variables of a database, by a number in front of their names.
 use Rattle.std.proofs.lemmas.{Option.{same_Some}, Slice.Eq.{bytes_eq-Decides}}
 use Rattle.std.proofs.Common.{◌≡◌, ℕ, suc, ◌+◌, ◌<◌, ◌≤◌, Bool, true, false, ◌&&◌, cond, Option, Some, None, List, [], ◌∷◌, map, drop, refl, sym, ap, ◌∙◌, inl, inr, arith, Contains, bytes_eq}
-use Rattle.std.specs.Option.{option_map}
-use Rattle.mm_frame.specs.{mm_machine.Language.{Frame.{Symbol}, Expansion.{or_else}}, mm_statement.Language.Item.{Item, is_floating, variable_of, typecode_of}, Language.Sound.{sound_items}}
-use Rattle.mm_frame.specs.Language.Base.{BaseView}
+use Rattle.std.specs.Option.{option_map, option_or}
+use Rattle.mm_frame.specs.{mm_machine.Language.Frame.{Symbol}, mm_statement.Language.Item.{Said, is_kind, Floating, variable_of, typecode_of}, Language.{Sound.{sound_items}, Base.{BaseView}}}
 use Rattle.mm_theory.{specs.Language.{System.{IsFresh, IsSystem}, Databases.{declared_typecode, typecode_in, constant, typecode_if, system_of}}, proofs.Members.{none, first_or_later, in_map}}
 
 abbrev head_of : List ℕ → ℕ
@@ -30,15 +29,15 @@ not_equal : (x y : List ℕ) (b : Bool) → bytes_eq x y ≡ b → (x ≡ y → 
 not_equal x y true e n = absurd (n ((bytes_eq-Decides x y).0 e))
 not_equal x y false e n = e
 
-undeclared : (items : List Item) (n : ℕ) (name : List ℕ) → bound (map variable_of items) ≤ n → declared_typecode items (n ∷ name) ≡ None
+undeclared : (items : List Said) (n : ℕ) (name : List ℕ) → bound (map variable_of items) ≤ n → declared_typecode items (n ∷ name) ≡ None
 undeclared [] n name l = refl
-undeclared (item ∷ items) n name l = declared_not (is_floating item.kind) (bytes_eq (variable_of item) (n ∷ name)) (typecode_of item) (declared_typecode items (n ∷ name))
+undeclared (item ∷ items) n name l = declared_not (is_kind Floating item.kind) (bytes_eq (variable_of item) (n ∷ name)) (typecode_of item) (declared_typecode items (n ∷ name))
     (not_equal (variable_of item) (n ∷ name) _ refl (λ e. (let q = ap head_of e in omega arith)))
     (undeclared items n name (omega arith))
 
 -- a copy has the typecode of what it is a copy of
-copied : (items : List Item) (n : ℕ) (name : List ℕ) → bound (map variable_of items) ≤ n → typecode_in items (n ∷ name) ≡ typecode_in items name
-copied items n name l = ap (λ x. or_else x (typecode_in items name)) (undeclared items n name l)
+copied : (items : List Said) (n : ℕ) (name : List ℕ) → bound (map variable_of items) ≤ n → typecode_in items (n ∷ name) ≡ typecode_in items name
+copied items n name l = ap (λ x. option_or x (typecode_in items name)) (undeclared items n name l)
 
 if_typed : (b : Bool) (found : Option (List ℕ)) (c : Symbol) → typecode_if b found ≡ Some c → (b ≡ true) × (c.variable ≡ false) × (option_map constant found ≡ Some c)
 if_typed true (Some name) c e = (refl, ap (λ (s : Symbol). s.variable) (sym (same_Some (constant name) c e)), e)
@@ -46,8 +45,8 @@ if_typed true None c e = absurd (cc)
 if_typed false found c e = absurd (cc)
 
 module _ (base : BaseView) (axioms : List ℕ) where
-  abbrev items : List Item
-  items = sound_items base.said
+  abbrev items : List Said
+  items = sound_items base
 
   abbrev number : List Symbol → ℕ
   number taken = bound (map variable_of (items)) + bound (map (λ (s : Symbol). s.name) taken)

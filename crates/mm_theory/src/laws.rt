@@ -59,7 +59,7 @@ pub fn proved_is_provable()
 pub fn clean_is_provable()
     ensures { CleanIsProvable }
 {
-    mm_keep::files_have_one_base();
+    mm_keep::files_have_one_database();
     mm_keep::chains_lead_back();
     proved_is_provable();
 }

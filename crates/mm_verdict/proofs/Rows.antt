@@ -1,11 +1,11 @@
 -- The table of numbers, and worked proofs, by computing.
 use Rattle.std.proofs.Common.{◌≡◌, ℕ, if◌then◌else◌, Ok, Err, List, [], ◌∷◌, ◌++◌, refl, codes, bytes_eq, replicate, Result}
-use Rattle.mm_machine.specs.Language.{Frame.{Resolved, Hypothesis, Assertion, Inactive, Unknown, Setting}, Expansion.{Step, Named, Saved, Save, NotKnown}, Run.{run_part}, Verdict.{Decoded}}
+use Rattle.mm_machine.specs.Language.{Frame.{LabelMeaning, Hypothesis, Assertion, Inactive, Unknown, Setting}, Expansion.{Step, Named, Saved, Save, NotKnown}, Run.{run_part}, Verdict.{Decoded}}
 use Rattle.mm_machine.specs.declared.{Spot.{Spot}, ProofNumber.TheVariants.{P01, P02, P03, P04, P05, P06}, step.ProofFault.{ProofFault}}
 use Rattle.mm_verdict.specs.Language.{Decoding.{decoding}, Citing.{cites}}
 
 -- a place: `wp` is an active hypothesis, `wi` an assertion, `old` a hypothesis that is not active
-meaning : List ℕ → Resolved
+meaning : List ℕ → LabelMeaning
 meaning label =
     if bytes_eq label (codes "wp") then Hypothesis []
     else if bytes_eq label (codes "wi") then Assertion (record { expression = []; hypotheses = []; pairs = [] })

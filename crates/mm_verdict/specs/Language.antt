@@ -15,3 +15,5 @@ pub mod Work
 pub mod ReadIn
 pub mod Programs
 pub mod Examples
+pub mod FaultExamples
+pub mod StepExamples

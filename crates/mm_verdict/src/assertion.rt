@@ -70,7 +70,7 @@ fn assertion_of<'a>(
     number: usize,
     mandatory: &mut Vec<Hypothesis<'a, NumberedSymbol>>,
 ) -> Result<Cited<'a, NumberedSymbol>, AllocError>
-    requires { (view : BaseView) × IsBase view base.now × (is_framed_at view number ≡ true) × (number < length view.said) }
+    requires { (view : BaseView) × IsBase view base.now × (is_framed_at view number ≡ true) × (number < length view) }
     ensures grows { OnOk result ((more : List Mandatory)
         × (hypotheses_of by_number mandatory.new.items ≡ hypotheses_of by_number mandatory.old.items ++ more)) }
     ensures within { IfOk result (λ cited. (cited.first ≤ cited.last) × (cited.last ≡ length mandatory.new.items)) }

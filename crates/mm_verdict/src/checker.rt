@@ -4,8 +4,9 @@ ghost use Rattle.std.specs.Prelude.{◌≡◌};
 ghost use Rattle.mm_verdict.specs.Code.NamedItems.{AreKnownOf};
 
 use crate::known::Known;
+use crate::scratch::Scratch;
 use mm_frame::Base;
-use std::alloc::Global;
+use std::alloc::{AllocError, Global};
 use std::marker::Model;
 use std::mem;
 
@@ -15,6 +16,8 @@ use std::mem;
 pub struct Checker<'a> {
     base: &'a Base,
     known: Known<'a>,
+    /// What checks use over again.
+    pub(crate) scratch: Scratch,
 }
 
 impl<'a> Model for Checker<'a> {
@@ -37,6 +40,7 @@ impl<'a> Checker<'a> {
         Checker {
             base,
             known: Known::new(alloc),
+            scratch: Scratch::new(alloc),
         }
     }
 
@@ -45,6 +49,14 @@ impl<'a> Checker<'a> {
         ensures { result.now ≡ self.now }
     {
         self.base
+    }
+
+    /// Gives what checks use over again a place for each item of the base, and for each of this many keys of variables.
+    pub(crate) fn widen(&mut self, keys: usize) -> Result<(), AllocError>
+        ensures { self.new ≡ self.old }
+    {
+        let items = self.base.count();
+        self.scratch.widen(items, keys)
     }
 
     /// Lends what is known, or nothing if it is too much. Nothing is known until it is taken back.

@@ -25,15 +25,15 @@ use crate::decoding_laws::{decodes_short, decodes_surely, labels_are_own, mandat
 use crate::known::Known;
 use crate::named::{NamingRoom, name_all};
 use crate::reading::{Decoding, MarkedDecoding, decode_marked};
+use crate::scratch::Scratch;
 use crate::short::{steps_before, take_more, takes_more};
 use crate::undecoded::Undecoded;
 use crate::used::{labels_marked, labels_used};
-use crate::work::{Checked, Scratch, Work};
+use crate::work::{Checked, Work};
 use mm_frame::{Base, Files, Names, ProofWords, Resolved, places_have_frames, words_of_proof};
 use mm_machine::{
     Active, Front, Machine, NumberedSymbol, Outcome, ProofFault, ProofNumber, ProofStep, Spot,
-    Verdict, lack_stops, numbers_keep_places, numbers_say_the_same, parts_are_run, run,
-    run_counted, stops_stay,
+    Verdict, lack_stops, numbers_keep_places, numbers_say_the_same, run, run_counted, stops_stay,
 };
 use std::alloc::{AllocError, Global};
 use std::mem;
@@ -234,7 +234,6 @@ fn judge_steps<'b>(
 {
     decodes_short();
     labels_are_own();
-    parts_are_run();
     let hypotheses = mandatory(proof.base, proof.i).len();
     labels_marked(&mut scratch.used, &proof.decoding.labels, marks)?;
     let used: &[Resolved] = &scratch.used;
@@ -300,8 +299,8 @@ fn judge<'b, 'a>(
 /// these.
 ///
 /// A run has at most 4,294,967,295 steps. It takes time near linear in the symbols of the expressions that its steps
-/// make and compare, and memory for the entries of the stack and for what is saved. After out of memory nothing is
-/// recorded.
+/// make and compare, and memory for the entries of the stack and for what is saved. It also makes tables with a place for
+/// each item of the base; a [`Checker`] makes them once for many checks. After out of memory nothing is recorded.
 pub fn check(
     alloc: Global,
     names: &Names,
@@ -358,16 +357,9 @@ impl Checker<'_> {
     {
         let base = self.base();
         let proof = words_of_proof(files, base.item(i));
-        let mut scratch = work.lend(alloc, base.count(), names.count())?;
-        let (checked, done) = match self.judge(alloc, &mut scratch, i, &proof) {
-            Ok(judged) => judged,
-            Err(error) => {
-                // One call in place of a drop of each field.
-                drop(scratch);
-                return Err(error);
-            }
-        };
-        work.record(scratch, i, done)?;
+        self.widen(names.count())?;
+        let (checked, done) = self.judge(alloc, i, &proof)?;
+        work.record(i, done)?;
         Ok(checked)
     }
 
@@ -376,7 +368,6 @@ impl Checker<'_> {
     fn judge(
         &mut self,
         alloc: Global,
-        scratch: &mut Scratch,
         i: usize,
         proof: &ProofWords,
     ) -> Result<(Checked, u64), AllocError>
@@ -386,7 +377,7 @@ impl Checker<'_> {
     {
         let base = self.base();
         let mut known = self.lend(alloc);
-        let judged = judge(alloc, scratch, &mut known, base, i, proof)?;
+        let judged = judge(alloc, &mut self.scratch, &mut known, base, i, proof)?;
         self.take_back(known);
         Ok(judged)
     }

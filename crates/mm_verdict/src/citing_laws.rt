@@ -3,7 +3,7 @@
 ghost use Rattle.mm_verdict.specs.Language.CitingLaws.{CitesNameAssertions, CitesTellAssertions};
 
 use crate::item_laws::mandatory_labels_mean;
-use mm_frame::kept_next;
+use mm_frame::{kept_next, labels_mean};
 
 /// Each word that cites is the label of an assertion, and they are labels of exactly the assertions that decoded steps name.
 ///
@@ -14,4 +14,5 @@ pub fn cites_tell()
 {
     kept_next();
     mandatory_labels_mean();
+    labels_mean();
 }

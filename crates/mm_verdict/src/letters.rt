@@ -1,10 +1,11 @@
 //! The letters of a compressed proof, read in one pass.
 
-ghost use Rattle.std.specs.Prelude.{◌≡◌, ℕ, ◌+◌, ◌-◌, ◌*◌, ◌^◌, ◌<◌, ◌≤◌, min, nat_lt, length, List, slice_get, IfOk, IfErr, Ok};
+ghost use Rattle.std.specs.Prelude.{◌≡◌, false, ℕ, ◌+◌, ◌-◌, ◌*◌, ◌^◌, ◌<◌, ◌≤◌, min, nat_lt, length, List, slice_get, IfOk, IfErr, Ok};
 ghost use Rattle.mm_machine.specs.Language.Expansion.{Step};
 ghost use Rattle.mm_verdict.specs.Language.Numbers as numbers;
-ghost use Rattle.mm_verdict.specs.Language.Decoding.{nameable, named as named_lem};
-ghost use Rattle.mm_verdict.specs.Code.LeftToRight.{read_behind, alone_behind, read_on};
+ghost use Rattle.std.specs.Option.{ok_or};
+ghost use Rattle.mm_verdict.specs.Language.Decoding.{nameable};
+ghost use Rattle.mm_verdict.specs.Code.LeftToRight.{read_behind, read_on};
 ghost use Rattle.mm_machine.specs.Language.NamedSteps.{meant};
 ghost use Rattle.mm_verdict.specs.Code.Coded.{TellsSteps, meant_or, meant_steps, LettersGive};
 ghost use Rattle.mm_verdict.specs.Code.UsedLabels.{AreUseMarks, IsLabelWithin};
@@ -14,13 +15,6 @@ use crate::used::mark;
 use mm_frame::ProofWords;
 use mm_machine::{Action, ProofFault, ProofNumber, ProofStep, Spot};
 use std::alloc::AllocError;
-
-/// Whether a byte is one of the digits `U` to `Y`.
-fn is_digit(byte: u8) -> bool
-    ensures { result ≡ numbers.is_digit byte }
-{
-    matches!(byte, b'U'..=b'Y')
-}
 
 /// Whether digits in base five are those of a number that is far from the largest one.
 fn is_small(digits: usize) -> bool
@@ -41,9 +35,9 @@ fn with_digit(digits: usize, worth: usize) -> usize
     }
 }
 
-/// The number that these digits in base five and this last letter write: no more than the largest number there is.
+/// Counted from 0, the number that these digits in base five and this last letter write: no more than the largest there is.
 fn value_of(digits: usize, last: usize) -> usize
-    requires { last ≤ 20 }
+    requires { last < 20 }
     ensures { result ≡ min (20 * digits + last) (2 ^ 64 - 1) }
 {
     if is_small(digits) {
@@ -53,51 +47,34 @@ fn value_of(digits: usize, last: usize) -> usize
     }
 }
 
-/// What a number names among the labels and the saves so far.
+/// What a number, counted from 0, names among the labels and the saves so far.
 fn named(labels: usize, saves: usize, digits: usize, last: usize) -> Result<Action, ProofNumber>
     requires few { labels + saves < 2 ^ 64 - 1 }
-    requires some { 0 < last }
-    requires letter { last ≤ 20 }
+    requires letter { last < 20 }
     ensures within { IfOk result (IsLabelWithin labels) }
     ensures says { (names : List Step) (n : ℕ) → length names ≡ labels → digits ≡ min n (2 ^ 64 - 1) →
-        meant_or names result ≡ named_lem (slice_get (nameable names saves) (20 * n + last - 1)) }
+        meant_or names result ≡ ok_or (slice_get (nameable names saves) (20 * n + last)) ProofNumber.P06 }
 {
     let value = value_of(digits, last);
-    if value <= labels {
-        Ok(Action::Label(value - 1))
-    } else if value - labels <= saves {
-        Ok(Action::Saved(value - labels - 1))
+    if value < labels {
+        Ok(Action::Label(value))
+    } else if value - labels < saves {
+        Ok(Action::Saved(value - labels))
     } else {
         Err(ProofNumber::P06)
     }
 }
 
-/// An action that takes no digits.
-fn alone(digits: usize, action: Action) -> Result<Action, ProofNumber>
-    ensures same { IfOk result (λ found. found ≡ action) }
-    ensures says { (names : List Step) (n : ℕ) → digits ≡ min n (2 ^ 64 - 1) → meant_or names result ≡ alone_behind n (meant names action) }
-{
-    if digits == 0 {
-        Ok(action)
-    } else {
-        Err(ProofNumber::P05)
-    }
-}
-
-/// What a letter that is no digit does after these digits.
-fn action(labels: usize, saves: usize, digits: usize, byte: u8) -> Result<Action, ProofNumber>
-    requires few { labels + saves < 2 ^ 64 - 1 }
-    ensures within { IfOk result (IsLabelWithin labels) }
-    ensures says { (names : List Step) (n : ℕ) → length names ≡ labels → digits ≡ min n (2 ^ 64 - 1) →
+/// What a letter that belongs to no number does after these digits.
+fn action(digits: usize, byte: u8) -> Result<Action, ProofNumber>
+    ensures within { (labels : ℕ) → IfOk result (IsLabelWithin labels) }
+    ensures says { (names : List Step) (saves n : ℕ) → numbers.is_last byte ≡ false → digits ≡ min n (2 ^ 64 - 1) →
         meant_or names result ≡ read_behind (nameable names saves) n byte }
 {
-    // Most letters are these, so they are looked for first.
-    if matches!(byte, b'A'..=b'T') {
-        return named(labels, saves, digits, usize::from(byte - b'@'));
-    }
     match byte {
-        b'Z' => alone(digits, Action::Save),
-        b'?' => alone(digits, Action::Unknown),
+        b'Z' if digits == 0 => Ok(Action::Save),
+        b'?' if digits == 0 => Ok(Action::Unknown),
+        b'Z' | b'?' => Err(ProofNumber::P05),
         _ => Err(ProofNumber::P04),
     }
 }
@@ -129,7 +106,7 @@ pub struct LetterReader {
 impl LetterReader {
     ghost use Rattle.std.specs.Prelude.{[], ◌∷◌, ◌++◌, OnOk};
     ghost use Rattle.mm_verdict.specs.Language.Letters.{Letter, letters_in};
-    ghost use Rattle.mm_verdict.specs.Code.Reader.{Aim, HasRoom, ReadsLetters};
+    ghost use Rattle.mm_verdict.specs.Code.Reader.{Aim, HasRoom, IsFound, ReadsLetters};
 
     /// A reader before the first letter, where numbers name this many labels. It puts the steps and the marks in place of
     /// what the lists have.
@@ -164,21 +141,23 @@ impl LetterReader {
         Ok(reader)
     }
 
-    /// Reads one letter.
-    fn read(&mut self, byte: u8, spot: Spot) -> Result<(), Undecoded>
+    /// Adds the step that was found at a letter that is no digit.
+    fn add(
+        &mut self,
+        found: Result<Action, ProofNumber>,
+        byte: u8,
+        spot: Spot,
+    ) -> Result<(), Undecoded>
         requires room { HasRoom 1 self.old }
+        requires within { IfOk found (IsLabelWithin self.old.labels) }
         ensures room { OnOk result ((n : ℕ) → HasRoom (n + 1) self.old → HasRoom n self.new) }
         ensures labels { OnOk result (self.new.labels ≡ self.old.labels) }
-        ensures ok { OnOk result ((aim : Aim) (ls : List Letter)
+        ensures ok { OnOk result ((aim : Aim) (ls : List Letter) → IsFound aim self.old byte found
             → ReadsLetters aim self.old (record { byte = byte; spot = spot } ∷ ls) → ReadsLetters aim self.new ls) }
-        ensures err { IfErr result (λ e. (aim : Aim) (ls : List Letter)
+        ensures err { IfErr result (λ e. (aim : Aim) (ls : List Letter) → IsFound aim self.old byte found
             → ReadsLetters aim self.old (record { byte = byte; spot = spot } ∷ ls) → TellsSteps e aim.total) }
     {
-        if is_digit(byte) {
-            self.digits = with_digit(self.digits, usize::from(byte - b'T'));
-            return Ok(());
-        }
-        match action(self.labels, self.saves, self.digits, byte) {
+        match found {
             Ok(action) => {
                 self.steps.push_reserved(ProofStep { action, spot });
                 mark(&mut self.used, action);
@@ -189,6 +168,28 @@ impl LetterReader {
                 Ok(())
             }
             Err(number) => Err(Undecoded::Fault(ProofFault { number, spot })),
+        }
+    }
+
+    /// Reads one letter. Most letters end a number, so they are looked for first.
+    fn read(&mut self, byte: u8, spot: Spot) -> Result<(), Undecoded>
+        requires room { HasRoom 1 self.old }
+        ensures room { OnOk result ((n : ℕ) → HasRoom (n + 1) self.old → HasRoom n self.new) }
+        ensures labels { OnOk result (self.new.labels ≡ self.old.labels) }
+        ensures ok { OnOk result ((aim : Aim) (ls : List Letter)
+            → ReadsLetters aim self.old (record { byte = byte; spot = spot } ∷ ls) → ReadsLetters aim self.new ls) }
+        ensures err { IfErr result (λ e. (aim : Aim) (ls : List Letter)
+            → ReadsLetters aim self.old (record { byte = byte; spot = spot } ∷ ls) → TellsSteps e aim.total) }
+    {
+        let letter = byte.wrapping_sub(b'A');
+        if letter < 20 {
+            let found = named(self.labels, self.saves, self.digits, usize::from(letter));
+            self.add(found, byte, spot)
+        } else if letter < 25 {
+            self.digits = with_digit(self.digits, usize::from(letter - 19));
+            Ok(())
+        } else {
+            self.add(action(self.digits, byte), byte, spot)
         }
     }
 

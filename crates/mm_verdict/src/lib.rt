@@ -15,6 +15,7 @@ mod letters;
 mod named;
 mod program;
 mod reading;
+mod scratch;
 mod short;
 mod undecoded;
 mod used;
@@ -29,7 +30,7 @@ pub use decoding_laws::{
     labels_are_own, letters_read_on, mandatory_are_active, numbers_are_apart,
     renaming_keeps_decoding, same_cites_same, same_decodes_same, tells_first_fault,
 };
-pub use examples::proofs_are_read_so;
+pub use examples::{faults_are_read_so, proofs_are_read_so, steps_are_read_so};
 pub use item_laws::{
     has_count_at, has_one_count_at, has_one_verdict_at, has_verdict_at, labels_are_a_proof,
     mandatory_labels_mean, proved_is_derived_at, spots_are_in,

@@ -30,8 +30,8 @@ pub struct Program<'a> {
 /// it. So a caller can run the first steps of a proof; for the verdict there is `check`.
 ///
 /// The error is the first fault of decoding, or out of memory. It takes time near linear in the words of the proof, in the
-/// frames of the assertions that it names, and in the items of the base, of which it makes a table. A check keeps this table
-/// in its `Work` for the next one.
+/// frames of the assertions that it names, and in the items of the base, of which it makes a table. A `Checker` keeps this
+/// table for its next check.
 pub fn program_of<'a>(
     alloc: Global,
     files: &Files,

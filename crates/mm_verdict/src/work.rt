@@ -2,46 +2,9 @@
 
 ghost use Rattle.std.specs.Prelude.{◌≡◌, ◌<◌, ◌+◌, ◌++◌, ◌∷◌, ◌^◌, [], IfOk, OnOk, OnErr};
 
-use crate::named::NamingRoom;
-use crate::reading::MarkedDecoding;
-use mm_frame::Resolved;
-use mm_machine::{Machine, NumberedSymbol, Verdict};
+use mm_machine::Verdict;
 use std::alloc::{AllocError, Global};
 use std::marker::Model;
-
-/// What checks use over again, so that none takes its memory anew. No answer depends on what one leaves there.
-#[derive(Drop)]
-pub struct Scratch {
-    pub decoding: MarkedDecoding,
-    /// The labels that steps name.
-    pub used: Vec<Resolved>,
-    pub naming: NamingRoom,
-    /// For the number of an item a mark.
-    pub marks: Vec<bool>,
-    pub machine: Machine<NumberedSymbol>,
-}
-
-impl Scratch {
-    /// It has taken no memory yet.
-    fn new(alloc: Global) -> Scratch {
-        Scratch {
-            decoding: MarkedDecoding::new(alloc),
-            used: Vec::new(alloc),
-            naming: NamingRoom::new(alloc),
-            marks: Vec::new(alloc),
-            machine: Machine::new(alloc),
-        }
-    }
-
-    /// Gives the marks a place for each of this many items, and the machine's tables for each of this many keys of variables,
-    /// if they have fewer.
-    fn widen(&mut self, items: usize, keys: usize) -> Result<(), AllocError> {
-        if self.marks.len() < items {
-            self.marks.resize(items, false)?;
-        }
-        self.machine.widen(keys)
-    }
-}
 
 /// Which proofs were run, in order, and how many steps were done.
 #[derive(Drop)]
@@ -49,8 +12,6 @@ pub struct Work {
     runs: Vec<usize>,
     steps: u64,
     room: usize,
-    /// What checks use over again, if none has it.
-    scratch: Vec<Scratch>,
 }
 
 impl Model for Work {
@@ -72,40 +33,12 @@ impl Work {
             runs: Vec::with_capacity(alloc, room)?,
             steps: 0,
             room,
-            scratch: Vec::with_capacity(alloc, 1)?,
         })
     }
 
-    /// Lends what checks use over again, with places for this many items and this many keys of variables. Without it the work
-    /// is the same.
-    pub(crate) fn lend(
-        &mut self,
-        alloc: Global,
-        items: usize,
-        keys: usize,
-    ) -> Result<Scratch, AllocError>
-        ensures { self.new ≡ self.old }
-    {
-        let mut scratch = match self.scratch.pop() {
-            Some(scratch) => scratch,
-            None => Scratch::new(alloc),
-        };
-        if let Err(error) = scratch.widen(items, keys) {
-            drop(scratch);
-            return Err(error);
-        }
-        Ok(scratch)
-    }
-
-    /// Records the run of the proof of the item with this number, in which this many steps were done. What checks use over
-    /// again is taken back for the next one. Out of memory records nothing; it cannot come if the room was taken at the
-    /// beginning.
-    pub(crate) fn record(
-        &mut self,
-        scratch: Scratch,
-        i: usize,
-        steps: u64,
-    ) -> Result<(), AllocError>
+    /// Records the run of the proof of the item with this number, in which this many steps were done. Out of memory
+    /// records nothing; it cannot come if the room was taken at the beginning.
+    pub(crate) fn record(&mut self, i: usize, steps: u64) -> Result<(), AllocError>
         requires room { 0 < self.old.room }
         requires steps { self.old.steps + steps < 2 ^ 64 }
         ensures runs { OnOk result (self.new.runs ≡ self.old.runs ++ i ∷ []) }
@@ -113,7 +46,6 @@ impl Work {
         ensures room { OnOk result (self.new.room + 1 ≡ self.old.room) }
         ensures memory { OnErr result (self.new ≡ self.old) }
     {
-        self.scratch.push(scratch)?;
         self.runs.push(i)?;
         self.steps += steps;
         self.room -= 1;

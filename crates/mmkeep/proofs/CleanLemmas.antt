@@ -1,6 +1,6 @@
 -- A report is clean: it has no line before its summary.
 use Rattle.std.proofs.{Common.{[], ◌≡◌, ℕ, Bool, false, cond, zero-add, IsTrue, ◌+◌, List, ◌∷◌, length, refl, sym, ◌∙◌, ap, arith, nat_eq, count_by, eqb-true, eq-eqb}, lemmas.List.Sums.{sum_by-cons}}
-use Rattle.mm_report.specs.{mm_statement.Language.Item.{Item}, mm_keep.{declared.tally.Tally.{Tally}, Language.Findings.{counted}}}
+use Rattle.mm_report.specs.{mm_statement.Language.Item.{Said}, mm_keep.{declared.tally.Tally.{Tally}, Language.Findings.{counted}}}
 use Rattle.mm_report.specs.{mm_keep.Language.Told.{Told, Quiet, AnAxiom, Proved, Incomplete, Wrong, Fault, Counts, counts, is_incomplete, is_wrong, is_fault}, Language.Report.{lines}}
 
 -- ---- counts
@@ -24,7 +24,7 @@ none_behind one all i w f p =
     (sym (zero-add _) ∙ sym (count_cons is_incomplete one all ∙ rw i refl) ∙ p.0, sym (zero-add _) ∙ sym (count_cons is_wrong one all ∙ rw w refl) ∙ p.1, sym (zero-add _) ∙ sym (count_cons is_fault one all ∙ rw f refl) ∙ p.2)
 
 -- a report has no line before its summary if nothing is incomplete, wrong or at fault
-pub no_lines : (names : List (List ℕ)) (items : List Item) (all : List Told) → HaveNoLines all → lines names items all ≡ []
+pub no_lines : (names : List (List ℕ)) (items : List Said) (all : List Told) → HaveNoLines all → lines names items all ≡ []
 no_lines names (x ∷ xs) (Incomplete at ∷ ys) n = absurd (omega (arith, n.0, count_cons is_incomplete (Incomplete at) ys))
 no_lines names (x ∷ xs) (Wrong number at ∷ ys) n = absurd (omega (arith, n.1, count_cons is_wrong (Wrong number at) ys))
 no_lines names (x ∷ xs) (Fault number shown ∷ ys) n = absurd (omega (arith, n.2, count_cons is_fault (Fault number shown) ys))
@@ -32,7 +32,7 @@ no_lines names (x ∷ xs) (one ∷ ys) n = no_lines names xs ys (none_behind one
 no_lines names _ _ n = refl
 
 -- and it has one if something is
-pub some_line : (names : List (List ℕ)) (items : List Item) (all : List Told) → length all ≡ length items → lines names items all ≡ [] → HaveNoLines all
+pub some_line : (names : List (List ℕ)) (items : List Said) (all : List Told) → length all ≡ length items → lines names items all ≡ [] → HaveNoLines all
 some_line names [] [] e l = (refl, refl, refl)
 some_line names (x ∷ xs) (Quiet ∷ ys) e l = none_more Quiet ys refl refl refl (some_line names xs ys (cc) l)
 some_line names (x ∷ xs) (AnAxiom ∷ ys) e l = none_more AnAxiom ys refl refl refl (some_line names xs ys (cc) l)
@@ -41,10 +41,10 @@ some_line names _ _ e l = cc
 
 -- ---- the answer
 
-abbrev pub IsAnswer : List (List ℕ) → List Item → List Told → Bool → Type 0
+abbrev pub IsAnswer : List (List ℕ) → List Said → List Told → Bool → Type 0
 IsAnswer names items all clean = (IsTrue clean → lines names items all ≡ []) × (lines names items all ≡ [] → IsTrue clean)
 
-module _ (names : List (List ℕ)) (items : List Item) (all : List Told) (tally : Tally) (count : length all ≡ length items) (same : counted tally ≡ counts all) where
+module _ (names : List (List ℕ)) (items : List Said) (all : List Told) (tally : Tally) (count : length all ≡ length items) (same : counted tally ≡ counts all) where
   -- nothing is incomplete or wrong: it is clean exactly when nothing is at fault
   pub clean_by_faults : tally.incomplete ≡ 0 → tally.wrong ≡ 0 → IsAnswer names items all (nat_eq tally.faults 0)
   clean_by_faults i w = (

@@ -1,9 +1,11 @@
 -- What a command has done, by what its parts have done.
-use Rattle.std.proofs.{Common.{◌≡◌, ◌⊎◌, ℕ, List, Option, None, Some, Result, Ok, Err, IfErr, IfOk, inl, inr, refl, sym, subst}, KnownBytes.{Keeps-refl}}
-use Rattle.std.specs.{Io.{KnownBytes.{Appends, Keeps, append_known}, Buffered.{writer_buffer, writer_contents}}, declared.io.buffered.BufWriter.{BufWriter}}
-use Rattle.mm_report.specs.{mm_keep.Language.Sessions.{SessionView, HasAssertion}, mm_script.declared.{error.ScriptError.{ScriptError}, stream.Writing.{Writing}}}
-use Rattle.mm_report.specs.{mm_script.Language.Stream.{AppendsPart, gone_out, written}, Language.{Answers.{IsAnswer}, Laws.{CleanIsDerived}}}
-use Rattle.mmkeep.specs.declared.{arguments.Command.{Command}, outcome.Outcome.{Outcome, TheVariants.{Clean}}}
+use Rattle.std.proofs.Common.{◌≡◌, ◌⊎◌, ◌↔◌, ◌∙◌, ℕ, Bool, true, false, IsTrue, List, [], length, Option, None, Some, Result, Ok, Err, IfErr, IfOk, inl, inr, refl, sym, subst}
+use Rattle.std.{proofs.{KnownBytes.{Keeps-refl}, lemmas.{Bool.{false≢true}, List.{length-map}}}, specs.Io.{KnownBytes.{Appends, Keeps, append_known}, Buffered.{writer_buffer, writer_contents}}}
+use Rattle.std.specs.declared.io.buffered.BufWriter.{BufWriter}
+use Rattle.mm_report.specs.mm_keep.{declared.tally.Tally.{Tally}, Language.{Findings.{counted}, Sessions.{SessionView, HasAssertion, IsTally}, Told.{Told, counts}}}
+use Rattle.mm_report.specs.{mm_script.{declared.{error.ScriptError.{ScriptError}, stream.Writing.{Writing}}, Language.Stream.{AppendsPart, gone_out, written}}, Language.Answers.{IsAnswer}}
+use Rattle.mm_report.specs.{Language.{Laws.{CleanIsDerived}, Report.{lines, names_of}}, mm_statement.Language.{Database.{Located}, Item.{Said}}, mm_frame.Language.Base.{base_of}}
+use Rattle.mmkeep.specs.declared.{arguments.Invocation.{Invocation}, outcome.Outcome.{Outcome, TheVariants.{Clean, Findings}}}
 use Rattle.mmkeep.specs.Language.Performing.{AllInOrder, GoesOut, IsCutOff, IsDone, IsJudged, ListsAxioms, StopsAxioms}
 use Rattle.mm_report.specs.mm_script.declared.error.ScriptError.TheVariants as errors
 use Rattle.mm_report.specs.mm_script.Language.Script as script
@@ -30,11 +32,32 @@ pub on_error : {T E : Type 0} {P Q : E → Type 0} (result : Result T E) → ((e
 on_error (Ok value) more p = tt
 on_error (Err error) more p = more error p
 
+-- a session is judged by its tally
+module _ (session : SessionView) (tally : Tally) (clean : Bool) (are : IsTally session (counted tally)) where
+  abbrev KnowsLines : Type 0
+  KnowsLines = (names : List (List ℕ)) (items : List Said) (all : List Told) → length all ≡ length items → counted tally ≡ counts all → IsTrue clean ↔ (lines names items all ≡ [])
+
+  long : length are.all ≡ length (base_of are.items)
+  long = are.are_told.count ∙ sym (length-map are.items (λ (item : Located). item.said))
+
+  pub judged_clean : KnowsLines → clean ≡ true → IsJudged session Clean
+  judged_clean knows is =
+      record { items = are.items; of_files = are.of_files; all = are.all; are_told = are.are_told; is = (knows (names_of session.files) (base_of are.items) are.all long are.is).0 is }
+
+  pub judged_else : KnowsLines → clean ≡ false → IsJudged session Findings
+  judged_else knows is = record {
+    items = are.items;
+    of_files = are.of_files;
+    all = are.all;
+    are_told = are.are_told;
+    is = λ none. (let so : clean ≡ true = (knows (names_of session.files) (base_of are.items) are.all long are.is).1 none in false≢true (sym is ∙ so));
+  }
+
 -- a session that is judged clean is in order
 pub clean_in_order : CleanIsDerived → (session : SessionView) (outcome : Outcome) → IsJudged session outcome → outcome ≡ Clean → AllInOrder session
 clean_in_order law session outcome judged clean =
     let is : IsJudged session Clean = subst (IsJudged session) clean judged in
-    record { base = is.base; of_files = is.of_files; each = law session is.base is.all is.of_files is.are_told is.is }
+    record { items = is.items; of_files = is.of_files; each = law session is.items is.all is.of_files is.are_told is.is }
 
 -- ---- what does not go out
 
@@ -45,7 +68,7 @@ goes_out (Some bytes) None kept is = absurd is
 goes_out (Some bytes) (Some out) kept is = (kept, sym is)
 
 -- a command is done, and then the flush fails
-pub cut_after : {W A : Type 0} (command : Command) (old new : SessionView) (unread left before : Option (List ℕ)) (contents : W → Option (List ℕ))
+pub cut_after : {W A : Type 0} (command : Invocation) (old new : SessionView) (unread left before : Option (List ℕ)) (contents : W → Option (List ℕ))
     (all last : Writing (BufWriter W A)) (result : Result Outcome ScriptError) (outcome : Outcome) → result ≡ Ok outcome
     → IfOk result (IsDone command old new unread before (written (writer_contents contents) all))
     → Keeps (written (writer_contents contents) all) (written (writer_contents contents) last)

@@ -3,3 +3,5 @@ pub mod Asking
 pub mod Loading
 pub mod Performing
 pub mod Status
+pub mod Examples
+pub mod LoadingExamples

@@ -1,13 +1,13 @@
 //! Files that are read and added to those of a database.
 
-ghost use Rattle.std.specs.Prelude.{◌≡◌, ◌⊎◌, ◌↔◌, ℕ, List, true, OnErr, OnOk, IfErr, IfOk, IfSome, IsErrOf};
+ghost use Rattle.std.specs.Prelude.{◌≡◌, ◌⊎◌, ◌↔◌, ℕ, None, List, true, OnErr, OnOk, IfErr, IfOk, IfSome, IsErrOf};
 ghost use Rattle.mm_report.specs.mm_store.Language.Answers.{IsAddError, IsAddErrorIn};
 ghost use Rattle.mm_report.specs.mm_store.Language.FileFacts.{IsAdded, parked_in};
-ghost use Rattle.mm_report.specs.mm_store.Language.FilesView.{File, plain};
+ghost use Rattle.mm_report.specs.mm_store.Language.FilesView.{File, file_number, plain};
 ghost use Rattle.mm_report.specs.mm_script.Language.Stream.{calls_left, cannot_read, unread};
 ghost use Rattle.mmkeep.specs.declared.adding.FileError.TheVariants as errors;
 ghost use Rattle.mmkeep.specs.Code.Loaded.{IsNewNameError};
-ghost use Rattle.mmkeep.specs.Language.Loading.{AddsFile, IsFileError, IsNew, IsTextError, ReadsOn};
+ghost use Rattle.mmkeep.specs.Language.Loading.{AddsFile, IsFileError, IsTextError, ReadsOn};
 
 use bytes::Bytes;
 use mm_report::{Files, Place, ReadFailed, Reading, StoreError, TextNumber, place};
@@ -79,7 +79,7 @@ pub fn add_file<R: Read + Drop>(
     name: &[u8],
     file: R,
 ) -> (Result<(), FileError>, Reading<R>)
-    requires { IsNew files.old name.now }
+    requires { file_number (plain files.old) name.now ≡ None }
     ensures added { OnOk result.0 (AddsFile (plain files.old) (plain files.new) name.now (R.remaining file)) }
     ensures parked { OnOk result.0 (parked_in files.new ≡ parked_in files.old) }
     ensures refused { IfErr result.0 (IsFileError (plain files.old) (R.remaining file)) }
@@ -99,7 +99,7 @@ fn add_unread<R: Read>(
     name: &[u8],
     reading: &mut Reading<R>,
 ) -> Result<(), FileError>
-    requires { IsNew files.old name.now }
+    requires { file_number (plain files.old) name.now ≡ None }
     ensures added { OnOk result (AddsFile (plain files.old) (plain files.new) name.now (unread R.remaining reading.old)) }
     ensures parked { OnOk result (parked_in files.new ≡ parked_in files.old) }
     ensures refused { IfErr result (IsFileError (plain files.old) (unread R.remaining reading.old)) }
@@ -122,7 +122,7 @@ fn shared(bytes: Vec<u8>) -> Result<Bytes, AllocError>
 
 /// Adds a text under a name that no file has.
 fn add_text(files: &mut Files, name: &[u8], text: &Bytes) -> Result<(), FileError>
-    requires { IsNew files.old name.now }
+    requires { file_number (plain files.old) name.now ≡ None }
     ensures added { OnOk result (IsAdded (plain files.old) (plain files.new) name.now text.now) }
     ensures parked { OnOk result (parked_in files.new ≡ parked_in files.old) }
     ensures refused { IfErr result (IsTextError (plain files.old) text.now) }

@@ -1,55 +1,57 @@
 //! Loads the files of a database from a source.
 
-ghost use Rattle.std.specs.Prelude.{◌≡◌, ◌≢◌, ◌⊎◌, ℕ, List, IfErr, IfOk, IsErrOf, IsOk, OnOk};
+ghost use Rattle.std.specs.Prelude.{◌≡◌, ◌≢◌, ◌⊎◌, ℕ, None, List, [], IfErr, IfOk, IsErrOf, IsOk, OnOk};
 ghost use Rattle.std.specs.IoError.{error_kind};
 ghost use Rattle.mm_report.specs.mm_store.Language.FileFacts.{parked_in};
-ghost use Rattle.mm_report.specs.mm_store.Language.FilesView.{no_files, plain};
-ghost use Rattle.mmkeep.specs.declared.outcome.Outcome.TheVariants.{Input, Memory};
-ghost use Rattle.mmkeep.specs.Code.Loaded.{AddsIfOpened, AddsOpened, HasBegun, HasFile, IsMemoryOr, IsOutcomeOfFile, KeepsFiles, RefusesOpened};
-ghost use Rattle.mmkeep.specs.Language.Loading.{AddsFile, AreLoaded, AreOfSource, IsLoadError, IsNew, IsRefused, IsTopRefused, Loads, TakesFile};
-ghost use Rattle.mmkeep.specs.Language.Loading.{TakesTop};
+ghost use Rattle.mm_report.specs.mm_store.Language.FilesView.{file_number, plain};
+ghost use Rattle.mm_report.specs.mm_store.declared.error.StoreError.TheVariants.{Memory as Lacking};
+ghost use Rattle.mmkeep.specs.declared.unloaded.Unloaded.TheVariants.{Input, Memory};
+ghost use Rattle.mmkeep.specs.Code.Loaded.{AddsIfOpened, AddsOpened, HasBegun, HasFile, KeepsFiles, Loads, StopsOpened, TakesFile, TakesTop, unloaded_by};
+ghost use Rattle.mmkeep.specs.Language.Loading.{AddsFile, AreLoaded, IsUnloaded, StopsAt, StopsAtTop, StopsLoading};
 
-use crate::adding::add_file;
-use crate::complaints::{refuse_file, refuse_reading, report_out_of_memory, report_unbegun};
-use crate::outcome::Outcome;
+use crate::adding::{FileError, add_file};
+use crate::complaints::{report_file, report_out_of_memory};
 use crate::source::Source;
-use mm_report::{Files as Database, Session, Walk, walks_go_on};
+use crate::unloaded::Unloaded;
+use mm_report::{
+    Files as Database, Reading, Session, StoreError, Walk, names_are_taken, walks_go_on,
+};
+use std::alloc::AllocError;
 use std::io;
 use std::io::{ErrorKind, Read};
 
 /// Loads the files of a database from a top file on, and begins a session over them.
 ///
-/// The error is `Memory`, or `Input` if the top file cannot be opened, a read of a file failed, or a text has a fault or is
-/// too much. It is reported.
+/// The error is reported, and says why loading stopped, at the top file or at the next of the names to which the files refer.
+/// A failed read is returned with its reading.
 pub fn load_session<S: Source>(
     rt: &(impl Eprint + AllocGlobal),
     source: &S,
     top: &[u8],
-) -> Result<Session, Outcome>
+) -> Result<Session, Unloaded<S::Opened>>
     ensures files { IfOk result (λ session. AreLoaded (S.holds source.now) top.now session.files) }
-    ensures of_source { IfOk result (λ session. AreOfSource (S.holds source.now) top.now (plain session.files)) }
     ensures top { IfOk result (λ session. session.top ≡ top.now) }
-    ensures error { IfErr result (IsLoadError (S.holds source.now) top.now) }
+    ensures unloaded { IfErr result (IsUnloaded S.Opened.remaining (S.holds source.now) top.now) }
 {
     let files = load(rt, source, top)?;
     begin_session(rt, files, top)
 }
 
 /// Begins a session over files that have the top file.
-fn begin_session(
+fn begin_session<R: Read>(
     rt: &(impl Eprint + AllocGlobal),
     files: Database,
     top: &[u8],
-) -> Result<Session, Outcome>
+) -> Result<Session, Unloaded<R>>
     requires parked { parked_in files ≡ 0 }
-    requires top { HasFile files top.now }
-    ensures files { IfOk result (λ session. session.files ≡ files) }
+    requires top { HasFile (plain files) top.now }
+    ensures files { IfOk result (λ session. session.files ≡ plain files) }
     ensures top { IfOk result (λ session. session.top ≡ top.now) }
-    ensures memory { IfErr result (λ outcome. outcome ≡ Memory) }
+    ensures memory { IfErr result (λ unloaded. unloaded ≡ Memory) }
 {
     match Session::begin(rt.alloc(), files, top) {
         Ok((session, _)) => Ok(session),
-        Err(unbegun) => Err(report_unbegun(rt, unbegun.fault)),
+        Err(unbegun) => Err(not_begun(rt, unbegun.fault)),
     }
 }
 
@@ -59,18 +61,16 @@ fn load<S: Source>(
     rt: &(impl Eprint + AllocGlobal),
     source: &S,
     top: &[u8],
-) -> Result<Database, Outcome>
-    ensures files { IfOk result (AreLoaded (S.holds source.now) top.now) }
-    ensures of_source { IfOk result (λ files. AreOfSource (S.holds source.now) top.now (plain files)) }
+) -> Result<Database, Unloaded<S::Opened>>
+    ensures files { IfOk result (λ files. AreLoaded (S.holds source.now) top.now (plain files)) }
     ensures parked { IfOk result (λ files. parked_in files ≡ 0) }
-    ensures top { IfOk result (λ files. HasFile files top.now) }
-    ensures error { IfErr result (IsLoadError (S.holds source.now) top.now) }
+    ensures top { IfOk result (λ files. HasFile (plain files) top.now) }
+    ensures unloaded { IfErr result (IsUnloaded S.Opened.remaining (S.holds source.now) top.now) }
 {
-    walks_go_on();
     let mut files = Database::new(rt.alloc());
     match add_all(rt, source, &mut files, top) {
         Ok(()) => Ok(files),
-        Err(outcome) => Err(outcome),
+        Err(unloaded) => Err(unloaded),
     }
 }
 
@@ -80,17 +80,17 @@ fn add_all<S: Source>(
     source: &S,
     files: &mut Database,
     top: &[u8],
-) -> Result<(), Outcome>
-    requires { files.old ≡ no_files }
-    ensures files { OnOk result (AreLoaded (S.holds source.now) top.now files.new) }
+) -> Result<(), Unloaded<S::Opened>>
+    requires { plain files.old ≡ [] }
+    ensures files { OnOk result (AreLoaded (S.holds source.now) top.now (plain files.new)) }
     ensures parked { OnOk result (parked_in files.new ≡ parked_in files.old) }
-    ensures top { OnOk result (HasFile files.new top.now) }
-    ensures error { IfErr result (IsLoadError (S.holds source.now) top.now) }
+    ensures top { OnOk result (HasFile (plain files.new) top.now) }
+    ensures unloaded { IfErr result (IsUnloaded S.Opened.remaining (S.holds source.now) top.now) }
 {
     take_top(rt, source, files, top)?;
     match files.walk(top) {
         Ok(mut walk) => add_missing(rt, source, files, &mut walk),
-        Err(error) => Err(report_unbegun(rt, error)),
+        Err(error) => Err(not_begun(rt, error)),
     }
 }
 
@@ -100,12 +100,12 @@ fn take_top<S: Source>(
     source: &S,
     files: &mut Database,
     top: &[u8],
-) -> Result<(), Outcome>
-    requires { IsNew files.old top.now }
-    ensures taken { OnOk result (TakesTop (S.holds source.now top.now) files.old files.new top.now) }
+) -> Result<(), Unloaded<S::Opened>>
+    requires { file_number (plain files.old) top.now ≡ None }
+    ensures taken { OnOk result (TakesTop (S.holds source.now top.now) (plain files.old) (plain files.new) top.now) }
     ensures parked { OnOk result (parked_in files.new ≡ parked_in files.old) }
-    ensures there { OnOk result (HasFile files.new top.now) }
-    ensures refused { IfErr result (IsMemoryOr (IsTopRefused (S.holds source.now top.now) (plain files.old))) }
+    ensures there { OnOk result (HasFile (plain files.new) top.now) }
+    ensures refused { IfErr result (StopsAtTop S.Opened.remaining (S.holds source.now top.now) (plain files.old)) }
 {
     add_top(rt, files, top, source.open(top))
 }
@@ -116,20 +116,26 @@ fn add_top<R: Read + Drop>(
     files: &mut Database,
     top: &[u8],
     opened: io::Result<R>,
-) -> Result<(), Outcome>
-    requires { IsNew files.old top.now }
-    ensures added { OnOk result (AddsOpened R.remaining opened files.old files.new top.now) }
+) -> Result<(), Unloaded<R>>
+    requires { file_number (plain files.old) top.now ≡ None }
+    ensures added { OnOk result (AddsOpened R.remaining opened (plain files.old) (plain files.new) top.now) }
     ensures parked { OnOk result (parked_in files.new ≡ parked_in files.old) }
-    ensures there { OnOk result (HasFile files.new top.now) }
+    ensures there { OnOk result (HasFile (plain files.new) top.now) }
     ensures memory { IfErr opened (λ error. error_kind error ≡ ErrorKind.OutOfMemory → IsErrOf result Memory) }
     ensures unopened { IfErr opened (λ error. error_kind error ≢ ErrorKind.OutOfMemory → IsErrOf result Input) }
-    ensures refused { IfErr result (RefusesOpened (λ outcome. (outcome ≡ Memory) ⊎ (outcome ≡ Input)) R.remaining opened (plain files.old)) }
+    ensures refused { IfErr result (StopsOpened (λ unloaded. (unloaded ≡ Memory) ⊎ (unloaded ≡ Input)) R.remaining opened (plain files.old)) }
 {
     match opened {
         Ok(file) => add_opened(rt, files, top, file),
         Err(error) => match error.kind() {
-            ErrorKind::OutOfMemory => Err(report_out_of_memory(rt)),
-            _ => Err(refuse_reading(rt, top)),
+            ErrorKind::OutOfMemory => {
+                report_out_of_memory(rt);
+                Err(Unloaded::from(AllocError))
+            }
+            _ => {
+                report_file(rt, top, FileError::Read);
+                Err(Unloaded::Input)
+            }
         },
     }
 }
@@ -141,20 +147,25 @@ fn add_missing<S: Source>(
     source: &S,
     files: &mut Database,
     walk: &mut Walk,
-) -> Result<(), Outcome>
-    requires { HasBegun (S.holds source.now) files.old walk.old }
-    ensures loaded { OnOk result ((top : List ℕ) → Loads (S.holds source.now) top 0 files.old walk.old → AreLoaded (S.holds source.now) top files.new) }
+) -> Result<(), Unloaded<S::Opened>>
+    requires { HasBegun (S.holds source.now) (plain files.old) walk.old }
+    ensures loaded { OnOk result ((top : List ℕ) → Loads (S.holds source.now) top 0 (plain files.old) walk.old → AreLoaded (S.holds source.now) top (plain files.new)) }
     ensures parked { OnOk result (parked_in files.new ≡ parked_in files.old) }
-    ensures kept { OnOk result (KeepsFiles files.old files.new) }
-    ensures error { IfErr result (λ outcome. (top : List ℕ) → Loads (S.holds source.now) top 0 files.old walk.old
-        → IsLoadError (S.holds source.now) top outcome) }
+    ensures kept { OnOk result (KeepsFiles (plain files.old) (plain files.new)) }
+    ensures error { IfErr result (λ unloaded. (top : List ℕ) → Loads (S.holds source.now) top 0 (plain files.old) walk.old
+        → IsUnloaded S.Opened.remaining (S.holds source.now) top unloaded) }
 {
     walks_go_on();
+    names_are_taken();
     loop {
+        files.hold_one_each();
         match walk.next_missing(files) {
             Ok(Some(name)) => take_included(rt, source, files, &name)?,
             Ok(None) => return Ok(()),
-            Err(_) => return Err(report_out_of_memory(rt)),
+            Err(AllocError) => {
+                report_out_of_memory(rt);
+                return Err(Unloaded::from(AllocError));
+            }
         }
     }
 }
@@ -165,11 +176,11 @@ fn take_included<S: Source>(
     source: &S,
     files: &mut Database,
     name: &[u8],
-) -> Result<(), Outcome>
-    requires { IsNew files.old name.now }
-    ensures taken { OnOk result (TakesFile (S.holds source.now name.now) files.old files.new name.now) }
+) -> Result<(), Unloaded<S::Opened>>
+    requires { file_number (plain files.old) name.now ≡ None }
+    ensures taken { OnOk result (TakesFile (S.holds source.now name.now) (plain files.old) (plain files.new) name.now) }
     ensures parked { OnOk result (parked_in files.new ≡ parked_in files.old) }
-    ensures refused { IfErr result (IsMemoryOr (IsRefused (S.holds source.now name.now) (plain files.old))) }
+    ensures refused { IfErr result (StopsAt S.Opened.remaining (S.holds source.now name.now) (plain files.old)) }
 {
     add_included(rt, files, name, source.open(name))
 }
@@ -180,18 +191,21 @@ fn add_included<R: Read + Drop>(
     files: &mut Database,
     name: &[u8],
     opened: io::Result<R>,
-) -> Result<(), Outcome>
-    requires { IsNew files.old name.now }
-    ensures added { OnOk result (AddsIfOpened R.remaining opened files.old files.new name.now) }
+) -> Result<(), Unloaded<R>>
+    requires { file_number (plain files.old) name.now ≡ None }
+    ensures added { OnOk result (AddsIfOpened R.remaining opened (plain files.old) (plain files.new) name.now) }
     ensures parked { OnOk result (parked_in files.new ≡ parked_in files.old) }
     ensures memory { IfErr opened (λ error. error_kind error ≡ ErrorKind.OutOfMemory → IsErrOf result Memory) }
     ensures missing { IfErr opened (λ error. error_kind error ≢ ErrorKind.OutOfMemory → IsOk result) }
-    ensures refused { IfErr result (RefusesOpened (λ outcome. outcome ≡ Memory) R.remaining opened (plain files.old)) }
+    ensures refused { IfErr result (StopsOpened (λ unloaded. unloaded ≡ Memory) R.remaining opened (plain files.old)) }
 {
     match opened {
         Ok(file) => add_opened(rt, files, name, file),
         Err(error) => match error.kind() {
-            ErrorKind::OutOfMemory => Err(report_out_of_memory(rt)),
+            ErrorKind::OutOfMemory => {
+                report_out_of_memory(rt);
+                Err(Unloaded::from(AllocError))
+            }
             _ => Ok(()),
         },
     }
@@ -203,14 +217,42 @@ fn add_opened<R: Read + Drop>(
     files: &mut Database,
     name: &[u8],
     file: R,
-) -> Result<(), Outcome>
-    requires { IsNew files.old name.now }
+) -> Result<(), Unloaded<R>>
+    requires { file_number (plain files.old) name.now ≡ None }
     ensures added { OnOk result (AddsFile (plain files.old) (plain files.new) name.now (R.remaining file)) }
     ensures parked { OnOk result (parked_in files.new ≡ parked_in files.old) }
-    ensures refused { IfErr result (IsOutcomeOfFile (plain files.old) (R.remaining file)) }
+    ensures refused { IfErr result (StopsLoading R.remaining (plain files.old) (R.remaining file)) }
 {
-    match add_file(rt.alloc(), files, name, file).0 {
-        Ok(()) => Ok(()),
-        Err(error) => Err(refuse_file(rt, name, error)),
+    match add_file(rt.alloc(), files, name, file) {
+        (Ok(()), _) => Ok(()),
+        (Err(error), reading) => {
+            report_file(rt, name, error);
+            Err(unloaded(error, reading))
+        }
+    }
+}
+
+/// Why loading stops at a file that is not added, by the reason and the reading of the file.
+fn unloaded<R: Read + Drop>(error: FileError, reading: Reading<R>) -> Unloaded<R>
+    ensures { result ≡ unloaded_by error reading }
+{
+    match error {
+        FileError::Read => Unloaded::Read(reading),
+        FileError::Text(..) | FileError::TooMany => Unloaded::Input,
+        FileError::Memory => Unloaded::from(AllocError),
+    }
+}
+
+/// Files that have the top file are not gone through: no reason is left but memory.
+fn not_begun<R: Read>(rt: &impl Eprint, error: StoreError) -> Unloaded<R>
+    requires { error ≡ Lacking }
+    ensures { result ≡ Memory }
+{
+    match error {
+        StoreError::Memory => {
+            report_out_of_memory(rt);
+            Unloaded::from(AllocError)
+        }
+        _ => unreachable!(),
     }
 }

@@ -5,15 +5,20 @@ mod adding;
 mod arguments;
 mod asking;
 mod complaints;
+mod examples;
+mod laws;
 mod loading;
 mod outcome;
 mod performing;
 mod program;
 mod source;
+mod unloaded;
 
 pub use adding::{FileError, add_file, read_all};
-pub use arguments::Command;
+pub use arguments::Invocation;
 pub use asking::{command, command_of, top_of};
+pub use examples::{commands_are_done_so, files_are_loaded_so};
+pub use laws::missing_are_lacked;
 pub use loading::load_session;
 pub use mm_report::{
     Action, At, Base, BatchError, Checked, Checker, Decoding, Edit, EditError, Files, Finding,
@@ -28,6 +33,7 @@ pub use outcome::{Outcome, status};
 pub use performing::{judge, perform};
 pub use source::{Source, SystemFiles};
 use std::process::ExitCode;
+pub use unloaded::Unloaded;
 
 fn main(rt: HostRuntime) -> ExitCode {
     ExitCode::from(status(&program::run(&rt)))

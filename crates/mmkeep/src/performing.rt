@@ -2,7 +2,7 @@
 
 ghost use Rattle.std.specs.Prelude.{◌≡◌, ◌≢◌, ◌↔◌, ℕ, List, [], true, false, IfErr, IfOk, IsErrOf, IsTrue, OnOk, length};
 ghost use Rattle.std.specs.Io.Buffered.{writer_contents};
-ghost use Rattle.mm_report.specs.mm_statement.Language.Item.{Item};
+ghost use Rattle.mm_report.specs.mm_statement.Language.Item.{Said};
 ghost use Rattle.mm_report.specs.mm_keep.Language.Findings.{counted};
 ghost use Rattle.mm_report.specs.mm_keep.Language.Told.{Told, counts};
 ghost use Rattle.mm_report.specs.Language.Report.{lines};
@@ -12,7 +12,7 @@ ghost use Rattle.mmkeep.specs.declared.outcome.Outcome.TheVariants.{Clean};
 ghost use Rattle.mmkeep.specs.Language.Performing.{AllInOrder, EndsScript, IsCutOff, IsDone, IsInOrderAfter, IsJudged, IsStopped};
 ghost use Rattle.mmkeep.specs.Language.Performing.{ListsAxioms, Reports, StopsAxioms, StopsReport, StopsScript};
 
-use crate::arguments::Command;
+use crate::arguments::Invocation;
 use crate::outcome::Outcome;
 use mm_report::{
     Reading, ScriptError, Session, Tally, Writing, clean_is_derived, run_script, write_axioms,
@@ -30,7 +30,7 @@ use std::io::{BufWriter, Read, Write};
 pub fn perform<R: Read, W: Write + Drop>(
     alloc: Global,
     session: &mut Session,
-    command: &Command<'_>,
+    command: &Invocation<'_>,
     reading: &mut Reading<R>,
     writing: &mut Writing<BufWriter<W>>,
 ) -> Result<Outcome, ScriptError>
@@ -54,7 +54,7 @@ pub fn perform<R: Read, W: Write + Drop>(
 fn answer<R: Read, W: Write>(
     alloc: Global,
     session: &mut Session,
-    command: &Command<'_>,
+    command: &Invocation<'_>,
     reading: &mut Reading<R>,
     writing: &mut Writing<W>,
 ) -> Result<Outcome, ScriptError>
@@ -67,9 +67,9 @@ fn answer<R: Read, W: Write>(
     ensures write_failed { IsErrOf result errors.Write → has_failed writing.new ≡ true }
 {
     match *command {
-        Command::Verify(_) => report(session, writing),
-        Command::Axioms(_, label) => list_axioms(session, label, writing),
-        Command::Session(_) => answer_script(alloc, session, reading, writing),
+        Invocation::Verify(_) => report(session, writing),
+        Invocation::Axioms(_, label) => list_axioms(session, label, writing),
+        Invocation::Session(_) => answer_script(alloc, session, reading, writing),
     }
 }
 
@@ -141,7 +141,7 @@ pub fn judge(session: &Session) -> Outcome
 
 /// Whether no line comes before the summary of a report with these counts.
 fn is_clean(tally: &Tally) -> bool
-    ensures { (names : List (List ℕ)) (items : List Item) (all : List Told) → length all ≡ length items → counted tally.now ≡ counts all
+    ensures { (names : List (List ℕ)) (items : List Said) (all : List Told) → length all ≡ length items → counted tally.now ≡ counts all
         → IsTrue result ↔ (lines names items all ≡ []) }
 {
     tally.incomplete == 0 && tally.wrong == 0 && tally.faults == 0

@@ -1,6 +1,6 @@
 //! The program: the words of the command line, and what each command does.
 
-use crate::arguments::Command;
+use crate::arguments::Invocation;
 use crate::asking::{command_of, top_of};
 use crate::complaints::{refuse_arguments, report_out_of_memory, stop};
 use crate::loading::load_session;
@@ -42,10 +42,10 @@ fn run_arguments(
 /// Loads the files of a database, and does a command with them.
 fn run_command(
     rt: &(impl Files + Input + Print + Eprint + AllocGlobal),
-    command: &Command<'_>,
+    command: &Invocation<'_>,
 ) -> Outcome {
     match load_session(rt, &SystemFiles { rt }, top_of(command).as_bytes()) {
-        Err(outcome) => outcome,
+        Err(unloaded) => unloaded.outcome(),
         Ok(mut session) => {
             let outcome = answer_on_streams(rt, &mut session, command);
             // The program ends here: the system takes its memory back at once, and not list by list.
@@ -59,7 +59,7 @@ fn run_command(
 fn answer_on_streams(
     rt: &(impl Input + Print + Eprint + AllocGlobal),
     session: &mut Session,
-    command: &Command<'_>,
+    command: &Invocation<'_>,
 ) -> Outcome {
     let Ok(out) = BufWriter::new(rt.alloc(), io::writer(rt)) else {
         return report_out_of_memory(rt);

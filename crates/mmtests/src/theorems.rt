@@ -8,7 +8,7 @@ use mm_proof::Base;
 
 /// The number of the theorem with a label.
 pub fn theorem(base: &Base, label: &[u8]) -> Option<usize>
-    ensures { IfSome result (λ i. (view : BaseView) → IsBase view base.now → (i < length view.said) × (is_proof_at view i ≡ true)) }
+    ensures { IfSome result (λ i. (view : BaseView) → IsBase view base.now → (i < length view) × (is_proof_at view i ≡ true)) }
 {
     let i = base.find(label)?;
     if i < base.count() && base.pairs(i).is_some() {

@@ -4,7 +4,6 @@ pub mod ActiveItems
 pub mod AnswerLemmas
 pub mod BaseLemmas
 pub mod FramedItems
-pub mod OneBase
 pub mod OwnLabels
 pub mod ResolvingLemmas
 pub mod RowLemmas

@@ -1,6 +1,6 @@
 -- What is left of the numbers of active items after the end of a block.
 use Rattle.std.specs.Prelude.{◌≡◌, ℕ, ◌+◌, true, false, List, [], ◌∷◌, ◌++◌, drop, Contains}
-use Rattle.mm_frame.specs.Language.Scope.{Mark}
+use Rattle.mm_frame.specs.Language.Marks.{Mark}
 use Rattle.mm_frame.specs.Code.BlockMarks.{stays_by}
 use Rattle.mm_frame.specs.declared.active.ActiveNumbers.TheInside.{Inside}
 

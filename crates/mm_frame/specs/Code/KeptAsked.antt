@@ -3,35 +3,35 @@ use Rattle.std.specs.Prelude.{◌≡◌, ℕ, ◌<◌, ◌≤◌, true, Option, 
 use Rattle.mm_frame.specs.declared.asked.Answer.{Answer}
 use Rattle.mm_frame.specs.declared.asked.AskedPairs.{AskedPairs}
 use Rattle.mm_frame.specs.declared.paired.PairTable.{PairTable}
-use Rattle.mm_statement.specs.Language.Item.{Item}
-use Rattle.mm_frame.specs.Language.Scope.{Mark}
+use Rattle.mm_statement.specs.Language.Item.{Said}
+use Rattle.mm_frame.specs.Language.Marks.{Mark}
 use Rattle.mm_frame.specs.Code.LastItems.{is_active_at}
 use Rattle.mm_frame.specs.Code.Numbers.{IsNameNumber}
 use Rattle.mm_frame.specs.Code.KeptPairTable.{IsDisjointAt, ReadsPairs}
 
 -- an active `$d` that has both names and was looked at: the first that was found is active, and comes no later
-pub record IsFoundBefore (before : List Item) (common : Option ℕ) (n : ℕ) : Type 0 where
+pub record IsFoundBefore (before : List Said) (common : Option ℕ) (n : ℕ) : Type 0 where
   pub first : ℕ
   pub found : common ≡ Some first
   pub least : first ≤ n
   pub active : is_active_at before first ≡ true
 
 -- the active `$d` with both names among the first items were looked at, and what was found is a `$d` that has both names
-pub record IsPairAnswer (before : List Item) (x y : List ℕ) (upto : ℕ) (common : Option ℕ) : Type 0 where
+pub record IsPairAnswer (before : List Said) (x y : List ℕ) (upto : ℕ) (common : Option ℕ) : Type 0 where
   pub within : upto ≤ length before
   pub cover : (n : ℕ) → n < upto → IsDisjointAt before x n → IsDisjointAt before y n → is_active_at before n ≡ true → IsFoundBefore before common n
   pub there : (f : ℕ) → common ≡ Some f → IsDisjointAt before x f × IsDisjointAt before y f
 
 -- an answer is right of the names that have its numbers
-abbrev pub IsKnownPair : List (List ℕ) → List Item → Answer → Type 0
+abbrev pub IsKnownPair : List (List ℕ) → List Said → Answer → Type 0
 IsKnownPair all before answer = (x y : List ℕ) → IsNameNumber all answer.first x → IsNameNumber all answer.second y
     → IsPairAnswer before x y answer.upto answer.common
 
 -- each answer is right
-abbrev pub KnowsAsked : List (List ℕ) → List Item → AskedPairs → Type 0
+abbrev pub KnowsAsked : List (List ℕ) → List Said → AskedPairs → Type 0
 KnowsAsked all before asked = All (IsKnownPair all before) asked.answers.items
 
 -- if the answers were right, they are right after more of them
 abbrev pub AsksOn : PairTable → List Mark → AskedPairs → AskedPairs → Type 0
 AsksOn table blocks old new =
-    (all : List (List ℕ)) (before : List Item) → ReadsPairs all before table blocks → KnowsAsked all before old → KnowsAsked all before new
+    (all : List (List ℕ)) (before : List Said) → ReadsPairs all before table blocks → KnowsAsked all before old → KnowsAsked all before new

@@ -12,7 +12,7 @@ use Rattle.mm_frame.specs.Code.KeptActiveItems.{AreActiveKept}
 use Rattle.mm_frame.specs.Code.KeptRows.{AreRowsKept, rows_of}
 use Rattle.mm_frame.specs.Code.KeptSymbols.{AreSymbols}
 use Rattle.mm_frame.specs.Code.KeptPairTable.{KnowsPairs}
-use Rattle.mm_statement.specs.Language.Item.{Item, is_floating}
+use Rattle.mm_statement.specs.Language.Item.{Said, is_kind, Floating}
 use Rattle.mm_statement.specs.Language.Statement.{kind_of}
 use Rattle.mm_frame.specs.Language.Sound.{sound_items}
 use Rattle.mm_frame.specs.declared.pair_lists.PairLists.{PairLists}
@@ -31,10 +31,10 @@ hypotheses_at base i = told_numbers (before base i) (said_at base i)
 
 -- the number of the sound item that carries a label
 abbrev pub find_in : BaseView → List ℕ → Option ℕ
-find_in base label = last_where (carries label) (sound_items base.said)
+find_in base label = last_where (carries label) (sound_items base)
 
 -- the draft is that after items that say this, by the numbers of names in the list of all
-pub record IsDraft (all : List (List ℕ)) (said : List Item) (draft : Draft) : Type 0 where
+pub record IsDraft (all : List (List ℕ)) (said : List Said) (draft : Draft) : Type 0 where
   pub scope : ScopeHolds all (sound_items said) draft.scope
   pub kept : AreRowsKept draft.rows
   pub rows : AreRows IsLabelTold said (rows_of draft.rows)
@@ -44,7 +44,7 @@ pub record IsDraft (all : List (List ℕ)) (said : List Item) (draft : Draft) : 
   pub pair_table : KnowsPairs all (sound_items said) draft.pair_table
 
 -- the draft is that after these items, apart from what is kept of the assertions
-pub record IsDraftApart (all : List (List ℕ)) (said : List Item) (draft : Draft) : Type 0 where
+pub record IsDraftApart (all : List (List ℕ)) (said : List Said) (draft : Draft) : Type 0 where
   pub scope : ScopeHolds all (sound_items said) draft.scope
   pub kept : AreRowsKept draft.rows
   pub rows : AreRows IsLabelTold said (rows_of draft.rows)
@@ -53,15 +53,15 @@ pub record IsDraftApart (all : List (List ℕ)) (said : List Item) (draft : Draf
   pub pair_table : KnowsPairs all (sound_items said) draft.pair_table
 
 -- the draft is right by each list of names that begins with these
-abbrev pub IsDraftLater : List (List ℕ) → List Item → Draft → Type 0
+abbrev pub IsDraftLater : List (List ℕ) → List Said → Draft → Type 0
 IsDraftLater names said draft = (all : List (List ℕ)) → AreDistinct all → Begins names all → IsDraft all said draft
 
 -- the tables say which of these items carries a label
-abbrev pub KnowsLabels : List Item → Tables → Type 0
+abbrev pub KnowsLabels : List Said → Tables → Type 0
 KnowsLabels items tables = (label : List ℕ) → table_label tables label ≡ last_where (carries label) items
 
 -- what is kept of items that say this
-pub record AreParts (all : List (List ℕ)) (said : List Item) (parts : Parts) : Type 0 where
+pub record AreParts (all : List (List ℕ)) (said : List Said) (parts : Parts) : Type 0 where
   pub kept : AreRowsKept parts.rows
   pub rows : AreRows IsLabelTold said (rows_of parts.rows)
   pub symbols : AreSymbols all (sound_items said) parts.expressions
@@ -72,7 +72,7 @@ pub record AreParts (all : List (List ℕ)) (said : List Item) (parts : Parts) :
 
 -- the item is a `$f`
 abbrev pub is_float_item : store.Item → Bool
-is_float_item item = is_floating (kind_of item.kind)
+is_float_item item = is_kind Floating (kind_of item.kind)
 
 -- what is reported from the frame that is kept, if one is
 abbrev pub frame_told : Option Frame → Option (List ℕ × List (NumberedSymbol × NumberedSymbol))

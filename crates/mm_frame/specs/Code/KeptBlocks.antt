@@ -1,7 +1,8 @@
 -- From the fields of `Blocks` to what contracts see, and what always holds of the fields.
 use Rattle.std.specs.Prelude.{◌≡◌, ℕ, suc, ◌+◌, ◌-◌, ◌<◌, ◌≤◌, Bool, false, if◌then◌else◌, ◌==◌, Option, Some, None, List, [], ◌∷◌, ◌++◌, length, drop}
 use Rattle.std.specs.Prelude.{count_by, slice_get}
-use Rattle.mm_frame.specs.Language.Scope.{Mark, Opens, Closes, Neither, opens, closes}
+use Rattle.mm_frame.specs.Language.Marks.{Mark, Opens, Closes, Neither}
+use Rattle.mm_frame.specs.Code.BlockMarks.{opens, closes}
 use Rattle.mm_frame.specs.Code.BlockMarks.{closed_by}
 use Rattle.mm_frame.specs.Code.BlockEnds.{end_of_block}
 use Rattle.mm_frame.specs.declared.blocks.Blocks.TheInside.{Inside}

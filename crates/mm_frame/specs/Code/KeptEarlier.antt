@@ -2,7 +2,7 @@
 use Rattle.std.specs.Prelude.{◌≡◌, ℕ, true, List}
 use Rattle.mm_frame.specs.declared.mandatory.Earlier.{Earlier}
 use Rattle.mm_machine.specs.declared.symbol.NumberedSymbol.{NumberedSymbol}
-use Rattle.mm_statement.specs.Language.Item.{Item, is_assertion}
+use Rattle.mm_statement.specs.Language.Item.{Said, is_assertion}
 use Rattle.mm_frame.specs.Language.Sound.{AreSound, IsSound}
 use Rattle.mm_frame.specs.Language.Framing.{expression}
 use Rattle.mm_frame.specs.Code.BlockMarks.{block_marks}
@@ -15,7 +15,7 @@ use Rattle.mm_machine.specs.Language.NumberedSymbols.{AreSymbolsRead}
 use Rattle.mm_frame.specs.Code.KeptSymbols.{AreExpressions, AreNumbered, AreSymbols}
 
 -- the items are sound, and this is known of them
-pub record KnowsEarlier (all : List (List ℕ)) (before : List Item) (earlier : Earlier) : Type 0 where
+pub record KnowsEarlier (all : List (List ℕ)) (before : List Said) (earlier : Earlier) : Type 0 where
   pub sound : AreSound before
   pub known : Knows all before earlier.tables.now
   pub pairs : KnowsPairs all before earlier.pairs.now
@@ -27,7 +27,7 @@ pub record KnowsEarlier (all : List (List ℕ)) (before : List Item) (earlier : 
   pub symbols : AreSymbols all before earlier.expressions.now
 
 -- the item is a sound `$a` or `$p` after these items, and has these symbols
-pub record IsFramed (all : List (List ℕ)) (before : List Item) (item : Item) (own : List NumberedSymbol) : Type 0 where
+pub record IsFramed (all : List (List ℕ)) (before : List Said) (item : Said) (own : List NumberedSymbol) : Type 0 where
   pub sound : IsSound before item
   pub assertion : is_assertion item.kind ≡ true
   pub symbols : AreSymbolsRead all (expression before item) own

@@ -1,4 +1,4 @@
--- Labels with the numbers of items, as the code keeps them: short ones and middle ones by a number that their bytes make, the others by their bytes.
+-- Labels with the numbers of items, as the code keeps them: short ones by a number that their bytes make, the others by their bytes.
 use Rattle.std.specs.Prelude.{ℕ, ◌+◌, ◌*◌, Bool, true, ◌&&◌, nat_le, nat_lt, nat_eq, if◌then◌else◌, Option, List, [], ◌∷◌, length, bytes_eq}
 use Rattle.std.specs.HashMap.{get_by}
 use Rattle.mm_frame.specs.declared.label_numbers.LabelNumbers.{LabelNumbers}
@@ -17,16 +17,7 @@ label_code (byte ∷ bytes) = label_code bytes * 128 + byte
 abbrev pub is_coded : List ℕ → Bool
 is_coded label = nat_le (length label) 9 && are_ascii label
 
--- so is a label of middle length, of which it has 128 bits at most
-abbrev pub is_wide_coded : List ℕ → Bool
-is_wide_coded label = nat_le (length label) 18 && are_ascii label
-
--- the number that is kept of a label that is not short
-abbrev pub later_number : LabelNumbers → List ℕ → Option ℕ
-later_number labels label =
-    if is_wide_coded label then get_by (nat_eq (label_code label)) labels.middle else get_by (λ key. bytes_eq label key.items) labels.long
-
 -- the number that is kept of a label
 unfoldable pub label_number : LabelNumbers → List ℕ → Option ℕ
 label_number labels label =
-    if is_coded label then get_by (nat_eq (label_code label)) labels.short else later_number labels label
+    if is_coded label then get_by (nat_eq (label_code label)) labels.short else get_by (λ key. bytes_eq label key.items) labels.long

@@ -5,7 +5,7 @@ use Rattle.std.specs.Global.{Global}
 use Rattle.mm_machine.specs.declared.symbol.NumberedSymbol.{NumberedSymbol}
 use Rattle.mm_frame.specs.declared.pair_lists.PairLists.{PairLists}
 use Rattle.mm_machine.specs.Language.Frame.{Symbol}
-use Rattle.mm_statement.specs.Language.Item.{Item}
+use Rattle.mm_statement.specs.Language.Item.{Said}
 use Rattle.mm_frame.specs.Language.Framing.{active_pairs}
 use Rattle.mm_frame.specs.Language.Scope.{active_numbers}
 use Rattle.mm_frame.specs.Code.LastItems.{is_disjoint_item}
@@ -47,12 +47,12 @@ abbrev pub list_made : PairLists → ℕ → Option ℕ
 list_made lists count = get nat_eq lists.made count
 
 -- the list with this number has the pairs that are active after this many of the items
-pub record IsMadeFor (all : List (List ℕ)) (before : List Item) (lists : PairLists) (count k : ℕ) : Type 0 where
+pub record IsMadeFor (all : List (List ℕ)) (before : List Said) (lists : PairLists) (count k : ℕ) : Type 0 where
   pub within : count ≤ length before
   pub list : IsList all lists k (active_pairs (take count before))
 
 -- this holds of each list that is made
-abbrev pub AreMade : List (List ℕ) → List Item → PairLists → Type 0
+abbrev pub AreMade : List (List ℕ) → List Said → PairLists → Type 0
 AreMade all before lists = (count k : ℕ) → list_made lists count ≡ Some k → IsMadeFor all before lists count k
 
 -- the lists that were there still are, with the same numbers, and there may be more
@@ -61,7 +61,7 @@ pub record KeepsLists (old new : PairLists) : Type 0 where
   pub whole : new.lists.items ≡ old.lists.items ++ more
 
 -- these are the numbers of the `$d` that are active after this many of the items
-pub record AreFrontNumbers (before : List Item) (numbers : List ℕ) (count : ℕ) : Type 0 where
+pub record AreFrontNumbers (before : List Said) (numbers : List ℕ) (count : ℕ) : Type 0 where
   pub within : count ≤ length before
   pub active : numbers ≡ active_numbers is_disjoint_item (take count before)
 

@@ -2,9 +2,9 @@
 use Rattle.std.specs.Prelude.{◌≡◌, ℕ, suc, true, Option, Some, None, List, [], ◌∷◌, ◌++◌, drop, slice_get, Contains, Vec}
 use Rattle.std.specs.Global.{Global}
 use Rattle.mm_frame.specs.declared.paired.PairTable.{PairTable}
-use Rattle.mm_statement.specs.Language.Item.{Item, is_disjoint, has}
+use Rattle.mm_statement.specs.Language.Item.{Said, is_kind, Disjoint, has}
 use Rattle.mm_machine.specs.Language.Names.{AreDistinct}
-use Rattle.mm_frame.specs.Language.Scope.{Mark}
+use Rattle.mm_frame.specs.Language.Marks.{Mark}
 use Rattle.mm_frame.specs.Language.Sound.{AreSound}
 use Rattle.mm_frame.specs.Code.BlockMarks.{stays_by, block_marks}
 use Rattle.mm_frame.specs.Code.KeptActive.{IsPruned}
@@ -37,20 +37,20 @@ abbrev pub AreOnce : List ℕ → Type 0
 AreOnce numbers = (i j n : ℕ) → slice_get numbers i ≡ Some n → slice_get numbers j ≡ Some n → i ≡ j
 
 -- the item with this number is a `$d` that has the name
-pub record IsDisjointAt (before : List Item) (name : List ℕ) (n : ℕ) : Type 0 where
-  pub item : Item
+pub record IsDisjointAt (before : List Said) (name : List ℕ) (n : ℕ) : Type 0 where
+  pub item : Said
   pub there : slice_get before n ≡ Some item
-  pub disjoint : is_disjoint item.kind ≡ true
+  pub disjoint : is_kind Disjoint item.kind ≡ true
   pub named : has item.symbols name ≡ true
 
 -- the numbers rise, and are those of `$d` that have the name, of all that are active among them
-pub record IsRow (before : List Item) (name : List ℕ) (row : List ℕ) : Type 0 where
+pub record IsRow (before : List Said) (name : List ℕ) (row : List ℕ) : Type 0 where
   pub rising : IsRising row
   pub there : (n : ℕ) → Contains row n → IsDisjointAt before name n
   pub cover : (n : ℕ) → IsDisjointAt before name n → is_active_at before n ≡ true → Contains row n
 
 -- each name has such a row
-abbrev pub KnowsPairs : List (List ℕ) → List Item → PairTable → Type 0
+abbrev pub KnowsPairs : List (List ℕ) → List Said → PairTable → Type 0
 KnowsPairs all before table = (n : ℕ) (name : List ℕ) → IsNameNumber all n name → IsRow before name (row_at table n)
 
 -- the number is one of an active `$d`, and in both rows
@@ -58,7 +58,7 @@ abbrev pub IsCommon : List Mark → List ℕ → List ℕ → ℕ → Type 0
 IsCommon marks row other n = Contains row n × Contains other n × (stays_by (drop (suc n) marks) ≡ true)
 
 -- what a question about active pairs rests on
-pub record ReadsPairs (all : List (List ℕ)) (before : List Item) (table : PairTable) (blocks : List Mark) : Type 0 where
+pub record ReadsPairs (all : List (List ℕ)) (before : List Said) (table : PairTable) (blocks : List Mark) : Type 0 where
   pub distinct : AreDistinct all
   pub sound : AreSound before
   pub knows : KnowsPairs all before table

@@ -3,7 +3,7 @@ use Rattle.std.specs.Prelude.{◌≡◌, ℕ, suc, if◌then◌else◌, nat_lt, 
 use Rattle.std.specs.HashMap.{get}
 use Rattle.mm_frame.specs.declared.places.Places.{Places}
 use Rattle.mm_machine.specs.declared.symbol.NumberedSymbol.{NumberedSymbol}
-use Rattle.mm_frame.specs.Language.Scope.{Mark}
+use Rattle.mm_frame.specs.Language.Marks.{Mark}
 use Rattle.mm_frame.specs.Code.BlockMarks.{stays_by}
 use Rattle.mm_frame.specs.Code.KeptSymbols.{expression_kept}
 

@@ -3,7 +3,7 @@ use Rattle.std.specs.Prelude.{◌≡◌, ℕ, Bool, true, false, if◌then◌els
 use Rattle.mm_frame.specs.declared.tables.Tables.{Tables}
 use Rattle.mm_frame.specs.declared.tables.Declared.{Declared}
 use Rattle.mm_frame.specs.declared.tables.Declared.TheVariants.{Constant, Variable}
-use Rattle.mm_statement.specs.Language.Item.{Item, has}
+use Rattle.mm_statement.specs.Language.Item.{Said, has}
 use Rattle.mm_frame.specs.Language.Scope.{constants}
 use Rattle.mm_machine.specs.Language.Names.{AreDistinct}
 use Rattle.mm_frame.specs.Code.Numbers.{number_in}
@@ -37,7 +37,7 @@ is_constant_as (Some Constant) = true
 is_constant_as _ = false
 
 -- what a name is declared as: a constant, or a variable with the last `$v` that declares it and the last `$f` that types it
-abbrev pub declared_in : List Item → List ℕ → Option Declared
+abbrev pub declared_in : List Said → List ℕ → Option Declared
 declared_in items name =
     if has (constants items) name then Some Constant
     else variable_at (last_where (declares_variable name) items) (last_where (types name) items)
@@ -61,7 +61,7 @@ typed_by number (Some Constant) = Some Constant
 typed_by number (Some (Variable declared float)) = Some (Variable declared (Some number))
 
 -- the tables say what these items declare, by the numbers of names in the list of all
-pub record Knows (all : List (List ℕ)) (items : List Item) (tables : Tables) : Type 0 where
+pub record Knows (all : List (List ℕ)) (items : List Said) (tables : Tables) : Type 0 where
   pub distinct : AreDistinct all
   pub names : (name : List ℕ) → table_name all tables name ≡ declared_in items name
   pub labels : (label : List ℕ) → table_label tables label ≡ last_where (carries label) items

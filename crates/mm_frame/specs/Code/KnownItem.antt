@@ -5,7 +5,7 @@ use Rattle.mm_store.specs.declared.item.Item as store
 use Rattle.mm_store.specs.Language.FilesView.{FilesView}
 use Rattle.mm_frame.specs.declared.again.Known.{Known}
 use Rattle.mm_machine.specs.declared.symbol.NumberedSymbol.{NumberedSymbol}
-use Rattle.mm_statement.specs.Language.Item.{Item, is_read}
+use Rattle.mm_statement.specs.Language.Item.{Said, is_read}
 use Rattle.mm_frame.specs.Language.Base.{BaseView, before, said_at, is_sound_at}
 use Rattle.mm_frame.specs.Language.Framing.{expression}
 use Rattle.mm_machine.specs.Language.NumberedSymbols.{symbols_of, IsNumbered}
@@ -24,12 +24,12 @@ pub record IsAgain (found : List store.Item) (i : ℕ) (item : store.Item) : Typ
 
 -- what is known of an item is its label and the numbers of its symbols
 pub record IsKnownItem (names : List (List ℕ)) (files : FilesView) (item : store.Item) (known : Known) : Type 0 where
-  pub label : (said : Item) → Says files item said → option_map (λ label. label.now) known.label ≡ said.label
-  pub symbols : (said : Item) → Says files item said → AreNameNumbers names (numbers_of known.symbols.now) said.symbols
+  pub label : (said : Said) → Says files item said → option_map (λ label. label.now) known.label ≡ said.label
+  pub symbols : (said : Said) → Says files item said → AreNameNumbers names (numbers_of known.symbols.now) said.symbols
 
 -- the item with this number in a base is the same bytes and sound, and what is known of it are the symbols that are kept there
-pub record IsSoundAgain (names : List (List ℕ)) (base : BaseView) (i : ℕ) (item : store.Item) (known : Known) : Type 0 where
-  pub again : IsAgain base.found i item
+pub record IsSoundAgain (names : List (List ℕ)) (found : List store.Item) (base : BaseView) (i : ℕ) (item : store.Item) (known : Known) : Type 0 where
+  pub again : IsAgain found i item
   pub sound : is_sound_at base i ≡ true
   pub read : is_read (said_at base i).kind ≡ true
   pub symbols : symbols_of names known.symbols.now ≡ expression (before base i) (said_at base i)

@@ -8,13 +8,13 @@ use Rattle.mm_frame.specs.declared.FrameNumber.{FrameNumber}
 use Rattle.mm_machine.specs.declared.symbol.NumberedSymbol.{NumberedSymbol}
 use Rattle.mm_machine.specs.Language.Names.{AreDistinct, Begins}
 use Rattle.mm_machine.specs.Language.Frame.{Symbol, Mandatory, Frame}
-use Rattle.mm_statement.specs.Language.Item.{Item, is_labelled, is_read, is_assertion, is_theorem, item_at}
+use Rattle.mm_statement.specs.Language.Item.{Said, is_labelled, is_read, is_assertion, is_kind, Theorem, item_at}
 use Rattle.mm_statement.specs.Language.Statement.{kind_of}
-use Rattle.mm_frame.specs.Language.Scope.{Mark, mark_of}
+use Rattle.mm_frame.specs.Language.Marks.{Mark, mark_of}
 use Rattle.mm_frame.specs.Language.Sound.{sound_items}
 use Rattle.mm_frame.specs.Language.Framing.{expression, pairs_of, active_pairs, mandatory_numbers, frame}
 use Rattle.mm_machine.specs.Language.NumberedSymbols.{symbols_of, IsNumbered, ArePairsRead, AreSamePairsRead, AreInOrder}
-use Rattle.mm_frame.specs.Language.Base.{BaseView, told_fault}
+use Rattle.mm_frame.specs.Language.Base.{BaseView, AreLabelled, told_fault}
 
 -- what is reported of the items, each by its number: the items themselves; their labels and faults; the symbols; the numbers of the
 -- hypotheses and the pairs of a frame; all active pairs; and what an item does to the blocks
@@ -27,27 +27,27 @@ pub record BaseAnswers : Type 0 where
   pub marks : List Mark
 
 -- there is a row for each item, which reports on it, after the sound items before it
-pub record AreRows {X : Type 0} (tells : List Item → Item → X → Type 0) (said : List Item) (rows : List X) : Type 0 where
+pub record AreRows {X : Type 0} (tells : List Said → Said → X → Type 0) (said : List Said) (rows : List X) : Type 0 where
   pub count : length rows ≡ length said
   pub each : (n : ℕ) (row : X) → slice_get rows n ≡ Some row → tells (sound_items (take n said)) (item_at said n) row
 
 -- a row has the label of an item, if its kind has one, and its fault
-pub record IsLabelTold (before : List Item) (item : Item) (row : Option (List ℕ) × Option (ℕ × FrameNumber)) : Type 0 where
+pub record IsLabelTold (before : List Said) (item : Said) (row : Option (List ℕ) × Option (ℕ × FrameNumber)) : Type 0 where
   pub label : row.0 ≡ item.label
   pub labelled : is_some row.0 ≡ is_labelled item.kind
   pub fault : row.1 ≡ told_fault before item
 
 -- the symbols are the expression of a sound `$f`, `$e`, `$a` or `$p`, or the variables of a sound `$d`; for other items they may be any
-pub record IsExpressionTold (names : List (List ℕ)) (before : List Item) (item : Item) (symbols : List NumberedSymbol) : Type 0 where
+pub record IsExpressionTold (names : List (List ℕ)) (before : List Said) (item : Said) (symbols : List NumberedSymbol) : Type 0 where
   pub expression : (is_none (told_fault before item) && is_read item.kind) ≡ true → symbols_of names symbols ≡ expression before item
   pub numbered : All (IsNumbered names) symbols
 
 -- the numbers of the mandatory hypotheses of an item, if the flag says that it is an assertion
-abbrev pub numbers_if : Bool → List Item → Item → Option (List ℕ)
+abbrev pub numbers_if : Bool → List Said → Said → Option (List ℕ)
 numbers_if framed before item = if framed then Some (mandatory_numbers before item) else None
 
 -- the numbers of the mandatory hypotheses of a sound `$a` or `$p` after the sound items before it; none of any other item
-abbrev pub told_numbers : List Item → Item → Option (List ℕ)
+abbrev pub told_numbers : List Said → Said → Option (List ℕ)
 told_numbers before item = numbers_if (is_none (told_fault before item) && is_assertion item.kind) before item
 
 -- the names are those of one of the pairs, in one order or the other
@@ -65,16 +65,16 @@ abbrev pub pairs_in_order : Frame → List (Symbol × Symbol)
 pairs_in_order frame = filter (are_paired frame.pairs) (pairs_of (typed_variables frame.hypotheses))
 
 -- a row has the numbers of the mandatory hypotheses of a sound `$a` or `$p`, and its mandatory pairs in one order; other items have no row
-pub record IsFrameTold (all : List (List ℕ)) (before : List Item) (item : Item) (row : Option (List ℕ × List (NumberedSymbol × NumberedSymbol))) : Type 0 where
+pub record IsFrameTold (all : List (List ℕ)) (before : List Said) (item : Said) (row : Option (List ℕ × List (NumberedSymbol × NumberedSymbol))) : Type 0 where
   pub hypotheses : option_map (λ it. it.0) row ≡ told_numbers before item
   pub pairs : IfSome row (λ it. ArePairsRead all (pairs_in_order (frame before item)) it.1)
 
 -- the item is a sound `$p` after the sound items before it
-abbrev pub is_told_proof : List Item → Item → Bool
-is_told_proof before item = is_none (told_fault before item) && is_theorem item.kind
+abbrev pub is_told_proof : List Said → Said → Bool
+is_told_proof before item = is_none (told_fault before item) && is_kind Theorem item.kind
 
 -- a sound `$p` has all pairs that are active at it, in the order of the numbers of their names; any other item has nothing
-pub record AreActiveTold (names : List (List ℕ)) (before : List Item) (item : Item) (told : Option (List (NumberedSymbol × NumberedSymbol))) : Type 0 where
+pub record AreActiveTold (names : List (List ℕ)) (before : List Said) (item : Said) (told : Option (List (NumberedSymbol × NumberedSymbol))) : Type 0 where
   pub some : is_some told ≡ is_told_proof before item
   pub pairs : IfSome told (λ pairs. AreSamePairsRead names (active_pairs before) pairs)
   pub order : IfSome told AreInOrder
@@ -82,15 +82,15 @@ pub record AreActiveTold (names : List (List ℕ)) (before : List Item) (item : 
 -- what is reported is right of these items, if names have the numbers of this list
 pub record IsBaseBy (names : List (List ℕ)) (base : BaseView) (answers : BaseAnswers) : Type 0 where
   pub distinct : AreDistinct names
-  pub found : answers.items ≡ base.found
-  pub count : length base.found ≡ length base.said
-  pub few : length base.said ≤ 4294967295
-  pub kinds : AllZip (λ item said. kind_of item.kind ≡ said.kind) base.found base.said
-  pub rows : AreRows IsLabelTold base.said answers.rows
-  pub expressions : AreRows (IsExpressionTold names) base.said answers.expressions
-  pub frames : AreRows (IsFrameTold names) base.said answers.frames
-  pub actives : AreRows (AreActiveTold names) base.said answers.actives
-  pub marks : answers.marks ≡ map (λ item. mark_of item.kind) (sound_items base.said)
+  pub count : length answers.items ≡ length base
+  pub few : length base ≤ 4294967295
+  pub labelled : AreLabelled base
+  pub kinds : AllZip (λ item said. kind_of item.kind ≡ said.kind) answers.items base
+  pub rows : AreRows IsLabelTold base answers.rows
+  pub expressions : AreRows (IsExpressionTold names) base answers.expressions
+  pub frames : AreRows (IsFrameTold names) base answers.frames
+  pub actives : AreRows (AreActiveTold names) base answers.actives
+  pub marks : answers.marks ≡ map (λ item. mark_of item.kind) (sound_items base)
 
 -- what is reported is right by each list of names that begins with these: names that are added change nothing
 abbrev pub StandsLater : List (List ℕ) → BaseView → BaseAnswers → Type 0

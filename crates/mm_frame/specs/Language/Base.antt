@@ -8,33 +8,37 @@ use Rattle.mm_store.specs.Language.Expansion.{IsExpansion}
 use Rattle.mm_frame.specs.declared.FrameNumber.{FrameNumber}
 use Rattle.mm_frame.specs.declared.FrameNumber.TheVariants.{F14}
 use Rattle.mm_machine.specs.Language.Frame.{Symbol, Mandatory, Frame}
-use Rattle.mm_statement.specs.Language.Item.{Kind, Missing, Item, is_labelled, is_assertion, is_theorem, item_at}
+use Rattle.mm_statement.specs.Language.Item.{Kind, Missing, Said, is_labelled, is_assertion, is_kind, Theorem, item_at}
 use Rattle.mm_frame.specs.Language.Sound.{fault, sound_items}
 use Rattle.mm_statement.specs.Language.Statement.{Says}
+use Rattle.mm_statement.specs.Language.Database.{Located}
 use Rattle.mm_frame.specs.Language.Scope.{stays}
 use Rattle.mm_frame.specs.Language.Framing.{expression, hypothesis, mandatory_variables, is_mandatory, frame}
 
--- what a base stands for: the items of the files, and what each of them says
-pub record BaseView : Type 0 where
-  pub found : List store.Item
-  pub said : List Item
+-- what a base stands for: what each item says, in the order of the items
+abbrev pub BaseView : Type 0
+BaseView = List Said
+
+-- what items say, without their places
+abbrev pub base_of : List Located → BaseView
+base_of items = map (λ item. item.said) items
 
 -- the items are those of the expansion of these files from the top file on, and each says what its bytes say
-pub record IsOfFiles (files : FilesView) (top : List ℕ) (base : BaseView) : Type 0 where
-  pub expansion : IsExpansion (files_in files) top base.found
-  pub each : AllZip (Says files) base.found base.said
-
--- each item says what its bytes say, in some files
-abbrev pub AreSaid : BaseView → Type 0
-AreSaid base = (files : FilesView) × AllZip (Says files) base.found base.said
+pub record IsOfFiles (files : FilesView) (top : List ℕ) (found : List store.Item) (base : BaseView) : Type 0 where
+  pub expansion : IsExpansion (files_in files) top found
+  pub each : AllZip (Says files) found base
 
 -- the items before the one with this number; each statement at fault is passed over
-abbrev pub before : BaseView → ℕ → List Item
-before base i = sound_items (take i base.said)
+abbrev pub before : BaseView → ℕ → List Said
+before base i = sound_items (take i base)
 
 -- what the item with this number says
-abbrev pub said_at : BaseView → ℕ → Item
-said_at base i = item_at base.said i
+abbrev pub said_at : BaseView → ℕ → Said
+said_at base i = item_at base i
+
+-- each `$f`, `$e`, `$a` and `$p` has a label
+abbrev pub AreLabelled : BaseView → Type 0
+AreLabelled base = (i : ℕ) → is_labelled (said_at base i).kind ≡ true → (label : List ℕ) × ((said_at base i).label ≡ Some label)
 
 -- a missing file has F14, at its name; any other item has the fault of its statement, if that has one
 abbrev pub fault_by : Kind → Option (ℕ × FrameNumber) → Option (ℕ × FrameNumber)
@@ -42,7 +46,7 @@ fault_by Missing statement = Some (1, F14)
 fault_by _ statement = statement
 
 -- the fault of an item after the sound ones before it, if it has one: the word that it is reported at, and its number
-abbrev pub told_fault : List Item → Item → Option (ℕ × FrameNumber)
+abbrev pub told_fault : List Said → Said → Option (ℕ × FrameNumber)
 told_fault before item = fault_by item.kind (fault before item)
 
 -- the fault of the item with this number, if it has one
@@ -67,7 +71,7 @@ is_framed_at base i = is_sound_at base i && is_assertion (said_at base i).kind
 
 -- the item with this number is a sound `$p`
 abbrev pub is_proof_at : BaseView → ℕ → Bool
-is_proof_at base i = is_sound_at base i && is_theorem (said_at base i).kind
+is_proof_at base i = is_sound_at base i && is_kind Theorem (said_at base i).kind
 
 -- the hypothesis with this number, as it is read at its own place
 abbrev pub hypothesis_at : BaseView → ℕ → Mandatory

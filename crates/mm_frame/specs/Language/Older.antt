@@ -9,7 +9,7 @@ use Rattle.mm_statement.specs.Language.Statement.{Says}
 -- the answers are right of this base by any names that begin with these, and its items can be read in these files and say the same there
 pub record IsOlder (names : List (List ℕ)) (files : FilesView) (answers : BaseAnswers) (base : BaseView) : Type 0 where
   pub later : StandsLater names base answers
-  pub each : AllZip (Says files) base.found base.said
+  pub each : AllZip (Says files) answers.items base
 
 -- there is a base of which the answers are right
 abbrev pub HasOlder : List (List ℕ) → FilesView → BaseAnswers → Type 0

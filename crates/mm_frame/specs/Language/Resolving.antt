@@ -2,7 +2,7 @@
 use Rattle.std.specs.Prelude.{◌≡◌, ◌<◌, ℕ, true, Option, Some, None, List}
 use Rattle.mm_frame.specs.declared.base.Resolved as answer
 use Rattle.mm_frame.specs.declared.base.Resolved.TheVariants as answers
-use Rattle.mm_machine.specs.Language.Frame.{Resolved, Hypothesis, Assertion, Inactive, Unknown}
+use Rattle.mm_machine.specs.Language.Frame.{LabelMeaning, Hypothesis, Assertion, Inactive, Unknown}
 use Rattle.mm_frame.specs.Language.Framing.{expression, resolve}
 use Rattle.mm_frame.specs.Language.Base.{BaseView, before, said_at, is_shown_at, is_framed_at, frame_at}
 
@@ -18,7 +18,7 @@ pub record IsLabelOf (base : BaseView) (i j : ℕ) (label : List ℕ) : Type 0 w
 
 -- an answer about a label at item i, and the meaning that it stands for: item j as a hypothesis, item j as an assertion, inactive, or
 -- unknown
-abbrev pub IsMeaning : BaseView → ℕ → List ℕ → answer.Resolved → Resolved → Type 0
+abbrev pub IsMeaning : BaseView → ℕ → List ℕ → answer.Resolved → LabelMeaning → Type 0
 IsMeaning base i label (answers.Hypothesis j) meaning = IsLabelOf base i j label × (meaning ≡ Hypothesis (expression (before base j) (said_at base j)))
 IsMeaning base i label (answers.Assertion j) meaning = IsLabelOf base i j label × (is_framed_at base j ≡ true) × (meaning ≡ Assertion (frame_at base j))
 IsMeaning base i label answers.Inactive meaning = meaning ≡ Inactive

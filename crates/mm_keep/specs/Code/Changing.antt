@@ -1,19 +1,29 @@
 -- What a session keeps, by its parts, and how it goes on with edited files.
 use Rattle.std.specs.Prelude.{◌≡◌, ℕ, Option, List}
+use Rattle.mm_proof.specs.mm_store.declared.item.Item as store
 use Rattle.mm_proof.specs.mm_store.Language.Undoing.{UndoView}
 use Rattle.mm_proof.specs.mm_store.Language.Batches.{IsSpendable, KeepsReading}
 use Rattle.mm_proof.specs.mm_store.Language.FileFacts.{parked_in}
 use Rattle.mm_proof.specs.mm_store.Language.FilesView.{FilesView}
-use Rattle.mm_proof.specs.mm_frame.Language.Base.{BaseView, IsOfFiles}
+use Rattle.mm_proof.specs.mm_frame.Language.Base.{BaseView, AreLabelled, IsOfFiles}
 use Rattle.mm_proof.specs.mm_frame.declared.base.Base.{Base}
+use Rattle.mm_proof.specs.mm_verdict.Language.Work.{Recorded}
 use Rattle.mm_keep.specs.Code.KeptCheck.{Kept}
 use Rattle.mm_keep.specs.Code.KeptSession.{AreChecked}
 use Rattle.mm_keep.specs.Code.Next.{KeepsOrRuns, HasTop, IsBuilt}
-use Rattle.mm_keep.specs.Language.Sessions.{SessionView}
+use Rattle.mm_keep.specs.Language.Runs.{AreRuns, AreStepsOf}
 use Rattle.mm_keep.specs.declared.keeping.Next.{Next}
 
-abbrev pub session_of : FilesView → List ℕ → SessionView
-session_of files top = record { files = files; top = top }
+-- between files before and files after the theorems are run whose view is not that of before, and the steps are counted
+pub record HasRun (before after : FilesView) (top : List ℕ) (work : Recorded) : Type 0 where
+  pub were_found : List store.Item
+  pub are_found : List store.Item
+  pub old : BaseView
+  pub new : BaseView
+  pub were : IsOfFiles before top were_found old
+  pub are : IsOfFiles after top are_found new
+  pub runs : AreRuns old new work.runs
+  pub steps : AreStepsOf new work.runs work.steps
 
 -- the base is that of the files, and there is what a check says of each item
 pub record AreKept (files : FilesView) (top : List ℕ) (names : List (List ℕ)) (code : Base) (checked : List Kept) (base : BaseView) : Type 0 where
@@ -39,8 +49,10 @@ pub record CanTake
     (before after : FilesView) (undos : List UndoView) (top : List ℕ) (names : List (List ℕ)) (checked : List Kept) (next : Next) : Type 0 where
   pub spendable : IsSpendable before after undos
   pub parked : parked_in before ≡ 0
+  pub found : List store.Item
   pub old : BaseView
-  pub old_is : IsOfFiles before top old
+  pub old_is : IsOfFiles before top found old
+  pub old_labelled : AreLabelled old
   pub old_checked : AreChecked old checked
   pub base : BaseView
   pub built : IsBuilt names after top next.base base

@@ -1,12 +1,14 @@
 -- What is found of items, without places and words, and how it counts.
-use Rattle.std.specs.Prelude.{◌≡◌, ◌+◌, ℕ}
+use Rattle.std.specs.Prelude.{◌≡◌, ◌+◌, ℕ, List}
+use Rattle.mm_proof.specs.mm_store.declared.item.Item as store
 use Rattle.mm_proof.specs.mm_store.Language.FilesView.{FilesView}
 use Rattle.mm_proof.specs.mm_frame.Language.Base.{BaseView}
 use Rattle.mm_proof.specs.mm_machine.declared.Verdict.{Verdict}
 use Rattle.mm_proof.specs.mm_machine.declared.Verdict.TheVariants as verdicts
 use Rattle.mm_keep.specs.declared.finding.FindingKind.{FindingKind}
 use Rattle.mm_keep.specs.declared.finding.FindingKind.TheVariants as kinds
-use Rattle.mm_keep.specs.Language.Told.{Told, Quiet, AnAxiom, Proved, Incomplete, Wrong, Fault, Counts, IsRightlyTold}
+use Rattle.mm_keep.specs.Language.Told.{Told, Quiet, AnAxiom, Proved, Incomplete, Wrong, Fault, Counts}
+use Rattle.mm_keep.specs.Code.KeyedTold.{IsKeyedTold}
 
 -- what is reported, without its place and word
 abbrev pub kind_told : Told → FindingKind
@@ -24,8 +26,8 @@ kind_of_verdict (verdicts.Incomplete spot) = kinds.Incomplete
 kind_of_verdict (verdicts.Wrong number spot) = kinds.Wrong
 
 -- something of this kind is rightly reported of the item with this number
-abbrev pub IsFoundAs : FilesView → BaseView → ℕ → FindingKind → Type 0
-IsFoundAs files view n kind = (one : Told) × IsRightlyTold files view n one × (kind_told one ≡ kind)
+abbrev pub IsFoundAs : FilesView → List store.Item → BaseView → ℕ → FindingKind → Type 0
+IsFoundAs files found view n kind = (one : Told) × IsKeyedTold files found view n one × (kind_told one ≡ kind)
 
 -- the counts after one more is reported
 abbrev pub one_more : FindingKind → Counts → Counts

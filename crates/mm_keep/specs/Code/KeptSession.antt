@@ -1,6 +1,7 @@
 -- What a session keeps: its files, the base of these, and what the check of each sound theorem said.
 use Rattle.std.specs.Prelude.{◌≡◌, ℕ, true, false, Option, Some, None, List, length, slice_get}
 use Rattle.mm_proof.specs.mm_store.Language.FileFacts.{parked_in}
+use Rattle.mm_proof.specs.mm_store.Language.FilesView.{plain}
 use Rattle.mm_proof.specs.mm_frame.Language.Base.{BaseView, IsOfFiles, is_proof_at}
 use Rattle.mm_proof.specs.mm_frame.Language.Answering.{IsBaseBy, StandsLater}
 use Rattle.mm_proof.specs.mm_verdict.Language.VerdictAt.{IsVerdictAt, cites_at}
@@ -22,15 +23,15 @@ IsKeptAt base i (Some (Some judgement)) = IsCheckedAt base i (Some judgement)
 
 -- this holds of each item
 pub record AreChecked (base : BaseView) (checked : List Kept) : Type 0 where
-  pub count : length checked ≡ length base.said
+  pub count : length checked ≡ length base
   pub each : (i : ℕ) (one : Kept) → slice_get checked i ≡ Some one → IsKeptAt base i one
 
 abbrev pub session_view : Inside → SessionView
-session_view inside = record { files = inside.files; top = inside.top.items }
+session_view inside = record { files = plain inside.files; top = inside.top.items }
 
 pub record IsSessionKept (inside : Inside) : Type 0 where
   pub base : BaseView
-  pub of_files : IsOfFiles inside.files inside.top.items base
+  pub of_files : IsOfFiles inside.files inside.top.items inside.base.items base
   pub by_names : IsBaseBy inside.names base inside.base
   pub later : StandsLater inside.names base inside.base
   pub checked : AreChecked base inside.checked

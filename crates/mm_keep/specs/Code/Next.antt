@@ -16,7 +16,7 @@ HasTop files top = number_of (files_in files) top ≢ None
 
 -- the code's base is that of these files, by these names and by any that begin with them
 pub record IsBuilt (names : List (List ℕ)) (files : FilesView) (top : List ℕ) (code : Base) (base : BaseView) : Type 0 where
-  pub of_files : IsOfFiles files top base
+  pub of_files : IsOfFiles files top code.items base
   pub by_names : IsBaseBy names base code
   pub later : StandsLater names base code
 
@@ -31,7 +31,7 @@ pub record KeepsOrRuns (old base : BaseView) (run : Ran) : Type 0 where
 -- each theorem of the first base is run
 pub record RunsAll (base : BaseView) (run : Ran) : Type 0 where
   pub checked : AreChecked base run.checked
-  pub runs : AreThose (λ i. is_proof_at base i ≡ true) (length base.said) run.work.runs
+  pub runs : AreThose (λ i. is_proof_at base i ≡ true) (length base) run.work.runs
   pub steps : AreStepsOf base run.work.runs run.work.steps
 
 -- there is a base of these files, and each of its theorems keeps what was checked before, or is run

@@ -1,7 +1,7 @@
 -- Which theorems of a new base keep what was checked in an old one, and what the runs of the others come to.
 use Rattle.std.specs.Prelude.{◌≡◌, ◌≤◌, ◌<◌, ◌+◌, ◌⊎◌, ℕ, true, false, Option, Some, None, List, [], ◌∷◌, ◌++◌, length, slice_get}
 use Rattle.mm_proof.specs.mm_store.Language.FilesView.{FilesView}
-use Rattle.mm_proof.specs.mm_frame.Language.Base.{BaseView, AreSaid, is_proof_at}
+use Rattle.mm_proof.specs.mm_frame.Language.Base.{BaseView, AreLabelled, is_proof_at}
 use Rattle.mm_proof.specs.mm_frame.declared.base.Base.{Base}
 use Rattle.mm_proof.specs.mm_frame.Language.Answering.{IsBaseBy}
 use Rattle.mm_proof.specs.Language.BaseMarks.{MarksView, AreMarks}
@@ -20,7 +20,7 @@ IsPlanned old new j None = ¬ HadView old new j
 
 -- there is such a plan for each item of the new base
 pub record ArePlanned (old new : BaseView) (plan : List (Option ℕ)) : Type 0 where
-  pub count : length plan ≡ length new.said
+  pub count : length plan ≡ length new
   pub each : (j : ℕ) (from : Option ℕ) → slice_get plan j ≡ Some from → IsPlanned old new j from
 
 -- what is kept of item j before anything is carried, by the plan: a free place, if it keeps what was checked before; else what its run says
@@ -58,11 +58,11 @@ AreMarksBy names old new marks = (base copy : BaseView) → IsBaseBy names base 
 
 -- there are two such bases, and the new one has an item with this number
 abbrev pub HasItemBothRead : List (List ℕ) → FilesView → Base → Base → ℕ → Type 0
-HasItemBothRead names files old new j = (base : BaseView) × (copy : BaseView) × AreBothRead names files old new base copy × (j < length copy.said)
+HasItemBothRead names files old new j = (base : BaseView) × (copy : BaseView) × AreBothRead names files old new base copy × (j < length copy)
 
 -- the base has an item with this number, which can be read in these files
 abbrev pub HasItemRead : List (List ℕ) → FilesView → Base → ℕ → Type 0
-HasItemRead names files code j = (view : BaseView) × IsReadIn names files code view × (j < length view.said)
+HasItemRead names files code j = (view : BaseView) × IsReadIn names files code view × (j < length view)
 
 -- one more run is recorded, that of item j, with the steps that are done in it
 pub record RecordsRun (new : BaseView) (j : ℕ) (before after : Recorded) : Type 0 where
@@ -80,8 +80,8 @@ RecordsIf new None j before after = ((is_proof_at new j ≡ true) × RecordsRun 
 
 -- what there is of two bases before what was checked of the old one is carried to the new one
 pub record CanCarry (base copy : BaseView) (checked : List Kept) (plan : List (Option ℕ)) (ran : List Kept) : Type 0 where
-  pub old_said : AreSaid base
-  pub new_said : AreSaid copy
+  pub old_labelled : AreLabelled base
+  pub new_labelled : AreLabelled copy
   pub planned : ArePlanned base copy plan
   pub was : AreChecked base checked
   pub ran_is : AreRunBy copy plan ran

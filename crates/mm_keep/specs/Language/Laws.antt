@@ -1,10 +1,10 @@
 -- What is proved of sessions: each is the contract of a function.
 use Rattle.std.specs.Prelude.{◌≡◌, ◌≢◌, ◌↔◌, ◌⊎◌, ◌<◌, ◌≤◌, ℕ, List, None, true, length, Contains}
 use Rattle.mm_proof.specs.mm_store.Language.Appending.{IsAppended}
-use Rattle.mm_proof.specs.mm_store.Language.FileFacts.{HoldsPieces}
-use Rattle.mm_proof.specs.mm_store.Language.FilesView.{FilesView, file_number, plain}
+use Rattle.mm_proof.specs.mm_store.Language.FilesView.{File, file_number}
 use Rattle.mm_proof.specs.mm_store.Language.Holding.{HoldOneEach}
-use Rattle.mm_proof.specs.mm_frame.Language.Base.{BaseView, IsOfFiles, is_framed_at, is_proof_at}
+use Rattle.mm_proof.specs.mm_statement.Language.Database.{Located, IsDatabase}
+use Rattle.mm_proof.specs.mm_frame.Language.Base.{BaseView, base_of, is_framed_at, is_proof_at}
 use Rattle.mm_proof.specs.mm_verdict.Language.VerdictAt.{IsVerdictAt}
 use Rattle.mm_proof.specs.mm_machine.declared.Verdict.TheVariants as verdicts
 use Rattle.mm_keep.specs.Language.Citations.{IsAxiomOf, LeadsTo}
@@ -15,23 +15,20 @@ use Rattle.mm_keep.specs.Language.Sessions.{SessionView, HasAssertion, HasItem, 
 use Rattle.mm_keep.specs.Language.Sessions.{AreCitesOf, AreUsersOf, AreAxiomsOf}
 use Rattle.mm_keep.specs.Language.Told.{Told, Proved, IsAxiom, IsRightlyTold}
 
--- Between files before and files after there is one list of runs, whatever keys their pieces have.
+-- Between files before and files after there is one list of runs.
 abbrev pub OneListOfRuns : Type 0
 OneListOfRuns =
-    (before after others later : FilesView) (top runs copies : List ℕ) → plain before ≡ plain others → plain after ≡ plain later →
-    AreRunsOf before after top runs → AreRunsOf others later top copies → runs ≡ copies
+    (before after : List File) (top runs copies : List ℕ) → AreRunsOf before after top runs → AreRunsOf before after top copies → runs ≡ copies
 
 -- Something is rightly reported of each item of files.
 abbrev pub ItemsHaveFindings : Type 0
 ItemsHaveFindings =
-    (files : FilesView) (top : List ℕ) (base : BaseView) → IsOfFiles files top base → (i : ℕ) → i < length base.said
-    → (one : Told) × IsRightlyTold files base i one
+    (files : List File) (top : List ℕ) (items : List Located) → IsDatabase files top items → (i : ℕ) → i < length items
+    → (one : Told) × IsRightlyTold files items i one
 
--- sessions whose files are the same but for the keys of their pieces, from one top file on, have one such answer at most
+-- a session has one such answer at most
 abbrev pub IsOneAnswer : {A : Type 0} → (SessionView → A → Type 0) → Type 0
-IsOneAnswer {A} IsSo =
-    (session other : SessionView) (answer copy : A) → plain session.files ≡ plain other.files → session.top ≡ other.top
-    → IsSo session answer → IsSo other copy → answer ≡ copy
+IsOneAnswer {A} IsSo = (session : SessionView) (answer copy : A) → IsSo session answer → IsSo session copy → answer ≡ copy
 
 -- There is one count of the items.
 abbrev pub OneCount : Type 0
@@ -53,7 +50,7 @@ OneVerdict = (label : List ℕ) → IsOneAnswer (λ session told. IsVerdictOf se
 abbrev pub OneTally : Type 0
 OneTally = IsOneAnswer IsTally
 
--- the relation holds of a label and one list at most, in sessions of files that mean the same
+-- the relation holds of a label and one list at most
 abbrev pub IsOneList : (SessionView → List ℕ → List ℕ → Type 0) → Type 0
 IsOneList AreSo = (label : List ℕ) → IsOneAnswer (λ session numbers. AreSo session label numbers)
 
@@ -69,23 +66,16 @@ AxiomsHaveThemselves = (base : BaseView) (i k : ℕ) → IsAxiom base i → IsAx
 abbrev pub ChainsLeadBack : Type 0
 ChainsLeadBack = (base : BaseView) (i k : ℕ) → LeadsTo base k i → k ≤ i
 
--- Files each key of which has a piece, and each piece one unit, give items from each top file that is among them, and from no other.
-abbrev pub FilesGiveItems : Type 0
-FilesGiveItems =
-    (files : FilesView) (top : List ℕ) → HoldsPieces files → HoldOneEach (plain files)
-    → ((base : BaseView) × IsOfFiles files top base) ↔ (file_number (plain files) top ≢ None)
-
 -- Between files before and files after that give items there is a list of runs.
 abbrev pub HasListOfRuns : Type 0
 HasListOfRuns =
-    (before after : FilesView) (top : List ℕ) (old new : BaseView) → IsOfFiles before top old → IsOfFiles after top new
+    (before after : List File) (top : List ℕ) (old new : List Located) → IsDatabase before top old → IsDatabase after top new
     → (runs : List ℕ) × AreRunsOf before after top runs
 
 -- A label is that of an assertion of a session, or of none.
 abbrev pub LabelsAreDecided : Type 0
 LabelsAreDecided =
-    (session : SessionView) (label : List ℕ) (base : BaseView) → IsOfFiles session.files session.top base
-    → HasAssertion session label ⊎ (¬ HasAssertion session label)
+    (session : SessionView) (label : List ℕ) → HasItems session → HasAssertion session label ⊎ (¬ HasAssertion session label)
 
 -- the relation holds of each label of an assertion and some list
 abbrev pub HasListOf : (SessionView → List ℕ → List ℕ → Type 0) → Type 0
@@ -98,12 +88,12 @@ HasListEach = HasListOf AreCitesOf × HasListOf AreUsersOf × HasListOf AreAxiom
 -- If an edit inserts a unit behind all others of the top file, what is rightly reported of each earlier item stays as it was.
 abbrev pub AppendingKeepsFindings : Type 0
 AppendingKeepsFindings =
-    (old new : SessionView) (i : ℕ) (told : Told) → new.top ≡ old.top → IsAppended old.top (plain old.files) (plain new.files) → HasItems new
+    (old new : SessionView) (i : ℕ) (told : Told) → new.top ≡ old.top → IsAppended old.top old.files new.files → HasItems new
     → HasItem old i → IsFinding old i told → IsFinding new i told
 
 -- If an item is rightly reported as Proved, some labels derive its statement.
 abbrev pub ProvedIsDerivable : Type 0
-ProvedIsDerivable = (files : FilesView) (base : BaseView) (i : ℕ) → IsRightlyTold files base i Proved → IsDerivableAt base i
+ProvedIsDerivable = (files : List File) (items : List Located) (i : ℕ) → IsRightlyTold files items i Proved → IsDerivableAt (base_of items) i
 
 -- An assertion rests on its axioms, if each theorem is proved to which chains of citations lead from it, itself included.
 abbrev pub ProvedRestsOnAxioms : Type 0

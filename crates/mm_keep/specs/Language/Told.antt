@@ -1,9 +1,9 @@
 -- What is reported of the items of files: for each whether it is at fault, an axiom or a theorem, and the verdict on its proof; and how
 -- many there are of each.
-use Rattle.std.specs.Prelude.{◌≡◌, ◌+◌, ℕ, true, false, Bool, Some, List, length, slice_get, slice_range, count_by}
-use Rattle.mm_proof.specs.mm_store.declared.item.Item as store
-use Rattle.mm_proof.specs.mm_store.Language.FilesView.{FilesView}
-use Rattle.mm_proof.specs.mm_frame.Language.Base.{BaseView, fault_at, is_sound_at, is_proof_at, said_at}
+use Rattle.std.specs.Prelude.{◌≡◌, ◌+◌, ℕ, true, false, Bool, Some, List, length, slice_get, count_by}
+use Rattle.mm_proof.specs.mm_store.Language.FilesView.{File}
+use Rattle.mm_proof.specs.mm_statement.Language.Database.{Located}
+use Rattle.mm_proof.specs.mm_frame.Language.Base.{BaseView, base_of, fault_at, is_sound_at, is_proof_at, said_at}
 use Rattle.mm_proof.specs.mm_statement.Language.Item.{Axiom, is_assertion}
 use Rattle.mm_proof.specs.mm_frame.declared.FrameNumber.{FrameNumber}
 use Rattle.mm_proof.specs.mm_verdict.Language.VerdictAt.{IsVerdictAt}
@@ -30,20 +30,16 @@ pub data Told : Type 0 where
   Fault : FrameNumber → Shown → Told
 
 -- the word with this number of an item is shown with its place and its spelling
-pub record IsShown (files : FilesView) (item : store.Item) (word : ℕ) (shown : Shown) : Type 0 where
+pub record IsShown (files : List File) (item : Located) (word : ℕ) (shown : Shown) : Type 0 where
   pub has_place : HasPlace files item word 0 shown.at
-  pub is_word : shown.word ≡ spelled (slice_range has_place.is_byte.read.text item.start item.end) (slice_get has_place.is_byte.read.words word)
-
--- what is reported is the fault with this number, at this word of an item
-abbrev pub TellsFaultAt : FilesView → store.Item → ℕ → FrameNumber → Told → Type 0
-TellsFaultAt files item word number one = (shown : Shown) × (one ≡ Fault number shown) × IsShown files item word shown
+  pub is_word : shown.word ≡ spelled (slice_get item.words word)
 
 -- the item with this number has this fault, shown at the word that has it
-pub record IsFaultOf (files : FilesView) (view : BaseView) (n : ℕ) (number : FrameNumber) (shown : Shown) : Type 0 where
+pub record IsFaultOf (files : List File) (items : List Located) (n : ℕ) (number : FrameNumber) (shown : Shown) : Type 0 where
   pub word : ℕ
-  pub fault : fault_at view n ≡ Some (word, number)
-  pub item : store.Item
-  pub there : slice_get view.found n ≡ Some item
+  pub fault : fault_at (base_of items) n ≡ Some (word, number)
+  pub item : Located
+  pub there : slice_get items n ≡ Some item
   pub is_shown : IsShown files item word shown
 
 -- the item with this number is sound, and no assertion
@@ -62,24 +58,24 @@ pub record HasProofVerdict (view : BaseView) (n : ℕ) (verdict : Verdict) : Typ
   pub is_verdict : IsVerdictAt view n verdict
 
 -- the item with this number is a sound `$p`, the verdict on its proof names a spot, and that spot has this place
-pub record HasVerdictShown (files : FilesView) (view : BaseView) (n : ℕ) (verdict : Spot → Verdict) (at : At) : Type 0 where
+pub record HasVerdictShown (files : List File) (items : List Located) (n : ℕ) (verdict : Spot → Verdict) (at : At) : Type 0 where
   pub spot : Spot
-  pub has_verdict : HasProofVerdict view n (verdict spot)
-  pub is_place : IsPlaceOfSpot files view n spot at
+  pub has_verdict : HasProofVerdict (base_of items) n (verdict spot)
+  pub is_place : IsPlaceOfSpot files items n spot at
 
 -- this is what is rightly reported of the item with this number: by its fault, its kind, or the verdict on its proof
-abbrev pub IsRightlyTold : FilesView → BaseView → ℕ → Told → Type 0
-IsRightlyTold files view n Quiet = IsQuiet view n
-IsRightlyTold files view n AnAxiom = IsAxiom view n
-IsRightlyTold files view n Proved = HasProofVerdict view n verdicts.Proved
-IsRightlyTold files view n (Incomplete at) = HasVerdictShown files view n verdicts.Incomplete at
-IsRightlyTold files view n (Wrong number at) = HasVerdictShown files view n (verdicts.Wrong number) at
-IsRightlyTold files view n (Fault number shown) = IsFaultOf files view n number shown
+abbrev pub IsRightlyTold : List File → List Located → ℕ → Told → Type 0
+IsRightlyTold files items n Quiet = IsQuiet (base_of items) n
+IsRightlyTold files items n AnAxiom = IsAxiom (base_of items) n
+IsRightlyTold files items n Proved = HasProofVerdict (base_of items) n verdicts.Proved
+IsRightlyTold files items n (Incomplete at) = HasVerdictShown files items n verdicts.Incomplete at
+IsRightlyTold files items n (Wrong number at) = HasVerdictShown files items n (verdicts.Wrong number) at
+IsRightlyTold files items n (Fault number shown) = IsFaultOf files items n number shown
 
 -- this is what is rightly reported of all items, one for each, in order
-pub record AreRightlyTold (files : FilesView) (view : BaseView) (all : List Told) : Type 0 where
-  pub count : length all ≡ length view.said
-  pub each : (n : ℕ) (one : Told) → slice_get all n ≡ Some one → IsRightlyTold files view n one
+pub record AreRightlyTold (files : List File) (items : List Located) (all : List Told) : Type 0 where
+  pub count : length all ≡ length items
+  pub each : (n : ℕ) (one : Told) → slice_get all n ≡ Some one → IsRightlyTold files items n one
 
 -- it is reported that the item is an axiom
 abbrev pub is_axiom : Told → Bool

@@ -6,7 +6,7 @@ use Rattle.mm_machine.specs.Language.Frame.{Symbol, Mandatory, Frame, HasVariabl
 use Rattle.mm_machine.specs.Language.Typing.{IsTyped, IsTyping}
 use Rattle.mm_machine.specs.Language.Substitution.{substituted}
 use Rattle.mm_machine.specs.Language.Derivation.{AreApart}
-use Rattle.mm_machine.specs.Language.Faults.{AnyZip, CitingFails, entries_for, row_of}
+use Rattle.mm_machine.specs.Language.Faults.{AnyZip, CitingFails, last_entries, row_of}
 use Rattle.mm_machine.specs.declared.ProofNumber.{ProofNumber}
 use Rattle.mm_machine.specs.Code.Flat.{read_all}
 use Rattle.mm_machine.specs.declared.pattern.Replacement.{Replacement}
@@ -54,7 +54,7 @@ OtherEssential given h e = (h.floating ≡ false) × (substituted given h.expres
 
 -- the lowest number that holds if the frame is cited after this stack
 abbrev pub IsLowestCiting : List (Symbol × Symbol) → Frame → List (List Symbol) → ProofNumber → Type 0
-IsLowestCiting active frame stack number = CitingFails active frame stack number × ((other : ProofNumber) → CitingFails active frame stack other →
+IsLowestCiting active frame stack number = CitingFails 1000000 active frame stack number × ((other : ProofNumber) → CitingFails 1000000 active frame stack other →
     row_of number ≤ row_of other)
 
 -- what is found of a citation that has its entries: nothing is wrong, or what is wrong first
@@ -62,7 +62,7 @@ abbrev pub CitingSays : List (Symbol × Symbol) → Frame → List (List Symbol)
 CitingSays active frame es None = (AnyZip OtherTypecode frame.hypotheses es → ⊥) × ((given : Symbol → List Symbol) → GivesEntries given frame.hypotheses es →
     (AnyZip (OtherEssential given) frame.hypotheses es → ⊥) × All (λ pair. AreApart active (given pair.0) (given pair.1)) frame.pairs × (length
     (substituted given frame.expression) ≤ 1000000))
-CitingSays active frame es (Some number) = (stack : List (List Symbol)) → length frame.hypotheses ≤ length stack → entries_for frame stack ≡ es →
+CitingSays active frame es (Some number) = (stack : List (List Symbol)) → length frame.hypotheses ≤ length stack → last_entries frame stack ≡ es →
     IsLowestCiting active frame stack number
 
 -- the entries that are taken

@@ -12,25 +12,25 @@ pub record AreApart (active : List (Symbol × Symbol)) (xs ys : List Symbol) : T
   pub unshared : ShareVariable xs ys → ⊥
   pub paired : (x y : Symbol) → HasVariable xs x → HasVariable ys y → x ≢ y → ArePair active x y
 
--- By this substitution the frame takes these entries to this result. A substitution is given as a total function. Only
--- what it gives for mandatory variables counts (the law `only_mandatory_count`). Each variable of a frame has a mandatory
--- `$f` (the law `places_have_frames` of mm_frame). So this says the same as with a finite map of these variables.
-pub record Takes (active : List (Symbol × Symbol)) (frame : Frame) (given : Symbol → List Symbol)
+-- By this substitution the frame takes these entries to this result, which has at most `longest` symbols, its typecode counted. A substitution
+-- is given as a total function. Only what it gives for mandatory variables counts (the law `only_mandatory_count`). Each variable of a frame has
+-- a mandatory `$f` (the law `places_have_frames` of mm_frame). So this says the same as with a finite map of these variables.
+pub record Takes (longest : ℕ) (active : List (Symbol × Symbol)) (frame : Frame) (given : Symbol → List Symbol)
     (entries : List (List Symbol)) (result : List Symbol) : Type 0 where
   pub entries_match : map (λ h. substituted given h.expression) frame.hypotheses ≡ entries
   pub result_matches : substituted given frame.expression ≡ result
   pub apart : All (λ pair. AreApart active (given pair.0) (given pair.1)) frame.pairs
-  pub short : length result ≤ 1000000
+  pub short : length result ≤ longest
 
 mutual
   -- at this place the list of labels derives the expression
   pub data Derives (place : Setting) : List (List ℕ) → List Symbol → Type 0 where
     -- one label, of a hypothesis with that expression
     by_hypothesis : {label : List ℕ} {e : List Symbol} → place.resolve label ≡ Hypothesis e → Derives place (label ∷ []) e
-    -- a join of lists that derive the entries, and the label of an assertion that takes these to the result
+    -- a join of lists that derive the entries, and the label of an assertion that takes these to the result, of at most 1,000,000 symbols
     by_assertion :
         {labels : List (List ℕ)} {label : List ℕ} {frame : Frame} {given : Symbol → List Symbol} {entries : List (List Symbol)} {result : List Symbol} →
-        DeriveInOrder place labels entries → place.resolve label ≡ Assertion frame → Takes place.active frame given entries result →
+        DeriveInOrder place labels entries → place.resolve label ≡ Assertion frame → Takes 1000000 place.active frame given entries result →
         Derives place (labels ++ label ∷ []) result
 
   -- the list of labels is a join of lists, which derive these expressions, one each, in order

@@ -1,10 +1,10 @@
 -- The faults of a step: what each number says of a step and the stack before it.
 use Rattle.std.specs.Prelude.{◌≡◌, ◌≢◌, ℕ, ◌<◌, ◌≤◌, ◌-◌, ◌⊎◌, true, false, List, [], ◌∷◌, length, drop, Any, slice_get}
 use Rattle.std.specs.List.{AllZip}
-use Rattle.mm_machine.specs.Language.Frame.{Symbol, Frame, Resolved, Hypothesis, Assertion, Inactive, Unknown, Setting, ArePair, HasVariable}
+use Rattle.mm_machine.specs.Language.Frame.{Symbol, Frame, LabelMeaning, Assertion, Setting, ArePair, HasVariable}
 use Rattle.mm_machine.specs.Language.Substitution.{substituted}
 use Rattle.mm_machine.specs.Language.Derivation.{ShareVariable}
-use Rattle.mm_machine.specs.Language.Expansion.{Step, Named, Saved, Save, NotKnown}
+use Rattle.mm_machine.specs.Language.Expansion.{Step, Named, Save}
 use Rattle.mm_machine.specs.declared.ProofNumber.{ProofNumber}
 use Rattle.mm_machine.specs.declared.ProofNumber.TheVariants.{P01, P02, P03, P04, P05, P06, P07, P08, P09, P10, P11, P12, P13, P14, P15}
 
@@ -15,12 +15,12 @@ AnyZip R (x ∷ xs) [] = ⊥
 AnyZip R (x ∷ xs) (y ∷ ys) = R x y ⊎ AnyZip R xs ys
 
 -- the entries that a frame takes: as many of the last as it has mandatory hypotheses
-abbrev pub entries_for : Frame → List (List Symbol) → List (List Symbol)
-entries_for frame stack = drop (length stack - length frame.hypotheses) stack
+abbrev pub last_entries : Frame → List (List Symbol) → List (List Symbol)
+last_entries frame stack = drop (length stack - length frame.hypotheses) stack
 
 -- there is a substitution that makes each mandatory `$f` its entry, and this holds of it
-abbrev pub UnderGiven : Frame → List (List Symbol) → ((Symbol → List Symbol) → Type 0) → Type 0
-UnderGiven frame entries P =
+abbrev pub UnderSubstitution : Frame → List (List Symbol) → ((Symbol → List Symbol) → Type 0) → Type 0
+UnderSubstitution frame entries P =
     (given : Symbol → List Symbol) × AllZip (λ h e. h.floating ≡ true → substituted given h.expression ≡ e) frame.hypotheses entries × P given
 
 -- two different variables, one from each list, that are no active pair
@@ -29,44 +29,36 @@ LackPair active xs ys = (x y : Symbol) × HasVariable xs x × HasVariable ys y �
 
 -- the table of faults of a citation, a line for each number. P07: there are too few entries. P08: the typecode of an entry is not that of
 -- its `$f`. P09: an `$e` does not become its entry. P10: two expressions that have to be apart share a variable. P11: a pair of their
--- variables is not active. P12: the result has more than 1,000,000 symbols
-abbrev pub CitingFails : List (Symbol × Symbol) → Frame → List (List Symbol) → ProofNumber → Type 0
+-- variables is not active. P12: the result has more than `longest` symbols, its typecode counted
+abbrev pub CitingFails : ℕ → List (Symbol × Symbol) → Frame → List (List Symbol) → ProofNumber → Type 0
 -- fewer entries than mandatory hypotheses
-CitingFails active frame stack P07 = length stack < length frame.hypotheses
+CitingFails longest active frame stack P07 = length stack < length frame.hypotheses
 -- an entry of a `$f` has another typecode
-CitingFails active frame stack P08 = AnyZip (λ h e. (h.floating ≡ true) × (slice_get h.expression 0 ≢ slice_get e 0)) frame.hypotheses (entries_for frame stack)
+CitingFails longest active frame stack P08 = AnyZip (λ h e. (h.floating ≡ true) × (slice_get h.expression 0 ≢ slice_get e 0)) frame.hypotheses (last_entries frame stack)
 -- an entry of a `$e` is not the `$e` under the substitution
-CitingFails active frame stack P09 =
-    UnderGiven frame (entries_for frame stack)
-    (λ given. AnyZip (λ h e. (h.floating ≡ false) × (substituted given h.expression ≢ e)) frame.hypotheses (entries_for frame stack))
+CitingFails longest active frame stack P09 =
+    UnderSubstitution frame (last_entries frame stack)
+    (λ given. AnyZip (λ h e. (h.floating ≡ false) × (substituted given h.expression ≢ e)) frame.hypotheses (last_entries frame stack))
 -- what the two variables of a mandatory pair stand for shares a variable
-CitingFails active frame stack P10 = UnderGiven frame (entries_for frame stack) (λ given. Any (λ pair. ShareVariable (given pair.0) (given pair.1)) frame.pairs)
+CitingFails longest active frame stack P10 = UnderSubstitution frame (last_entries frame stack) (λ given. Any (λ pair. ShareVariable (given pair.0) (given pair.1)) frame.pairs)
 -- what the variables of a mandatory pair stand for has two different variables, one from each, that are no active pair
-CitingFails active frame stack P11 =
-    UnderGiven frame (entries_for frame stack) (λ given. Any (λ pair. LackPair active (given pair.0) (given pair.1)) frame.pairs)
--- the result has over 1,000,000 symbols
-CitingFails active frame stack P12 = UnderGiven frame (entries_for frame stack) (λ given. 1000000 < length (substituted given frame.expression))
-CitingFails active frame stack _ = ⊥
+CitingFails longest active frame stack P11 =
+    UnderSubstitution frame (last_entries frame stack) (λ given. Any (λ pair. LackPair active (given pair.0) (given pair.1)) frame.pairs)
+-- the result has more symbols than the longest one may have
+CitingFails longest active frame stack P12 = UnderSubstitution frame (last_entries frame stack) (λ given. longest < length (substituted given frame.expression))
+CitingFails longest active frame stack _ = ⊥
 
--- the faults of a label as a step: only an assertion has some
-abbrev pub LabelFails : List (Symbol × Symbol) → Resolved → List (List Symbol) → ProofNumber → Type 0
-LabelFails active (Hypothesis e) stack number = ⊥
-LabelFails active (Assertion frame) stack number = CitingFails active frame stack number
-LabelFails active Inactive stack number = ⊥
-LabelFails active Unknown stack number = ⊥
+-- the faults of a label as a step: only an assertion has some. Its result may have 1,000,000 symbols
+abbrev pub LabelFails : List (Symbol × Symbol) → LabelMeaning → List (List Symbol) → ProofNumber → Type 0
+LabelFails active (Assertion frame) stack number = CitingFails 1000000 active frame stack number
+LabelFails active _ stack number = ⊥
 
--- the fault of a save: P13, there is nothing to save
-abbrev pub SaveFails : List (List Symbol) → ProofNumber → Type 0
--- there is no entry
-SaveFails stack P13 = stack ≡ []
-SaveFails stack _ = ⊥
-
--- the fault of this number holds of this step, if these entries are reached before it
+-- the fault of this number holds of this step, if these entries are reached before it. A label has those of its assertion; a save has P13 if there
+-- is nothing to save
 abbrev pub StepLineHolds : Setting → Step → List (List Symbol) → ProofNumber → Type 0
 StepLineHolds place (Named label) stack number = LabelFails place.active (place.resolve label) stack number
-StepLineHolds place (Saved n) stack number = ⊥
-StepLineHolds place Save stack number = SaveFails stack number
-StepLineHolds place NotKnown stack number = ⊥
+StepLineHolds place Save stack P13 = stack ≡ []
+StepLineHolds place _ stack _ = ⊥
 
 -- the place of a number in the table
 abbrev pub row_of : ProofNumber → ℕ

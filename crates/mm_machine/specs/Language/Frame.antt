@@ -19,15 +19,15 @@ pub record Frame : Type 0 where
 
 -- What a label means at a statement: an active hypothesis with its expression, an assertion with its frame, a hypothesis that is no longer
 -- active, or nothing.
-pub data Resolved : Type 0 where
-  Hypothesis : List Symbol → Resolved
-  Assertion : Frame → Resolved
-  Inactive : Resolved
-  Unknown : Resolved
+pub data LabelMeaning : Type 0 where
+  Hypothesis : List Symbol → LabelMeaning
+  Assertion : Frame → LabelMeaning
+  Inactive : LabelMeaning
+  Unknown : LabelMeaning
 
 -- What a proof is read against: what each label means there, and all pairs of variables that are active there.
 pub record Setting : Type 0 where
-  pub resolve : List ℕ → Resolved
+  pub resolve : List ℕ → LabelMeaning
   pub active : List (Symbol × Symbol)
 
 -- the two variables are one of the pairs, in one order or the other

@@ -5,7 +5,7 @@ use Rattle.mm_machine.specs.Language.Derivation.{Takes, Derives}
 use Rattle.mm_machine.specs.Language.Typing.{IsTyped, IsFrame, HasFrames}
 use Rattle.mm_machine.specs.Language.Expansion.{Step, weight, last_part, IsLastPart}
 use Rattle.mm_machine.specs.Language.Reaches.{Reaches, IsStepFault}
-use Rattle.mm_machine.specs.Language.Machine.{State, Turns, Runs, nothing_yet, IsReady, AreDecoded, AreAllKnown}
+use Rattle.mm_machine.specs.Language.Machine.{State, Turns, Runs, nothing_yet, IsReady, AreDecoded}
 use Rattle.mm_machine.specs.Language.Faults.{StepLineHolds, IsLowest}
 use Rattle.mm_machine.specs.Language.Verdict.{Decoded, StepsDerive, IsVerdict}
 use Rattle.mm_machine.specs.Language.Run.{AreDone}
@@ -23,9 +23,9 @@ DerivesAtMostOne = (place : Setting) → HasFrames place → (labels : List (Lis
 -- Of a substitution only what it gives for the mandatory variables counts.
 abbrev pub OnlyMandatoryCount : Type 0
 OnlyMandatoryCount =
-    (active : List (Symbol × Symbol)) (frame : Frame) → IsFrame frame → (given other : Symbol → List Symbol) →
+    (longest : ℕ) (active : List (Symbol × Symbol)) (frame : Frame) → IsFrame frame → (given other : Symbol → List Symbol) →
     ((v : Symbol) → IsTyped frame.hypotheses v → given v ≡ other v) →
-    (entries : List (List Symbol)) (result : List Symbol) → Takes active frame given entries result → Takes active frame other entries result
+    (entries : List (List Symbol)) (result : List Symbol) → Takes longest active frame given entries result → Takes longest active frame other entries result
 
 -- A list that derives an expression weighs one.
 abbrev pub DerivedWeighsOne : Type 0
@@ -60,11 +60,11 @@ HasVerdict =
     (place : Setting) → HasFrames place → (statement : List Symbol) (d : Decoded) →
     AreDecoded place d.steps → length d.spots ≡ length d.steps → (v : Verdict) × IsVerdict place statement (Ok d) v
 
--- Proved is the verdict exactly when all steps are known and their expanded labels derive the statement.
+-- Proved is the verdict exactly when the expanded labels of the steps derive the statement.
 abbrev pub ProvedIsDerived : Type 0
 ProvedIsDerived =
     (place : Setting) (statement : List Symbol) (d : Decoded) →
-    IsVerdict place statement (Ok d) Proved ↔ (AreAllKnown d.steps × StepsDerive place d.steps statement)
+    IsVerdict place statement (Ok d) Proved ↔ StepsDerive place d.steps statement
 
 -- Proofs that mean the same have the same verdicts.
 abbrev pub SameProofSameVerdict : Type 0

@@ -1,7 +1,6 @@
 -- The stack machine that judges a proof: what a step does to the stack and the saved expressions (Metamath book, 4.1.4 and Appendix B).
-use Rattle.std.specs.Prelude.{◌≡◌, ◌≢◌, ℕ, ◌+◌, ◌<◌, Bool, true, false, Some, List, [], ◌∷◌, ◌++◌, length, take, count_by, slice_get}
-use Rattle.std.specs.List.{AllByRecursion}
-use Rattle.mm_machine.specs.Language.Frame.{Symbol, Resolved, Hypothesis, Assertion, Inactive, Unknown, Setting}
+use Rattle.std.specs.Prelude.{◌≡◌, ℕ, ◌+◌, ◌<◌, Bool, true, false, Some, List, [], ◌∷◌, ◌++◌, length, take, count_by, slice_get}
+use Rattle.mm_machine.specs.Language.Frame.{Symbol, LabelMeaning, Hypothesis, Assertion, Inactive, Unknown, Setting}
 use Rattle.mm_machine.specs.Language.Steps.{Moves}
 use Rattle.mm_machine.specs.Language.Expansion.{Step, Named, Saved, Save, NotKnown}
 
@@ -21,7 +20,7 @@ Turns place Save before after =
 Turns place NotKnown before after = ⊥
 
 -- the label is of a hypothesis that is active, or of an assertion
-abbrev pub IsUsable : Resolved → Type 0
+abbrev pub IsUsable : LabelMeaning → Type 0
 IsUsable (Hypothesis e) = Unit {0}
 IsUsable (Assertion frame) = Unit {0}
 IsUsable Inactive = ⊥
@@ -44,10 +43,6 @@ AreDecodedAfter place saves (Named label ∷ steps) = IsUsable (place.resolve la
 AreDecodedAfter place saves (Saved n ∷ steps) = (n < saves) × AreDecodedAfter place saves steps
 AreDecodedAfter place saves (Save ∷ steps) = AreDecodedAfter place (saves + 1) steps
 AreDecodedAfter place saves (NotKnown ∷ steps) = AreDecodedAfter place saves steps
-
--- no step is a `?`
-abbrev pub AreAllKnown : List Step → Type 0
-AreAllKnown steps = AllByRecursion (λ step. step ≢ NotKnown) steps
 
 -- the steps take the one state to the other, one turn after another
 abbrev pub Runs : Setting → State → List Step → State → Type 0

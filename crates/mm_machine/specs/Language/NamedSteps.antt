@@ -3,10 +3,8 @@ use Rattle.std.specs.Prelude.{◌≡◌, ◌≢◌, ℕ, ◌<◌, Some, List, []
 use Rattle.std.specs.List.{AllZip}
 use Rattle.mm_machine.specs.Language.Frame.{Symbol, Frame, Hypothesis, Assertion, Setting, AreSameFrame}
 use Rattle.mm_machine.specs.Language.Expansion.{Step, Named, Saved, Save, NotKnown}
-use Rattle.mm_machine.specs.Language.Machine.{AreAllKnown}
 use Rattle.mm_machine.specs.Language.Reaches.{Reaches, IsStepFault}
 use Rattle.mm_machine.specs.Language.Run.{run_part, IsReached}
-use Rattle.mm_machine.specs.Language.Verdict.{IsFirstUnknown}
 use Rattle.mm_machine.specs.Language.CitedFrames.{IsCitable, frame_of, hypotheses_of}
 use Rattle.mm_machine.specs.declared.step.Action.{Action}
 use Rattle.mm_machine.specs.declared.step.Action.TheVariants as actions
@@ -85,21 +83,21 @@ actions_mean names steps = map (λ step. meant names step.action) steps
 
 -- what a run says of the steps of a proof
 abbrev pub RunSays : Setting → List Step → List Symbol → Outcome → Type 0
-RunSays place steps statement Proved = AreAllKnown steps × Reaches place steps (statement ∷ [])
+RunSays place steps statement Proved = (run_part steps ≡ steps) × Reaches place steps (statement ∷ [])
 RunSays place steps statement (Fault number n) = IsStepFault place (run_part steps) n number
-RunSays place steps statement (Unknown n) = IsFirstUnknown steps n × IsReached place steps
-RunSays place steps statement NotOne = AreAllKnown steps × (stack : List (List Symbol)) × Reaches place steps stack × (length stack ≢ 1)
-RunSays place steps statement Other = AreAllKnown steps × (e : List Symbol) × Reaches place steps (e ∷ []) × (e ≢ statement)
+RunSays place steps statement (Unknown n) = (n ≡ length (run_part steps)) × (run_part steps ≢ steps) × IsReached place steps
+RunSays place steps statement NotOne = (run_part steps ≡ steps) × (stack : List (List Symbol)) × Reaches place steps stack × (length stack ≢ 1)
+RunSays place steps statement Other = (run_part steps ≡ steps) × (e : List Symbol) × Reaches place steps (e ∷ []) × (e ≢ statement)
 
 -- the steps stop at one that is at fault or not known
 abbrev pub StopsAt : Setting → List Step → Outcome → Type 0
 StopsAt place steps (Fault number n) = IsStepFault place (run_part steps) n number
-StopsAt place steps (Unknown n) = IsFirstUnknown steps n × IsReached place steps
+StopsAt place steps (Unknown n) = (n ≡ length (run_part steps)) × (run_part steps ≢ steps) × IsReached place steps
 StopsAt place steps _ = ⊥
 
--- all steps are known, and reach the stack
+-- all steps are run, and reach the stack
 abbrev pub AreDoneTo : Setting → List Step → List (List Symbol) → Type 0
-AreDoneTo place steps stack = AreAllKnown steps × Reaches place steps stack
+AreDoneTo place steps stack = (run_part steps ≡ steps) × Reaches place steps stack
 
 -- what a run says of the first steps of a proof: they stop, or all are done and leave this many entries
 abbrev pub FrontSays : Setting → List Step → Front → Type 0

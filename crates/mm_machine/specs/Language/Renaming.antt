@@ -1,6 +1,6 @@
 -- Renaming of symbols, one to one, and what it makes of frames and of what labels mean.
 use Rattle.std.specs.Prelude.{◌≡◌, ℕ, List, map}
-use Rattle.mm_machine.specs.Language.Frame.{Symbol, Mandatory, Frame, Resolved, Hypothesis, Assertion, Inactive, Unknown, Setting, AreSamePairs}
+use Rattle.mm_machine.specs.Language.Frame.{Symbol, Mandatory, Frame, LabelMeaning, Hypothesis, Assertion, Inactive, Unknown, Setting, AreSamePairs}
 use Rattle.mm_machine.specs.Language.SameProof.{AreSameMeaning}
 
 -- the one gives each symbol a symbol of its kind, and the other gives it back
@@ -30,7 +30,7 @@ renamed_frame to frame = record {
 }
 
 -- what a label means, with all symbols renamed
-abbrev pub renamed_meaning : (Symbol → Symbol) → Resolved → Resolved
+abbrev pub renamed_meaning : (Symbol → Symbol) → LabelMeaning → LabelMeaning
 renamed_meaning to (Hypothesis e) = Hypothesis (map to e)
 renamed_meaning to (Assertion frame) = Assertion (renamed_frame to frame)
 renamed_meaning to Inactive = Inactive

@@ -1,5 +1,5 @@
 -- What is proved of steps that are run, and of numbers in place of names: each is the contract of a function.
-use Rattle.std.specs.Prelude.{◌≡◌, ℕ, ◌<◌, ◌↔◌, List, ◌∷◌, ◌++◌, length, map, take, All}
+use Rattle.std.specs.Prelude.{◌≡◌, ◌≢◌, ℕ, ◌<◌, ◌↔◌, Some, List, ◌∷◌, ◌++◌, length, map, take, slice_get, All}
 use Rattle.mm_machine.specs.declared.symbol.NumberedSymbol.{NumberedSymbol}
 use Rattle.mm_machine.specs.declared.ProofNumber.TheVariants.{P07}
 use Rattle.mm_machine.specs.declared.stepping.Outcome.{Outcome}
@@ -8,10 +8,10 @@ use Rattle.mm_machine.specs.Language.Frame.{Symbol, Frame, Assertion, Setting, A
 use Rattle.mm_machine.specs.Language.Typing.{IsFrame, HasFrames}
 use Rattle.mm_machine.specs.Language.Names.{AreDistinct}
 use Rattle.mm_machine.specs.Language.NumberedSymbols.{by_number, all_by_number, symbols_of, kept_pairs, IsNumbered, IsPairNumbered, AreInOrder}
-use Rattle.mm_machine.specs.Language.Expansion.{Step, Named}
-use Rattle.mm_machine.specs.Language.Machine.{AreAllKnown, AreDecoded, AreDecodedAfter}
+use Rattle.mm_machine.specs.Language.Expansion.{Step, Named, NotKnown}
+use Rattle.mm_machine.specs.Language.Machine.{AreDecoded, AreDecodedAfter}
 use Rattle.mm_machine.specs.Language.Run.{run_part}
-use Rattle.mm_machine.specs.Language.Verdict.{IsFirstUnknown}
+use Rattle.mm_machine.specs.Language.Reaches.{Reaches}
 use Rattle.mm_machine.specs.Language.Renaming.{renamed_frame, renamed_pairs, renamed_setting}
 use Rattle.mm_machine.specs.Language.Numbering.{unnaming}
 use Rattle.mm_machine.specs.Language.Keys.{AreInKeyOrder, key_by_number}
@@ -60,10 +60,17 @@ LackStops =
     AreDoneTo place front stack → place.resolve label ≡ Assertion frame → length stack < length frame.hypotheses →
     StopsAt place (front ++ Named label ∷ behind) (Fault P07 (length front))
 
--- The steps that are run are all of them if all are known, and else those before the first unknown one.
+-- no step before step n is a `?`
+abbrev pub KnownUpTo : List Step → ℕ → Type 0
+KnownUpTo steps n = (k : ℕ) → k < n → slice_get steps k ≢ Some NotKnown
+
+-- The steps that are run are all of them exactly if none is a `?`. If step n is the first `?`, they are those before it, so it has the number
+-- of the steps that are run. Steps that reach something are all run.
 pub record PartsAreRun : Type 0 where
-  pub known : (steps : List Step) → AreAllKnown steps → run_part steps ≡ steps
-  pub unknown : (steps : List Step) (n : ℕ) → IsFirstUnknown steps n → run_part steps ≡ take n steps
+  pub known : (steps : List Step) → (run_part steps ≡ steps) ↔ KnownUpTo steps (length steps)
+  pub unknown : (steps : List Step) (n : ℕ) → slice_get steps n ≡ Some NotKnown → KnownUpTo steps n →
+      (run_part steps ≡ take n steps) × (length (run_part steps) ≡ n)
+  pub reached : (place : Setting) (steps : List Step) (stack : List (List Symbol)) → Reaches place steps stack → run_part steps ≡ steps
 
 -- Steps are as decoding leaves them exactly if this holds from step to step, with a count of the saves.
 abbrev pub SureByCounting : Type 0

@@ -1,13 +1,13 @@
 -- When two decoded proofs, at two places, are the same proof. Steps are compared by meaning, not by labels.
 use Rattle.std.specs.Prelude.{◌≡◌, Result, Ok, Err}
 use Rattle.std.specs.List.{AllZip}
-use Rattle.mm_machine.specs.Language.Frame.{Resolved, Hypothesis, Assertion, Inactive, Unknown, Setting, AreSamePairs, AreSameFrame}
+use Rattle.mm_machine.specs.Language.Frame.{LabelMeaning, Hypothesis, Assertion, Inactive, Unknown, Setting, AreSamePairs, AreSameFrame}
 use Rattle.mm_machine.specs.Language.Expansion.{Step, Named, Saved, Save, NotKnown}
 use Rattle.mm_machine.specs.Language.Verdict.{Decoded}
 use Rattle.mm_machine.specs.declared.step.ProofFault.{ProofFault}
 
 -- a label means the same here and there: one expression, the same frame, or in both places inactive or unknown
-abbrev pub AreSameMeaning : Resolved → Resolved → Type 0
+abbrev pub AreSameMeaning : LabelMeaning → LabelMeaning → Type 0
 AreSameMeaning (Hypothesis e) (Hypothesis f) = e ≡ f
 AreSameMeaning (Assertion frame) (Assertion other) = AreSameFrame frame other
 AreSameMeaning Inactive Inactive = Unit {0}

@@ -1,10 +1,9 @@
 -- The verdict on a proof: proved, incomplete, or wrong by one number at one spot.
-use Rattle.std.specs.Prelude.{◌≡◌, ◌≢◌, ℕ, ◌<◌, Result, Ok, Err, Some, List, [], ◌∷◌, length, slice_get}
+use Rattle.std.specs.Prelude.{◌≡◌, ◌≢◌, ℕ, Result, Ok, Err, Some, List, [], ◌∷◌, length, slice_get}
 use Rattle.mm_machine.specs.Language.Frame.{Symbol, Setting}
 use Rattle.mm_machine.specs.Language.Derivation.{Derives}
-use Rattle.mm_machine.specs.Language.Expansion.{Step, NotKnown, Expanded, expansion}
+use Rattle.mm_machine.specs.Language.Expansion.{Step, Expanded, expansion}
 use Rattle.mm_machine.specs.Language.Reaches.{Reaches, IsStepFault}
-use Rattle.mm_machine.specs.Language.Machine.{AreAllKnown}
 use Rattle.mm_machine.specs.Language.Run.{run_part, IsReached}
 use Rattle.mm_machine.specs.declared.Spot.{Spot}
 use Rattle.mm_machine.specs.declared.ProofNumber.{ProofNumber}
@@ -19,31 +18,28 @@ pub record Decoded : Type 0 where
   pub spots : List Spot
   pub close : Spot
 
--- step n is the first unknown one
-abbrev pub IsFirstUnknown : List Step → ℕ → Type 0
-IsFirstUnknown steps n = (slice_get steps n ≡ Some NotKnown) × ((k : ℕ) → k < n → slice_get steps k ≢ Some NotKnown)
-
 -- the expanded labels of the steps derive the statement
 abbrev pub StepsDerive : Setting → List Step → List Symbol → Type 0
 StepsDerive place steps statement = (x : Expanded) × (expansion place steps ≡ Some x) × Derives place x.labels statement
 
--- the proof is wrong by this number at this spot. It is a step that is run, or the end of the proof, if all steps are known: P14 if they
--- do not reach exactly one expression, P15 if that is not the statement
+-- the proof is wrong by this number at this spot. It is a step that is run, or the end of the proof: P14 if all steps reach no entry or several,
+-- P15 if they reach one that is not the statement. Steps with a `?` reach nothing, since that has no expansion
 abbrev pub IsWrongBy : Setting → List Symbol → Decoded → ProofNumber → Spot → Type 0
--- they do not reach one entry
-IsWrongBy place statement d P14 spot = AreAllKnown d.steps × (stack : List (List Symbol)) × Reaches place d.steps stack × (length stack ≢ 1) × (spot ≡ d.close)
+-- they reach entries, but not one
+IsWrongBy place statement d P14 spot = (stack : List (List Symbol)) × Reaches place d.steps stack × (length stack ≢ 1) × (spot ≡ d.close)
 -- they reach one entry, which is another
-IsWrongBy place statement d P15 spot = AreAllKnown d.steps × (e : List Symbol) × Reaches place d.steps (e ∷ []) × (e ≢ statement) × (spot ≡ d.close)
+IsWrongBy place statement d P15 spot = (e : List Symbol) × Reaches place d.steps (e ∷ []) × (e ≢ statement) × (spot ≡ d.close)
 -- a step that is run is at fault
 IsWrongBy place statement d number spot = (n : ℕ) × IsStepFault place (run_part d.steps) n number × (slice_get d.spots n ≡ Some spot)
 
--- the verdict on the steps of a proof. It is Proved if all are known and they reach the statement alone. It is Incomplete at the first
--- `?` if the steps before it are without a fault. Otherwise it is Wrong
+-- the verdict on the steps of a proof. It is Proved if they reach the statement alone. It is Incomplete if some are not run, and none of those
+-- that are run is at fault: then at the first that is not run, which is a `?`. Otherwise it is Wrong
 abbrev pub IsVerdictOnSteps : Setting → List Symbol → Decoded → Verdict → Type 0
--- all are known, and reach the one entry that is the statement
-IsVerdictOnSteps place statement d Proved = AreAllKnown d.steps × Reaches place d.steps (statement ∷ [])
--- no step before the first unknown one is at fault
-IsVerdictOnSteps place statement d (Incomplete spot) = (n : ℕ) × IsFirstUnknown d.steps n × (slice_get d.spots n ≡ Some spot) × IsReached place d.steps
+-- they reach the one entry that is the statement
+IsVerdictOnSteps place statement d Proved = Reaches place d.steps (statement ∷ [])
+-- some are not run, and none of those that are run is at fault
+IsVerdictOnSteps place statement d (Incomplete spot) =
+    (run_part d.steps ≢ d.steps) × (slice_get d.spots (length (run_part d.steps)) ≡ Some spot) × IsReached place d.steps
 IsVerdictOnSteps place statement d (Wrong number spot) = IsWrongBy place statement d number spot
 
 -- the verdict on a proof of the statement at this place: a fault of decoding makes it Wrong, and else the steps decide

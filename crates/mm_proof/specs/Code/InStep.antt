@@ -24,7 +24,7 @@ pub record AreOrdinals (base : BaseView) (count : ℕ) (numbers : List ℕ) : Ty
 -- these are the ordinals of the items of two bases, and of their ends
 abbrev pub AreOrdinalsOf : Base → Base → Ordinals → Type 0
 AreOrdinalsOf old new ordinals = OfBases old new (λ base copy.
-    AreOrdinals base (suc (length base.said)) ordinals.old.items × AreOrdinals copy (suc (length copy.said)) ordinals.new.items)
+    AreOrdinals base (suc (length base)) ordinals.old.items × AreOrdinals copy (suc (length copy)) ordinals.new.items)
 
 -- hypothesis n is active at the items after it up to this one, or at all of them
 pub record EndsAt (base : BaseView) (n : ℕ) (end : Option ℕ) : Type 0 where

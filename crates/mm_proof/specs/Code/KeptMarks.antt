@@ -2,7 +2,7 @@
 use Rattle.std.specs.Prelude.{◌≡◌, ◌↔◌, ◌<◌, ℕ, Bool, true, false, not, Option, Some, None, List, length, map, slice_get, bytes_eq, codes}
 use Rattle.std.specs.List.{AllByRecursion}
 use Rattle.mm_frame.specs.Language.Base.{BaseView, before, said_at, is_shown_at, is_framed_at, is_proof_at, frame_at, hypothesis_at}
-use Rattle.mm_frame.specs.mm_machine.Language.Frame.{Resolved, Hypothesis, Assertion, Inactive, Unknown, AreSameFrame, AreSamePairs}
+use Rattle.mm_frame.specs.mm_machine.Language.Frame.{LabelMeaning, Hypothesis, Assertion, Inactive, Unknown, AreSameFrame, AreSamePairs}
 use Rattle.mm_frame.specs.Language.Framing.{active_pairs, expression}
 use Rattle.mm_frame.specs.Language.Resolving.{IsCarrier}
 use Rattle.mm_frame.specs.Language.Answering.{IsBaseBy}
@@ -95,7 +95,7 @@ IsShownItem base answers.Inactive = Unit {0}
 IsShownItem base answers.Unknown = Unit {0}
 
 -- what an answer stands for
-abbrev pub stands_for : BaseView → answer.Resolved → Resolved
+abbrev pub stands_for : BaseView → answer.Resolved → LabelMeaning
 stands_for base (answers.Hypothesis n) = Hypothesis (expression (before base n) (said_at base n))
 stands_for base (answers.Assertion n) = Assertion (frame_at base n)
 stands_for base answers.Inactive = Inactive

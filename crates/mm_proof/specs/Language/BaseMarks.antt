@@ -29,7 +29,7 @@ mark_at marks j = slice_index_or marks.items j no_mark
 
 -- item i of the old base and item j of the new one are sound and have one label
 pub record HaveOneLabel (old new : BaseView) (i j : ℕ) : Type 0 where
-  pub within : i < length old.said
+  pub within : i < length old
   pub was : is_shown_at old i ≡ true
   pub is : is_shown_at new j ≡ true
   pub label : (said_at old i).label ≡ (said_at new j).label
@@ -71,6 +71,6 @@ pub record IsMark (old new : BaseView) (j : ℕ) (mark : ItemMark) : Type 0 wher
 
 -- the marks are right of each item of the new base
 pub record AreMarks (old new : BaseView) (marks : MarksView) : Type 0 where
-  pub count : length marks.items ≡ length new.said
-  pub each : (j : ℕ) → j < length new.said → IsMark old new j (mark_at marks j)
-  pub in_step : (j : ℕ) → j < length new.said → (mark_at marks j).in_step ≡ true → KeepsLabels old new marks.changed j
+  pub count : length marks.items ≡ length new
+  pub each : (j : ℕ) → j < length new → IsMark old new j (mark_at marks j)
+  pub in_step : (j : ℕ) → j < length new → (mark_at marks j).in_step ≡ true → KeepsLabels old new marks.changed j

@@ -5,8 +5,9 @@ use Rattle.std.specs.Io.KnownBytes.{Appends}
 use Rattle.mm_keep.specs.mm_store.declared.edit.EditError.{EditError}
 use Rattle.mm_keep.specs.mm_store.declared.edit.EditError.TheVariants as edits
 use Rattle.mm_keep.specs.mm_text.Language.Asked.{Asked, edited_text}
-use Rattle.mm_keep.specs.mm_frame.Language.Base.{BaseView, IsOfFiles}
-use Rattle.mm_keep.specs.mm_statement.Language.Item.{Item}
+use Rattle.mm_keep.specs.mm_statement.Language.Database.{Located, IsDatabase}
+use Rattle.mm_keep.specs.mm_statement.Language.Item.{Said}
+use Rattle.mm_keep.specs.mm_frame.Language.Base.{BaseView, base_of}
 use Rattle.mm_keep.specs.Language.Sessions.{SessionView, HasAssertion, AreAxiomsOf, AreCitesOf, AreUsersOf}
 use Rattle.mm_script.specs.declared.error.ScriptError.{ScriptError}
 use Rattle.mm_script.specs.declared.error.ScriptError.TheVariants as errors
@@ -29,10 +30,10 @@ text_brought asked = unwrap_or (edited_text asked) []
 -- these bytes are written, which the items of a session's files give; or the write of them has failed
 abbrev pub WritesOf : {W T E : Type 0} → (W → Option (List ℕ)) → SessionView → (BaseView → List ℕ) → Writing W → Writing W → Result T E → Type 0
 WritesOf contents session bytes old new result =
-    (base : BaseView) → IsOfFiles session.files session.top base → Writes contents old new result (bytes base)
+    (items : List Located) → IsDatabase session.files session.top items → Writes contents old new result (bytes (base_of items))
 
 -- a line with the label of each item
-abbrev pub label_lines : List Item → List ℕ
+abbrev pub label_lines : List Said → List ℕ
 label_lines items = flat_map (λ item. unwrap_or item.label [] ++ codes "\n") items
 
 -- the command asks for items by a label, and these are their numbers

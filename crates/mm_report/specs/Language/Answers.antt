@@ -10,9 +10,8 @@ use Rattle.mm_keep.specs.mm_store.Language.Answers.{IsEditError}
 use Rattle.mm_keep.specs.mm_store.Language.Batches.{IsBatchOf, IsRefusedAt}
 use Rattle.mm_keep.specs.mm_text.Language.Asked.{Asked, edited_text}
 use Rattle.mm_keep.specs.mm_store.Language.Edits.{IsEditOf}
-use Rattle.mm_keep.specs.mm_store.Language.FilesView.{plain}
-use Rattle.mm_keep.specs.mm_frame.Language.Base.{BaseView, said_at}
-use Rattle.mm_keep.specs.mm_statement.Language.Item.{Item}
+use Rattle.mm_keep.specs.mm_frame.Language.Base.{BaseView, base_of, said_at}
+use Rattle.mm_keep.specs.mm_statement.Language.Item.{Said}
 use Rattle.mm_keep.specs.Language.Runs.{AreRunsOf}
 use Rattle.mm_keep.specs.Language.Sessions.{SessionView, OfItems, HasAssertion, IsVerdictOf, AreAxiomsOf, AreCitesOf, AreUsersOf}
 use Rattle.mm_keep.specs.Language.Told.{Told, AnAxiom, Proved, Incomplete, Wrong}
@@ -54,17 +53,11 @@ abbrev pub batch_refusal_line : ℕ → Asked → EditError → List ℕ
 batch_refusal_line n edit error =
     codes "refused " ++ decimal n ++ codes " " ++ refusal_words (unwrap_or (edited_text edit) []) error ++ codes "\n"
 
--- the line of a label that no assertion has
-abbrev pub unknown_line : List ℕ
-unknown_line = codes "refused K01\n"
-
--- a word, a count, and then a line with the label of each item
-abbrev pub labels_listed : List ℕ → List Item → List ℕ
-labels_listed word items = word ++ codes " " ++ decimal (length items) ++ codes "\n" ++ flat_map (λ item. unwrap_or item.label [] ++ codes "\n") items
-
 -- a word, a count, and then a line with the label of each item with one of these numbers
 abbrev pub numbers_listed : List ℕ → BaseView → List ℕ → List ℕ
-numbers_listed word base numbers = labels_listed word (map (said_at base) numbers)
+numbers_listed word base numbers =
+    let items = map (said_at base) numbers in
+    word ++ codes " " ++ decimal (length items) ++ codes "\n" ++ flat_map (λ item. unwrap_or item.label [] ++ codes "\n") items
 
 -- the line that reports on the assertion with this label
 abbrev pub told_line : List (List ℕ) → List ℕ → Told → List ℕ
@@ -80,12 +73,12 @@ pub record IsRunAnswer (old new : SessionView) (answer : List ℕ) : Type 0 wher
   pub top : new.top ≡ old.top
   pub runs : List ℕ
   pub are_runs : AreRunsOf old.files new.files old.top runs
-  pub answer_is : answer ≡ numbers_listed (codes "ran") are_runs.new runs
+  pub answer_is : answer ≡ numbers_listed (codes "ran") (base_of are_runs.new) runs
 
 -- the answer if an edit is refused: the reason, which is not out of memory; and nothing is changed
 pub record IsRefused (old new : SessionView) (edit : Asked) (answer : List ℕ) : Type 0 where
   pub error : EditError
-  pub refused : IsEditError edit (plain old.files) error
+  pub refused : IsEditError edit old.files error
   pub told : error ≢ Memory
   pub unchanged : new ≡ old
   pub answer_is : answer ≡ refusal_line edit error
@@ -94,29 +87,27 @@ pub record IsRefused (old new : SessionView) (edit : Asked) (answer : List ℕ) 
 pub record IsBatchRefused (old new : SessionView) (edits : List Asked) (answer : List ℕ) : Type 0 where
   pub n : ℕ
   pub error : EditError
-  pub refused : IsRefusedAt edits (plain old.files) n error
+  pub refused : IsRefusedAt edits old.files n error
   pub unchanged : new ≡ old
   pub answer_is : answer ≡ batch_refusal_line n refused.edit error
 
 -- the answer to an edit, done or refused, and the session after it
 abbrev pub IsEditAnswer : SessionView → Asked → List ℕ → SessionView → Type 0
-IsEditAnswer old edit answer new =
-    (IsEditOf edit (plain old.files) (plain new.files) × IsRunAnswer old new answer) ⊎ IsRefused old new edit answer
+IsEditAnswer old edit answer new = (IsEditOf edit old.files new.files × IsRunAnswer old new answer) ⊎ IsRefused old new edit answer
 
 -- the answer to several edits at once, done or refused, and the session after them
 abbrev pub IsBatchAnswer : SessionView → List Asked → List ℕ → SessionView → Type 0
-IsBatchAnswer old edits answer new =
-    (IsBatchOf edits (plain old.files) (plain new.files) × IsRunAnswer old new answer) ⊎ IsBatchRefused old new edits answer
+IsBatchAnswer old edits answer new = (IsBatchOf edits old.files new.files × IsRunAnswer old new answer) ⊎ IsBatchRefused old new edits answer
 
 -- no assertion has the label, and the answer says so
 pub record IsUnknown (session : SessionView) (label answer : List ℕ) : Type 0 where
   pub none : ¬ HasAssertion session label
-  pub answer_is : answer ≡ unknown_line
+  pub answer_is : answer ≡ codes "refused K01\n"
 
 -- the answer that reports on the assertion with this label
 abbrev pub IsVerdictAnswer : SessionView → List ℕ → List ℕ → Type 0
 IsVerdictAnswer session label answer =
-    (told : Told) × IsVerdictOf session label told × (answer ≡ told_line (names_of (plain session.files)) label told)
+    (told : Told) × IsVerdictOf session label told × (answer ≡ told_line (names_of session.files) label told)
 
 -- the answer `found`, with the labels of the items whose numbers are those wanted
 abbrev pub IsFound : SessionView → (List ℕ → Type 0) → List ℕ → Type 0

@@ -1,17 +1,17 @@
 -- What is proved of reports: each is the contract of a function.
 use Rattle.std.specs.Prelude.{◌≡◌, ◌<◌, ℕ, true, List, [], length}
-use Rattle.mm_keep.specs.mm_store.Language.FilesView.{plain}
-use Rattle.mm_keep.specs.mm_frame.Language.Base.{BaseView, IsOfFiles, is_sound_at, said_at}
+use Rattle.mm_keep.specs.mm_statement.Language.Database.{Located, IsDatabase}
 use Rattle.mm_keep.specs.mm_statement.Language.Item.{Theorem}
+use Rattle.mm_keep.specs.mm_frame.Language.Base.{BaseView, base_of, is_sound_at, said_at}
 use Rattle.mm_keep.specs.Language.Derivable.{IsDerivableAt}
+use Rattle.mm_keep.specs.Language.Laws.{IsOneAnswer}
 use Rattle.mm_keep.specs.Language.Sessions.{SessionView}
 use Rattle.mm_keep.specs.Language.Told.{Told, AreRightlyTold}
 use Rattle.mm_report.specs.Language.Report.{IsReport, lines, names_of}
 
--- Files that are the same but for the keys of their pieces have one report.
+-- A session has one report.
 abbrev pub OneReport : Type 0
-OneReport = (session other : SessionView) (bytes copy : List ℕ) → plain session.files ≡ plain other.files → session.top ≡ other.top
-    → IsReport session bytes → IsReport other copy → bytes ≡ copy
+OneReport = IsOneAnswer IsReport
 
 -- the item with this number has no fault, and if it is a `$p`, some labels derive its statement
 pub record IsInOrder (base : BaseView) (i : ℕ) : Type 0 where
@@ -20,6 +20,6 @@ pub record IsInOrder (base : BaseView) (i : ℕ) : Type 0 where
 
 -- If a report has no line before its summary, no item is at fault, and some labels derive the statement of each `$p`.
 abbrev pub CleanIsDerived : Type 0
-CleanIsDerived = (session : SessionView) (base : BaseView) (all : List Told) → IsOfFiles session.files session.top base
-    → AreRightlyTold session.files base all → lines (names_of (plain session.files)) base.said all ≡ []
-    → (i : ℕ) → i < length base.said → IsInOrder base i
+CleanIsDerived = (session : SessionView) (items : List Located) (all : List Told) → IsDatabase session.files session.top items
+    → AreRightlyTold session.files items all → lines (names_of session.files) (base_of items) all ≡ []
+    → (i : ℕ) → i < length items → IsInOrder (base_of items) i

@@ -1,12 +1,13 @@
 -- The report of a session: a line for each fault and for each theorem whose proof is wrong or incomplete, and a line of counts.
-use Rattle.std.specs.Prelude.{◌≡◌, ℕ, Option, unwrap_or, List, [], ◌∷◌, ◌++◌, map, slice_index_or, codes, decimal}
-use Rattle.mm_keep.specs.mm_store.Language.FilesView.{File, plain}
-use Rattle.mm_keep.specs.mm_frame.Language.Base.{BaseView, IsOfFiles}
-use Rattle.mm_keep.specs.mm_statement.Language.Item.{Item}
+use Rattle.std.specs.Prelude.{◌≡◌, ℕ, ◌+◌, ◌/◌, ◌%◌, Option, unwrap_or, List, [], ◌∷◌, ◌++◌, map, slice_index_or, codes, decimal}
+use Rattle.mm_keep.specs.mm_store.Language.FilesView.{File}
+use Rattle.mm_keep.specs.mm_statement.Language.Database.{Located, IsDatabase}
+use Rattle.mm_keep.specs.mm_statement.Language.Item.{Said}
+use Rattle.mm_keep.specs.mm_frame.Language.Base.{base_of}
 use Rattle.mm_keep.specs.mm_frame.declared.FrameNumber.{FrameNumber}
 use Rattle.mm_keep.specs.mm_frame.declared.FrameNumber.TheVariants.{F01, F02, F03, F04, F05, F06, F07, F08, F09, F10, F11, F12, F13, F14}
 use Rattle.mm_keep.specs.mm_machine.declared.ProofNumber.{ProofNumber}
-use Rattle.mm_keep.specs.mm_machine.declared.ProofNumber.TheVariants.{P01, P02, P03, P04, P05, P06, P07, P08, P09, P10, P11, P12, P13, P14, P15}
+use Rattle.mm_keep.specs.mm_machine.Language.Faults.{row_of}
 use Rattle.mm_keep.specs.declared.finding.At.{At}
 use Rattle.mm_keep.specs.Language.Sessions.{SessionView}
 use Rattle.mm_keep.specs.Language.Told.{Told, Incomplete, Wrong, Fault, Shown, Counts, counts, AreRightlyTold}
@@ -29,23 +30,9 @@ code_of F12 = codes "F12"
 code_of F13 = codes "F13"
 code_of F14 = codes "F14"
 
--- the number of a fault of a proof, as it is written
+-- the number of a fault of a proof, as it is written: a P and two digits
 abbrev pub proof_code : ProofNumber → List ℕ
-proof_code P01 = codes "P01"
-proof_code P02 = codes "P02"
-proof_code P03 = codes "P03"
-proof_code P04 = codes "P04"
-proof_code P05 = codes "P05"
-proof_code P06 = codes "P06"
-proof_code P07 = codes "P07"
-proof_code P08 = codes "P08"
-proof_code P09 = codes "P09"
-proof_code P10 = codes "P10"
-proof_code P11 = codes "P11"
-proof_code P12 = codes "P12"
-proof_code P13 = codes "P13"
-proof_code P14 = codes "P14"
-proof_code P15 = codes "P15"
+proof_code number = codes "P" ++ (48 + row_of number / 10) ∷ (48 + row_of number % 10) ∷ []
 
 -- the names of the files, in order
 abbrev pub names_of : List File → List (List ℕ)
@@ -68,14 +55,14 @@ abbrev pub wrong_line : List (List ℕ) → List ℕ → ProofNumber → At → 
 wrong_line names label number at = codes "wrong " ++ label ++ codes " " ++ place_in names at ++ codes " " ++ proof_code number ++ codes "\n"
 
 -- the line of an item, if it has one
-abbrev pub item_line : List (List ℕ) → Item → Told → List ℕ
+abbrev pub item_line : List (List ℕ) → Said → Told → List ℕ
 item_line names item (Incomplete at) = incomplete_line names (unwrap_or item.label []) at
 item_line names item (Wrong number at) = wrong_line names (unwrap_or item.label []) number at
 item_line names item (Fault number shown) = fault_line names number shown
 item_line names item _ = []
 
 -- the lines of the items, in order; an item with nothing to report has none
-abbrev pub lines : List (List ℕ) → List Item → List Told → List ℕ
+abbrev pub lines : List (List ℕ) → List Said → List Told → List ℕ
 lines names [] all = []
 lines names (item ∷ items) [] = []
 lines names (item ∷ items) (one ∷ all) = item_line names item one ++ lines names items all
@@ -88,16 +75,16 @@ summary counts =
     ++ codes " faults " ++ decimal counts.faults ++ codes "\n"
 
 -- the report, if the files have these names: the lines of the items, and the summary
-abbrev pub report : List (List ℕ) → List Item → List Told → List ℕ
+abbrev pub report : List (List ℕ) → List Said → List Told → List ℕ
 report names items all = lines names items all ++ summary (counts all)
 
 -- the bytes are the report of a session: of what is reported rightly of each item of its files
 pub record IsReport (session : SessionView) (bytes : List ℕ) : Type 0 where
-  pub base : BaseView
-  pub of_files : IsOfFiles session.files session.top base
+  pub items : List Located
+  pub of_files : IsDatabase session.files session.top items
   pub all : List Told
-  pub are_told : AreRightlyTold session.files base all
-  pub bytes_are : bytes ≡ report (names_of (plain session.files)) base.said all
+  pub are_told : AreRightlyTold session.files items all
+  pub bytes_are : bytes ≡ report (names_of session.files) (base_of items) all
 
 -- what is written, if it can be seen, grows by a beginning of the report of the session, or by all of it
 pub record BeginsReport (session : SessionView) (old new : Option (List ℕ)) : Type 0 where

@@ -1,44 +1,27 @@
 -- What is proved of the answers of scripts: each is the contract of a function.
-use Rattle.std.specs.Prelude.{◌≡◌, ◌↔◌, ◌⊎◌, ℕ, List, [], ◌++◌}
-use Rattle.mm_keep.specs.mm_store.Language.FileFacts.{HoldsPieces}
-use Rattle.mm_keep.specs.mm_store.Language.FilesView.{plain}
+use Rattle.std.specs.Prelude.{◌≡◌, ℕ, Some, List, ◌++◌}
 use Rattle.mm_keep.specs.mm_store.Language.Holding.{HoldOneEach}
 use Rattle.mm_keep.specs.Language.Sessions.{SessionView, HasItems}
 use Rattle.mm_report.specs.Language.Answers.{AreAnswers, IsScriptAnswer}
-use Rattle.mm_script.specs.Language.Script.{Entry, End, commands_of, AreRead, HasEntries}
+use Rattle.mm_report.specs.Language.Scripting.{AreFirst}
+use Rattle.mm_script.specs.Language.Script.{Entry, End, commands_of}
 
--- two sessions whose files are the same but for the keys of their pieces, with one top file; both give items, or neither does
-pub record AreAlike (session other : SessionView) : Type 0 where
-  pub files : plain session.files ≡ plain other.files
-  pub top : session.top ≡ other.top
-  pub items : HasItems session ↔ HasItems other
-
--- two runs of a script have one list of answers and one end, and the sessions after them are alike
-pub record IsOneOutcome (answers copies : List ℕ) (end other : End) (new copy : SessionView) : Type 0 where
-  pub answers_are : answers ≡ copies
-  pub end_is : end ≡ other
-  pub sessions : AreAlike new copy
-
--- In sessions that are alike, as each is with itself, a script has one list of answers and one end, and the sessions after it are alike
--- again.
+-- A script has one list of answers in a session, one session after it, and one end.
 abbrev pub OneScriptAnswer : Type 0
-OneScriptAnswer = (session other new copy : SessionView) (script answers copies : List ℕ) (end ended : End) → AreAlike session other
-    → IsScriptAnswer session script answers new end → IsScriptAnswer other script copies copy ended → IsOneOutcome answers copies end ended new copy
+OneScriptAnswer = (session new copy : SessionView) (script answers copies : List ℕ) (end ended : End)
+    → IsScriptAnswer session script answers new end → IsScriptAnswer session script copies copy ended
+    → (answers ≡ copies) × (new ≡ copy) × (end ≡ ended)
 
--- bytes begin with these commands and empty lines; if no more bytes follow, the last line may be without its line feed
-abbrev pub AreTheFirst : List ℕ → List ℕ → List Entry → List ℕ → Type 0
-AreTheFirst bytes more entries rest = AreRead bytes entries rest ⊎ ((more ≡ []) × HasEntries bytes entries rest)
-
--- The answers to the first commands of a script are a beginning of all its answers.
+-- The answers to the first commands of a script are a beginning of all its answers. If no more bytes follow them, the last line may be
+-- without its line feed.
 abbrev pub AnswersBegin : Type 0
-AnswersBegin = (session other new final : SessionView) (bytes more answers all : List ℕ) (entries : List Entry) (rest : List ℕ) (end : End)
-    → AreAlike session other → AreTheFirst bytes more entries rest → AreAnswers session (commands_of entries) answers new
-    → IsScriptAnswer other (bytes ++ more) all final end → (later : List ℕ) × (all ≡ answers ++ later)
+AnswersBegin = (session new final : SessionView) (bytes more answers all : List ℕ) (entries : List Entry) (rest : List ℕ) (end : End)
+    → AreFirst (Some more) bytes entries rest → AreAnswers session (commands_of entries) answers new
+    → IsScriptAnswer session (bytes ++ more) all final end → (later : List ℕ) × (all ≡ answers ++ later)
 
--- a session as it is: each key in its files has a piece, each piece holds one unit, and the files give items from the top file on
+-- a session as it is: each piece of its files holds one unit, and the files have items from the top file on
 pub record IsWholeSession (session : SessionView) : Type 0 where
-  pub pieces : HoldsPieces session.files
-  pub units : HoldOneEach (plain session.files)
+  pub units : HoldOneEach session.files
   pub items : HasItems session
 
 -- the script has answers and an end, and the session after it is whole again

@@ -6,8 +6,8 @@ use Rattle.mm_script.specs.declared.entry.Complete.{Complete}
 use Rattle.mm_script.specs.declared.entry.EditAt.{EditAt}
 use Rattle.mm_script.specs.Code.Growing.{HasBlanks, IsEditRead}
 use Rattle.mm_script.specs.Language.Commands.{AreEditsIn, HasNoEntry, StopsSo, rest_of_script}
-use Rattle.mm_script.specs.Code.Stops.{AreListed, batch_line}
-use Rattle.mm_script.specs.Language.Script.{End, Listed, listed_bytes, IsNumber, AreGoodEdits, LastInLine}
+use Rattle.mm_script.specs.Code.Stops.{AreGoodEdits, AreListed, batch_line}
+use Rattle.mm_script.specs.Language.Script.{End, Listed, listed_bytes, IsNumber, LastInLine}
 
 -- the bytes begin with the line of a batch, with some of its edits, which end here
 pub record IsBatchFront (bytes : List ℕ) (n : ℕ) (front : List Listed) (at : ℕ) : Type 0 where

@@ -2,12 +2,20 @@
 use Rattle.std.specs.Prelude.{◌≡◌, ◌≢◌, ◌<◌, ℕ, Some, List, [], ◌∷◌, ◌++◌, length, codes, decimal, replicate}
 use Rattle.std.specs.List.{AllByRecursion, flat_map, join_with_byte}
 use Rattle.mm_text.specs.Language.Asked.{Asked, edited_text}
-use Rattle.mm_script.specs.Language.Script.{Command, IsGood, IsGoodEdit, AreGoodEdits, IsNumber}
+use Rattle.mm_script.specs.Language.Script.{Command, Entry, IsGood, IsGoodEdit, IsGoodEntry, IsNumber}
 use Rattle.mm_script.specs.Language.Script.{Listed, listed_bytes, line_of, edit_line}
 
 -- bytes of one line
 abbrev pub IsOneLine : List ℕ → Type 0
 IsOneLine bytes = AllByRecursion (λ b. b ≢ 10) bytes
+
+-- each edit of a batch is one that a line can ask for
+abbrev pub AreGoodEdits : List Listed → Type 0
+AreGoodEdits edits = AllByRecursion (λ listed. IsGoodEdit listed.edit) edits
+
+-- each entry is an empty line or a command that lines can ask for
+abbrev pub AreGood : List Entry → Type 0
+AreGood entries = AllByRecursion IsGoodEntry entries
 
 -- a line, not an empty one, that is that of no command
 pub record IsBadLine (line : List ℕ) : Type 0 where

@@ -87,14 +87,10 @@ IsGoodEdit (Replace file at text) = IsName file × IsNumber at × IsNumber (leng
 IsGoodEdit (Delete file at) = IsName file × IsNumber at
 IsGoodEdit (Move file at to) = IsName file × IsNumber at × IsNumber to
 
--- each edit of a batch is one that a line can ask for
-abbrev pub AreGoodEdits : List Listed → Type 0
-AreGoodEdits edits = AllByRecursion (λ listed. IsGoodEdit listed.edit) edits
-
 -- a command that lines can ask for
 abbrev pub IsGood : Command → Type 0
 IsGood (Change edit) = IsGoodEdit edit
-IsGood (Batch edits) = IsNumber (length edits) × AreGoodEdits edits
+IsGood (Batch edits) = IsNumber (length edits) × AllByRecursion (λ listed. IsGoodEdit listed.edit) edits
 IsGood Report = Unit {0}
 IsGood (Verdict label) = IsName label
 IsGood (Axioms label) = IsName label
@@ -128,10 +124,6 @@ abbrev pub IsGoodEntry : Entry → Type 0
 IsGoodEntry Blank = Unit {0}
 IsGoodEntry (Given command) = IsGood command
 
--- each entry is an empty line or a command that lines can ask for
-abbrev pub AreGood : List Entry → Type 0
-AreGood entries = AllByRecursion IsGoodEntry entries
-
 -- the bytes of entries, one after another
 abbrev pub entries_bytes : List Entry → List ℕ
 entries_bytes entries = flat_map entry_bytes entries
@@ -155,7 +147,7 @@ pub record LacksFeed (script : List ℕ) (entries : List Entry) : Type 0 where
 
 -- the script is these empty lines and commands, and then a rest; its last line may be without a line feed, if no text has to follow it
 pub record HasEntries (script : List ℕ) (entries : List Entry) (rest : List ℕ) : Type 0 where
-  pub good : AreGood entries
+  pub good : AllByRecursion IsGoodEntry entries
   pub joined : (script ≡ entries_bytes entries ++ rest) ⊎ (LacksFeed script entries × (rest ≡ []))
 
 -- the reading of a script: the longest list of commands and empty lines with which it begins, and the rest
@@ -165,7 +157,7 @@ pub record IsLongestReading (script : List ℕ) (entries : List Entry) (rest : L
 
 -- the bytes are these entries, each with all its line feeds, and then a rest
 pub record AreRead (bytes : List ℕ) (entries : List Entry) (rest : List ℕ) : Type 0 where
-  pub good : AreGood entries
+  pub good : AllByRecursion IsGoodEntry entries
   pub joined : bytes ≡ entries_bytes entries ++ rest
 
 -- the bytes are the longest list of complete entries, and then a rest: these are complete, whatever follows the bytes
@@ -173,39 +165,12 @@ pub record IsReadSoFar (bytes : List ℕ) (entries : List Entry) (rest : List �
   pub are : AreRead bytes entries rest
   pub longest : (others : List Entry) (left : List ℕ) → AreRead bytes others left → length others ≤ length entries
 
--- there are no bytes of an edit, or its whole line and a part of what belongs after it
-abbrev pub IsNoneOrLine : Asked → List ℕ → Type 0
-IsNoneOrLine edit bytes =
-    (bytes ≡ []) ⊎ ((more : List ℕ) × (missing : List ℕ) × (bytes ≡ edit_line edit ++ more) × (more ++ missing ≡ 10 ∷ ended_text (edited_text edit)))
-
--- edits are missing after the line of a batch. Some of them are whole. Of the next there are empty lines alone, or its whole line and a part
--- of what belongs after it
-pub record MissesEdits (edits : List Listed) (part : List ℕ) : Type 0 where
-  pub front : List Listed
-  pub next : Listed
-  pub later : List Listed
-  pub are : edits ≡ front ++ next ∷ later
-  pub blanks : ℕ
-  pub inner : List ℕ
-  pub is : part ≡ 10 ∷ (flat_map listed_bytes front ++ (replicate blanks 10 ++ inner))
-  pub none_or_line : IsNoneOrLine next.edit inner
-
--- after its line and this part of what belongs there, a command may break off: inside a text, or if edits of a batch are missing
-abbrev pub MayBreak : Command → List ℕ → Type 0
-MayBreak (Change edit) part = edited_text edit ≢ None
-MayBreak (Batch edits) part = ((part ≡ []) × (edits ≢ [])) ⊎ MissesEdits edits part
-MayBreak _ part = ⊥
-
--- what is left of a script is cut short: the line of a command, and not all of what belongs after it. The command may break off there
+-- what is left of a script is cut short: with a line feed after it, it begins a command that lines can ask for
 pub record IsCutShort (rest : List ℕ) : Type 0 where
   pub command : Command
   pub good : IsGood command
-  pub part : List ℕ
   pub missing : List ℕ
-  pub is : rest ≡ line_of command ++ part
-  pub begins : part ++ missing ≡ 10 ∷ behind_line command
-  pub some_missing : missing ≢ []
-  pub breaks : MayBreak command part
+  pub is : rest ++ 10 ∷ missing ≡ command_bytes command
 
 -- How a script ends: done, cut short, or at a bad line.
 pub data End : Type 0 where

@@ -4,11 +4,11 @@ use Rattle.std.specs.Option.{option_map}
 use Rattle.mm_store.specs.mm_text.declared.word.Word.{Word}
 use Rattle.mm_store.specs.mm_text.Language.Unit.{tokens_of}
 use Rattle.mm_statement.specs.declared.statement.Statement.TheInside.{Inside}
-use Rattle.mm_statement.specs.Language.Item.{Item}
+use Rattle.mm_statement.specs.Language.Item.{Said}
 use Rattle.mm_statement.specs.Code.PlainWords.{AreWordsOf, LiesInText, word_bytes}
 use Rattle.mm_statement.specs.Language.Statement.{kind_of, item_of}
 
-abbrev pub item_inside : Inside → Item
+abbrev pub item_inside : Inside → Said
 item_inside inside = item_of (kind_of inside.kind) (tokens_of inside.text.now inside.words.words)
 
 -- the words are all of the text; the label and the count of symbols are those of the statement; and so is each symbol that is kept

@@ -10,7 +10,7 @@ use Rattle.mm_store.specs.declared.item.ItemKind.{ItemKind}
 use Rattle.mm_store.specs.declared.item.ItemKind.TheVariants as items
 use Rattle.mm_store.specs.Language.FilesView.{FilesView}
 use Rattle.mm_store.specs.Language.FileFacts.{CanBeRead}
-use Rattle.mm_statement.specs.Language.Item.{Kind, Constants, Variables, Disjoint, Floating, Essential, Axiom, Theorem, BlockStart, BlockEnd, Missing, Item}
+use Rattle.mm_statement.specs.Language.Item.{Kind, Constants, Variables, Disjoint, Floating, Essential, Axiom, Theorem, BlockStart, BlockEnd, Missing, Said}
 use Rattle.mm_statement.specs.Language.Item.{is_labelled}
 
 -- the kind of an item of the files, as the definitions name it
@@ -39,7 +39,7 @@ is_plain token = is_plain_kind token.kind
 abbrev pub plain_from : ℕ → List Token → List Token
 plain_from from tokens = take (prefix_len is_plain (drop from tokens)) (drop from tokens)
 
--- how the words are spelled
+-- the bytes of each word, in order
 abbrev pub token_names : List Token → List (List ℕ)
 token_names tokens = map (λ token. token.bytes) tokens
 
@@ -55,12 +55,12 @@ symbols_in kind tokens = plain_from (symbols_from kind) tokens
 abbrev pub proof_in : Kind → List Token → List Token
 proof_in kind tokens = plain_from (symbols_from kind + length (symbols_in kind tokens) + 1) tokens
 
--- the label, which is the first word
+-- the label, which is the first word, if the kind has one
 abbrev pub label_in : Kind → List Token → Option (List ℕ)
 label_in kind tokens = if is_labelled kind then option_map (λ token. token.bytes) (slice_get tokens 0) else None
 
 -- the item of this kind that these words say
-abbrev pub item_of : Kind → List Token → Item
+abbrev pub item_of : Kind → List Token → Said
 item_of kind tokens = record {
   kind = kind;
   label = label_in kind tokens;
@@ -68,8 +68,8 @@ item_of kind tokens = record {
   proof = token_names (proof_in kind tokens);
 }
 
--- what an item of the files says, by its words
-pub record Says (files : FilesView) (item : store.Item) (said : Item) : Type 0 where
+-- this is what an item of the files says: what the words of its bytes say, by its kind
+pub record Says (files : FilesView) (item : store.Item) (said : Said) : Type 0 where
   pub read : CanBeRead files item
   pub is : said ≡ item_of (kind_of item.kind) (tokens_of (slice_range read.text item.start item.end) read.words)
 
@@ -82,7 +82,7 @@ pub record AreOneRange (x y : store.Item) : Type 0 where
 
 -- Items that are the same bytes of one piece, read as one kind, say the same.
 abbrev pub OneRangeSaysOne : Type 0
-OneRangeSaysOne = (files : FilesView) (x y : store.Item) → AreOneRange x y → (said told : Item) → Says files x said → Says files y told → said ≡ told
+OneRangeSaysOne = (files : FilesView) (x y : store.Item) → AreOneRange x y → (said told : Said) → Says files x said → Says files y told → said ≡ told
 
 -- these bytes occur one after another in those of the item
 pub record HasBytes (files : FilesView) (item : store.Item) (bytes : List ℕ) : Type 0 where

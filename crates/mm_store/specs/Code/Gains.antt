@@ -5,7 +5,7 @@ use Rattle.mm_text.specs.declared.word.Word.{Word}
 use Rattle.mm_text.specs.declared.part.Part.{Part}
 use Rattle.mm_text.specs.declared.part.PartKind.TheVariants.{Inclusion}
 use Rattle.mm_text.specs.Language.Reading.{HasWords}
-use Rattle.mm_text.specs.Language.Cut.{HoldsOne}
+use Rattle.mm_text.specs.Language.Cut.{HoldsOneUnit}
 use Rattle.mm_text.specs.Language.Part.{part_bytes}
 use Rattle.mm_store.specs.declared.item.Item.{Item}
 use Rattle.mm_store.specs.declared.walk.Spot.{Spot}
@@ -30,4 +30,4 @@ item_of_part spot part = placed_item (placed_part spot.file spot.piece spot.key 
 abbrev pub HoldUnits : List FileView → Type 0
 HoldUnits files =
     (number : ℕ) (file : FileView) → slice_get files number ≡ Some file → (n : ℕ) (piece : PieceView) → slice_get file.pieces n ≡ Some piece
-    → HoldsOne piece.text
+    → HoldsOneUnit piece.text

@@ -1,7 +1,7 @@
 -- What is kept of the text of a piece, and how pieces are put.
 use Rattle.std.specs.Prelude.{◌≡◌, ℕ, ◌≤◌, List, [], ◌∷◌, None, length}
 use Rattle.std.specs.FinMap as finite
-use Rattle.mm_text.specs.Language.Cut.{HoldsOne}
+use Rattle.mm_text.specs.Language.Cut.{HoldsOneUnit}
 use Rattle.mm_text.specs.Language.Part.{HasParts}
 use Rattle.mm_store.specs.declared.piece_text.PieceText.{PieceText}
 use Rattle.mm_store.specs.Language.Pieces.{Pieces, standing_piece}
@@ -9,7 +9,7 @@ use Rattle.mm_store.specs.Code.Lines.{AreLines, AreLineMarks}
 
 -- a text holds one unit, and has no more bytes than files may have
 pub record CanBeKept (text : List ℕ) : Type 0 where
-  pub unit : HoldsOne text
+  pub unit : HoldsOneUnit text
   pub small : length text ≤ 4294967295
 
 -- the text of a piece is kept with its parts, its marks and its lines

@@ -1,6 +1,6 @@
 -- What a text is read as that an edit brings.
 use Rattle.std.specs.Prelude.{◌≡◌, ℕ, ◌+◌, ◌<◌, List, Some, length}
-use Rattle.mm_text.specs.Language.Cut.{HoldsOne, ended}
+use Rattle.mm_text.specs.Language.Cut.{HoldsOneUnit, ended}
 use Rattle.mm_store.specs.declared.edit.EditError.{EditError}
 use Rattle.mm_store.specs.declared.edit.EditError.TheVariants.{NoFile, NoPiece, Text, NotOne, TooMany, Memory}
 use Rattle.mm_store.specs.Language.Edits.{HasUnitCount, BringsFault, BringsNotOne}
@@ -9,7 +9,7 @@ use Rattle.mm_store.specs.Language.Edits.{HasUnitCount, BringsFault, BringsNotOn
 pub record IsUnit (text unit : List ℕ) : Type 0 where
   pub one : HasUnitCount text 1
   pub whole : unit ≡ ended text
-  pub holds : HoldsOne unit
+  pub holds : HoldsOneUnit unit
 
 -- why a text is not one unit
 abbrev pub IsUnitError : List ℕ → EditError → Type 0

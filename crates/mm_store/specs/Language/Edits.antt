@@ -7,6 +7,9 @@ use Rattle.mm_text.specs.Language.Asked.{Asked, Insert, Replace, Delete, Move, e
 use Rattle.mm_store.specs.Language.FilesView.{File, file_number, bytes_of}
 
 -- the members after the edit. A new one is the whole text of the edit, ended by white space, and is not cut again
+-- In words: `edits_keep_members`: An insertion puts the new member before the one that had its number, a replacement puts it in the place of
+-- the old one, and a deletion takes the old one out. A move takes a member over those between its old place and its new one. All other
+-- members stay as they were, in their order.
 abbrev pub edited : Asked → List (List ℕ) → List (List ℕ)
 edited (Insert file at text) pieces = insert pieces at (ended text)
 edited (Replace file at text) pieces = slice_set pieces at (ended text)
@@ -18,6 +21,8 @@ abbrev pub with_members : File → List (List ℕ) → File
 with_members file pieces = record { name = file.name; pieces = pieces; tail = file.tail }
 
 -- the files after an edit of the one with this number
+-- In words: `edits_keep_files`: The files keep their names and their order. The one that the edit names keeps its tail, and has the members
+-- that the edit makes of its own; every other one stays as it was.
 abbrev pub after_edit : List File → Asked → ℕ → File → List File
 after_edit files edit number file = slice_set files number (with_members file (edited edit file.pieces))
 

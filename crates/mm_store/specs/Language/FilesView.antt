@@ -49,7 +49,7 @@ file_view pieces file = record { name = file.name; pieces = map (piece_view piec
 abbrev pub files_in : FilesView → List FileView
 files_in view = map (file_view view.pieces) view.keyed
 
--- the number of the file of this name, from 0, or none. No two files have one name
+-- the number of the first file of this name, from 0, or none. Files are added so that no two have one name
 abbrev pub number_of : List FileView → List ℕ → Option ℕ
 number_of files name = position (λ file. bytes_eq name file.name) files
 
@@ -75,7 +75,7 @@ plain_file pieces file = record { name = file.name; pieces = map (text_under pie
 abbrev pub plain : FilesView → List File
 plain view = map (plain_file view.pieces) view.keyed
 
--- the number of the file of this name, from 0, or none. No two files have one name
+-- the number of the first file of this name, from 0, or none. Files are added so that no two have one name
 abbrev pub file_number : List File → List ℕ → Option ℕ
 file_number files name = position (λ file. bytes_eq name file.name) files
 

@@ -41,7 +41,7 @@ abbrev pub text_in : Option HeldPiece → List ℕ
 text_in None = []
 text_in (Some piece) = piece.text
 
--- the text of the piece under a key
+-- the text of the piece under a key; no bytes if there is none
 abbrev pub text_under : Pieces → ℕ → List ℕ
 text_under pieces key = text_in (finite.get pieces key)
 

@@ -49,6 +49,7 @@ pub data Goes (files : List FileView) : List Placed → List (List ℕ) → List
       → Goes files (part ∷ parts) names items rest after
 
 -- the walk from a top file on has gone past these items of the files
+-- In words: `walks_go_on`: If a walk has gone past items, it has gone past the same items after a file is added whose name it has not taken.
 pub record IsWalk (files : List FileView) (top : List ℕ) (items : List Item) (walk : WalkView) : Type 0 where
   pub number : ℕ
   pub file : FileView

@@ -1,5 +1,5 @@
 -- A reader, and what its steps do.
-use Rattle.std.specs.Prelude.{◌≡◌, ◌≢◌, ℕ, ◌<◌, ◌≤◌, true, false, List, [], ◌∷◌, ◌++◌, drop, slice_range, Option, None, Result, MatchOption, MatchResult}
+use Rattle.std.specs.Prelude.{◌≡◌, ◌≢◌, ◌⊎◌, ℕ, ◌<◌, ◌≤◌, true, false, List, [], ◌∷◌, ◌++◌, drop, slice_range, Option, None, Result, MatchOption, MatchResult}
 use Rattle.std.specs.List.{AllByRecursion}
 use Rattle.mm_text.specs.declared.reader.Span.{Span}
 use Rattle.mm_text.specs.declared.word.Word.{Word}
@@ -8,9 +8,12 @@ use Rattle.mm_text.specs.declared.fault.TextNumber.{TextNumber}
 use Rattle.mm_text.specs.declared.fault.TextNumber.TheVariants.{T02, T03, T04, T05}
 use Rattle.mm_text.specs.Language.Run.{Run, runs_from, ends_run}
 use Rattle.mm_text.specs.Language.Spelling.{HoldsMark, IsWord, opening, closing}
-use Rattle.mm_text.specs.Language.Reading.{AreWords, HoldNoMarks}
-use Rattle.mm_text.specs.Language.Cut.{EndsInComment}
+use Rattle.mm_text.specs.Language.Reading.{AreWords, EndsInComment}
 use Rattle.mm_text.specs.Code.LeftToRight.{word_kind, has_dollar}
+
+-- none of the runs inside a comment holds `$(` or `$)`
+abbrev pub HoldNoMarks : List Run → Type 0
+HoldNoMarks inside = AllByRecursion (λ run. ¬ HoldsMark run.bytes) inside
 
 -- the runs of a text from a byte on
 abbrev pub runs_at : List ℕ → ℕ → List Run
@@ -85,6 +88,10 @@ pub record TakesWord (text : List ℕ) (from : ℕ) (word : Word) (to : ℕ) : T
   pub some : word.start < word.end
   pub next : to ≡ word.end
   pub ends : ends_run (drop to text) ≡ true
+
+-- how the runs are read up to here: as these words, or as these words and a comment after them that is still open
+abbrev pub HoldWords : List Run → List Word → Type 0
+HoldWords runs found = AreWords runs found ⊎ EndsInComment runs found
 
 -- why a run cannot follow runs that are read as these words: it has the fault with this number
 abbrev pub IsRunRefused : TextNumber → List Run → List Word → Run → Type 0

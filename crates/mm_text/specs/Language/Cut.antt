@@ -8,9 +8,8 @@ use Rattle.mm_text.specs.declared.fault.TextError.TheVariants as errors
 use Rattle.mm_text.specs.declared.fault.TextNumber.{TextNumber}
 use Rattle.mm_text.specs.declared.fault.TextNumber.TheVariants.{T01, T02, T03, T04, T05, T06, T07, T08, T09, T10, T11, T12}
 use Rattle.mm_text.specs.Language.Run.{Run, runs, is_white}
-use Rattle.mm_text.specs.Language.Spelling.{opening}
 use Rattle.mm_text.specs.Language.Reading as words
-use Rattle.mm_text.specs.Language.Reading.{first_bad, HasWords, AreWords, HoldNoMarks, EndsOpen}
+use Rattle.mm_text.specs.Language.Reading.{first_bad, HasWords, AreWords, EndsInComment}
 use Rattle.mm_text.specs.Language.Unit as units
 use Rattle.mm_text.specs.Language.Unit.{Token, Units, Nothing, Simple, Block, AreUnits, unit_tokens, tokens_of, IsViable, EndsInUnit, EndsInBlock}
 
@@ -25,10 +24,10 @@ abbrev pub ended : List ℕ → List ℕ
 ended text = if ends_white text then text else text ++ 10 ∷ []
 
 -- the sequence is one unit, and no more
-abbrev pub IsOne : Units → Type 0
-IsOne Nothing = ⊥
-IsOne (Simple shape later) = later ≡ Nothing
-IsOne (Block begin inner end later) = later ≡ Nothing
+abbrev pub IsOneUnit : Units → Type 0
+IsOneUnit Nothing = ⊥
+IsOneUnit (Simple shape later) = later ≡ Nothing
+IsOneUnit (Block begin inner end later) = later ≡ Nothing
 
 -- the byte after the last of these words; 0 if there are none
 abbrev pub end_of_words : List Word → ℕ
@@ -37,25 +36,19 @@ end_of_words (word ∷ []) = word.end
 end_of_words (word ∷ words) = end_of_words words
 
 -- the words of the text are one unit, and the text ends in white space
-pub record HoldsOne (text : List ℕ) : Type 0 where
+pub record HoldsOneUnit (text : List ℕ) : Type 0 where
   pub words : List Word
   pub units : Units
   pub has_words : HasWords text words
   pub are_units : AreUnits true units
   pub spells : unit_tokens units ≡ tokens_of text words
-  pub one : IsOne units
+  pub one : IsOneUnit units
   pub ends : ends_white text ≡ true
 
--- a piece: its words are one unit, and only white space follows the last of them, at least one byte
+-- a piece: it holds one unit, and only white space follows the last word
 pub record IsPiece (piece : List ℕ) : Type 0 where
-  pub words : List Word
-  pub units : Units
-  pub has_words : HasWords piece words
-  pub are_units : AreUnits true units
-  pub spells : unit_tokens units ≡ tokens_of piece words
-  pub one : IsOne units
-  pub white : AllPass is_white (drop (end_of_words words) piece)
-  pub ends : ends_white piece ≡ true
+  pub unit : HoldsOneUnit piece
+  pub white : AllPass is_white (drop (end_of_words unit.words) piece)
 
 -- the bytes do not begin with white space; there may be none
 abbrev pub BeginsSolid : List ℕ → Type 0
@@ -72,33 +65,19 @@ pub record IsCut (text : List ℕ) (pieces : List (List ℕ)) (tail : List ℕ) 
   pub joined : concat pieces ++ tail ≡ ended text
   pub are_pieces : ArePieces pieces tail
 
--- the runs end inside a comment that is still open; the runs before it are read as these words
-pub record EndsInComment (runs : List Run) (found : List Word) : Type 0 where
-  pub front : List Run
-  pub first : Run
-  pub inside : List Run
-  pub joined : runs ≡ front ++ first ∷ inside
-  pub before : AreWords front found
-  pub opened : first.bytes ≡ opening
-  pub no_marks : HoldNoMarks inside
-
--- how the runs are read up to here: as these words, or as these words and a comment after them that is still open
-abbrev pub HoldWords : List Run → List Word → Type 0
-HoldWords runs found = AreWords runs found ⊎ EndsInComment runs found
-
--- the run at this byte is the first with which no reading of words goes on; the number says why; the words before it may still become
--- whole units
+-- the run at this byte is the first with which no reading of words goes on; the number says why; the runs before it are read as words, or as
+-- words and a comment that is still open; these words may still become whole units
 pub record StopsWords (text : List ℕ) (number : TextNumber) (at : ℕ) : Type 0 where
   pub stop : words.StopsAtRun (runs text) number at
   pub found : List Word
-  pub read : HoldWords stop.front found
+  pub read : AreWords stop.front found ⊎ EndsInComment stop.front found
   pub viable : IsViable (tokens_of text found)
 
 -- the text ends inside a comment that begins at this byte; the words before it may still become whole units
 pub record EndsWords (text : List ℕ) (at : ℕ) : Type 0 where
-  pub ends : EndsOpen (runs text) at
   pub found : List Word
   pub read : EndsInComment (runs text) found
+  pub place : at ≡ read.first.start
   pub viable : IsViable (tokens_of text found)
 
 -- the word at this byte is the first with which the words can no longer become whole units; the number says why; up to it the

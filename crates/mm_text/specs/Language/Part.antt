@@ -21,11 +21,11 @@ pub record HasUnits (text : List ℕ) (units : Units) : Type 0 where
   pub are_units : AreUnits true units
   pub spells : unit_tokens units ≡ tokens_of text words
 
--- the byte after a word
+-- the place of the byte after a word
 abbrev pub token_end : Token → ℕ
 token_end token = token.start + length token.bytes
 
--- a part of this kind, from the first byte of one word to the last of another
+-- a part of this kind, from the first byte of one word to the last byte of another: its end is the byte after that
 abbrev pub part : PartKind → Token → Token → Part
 part kind first last = record { kind = kind; start = first.start; end = token_end last }
 

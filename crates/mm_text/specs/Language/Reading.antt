@@ -19,7 +19,7 @@ use Rattle.mm_text.specs.Language.Spelling.{IsWord, IsSpelled, HoldsMark, openin
 unfoldable pub is_allowed : ℕ → Bool
 is_allowed b = is_white b || nat_le 33 b && nat_le b 126
 
--- the first byte that no text may hold
+-- the number of the first byte that no text may hold, if there is such a byte
 abbrev pub first_bad : List ℕ → Option ℕ
 first_bad text = position (λ b. not (is_allowed b)) text
 
@@ -38,14 +38,10 @@ abbrev pub segment_words : Segment → List Word
 segment_words (Single run word) = word ∷ []
 segment_words (Comment first inside last) = []
 
--- none of the runs inside a comment holds `$(` or `$)`
-abbrev pub HoldNoMarks : List Run → Type 0
-HoldNoMarks inside = AllByRecursion (λ run. ¬ HoldsMark run.bytes) inside
-
 -- a comment goes from a run that is `$(` to a run that is `$)`, and no run between them holds one of these
 pub record IsComment (first : Run) (inside : List Run) (last : Run) : Type 0 where
   pub opened : first.bytes ≡ opening
-  pub no_marks : HoldNoMarks inside
+  pub no_marks : AllByRecursion (λ run. ¬ HoldsMark run.bytes) inside
   pub closed : last.bytes ≡ closing
 
 -- a part of a reading is right: the word is what its run spells, or the runs are a comment
@@ -53,40 +49,34 @@ abbrev pub IsSegment : Segment → Type 0
 IsSegment (Single run word) = IsWord run word
 IsSegment (Comment first inside last) = IsComment first inside last
 
--- a reading of runs: they are divided into words and comments, in order, and nothing is left
-pub record IsReading (runs : List Run) (parts : List Segment) : Type 0 where
-  pub each : AllByRecursion IsSegment parts
-  pub joined : flat_map segment_runs parts ≡ runs
-
--- the runs have a reading, and these are its words; comments give none
+-- the runs are read as these words: they are divided into words and comments, in order, and nothing is left; comments give no words
 pub record AreWords (runs : List Run) (words : List Word) : Type 0 where
   pub parts : List Segment
-  pub reading : IsReading runs parts
+  pub each : AllByRecursion IsSegment parts
+  pub joined : flat_map segment_runs parts ≡ runs
   pub singles : flat_map segment_words parts ≡ words
 
--- the runs have a reading
-abbrev pub HaveReading : List Run → Type 0
-HaveReading runs = (parts : List Segment) × IsReading runs parts
-
--- the runs may still become a text that has a reading: some runs that begin with them have one
+-- the runs may still become those of a text that is read as words: some runs that begin with them are
 abbrev pub AreViableRuns : List Run → Type 0
-AreViableRuns runs = (more : List Run) × HaveReading (runs ++ more)
+AreViableRuns runs = (more : List Run) × (found : List Word) × AreWords (runs ++ more) found
 
--- the runs end inside a comment that begins with this run: the runs before it have a reading, and the runs after it hold no mark
-pub record IsOpen (runs : List Run) (first : Run) : Type 0 where
+-- the runs end inside a comment that is still open; the runs before it are read as these words
+pub record EndsInComment (runs : List Run) (found : List Word) : Type 0 where
   pub front : List Run
+  pub first : Run
   pub inside : List Run
   pub joined : runs ≡ front ++ first ∷ inside
-  pub before : HaveReading front
+  pub before : AreWords front found
   pub opened : first.bytes ≡ opening
-  pub no_marks : HoldNoMarks inside
+  pub no_marks : AllByRecursion (λ run. ¬ HoldsMark run.bytes) inside
 
 -- why no reading goes on with a run after these. T03: it holds a mark inside a comment, but is not `$)`. T04: it is `$)`, and no
 -- comment is open. T05: it holds a `$`, and is no keyword
 abbrev pub IsRunNumber : TextNumber → List Run → Run → Type 0
-IsRunNumber T03 front run = (first : Run) × IsOpen front first × HoldsMark run.bytes × (run.bytes ≢ closing)
-IsRunNumber T04 front run = HaveReading front × (run.bytes ≡ closing)
-IsRunNumber T05 front run = HaveReading front × Contains run.bytes 36 × (run.bytes ≢ closing) × ((kind : WordKind) → ¬ IsSpelled kind run.bytes)
+IsRunNumber T03 front run = (found : List Word) × EndsInComment front found × HoldsMark run.bytes × (run.bytes ≢ closing)
+IsRunNumber T04 front run = (found : List Word) × AreWords front found × (run.bytes ≡ closing)
+IsRunNumber T05 front run =
+    (found : List Word) × AreWords front found × Contains run.bytes 36 × (run.bytes ≢ closing) × ((kind : WordKind) → ¬ IsSpelled kind run.bytes)
 IsRunNumber _ front run = ⊥
 
 -- the run at this byte is the first with which no reading goes on, for the reason of this number
@@ -102,11 +92,11 @@ pub record StopsAtRun (runs : List Run) (number : TextNumber) (at : ℕ) : Type 
 
 -- the runs have no reading, though one may go on: they end inside a comment that begins at this byte
 pub record EndsOpen (runs : List Run) (at : ℕ) : Type 0 where
-  pub first : Run
-  pub open_comment : IsOpen runs first
-  pub place : at ≡ first.start
+  pub found : List Word
+  pub comment : EndsInComment runs found
+  pub place : at ≡ comment.first.start
   pub goes_on : AreViableRuns runs
-  pub not_whole : ¬ HaveReading runs
+  pub not_whole : (words : List Word) → ¬ AreWords runs words
 
 -- the runs have the fault of this number at this byte: a comment that is not ended, or the first run with which no reading goes on
 abbrev pub IsRunFault : List Run → TextNumber → ℕ → Type 0

@@ -19,18 +19,21 @@ abbrev pub ends_run : List ℕ → Bool
 ends_run [] = true
 ends_run (b ∷ bytes) = is_white b
 
--- the runs with one more byte, at this place, put in front of the first of them
-abbrev pub with_front : ℕ → ℕ → List Run → List Run
-with_front at b [] = []
-with_front at b (run ∷ runs) = record { start = at; bytes = b ∷ run.bytes } ∷ runs
+-- the runs with one more byte, at this place, put in front of the first of them; none, if there is no first
+-- In words: `one_layout`: A byte that is no white space, directly before a run, belongs to the run, which begins at this byte.
+abbrev pub with_first_byte : ℕ → ℕ → List Run → List Run
+with_first_byte at b [] = []
+with_first_byte at b (run ∷ runs) = record { start = at; bytes = b ∷ run.bytes } ∷ runs
 
--- the runs of bytes, the first of which is at this place
+-- the runs of these bytes, the first byte of which is at this place of the text
+-- In words: `one_layout`: A text is white space, a run, white space, and so on. `runs` gives these runs, each with the place at which it
+-- begins, and no other list of runs is laid out in this way.
 abbrev pub runs_from : ℕ → List ℕ → List Run
 runs_from at [] = []
 runs_from at (b ∷ bytes) =
     if is_white b then runs_from (at + 1) bytes
     else if ends_run bytes then record { start = at; bytes = b ∷ [] } ∷ runs_from (at + 1) bytes
-    else with_front at b (runs_from (at + 1) bytes)
+    else with_first_byte at b (runs_from (at + 1) bytes)
 
 -- the runs of a text, in order
 abbrev pub runs : List ℕ → List Run

@@ -85,7 +85,8 @@ unit_tokens Nothing = []
 unit_tokens (Simple shape later) = shape_tokens shape ++ unit_tokens later
 unit_tokens (Block begin inner end later) = begin ∷ (unit_tokens inner ++ end ∷ unit_tokens later)
 
--- a sequence of units is right: each statement and inclusion is; each block goes from `${` to `$}`; `outside` says that no block is open
+-- a sequence of units is right: each statement and inclusion is; each block goes from `${` to `$}`, and what it holds is right in a block;
+-- `outside` says that no block is open
 abbrev pub AreUnits : Bool → Units → Type 0
 AreUnits outside Nothing = Unit {0}
 AreUnits outside (Simple shape later) = IsShape outside shape × AreUnits outside later
@@ -99,13 +100,9 @@ IsWhole tokens = (units : Units) × AreUnits true units × (unit_tokens units �
 abbrev pub IsViable : List Token → Type 0
 IsViable tokens = (more : List Token) × IsWhole (tokens ++ more)
 
--- a `${`, to ask whether one may come next
-abbrev pub a_block : Token
-a_block = record { kind = kinds.Keyword BlockStart; bytes = []; start = 0 }
-
--- after these words a unit may begin: the words, and a `${` after them, may still become whole units
+-- after these words a unit may begin: the words, and some `${` after them, may still become whole units
 abbrev pub MayBegin : List Token → Type 0
-MayBegin front = IsViable (front ++ a_block ∷ [])
+MayBegin front = (begin : Token) × IsKeyword BlockStart begin × IsViable (front ++ begin ∷ [])
 
 -- the last of these words is a `$[`
 abbrev pub EndsInInclusion : List Token → Type 0

@@ -1,7 +1,9 @@
 -- Small formal systems in which each variable has the typecode `X`: what is provable in them, and what is not. Each name is one letter.
-use Rattle.std.specs.Prelude.{◌≡◌, ℕ, nat_le, true, false, if◌then◌else◌, Some, None, List, [], ◌∷◌, bytes_eq}
+use Rattle.std.specs.Prelude.{◌≡◌, ℕ, nat_le, true, false, if◌then◌else◌, Some, None, List, [], ◌∷◌, bytes_eq, codes}
 use Rattle.mm_frame.specs.mm_machine.Language.Frame.{Symbol, Mandatory, Frame, ArePair}
 use Rattle.mm_frame.specs.mm_machine.Language.Substitution.{substituted}
+use Rattle.mm_frame.specs.Language.Examples as small
+use Rattle.mm_theory.specs.Language.Databases.{constant, system_of}
 use Rattle.mm_theory.specs.Language.System.{System, IsInClosure, IsProvable}
 
 -- a letter as a symbol: a small one is a variable, a capital a constant
@@ -100,3 +102,23 @@ AxiomsAreNeeded = ¬ IsProvable (system (from_one ∷ [])) goal
 abbrev pub VariablesAreReplacedAtOnce : Type 0
 VariablesAreReplacedAtOnce =
     IsProvable (system (two pair ∷ [])) turned × (substituted (put y x) (substituted (put x y) (two pair).expression) ≡ P ∷ x ∷ x ∷ [])
+
+-- the system of mm_frame's example, of which `wi $a w ( p > q ) $.` is the axiom. It has number 5
+abbrev pub small_system : System
+small_system = system_of small.base (5 ∷ [])
+
+-- Its variables have the typecode of their `$f`, and so have their copies, which have a number more in front of their names. A constant
+-- has none, nor has a name without a `$f`.
+abbrev pub VariablesAreTyped : Type 0
+VariablesAreTyped =
+    (small_system.typecode small.p ≡ Some (constant (codes "w")))
+    × (small_system.typecode (record { name = 7 ∷ codes "p"; variable = true }) ≡ Some (constant (codes "w")))
+    × (small_system.typecode (constant (codes "w")) ≡ None) × (small_system.typecode (record { name = codes "x"; variable = true }) ≡ None)
+
+-- `w ( p > p )`, if `w p`
+abbrev pub implied : Frame
+implied = record { expression = small.letter_symbols (codes "w(p>p)"); hypotheses = small.typing (codes "wp") ∷ []; pairs = [] }
+
+-- It is provable from the axiom, and not without it.
+abbrev pub AxiomIsUsed : Type 0
+AxiomIsUsed = IsProvable small_system implied × ¬ IsProvable (system_of small.base []) implied

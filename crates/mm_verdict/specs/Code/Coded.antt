@@ -3,7 +3,7 @@ use Rattle.std.specs.Prelude.{◌≡◌, ℕ, Result, Ok, Err, List, length, dro
 use Rattle.mm_machine.specs.Language.Expansion.{Step}
 use Rattle.mm_verdict.specs.Language.Letters.{groups, letters_from}
 use Rattle.mm_verdict.specs.Code.Left.{AreLeft}
-use Rattle.mm_verdict.specs.Language.Decoding.{Steps, in_order, each_group, word_spot}
+use Rattle.mm_verdict.specs.Language.Decoding.{Steps, in_order, readings_of_groups, word_spot}
 use Rattle.mm_machine.specs.Language.NamedSteps.{meant}
 use Rattle.mm_machine.specs.declared.Spot.{Spot}
 use Rattle.mm_machine.specs.declared.ProofNumber.{ProofNumber}
@@ -28,7 +28,7 @@ TellsSteps errors.Memory steps = Unit {0}
 
 -- what the letters of a proof give, which go from the word with the number `from` on
 abbrev pub letters_give : List Step → List (List ℕ) → ℕ → Steps
-letters_give names words from = in_order (each_group names (word_spot (length words)) 0 (groups (letters_from from (drop from words))))
+letters_give names words from = in_order (readings_of_groups names (word_spot (length words)) 0 (groups (letters_from from (drop from words))))
 
 -- this holds of what the words that are left give as letters, for as many names as there are labels
 abbrev pub LettersGive : ℕ → List (List ℕ) → ℕ → (List Step → Steps → Type 0) → Type 0

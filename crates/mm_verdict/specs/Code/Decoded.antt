@@ -7,7 +7,7 @@ use Rattle.mm_frame.specs.declared.base.Base.{Base}
 use Rattle.mm_verdict.specs.Language.BaseLabels.{setting_at, AreActive}
 use Rattle.mm_verdict.specs.Language.DecodedSteps.{entry_steps, labels_at}
 use Rattle.mm_verdict.specs.Code.Coded.{meant_steps}
-use Rattle.mm_verdict.specs.Language.Decoding.{Steps, word_spot, read_word, in_order, each_word, is_close, compressed_steps}
+use Rattle.mm_verdict.specs.Language.Decoding.{Steps, word_spot, read_word, in_order, readings_of_words, is_close, compressed_steps}
 use Rattle.mm_machine.specs.Language.Expansion.{Step, Named}
 use Rattle.mm_machine.specs.declared.Spot.{Spot}
 use Rattle.mm_verdict.specs.declared.reading.Decoding.{Decoding}
@@ -26,7 +26,7 @@ compressed_at view i mandatory words = compressed_steps (setting_at view i) (lab
 
 -- the steps of a normal proof of item i
 abbrev pub normal_at : BaseView → ℕ → List (List ℕ) → Steps
-normal_at view i words = in_order (each_word (read_word (setting_at view i)) 0 words)
+normal_at view i words = in_order (readings_of_words (read_word (setting_at view i)) 0 words)
 
 -- the steps that the code has, with their spots
 abbrev pub steps_by : BaseView → Decoding → List (Step × Spot)

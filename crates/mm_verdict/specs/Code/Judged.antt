@@ -1,7 +1,7 @@
 -- A theorem whose proof is judged, and what a run says of it.
 use Rattle.std.specs.Prelude.{◌≡◌, ℕ, ◌+◌, ◌<◌, true, List, Ok, length}
 use Rattle.mm_frame.specs.declared.base.Base.{Base}
-use Rattle.mm_frame.specs.Language.Base.{BaseView, AreSaid, said_at, is_proof_at}
+use Rattle.mm_frame.specs.Language.Base.{BaseView, AreLabelled, said_at, is_proof_at}
 use Rattle.mm_frame.specs.Language.Answering.{IsBase}
 use Rattle.mm_verdict.specs.Language.VerdictAt.{decoding_at, mandatory_labels}
 use Rattle.mm_verdict.specs.Language.DecodedSteps.{decoded_steps, AreEntries, entry_steps, label_table}
@@ -13,7 +13,7 @@ use Rattle.mm_machine.specs.declared.stepping.Outcome.TheVariants.{Proved, Fault
 -- these words
 pub record IsTheorem (code : Base) (i : ℕ) (proof : List (List ℕ)) (view : BaseView) : Type 0 where
   pub base : IsBase view code
-  pub said : AreSaid view
+  pub said : AreLabelled view
   pub is_sound : is_proof_at view i ≡ true
   pub says : (said_at view i).proof ≡ proof
 
@@ -23,7 +23,7 @@ OfProof code i proof holds = (view : BaseView) → IsTheorem code i proof view �
 
 -- there is such a view of the base
 abbrev pub HasProof : Base → ℕ → List (List ℕ) → Type 0
-HasProof code i proof = (view : BaseView) × IsTheorem code i proof view × (i < length view.said)
+HasProof code i proof = (view : BaseView) × IsTheorem code i proof view × (i < length view)
 
 -- the base has such a theorem, and its proof decodes to this
 pub record IsDecoding (code : Base) (i : ℕ) (proof : List (List ℕ)) (d : Decoding) (view : BaseView) : Type 0 where
@@ -38,7 +38,7 @@ OfDecoding code i proof d holds = (view : BaseView) → IsDecoding code i proof 
 
 -- there is such a view of the base
 abbrev pub HasDecoding : Base → ℕ → List (List ℕ) → Decoding → Type 0
-HasDecoding code i proof d = (view : BaseView) × IsDecoding code i proof d view × (i < length view.said)
+HasDecoding code i proof d = (view : BaseView) × IsDecoding code i proof d view × (i < length view)
 
 -- how many of this many steps are done
 abbrev pub done_by : ℕ → Outcome → ℕ

@@ -11,7 +11,7 @@ use Rattle.mm_frame.specs.declared.base.Base.{Base}
 use Rattle.mm_verdict.specs.Language.BaseLabels.{setting_at}
 use Rattle.mm_machine.specs.Language.Expansion.{Step, Named}
 use Rattle.mm_verdict.specs.Language.DecodedSteps.{entry_steps, AreEntries, word_step}
-use Rattle.mm_verdict.specs.Language.Decoding.{word_spot, compressed_steps, letter_steps, in_order, each_word, read_word, is_close}
+use Rattle.mm_verdict.specs.Language.Decoding.{word_spot, compressed_steps, letter_steps, in_order, readings_of_words, read_word, is_close}
 use Rattle.mm_verdict.specs.Code.LeftToRight.{list_on, with_steps}
 use Rattle.mm_verdict.specs.Code.Coded.{TellsSteps, meant_steps}
 use Rattle.mm_verdict.specs.Code.Left.{AreLeft}
@@ -66,5 +66,5 @@ pub record Normal (base : BaseView) (i : ℕ) (words : List (List ℕ)) (n : ℕ
   pub table : entry_steps base labels ≡ map word_step (take n words)
   pub rest :
       (more : List Step) →
-      with_steps (meant_steps (entry_steps base labels ++ more) steps) (in_order (each_word (read_word (setting_at base i)) n (drop n words)))
-      ≡ in_order (each_word (read_word (setting_at base i)) 0 words)
+      with_steps (meant_steps (entry_steps base labels ++ more) steps) (in_order (readings_of_words (read_word (setting_at base i)) n (drop n words)))
+      ≡ in_order (readings_of_words (read_word (setting_at base i)) 0 words)

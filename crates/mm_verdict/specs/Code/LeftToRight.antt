@@ -1,11 +1,13 @@
 -- The letters read from left to right, with a number for the digits so far. No public contract speaks of it: it is
 -- between the code and the definition, with which it is proved to agree.
 use Rattle.std.specs.Prelude.{ℕ, ◌+◌, ◌-◌, ◌*◌, ◌==◌, if◌then◌else◌, Result, Ok, Err, List, [], ◌∷◌, ◌++◌, slice_get}
+use Rattle.std.specs.Option.{ok_or}
+use Rattle.mm_machine.specs.declared.ProofNumber.TheVariants.{P06}
 use Rattle.mm_machine.specs.Language.Frame.{Setting}
 use Rattle.mm_machine.specs.Language.Expansion.{Step, Save, NotKnown}
 use Rattle.mm_verdict.specs.Language.Numbers.{is_digit, is_last, digit_worth, last_worth}
 use Rattle.mm_verdict.specs.Language.Letters.{Letter}
-use Rattle.mm_verdict.specs.Language.Decoding.{Steps, read_first, nameable, named, read_label, is_close, letter_steps, word_spot}
+use Rattle.mm_verdict.specs.Language.Decoding.{Steps, read_first, nameable, read_label, is_close, letter_steps, word_spot}
 use Rattle.mm_machine.specs.declared.Spot.{Spot}
 use Rattle.mm_machine.specs.declared.ProofNumber.{ProofNumber}
 use Rattle.mm_machine.specs.declared.ProofNumber.TheVariants.{P03, P04, P05}
@@ -17,7 +19,7 @@ alone_behind digits step = if digits == 0 then Ok step else Err P05
 -- a letter that is no digit, after digits with this number
 abbrev pub read_behind : List Step → ℕ → ℕ → Result Step ProofNumber
 read_behind names digits byte =
-    if is_last byte then named (slice_get names (20 * digits + last_worth byte - 1))
+    if is_last byte then ok_or (slice_get names (20 * digits + last_worth byte - 1)) P06
     else if byte == 90 then alone_behind digits Save
     else if byte == 63 then alone_behind digits NotKnown
     else Err P04

@@ -49,7 +49,7 @@ pub record IsNamedBy (code : Base) (label : Resolved) : Type 0 where
   pub view : BaseView
   pub i : ℕ
   pub base : IsBase view code
-  pub within : i < length view.said
+  pub within : i < length view
   pub entry : IsEntry view i label
 
 -- the hypotheses are those that the base has under these numbers

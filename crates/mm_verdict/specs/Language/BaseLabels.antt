@@ -11,7 +11,7 @@ use Rattle.mm_frame.specs.declared.base.Resolved.TheVariants as answers
 abbrev pub label_at : BaseView → ℕ → List ℕ
 label_at base j = unwrap_or (said_at base j).label []
 
--- what a proof of the item with this number is read against
+-- what a proof of the item with this number is read against: what labels mean, and which pairs are active, after the sound items before it
 abbrev pub setting_at : BaseView → ℕ → Setting
 setting_at base i = setting (before base i)
 

@@ -1,7 +1,7 @@
 -- What is proved of decoding: each is the contract of a function.
 use Rattle.std.specs.Prelude.{◌≡◌, ℕ, ◌<◌, ◌≤◌, ◌↔◌, true, false, Result, Ok, Err, List, [], ◌∷◌, ◌++◌, length, flat_map, codes}
 use Rattle.std.specs.List.{AllByRecursion, list_any}
-use Rattle.mm_frame.specs.Language.Base.{BaseView, AreSaid, before, said_at}
+use Rattle.mm_frame.specs.Language.Base.{BaseView, AreLabelled, before, said_at}
 use Rattle.mm_frame.specs.Language.Framing.{mandatory_numbers}
 use Rattle.mm_verdict.specs.Language.BaseLabels.{NoLabelTwice, AreActive}
 use Rattle.mm_machine.specs.Language.Frame.{Symbol, Setting}
@@ -9,7 +9,7 @@ use Rattle.mm_machine.specs.Language.Expansion.{Step}
 use Rattle.mm_machine.specs.Language.Machine.{IsUsable, AreDecoded}
 use Rattle.mm_verdict.specs.Language.Numbers.{is_digit, is_last, value_of}
 use Rattle.mm_verdict.specs.Language.Letters.{Letter, Group, groups, IsDivided}
-use Rattle.mm_verdict.specs.Language.Decoding.{Reading, in_order, is_close, decoding}
+use Rattle.mm_verdict.specs.Language.Decoding.{ProofReading, in_order, is_close, decoding}
 use Rattle.mm_verdict.specs.Language.Citing.{cites}
 use Rattle.mm_verdict.specs.Language.SameToDecode.{AreSameToDecode}
 use Rattle.mm_machine.specs.Language.SameProof.{IsSameDecoding}
@@ -43,19 +43,19 @@ abbrev pub HasOneDivision : Type 0
 HasOneDivision = (letters : List Letter) (parts : List Group) → IsDivided letters parts ↔ (groups letters ≡ parts)
 
 -- a step is read, and no fault
-abbrev pub ReadsStep : Reading → Type 0
+abbrev pub ReadsStep : ProofReading → Type 0
 ReadsStep reading = (step : Step) × (reading.step ≡ Ok step)
 
 -- of what is read at one spot after another, this is the first fault: at each spot before it a step is read
-pub record IsFirstDecodingFault (readings : List Reading) (fault : ProofFault) : Type 0 where
-  pub front : List Reading
-  pub back : List Reading
+pub record IsFirstDecodingFault (readings : List ProofReading) (fault : ProofFault) : Type 0 where
+  pub front : List ProofReading
+  pub back : List ProofReading
   pub whole : readings ≡ front ++ record { spot = fault.spot; step = Err fault.number } ∷ back
   pub before : AllByRecursion ReadsStep front
 
 -- The fault that is reported is the first in reading order.
 abbrev pub TellsFirstFault : Type 0
-TellsFirstFault = (readings : List Reading) (fault : ProofFault) → (in_order readings ≡ Err fault) ↔ IsFirstDecodingFault readings fault
+TellsFirstFault = (readings : List ProofReading) (fault : ProofFault) → (in_order readings ≡ Err fault) ↔ IsFirstDecodingFault readings fault
 
 -- the steps, or the number of the fault, without spots
 abbrev pub without_spots : Result Decoded ProofFault → Result (List Step) ProofNumber
@@ -117,8 +117,8 @@ DecodesShort =
 
 -- No two sound items have the same label.
 abbrev pub LabelsAreOwn : Type 0
-LabelsAreOwn = (view : BaseView) → AreSaid view → NoLabelTwice view
+LabelsAreOwn = (view : BaseView) → AreLabelled view → NoLabelTwice view
 
 -- The mandatory hypotheses of an item are active there.
 abbrev pub MandatoryAreActive : Type 0
-MandatoryAreActive = (view : BaseView) (i : ℕ) → AreSaid view → AreActive view i (mandatory_numbers (before view i) (said_at view i))
+MandatoryAreActive = (view : BaseView) (i : ℕ) → AreLabelled view → AreActive view i (mandatory_numbers (before view i) (said_at view i))

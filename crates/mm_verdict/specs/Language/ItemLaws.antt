@@ -2,12 +2,11 @@
 use Rattle.std.specs.Prelude.{◌≡◌, ◌↔◌, ◌≤◌, ℕ, Ok, true, List, [], length, slice_index_or}
 use Rattle.std.specs.List.{AllByRecursion, AllZip, list_all}
 use Rattle.mm_frame.specs.mm_text.Language.Unit.{is_label_byte}
-use Rattle.mm_frame.specs.Language.Base.{BaseView, AreSaid, frame_at, said_at}
+use Rattle.mm_frame.specs.Language.Base.{BaseView, AreLabelled, frame_at, said_at}
 use Rattle.mm_machine.specs.Language.Frame.{Mandatory, Hypothesis, Setting, Symbol}
 use Rattle.mm_machine.specs.Language.Derivation.{Derives}
 use Rattle.mm_verdict.specs.Language.Decoding.{decoding}
 use Rattle.mm_verdict.specs.Language.BaseLabels.{setting_at}
-use Rattle.mm_machine.specs.Language.Machine.{AreAllKnown}
 use Rattle.mm_machine.specs.Language.Verdict.{Decoded, IsVerdict, StepsDerive}
 use Rattle.mm_verdict.specs.Language.VerdictAt.{mandatory_labels, statement_at, decoding_at, IsVerdictAt, AreDoneAt}
 use Rattle.mm_machine.specs.declared.Spot.{Spot}
@@ -21,7 +20,7 @@ MeansHypothesis place label h = place.resolve label ≡ Hypothesis h.expression
 -- The label of each mandatory hypothesis of an item means it there.
 abbrev pub MandatoryLabelsMean : Type 0
 MandatoryLabelsMean =
-    (view : BaseView) (i : ℕ) → AreSaid view →
+    (view : BaseView) (i : ℕ) → AreLabelled view →
     AllZip (MeansHypothesis (setting_at view i)) (mandatory_labels view i) (frame_at view i).hypotheses
 
 -- There is one verdict at most on the proof of an item.
@@ -30,11 +29,11 @@ HasOneVerdictAt = (view : BaseView) (i : ℕ) (v w : Verdict) → IsVerdictAt vi
 
 -- There is a verdict on the proof of an item, if the items say what their words say.
 abbrev pub HasVerdictAt : Type 0
-HasVerdictAt = (view : BaseView) (i : ℕ) → AreSaid view → (v : Verdict) × IsVerdictAt view i v
+HasVerdictAt = (view : BaseView) (i : ℕ) → AreLabelled view → (v : Verdict) × IsVerdictAt view i v
 
--- the proof of the item with this number decodes to steps that are all known, and the labels that they stand for derive its statement
+-- the proof of the item with this number decodes to steps, and the labels that they stand for derive its statement
 abbrev pub IsDerivedAt : BaseView → ℕ → Type 0
-IsDerivedAt view i = (d : Decoded) × (decoding_at view i ≡ Ok d) × AreAllKnown d.steps × StepsDerive (setting_at view i) d.steps (statement_at view i)
+IsDerivedAt view i = (d : Decoded) × (decoding_at view i ≡ Ok d) × StepsDerive (setting_at view i) d.steps (statement_at view i)
 
 -- Proved is the verdict exactly when the labels that the steps of the proof stand for derive the statement.
 abbrev pub ProvedIsDerivedAt : Type 0
@@ -46,7 +45,7 @@ HasOneCountAt = (view : BaseView) (i a b : ℕ) → AreDoneAt view i a → AreDo
 
 -- There is a number of the steps of the proof of an item that are done, if the items say what their words say.
 abbrev pub HasCountAt : Type 0
-HasCountAt = (view : BaseView) (i : ℕ) → AreSaid view → (count : ℕ) × AreDoneAt view i count
+HasCountAt = (view : BaseView) (i : ℕ) → AreLabelled view → (count : ℕ) × AreDoneAt view i count
 
 -- the spot is in these words: at a byte of one of them, or at the end after the last
 pub record IsSpotIn (words : List (List ℕ)) (spot : Spot) : Type 0 where

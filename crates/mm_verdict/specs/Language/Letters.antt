@@ -32,6 +32,7 @@ cut_group [] = []
 cut_group (digit ∷ digits) = record { digits = digit ∷ digits; last = None } ∷ []
 
 -- the groups of letters, with these digits before them
+-- In words: `has_one_division`: Letters are divided in one way: into digits with a letter after them that is no digit, and digits at the end.
 abbrev pub groups_behind : List Letter → List Letter → List Group
 groups_behind digits [] = cut_group digits
 groups_behind digits (letter ∷ letters) =

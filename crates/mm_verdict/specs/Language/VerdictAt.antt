@@ -15,7 +15,7 @@ use Rattle.mm_machine.specs.declared.step.ProofFault.{ProofFault}
 abbrev pub mandatory_labels : BaseView → ℕ → List (List ℕ)
 mandatory_labels view i = map (label_at view) (mandatory_numbers (before view i) (said_at view i))
 
--- the expression that the proof of the item with this number has to derive
+-- the expression that the proof of the item with this number has to derive: the item's symbols, as they are after the sound items before it
 abbrev pub statement_at : BaseView → ℕ → List Symbol
 statement_at view i = expression (before view i) (said_at view i)
 

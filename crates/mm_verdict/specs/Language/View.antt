@@ -2,7 +2,7 @@
 use Rattle.std.specs.Prelude.{◌≡◌, ℕ, List, map}
 use Rattle.std.specs.List.{AllZip}
 use Rattle.mm_frame.specs.Language.Base.{BaseView, before, said_at, frame_at}
-use Rattle.mm_machine.specs.Language.Frame.{Symbol, Mandatory, Resolved, AreSamePairs}
+use Rattle.mm_machine.specs.Language.Frame.{Symbol, Mandatory, LabelMeaning, AreSamePairs}
 use Rattle.mm_frame.specs.Language.Framing.{active_pairs, resolve}
 use Rattle.mm_verdict.specs.Language.SameToDecode.{labels_named}
 use Rattle.mm_machine.specs.Language.SameProof.{AreSameMeaning}
@@ -15,7 +15,7 @@ pub record View : Type 0 where
   pub expression : List Symbol
   pub hypotheses : List Mandatory
   pub active : List (Symbol × Symbol)
-  pub meanings : List Resolved
+  pub meanings : List LabelMeaning
 
 -- the view of the theorem with this number
 abbrev pub view_at : BaseView → ℕ → View

@@ -1,27 +1,20 @@
 -- Loading the files of a database: what is added of a file that is read, and why one is not added.
-use Rattle.std.specs.Prelude.{◌≡◌, ◌≢◌, ◌≤◌, ◌⊎◌, ◌+◌, ℕ, false, List, [], ◌∷◌, Option, Some, None, Result, Ok, Err, IfSome, All, Contains, length, ⊤}
+use Rattle.std.specs.Prelude.{◌≡◌, ◌≢◌, ◌≤◌, ◌⊎◌, ◌+◌, ℕ, true, List, [], ◌∷◌, ◌++◌, Option, Some, None, Result, Ok, Err, IfSome, length, ⊤}
 use Rattle.std.specs.Io.KnownBytes.{Consumes}
 use Rattle.mm_report.specs.mm_text.declared.fault.TextNumber.{TextNumber}
 use Rattle.mm_report.specs.mm_text.declared.location.Place.{Place}
-use Rattle.mm_report.specs.mm_text.Language.Cut.{IsCut, IsFirstFault}
+use Rattle.mm_report.specs.mm_text.Language.Cut.{IsFirstFault}
 use Rattle.mm_report.specs.mm_text.Language.Place.{line_at, column_at}
 use Rattle.mm_report.specs.mm_store.Language.Answers.{HasTooMany}
-use Rattle.mm_report.specs.mm_store.Language.Expansion.{IsExpansion}
 use Rattle.mm_report.specs.mm_store.Language.FileFacts.{IsAdded}
-use Rattle.mm_report.specs.mm_store.declared.item.Item.{Item}
-use Rattle.mm_report.specs.mm_store.Language.FilesView.{File, FilesView, file_number, no_files, plain}
-use Rattle.mm_report.specs.mm_store.Language.Keyless.{bare}
-use Rattle.mm_report.specs.mm_store.Language.Walking.{WalkView, IsWalk, FindsEnd, FindsMissing}
+use Rattle.mm_report.specs.mm_store.Language.FilesView.{File, file_number}
+use Rattle.mm_report.specs.mm_statement.Language.Database.{Located, IsDatabase}
 use Rattle.mm_report.specs.mm_script.declared.read_stream.Reading.{Reading}
-use Rattle.mm_report.specs.mm_script.Language.Stream.{calls_left, unread}
+use Rattle.mm_report.specs.mm_script.Language.Stream.{calls_left, cannot_read, unread}
 use Rattle.mmkeep.specs.declared.adding.FileError.{FileError}
 use Rattle.mmkeep.specs.declared.adding.FileError.TheVariants as errors
-use Rattle.mmkeep.specs.declared.outcome.Outcome.{Outcome}
-use Rattle.mmkeep.specs.declared.outcome.Outcome.TheVariants.{Input, Memory}
-
--- no file has this name
-abbrev pub IsNew : FilesView → List ℕ → Type 0
-IsNew files name = file_number (plain files) name ≡ None
+use Rattle.mmkeep.specs.declared.unloaded.Unloaded.{Unloaded}
+use Rattle.mmkeep.specs.declared.unloaded.Unloaded.TheVariants.{Input, Read, Memory}
 
 -- a file of this name is added after the others, and its text is what its reader had left, if that is known
 pub record AddsFile (old new : List File) (name : List ℕ) (unread : Option (List ℕ)) : Type 0 where
@@ -70,95 +63,59 @@ Opens remaining Lacks NoFile (Err error) = ⊤
 Opens remaining Lacks (Bytes bytes) (Ok file) = remaining file ≡ Some bytes
 Opens remaining Lacks (Bytes bytes) (Err error) = Lacks error
 
--- the top file is added: there has to be one
-abbrev pub TakesTop : KnownFile → FilesView → FilesView → List ℕ → Type 0
-TakesTop Unknown old new name = AddsFile (plain old) (plain new) name None
-TakesTop NoFile old new name = ⊥
-TakesTop (Bytes bytes) old new name = AddsFile (plain old) (plain new) name (Some bytes)
+-- What a name gives: if the source has it, its file, whose pieces and tail are the cut of the bytes that the source holds; if the source
+-- lacks it, no file.
+abbrev pub GivesFile : KnownFile → List ℕ → List File → Type 0
+GivesFile Unknown name files = (files ≡ []) ⊎ ((bytes : List ℕ) × IsAdded [] files name bytes)
+GivesFile NoFile name files = files ≡ []
+GivesFile (Bytes bytes) name files = IsAdded [] files name bytes
 
--- an included file is added, if it can be opened
-abbrev pub TakesFile : KnownFile → FilesView → FilesView → List ℕ → Type 0
-TakesFile Unknown old new name = (new ≡ old) ⊎ AddsFile (plain old) (plain new) name None
-TakesFile NoFile old new name = new ≡ old
-TakesFile (Bytes bytes) old new name = AddsFile (plain old) (plain new) name (Some bytes)
+-- what names give: the files of the first, then those of the others, in their order
+abbrev pub GivesFiles : (List ℕ → KnownFile) → List (List ℕ) → List File → Type 0
+GivesFiles holds [] files = files ≡ []
+GivesFiles holds (name ∷ names) files =
+    (first : List File) × (later : List File) × GivesFile (holds name) name first × GivesFiles holds names later × (files ≡ first ++ later)
 
--- a walk through the files, which has gone past some items, goes on to a name that it finds missing
-pub record FindsNext (files : FilesView) (top : List ℕ) (walk next : WalkView) (name : List ℕ) : Type 0 where
-  pub items : List Item
-  pub is_walk : IsWalk (bare (plain files)) top items walk
-  pub finds : FindsMissing (bare (plain files)) top items walk next name
+-- The files that are loaded from a top file on: those that the names of their database give, in the order of the first references to
+-- them. So a reference to a missing file names one that the source lacks.
+pub record AreLoaded (holds : List ℕ → KnownFile) (top : List ℕ) (files : List File) : Type 0 where
+  pub items : List Located
+  pub database : IsDatabase files top items
+  pub given : GivesFiles holds database.after files
 
--- a walk through the files, which has gone past some items, goes on to the end
-pub record ComesToEnd (files : FilesView) (top : List ℕ) (walk : WalkView) : Type 0 where
-  pub items : List Item
-  pub is_walk : IsWalk (bare (plain files)) top items walk
-  pub last : WalkView
-  pub ends : FindsEnd (bare (plain files)) top items walk last
+-- why a file of which its reader had this left stops the loading of these files: its text is refused, if it is known; a read of it failed,
+-- and this is the reading; or memory ran out
+abbrev pub StopsLoading : {R : Type 0} → (R → Option (List ℕ)) → List File → Option (List ℕ) → Unloaded R → Type 0
+StopsLoading remaining files unread Input = IfSome unread (λ text. (error : FileError) × (error ≢ errors.Memory) × IsTextError files text error)
+StopsLoading remaining files unread (Read reading) = (cannot_read reading ≡ true) × ReadsOn remaining unread 4294967295 reading
+StopsLoading remaining files unread Memory = ⊤
 
--- Loading from a top file on, up to these files and this walk through them: the top file is added, and a walk begins that has taken its
--- name alone and has reported none; then each of so many names that the walk finds missing is opened, at its first reference, and its file
--- is added, if it can be opened, before the walk goes on.
-pub data Loads (holds : List ℕ → KnownFile) (top : List ℕ) : ℕ → FilesView → WalkView → Type 0 where
-  begins : {files : FilesView} {walk : WalkView}
-      → TakesTop (holds top) no_files files top → IsWalk (bare (plain files)) top [] walk → walk.names ≡ top ∷ [] → walk.told ≡ false
-      → Loads holds top 0 files walk
-  takes : {names : ℕ} {files more : FilesView} {walk next : WalkView} {name : List ℕ}
-      → Loads holds top names files walk → FindsNext files top walk next name → TakesFile (holds name) files more name
-      → Loads holds top (names + 1) more next
+-- why a name of which this is known stops the loading of these files. A name that no file has does not, unless memory ran out
+abbrev pub StopsAt : {R : Type 0} → (R → Option (List ℕ)) → KnownFile → List File → Unloaded R → Type 0
+StopsAt remaining Unknown files unloaded = StopsLoading remaining files None unloaded
+StopsAt remaining NoFile files unloaded = unloaded ≡ Memory
+StopsAt remaining (Bytes bytes) files unloaded = StopsLoading remaining files (Some bytes) unloaded
 
--- The files of a database: those that are loaded from the top file on when the walk has come to its end.
-pub record AreLoaded (holds : List ℕ → KnownFile) (top : List ℕ) (files : FilesView) : Type 0 where
-  pub names : ℕ
-  pub walk : WalkView
-  pub loads : Loads holds top names files walk
-  pub ends : ComesToEnd files top walk
+-- why the top file stops the loading: as any other, or it cannot be opened
+abbrev pub StopsAtTop : {R : Type 0} → (R → Option (List ℕ)) → KnownFile → List File → Unloaded R → Type 0
+StopsAtTop remaining Unknown files unloaded = StopsAt remaining Unknown files unloaded
+StopsAtTop remaining NoFile files unloaded = (unloaded ≡ Memory) ⊎ (unloaded ≡ Input)
+StopsAtTop remaining (Bytes bytes) files unloaded = StopsAt remaining (Bytes bytes) files unloaded
 
--- a file is what the source holds under its name: its pieces and its tail are the cut of these bytes
-abbrev pub IsOfSource : KnownFile → File → Type 0
-IsOfSource Unknown file = ⊤
-IsOfSource NoFile file = ⊥
-IsOfSource (Bytes bytes) file = IsCut bytes file.pieces file.tail
-
--- a name that the source has is that of a file
-abbrev pub IsLoaded : KnownFile → List File → List ℕ → Type 0
-IsLoaded Unknown files name = ⊤
-IsLoaded NoFile files name = ⊤
-IsLoaded (Bytes bytes) files name = file_number files name ≢ None
-
--- each file is what the source holds under its name, the top file is among them, and so is each name to which the expansion refers and which
--- the source has; so a name to which it refers, and which no file has, is one that the source lacks
-pub record AreOfSource (holds : List ℕ → KnownFile) (top : List ℕ) (files : List File) : Type 0 where
-  pub each : All (λ file. IsOfSource (holds file.name) file) files
-  pub has_top : file_number files top ≢ None
-  pub has_referred : (items : List Item) (expansion : IsExpansion (bare files) top items) (name : List ℕ) → Contains expansion.after name
-      → IsLoaded (holds name) files name
-
--- a file is there, as far as is known, and is not added to the files under a name that is new: a read of it failed; or its text, if that
--- is known, has a fault, or is too much
-abbrev pub IsRefused : KnownFile → List File → Type 0
-IsRefused Unknown files = ⊤
-IsRefused NoFile files = ⊥
-IsRefused (Bytes bytes) files = (error : FileError) × (error ≢ errors.Memory) × IsFileError files (Some bytes) error
-
--- the top file is not added to the files: it cannot be opened, as far as is known, or it is refused
-abbrev pub IsTopRefused : KnownFile → List File → Type 0
-IsTopRefused Unknown files = ⊤
-IsTopRefused NoFile files = ⊤
-IsTopRefused (Bytes bytes) files = IsRefused (Bytes bytes) files
-
--- loading has gone on to a name that the walk finds missing next, and the file of this name is refused
-pub record StopsAtFile (holds : List ℕ → KnownFile) (top : List ℕ) : Type 0 where
-  pub names : ℕ
-  pub files : FilesView
-  pub walk : WalkView
-  pub loads : Loads holds top names files walk
-  pub next : WalkView
+-- Loading has come to this name, the next among the names of the database of the files so far: those before it give these files, no file
+-- has it, and it stops the loading.
+pub record StopsAtNext {R : Type 0} (remaining : R → Option (List ℕ)) (holds : List ℕ → KnownFile) (top : List ℕ) (unloaded : Unloaded R) : Type 0 where
+  pub files : List File
+  pub items : List Located
+  pub database : IsDatabase files top items
+  pub before : List (List ℕ)
   pub name : List ℕ
-  pub finds : FindsNext files top walk next name
-  pub is_refused : IsRefused (holds name) (plain files)
+  pub later : List (List ℕ)
+  pub are : database.after ≡ before ++ name ∷ later
+  pub given : GivesFiles holds before files
+  pub new : file_number files name ≡ None
+  pub stops : StopsAt remaining (holds name) files unloaded
 
--- why the files of a database are not loaded: memory; or the input, at the top file, or at a file that the walk finds missing next
-abbrev pub IsLoadError : (List ℕ → KnownFile) → List ℕ → Outcome → Type 0
-IsLoadError holds top Memory = ⊤
-IsLoadError holds top Input = IsTopRefused (holds top) [] ⊎ StopsAtFile holds top
-IsLoadError holds top _ = ⊥
+-- why the files of a database are not loaded: by the top file, or by the next of the names to which they refer
+abbrev pub IsUnloaded : {R : Type 0} → (R → Option (List ℕ)) → (List ℕ → KnownFile) → List ℕ → Unloaded R → Type 0
+IsUnloaded remaining holds top unloaded = StopsAtTop remaining (holds top) [] unloaded ⊎ StopsAtNext remaining holds top unloaded

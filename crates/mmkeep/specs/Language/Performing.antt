@@ -1,8 +1,8 @@
 -- What a command does with a session: what it writes, and how the program then ends.
 use Rattle.std.specs.Prelude.{◌≡◌, ◌≢◌, ◌<◌, ◌⊎◌, ◌++◌, ℕ, List, [], length, Option, Some, None, ⊤}
 use Rattle.std.specs.Io.KnownBytes.{Appends, Keeps}
-use Rattle.mm_report.specs.mm_store.Language.FilesView.{plain}
-use Rattle.mm_report.specs.mm_frame.Language.Base.{BaseView, IsOfFiles}
+use Rattle.mm_report.specs.mm_statement.Language.Database.{Located, IsDatabase}
+use Rattle.mm_report.specs.mm_frame.Language.Base.{base_of}
 use Rattle.mm_report.specs.mm_keep.Language.Sessions.{SessionView, HasAssertion}
 use Rattle.mm_report.specs.mm_keep.Language.Told.{Told, AreRightlyTold}
 use Rattle.mm_report.specs.mm_script.declared.error.ScriptError.{ScriptError}
@@ -13,8 +13,8 @@ use Rattle.mm_report.specs.Language.Report.{IsReport, BeginsReport, lines, names
 use Rattle.mm_report.specs.mm_script.Language.Script as script
 use Rattle.mm_report.specs.Language.Scripting.{AnswersScript, AnswersFirst, AnswersRead, BeginsAnswers}
 use Rattle.mm_report.specs.mm_script.Language.Stream.{AppendsPart}
-use Rattle.mmkeep.specs.declared.arguments.Command.{Command}
-use Rattle.mmkeep.specs.declared.arguments.Command.TheVariants.{Verify, Axioms, Session}
+use Rattle.mmkeep.specs.declared.arguments.Invocation.{Invocation}
+use Rattle.mmkeep.specs.declared.arguments.Invocation.TheVariants.{Verify, Axioms, Session}
 use Rattle.mmkeep.specs.declared.outcome.Outcome.{Outcome}
 use Rattle.mmkeep.specs.declared.outcome.Outcome.TheVariants.{Clean, Findings, NoLabel}
 
@@ -26,17 +26,17 @@ IsByLines lines _ = ⊥
 
 -- how the program ends by the files of a session: clean if its report has no line before the summary, and else findings
 pub record IsJudged (session : SessionView) (outcome : Outcome) : Type 0 where
-  pub base : BaseView
-  pub of_files : IsOfFiles session.files session.top base
+  pub items : List Located
+  pub of_files : IsDatabase session.files session.top items
   pub all : List Told
-  pub are_told : AreRightlyTold session.files base all
-  pub is : IsByLines (lines (names_of (plain session.files)) base.said all) outcome
+  pub are_told : AreRightlyTold session.files items all
+  pub is : IsByLines (lines (names_of session.files) (base_of items) all) outcome
 
 -- no item of the files of a session is at fault, and some labels derive the statement of each theorem
 pub record AllInOrder (session : SessionView) : Type 0 where
-  pub base : BaseView
-  pub of_files : IsOfFiles session.files session.top base
-  pub each : (i : ℕ) → i < length base.said → IsInOrder base i
+  pub items : List Located
+  pub of_files : IsDatabase session.files session.top items
+  pub each : (i : ℕ) → i < length items → IsInOrder (base_of items) i
 
 -- the report of a session is written
 pub record Reports (session : SessionView) (before after : Option (List ℕ)) (outcome : Outcome) : Type 0 where
@@ -78,13 +78,13 @@ StopsScript old new unread left before after errors.Write = BeginsAnswers old ne
 StopsScript old new unread left before after errors.Memory = AnswersFirst old new unread left before after
 
 -- A command is done: from what the session, a script's reader and the writer had before to what they have after it, with this outcome.
-abbrev pub IsDone : Command → SessionView → SessionView → Option (List ℕ) → Option (List ℕ) → Option (List ℕ) → Outcome → Type 0
+abbrev pub IsDone : Invocation → SessionView → SessionView → Option (List ℕ) → Option (List ℕ) → Option (List ℕ) → Outcome → Type 0
 IsDone (Verify file) old new unread before after outcome = (new ≡ old) × Reports old before after outcome
 IsDone (Axioms file label) old new unread before after outcome = (new ≡ old) × ListsAxioms old label.now before after outcome
 IsDone (Session file) old new unread before after outcome = EndsScript old new unread before after outcome
 
 -- what a clean end of a command says of the files after it: all is in order; after a list of axioms nothing is said of them
-abbrev pub IsInOrderAfter : Command → SessionView → Type 0
+abbrev pub IsInOrderAfter : Invocation → SessionView → Type 0
 IsInOrderAfter (Verify file) session = AllInOrder session
 IsInOrderAfter (Axioms file label) session = ⊤
 IsInOrderAfter (Session file) session = AllInOrder session
@@ -102,7 +102,7 @@ StopsAxioms session label before after _ = ⊥
 
 -- A command stops at an error.
 abbrev pub IsStopped :
-    Command → SessionView → SessionView → Option (List ℕ) → Option (List ℕ) → Option (List ℕ) → Option (List ℕ) → ScriptError → Type 0
+    Invocation → SessionView → SessionView → Option (List ℕ) → Option (List ℕ) → Option (List ℕ) → Option (List ℕ) → ScriptError → Type 0
 IsStopped (Verify file) old new unread left before after error = (new ≡ old) × StopsReport old before after error
 IsStopped (Axioms file label) old new unread left before after error = (new ≡ old) × StopsAxioms old label.now before after error
 IsStopped (Session file) old new unread left before after error = StopsScript old new unread left before after error
@@ -114,7 +114,7 @@ GoesOut (Some bytes) None = ⊥
 GoesOut (Some bytes) (Some out) = (rest : List ℕ) × (bytes ≡ out ++ rest)
 
 -- A command stops at an error, or is done and what it wrote does not go out: the beginning of what it wrote has gone out.
-pub record IsCutOff (command : Command) (old new : SessionView) (unread left before after : Option (List ℕ)) (error : ScriptError) : Type 0 where
+pub record IsCutOff (command : Invocation) (old new : SessionView) (unread left before after : Option (List ℕ)) (error : ScriptError) : Type 0 where
   pub written : Option (List ℕ)
   pub why : IsStopped command old new unread left before written error
       ⊎ ((error ≡ errors.Write) × (outcome : Outcome) × IsDone command old new unread before written outcome)

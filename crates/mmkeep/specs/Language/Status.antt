@@ -2,10 +2,10 @@
 use Rattle.std.specs.Prelude.{ℕ}
 use Rattle.mm_report.specs.mm_script.declared.error.ScriptError.{ScriptError}
 use Rattle.mm_report.specs.mm_script.declared.error.ScriptError.TheVariants as errors
-use Rattle.mmkeep.specs.declared.adding.FileError.{FileError}
-use Rattle.mmkeep.specs.declared.adding.FileError.TheVariants as file_errors
 use Rattle.mmkeep.specs.declared.outcome.Outcome.{Outcome}
 use Rattle.mmkeep.specs.declared.outcome.Outcome.TheVariants.{Clean, Findings, NoLabel, Input, Words, Memory, Stream}
+use Rattle.mmkeep.specs.declared.unloaded.Unloaded.{Unloaded}
+use Rattle.mmkeep.specs.declared.unloaded.Unloaded.TheVariants as unloaded
 
 -- 0 if nothing is wrong, 1 if something in the database is or no assertion has the label that is asked for; 2 for a file, 3 for the
 -- arguments, 4 for memory and 5 for a script or a stream
@@ -26,9 +26,8 @@ outcome_of errors.Read = Stream
 outcome_of errors.Write = Stream
 outcome_of errors.Memory = Memory
 
--- the outcome of a file that is not added
-abbrev pub outcome_of_file : FileError → Outcome
-outcome_of_file file_errors.Read = Input
-outcome_of_file (file_errors.Text place number) = Input
-outcome_of_file file_errors.TooMany = Input
-outcome_of_file file_errors.Memory = Memory
+-- the outcome of files that are not loaded
+abbrev pub outcome_of_unloaded : {R : Type 0} → Unloaded R → Outcome
+outcome_of_unloaded unloaded.Input = Input
+outcome_of_unloaded (unloaded.Read reading) = Input
+outcome_of_unloaded unloaded.Memory = Memory

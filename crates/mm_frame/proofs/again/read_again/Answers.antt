@@ -1,5 +1,5 @@
 use Rattle.std.proofs.Common.{ℕ, List}
-use Rattle.mm_statement.specs.Language.Item.{Item}
+use Rattle.mm_statement.specs.Language.Item.{Said}
 use Rattle.mm_frame.{specs.Code.KeptBase.{IsDraft}, proofs.lemmas.{base.NumbersAside.{numbers_aside}, names.NumberLemmas.{begins_on}}}
 use Rattle.mm_frame.proofs.again.read_again.Goals as goal
 
@@ -16,7 +16,7 @@ returns-clause-read c =
     let names = c.number_all.new.names in
     let grows = c.in_ok-number_all.ensures.grows in
     let numbers = c.in_ok-number_all.ensures.numbers in
-    let aside = λ (all : List (List ℕ)) (said : List Item) (d : IsDraft all said c.args.draft.now). numbers_aside all said c.args.draft.now c.number_all.new.numbers d in (
+    let aside = λ (all : List (List ℕ)) (said : List Said) (d : IsDraft all said c.args.draft.now). numbers_aside all said c.args.draft.now c.number_all.new.numbers d in (
       c.in_ok-statement.statement,
       c.in_ok-statement.ensures.says,
       λ said stands all distinct more.

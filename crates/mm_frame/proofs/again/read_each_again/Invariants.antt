@@ -6,5 +6,5 @@ use Rattle.mm_statement.specs.Language.Item as meant
 use Rattle.mm_frame.proofs.again.read_each_again.Given as goal
 
 abbrev pub invariant-loop-item : goal.invariant-loop-item
-invariant-loop-item l = Begins l.initial.names l.names × (said : List meant.Item) × AllZip (Says l.files) (take l.item-index l.items) said
+invariant-loop-item l = Begins l.initial.names l.names × (said : List meant.Said) × AllZip (Says l.files) (take l.item-index l.items) said
     × (IsDraftLater l.initial.names [] l.initial.draft → IsDraftLater l.names said l.draft × AreFirstIf l.reached.same l.files l.old said)

@@ -1,5 +1,5 @@
 use Rattle.std.proofs.{Common.{arith, ℕ, List, sym, subst}, lemmas.{Grind.{elements}, Bool.{MatchBool-at_false, MatchBool-at_true}, Result.{on_ok_weaker}}}
-use Rattle.mm_statement.specs.Language.Item.{Item}
+use Rattle.mm_statement.specs.Language.Item.{Said}
 use Rattle.mm_frame.{specs.Code.{KeptBase.{IsDraft}, Numbers.{AreNameNumbers}}, proofs.lemmas.{base.NumbersAside.{numbers_aside}, reading.KnownItems.{numbers_on}}}
 use Rattle.mm_frame.proofs.again.read_known.Goals as goal
 
@@ -22,7 +22,7 @@ returns c =
     let statement = c.known-statement.result in
     let numbers = c.requires.known.symbols statement c.known-statement.ensures.says in
     let same = MatchBool-at_false _ _ c.if-branch.false c.in_ok-take_known.ensures in
-    let aside = λ (all : List (List ℕ)) (said : List Item) (d : IsDraft all said c.args.draft.now).
+    let aside = λ (all : List (List ℕ)) (said : List Said) (d : IsDraft all said c.args.draft.now).
     numbers_aside all said c.take_known.new.self c.put_numbers.new.numbers (subst (IsDraft all said) (sym same) d) in
     let put = λ (all : List (List ℕ)) (m : AreNameNumbers all _ statement.symbols). subst (λ (n : List ℕ). AreNameNumbers all n statement.symbols) (sym c.in_ok-put_numbers.ensures) m in
     on_ok_weaker c.add_numbered.result

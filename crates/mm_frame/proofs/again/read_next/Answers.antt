@@ -24,9 +24,9 @@ returns-in-Some-clause-read c =
           let number = c.count-i.ensures ∙ (stands names c.distinct.ensures (λ n name there. there)).rows.count in (
             λ all distinct more.
                 let now = older.later all distinct more in
-                let again = subst (λ i. IsSoundAgain all base i c.args.item.now c.in-Some.known) number (c.in-Some.ensures.sound all base now) in
-                read.2 all base said now older.each (first (c.if-same.ensures.same refl) base by.found older.each) (c.in-Some.ensures.known all files base now older.each) again (stands all distinct more),
-            first_after c.args.beside.same same.result files old base said c.args.item.now c.count-i.result read.0 c.one_range_says_one.ensures by.found number (λ t. same.ensures.again t base (names, by)) same.ensures.same read.1 first,
+                let again = subst (λ i. IsSoundAgain all old.items base i c.args.item.now c.in-Some.known) number (c.in-Some.ensures.sound all base now) in
+                read.2 all base said now older.each (first (c.if-same.ensures.same refl) base older.each) (c.in-Some.ensures.known all files base now older.each) again (stands all distinct more),
+            first_after c.args.beside.same same.result files old said c.args.item.now c.count-i.result read.0 c.one_range_says_one.ensures number (λ t. same.ensures.again t) same.ensures.same read.1 first,
           ),
     )
 
@@ -43,6 +43,6 @@ returns-clause-read c =
       λ said stands first.
           let number = c.count-i.ensures ∙ (stands names c.distinct.ensures (λ n name there. there)).rows.count in (
             read.2 said stands,
-            first_after c.args.beside.same same.result c.args.files.now old base said c.args.item.now c.count-i.result read.0 c.one_range_says_one.ensures by.found number (λ t. same.ensures.again t base (names, by)) same.ensures.same read.1 first,
+            first_after c.args.beside.same same.result c.args.files.now old said c.args.item.now c.count-i.result read.0 c.one_range_says_one.ensures number (λ t. same.ensures.again t) same.ensures.same read.1 first,
           ),
     )

@@ -1,5 +1,5 @@
 use Rattle.std.proofs.{Common.{◌≡◌, true, ℕ, List, ◌∙◌, ap, sym, subst}, lemmas.Result.{on_ok_weaker}}
-use Rattle.mm_statement.specs.Language.Item.{Item, is_read}
+use Rattle.mm_statement.specs.Language.Item.{Said, is_read}
 use Rattle.mm_frame.{specs.{Language.{Sound.{sound_items}, Framing.{expression}}, Code.{KeptScope.{uses_numbers}, Numbers.{AreNameNumbers}}}, proofs.lemmas.base.NumbersAside.{numbers_aside}}
 use Rattle.mm_frame.proofs.lemmas.reading.KnownItems.{same_again}
 use Rattle.mm_frame.proofs.again.take_over_known.Goals as goal
@@ -14,9 +14,9 @@ returns c =
             statement,
             says,
             λ all base said by each front known again d.
-                let here = same_again c.args.files.now base.found base.said _ c.args.item.now c.one_range_says_one.ensures each again.again statement says in
-                let read = sym (ap (λ (x : Item). is_read x.kind) here) ∙ again.read in
-                let numbers = λ (u : uses_numbers statement.kind ≡ true). subst (λ (n : List ℕ). AreNameNumbers all n statement.symbols) (sym (c.in_ok-put_needed.ensures (ap (λ (x : Item). uses_numbers x.kind) (sym says.is) ∙ u)))
+                let here = same_again c.args.files.now c.args.by.base.now.items base _ c.args.item.now c.one_range_says_one.ensures each again.again statement says in
+                let read = sym (ap (λ (x : Said). is_read x.kind) here) ∙ again.read in
+                let numbers = λ (u : uses_numbers statement.kind ≡ true). subst (λ (n : List ℕ). AreNameNumbers all n statement.symbols) (sym (c.in_ok-put_needed.ensures (ap (λ (x : Said). uses_numbers x.kind) (sym says.is) ∙ u)))
                 (known.symbols statement says) in
                 takes all base said (record { by = by; front = front; here = here }) again.sound read (again.symbols ∙ (λ i. expression (sound_items (front i)) (here i))) again.numbered numbers
                 (numbers_aside all said c.args.draft.now c.put_needed.new.numbers d),

@@ -7,12 +7,12 @@ use Rattle.mm_frame.proofs.lemmas.base.{BaseLemmas.{item_there, kept_front_at, k
 use Rattle.mm_frame.{proofs.lemmas.{faults.FoundFaults.{sound_found}, frames.FrameNumbers.{HasKind}, pairs.SharedPairs.{same_turned, same_joined}}, specs.Code.KeptPairLists.{pairs_or_none, list_kept}}
 use Rattle.mm_frame.specs.Code.{KeptSymbols.{AreSymbols, expression_kept, kept_or_none}, KeptTables.{table_label}, BaseInside.{answers_of}, KeptRows.{rows_of, row_label, row_fault, is_shown_in}}
 use Rattle.mm_frame.specs.Code.{KeptAssertions.{TellsFrame, TellsPairs}, KeptBase.{AreParts, is_float_item, frame_told, list_told}, KeptSparse.{value_or_none, value_kept}}
-use Rattle.mm_frame.specs.Language.{Base.{told_fault, BaseView, before, said_at, fault_at, is_sound_at, is_proof_at}, Sound.{fault, sound_items}, Framing.{active_pairs, expression, frame}}
+use Rattle.mm_frame.specs.Language.{Base.{told_fault, AreLabelled, BaseView, before, said_at, fault_at, is_sound_at, is_proof_at}, Sound.{fault, sound_items}, Framing.{active_pairs, expression}}
 use Rattle.mm_frame.specs.{Language.{Resolving.{IsCarrier}, Answering.{AreRows, IsLabelTold, IsExpressionTold, IsFrameTold, AreActiveTold, BaseAnswers, IsBaseBy}}, declared.FrameNumber.{FrameNumber}}
 use Rattle.mm_frame.specs.declared.{draft.{Frame.{Frame}, Parts.{Parts}}, base.Base.TheInside.{Inside}, pair_lists.PairLists.{PairLists}}
 use Rattle.mm_machine.specs.Language.{NumberedSymbols.{AreInOrder, AreSamePairsRead, symbols_of, kept_pairs, IsNumbered, ArePairsRead}, Names.{AreDistinct}, Frame.{Symbol, AreSamePairs}}
 use Rattle.mm_machine.specs.declared.symbol.NumberedSymbol.{NumberedSymbol}
-use Rattle.mm_statement.specs.Language.Item.{passed, Item, is_floating, is_labelled, is_read, item_at}
+use Rattle.mm_statement.specs.Language.Item.{passed, Said, is_kind, Floating, is_labelled, is_read, item_at}
 use Rattle.mm_store.specs.declared.item.Item as store
 
 -- ---- rows that are reported, from rows that are kept
@@ -27,8 +27,8 @@ told_from f [] n y e = cc
 told_from f (x ∷ xs) zero y e = (x, refl, cc)
 told_from f (x ∷ xs) (suc n) y e = told_from f xs n y e
 
-rows_told : {X Y : Type 0} (f : X → Y) (tells : List Item → Item → X → Type 0) (told : List Item → Item → Y → Type 0) → ((front : List Item) (item : Item) (x : X) → tells front item x → told front item (f x))
-    → (said : List Item) (rows : List X) → AreRows tells said rows → AreRows told said (map f rows)
+rows_told : {X Y : Type 0} (f : X → Y) (tells : List Said → Said → X → Type 0) (told : List Said → Said → Y → Type 0) → ((front : List Said) (item : Said) (x : X) → tells front item x → told front item (f x))
+    → (said : List Said) (rows : List X) → AreRows tells said rows → AreRows told said (map f rows)
 rows_told f tells told step said rows are = grind (arith, common_steps, length-map rows f, are.each, told_from) steps 200000
 
 -- the frame
@@ -36,7 +36,7 @@ pub hypotheses_told : (kept : Option Frame) → option_map (λ it. it.0) (frame_
 hypotheses_told kept = grind (arith, common_steps) steps 200000
 
 -- all active pairs
-actives_told : (all : List (List ℕ)) (lists : PairLists) (front : List Item) (item : Item) (number : Option ℕ) → TellsPairs all lists front item number → AreActiveTold all front item (list_told lists number)
+actives_told : (all : List (List ℕ)) (lists : PairLists) (front : List Said) (item : Said) (number : Option ℕ) → TellsPairs all lists front item number → AreActiveTold all front item (list_told lists number)
 actives_told all lists front item None t = record { some = t.some; pairs = tt; order = tt }
 actives_told all lists front item (Some k) t =
     record {
@@ -47,36 +47,36 @@ actives_told all lists front item (Some k) t =
     }
 
 -- the expressions
-expressions_told : (all : List (List ℕ)) (base : BaseView) (expressions : List (List NumberedSymbol)) → AreSymbols all (sound_items base.said) expressions → AreRows (IsExpressionTold all) base.said expressions
+expressions_told : (all : List (List ℕ)) (base : BaseView) (expressions : List (List NumberedSymbol)) → AreSymbols all (sound_items base) expressions → AreRows (IsExpressionTold all) base expressions
 expressions_told all base expressions are = record {
-  count = are.count ∙ kept_count base.said;
+  count = are.count ∙ kept_count base;
   each =
       λ n symbols e. record {
         expression =
             (λ t. ap (λ o. symbols_of all (kept_or_none o)) (sym e)
             ∙ (let item = said_at base n in let parts = and_parts (is_sound_at base n) (is_read item.kind) t in
-            let sound = none_told item.kind (fault (before base n) item) parts.0 in let there = item_there is_read refl base.said n parts.1 in
-            are.each n item (kept_item_at base.said n item there sound) parts.1
-            ∙ ap (λ w. expression w item) (kept_front_at base.said n item there)));
+            let sound = none_told item.kind (fault (before base n) item) parts.0 in let there = item_there is_read refl base n parts.1 in
+            are.each n item (kept_item_at base n item there sound) parts.1
+            ∙ ap (λ w. expression w item) (kept_front_at base n item there)));
         numbered = subst (All (IsNumbered all)) (ap kept_or_none e) (are.numbered n);
       };
 }
 
 -- ---- what is reported at a number
 
-row_there : {X : Type 0} (tells : List Item → Item → X → Type 0) (said : List Item) (rows : List X) (i : ℕ) → AreRows tells said rows → slice_get said i ≡ Some (item_at said i) → (row : X) × (slice_get rows i ≡ Some row)
+row_there : {X : Type 0} (tells : List Said → Said → X → Type 0) (said : List Said) (rows : List X) (i : ℕ) → AreRows tells said rows → slice_get said i ≡ Some (item_at said i) → (row : X) × (slice_get rows i ≡ Some row)
 row_there tells said rows i are t = grind (arith, common_steps, slice_get_within said i (item_at said i) t, slice_get_cases rows i) steps 200000
 
 -- the symbols that are kept of a sound item
-pub expression_read : (all : List (List ℕ)) (base : BaseView) (expressions : List (List NumberedSymbol)) (i : ℕ) → AreRows (IsExpressionTold all) base.said expressions → (is_sound_at base i && is_read (said_at base i).kind) ≡ true
+pub expression_read : (all : List (List ℕ)) (base : BaseView) (expressions : List (List NumberedSymbol)) (i : ℕ) → AreRows (IsExpressionTold all) base expressions → (is_sound_at base i && is_read (said_at base i).kind) ≡ true
     → symbols_of all (expression_kept expressions i) ≡ expression (before base i) (said_at base i)
 expression_read all base expressions i are t =
     let row =
-    row_there (IsExpressionTold all) base.said expressions i are
-    (item_there is_read refl base.said i (and_parts (is_sound_at base i) (is_read (said_at base i).kind) t).1) in
+    row_there (IsExpressionTold all) base expressions i are
+    (item_there is_read refl base i (and_parts (is_sound_at base i) (is_read (said_at base i).kind) t).1) in
     ap (λ o. symbols_of all (kept_or_none o)) row.1 ∙ (are.each i row.0 row.1).expression t
 
-pub expression_numbered : (all : List (List ℕ)) (said : List Item) (expressions : List (List NumberedSymbol)) (i : ℕ) → AreRows (IsExpressionTold all) said expressions → All (IsNumbered all) (expression_kept expressions i)
+pub expression_numbered : (all : List (List ℕ)) (said : List Said) (expressions : List (List NumberedSymbol)) (i : ℕ) → AreRows (IsExpressionTold all) said expressions → All (IsNumbered all) (expression_kept expressions i)
 expression_numbered all said expressions i are = by (slice_get expressions i) refl
   where
     by : (o : Option (List NumberedSymbol)) → slice_get expressions i ≡ o → All (IsNumbered all) (kept_or_none o)
@@ -89,7 +89,7 @@ pub order_told : (all : List (List ℕ)) (pairs : List (Symbol × Symbol)) (lent
 order_told all pairs lent kept e told = grind (arith, common_steps) steps 200000
 
 -- what is kept of an item is right of it, if the answer for no row is right past the last item
-told_at : {X Y : Type 0} (f : Option X → Y) (told : List Item → Item → Y → Type 0) (said : List Item) (kept : List (Option X)) → AreRows told said (map f kept) → (i : ℕ) → (length said ≤ i → told (sound_items (take i said)) (item_at said i) (f None))
+told_at : {X Y : Type 0} (f : Option X → Y) (told : List Said → Said → Y → Type 0) (said : List Said) (kept : List (Option X)) → AreRows told said (map f kept) → (i : ℕ) → (length said ≤ i → told (sound_items (take i said)) (item_at said i) (f None))
     → told (sound_items (take i said)) (item_at said i) (f (value_kept kept i))
 told_at f told said kept are i beyond = by (slice_get kept i) refl
   where
@@ -101,7 +101,7 @@ told_at f told said kept are i beyond = by (slice_get kept i) refl
 pub frame_in : (all : List (List ℕ)) (base : BaseView) (answers : BaseAnswers) (frames : List (Option Frame)) → map frame_told frames ≡ answers.frames → IsBaseBy all base answers → (i : ℕ)
     → IsFrameTold all (before base i) (said_at base i) (frame_told (value_kept frames i))
 frame_in all base answers frames same is i =
-    told_at frame_told (IsFrameTold all) base.said frames (subst (AreRows (IsFrameTold all) base.said) (sym same) is.frames) i
+    told_at frame_told (IsFrameTold all) base frames (subst (AreRows (IsFrameTold all) base) (sym same) is.frames) i
     (λ past. record { hypotheses = sym (grind (arith, common_steps, item_beyond) steps 200000); pairs = tt })
 
 -- the list of active pairs that is kept of an item
@@ -109,7 +109,7 @@ pub active_in : (all : List (List ℕ)) (base : BaseView) (answers : BaseAnswers
     → number ≡ value_kept numbers i → number ≡ other → AreActiveTold all (before base i) (said_at base i) (list_told lists other)
 active_in all base answers lists numbers same is i number other e o =
     subst (λ w. AreActiveTold all (before base i) (said_at base i) (list_told lists w)) (sym e ∙ o)
-    (told_at (list_told lists) (AreActiveTold all) base.said numbers (subst (AreRows (AreActiveTold all) base.said) (sym same) is.actives) i
+    (told_at (list_told lists) (AreActiveTold all) base numbers (subst (AreRows (AreActiveTold all) base) (sym same) is.actives) i
     (λ past. record { some = sym (grind (arith, common_steps, item_beyond) steps 200000); pairs = tt; order = tt }))
 
 -- a list that two `$p` share
@@ -122,7 +122,7 @@ shared_told all lists base i j (Some k) (Some l) a b s e =
     same_joined (active_pairs (before base i)) (kept_pairs all (list_kept lists l)) (active_pairs (before base j)) (same_turned (kept_pairs all (list_kept lists l)) (active_pairs (before base i)) mine) b.pairs.pairs
 
 -- past the last item none is a `$f`
-pub float_none : (found : List store.Item) (said : List Item) (i : ℕ) → AllZip HasKind found said → slice_get (map is_float_item found) i ≡ None → false ≡ is_floating (item_at said i).kind
+pub float_none : (found : List store.Item) (said : List Said) (i : ℕ) → AllZip HasKind found said → slice_get (map is_float_item found) i ≡ None → false ≡ is_kind Floating (item_at said i).kind
 float_none [] [] i z e = refl
 float_none (x ∷ found) (y ∷ said) zero z e = cc
 float_none (x ∷ found) (y ∷ said) (suc i) z e = float_none found said i z.1 e
@@ -133,11 +133,11 @@ float_none _ _ i z e = absurd z
 none_is : {X : Type 0} (o : Option X) → is_none o ≡ true → o ≡ None
 none_is o e = grind (arith, common_steps) steps 200000
 
-pub carrier_told : (base : BaseView) (rows : List (Option (List ℕ) × Option (ℕ × FrameNumber))) → AreRows IsLabelTold base.said rows → (label : List ℕ) (j : ℕ) → (slice_get rows j ≡ Some (Some label, None)) ↔ IsCarrier base label j
+pub carrier_told : (base : BaseView) (rows : List (Option (List ℕ) × Option (ℕ × FrameNumber))) → AreRows IsLabelTold base rows → (label : List ℕ) (j : ℕ) → (slice_get rows j ≡ Some (Some label, None)) ↔ IsCarrier base label j
 carrier_told base rows are label j = (
   to,
   (λ c. let p = and_parts (is_sound_at base j) (is_labelled (said_at base j).kind) c.shown in
-      let row = row_there IsLabelTold base.said rows j are (item_there is_labelled refl base.said j p.1) in let told = are.each j row.0 row.1 in
+      let row = row_there IsLabelTold base rows j are (item_there is_labelled refl base j p.1) in let told = are.each j row.0 row.1 in
       row.1 ∙ (λ k. Some ((told.label ∙ c.label_is) k, (told.fault ∙ none_is (fault_at base j) p.0) k))),
 )
   where
@@ -147,50 +147,50 @@ carrier_told base rows are label j = (
         record { shown = and_from (is_sound_at base j) (is_labelled (said_at base j).kind) (ap is_none (sym told.fault)) (sym told.labelled); label_is = sym told.label }
 
 -- the tables know it
-pub labels_told : (all : List (List ℕ)) (base : BaseView) (parts : Parts) → AreParts all base.said parts → (label : List ℕ) (j : ℕ) → (table_label parts.tables label ≡ Some j) ↔ (slice_get (rows_of parts.rows) j ≡ Some (Some label, None))
+pub labels_told : (all : List (List ℕ)) (base : BaseView) (parts : Parts) → AreParts all base parts → (label : List ℕ) (j : ℕ) → (table_label parts.tables label ≡ Some j) ↔ (slice_get (rows_of parts.rows) j ≡ Some (Some label, None))
 labels_told all base parts are label j =
     grind (arith, common_steps, carrier_told base (rows_of parts.rows) are.rows label j, are.labels label, (carrier_told base (rows_of parts.rows) are.rows label j).0, found_carrier, carrier_found) steps 200000
 
 -- the label and the fault of an item, and whether it is a sound one that has a label
-pub label_told : (base : BaseView) (rows : List (Option (List ℕ) × Option (ℕ × FrameNumber))) → AreRows IsLabelTold base.said rows → (i : ℕ) → row_label (slice_get rows i) ≡ (said_at base i).label
+pub label_told : (base : BaseView) (rows : List (Option (List ℕ) × Option (ℕ × FrameNumber))) → AreRows IsLabelTold base rows → (i : ℕ) → row_label (slice_get rows i) ≡ (said_at base i).label
 label_told base rows are i = by (slice_get rows i) refl
   where
     by : (o : Option (Option (List ℕ) × Option (ℕ × FrameNumber))) → slice_get rows i ≡ o → row_label o ≡ (said_at base i).label
     by (Some row) e = (are.each i row e).label
-    by None e = sym (ap (λ (item : Item). item.label) (item_beyond base.said i (row_none IsLabelTold base.said rows i are e)))
+    by None e = sym (ap (λ (item : Said). item.label) (item_beyond base i (row_none IsLabelTold base rows i are e)))
 
-pub fault_told_at : (base : BaseView) (rows : List (Option (List ℕ) × Option (ℕ × FrameNumber))) → AreRows IsLabelTold base.said rows → (i : ℕ) → row_fault (slice_get rows i) ≡ fault_at base i
+pub fault_told_at : (base : BaseView) (rows : List (Option (List ℕ) × Option (ℕ × FrameNumber))) → AreRows IsLabelTold base rows → (i : ℕ) → row_fault (slice_get rows i) ≡ fault_at base i
 fault_told_at base rows are i = by (slice_get rows i) refl
   where
     by : (o : Option (Option (List ℕ) × Option (ℕ × FrameNumber))) → slice_get rows i ≡ o → row_fault o ≡ fault_at base i
     by (Some row) e = (are.each i row e).fault
     by None e =
-        sym (ap (told_fault (before base i)) (item_beyond base.said i (row_none IsLabelTold base.said rows i are e))
+        sym (ap (told_fault (before base i)) (item_beyond base i (row_none IsLabelTold base rows i are e))
         ∙ sound_found (before base i) passed (grind (arith, common_steps) steps 200000))
 
-pub shown_told : (base : BaseView) (rows : List (Option (List ℕ) × Option (ℕ × FrameNumber))) → AreRows IsLabelTold base.said rows → (i : ℕ) → is_shown_in (slice_get rows i) ≡ (is_sound_at base i && is_labelled (said_at base i).kind)
+pub shown_told : (base : BaseView) (rows : List (Option (List ℕ) × Option (ℕ × FrameNumber))) → AreRows IsLabelTold base rows → (i : ℕ) → is_shown_in (slice_get rows i) ≡ (is_sound_at base i && is_labelled (said_at base i).kind)
 shown_told base rows are i = by (slice_get rows i) refl
   where
     by : (o : Option (Option (List ℕ) × Option (ℕ × FrameNumber))) → slice_get rows i ≡ o → is_shown_in o ≡ (is_sound_at base i && is_labelled (said_at base i).kind)
     by (Some row) e = let told = are.each i row e in (λ j. (ap is_none told.fault) j && told.labelled j)
-    by None e = grind (arith, common_steps, item_beyond, row_none IsLabelTold base.said rows i are e) steps 200000
+    by None e = grind (arith, common_steps, item_beyond, row_none IsLabelTold base rows i are e) steps 200000
 
 -- what is kept of the items is right of them
-pub base_told : (all : List (List ℕ)) (base : BaseView) (inside : Inside) → AreDistinct all → inside.items.items ≡ base.found → length base.found ≡ length base.said → length base.said ≤ 4294967295 → AllZip HasKind base.found base.said
-    → AreParts all base.said inside.parts → IsBaseBy all base (answers_of inside)
-base_told all base inside distinct found count few kinds parts =
+pub base_told : (all : List (List ℕ)) (base : BaseView) (inside : Inside) → AreDistinct all → length inside.items.items ≡ length base → length base ≤ 4294967295 → AreLabelled base → AllZip HasKind inside.items.items base
+    → AreParts all base inside.parts → IsBaseBy all base (answers_of inside)
+base_told all base inside distinct count few labelled kinds parts =
     let lists = inside.parts.pair_lists in
     record {
       distinct = distinct;
-      found = found;
       count = count;
       few = few;
+      labelled = labelled;
       kinds = kinds;
       rows = parts.rows;
       expressions = expressions_told all base inside.parts.expressions parts.symbols;
       frames =
           rows_told frame_told (TellsFrame all) (IsFrameTold all)
-          ((λ front item kept t. grind (arith, common_steps) steps 200000)) base.said inside.parts.frames parts.frames;
-      actives = rows_told (list_told lists) (TellsPairs all lists) (AreActiveTold all) (actives_told all lists) base.said inside.parts.pair_numbers parts.pair_numbers;
+          ((λ front item kept t. grind (arith, common_steps) steps 200000)) base inside.parts.frames parts.frames;
+      actives = rows_told (list_told lists) (TellsPairs all lists) (AreActiveTold all) (actives_told all lists) base inside.parts.pair_numbers parts.pair_numbers;
       marks = parts.marks;
     }

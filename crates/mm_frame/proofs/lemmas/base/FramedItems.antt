@@ -4,8 +4,8 @@ use Rattle.std.proofs.Common.{◌≡◌, ◌↔◌, ℕ, ◌<◌, Bool, true, fa
 use Rattle.std.specs.List.{list_any}
 use native.Mathlib.Decide.{dec_lt}
 use Rattle.mm_machine.specs.Language.{Frame.{Symbol, Mandatory, ArePair, HasVariable}, Typing.{IsFrame}}
-use Rattle.mm_statement.specs.Language.Item.{Item, has, is_assertion, is_essential, is_floating, is_labelled, typecode_of, variable_of}
-use Rattle.mm_frame.specs.{declared.FrameNumber.TheVariants.{F13}, Language.{Scope.{active, active_variables, floats, symbols_by}, Sound.{IsSound, fault, is_typed_otherwise, second}}}
+use Rattle.mm_statement.specs.Language.Item.{Said, has, is_assertion, is_kind, Essential, Floating, is_labelled, typecode_of, variable_of}
+use Rattle.mm_frame.specs.{declared.FrameNumber.TheVariants.{F13}, Language.{Scope.{active, active_variables, floats, symbols_by}, Sound.{IsSound, fault, is_typed_otherwise, as_second}}}
 use Rattle.mm_frame.specs.Language.{Framing.{active_pairs, is_mandatory_pair, mandatory_variables}, Base.{BaseView, before, frame_at, is_framed_at, is_shown_at, is_sound_at, said_at}}
 use Rattle.mm_frame.{specs.Language.Laws.{IsVariableOf, is_float_at}, proofs.lemmas.{base.BaseLemmas.{kept_are_sound, none_told}, faults.FoundFaults.{no_fault_sound}}}
 use Rattle.mm_frame.proofs.lemmas.{scope.{Facts.{float_two, no_symbol_of}, SoundItems.{in_any}}, lists.Members.{In, contains_in, from_filter, get_in, in_contains, in_filter, in_has, in_left}}
@@ -23,26 +23,26 @@ second_false true true none is = refl
 second_false true false none is = absurd (false≢true (sym none))
 second_false false b none is = absurd (false≢true is)
 
-none_by : (b : Bool) (p : Item → Bool) (x : Item) (xs : List Item) → p x ≡ b → In x xs → list_any p xs ≡ false → p x ≡ false
+none_by : (b : Bool) (p : Said → Bool) (x : Said) (xs : List Said) → p x ≡ b → In x xs → list_any p xs ≡ false → p x ≡ false
 none_by true p x xs is there none = absurd (false≢true (sym none ∙ in_any p x xs there is))
 none_by false p x xs is there none = is
 
-agrees : (before : List Item) (x f : Item) → IsSound before f → In x before → is_floating x.kind ≡ true → is_floating f.kind ≡ true → variable_of x ≡ variable_of f → typecode_of x ≡ typecode_of f
+agrees : (before : List Said) (x f : Said) → IsSound before f → In x before → is_kind Floating x.kind ≡ true → is_kind Floating f.kind ≡ true → variable_of x ≡ variable_of f → typecode_of x ≡ typecode_of f
 agrees before x f sound there first second_one same =
     let two = float_two before f sound second_one in
     let name = two.1 in
     let named : variable_of f ≡ name = ap (λ symbols. slice_index_or symbols 1 []) two.2 in
-    let out = no_symbol_of (is_floating f.kind) (second (is_typed_otherwise before f)) f (λ word. sound word F13) second_one 1 name (ap (λ symbols. slice_get symbols 1) two.2) in
-    let test = λ (other : Item). bytes_eq (variable_of other) name && not (bytes_eq (typecode_of other) (typecode_of f)) in
-    let no_match = none_by (test x) test x (floats before) refl (in_filter (λ (item : Item). is_floating item.kind) x before there first) out in
+    let out = no_symbol_of (is_kind Floating f.kind) (as_second (is_typed_otherwise before f)) f (λ word. sound word F13) second_one 1 name (ap (λ symbols. slice_get symbols 1) two.2) in
+    let test = λ (other : Said). bytes_eq (variable_of other) name && not (bytes_eq (typecode_of other) (typecode_of f)) in
+    let no_match = none_by (test x) test x (floats before) refl (in_filter (λ (item : Said). is_kind Floating item.kind) x before there first) out in
     (bytes_eq-Decides (typecode_of x) (typecode_of f)).0
     (second_false (bytes_eq (variable_of x) name) (bytes_eq (typecode_of x) (typecode_of f)) no_match ((bytes_eq-Decides (variable_of x) name).1 (same ∙ named)))
 
 later_agrees : (base : BaseView) (i j : ℕ) → i < j → is_float_at base i ≡ true → is_float_at base j ≡ true → variable_of (said_at base i) ≡ variable_of (said_at base j)
     → typecode_of (said_at base i) ≡ typecode_of (said_at base j)
 later_agrees base i j earlier one other same =
-    let mine = and_parts (is_shown_at base i) (is_floating (said_at base i).kind) one in
-    let yours = and_parts (is_shown_at base j) (is_floating (said_at base j).kind) other in
+    let mine = and_parts (is_shown_at base i) (is_kind Floating (said_at base i).kind) one in
+    let yours = and_parts (is_shown_at base j) (is_kind Floating (said_at base j).kind) other in
     agrees (before base j) (said_at base i) (said_at base j) (shown_sound base j yours.0)
     (get_in (said_at base i) (before base j) i (shown_before base j i earlier mine.0)) mine.1 yours.1 same
 
@@ -56,26 +56,26 @@ floats_agree base i j one other same = by_order (dec_lt i j) (dec_lt j i)
     by_order (no not_earlier) (no not_later) = let equal : i ≡ j = omega arith in ap (λ n. typecode_of (said_at base n)) equal
 
 module _ (base : BaseView) (i : ℕ) (framed : is_framed_at base i ≡ true) where
-  abbrev front : List Item
+  abbrev front : List Said
   front = before base i
 
-  abbrev item : Item
+  abbrev item : Said
   item = said_at base i
 
   pub has_frame : IsFrame (frame_at base i)
-  has_frame = is_frame front item (kept_are_sound (take i base.said)) (shown_sound base i (framed_shown base i framed))
+  has_frame = is_frame front item (kept_are_sound (take i base)) (shown_sound base i (framed_shown base i framed))
       (assertion_expression item.kind (and_parts (is_sound_at base i) (is_assertion item.kind) framed).1)
 
   -- the variables of the frame are mandatory
   mandatory_name : (v : Symbol) → IsVariableOf (frame_at base i) v → has (mandatory_variables front item) v.name ≡ true
   mandatory_name v (inl is) =
       let r = read_variable front item.symbols v is in
-      let m = in_filter (has (active_variables front)) r.0 (item.symbols ++ symbols_by is_essential (active front)) (in_left r.0 item.symbols (symbols_by is_essential (active front)) r.1) (in_has (active_variables front) r.0 r.2) in
+      let m = in_filter (has (active_variables front)) r.0 (item.symbols ++ symbols_by (is_kind Essential) (active front)) (in_left r.0 item.symbols (symbols_by (is_kind Essential) (active front)) r.1) (in_has (active_variables front) r.0 r.2) in
       in_has (mandatory_variables front item) v.name (subst (λ (w : Symbol). In w.name (mandatory_variables front item)) r.3 m)
   mandatory_name v (inr is) =
       let f = hypothesis_from front item is.0 (contains_in is.0 (frame_at base i).hypotheses is.1) in
       let r = read_variable front (f.0).symbols v (subst (λ (h : Mandatory). HasVariable h.expression v) (sym f.3) is.2) in
-      let m = hypothesis_mandatory front item f.0 r.0 (kept_are_sound (take i base.said)) f.1 f.2 r.1 r.2 in
+      let m = hypothesis_mandatory front item f.0 r.0 (kept_are_sound (take i base)) f.1 f.2 r.1 r.2 in
       in_has (mandatory_variables front item) v.name (subst (λ (w : Symbol). In w.name (mandatory_variables front item)) r.3 m)
 
   one_pair : (v w : Symbol) → IsVariableOf (frame_at base i) v → IsVariableOf (frame_at base i) w → Contains (active_pairs front) (v, w) → Contains (frame_at base i).pairs (v, w)

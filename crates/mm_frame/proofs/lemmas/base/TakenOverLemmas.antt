@@ -8,45 +8,45 @@ use Rattle.mm_frame.specs.{Language.Answering.{AreRows, BaseAnswers, is_told_pro
 use Rattle.mm_frame.{specs.Code.{KnownItem.{IsAgain}, TakenOver.{AreFirst, AreFirstIf}}, proofs.lemmas.pairs.{PairListLemmas.{list_stays}, SharedPairs.{same_joined}}}
 use Rattle.mm_frame.proofs.lemmas.reading.KnownItems.{same_again}
 use Rattle.mm_machine.specs.Language.{Frame.{Symbol, AreSamePairs}, NumberedSymbols.{kept_pairs}}
-use Rattle.mm_statement.specs.Language.{Item.{Item, item_at}, Statement.{OneRangeSaysOne, Says}}
+use Rattle.mm_statement.specs.Language.{Item.{Said, item_at}, Statement.{OneRangeSaysOne, Says}}
 use Rattle.mm_store.specs.declared.item.Item as store
 
 -- ---- the first items
 
 -- the items before the next one are those so far
-pub before_next : (base : BaseView) (said : List Item) (i : ℕ) → AreFirst base said → i ≡ length said → before base i ≡ sound_items said
+pub before_next : (base : BaseView) (said : List Said) (i : ℕ) → AreFirst base said → i ≡ length said → before base i ≡ sound_items said
 before_next base said i front number = ap (before base) number ∙ ap sound_items front
 
 -- an earlier item is the same in the base
-item_front : (front rest : List Item) (n : ℕ) → n < length front → item_at (front ++ rest) n ≡ item_at front n
+item_front : (front rest : List Said) (n : ℕ) → n < length front → item_at (front ++ rest) n ≡ item_at front n
 item_front [] rest n l = absurd (omega arith)
 item_front (x ∷ front) rest zero l = refl
 item_front (x ∷ front) rest (suc n) l = item_front front rest n (omega arith)
 
-first_take : (base : BaseView) (said : List Item) (j : ℕ) → AreFirst base said → j < length said → take j base.said ≡ take j said
+first_take : (base : BaseView) (said : List Said) (j : ℕ) → AreFirst base said → j < length said → take j base ≡ take j said
 first_take base said j front l = grind (arith, common_steps, take-append-le, take-append-drop) steps 200000
 
-first_item : (base : BaseView) (said : List Item) (j : ℕ) → AreFirst base said → j < length said → said_at base j ≡ item_at said j
+first_item : (base : BaseView) (said : List Said) (j : ℕ) → AreFirst base said → j < length said → said_at base j ≡ item_at said j
 first_item base said j front l = grind (arith, common_steps, item_front, take-append-drop) steps 200000
 
 -- the items that are found, and what they say, at one place
-there_at : (files : FilesView) (found : List store.Item) (said : List Item) (i : ℕ) (item : store.Item) → AllZip (Says files) found said → slice_get found i ≡ Some item → slice_get said i ≡ Some (item_at said i)
+there_at : (files : FilesView) (found : List store.Item) (said : List Said) (i : ℕ) (item : store.Item) → AllZip (Says files) found said → slice_get found i ≡ Some item → slice_get said i ≡ Some (item_at said i)
 there_at files [] said i item h e = cc
 there_at files (x ∷ found) (y ∷ said) zero item h e = refl
 there_at files (x ∷ found) (y ∷ said) (suc i) item h e = there_at files found said i item h.1 e
 there_at files (x ∷ found) [] i item h e = absurd h
 
-pub first_after : (same other : Bool) (files : FilesView) (answers : BaseAnswers) (base : BaseView) (said : List Item) (item : store.Item) (i : ℕ) (one : Item) → OneRangeSaysOne → answers.items ≡ base.found → i ≡ length said
-    → (other ≡ true → IsAgain base.found i item) → (other ≡ true → same ≡ true) → Says files item one → AreFirstIf same files answers said → AreFirstIf other files answers (said ++ one ∷ [])
-first_after same other files answers base said item i one law found number again still says first t b told each =
+pub first_after : (same other : Bool) (files : FilesView) (answers : BaseAnswers) (said : List Said) (item : store.Item) (i : ℕ) (one : Said) → OneRangeSaysOne → i ≡ length said
+    → (other ≡ true → IsAgain answers.items i item) → (other ≡ true → same ≡ true) → Says files item one → AreFirstIf same files answers said → AreFirstIf other files answers (said ++ one ∷ [])
+first_after same other files answers said item i one law number again still says first t b each =
     let n = length said in
-    let here = subst (λ w. IsAgain w n item) (sym found ∙ told) (subst (λ k. IsAgain base.found k item) number (again t)) in
-    let there = there_at files b.found b.said n here.was each here.there ∙ ap Some (same_again files b.found b.said n item law each here one says) in
+    let here = subst (λ k. IsAgain answers.items k item) number (again t) in
+    let there = there_at files answers.items b n here.was each here.there ∙ ap Some (same_again files answers.items b n item law each here one says) in
     let n =
-    length said in let within = slice_get_within b.said n one there in
+    length said in let within = slice_get_within b n one there in
     let count : length (said ++ one ∷ []) ≡ suc n = (let p = length_push said one in omega arith) in
-    ap (λ k. take k b.said) count ∙ take-suc b.said n one within
-    ∙ (λ i. (first (still t) b told each) i ++ get_or_from_slice_get b.said n one one there i ∷ [])
+    ap (λ k. take k b) count ∙ take-suc b n one within
+    ∙ (λ i. (first (still t) b each) i ++ get_or_from_slice_get b n one one there i ∷ [])
 
 -- ---- the lists of active pairs
 
@@ -62,7 +62,7 @@ list_shared all lists k pairs others is same = record {
   order = is.order;
 }
 
-pub list_here : (all : List (List ℕ)) (lists : PairLists) (base : BaseView) (said : List Item) (numbers : List (Option ℕ)) (j i k : ℕ) → AreFirst base said → i ≡ length said → AreRows (TellsPairs all lists) said numbers
+pub list_here : (all : List (List ℕ)) (lists : PairLists) (base : BaseView) (said : List Said) (numbers : List (Option ℕ)) (j i k : ℕ) → AreFirst base said → i ≡ length said → AreRows (TellsPairs all lists) said numbers
     → Some k ≡ value_kept numbers j → (is_proof_at base j ≡ true → AreSamePairs (active_pairs (before base j)) (active_pairs (before base i))) → IsList all lists k (active_pairs (sound_items said))
 list_here all lists base said numbers j i k front number rows e shared =
     let row = value_there numbers j k e in
@@ -75,7 +75,7 @@ list_here all lists base said numbers j i k front number rows e shared =
     (subst (λ w. AreSamePairs (active_pairs w) (active_pairs (sound_items said))) same (subst (λ w. AreSamePairs (active_pairs (before base j)) (active_pairs w)) (before_next base said i front number) (shared proof)))
 
 -- more lists, and none is made for other counts
-pub made_stays : (all : List (List ℕ)) (before : List Item) (old new : PairLists) → KeepsLists old new → new.made ≡ old.made → AreMade all before old → AreMade all before new
+pub made_stays : (all : List (List ℕ)) (before : List Said) (old new : PairLists) → KeepsLists old new → new.made ≡ old.made → AreMade all before old → AreMade all before new
 made_stays all before old new keeps same made count k e =
     grind (arith, common_steps, list_stays all old new k (active_pairs (take count before)) keeps (made count k (ap (λ w. get nat_eq w count) (sym same) ∙ e)).list) steps 200000
 

@@ -2,7 +2,7 @@
 use Rattle.std.proofs.Common.{is_some, ◌==◌, ◌≡◌, ℕ, zero, nat_eq, slice_get, suc, ◌+◌, ◌<◌, ◌≤◌, Bool, true, false, not, cond, ◌&&◌, ◌||◌, Option, Some, None, List, [], ◌∷◌, ◌++◌, length, take, drop}
 use Rattle.std.proofs.{Common.{get_or, bytes_eq, refl, sym, ◌∙◌, ap, subst, arith}, lemmas.{Grind.{common_steps}, Bool.{false≢true}, Slice.Eq.{bytes_eq-Decides}, Option.{same_Some, slice_get-get_or}}}
 use Rattle.std.{proofs.{lemmas.List.{drop_all}, Math.Seq.{take-suc}}, specs.{Prelude.{is_none}, Option.{option_or}, HashSet.{HashSet}}}
-use Rattle.mm_statement.specs.Language.Item.{first_symbol, Kind, Item, has, is_expression}
+use Rattle.mm_statement.specs.Language.Item.{first_symbol, Kind, Said, has, is_expression}
 use Rattle.mm_frame.specs.{Language.{Scope.{constants, active_variables, typed}, Sound.{closing_word, fault_or, fault, AreSound}}, Code.Numbers.{IsNameNumber, AreNameNumbers}}
 use Rattle.mm_frame.specs.Code.{KeptScope.{ScopeHolds}, KeptTables.{declared_at, declared_in, variable_at}, LastItems.{last_where, declares_variable, types, is_active_last}}
 use Rattle.mm_frame.specs.Code.{FaultInOrder.{front_fault, end_fault, first_fault, symbol_fault_of, symbol_fault, symbols_fault, expression_fault, later_fault}, SeenNumbers.{HasSeen, has_number}}
@@ -12,7 +12,7 @@ use Rattle.mm_frame.proofs.lemmas.scope.TableLemmas.{active_variable_last, typed
 use Rattle.mm_machine.specs.Language.Names.{AreDistinct}
 
 -- whether a name with this declaration may come after a typecode
-abbrev pub may_follow_as : List Item → Option Declared → Bool
+abbrev pub may_follow_as : List Said → Option Declared → Bool
 may_follow_as before None = false
 may_follow_as before (Some Constant) = true
 may_follow_as before (Some (Variable declared float)) = is_active_last before float
@@ -21,7 +21,7 @@ may_follow_as before (Some (Variable declared float)) = is_active_last before fl
 abbrev later_as : Bool → Bool → Bool → Option FrameNumber
 later_as constant active typed = cond (not (constant || active)) (Some F10) (cond (active && not typed) (Some F11) None)
 
-pub follows_later : (before : List Item) → AreSound before → (name : List ℕ) → may_follow_as before (declared_in before name) ≡ is_none (later_fault before name)
+pub follows_later : (before : List Said) → AreSound before → (name : List ℕ) → may_follow_as before (declared_in before name) ≡ is_none (later_fault before name)
 follows_later before h name =
     by_test (has (constants before) name) (last_where (declares_variable name) before) (last_where (types name) before) (has (active_variables before) name) (has (typed before) name)
     (active_variable_last before h name) (typed_last before h name) (constant_no_variable before h name)
@@ -34,7 +34,7 @@ follows_later before h name =
       by_test false (Some d) t active typed a b n e = grind (arith, common_steps, false≢true) steps 200000
 
 -- the same by what the tables of a scope say of the name
-pub follows_told : (scope : Scope) (n : ℕ) (found given : Option Declared) (all : List (List ℕ)) (before : List Item) (name : List ℕ)
+pub follows_told : (scope : Scope) (n : ℕ) (found given : Option Declared) (all : List (List ℕ)) (before : List Said) (name : List ℕ)
     → AreSound before → ScopeHolds all before scope → IsNameNumber all n name → found ≡ declared_at scope.tables n → found ≡ given
     → may_follow_as before given ≡ is_none (later_fault before name)
 follows_told scope n found given all before name h k t is e = ap (may_follow_as before) (sym e ∙ is ∙ known_at all before scope.tables n name k.knows t) ∙ follows_later before h name
@@ -71,31 +71,31 @@ pub sees_next : {S : Type 0} {kept : Bool} (numbers : List ℕ) (number n more :
 sees_next numbers number n more seen m l e h d = subst (λ w. HasSeen w seen) (ap (λ x. take n numbers ++ x ∷ []) e ∙ sym (take-suc numbers n 0 l) ∙ ap (λ w. take w numbers) (sym m)) (h d)
 
 -- this holds after all sound items of a scope, if the symbols have these numbers
-abbrev pub Judged : Scope → Item → List ℕ → (List Item → Type 0) → Type 0
-Judged scope item numbers holds = (all : List (List ℕ)) (before : List Item) → AreSound before → ScopeHolds all before scope → AreNameNumbers all numbers item.symbols → holds before
+abbrev pub Judged : Scope → Said → List ℕ → (List Said → Type 0) → Type 0
+Judged scope item numbers holds = (all : List (List ℕ)) (before : List Said) → AreSound before → ScopeHolds all before scope → AreNameNumbers all numbers item.symbols → holds before
 
 -- the symbols up to a number have no fault
-pub record Passes (scope : Scope) (item : Item) (numbers : List ℕ) (n : ℕ) : Type 0 where
+pub record Passes (scope : Scope) (item : Said) (numbers : List ℕ) (n : ℕ) : Type 0 where
   pub rest : Judged scope item numbers (λ before. symbols_fault before item ≡ first_fault (symbol_fault before item) (first_symbol item + n) n (drop n item.symbols))
 
 -- the first of the symbols that are left
-next_fault : {scope : Scope} (item : Item) (numbers : List ℕ) (n : ℕ) → n < length item.symbols → Passes scope item numbers n → Judged scope item numbers (λ before.
+next_fault : {scope : Scope} (item : Said) (numbers : List ℕ) (n : ℕ) → n < length item.symbols → Passes scope item numbers n → Judged scope item numbers (λ before.
     symbols_fault before item ≡ fault_or (first_symbol item + n) (symbol_fault before item n (get_or item.symbols n [])) (first_fault (symbol_fault before item) (suc (first_symbol item + n)) (suc n) (drop (suc n) item.symbols)))
 next_fault item numbers n l p all before h k a = p.rest all before h k a ∙ first_fault_at (symbol_fault before item) (first_symbol item + n) n n (get_or item.symbols n []) item.symbols (slice_get-get_or item.symbols n [] l)
 
 -- a symbol with a fault
-pub fault_there : {scope : Scope} (item : Item) (numbers : List ℕ) (n word : ℕ) (number : FrameNumber) → n < length item.symbols → word ≡ first_symbol item + n → Passes scope item numbers n
+pub fault_there : {scope : Scope} (item : Said) (numbers : List ℕ) (n word : ℕ) (number : FrameNumber) → n < length item.symbols → word ≡ first_symbol item + n → Passes scope item numbers n
     → Judged scope item numbers (λ before. Some number ≡ symbol_fault before item n (get_or item.symbols n []))
     → Judged scope item numbers (λ before. ◌≡◌ {A = Option (ℕ × FrameNumber)} (Some (word, number)) (symbols_fault before item))
 fault_there item numbers n word number l w p f all before h k a =
     (λ i. fault_or (w i) (f all before h k a i) (first_fault (symbol_fault before item) (suc (first_symbol item + n)) (suc n) (drop (suc n) item.symbols))) ∙ sym (next_fault item numbers n l p all before h k a)
 
 -- no symbol is left
-pub none_left : {scope : Scope} (item : Item) (numbers : List ℕ) (n : ℕ) → length item.symbols ≤ n → Passes scope item numbers n → Judged scope item numbers (λ before. None ≡ symbols_fault before item)
+pub none_left : {scope : Scope} (item : Said) (numbers : List ℕ) (n : ℕ) → length item.symbols ≤ n → Passes scope item numbers n → Judged scope item numbers (λ before. None ≡ symbols_fault before item)
 none_left item numbers n l p all before h k a = sym (p.rest all before h k a ∙ ap (first_fault (symbol_fault before item) (first_symbol item + n) n) (drop_all n item.symbols l))
 
 -- a symbol with no fault
-pub passes_more : {scope : Scope} (item : Item) (numbers : List ℕ) (n more : ℕ) → more ≡ suc n → n < length item.symbols → Passes scope item numbers n
+pub passes_more : {scope : Scope} (item : Said) (numbers : List ℕ) (n more : ℕ) → more ≡ suc n → n < length item.symbols → Passes scope item numbers n
     → Judged scope item numbers (λ before. None ≡ symbol_fault before item n (get_or item.symbols n [])) → Passes scope item numbers more
 passes_more item numbers n more m l p none = record {
   rest = λ all before h k a.
@@ -105,16 +105,16 @@ passes_more item numbers n more m l p none = record {
 }
 
 -- what is wrong with a symbol of a `$e`, `$a` or `$p`
-pub expression_is : (kind : Kind) → is_expression kind ≡ true → (before : List Item) (item : Item) (n : ℕ) (name : List ℕ) → expression_fault before n name ≡ symbol_fault_of kind before item n name
+pub expression_is : (kind : Kind) → is_expression kind ≡ true → (before : List Said) (item : Said) (n : ℕ) (name : List ℕ) → expression_fault before n name ≡ symbol_fault_of kind before item n name
 expression_is kind e before item n name = grind (arith, common_steps) steps 200000
 
 pub none_there : {X : Type 0} (found : Option X) → is_some found ≡ false → None ≡ found
 none_there found e = grind (arith, common_steps) steps 200000
 
 -- a `$e`, `$a` or `$p` with a symbol has enough of them
-pub enough_symbols : (item : Item) → is_expression item.kind ≡ true → (length item.symbols == 0) ≡ false → None ≡ fault_or (closing_word item) (end_fault item) None
+pub enough_symbols : (item : Said) → is_expression item.kind ≡ true → (length item.symbols == 0) ≡ false → None ≡ fault_or (closing_word item) (end_fault item) None
 enough_symbols item e l = grind (arith, common_steps, false≢true) steps 200000
 
 -- the fault of a statement, if it is neither at the first words nor among the symbols
-pub at_end : (before : List Item) (item : Item) (found : Option (ℕ × FrameNumber)) → None ≡ front_fault before item → None ≡ symbols_fault before item → found ≡ fault_or (closing_word item) (end_fault item) None → found ≡ fault before item
+pub at_end : (before : List Said) (item : Said) (found : Option (ℕ × FrameNumber)) → None ≡ front_fault before item → None ≡ symbols_fault before item → found ≡ fault_or (closing_word item) (end_fault item) None → found ≡ fault before item
 at_end before item found f s e = e ∙ (λ i. fault_or 0 (f i) (option_or (s i) (fault_or (closing_word item) (end_fault item) None))) ∙ sym (fault_is before item)

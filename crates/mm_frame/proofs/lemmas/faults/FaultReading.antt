@@ -2,36 +2,36 @@
 use Rattle.std.proofs.lemmas.{Grind.{common_steps}, Bool.{false≢true, and_left, and_right, le-leb, lt-ltb, eq-eqb, ne_eqb}, Option.{slice_get_past, slice_get_within}}
 use Rattle.std.proofs.Common.{◌≡◌, ℕ, zero, suc, ◌+◌, ◌-◌, ◌≤◌, ◌<◌, Bool, true, false, cond, ◌&&◌, ◌||◌, ltb, ◌==◌, Option, Some, None, List, [], ◌∷◌, length, drop, find, slice_get, refl, ◌∙◌, ap}
 use Rattle.std.{proofs.{Common.{arith}, Math.Bool.{or-false}}, specs.{Option.{option_or}, List.{list_any}}}
-use Rattle.mm_statement.specs.Language.Item.{first_symbol, Kind, Floating, Item, is_constants, is_variables, is_disjoint, is_floating, is_declaring, is_expression, is_labelled, labels_of}
+use Rattle.mm_statement.specs.Language.Item.{first_symbol, Kind, Floating, Said, is_kind, Constants, Disjoint, Variables, is_declaring, is_expression, is_labelled, labels_of}
 use Rattle.mm_frame.specs.Language.Scope.{is_inside}
-use Rattle.mm_frame.specs.Language.Sound.{closing_word, at_symbol, each, first, second, later, is_third, is_repeated, is_declared, is_active_symbol, is_label, is_no_constant, is_no_variable}
-use Rattle.mm_frame.specs.Language.Sound.{is_no_active_symbol, is_untyped, is_typed, is_typed_otherwise, is_short, numbers, number_at, fault_or, fault_from, fault}
+use Rattle.mm_frame.specs.Language.Sound.{closing_word, at_symbol, as_any, as_first, as_second, as_later, is_third, is_repeated, is_declared, is_active_symbol, is_label, is_no_constant}
+use Rattle.mm_frame.specs.Language.Sound.{is_no_variable, is_no_active_symbol, is_untyped, is_typed, is_typed_otherwise, is_short, numbers, number_at, fault_or, fault_from, fault}
 use Rattle.mm_frame.specs.declared.FrameNumber.{FrameNumber, TheVariants.{F01, F02, F03, F04, F05, F06, F07, F08, F09, F10, F11, F12, F13, F14}}
 use Rattle.mm_frame.specs.Code.FaultInOrder.{first_fault, typecode_fault, typed_fault, floating_fault, symbol_fault_of, labels_fault, front_fault, end_fault, symbols_fault, fault_by_kind}
 
 -- what a line looks at in a word: whether the statement ends there too early, whether it is word 0, and what its symbol passes
-abbrev line_of : Kind → List Item → Item → Bool → Bool → ((ℕ → List ℕ → Bool) → Bool) → FrameNumber → Bool
-line_of kind before item ends starts at F01 = ends || (is_floating kind && at is_third)
-line_of kind before item ends starts at F02 = is_constants kind && (starts && is_inside before)
-line_of kind before item ends starts at F03 = (is_declaring kind || is_disjoint kind) && at (is_repeated item)
-line_of kind before item ends starts at F04 = (is_constants kind && at (each (is_declared before))) || (is_variables kind && at (each (is_active_symbol before)))
-line_of kind before item ends starts at F05 = is_declaring kind && at (each (is_label before))
+abbrev line_of : Kind → List Said → Said → Bool → Bool → ((ℕ → List ℕ → Bool) → Bool) → FrameNumber → Bool
+line_of kind before item ends starts at F01 = ends || (is_kind Floating kind && at is_third)
+line_of kind before item ends starts at F02 = is_kind Constants kind && (starts && is_inside before)
+line_of kind before item ends starts at F03 = (is_declaring kind || is_kind Disjoint kind) && at (is_repeated item)
+line_of kind before item ends starts at F04 = (is_kind Constants kind && at (as_any (is_declared before))) || (is_kind Variables kind && at (as_any (is_active_symbol before)))
+line_of kind before item ends starts at F05 = is_declaring kind && at (as_any (is_label before))
 line_of kind before item ends starts at F06 = starts && list_any (is_label before) (labels_of item)
 line_of kind before item ends starts at F07 = starts && list_any (is_declared before) (labels_of item)
-line_of kind before item ends starts at F08 = is_labelled kind && at (first (is_no_constant before))
-line_of kind before item ends starts at F09 = (is_disjoint kind && at (each (is_no_variable before))) || (is_floating kind && at (second (is_no_variable before)))
-line_of kind before item ends starts at F10 = is_expression kind && at (later (is_no_active_symbol before))
-line_of kind before item ends starts at F11 = is_expression kind && at (later (is_untyped before))
-line_of kind before item ends starts at F12 = is_floating kind && at (second (is_typed before))
-line_of kind before item ends starts at F13 = is_floating kind && at (second (is_typed_otherwise before item))
+line_of kind before item ends starts at F08 = is_labelled kind && at (as_first (is_no_constant before))
+line_of kind before item ends starts at F09 = (is_kind Disjoint kind && at (as_any (is_no_variable before))) || (is_kind Floating kind && at (as_second (is_no_variable before)))
+line_of kind before item ends starts at F10 = is_expression kind && at (as_later (is_no_active_symbol before))
+line_of kind before item ends starts at F11 = is_expression kind && at (as_later (is_untyped before))
+line_of kind before item ends starts at F12 = is_kind Floating kind && at (as_second (is_typed before))
+line_of kind before item ends starts at F13 = is_kind Floating kind && at (as_second (is_typed_otherwise before item))
 line_of kind before item ends starts at F14 = false
 
 -- the lowest number whose line holds
-abbrev number_of : Kind → List Item → Item → Bool → Bool → ((ℕ → List ℕ → Bool) → Bool) → Option FrameNumber
+abbrev number_of : Kind → List Said → Said → Bool → Bool → ((ℕ → List ℕ → Bool) → Bool) → Option FrameNumber
 number_of kind before item ends starts at = find (λ number. line_of kind before item ends starts at number) numbers
 
 -- what is found at a word, by what is known of the word
-by_word : (before : List Item) (item : Item) (word : ℕ) (ends starts : Bool) (at : (ℕ → List ℕ → Bool) → Bool)
+by_word : (before : List Said) (item : Said) (word : ℕ) (ends starts : Bool) (at : (ℕ → List ℕ → Bool) → Bool)
     → (is_short item.kind (length item.symbols) && word == closing_word item) ≡ ends → (word == 0) ≡ starts
     → ((test : ℕ → List ℕ → Bool) → at_symbol test item word ≡ at test)
     → number_at before item word ≡ number_of item.kind before item ends starts at
@@ -46,12 +46,12 @@ abbrev at_name : ℕ → List ℕ → (ℕ → List ℕ → Bool) → Bool
 at_name n name test = test n name
 
 -- after the last symbol
-end_of : (kind : Kind) (before : List Item) (item : Item) (ends : Bool) → number_of kind before item ends false nothing ≡ cond ends (Some F01) None
+end_of : (kind : Kind) (before : List Said) (item : Said) (ends : Bool) → number_of kind before item ends false nothing ≡ cond ends (Some F01) None
 end_of kind before item true = refl
 end_of kind before item false = grind (arith, common_steps) steps 200000
 
 -- at a symbol of a `$f`, of which only the third one is one too many
-abbrev third_fault : List Item → Item → ℕ → List ℕ → Option FrameNumber
+abbrev third_fault : List Said → Said → ℕ → List ℕ → Option FrameNumber
 third_fault before item n name = cond (n == 0) (typecode_fault before name) (cond (n == 1) (typed_fault before item name) (cond (n == 2) (Some F01) None))
 
 third_is : (n : ℕ) (x y z w : Bool)
@@ -66,22 +66,22 @@ expression_is zero x y z = grind (arith, common_steps) steps 200000
 expression_is (suc n) x y z = grind (arith, common_steps, lt-ltb, ne_eqb) steps 200000
 
 -- what is wrong with a symbol; only the third one of a `$f` is one too many
-abbrev symbol_number : Kind → List Item → Item → ℕ → List ℕ → Option FrameNumber
+abbrev symbol_number : Kind → List Said → Said → ℕ → List ℕ → Option FrameNumber
 symbol_number Floating before item n name = third_fault before item n name
 symbol_number kind before item n name = symbol_fault_of kind before item n name
 
-symbol_of : (kind : Kind) (before : List Item) (item : Item) (n : ℕ) (name : List ℕ) → number_of kind before item false false (at_name n name) ≡ symbol_number kind before item n name
+symbol_of : (kind : Kind) (before : List Said) (item : Said) (n : ℕ) (name : List ℕ) → number_of kind before item false false (at_name n name) ≡ symbol_number kind before item n name
 symbol_of kind before item n name = grind (arith, common_steps, expression_is, or-false, third_is) steps 200000
 
 -- a word that is not the closing one
-not_closing : (item : Item) (word : ℕ) → (word ≡ closing_word item → ⊥) → (is_short item.kind (length item.symbols) && word == closing_word item) ≡ false
+not_closing : (item : Said) (word : ℕ) → (word ≡ closing_word item → ⊥) → (is_short item.kind (length item.symbols) && word == closing_word item) ≡ false
 not_closing item word n = and_right (is_short item.kind (length item.symbols)) (word == closing_word item) (ne_eqb word (closing_word item) n)
 
 -- what is found at the words of a statement
-keyword_is : (before : List Item) (item : Item) (word : ℕ) → 0 < word → word < first_symbol item → number_at before item word ≡ None
+keyword_is : (before : List Said) (item : Said) (word : ℕ) → 0 < word → word < first_symbol item → number_at before item word ≡ None
 keyword_is before item word l m = grind (arith, common_steps, by_word, nothing, not_closing, ne_eqb, and_left) steps 200000
 
-end_is : (before : List Item) (item : Item) → number_at before item (closing_word item) ≡ end_fault item
+end_is : (before : List Said) (item : Said) → number_at before item (closing_word item) ≡ end_fault item
 end_is before item = by_word before item (closing_word item) (is_short item.kind (length item.symbols)) false nothing
     (grind (arith, common_steps, eq-eqb (closing_word item) (closing_word item) refl) steps 200000)
     (ne_eqb (closing_word item) 0 (λ e. omega arith))
@@ -94,17 +94,17 @@ is_one_at_most [] = true
 is_one_at_most (x ∷ []) = true
 is_one_at_most _ = false
 
-label_is : (before : List Item) (labels : List (List ℕ)) → is_one_at_most labels ≡ true → cond (list_any (is_label before) labels) (Some F06) (cond (list_any (is_declared before) labels) (Some F07) None) ≡ labels_fault before labels
+label_is : (before : List Said) (labels : List (List ℕ)) → is_one_at_most labels ≡ true → cond (list_any (is_label before) labels) (Some F06) (cond (list_any (is_declared before) labels) (Some F07) None) ≡ labels_fault before labels
 label_is before labels h = grind (arith, common_steps, false≢true, or-false) steps 200000
 
-front_is : (before : List Item) (item : Item) → number_at before item 0 ≡ front_fault before item
+front_is : (before : List Said) (item : Said) → number_at before item 0 ≡ front_fault before item
 front_is before item =
     (by_word before item 0 false true nothing (not_closing item 0 (λ e. omega arith)) refl (λ test. (grind (arith, common_steps, and_left) steps 200000)))
     ∙ (grind (arith, common_steps) steps 200000)
-    ∙ ap (λ w. cond (is_constants item.kind && is_inside before) (Some F02) w) (label_is before (labels_of item) (grind (arith, common_steps) steps 200000))
+    ∙ ap (λ w. cond (is_kind Constants item.kind && is_inside before) (Some F02) w) (label_is before (labels_of item) (grind (arith, common_steps) steps 200000))
 
 -- words at which nothing is found are passed over
-pass_over : (before : List Item) (item : Item) (start gap more : ℕ) → ((word : ℕ) → start ≤ word → word < start + gap → number_at before item word ≡ None) → fault_from before item start (gap + more) ≡ fault_from before item (start + gap) more
+pass_over : (before : List Said) (item : Said) (start gap more : ℕ) → ((word : ℕ) → start ≤ word → word < start + gap → number_at before item word ≡ None) → fault_from before item start (gap + more) ≡ fault_from before item (start + gap) more
 pass_over before item start zero more h = grind (arith, common_steps) steps 200000
 pass_over before item start (suc gap) more h =
     let next : suc gap + more ≡ suc (gap + more) = omega arith in
@@ -113,7 +113,7 @@ pass_over before item start (suc gap) more h =
     ∙ ap (λ w. fault_from before item w more) (omega arith)
 
 -- the symbols from one on, and the word after them
-from_symbol : (before : List Item) (item : Item) (test : ℕ → List ℕ → Option FrameNumber) (word n : ℕ) (symbols : List (List ℕ)) → ((k : ℕ) (name : List ℕ) → slice_get symbols k ≡ Some name → number_at before item (word + k) ≡ test (n + k) name)
+from_symbol : (before : List Said) (item : Said) (test : ℕ → List ℕ → Option FrameNumber) (word n : ℕ) (symbols : List (List ℕ)) → ((k : ℕ) (name : List ℕ) → slice_get symbols k ≡ Some name → number_at before item (word + k) ≡ test (n + k) name)
     → fault_from before item word (length symbols + 1) ≡ option_or (first_fault test word n symbols) (fault_or (word + length symbols) (number_at before item (word + length symbols)) None)
 from_symbol before item test word n [] h = ap (λ w. fault_or w (number_at before item w) None) (omega arith)
 from_symbol before item test word n (name ∷ symbols) h =
@@ -127,16 +127,16 @@ from_symbol before item test word n (name ∷ symbols) h =
       joined (Some m) w a b = refl
 
 -- after a third symbol of a `$f` nothing is looked at
-third_first : (before : List Item) (item : Item) (word : ℕ) (symbols : List (List ℕ)) → first_fault (third_fault before item) word 0 symbols ≡ first_fault (floating_fault before item) word 0 symbols
+third_first : (before : List Said) (item : Said) (word : ℕ) (symbols : List (List ℕ)) → first_fault (third_fault before item) word 0 symbols ≡ first_fault (floating_fault before item) word 0 symbols
 third_first before item word (x ∷ y ∷ z ∷ symbols) = refl
 third_first before item word _ = refl
 
-number_first : (kind : Kind) (before : List Item) (item : Item) (word : ℕ) (symbols : List (List ℕ)) → first_fault (symbol_number kind before item) word 0 symbols ≡ first_fault (symbol_fault_of kind before item) word 0 symbols
+number_first : (kind : Kind) (before : List Said) (item : Said) (word : ℕ) (symbols : List (List ℕ)) → first_fault (symbol_number kind before item) word 0 symbols ≡ first_fault (symbol_fault_of kind before item) word 0 symbols
 number_first Floating before item word symbols = third_first before item word symbols
 number_first _ before item word symbols = refl
 
 -- the fault of a statement is the one that is read from left to right
-pub fault_is : (before : List Item) (item : Item) → fault before item ≡ fault_by_kind before item
+pub fault_is : (before : List Said) (item : Said) → fault before item ≡ fault_by_kind before item
 fault_is before item =
     let count : closing_word item + 1 ≡ suc (length (labels_of item) + (length item.symbols + 1)) = omega arith in
     let there : 1 + length (labels_of item) ≡ first_symbol item = omega arith in

@@ -11,39 +11,39 @@ use Rattle.mm_frame.specs.Language.Framing.{is_mandatory, mandatory_variables, h
 use Rattle.mm_frame.specs.Language.{Base.{BaseView, before, said_at, fault_by, hypothesis_at, is_sound_at, is_shown_at, is_framed_at, IsMandatoryAt, AreHypotheses}, Answering.{numbers_if}}
 use Rattle.mm_frame.specs.Code.KeptBase.{is_float_item, hypotheses_at}
 use Rattle.mm_store.specs.Language.FilesView.{FilesView}
-use Rattle.mm_statement.specs.Language.{Item.{Kind, Item, passed, is_floating, is_essential, is_labelled, has, variable_of, item_at}, Statement.{kind_of, Says}}
+use Rattle.mm_statement.specs.Language.{Item.{Kind, Said, passed, is_kind, Essential, Floating, is_labelled, has, variable_of, item_at}, Statement.{kind_of, Says}}
 use Rattle.mm_store.specs.declared.item.Item as store
 
 -- the front of what is kept is what is kept of the front
-pub kept_front : (said : List Item) (i : ℕ) → take i (sound_items said) ≡ sound_items (take i said)
+pub kept_front : (said : List Said) (i : ℕ) → take i (sound_items said) ≡ sound_items (take i said)
 kept_front said i = elim (slice_get_cases said i).1 [
   | inl there ↦ kept_front_at said i there.0 there.2
   | inr past ↦ (let c = kept_count said in let p = past.0 in take_all i (sound_items said) (omega arith) ∙ ap sound_items (sym (take_all i said p)))
 ]
 
 -- an item that is judged and still has a label has no fault
-judged_labelled : (item : Item) (found : Option (ℕ × FrameNumber)) (x : Item) → x ≡ judged item found → is_labelled x.kind ≡ true → (x ≡ item) × (found ≡ None)
+judged_labelled : (item : Said) (found : Option (ℕ × FrameNumber)) (x : Said) → x ≡ judged item found → is_labelled x.kind ≡ true → (x ≡ item) × (found ≡ None)
 judged_labelled item found x e t = grind (arith, common_steps) steps 200000
 
 labelled_told : (kind : Kind) → is_labelled kind ≡ true → fault_by kind None ≡ None
 labelled_told kind t = grind (arith, common_steps) steps 200000
 
 -- what is kept and may have a label is what is said there, and is sound
-pub shown_kept : (base : BaseView) (n : ℕ) (x : Item) → slice_get (sound_items base.said) n ≡ Some x → is_labelled x.kind ≡ true → (x ≡ said_at base n) × (is_shown_at base n ≡ true)
+pub shown_kept : (base : BaseView) (n : ℕ) (x : Said) → slice_get (sound_items base) n ≡ Some x → is_labelled x.kind ≡ true → (x ≡ said_at base n) × (is_shown_at base n ≡ true)
 shown_kept base n x e t =
     let item = said_at base n in
     let j =
     judged_labelled item (fault (before base n) item) x
-    (let w = slice_get_within (sound_items base.said) n x e in let c = kept_count base.said in let item = item_at base.said n in
-    let k = kept_at base.said n item (slice_get-get_or base.said n passed (omega arith)) in
-    let one = judged item (fault (sound_items (take n base.said)) item) in
-    let here : slice_get (sound_items base.said) n ≡ Some one = ap (λ m. slice_get (sound_items base.said) m) (sym k.number)
-    ∙ ap (λ v. slice_get v (length (sound_items (take n base.said)))) k.whole ∙ get_between (sound_items (take n base.said)) one k.rest in cc) t in
-    let u = sym (ap (λ (w : Item). is_labelled w.kind) j.0) ∙ t in
+    (let w = slice_get_within (sound_items base) n x e in let c = kept_count base in let item = item_at base n in
+    let k = kept_at base n item (slice_get-get_or base n passed (omega arith)) in
+    let one = judged item (fault (sound_items (take n base)) item) in
+    let here : slice_get (sound_items base) n ≡ Some one = ap (λ m. slice_get (sound_items base) m) (sym k.number)
+    ∙ ap (λ v. slice_get v (length (sound_items (take n base)))) k.whole ∙ get_between (sound_items (take n base)) one k.rest in cc) t in
+    let u = sym (ap (λ (w : Said). is_labelled w.kind) j.0) ∙ t in
     (j.0, and_from (is_none (fault_by item.kind (fault (before base n) item))) (is_labelled item.kind) (ap (λ f. is_none (fault_by item.kind f)) j.1 ∙ ap is_none (labelled_told item.kind u)) u)
 
 -- a mandatory hypothesis may have a label
-hypothesis_labelled : (kind : Kind) (b : Bool) → (is_essential kind || (is_floating kind && b)) ≡ true → is_labelled kind ≡ true
+hypothesis_labelled : (kind : Kind) (b : Bool) → (is_kind Essential kind || (is_kind Floating kind && b)) ≡ true → is_labelled kind ≡ true
 hypothesis_labelled kind b t = grind (arith, common_steps) steps 200000
 
 -- a mandatory hypothesis comes before the statement, is sound, and is read there as at its own place
@@ -58,23 +58,23 @@ mandatory_at base i n k =
     let mandatory = mandatory_variables front (said_at base i) in
     let r = from_active_number (is_mandatory mandatory) front n k in
     let x = r.0 in
-    let g = get_taken (sound_items base.said) i n x (subst (λ w. slice_get w n ≡ Some x) (sym (kept_front base.said i)) r.1) in
+    let g = get_taken (sound_items base) i n x (subst (λ w. slice_get w n ≡ Some x) (sym (kept_front base i)) r.1) in
     let t = hypothesis_labelled x.kind (has mandatory (variable_of x)) r.3 in
     let s = shown_kept base n x g.1 t in
     let there = get_or_from_slice_get front n x passed r.1 in
-    let place : take n front ≡ before base n = ap (take n) (sym (kept_front base.said i)) ∙ take-take n i (sound_items base.said) (omega arith) ∙ kept_front base.said n in
-    grind (arith, common_steps, expression_at_number front (kept_are_sound (take i base.said)) n x r.1 r.2 t, kept_are_sound (take i base.said)) steps 200000
+    let place : take n front ≡ before base n = ap (take n) (sym (kept_front base i)) ∙ take-take n i (sound_items base) (omega arith) ∙ kept_front base n in
+    grind (arith, common_steps, expression_at_number front (kept_are_sound (take i base)) n x r.1 r.2 t, kept_are_sound (take i base)) steps 200000
 
 -- a sound item with a label is in the sound items
-pub shown_there : (base : BaseView) (j : ℕ) → is_shown_at base j ≡ true → slice_get (sound_items base.said) j ≡ Some (said_at base j)
+pub shown_there : (base : BaseView) (j : ℕ) → is_shown_at base j ≡ true → slice_get (sound_items base) j ≡ Some (said_at base j)
 shown_there base j s =
     let p = and_parts (is_sound_at base j) (is_labelled (said_at base j).kind) s in
-    kept_item_at base.said j (said_at base j) (item_there is_labelled refl base.said j p.1)
+    kept_item_at base j (said_at base j) (item_there is_labelled refl base j p.1)
     (none_told (said_at base j).kind (fault (before base j) (said_at base j)) p.0)
 
 -- it is among the items before a later one
 pub shown_before : (base : BaseView) (i j : ℕ) → j < i → is_shown_at base j ≡ true → slice_get (before base i) j ≡ Some (said_at base j)
-shown_before base i j l s = subst (λ w. slice_get w j ≡ Some (said_at base j)) (kept_front base.said i) (front_get (sound_items base.said) i j (said_at base j) l (shown_there base j s))
+shown_before base i j l s = subst (λ w. slice_get w j ≡ Some (said_at base j)) (kept_front base i) (front_get (sound_items base) i j (said_at base j) l (shown_there base j s))
 
 -- the mandatory hypotheses are those with these numbers
 which_are : (base : BaseView) (i n : ℕ) → Contains (mandatory_numbers (before base i) (said_at base i)) n ↔ IsMandatoryAt base i n
@@ -88,7 +88,7 @@ which_are base i n =
           let r = from_active_number (is_mandatory mandatory) front n k in
           let e : Some r.0 ≡ Some (said_at base n) = sym r.1 ∙ shown_before base i n m.earlier m.shown in
           let same : r.0 ≡ said_at base n = cc in
-          record { earlier = m.earlier; shown = m.shown; active = r.2; mandatory = subst (λ (x : Item). is_mandatory mandatory x ≡ true) same r.3 },
+          record { earlier = m.earlier; shown = m.shown; active = r.2; mandatory = subst (λ (x : Said). is_mandatory mandatory x ≡ true) same r.3 },
       λ m. in_contains n numbers (to_active_number (is_mandatory mandatory) front n (said_at base n) (shown_before base i n m.earlier m.shown) m.active m.mandatory),
     )
 
@@ -105,7 +105,7 @@ mandatory_are base i =
       are = map_same (hypothesis_at base) (λ n. hypothesis front (item_at front n)) numbers (λ n k. (mandatory_at base i n k).same) ∙ sym (hypotheses_by_numbers front item);
     }
 
-numbers_told : (framed : Bool) (front : List Item) (item : Item) (numbers : List ℕ) → numbers_if framed front item ≡ Some numbers → mandatory_numbers front item ≡ numbers
+numbers_told : (framed : Bool) (front : List Said) (item : Said) (numbers : List ℕ) → numbers_if framed front item ≡ Some numbers → mandatory_numbers front item ≡ numbers
 numbers_told true front item numbers e = cc
 numbers_told false front item numbers e = cc
 
@@ -123,7 +123,7 @@ pub frame_is : {X : Type 0} (told : X → List ℕ) (base : BaseView) (i : ℕ) 
 frame_is told base i found e = grind (arith, common_steps) steps 200000
 
 -- a frame is reported exactly for an assertion
-told_some : {X : Type 0} (told : X → List ℕ) (found : Option X) (framed : Bool) (front : List Item) (item : Item) → option_map told found ≡ numbers_if framed front item → is_some found ≡ framed
+told_some : {X : Type 0} (told : X → List ℕ) (found : Option X) (framed : Bool) (front : List Said) (item : Said) → option_map told found ≡ numbers_if framed front item → is_some found ≡ framed
 told_some told None false front item e = refl
 told_some told (Some x) true front item e = refl
 told_some told _ _ front item e = cc
@@ -132,23 +132,23 @@ pub framed_some : {X : Type 0} (told : X → List ℕ) (found : Option X) (base 
 framed_some told found base j e = told_some told found (is_framed_at base j) (before base j) (said_at base j) e
 
 -- an item of the files is of the kind of what it says
-abbrev pub HasKind : store.Item → Item → Type 0
+abbrev pub HasKind : store.Item → Said → Type 0
 HasKind item said = kind_of item.kind ≡ said.kind
 
-pub kinds_said : (files : FilesView) (found : List store.Item) (said : List Item) → AllZip (Says files) found said → AllZip HasKind found said
+pub kinds_said : (files : FilesView) (found : List store.Item) (said : List Said) → AllZip (Says files) found said → AllZip HasKind found said
 kinds_said files [] [] z = tt
-kinds_said files (x ∷ found) (y ∷ said) z = (sym (ap (λ (w : Item). w.kind) (z.0).is), kinds_said files found said z.1)
+kinds_said files (x ∷ found) (y ∷ said) z = (sym (ap (λ (w : Said). w.kind) (z.0).is), kinds_said files found said z.1)
 kinds_said files _ _ z = absurd z
 
-pub kind_at : (found : List store.Item) (said : List Item) (i : ℕ) (item : store.Item) → AllZip HasKind found said → slice_get found i ≡ Some item → kind_of item.kind ≡ (item_at said i).kind
+pub kind_at : (found : List store.Item) (said : List Said) (i : ℕ) (item : store.Item) → AllZip HasKind found said → slice_get found i ≡ Some item → kind_of item.kind ≡ (item_at said i).kind
 kind_at [] said i item z e = cc
 kind_at (x ∷ found) [] i item z e = absurd z
 kind_at (x ∷ found) (y ∷ said) zero item z e = let q : x ≡ item = cc in sym (ap (λ (w : store.Item). kind_of w.kind) q) ∙ z.0
 kind_at (x ∷ found) (y ∷ said) (suc i) item z e = kind_at found said i item z.1 e
 
 -- whether it is a `$f` is kept of each item
-pub float_at : (found : List store.Item) (said : List Item) (i : ℕ) (b : Bool) → AllZip HasKind found said → slice_get (map is_float_item found) i ≡ Some b → b ≡ is_floating (item_at said i).kind
+pub float_at : (found : List store.Item) (said : List Said) (i : ℕ) (b : Bool) → AllZip HasKind found said → slice_get (map is_float_item found) i ≡ Some b → b ≡ is_kind Floating (item_at said i).kind
 float_at [] said i b z e = cc
 float_at (x ∷ found) [] i b z e = absurd z
-float_at (x ∷ found) (y ∷ said) zero b z e = sym (same_Some _ _ e) ∙ ap is_floating z.0
+float_at (x ∷ found) (y ∷ said) zero b z e = sym (same_Some _ _ e) ∙ ap (is_kind Floating) z.0
 float_at (x ∷ found) (y ∷ said) (suc i) b z e = float_at found said i b z.1 e

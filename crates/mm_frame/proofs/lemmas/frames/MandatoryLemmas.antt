@@ -13,7 +13,7 @@ use Rattle.mm_frame.specs.Code.{KeptSymbols.{expression_kept, AreExpressions, Ar
 use Rattle.mm_frame.specs.Language.{Scope.{active, symbols_by, active_variables, active_numbers}, Sound.{AreSound, IsSound}, Framing.{symbol, expression, mandatory_variables, mandatory_numbers}}
 use Rattle.mm_frame.specs.declared.{tables.Tables.{Tables}, essential.EssentialVariable.{EssentialVariable}}
 use Rattle.mm_machine.specs.{Language.{Frame.{Symbol}, Names.{name_at}, NumberedSymbols.{symbol_of, symbols_of, IsNumbered, AreSymbolsRead}}, declared.symbol.NumberedSymbol.{NumberedSymbol}}
-use Rattle.mm_statement.specs.Language.Item.{Kind, Item, is_floating, is_essential, is_assertion, has}
+use Rattle.mm_statement.specs.Language.Item.{Kind, Said, is_kind, Essential, Floating, is_assertion, has}
 
 -- the number of the `$f` of a variable
 under : (b : Bool) (n : ℕ) (o : Option ℕ) → In n (cond b (option_to_list o) []) → (b ≡ true) × (o ≡ Some n)
@@ -21,21 +21,21 @@ under true n (Some m) (inl e) = (refl, ap Some e)
 under true n (Some m) (inr z) = absurd z
 under _ n _ h = absurd h
 
-float_last : (all : List (List ℕ)) (before : List Item) (tables : Tables) (n : ℕ) (name : List ℕ) → AreSound before → Knows all before tables → IsNameNumber all n name → float_of (declared_at tables n) ≡ last_where (types name) before
+float_last : (all : List (List ℕ)) (before : List Said) (tables : Tables) (n : ℕ) (name : List ℕ) → AreSound before → Knows all before tables → IsNameNumber all n name → float_of (declared_at tables n) ≡ last_where (types name) before
 float_last all before tables n name h k there = ap float_of (declared_named all tables n name k.distinct there ∙ k.names name) ∙ float_in before h name
 
 -- a symbol that is kept, and its name
 name_of : (all : List (List ℕ)) (kept : List NumberedSymbol) (symbol : NumberedSymbol) → All (IsNumbered all) kept → In symbol kept → IsNameNumber all symbol.name (name_at all symbol.name)
 name_of all kept symbol a m = name_there all symbol.name (All-contains (IsNumbered all) kept symbol a (in_contains symbol kept m))
 
-float_from : (all : List (List ℕ)) (before : List Item) (tables : Tables) (kept : List NumberedSymbol) (n : ℕ) → AreSound before → Knows all before tables → All (IsNumbered all) kept → In n (float_numbers tables kept)
+float_from : (all : List (List ℕ)) (before : List Said) (tables : Tables) (kept : List NumberedSymbol) (n : ℕ) → AreSound before → Knows all before tables → All (IsNumbered all) kept → In n (float_numbers tables kept)
     → (s : Symbol) × In s (symbols_of all kept) × (s.variable ≡ true) × (last_where (types s.name) before ≡ Some n)
 float_from all before tables kept n h k a m =
     let r = from_flat (float_number tables) n kept m in
     let u = under (r.0).variable n (float_of (declared_at tables (r.0).name)) r.2 in
     (symbol_of all r.0, in_map (symbol_of all) r.0 kept r.1, u.0, sym (float_last all before tables (r.0).name (name_at all (r.0).name) h k (name_of all kept r.0 a r.1)) ∙ u.1)
 
-float_to : (all : List (List ℕ)) (before : List Item) (tables : Tables) (kept : List NumberedSymbol) (s : Symbol) (n : ℕ) → AreSound before
+float_to : (all : List (List ℕ)) (before : List Said) (tables : Tables) (kept : List NumberedSymbol) (s : Symbol) (n : ℕ) → AreSound before
     → Knows all before tables → All (IsNumbered all) kept → In s (symbols_of all kept) → s.variable ≡ true → last_where (types s.name) before ≡ Some n
     → In n (float_numbers tables kept)
 float_to all before tables kept s n h k a m t e =
@@ -47,27 +47,27 @@ float_to all before tables kept s n h k a m t e =
     (subst (λ p. In n (option_to_list p)) (sym (found ∙ ap (λ (x : Symbol). last_where (types x.name) before) same ∙ e)) (inl refl)))
 
 -- the variables of an assertion and of an active `$e` are mandatory
-named_in : (before : List Item) (item : Item) (s : Symbol) → In s (expression before item) → In s.name item.symbols × (has (active_variables before) s.name ≡ s.variable)
+named_in : (before : List Said) (item : Said) (s : Symbol) → In s (expression before item) → In s.name item.symbols × (has (active_variables before) s.name ≡ s.variable)
 named_in before item s m = grind (arith, common_steps, from_map (symbol before) s item.symbols m) steps 200000
 
-own_mandatory : (before : List Item) (item : Item) (s : Symbol) → In s (expression before item) → s.variable ≡ true → In s.name (mandatory_variables before item)
+own_mandatory : (before : List Said) (item : Said) (s : Symbol) → In s (expression before item) → s.variable ≡ true → In s.name (mandatory_variables before item)
 own_mandatory before item s m t = grind (arith, common_steps, in_filter, in_left, named_in) steps 200000
 
-essential_mandatory : (before : List Item) (item e : Item) (s : Symbol) → In e (active before) → is_essential e.kind ≡ true → In s (expression before e) → s.variable ≡ true → In s.name (mandatory_variables before item)
+essential_mandatory : (before : List Said) (item e : Said) (s : Symbol) → In e (active before) → is_kind Essential e.kind ≡ true → In s (expression before e) → s.variable ≡ true → In s.name (mandatory_variables before item)
 essential_mandatory before item e s a k m t =
     let r = named_in before e s m in
-    in_filter (has (active_variables before)) s.name (item.symbols ++ symbols_by is_essential (active before))
-    (in_right s.name item.symbols (symbols_by is_essential (active before)) (to_symbols is_essential s.name (active before) e a k r.0)) (r.1 ∙ t)
+    in_filter (has (active_variables before)) s.name (item.symbols ++ symbols_by (is_kind Essential) (active before))
+    (in_right s.name item.symbols (symbols_by (is_kind Essential) (active before)) (to_symbols (is_kind Essential) s.name (active before) e a k r.0)) (r.1 ∙ t)
 
 -- what is kept for an active `$e` is its expression
-kept_essential : (all : List (List ℕ)) (before : List Item) (expressions : List (List NumberedSymbol)) (n : ℕ) (e : Item) → AreSound before
-    → AreExpressions all before expressions → slice_get before n ≡ Some e → is_active_at before n ≡ true → is_essential e.kind ≡ true
+kept_essential : (all : List (List ℕ)) (before : List Said) (expressions : List (List NumberedSymbol)) (n : ℕ) (e : Said) → AreSound before
+    → AreExpressions all before expressions → slice_get before n ≡ Some e → is_active_at before n ≡ true → is_kind Essential e.kind ≡ true
     → symbols_of all (expression_kept expressions n) ≡ expression before e
 kept_essential all before expressions n e h a there s t =
     grind (arith, common_steps, expression_labelled e.kind (essential_expression e.kind t), expression_at_number before h n e there s (expression_labelled e.kind (essential_expression e.kind t))) steps 200000
 
 -- the item is a sound `$a` or `$p` after sound items, of which all this is kept
-pub record IsAssertionBehind (all : List (List ℕ)) (before : List Item) (item : Item) (tables : Tables) (kept : List (List NumberedSymbol)) (own : List NumberedSymbol) : Type 0 where
+pub record IsAssertionBehind (all : List (List ℕ)) (before : List Said) (item : Said) (tables : Tables) (kept : List (List NumberedSymbol)) (own : List NumberedSymbol) : Type 0 where
   pub sound : AreSound before
   pub known : Knows all before tables
   pub expressions : AreExpressions all before kept
@@ -81,7 +81,7 @@ abbrev pub IsCollected : Tables → List (List NumberedSymbol) → List Numbered
 IsCollected tables expressions own n essentials =
     In n essentials ⊎ (In n (float_numbers tables own) ⊎ In n (flat_map (λ m. float_numbers tables (expression_kept expressions m)) essentials))
 
-collected_from : (all : List (List ℕ)) (before : List Item) (item : Item) (tables : Tables) (expressions : List (List NumberedSymbol)) (own : List NumberedSymbol) → IsAssertionBehind all before item tables expressions own → (n : ℕ)
+collected_from : (all : List (List ℕ)) (before : List Said) (item : Said) (tables : Tables) (expressions : List (List NumberedSymbol)) (own : List NumberedSymbol) → IsAssertionBehind all before item tables expressions own → (n : ℕ)
     → IsCollected tables expressions own n (active_numbers is_essential_item before) → IsHypothesisNumber before item n
 collected_from all before item tables expressions own b n (inl e) = inl (in_contains n (active_numbers is_essential_item before) e)
 collected_from all before item tables expressions own b n (inr (inl f)) =
@@ -94,19 +94,19 @@ collected_from all before item tables expressions own b n (inr (inr f)) =
     let there = subst (In r.0) (kept_essential all before expressions p.0 e.0 b.sound b.expressions e.1 e.2 e.3) r.1 in
     inr ((r.0).name, in_contains (r.0).name (mandatory_variables before item) (essential_mandatory before item e.0 r.0 (active_at_number before p.0 e.0 e.1 e.2) e.3 there r.2), r.3)
 
-collected_to : (all : List (List ℕ)) (before : List Item) (item : Item) (tables : Tables) (expressions : List (List NumberedSymbol)) (own : List NumberedSymbol) → IsAssertionBehind all before item tables expressions own → (n : ℕ)
+collected_to : (all : List (List ℕ)) (before : List Said) (item : Said) (tables : Tables) (expressions : List (List NumberedSymbol)) (own : List NumberedSymbol) → IsAssertionBehind all before item tables expressions own → (n : ℕ)
     → IsHypothesisNumber before item n → IsCollected tables expressions own n (active_numbers is_essential_item before)
 collected_to all before item tables expressions own b n (inl c) = inl (contains_in n (active_numbers is_essential_item before) c)
 collected_to all before item tables expressions own b n (inr p) =
     let name = p.0 in
-    let r = from_filter (has (active_variables before)) name (item.symbols ++ symbols_by is_essential (active before)) (contains_in name (mandatory_variables before item) p.1) in
-    elim (in_cases name item.symbols (symbols_by is_essential (active before)) r.0) [
+    let r = from_filter (has (active_variables before)) name (item.symbols ++ symbols_by (is_kind Essential) (active before)) (contains_in name (mandatory_variables before item) p.1) in
+    elim (in_cases name item.symbols (symbols_by (is_kind Essential) (active before)) r.0) [
       | inl i ↦ (
           let there = subst (In (symbol before name)) (sym b.symbols.symbols) (in_map (symbol before) name item.symbols i) in
           inr (inl (float_to all before tables own (symbol before name) n b.sound b.known b.symbols.numbered there r.1 p.2))
           )
       | inr i ↦ (
-          let q = from_symbols is_essential name (active before) i in
+          let q = from_symbols (is_kind Essential) name (active before) i in
           let e = q.0 in
           let at = number_of_active before e q.1 in
           let same = kept_essential all before expressions at.number e b.sound b.expressions at.there at.stayed q.2 in
@@ -154,7 +154,7 @@ pub hypotheses_sorted : (tables : Tables) (expressions : List (List NumberedSymb
     (own : List NumberedSymbol) (numbers once sorted kept : List ℕ) → numbers ≡ collected_known tables essentials found own
     → IsFiltered (DiffersFromLast eqb) [] numbers once
     → IsPermutation once sorted → IsSorted nat_cmp sorted → IsFiltered (DiffersFromLast eqb) [] sorted kept
-    → (all : List (List ℕ)) (before : List Item) (item : Item) → IsAssertionBehind all before item tables expressions own
+    → (all : List (List ℕ)) (before : List Said) (item : Said) → IsAssertionBehind all before item tables expressions own
     → AreVariablesOf essentials expressions found
     → essentials ≡ active_numbers is_essential_item before → kept ≡ mandatory_numbers before item
 hypotheses_sorted tables expressions essentials found own numbers once sorted kept whole fewer moved rising filtered all before item b are e =
@@ -171,5 +171,5 @@ hypotheses_sorted tables expressions essentials found own numbers once sorted ke
     ))
 
 -- a `$f` is no `$e`
-pub not_both : (k : Kind) → is_floating k ≡ true → is_essential k ≡ true → ⊥
+pub not_both : (k : Kind) → is_kind Floating k ≡ true → is_kind Essential k ≡ true → ⊥
 not_both k f e = grind (arith, common_steps) steps 200000

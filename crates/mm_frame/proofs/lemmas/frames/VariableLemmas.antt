@@ -3,14 +3,14 @@ use Rattle.std.proofs.Common.{◌≡◌, ℕ, zero, suc, ◌+◌, ◌<◌, ◌�
 use Rattle.std.proofs.{Common.{subst, take-append-drop, append_assoc, length-append, arith, inl, inr, ◌⊎◌}, lemmas.{Bool.{false≢true}, List.{take_more}}}
 use Rattle.std.proofs.lemmas.{List.Elements.{Contains-append_left, Contains-append_right, Contains-append_cases}, Option.{slice_get_within}}
 use native.Mathlib.Decide.{dec_lt}
-use Rattle.mm_frame.specs.{declared.{essential.EssentialVariable.{EssentialVariable}, tables.Tables.{Tables}}, Language.Scope.{Neither, Closes, active_numbers}}
+use Rattle.mm_frame.specs.{declared.{essential.EssentialVariable.{EssentialVariable}, tables.Tables.{Tables}}, Language.{Scope.{active_numbers}, Marks.{Neither, Closes}}}
 use Rattle.mm_frame.specs.Code.{LastItems.{is_active_at, is_essential_item}, KeptSymbols.{expression_kept, kept_or_none, float_number, float_numbers}}
 use Rattle.mm_frame.specs.Code.{KeptVariables.{by_essential, AddsOne, AddsAll, IsKeptVariable, AreVariablesOf, IsKeptBy, known_float}, PairOrder.{is_among}}
 use Rattle.mm_frame.proofs.lemmas.frames.{Frames.{essential_neither}, HypothesisNumbers.{to_active_number, from_active_number, active_numbers_more}}
 use Rattle.mm_frame.proofs.lemmas.{lists.{Members.{In, in_contains, contains_in, in_left, in_flat, from_flat}, Rising.{in_among}}, scope.BlockLemmas.{get_front, get_cases}}
 use Rattle.mm_frame.proofs.lemmas.{scope.EndLemmas.{active_at_front}, names.NamedLemmas.{get_before}, pairs.AskedLemmas.{active_below}}
 use Rattle.mm_machine.specs.declared.symbol.NumberedSymbol.{NumberedSymbol}
-use Rattle.mm_statement.specs.Language.Item.{Item}
+use Rattle.mm_statement.specs.Language.Item.{Said}
 
 -- ---- those that are left, and those that are added
 
@@ -52,7 +52,7 @@ adds_more essentials number symbols k d old mid new l so_far one = record {
 -- ---- one more item
 
 -- an earlier `$e` is active as long as a later one
-still_active : (before : List Item) (item : Item) (m n : ℕ) → m ≤ n → In m (active_numbers is_essential_item before) → In n (active_numbers is_essential_item (before ++ item ∷ [])) → In m (active_numbers is_essential_item (before ++ item ∷ []))
+still_active : (before : List Said) (item : Said) (m n : ℕ) → m ≤ n → In m (active_numbers is_essential_item before) → In n (active_numbers is_essential_item (before ++ item ∷ [])) → In m (active_numbers is_essential_item (before ++ item ∷ []))
 still_active before item m n l h k = elim (dec_lt n (length before)) [
   | yes w ↦ (
       let first = from_active_number is_essential_item before m h in
@@ -66,22 +66,22 @@ still_active before item m n l h k = elim (dec_lt n (length before)) [
       )
 ]
   where
-    last_is : (n : ℕ) (x : Item) → (n < length before → ⊥) → (slice_get before n ≡ Some x) ⊎ ((n ≡ length before) × (item ≡ x)) → is_essential_item x ≡ true → is_essential_item item ≡ true
+    last_is : (n : ℕ) (x : Said) → (n < length before → ⊥) → (slice_get before n ≡ Some x) ⊎ ((n ≡ length before) × (item ≡ x)) → is_essential_item x ≡ true → is_essential_item item ≡ true
     last_is n x w (inl e) t = absurd (w (slice_get_within before n x e))
     last_is n x w (inr e) t = ap is_essential_item e.1 ∙ t
 
 -- which is one of those before, or the item
-earlier_or_last : (before : List Item) (item : Item) (n : ℕ) → In n (active_numbers is_essential_item (before ++ item ∷ [])) → In n (active_numbers is_essential_item before) ⊎ (n ≡ length before)
+earlier_or_last : (before : List Said) (item : Said) (n : ℕ) → In n (active_numbers is_essential_item (before ++ item ∷ [])) → In n (active_numbers is_essential_item before) ⊎ (n ≡ length before)
 earlier_or_last before item n k = by_place (get_cases before item r.0 n r.1)
   where
-    r : (x : Item) × (slice_get (before ++ item ∷ []) n ≡ Some x) × (is_active_at (before ++ item ∷ []) n ≡ true) × (is_essential_item x ≡ true)
+    r : (x : Said) × (slice_get (before ++ item ∷ []) n ≡ Some x) × (is_active_at (before ++ item ∷ []) n ≡ true) × (is_essential_item x ≡ true)
     r = from_active_number is_essential_item (before ++ item ∷ []) n k
 
     by_place : (slice_get before n ≡ Some r.0) ⊎ ((n ≡ length before) × (item ≡ r.0)) → In n (active_numbers is_essential_item before) ⊎ (n ≡ length before)
     by_place (inl e) = inl (to_active_number is_essential_item before n r.0 e (active_at_front before item n (slice_get_within before n r.0 e) r.2) r.3)
     by_place (inr e) = inr e.0
 
-earlier_within : (before : List Item) (n : ℕ) → In n (active_numbers is_essential_item before) → n < length before
+earlier_within : (before : List Said) (n : ℕ) → In n (active_numbers is_essential_item before) → n < length before
 earlier_within before n h = let r = from_active_number is_essential_item before n h in slice_get_within before n r.0 r.1
 
 same_kept : (old : List (List NumberedSymbol)) (symbols : List NumberedSymbol) (n : ℕ) → n < length old → expression_kept (old ++ symbols ∷ []) n ≡ expression_kept old n
@@ -93,7 +93,7 @@ record AreLeftOf (essentials : List ℕ) (expressions : List (List NumberedSymbo
   from : (v : EssentialVariable) → Contains found v → Contains (expression_kept expressions v.number) v.symbol
   to : (n : ℕ) (s : NumberedSymbol) → (n < count) → Contains essentials n → Contains (expression_kept expressions n) s → s.variable ≡ true → IsKeptVariable essentials found n s
 
-left : (before : List Item) (item : Item) (old : List (List NumberedSymbol)) (symbols : List NumberedSymbol) (found : List EssentialVariable) (count : ℕ)
+left : (before : List Said) (item : Said) (old : List (List NumberedSymbol)) (symbols : List NumberedSymbol) (found : List EssentialVariable) (count : ℕ)
     → length old ≡ length before → AreVariablesOf (active_numbers is_essential_item before) old found
     → ((v : EssentialVariable) → Contains (drop count found) v → (n : ℕ) → Contains (active_numbers is_essential_item (before ++ item ∷ [])) n → n < v.number)
     → AreLeftOf (active_numbers is_essential_item (before ++ item ∷ [])) (old ++ symbols ∷ []) (length before) (take count found)
@@ -124,7 +124,7 @@ left before item old symbols found count long are gone = record {
     was : (v : EssentialVariable) → Contains (take count found) v → Contains found v
     was v c = subst (λ w. Contains w v) (take-append-drop count found) (Contains-append_left (take count found) (drop count found) v c)
 
-pub variables_left : (before : List Item) (item : Item) (old : List (List NumberedSymbol)) (symbols : List NumberedSymbol) (found : List EssentialVariable)
+pub variables_left : (before : List Said) (item : Said) (old : List (List NumberedSymbol)) (symbols : List NumberedSymbol) (found : List EssentialVariable)
     (count : ℕ) → length old ≡ length before → AreVariablesOf (active_numbers is_essential_item before) old found
     → ((v : EssentialVariable) → Contains (drop count found) v → (n : ℕ) → Contains (active_numbers is_essential_item (before ++ item ∷ [])) n → n < v.number)
     → is_among (active_numbers is_essential_item (before ++ item ∷ [])) (length before) ≡ false → AreVariablesOf (active_numbers is_essential_item (before ++ item ∷ [])) (old ++ symbols ∷ []) (take count found)
@@ -141,7 +141,7 @@ variables_left before item old symbols found count long are gone out =
     }
 
 -- an item after which the same `$e` are active adds none
-pub variables_stay : (before : List Item) (essentials : List ℕ) (old : List (List NumberedSymbol)) (symbols : List NumberedSymbol) (found : List EssentialVariable) → length old ≡ length before → essentials ≡ active_numbers is_essential_item before
+pub variables_stay : (before : List Said) (essentials : List ℕ) (old : List (List NumberedSymbol)) (symbols : List NumberedSymbol) (found : List EssentialVariable) → length old ≡ length before → essentials ≡ active_numbers is_essential_item before
     → AreVariablesOf essentials old found → AreVariablesOf essentials (old ++ symbols ∷ []) found
 variables_stay before essentials old symbols found long e are = record {
   within = λ v c. (let w = are.within v c in let l = length-append old (symbols ∷ []) in omega arith);
@@ -149,7 +149,7 @@ variables_stay before essentials old symbols found long e are = record {
   to = λ n s a c t. are.to n s a (subst (λ w. Contains w s) (same_kept old symbols n (let w = earlier_within before n (subst (In n) e (contains_in n essentials a)) in omega arith)) c) t;
 }
 
-pub variables_added : (before : List Item) (item : Item) (old : List (List NumberedSymbol)) (symbols : List NumberedSymbol)
+pub variables_added : (before : List Said) (item : Said) (old : List (List NumberedSymbol)) (symbols : List NumberedSymbol)
     (found new : List EssentialVariable) (count : ℕ) → length old ≡ length before → AreVariablesOf (active_numbers is_essential_item before) old found
     → ((v : EssentialVariable) → Contains (drop count found) v → (n : ℕ) → Contains (active_numbers is_essential_item (before ++ item ∷ [])) n → n < v.number)
     → is_among (active_numbers is_essential_item (before ++ item ∷ [])) (length before) ≡ true → AddsAll

@@ -3,7 +3,7 @@ use Rattle.std.proofs.lemmas.{Option.{slice_get_read, slice_get_within, slice_ge
 use Rattle.std.proofs.lemmas.{Bool.{or_cases, false≢true, or_left, or_right}, Slice.Eq.{bytes_eq-Decides}}
 use Rattle.std.proofs.Common.{◌+◌, ◌∙◌, take, arith, ◌≡◌, ℕ, zero, suc, ◌<◌, Bool, true, false, cond, Some, List, [], ◌∷◌, ◌++◌, length, map, filter, flat_map, bytes_eq, slice_get, refl, sym, ap}
 use Rattle.std.proofs.Common.{subst, inl, inr, ◌⊎◌, Contains}
-use Rattle.mm_statement.specs.Language.Item.{Kind, Item, has}
+use Rattle.mm_statement.specs.Language.Item.{Kind, Said, has}
 use Rattle.mm_frame.specs.Language.Scope.{symbols_by}
 
 -- x is in the list
@@ -119,8 +119,8 @@ pub in_cond : {X : Type 0} (b : Bool) (n : X) (names : List X) → In n (cond b 
 in_cond true n names h = (refl, h)
 in_cond false n names h = absurd h
 
-pub from_symbols : (test : Kind → Bool) (n : List ℕ) (items : List Item) → In n (symbols_by test items) → (i : Item) × In i items × (test i.kind ≡ true) × In n i.symbols
+pub from_symbols : (test : Kind → Bool) (n : List ℕ) (items : List Said) → In n (symbols_by test items) → (i : Said) × In i items × (test i.kind ≡ true) × In n i.symbols
 from_symbols test n items h = grind (arith, common_steps, from_flat, in_cond) steps 200000
 
-pub to_symbols : (test : Kind → Bool) (n : List ℕ) (items : List Item) (i : Item) → In i items → test i.kind ≡ true → In n i.symbols → In n (symbols_by test items)
-to_symbols test n items i h t k = in_flat (λ (item : Item). cond (test item.kind) item.symbols []) i n items h (subst (λ b. In n (cond b i.symbols [])) (sym t) k)
+pub to_symbols : (test : Kind → Bool) (n : List ℕ) (items : List Said) (i : Said) → In i items → test i.kind ≡ true → In n i.symbols → In n (symbols_by test items)
+to_symbols test n items i h t k = in_flat (λ (item : Said). cond (test item.kind) item.symbols []) i n items h (subst (λ b. In n (cond b i.symbols [])) (sym t) k)

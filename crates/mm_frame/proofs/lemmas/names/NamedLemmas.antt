@@ -5,11 +5,11 @@ use Rattle.mm_frame.proofs.lemmas.{lists.Members.{get_join, In, has_in, in_has},
 use Rattle.mm_frame.{proofs.lemmas.{pairs.ActivePairLemmas.{disjoint_named}, names.NumberLemmas.{name_read, number_at}}, specs.Language.Scope.{constants, active_variables}}
 use Rattle.mm_frame.specs.{Language.{Sound.{IsSound, AreSound}, Framing.{symbol, expression}}, declared.tables.Tables.{Tables}, Code.Numbers.{IsNameNumber, AreNameNumbers}}
 use Rattle.mm_frame.specs.Code.{KeptTables.{declared_at, is_constant_as, Knows}, KeptSymbols.{by_constants, symbol_by, variable_by}}
-use Rattle.mm_statement.specs.Language.Item.{Item, is_labelled, is_disjoint, has}
+use Rattle.mm_statement.specs.Language.Item.{Said, is_labelled, is_kind, Disjoint, has}
 use Rattle.mm_machine.specs.{Language.{Frame.{Symbol}, NumberedSymbols.{symbol_of, symbols_of, as_variable, IsNumbered}}, declared.symbol.NumberedSymbol.{NumberedSymbol}}
 
 -- a symbol of a sound `$f`, `$e`, `$a` or `$p` is a variable if it is no declared constant
-by_constants_is : (before : List Item) (item : Item) (name : List ℕ) → AreSound before → IsSound before item → is_labelled item.kind ≡ true → In name item.symbols → by_constants before name ≡ symbol before name
+by_constants_is : (before : List Said) (item : Said) (name : List ℕ) → AreSound before → IsSound before item → is_labelled item.kind ≡ true → In name item.symbols → by_constants before name ≡ symbol before name
 by_constants_is before item name h s t n = let same = is_variable (named before item name s t n) in λ i. record { name = name; variable = same i }
   where
     is_variable : (In name (constants before) ⊎ In name (active_variables before)) → not (has (constants before) name) ≡ has (active_variables before) name
@@ -32,7 +32,7 @@ each_numbered all kept h numbers names a = All-map (IsNumbered all) kept numbers
     (slice_get_within all (get_or numbers i d) (get_or names i []) (number_at all numbers names i d a l)))
 
 -- the symbols of a sound `$f`, `$e`, `$a` or `$p` are its expression
-pub read_all : (all : List (List ℕ)) (tables : Tables) (before : List Item) (item : Item) (numbers : List ℕ) → AreSound before → Knows all before tables → AreNameNumbers all numbers item.symbols → IsSound before item → is_labelled item.kind ≡ true
+pub read_all : (all : List (List ℕ)) (tables : Tables) (before : List Said) (item : Said) (numbers : List ℕ) → AreSound before → Knows all before tables → AreNameNumbers all numbers item.symbols → IsSound before item → is_labelled item.kind ≡ true
     → symbols_of all (map (symbol_by tables) numbers) ≡ expression before item
 read_all all tables before item numbers h k a s t =
     each_read all (symbol_by tables) (by_constants before) (λ n name there. let same = ap not (known_as n name there) in λ i. record { name = name_read all n name there i; variable = same i }) numbers item.symbols a
@@ -41,8 +41,8 @@ read_all all tables before item numbers h k a s t =
       known_as n name there = ap is_constant_as (known_at all before tables n name k there) ∙ constant_in before name
 
 -- the symbols of a sound `$d` are read as variables
-pub variables_read_all : (all : List (List ℕ)) (before : List Item) (item : Item) (numbers : List ℕ) → AreNameNumbers all numbers item.symbols
-    → IsSound before item → is_disjoint item.kind ≡ true → symbols_of all (map variable_by numbers) ≡ expression before item
+pub variables_read_all : (all : List (List ℕ)) (before : List Said) (item : Said) (numbers : List ℕ) → AreNameNumbers all numbers item.symbols
+    → IsSound before item → is_kind Disjoint item.kind ≡ true → symbols_of all (map variable_by numbers) ≡ expression before item
 variables_read_all all before item numbers a s t =
     each_read all variable_by as_variable (λ n name there i. record { name = name_read all n name there i; variable = true }) numbers item.symbols a
     ∙ map_same as_variable (symbol before) item.symbols (λ name m. let v = in_has (active_variables before) name (disjoint_named before item name s t m) in λ i. record { name = name; variable = sym v i })

@@ -1,29 +1,29 @@
 -- Active pairs: they grow by those of each `$d`, an active statement reads at its own place as after all items, and which `$d` has a pair.
 use Rattle.std.proofs.lemmas.{List.{map_push}, Grind.{common_steps}, Bool.{false≢true, or_cases, or_left, or_right, or_parts, and_from, false_from_ne_true, not-false, and_parts}}
 use Rattle.std.proofs.lemmas.{Option.{get_or_from_slice_get}, Slice.Eq.{bytes_eq-Decides}}
-use Rattle.std.proofs.Common.{take-suc, ◌≡◌, ◌≢◌, ℕ, suc, ◌+◌, ◌<◌, Bool, true, false, cond, ◌&&◌, ◌||◌, Some, List, [], ◌∷◌, ◌++◌, length, map, filter, flat_map, take, drop, slice_get, get_or}
-use Rattle.std.proofs.{Common.{bytes_eq, refl, sym, ◌∙◌, ap, subst, arith, inl, inr, ◌⊎◌}, Math.Seq.{drop-cons}}
+use Rattle.std.proofs.Common.{take-suc, ◌≡◌, ◌≢◌, ℕ, suc, ◌<◌, Bool, true, false, cond, ◌&&◌, ◌||◌, Some, List, [], ◌∷◌, ◌++◌, length, map, filter, flat_map, take, drop, slice_get, get_or, bytes_eq}
+use Rattle.std.proofs.{Common.{refl, sym, ◌∙◌, ap, subst, arith, inl, inr, ◌⊎◌}, Math.Seq.{drop-cons}}
 use Rattle.mm_frame.proofs.lemmas.scope.{TableLemmas.{any_in, active_between}, SoundItems.{in_any, split_at, map_same, expression_stays}, ActiveBySplit.{active_split, split_active}}
 use Rattle.mm_frame.proofs.lemmas.{scope.Facts.{no_symbol_of}, lists.Members.{get_between, In, in_left, in_right, in_cases, in_map, from_map, from_flat, in_get, has_in, in_has, in_cond}}
 use Rattle.mm_frame.proofs.lemmas.frames.{Frames.{variables_later}, HypothesisNumbers.{from_active_number, active_number_items}}
-use Rattle.mm_frame.specs.Language.{Scope.{Neither, mark_of, stays, active, active_variables, active_numbers}, Sound.{each, is_no_variable, is_repeated, IsSound, AreSound}}
+use Rattle.mm_frame.specs.Language.{Scope.{stays, active, active_variables, active_numbers}, Sound.{as_any, is_no_variable, is_repeated, IsSound, AreSound}, Marks.{Neither, mark_of}}
 use Rattle.mm_frame.specs.{Language.{Framing.{symbol, expression, pairs_of, active_pairs}, Answering.{are_paired}}, declared.FrameNumber.TheVariants.{F03, F09}}
 use Rattle.mm_frame.specs.Code.LastItems.{is_active_at, is_disjoint_item}
 use Rattle.mm_machine.specs.Language.Frame.{Symbol}
-use Rattle.mm_statement.specs.Language.Item.{Kind, Item, passed, is_declaring, is_disjoint, is_labelled, has, item_at}
+use Rattle.mm_statement.specs.Language.Item.{Kind, Said, passed, is_declaring, is_kind, Disjoint, is_labelled, has, item_at}
 
 -- a `$d` opens and closes no block
-pub disjoint_neither : (k : Kind) → is_disjoint k ≡ true → mark_of k ≡ Neither
+pub disjoint_neither : (k : Kind) → is_kind Disjoint k ≡ true → mark_of k ≡ Neither
 disjoint_neither k e = grind (arith, common_steps) steps 200000
 
 -- each symbol of a sound `$d` is an active variable
-pub disjoint_named : (before : List Item) (item : Item) (name : List ℕ) → IsSound before item → is_disjoint item.kind ≡ true → In name item.symbols → In name (active_variables before)
+pub disjoint_named : (before : List Said) (item : Said) (name : List ℕ) → IsSound before item → is_kind Disjoint item.kind ≡ true → In name item.symbols → In name (active_variables before)
 disjoint_named before item name s t h =
     let g = in_get name item.symbols h in
-    has_in (active_variables before) name (not-false (has (active_variables before) name) (no_symbol_of (is_disjoint item.kind) (each (is_no_variable before)) item (λ word. (or_parts _ _ (s word F09)).0) t g.0 name g.1))
+    has_in (active_variables before) name (not-false (has (active_variables before) name) (no_symbol_of (is_kind Disjoint item.kind) (as_any (is_no_variable before)) item (λ word. (or_parts _ _ (s word F09)).0) t g.0 name g.1))
 
 -- an active `$d` reads as at its own place
-pub disjoint_stays : (items front : List Item) (item : Item) (back : List Item) → AreSound items → items ≡ front ++ item ∷ back → is_disjoint item.kind ≡ true → stays back ≡ true → expression items item ≡ expression front item
+pub disjoint_stays : (items front : List Said) (item : Said) (back : List Said) → AreSound items → items ≡ front ++ item ∷ back → is_kind Disjoint item.kind ≡ true → stays back ≡ true → expression items item ≡ expression front item
 disjoint_stays items front item back h e t s =
     map_same (symbol items) (symbol front) item.symbols
     (λ name n. (let same =
@@ -33,22 +33,22 @@ disjoint_stays items front item back h e t s =
     ∙ sym (in_has (active_variables front) name (disjoint_named front item name (h front item back e) t n)) in λ i. record { name = name; variable = same i }))
 
 -- the same by the number of the item: an active `$f`, `$e`, `$a` or `$p`, and an active `$d`
-pub expression_at_number : (before : List Item) → AreSound before → (n : ℕ) (item : Item) → slice_get before n ≡ Some item → is_active_at before n ≡ true → is_labelled item.kind ≡ true → expression before item ≡ expression (take n before) item
+pub expression_at_number : (before : List Said) → AreSound before → (n : ℕ) (item : Said) → slice_get before n ≡ Some item → is_active_at before n ≡ true → is_labelled item.kind ≡ true → expression before item ≡ expression (take n before) item
 expression_at_number before h n item e s t = expression_stays before (take n before) item (drop (suc n) before) h (split_at before n item e) t s
 
 -- the pairs of an item, as it reads after these items
-abbrev pub item_pairs : List Item → Item → List (Symbol × Symbol)
-item_pairs items item = cond (is_disjoint item.kind) (pairs_of (expression items item)) []
+abbrev pub item_pairs : List Said → Said → List (Symbol × Symbol)
+item_pairs items item = cond (is_kind Disjoint item.kind) (pairs_of (expression items item)) []
 
 pub flat_same : {X Y : Type 0} (f g : X → List Y) (xs : List X) → ((x : X) → In x xs → f x ≡ g x) → flat_map f xs ≡ flat_map g xs
 flat_same f g [] h = refl
 flat_same f g (x ∷ xs) h = let a = h x (inl refl) in let b = flat_same f g xs (λ y k. h y (inr k)) in λ i. a i ++ b i
 
 -- the active pairs, by the numbers of the active `$d`, each read at its own place
-abbrev pub pairs_at : List Item → ℕ → List (Symbol × Symbol)
+abbrev pub pairs_at : List Said → ℕ → List (Symbol × Symbol)
 pairs_at items n = pairs_of (expression (take n items) (item_at items n))
 
-disjoint_only : (items xs : List Item) → flat_map (item_pairs items) xs ≡ flat_map (λ y. pairs_of (expression items y)) (filter is_disjoint_item xs)
+disjoint_only : (items xs : List Said) → flat_map (item_pairs items) xs ≡ flat_map (λ y. pairs_of (expression items y)) (filter is_disjoint_item xs)
 disjoint_only items [] = refl
 disjoint_only items (x ∷ xs) = grind (arith, common_steps, disjoint_only items xs) steps 200000
 
@@ -56,9 +56,9 @@ pub flat_of_map : {X Y Z : Type 0} (f : Y → List Z) (g : X → Y) (xs : List X
 flat_of_map f g [] = refl
 flat_of_map f g (x ∷ xs) = ap (λ w. f (g x) ++ w) (flat_of_map f g xs)
 
-pub active_pairs_by_numbers : (before : List Item) → AreSound before → active_pairs before ≡ flat_map (pairs_at before) (active_numbers is_disjoint_item before)
+pub active_pairs_by_numbers : (before : List Said) → AreSound before → active_pairs before ≡ flat_map (pairs_at before) (active_numbers is_disjoint_item before)
 active_pairs_by_numbers before h =
-    let said = λ (y : Item). pairs_of (expression before y) in
+    let said = λ (y : Said). pairs_of (expression before y) in
     disjoint_only before (active before) ∙ ap (flat_map said) (sym (active_number_items is_disjoint_item before)) ∙ flat_of_map said (item_at before)
     (active_numbers is_disjoint_item before)
     ∙ flat_same (λ n. said (item_at before n)) (pairs_at before) (active_numbers is_disjoint_item before)
@@ -68,15 +68,15 @@ active_pairs_by_numbers before h =
     ∙ ap (λ w. pairs_of (expression (take n before) w)) (sym there))
 
 -- an active item and its number
-pub active_at_number : (before : List Item) (n : ℕ) (item : Item) → slice_get before n ≡ Some item → is_active_at before n ≡ true → In item (active before)
+pub active_at_number : (before : List Said) (n : ℕ) (item : Said) → slice_get before n ≡ Some item → is_active_at before n ≡ true → In item (active before)
 active_at_number before n item e s = subst (λ w. In item (active w)) (sym (split_at before n item e)) (split_active (take n before) item (drop (suc n) before) s)
 
-pub record ActiveNumber (before : List Item) (item : Item) : Type 0 where
+pub record ActiveNumber (before : List Said) (item : Said) : Type 0 where
   pub number : ℕ
   pub there : slice_get before number ≡ Some item
   pub stayed : is_active_at before number ≡ true
 
-pub number_of_active : (before : List Item) (item : Item) → In item (active before) → ActiveNumber before item
+pub number_of_active : (before : List Said) (item : Said) → In item (active before) → ActiveNumber before item
 number_of_active before item a =
     let s = active_split before item a in
     grind (arith, common_steps, get_between s.front item s.back, active_between s.front item s.back) steps 200000
@@ -130,10 +130,10 @@ pair_turned x y = grind (arith, common_steps, or_right, bytes_eq, and_from, byte
 abbrev pub AreUnrepeated : List (List ℕ) → Type 0
 AreUnrepeated names = (k : ℕ) (name : List ℕ) → slice_get names k ≡ Some name → has (take k names) name ≡ false
 
-pub disjoint_unrepeated : (before : List Item) (item : Item) → IsSound before item → is_disjoint item.kind ≡ true → AreUnrepeated item.symbols
-disjoint_unrepeated before item s t k name e = no_symbol_of (is_declaring item.kind || is_disjoint item.kind) (is_repeated item) item (λ word. s word F03) (or_right (is_declaring item.kind) (is_disjoint item.kind) t) k name e
+pub disjoint_unrepeated : (before : List Said) (item : Said) → IsSound before item → is_kind Disjoint item.kind ≡ true → AreUnrepeated item.symbols
+disjoint_unrepeated before item s t k name e = no_symbol_of (is_declaring item.kind || is_kind Disjoint item.kind) (is_repeated item) item (λ word. s word F03) (or_right (is_declaring item.kind) (is_kind Disjoint item.kind) t) k name e
 
-apart_names : (before : List Item) (names : List (List ℕ)) → AreUnrepeated names → (pair : Symbol × Symbol) → In pair (pairs_of (map (symbol before) names)) → pair.0.name ≢ pair.1.name
+apart_names : (before : List Said) (names : List (List ℕ)) → AreUnrepeated names → (pair : Symbol × Symbol) → In pair (pairs_of (map (symbol before) names)) → pair.0.name ≢ pair.1.name
 apart_names before [] u pair h = absurd h
 apart_names before (x ∷ names) u pair h = elim (in_cases pair (pairs_with (symbol before x) (map (symbol before) names)) (pairs_of (map (symbol before) names)) h) [
   | inl a ↦ (λ q. let s = from_map (symbol before) (from_map (λ (y : Symbol). (symbol before x, y)) pair (map (symbol before) names) a).0 names
@@ -144,11 +144,11 @@ apart_names before (x ∷ names) u pair h = elim (in_cases pair (pairs_with (sym
   | inr b ↦ apart_names before names (λ k name e. false_from_ne_true (has (take k names) name) (λ t. false≢true (sym (u (suc k) name e) ∙ or_right (bytes_eq name x) (has (take k names) name) t))) pair b
 ]
 
-pub from_active_pairs : (before : List Item) (pair : Symbol × Symbol) → In pair (active_pairs before) → (item : Item) × In item (active before) × (is_disjoint item.kind ≡ true) × In pair (pairs_of (expression before item))
+pub from_active_pairs : (before : List Said) (pair : Symbol × Symbol) → In pair (active_pairs before) → (item : Said) × In item (active before) × (is_kind Disjoint item.kind ≡ true) × In pair (pairs_of (expression before item))
 from_active_pairs before pair m = grind (arith, common_steps, from_flat, in_cond) steps 200000
 
 -- no active pair has one name twice
-pub apart_active : (before : List Item) → AreSound before → (pair : Symbol × Symbol) → In pair (active_pairs before) → pair.0.name ≢ pair.1.name
+pub apart_active : (before : List Said) → AreSound before → (pair : Symbol × Symbol) → In pair (active_pairs before) → pair.0.name ≢ pair.1.name
 apart_active before h pair m =
     let r = from_active_pairs before pair m in
     let s = active_split before r.0 r.1 in

@@ -3,11 +3,11 @@ use Rattle.std.proofs.Common.{subst, ◌≡◌, ℕ, zero, suc, ◌<◌, ◌≤�
 use Rattle.std.proofs.{Common.{length-append, arith}, lemmas.{Grind.{common_steps}, Bool.{false≢true}, List.{drop-append-le}, Option.{slice_get_within}}}
 use Rattle.std.specs.Prelude.{Contains, IfSome, IfNone, is_some}
 use Rattle.mm_frame.specs.Code.{LastItems.{IsRising, is_active_at}, BlockMarks.{stays_by}, Numbers.{IsNameNumber}, KeptPairTable.{row_at, IsDisjointAt, IsCommon, ReadsPairs}}
-use Rattle.mm_frame.specs.{Code.KeptAsked.{IsFoundBefore, IsPairAnswer, KnowsAsked}, declared.{asked.AskedPairs.{AskedPairs}, paired.PairTable.{PairTable}}, Language.Scope.{Mark}}
+use Rattle.mm_frame.specs.{Code.KeptAsked.{IsFoundBefore, IsPairAnswer, KnowsAsked}, declared.{asked.AskedPairs.{AskedPairs}, paired.PairTable.{PairTable}}, Language.Marks.{Mark}}
 use Rattle.mm_frame.{specs.Language.{Framing.{active_pairs}, Answering.{are_paired}}, proofs.lemmas.scope.ActiveBySplit.{stays_join, stays_front}}
 use Rattle.mm_frame.proofs.lemmas.pairs.PairTableLemmas.{disjoint_front, disjoint_cases, active_before, HavePair, paired_from, paired_to, active_at_marks}
 use native.Mathlib.Decide.{dec_lt}
-use Rattle.mm_statement.specs.Language.Item.{Item}
+use Rattle.mm_statement.specs.Language.Item.{Said}
 use Rattle.mm_machine.specs.Language.NumberedSymbols.{as_variable}
 
 -- ---- what is there, of what there is
@@ -27,14 +27,14 @@ drop_on [] (suc m) n l = grind (arith, common_steps) steps 200000
 drop_on (x ∷ xs) (suc m) zero l = absurd (omega arith)
 drop_on (x ∷ xs) (suc m) (suc n) l = drop_on xs m n (omega arith)
 
-pub active_below : (before : List Item) (item : Item) (m n : ℕ) → m ≤ n → n < length before → is_active_at before m ≡ true → is_active_at (before ++ item ∷ []) n ≡ true → is_active_at (before ++ item ∷ []) m ≡ true
+pub active_below : (before : List Said) (item : Said) (m n : ℕ) → m ≤ n → n < length before → is_active_at before m ≡ true → is_active_at (before ++ item ∷ []) n ≡ true → is_active_at (before ++ item ∷ []) m ≡ true
 active_below before item m n l within first later =
     grind (arith, common_steps, drop_on before (suc m) (suc n) (omega arith), drop-append-le (suc n) before (item ∷ []) (omega arith), drop-append-le (suc m) before (item ∷ []) (omega arith), stays_join, stays_front) steps 500000
 
-disjoint_back : (before : List Item) (item : Item) (name : List ℕ) (n : ℕ) → n < length before → IsDisjointAt (before ++ item ∷ []) name n → IsDisjointAt before name n
+disjoint_back : (before : List Said) (item : Said) (name : List ℕ) (n : ℕ) → n < length before → IsDisjointAt (before ++ item ∷ []) name n → IsDisjointAt before name n
 disjoint_back before item name n l d = grind (arith, common_steps, disjoint_cases before item name n d) steps 200000
 
-answer_more : (before : List Item) (item : Item) (x y : List ℕ) (upto : ℕ) (common : Option ℕ) → IsPairAnswer before x y upto common → IsPairAnswer (before ++ item ∷ []) x y upto common
+answer_more : (before : List Said) (item : Said) (x y : List ℕ) (upto : ℕ) (common : Option ℕ) → IsPairAnswer before x y upto common → IsPairAnswer (before ++ item ∷ []) x y upto common
 answer_more before item x y upto common a =
     let long = length-append before (item ∷ []) in
     record {
@@ -47,16 +47,16 @@ answer_more before item x y upto common a =
       there = λ f e. let d = a.there f e in (disjoint_front before item x f d.0, disjoint_front before item y f d.1);
     }
 
-pub asked_more : (all : List (List ℕ)) (before : List Item) (item : Item) (asked : AskedPairs) → KnowsAsked all before asked → KnowsAsked all (before ++ item ∷ []) asked
+pub asked_more : (all : List (List ℕ)) (before : List Said) (item : Said) (asked : AskedPairs) → KnowsAsked all before asked → KnowsAsked all (before ++ item ∷ []) asked
 asked_more all before item asked knows k d l x y a b = answer_more before item x y (get_or asked.answers.items k d).upto (get_or asked.answers.items k d).common (knows k d l x y a b)
 
 -- ---- what an answer says
 
-pair_common : (all : List (List ℕ)) (before : List Item) (table : PairTable) (blocks : List Mark) (first second : ℕ) (x y : List ℕ) → ReadsPairs all before table blocks → IsNameNumber all first x → IsNameNumber all second y → (n : ℕ)
+pair_common : (all : List (List ℕ)) (before : List Said) (table : PairTable) (blocks : List Mark) (first second : ℕ) (x y : List ℕ) → ReadsPairs all before table blocks → IsNameNumber all first x → IsNameNumber all second y → (n : ℕ)
     → HavePair before x y n → IsCommon blocks (row_at table first) (row_at table second) n
 pair_common all before table blocks first second x y k a b n have = grind (arith, common_steps, k.knows first x a, k.knows second y b, active_at_marks before blocks n k.marks) steps 200000
 
-pub names_apart : (all : List (List ℕ)) (first second : ℕ) (x y : List ℕ) (before : List Item) (table : PairTable) (blocks : List Mark)
+pub names_apart : (all : List (List ℕ)) (first second : ℕ) (x y : List ℕ) (before : List Said) (table : PairTable) (blocks : List Mark)
     → ReadsPairs all before table blocks → IsNameNumber all first x → IsNameNumber all second y → (first ≡ second → ⊥) → x ≡ y → ⊥
 names_apart all first second x y before table blocks k a b apart e = apart (k.distinct first second y (a ∙ ap Some e) b)
 
@@ -68,7 +68,7 @@ IsActiveYet blocks common = (n : ℕ) × (common ≡ Some n) × (stays_by (drop 
 abbrev pub IsEnded : List Mark → Option ℕ → Type 0
 IsEnded blocks common = (n : ℕ) → common ≡ Some n → stays_by (drop (suc n) blocks) ≡ false
 
-pub active_told : (all : List (List ℕ)) (before : List Item) (table : PairTable) (blocks : List Mark) (first second : ℕ) (x y : List ℕ) (upto : ℕ)
+pub active_told : (all : List (List ℕ)) (before : List Said) (table : PairTable) (blocks : List Mark) (first second : ℕ) (x y : List ℕ) (upto : ℕ)
     (common : Option ℕ) → ReadsPairs all before table blocks → IsNameNumber all first x → IsNameNumber all second y
     → (first ≡ second → ⊥) → IsPairAnswer before x y upto common → IsActiveYet blocks common → true ≡ are_paired (active_pairs before) (as_variable x, as_variable y)
 active_told all before table blocks first second x y upto common k a b apart answer yet =
@@ -76,7 +76,7 @@ active_told all before table blocks first second x y upto common k a b apart ans
     sym (paired_to before x y yet.0 (names_apart all first second x y before table blocks k a b apart) (record { first = there.0; second = there.1; stayed = active_at_marks before blocks yet.0 k.marks ∙ yet.2 }))
 
 -- if none is active of those that were looked at, an active one is no earlier
-pub later_common : (all : List (List ℕ)) (before : List Item) (table : PairTable) (blocks : List Mark) (first second : ℕ) (x y : List ℕ) (upto : ℕ)
+pub later_common : (all : List (List ℕ)) (before : List Said) (table : PairTable) (blocks : List Mark) (first second : ℕ) (x y : List ℕ) (upto : ℕ)
     (common : Option ℕ) → ReadsPairs all before table blocks → IsNameNumber all first x → IsNameNumber all second y
     → IsPairAnswer before x y upto common → IsEnded blocks common → (n : ℕ) → HavePair before x y n → upto ≤ n
 later_common all before table blocks first second x y upto common k a b answer ended n have = grind (arith, common_steps, active_at_marks, dec_lt, false≢true) steps 200000
@@ -95,7 +95,7 @@ first_in_rows blocks row other left right from common e f r s first =
     subst (λ w. IsFirstFrom blocks w right from common) e
     (subst (λ w. IsFirstFrom blocks row w from common) f (first (subst IsRising (sym e) r) (subst IsRising (sym f) s)))
 
-pub first_told : (all : List (List ℕ)) (before : List Item) (table : PairTable) (blocks : List Mark) (first second : ℕ) (x y : List ℕ) (from : ℕ)
+pub first_told : (all : List (List ℕ)) (before : List Said) (table : PairTable) (blocks : List Mark) (first second : ℕ) (x y : List ℕ) (from : ℕ)
     (common : Option ℕ) → ReadsPairs all before table blocks → IsNameNumber all first x → IsNameNumber all second y
     → (first ≡ second → ⊥) → ((n : ℕ) → HavePair before x y n → from ≤ n) → IsFirstFrom blocks (row_at table first) (row_at table second) from common → is_some common ≡ are_paired (active_pairs before) (as_variable x, as_variable y)
 first_told all before table blocks first second x y from (Some n) k a b apart later f =
@@ -113,7 +113,7 @@ first_told all before table blocks first second x y from None k a b apart later 
     by_test true e = let p = paired_from before x y k.sound e in absurd (f.none p.1 (later p.1 p.2) (pair_common all before table blocks first second x y k a b p.1 p.2))
 
 -- so there is one more answer
-pub next_answer : (all : List (List ℕ)) (before : List Item) (table : PairTable) (blocks : List Mark) (first second : ℕ) (x y : List ℕ) (upto end : ℕ)
+pub next_answer : (all : List (List ℕ)) (before : List Said) (table : PairTable) (blocks : List Mark) (first second : ℕ) (x y : List ℕ) (upto end : ℕ)
     (known common : Option ℕ) → ReadsPairs all before table blocks → IsNameNumber all first x → IsNameNumber all second y
     → IsPairAnswer before x y upto known → IsEnded blocks known → IsFirstFrom blocks (row_at table first) (row_at table second) upto common
     → ((count : ℕ) → ((n : ℕ) → Contains (row_at table first) n → n < count) → end ≤ count) → IsPairAnswer before x y end common

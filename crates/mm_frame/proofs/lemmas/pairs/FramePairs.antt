@@ -14,7 +14,7 @@ use Rattle.mm_frame.proofs.lemmas.{pairs.ActivePairLemmas.{apart_active}, lists.
 use Rattle.mm_frame.proofs.lemmas.{lists.Rising.{in_among, among_in}, scope.{Facts.{float_two}, SoundItems.{split_at, filter_same}}}
 use Rattle.mm_frame.proofs.lemmas.frames.Frames.{in_at, float_of, float_name, float_labelled, from_pairs, pairs_typed_at, assertion_expression}
 use Rattle.mm_frame.proofs.lemmas.frames.{HypothesisNumbers.{to_active_number, from_active_number}, MandatoryLemmas.{not_both}}
-use Rattle.mm_statement.specs.Language.Item.{Item, passed, is_floating, is_essential, is_assertion, has, variable_of, item_at}
+use Rattle.mm_statement.specs.Language.Item.{Said, passed, is_kind, Essential, Floating, is_assertion, has, variable_of, item_at}
 
 -- the variables of the mandatory `$f`
 abbrev pub variables_if : Bool → List Symbol → List Symbol
@@ -24,29 +24,29 @@ second_read : (all : List (List ℕ)) (kept : List NumberedSymbol) → symbols_o
 second_read all (x ∷ y ∷ kept) = refl
 second_read all _ = refl
 
-pub variables_at : (all : List (List ℕ)) (before : List Item) (item : Item) (expressions : List (List NumberedSymbol)) (n : ℕ) → AreSound before → AreExpressions all before expressions → In n (mandatory_numbers before item)
-    → symbols_of all (float_variable (active_numbers is_essential_item before) expressions n) ≡ variables_if (is_floating (item_at before n).kind) (expression before (item_at before n))
+pub variables_at : (all : List (List ℕ)) (before : List Said) (item : Said) (expressions : List (List NumberedSymbol)) (n : ℕ) → AreSound before → AreExpressions all before expressions → In n (mandatory_numbers before item)
+    → symbols_of all (float_variable (active_numbers is_essential_item before) expressions n) ≡ variables_if (is_kind Floating (item_at before n).kind) (expression before (item_at before n))
 variables_at all before item expressions n h a m =
     let r = from_active_number (is_mandatory (mandatory_variables before item)) before n m in
-    let whole = λ (x : Item). variables_if (is_floating x.kind) (expression before x) in
-    by_kind r.0 r.1 r.2 (or_cases (is_essential (r.0).kind) (is_floating (r.0).kind && has (mandatory_variables before item) (variable_of r.0)) r.3) ∙ ap whole (sym (get_or_from_slice_get before n r.0 passed r.1)) where
+    let whole = λ (x : Said). variables_if (is_kind Floating x.kind) (expression before x) in
+    by_kind r.0 r.1 r.2 (or_cases (is_kind Essential (r.0).kind) (is_kind Floating (r.0).kind && has (mandatory_variables before item) (variable_of r.0)) r.3) ∙ ap whole (sym (get_or_from_slice_get before n r.0 passed r.1)) where
       essentials : List ℕ
       essentials = active_numbers is_essential_item before
 
-      by_kind : (x : Item) → slice_get before n ≡ Some x → is_active_at before n ≡ true → (is_essential x.kind ≡ true) ⊎ ((is_floating x.kind && has (mandatory_variables before item) (variable_of x)) ≡ true)
-          → symbols_of all (float_variable essentials expressions n) ≡ variables_if (is_floating x.kind) (expression before x)
+      by_kind : (x : Said) → slice_get before n ≡ Some x → is_active_at before n ≡ true → (is_kind Essential x.kind ≡ true) ⊎ ((is_kind Floating x.kind && has (mandatory_variables before item) (variable_of x)) ≡ true)
+          → symbols_of all (float_variable essentials expressions n) ≡ variables_if (is_kind Floating x.kind) (expression before x)
       by_kind x there stayed (inl e) =
           ap (λ b. symbols_of all (cond b [] (option_to_list (slice_get (expression_kept expressions n) 1)))) (in_among essentials n (to_active_number is_essential_item before n x there stayed e))
-          ∙ sym (ap (λ b. variables_if b (expression before x)) (false_from_ne_true (is_floating x.kind) (λ f. not_both x.kind f e)))
+          ∙ sym (ap (λ b. variables_if b (expression before x)) (false_from_ne_true (is_kind Floating x.kind) (λ f. not_both x.kind f e)))
       by_kind x there stayed (inr b) =
-          let f = (and_parts (is_floating x.kind) (has (mandatory_variables before item) (variable_of x)) b).0 in
+          let f = (and_parts (is_kind Floating x.kind) (has (mandatory_variables before item) (variable_of x)) b).0 in
           let labelled = float_labelled x.kind f in
           let two = float_two (take n before) x (h (take n before) x (drop (suc n) before) (split_at before n x there)) f in
           let symbols : expression before x ≡ symbol before two.0 ∷ symbol before two.1 ∷ [] = ap (map (symbol before)) two.2 in
           ap (λ b. symbols_of all (cond b [] (option_to_list (slice_get (expression_kept expressions n) 1))))
           (false_from_ne_true (is_among essentials n)
           (λ t. let r = from_active_number is_essential_item before n (among_in essentials n t) in
-          not_both x.kind f (ap (λ (y : Item). is_essential y.kind) (same_Some x r.0 (sym there ∙ r.1)) ∙ r.3)))
+          not_both x.kind f (ap (λ (y : Said). is_kind Essential y.kind) (same_Some x r.0 (sym there ∙ r.1)) ∙ r.3)))
           ∙ second_read all (expression_kept expressions n)
           ∙ ap (λ w. option_to_list (slice_get w 1)) ((a n x there labelled ∙ sym (expression_at_number before h n x there stayed labelled)) ∙ symbols)
           ∙ sym (ap (λ b. variables_if b (expression before x)) f ∙ ap (drop 1) symbols)
@@ -68,7 +68,7 @@ variables_numbered all essentials numbers expressions a k d l =
     All-contains (IsNumbered all) (expression_kept expressions r.0) v (a r.0) (in_contains v (expression_kept expressions r.0) (second_kept (is_among essentials r.0) (expression_kept expressions r.0) v r.2))
 
 -- what a variable of a mandatory `$f` is
-record TypedVariable (before : List Item) (item : Item) (v : Symbol) : Type 0 where
+record TypedVariable (before : List Said) (item : Said) (v : Symbol) : Type 0 where
   variable : v.variable ≡ true
   mandatory : has (mandatory_variables before item) v.name ≡ true
 
@@ -76,14 +76,14 @@ floating_in : (b : Bool) (v : Symbol) (symbols : List Symbol) → In v (variable
 floating_in true v symbols m = (refl, m)
 floating_in false v symbols m = absurd m
 
-typed_variable : (before : List Item) (item : Item) (v : Symbol) → AreSound before → In v (typed_variables (mandatory_hypotheses before item)) → TypedVariable before item v
+typed_variable : (before : List Said) (item : Said) (v : Symbol) → AreSound before → In v (typed_variables (mandatory_hypotheses before item)) → TypedVariable before item v
 typed_variable before item v h m =
     let r = from_flat (λ (x : Mandatory). variables_if x.floating x.expression) v (mandatory_hypotheses before item) m in
     let s = from_map (hypothesis before) r.0 (filter (is_mandatory (mandatory_variables before item)) (active before)) r.1 in
     let t = from_filter (is_mandatory (mandatory_variables before item)) s.0 (active before) s.1 in
     let u = floating_in (r.0).floating v (r.0).expression r.2 in
     of_float s.0 t.0 t.1 (ap (λ (x : Mandatory). x.floating) s.2 ∙ u.0) (subst (λ (x : Mandatory). In v (drop 1 x.expression)) (sym s.2) u.1) where
-      of_float : (f : Item) → In f (active before) → is_mandatory (mandatory_variables before item) f ≡ true → is_floating f.kind ≡ true → In v (drop 1 (expression before f)) → TypedVariable before item v
+      of_float : (f : Said) → In f (active before) → is_mandatory (mandatory_variables before item) f ≡ true → is_kind Floating f.kind ≡ true → In v (drop 1 (expression before f)) → TypedVariable before item v
       of_float f a t e k = grind (arith, common_steps, float_name before f (float_of before f h a e)) steps 200000
 
 -- mandatory variables are a pair of the frame exactly when they are an active pair
@@ -95,7 +95,7 @@ paired_same mandatory pairs named a b = sym (any-filter_same (is_pair named) (is
     kept pair (inl e) = and_from (has mandatory pair.0.name) (has mandatory pair.1.name) (ap (has mandatory) e.0 ∙ a) (ap (has mandatory) e.1 ∙ b)
     kept pair (inr e) = and_from (has mandatory pair.0.name) (has mandatory pair.1.name) (ap (has mandatory) e.0 ∙ b) (ap (has mandatory) e.1 ∙ a)
 
-pub active_in_order : (before : List Item) (item : Item) → AreSound before → filter (are_paired (active_pairs before)) (pairs_of (typed_variables (mandatory_hypotheses before item))) ≡ pairs_in_order (frame before item)
+pub active_in_order : (before : List Said) (item : Said) → AreSound before → filter (are_paired (active_pairs before)) (pairs_of (typed_variables (mandatory_hypotheses before item))) ≡ pairs_in_order (frame before item)
 active_in_order before item h = filter_same (are_paired (active_pairs before)) (are_paired (frame before item).pairs) (pairs_of (typed_variables (mandatory_hypotheses before item))) (λ pair m.
     let p = from_pairs pair (typed_variables (mandatory_hypotheses before item)) m in
     paired_same (mandatory_variables before item) (active_pairs before) pair (typed_variable before item pair.0 h p.0).mandatory (typed_variable before item pair.1 h p.1).mandatory)
@@ -144,7 +144,7 @@ pub each_pair : (ps qs : List (Symbol × Symbol)) → ((x y : Symbol) → Contai
 each_pair ps qs f x y (inl c) = f x y c
 each_pair ps qs f x y (inr c) = elim (f y x c) [ inl a ↦ inr a | inr b ↦ inl b ]
 
-pub same_pairs : (before : List Item) (item : Item) → AreSound before → IsSound before item → is_assertion item.kind ≡ true → AreSamePairs (pairs_in_order (frame before item)) (frame before item).pairs
+pub same_pairs : (before : List Said) (item : Said) → AreSound before → IsSound before item → is_assertion item.kind ≡ true → AreSamePairs (pairs_in_order (frame before item)) (frame before item).pairs
 same_pairs before item h s a x y = (each_pair in_frame_order of_frame from x y, each_pair of_frame in_frame_order to x y)
   where
     of_frame : List (Symbol × Symbol)

@@ -4,8 +4,8 @@ use Rattle.std.proofs.lemmas.List.{map-append, take-append-le, drop-append-le, t
 use Rattle.std.proofs.lemmas.List.Elements.{Contains-append_right, Contains-append_cases, All-nil, All-append, All-map, All-contains, All-contains_itself}
 use Rattle.std.proofs.lemmas.List.{Sorted.{IsPermutation-sym, Contains-permutation}, Filters.{dedup_is}, Kept.{Contains-dedup, Contains-from_dedup}}
 use Rattle.std.proofs.lemmas.Option.{get_or_from_slice_get, slice_get_within, slice_get-get_or, none-some}
-use Rattle.std.proofs.Common.{◌≡◌, ℕ, suc, ◌+◌, ◌-◌, ◌<◌, ◌≤◌, Bool, true, false, cond, ◌&&◌, Option, Some, None, List, [], ◌∷◌, ◌++◌, length, All, Contains, Decides, ◌⊎◌, ◌↔◌, leb, map, flat_map}
-use Rattle.std.{proofs.{Common.{take, drop, slice_get, get_or, nat_eq, refl, sym, ◌∙◌, ap, subst, append-nil, arith, length-take-le, inl, inr}, Math.Bool.{beq}}, specs.Cmp.{decided}}
+use Rattle.std.proofs.Common.{◌≡◌, ℕ, suc, ◌-◌, ◌<◌, ◌≤◌, Bool, true, false, cond, ◌&&◌, Option, Some, None, List, [], ◌∷◌, ◌++◌, length, All, Contains, Decides, ◌⊎◌, ◌↔◌, leb, map, flat_map, take}
+use Rattle.std.{proofs.{Common.{drop, slice_get, get_or, nat_eq, refl, sym, ◌∙◌, ap, subst, append-nil, arith, length-take-le, inl, inr}, Math.Bool.{beq}}, specs.Cmp.{decided}}
 use Rattle.std.specs.List.{Sorted.{IsPermutation}, Retain.{IsFiltered, DiffersFromLast}}
 use Rattle.mm_frame.proofs.lemmas.scope.{Facts.{sound_front}, ActiveBySplit.{stays_join, stays_front}}
 use Rattle.mm_frame.proofs.lemmas.{frames.HypothesisNumbers.{front_below, to_active_number, from_active_number, active_numbers_rise, same_rising}, pairs.SharedPairs.{read_each, HasEitherWay}}
@@ -18,7 +18,7 @@ use Rattle.mm_frame.specs.Code.{KeptPairLists.{pairs_among, with_low_first, IsTh
 use native.Mathlib.Decide.{dec_lt}
 use Rattle.mm_machine.specs.{declared.symbol.NumberedSymbol.{NumberedSymbol}, Language.Frame.{Symbol, ArePair, AreSamePairs}}
 use Rattle.mm_machine.specs.Language.NumberedSymbols.{symbol_of, symbols_of, pair_of, kept_pairs, IsNumbered, IsPairNumbered, ArePairsRead, AreSamePairsRead, AreInOrder}
-use Rattle.mm_statement.specs.Language.Item.{Item, passed, is_labelled, is_disjoint}
+use Rattle.mm_statement.specs.Language.Item.{Said, passed, is_labelled, is_kind, Disjoint}
 
 -- the last of rising numbers is the greatest
 at_most_last : (numbers : List ℕ) (n : ℕ) → IsRising numbers → slice_get numbers (length numbers - 1) ≡ Some n → (m : ℕ) → In m numbers → m ≤ n
@@ -39,7 +39,7 @@ none_last [] e = refl
 none_last (x ∷ xs) e = absurd (none-some (get_or (x ∷ xs) (length (x ∷ xs) - 1) x) (sym e ∙ slice_get-get_or (x ∷ xs) (length (x ∷ xs) - 1) x (omega arith)))
 
 -- a number of an active item of a beginning, after which the items close no block, is one of all items
-number_of_front : (test : Item → Bool) (a d : List Item) → stays d ≡ true → (m : ℕ) → In m (active_numbers test a) → In m (active_numbers test (a ++ d))
+number_of_front : (test : Said → Bool) (a d : List Said) → stays d ≡ true → (m : ℕ) → In m (active_numbers test a) → In m (active_numbers test (a ++ d))
 number_of_front test a d s m h =
     let r = from_active_number test a m h in
     let w = slice_get_within a m r.0 r.1 in
@@ -47,7 +47,7 @@ number_of_front test a d s m h =
     to_active_number test (a ++ d) m r.0 (get_join a d m r.0 r.1) stayed r.3
 
 -- the first numbers of the active items are those of the active ones among the items up to the last of them
-pub front_numbers : (test : Item → Bool) (before : List Item) (numbers rest : List ℕ) (n : ℕ) → numbers ++ rest ≡ active_numbers test before → slice_get numbers (length numbers - 1) ≡ Some n → active_numbers test (take (suc n) before) ≡ numbers
+pub front_numbers : (test : Said → Bool) (before : List Said) (numbers rest : List ℕ) (n : ℕ) → numbers ++ rest ≡ active_numbers test before → slice_get numbers (length numbers - 1) ≡ Some n → active_numbers test (take (suc n) before) ≡ numbers
 front_numbers test before numbers rest n w e =
     let rising : IsRising numbers = rising_front numbers rest (subst IsRising (sym w) (active_numbers_rise test before)) in
     same_rising (active_numbers test a) numbers (active_numbers_rise test a) rising
@@ -62,10 +62,10 @@ front_numbers test before numbers rest n w e =
     (sym (drop-append-le (suc m) a d (omega arith)) ∙ ap (drop (suc m)) (take-append-drop (suc n) before)) ∙ r.2 in
     to_active_number test a m r.0 there (stays_front (drop (suc m) a) d stayed) r.3)
   where
-    a : List Item
+    a : List Said
     a = take (suc n) before
 
-    d : List Item
+    d : List Said
     d = drop (suc n) before
 
     last : In n numbers
@@ -76,7 +76,7 @@ front_numbers test before numbers rest n w e =
     to_by m l (inr h) = let k = front_below numbers rest n m (subst IsRising (sym w) (active_numbers_rise test before)) last h in absurd (omega arith)
 
 -- the active pairs after this many of the items are those of their active `$d`
-pub front_pairs : (before : List Item) (numbers : List ℕ) (count : ℕ) → AreSound before → AreFrontNumbers before numbers count → active_pairs (take count before) ≡ flat_map (pairs_at before) numbers
+pub front_pairs : (before : List Said) (numbers : List ℕ) (count : ℕ) → AreSound before → AreFrontNumbers before numbers count → active_pairs (take count before) ≡ flat_map (pairs_at before) numbers
 front_pairs before numbers count h front =
     let a = take count before in
     let d = drop count before in
@@ -88,7 +88,7 @@ front_pairs before numbers count h front =
     ∙ (λ i. flat_map (pairs_at ((take-append-drop count before) i)) (sym front.active i))
 
 -- so the items up to the last active `$d` have the active pairs
-pub whole_front : (before : List Item) (numbers : List ℕ) (count : ℕ) → AreSound before → numbers ≡ active_numbers is_disjoint_item before → AreFrontNumbers before numbers count → active_pairs (take count before) ≡ active_pairs before
+pub whole_front : (before : List Said) (numbers : List ℕ) (count : ℕ) → AreSound before → numbers ≡ active_numbers is_disjoint_item before → AreFrontNumbers before numbers count → active_pairs (take count before) ≡ active_pairs before
 whole_front before numbers count h e front = front_pairs before numbers count h front ∙ ap (flat_map (pairs_at before)) e ∙ sym (active_pairs_by_numbers before h)
 
 -- the items up to the last of the first active `$d`, and none if there is none
@@ -96,7 +96,7 @@ abbrev pub number_last : List ℕ → Option ℕ
 number_last numbers = slice_get numbers (length numbers - 1)
 
 -- the number of an active item is that of something
-pub number_there : (before : List Item) (numbers rest : List ℕ) (n : ℕ) → numbers ++ rest ≡ active_numbers is_disjoint_item before → number_last numbers ≡ Some n → n < length before
+pub number_there : (before : List Said) (numbers rest : List ℕ) (n : ℕ) → numbers ++ rest ≡ active_numbers is_disjoint_item before → number_last numbers ≡ Some n → n < length before
 number_there before numbers rest n e last =
     let r = from_active_number is_disjoint_item before n (subst (In n) e (in_left n numbers rest (get_in n numbers (length numbers - 1) last))) in
     slice_get_within before n r.0 r.1
@@ -135,10 +135,10 @@ all_numbered all expressions (n ∷ numbers) h =
     All-append (IsPairNumbered all) (in_turn_at expressions n) (flat_map (in_turn_at expressions) numbers) (among_numbered all (expression_kept expressions n) (h n)) (all_numbered all expressions numbers h)
 
 -- these are numbers of `$d`
-abbrev AreDisjoint : List Item → List ℕ → Type 0
-AreDisjoint before numbers = (n : ℕ) → In n numbers → (x : Item) × (slice_get before n ≡ Some x) × (is_disjoint x.kind ≡ true)
+abbrev AreDisjoint : List Said → List ℕ → Type 0
+AreDisjoint before numbers = (n : ℕ) → In n numbers → (x : Said) × (slice_get before n ≡ Some x) × (is_kind Disjoint x.kind ≡ true)
 
-pairs_kept : (all : List (List ℕ)) (before : List Item) (expressions : List (List NumberedSymbol)) (numbers : List ℕ) → AreSymbols all before expressions → AreDisjoint before numbers
+pairs_kept : (all : List (List ℕ)) (before : List Said) (expressions : List (List NumberedSymbol)) (numbers : List ℕ) → AreSymbols all before expressions → AreDisjoint before numbers
     → ArePairsRead all (flat_map (pairs_at before) numbers) (flat_map (in_turn_at expressions) numbers)
 pairs_kept all before expressions numbers a are = record {
   pairs = all_read all expressions numbers ∙ flat_same read_at (pairs_at before) numbers same;
@@ -151,7 +151,7 @@ pairs_kept all before expressions numbers a are = record {
     same : (n : ℕ) → In n numbers → read_at n ≡ pairs_at before n
     same n k =
         let r = are n k in
-        ap pairs_of (a.each n r.0 r.1 (or_right (is_labelled (r.0).kind) (is_disjoint (r.0).kind) r.2) ∙ ap (expression (take n before)) (sym (get_or_from_slice_get before n r.0 passed r.1)))
+        ap pairs_of (a.each n r.0 r.1 (or_right (is_labelled (r.0).kind) (is_kind Disjoint (r.0).kind) r.2) ∙ ap (expression (take n before)) (sym (get_or_from_slice_get before n r.0 passed r.1)))
 
 -- the pairs of a list with the lower number first, in whatever order and whatever often, are the same
 turned_or_not : (b : Bool) (p q : NumberedSymbol × NumberedSymbol) → cond b p (p.1, p.0) ≡ q → (p ≡ q) ⊎ (p ≡ (q.1, q.0))
@@ -219,18 +219,18 @@ low_all : (expressions : List (List NumberedSymbol)) (numbers : List ℕ) → fl
 low_all expressions [] = refl
 low_all expressions (n ∷ numbers) = (λ i. low_among (expression_kept expressions n) i ++ low_all expressions numbers i) ∙ sym (map-append with_low_first (in_turn_at expressions n) (flat_map (in_turn_at expressions) numbers))
 
-low_read : (all : List (List ℕ)) (before : List Item) (expressions : List (List NumberedSymbol)) (numbers : List ℕ) → AreSymbols all before expressions → AreDisjoint before numbers
+low_read : (all : List (List ℕ)) (before : List Said) (expressions : List (List NumberedSymbol)) (numbers : List ℕ) → AreSymbols all before expressions → AreDisjoint before numbers
     → AreSamePairsRead all (flat_map (pairs_at before) numbers) (flat_map (λ n. pairs_among (expression_kept expressions n)) numbers)
 low_read all before expressions numbers a are =
     let listed = flat_map (λ n. pairs_among (expression_kept expressions n)) numbers in
     let low = low_all expressions numbers in
     same_read all (flat_map (pairs_at before) numbers) (flat_map (in_turn_at expressions) numbers) listed (pairs_kept all before expressions numbers a are) (λ p. (λ h. subst (In p) low h, λ h. subst (In p) (sym low) h))
 
-pub active_read : (all : List (List ℕ)) (before : List Item) (expressions : List (List NumberedSymbol)) (numbers : List ℕ) → AreSymbols all before expressions → ((n : ℕ) → In n numbers → In n (active_numbers is_disjoint_item before))
+pub active_read : (all : List (List ℕ)) (before : List Said) (expressions : List (List NumberedSymbol)) (numbers : List ℕ) → AreSymbols all before expressions → ((n : ℕ) → In n numbers → In n (active_numbers is_disjoint_item before))
     → AreSamePairsRead all (flat_map (pairs_at before) numbers) (flat_map (λ n. pairs_among (expression_kept expressions n)) numbers)
 active_read all before expressions numbers a active = low_read all before expressions numbers a (λ n h. let r = from_active_number is_disjoint_item before n (active n h) in (r.0, r.1, r.3))
 
-pub front_read : (all : List (List ℕ)) (before : List Item) (expressions : List (List NumberedSymbol)) (numbers : List ℕ) (count : ℕ) → AreSound before → AreSymbols all before expressions → AreFrontNumbers before numbers count
+pub front_read : (all : List (List ℕ)) (before : List Said) (expressions : List (List NumberedSymbol)) (numbers : List ℕ) (count : ℕ) → AreSound before → AreSymbols all before expressions → AreFrontNumbers before numbers count
     → AreSamePairsRead all (active_pairs (take count before)) (flat_map (λ n. pairs_among (expression_kept expressions n)) numbers)
 front_read all before expressions numbers count h a front =
     subst (λ w. AreSamePairsRead all w (flat_map (λ n. pairs_among (expression_kept expressions n)) numbers)) (sym (front_pairs before numbers count h front))
@@ -239,13 +239,13 @@ front_read all before expressions numbers count h a front =
     (r.0, subst (λ w. slice_get w n ≡ Some r.0) (take-append-drop count before) (get_join (take count before) (drop count before) n r.0 r.1), r.3)))
 
 -- the pairs after this many of the items, with those of the later `$d`, are the active ones
-pub front_and_own : (before : List Item) (outer own : List ℕ) (count : ℕ) → AreSound before → outer ++ own ≡ active_numbers is_disjoint_item before
+pub front_and_own : (before : List Said) (outer own : List ℕ) (count : ℕ) → AreSound before → outer ++ own ≡ active_numbers is_disjoint_item before
     → AreFrontNumbers before outer count → active_pairs (take count before) ++ flat_map (pairs_at before) own ≡ active_pairs before
 front_and_own before outer own count h e front =
     ap (λ w. w ++ flat_map (pairs_at before) own) (front_pairs before outer count h front) ∙ sym (flat_map-append (pairs_at before) outer own) ∙ ap (flat_map (pairs_at before)) e ∙ sym (active_pairs_by_numbers before h)
 
 -- the same holds for those of the first of these `$d`, and the ones of the others
-pub front_and_more : (before : List Item) (outer done own : List ℕ) (count front : ℕ) → AreSound before → done ++ own ≡ outer → AreFrontNumbers before outer count → AreFrontNumbers before done front
+pub front_and_more : (before : List Said) (outer done own : List ℕ) (count front : ℕ) → AreSound before → done ++ own ≡ outer → AreFrontNumbers before outer count → AreFrontNumbers before done front
     → active_pairs (take front before) ++ flat_map (pairs_at before) own ≡ active_pairs (take count before)
 front_and_more before outer done own count front h e all first =
     ap (λ w. w ++ flat_map (pairs_at before) own) (front_pairs before done front h first) ∙ sym (flat_map-append (pairs_at before) done own) ∙ ap (flat_map (pairs_at before)) e ∙ sym (front_pairs before outer count h all)
@@ -304,13 +304,13 @@ list_stays all old new k pairs keeps is = record {
 }
 
 -- the lists that are made stay right after more items
-pub made_more : (all : List (List ℕ)) (before later : List Item) (lists : PairLists) → AreMade all before lists → AreMade all (before ++ later) lists
+pub made_more : (all : List (List ℕ)) (before later : List Said) (lists : PairLists) → AreMade all before lists → AreMade all (before ++ later) lists
 made_more all before later lists m count k e =
     let r = m count k e in
     grind (arith, common_steps, take-append-le count before later r.within) steps 200000
 
 -- one more list
-pub made_one_more : (all : List (List ℕ)) (before : List Item) (old new : PairLists) (count k : ℕ) → KeepsLists old new → AreMade all before old → count ≤ length before → IsList all new k (active_pairs (take count before))
+pub made_one_more : (all : List (List ℕ)) (before : List Said) (old new : PairLists) (count k : ℕ) → KeepsLists old new → AreMade all before old → count ≤ length before → IsList all new k (active_pairs (take count before))
     → ((other : ℕ) → list_made new other ≡ cond (nat_eq count other) (Some k) (list_made old other)) → AreMade all before new
 made_one_more all before old new count k keeps made within is told other j e = by_test (nat_eq count other) refl
   where
@@ -331,13 +331,13 @@ pub is_list : (all : List (List ℕ)) (lists : PairLists) (k : ℕ) (kept : List
 is_list all lists k kept pairs there read order = record { list = there.list; there = there.there; read = subst (AreSamePairsRead all pairs) (sym there.same) read; order = subst AreInOrder (sym there.same) order }
 
 -- the rows of numbers of lists stay right with more lists
-pub pairs_stay : (all : List (List ℕ)) (said : List Item) (old new : PairLists) (numbers : List (Option ℕ)) → KeepsLists old new → AreRows (TellsPairs all old) said numbers → AreRows (TellsPairs all new) said numbers
+pub pairs_stay : (all : List (List ℕ)) (said : List Said) (old new : PairLists) (numbers : List (Option ℕ)) → KeepsLists old new → AreRows (TellsPairs all old) said numbers → AreRows (TellsPairs all new) said numbers
 pairs_stay all said old new numbers keeps rows = record {
   count = rows.count;
   each = λ n row e. let told = rows.each n row e in record { some = told.some; list = λ k q. list_stays all old new k (active_pairs (sound_items (take n said))) keeps (told.list k q) };
 }
 
-pub pairs_more : (all : List (List ℕ)) (said : List Item) (item : Item) (old new : PairLists) (numbers : List (Option ℕ)) (number : Option ℕ)
+pub pairs_more : (all : List (List ℕ)) (said : List Said) (item : Said) (old new : PairLists) (numbers : List (Option ℕ)) (number : Option ℕ)
     → KeepsLists old new → AreRows (TellsPairs all old) said numbers → TellsPairs all new (sound_items said) item number
     → AreRows (TellsPairs all new) (said ++ item ∷ []) (numbers ++ number ∷ [])
 pairs_more all said item old new numbers number keeps rows told = rows_more (TellsPairs all new) said item numbers number (pairs_stay all said old new numbers keeps rows) told
@@ -345,8 +345,8 @@ pairs_more all said item old new numbers number keeps rows told = rows_more (Tel
 pub keeps_all : (lists : PairLists) → KeepsLists lists lists
 keeps_all lists = record { more = []; whole = sym (append-nil lists.lists.items) }
 
-pub no_number : (all : List (List ℕ)) (lists : PairLists) (before : List Item) (item : Item) → false ≡ is_told_proof before item → TellsPairs all lists before item None
+pub no_number : (all : List (List ℕ)) (lists : PairLists) (before : List Said) (item : Said) → false ≡ is_told_proof before item → TellsPairs all lists before item None
 no_number all lists before item e = record { some = e; list = λ k q. absurd (none-some k q) }
 
-pub some_number : (all : List (List ℕ)) (lists : PairLists) (before : List Item) (item : Item) (k : ℕ) → true ≡ is_told_proof before item → IsList all lists k (active_pairs before) → TellsPairs all lists before item (Some k)
+pub some_number : (all : List (List ℕ)) (lists : PairLists) (before : List Said) (item : Said) (k : ℕ) → true ≡ is_told_proof before item → IsList all lists k (active_pairs before) → TellsPairs all lists before item (Some k)
 some_number all lists before item k e is = grind (arith, common_steps) steps 200000

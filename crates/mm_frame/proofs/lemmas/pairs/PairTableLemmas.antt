@@ -7,13 +7,13 @@ use Rattle.mm_frame.proofs.lemmas.lists.Members.{get_taken, in_flat, In, in_cont
 use Rattle.mm_frame.proofs.lemmas.lists.Rising.{rising_front, rising_more, in_among, among_in}
 use Rattle.mm_frame.proofs.lemmas.pairs.ActivePairLemmas.{item_pairs, active_at_number, number_of_active, SameNames, in_order, found_pair, to_paired, pair_here, pair_turned, AreUnrepeated}
 use Rattle.mm_frame.proofs.lemmas.{pairs.ActivePairLemmas.{disjoint_unrepeated, from_active_pairs, apart_active}, scope.BlockLemmas.{get_front, get_last, get_cases}}
-use Rattle.mm_frame.{proofs.lemmas.scope.EndLemmas.{active_at_front, active_by_marks}, specs.Language.{Framing.{pairs_of, symbol, expression, active_pairs}, Scope.{active, Mark}}}
+use Rattle.mm_frame.{proofs.lemmas.scope.EndLemmas.{active_at_front, active_by_marks}, specs.Language.{Framing.{pairs_of, symbol, expression, active_pairs}, Scope.{active}, Marks.{Mark}}}
 use Rattle.mm_frame.specs.{Language.{Sound.{IsSound, AreSound}, Answering.{are_paired}}, declared.paired.PairTable.{PairTable}, Code.{BlockMarks.{stays_by, block_marks}, KeptActive.{IsPruned}}}
 use Rattle.mm_frame.specs.Code.{LastItems.{IsRising, is_active_at}, Numbers.{IsNameNumber, AreNameNumbers}, PairOrder.{is_among}, KeptScope.{taken}}
 use Rattle.mm_frame.specs.Code.KeptPairTable.{row_at, Puts, PutsAll, AreOnce, IsDisjointAt, IsRow, KnowsPairs, IsCommon, ReadsPairs}
 use native.Mathlib.Decide.{dec_lt}
 use Rattle.mm_machine.specs.Language.{Frame.{Symbol}, Names.{AreDistinct}, NumberedSymbols.{as_variable}}
-use Rattle.mm_statement.specs.Language.Item.{Item, is_disjoint, has}
+use Rattle.mm_statement.specs.Language.Item.{Said, is_kind, Disjoint, has}
 
 -- one row in the place of another
 pub get_set_here : {X : Type 0} (xs : List X) (n : ℕ) (y : X) → n < length xs → slice_get (set xs n y) n ≡ Some y
@@ -58,17 +58,17 @@ puts_more old mid new marks names k number once l a p =
     each n (inr (inr z)) = absurd z
 
 -- one more item
-pub disjoint_front : (before : List Item) (item : Item) (name : List ℕ) (n : ℕ) → IsDisjointAt before name n → IsDisjointAt (before ++ item ∷ []) name n
+pub disjoint_front : (before : List Said) (item : Said) (name : List ℕ) (n : ℕ) → IsDisjointAt before name n → IsDisjointAt (before ++ item ∷ []) name n
 disjoint_front before item name n d = record { item = d.item; there = get_front before item d.item n d.there; disjoint = d.disjoint; named = d.named }
 
-pub disjoint_cases : (before : List Item) (item : Item) (name : List ℕ) (n : ℕ) → IsDisjointAt (before ++ item ∷ []) name n → IsDisjointAt before name n ⊎ ((n ≡ length before) × (is_disjoint item.kind ≡ true) × (has item.symbols name ≡ true))
+pub disjoint_cases : (before : List Said) (item : Said) (name : List ℕ) (n : ℕ) → IsDisjointAt (before ++ item ∷ []) name n → IsDisjointAt before name n ⊎ ((n ≡ length before) × (is_kind Disjoint item.kind ≡ true) × (has item.symbols name ≡ true))
 disjoint_cases before item name n d = grind (arith, common_steps, get_cases before item d.item n d.there) steps 200000
 
-pub active_before : (before : List Item) (item : Item) (name : List ℕ) (n : ℕ) → IsDisjointAt before name n → is_active_at (before ++ item ∷ []) n ≡ true → is_active_at before n ≡ true
+pub active_before : (before : List Said) (item : Said) (name : List ℕ) (n : ℕ) → IsDisjointAt before name n → is_active_at (before ++ item ∷ []) n ≡ true → is_active_at before n ≡ true
 active_before before item name n d a = active_at_front before item n (slice_get_within before n d.item d.there) a
 
 -- which is no `$d` that has the name
-row_stays : (before : List Item) (item : Item) (name : List ℕ) (row : List ℕ) → (is_disjoint item.kind ≡ true → has item.symbols name ≡ true → ⊥) → IsRow before name row → IsRow (before ++ item ∷ []) name row
+row_stays : (before : List Said) (item : Said) (name : List ℕ) (row : List ℕ) → (is_kind Disjoint item.kind ≡ true → has item.symbols name ≡ true → ⊥) → IsRow before name row → IsRow (before ++ item ∷ []) name row
 row_stays before item name row out r = record {
   rising = r.rising;
   there = λ n c. disjoint_front before item name n (r.there n c);
@@ -78,19 +78,20 @@ row_stays before item name row out r = record {
   ];
 }
 
-pub pairs_other : (all : List (List ℕ)) (before : List Item) (item : Item) (table : PairTable) → is_disjoint item.kind ≡ false → KnowsPairs all before table → KnowsPairs all (before ++ item ∷ []) table
+pub pairs_other : (all : List (List ℕ)) (before : List Said) (item : Said) (table : PairTable) → is_kind Disjoint item.kind ≡ false → KnowsPairs all before table → KnowsPairs all (before ++ item ∷ []) table
 pairs_other all before item table d k n name there = row_stays before item name (row_at table n) (λ t h. false≢true (sym d ∙ t)) (k n name there)
 
 -- an item that is not sound, or no `$d`
-not_disjoint : (item : Item) (sound : Bool) → (sound ≡ true → is_disjoint item.kind ≡ false) → is_disjoint (taken sound item).kind ≡ false
+not_disjoint : (item : Said) (sound : Bool) → (sound ≡ true → is_kind Disjoint item.kind ≡ false) → is_kind Disjoint (taken sound item).kind ≡ false
 not_disjoint item true h = h refl
 not_disjoint item false h = refl
 
-pub pairs_passed : (all : List (List ℕ)) (before : List Item) (item : Item) (sound : Bool) (table : PairTable) → (sound ≡ true → is_disjoint item.kind ≡ false) → KnowsPairs all before table → KnowsPairs all (before ++ taken sound item ∷ []) table
+pub pairs_passed : (all : List (List ℕ)) (before : List Said) (item : Said) (sound : Bool) (table : PairTable) → (sound ≡ true → is_kind Disjoint item.kind ≡ false)
+    → KnowsPairs all before table → KnowsPairs all (before ++ taken sound item ∷ []) table
 pairs_passed all before item sound table h k = pairs_other all before (taken sound item) table (not_disjoint item sound h) k
 
 -- which is a `$d` that has the name
-row_next : (before : List Item) (item : Item) (name : List ℕ) (row left : List ℕ) (marks : List Mark) → is_disjoint item.kind ≡ true → has item.symbols name ≡ true → marks ≡ block_marks before → IsRow before name row → IsPruned marks row left
+row_next : (before : List Said) (item : Said) (name : List ℕ) (row left : List ℕ) (marks : List Mark) → is_kind Disjoint item.kind ≡ true → has item.symbols name ≡ true → marks ≡ block_marks before → IsRow before name row → IsPruned marks row left
     → IsRow (before ++ item ∷ []) name (left ++ length before ∷ [])
 row_next before item name row left marks d h m r p = record {
   rising =
@@ -141,8 +142,8 @@ numbers_once all numbers names a u i j n p q = elim (dec_lt i j) [
 ]
 
 -- a sound `$d` goes into the rows of its variables
-pub pairs_taken : (all : List (List ℕ)) (before : List Item) (item : Item) (numbers : List ℕ) (old new : PairTable) (marks : List Mark) (number : ℕ)
-    → AreDistinct all → IsSound before item → is_disjoint item.kind ≡ true → AreNameNumbers all numbers item.symbols
+pub pairs_taken : (all : List (List ℕ)) (before : List Said) (item : Said) (numbers : List ℕ) (old new : PairTable) (marks : List Mark) (number : ℕ)
+    → AreDistinct all → IsSound before item → is_kind Disjoint item.kind ≡ true → AreNameNumbers all numbers item.symbols
     → length before ≡ number → marks ≡ block_marks before → KnowsPairs all before old → (AreOnce numbers → PutsAll old marks numbers number new) → KnowsPairs all (before ++ item ∷ []) new
 pairs_taken all before item numbers old new marks number distinct sound d are l m k takes n name there = by_test (is_among numbers n) refl
   where
@@ -167,15 +168,15 @@ pairs_taken all before item numbers old new marks number distinct sound d are l 
         (are.each r.0 (get_or numbers r.0 0) at ∙ ap Some (get_or_from_slice_get item.symbols r.0 name [] r.1)) there)))) (k n name there))
 
 -- an active `$d` that has two names
-pub record HavePair (before : List Item) (x y : List ℕ) (n : ℕ) : Type 0 where
+pub record HavePair (before : List Said) (x y : List ℕ) (n : ℕ) : Type 0 where
   pub first : IsDisjointAt before x n
   pub second : IsDisjointAt before y n
   pub stayed : is_active_at before n ≡ true
 
-pub named_in : (before : List Item) (item : Item) (s : Symbol) (name : List ℕ) → In s (expression before item) → s.name ≡ name → has item.symbols name ≡ true
+pub named_in : (before : List Said) (item : Said) (s : Symbol) (name : List ℕ) → In s (expression before item) → s.name ≡ name → has item.symbols name ≡ true
 named_in before item s name m e = grind (arith, common_steps, from_map (symbol before) s item.symbols m, in_has) steps 200000
 
-pub paired_from : (before : List Item) (x y : List ℕ) → AreSound before → are_paired (active_pairs before) (as_variable x, as_variable y) ≡ true → (x ≢ y) × (n : ℕ) × HavePair before x y n
+pub paired_from : (before : List Said) (x y : List ℕ) → AreSound before → are_paired (active_pairs before) (as_variable x, as_variable y) ≡ true → (x ≢ y) × (n : ℕ) × HavePair before x y n
 paired_from before x y h t = by_names f.2
   where
     f : (pair : Symbol × Symbol) × In pair (active_pairs before) × SameNames (as_variable x, as_variable y) pair
@@ -198,13 +199,13 @@ paired_from before x y h t = by_names f.2
     by_names (inl e) = let r = found x y e.0 e.1 in (r.0, r.1, r.2)
     by_names (inr e) = let r = found y x e.0 e.1 in (λ s. r.0 (sym s), r.1, r.3)
 
-pub paired_to : (before : List Item) (x y : List ℕ) (n : ℕ) → x ≢ y → HavePair before x y n → are_paired (active_pairs before) (as_variable x, as_variable y) ≡ true
+pub paired_to : (before : List Said) (x y : List ℕ) (n : ℕ) → x ≢ y → HavePair before x y n → are_paired (active_pairs before) (as_variable x, as_variable y) ≡ true
 paired_to before x y n apart p =
-    let item : Item = p.first.item in
+    let item : Said = p.first.item in
     elim (in_order (symbol before x) (symbol before y) (expression before item) (λ e. apart (ap (λ (s : Symbol). s.name) e))
     (in_map (symbol before) x item.symbols (has_in item.symbols x p.first.named))
     (in_map (symbol before) y item.symbols
-    (has_in item.symbols y (ap (λ (i : Item). has i.symbols y) (same_Some item p.second.item (sym p.first.there ∙ p.second.there)) ∙ p.second.named)))) [
+    (has_in item.symbols y (ap (λ (i : Said). has i.symbols y) (same_Some item p.second.item (sym p.first.there ∙ p.second.there)) ∙ p.second.named)))) [
       | inl m ↦ to_paired (as_variable x, as_variable y) (symbol before x, symbol before y) (active_pairs before)
           (in_flat (item_pairs before) item (symbol before x, symbol before y) (active before) (active_at_number before n item p.first.there p.stayed)
           (subst (λ b. In (symbol before x, symbol before y) (cond b (pairs_of (expression before item)) [])) (sym p.first.disjoint) m))
@@ -216,7 +217,7 @@ paired_to before x y n apart p =
     ]
 
 -- activity by the marks, as a question reads it
-pub active_at_marks : (before : List Item) (marks : List Mark) (n : ℕ) → marks ≡ block_marks before → is_active_at before n ≡ stays_by (drop (suc n) marks)
+pub active_at_marks : (before : List Said) (marks : List Mark) (n : ℕ) → marks ≡ block_marks before → is_active_at before n ≡ stays_by (drop (suc n) marks)
 active_at_marks before marks n e = let z : n + 1 ≡ suc n = omega arith in active_by_marks before n ∙ (λ i. stays_by (drop (z i) (sym e i)))
 
 -- what two rows have in common says whether the names are an active pair
@@ -226,7 +227,7 @@ HaveCommon marks row other = (n : ℕ) × IsCommon marks row other n
 abbrev HaveNone : List Mark → List ℕ → List ℕ → Type 0
 HaveNone marks row other = (n : ℕ) → IsCommon marks row other n → ⊥
 
-rows_told : (all : List (List ℕ)) (before : List Item) (table : PairTable) (blocks : List Mark) (first second : ℕ) (x y : List ℕ) (r : Bool)
+rows_told : (all : List (List ℕ)) (before : List Said) (table : PairTable) (blocks : List Mark) (first second : ℕ) (x y : List ℕ) (r : Bool)
     → ReadsPairs all before table blocks → IsNameNumber all first x → IsNameNumber all second y → (first ≡ second → ⊥)
     → MatchBool r (HaveCommon blocks (row_at table first) (row_at table second)) (HaveNone blocks (row_at table first) (row_at table second)) → r ≡ are_paired (active_pairs before) (as_variable x, as_variable y)
 rows_told all before table blocks first second x y true k a b apart c =
@@ -241,7 +242,7 @@ rows_told all before table blocks first second x y false k a b apart c = sym (fa
     let have = p.2 in
     c p.1 ((k.knows first x a).cover p.1 have.first have.stayed, (k.knows second y b).cover p.1 have.second have.stayed, sym (active_at_marks before blocks p.1 k.marks) ∙ have.stayed)))
 
-pub pair_told : (all : List (List ℕ)) (before : List Item) (table : PairTable) (blocks : List Mark) (first second : ℕ) (row other : List ℕ) (x y : List ℕ)
+pub pair_told : (all : List (List ℕ)) (before : List Said) (table : PairTable) (blocks : List Mark) (first second : ℕ) (row other : List ℕ) (x y : List ℕ)
     (r : Bool) → row ≡ row_at table first → other ≡ row_at table second → ReadsPairs all before table blocks
     → IsNameNumber all first x → IsNameNumber all second y → (first ≡ second → ⊥) → (IsRising other → MatchBool r (HaveCommon blocks row other) (HaveNone blocks row other)) → r ≡ are_paired (active_pairs before) (as_variable x, as_variable y)
 pair_told all before table blocks first second row other x y r e f k a b apart c =
@@ -253,14 +254,14 @@ common_turned : (marks : List Mark) (row other : List ℕ) (r : Bool) → MatchB
 common_turned marks row other true c = let common = c.1 in (c.0, (common.1, common.0, common.2))
 common_turned marks row other false c = λ n common. c n (common.1, common.0, common.2)
 
-pub pair_turned_told : (all : List (List ℕ)) (before : List Item) (table : PairTable) (blocks : List Mark) (first second : ℕ) (row other : List ℕ)
+pub pair_turned_told : (all : List (List ℕ)) (before : List Said) (table : PairTable) (blocks : List Mark) (first second : ℕ) (row other : List ℕ)
     (x y : List ℕ) (r : Bool) → row ≡ row_at table first → other ≡ row_at table second → ReadsPairs all before table blocks
     → IsNameNumber all first x → IsNameNumber all second y → (first ≡ second → ⊥) → (IsRising row → MatchBool r (HaveCommon blocks other row) (HaveNone blocks other row)) → r ≡ are_paired (active_pairs before) (as_variable x, as_variable y)
 pair_turned_told all before table blocks first second row other x y r e f k a b apart c =
     pair_told all before table blocks first second row other x y r e f k a b apart (λ _. common_turned blocks other row r (c (subst IsRising (sym e) (k.knows first x a).rising)))
 
 -- a name that no `$d` has is in no active pair
-pub none_told : (all : List (List ℕ)) (before : List Item) (table : PairTable) (blocks : List Mark) (n : ℕ) (x y : List ℕ)
+pub none_told : (all : List (List ℕ)) (before : List Said) (table : PairTable) (blocks : List Mark) (n : ℕ) (x y : List ℕ)
     → ReadsPairs all before table blocks → IsNameNumber all n x → row_at table n ≡ [] → are_paired (active_pairs before) (as_variable x, as_variable y) ≡
     false
 none_told all before table blocks n x y k a e = grind (arith, common_steps, k.knows n x a, false_from_ne_true, paired_from, contains_in) steps 200000

@@ -5,23 +5,23 @@ use Rattle.mm_store.specs.Language.FilesView.{FilesView}
 use Rattle.mm_machine.specs.{declared.symbol.NumberedSymbol.{NumberedSymbol}, Language.{Frame.{Symbol}, Names.{Begins, name_at}, NumberedSymbols.{symbol_of, symbols_of, IsNumbered}}}
 use Rattle.mm_frame.specs.{Language.{Framing.{symbol}, Answering.{BaseAnswers}, Older.{HasOlder}}, Code.{KnownItem.{IsAgain, numbers_of}, Numbers.{AreNameNumbers}}}
 use Rattle.mm_frame.proofs.lemmas.names.NumberLemmas.{begins_on, there_from_map}
-use Rattle.mm_statement.specs.Language.{Item.{Item, item_at}, Statement.{OneRangeSaysOne, Says}}
+use Rattle.mm_statement.specs.Language.{Item.{Said, item_at}, Statement.{OneRangeSaysOne, Says}}
 use Rattle.mm_store.specs.declared.item.Item as store
 
 -- each item says what is said at its place
-says_at : (files : FilesView) (found : List store.Item) (said : List Item) (i : ℕ) (item : store.Item) → AllZip (Says files) found said → slice_get found i ≡ Some item → Says files item (item_at said i)
+says_at : (files : FilesView) (found : List store.Item) (said : List Said) (i : ℕ) (item : store.Item) → AllZip (Says files) found said → slice_get found i ≡ Some item → Says files item (item_at said i)
 says_at files [] said i item h e = cc
 says_at files (x ∷ found) (y ∷ said) zero item h e = subst (λ w. Says files w y) (same_Some x item e) h.0
 says_at files (x ∷ found) (y ∷ said) (suc i) item h e = says_at files found said i item h.1 e
 says_at files (x ∷ found) [] i item h e = absurd h
 
 -- and so does the same item once more
-pub same_again : (files : FilesView) (found : List store.Item) (said : List Item) (i : ℕ) (item : store.Item) → OneRangeSaysOne → AllZip (Says files) found said → IsAgain found i item → (told : Item)
+pub same_again : (files : FilesView) (found : List store.Item) (said : List Said) (i : ℕ) (item : store.Item) → OneRangeSaysOne → AllZip (Says files) found said → IsAgain found i item → (told : Said)
     → Says files item told → item_at said i ≡ told
 same_again files found said i item law h again told says = law files again.was item again.same (item_at said i) told (says_at files found said i again.was h again.there) says
 
 -- the symbols that are kept of an item have the numbers of its symbols
-pub numbers_known : (names : List (List ℕ)) (before : List Item) (symbols : List (List ℕ)) (kept : List NumberedSymbol)
+pub numbers_known : (names : List (List ℕ)) (before : List Said) (symbols : List (List ℕ)) (kept : List NumberedSymbol)
     → symbols_of names kept ≡ map (symbol before) symbols → All (IsNumbered names) kept → AreNameNumbers names (numbers_of kept) symbols
 numbers_known names before symbols kept e numbered = record {
   count = length-map kept (λ (k : NumberedSymbol). k.name) ∙ sym (length-map kept (symbol_of names)) ∙ ap length e ∙ length-map symbols (symbol before);

@@ -2,7 +2,7 @@
 use Rattle.std.proofs.lemmas.{Grind.{common_steps}, Bool.{le-leb, lt-leb, false≢true}, List.{drop-take, length-drop, length-append}, Option.{slice_get-get_or}}
 use Rattle.std.proofs.Common.{◌≡◌, ℕ, suc, ◌+◌, ◌-◌, ◌<◌, leb, ◌++◌, ◌∷◌, Bool, true, Option, Some, None, List, [], length, take, drop, get_or, sym, ◌∙◌, ap, subst, arith, ◌↔◌, slice_range}
 use native.Mathlib.Decide.{dec_lt}
-use Rattle.mm_frame.specs.{Language.{Scope.{Mark, Closes}, Resolving.{IsUpTo}}, Code.{BlockMarks.{stays_by}, BlockEnds.{end_of_block}, KeptBlocks.{marks_from, StandsEnded, Stands, AreBlockEndsKept}}}
+use Rattle.mm_frame.specs.{Language.{Resolving.{IsUpTo}, Marks.{Mark, Closes}}, Code.{BlockMarks.{stays_by}, BlockEnds.{end_of_block}, KeptBlocks.{marks_from, StandsEnded, Stands, AreBlockEndsKept}}}
 use Rattle.mm_frame.proofs.lemmas.scope.BlockLemmas.{length_marks, is_active_open, is_active_ended}
 
 -- what is between an item and a later place, with or without an item there

@@ -5,19 +5,19 @@ use Rattle.std.proofs.lemmas.{List.{get_or-set_other, Sums.{sum_by_push}}, Optio
 use Rattle.std.proofs.Common.{◌≡◌, ◌≢◌, ℕ, zero, suc, pred, ◌+◌, ◌-◌, ◌≤◌, ◌<◌, ◌==◌, leb, Bool, true, false, cond, Option, Some, None, List, [], ◌∷◌, ◌++◌, Result, Ok, is_ok, IsSome, slice_range}
 use Rattle.std.proofs.Common.{unwrap_or, option_to_list, length, min, take, drop, get_or, set, count_by, slice_get, refl, sym, ◌∙◌, ap, subst, append_assoc, append-nil, arith, ◌⊎◌, inl, inr}
 use Rattle.std.proofs.Math.Seq.{take-append-add}
-use Rattle.mm_frame.proofs.lemmas.{lists.Members.{get_join, get_between}, scope.ActiveBySplit.{closed_more}}
-use Rattle.mm_frame.specs.{Language.Scope.{Mark, Opens, Closes, Neither, mark_of, closed_at, closed, is_zero, stays, opens, closes}, Code.BlockMarks.{closed_by, stays_by, block_marks}}
-use Rattle.mm_frame.specs.Code.{BlockEnds.{end_of_block}, KeptBlocks.{is_at, mark_between, marks_from, last_block, LeavesOpen, StandsOpen, StandsEnded, Stands, AreBlocks, AreBlockEndsKept}}
+use Rattle.mm_frame.{proofs.lemmas.{lists.Members.{get_join, get_between}, scope.ActiveBySplit.{zero_is, counted_mark, closed_more}}, specs.Language.Scope.{closed, stays}}
+use Rattle.mm_frame.specs.{Language.Marks.{Mark, Opens, Closes, Neither, mark_of}, Code.{BlockMarks.{closed_by, stays_by, block_marks, closed_at, is_zero, opens, closes}, BlockEnds.{end_of_block}}}
+use Rattle.mm_frame.specs.Code.KeptBlocks.{is_at, mark_between, marks_from, last_block, LeavesOpen, StandsOpen, StandsEnded, Stands, AreBlocks, AreBlockEndsKept}
 use native.Mathlib.Decide.{dec_lt}
-use Rattle.mm_statement.specs.Language.Item.{Item}
+use Rattle.mm_statement.specs.Language.Item.{Said}
 
 -- marks and items
-closed_of : (items : List Item) → closed items ≡ closed_by (block_marks items)
+closed_of : (items : List Said) → closed items ≡ closed_by (block_marks items)
 closed_of [] = refl
-closed_of (item ∷ items) = ap (closed_at (mark_of item.kind)) (closed_of items)
+closed_of (item ∷ items) = counted_mark item.kind (closed items) ∙ ap (closed_at (mark_of item.kind)) (closed_of items)
 
-pub stays_of : (items : List Item) → stays items ≡ stays_by (block_marks items)
-stays_of items = ap is_zero (closed_of items)
+pub stays_of : (items : List Said) → stays items ≡ stays_by (block_marks items)
+stays_of items = zero_is (closed items) ∙ ap is_zero (closed_of items)
 
 -- a list with one more element
 pub get_front : {X : Type 0} (xs : List X) (y x : X) (n : ℕ) → slice_get xs n ≡ Some x → slice_get (xs ++ y ∷ []) n ≡ Some x

@@ -1,24 +1,24 @@
 -- What a `$}` leaves of the numbers of active items: the last of them are dropped.
 use Rattle.std.proofs.lemmas.{List.{drop-drop, drop-append-le, drop-map}, Grind.{common_steps}, Bool.{false≢true}, Option.{slice_get_within}}
-use Rattle.std.proofs.Common.{◌≡◌, ℕ, suc, ◌+◌, ◌-◌, ◌<◌, Bool, true, false, Some, List, [], ◌∷◌, ◌++◌, length, take, drop, slice_get, refl, sym, ◌∙◌, ap, subst, append_assoc, arith, inl, inr, ◌⊎◌}
-use Rattle.std.specs.Prelude.{Contains}
+use Rattle.std.proofs.Common.{◌≡◌, ℕ, suc, ◌+◌, ◌-◌, ◌<◌, ◌==◌, Bool, true, false, Some, List, [], ◌∷◌, ◌++◌, length, take, drop, slice_get, refl, sym, ◌∙◌, ap, subst, append_assoc, arith, inl, inr}
+use Rattle.std.{proofs.Common.{◌⊎◌}, specs.Prelude.{Contains}}
 use Rattle.mm_frame.proofs.lemmas.frames.HypothesisNumbers.{front_below, to_active_number, from_active_number, active_numbers_rise, same_rising}
-use Rattle.mm_frame.proofs.lemmas.{lists.{Members.{In, in_contains, contains_in, in_left, in_right, in_cases}, Rising.{rising_front, get_drop}}, scope.ActiveBySplit.{closed_none, stays_front}}
-use Rattle.mm_frame.{proofs.lemmas.scope.{SoundItems.{split_at}, BlockLemmas.{get_front, get_cases, stays_of}}, specs.Language.Scope.{Mark, mark_of, closed_at, closed, is_zero, stays, active_numbers}}
-use Rattle.mm_frame.specs.Code.{BlockMarks.{stays_by, block_marks}, LastItems.{is_active_at, IsRising}, KeptActive.{IsPruned}}
-use Rattle.mm_statement.specs.Language.Item.{Item}
+use Rattle.mm_frame.proofs.lemmas.lists.{Members.{In, in_contains, contains_in, in_left, in_right, in_cases}, Rising.{rising_front, get_drop}}
+use Rattle.mm_frame.proofs.lemmas.scope.{ActiveBySplit.{closed_none, counted, stays_front}, SoundItems.{split_at}, BlockLemmas.{get_front, get_cases, stays_of}}
+use Rattle.mm_frame.specs.{Language.{Scope.{closed, stays, active_numbers}, Marks.{Mark}}, Code.{BlockMarks.{stays_by, block_marks}, LastItems.{is_active_at, IsRising}, KeptActive.{IsPruned}}}
+use Rattle.mm_statement.specs.Language.Item.{Said}
 
 -- what is active after one more item was active before it
-pub active_at_front : (before : List Item) (item : Item) (n : ℕ) → n < length before → is_active_at (before ++ item ∷ []) n ≡ true → is_active_at before n ≡ true
+pub active_at_front : (before : List Said) (item : Said) (n : ℕ) → n < length before → is_active_at (before ++ item ∷ []) n ≡ true → is_active_at before n ≡ true
 active_at_front before item n l h = stays_front (drop (suc n) before) (item ∷ []) (subst (λ w. stays w ≡ true) (drop-append-le (suc n) before (item ∷ []) (omega arith)) h)
 
 -- items that end as many blocks of those before them
-closed_same : (xs ys zs : List Item) → closed ys ≡ closed zs → closed (xs ++ ys) ≡ closed (xs ++ zs)
+closed_same : (xs ys zs : List Said) → closed ys ≡ closed zs → closed (xs ++ ys) ≡ closed (xs ++ zs)
 closed_same [] ys zs e = e
-closed_same (x ∷ xs) ys zs e = ap (closed_at (mark_of x.kind)) (closed_same xs ys zs e)
+closed_same (x ∷ xs) ys zs e = ap (counted x) (closed_same xs ys zs e)
 
 -- if an earlier item and a later one were active, the earlier one is active as long as the later one is
-pub active_at_earlier : (before : List Item) (item : Item) (m n : ℕ) (x : Item) → m < n → slice_get before n ≡ Some x → is_active_at before m ≡ true → is_active_at (before ++ item ∷ []) n ≡ true → is_active_at (before ++ item ∷ []) m ≡ true
+pub active_at_earlier : (before : List Said) (item : Said) (m n : ℕ) (x : Said) → m < n → slice_get before n ≡ Some x → is_active_at before m ≡ true → is_active_at (before ++ item ∷ []) n ≡ true → is_active_at (before ++ item ∷ []) m ≡ true
 active_at_earlier before item m n x l e h k =
     let w = slice_get_within before n x e in
     let gap = n - suc m in
@@ -30,11 +30,11 @@ active_at_earlier before item m n x l e h k =
     split_at (drop (suc m) before) gap x (get_drop before (suc m) gap n (sym at) ∙ e) ∙ ap (λ ys. middle ++ x ∷ ys) (drop-drop (suc gap) (suc m) before ∙ ap (λ p. drop p before) next) in
     let later : stays (back ++ item ∷ []) ≡ true = subst (λ ys. stays ys ≡ true) (drop-append-le (suc n) before (item ∷ []) (omega arith)) k in
     let none = closed_none (back ++ item ∷ []) later ∙ sym (closed_none back (stays_front back (item ∷ []) later)) in
-    let same : closed (middle ++ x ∷ (back ++ item ∷ [])) ≡ closed (middle ++ x ∷ back) = closed_same middle (x ∷ (back ++ item ∷ [])) (x ∷ back) (ap (closed_at (mark_of x.kind)) none) in
-    ap stays (drop-append-le (suc m) before (item ∷ []) (omega arith) ∙ ap (λ ys. ys ++ item ∷ []) parts ∙ append_assoc middle (x ∷ back) (item ∷ [])) ∙ ap is_zero same ∙ ap stays (sym parts) ∙ h
+    let same : closed (middle ++ x ∷ (back ++ item ∷ [])) ≡ closed (middle ++ x ∷ back) = closed_same middle (x ∷ (back ++ item ∷ [])) (x ∷ back) (ap (counted x) none) in
+    ap stays (drop-append-le (suc m) before (item ∷ []) (omega arith) ∙ ap (λ ys. ys ++ item ∷ []) parts ∙ append_assoc middle (x ∷ back) (item ∷ [])) ∙ ap (λ c. c == 0) same ∙ ap stays (sym parts) ∙ h
 
 -- a number of an active item after one more that does not pass
-number_before : (test : Item → Bool) (before : List Item) (item : Item) → test item ≡ false → (n : ℕ) → In n (active_numbers test (before ++ item ∷ [])) → In n (active_numbers test before) × (is_active_at (before ++ item ∷ []) n ≡ true)
+number_before : (test : Said → Bool) (before : List Said) (item : Said) → test item ≡ false → (n : ℕ) → In n (active_numbers test (before ++ item ∷ [])) → In n (active_numbers test before) × (is_active_at (before ++ item ∷ []) n ≡ true)
 number_before test before item t n h =
     let r = from_active_number test (before ++ item ∷ []) n h in
     elim (get_cases before item r.0 n r.1) [
@@ -54,7 +54,7 @@ last_of (n ∷ numbers) = elim (last_of numbers) [
 ]
 
 -- what is left is a beginning, and the longest of which all are still active: so it is what is active after the `$}`
-pub pruned_numbers : (test : Item → Bool) (before : List Item) (item : Item) (kept gone : List ℕ) → test item ≡ false → active_numbers test before ≡ kept ++ gone → ((n : ℕ) → In n gone → is_active_at (before ++ item ∷ []) n ≡ false)
+pub pruned_numbers : (test : Said → Bool) (before : List Said) (item : Said) (kept gone : List ℕ) → test item ≡ false → active_numbers test before ≡ kept ++ gone → ((n : ℕ) → In n gone → is_active_at (before ++ item ∷ []) n ≡ false)
     → ((front : List ℕ) (n : ℕ) → kept ≡ front ++ n ∷ [] → is_active_at (before ++ item ∷ []) n ≡ true) → kept ≡ active_numbers test (before ++ item ∷ [])
 pruned_numbers test before item kept gone t e ended last =
     let whole = before ++ item ∷ [] in
@@ -80,10 +80,10 @@ pruned_numbers test before item kept gone t e ended last =
       ]
 
 -- activity by the marks of the items
-pub active_by_marks : (items : List Item) (n : ℕ) → is_active_at items n ≡ stays_by (drop (n + 1) (block_marks items))
+pub active_by_marks : (items : List Said) (n : ℕ) → is_active_at items n ≡ stays_by (drop (n + 1) (block_marks items))
 active_by_marks items n = grind (arith, common_steps, stays_of (drop (suc n) items), drop-map) steps 200000
 
-pub pruned_by_marks : (marks : List Mark) (old new : List ℕ) → IsPruned marks old new → (test : Item → Bool) (before : List Item) (item : Item)
+pub pruned_by_marks : (marks : List Mark) (old new : List ℕ) → IsPruned marks old new → (test : Said → Bool) (before : List Said) (item : Said)
     → test item ≡ false → marks ≡ block_marks (before ++ item ∷ []) → old ≡ active_numbers test before → new ≡ active_numbers test (before ++ item ∷ [])
 pruned_by_marks marks old new p test before item t m o =
     pruned_numbers test before item new p.gone t (sym o ∙ p.parts)

@@ -15,7 +15,7 @@ pub loop-i-preserved : goal.loop-i-preserved
 loop-i-preserved c names files view is checked =
     let t = c.loop-i.invariant names files view is checked in
     let one = c.kind_of.ensures names files view is checked (omega (arith, c.loop-i-test.true, c.loop-i.auto.i-end, c.count-i-end.ensures.count view (names, is.read_in.base))) in
-    (t.0 ++ one.0 ∷ [], told_more files view c.loop-i.i t.0 one.0 one.1 t.1, c.with_kind-tally.ensures ∙ (λ i. one_more (sym one.2 i) (t.2 i)) ∙ sym (counts_more t.0 one.0))
+    (t.0 ++ one.0 ∷ [], told_more files c.args.base.now.items view c.loop-i.i t.0 one.0 one.1 t.1, c.with_kind-tally.ensures ∙ (λ i. one_more (sym one.2 i) (t.2 i)) ∙ sym (counts_more t.0 one.0))
 
 pub returns : goal.returns
 returns c names files view is checked = grind (arith, common_steps, c.loop-i.invariant names files view is checked, c.count-i-end.ensures.count view (names, is.read_in.base)) steps 200000

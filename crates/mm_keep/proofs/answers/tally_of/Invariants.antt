@@ -5,4 +5,4 @@ use Rattle.mm_keep.proofs.answers.tally_of.Given as goal
 
 abbrev pub invariant-loop-i : goal.invariant-loop-i
 invariant-loop-i l =
-    (names : List (List ℕ)) (files : FilesView) (view : BaseView) → IsOf names files l.base view → AreChecked view l.checked → (all : List Told) × ToldUpTo files view l.i all × (counted l.tally ≡ counts all)
+    (names : List (List ℕ)) (files : FilesView) (view : BaseView) → IsOf names files l.base view → AreChecked view l.checked → (all : List Told) × ToldUpTo files l.base.items view l.i all × (counted l.tally ≡ counts all)

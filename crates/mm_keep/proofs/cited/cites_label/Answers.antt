@@ -16,18 +16,18 @@ has_label-requires c =
 pub returns-in-Some : goal.returns-in-Some
 returns-in-Some c names view is are i label =
     let j = c.args.j in
-    let within : j < length view.said = omega (arith, c.requires.4, c.requires.3.count, are.count) in
+    let within : j < length view = omega (arith, c.requires.4, c.requires.3.count, are.count) in
     let k = checked_at view c.args.checked.now j (Some c.in-Some.check.now) are within (sym c.get.ensures ∙ ap (option_map (λ one. one.now)) c.in-Some.is) in
     let cites : c.in-Some.check.now.cites ≡ cites_at view j = k.2 in
-    let says = says_at names c.args.files.now c.args.base.now view j c.item.result.now is (c.item.ensures.found view (names, is.read_in.base)) in
+    let says = says_at names c.args.files.now c.args.base.now view j c.item.result.now is c.item.ensures.found in
     let words = c.words_of_proof-words.ensures.words (said_at view j) says in
     let has = subst₂ (λ (ws : List (List ℕ)) (ns : List ℕ). IsTrue c.has_label.result ↔ IsAmongCited ws ns (length ns) c.args.label.now) words cites c.has_label.ensures in
-    let cited = label_cited c.cites_tell.ensures.each c.cites_tell.ensures.tell c.has_own_labels.ensures view (c.args.files.now, is.read_in.each) j k.0 c.args.label.now i label in
+    let cited = label_cited c.cites_tell.ensures.each c.cites_tell.ensures.tell c.has_own_labels.ensures view is.read_in.base.labelled j k.0 c.args.label.now i label in
     (λ t. cited.0 (has.0 t), λ one. has.1 (cited.1 one))
 
 pub returns-in-None : goal.returns-in-None
 returns-in-None c names view is are i label =
     let j = c.args.j in
-    let within : j < length view.said = omega (arith, c.requires.4, c.requires.3.count, are.count) in
+    let within : j < length view = omega (arith, c.requires.4, c.requires.3.count, are.count) in
     let none = checked_at view c.args.checked.now j None are within (sym c.get.ensures ∙ ap (option_map (λ one. one.now)) c.in-None.is) in
     (λ t. absurd (false≢true t), λ one. absurd (none_cited view j i none one))

@@ -20,9 +20,9 @@ mark_words-requires-clause-places c =
     let view = r.1 in
     let j = c.args.j in
     let k = checked_at view c.args.checked.now j (Some c.in-Some.check.now) r.3 r.4 (sym c.get.ensures ∙ ap (option_map (λ one. one.now)) c.in-Some.is) in
-    let says = says_at r.0 c.args.files.now c.args.base.now view j c.item.result.now r.2 (c.item.ensures.found view (r.0, r.2.read_in.base)) in
+    let says = says_at r.0 c.args.files.now c.args.base.now view j c.item.result.now r.2 c.item.ensures.found in
     let words = c.words_of_proof-words.ensures.words (said_at view j) says in
-    let early = among_earlier c.cites_tell.ensures.each c.cites_tell.ensures.tell c.has_own_labels.ensures view (c.args.files.now, r.2.read_in.each) j k.0 in (
+    let early = among_earlier c.cites_tell.ensures.each c.cites_tell.ensures.tell c.has_own_labels.ensures view r.2.read_in.base.labelled j k.0 in (
       view,
       (r.0, r.2.read_in.base),
       λ n has.
@@ -33,17 +33,17 @@ mark_words-requires-clause-places c =
 pub returns-in-Some : goal.returns-in-Some
 returns-in-Some c names view is are =
     let j = c.args.j in
-    let within : j < length view.said = omega (arith, c.requires.item.4, c.requires.item.3.count, are.count) in
+    let within : j < length view = omega (arith, c.requires.item.4, c.requires.item.3.count, are.count) in
     let k = checked_at view c.args.checked.now j (Some c.in-Some.check.now) are within (sym c.get.ensures ∙ ap (option_map (λ one. one.now)) c.in-Some.is) in
     let cites : c.in-Some.check.now.cites ≡ cites_at view j = k.2 in
-    let says = says_at names c.args.files.now c.args.base.now view j c.item.result.now is (c.item.ensures.found view (names, is.read_in.base)) in
+    let says = says_at names c.args.files.now c.args.base.now view j c.item.result.now is c.item.ensures.found in
     let words = c.words_of_proof-words.ensures.words (said_at view j) says in
     let more = subst₂ (λ (ws : List (List ℕ)) (ns : List ℕ). MarksMore (HasLabelAmong view ws ns (length ns)) c.args.marks.now c.mark_words.new.marks) words cites (c.mark_words.ensures view (names, is.read_in.base)) in
-    marks_cited c.cites_tell.ensures.each c.cites_tell.ensures.tell c.has_own_labels.ensures view (c.args.files.now, is.read_in.each) j k.0 c.args.marks.now c.mark_words.new.marks more
+    marks_cited c.cites_tell.ensures.each c.cites_tell.ensures.tell c.has_own_labels.ensures view is.read_in.base.labelled j k.0 c.args.marks.now c.mark_words.new.marks more
 
 pub returns-in_default : goal.returns-in_default
 returns-in_default c names view is are =
     let j = c.args.j in
-    let within : j < length view.said = omega (arith, c.requires.item.4, c.requires.item.3.count, are.count) in
+    let within : j < length view = omega (arith, c.requires.item.4, c.requires.item.3.count, are.count) in
     let none = checked_at view c.args.checked.now j None are within (sym c.get.ensures ∙ ap (option_map (λ one. one.now)) c.in_default.is) in
     marks_same (CitesItem view j) c.args.marks.now (λ k. none_cited view j k none)

@@ -6,7 +6,7 @@ pub returns : goal.returns
 returns c = IfOk-weaker c.marked.result _ _ (λ numbers those names view is are.
     let fresh = c.in_ok-marks.marks.items in
     let after = c.mark_cites.new.marks in
-    let within : c.args.i < length view.said = omega (arith, c.requires.4, c.requires.3.count, are.count) in
+    let within : c.args.i < length view = omega (arith, c.requires.4, c.requires.3.count, are.count) in
     let cited = c.mark_cites.ensures names view is are in
     let long = sym c.deref_mut.ensures.len ∙ sym cited.count in
     let left = c.deref.ensures.value ∙ take_front after (drop (length after) fresh) c.in_ok-marks.marks.len long in

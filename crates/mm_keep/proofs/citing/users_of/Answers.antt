@@ -19,5 +19,5 @@ loop-j-preserved c names view is are label =
 pub returns : goal.returns
 returns c names view is are label =
     let count = c.count-j-end.ensures.count view (names, is.read_in.base) in
-    let e : c.loop-j.j ≡ length view.said = omega (arith, c.loop-j-test.false, c.loop-j.auto.j-end, count, label.within) in
+    let e : c.loop-j.j ≡ length view = omega (arith, c.loop-j-test.false, c.loop-j.auto.j-end, count, label.within) in
     subst (λ n. AreThose (λ k. CitesItem view k c.args.i) n c.loop-j.numbers.items) e (c.loop-j.invariant names view is are label)

@@ -1,8 +1,8 @@
 use Rattle.std.proofs.{Common.{arith}, lemmas.Grind.{common_steps}}
-use Rattle.mm_keep.proofs.{OneAnswers.{Laws, one_count, one_label, one_finding, one_verdict, one_tally}, laws.one_answer_each.Goals.{After-same_view_same_verdict}}
+use Rattle.mm_keep.proofs.{OneAnswers.{Laws, one_count, one_label, one_finding, one_verdict, one_tally}, laws.one_answer_each.Goals.{After-has_one_verdict_at}}
 use Rattle.mm_keep.proofs.laws.one_answer_each.Goals as goal
 
-laws : After-same_view_same_verdict → Laws
+laws : After-has_one_verdict_at → Laws
 laws c = grind (arith, common_steps) steps 200000
 
 pub returns-clause-count : goal.returns-clause-count

@@ -5,7 +5,7 @@ use Rattle.mm_keep.{specs.Code.{KeptPlan.{number_planned}, Planned.{ArePlanned, 
 use Rattle.mm_keep.proofs.planning.planned.Goals as goal
 
 -- what is kept is of an item of the old base
-planned_within : (base copy : BaseView) (j i : ℕ) (from : Option ℕ) → from ≡ Some i → IsPlanned base copy j from → i < length base.said
+planned_within : (base copy : BaseView) (j i : ℕ) (from : Option ℕ) → from ≡ Some i → IsPlanned base copy j from → i < length base
 planned_within base copy j i from e kept = grind (arith, common_steps, same_Some, none-some) steps 200000
 
 pub old_with_same_view-from-requires-clause-item : goal.old_with_same_view-from-requires-clause-item

@@ -1,6 +1,19 @@
-use Rattle.std.proofs.{lemmas.{Grind.{common_steps}, List.{length_push}, Option.{slice_get-get_or}}, Common.{◌≡◌, ◌+◌, Some, None, List, length, sym, ◌∙◌, ap, subst, arith, slice_get}}
-use Rattle.mm_keep.{specs.Code.{KeptCheck.{Kept}, Planned.{AreRunBy, IsRunBy}}, proofs.RunLemmas.{run_more, recorded_more, takes}}
+use Rattle.std.proofs.{lemmas.{Grind.{common_steps}, List.{length_push}, Option.{slice_get-get_or}}, Common.{◌≡◌, ◌+◌, Some, None, List, [], length, refl, sym, ◌∙◌, ap, subst, arith, slice_get}}
+use Rattle.mm_keep.{specs.Code.{KeptCheck.{Kept}, Planned.{AreRunBy, IsRunBy}}, proofs.RunLemmas.{run_more, recorded_more, takes, those_none}}
 use Rattle.mm_keep.proofs.planning.run_rest.Goals as goal
+
+pub loop-j-init : goal.loop-j-init
+loop-j-init c =
+    let made = c.in_ok-checked.ensures in
+    let work = c.in_ok-work.ensures in
+    record {
+      base = c.new-checker.ensures;
+      count = ap length made;
+      room = omega (arith, ap (λ w. w.room) work);
+      steps = omega (arith, ap (λ w. w.steps) work);
+      checked = λ view is. rw made (record { within = omega (arith); each = λ j from one at none. grind (arith, common_steps) steps 200000 });
+      recorded = λ view is. rw work (record { those = those_none _; steps = record { counts = []; each = tt; total_is = refl } });
+    }
 
 pub loop-j-preserved : goal.loop-j-preserved
 loop-j-preserved c =

@@ -1,18 +1,18 @@
 -- The lowest number that holds when an assertion is cited.
 use Rattle.std.proofs.{lemmas.{Grind.{common_steps}, List.{length-drop}}, Common.{◌≡◌, ◌-◌, ◌<◌, ◌≤◌, Some, None, List, ◌∷◌, ◌++◌, length, take, sym, subst, arith, Any, [], ap}}
 use Rattle.mm_machine.specs.Language.{Frame.{Symbol, Frame}, Typing.{IsFrame}, Substitution.{substituted}, Derivation.{AreApart, ShareVariable}, Steps.{Cites}}
-use Rattle.mm_machine.specs.{Language.Faults.{AnyZip, CitingFails, entries_for, LackPair, UnderGiven}, declared.ProofNumber.{ProofNumber, TheVariants.{P07, P08, P09, P10, P11, P12}}}
+use Rattle.mm_machine.specs.{Language.Faults.{AnyZip, CitingFails, last_entries, LackPair, UnderSubstitution}, declared.ProofNumber.{ProofNumber, TheVariants.{P07, P08, P09, P10, P11, P12}}}
 use Rattle.mm_machine.specs.Code.{Citation.{GivesEntries, OtherTypecode, OtherEssential, CitingSays, IsLowestCiting}, PairClause.{PairsSay}}
 use Rattle.mm_machine.proofs.lemmas.{machine.{Given.{given_by, floats_match, all_match}, Turning.{NoneBelow, none_more, none_first, cites_by, lowest}}, verdicts.Lines.{any_all}}
 
 -- there are too few entries
 pub says07 : (active : List (Symbol × Symbol)) (frame : Frame) (stack : List (List Symbol)) → length stack < length frame.hypotheses → IsLowestCiting active frame stack P07
-says07 active frame stack few = lowest (CitingFails active frame stack) P07 (none_first active frame stack) few
+says07 active frame stack few = lowest (CitingFails 1000000 active frame stack) P07 (none_first active frame stack) few
 
 module _ (active : List (Symbol × Symbol)) (frame : Frame) (is : IsFrame frame) (es stack : List (List Symbol)) (l : length frame.hypotheses ≤ length stack)
-    (at : entries_for frame stack ≡ es) where
+    (at : last_entries frame stack ≡ es) where
   abbrev Fails : ProofNumber → Type 0
-  Fails number = CitingFails active frame stack number
+  Fails number = CitingFails 1000000 active frame stack number
 
   -- it holds of each substitution that gives the entries
   abbrev Each : ((Symbol → List Symbol) → Type 0) → Type 0
@@ -36,10 +36,10 @@ module _ (active : List (Symbol × Symbol)) (frame : Frame) (is : IsFrame frame)
     gives = floats_match frame.hypotheses es count is.typings is.typed_once n8
 
     -- a fault that this substitution shows, and one that none shows
-    shown : (P : (Symbol → List Symbol) → Type 0) → P own → UnderGiven frame (entries_for frame stack) P
+    shown : (P : (Symbol → List Symbol) → Type 0) → P own → UnderSubstitution frame (last_entries frame stack) P
     shown P p = (own, subst (λ w. GivesEntries own frame.hypotheses w) (sym at) gives, p)
 
-    hidden : (P : (Symbol → List Symbol) → Type 0) → Each (λ given. P given → ⊥) → UnderGiven frame (entries_for frame stack) P → ⊥
+    hidden : (P : (Symbol → List Symbol) → Type 0) → Each (λ given. P given → ⊥) → UnderSubstitution frame (last_entries frame stack) P → ⊥
     hidden P n u = n u.0 (subst (λ w. GivesEntries u.0 frame.hypotheses w) at u.1) u.2
 
     below09 : NoneBelow Fails 9

@@ -1,10 +1,11 @@
 -- Steps that stop before one that lacks an entry, or at it.
-use Rattle.std.proofs.lemmas.{Grind.{common_steps}, Bool.{cases_Bool}, List.{take-append-le}, Option.{slice_get_within}}
-use Rattle.std.proofs.Common.{◌≡◌, ◌≢◌, ℕ, ◌+◌, ◌<◌, Some, List, ◌∷◌, ◌++◌, length, refl, sym, ◌∙◌, ap, subst, arith, slice_get, []}
-use Rattle.mm_machine.specs.Language.{Frame.{Symbol, Frame, Resolved, Assertion, Setting}, Typing.{HasFrames}, Expansion.{Step, Named, NotKnown}, Faults.{LabelFails, IsLowest}, Machine.{AreAllKnown}}
-use Rattle.mm_machine.specs.{Language.{Reaches.{Reaches, IsStepFault}, Run.{is_unknown, run_part}, NamedSteps.{AreDoneTo, RunSays, StopsAt}}, declared.ProofNumber.{ProofNumber, TheVariants.{P07}}}
-use Rattle.mm_machine.{specs.declared.stepping.Outcome.{Outcome, TheVariants.{Fault, Unknown}}, proofs.lemmas.machine.{ApartLemmas.{front_at}, CitingFaults.{says07}, Reaching.{at_start}}}
-use Rattle.mm_machine.proofs.lemmas.{machine.{Running.{faulty, runs_reach, runs_follow}, StepLemmas.{kept_at, part_ends}}, verdicts.Part.{part_one, part_none, known_one}}
+use Rattle.std.proofs.lemmas.{Grind.{common_steps}, List.{take-append-le}, Option.{slice_get_within}}
+use Rattle.std.proofs.Common.{◌≡◌, ◌≢◌, ℕ, ◌+◌, ◌<◌, List, ◌∷◌, ◌++◌, length, refl, sym, ◌∙◌, ap, subst, arith, [], inl, inr}
+use Rattle.mm_machine.specs.Language.{Frame.{Symbol, Frame, LabelMeaning, Assertion, Setting}, Typing.{HasFrames}, Expansion.{Step, Named, NotKnown}, Faults.{LabelFails, IsLowest}}
+use Rattle.mm_machine.specs.{Language.{Reaches.{Reaches, IsStepFault}, Run.{run_part}, NamedSteps.{AreDoneTo, RunSays, StopsAt}}, declared.ProofNumber.{ProofNumber, TheVariants.{P07}}}
+use Rattle.mm_machine.{specs.declared.stepping.Outcome.{Outcome, TheVariants.{Fault, Unknown}}, proofs.lemmas.machine.{CitingFaults.{says07}, Reaching.{at_start}}}
+use Rattle.mm_machine.proofs.lemmas.machine.{Running.{faulty, runs_reach, runs_follow}, StepLemmas.{kept_at}}
+use Rattle.mm_machine.proofs.lemmas.verdicts.Part.{AreKnown, all_known, known_or_not, not_all_run, part_none, part_one, run_or_unknown}
 
 -- if steps stop, a run says so, whatever the statement is
 pub stopped_says : (place : Setting) (steps : List Step) (statement : List Symbol) (outcome : Outcome) → StopsAt place steps outcome → RunSays place steps statement outcome
@@ -13,7 +14,7 @@ stopped_says place steps statement outcome s = grind (arith, common_steps) steps
 -- what is run of more steps begins like what is run of the first of them
 part_longer : (front behind : List Step) → (rest : List Step) × (run_part (front ++ behind) ≡ run_part front ++ rest)
 part_longer [] behind = (run_part behind, refl)
-part_longer (x ∷ front) behind = grind (arith, cases_Bool (is_unknown x), part_longer front behind, part_none, part_one) steps 200000
+part_longer (x ∷ front) behind = grind (arith, common_steps, known_or_not x, part_longer front behind, part_none, part_one) steps 200000
 
 fault_longer : (place : Setting) (steps rest : List Step) (n : ℕ) (number : ProofNumber) → IsStepFault place steps n number → IsStepFault place (steps ++ rest) n number
 fault_longer place steps rest n number f =
@@ -26,20 +27,31 @@ fault_longer place steps rest n number f =
       number_is = f.number_is;
     }
 
+-- what is run of more steps is what is run of the first of them, if not all of these are run
+part_stays : (front behind : List Step) → run_part front ≢ front → run_part (front ++ behind) ≡ run_part front
+part_stays [] behind n = absurd (n refl)
+part_stays (x ∷ front) behind n = elim (known_or_not x) [
+  | inl e ↦ part_none x (front ++ behind) e ∙ sym (part_none x front e)
+  | inr k ↦ part_one x (front ++ behind) k ∙ ap (λ (w : List Step). x ∷ w) (part_stays front behind (λ all. n (part_one x front k ∙ ap (λ (w : List Step). x ∷ w) all))) ∙ sym (part_one x front k)
+]
+
+not_run_longer : (front behind : List Step) → run_part front ≢ front → run_part (front ++ behind) ≢ front ++ behind
+not_run_longer front behind n all = elim (run_or_unknown front) [
+  | inl e ↦ n e
+  | inr at ↦ not_all_run (front ++ behind) (length (run_part front)) (kept_at front behind (length (run_part front)) NotKnown at) all
+]
+
 -- if the first steps stop, all stop
 pub stops_on : (place : Setting) (front behind : List Step) (outcome : Outcome) → StopsAt place front outcome → StopsAt place (front ++ behind) outcome
 stops_on place front behind (Fault number n) s = grind (arith, common_steps, part_longer front behind, fault_longer place (run_part front) (part_longer front behind).0 n number s) steps 200000
 stops_on place front behind (Unknown n) s =
-    let within = slice_get_within front n NotKnown s.0.0 in
-    let at = kept_at front behind n NotKnown s.0.0 in
-    let known : (k : ℕ) → k < n → slice_get (front ++ behind) k ≢ Some NotKnown = λ k l e. s.0.1 k l (sym (front_at front behind k (omega (arith, l, within))) ∙ e) in
-    let same : run_part (front ++ behind) ≡ run_part front = part_ends (front ++ behind) n known at ∙ take-append-le n front behind (omega (arith, within)) ∙ sym (part_ends front n s.0.1 s.0.0) in
-    ((at, known), (s.1.0, subst (λ (w : List Step). Reaches place w s.1.0) (sym same) s.1.1))
+    let same = part_stays front behind s.1 in
+    (s.0 ∙ ap length (sym same), not_run_longer front behind s.1, (s.2.0, subst (λ (w : List Step). Reaches place w s.2.0) (sym same) s.2.1))
 stops_on place front behind _ s = absurd s
 
-known_longer : (front : List Step) (step : Step) (behind : List Step) → AreAllKnown front → step ≢ NotKnown → run_part (front ++ step ∷ behind) ≡ front ++ step ∷ run_part behind
-known_longer [] step behind all known = part_one step behind (known_one step known)
-known_longer (x ∷ front) step behind all known = part_one x (front ++ step ∷ behind) (known_one x all.0) ∙ ap (λ (w : List Step). x ∷ w) (known_longer front step behind all.1 known)
+known_longer : (front : List Step) (step : Step) (behind : List Step) → AreKnown front → step ≢ NotKnown → run_part (front ++ step ∷ behind) ≡ front ++ step ∷ run_part behind
+known_longer [] step behind all known = part_one step behind known
+known_longer (x ∷ front) step behind all known = part_one x (front ++ step ∷ behind) all.0 ∙ ap (λ (w : List Step). x ∷ w) (known_longer front step behind all.1 known)
 
 -- the step after those that are done lacks an entry
 pub lacks_entry :
@@ -50,7 +62,7 @@ lacks_entry place is front behind label frame stack done at few =
     let follows = runs_follow place [] front _ runs.0 (at_start place) runs.1 in
     let says = says07 place.active frame runs.0.stack (subst (λ (w : List (List Symbol)). length w < length frame.hypotheses) (sym runs.2) few) in
     let lowest : IsLowest place (Named label) runs.0.stack P07 = record {
-      holds = subst (λ (r : Resolved). LabelFails place.active r runs.0.stack P07) (sym at) says.0;
-      lowest = λ other p. says.1 other (subst (λ (r : Resolved). LabelFails place.active r runs.0.stack other) at p);
+      holds = subst (λ (r : LabelMeaning). LabelFails place.active r runs.0.stack P07) (sym at) says.0;
+      lowest = λ other p. says.1 other (subst (λ (r : LabelMeaning). LabelFails place.active r runs.0.stack other) at p);
     } in
-    grind (arith, common_steps, faulty place is front (run_part behind) runs.0 (Named label) P07 follows lowest, known_longer) steps 200000
+    grind (arith, common_steps, faulty place is front (run_part behind) runs.0 (Named label) P07 follows lowest, known_longer front (Named label) behind (all_known front done.0) (λ e. (cc))) steps 200000

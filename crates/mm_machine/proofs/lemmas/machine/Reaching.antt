@@ -1,10 +1,10 @@
 -- The machine and what is reached.
 use Rattle.std.proofs.lemmas.{Grind.{common_steps}, List.{append-nil, same_from_push}}
-use Rattle.std.{proofs.Common.{◌≡◌, ℕ, Option, Some, None, List, ◌∷◌, ◌++◌, length, refl, sym, ◌∙◌, ap, subst, arith, length-append, slice_get, []}, specs.List.{AllZip}}
+use Rattle.std.{proofs.Common.{◌≡◌, ℕ, Option, Some, None, List, ◌∷◌, ◌++◌, length, refl, sym, ◌∙◌, ap, subst, arith, length-append, slice_get, []}, specs.{List.{AllZip}, Option.{option_map}}}
 use Rattle.mm_machine.specs.Language.{Frame.{Symbol, Setting}, Derivation.{Derives, DeriveInOrder, nothing, first_then}, Typing.{HasFrames}, Steps.{Moves}}
-use Rattle.mm_machine.specs.Language.{Expansion.{Step, Named, Saved, Save, NotKnown, Expanded, expand_one, expand_from, expansion, last_part, with_saved, with_again}, Reaches.{Reaches}}
-use Rattle.mm_machine.{specs.Language.Machine.{State, Turns}, proofs.lemmas.verdicts.{Joins.{join, alone, cut}, Unique.{go_on, last_of, same_stack}, Weights.{last_part_is}}}
-use Rattle.mm_machine.proofs.lemmas.lists.{Members.{last_element}, Zips.{both_joined, flipped, zip_at}}
+use Rattle.mm_machine.specs.Language.{Expansion.{Step, Named, Saved, Save, NotKnown, Expanded, expand_one, expand_from, expansion, last_part}, Reaches.{Reaches}, Machine.{State, Turns}}
+use Rattle.mm_machine.proofs.lemmas.{verdicts.{Joins.{join, alone, cut}, Unique.{go_on, last_of, same_stack}, Weights.{last_part_is}}, lists.Members.{last_element}}
+use Rattle.mm_machine.proofs.lemmas.lists.Zips.{both_joined, flipped, zip_at}
 
 -- one more step of an expansion
 pub expand_more : (place : Setting) (x : Expanded) (so_far : Option Expanded) (steps : List Step) (step : Step) → expand_from place so_far steps ≡ Some x → expand_from place so_far (steps ++ step ∷ []) ≡ expand_one place x step
@@ -73,7 +73,7 @@ goes_label place is label before (x ∷ xs) labels d d' =
 
 goes_saved :
     (place : Setting) → HasFrames place → (n : ℕ) (before : State) (next : List (List Symbol)) (so_far expanded : Expanded) (o : Option (List (List ℕ))) →
-    slice_get so_far.saved n ≡ o → with_again so_far o ≡ Some expanded → DeriveInOrder place so_far.labels before.stack →
+    slice_get so_far.saved n ≡ o → option_map (λ (part : List (List ℕ)). record so_far { labels = so_far.labels ++ part }) o ≡ Some expanded → DeriveInOrder place so_far.labels before.stack →
     AllZip (λ part e. Derives place part e) so_far.saved before.saved → DeriveInOrder place expanded.labels next → Goes place (Saved n) before next
 goes_saved place is n before next so_far expanded None at e d z d' = cc
 goes_saved place is n before next so_far expanded (Some part) at e d z d' =
@@ -87,7 +87,7 @@ goes_saved place is n before next so_far expanded (Some part) at e d z d' =
 
 goes_save :
     (place : Setting) → HasFrames place → (before : State) (next stack : List (List Symbol)) (so_far expanded : Expanded) (o : Option (List (List ℕ))) →
-    last_part place so_far.labels ≡ o → with_saved so_far o ≡ Some expanded → stack ≡ before.stack → DeriveInOrder place so_far.labels stack →
+    last_part place so_far.labels ≡ o → option_map (λ (part : List (List ℕ)). record so_far { saved = so_far.saved ++ part ∷ [] }) o ≡ Some expanded → stack ≡ before.stack → DeriveInOrder place so_far.labels stack →
     DeriveInOrder place expanded.labels next → Goes place Save before next
 goes_save place is before next stack so_far expanded None at e s d d' = cc
 goes_save place is before next [] so_far expanded (Some part) at e s d d' = grind (arith, common_steps, no_stack d refl) steps 200000

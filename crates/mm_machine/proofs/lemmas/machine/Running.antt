@@ -3,9 +3,9 @@ use Rattle.std.proofs.lemmas.{Grind.{common_steps}, Option.{slice_get_within}}
 use Rattle.std.proofs.Common.{◌≡◌, ◌≢◌, ℕ, ◌+◌, ◌≤◌, ◌<◌, Some, List, ◌∷◌, ◌++◌, length, take, refl, sym, ◌∙◌, ap, subst, append_assoc, arith, length-append, slice_get, ◌↔◌, append-nil, take_at}
 use Rattle.std.proofs.Common.{take_all, inl, inr, ◌⊎◌, []}
 use Rattle.mm_machine.specs.Language.{Run.{AreDone, run_part}, Frame.{Symbol, Setting}, Typing.{HasFrames}, Expansion.{Step, NotKnown}, Faults.{StepLineHolds, row_of, IsLowest}}
-use Rattle.mm_machine.specs.Language.{Reaches.{Reaches, IsStepFault}, Machine.{State, Turns, IsReady, Runs, nothing_yet, AreAllKnown, AreDecodedAfter, AreDecoded}}
-use Rattle.mm_machine.{specs.declared.ProofNumber.{ProofNumber}, proofs.lemmas.machine.Reaching.{Follows, follows_on, goes, reached, at_start, one_stack}}
-use Rattle.mm_machine.proofs.lemmas.{machine.{Turning.{no_turn, same_number, turns_or_fails}, Threaded.{threaded}}, verdicts.{Fronts.{reached_earlier, reached_front}, Part.{part_decoded, part_known}}}
+use Rattle.mm_machine.specs.{Language.{Reaches.{Reaches, IsStepFault}, Machine.{State, Turns, IsReady, Runs, nothing_yet, AreDecodedAfter, AreDecoded}}, declared.ProofNumber.{ProofNumber}}
+use Rattle.mm_machine.proofs.lemmas.machine.{Reaching.{Follows, follows_on, goes, reached, at_start, one_stack}, Turning.{no_turn, same_number, turns_or_fails}, Threaded.{threaded}}
+use Rattle.mm_machine.proofs.lemmas.verdicts.{Fronts.{reached_earlier, reached_front}, Part.{AreKnown, part_decoded, part_known}}
 
 -- a run ends with a state, or there is a step at fault
 abbrev pub RunSays : Setting → List Step → Type 0
@@ -39,7 +39,7 @@ pub decoded_on : (place : Setting) (s after : State) (step : Step) (rest : List 
 decoded_on place s after step rest k d = grind (arith, common_steps) steps 200000
 
 pub run_says : (place : Setting) → HasFrames place → (done : List Step) (s : State) (rest : List Step) → Follows place done s
-    → AreDecodedAfter place (length s.saved) rest → AreAllKnown rest → RunSays place (done ++ rest)
+    → AreDecodedAfter place (length s.saved) rest → AreKnown rest → RunSays place (done ++ rest)
 run_says place is done s [] f d k = inl (s, subst (λ l. Follows place l s) (sym (append-nil done)) f)
 run_says place is done s (step ∷ rest) f d k =
     let ready = decoded_on place s s step rest k.0 d in

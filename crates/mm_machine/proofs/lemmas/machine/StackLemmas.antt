@@ -3,7 +3,7 @@ use Rattle.std.proofs.Common.{rules, ◌≡◌, ℕ, ◌+◌, ◌-◌, ◌<◌, 
 use Rattle.std.proofs.lemmas.Grind.{common_steps, elements}
 use Rattle.std.proofs.lemmas.List.{length-map, length-take, length-take-le, take_more, map-append, take-map, take_at, take_all, drop_at, get_or-take, drop-map, take_rest}
 use Rattle.std.proofs.lemmas.{List.Elements.{All-head, All-tail}, Option.{slice_get_within, get_or_from_slice_get, slice_get-get_or, same_Some}}
-use Rattle.mm_machine.specs.{Code.{Ranges.{expressions, AreOrderedRanges, Saves}, Flat.{read, read_all, IsEntryWithin}, Citation.{frame_from}}, Language.{Frame.{Symbol}, Faults.{entries_for}}}
+use Rattle.mm_machine.specs.{Code.{Ranges.{expressions, AreOrderedRanges, Saves}, Flat.{read, read_all, IsEntryWithin}, Citation.{frame_from}}, Language.{Frame.{Symbol}, Faults.{last_entries}}}
 use Rattle.mm_machine.{specs.declared.{pattern.Entry.{Entry}, assertion.Hypothesis.{Hypothesis}}, proofs.lemmas.{machine.ApartLemmas.{read_kept, last_at, front_at}, lists.Members.{contains_at}}}
 
 -- entries that are in the front read the same
@@ -64,7 +64,7 @@ whole_replaced n m kept f below es saved next new whole l low high front e in_ra
 
 -- the entries that an assertion takes
 pub entries_taken : {S : Type 0} (means : S → Symbol) (hs : List (Hypothesis S)) (expression : List S) (pairs : List (S × S)) (symbols : List Symbol) (es : List Entry) (below : ℕ) →
-    below + length hs ≡ length es → entries_for (frame_from means hs expression pairs) (read_all symbols es) ≡ read_all symbols (drop below es)
+    below + length hs ≡ length es → last_entries (frame_from means hs expression pairs) (read_all symbols es) ≡ read_all symbols (drop below es)
 entries_taken means hs expression pairs symbols es below e = grind (arith, common_steps, drop-map, length-map) steps 200000
 
 pub slice_taken : {X : Type 0} (read_symbols symbols : List X) (f : X → Symbol) (read_es es : List Entry) (below : ℕ) → read_symbols ≡ symbols

@@ -1,14 +1,14 @@
 -- Tasks of the code and steps of a proof.
-use Rattle.std.proofs.Common.{rules, ◌≡◌, ◌≢◌, ℕ, zero, suc, ◌+◌, ◌<◌, ◌≤◌, false, Option, Some, None, List, ◌∷◌, ◌++◌, length, take, drop, get_or, refl, sym, ◌∙◌, ap, subst, arith, append_assoc}
-use Rattle.std.proofs.{Common.{zero-add, add-zero, length-append, slice_get, MatchOption, IfNone, map, []}, lemmas.Grind.{common_steps, elements}}
-use Rattle.std.proofs.lemmas.List.{take_more, take-append-drop, drop_more, take_all, length-map, get_or_append_left, Sums.{sum_by-cons, sum_by-append}}
+use Rattle.std.proofs.Common.{rules, ◌≡◌, ◌≢◌, ℕ, zero, suc, ◌+◌, ◌<◌, ◌≤◌, Option, Some, None, List, ◌∷◌, ◌++◌, length, take, drop, get_or, refl, sym, ◌∙◌, ap, subst, arith, append_assoc, zero-add}
+use Rattle.std.proofs.{Common.{add-zero, length-append, slice_get, MatchOption, IfNone, map, []}, lemmas.Grind.{common_steps, elements}}
+use Rattle.std.proofs.lemmas.List.{length-take-le, take_more, take-append-drop, drop_more, take_all, length-map, get_or_append_left, Sums.{sum_by-cons, sum_by-append}}
 use Rattle.std.{proofs.lemmas.Option.{slice_get_within, get_or_from_slice_get, slice_get-get_or}, specs.List.{AllZip}}
-use Rattle.mm_machine.specs.Language.{Frame.{Symbol, Frame, Resolved, Hypothesis, Assertion, Setting, AreSameFrame, AreSamePairs}, Typing.{HasFrames}, Steps.{Cites}}
-use Rattle.mm_machine.specs.Language.{Expansion.{Step, Named, Saved, Save, NotKnown}, Machine.{State, Turns, AreAllKnown}, Faults.{LabelFails, IsLowest}, Reaches.{Reaches, IsStepFault}}
-use Rattle.mm_machine.specs.Language.{Run.{is_unknown, run_part, IsReached}, Verdict.{IsFirstUnknown}, NamedSteps.{meant, MeansUse, actions_mean, saves_by, saves_in}}
-use Rattle.mm_machine.specs.{declared.{ProofNumber.{ProofNumber}, stepping.Task.{Task}, named.Use.{Use}, machine.Machine.{Machine}, step.ProofStep.{ProofStep}}, Code.Citation.{IsLowestCiting}}
-use Rattle.mm_machine.{specs.Code.{MachineState.{state_of}, Ranges.{Saves}, Tasks.{HasState, MeansTask}, Flat.{read}}, proofs.lemmas.verdicts.Moving.{takes_moved, frame_back, label_moved}}
-use Rattle.mm_machine.proofs.lemmas.{verdicts.Part.{known_one, one_known, part_one, part_none}, machine.{Reaching.{Follows, follows_on, reached}, Running.{faulty}, FlatLemmas.{mapped_or_get}}}
+use Rattle.mm_machine.specs.Language.{Frame.{Symbol, Frame, LabelMeaning, Hypothesis, Assertion, Setting, AreSameFrame, AreSamePairs}, Typing.{HasFrames}, Steps.{Cites}}
+use Rattle.mm_machine.specs.Language.{Expansion.{Step, Named, Saved, Save, NotKnown}, Machine.{State, Turns}, Faults.{LabelFails, IsLowest}, Reaches.{Reaches, IsStepFault}, Run.{run_part, IsReached}}
+use Rattle.mm_machine.specs.{Language.{RunLaws.{KnownUpTo}, NamedSteps.{meant, MeansUse, actions_mean, saves_by, saves_in}}, declared.{ProofNumber.{ProofNumber}, stepping.Task.{Task}}}
+use Rattle.mm_machine.specs.{declared.{named.Use.{Use}, machine.Machine.{Machine}, step.ProofStep.{ProofStep}}, Code.{Citation.{IsLowestCiting}, MachineState.{state_of}, Ranges.{Saves}}}
+use Rattle.mm_machine.{specs.Code.{Tasks.{HasState, MeansTask}, Flat.{read}}, proofs.lemmas.verdicts.Moving.{takes_moved, frame_back, label_moved}}
+use Rattle.mm_machine.proofs.lemmas.{verdicts.Part.{part_begins, part_at, part_ends, not_all_run}, machine.{Reaching.{Follows, follows_on, reached}, Running.{faulty}, FlatLemmas.{mapped_or_get}}}
 use Rattle.mm_machine.proofs.lemmas.lists.{Zips.{zip_at}, Members.{take_next}}
 use Rattle.mm_machine.specs.declared.stepping.Task.TheVariants as tasks
 use Rattle.mm_machine.specs.declared.named.Use.TheVariants as uses
@@ -51,9 +51,9 @@ pub cite_turns :
 cite_turns active place label kept frame stack before after None pairs at same is saved c = search (rules, cites_moved) steps 500000
 cite_turns active place label kept frame stack before after (Some number) pairs at same is saved c =
     let d = subst (λ w. IsLowestCiting active kept w number) is c in record {
-      holds = subst (λ (r : Resolved). LabelFails place.active r before.stack number) (sym at) (label_moved active place.active (Assertion kept) (Assertion frame) before.stack number pairs same d.0);
+      holds = subst (λ (r : LabelMeaning). LabelFails place.active r before.stack number) (sym at) (label_moved active place.active (Assertion kept) (Assertion frame) before.stack number pairs same d.0);
       lowest = λ other p. d.1 other (label_moved place.active active (Assertion frame) (Assertion kept) before.stack other
-          (λ x y. ((pairs x y).1, (pairs x y).0)) (frame_back kept frame same) (subst (λ (r : Resolved). LabelFails place.active r before.stack other) at p));
+          (λ x y. ((pairs x y).1, (pairs x y).0)) (frame_back kept frame same) (subst (λ (r : LabelMeaning). LabelFails place.active r before.stack other) at p));
     }
 
 -- ---- after what is kept
@@ -66,42 +66,6 @@ saved_at [] back n = ap (slice_get back) (zero-add n)
 saved_at (y ∷ front) back n = grind (arith, common_steps, saved_at front back n) steps 200000
 
 -- ---- step after step
-
--- no step before this one is unknown
-abbrev pub KnownUpTo : List Step → ℕ → Type 0
-KnownUpTo steps n = (k : ℕ) → k < n → slice_get steps k ≢ Some NotKnown
-
-behind : (x : Step) (steps : List Step) (n : ℕ) → KnownUpTo (x ∷ steps) (suc n) → KnownUpTo steps n
-behind x steps n known k l = known (suc k) (omega arith)
-
-first_known : (x : Step) (steps : List Step) (n : ℕ) → KnownUpTo (x ∷ steps) (suc n) → is_unknown x ≡ false
-first_known x steps n known = known_one x (λ e. known 0 (omega arith) (ap Some e))
-
-pub known_more : (steps : List Step) (n : ℕ) (x : Step) → slice_get steps n ≡ Some x → x ≢ NotKnown → KnownUpTo steps n → KnownUpTo steps (n + 1)
-known_more steps n x at other known k l e = grind (arith, elements) steps 200000
-
--- what is run begins like the steps
-pub part_begins : (steps : List Step) (n : ℕ) → KnownUpTo steps n → take n (run_part steps) ≡ take n steps
-part_begins (x ∷ steps) (suc n) known = ap (take (suc n)) (part_one x steps (first_known x steps n known)) ∙ ap (λ w. x ∷ w) (part_begins steps n (behind x steps n known))
-part_begins _ _ known = refl
-
--- and goes on with the next known step
-pub part_at : (steps : List Step) (n : ℕ) (x : Step) → KnownUpTo steps n → slice_get steps n ≡ Some x → x ≢ NotKnown → slice_get (run_part steps) n ≡ Some x
-part_at [] n x known at other = cc
-part_at (y ∷ steps) zero x known at other = grind (arith, common_steps, part_one, known_one) steps 200000
-part_at (y ∷ steps) (suc n) x known at other = ap (λ w. slice_get w (suc n)) (part_one y steps (first_known y steps n known)) ∙ part_at steps n x (behind y steps n known) at other
-
--- or ends at an unknown one
-pub part_ends : (steps : List Step) (n : ℕ) → KnownUpTo steps n → slice_get steps n ≡ Some NotKnown → run_part steps ≡ take n steps
-part_ends [] n known at = cc
-part_ends (y ∷ steps) zero known at = let same : y ≡ NotKnown = cc in part_none y steps (ap is_unknown same)
-part_ends (y ∷ steps) (suc n) known at = part_one y steps (first_known y steps n known) ∙ ap (λ w. y ∷ w) (part_ends steps n (behind y steps n known) at)
-
--- all are known
-pub known_all : (steps : List Step) (n : ℕ) → length steps ≤ n → KnownUpTo steps n → AreAllKnown steps
-known_all [] n l known = tt
-known_all (x ∷ steps) zero l known = absurd (omega arith)
-known_all (x ∷ steps) (suc n) l known = (one_known x (first_known x steps n known), known_all steps n (omega arith) (behind x steps n known))
 
 pub follows_more : (place : Setting) (steps : List Step) (k : ℕ) (s : Step) (before after : State) → slice_get steps k ≡ Some s → Follows place (take k steps) before → Turns place s before after → Follows place (take (k + 1) steps) after
 follows_more place steps k s before after at f t =
@@ -121,8 +85,12 @@ pub fault_here : (place : Setting) → HasFrames place → (steps : List Step) (
 fault_here place is steps k s state number known at other f low = search (rules, part_at steps k s known at other, part_begins steps k known, fault_of) steps 500000
 
 -- or not known
-pub unknown_here : (place : Setting) (steps : List Step) (k : ℕ) (state : State) → KnownUpTo steps k → slice_get steps k ≡ Some NotKnown → Follows place (take k steps) state → IsFirstUnknown steps k × IsReached place steps
-unknown_here place steps k state known at f = grind (arith, common_steps, part_ends steps k known at, reached place (take k steps) state f) steps 200000
+pub unknown_here : (place : Setting) (steps : List Step) (k : ℕ) (state : State) → KnownUpTo steps k → slice_get steps k ≡ Some NotKnown → Follows place (take k steps) state →
+    (k ≡ length (run_part steps)) × (run_part steps ≢ steps) × IsReached place steps
+unknown_here place steps k state known at f =
+    let ends = part_ends steps k known at in
+    let within = slice_get_within steps k NotKnown at in
+    (omega (arith, ap length ends, length-take-le k steps (omega (arith, within))), not_all_run steps k at, (state.stack, subst (λ (w : List Step). Reaches place w state.stack) (sym ends) (reached place (take k steps) state f)))
 
 pub reached_all : (place : Setting) (steps : List Step) (k : ℕ) (state : State) → length steps ≤ k → Follows place (take k steps) state → Reaches place steps state.stack
 reached_all place steps k state l f = subst (λ (w : List Step). Reaches place w state.stack) (take_all k steps l) (reached place (take k steps) state f)

@@ -1,5 +1,5 @@
 -- Of a substitution only what it gives for the mandatory variables counts.
-use Rattle.std.proofs.Common.{◌≡◌, List, [], ◌∷◌, map, get_or, refl, sym, ◌∙◌, subst, Contains}
+use Rattle.std.proofs.Common.{◌≡◌, ℕ, List, [], ◌∷◌, map, get_or, refl, sym, ◌∙◌, subst, Contains}
 use Rattle.mm_machine.specs.Language.{Frame.{Symbol, Mandatory, Frame}, Typing.{IsTyped, IsFrame}, Substitution.{substituted}, Derivation.{AreApart, Takes}}
 use Rattle.mm_machine.proofs.lemmas.{lists.Members.{Contains-here, contains_there}, verdicts.Unique.{same_substituted}}
 
@@ -11,10 +11,10 @@ same_entries given other [] each = refl
 same_entries given other (h ∷ hs) each = λ i. (each h (Contains-here h hs)) i ∷ (same_entries given other hs (λ g c. each g (contains_there h hs g c))) i
 
 pub only_mandatory :
-    (active : List (Symbol × Symbol)) (frame : Frame) → IsFrame frame → (given other : Symbol → List Symbol) →
+    (longest : ℕ) (active : List (Symbol × Symbol)) (frame : Frame) → IsFrame frame → (given other : Symbol → List Symbol) →
     ((v : Symbol) → IsTyped frame.hypotheses v → given v ≡ other v) →
-    (entries : List (List Symbol)) (result : List Symbol) → Takes active frame given entries result → Takes active frame other entries result
-only_mandatory active frame is given other same entries result t = record {
+    (entries : List (List Symbol)) (result : List Symbol) → Takes longest active frame given entries result → Takes longest active frame other entries result
+only_mandatory longest active frame is given other same entries result t = record {
   entries_match =
       sym (same_entries given other frame.hypotheses (λ h c. same_substituted given other h.expression (λ v w. same v (is.hypotheses_typed h c v w))))
       ∙ t.entries_match;

@@ -3,9 +3,9 @@ use Rattle.std.proofs.Common.{rules, ◌≡◌, ◌≢◌, ℕ, suc, ◌-◌, �
 use Rattle.std.proofs.{Common.{Any, []}, lemmas.{Grind.{common_steps, elements}, List.{take-append-drop, length-drop, get_or_default}, Option.{slice_get-get_or}}}
 use native.Mathlib.Decide.{dec_lt}
 use mathlib.Core.Bool.{Bool-discrete}
-use Rattle.mm_machine.specs.Language.{Frame.{Symbol, Frame, Resolved, Hypothesis, Assertion, Setting}, Substitution.{substituted}, Derivation.{ShareVariable, AreApart}, Typing.{IsFrame, HasFrames}}
-use Rattle.mm_machine.specs.Language.{Steps.{Cites, Moves}, Expansion.{Step, Named, Saved, Save, NotKnown}}
-use Rattle.mm_machine.specs.Language.{Faults.{entries_for, LackPair, CitingFails, LabelFails, SaveFails, StepLineHolds, row_of, IsLowest}, Machine.{State, Turns, IsUsable, IsReady}}
+use Rattle.mm_machine.specs.Language.{Frame.{Symbol, Frame, LabelMeaning, Hypothesis, Assertion, Setting}, Substitution.{substituted}, Derivation.{ShareVariable, AreApart}}
+use Rattle.mm_machine.specs.Language.{Typing.{IsFrame, HasFrames}, Steps.{Cites, Moves}, Expansion.{Step, Named, Saved, Save, NotKnown}}
+use Rattle.mm_machine.specs.Language.{Faults.{last_entries, LackPair, CitingFails, LabelFails, StepLineHolds, row_of, IsLowest}, Machine.{State, Turns, IsUsable, IsReady}}
 use Rattle.mm_machine.specs.declared.ProofNumber.{ProofNumber, TheVariants.{P01, P02, P03, P04, P05, P06, P07, P08, P09, P10, P11, P12, P13, P14, P15}}
 use Rattle.mm_machine.proofs.lemmas.verdicts.{Lines.{not_cited, long_by, pairs_by, wrong_by}, Choices.{both_of, not_of, expression_discrete, dec_any, dec_any_zip, dec_share, dec_lack, are_apart}}
 use Rattle.mm_machine.proofs.lemmas.{machine.Given.{given_by, floats_match, all_match, OtherTypecode, dec_option}, lists.Members.{last_element}}
@@ -43,13 +43,13 @@ choose Right P number (yes q) to from below go = (let low = lowest P number belo
 choose Right P number (no n) to from below go = go n (none_more P number below (λ p. n (from p)))
 
 -- the lines below P07 say nothing of a citation
-pub none_first : (active : List (Symbol × Symbol)) (frame : Frame) (stack : List (List Symbol)) → NoneBelow (CitingFails active frame stack) 7
+pub none_first : (active : List (Symbol × Symbol)) (frame : Frame) (stack : List (List Symbol)) → NoneBelow (CitingFails 1000000 active frame stack) 7
 none_first active frame stack = grind (arith, common_steps) steps 200000
 
 -- if no line holds, the assertion is cited
 pub cites_by :
     (active : List (Symbol × Symbol)) (frame : Frame) (stack : List (List Symbol)) (given : Symbol → List Symbol) →
-    (length stack < length frame.hypotheses → ⊥) → map (λ h. substituted given h.expression) frame.hypotheses ≡ entries_for frame stack →
+    (length stack < length frame.hypotheses → ⊥) → map (λ h. substituted given h.expression) frame.hypotheses ≡ last_entries frame stack →
     All (λ pair. AreApart active (given pair.0) (given pair.1)) frame.pairs → (1000000 < length (substituted given frame.expression) → ⊥) →
     Cites active frame stack (take (length stack - length frame.hypotheses) stack ++ substituted given frame.expression ∷ [])
 cites_by active frame stack given few m a long = grind (arith, common_steps, take-append-drop (length stack - length frame.hypotheses) stack) steps 200000
@@ -65,13 +65,13 @@ apart_by active given pairs share lack k d l =
 
 -- a frame is cited, or a lowest line holds
 pub cite_says : (active : List (Symbol × Symbol)) (frame : Frame) (stack : List (List Symbol)) → IsFrame frame →
-    Answers (Cites active frame stack) (CitingFails active frame stack)
+    Answers (Cites active frame stack) (CitingFails 1000000 active frame stack)
 cite_says active frame stack is =
     let hs = frame.hypotheses in
-    let es = entries_for frame stack in
+    let es = last_entries frame stack in
     let g = given_by hs es in
     let Right : List (List Symbol) → Type 0 = Cites active frame stack in
-    let P : ProofNumber → Type 0 = CitingFails active frame stack in
+    let P : ProofNumber → Type 0 = CitingFails 1000000 active frame stack in
     choose Right P P07 (dec_lt (length stack) (length hs)) (λ q. q) (λ p. p) (none_first active frame stack) (λ n7 b8.
     choose Right P P08
     (dec_any_zip {R = OtherTypecode} (λ h e. both_of (Bool-discrete h.floating true) (not_of (dec_option (slice_get h.expression 0) (slice_get e 0)))) hs
@@ -92,15 +92,15 @@ cite_says active frame stack is =
 
 -- a step has a turn, or a lowest line
 label_says :
-    (place : Setting) → HasFrames place → (label : List ℕ) (r : Resolved) (s : State) → place.resolve label ≡ r → IsUsable r →
+    (place : Setting) → HasFrames place → (label : List ℕ) (r : LabelMeaning) (s : State) → place.resolve label ≡ r → IsUsable r →
     Answers (λ (after : State). Moves place.active r s.stack after.stack × (after.saved ≡ s.saved)) (LabelFails place.active r s.stack)
 label_says place is label (Hypothesis e) s at u = inl (record s { stack = s.stack ++ e ∷ [] }, (refl, refl))
 label_says place is label (Assertion frame) s at u =
     elim (cite_says place.active frame s.stack (is label frame at)) [ inl c ↦ inl (record s { stack = c.0 }, (c.1, refl)) | inr f ↦ inr f ]
 label_says place is label _ s at u = absurd u
 
-save_says : (place : Setting) (s : State) (stack : List (List Symbol)) → s.stack ≡ stack → Answers (λ after. Turns place Save s after) (SaveFails stack)
-save_says place s [] e = (let low = lowest (SaveFails []) P13 (λ other p l. grind (arith, common_steps)) refl in inr (P13, low.0, low.1))
+save_says : (place : Setting) (s : State) (stack : List (List Symbol)) → s.stack ≡ stack → Answers (λ after. Turns place Save s after) (StepLineHolds place Save stack)
+save_says place s [] e = (let low = lowest (StepLineHolds place Save []) P13 (λ other p l. grind (arith, common_steps)) refl in inr (P13, low.0, low.1))
 save_says place s (x ∷ xs) e = let l = last_element x xs in inl (record s { saved = s.saved ++ l.1 ∷ [] }, (l.0, l.1, e ∙ l.2, refl, refl))
 
 pub turns_or_fails : (place : Setting) → HasFrames place → (s : State) (step : Step) → IsReady place s step → ((after : State) × Turns place step s after) ⊎ ((number : ProofNumber) × IsLowest place step s.stack number)

@@ -1,7 +1,7 @@
 -- Frames and settings whose symbols are renamed.
 use Rattle.std.proofs.lemmas.{Grind.{common_steps}, List.{length-map, get_or-map, Elements.{All-map}}, Option.{slice_get-map}}
 use Rattle.std.proofs.Common.{◌≡◌, ◌≢◌, ℕ, true, List, map, get_or, refl, sym, ap, ◌∙◌, subst, subst₂, arith, slice_get, All, AllPairs}
-use Rattle.mm_machine.specs.Language.{Frame.{Symbol, Mandatory, Frame, Resolved, Assertion, Setting, ArePair, AreSamePairs}, Typing.{IsTyped, IsTyping, IsFrame, HasFrames}}
+use Rattle.mm_machine.specs.Language.{Frame.{Symbol, Mandatory, Frame, LabelMeaning, Assertion, Setting, ArePair, AreSamePairs}, Typing.{IsTyped, IsTyping, IsFrame, HasFrames}}
 use Rattle.mm_machine.specs.Language.{Renaming.{IsRenaming, renamed_pair, renamed_pairs, renamed_mandatory, renamed_frame, renamed_meaning, renamed_setting}, Names.{AreDistinct}}
 use Rattle.mm_machine.specs.Language.{NumberedSymbols.{kept_pairs, IsPairNumbered, by_number}, Expansion.{Step}, CitedFrames.{meant_pairs}, NamedSteps.{RunSays}, Numbering.{naming, unnaming}}
 use Rattle.mm_machine.{specs.declared.{symbol.NumberedSymbol.{NumberedSymbol}, stepping.Outcome.{Outcome}}, proofs.lemmas.renaming.NumberingLemmas.{naming_is_renaming, pairs_numbered}}
@@ -47,7 +47,7 @@ module _ (to back : Symbol → Symbol) (is : IsRenaming to back) where
         typed_once = once_renamed hs f.typed_once;
       }
 
-  meaning_framed : (r : Resolved) (frame : Frame) → ((other : Frame) → r ≡ Assertion other → IsFrame other) → renamed_meaning to r ≡ Assertion frame → IsFrame frame
+  meaning_framed : (r : LabelMeaning) (frame : Frame) → ((other : Frame) → r ≡ Assertion other → IsFrame other) → renamed_meaning to r ≡ Assertion frame → IsFrame frame
   meaning_framed (Assertion other) frame is_frame same = let here : renamed_frame to other ≡ frame = cc in subst IsFrame here (frame_renamed other (is_frame other refl))
   meaning_framed _ frame is_frame same = cc
 

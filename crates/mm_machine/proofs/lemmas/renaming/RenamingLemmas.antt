@@ -1,11 +1,11 @@
 -- A renaming of symbols, one to one, keeps verdicts.
 use Rattle.std.proofs.lemmas.{Grind.{common_steps}, Option.{slice_get-map}, List.{length-map, get_or-map, map-append, drop-map, Elements.{All-map}}}
 use Rattle.std.proofs.Common.{◌≡◌, ◌≢◌, ℕ, ◌+◌, ◌-◌, Option, Some, None, Ok, Err, List, ◌∷◌, length, map, take, get_or, refl, sym, ap, ap₂, ◌∙◌, subst, subst₂, arith, slice_get, Contains, All, Any}
-use Rattle.std.{proofs.Common.{pos, if◌then◌else◌, []}, specs.{List.{AllZip}, Ordering.{int_eq}}}
-use Rattle.mm_machine.specs.Language.{Frame.{Symbol, Mandatory, Frame, Resolved, Hypothesis, Assertion, Unknown, Setting, ArePair, HasVariable}, Substitution.{substituted}}
+use Rattle.std.{proofs.Common.{pos, if◌then◌else◌, []}, specs.{List.{AllZip}, Option.{option_or}, Ordering.{int_eq}}}
+use Rattle.mm_machine.specs.Language.{Frame.{Symbol, Mandatory, Frame, LabelMeaning, Hypothesis, Assertion, Setting, ArePair, HasVariable}, Substitution.{substituted}}
 use Rattle.mm_machine.specs.Language.Derivation.{Derives, DeriveInOrder, by_hypothesis, by_assertion, nothing, first_then, Takes, AreApart}
-use Rattle.mm_machine.specs.Language.Expansion.{Step, Named, Save, Expanded, expand_one, expand_from, last_part, or_else, weight, taken_by}
-use Rattle.mm_machine.specs.Language.{Faults.{AnyZip, UnderGiven, LackPair, entries_for, CitingFails, LabelFails, SaveFails, StepLineHolds}, Reaches.{Reaches, IsStepFault}, Run.{run_part}}
+use Rattle.mm_machine.specs.Language.Expansion.{Step, Named, Save, Expanded, expand_one, expand_from, last_part, weight, taken_by}
+use Rattle.mm_machine.specs.Language.{Faults.{AnyZip, UnderSubstitution, LackPair, last_entries, CitingFails, LabelFails, StepLineHolds}, Reaches.{Reaches, IsStepFault}, Run.{run_part}}
 use Rattle.mm_machine.specs.Language.{Verdict.{Decoded, IsVerdictOnSteps}, SameProof.{IsSameStep, IsSameProof}}
 use Rattle.mm_machine.specs.Language.Renaming.{IsRenaming, renamed_pair, renamed_pairs, renamed_mandatory, renamed_frame, renamed_meaning, IsRenamedSetting, renamed_setting}
 use Rattle.mm_machine.specs.{Language.{Laws.{RenamingKeepsVerdict}, NamedSteps.{RunSays}}, declared.ProofNumber.{ProofNumber, TheVariants.{P07, P08, P09, P10, P11, P12, P13, P14, P15}}}
@@ -55,7 +55,7 @@ pub renaming_back : (to back : Symbol → Symbol) → IsRenaming to back → IsR
 renaming_back to back is = grind (arith, common_steps, is.kinds, is.again) steps 200000
 
 -- what steps expand to knows no symbols
-taken_renamed : (to : Symbol → Symbol) (r : Resolved) → taken_by (renamed_meaning to r) ≡ taken_by r
+taken_renamed : (to : Symbol → Symbol) (r : LabelMeaning) → taken_by (renamed_meaning to r) ≡ taken_by r
 taken_renamed to r = grind (arith, common_steps) steps 200000
 
 weight_renamed : (to : Symbol → Symbol) (place : Setting) (labels : List (List ℕ)) → weight (renamed_setting to place) labels ≡ weight place labels
@@ -65,7 +65,7 @@ weight_renamed to place (label ∷ labels) = rw (taken_renamed to (place.resolve
 part_renamed : (to : Symbol → Symbol) (place : Setting) (labels : List (List ℕ)) → last_part (renamed_setting to place) labels ≡ last_part place labels
 part_renamed to place [] = refl
 part_renamed to place (label ∷ labels) =
-    λ i. or_else (part_renamed to place labels i) (if int_eq (weight_renamed to place (label ∷ labels) i) (pos 1) then Some (label ∷ labels) else None)
+    λ i. option_or (part_renamed to place labels i) (if int_eq (weight_renamed to place (label ∷ labels) i) (pos 1) then Some (label ∷ labels) else None)
 
 from_renamed : (to : Symbol → Symbol) (place : Setting) (o : Option Expanded) (steps : List Step) → expand_from (renamed_setting to place) o steps ≡ expand_from place o steps
 from_renamed to place o [] = refl
@@ -116,7 +116,7 @@ module _ (to back : Symbol → Symbol) (is : IsRenaming to back) where
 
   takes_renamed :
       (active : List (Symbol × Symbol)) (frame : Frame) (given : Symbol → List Symbol) (entries : List (List Symbol)) (result : List Symbol) →
-      Takes active frame given entries result → Takes (renamed_pairs to active) (renamed_frame to frame) (moved given) (map (map to) entries) (map to result)
+      Takes 1000000 active frame given entries result → Takes 1000000 (renamed_pairs to active) (renamed_frame to frame) (moved given) (map (map to) entries) (map to result)
   takes_renamed active frame given entries result t = grind (arith, common_steps, all_apart, entries_renamed, length-map, substituted_renamed) steps 200000
 
   mutual
@@ -134,12 +134,12 @@ module _ (to back : Symbol → Symbol) (is : IsRenaming to back) where
   reached_renamed place steps stack r = grind (arith, common_steps, from_renamed, joined_renamed) steps 200000
 
   -- a line that holds, renamed
-  entries_for_renamed : (frame : Frame) (stack : List (List Symbol)) → entries_for (renamed_frame to frame) (map (map to) stack) ≡ map (map to) (entries_for frame stack)
-  entries_for_renamed frame stack = grind (arith, common_steps, drop-map, length-map) steps 200000
+  last_entries_renamed : (frame : Frame) (stack : List (List Symbol)) → last_entries (renamed_frame to frame) (map (map to) stack) ≡ map (map to) (last_entries frame stack)
+  last_entries_renamed frame stack = grind (arith, common_steps, drop-map, length-map) steps 200000
 
   under_renamed :
-      (frame : Frame) (stack : List (List Symbol)) (P Q : (Symbol → List Symbol) → Type 0) → UnderGiven frame (entries_for frame stack) P →
-      ((given : Symbol → List Symbol) → P given → Q (moved given)) → UnderGiven (renamed_frame to frame) (map (map to) (entries_for frame stack)) Q
+      (frame : Frame) (stack : List (List Symbol)) (P Q : (Symbol → List Symbol) → Type 0) → UnderSubstitution frame (last_entries frame stack) P →
+      ((given : Symbol → List Symbol) → P given → Q (moved given)) → UnderSubstitution (renamed_frame to frame) (map (map to) (last_entries frame stack)) Q
   under_renamed frame stack P Q u each = grind (arith, common_steps, all_zip_map, substituted_renamed) steps 200000
 
   heads_own : (xs ys : List Symbol) → slice_get (map to xs) 0 ≡ slice_get (map to ys) 0 → slice_get xs 0 ≡ slice_get ys 0
@@ -153,41 +153,41 @@ module _ (to back : Symbol → Symbol) (is : IsRenaming to back) where
       (to l.0, to l.1, has_there xs l.0 l.2, has_there ys l.1 l.3, other, lacks)
 
   citing_renamed : (active : List (Symbol × Symbol)) (frame : Frame) (stack : List (List Symbol)) (number : ProofNumber)
-      → CitingFails active frame stack number → CitingFails (renamed_pairs to active) (renamed_frame to frame) (map (map to) stack) number
+      → CitingFails 1000000 active frame stack number → CitingFails 1000000 (renamed_pairs to active) (renamed_frame to frame) (map (map to) stack) number
   citing_renamed active frame stack P07 c = let n = length-map stack (map to) in let m = length-map frame.hypotheses (renamed_mandatory to) in omega arith
-  citing_renamed active frame stack P08 c = grind (arith, common_steps, any_zip_map, entries_for_renamed, heads_own) steps 200000
-  citing_renamed active frame stack P09 c = rw (entries_for_renamed frame stack) (under_renamed frame stack _ _ c (λ given z.
-      any_zip_map _ _ (renamed_mandatory to) (map to) frame.hypotheses (entries_for frame stack) z
+  citing_renamed active frame stack P08 c = grind (arith, common_steps, any_zip_map, last_entries_renamed, heads_own) steps 200000
+  citing_renamed active frame stack P09 c = rw (last_entries_renamed frame stack) (under_renamed frame stack _ _ c (λ given z.
+      any_zip_map _ _ (renamed_mandatory to) (map to) frame.hypotheses (last_entries frame stack) z
       (λ h e r. (r.0, λ same. r.1 (map_own to back is.there (substituted given h.expression) e (sym (substituted_renamed given h.expression) ∙ same))))))
-  citing_renamed active frame stack P10 c = rw (entries_for_renamed frame stack) (under_renamed frame stack _ _ c (λ given a.
+  citing_renamed active frame stack P10 c = rw (last_entries_renamed frame stack) (under_renamed frame stack _ _ c (λ given a.
       any_map _ _ (renamed_pair to) frame.pairs a
       (λ pair s. (to s.0, rw (moved_at given pair.0) (has_there (given pair.0) s.0 s.1), rw (moved_at given pair.1) (has_there (given pair.1) s.0 s.2)))))
-  citing_renamed active frame stack P11 c = rw (entries_for_renamed frame stack) (under_renamed frame stack _ _ c (λ given a.
+  citing_renamed active frame stack P11 c = rw (last_entries_renamed frame stack) (under_renamed frame stack _ _ c (λ given a.
       any_map _ _ (renamed_pair to) frame.pairs a
       (λ pair l. subst₂ (LackPair (renamed_pairs to active)) (sym (moved_at given pair.0)) (sym (moved_at given pair.1))
       (lack_renamed active (given pair.0) (given pair.1) l))))
-  citing_renamed active frame stack P12 c = rw (entries_for_renamed frame stack) (under_renamed frame stack _ _ c
+  citing_renamed active frame stack P12 c = rw (last_entries_renamed frame stack) (under_renamed frame stack _ _ c
       (λ given long. (let same = ap length (substituted_renamed given frame.expression) ∙ length-map (substituted given frame.expression) to in omega arith)))
   citing_renamed active frame stack _ c = absurd c
 
-  label_renamed : (active : List (Symbol × Symbol)) (r : Resolved) (stack : List (List Symbol)) (number : ProofNumber) → LabelFails active r stack number → LabelFails (renamed_pairs to active) (renamed_meaning to r) (map (map to) stack) number
+  label_renamed : (active : List (Symbol × Symbol)) (r : LabelMeaning) (stack : List (List Symbol)) (number : ProofNumber) → LabelFails active r stack number → LabelFails (renamed_pairs to active) (renamed_meaning to r) (map (map to) stack) number
   label_renamed active (Assertion frame) stack number c = citing_renamed active frame stack number c
   label_renamed active _ stack number c = c
 
-  save_renamed : (stack : List (List Symbol)) (number : ProofNumber) → SaveFails stack number → SaveFails (map (map to) stack) number
-  save_renamed stack P13 c = ap (map (map to)) c
-  save_renamed stack _ c = absurd c
+  save_renamed : (place : Setting) (stack : List (List Symbol)) (number : ProofNumber) → StepLineHolds place Save stack number → StepLineHolds (renamed_setting to place) Save (map (map to) stack) number
+  save_renamed place stack P13 c = ap (map (map to)) c
+  save_renamed place stack _ c = absurd c
 
   line_renamed : (place : Setting) (step : Step) (stack : List (List Symbol)) (number : ProofNumber) → StepLineHolds place step stack number → StepLineHolds (renamed_setting to place) step (map (map to) stack) number
   line_renamed place (Named label) stack number c = label_renamed place.active (place.resolve label) stack number c
-  line_renamed place Save stack number c = save_renamed stack number c
+  line_renamed place Save stack number c = save_renamed place stack number c
   line_renamed place _ stack number c = absurd c
 
 -- a renamed setting the other way round
 pub mandatory_there : (to back : Symbol → Symbol) → IsRenaming to back → (h : Mandatory) → renamed_mandatory back (renamed_mandatory to h) ≡ h
 mandatory_there to back is h = λ i. record { floating = h.floating; expression = map_back to back is.there h.expression i }
 
-meaning_back : (to back : Symbol → Symbol) → IsRenaming to back → (r : Resolved) → renamed_meaning back (renamed_meaning to r) ≡ r
+meaning_back : (to back : Symbol → Symbol) → IsRenaming to back → (r : LabelMeaning) → renamed_meaning back (renamed_meaning to r) ≡ r
 meaning_back to back is (Hypothesis e) = ap Hypothesis (map_back to back is.there e)
 meaning_back to back is (Assertion frame) = grind (arith, common_steps, mandatory_there, map_back, pair_inverse) steps 200000
 meaning_back to back is _ = refl
@@ -228,7 +228,7 @@ pub run_renamed :
 run_renamed to back is place steps statement outcomes.Proved r = (r.0, reached_renamed to back is place steps (statement ∷ []) r.1)
 run_renamed to back is place steps statement (outcomes.Fault number n) r = fault_renamed to back is place (run_part steps) n number r
 run_renamed to back is place steps statement (outcomes.Unknown n) r =
-    grind (arith, common_steps, reached_renamed to back is place (run_part steps) r.1.0 r.1.1) steps 200000
+    grind (arith, common_steps, reached_renamed to back is place (run_part steps) r.2.0 r.2.1) steps 200000
 run_renamed to back is place steps statement outcomes.NotOne r =
     grind (arith, common_steps, reached_renamed to back is place steps r.1 r.2, length-map r.1 (map to)) steps 200000
 run_renamed to back is place steps statement outcomes.Other r =
@@ -237,13 +237,13 @@ run_renamed to back is place steps statement outcomes.Other r =
 verdict_renamed :
     (to back : Symbol → Symbol) → IsRenaming to back → (place : Setting) (statement : List Symbol) (d : Decoded) (v : Verdict) →
     IsVerdictOnSteps place statement d v → IsVerdictOnSteps (renamed_setting to place) (map to statement) d v
-verdict_renamed to back is place statement d Proved v = run_renamed to back is place d.steps statement outcomes.Proved v
+verdict_renamed to back is place statement d Proved v = reached_renamed to back is place d.steps (statement ∷ []) v
 verdict_renamed to back is place statement d (Incomplete spot) v =
-    grind (arith, common_steps, reached_renamed to back is place (run_part d.steps) v.3.0 v.3.1) steps 200000
+    grind (arith, common_steps, reached_renamed to back is place (run_part d.steps) v.2.0 v.2.1) steps 200000
 verdict_renamed to back is place statement d (Wrong P14 spot) v =
-    grind (arith, common_steps, run_renamed to back is place d.steps statement outcomes.NotOne (v.0, v.1, v.2, v.3)) steps 200000
+    (map (map to) v.0, reached_renamed to back is place d.steps v.0 v.1, (λ e. v.2 (sym (length-map v.0 (map to)) ∙ e)), v.3)
 verdict_renamed to back is place statement d (Wrong P15 spot) v =
-    grind (arith, common_steps, run_renamed to back is place d.steps statement outcomes.Other (v.0, v.1, v.2, v.3)) steps 200000
+    (map to v.0, reached_renamed to back is place d.steps (v.0 ∷ []) v.1, (λ e. v.2 (map_own to back is.there v.0 statement e)), v.3)
 verdict_renamed to back is place statement d (Wrong number spot) v = (v.0, fault_renamed to back is place (run_part d.steps) v.0 number v.1, v.2)
 
 -- and the other place, where labels mean the same, has the same verdict

@@ -2,7 +2,7 @@
 use Rattle.std.proofs.lemmas.{Grind.{common_steps}, List.{length-map, Elements.{All-contains}}, Option.{slice_get-map}}
 use Rattle.std.proofs.Common.{◌≡◌, ◌≢◌, ◌-◌, ◌<◌, true, false, List, length, ◌∙◌, ap, subst, arith, length-append, slice_get, All, Any, Some, ℕ}
 use Rattle.mm_machine.specs.Language.{Frame.{Symbol, Mandatory, Frame}, Substitution.{substituted}, Derivation.{AreApart, ShareVariable}, Typing.{IsTyped, IsFrame, IsTyping}, Steps.{Cites}}
-use Rattle.mm_machine.specs.{Language.Faults.{AnyZip, entries_for, LackPair, CitingFails, UnderGiven}, declared.ProofNumber.{ProofNumber, TheVariants.{P07, P08, P09, P10, P11, P12}}}
+use Rattle.mm_machine.specs.{Language.Faults.{AnyZip, last_entries, LackPair, CitingFails, UnderSubstitution}, declared.ProofNumber.{ProofNumber, TheVariants.{P07, P08, P09, P10, P11, P12}}}
 use Rattle.mm_machine.proofs.lemmas.{verdicts.Unique.{substituted-typing, same_substituted, FloatsMatch, agree, floats_of, parts_are}, lists.{Members.{contains_at}, Zips.{any_place, any_at}}}
 
 -- what is known of a mandatory pair
@@ -45,44 +45,44 @@ no_typecode : (f : Symbol → List Symbol) (h : Mandatory) → IsTyping h.expres
 no_typecode f h t = grind (arith, common_steps, substituted-typing f t.0 t.1 t.3 t.4) steps 200000
 
 module _ (active : List (Symbol × Symbol)) (frame : Frame) (is : IsFrame frame) (stack next : List (List Symbol)) (m : Cites active frame stack next) where
-  entry_at : (k : ℕ) (h : Mandatory) (e : List Symbol) → slice_get frame.hypotheses k ≡ Some h → slice_get (entries_for frame stack) k ≡ Some e →
+  entry_at : (k : ℕ) (h : Mandatory) (e : List Symbol) → slice_get frame.hypotheses k ≡ Some h → slice_get (last_entries frame stack) k ≡ Some e →
       substituted m.given h.expression ≡ e
   entry_at k h e a b = grind (arith, common_steps, parts_are, slice_get-map) steps 200000
 
   -- what is said by some substitution is said by the one of the citation
   by_own :
       (P : (Symbol → List Symbol) → Type 0) →
-      ((f g : Symbol → List Symbol) → FloatsMatch f frame.hypotheses (entries_for frame stack) → FloatsMatch g frame.hypotheses (entries_for frame stack) → P f
+      ((f g : Symbol → List Symbol) → FloatsMatch f frame.hypotheses (last_entries frame stack) → FloatsMatch g frame.hypotheses (last_entries frame stack) → P f
       → P g) →
-      UnderGiven frame (entries_for frame stack) P → P m.given
+      UnderSubstitution frame (last_entries frame stack) P → P m.given
   by_own P each u = each u.0 m.given u.1 (floats_of active frame stack next m) u.2
 
   -- each fault of a citation
-  pub not_cited : (number : ProofNumber) → CitingFails active frame stack number → ⊥
+  pub not_cited : (number : ProofNumber) → CitingFails 1000000 active frame stack number → ⊥
   not_cited P07 h = grind (arith, common_steps, length-append m.below m.entries, length-map) steps 200000
   not_cited P08 h =
-      let p = any_place (λ h e. (h.floating ≡ true) × (slice_get h.expression 0 ≢ slice_get e 0)) frame.hypotheses (entries_for frame stack) h in
+      let p = any_place (λ h e. (h.floating ≡ true) × (slice_get h.expression 0 ≢ slice_get e 0)) frame.hypotheses (last_entries frame stack) h in
       let t = All-contains (λ h. h.floating ≡ true → IsTyping h.expression) frame.hypotheses p.1 is.typings (contains_at frame.hypotheses p.0 p.1 p.3) p.5.0 in
       p.5.1 (no_typecode m.given p.1 t ∙ ap (λ e. slice_get e 0) (entry_at p.0 p.1 p.2 p.3 p.4))
   not_cited P09 h =
-      let p = any_place (λ h e. (h.floating ≡ false) × (substituted m.given h.expression ≢ e)) frame.hypotheses (entries_for frame stack)
-      (by_own (λ f. AnyZip (λ h e. (h.floating ≡ false) × (substituted f h.expression ≢ e)) frame.hypotheses (entries_for frame stack))
-      (λ f g. wrong_by frame is f g (entries_for frame stack)) h) in
+      let p = any_place (λ h e. (h.floating ≡ false) × (substituted m.given h.expression ≢ e)) frame.hypotheses (last_entries frame stack)
+      (by_own (λ f. AnyZip (λ h e. (h.floating ≡ false) × (substituted f h.expression ≢ e)) frame.hypotheses (last_entries frame stack))
+      (λ f g. wrong_by frame is f g (last_entries frame stack)) h) in
       p.5.1 (entry_at p.0 p.1 p.2 p.3 p.4)
   not_cited P10 h =
-      let a = by_own (λ f. Any (λ pair. ShareVariable (f pair.0) (f pair.1)) frame.pairs) (λ f g. pairs_by ShareVariable frame is f g (entries_for frame stack))
+      let a = by_own (λ f. Any (λ pair. ShareVariable (f pair.0) (f pair.1)) frame.pairs) (λ f g. pairs_by ShareVariable frame is f g (last_entries frame stack))
       h in
       let z = any_all (λ pair. ShareVariable (m.given pair.0) (m.given pair.1)) (λ pair. AreApart active (m.given pair.0) (m.given pair.1)) frame.pairs a
       m.takes.apart in
       z.2.unshared z.1
   not_cited P11 h =
       let a = by_own (λ f. Any (λ pair. LackPair active (f pair.0) (f pair.1)) frame.pairs)
-      (λ f g. pairs_by (LackPair active) frame is f g (entries_for frame stack)) h in
+      (λ f g. pairs_by (LackPair active) frame is f g (last_entries frame stack)) h in
       let z = any_all (λ pair. LackPair active (m.given pair.0) (m.given pair.1)) (λ pair. AreApart active (m.given pair.0) (m.given pair.1)) frame.pairs a
       m.takes.apart in
       z.1.5 (z.2.paired z.1.0 z.1.1 z.1.2 z.1.3 z.1.4)
   not_cited P12 h =
-      let l = by_own (λ f. 1000000 < length (substituted f frame.expression)) (λ f g. long_by frame is f g (entries_for frame stack)) h in
+      let l = by_own (λ f. 1000000 < length (substituted f frame.expression)) (λ f g. long_by frame is f g (last_entries frame stack)) h in
       let e = ap length m.takes.result_matches in
       omega (arith, m.takes.short)
   not_cited _ h = absurd h

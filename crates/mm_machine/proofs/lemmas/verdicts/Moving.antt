@@ -1,13 +1,12 @@
 -- A verdict depends on what the labels mean alone.
-use Rattle.std.proofs.Common.{arith, ◌≡◌, ℕ, zero, suc, ◌+◌, Bool, true, false, Option, Some, None, List, ◌∷◌, ◌++◌, take, get_or, refl, sym, ◌∙◌, ap, subst, inl, inr, slice_get, All, Any}
-use Rattle.std.{proofs.{Common.{if◌then◌else◌, []}, lemmas.{Grind.{common_steps}, List.{get_or_default, Elements.{All-contains}}}}, specs.List.{AllZip}}
-use Rattle.mm_machine.specs.Language.Frame.{Symbol, Mandatory, Frame, Resolved, Hypothesis, Assertion, Inactive, Unknown, Setting, ArePair, AreSamePairs, AreSameFrame}
+use Rattle.std.proofs.Common.{arith, ◌≡◌, ℕ, zero, suc, ◌+◌, Bool, true, false, Option, Some, None, List, ◌∷◌, ◌++◌, take, get_or, refl, sym, ◌∙◌, ap, subst, inl, inr, slice_get, All, Any, length}
+use Rattle.std.{proofs.{Common.{if◌then◌else◌, []}, lemmas.{Grind.{common_steps}, List.{get_or_default, Elements.{All-contains}}, Slice.Zip.{AllZip-long}}}, specs.{List.{AllZip}, Option.{option_map}}}
+use Rattle.mm_machine.specs.Language.Frame.{Symbol, Mandatory, Frame, LabelMeaning, Hypothesis, Assertion, Inactive, Unknown, Setting, ArePair, AreSamePairs, AreSameFrame}
 use Rattle.mm_machine.specs.Language.Derivation.{Derives, DeriveInOrder, by_hypothesis, by_assertion, nothing, first_then, Takes, AreApart, ShareVariable}
-use Rattle.mm_machine.specs.Language.Expansion.{Step, NotKnown, Expanded, expand_one, expand_from, expansion, last_part, weight, with_again}
-use Rattle.mm_machine.specs.Language.{Faults.{LackPair, CitingFails, LabelFails, StepLineHolds}, Reaches.{Reaches, IsStepFault}, Machine.{AreAllKnown}, Run.{run_part}}
-use Rattle.mm_machine.specs.{Language.{Verdict.{Decoded, IsFirstUnknown, IsWrongBy, IsVerdictOnSteps}, SameProof.{AreSameMeaning, IsSameStep, IsSameProof}}, declared.Spot.{Spot}}
-use Rattle.mm_machine.specs.declared.{ProofNumber.{ProofNumber, TheVariants.{P10, P11, P14, P15}}, Verdict.{Verdict, TheVariants.{Proved, Incomplete, Wrong}}}
-use Rattle.mm_machine.proofs.lemmas.{verdicts.Part.{part_same}, lists.Zips.{both_joined, flipped, zip_at}}
+use Rattle.mm_machine.specs.Language.{Expansion.{Step, Expanded, expand_one, expand_from, expansion, last_part, weight}, Faults.{LackPair, CitingFails, LabelFails, StepLineHolds}}
+use Rattle.mm_machine.specs.Language.{Reaches.{Reaches, IsStepFault}, Run.{run_part}, Verdict.{Decoded, IsWrongBy, IsVerdictOnSteps}, SameProof.{AreSameMeaning, IsSameStep, IsSameProof}}
+use Rattle.mm_machine.specs.declared.{Spot.{Spot}, ProofNumber.{ProofNumber, TheVariants.{P10, P11, P14, P15}}, Verdict.{Verdict, TheVariants.{Proved, Incomplete, Wrong}}}
+use Rattle.mm_machine.proofs.lemmas.{verdicts.Part.{AreKnown, all_known, known_part, part_same}, lists.Zips.{both_joined, flipped, zip_at}}
 
 -- the lists of labels mean the same, one by one
 abbrev pub AreSameLabels : Setting → Setting → List (List ℕ) → List (List ℕ) → Type 0
@@ -41,7 +40,7 @@ taken_beside R _ _ _ a = tt
 pub frame_back : (a b : Frame) → AreSameFrame a b → AreSameFrame b a
 frame_back a b s = record { expression = sym s.expression; hypotheses = sym s.hypotheses; pairs = λ x y. ((s.pairs x y).1, (s.pairs x y).0) }
 
-meaning_back : (r s : Resolved) → AreSameMeaning r s → AreSameMeaning s r
+meaning_back : (r s : LabelMeaning) → AreSameMeaning r s → AreSameMeaning s r
 meaning_back (Hypothesis e) (Hypothesis f) m = sym m
 meaning_back (Assertion a) (Assertion b) m = frame_back a b m
 meaning_back Inactive Inactive m = m
@@ -77,14 +76,14 @@ all_apart active others a b given s f all k d l =
     ])
 
 pub takes_moved : (active others : List (Symbol × Symbol)) (a b : Frame) (given : Symbol → List Symbol) (entries : List (List Symbol))
-    (result : List Symbol) → AreSamePairs active others → AreSameFrame a b → Takes active a given entries result → Takes others b given entries result
+    (result : List Symbol) → AreSamePairs active others → AreSameFrame a b → Takes 1000000 active a given entries result → Takes 1000000 others b given entries result
 takes_moved active others a b given entries result s f t = grind (arith, common_steps, all_apart active others a b given s f t.apart) steps 200000
 
 -- what a label with the same meaning means
-same_hypothesis : (r s : Resolved) (e : List Symbol) → AreSameMeaning r s → r ≡ Hypothesis e → s ≡ Hypothesis e
+same_hypothesis : (r s : LabelMeaning) (e : List Symbol) → AreSameMeaning r s → r ≡ Hypothesis e → s ≡ Hypothesis e
 same_hypothesis r s e m is = grind (arith, common_steps) steps 200000
 
-same_assertion : (r s : Resolved) (a : Frame) → AreSameMeaning r s → r ≡ Assertion a → (b : Frame) × (s ≡ Assertion b) × AreSameFrame a b
+same_assertion : (r s : LabelMeaning) (a : Frame) → AreSameMeaning r s → r ≡ Assertion a → (b : Frame) × (s ≡ Assertion b) × AreSameFrame a b
 same_assertion r s a m is = grind (arith, common_steps) steps 200000
 
 mutual
@@ -138,7 +137,8 @@ pub record AreSameExpanded (p q : Setting) (x y : Expanded) : Type 0 where
   pub labels : AreSameLabels p q x.labels y.labels
   pub saved : AllZip (AreSameLabels p q) x.saved y.saved
 
-same_again : (p q : Setting) (x y : Expanded) (o r : Option (List (List ℕ))) → AreSameExpanded p q x y → BothOrNone (AreSameLabels p q) o r → BothOrNone (AreSameExpanded p q) (with_again x o) (with_again y r)
+same_again : (p q : Setting) (x y : Expanded) (o r : Option (List (List ℕ))) → AreSameExpanded p q x y → BothOrNone (AreSameLabels p q) o r →
+    BothOrNone (AreSameExpanded p q) (option_map (λ (part : List (List ℕ)). record x { labels = x.labels ++ part }) o) (option_map (λ (part : List (List ℕ)). record y { labels = y.labels ++ part }) r)
 same_again p q x y o r s b = grind (arith, common_steps, both_joined) steps 200000
 
 same_one : (p q : Setting) (x y : Expanded) (a b : Step) → AreSameExpanded p q x y → IsSameStep p q a b → BothOrNone (AreSameExpanded p q) (expand_one p x a) (expand_one q y b)
@@ -180,15 +180,16 @@ lack_moved active others xs ys s l = (l.0, l.1, l.2, l.3, l.4, (λ r. l.5 ((s l.
 pairs_moved :
     (active others : List (Symbol × Symbol)) (expression : List Symbol) (hypotheses : List Mandatory) (pairs : List (Symbol × Symbol)) (b : Frame) (stack : List (List Symbol)) (number : ProofNumber) →
     AreSamePairs active others → AreSamePairs pairs b.pairs → expression ≡ b.expression → hypotheses ≡ b.hypotheses →
-    CitingFails active (record { expression = expression; hypotheses = hypotheses; pairs = pairs }) stack number → CitingFails others b stack number
+    CitingFails 1000000 active (record { expression = expression; hypotheses = hypotheses; pairs = pairs }) stack number → CitingFails 1000000 others b stack number
 pairs_moved active others expression hypotheses pairs b stack number s f e h c =
-    by_number number (subst (λ (w : Frame). CitingFails active w stack number) (λ i. record { expression = e i; hypotheses = h i; pairs = pairs }) c) where
-      by_number : (number : ProofNumber) → CitingFails active (record b { pairs = pairs }) stack number → CitingFails others b stack number
+    by_number number (subst (λ (w : Frame). CitingFails 1000000 active w stack number) (λ i. record { expression = e i; hypotheses = h i; pairs = pairs }) c) where
+      by_number : (number : ProofNumber) → CitingFails 1000000 active (record b { pairs = pairs }) stack number → CitingFails 1000000 others b stack number
       by_number P10 c = (c.0, c.1, any_moved (λ x y. ShareVariable (c.0 x) (c.0 y)) pairs b.pairs (λ x y z. (z.0, z.2, z.1)) f c.2)
       by_number P11 c = (c.0, c.1, any_moved (λ x y. LackPair others (c.0 x) (c.0 y)) pairs b.pairs (λ x y z. lack_back others (c.0 x) (c.0 y) z) f (c.2.0, c.2.1, c.2.2, c.2.3, lack_moved active others (c.0 c.2.1.0) (c.0 c.2.1.1) s c.2.4))
       by_number _ c = c
 
-pub label_moved : (active others : List (Symbol × Symbol)) (r t : Resolved) (stack : List (List Symbol)) (number : ProofNumber) → AreSamePairs active others → AreSameMeaning r t → LabelFails active r stack number → LabelFails others t stack number
+pub label_moved : (active others : List (Symbol × Symbol)) (r t : LabelMeaning) (stack : List (List Symbol)) (number : ProofNumber) → AreSamePairs active others → AreSameMeaning r t → LabelFails active r stack number →
+    LabelFails others t stack number
 label_moved active others (Assertion a) (Assertion b) stack number s m c = pairs_moved active others a.expression a.hypotheses a.pairs b stack number s m.pairs m.expression m.hypotheses c
 label_moved active others (Assertion a) _ stack number s m c = absurd m
 label_moved active others _ t stack number s m c = absurd c
@@ -212,25 +213,26 @@ fault_moved p q s xs ys n number a f =
       number_is = grind (arith, common_steps, line_moved p q f.step z.0 f.stack number s z.2 f.number_is.holds, step_back p q f.step z.0 z.2, line_moved) steps 200000;
     }
 
-known_moved : (p q : Setting) (xs ys : List Step) → AllZip (IsSameStep p q) xs ys → AreAllKnown xs → AreAllKnown ys
-known_moved p q [] [] a k = k
-known_moved p q (x ∷ xs) (y ∷ ys) a k = grind (arith, common_steps, known_moved p q xs ys a.1 k.1) steps 200000
-known_moved p q _ _ a k = absurd a
-
-unknown_at : (p q : Setting) (xs ys : List Step) (n : ℕ) → AllZip (IsSameStep p q) xs ys → slice_get xs n ≡ Some NotKnown → slice_get ys n ≡ Some NotKnown
-unknown_at p q xs ys n a e = grind (arith, common_steps, zip_at (IsSameStep p q) xs ys n NotKnown a e) steps 200000
-
-first_unknown_moved : (p q : Setting) (xs ys : List Step) (n : ℕ) → AllZip (IsSameStep p q) xs ys → IsFirstUnknown xs n → IsFirstUnknown ys n
-first_unknown_moved p q xs ys n a f = (unknown_at p q xs ys n a f.0, λ k l e. f.1 k l (unknown_at q p ys xs k (steps_back p q xs ys a) e))
+whole_moved : (p q : Setting) (xs ys : List Step) → AllZip (IsSameStep p q) xs ys → run_part xs ≡ xs → run_part ys ≡ ys
+whole_moved p q xs ys a e = known_part ys (known_moved p q xs ys a (all_known xs e))
+  where
+    known_moved : (p q : Setting) (xs ys : List Step) → AllZip (IsSameStep p q) xs ys → AreKnown xs → AreKnown ys
+    known_moved p q [] [] a k = k
+    known_moved p q (x ∷ xs) (y ∷ ys) a k = grind (arith, common_steps, known_moved p q xs ys a.1 k.1) steps 200000
+    known_moved p q _ _ a k = absurd a
 
 wrong_moved : (p q : Setting) (statement : List Symbol) (c d : Decoded) (number : ProofNumber) (spot : Spot) → IsSameProof p q c d → IsWrongBy p statement c number spot → IsWrongBy q statement d number spot
-wrong_moved p q statement c d P14 spot s w = (known_moved p q c.steps d.steps s.steps w.0, w.1, reached_moved p q s.active c.steps d.steps w.1 s.steps w.2, w.3, w.4 ∙ s.close)
-wrong_moved p q statement c d P15 spot s w = (known_moved p q c.steps d.steps s.steps w.0, w.1, reached_moved p q s.active c.steps d.steps (w.1 ∷ []) s.steps w.2, w.3, w.4 ∙ s.close)
+wrong_moved p q statement c d P14 spot s w = (w.0, reached_moved p q s.active c.steps d.steps w.0 s.steps w.1, w.2, w.3 ∙ s.close)
+wrong_moved p q statement c d P15 spot s w = (w.0, reached_moved p q s.active c.steps d.steps (w.0 ∷ []) s.steps w.1, w.2, w.3 ∙ s.close)
 wrong_moved p q statement c d number spot s w = grind (arith, fault_moved p q s.active (run_part c.steps) (run_part d.steps) w.0 number (part_same p q c.steps d.steps s.steps) w.1) steps 200000
 
 -- the same proof has the same verdict
 pub verdict_moved : (p q : Setting) (statement : List Symbol) (c d : Decoded) (v : Verdict) → IsSameProof p q c d → IsVerdictOnSteps p statement c v → IsVerdictOnSteps q statement d v
-verdict_moved p q statement c d Proved s v = (known_moved p q c.steps d.steps s.steps v.0, reached_moved p q s.active c.steps d.steps (statement ∷ []) s.steps v.1)
+verdict_moved p q statement c d Proved s v = reached_moved p q s.active c.steps d.steps (statement ∷ []) s.steps v
 verdict_moved p q statement c d (Incomplete spot) s v =
-    grind (arith, common_steps, first_unknown_moved p q c.steps d.steps v.0 s.steps v.1, reached_moved p q s.active (run_part c.steps) (run_part d.steps) v.3.0 (part_same p q c.steps d.steps s.steps) v.3.1) steps 200000
+    let parts = part_same p q c.steps d.steps s.steps in (
+      λ e. v.0 (whole_moved q p d.steps c.steps (steps_back p q c.steps d.steps s.steps) e),
+      subst (λ n. slice_get d.spots n ≡ Some spot) (sym (AllZip-long (IsSameStep p q) (run_part c.steps) (run_part d.steps) parts)) (ap (λ w. slice_get w (length (run_part c.steps))) (sym s.spots) ∙ v.1),
+      (v.2.0, reached_moved p q s.active (run_part c.steps) (run_part d.steps) v.2.0 parts v.2.1),
+    )
 verdict_moved p q statement c d (Wrong number spot) s v = wrong_moved p q statement c d number spot s v

@@ -1,12 +1,12 @@
 -- One label at the end of a join, and that a list derives at most one expression.
 use Rattle.std.proofs.lemmas.{Grind.{elements, common_steps}, List.{append-nil, same_from_push, length-map, take_at, drop_at, Elements.{Contains-append_right}}}
 use Rattle.std.{proofs.Common.{rules, ◌≡◌, ℕ, zero, suc, ◌≤◌, true, false, List, ◌∷◌, ◌++◌, length, map, refl, sym, ap, arith, length-append, take, ◌-◌, []}, specs.List.{AllZip}}
-use Rattle.mm_machine.specs.Language.{Frame.{Symbol, Mandatory, Frame, Resolved, Hypothesis, Assertion, Inactive, Unknown, Setting, HasVariable}, Substitution.{substituted, replacement}}
+use Rattle.mm_machine.specs.Language.{Frame.{Symbol, Mandatory, Frame, LabelMeaning, Hypothesis, Assertion, Inactive, Unknown, Setting, HasVariable}, Substitution.{substituted, replacement}}
 use Rattle.mm_machine.specs.Language.{Derivation.{Derives, DeriveInOrder, by_hypothesis, by_assertion, nothing, first_then}, Typing.{IsTyped, IsFrame, HasFrames}, Steps.{Cites, Moves}}
-use Rattle.mm_machine.{specs.Language.Faults.{entries_for}, proofs.lemmas.{lists.{Members.{contains_get}, Zips.{zip_at}}, verdicts.Joins.{join, alone, cut}}}
+use Rattle.mm_machine.{specs.Language.Faults.{last_entries}, proofs.lemmas.{lists.{Members.{contains_get}, Zips.{zip_at}}, verdicts.Joins.{join, alone, cut}}}
 
 -- a label goes on from a join
-pub go_on : {place : Setting} {labels : List (List ℕ)} {stack next : List (List Symbol)} (label : List ℕ) (r : Resolved) → place.resolve label ≡ r
+pub go_on : {place : Setting} {labels : List (List ℕ)} {stack next : List (List Symbol)} (label : List ℕ) (r : LabelMeaning) → place.resolve label ≡ r
     → DeriveInOrder place labels stack → Moves place.active r stack next → DeriveInOrder place (labels ++ label ∷ []) next
 go_on {place} {labels} label (Hypothesis e) is d m = grind (arith, common_steps, join d (alone (by_hypothesis is))) steps 200000
 go_on {place} {labels} {stack} label (Assertion frame) is d m =
@@ -24,7 +24,7 @@ pub record LastLabel (place : Setting) (all : List (List ℕ)) (next : List (Lis
   pub moves : Moves place.active (place.resolve label) stack next
 
 -- an entry below changes nothing
-pub under : (active : List (Symbol × Symbol)) (e : List Symbol) (r : Resolved) (stack next : List (List Symbol)) → Moves active r stack next → Moves active r (e ∷ stack) (e ∷ next)
+pub under : (active : List (Symbol × Symbol)) (e : List Symbol) (r : LabelMeaning) (stack next : List (List Symbol)) → Moves active r stack next → Moves active r (e ∷ stack) (e ∷ next)
 under active e (Hypothesis h) stack next m = ap (λ s. e ∷ s) m
 under active e (Assertion frame) stack next m = record { below = e ∷ m.below; entries = m.entries; result = m.result; given = m.given; before = ap (λ s. e ∷ s) m.before; takes = m.takes; after = ap (λ s. e ∷ s) m.after }
 under active e _ stack next m = m
@@ -76,7 +76,7 @@ same_substituted f g (s ∷ e) h =
 
 -- what a citation takes, and what it leaves
 pub parts_are : (active : List (Symbol × Symbol)) (frame : Frame) (stack next : List (List Symbol)) → (m : Cites active frame stack next) →
-    (take (length stack - length frame.hypotheses) stack ≡ m.below) × (entries_for frame stack ≡ m.entries)
+    (take (length stack - length frame.hypotheses) stack ≡ m.below) × (last_entries frame stack ≡ m.entries)
 parts_are active frame stack next m = grind (arith, common_steps, take_at, drop_at, length-append, length-map) steps 200000
 
 own_floats : (f : Symbol → List Symbol) (hs : List Mandatory) → FloatsMatch f hs (map (λ h. substituted f h.expression) hs)
@@ -84,7 +84,7 @@ own_floats f [] = tt
 own_floats f (h ∷ hs) = (λ _. refl, own_floats f hs)
 
 pub floats_of : (active : List (Symbol × Symbol)) (frame : Frame) (stack next : List (List Symbol)) → (m : Cites active frame stack next) →
-    FloatsMatch m.given frame.hypotheses (entries_for frame stack)
+    FloatsMatch m.given frame.hypotheses (last_entries frame stack)
 floats_of active frame stack next m = grind (arith, common_steps, own_floats, parts_are, stack) steps 200000
 
 -- citing a frame gives one result
@@ -93,12 +93,12 @@ same_result active frame stack next next' is m n =
     let a = parts_are active frame stack next m in
     let b = parts_are active frame stack next' n in
     let s = same_substituted m.given n.given frame.expression (λ v w.
-    agree m.given n.given frame.hypotheses (entries_for frame stack) v (floats_of active frame stack next m) (floats_of active frame stack next' n) w.1
+    agree m.given n.given frame.hypotheses (last_entries frame stack) v (floats_of active frame stack next m) (floats_of active frame stack next' n) w.1
     (is.expression_typed v w)) in
     cc
 
 -- a label has one outcome
-pub same_next : (active : List (Symbol × Symbol)) (r : Resolved) (stack next next' : List (List Symbol)) → ((frame : Frame) → r ≡ Assertion frame → IsFrame frame) → Moves active r stack next → Moves active r stack next' → next ≡ next'
+pub same_next : (active : List (Symbol × Symbol)) (r : LabelMeaning) (stack next next' : List (List Symbol)) → ((frame : Frame) → r ≡ Assertion frame → IsFrame frame) → Moves active r stack next → Moves active r stack next' → next ≡ next'
 same_next active r stack next next' is m n = grind (arith, common_steps, same_result) steps 200000
 
 -- a join of no labels is of no expressions

@@ -1,8 +1,9 @@
 -- What deriving lists weigh, and which part a save keeps.
 use Rattle.std.proofs.Common.{rules, ◌≡◌, ◌≢◌, ℕ, suc, ◌+◌, ◌≤◌, Bool, true, false, Option, Some, None, List, [], ◌∷◌, ◌++◌, length, refl, sym, ◌∙◌, ap, subst, arith, length-append, pos, ◌-ℤ◌, ◌≤ℤ◌}
-use Rattle.std.{proofs.{Common.{if◌then◌else◌, inl, inr, ◌⊎◌}, lemmas.{Grind.{common_steps}, Int.{ints}, Bool.{cases_Bool, Decides.{Decides-int_eq}}, List.{length-map}}}, specs.Ordering.{int_eq}}
-use Rattle.mm_machine.specs.Language.{Frame.{Symbol, Resolved, Hypothesis, Assertion, Setting}, Substitution.{substituted}}
-use Rattle.mm_machine.specs.Language.{Derivation.{Derives, DeriveInOrder, by_hypothesis, by_assertion, nothing, first_then}, Expansion.{taken_by, weight, last_part, or_else, IsLastPart}}
+use Rattle.std.{proofs.{Common.{if◌then◌else◌, inl, inr, ◌⊎◌}, lemmas.{Grind.{common_steps}, Int.{ints}, Bool.{cases_Bool, Decides.{Decides-int_eq}}, List.{length-map}}}, specs.Option.{option_or}}
+use Rattle.std.specs.Ordering.{int_eq}
+use Rattle.mm_machine.specs.Language.{Frame.{Symbol, LabelMeaning, Hypothesis, Assertion, Setting}, Substitution.{substituted}}
+use Rattle.mm_machine.specs.Language.{Derivation.{Derives, DeriveInOrder, by_hypothesis, by_assertion, nothing, first_then}, Expansion.{taken_by, weight, last_part, IsLastPart}}
 
 -- what all the labels take
 abbrev pub taken : Setting → List (List ℕ) → ℕ
@@ -46,7 +47,7 @@ weighs_label place n a label t w = record { total = omega (arith, length-append 
 weighs_join : (place : Setting) (n : ℕ) (a b : List (List ℕ)) → Weighs place 1 a → Weighs place n b → Weighs place (suc n) (a ++ b)
 weighs_join place n a b v w = record { total = omega (arith, length-append a b, taken-append place a b); light = light_append place n a b v.light w.light w.total }
 
-taken_at : (r q : Resolved) (n : ℕ) → r ≡ q → taken_by q ≡ n → taken_by r ≡ n
+taken_at : (r q : LabelMeaning) (n : ℕ) → r ≡ q → taken_by q ≡ n → taken_by r ≡ n
 taken_at r q n e t = ap taken_by e ∙ t
 
 mutual
@@ -80,7 +81,7 @@ own_part place (x ∷ a) w = grind (arith, common_steps, is_one place (x ∷ a) 
 
 behind : (place : Setting) (front part : List (List ℕ)) (whole : List (List ℕ)) → last_part place part ≡ Some whole → last_part place (front ++ part) ≡ Some whole
 behind place [] part whole e = e
-behind place (x ∷ front) part whole e = ap (λ o. or_else o (if int_eq (weight place (x ∷ (front ++ part))) (pos 1) then Some (x ∷ (front ++ part)) else None)) (behind place front part whole e)
+behind place (x ∷ front) part whole e = ap (λ o. option_or o (if int_eq (weight place (x ∷ (front ++ part))) (pos 1) then Some (x ∷ (front ++ part)) else None)) (behind place front part whole e)
 
 -- a save keeps the list of the last entry
 pub last_part_is : (place : Setting) (front part : List (List ℕ)) (e : List Symbol) → Derives place part e → last_part place (front ++ part) ≡ Some part
@@ -110,7 +111,7 @@ PartSays place labels (Some part) = IsLastPart place labels part
 PartSays place labels None = (front back : List (List ℕ)) → labels ≡ front ++ back → weight place back ≢ pos 1
 
 part_more : (place : Setting) (x : List ℕ) (labels : List (List ℕ)) (o : Option (List (List ℕ))) (b : Bool) → int_eq (weight place (x ∷ labels)) (pos 1) ≡ b
-    → PartSays place labels o → PartSays place (x ∷ labels) (or_else o (if b then Some (x ∷ labels) else None))
+    → PartSays place labels o → PartSays place (x ∷ labels) (option_or o (if b then Some (x ∷ labels) else None))
 part_more place x labels (Some part) b t p = record {
   front = x ∷ p.front;
   whole = ap (λ w. x ∷ w) p.whole;

@@ -1,7 +1,7 @@
 use Rattle.std.proofs.{lemmas.{Grind.{elements}, List.{length-map}, Option.{slice_get-get_or}}, Common.{◌≡◌, ◌≤◌, length-append, ◌-◌, ◌<◌, ℕ, Some, length, take, get_or, sym, ◌∙◌, ap, subst, arith}}
 use Rattle.mm_machine.specs.{Language.{Reaches.{Reaches}, NamedSteps.{meant, IsSavedWithin, actions_mean, named_expressions, named_frames, saves_in}}, declared.step.ProofStep.{ProofStep}}
-use Rattle.mm_machine.proofs.lemmas.machine.Reaching.{at_start}
-use Rattle.mm_machine.proofs.lemmas.machine.StepLemmas.{nothing_known, known_more, known_all, follows_more, fault_here, unknown_here, reached_all, means_known, action_at, saves_next}
+use Rattle.mm_machine.proofs.lemmas.machine.{Reaching.{at_start}, StepLemmas.{nothing_known, follows_more, fault_here, unknown_here, reached_all, means_known, action_at, saves_next}}
+use Rattle.mm_machine.proofs.lemmas.verdicts.Part.{all_run, known_more}
 use Rattle.mm_machine.specs.declared.step.Action.TheVariants as actions
 use Rattle.mm_machine.proofs.stepping.run_through.Goals as goal
 
@@ -83,4 +83,4 @@ returns-clause-says g c place names is pairs all =
     let k = c.loop-place.place in
     let f = c.loop-place.invariant.follows place names is pairs all in
     let long : length steps ≤ k = omega (arith, c.loop-place-test.false, length-map c.args.steps.now (λ (step : ProofStep). meant names step.action)) in
-    (known_all steps k long f.0, subst (λ w. Reaches place steps w) (sym f.2.stack) (reached_all place steps k f.1 long f.3))
+    (all_run steps k long f.0, subst (λ w. Reaches place steps w) (sym f.2.stack) (reached_all place steps k f.1 long f.3))

@@ -1,7 +1,6 @@
 use Rattle.std.proofs.Common.{◌≡◌, ◌+◌, List, length, take}
-use Rattle.mm_machine.specs.Language.{Frame.{Setting, AreSamePairs}, Typing.{HasFrames}, Expansion.{Step}, Machine.{State}, CitedFrames.{meant_pairs}}
+use Rattle.mm_machine.specs.Language.{RunLaws.{KnownUpTo}, Frame.{Setting, AreSamePairs}, Typing.{HasFrames}, Expansion.{Step}, Machine.{State}, CitedFrames.{meant_pairs}}
 use Rattle.mm_machine.{specs.{Language.NamedSteps.{AreUses, actions_mean, named_expressions, saves_in}, Code.{MachineState.{AreRanges}, Tasks.{HasState}}}, proofs.lemmas.machine.Reaching.{Follows}}
-use Rattle.mm_machine.proofs.lemmas.machine.StepLemmas.{KnownUpTo}
 use Rattle.mm_machine.proofs.stepping.run_through.Given as goal
 
 abbrev pub invariant-loop-place : goal.invariant-loop-place

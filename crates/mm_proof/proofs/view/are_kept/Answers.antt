@@ -1,4 +1,4 @@
-use Rattle.std.proofs.{Common.{arith, List, ℕ, length, subst}, lemmas.Option.{slice_get_within}}
+use Rattle.std.proofs.{Common.{List, ℕ, length, subst}, lemmas.Option.{slice_get_within}}
 use Rattle.mm_proof.{specs.Code.TwoTheorems.{AreUnnamed}, proofs.{InStepLemmas.{in_step_kept}, UnnamedLemmas.{all_named, all_with, none_changed, not_true}}}
 use Rattle.mm_proof.proofs.view.are_kept.Goals as goal
 
@@ -11,4 +11,4 @@ returns-then-is_in_step c said says t base copy f g are =
     let none = none_changed copy marks.changed two.j said.proof (
     λ label told. unnamed told.place told.m (slice_get_within marks.changed told.place told.m told.told) told.told copy (two.names.now, g) told.earlier label
     told.label_is) in
-    grind (arith, in_step_kept base copy marks are two.i two.j marked.0 marked.1, all_named, all_with) steps 200000
+    all_named _ said.proof (all_with _ _ (in_step_kept base copy marks are two.i two.j marked.0 marked.1) said.proof none)

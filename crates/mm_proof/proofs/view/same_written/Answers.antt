@@ -16,8 +16,8 @@ pub returns-then-same_proof : goal.returns-then-same_proof
 returns-then-same_proof c base copy f g =
     let two = c.args.two in
     let names = two.names.now in
-    let mine = says_at names c.args.files.now two.old.now base two.i c.item-mine.result.now f (c.item-mine.ensures.found base (names, f.base)) in
-    let yours = says_at names c.args.files.now two.new.now copy two.j c.item-yours.result.now g (c.item-yours.ensures.found copy (names, g.base)) in
+    let mine = says_at names c.args.files.now two.old.now base two.i c.item-mine.result.now f c.item-mine.ensures.found in
+    let yours = says_at names c.args.files.now two.new.now copy two.j c.item-yours.result.now g c.item-yours.ensures.found in
     let words = (c.same_proof.ensures (said_at base two.i) (said_at copy two.j) mine yours).0 c.if-same_proof.true in
     let labels = c.same_labels.ensures (said_at copy two.j) yours base copy f.base g.base in
     (λ e. record { words = words; labels = labels.0 e }, λ s. labels.1 s.labels)
@@ -26,7 +26,7 @@ pub returns-else-same_proof : goal.returns-else-same_proof
 returns-else-same_proof c base copy f g =
     let two = c.args.two in
     let names = two.names.now in
-    let mine = says_at names c.args.files.now two.old.now base two.i c.item-mine.result.now f (c.item-mine.ensures.found base (names, f.base)) in
-    let yours = says_at names c.args.files.now two.new.now copy two.j c.item-yours.result.now g (c.item-yours.ensures.found copy (names, g.base)) in
+    let mine = says_at names c.args.files.now two.old.now base two.i c.item-mine.result.now f c.item-mine.ensures.found in
+    let yours = says_at names c.args.files.now two.new.now copy two.j c.item-yours.result.now g c.item-yours.ensures.found in
     let same = c.same_proof.ensures (said_at base two.i) (said_at copy two.j) mine yours in
     (λ e. absurd (false≢true (sym c.if-same_proof.false ∙ e)), λ s. same.1 s.words)

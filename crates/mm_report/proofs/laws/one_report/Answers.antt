@@ -2,4 +2,4 @@ use Rattle.mm_report.proofs.AnswerLemmas.{same_report}
 use Rattle.mm_report.proofs.laws.one_report.Goals as goal
 
 pub returns : goal.returns
-returns c = same_report c.files_have_one_base.ensures.said c.one_answer_each.ensures.finding
+returns c = same_report c.files_have_one_database.ensures c.one_answer_each.ensures.finding

@@ -1,6 +1,6 @@
 use Rattle.std.{proofs.{lemmas.{Grind.{common_steps}, Bool.{false≢true}}, Common.{◌≡◌, ◌≢◌, sym, ◌∙◌, subst, arith, slice_range}}, specs.List.{AllByRecursion}}
 use Rattle.mm_store.specs.Language.FileFacts.{CanBeRead}
-use Rattle.mm_statement.{specs.Language.{Item.{Item}, Statement.{kind_of}}, proofs.{ByteLemmas.{no_proof_word}, PieceLemmas.{ends_within, same_bytes}}}
+use Rattle.mm_statement.{specs.Language.{Item.{Said}, Statement.{kind_of}}, proofs.{ByteLemmas.{no_proof_word}, PieceLemmas.{ends_within, same_bytes}}}
 use Rattle.mm_statement.proofs.statement.has_bytes.Goals as goal
 
 pub slice_bounds-occurs-end : goal.slice_bounds-occurs-end
@@ -21,6 +21,6 @@ returns-clause-absent c none said says =
     let bytes = c.args.bytes.now in
     let read = says.read in
     let same = same_bytes c.args.files.now item piece read c.piece-piece.ensures.text in
-    subst (λ (s : Item). AllByRecursion (λ word. word ≢ bytes) s.proof) (sym says.is)
+    subst (λ (s : Said). AllByRecursion (λ word. word ≢ bytes) s.proof) (sym says.is)
     (no_proof_word (slice_range read.text item.start item.end) bytes (kind_of item.kind) read.words (
     λ s. false≢true (sym none ∙ c.occurs.ensures.1 (s.0, s.1, subst (λ text. slice_range text s.0 s.1 ≡ bytes) (sym same) s.2))))

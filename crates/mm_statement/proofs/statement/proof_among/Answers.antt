@@ -1,5 +1,5 @@
 use Rattle.std.proofs.Common.{ap, ◌∙◌, arith}
-use Rattle.mm_statement.specs.{Language.{Item.{Item}, Statement.{kind_of}}, Code.PlainWords.{plain_words}}
+use Rattle.mm_statement.specs.{Language.{Item.{Said}, Statement.{kind_of}}, Code.PlainWords.{plain_words}}
 use Rattle.mm_statement.proofs.SpokenLemmas.{Reads, behind_one, item_read, passed, proof_few, proof_some, proof_bytes, rest_few, rest_some, rest_bytes}
 use Rattle.mm_statement.proofs.statement.proof_among.Goals.{After-pass_symbols}
 use Rattle.mm_statement.proofs.statement.proof_among.Goals as goal
@@ -14,7 +14,7 @@ reads c =
     c.read_label.ensures.label keyword c.pass_symbols.ensures.rest
 
 pub returns : goal.returns
-returns c = c.new.ensures ∙ ap (λ (x : Item). x.proof) (item_read _ c.args.text.now _ _ _ _ (reads (goal.at.returns c).After-pass_symbols))
+returns c = c.new.ensures ∙ ap (λ (x : Said). x.proof) (item_read _ c.args.text.now _ _ _ _ (reads (goal.at.returns c).After-pass_symbols))
 
 pub new-requires-clause-few : goal.new-requires-clause-few
 new-requires-clause-few c =

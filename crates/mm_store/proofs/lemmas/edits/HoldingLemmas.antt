@@ -2,7 +2,7 @@
 use Rattle.std.proofs.lemmas.{Grind.{common_steps, elements}, List.Elements.{All-nil, All-cons}, Option.{none-some, same_Some, slice_get-map}}
 use Rattle.std.proofs.Common.{◌≡◌, ℕ, suc, ◌+◌, ◌<◌, Some, is_some, List, [], ◌∷◌, ◌++◌, length, map, refl, sym, ap, ◌∙◌, subst, arith, All, IsSome, slice_get}
 use Rattle.std.specs.{List.{AllByRecursion, insert, remove}, Option.{option_map}}
-use Rattle.mm_text.specs.Language.{Cut.{HoldsOne, IsCut, ended}, Asked.{Asked, edited_text, IsAmong}}
+use Rattle.mm_text.specs.Language.{Cut.{HoldsOneUnit, IsCut, ended}, Asked.{Asked, edited_text, IsAmong}}
 use Rattle.mm_store.specs.Language.{Edits.{edited, with_members, BringsOneUnit, HasUnitCount, IsEditOf}, FileFacts.{HoldsPieces}}
 use Rattle.mm_store.specs.Language.{FilesView.{File, FileView, FilesView, KeyedFile, PieceView, file_view, files_in, piece_view, plain, plain_file}, Holding.{HoldOneEach}}
 use Rattle.mm_store.{specs.{Language.Pieces.{Pieces, HeldPiece, standing_piece, text_in, text_under}, Code.Gains.{HoldUnits}}, proofs.lemmas.files.MapLemmas.{get_put_same, get_put_other}}
@@ -36,39 +36,39 @@ pub units_held : (view : FilesView) → HoldOneEach (plain view) → HoldUnits (
 units_held view h number file there n piece here =
     let k = there_from_map (file_view view.pieces) view.keyed number file there in
     let is = slice_get-map (plain_file view.pieces) view.keyed number ∙ ap (option_map (plain_file view.pieces)) k.1 in
-    let own : AllByRecursion HoldsOne (plain_file view.pieces k.0).pieces = all_there (λ (file : File). AllByRecursion HoldsOne file.pieces) (plain view) number (plain_file view.pieces k.0) h is in
+    let own : AllByRecursion HoldsOneUnit (plain_file view.pieces k.0).pieces = all_there (λ (file : File). AllByRecursion HoldsOneUnit file.pieces) (plain view) number (plain_file view.pieces k.0) h is in
     let p = there_from_map (piece_view view.pieces) k.0.keys n piece (subst (λ (file : FileView). slice_get file.pieces n ≡ Some piece) k.2 here) in
-    let one = all_there HoldsOne (map (text_under view.pieces) k.0.keys) n (text_under view.pieces p.0) own (slice_get-map (text_under view.pieces) k.0.keys n ∙ ap (option_map (text_under view.pieces)) p.1) in
-    subst (λ (piece : PieceView). HoldsOne piece.text) (sym p.2) one
+    let one = all_there HoldsOneUnit (map (text_under view.pieces) k.0.keys) n (text_under view.pieces p.0) own (slice_get-map (text_under view.pieces) k.0.keys n ∙ ap (option_map (text_under view.pieces)) p.1) in
+    subst (λ (piece : PieceView). HoldsOneUnit piece.text) (sym p.2) one
 
 pub units_each : (view : FilesView) → HoldUnits (files_in view) → HoldOneEach (plain view)
-units_each view hold = all_from (λ (file : File). AllByRecursion HoldsOne file.pieces) (plain view) by_file
+units_each view hold = all_from (λ (file : File). AllByRecursion HoldsOneUnit file.pieces) (plain view) by_file
   where
-    by_piece : (number : ℕ) (file : KeyedFile) → slice_get view.keyed number ≡ Some file → (n : ℕ) (text : List ℕ) → slice_get (map (text_under view.pieces) file.keys) n ≡ Some text → HoldsOne text
+    by_piece : (number : ℕ) (file : KeyedFile) → slice_get view.keyed number ≡ Some file → (n : ℕ) (text : List ℕ) → slice_get (map (text_under view.pieces) file.keys) n ≡ Some text → HoldsOneUnit text
     by_piece number file there n text here =
         let p = there_from_map (text_under view.pieces) file.keys n text here in
         let is = slice_get-map (file_view view.pieces) view.keyed number ∙ ap (option_map (file_view view.pieces)) there in
         let at = slice_get-map (piece_view view.pieces) file.keys n ∙ ap (option_map (piece_view view.pieces)) p.1 in
-        subst HoldsOne (sym p.2) (hold number (file_view view.pieces file) is n (piece_view view.pieces p.0) at)
+        subst HoldsOneUnit (sym p.2) (hold number (file_view view.pieces file) is n (piece_view view.pieces p.0) at)
 
-    by_file : (number : ℕ) (file : File) → slice_get (plain view) number ≡ Some file → AllByRecursion HoldsOne file.pieces
+    by_file : (number : ℕ) (file : File) → slice_get (plain view) number ≡ Some file → AllByRecursion HoldsOneUnit file.pieces
     by_file number file there =
         let k = there_from_map (plain_file view.pieces) view.keyed number file there in
-        subst (λ (file : File). AllByRecursion HoldsOne file.pieces) (sym k.2) (all_from HoldsOne (map (text_under view.pieces) k.0.keys) (by_piece number k.0 k.1))
+        subst (λ (file : File). AllByRecursion HoldsOneUnit file.pieces) (sym k.2) (all_from HoldsOneUnit (map (text_under view.pieces) k.0.keys) (by_piece number k.0 k.1))
 
 -- ---- edits
 
 abbrev pub OneUnitOfCut : Type 0
-OneUnitOfCut = (text piece tail : List ℕ) → IsCut text (piece ∷ []) tail → HoldsOne (ended text)
+OneUnitOfCut = (text piece tail : List ℕ) → IsCut text (piece ∷ []) tail → HoldsOneUnit (ended text)
 
-one_of : OneUnitOfCut → (text : List ℕ) (pieces : List (List ℕ)) (tail : List ℕ) → IsCut text pieces tail → length pieces ≡ 1 → HoldsOne (ended text)
+one_of : OneUnitOfCut → (text : List ℕ) (pieces : List (List ℕ)) (tail : List ℕ) → IsCut text pieces tail → length pieces ≡ 1 → HoldsOneUnit (ended text)
 one_of law text (piece ∷ []) tail cut count = law text piece tail cut
 one_of law text _ tail cut count = absurd (omega arith)
 
-brought : OneUnitOfCut → (text : List ℕ) → HasUnitCount text 1 → HoldsOne (ended text)
+brought : OneUnitOfCut → (text : List ℕ) → HasUnitCount text 1 → HoldsOneUnit (ended text)
 brought law text has = one_of law text has.pieces has.tail has.is_cut has.is_count
 
-pub edited_each : OneUnitOfCut → (edit : Asked) (pieces : List (List ℕ)) → AllByRecursion HoldsOne pieces → IsAmong edit (length pieces) → BringsOneUnit (edited_text edit) → AllByRecursion HoldsOne (edited edit pieces)
+pub edited_each : OneUnitOfCut → (edit : Asked) (pieces : List (List ℕ)) → AllByRecursion HoldsOneUnit pieces → IsAmong edit (length pieces) → BringsOneUnit (edited_text edit) → AllByRecursion HoldsOneUnit (edited edit pieces)
 edited_each law edit pieces h among one = grind (arith, common_steps, all_put, brought, all_less) steps 200000
 
 pub edits_keep : OneUnitOfCut → (edit : Asked) (files after : List File) → HoldOneEach files → IsEditOf edit files after → HoldOneEach after

@@ -1,12 +1,12 @@
 -- Items are no more than bytes.
 use Rattle.std.proofs.{lemmas.{Grind.{common_steps}, List.{length-map}}, Common.{ℕ, suc, ◌+◌, ◌≤◌, Bool, if◌then◌else◌, List, [], ◌∷◌, ◌++◌, length, ap, arith, length-append}}
 use Rattle.std.specs.List.{flat_map, concat}
-use Rattle.mm_text.specs.Language.{Run.{Run, runs, runs_from, with_front, is_white, ends_run}, Reading.{Single, Comment, segment_words, segment_runs}}
+use Rattle.mm_text.specs.Language.{Run.{Run, runs, runs_from, with_first_byte, is_white, ends_run}, Reading.{Single, Comment, segment_words, segment_runs}}
 use Rattle.mm_text.specs.Language.{Unit.{Units, Nothing, Simple, Block, unit_tokens, token_of}, Part.{parts_of}}
 use Rattle.mm_store.{specs.Language.{FilesView.{PieceView, piece_texts}, Expansion.{Placed, ArePartsOf, ArePlaced}}, proofs.lemmas.expansion.NameLemmas.{named_are}}
 use Rattle.mm_text.specs.Language.Reading as reading
 
-run_count : (w e : Bool) (at b n : ℕ) (run : Run) (runs : List Run) → length runs ≤ n → length (if w then runs else if e then run ∷ runs else with_front at b runs) ≤ suc n
+run_count : (w e : Bool) (at b n : ℕ) (run : Run) (runs : List Run) → length runs ≤ n → length (if w then runs else if e then run ∷ runs else with_first_byte at b runs) ≤ suc n
 run_count w e at b n run runs h = grind (arith, common_steps) steps 200000
 
 runs_few : (at : ℕ) (bytes : List ℕ) → length (runs_from at bytes) ≤ length bytes

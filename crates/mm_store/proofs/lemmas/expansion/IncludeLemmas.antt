@@ -2,7 +2,7 @@
 use Rattle.std.proofs.lemmas.{Grind.{common_steps}, Bool.{eqb-true}, Option.{none-some, same_Some, slice_get_within}}
 use Rattle.std.{proofs.Common.{◌≡◌, ℕ, ◌<◌, true, false, length, arith, List, [], ◌∷◌, Some, map, refl, sym, ap, ◌∙◌, subst, ◌⊎◌, inl, inr, ◌==◌, slice_get}, specs.List.{AllByRecursion}}
 use Rattle.mm_text.specs.{declared.{word.Word.{Word}, part.Part.{Part}}, Language.{Reading.{HasWords}, Unit.{Units, Nothing, Simple, Block, AreUnits}, Part.{HasUnits, HasParts, part, part_bytes}}}
-use Rattle.mm_text.specs.Language.Cut.{IsOne, HoldsOne}
+use Rattle.mm_text.specs.Language.Cut.{IsOneUnit, HoldsOneUnit}
 use Rattle.mm_store.specs.{declared.files.PieceKey.{PieceKey}, Language.{FileFacts.{second_word}, Expansion.{Named, Placed, IsInclusion, nameless, named_parts, placed_part, ArePartsOf}}}
 use Rattle.mm_store.{specs.Code.Steps.{IncludesNothing, Includes}, proofs.lemmas.expansion.NameLemmas.{StandsAlone, all_and, all_named, named_are, inner_kind}}
 use Rattle.mm_text.specs.declared.part.PartKind.TheVariants as kinds
@@ -30,7 +30,7 @@ placed_own file n key (part ∷ named) h = (h.0, placed_own file n key named h.1
 abbrev Alone : Units → Type 0
 Alone units = (named : Named) × (named_parts units ≡ named ∷ []) × (named.part.kind ≡ kinds.Inclusion)
 
-one_cases : (units : Units) → AreUnits true units → IsOne units → Alone units ⊎ AllByRecursion IsOwn (named_parts units)
+one_cases : (units : Units) → AreUnits true units → IsOneUnit units → Alone units ⊎ AllByRecursion IsOwn (named_parts units)
 one_cases units are one = grind (arith, common_steps, all_and, end_own, inner_own, start_own) steps 200000
 
 -- no parts have no first
@@ -42,7 +42,7 @@ pub some_first : (parts : List Part) → (length parts == 0) ≡ false → 0 < l
 some_first parts some = grind (arith, common_steps) steps 200000
 
 -- the parts of a piece that holds one unit
-module _ (text : List ℕ) (parts : List Part) (unit : HoldsOne text) (divided : HasParts text parts) (file n : ℕ) (key : PieceKey) where
+module _ (text : List ℕ) (parts : List Part) (unit : HoldsOneUnit text) (divided : HasParts text parts) (file n : ℕ) (key : PieceKey) where
   pub units : HasUnits text unit.units
   units = record { words = unit.words; has_words = unit.has_words; are_units = unit.are_units; spells = unit.spells }
 

@@ -3,7 +3,7 @@ use Rattle.std.proofs.{Common.{rules, ◌≡◌, ℕ, suc, ◌+◌, false, List,
 use Rattle.std.{proofs.lemmas.List.{map-append, Elements.{All-from_recursion}}, specs.List.{AllByRecursion}}
 use Rattle.mm_text.specs.{declared.{word.Word.{Word}, part.PartKind.{PartKind}}, Language.Reading.{HasWords}}
 use Rattle.mm_text.specs.Language.Unit.{Shape, Inclusion, shape_tokens, IsShape, Units, Nothing, Simple, Block, AreUnits, spellings, tokens_of}
-use Rattle.mm_text.specs.Language.{Part.{HasUnits, part, part_bytes, parts_of, shape_part}, Cut.{IsOne, HoldsOne}}
+use Rattle.mm_text.specs.Language.{Part.{HasUnits, part, part_bytes, parts_of, shape_part}, Cut.{IsOneUnit, HoldsOneUnit}}
 use Rattle.mm_store.specs.{declared.item.Item.{Item}, Language.{Pieces.{text_under}, FilesView.{PieceView, FileView, FilesView, files_in, number_of}, FileFacts.{NamesNoFile, second_word}}}
 use Rattle.mm_store.specs.Language.Expansion.{Named, Placed, IsInclusion, included_name, item_kind, placed_item, named_parts, placed_part, ArePartsOf, ArePlaced, Expands, nothing, own, again, missing}
 use Rattle.mm_store.{specs.{Language.Expansion.{included, IsExpansion}, Code.Gains.{IsNamed, HoldUnits}}, proofs.lemmas.expansion.ExpansionLemmas.{OneReading, OneDivision}}
@@ -99,16 +99,16 @@ module _ (stands_alone : StandsAlone) where
       second_of bytes words begin.bytes name.bytes end.bytes (stands_alone text (Inclusion begin name end) words units has)
   one_named text shape units e words has = grind (arith, common_steps) steps 200000
 
-  pub all_named : (text : List ℕ) (units : Units) → HasUnits text units → IsOne units → AllByRecursion (IsNamed text) (named_parts units)
+  pub all_named : (text : List ℕ) (units : Units) → HasUnits text units → IsOneUnit units → AllByRecursion (IsNamed text) (named_parts units)
   all_named text (Block begin inner end Nothing) units one = search (rules, all_and, inner_named) steps 200000
   all_named text units has one = grind (arith, common_steps, one_named) steps 200000
 
 module _ (one_reading : OneReading) (one_division : OneDivision) (stands_alone : StandsAlone) where
-  unit_named : (text : List ℕ) (units : Units) → HasUnits text units → HoldsOne text → AllByRecursion (IsNamed text) (named_parts units)
+  unit_named : (text : List ℕ) (units : Units) → HasUnits text units → HoldsOneUnit text → AllByRecursion (IsNamed text) (named_parts units)
   unit_named text units has holds =
       let words : has.words ≡ holds.words = one_reading text has.words holds.words has.has_words holds.has_words in
       let same : units ≡ holds.units = one_division units holds.units has.are_units holds.are_units (has.spells ∙ ap (tokens_of text) words ∙ sym holds.spells) in
-      all_named stands_alone text units has (subst IsOne (sym same) holds.one)
+      all_named stands_alone text units has (subst IsOneUnit (sym same) holds.one)
 
   parts_tied : (view : FilesView) → HoldUnits (files_in view) → (number m : ℕ) (file : FileView) (piece : PieceView) (parts : List Placed)
       → slice_get (files_in view) number ≡ Some file

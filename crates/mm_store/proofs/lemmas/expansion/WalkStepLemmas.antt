@@ -2,7 +2,7 @@
 use Rattle.std.proofs.lemmas.{Grind.{elements, common_steps}, List.{drop_all}, Option.{none-some, slice_get_within, get_or_from_slice_get}}
 use Rattle.std.proofs.Common.{◌≡◌, ℕ, suc, ◌+◌, false, List, [], ◌∷◌, ◌++◌, Some, None, map, drop, refl, sym, ap, ◌∙◌, subst, append_assoc, append-nil, arith, Contains, slice_get}
 use Rattle.std.proofs.Math.Seq.{drop-cons}
-use Rattle.mm_text.specs.Language.Cut.{HoldsOne}
+use Rattle.mm_text.specs.Language.Cut.{HoldsOneUnit}
 use Rattle.mm_store.specs.{declared.{item.Item.{Item}, walk.Spot.{Spot}}, Language.FilesView.{PieceView, FileView, number_of}}
 use Rattle.mm_store.specs.Language.Expansion.{Placed, placed_item, named_parts, placed_part, ArePartsOf, ArePlaced, IsExpansion}
 use Rattle.mm_store.specs.{Language.Walking.{LevelView, WalkView, IsRest, ArePending, Goes, here, again, missing, included, IsWalk}, Code.Gains.{HoldUnits}}
@@ -44,7 +44,7 @@ pub no_piece : (files : List FileView) (level : LevelView) (parts : List Placed)
 no_piece files level parts rest none = grind (arith, elements, drop_all, none-some) steps 200000
 
 -- each piece has parts
-placed_from : (number n : ℕ) (pieces : List PieceView) → ((k : ℕ) (piece : PieceView) → slice_get pieces k ≡ Some piece → HoldsOne piece.text)
+placed_from : (number n : ℕ) (pieces : List PieceView) → ((k : ℕ) (piece : PieceView) → slice_get pieces k ≡ Some piece → HoldsOneUnit piece.text)
     → (parts : List Placed) × ArePlaced number n pieces parts
 placed_from number n [] each = ([], refl)
 placed_from number n (piece ∷ pieces) each =

@@ -1,4 +1,4 @@
-use Rattle.std.proofs.{lemmas.Grind.{common_steps}, Common.{◌-◌, true, sym, ◌∙◌, arith}}
+use Rattle.std.proofs.{lemmas.Grind.{common_steps}, Common.{true, sym, ◌∙◌, arith}}
 use Rattle.mm_text.proofs.MarkLemmas.{mark_here, mark_end}
 use Rattle.mm_text.proofs.spelling.has_mark.Goals as goal
 

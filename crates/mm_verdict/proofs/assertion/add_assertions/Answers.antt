@@ -16,7 +16,7 @@ loop-place-preserved c =
     let mandatory = c.assertion_of.new.mandatory.items in
     let names = entry.base.0 in
     let same = found.frame names entry.view entry.base.1 entry.entry.1 in
-    let there = c.places_have_frames.ensures entry.view.said entry.i _ (frame_at entry.view j) entry.entry.2 in
+    let there = c.places_have_frames.ensures entry.view entry.i _ (frame_at entry.view j) entry.entry.2 in
     let is_frame = frame_moved (frame_of by_number (hypotheses_of by_number mandatory) cited) (numbered_frame names entry.view j) same (c.numbers_keep_frames.ensures names (frame_at entry.view j) there) in
     let one : IsCitable by_number (hypotheses_of by_number mandatory) cited = record { in_order = found.within.0; within = omega (arith, found.within.1, length-map mandatory (mandatory_of by_number)); frame = is_frame } in
     subst (λ (ns : List ℕ). AreCited c.args.base.now ns mandatory c.push.new.self.items) (sym (take_more numbers k 0 within))

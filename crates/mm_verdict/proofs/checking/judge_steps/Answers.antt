@@ -32,7 +32,7 @@ returns c =
           record {
             verdict = rw (ap (λ j. j.verdict) c.new.ensures, is.decodes) on;
             cites = ap (λ j. j.cites) c.new.ensures ∙ told ∙ sym (ap (λ (o : Result Decoded ProofFault). cites place (said_at view i).proof o) is.decodes ∙ ap (λ (words : List (List ℕ)). cited_words place words steps) is.theorem.says);
-            done = rw is.decodes (rw done at (done_says c.parts_are_run.ensures place (statement_at view i) steps c.in_ok-outcome.outcome says));
+            done = rw is.decodes (rw done at (done_says place (statement_at view i) steps c.in_ok-outcome.outcome says));
           };
       known = c.in_ok-outcome.ensures.known;
       few = omega (arith, c.steps_done-done.ensures.within, c.len.ensures, d.steps.ok, length-map d.steps.items (λ (step : ProofStep). meant names step.action));

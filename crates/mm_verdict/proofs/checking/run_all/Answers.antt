@@ -27,7 +27,7 @@ returns c = record {
       let base = is.theorem.base.1 in
       let used = c.args.used.now in
       let mean = c.in_ok-name_all.ensures.named.means names view base i (part_entries view i d.labels.items used c.requires.used.part is.entries) in
-      let frames = c.numbers_keep_places.ensures names (setting_at view i) (c.places_have_frames.ensures view.said i) in
+      let frames = c.numbers_keep_places.ensures names (setting_at view i) (c.places_have_frames.ensures view i) in
       let said = c.in_ok-outcome.ensures.says (numbered_setting names view i) (entry_steps view used) frames (rw c.new-active.ensures (c.active.ensures.same names view base is.theorem.is_sound)) mean in
       let here = rw (c.deref.ensures.value, part_means view d.labels.items used d.steps.items c.requires.used.kept, c.expression.ensures names view base (shown_proof view i is.theorem.is_sound)) at said in
       c.numbers_say_the_same.ensures names (setting_at view i) (steps_of proof view) (statement_at view i) c.in_ok-outcome.outcome here;

@@ -30,7 +30,7 @@ returns-in-Stops c = record {
       let entries = part_entries view i d.labels.items named.used (rw c.deref-labels.ensures.value at named.are.part) is.entries in
       let keeps = rw (c.deref-labels.ensures.value, c.deref-steps.ensures.value) at named.are.kept in
       let mean = named.names.named.means names view is.theorem.base.1 i entries in
-      let frames = c.numbers_keep_places.ensures names (setting_at view i) (c.places_have_frames.ensures view.said i) in
+      let frames = c.numbers_keep_places.ensures names (setting_at view i) (c.places_have_frames.ensures view i) in
       let pairs = c.active.ensures.same names view is.theorem.base.1 is.theorem.is_sound in
       let stops = (rw c.in-Stops.is at c.in_ok-came_to.ensures.says) (numbered_setting names view i) (entry_steps view named.used) frames (rw c.new-active.ensures pairs) mean in
       front_stops c.numbers_say_the_same.ensures c.stops_stay.ensures c.lack_stops.ensures names view i d.labels.items named.used d.steps.items c.steps_before-count.result keeps c.in-Stops.outcome (rw c.deref-steps.ensures.value at stops);
@@ -52,7 +52,7 @@ returns-then-takes_more c =
           let entries = part_entries view i d.labels.items named.used (rw c.deref-labels.ensures.value at named.are.part) is.entries in
           let keeps = rw (c.deref-labels.ensures.value, c.deref-steps.ensures.value) at named.are.kept in
           let mean = named.names.named.means names view base i entries in
-          let frames = c.numbers_keep_places.ensures names (setting_at view i) (c.places_have_frames.ensures view.said i) in
+          let frames = c.numbers_keep_places.ensures names (setting_at view i) (c.places_have_frames.ensures view i) in
           let pairs = c.active.ensures.same names view base is.theorem.is_sound in
           let done = (rw c.in-Leaves.is at c.in_ok-came_to.ensures.says) (numbered_setting names view i) (entry_steps view named.used) frames (rw c.new-active.ensures pairs) mean in
           let more = rw (c.deref-labels.ensures.value, c.deref-steps.ensures.value) at (c.if-takes_more.ensures refl view is.theorem.base) in

@@ -5,4 +5,4 @@ pub returns-clause-each : goal.returns-clause-each
 returns-clause-each c = each_names c.kept_next.ensures
 
 pub returns-clause-tell : goal.returns-clause-tell
-returns-clause-tell c = cites_tell c.mandatory_labels_mean.ensures
+returns-clause-tell c = cites_tell c.mandatory_labels_mean.ensures c.labels_mean.ensures.assertions

@@ -3,7 +3,7 @@ use Rattle.std.proofs.Common.{rules, arith, ◌≡◌, ℕ, zero, suc, ◌+◌, 
 use Rattle.std.proofs.{Common.{slice_get, slice_index_or}, lemmas.{Grind.{common_steps}, Bool.{cases_Bool, Decides.{nat_tests}}, Slice.Eq.{bytes_eq-Decides}}}
 use Rattle.std.specs.List.{list_any, enumerate_from, before_first}
 use Rattle.mm_frame.specs.{Language.Base.{BaseView, is_shown_at}, declared.base.Resolved.{Resolved}}
-use Rattle.mm_verdict.specs.Language.{BaseLabels.{NoLabelTwice, label_at, setting_at}, Citing.{firsts, means_assertion, names_assertion, is_cited, cited_words}}
+use Rattle.mm_verdict.specs.Language.{BaseLabels.{NoLabelTwice, label_at, setting_at}, Citing.{first_of_each, means_assertion, names_assertion, is_cited, cited_words}}
 use Rattle.mm_verdict.specs.Language.{DecodedSteps.{entry_step, entry_steps, IsEntry, AreEntries, labels_at, word_step, label_table}, Decoding.{is_close, is_compressed}}
 use Rattle.mm_verdict.{specs.Code.Cited.{cited_item, item_named, is_item, names_item, without, item_cites}, proofs.lemmas.views.SameCites.{other_label}}
 use Rattle.mm_machine.specs.{Language.{NamedSteps.{meant}, Expansion.{Step, Named, NotKnown}}, declared.step.{Action.{Action}, ProofStep.{ProofStep}}}
@@ -15,7 +15,7 @@ Words = List (ℕ × List ℕ)
 
 -- the words whose labels pass, each label once
 abbrev told : (List ℕ → Bool) → Words → List ℕ
-told P words = map (λ (w : ℕ × List ℕ). w.0) (filter (λ (w : ℕ × List ℕ). P w.1) (firsts words))
+told P words = map (λ (w : ℕ × List ℕ). w.0) (filter (λ (w : ℕ × List ℕ). P w.1) (first_of_each words))
 
 -- the labels that pass, without this one
 abbrev less : (List ℕ → Bool) → List ℕ → List ℕ → Bool
@@ -30,7 +30,7 @@ alike P Q [] same = refl
 alike P Q (x ∷ xs) same = rw (same x, alike P Q xs same) refl
 
 told_yes : (P : List ℕ → Bool) (n : ℕ) (label : List ℕ) (words : Words) → P label ≡ true → told P ((n, label) ∷ words) ≡ n ∷ told (less P label) words
-told_yes P n label words e = rw e (ap (λ (w : Words). n ∷ map (λ (w : ℕ × List ℕ). w.0) w) (both (λ (w : ℕ × List ℕ). P w.1) (λ (w : ℕ × List ℕ). not (bytes_eq label w.1)) (firsts words)))
+told_yes P n label words e = rw e (ap (λ (w : Words). n ∷ map (λ (w : ℕ × List ℕ). w.0) w) (both (λ (w : ℕ × List ℕ). P w.1) (λ (w : ℕ × List ℕ). not (bytes_eq label w.1)) (first_of_each words)))
 
 told_no : (P : List ℕ → Bool) (n : ℕ) (label : List ℕ) (words : Words) → P label ≡ false → told P ((n, label) ∷ words) ≡ told P words
 told_no P n label words e = grind (arith, common_steps, both, alike, bytes_eq-Decides, cases_Bool) steps 200000

@@ -1,7 +1,7 @@
 -- The words that cite rise.
 use Rattle.std.proofs.{lemmas.{Grind.{common_steps}, Bool.{cases_Bool}}, Common.{ℕ, ◌+◌, ◌<◌, Bool, not, Result, List, [], ◌∷◌, map, arith, filter, bytes_eq}}
 use Rattle.std.specs.List.{AllByRecursion, enumerate_from}
-use Rattle.mm_verdict.{specs.Language.{Citing.{firsts, cites}, DecodingLaws.{Rise}}, proofs.lemmas.{lists.Every.{kept_all, mapped}, views.SameCites.{firsts_all}}}
+use Rattle.mm_verdict.{specs.Language.{Citing.{first_of_each, cites}, DecodingLaws.{Rise}}, proofs.lemmas.{lists.Every.{kept_all, mapped}, views.SameCites.{firsts_all}}}
 use Rattle.mm_machine.specs.{Language.{Frame.{Setting}, Verdict.{Decoded}}, declared.step.ProofFault.{ProofFault}}
 
 -- words with numbers that rise
@@ -21,10 +21,10 @@ kept : (f : ℕ × List ℕ → Bool) (words : List (ℕ × List ℕ)) → Risin
 kept f [] r = tt
 kept f (word ∷ words) r = grind (arith, common_steps, cases_Bool (f word), kept f words r.1, kept_all) steps 200000
 
-firsts_rise : (words : List (ℕ × List ℕ)) → Rising words → Rising (firsts words)
+firsts_rise : (words : List (ℕ × List ℕ)) → Rising words → Rising (first_of_each words)
 firsts_rise [] r = tt
 firsts_rise (word ∷ words) r =
-    let rest = kept (λ other. not (bytes_eq word.1 other.1)) (firsts words) (firsts_rise words r.1) in
+    let rest = kept (λ other. not (bytes_eq word.1 other.1)) (first_of_each words) (firsts_rise words r.1) in
     grind (arith, common_steps, firsts_all (λ (w : ℕ × List ℕ). word.0 < w.0) words r.0, rest, kept_all) steps 200000
 
 only_numbers : (words : List (ℕ × List ℕ)) → Rising words → Rise (map (λ (w : ℕ × List ℕ). w.0) words)

@@ -1,18 +1,17 @@
 -- The words that cite are labels of exactly the assertions that decoded steps name.
-use Rattle.std.proofs.lemmas.{Grind.{common_steps}, Bool.{false≢true, and_parts, and_from, or_left, or_right, cases_Bool}, Option.{same_Some}, Slice.Eq.{bytes_eq-Decides}, List.{take-append-drop}}
-use Rattle.std.proofs.lemmas.List.Elements.{Contains-append_right, Contains-append_cases}
-use Rattle.std.proofs.Common.{◌≡◌, ◌⊎◌, ℕ, suc, ◌+◌, ◌-◌, Bool, true, false, not, cond, Some, Result, Ok, Err, List, [], ◌∷◌, ◌++◌, length, map, drop, take, slice_get, refl, sym, ap, ◌∙◌, subst, inl}
-use Rattle.std.{proofs.Common.{inr, arith}, specs.Prelude.{◌↔◌, Contains, filter, bytes_eq, codes}}
-use Rattle.std.specs.List.{AllZip, AllByRecursion, list_any, enumerate_from, before_first, after_first, range_with_len}
-use Rattle.mm_frame.specs.Language.{Base.{BaseView, AreSaid, said_at, frame_at}, Laws.{KeptNext}}
-use Rattle.mm_machine.specs.{Language.{Frame.{Mandatory, Setting}, Expansion.{Step, Named, Saved}, Verdict.{Decoded}}, declared.{Spot.{Spot}, ProofNumber.{ProofNumber, TheVariants.{P03}}}}
-use Rattle.mm_machine.specs.declared.step.ProofFault.{ProofFault}
-use Rattle.mm_verdict.specs.Language.{BaseLabels.{setting_at}, Citing.{label_words, firsts, means_assertion, names_assertion, is_cited, cites}, CitingLaws.{NamesAssertionAt, IsCiteOf}}
-use Rattle.mm_verdict.specs.Language.Decoding.{Reading, Steps, with_step, read_first, in_order, word_spot, read_label, read_word, each_word, nameable, named, is_save_letter, each_group, if_read}
-use Rattle.mm_verdict.specs.Language.{Decoding.{is_close, is_compressed, letter_steps, steps_in, decoding}, ItemLaws.{MandatoryLabelsMean, MeansHypothesis}, Letters.{Group, groups, letters_from}}
-use Rattle.mm_verdict.specs.Language.{SameToDecode.{labels_named}, VerdictAt.{mandatory_labels, decoding_at, cites_at}}
-use Rattle.mm_verdict.proofs.lemmas.{lists.{Members.{Contains-here, contains_there, contains_cases, kept_at}, Every.{all_at, joined, mapped}}, base.StoodLemmas.{assertion_stands}}
-use Rattle.mm_verdict.proofs.lemmas.decoding.SureLemmas.{decoded_ok}
+use Rattle.std.proofs.Common.{◌==◌, ◌≡◌, ◌⊎◌, ℕ, suc, ◌+◌, ◌-◌, Bool, true, false, not, cond, Some, Result, Ok, Err, List, [], ◌∷◌, ◌++◌, length, map, drop, take, slice_get, refl, sym, ap, ◌∙◌, subst}
+use Rattle.std.proofs.{Common.{inl, inr, arith}, lemmas.{Grind.{common_steps}, Bool.{false≢true, and_parts, and_from, or_left, or_right, cases_Bool}, Option.{same_Some}, Slice.Eq.{bytes_eq-Decides}}}
+use Rattle.std.{proofs.lemmas.List.{take-append-drop, Elements.{Contains-append_right, Contains-append_cases}}, specs.{Option.{ok_or, option_map_or}, Result.{result_and}}}
+use Rattle.std.specs.{Prelude.{◌↔◌, Contains, filter, bytes_eq, codes}, List.{AllZip, AllByRecursion, list_any, enumerate_from, before_first, after_first, range_with_len}}
+use Rattle.mm_machine.specs.{declared.{ProofNumber.{ProofNumber, TheVariants.{P06, P03}}, Spot.{Spot}, step.ProofFault.{ProofFault}}, Language.Frame.{Mandatory, Setting}}
+use Rattle.mm_machine.specs.Language.{Expansion.{Step, Named, Saved}, Verdict.{Decoded}}
+use Rattle.mm_verdict.specs.Language.{Letters.{Letter, Group, groups, letters_from}, BaseLabels.{setting_at}, Citing.{label_words, first_of_each, means_assertion, names_assertion, is_cited, cites}}
+use Rattle.mm_verdict.specs.Language.CitingLaws.{NamesAssertionAt, IsCiteOf}
+use Rattle.mm_verdict.specs.Language.Decoding.{ProofReading, Steps, read_first, in_order, word_spot, read_label, read_word, readings_of_words, nameable, readings_of_groups, is_close, is_compressed}
+use Rattle.mm_verdict.specs.Language.{Decoding.{letter_steps, steps_in, decoding}, ItemLaws.{MandatoryLabelsMean, MeansHypothesis}, SameToDecode.{labels_named}}
+use Rattle.mm_verdict.{specs.Language.VerdictAt.{mandatory_labels, decoding_at, cites_at}, proofs.lemmas.lists.Members.{Contains-here, contains_there, contains_cases, kept_at}}
+use Rattle.mm_verdict.proofs.lemmas.{lists.Every.{all_at, joined, mapped}, base.StoodLemmas.{assertion_stands}, decoding.SureLemmas.{decoded_ok}}
+use Rattle.mm_frame.specs.Language.{Base.{BaseView, AreLabelled, said_at, frame_at}, Laws.{AssertionsMean, KeptNext}}
 
 -- ---- what is in a list, by recursion
 
@@ -68,20 +67,20 @@ member P (y ∷ xs) x h (inr i) = member P xs x h.1 i
 
 -- ---- what holds of each reading holds of each step
 
-abbrev OfReadings : (Step → Type 0) → List Reading → Type 0
+abbrev OfReadings : (Step → Type 0) → List ProofReading → Type 0
 OfReadings P readings = AllByRecursion (λ r. (step : Step) → r.step ≡ Ok step → P step) readings
 
 abbrev OfSteps : (Step → Type 0) → Steps → Type 0
 OfSteps P (Ok steps) = AllByRecursion (λ s. P s.0) steps
 OfSteps P (Err fault) = Unit {0}
 
-with_one : (P : Step → Type 0) (step : Step) (spot : Spot) (rest : Steps) → P step → OfSteps P rest → OfSteps P (with_step step spot rest)
+with_one : (P : Step → Type 0) (step : Step) (spot : Spot) (rest : Steps) → P step → OfSteps P rest → OfSteps P (read_first spot (Ok step) rest)
 with_one P step spot rest p h = grind (arith, common_steps) steps 200000
 
 one_more : (P : Step → Type 0) (spot : Spot) (step : Result Step ProofNumber) (rest : Steps) → ((s : Step) → step ≡ Ok s → P s) → OfSteps P rest → OfSteps P (read_first spot step rest)
 one_more P spot step rest p h = grind (arith, common_steps) steps 200000
 
-of_order : (P : Step → Type 0) (readings : List Reading) → OfReadings P readings → OfSteps P (in_order readings)
+of_order : (P : Step → Type 0) (readings : List ProofReading) → OfReadings P readings → OfSteps P (in_order readings)
 of_order P [] h = tt
 of_order P (r ∷ readings) h = one_more P r.spot r.step (in_order readings) h.0 (of_order P readings h.1)
 
@@ -97,7 +96,7 @@ word_of p labels word step h q = grind (arith, common_steps) steps 200000
 
 words_of :
     (p : Setting) (labels : List (List ℕ)) (n : ℕ) (words : List (List ℕ)) → ((word : List ℕ) → In word words → bytes_eq word (codes "?") ≡ false → In word labels) →
-    OfReadings (IsOf labels) (each_word (read_word p) n words)
+    OfReadings (IsOf labels) (readings_of_words (read_word p) n words)
 words_of p labels n [] h = tt
 words_of p labels n (word ∷ words) h = (λ step q. word_of p labels word step (h word (inl refl)) q, words_of p labels (n + 1) words (λ w i. h w (inr i)))
 
@@ -110,16 +109,16 @@ names_of labels saves =
     (mapped (IsOf labels) Named labels (every (λ l. In l labels) labels (λ l i. i)))
     (mapped (IsOf labels) Saved (range_with_len 0 saves) (every (λ n. IsOf labels (Saved n)) (range_with_len 0 saves) saved))
 
-got_of : (labels : List (List ℕ)) (names : List Step) (n : ℕ) (step : Step) → AllByRecursion (IsOf labels) names → named (slice_get names n) ≡ Ok step → IsOf labels step
+got_of : (labels : List (List ℕ)) (names : List Step) (n : ℕ) (step : Step) → AllByRecursion (IsOf labels) names → ok_or (slice_get names n) P06 ≡ Ok step → IsOf labels step
 got_of labels names n step h q = grind (arith, common_steps, all_at (IsOf labels) names n step h) steps 200000
 
-groups_of : (labels : List (List ℕ)) (close : Spot) (saves : ℕ) (gs : List Group) → OfReadings (IsOf labels) (each_group (map Named labels) close saves gs)
+groups_of : (labels : List (List ℕ)) (close : Spot) (saves : ℕ) (gs : List Group) → OfReadings (IsOf labels) (readings_of_groups (map Named labels) close saves gs)
 groups_of labels close saves [] = tt
-groups_of labels close saves (g ∷ gs) = grind (arith, common_steps, names_of labels saves, groups_of labels close (cond (is_save_letter g.last) (saves + 1) saves) gs, got_of) steps 200000
+groups_of labels close saves (g ∷ gs) = grind (arith, common_steps, names_of labels saves, groups_of labels close (cond (option_map_or (λ (letter : Letter). letter.byte == 90) g.last false) (saves + 1) saves) gs, got_of) steps 200000
 
 -- ---- all proofs
 
-if_of : (P : Step → Type 0) (first behind : Steps) → OfSteps P behind → OfSteps P (if_read first behind)
+if_of : (P : Step → Type 0) (first behind : Steps) → OfSteps P behind → OfSteps P (result_and first behind)
 if_of P first behind h = grind (arith, common_steps) steps 200000
 
 -- a word that is no `?`
@@ -140,7 +139,7 @@ steps_of p mandatory words close = by (is_compressed words) refl
     plain word i e = in_right word mandatory (filter is_label words) (in_filter is_label word words i (ap not e))
 
     by : (b : Bool) → is_compressed words ≡ b → OfSteps (IsOf (mandatory ++ labels_named words)) (steps_in p mandatory words close)
-    by true e = rw e (if_of _ (in_order (each_word (read_label p) 1 listed)) _ (letters (list_any is_close (drop 1 words))))
+    by true e = rw e (if_of _ (in_order (readings_of_words (read_label p) 1 listed)) _ (letters (list_any is_close (drop 1 words))))
     by false e = rw e (of_order _ _ (words_of p (mandatory ++ filter is_label words) 0 words plain))
 
 -- each label that a decoded step names is that of a mandatory hypothesis, or one that the words name
@@ -186,20 +185,20 @@ named_word words label i = by (is_compressed words) i
 label_there : (words : List (List ℕ)) (w : ℕ) (label : List ℕ) → In (w, label) (label_words words) → slice_get words w ≡ Some label
 label_there words w label i = grind (arith, common_steps, from_filter, get_take, numbered_at) steps 200000
 
-in_firsts : (ws : List (ℕ × List ℕ)) (w : ℕ) (label : List ℕ) → In (w, label) ws → (v : ℕ) × In (v, label) (firsts ws)
+in_firsts : (ws : List (ℕ × List ℕ)) (w : ℕ) (label : List ℕ) → In (w, label) ws → (v : ℕ) × In (v, label) (first_of_each ws)
 in_firsts [] w label i = absurd i
 in_firsts (a ∷ ws) w label (inl e) = (w, inl e)
 in_firsts (a ∷ ws) w label (inr i) =
     let r = in_firsts ws w label i in
     elim (cases_Bool (bytes_eq a.1 label)) [
       | inl e ↦ (let same = (bytes_eq-Decides a.1 label).0 e in (a.0, inl (λ i. (a.0, same i))))
-      | inr e ↦ (r.0, inr (in_filter (λ other. not (bytes_eq a.1 other.1)) (r.0, label) (firsts ws) r.1 (ap not e)))
+      | inr e ↦ (r.0, inr (in_filter (λ other. not (bytes_eq a.1 other.1)) (r.0, label) (first_of_each ws) r.1 (ap not e)))
     ]
 
-from_firsts : (ws : List (ℕ × List ℕ)) (x : ℕ × List ℕ) → In x (firsts ws) → In x ws
+from_firsts : (ws : List (ℕ × List ℕ)) (x : ℕ × List ℕ) → In x (first_of_each ws) → In x ws
 from_firsts [] x i = absurd i
 from_firsts (a ∷ ws) x (inl e) = inl e
-from_firsts (a ∷ ws) x (inr i) = inr (from_firsts ws x (from_filter (λ other. not (bytes_eq a.1 other.1)) x (firsts ws) i).0)
+from_firsts (a ∷ ws) x (inr i) = inr (from_firsts ws x (from_filter (λ other. not (bytes_eq a.1 other.1)) x (first_of_each ws) i).0)
 
 -- ---- steps that name a label
 
@@ -240,7 +239,7 @@ to_cites place words d label i a h =
     let w = named_word words label i in
     let v = in_firsts (label_words words) w.0 label w.1 in
     let is = and_from (means_assertion (place.resolve label)) (list_any (names_assertion label) d.steps) a (any_names label d.steps h) in
-    grind (arith, common_steps, in_filter cited (v.0, label) (firsts (label_words words)) v.1 is, label_there words v.0 label (from_firsts (label_words words) (v.0, label) v.1), in_map) steps 200000
+    grind (arith, common_steps, in_filter cited (v.0, label) (first_of_each (label_words words)) v.1 is, label_there words v.0 label (from_firsts (label_words words) (v.0, label) v.1), in_map) steps 200000
 
 -- a label of a mandatory hypothesis means no assertion
 no_assertion : (place : Setting) (labels : List (List ℕ)) (hs : List Mandatory) → AllZip (MeansHypothesis place) labels hs → (label : List ℕ) → In label labels → means_assertion (place.resolve label) ≡ false
@@ -253,10 +252,10 @@ pub each_names : KeptNext → (view : BaseView) (i n : ℕ) → Contains (cites_
 each_names next view i n c =
     let by = from_cites (setting_at view i) (said_at view i).proof (decoding_at view i) n (contains_in n (cites_at view i) c) in
     let k = assertion_stands next view i by.label by.assertion in
-    (k.0, record { cites = c; label = by.label; there = by.there; means = k.1 })
+    (k.0, record { cites = c; label = by.label; there = by.there; means = (k.1.0, k.1.1) })
 
-pub cites_tell : MandatoryLabelsMean → (view : BaseView) (i k : ℕ) → AreSaid view → NamesAssertionAt view i k ↔ ((n : ℕ) × IsCiteOf view i n k)
-cites_tell mean view i k said = (to, from)
+pub cites_tell : MandatoryLabelsMean → AssertionsMean → (view : BaseView) (i k : ℕ) → AreLabelled view → NamesAssertionAt view i k ↔ ((n : ℕ) × IsCiteOf view i n k)
+cites_tell mean assertions view i k said = (to, from)
   where
     place : Setting
     place = setting_at view i
@@ -270,7 +269,7 @@ cites_tell mean view i k said = (to, from)
 
     to : NamesAssertionAt view i k → (n : ℕ) × IsCiteOf view i n k
     to s =
-        let a : means_assertion (place.resolve s.label) ≡ true = ap means_assertion s.means.2 in
+        let a : means_assertion (place.resolve s.label) ≡ true = ap means_assertion (assertions view i k s.label s.means.0 s.means.1).2 in
         let h = contains_in (Named s.label) s.decoded.steps s.named in
         let known = member (IsOf (mandatory_labels view i ++ labels_named words)) s.decoded.steps (Named s.label) (labels_of_steps place (mandatory_labels view i) words s.decoded s.decodes) h in
         let w = to_cites place words s.decoded s.label (listed_only s.label a (in_cases s.label (mandatory_labels view i) (labels_named words) known)) a h in

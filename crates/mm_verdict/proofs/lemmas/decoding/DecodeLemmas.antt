@@ -1,8 +1,10 @@
 -- The decoding that the code has.
 use Rattle.std.proofs.{Common.{arith, ◌≡◌, ℕ, true, false, Ok, List, length, map, drop, refl}, lemmas.{Grind.{common_steps}, Simd.{map-map}}}
+use Rattle.mm_verdict.{proofs.lemmas.decoding.OrderLemmas.{decoded}, specs.Language.DecodedSteps.{TellsFault, label_table, word_step}}
+use Rattle.mm_verdict.specs.{Language.Decoding.{in_order, readings_of_words, read_word, compressed_steps, is_compressed, word_spot, decoding}, Code.Coded.{meant_steps, TellsSteps}}
+use Rattle.mm_verdict.specs.declared.undecoded.Undecoded.{Undecoded}
 use Rattle.mm_machine.specs.{Language.{Frame.{Setting}, Expansion.{Step}, NamedSteps.{meant}, Verdict.{Decoded}}, declared.{Spot.{Spot}, step.ProofStep.{ProofStep}}}
-use Rattle.mm_verdict.specs.Language.{DecodedSteps.{TellsFault, label_table, word_step}, Decoding.{in_order, each_word, read_word, compressed_steps, is_compressed, word_spot, decoded, decoding}}
-use Rattle.mm_verdict.specs.{Code.Coded.{meant_steps, TellsSteps}, declared.undecoded.Undecoded.{Undecoded}}
+use Rattle.mm_verdict.specs.declared.undecoded.Undecoded.TheVariants as errors
 
 abbrev made : List Step → List ProofStep → Spot → Decoded
 made names steps close = record { steps = map (λ (step : ProofStep). meant names step.action) steps; spots = map (λ (step : ProofStep). step.spot) steps; close = close }
@@ -18,7 +20,7 @@ compressed_done place mandatory words names steps is e = rw (is, e) (decoded_is 
 
 pub normal_done :
     (place : Setting) (mandatory words : List (List ℕ)) (names : List Step) (steps : List ProofStep) → is_compressed words ≡ false →
-    in_order (each_word (read_word place) 0 words) ≡ Ok (meant_steps names steps) →
+    in_order (readings_of_words (read_word place) 0 words) ≡ Ok (meant_steps names steps) →
     decoding place mandatory words ≡ Ok (made names steps (word_spot (length words)))
 normal_done place mandatory words names steps is e = rw (is, e) (decoded_is names steps (word_spot (length words)))
 
@@ -28,5 +30,6 @@ normal_table mandatory words is = rw is refl
 
 pub normal_fails :
     (place : Setting) (mandatory words : List (List ℕ)) (e : Undecoded) → is_compressed words ≡ false →
-    TellsSteps e (in_order (each_word (read_word place) 0 words)) → TellsFault e (decoding place mandatory words)
-normal_fails place mandatory words e is tells = grind (arith, common_steps) steps 200000
+    TellsSteps e (in_order (readings_of_words (read_word place) 0 words)) → TellsFault e (decoding place mandatory words)
+normal_fails place mandatory words (errors.Fault fault) is tells = rw (is, tells) refl
+normal_fails place mandatory words errors.Memory is tells = tt

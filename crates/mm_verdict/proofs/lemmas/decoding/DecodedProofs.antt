@@ -1,25 +1,28 @@
 -- A proof that is decoded, and what a run says of it.
-use Rattle.std.proofs.Common.{rules, ◌≡◌, ℕ, zero, suc, ◌<◌, true, false, cond, Some, Ok, List, [], ◌∷◌, length, take, get_or, refl, sym, ◌∙◌, ap, subst, arith, inl, inr, slice_get, All, count_by}
-use Rattle.std.proofs.lemmas.{Grind.{common_steps, elements}, List.{take-map, length-take-le, Elements.{All-nil, All-cons, All-head, All-tail}, Sums.{sum_by-cons}}}
-use Rattle.std.{proofs.lemmas.Option.{slice_get-map, slice_get_within}, specs.Option.{option_map}}
+use Rattle.std.proofs.Common.{◌≡◌, ℕ, zero, suc, ◌<◌, true, false, cond, Some, Ok, Err, List, [], ◌∷◌, length, take, get_or, refl, sym, ◌∙◌, ap, subst, arith, inl, inr, slice_get, All, count_by}
+use Rattle.std.proofs.lemmas.{Grind.{common_steps, elements}, List.{take-map, length-take-le, Elements.{All-nil, All-cons, All-head, All-tail}, Sums.{sum_by-cons}}, Option.{slice_get-map}}
+use Rattle.std.specs.Option.{option_map}
 use Rattle.mm_frame.specs.{declared.base.{Base.{Base}, Resolved.{Resolved}}, Language.{Base.{BaseView, before, said_at, is_framed_at}, Framing.{mandatory_numbers}, Answering.{IsBase}}}
 use Rattle.mm_machine.specs.Language.{Frame.{Symbol, Setting}, Expansion.{Step, Saved, NotKnown}, Machine.{AreDecoded, is_save}, Run.{AreDone}}
-use Rattle.mm_machine.specs.{Language.{NamedSteps.{meant, AreSavedBefore, IsSavedWithin, RunSays, actions_mean, saves_by, saves_in}, RunLaws.{PartsAreRun}}, declared.step.Action.{Action}}
-use Rattle.mm_machine.specs.declared.{step.ProofStep.{ProofStep}, stepping.Outcome.{Outcome, TheVariants.{Proved, Fault, Unknown, NotOne, Other}}}
-use Rattle.mm_verdict.specs.Language.{BaseLabels.{AreActive, setting_at}, DecodingLaws.{DecodesSurely, MandatoryAreActive}, VerdictAt.{mandatory_labels}}
-use Rattle.mm_verdict.specs.{Language.DecodedSteps.{decoded_steps, decoding_of, AreEntries, entry_steps, label_table, labels_at}, Code.{Decoded.{WhereActive}, Judged.{IsDecoding, IsTheorem, done_by}}}
-use Rattle.mm_verdict.{specs.{Code.{NamedItems.{IsNamedBy}, UsedLabels.{IsPart}}, declared.reading.Decoding.{Decoding}}, proofs.lemmas.base.FrameLemmas.{framed_proof}}
-use Rattle.mm_verdict.proofs.lemmas.{verdicts.ItemLemmas.{active_usable}, machine.UsedLemmas.{entry_of, part_entries}, decoding.ReadOnLemmas.{parts}}
+use Rattle.mm_machine.specs.{Language.{NamedSteps.{meant, AreSavedBefore, IsSavedWithin, RunSays, actions_mean, saves_by, saves_in}, Verdict.{IsVerdict}}, declared.step.Action.{Action}}
+use Rattle.mm_machine.specs.declared.{step.{ProofStep.{ProofStep}, ProofFault.{ProofFault}}, stepping.Outcome.{Outcome, TheVariants.{Proved, Fault, Unknown, NotOne, Other}}}
+use Rattle.mm_machine.specs.declared.Verdict.TheVariants.{Wrong}
+use Rattle.mm_verdict.specs.Language.{BaseLabels.{AreActive, setting_at}, DecodingLaws.{DecodesSurely, MandatoryAreActive}, VerdictAt.{mandatory_labels, AreDoneIn, decoding_at, statement_at}}
+use Rattle.mm_verdict.specs.{Language.{DecodedSteps.{decoded_steps, decoding_of, AreEntries, entry_steps, label_table, labels_at, TellsFault}, Citing.{cites}}, Code.Decoded.{WhereActive}}
+use Rattle.mm_verdict.specs.{Code.{Judged.{IsDecoding, IsTheorem, done_by}, NamedItems.{IsNamedBy}, UsedLabels.{IsPart}, DecodedProof.{IsJudgedProof}}, declared.reading.Decoding.{Decoding}}
+use Rattle.mm_verdict.{specs.declared.{undecoded.Undecoded.{Undecoded}, work.Checked.{Checked}}, proofs.lemmas.{base.FrameLemmas.{framed_proof}, verdicts.ItemLemmas.{active_usable}}}
+use Rattle.mm_verdict.proofs.lemmas.machine.UsedLemmas.{entry_of, part_entries}
 use Rattle.mm_machine.specs.declared.step.Action.TheVariants as actions
+use Rattle.mm_verdict.specs.declared.undecoded.Undecoded.TheVariants as errors
 
 -- ---- entries
 
-pub named_by : (code : Base) (view : BaseView) (i : ℕ) → IsBase view code → i < length view.said → (labels : List Resolved) → AreEntries view i labels → All (IsNamedBy code) labels
+pub named_by : (code : Base) (view : BaseView) (i : ℕ) → IsBase view code → i < length view → (labels : List Resolved) → AreEntries view i labels → All (IsNamedBy code) labels
 named_by code view i base within [] entries = All-nil (IsNamedBy code)
 named_by code view i base within (l ∷ labels) entries = All-cons (IsNamedBy code) l labels (record { view = view; i = i; base = base; within = within; entry = entries.0 }) (named_by code view i base within labels entries.1)
 
 -- so are those of them that are kept
-pub used_named : (code : Base) (view : BaseView) (i : ℕ) → IsBase view code → i < length view.said → (labels used : List Resolved) → IsPart labels used → AreEntries view i labels → All (IsNamedBy code) used
+pub used_named : (code : Base) (view : BaseView) (i : ℕ) → IsBase view code → i < length view → (labels used : List Resolved) → IsPart labels used → AreEntries view i labels → All (IsNamedBy code) used
 used_named code view i base within labels used part entries = named_by code view i base within used (part_entries view i labels used part entries)
 
 -- the same, whatever named the whole table
@@ -73,13 +76,40 @@ pub decoded : (code : Base) (i : ℕ) (proof : List (List ℕ)) (d : Decoding) (
     ((v : BaseView) → IsBase v code → is_framed_at v i ≡ true → numbers ≡ mandatory_numbers (before v i) (said_at v i)) → AreActive view i (mandatory_numbers (before view i) (said_at view i)) →
     WhereActive code i numbers (λ v. decoding_of v i numbers proof ≡ Ok (decoded_steps v d proof)) → WhereActive code i numbers (λ v. AreEntries v i d.labels.items) →
     WhereActive code i numbers (λ v. entry_steps v d.labels.items ≡ label_table (labels_at v numbers) proof) → IsDecoding code i proof d view
-decoded code i proof d numbers view theorem mandatory active ok entries table = grind (arith, common_steps, framed_proof view i theorem.is_sound) steps 200000
+decoded code i proof d numbers view theorem mandatory active ok entries table =
+    let same : numbers ≡ mandatory_numbers (before view i) (said_at view i) = mandatory view theorem.base (framed_proof view i theorem.is_sound) in
+    let here : AreActive view i numbers = subst (AreActive view i) (sym same) active in
+    record {
+      theorem = theorem;
+      decodes = ap (λ words. decoding_of view i (mandatory_numbers (before view i) (said_at view i)) words) theorem.says
+          ∙ subst (λ n. decoding_of view i n proof ≡ Ok (decoded_steps view d proof)) same (ok view theorem.base here);
+      entries = entries view theorem.base here;
+      table = subst (λ n. entry_steps view d.labels.items ≡ label_table (labels_at view n) proof) same (table view theorem.base here);
+    }
+
+-- so a fault that it tells is the fault of the item's proof
+pub told_fault : (code : Base) (i : ℕ) (proof : List (List ℕ)) (error : Undecoded) (fault : ProofFault) (numbers : List ℕ) (view : BaseView) → IsTheorem code i proof view →
+    ((v : BaseView) → IsBase v code → is_framed_at v i ≡ true → numbers ≡ mandatory_numbers (before v i) (said_at v i)) → AreActive view i (mandatory_numbers (before view i) (said_at view i)) →
+    error ≡ errors.Fault fault → WhereActive code i numbers (λ v. TellsFault error (decoding_of v i numbers proof)) → decoding_at view i ≡ Err fault
+told_fault code i proof error fault numbers view theorem mandatory active is tells =
+    let same : numbers ≡ mandatory_numbers (before view i) (said_at view i) = mandatory view theorem.base (framed_proof view i theorem.is_sound) in
+    let here : AreActive view i numbers = subst (AreActive view i) (sym same) active in
+    ap (λ words. decoding_of view i (mandatory_numbers (before view i) (said_at view i)) words) theorem.says
+    ∙ subst (λ n. decoding_of view i n proof ≡ Err fault) same (subst (λ e. TellsFault e (decoding_of view i numbers proof)) is (tells view theorem.base here))
+
+-- and the verdict is that fault, with no word that cites and no step that is done
+pub fault_judged : (view : BaseView) (i : ℕ) (fault : ProofFault) (judged : Checked) → judged.verdict ≡ Wrong fault.number fault.spot → judged.cites ≡ [] → decoding_at view i ≡ Err fault → IsJudgedProof view i (judged, 0)
+fault_judged view i fault judged verdict cited is = record {
+  verdict = subst (λ d. IsVerdict (setting_at view i) (statement_at view i) d judged.verdict) (sym is) verdict;
+  cites = cited ∙ sym (ap (cites (setting_at view i) (said_at view i).proof) is);
+  done = subst (λ d. AreDoneIn (setting_at view i) d 0) (sym is) refl;
+}
 
 -- ---- steps that are done
 
-pub done_says : PartsAreRun → (place : Setting) (statement : List Symbol) (steps : List Step) (outcome : Outcome) → RunSays place steps statement outcome → AreDone place steps (done_by (length steps) outcome)
-done_says parts place statement steps Proved r = inr ((statement ∷ [], rw (parts.known steps r.0) r.1), sym (ap length (parts.known steps r.0)))
-done_says parts place statement steps (Fault number n) r = inl (n, number, r, refl)
-done_says parts place statement steps (Unknown n) r = search (rules, length-take-le, slice_get_within) steps 200000
-done_says parts place statement steps NotOne r = inr ((r.1, rw (parts.known steps r.0) r.2), sym (ap length (parts.known steps r.0)))
-done_says parts place statement steps Other r = inr ((r.1 ∷ [], rw (parts.known steps r.0) r.2), sym (ap length (parts.known steps r.0)))
+pub done_says : (place : Setting) (statement : List Symbol) (steps : List Step) (outcome : Outcome) → RunSays place steps statement outcome → AreDone place steps (done_by (length steps) outcome)
+done_says place statement steps Proved r = inr ((statement ∷ [], rw r.0 r.1), sym (ap length r.0))
+done_says place statement steps (Fault number n) r = inl (n, number, r, refl)
+done_says place statement steps (Unknown n) r = inr (r.2, r.0)
+done_says place statement steps NotOne r = inr ((r.1, rw r.0 r.2), sym (ap length r.0))
+done_says place statement steps Other r = inr ((r.1 ∷ [], rw r.0 r.2), sym (ap length r.0))

@@ -2,12 +2,12 @@
 use Rattle.std.proofs.{Common.{true, ◌≡◌, ℕ, suc, ◌+◌, false, Result, Ok, Err, List, [], ◌∷◌, ◌++◌, length, refl, ap, ◌∙◌, arith, append-nil, codes}, lemmas.Grind.{common_steps}}
 use Rattle.std.{proofs.{lemmas.{Bool.{cases_Bool, or_parts}, Slice.Eq.{bytes_eq-Decides}}, Math.Numerals.{one-add}}, specs.List.{list_any, before_first}}
 use Rattle.mm_machine.specs.{Language.{Frame.{Setting}, Expansion.{Step}}, declared.{Spot.{Spot}, ProofNumber.{ProofNumber}}}
-use Rattle.mm_verdict.specs.{Language.Decoding.{Steps, read_first, in_order, each_word, read_label, is_close, letter_steps, compressed_steps, word_spot}, Code.LeftToRight.{behind_label, list_on}}
-use Rattle.mm_verdict.proofs.lemmas.decoding.ReadOnLemmas.{compressed_is, parts}
+use Rattle.mm_verdict.specs.Language.Decoding.{Steps, read_first, in_order, readings_of_words, read_label, is_close, letter_steps, compressed_steps, word_spot}
+use Rattle.mm_verdict.{specs.Code.LeftToRight.{behind_label, list_on}, proofs.lemmas.decoding.ReadOnLemmas.{compressed_is, parts}}
 
 -- the labels listed so far can be used, and none is a `)`
 abbrev AreListed : Setting → ℕ → List (List ℕ) → Type 0
-AreListed place n listed = ((steps : List (Step × Spot)) × (in_order (each_word (read_label place) n listed) ≡ Ok steps)) × (list_any is_close listed ≡ false)
+AreListed place n listed = ((steps : List (Step × Spot)) × (in_order (readings_of_words (read_label place) n listed) ≡ Ok steps)) × (list_any is_close listed ≡ false)
 
 pub word_is : (word : List ℕ) → is_close word ≡ true → word ≡ codes ")"
 word_is word e = (bytes_eq-Decides word (codes ")")).0 e
@@ -21,22 +21,22 @@ rest_ok r spot rest steps e = grind (arith, common_steps) steps 200000
 -- one more label
 listed_more :
     (place : Setting) (n : ℕ) (listed : List (List ℕ)) (word : List ℕ) (step : Step) (steps : List (Step × Spot)) →
-    in_order (each_word (read_label place) n listed) ≡ Ok steps → read_label place word ≡ Ok step →
-    (more : List (Step × Spot)) × (in_order (each_word (read_label place) n (listed ++ word ∷ [])) ≡ Ok more)
+    in_order (readings_of_words (read_label place) n listed) ≡ Ok steps → read_label place word ≡ Ok step →
+    (more : List (Step × Spot)) × (in_order (readings_of_words (read_label place) n (listed ++ word ∷ [])) ≡ Ok more)
 listed_more place n [] word step steps e f = ((step, word_spot n) ∷ [], rw f refl)
 listed_more place n (first ∷ listed) word step steps e f =
-    let r = rest_ok (read_label place first) (word_spot n) (in_order (each_word (read_label place) (n + 1) listed)) steps e in
+    let r = rest_ok (read_label place first) (word_spot n) (in_order (readings_of_words (read_label place) (n + 1) listed)) steps e in
     let more = listed_more place (n + 1) listed word step r.1.0 r.1.1 f in
     ((r.0.0, word_spot n) ∷ more.0, ok_with (read_label place first) (word_spot n) _ r.0.0 more.0 r.0.1 more.1)
 
 -- a label that cannot be used
 fails_at :
     (place : Setting) (n : ℕ) (listed : List (List ℕ)) (word : List ℕ) (words : List (List ℕ)) (number : ProofNumber) (steps : List (Step × Spot)) →
-    in_order (each_word (read_label place) n listed) ≡ Ok steps → read_label place word ≡ Err number →
-    in_order (each_word (read_label place) n (listed ++ word ∷ words)) ≡ Err (record { number = number; spot = word_spot (n + length listed) })
+    in_order (readings_of_words (read_label place) n listed) ≡ Ok steps → read_label place word ≡ Err number →
+    in_order (readings_of_words (read_label place) n (listed ++ word ∷ words)) ≡ Err (record { number = number; spot = word_spot (n + length listed) })
 fails_at place n [] word words number steps e f = let k : n ≡ n + 0 = omega arith in rw f (ap (λ (w : ℕ). Err (record { number = number; spot = word_spot w })) k)
 fails_at place n (first ∷ listed) word words number steps e f =
-    let r = rest_ok (read_label place first) (word_spot n) (in_order (each_word (read_label place) (n + 1) listed)) steps e in
+    let r = rest_ok (read_label place first) (word_spot n) (in_order (readings_of_words (read_label place) (n + 1) listed)) steps e in
     let k : n + 1 + length listed ≡ n + suc (length listed) = omega arith in
     rw (r.0.1, fails_at place (n + 1) listed word words number r.1.0 r.1.1 f) (ap (λ (w : ℕ). Err (record { number = number; spot = word_spot w })) k)
 

@@ -4,7 +4,7 @@ use Rattle.std.proofs.Common.{◌≡◌, ℕ, ◌+◌, ◌<◌, ◌≤◌, Resul
 use Rattle.std.proofs.Math.ListN.{drop_of_length-le}
 use Rattle.mm_machine.specs.{Language.{Frame.{Setting}, Expansion.{Step}, NamedSteps.{meant}}, declared.{Spot.{Spot}, ProofNumber.{ProofNumber}, step.{Action.{Action}, ProofStep.{ProofStep}}}}
 use Rattle.mm_frame.specs.{Language.Base.{BaseView}, declared.base.Resolved.{Resolved}}
-use Rattle.mm_verdict.specs.Language.{BaseLabels.{setting_at}, DecodedSteps.{entry_step, entry_steps, IsEntry, word_step}, Decoding.{read_first, in_order, each_word, read_word, word_spot}}
+use Rattle.mm_verdict.specs.Language.{BaseLabels.{setting_at}, DecodedSteps.{entry_step, entry_steps, IsEntry, word_step}, Decoding.{read_first, in_order, readings_of_words, read_word, word_spot}}
 use Rattle.mm_verdict.specs.{Code.{Coded.{TellsSteps, meant_steps}, Labels.{TellsWord, Normal}, LeftToRight.{with_steps}}, declared.undecoded.Undecoded.{Undecoded}}
 use Rattle.mm_verdict.proofs.lemmas.{decoding.{SureLemmas.{usable_is}, ReaderLemmas.{with_one, meant_more}}, lists.Every.{joined}}
 use Rattle.mm_verdict.specs.declared.undecoded.Undecoded.TheVariants as errors
@@ -23,9 +23,9 @@ module _ (view : BaseView) (i : ℕ) (words : List (List ℕ)) (n : ℕ) (labels
   by_word :
       (word : List ℕ) (more : List Step) → n < length words → word ≡ get_or words n [] →
       with_steps (meant_steps (entry_steps view labels ++ more) steps) (read_first (word_spot n) (read_word (setting_at view i) word)
-      (in_order (each_word (read_word (setting_at view i)) (n + 1) (drop (n + 1) words)))) ≡ in_order (each_word (read_word (setting_at view i)) 0 words)
+      (in_order (readings_of_words (read_word (setting_at view i)) (n + 1) (drop (n + 1) words)))) ≡ in_order (readings_of_words (read_word (setting_at view i)) 0 words)
   by_word word more less is = ap (λ (w : List (List ℕ)). with_steps (meant_steps (entry_steps view labels ++ more) steps)
-      (in_order (each_word (read_word (setting_at view i)) n w))) (ap (λ (w : List ℕ). w ∷ drop (n + 1) words) is ∙ sym (drop_more words n [] less)) ∙
+      (in_order (readings_of_words (read_word (setting_at view i)) n w))) (ap (λ (w : List ℕ). w ∷ drop (n + 1) words) is ∙ sym (drop_more words n [] less)) ∙
       normal.rest more
 
   -- one more word
@@ -40,7 +40,7 @@ module _ (view : BaseView) (i : ℕ) (words : List (List ℕ)) (n : ℕ) (labels
     table = map-append (entry_step view) labels (meaning ∷ []) ∙ rw (normal.table, ← is_word (setting_at view i) word (entry_step view meaning) read, is) (sym (map_more word_step words n [] less));
     rest = λ more.
         let names = entry_steps view labels ++ entry_step view meaning ∷ more in
-        let behind = in_order (each_word (read_word (setting_at view i)) (n + 1) (drop (n + 1) words)) in
+        let behind = in_order (readings_of_words (read_word (setting_at view i)) (n + 1) (drop (n + 1) words)) in
         let said : meant names action ≡ entry_step view meaning = acts (entry_steps view labels) more (length-map labels (entry_step view) ∙ normal.count) in
         ap (λ (w : List Step). with_steps (meant_steps w (steps ++ record { action = action; spot = word_spot n } ∷ [])) behind) (names_more view labels meaning more)
         ∙ ap (λ (w : List (Step × Spot)). with_steps w behind) (meant_more names steps action (word_spot n))
@@ -51,7 +51,7 @@ module _ (view : BaseView) (i : ℕ) (words : List (List ℕ)) (n : ℕ) (labels
   }
 
   -- a word that is a fault
-  pub word_fails : (word : List ℕ) (e : Undecoded) → n < length words → word ≡ get_or words n [] → TellsWord e n (read_word (setting_at view i) word) → TellsSteps e (in_order (each_word (read_word (setting_at view i)) 0 words))
+  pub word_fails : (word : List ℕ) (e : Undecoded) → n < length words → word ≡ get_or words n [] → TellsWord e n (read_word (setting_at view i) word) → TellsSteps e (in_order (readings_of_words (read_word (setting_at view i)) 0 words))
   word_fails word (errors.Fault fault) less is tells = sym (by_word word [] less is) ∙ rw (tells.0, tells.1) refl
   word_fails word errors.Memory less is tells = tt
 
@@ -60,9 +60,9 @@ module _ (view : BaseView) (i : ℕ) (words : List (List ℕ)) (n : ℕ) (labels
   table_is past = normal.table ∙ ap (map word_step) (take_all n words past)
 
   -- at the end
-  pub finishes : length words ≤ n → in_order (each_word (read_word (setting_at view i)) 0 words) ≡ Ok (meant_steps (entry_steps view labels) steps)
+  pub finishes : length words ≤ n → in_order (readings_of_words (read_word (setting_at view i)) 0 words) ≡ Ok (meant_steps (entry_steps view labels) steps)
   finishes past =
       sym (normal.rest [])
-      ∙ ap (λ (w : List (List ℕ)). with_steps (meant_steps (entry_steps view labels ++ []) steps) (in_order (each_word (read_word (setting_at view i)) n w))) (drop_of_length-le words past)
+      ∙ ap (λ (w : List (List ℕ)). with_steps (meant_steps (entry_steps view labels ++ []) steps) (in_order (readings_of_words (read_word (setting_at view i)) n w))) (drop_of_length-le words past)
       ∙ ap (λ (w : List Step). Ok (meant_steps w steps ++ [])) (append-nil (entry_steps view labels))
       ∙ ap Ok (append-nil (meant_steps (entry_steps view labels) steps))

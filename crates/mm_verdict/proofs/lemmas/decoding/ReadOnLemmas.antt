@@ -1,11 +1,11 @@
 -- Letters read on over the ends of words.
 use Rattle.std.proofs.Common.{rules, ◌≡◌, ℕ, suc, ◌+◌, Bool, false, not, cond, Some, Result, Ok, Err, List, [], ◌∷◌, ◌++◌, length, map, drop, refl, sym, ap, ◌∙◌, arith, inl, inr, add-one, flat_map}
-use Rattle.std.proofs.{Common.{codes}, lemmas.{Grind.{common_steps}, Bool.{cases_Bool, or_parts}, List.{map-append}}, Math.Seq.{take-append_seam}}
+use Rattle.std.{proofs.{Common.{codes}, lemmas.{Grind.{common_steps}, Bool.{cases_Bool, or_parts}, List.{map-append}}, Math.Seq.{take-append_seam}}, specs.Result.{result_and}}
 use Rattle.std.specs.List.{before_first, list_any, prefix_len, enumerate_from, after_first}
 use Rattle.mm_machine.specs.{Language.{Frame.{Setting}, Expansion.{Step, Named, Save, NotKnown}}, declared.{Spot.{Spot}, ProofNumber.{ProofNumber, TheVariants.{P03}}}}
 use Rattle.mm_verdict.specs.Language.{Numbers.{is_digit}, Letters.{Letter, Group, letters_in, letters_from, cut_group, groups_behind, groups}}
-use Rattle.mm_verdict.specs.Language.Decoding.{Steps, in_order, alone, read_letter, each_group, is_close, compressed_steps, letter_steps, if_read, each_word, read_label, decoding, word_spot}
-use Rattle.mm_verdict.specs.Language.DecodingLaws.{without_spots, compressed_words}
+use Rattle.mm_verdict.specs.Language.Decoding.{Steps, in_order, without_digits, read_letter, readings_of_groups, is_close, compressed_steps, letter_steps, readings_of_words, read_label, decoding}
+use Rattle.mm_verdict.specs.Language.{Decoding.{word_spot}, DecodingLaws.{without_spots, compressed_words}}
 
 abbrev pub bytes : List Letter → List ℕ
 bytes ls = map (λ l. l.byte) ls
@@ -24,7 +24,7 @@ abbrev told : Steps → Result (List Step) ProofNumber
 told (Ok steps) = Ok (map (λ step. step.0) steps)
 told (Err fault) = Err fault.number
 
-alone_same : (ds es : List Letter) (step : Step) → bytes ds ≡ bytes es → alone ds step ≡ alone es step
+alone_same : (ds es : List Letter) (step : Step) → bytes ds ≡ bytes es → without_digits ds step ≡ without_digits es step
 alone_same ds es step e = grind (arith, common_steps) steps 200000
 
 letter_same : (names : List Step) (ds es : List Letter) (byte : ℕ) → bytes ds ≡ bytes es → read_letter names ds byte ≡ read_letter names es byte
@@ -34,7 +34,7 @@ more_same : (ds es : List Letter) (l m : Letter) → bytes ds ≡ bytes es → l
 more_same ds es l m e f = rw (map-append (λ (l : Letter). l.byte) ds (l ∷ []), map-append (λ (l : Letter). l.byte) es (m ∷ []), e, f) refl
 
 abbrev Same : List Step → ℕ → Spot → Spot → List Group → List Group → Type 0
-Same labels saves at by gs hs = told (in_order (each_group labels at saves gs)) ≡ told (in_order (each_group labels by saves hs))
+Same labels saves at by gs hs = told (in_order (readings_of_groups labels at saves gs)) ≡ told (in_order (readings_of_groups labels by saves hs))
 
 cut_same : (labels : List Step) (saves : ℕ) (at by : Spot) (ds es : List Letter) → bytes ds ≡ bytes es → Same labels saves at by (cut_group ds) (cut_group es)
 cut_same labels saves at by ds es e = grind (arith, common_steps) steps 200000
@@ -73,15 +73,15 @@ pub behind_close : (listed words : List (List ℕ)) → list_any is_close listed
 behind_close listed words e = rw (close_at listed words e, add-one) (dropped listed (codes ")") words)
 
 abbrev pub parts : Setting → List (List ℕ) → Spot → List (List ℕ) → Bool → List (List ℕ) → Steps
-parts place mandatory close listed has rest = if_read (in_order (each_word (read_label place) 1 listed)) (cond has (letter_steps mandatory listed (length listed + 2) rest close) (Err (record { number = P03; spot = close })))
+parts place mandatory close listed has rest = result_and (in_order (readings_of_words (read_label place) 1 listed)) (cond has (letter_steps mandatory listed (length listed + 2) rest close) (Err (record { number = P03; spot = close })))
 
 -- a compressed proof with its list
 pub compressed_is :
     (place : Setting) (mandatory : List (List ℕ)) (close : Spot) (listed words : List (List ℕ)) → list_any is_close listed ≡ false →
-    compressed_steps place mandatory (listed ++ codes ")" ∷ words) close ≡ if_read (in_order (each_word (read_label place) 1 listed)) (letter_steps mandatory listed (length listed + 2) words close)
+    compressed_steps place mandatory (listed ++ codes ")" ∷ words) close ≡ result_and (in_order (readings_of_words (read_label place) 1 listed)) (letter_steps mandatory listed (length listed + 2) words close)
 compressed_is place mandatory close listed words e = grind (arith, common_steps, behind_close listed words e, close_at, take-append_seam) steps 200000
 
-told_if : (list some other : Steps) → told some ≡ told other → told (if_read list some) ≡ told (if_read list other)
+told_if : (list some other : Steps) → told some ≡ told other → told (result_and list some) ≡ told (result_and list other)
 told_if list some other e = grind (arith, common_steps) steps 200000
 
 letters_same : (mandatory listed : List (List ℕ)) (n : ℕ) (at by : Spot) (some others : List (List ℕ))
@@ -96,7 +96,7 @@ close_of listed words = word_spot (length (compressed_words listed words))
 told_words :
     (place : Setting) (mandatory listed words : List (List ℕ)) → list_any is_close listed ≡ false →
     without_spots (decoding place mandatory (compressed_words listed words))
-    ≡ told (if_read (in_order (each_word (read_label place) 1 listed)) (letter_steps mandatory listed (length listed + 2) words (close_of listed words)))
+    ≡ told (result_and (in_order (readings_of_words (read_label place) 1 listed)) (letter_steps mandatory listed (length listed + 2) words (close_of listed words)))
 told_words place mandatory listed words e = grind (arith, common_steps, compressed_is) steps 200000
 
 pub reads_on :

@@ -1,12 +1,12 @@
 -- What decoding makes sure of.
-use Rattle.std.proofs.lemmas.{Grind.{common_steps}, Bool.{cases_Bool}, List.{length-map}}
-use Rattle.std.proofs.Common.{◌≡◌, ℕ, zero, suc, ◌+◌, ◌<◌, Bool, true, false, ◌==◌, Option, Some, Result, Ok, List, [], ◌∷◌, ◌++◌, length, map, refl, arith, subst, cond, slice_get, bytes_eq, codes}
-use Rattle.std.{proofs.Common.{sym, ◌∙◌}, specs.List.{AllByRecursion, range_with_len}}
-use Rattle.mm_machine.specs.Language.{Frame.{Resolved, Setting}, Expansion.{Step, Named, Saved, Save, NotKnown}, Machine.{IsUsable, AreDecoded, AreDecodedAfter}, Verdict.{Decoded}}
-use Rattle.mm_machine.specs.{Language.RunLaws.{SureByCounting}, declared.{Spot.{Spot}, ProofNumber.{ProofNumber}}}
-use Rattle.mm_verdict.specs.Language.Letters.{Letter, Group}
-use Rattle.mm_verdict.specs.Language.Decoding.{Steps, in_order, usable, read_label, read_word, each_word, nameable, read_letter, read_group, group_spot, is_save_letter, each_group, is_compressed}
-use Rattle.mm_verdict.{specs.Language.Decoding.{steps_in, word_spot, decoded, decoding, if_read}, proofs.lemmas.{decoding.OrderLemmas.{read_ok}, lists.Every.{joined, mapped}}}
+use Rattle.std.proofs.Common.{Err, ◌≡◌, ℕ, zero, suc, ◌+◌, ◌<◌, Bool, true, false, ◌==◌, Option, Some, Result, Ok, List, [], ◌∷◌, ◌++◌, length, map, refl, arith, subst, cond, slice_get, bytes_eq}
+use Rattle.std.{proofs.{Common.{codes, sym, ◌∙◌}, lemmas.{Grind.{common_steps}, Bool.{cases_Bool}, List.{length-map}}}, specs.{Option.{option_map_or}, Result.{result_and}}}
+use Rattle.std.specs.List.{AllByRecursion, range_with_len}
+use Rattle.mm_machine.specs.{declared.{ProofNumber.{ProofNumber, TheVariants.{P05}}, Spot.{Spot}}, Language.{Frame.{LabelMeaning, Setting}, Expansion.{Step, Named, Saved, Save, NotKnown}}}
+use Rattle.mm_machine.specs.Language.{Machine.{IsUsable, AreDecoded, AreDecodedAfter}, Verdict.{Decoded}, RunLaws.{SureByCounting}}
+use Rattle.mm_verdict.{proofs.lemmas.{decoding.OrderLemmas.{decoded, read_ok}, lists.Every.{joined, mapped}}, specs.Language.Letters.{Letter, Group}}
+use Rattle.mm_verdict.specs.Language.Decoding.{Steps, in_order, usable, read_label, read_word, readings_of_words, nameable, read_letter, readings_of_groups, is_compressed, steps_in, word_spot}
+use Rattle.mm_verdict.specs.Language.Decoding.{decoding}
 
 abbrev step_list : List (Step × Spot) → List Step
 step_list steps = map (λ step. step.0) steps
@@ -32,7 +32,7 @@ IsAfter place saves save (Saved n) = (save ≡ false) × (n < saves)
 IsAfter place saves save Save = save ≡ true
 IsAfter place saves save NotKnown = save ≡ false
 
-pub usable_is : (label : List ℕ) (r : Resolved) (step : Step) → usable label r ≡ Ok step → (step ≡ Named label) × IsUsable r
+pub usable_is : (label : List ℕ) (r : LabelMeaning) (step : Step) → usable label r ≡ Ok step → (step ≡ Named label) × IsUsable r
 usable_is label r step h = grind (arith, common_steps) steps 200000
 
 word_sure : (place : Setting) (word : List ℕ) (step : Step) → read_word place word ≡ Ok step → IsWord place step
@@ -45,17 +45,17 @@ after_then : (place : Setting) (saves : ℕ) (save : Bool) (step : Step) (more :
 after_then place saves save step more is rest = grind (arith, common_steps) steps 200000
 
 words_sure : (place : Setting) (read : List ℕ → Result Step ProofNumber) → ((word : List ℕ) (step : Step) → read word ≡ Ok step → IsWord place step)
-    → (n : ℕ) (words : List (List ℕ)) (steps : List (Step × Spot)) → in_order (each_word read n words) ≡ Ok steps
+    → (n : ℕ) (words : List (List ℕ)) (steps : List (Step × Spot)) → in_order (readings_of_words read n words) ≡ Ok steps
     → AreDecodedAfter place 0 (step_list steps)
 words_sure place read each n [] steps e = let k : steps ≡ [] = cc in rw k tt
 words_sure place read each n (word ∷ words) steps e =
-    let r = read_ok (word_spot n) (read word) (in_order (each_word read (n + 1) words)) steps e in
+    let r = read_ok (word_spot n) (read word) (in_order (readings_of_words read (n + 1) words)) steps e in
     rw r.4 (word_then place 0 r.0 (step_list r.1) (each word r.0 r.2) (words_sure place read each (n + 1) words r.1 r.3))
 
-list_sure : (place : Setting) (n : ℕ) (words : List (List ℕ)) (steps : List (Step × Spot)) → in_order (each_word (read_label place) n words) ≡ Ok steps → AllByRecursion (λ label. IsUsable (place.resolve label)) words
+list_sure : (place : Setting) (n : ℕ) (words : List (List ℕ)) (steps : List (Step × Spot)) → in_order (readings_of_words (read_label place) n words) ≡ Ok steps → AllByRecursion (λ label. IsUsable (place.resolve label)) words
 list_sure place n [] steps e = tt
 list_sure place n (word ∷ words) steps e =
-    let r = read_ok (word_spot n) (read_label place word) (in_order (each_word (read_label place) (n + 1) words)) steps e in
+    let r = read_ok (word_spot n) (read_label place word) (in_order (readings_of_words (read_label place) (n + 1) words)) steps e in
     ((usable_is word (place.resolve word) r.0 r.2).1, list_sure place (n + 1) words r.1 r.3)
 
 all_sure : (place : Setting) (some more : List (List ℕ)) → AllByRecursion (λ label. IsUsable (place.resolve label)) some → AllByRecursion (λ label. IsUsable (place.resolve label)) more → AreSure place (map Named (some ++ more))
@@ -77,18 +77,23 @@ named_at place (label ∷ labels) saves (suc k) step all e = named_at place labe
 byte_sure : (place : Setting) (labels : List Step) (saves : ℕ) (digits : List Letter) (byte : ℕ) (step : Step) → AreSure place labels → read_letter (nameable labels saves) digits byte ≡ Ok step → IsAfter place saves (byte == 90) step
 byte_sure place labels saves digits byte step all e = grind (arith, common_steps, cases_Bool, named_at) steps 200000
 
+-- a group ends with a `Z`
+abbrev saves_at : Option Letter → Bool
+saves_at last = option_map_or (λ (letter : Letter). letter.byte == 90) last false
+
 group_sure : (place : Setting) (labels : List Step) (saves : ℕ) (digits : List Letter) (last : Option Letter) (step : Step) → AreSure place labels
-    → read_group (nameable labels saves) digits last ≡ Ok step → IsAfter place saves (is_save_letter last) step
+    → option_map_or (λ (letter : Letter). read_letter (nameable labels saves) digits letter.byte) last (Err P05) ≡ Ok step → IsAfter place saves (saves_at last) step
 group_sure place labels saves digits last step all e = grind (arith, common_steps, byte_sure) steps 200000
 
 pub groups_sure : (place : Setting) (labels : List Step) (close : Spot) (saves : ℕ) (gs : List Group) (steps : List (Step × Spot)) → AreSure place labels
-    → in_order (each_group labels close saves gs) ≡ Ok steps → AreDecodedAfter place saves (step_list steps)
+    → in_order (readings_of_groups labels close saves gs) ≡ Ok steps → AreDecodedAfter place saves (step_list steps)
 groups_sure place labels close saves [] steps all e = let k : steps ≡ [] = cc in rw k tt
 groups_sure place labels close saves (g ∷ gs) steps all e =
-    let r = read_ok (group_spot close g.last) (read_group (nameable labels saves) g.digits g.last) (in_order (each_group labels close (cond (is_save_letter g.last) (saves + 1) saves) gs)) steps e in
-    rw r.4 (after_then place saves (is_save_letter g.last) r.0 (step_list r.1) (group_sure place labels saves g.digits g.last r.0 all r.2) (groups_sure place labels close (cond (is_save_letter g.last) (saves + 1) saves) gs r.1 all r.3))
+    let r = read_ok (option_map_or (λ (letter : Letter). letter.spot) g.last close)
+    (option_map_or (λ (letter : Letter). read_letter (nameable labels saves) g.digits letter.byte) g.last (Err P05)) (in_order (readings_of_groups labels close (cond (saves_at g.last) (saves + 1) saves) gs)) steps e in
+    rw r.4 (after_then place saves (saves_at g.last) r.0 (step_list r.1) (group_sure place labels saves g.digits g.last r.0 all r.2) (groups_sure place labels close (cond (saves_at g.last) (saves + 1) saves) gs r.1 all r.3))
 
-pub read_behind : (list rest : Steps) (steps : List (Step × Spot)) → if_read list rest ≡ Ok steps → ((some : List (Step × Spot)) × (list ≡ Ok some)) × (rest ≡ Ok steps)
+pub read_behind : (list rest : Steps) (steps : List (Step × Spot)) → result_and list rest ≡ Ok steps → ((some : List (Step × Spot)) × (list ≡ Ok some)) × (rest ≡ Ok steps)
 read_behind list rest steps e = grind (arith, common_steps) steps 200000
 
 steps_sure : (place : Setting) (mandatory words : List (List ℕ)) (close : Spot) (steps : List (Step × Spot))

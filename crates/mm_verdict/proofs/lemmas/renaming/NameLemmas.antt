@@ -1,8 +1,9 @@
 -- What numbers name.
-use Rattle.std.proofs.{lemmas.Grind.{elements}, Common.{◌≡◌, ℕ, zero, suc, ◌+◌, ◌-◌, ◌<◌, ◌≤◌, Some, None, Result, Ok, Err, List, [], ◌∷◌, length, map, refl, sym, ap, arith, slice_get, ◌++◌, ◌∙◌}}
-use Rattle.std.specs.List.{range_with_len}
+use Rattle.std.proofs.lemmas.Grind.{elements}
+use Rattle.std.proofs.Common.{◌≡◌, ℕ, zero, suc, ◌+◌, ◌-◌, ◌<◌, ◌≤◌, Option, Some, None, Result, Ok, Err, List, [], ◌∷◌, length, map, refl, sym, ap, arith, slice_get, ◌++◌, ◌∙◌}
+use Rattle.std.specs.{Option.{ok_or}, List.{range_with_len}}
 use Rattle.mm_machine.specs.{Language.Expansion.{Step, Saved}, declared.ProofNumber.{ProofNumber, TheVariants.{P06}}}
-use Rattle.mm_verdict.specs.Language.Decoding.{nameable, named}
+use Rattle.mm_verdict.specs.Language.Decoding.{nameable}
 
 saved_get : (from saves k j : ℕ) → k < saves → from + k ≡ j → slice_get (map Saved (range_with_len from saves)) k ≡ Some (Saved j)
 saved_get from zero k j less e = absurd (omega arith)
@@ -20,11 +21,11 @@ past_front (x ∷ xs) ys j zero e = absurd (omega arith)
 past_front (x ∷ xs) ys j (suc k) e = past_front xs ys j k (omega arith)
 
 -- a number after the labels names a save
-pub named_save : (names : List Step) (labels saves v w : ℕ) → length names ≡ labels → v ≡ w → labels < v → v - labels ≤ saves → ◌≡◌ {A = Result Step ProofNumber} (Ok (Saved (v - labels - 1))) (named (slice_get (nameable names saves) (w - 1)))
+pub named_save : (names : List Step) (labels saves v w : ℕ) → length names ≡ labels → v ≡ w → labels ≤ v → v - labels < saves → ◌≡◌ {A = Result Step ProofNumber} (Ok (Saved (v - labels))) (ok_or (slice_get (nameable names saves) w) P06)
 named_save names labels saves v w len same more few =
-    let k = v - labels - 1 in
-    sym (ap named (past_front names (map Saved (range_with_len 0 saves)) k (w - 1) (omega arith) ∙ saved_get 0 saves k k (omega arith) (omega arith)))
+    let k = v - labels in
+    sym (ap (λ (found : Option Step). ok_or found P06) (past_front names (map Saved (range_with_len 0 saves)) k w (omega arith) ∙ saved_get 0 saves k k (omega arith) (omega arith)))
 
 -- and one after the saves names nothing
-pub named_nothing : (names : List Step) (labels saves w : ℕ) → length names ≡ labels → labels + saves < w → ◌≡◌ {A = Result Step ProofNumber} (Err P06) (named (slice_get (nameable names saves) (w - 1)))
+pub named_nothing : (names : List Step) (labels saves w : ℕ) → length names ≡ labels → labels + saves ≤ w → ◌≡◌ {A = Result Step ProofNumber} (Err P06) (ok_or (slice_get (nameable names saves) w) P06)
 named_nothing names labels saves w len past = grind (arith, elements, past_front, saved_past) steps 200000

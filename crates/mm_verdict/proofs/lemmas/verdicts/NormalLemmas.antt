@@ -1,13 +1,12 @@
 -- Labels as the words of a normal proof: each is one step, and they stand for themselves.
 use Rattle.std.proofs.lemmas.{Bool.{false≢true, false_from_ne_true}, List.{append-nil}, Slice.Eq.{bytes_eq-Decides}}
-use Rattle.std.proofs.Common.{◌≡◌, ℕ, ◌+◌, Bool, true, false, if◌then◌else◌, Option, Some, None, Result, Ok, Err, List, [], ◌∷◌, ◌++◌, length, map, refl, sym, ap, ◌∙◌, subst, arith, bytes_eq, codes}
-use Rattle.std.{proofs.Common.{append_assoc}, specs.List.{AllByRecursion, enumerate_from, list_all}}
+use Rattle.std.proofs.Common.{◌≡◌, ℕ, ◌+◌, true, false, Some, Result, Ok, List, [], ◌∷◌, ◌++◌, length, map, refl, sym, ap, ◌∙◌, subst, bytes_eq, codes, append_assoc}
+use Rattle.std.specs.List.{AllByRecursion, enumerate_from, list_all}
+use Rattle.mm_verdict.{proofs.lemmas.decoding.OrderLemmas.{decoded}, specs.Language.ItemLaws.{CouldLabel, LabelsAreAProof}}
+use Rattle.mm_verdict.specs.Language.Decoding.{Steps, read_first, in_order, readings_of_words, read_word, read_label, usable, word_spot, decoding, steps_in, is_compressed}
 use Rattle.mm_frame.specs.mm_text.Language.Unit.{is_label_byte}
-use Rattle.mm_machine.specs.Language.{Frame.{Setting, Symbol, Resolved, Hypothesis, Assertion}, Expansion.{Step, Named, NotKnown, Expanded, expand_from, expansion}, Verdict.{Decoded, IsVerdict}}
-use Rattle.mm_machine.specs.{Language.{Machine.{AreAllKnown}, Derivation.{Derives, by_hypothesis, by_assertion, DeriveInOrder, nothing, first_then}, Reaches.{Reaches}}, declared.Spot.{Spot}}
-use Rattle.mm_machine.specs.declared.{ProofNumber.{ProofNumber}, ProofFault.{ProofFault}}
-use Rattle.mm_verdict.specs.Language.ItemLaws.{CouldLabel, LabelsAreAProof}
-use Rattle.mm_verdict.specs.Language.Decoding.{Reading, Steps, with_step, read_first, in_order, each_word, read_word, read_label, usable, word_spot, decoded, decoding, steps_in, is_compressed}
+use Rattle.mm_machine.specs.Language.{Frame.{Setting, Symbol}, Expansion.{Step, Named, expand_from, expansion}, Verdict.{Decoded, IsVerdict}}
+use Rattle.mm_machine.specs.{Language.Derivation.{Derives, by_hypothesis, by_assertion, DeriveInOrder, nothing, first_then}, declared.{Spot.{Spot}, ProofFault.{ProofFault}}}
 use Rattle.mm_machine.specs.declared.Verdict.TheVariants as verdicts
 
 -- the label is read as the step that names it
@@ -48,10 +47,10 @@ is_normal [] could = refl
 is_normal (label ∷ labels) could = no_sign (codes "(") label refl could.0
 
 words_read : (place : Setting) (n : ℕ) (words : List (List ℕ)) → AllByRecursion CouldLabel words → AllByRecursion (IsUsable place) words
-    → in_order (each_word (read_word place) n words) ≡ Ok (numbered n words)
+    → in_order (readings_of_words (read_word place) n words) ≡ Ok (numbered n words)
 words_read place n [] could named = refl
 words_read place n (word ∷ words) could named =
-    rw (one_word place word could.0 named.0) (ap (with_step (Named word) (word_spot n)) (words_read place (n + 1) words could.1 named.1))
+    rw (one_word place word could.0 named.0) (ap (λ (rest : Steps). read_first (word_spot n) (Ok (Named word)) rest) (words_read place (n + 1) words could.1 named.1))
 
 steps_named : (n : ℕ) (words : List (List ℕ)) → map (λ (step : Step × Spot). step.0) (numbered n words) ≡ map Named words
 steps_named n [] = refl
@@ -61,18 +60,12 @@ stand_for : (place : Setting) (front labels : List (List ℕ)) → expand_from p
 stand_for place front [] = ap (λ (all : List (List ℕ)). Some (record { labels = all; saved = [] })) (sym (append-nil front))
 stand_for place front (label ∷ labels) = stand_for place (front ++ label ∷ []) labels ∙ ap (λ (all : List (List ℕ)). Some (record { labels = all; saved = [] })) (append_assoc front (label ∷ []) labels)
 
-all_known : (labels : List (List ℕ)) → AreAllKnown (map Named labels)
-all_known [] = tt
-all_known (label ∷ labels) = ((λ e. absurd (cc)), all_known labels)
-
 alone : (place : Setting) (labels : List (List ℕ)) (e : List Symbol) → Derives place labels e → DeriveInOrder place labels (e ∷ [])
 alone place labels e d = subst (λ (all : List (List ℕ)). DeriveInOrder place all (e ∷ [])) (append-nil labels) (first_then d nothing)
 
 is_proved : (place : Setting) (labels : List (List ℕ)) (statement : List Symbol) (d : Decoded) → d.steps ≡ map Named labels → Derives place labels statement → IsVerdict place statement (Ok d) verdicts.Proved
-is_proved place labels statement d same derives = (
-  subst AreAllKnown (sym same) (all_known labels),
-  record { expanded = record { labels = labels; saved = [] }; expands = ap (expansion place) same ∙ stand_for place [] labels; in_order = alone place labels statement derives },
-)
+is_proved place labels statement d same derives =
+    record { expanded = record { labels = labels; saved = [] }; expands = ap (expansion place) same ∙ stand_for place [] labels; in_order = alone place labels statement derives }
 
 pub labels_are_a_proof : LabelsAreAProof
 labels_are_a_proof place mandatory labels statement could derives =

@@ -1,20 +1,20 @@
 -- Proofs that mean the same cite by the same words.
 use Rattle.std.proofs.{Common.{arith, ◌≡◌, ℕ, ◌+◌, Bool, true, false, not, Ok, Err, List, [], ◌∷◌, length, map, drop, refl, ap, inl, inr, filter, bytes_eq, codes}, lemmas.Grind.{common_steps}}
 use Rattle.std.{proofs.lemmas.{Bool.{cases_Bool, false≢true}, Slice.Eq.{bytes_eq-Decides}}, specs.List.{AllZip, AllByRecursion, list_any, enumerate_from, before_first}}
-use Rattle.mm_machine.specs.Language.{Frame.{Resolved, Hypothesis, Assertion, Inactive, Unknown, Setting}, Expansion.{Step, Named, Saved, Save, NotKnown}, SameProof.{AreSameMeaning}}
+use Rattle.mm_verdict.proofs.lemmas.{decoding.OrderLemmas.{decoded}, views.SameLemmas.{IsBoth, AreSame, steps_same}, lists.Every.{kept_all}}
+use Rattle.mm_verdict.specs.Language.{Citing.{label_words, first_of_each, means_assertion, names_assertion, is_cited, cites}, Decoding.{Steps, is_close, is_compressed, word_spot, steps_in, decoding}}
+use Rattle.mm_verdict.specs.Language.SameToDecode.{IsSameLabel, labels_named, AreSameToDecode}
+use Rattle.mm_machine.specs.Language.{Frame.{LabelMeaning, Hypothesis, Assertion, Inactive, Unknown, Setting}, Expansion.{Step, Named, Saved, Save, NotKnown}, SameProof.{AreSameMeaning}}
 use Rattle.mm_machine.specs.declared.Spot.{Spot}
-use Rattle.mm_verdict.specs.Language.Citing.{label_words, firsts, means_assertion, names_assertion, is_cited, cites}
-use Rattle.mm_verdict.specs.Language.{Decoding.{Steps, is_close, is_compressed, word_spot, steps_in, decoded, decoding}, SameToDecode.{IsSameLabel, labels_named, AreSameToDecode}}
-use Rattle.mm_verdict.proofs.lemmas.{views.SameLemmas.{IsBoth, AreSame, steps_same}, lists.Every.{kept_all}}
 
 -- the same test keeps the same elements
 filter_same : {X : Type 0} (f g : X → Bool) (xs : List X) → AllByRecursion (λ x. f x ≡ g x) xs → filter f xs ≡ filter g xs
 filter_same f g [] all = refl
 filter_same f g (x ∷ xs) all = rw (all.0, filter_same f g xs all.1) refl
 
-pub firsts_all : (P : ℕ × List ℕ → Type 0) (words : List (ℕ × List ℕ)) → AllByRecursion P words → AllByRecursion P (firsts words)
+pub firsts_all : (P : ℕ × List ℕ → Type 0) (words : List (ℕ × List ℕ)) → AllByRecursion P words → AllByRecursion P (first_of_each words)
 firsts_all P [] all = tt
-firsts_all P (word ∷ words) all = (all.0, kept_all P (λ other. not (bytes_eq word.1 other.1)) (firsts words) (firsts_all P words all.1))
+firsts_all P (word ∷ words) all = (all.0, kept_all P (λ other. not (bytes_eq word.1 other.1)) (first_of_each words) (firsts_all P words all.1))
 
 numbered_all : (P : List ℕ → Type 0) (n : ℕ) (words : List (List ℕ)) → AllByRecursion P words → AllByRecursion (λ (w : ℕ × List ℕ). P w.1) (enumerate_from n words)
 numbered_all P n [] all = tt
@@ -34,7 +34,7 @@ words_all P words all = elim (cases_Bool (is_compressed words)) [
 ]
 
 module _ (p q : Setting) where
-  assertion_same : (r o : Resolved) → AreSameMeaning r o → means_assertion r ≡ means_assertion o
+  assertion_same : (r o : LabelMeaning) → AreSameMeaning r o → means_assertion r ≡ means_assertion o
   assertion_same (Hypothesis e) (Hypothesis f) s = refl
   assertion_same (Assertion e) (Assertion f) s = refl
   assertion_same Inactive Inactive s = refl
@@ -72,8 +72,8 @@ module _ (p q : Setting) where
   each_same (word ∷ words) steps others all s = (cited_same word.1 steps others all s.0, each_same words steps others all s.1)
 
   cites_on : (words : List (List ℕ)) (close : Spot) (s t : Steps) → AreSame p q s t → AllByRecursion (λ (w : ℕ × List ℕ). IsSameLabel p q w.1) (label_words words) → cites p words (decoded close s) ≡ cites q words (decoded close t)
-  cites_on words close (Ok steps) (Ok others) all s = ap (map (λ (w : ℕ × List ℕ). w.0)) (filter_same _ _ (firsts (label_words words))
-      (each_same (firsts (label_words words)) steps others all (firsts_all (λ w. IsSameLabel p q w.1) (label_words words) s)))
+  cites_on words close (Ok steps) (Ok others) all s = ap (map (λ (w : ℕ × List ℕ). w.0)) (filter_same _ _ (first_of_each (label_words words))
+      (each_same (first_of_each (label_words words)) steps others all (firsts_all (λ w. IsSameLabel p q w.1) (label_words words) s)))
   cites_on words close (Err fault) (Err same) all s = refl
   cites_on words close _ _ all s = absurd all
 

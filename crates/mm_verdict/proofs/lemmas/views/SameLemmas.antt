@@ -1,12 +1,12 @@
 -- Proofs that mean the same decode to the same.
-use Rattle.std.proofs.Common.{arith, ◌≡◌, ℕ, zero, suc, ◌+◌, false, not, cond, Option, Some, None, Result, Ok, Err, List, [], ◌∷◌, ◌++◌, map, refl, inl, inr, ◌⊎◌, slice_get, filter, bytes_eq, codes}
-use Rattle.std.{proofs.lemmas.{Grind.{common_steps}, Bool.{cases_Bool}}, specs.List.{AllZip, AllByRecursion, range_with_len, before_first}}
-use Rattle.mm_machine.specs.Language.{Frame.{Resolved, Hypothesis, Assertion, Inactive, Unknown, Setting, AreSamePairs}, Expansion.{Step, Named, Saved, NotKnown}}
-use Rattle.mm_machine.specs.{Language.SameProof.{AreSameMeaning, IsSameStep, IsSameDecoding}, declared.{Spot.{Spot}, ProofNumber.{ProofNumber}}}
-use Rattle.mm_verdict.specs.Language.Letters.{Letter, Group}
-use Rattle.mm_verdict.specs.Language.Decoding.{Steps, with_step, read_first, in_order, usable, read_label, read_word, each_word, nameable, named, alone, read_letter, read_group, is_save_letter}
-use Rattle.mm_verdict.specs.Language.{Decoding.{each_group, is_close, compressed_steps, steps_in, word_spot, decoded, decoding, if_read}, Citing.{means_assertion}}
-use Rattle.mm_verdict.specs.Language.SameToDecode.{IsSameHypothesis, IsSameLabel, AreSameToDecode}
+use Rattle.std.proofs.Common.{◌==◌, arith, ◌≡◌, ℕ, zero, suc, ◌+◌, false, not, cond, Option, Some, None, Result, Ok, Err, List, [], ◌∷◌, ◌++◌, map, refl, inl, inr, ◌⊎◌, slice_get, filter, bytes_eq}
+use Rattle.std.{proofs.{Common.{codes, length}, lemmas.{Grind.{common_steps}, Bool.{cases_Bool}}}, specs.{Option.{ok_or, option_map_or}, Result.{result_and}}}
+use Rattle.std.specs.List.{AllZip, AllByRecursion, range_with_len, before_first}
+use Rattle.mm_machine.specs.{declared.{ProofNumber.{ProofNumber, TheVariants.{P05, P06}}, Spot.{Spot}}, Language.Frame.{LabelMeaning, Hypothesis, Assertion, Inactive, Unknown, Setting, AreSamePairs}}
+use Rattle.mm_machine.specs.Language.{Expansion.{Step, Named, Saved, NotKnown}, SameProof.{AreSameMeaning, IsSameStep, IsSameDecoding}}
+use Rattle.mm_verdict.{proofs.lemmas.decoding.OrderLemmas.{decoded}, specs.Language.Letters.{Letter, Group}}
+use Rattle.mm_verdict.specs.Language.Decoding.{Steps, read_first, in_order, usable, read_label, read_word, readings_of_words, nameable, without_digits, read_letter, readings_of_groups, is_close}
+use Rattle.mm_verdict.specs.Language.{Decoding.{compressed_steps, steps_in, word_spot, decoding}, Citing.{means_assertion}, SameToDecode.{IsSameHypothesis, IsSameLabel, AreSameToDecode}}
 
 module _ (p q : Setting) where
   -- the same label, or two that are of no assertion
@@ -28,7 +28,7 @@ module _ (p q : Setting) where
   IsSameResult (Err n) (Err m) = n ≡ m
   IsSameResult _ _ = ⊥
 
-  with_same : (spot : Spot) (s t : Step) (rest others : Steps) → IsBoth s t → AreSame rest others → AreSame (with_step s spot rest) (with_step t spot others)
+  with_same : (spot : Spot) (s t : Step) (rest others : Steps) → IsBoth s t → AreSame rest others → AreSame (read_first spot (Ok s) rest) (read_first spot (Ok t) others)
   with_same spot s t (Ok rest) (Ok others) e all = ((e, refl), all)
   with_same spot s t (Err fault) (Err same) e all = all
   with_same spot s t _ _ e all = absurd all
@@ -38,7 +38,7 @@ module _ (p q : Setting) where
   first_same spot (Err n) (Err m) rest others e all = λ i. record { number = e i; spot = spot }
   first_same spot _ _ rest others e all = absurd e
 
-  usable_same : (a : List ℕ) (r o : Resolved) → p.resolve a ≡ r → q.resolve a ≡ o → AreSameMeaning r o → IsSameResult (usable a r) (usable a o)
+  usable_same : (a : List ℕ) (r o : LabelMeaning) → p.resolve a ≡ r → q.resolve a ≡ o → AreSameMeaning r o → IsSameResult (usable a r) (usable a o)
   usable_same a (Hypothesis e) (Hypothesis f) m n s = (rw (m, n) s, inl refl)
   usable_same a (Assertion e) (Assertion f) m n s = (rw (m, n) s, inl refl)
   usable_same a Inactive Inactive m n s = refl
@@ -48,11 +48,12 @@ module _ (p q : Setting) where
   label_same : (label : List ℕ) → IsSameLabel p q label → IsSameResult (read_label p label) (read_label q label)
   label_same label s = usable_same label (p.resolve label) (q.resolve label) refl refl s
 
-  list_same : (n : ℕ) (labels : List (List ℕ)) → AllByRecursion (IsSameLabel p q) labels → AreSame (in_order (each_word (read_label p) n labels)) (in_order (each_word (read_label q) n labels))
+  list_same : (n : ℕ) (labels : List (List ℕ)) → AllByRecursion (IsSameLabel p q) labels → AreSame (in_order (readings_of_words (read_label p) n labels)) (in_order (readings_of_words (read_label q) n labels))
   list_same n [] all = tt
   list_same n (label ∷ labels) all = first_same (word_spot n) (read_label p label) (read_label q label) _ _ (label_same label all.0) (list_same (n + 1) labels all.1)
 
-  words_same : (n : ℕ) (words : List (List ℕ)) → AllByRecursion (IsSameLabel p q) (filter (λ word. not (bytes_eq word (codes "?"))) words) → AreSame (in_order (each_word (read_word p) n words)) (in_order (each_word (read_word q) n words))
+  words_same : (n : ℕ) (words : List (List ℕ)) → AllByRecursion (IsSameLabel p q) (filter (λ word. not (bytes_eq word (codes "?"))) words) →
+      AreSame (in_order (readings_of_words (read_word p) n words)) (in_order (readings_of_words (read_word q) n words))
   words_same n [] all = tt
   words_same n (word ∷ words) all = elim (cases_Bool (bytes_eq word (codes "?"))) [
     | inl e ↦ rw e (with_same (word_spot n) NotKnown NotKnown _ _ (tt, tt) (words_same (n + 1) words (rw e at all)))
@@ -75,26 +76,28 @@ module _ (p q : Setting) where
   named_at (l ∷ labels) (o ∷ others) saves (suc k) all = named_at labels others saves k all.1
   named_at _ _ saves k all = absurd all
 
-  named_same : (s t : Option Step) → IsSameOption s t → IsSameResult (named s) (named t)
+  named_same : (s t : Option Step) → IsSameOption s t → IsSameResult (ok_or s P06) (ok_or t P06)
   named_same (Some s) (Some t) e = e
   named_same None None e = refl
   named_same _ _ e = absurd e
 
-  alone_same : (digits : List Letter) (step : Step) → IsBoth step step → IsSameResult (alone digits step) (alone digits step)
+  alone_same : (digits : List Letter) (step : Step) → IsBoth step step → IsSameResult (without_digits digits step) (without_digits digits step)
   alone_same [] step e = e
   alone_same (d ∷ digits) step e = refl
 
   letter_same : (labels others : List Step) (saves : ℕ) (digits : List Letter) (byte : ℕ) → AllZip IsBoth labels others → IsSameResult (read_letter (nameable labels saves) digits byte) (read_letter (nameable others saves) digits byte)
   letter_same labels others saves digits byte all = grind (arith, common_steps, alone_same, named_at, named_same) steps 200000
 
-  group_same : (labels others : List Step) (saves : ℕ) (digits : List Letter) (last : Option Letter) → AllZip IsBoth labels others → IsSameResult (read_group (nameable labels saves) digits last) (read_group (nameable others saves) digits last)
+  group_same : (labels others : List Step) (saves : ℕ) (digits : List Letter) (last : Option Letter) → AllZip IsBoth labels others →
+      IsSameResult (option_map_or (λ (letter : Letter). read_letter (nameable labels saves) digits letter.byte) last (Err P05)) (option_map_or (λ (letter : Letter). read_letter (nameable others saves) digits letter.byte) last (Err P05))
   group_same labels others saves digits (Some letter) all = letter_same labels others saves digits letter.byte all
   group_same labels others saves digits None all = refl
 
-  groups_same : (labels others : List Step) (close : Spot) (saves : ℕ) (gs : List Group) → AllZip IsBoth labels others → AreSame (in_order (each_group labels close saves gs)) (in_order (each_group others close saves gs))
+  groups_same : (labels others : List Step) (close : Spot) (saves : ℕ) (gs : List Group) → AllZip IsBoth labels others → AreSame (in_order (readings_of_groups labels close saves gs)) (in_order (readings_of_groups others close saves gs))
   groups_same labels others close saves [] all = tt
   groups_same labels others close saves (g ∷ gs) all =
-      grind (arith, common_steps, groups_same labels others close (cond (is_save_letter g.last) (saves + 1) saves) gs all, first_same, group_same) steps 200000
+      first_same _ _ _ _ _ (group_same labels others saves g.digits g.last all)
+      (groups_same labels others close (cond (option_map_or (λ (letter : Letter). letter.byte == 90) g.last false) (saves + 1) saves) gs all)
 
   hypothesis_both : (a b : List ℕ) → IsSameHypothesis p q a b → IsBoth (Named a) (Named b)
   hypothesis_both a b h = (rw (h.1, h.2) refl, inr (rw h.1 refl, rw h.2 refl))
@@ -105,7 +108,7 @@ module _ (p q : Setting) where
   named_all (m ∷ mandatory) (o ∷ others) listed h all = (hypothesis_both m o h.0, named_all mandatory others listed h.1 all)
   named_all _ _ listed h all = absurd h
 
-  read_same : (list others some more : Steps) → AreSame list others → AreSame some more → AreSame (if_read list some) (if_read others more)
+  read_same : (list others some more : Steps) → AreSame list others → AreSame some more → AreSame (result_and list some) (result_and others more)
   read_same (Ok list) (Ok others) some more e all = all
   read_same (Err fault) (Err same) some more e all = e
   read_same _ _ some more e all = absurd e
@@ -134,4 +137,6 @@ module _ (p q : Setting) where
   decoded_same close _ _ a all = absurd all
 
   pub decodes_same : (mandatory others words : List (List ℕ)) → AreSameToDecode p q mandatory others words → IsSameDecoding p q (decoding p mandatory words) (decoding q others words)
-  decodes_same mandatory others words s = grind (arith, common_steps, decoded_same, steps_same) steps 200000
+  decodes_same mandatory others words s =
+      let close = word_spot (length words) in
+      decoded_same close (steps_in p mandatory words close) (steps_in q others words close) s.active (steps_same mandatory others words close s)

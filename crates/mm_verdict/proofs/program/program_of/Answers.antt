@@ -17,7 +17,7 @@ mandatory-mandatory-requires c = let has = c.requires.1 in (has.0, (c.requires.0
 the_decoding : (c : In_ok-decoding) (names : List (List ℕ)) (view : BaseView) → IsReadIn names c.args.files.now c.args.base.now view →
     is_proof_at view c.args.i ≡ true → IsDecoding c.args.base.now c.args.i c.words_of_proof-proof.result c.in_ok-decoding.decoding view
 the_decoding c names view read proof =
-    let found = c.item.ensures.found view (names, read.base) in
+    let found = c.item.ensures.found in
     let theorem = theorem_at _ _ _ _ c.item.result.now _ view read proof found c.words_of_proof-proof.ensures.words in
     decoded _ _ _ c.in_ok-decoding.decoding _ view theorem c.mandatory-mandatory.ensures (c.mandatory_are_active.ensures view c.args.i theorem.said)
     c.in_ok-decoding.ensures.ok c.in_ok-decoding.ensures.entries c.in_ok-decoding.ensures.table
@@ -50,7 +50,7 @@ returns-in_err-decoding-clause-fault c =
     let p = err_from_is_err_and c.from_residual.result c.from_residual.ensures.1 in
     rw (p.1, p.2) (λ names view read proof.
     let i = c.args.i in
-    let theorem = theorem_at names c.args.files.now c.args.base.now i c.item.result.now c.words_of_proof-proof.result view read proof (c.item.ensures.found view (names, read.base)) c.words_of_proof-proof.ensures.words in
+    let theorem = theorem_at names c.args.files.now c.args.base.now i c.item.result.now c.words_of_proof-proof.result view read proof c.item.ensures.found c.words_of_proof-proof.ensures.words in
     let are = c.mandatory-mandatory.ensures view theorem.base (framed_proof view i theorem.is_sound) in
     let there = subst (λ (ns : List ℕ). AreActive view i ns) (sym are) (c.mandatory_are_active.ensures view i theorem.said) in
     rw (theorem.says, ← are) (c.in_err-decoding.ensures.err view theorem.base there))

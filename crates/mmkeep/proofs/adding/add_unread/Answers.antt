@@ -1,4 +1,3 @@
-use Rattle.mm_report.specs.mm_store.Language.FilesView.{plain}
 use Rattle.mmkeep.proofs.LoadLemmas.{unread_error}
 use Rattle.mmkeep.proofs.adding.add_unread.Goals as goal
 

@@ -1,5 +1,5 @@
 use Rattle.std.proofs.{Common.{arith, ◌&&◌, ◌∙◌, sym, subst}, lemmas.Grind.{common_steps}}
-use Rattle.mm_statement.specs.Language.Item.{is_assertion, is_theorem}
+use Rattle.mm_statement.specs.Language.Item.{is_assertion, is_kind, Theorem}
 use Rattle.mm_frame.{specs.{Language.Sound.{fault, sound_items, judged}, Code.{KeptAsked.{KnowsAsked}, KeptPairLists.{AreMade}}}, proofs.lemmas.base.BaseLemmas.{kept_are_sound}}
 use Rattle.mm_frame.proofs.lemmas.{faults.FoundFaults.{kept_next}, pairs.{AskedLemmas.{asked_more}, PairListLemmas.{made_more}}}
 use Rattle.mm_frame.proofs.assertions.Assertions.keep.Goals as goal
@@ -15,6 +15,6 @@ returns c all said one known disjoints kind sound parts a =
       made = subst (λ w. AreMade all w c.keep_pairs.new.pair_lists) more (made_more all before _ c.keep_pairs.new.pair_lists made);
       pair_numbers =
           c.in_ok-keep_pairs.ensures.pairs all said one known.symbols disjoints a.made
-          (c.has_proof.ensures ∙ (λ i. sym sound i && is_theorem (kind i)) ∙ (grind (arith, common_steps) steps 200000)) a.pair_numbers;
+          (c.has_proof.ensures ∙ (λ i. sym sound i && is_kind Theorem (kind i)) ∙ (grind (arith, common_steps) steps 200000)) a.pair_numbers;
       room = subst (λ w. KnowsAsked all w c.keep_frame.new.room.asked) more (asked_more all before (judged one (fault before one)) c.keep_frame.new.room.asked (c.in_ok-keep_frame.ensures.asked all before known a.room));
     }

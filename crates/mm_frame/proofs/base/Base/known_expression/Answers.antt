@@ -6,4 +6,4 @@ pub returns-clause-symbols : goal.returns-clause-symbols
 returns-clause-symbols c names base is shown = grind (arith, common_steps, expression_read, and_parts, and_from) steps 200000
 
 pub returns-clause-numbered : goal.returns-clause-numbered
-returns-clause-numbered c names base is = grind (arith, common_steps, expression_numbered names base.said c.args.self.now.expressions c.args.i is.expressions) steps 200000
+returns-clause-numbered c names base is = grind (arith, common_steps, expression_numbered names base c.args.self.now.expressions c.args.i is.expressions) steps 200000

@@ -1,6 +1,6 @@
 use Rattle.std.{proofs.{Common.{ℕ, List, map, refl, sym, ◌∙◌, ap, subst, arith}, lemmas.Slice.Zip.{AllZip-long}}, specs.List.{AllZip}}
 use Rattle.mm_frame.specs.{declared.base.Base.TheInside.{Inside}, Language.{Base.{BaseView}, Answering.{IsBaseBy}}, Code.{BaseInside.{answers_of}, KeptBase.{is_float_item}}}
-use Rattle.mm_frame.proofs.lemmas.{base.AnswerLemmas.{base_told, labels_told}, frames.FrameNumbers.{kinds_said}}
+use Rattle.mm_frame.proofs.lemmas.{base.{AnswerLemmas.{base_told, labels_told}, SaidLabels.{said_labelled}}, frames.FrameNumbers.{kinds_said}}
 use Rattle.mm_machine.specs.Language.Names.{AreDistinct, Begins}
 use Rattle.mm_statement.specs.Language.Statement.{Says}
 use Rattle.mm_frame.proofs.base.Base.rebuild.Goals as goal
@@ -13,7 +13,7 @@ invariant_of-result c =
     record {
       rows = parts.kept;
       floats = c.in_ok-floats.ensures ∙ ap (map is_float_item) c.deref.ensures.value;
-      labels = labels_told names (record { found = c.in_ok-found.found.items; said = read.0 }) c.parts.result parts;
+      labels = labels_told names read.0 c.parts.result parts;
     }
 
 pub returns-clause-base : goal.returns-clause-base
@@ -22,10 +22,10 @@ returns-clause-base c =
     let found = c.in_ok-found.found.items in
     let read = c.in_ok-draft.ensures.read in
     let each = subst (λ w. AllZip (Says files) w read.0) c.deref-2.ensures.value read.1 in
-    let base : BaseView = record { found = found; said = read.0 } in
+    let base : BaseView = read.0 in
     let built : Inside = record { items = c.in_ok-found.found; floats = c.in_ok-floats.floats; parts = c.parts.result; room = c.none-2.result } in
     let by : (all : List (List ℕ)) → AreDistinct all → Begins c.read_all_again.new.names all → IsBaseBy all base (answers_of built) = λ all distinct more.
-    base_told all base built distinct refl (sym (AllZip-long (Says files) found read.0 each)) (omega
-    (arith, AllZip-long (Says files) found read.0 each, c.in_ok-found.ensures.small)) (kinds_said files found read.0 each)
+    base_told all base built distinct (sym (AllZip-long (Says files) found read.0 each)) (omega
+    (arith, AllZip-long (Says files) found read.0 each, c.in_ok-found.ensures.small)) (said_labelled files found read.0 each) (kinds_said files found read.0 each)
     (c.parts.ensures all read.0 (read.2 all distinct more)) in
     (base, record { expansion = c.in_ok-found.ensures.items; each = each }, by c.read_all_again.new.names c.distinct.ensures (λ n name there. there), by)

@@ -1,5 +1,5 @@
 use Rattle.std.proofs.{lemmas.Grind.{common_steps}, Common.{◌≡◌, ◌<◌, ◌+◌, List, suc, true, length, take, drop, arith, sym, ◌∙◌, ap, subst, ◌↔◌, Some, None}}
-use Rattle.mm_frame.{proofs.lemmas.scope.{BlockLemmas.{before_none, marks_count}, ActiveUntil.{until_open, until_ended, end_there}}, specs.Language.{Scope.{Mark}, Resolving.{IsUpTo}}}
+use Rattle.mm_frame.{proofs.lemmas.scope.{BlockLemmas.{before_none, marks_count}, ActiveUntil.{until_open, until_ended, end_there}}, specs.Language.{Resolving.{IsUpTo}, Marks.{Mark}}}
 use Rattle.mm_frame.specs.Code.{BlockMarks.{stays_by}, BlockEnds.{end_of_block}}
 use Rattle.mm_frame.proofs.blocks.Blocks.active_until.Goals as goal
 

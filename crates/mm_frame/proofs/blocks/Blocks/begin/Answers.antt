@@ -1,6 +1,6 @@
 use Rattle.std.proofs.{lemmas.{List.Sums.{count_by-le-length}, Grind.{common_steps}}, Common.{subst, sym, ◌+◌, ◌≡◌, ◌++◌, ◌∷◌, [], length, refl, ◌∙◌, ap, arith}}
 use Rattle.mm_frame.{proofs.lemmas.scope.BlockLemmas.{begun, length_marks, same_count, kept_moved, kept_entered, entered_marks, begun_marks, pushed}, specs.Code.KeptBlocks.{AreBlocks, marks_from}}
-use Rattle.mm_frame.specs.Language.Scope.{closes, Opens, opens}
+use Rattle.mm_frame.specs.{Code.BlockMarks.{closes, opens}, Language.Marks.{Opens}}
 use Rattle.mm_frame.proofs.blocks.Blocks.begin.Goals as goal
 
 pub invariant_of-self-in_err-reserve : goal.invariant_of-self-in_err-reserve

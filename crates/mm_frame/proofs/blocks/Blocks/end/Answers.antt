@@ -1,5 +1,5 @@
 use Rattle.std.proofs.{lemmas.{List.Sums.{count_by-le-length}, Grind.{common_steps}}, Common.{◌≡◌, ◌++◌, ◌∷◌, [], length, refl, ◌∙◌, ap, arith, unwrap_or}}
-use Rattle.mm_frame.{proofs.lemmas.scope.BlockLemmas.{length_marks, popped_is, closing, kept_moved, kept_entered, kept_ended, entered_marks, ended_marks, pushed}, specs.Language.Scope.{Closes}}
+use Rattle.mm_frame.{proofs.lemmas.scope.BlockLemmas.{length_marks, popped_is, closing, kept_moved, kept_entered, kept_ended, entered_marks, ended_marks, pushed}, specs.Language.Marks.{Closes}}
 use Rattle.mm_frame.specs.Code.KeptBlocks.{marks_from}
 use Rattle.mm_frame.proofs.blocks.Blocks.end.Goals as goal
 

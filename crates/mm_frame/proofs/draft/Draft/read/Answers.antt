@@ -1,5 +1,5 @@
 use Rattle.std.proofs.{Common.{ℕ, List}, lemmas.Result.{on_ok_weaker}}
-use Rattle.mm_statement.specs.Language.Item.{Item}
+use Rattle.mm_statement.specs.Language.Item.{Said}
 use Rattle.mm_frame.{specs.Code.KeptBase.{IsDraft}, proofs.lemmas.{base.NumbersAside.{numbers_aside}, names.NumberLemmas.{begins_on}}}
 use Rattle.mm_frame.proofs.draft.Draft.read.Goals as goal
 
@@ -8,7 +8,7 @@ returns-clause-read c =
     let names = c.number_all.new.names in
     let grows = c.number_all.ensures.grows in
     let numbers = c.in_ok-number_all.ensures.numbers in
-    let aside = λ (all : List (List ℕ)) (said : List Item) (d : IsDraft all said c.args.self.now). numbers_aside all said c.args.self.now c.number_all.new.numbers d in
+    let aside = λ (all : List (List ℕ)) (said : List Said) (d : IsDraft all said c.args.self.now). numbers_aside all said c.args.self.now c.number_all.new.numbers d in
     on_ok_weaker c.add_numbered.result
     (λ takes. (
       c.in_ok-statement.statement,

@@ -1,5 +1,5 @@
 use Rattle.std.proofs.Common.{◌≡◌, ℕ, Option, Some, None, List, [], IfSome, append-nil, sym, subst, ◌∙◌}
-use Rattle.mm_statement.specs.Language.Item.{Item}
+use Rattle.mm_statement.specs.Language.Item.{Said}
 use Rattle.mm_frame.specs.{Language.{Sound.{AreSound}, Scope.{active_numbers}, Framing.{active_pairs}}, Code.{LastItems.{is_disjoint_item}, KeptPairLists.{AreMade, IsList, list_made}}}
 use Rattle.mm_frame.{specs.Code.KeptSymbols.{AreSymbols}, proofs.lemmas.pairs.PairListLemmas.{whole_front}}
 use Rattle.mm_frame.proofs.pair_lists.PairLists.made_list.Goals as goal
@@ -8,7 +8,7 @@ pub returns : goal.returns
 returns c = by c.made_for.result c.made_for.ensures
   where
     by : (found : Option ℕ) → found ≡ list_made c.args.self.now c.count_to_last.result
-        → IfSome found (λ k. (all : List (List ℕ)) (before : List Item) → AreSound before → AreSymbols all before c.args.expressions.now
+        → IfSome found (λ k. (all : List (List ℕ)) (before : List Said) → AreSound before → AreSymbols all before c.args.expressions.now
         → c.args.disjoints.now ≡ active_numbers is_disjoint_item before → AreMade all before c.args.self.now → IsList all c.args.self.now k (active_pairs before))
     by None e = tt
     by (Some k) e = λ all before h a d m.

@@ -1,14 +1,15 @@
-use Rattle.std.proofs.Common.{subst}
-use Rattle.mm_keep.{specs.Language.Sessions.{AreAxiomsOf, IsAssertion, SessionView}, proofs.FoundLemmas.{parts}}
+use Rattle.mm_keep.{specs.Language.Sessions.{IsAssertion}, proofs.FoundLemmas.{holds_of, kept}}
+use Rattle.mm_proof.specs.mm_frame.Language.Base.{base_of}
 use Rattle.mm_keep.proofs.session.Session.axioms.Goals as goal
 
 pub axioms_of-requires : goal.axioms_of-requires
 axioms_of-requires c =
-    let h = parts c.files_have_one_base.ensures.base c.items_stand.ensures.stand _ c.self.invariant _ c.self.view_is (λ base. IsAssertion base c.args.label.now c.in-Some.first) c.in-Some.ensures.some in
-    (c.self.inside.names, h.base, h.is, h.are, h.holds.within)
+    let k = kept c.items_stand.ensures.stand c.items_are_located.ensures.located c.self.inside c.self.invariant c.holds_pieces.ensures c.args.self.now c.self.view_is in
+    let holds = holds_of c.files_have_one_database.ensures c.self.inside c.args.self.now k (λ base. IsAssertion base c.args.label.now c.in-Some.first) c.in-Some.ensures.some in
+    (c.self.inside.names, base_of k.items, k.is, k.are, holds.within)
 
 pub returns-in_ok-axioms_of-in-Some-clause-ok : goal.returns-in_ok-axioms_of-in-Some-clause-ok
 returns-in_ok-axioms_of-in-Some-clause-ok c =
-    let h = parts c.files_have_one_base.ensures.base c.items_stand.ensures.stand _ c.self.invariant _ c.self.view_is (λ base. IsAssertion base c.args.label.now c.in-Some.first) c.in-Some.ensures.some in
-    let those = c.in_ok-axioms_of-in-Some.ensures c.self.inside.names h.base h.is h.are in
-    subst (λ (s : SessionView). AreAxiomsOf s c.args.label.now c.in_ok-axioms_of-in-Some.field-0.items) c.self.view_is (h.base, h.of_files, (c.in-Some.first, h.holds, those))
+    let k = kept c.items_stand.ensures.stand c.items_are_located.ensures.located c.self.inside c.self.invariant c.holds_pieces.ensures c.args.self.now c.self.view_is in
+    let holds = holds_of c.files_have_one_database.ensures c.self.inside c.args.self.now k (λ base. IsAssertion base c.args.label.now c.in-Some.first) c.in-Some.ensures.some in
+    (k.items, k.of_files, (c.in-Some.first, holds, c.in_ok-axioms_of-in-Some.ensures c.self.inside.names (base_of k.items) k.is k.are))

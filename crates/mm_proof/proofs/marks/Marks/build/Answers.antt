@@ -38,5 +38,5 @@ loop-j-preserved c = record {
 pub returns : goal.returns
 returns c base copy f g =
     let count = c.count-j-end.ensures.count copy (c.args.names.now, g) in
-    let all : c.loop-j.j ≡ length copy.said = omega (arith, count, c.loop-j.auto.j-end, c.loop-j-test.false) in
+    let all : c.loop-j.j ≡ length copy = omega (arith, count, c.loop-j.auto.j-end, c.loop-j-test.false) in
     all_marked base copy c.loop-j.j (record { items = kept_marks c.loop-j.marks.items; changed = c.loop-j.changed.items }) (c.loop-j.invariant.marks c.args.names.now base copy f g) all

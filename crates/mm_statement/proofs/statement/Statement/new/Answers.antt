@@ -1,7 +1,7 @@
 use Rattle.std.proofs.lemmas.{Grind.{common_steps}, Option.{slice_get_within, get_or_from_slice_get}, List.{length-map, Elements.{All-get_or}}}
 use Rattle.std.proofs.Common.{[], ◌∙◌, sym, ap, subst, length, get_or, arith, All}
 use Rattle.mm_store.specs.mm_text.Language.{Unit.{tokens_of}, WordsLeft.{WordsLeft}}
-use Rattle.mm_statement.{specs.{Language.{Item.{Item}, Statement.{kind_of, item_of}}, Code.PlainWords.{LiesInText, word_bytes}}, proofs.SpokenLemmas.{Reads, behind_one, item_read}}
+use Rattle.mm_statement.{specs.{Language.{Item.{Said}, Statement.{kind_of, item_of}}, Code.PlainWords.{LiesInText, word_bytes}}, proofs.SpokenLemmas.{Reads, behind_one, item_read}}
 use Rattle.mm_statement.proofs.WordNumbers.{spelled_at}
 use Rattle.mm_statement.proofs.statement.Statement.new.Goals as goal
 
@@ -20,13 +20,13 @@ invariant_of-result c =
     let read = item_read kind text words label symbols rest reads ∙ ap (λ (w : WordsLeft). item_of kind (tokens_of text w.words)) again in
     let from = c.next_word-keyword.ensures.text ∙ c.read_label-label.ensures.text ∙ ap (λ (w : WordsLeft). w.text) again ∙ c.requires.same_text in
     let lie = subst (λ bytes. All (LiesInText bytes) symbols) from c.in_ok-symbols.ensures.within in
-    let count = sym (length-map symbols (word_bytes text)) ∙ ap (λ (x : Item). length x.symbols) read in
+    let count = sym (length-map symbols (word_bytes text)) ∙ ap (λ (x : Said). length x.symbols) read in
     record {
       words = c.requires;
-      label = c.label_bytes.ensures ∙ ap (λ (x : Item). x.label) read;
+      label = c.label_bytes.ensures ∙ ap (λ (x : Said). x.label) read;
       count = omega (arith, c.len.ensures, c.in_ok-symbols.symbols.ok.0, count);
       symbols = λ n word e. (
         subst (LiesInText text) (get_or_from_slice_get symbols n word word e) (All-get_or (LiesInText text) symbols n word (slice_get_within symbols n word e) lie),
-        spelled_at text symbols n word e ∙ ap (λ (x : Item). get_or x.symbols n []) read,
+        spelled_at text symbols n word e ∙ ap (λ (x : Said). get_or x.symbols n []) read,
       );
     }

@@ -1,4 +1,4 @@
-use Rattle.std.proofs.{lemmas.Grind.{common_steps}, Common.{◌-◌, arith}}
+use Rattle.std.proofs.{lemmas.Grind.{common_steps}, Common.{arith}}
 use Rattle.mm_text.proofs.{KindLemmas.{plain_word}, ReaderLemmas.{word_here}, RunLemmas.{white_at}}
 use Rattle.mm_text.proofs.reader.Reader.next_word.Goals as goal
 

@@ -1,23 +1,29 @@
-use Rattle.std.proofs.{Common.{refl, sym, arith}, lemmas.Grind.{common_steps}}
-use Rattle.mm_verdict.proofs.lemmas.decoding.ReaderLemmas.{step_rest, no_save}
+use Rattle.mm_verdict.proofs.lemmas.decoding.ReaderLemmas.{last_found, other_found, if_err, if_ok}
 use Rattle.mm_verdict.proofs.letters.LetterReader.read.Goals as goal
 
-pub returns-else-byte-eq90-clause-ok : goal.returns-else-byte-eq90-clause-ok
-returns-else-byte-eq90-clause-ok c = λ aim ls goes. record {
-  digits = 0;
-  labels_are = goes.labels_are;
-  digits_are = refl;
-  rest =
-      step_rest aim.names aim.close aim.total c.args.self.now.saves goes.digits c.args.byte c.args.spot c.in-Ok.action ls c.args.self.now.steps.items _
-      c.args.self.now.saves (sym c.if-is_digit.ensures) (c.in-Ok.ensures.says aim.names goes.digits goes.labels_are goes.digits_are)
-      c.push_reserved.ensures.items (no_save c.args.byte c.args.self.now.saves c.if-byte-eq90.false) goes.rest;
-}
+pub add-requires-else-letter-lt25-clause-within : goal.add-requires-else-letter-lt25-clause-within
+add-requires-else-letter-lt25-clause-within c = c.action.ensures.within c.args.self.now.labels
 
-pub invariant_of-self-else-byte-eq90 : goal.invariant_of-self-else-byte-eq90
-invariant_of-self-else-byte-eq90 c = grind (arith, common_steps)
+pub returns-then-letter-lt20-clause-ok : goal.returns-then-letter-lt20-clause-ok
+returns-then-letter-lt20-clause-ok c =
+    if_ok _ _ c.add.result
+    (λ says aim ls. says aim ls (last_found aim c.args.self.now c.args.byte c.from.result c.named-found.result c.ranges.byte.fits c.if-letter-lt20.true c.from.ensures c.named-found.ensures.says))
+    c.add.ensures.ok
 
-pub invariant_of-self-then-byte-eq90 : goal.invariant_of-self-then-byte-eq90
-invariant_of-self-then-byte-eq90 c = grind (arith, common_steps)
+pub returns-then-letter-lt20-clause-err : goal.returns-then-letter-lt20-clause-err
+returns-then-letter-lt20-clause-err c =
+    if_err _ _ c.add.result
+    (λ e says aim ls. says aim ls (last_found aim c.args.self.now c.args.byte c.from.result c.named-found.result c.ranges.byte.fits c.if-letter-lt20.true c.from.ensures c.named-found.ensures.says))
+    c.add.ensures.err
 
-pub returns-then-byte-eq90-clause-ok : goal.returns-then-byte-eq90-clause-ok
-returns-then-byte-eq90-clause-ok c = grind (arith, common_steps)
+pub returns-else-letter-lt25-clause-ok : goal.returns-else-letter-lt25-clause-ok
+returns-else-letter-lt25-clause-ok c =
+    if_ok _ _ c.add-else-letter-lt25.result
+    (λ says aim ls. says aim ls (other_found aim c.args.self.now c.args.byte c.action.result c.ranges.byte.fits c.if-letter-lt25.false c.action.ensures.says))
+    c.add-else-letter-lt25.ensures.ok
+
+pub returns-else-letter-lt25-clause-err : goal.returns-else-letter-lt25-clause-err
+returns-else-letter-lt25-clause-err c =
+    if_err _ _ c.add-else-letter-lt25.result
+    (λ e says aim ls. says aim ls (other_found aim c.args.self.now c.args.byte c.action.result c.ranges.byte.fits c.if-letter-lt25.false c.action.ensures.says))
+    c.add-else-letter-lt25.ensures.err
