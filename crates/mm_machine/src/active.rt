@@ -4,7 +4,7 @@ ghost use Rattle.std.specs.Prelude.{◌≡◌, ◌↔◌, ◌<◌, ℕ, true, Is
 ghost use Rattle.mm_machine.specs.Language.Frame.{Symbol as Meaning, ArePair};
 ghost use Rattle.mm_machine.specs.Language.CitedFrames.{meant_pairs};
 ghost use Rattle.mm_machine.specs.Language.NumberedSymbols.{comes_before};
-ghost use Rattle.mm_machine.specs.Language.Keys.{AreInKeyOrder, pair_keys};
+ghost use Rattle.mm_machine.specs.Language.Keys.{AreInKeyOrder, lower_first as lower_first_lem, pair_keys};
 ghost use Rattle.mm_machine.specs.Code.PairClause.{IsPair, Apart, NotApart, EachApart, SomeNotApart, SomeShared, AreKeyPlaces};
 ghost use Rattle.mm_machine.specs.Code.PairClause.{home as home_lem, home_at};
 
@@ -15,16 +15,14 @@ use crate::symbol::Symbol;
 /// The active pairs at a statement, in the order of the lower and the higher key of their symbols.
 #[derive(Drop)]
 pub struct Active<'a, S: Kept> {
-    pairs: &'a [(S, S)],
-    ghost order: { AreInKeyOrder S.key_of (meant_pairs S.means pairs.now) },
+    pairs: &'a [(S::Listed, S::Listed)],
+    ghost order: { AreInKeyOrder S.key_of (meant_pairs S.Listed.means pairs.now) },
 }
 
-/// The keys of two symbols, the lower one first.
-fn keys<S: Kept>(x: &S, y: &S) -> (usize, usize)
-    ensures { result ≡ pair_keys S.key_of (S.means x.now, S.means y.now) }
+/// Two numbers, the lower one first.
+fn lower_first(a: usize, b: usize) -> (usize, usize)
+    ensures { result ≡ lower_first_lem a b }
 {
-    let a = x.key();
-    let b = y.key();
     if a <= b { (a, b) } else { (b, a) }
 }
 
@@ -37,8 +35,8 @@ fn is_before(one: (usize, usize), other: (usize, usize)) -> bool
 
 impl<'a, S: Kept> Active<'a, S> {
     /// These pairs, which are in the order of the keys of their symbols. It takes no memory.
-    pub fn new(pairs: &'a [(S, S)]) -> Active<'a, S>
-        requires { AreInKeyOrder S.key_of (meant_pairs S.means pairs.now) }
+    pub fn new(pairs: &'a [(S::Listed, S::Listed)]) -> Active<'a, S>
+        requires { AreInKeyOrder S.key_of (meant_pairs S.Listed.means pairs.now) }
         ensures { result.pairs.now ≡ pairs.now }
     {
         Active { pairs }
@@ -47,15 +45,15 @@ impl<'a, S: Kept> Active<'a, S> {
     /// The keys of the pair at a place.
     fn keys_at(&self, place: usize) -> (usize, usize)
         requires { place < length self.now.pairs.now }
-        ensures { (p : Meaning × Meaning) → slice_get (meant_pairs S.means self.now.pairs.now) place ≡ Some p → result ≡ pair_keys S.key_of p }
+        ensures { (p : Meaning × Meaning) → slice_get (meant_pairs S.Listed.means self.now.pairs.now) place ≡ Some p → result ≡ pair_keys S.key_of p }
     {
         let pair = &self.pairs[place];
-        keys(&pair.0, &pair.1)
+        lower_first(S::key_of_listed(&pair.0), S::key_of_listed(&pair.1))
     }
 
     /// A place before which the keys of all pairs come before these.
     fn place_of(&self, wanted: (usize, usize)) -> usize
-        ensures { (k : ℕ) (p : Meaning × Meaning) → k < result → slice_get (meant_pairs S.means self.now.pairs.now) k ≡ Some p
+        ensures { (k : ℕ) (p : Meaning × Meaning) → k < result → slice_get (meant_pairs S.Listed.means self.now.pairs.now) k ≡ Some p
             → comes_before (pair_keys S.key_of p) wanted ≡ true }
     {
         let mut low = 0;
@@ -74,18 +72,18 @@ impl<'a, S: Kept> Active<'a, S> {
     /// Whether the pair at a place is that of two symbols.
     fn is_at(&self, place: usize, x: &S, y: &S) -> bool
         requires { place < length self.now.pairs.now }
-        ensures { (p : Meaning × Meaning) → slice_get (meant_pairs S.means self.now.pairs.now) place ≡ Some p
+        ensures { (p : Meaning × Meaning) → slice_get (meant_pairs S.Listed.means self.now.pairs.now) place ≡ Some p
             → IsTrue result ↔ IsPair p (S.means x.now) (S.means y.now) }
     {
         let pair = &self.pairs[place];
-        pair.0.same(x) && pair.1.same(y) || pair.0.same(y) && pair.1.same(x)
+        x.is(&pair.0) && y.is(&pair.1) || y.is(&pair.0) && x.is(&pair.1)
     }
 
     /// Whether two symbols are an active pair: only pairs with their keys are compared with them.
     pub(crate) fn has(&self, x: &S, y: &S) -> bool
-        ensures { IsTrue result ↔ ArePair (meant_pairs S.means self.now.pairs.now) (S.means x.now) (S.means y.now) }
+        ensures { IsTrue result ↔ ArePair (meant_pairs S.Listed.means self.now.pairs.now) (S.means x.now) (S.means y.now) }
     {
-        let wanted = keys(x, y);
+        let wanted = lower_first(x.key(), y.key());
         for place in self.place_of(wanted)..self.pairs.len() {
             if is_before(wanted, self.keys_at(place)) {
                 return false;
@@ -99,8 +97,8 @@ impl<'a, S: Kept> Active<'a, S> {
 
     /// Whether two variables are different, and an active pair.
     fn is_apart(&self, x: &S, y: &S) -> bool
-        ensures { MatchBool result (Apart (meant_pairs S.means self.now.pairs.now) (S.means x.now) (S.means y.now)) (NotApart
-            (meant_pairs S.means self.now.pairs.now) (S.means x.now) (S.means y.now)) }
+        ensures { MatchBool result (Apart (meant_pairs S.Listed.means self.now.pairs.now) (S.means x.now) (S.means y.now)) (NotApart
+            (meant_pairs S.Listed.means self.now.pairs.now) (S.means x.now) (S.means y.now)) }
     {
         if x.same(y) {
             return false;
@@ -111,8 +109,8 @@ impl<'a, S: Kept> Active<'a, S> {
     /// Whether a variable is apart from each of a list.
     fn is_apart_from(&self, x: &S, ys: &[S]) -> bool
         ensures { MatchBool result
-            ((y : Meaning) → Contains (map S.means ys.now) y → Apart (meant_pairs S.means self.now.pairs.now) (S.means x.now) y)
-            ((y : Meaning) × Contains (map S.means ys.now) y × NotApart (meant_pairs S.means self.now.pairs.now) (S.means x.now) y) }
+            ((y : Meaning) → Contains (map S.means ys.now) y → Apart (meant_pairs S.Listed.means self.now.pairs.now) (S.means x.now) y)
+            ((y : Meaning) × Contains (map S.means ys.now) y × NotApart (meant_pairs S.Listed.means self.now.pairs.now) (S.means x.now) y) }
     {
         for i in 0..ys.len() {
             if !self.is_apart(x, &ys[i]) {
@@ -125,8 +123,8 @@ impl<'a, S: Kept> Active<'a, S> {
     /// Whether each variable of one list is apart from each of the other.
     pub(crate) fn are_apart(&self, xs: &[S], ys: &[S]) -> bool
         ensures { MatchBool result
-            (EachApart (meant_pairs S.means self.now.pairs.now) (map S.means xs.now) (map S.means ys.now))
-            (SomeNotApart (meant_pairs S.means self.now.pairs.now) (map S.means xs.now) (map S.means ys.now)) }
+            (EachApart (meant_pairs S.Listed.means self.now.pairs.now) (map S.means xs.now) (map S.means ys.now))
+            (SomeNotApart (meant_pairs S.Listed.means self.now.pairs.now) (map S.means xs.now) (map S.means ys.now)) }
     {
         for i in 0..xs.len() {
             if !self.is_apart_from(&xs[i], ys) {

@@ -1,68 +1,59 @@
 //! What is right or wrong when an assertion is cited.
 
-ghost use Rattle.std.specs.Prelude.{◌≡◌, ◌↔◌, ◌<◌, List, false, IsTrue, IfOk, MatchBool, MatchOption, All, Some, length, map, slice_get};
+ghost use Rattle.std.specs.Prelude.{◌≡◌, ◌↔◌, ◌<◌, ◌≤◌, ◌+◌, List, IsTrue, IfOk, MatchBool, MatchOption, All, length, map, slice_get};
 ghost use Rattle.mm_machine.specs.Language.Frame.{Symbol as Meaning};
-ghost use Rattle.mm_machine.specs.Language.Typing.{IsFrame};
 ghost use Rattle.mm_machine.specs.Language.Faults.{AnyZip};
-ghost use Rattle.mm_machine.specs.Code.Flat.{IsEntryWithin, read_all};
-ghost use Rattle.mm_machine.specs.Language.CitedFrames.{mandatory_of, hypotheses_of, meant_pairs};
-ghost use Rattle.mm_machine.specs.Code.Citation.{entries_of, frame_from, GivesVariables, AreAllTyped, GivesEntries};
-ghost use Rattle.mm_machine.specs.Code.Citation.{AreFloating, OtherTypecode, OtherEssential, CitingSays};
+ghost use Rattle.mm_machine.specs.Language.CitedFrames.{meant_pairs};
+ghost use Rattle.mm_machine.specs.Language.Forms.{IsPatternWithin, pattern_symbols};
+ghost use Rattle.mm_machine.specs.Code.Flat.{IsEntryWithin, read};
+ghost use Rattle.mm_machine.specs.Code.Citation.{AreFloating, GivesEntries, OtherTypecode, OtherEssential, CitingSays};
+ghost use Rattle.mm_machine.specs.Code.Filling.{AreTaken, entries_of, frame_taking};
 
 use crate::ProofNumber;
 use crate::active::Active;
-use crate::assertion::Hypothesis;
+use crate::forms::{Forms, Pattern};
 use crate::kept::Kept;
 use crate::pairs::{PairRoom, pairs_fault};
-use crate::pattern::{Entry, Taken, fits, is_short};
-use crate::slots::note_place;
+use crate::pattern::{Entry, Taken, fits};
 use crate::symbol::Symbol;
 use std::alloc::{AllocError, Global};
 
-/// The symbols of an entry.
-fn entry_at<'s, S: Kept>(symbols: &'s [S], entries: &[Entry], place: usize) -> &'s [S]
-    requires within { All (IsEntryWithin (length symbols.now)) entries.now }
-    requires in_range { place < length entries.now }
-    ensures { slice_get (read_all (map S.means symbols.now) entries.now) place ≡ Some (map S.means result.now) }
+/// Whether an entry begins with the typecode of a `$f`.
+#[inline(always)]
+fn has_typecode<S: Kept>(all: &[S], entry: Entry, forms: &Forms<S>, typing: Pattern) -> bool
+    requires entry { IsEntryWithin (length all.now) entry }
+    requires typing { IsPatternWithin (length forms.now.symbols.items) (length forms.now.slots.items) typing }
+    requires some { typing.start < typing.end }
+    ensures { IsTrue result ↔ (slice_get (pattern_symbols (map S.means forms.now.symbols.items) typing) 0 ≡ slice_get (read (map S.means all.now) entry) 0) }
 {
-    let entry = entries[place];
-    &symbols[entry.start..entry.end]
-}
-
-/// Whether two expressions have the same first symbol.
-fn have_same_typecode<S: Kept>(a: &[S], b: &[S]) -> bool
-    ensures { IsTrue result ↔ (slice_get (map S.means a.now) 0 ≡ slice_get (map S.means b.now) 0) }
-{
-    if a.is_empty() || b.is_empty() {
-        return a.is_empty() && b.is_empty();
+    if entry.start == entry.end {
+        return false;
     }
-    a[0].same(&b[0])
+    all[entry.start].same(&forms.symbols[typing.start])
 }
 
-/// Compares the typecode of each `$f` with that of its entry, and notes for each variable where its `$f` is. Answers
-/// where the first `$e` is, or nothing if an entry has another typecode.
-pub fn take_floats<'a, S: Kept>(
-    symbols: &[S],
-    entries: &[Entry],
-    hypotheses: &[Hypothesis<'a, S>],
-    places: &mut [usize],
-) -> Option<usize>
-    requires within { All (IsEntryWithin (length symbols.now)) entries.now }
-    requires count { length entries.now ≡ length hypotheses.now }
+/// Compares the typecode of each `$f` with that of its entry. Answers where the first `$e` is, or nothing if an entry has
+/// another typecode.
+fn first_essential<'s, S: Kept>(taken: &Taken<'s, S>) -> Option<usize>
+    requires { AreTaken S.means taken.now }
     ensures { MatchOption result
-        (AnyZip OtherTypecode (hypotheses_of S.means hypotheses.now) (read_all (map S.means symbols.now) entries.now))
-        (λ first. (AnyZip OtherTypecode (hypotheses_of S.means hypotheses.now) (read_all (map S.means symbols.now) entries.now) → ⊥)
-        × AreFloating (hypotheses_of S.means hypotheses.now) first) }
+        (AnyZip OtherTypecode (frame_taking S.means taken.now).hypotheses (entries_of S.means taken.now))
+        (λ first. (AnyZip OtherTypecode (frame_taking S.means taken.now).hypotheses (entries_of S.means taken.now) → ⊥)
+        × AreFloating (frame_taking S.means taken.now).hypotheses first) }
 {
-    let mut first = hypotheses.len();
-    for place in 0..hypotheses.len() {
-        let hypothesis = &hypotheses[place];
+    let held = &taken.forms.hypotheses[taken.form.first..taken.form.last];
+    let mut first = held.len();
+    for place in 0..held.len() {
+        let hypothesis = held[place];
         if hypothesis.floating {
-            let entry = entry_at(symbols, entries, place);
-            if !have_same_typecode(hypothesis.expression, entry) {
+            if !has_typecode(
+                taken.symbols,
+                taken.entries[place],
+                taken.forms,
+                hypothesis.pattern,
+            ) {
                 return None;
             }
-            note_place(hypothesis.expression, place, &mut *places);
         } else if place < first {
             first = place;
         }
@@ -70,66 +61,51 @@ pub fn take_floats<'a, S: Kept>(
     Some(first)
 }
 
-/// Whether the hypothesis is a `$e`, and its entry differs from it under the substitution.
-fn is_other_essential<'s, 'a, S: Kept>(
-    taken: &Taken<'s, 'a, S>,
-    hypothesis: &Hypothesis<'a, S>,
-    entry: &[S],
-) -> bool
-    requires within { All (IsEntryWithin (length taken.now.symbols.now)) taken.now.entries.now }
-    ensures { (given : Meaning → List Meaning) → (hypothesis.now.floating ≡ false
-        → GivesVariables given (hypotheses_of S.means taken.now.hypotheses.now) (entries_of S.means taken.now) (map S.means hypothesis.now.expression.now))
-        → IsTrue result ↔ OtherEssential given (mandatory_of S.means hypothesis.now) (map S.means entry.now) }
-{
-    !hypothesis.floating && !fits(&*taken, hypothesis.expression, entry)
-}
-
-/// Whether each entry of a `$e` is the `$e` under the substitution.
-fn essentials_fit<'s, 'a, S: Kept>(taken: &Taken<'s, 'a, S>) -> bool
-    requires within { All (IsEntryWithin (length taken.now.symbols.now)) taken.now.entries.now }
-    requires count { length taken.now.entries.now ≡ length taken.now.hypotheses.now }
-    requires typed { AreAllTyped (hypotheses_of S.means taken.now.hypotheses.now) }
-    requires before { AreFloating (hypotheses_of S.means taken.now.hypotheses.now) taken.now.first }
-    ensures { (given : Meaning → List Meaning) → GivesEntries given (hypotheses_of S.means taken.now.hypotheses.now) (entries_of S.means taken.now)
+/// Whether each entry of a `$e` from a place on is the `$e` under the substitution.
+fn essentials_fit<'s, S: Kept>(taken: &Taken<'s, S>, first: usize) -> bool
+    requires taken { AreTaken S.means taken.now }
+    requires before { AreFloating (frame_taking S.means taken.now).hypotheses first }
+    ensures { (given : Meaning → List Meaning) → GivesEntries given (frame_taking S.means taken.now).hypotheses (entries_of S.means taken.now)
         → MatchBool result
-        (AnyZip (OtherEssential given) (hypotheses_of S.means taken.now.hypotheses.now) (entries_of S.means taken.now) → ⊥)
-        (AnyZip (OtherEssential given) (hypotheses_of S.means taken.now.hypotheses.now) (entries_of S.means taken.now)) }
+        (AnyZip (OtherEssential given) (frame_taking S.means taken.now).hypotheses (entries_of S.means taken.now) → ⊥)
+        (AnyZip (OtherEssential given) (frame_taking S.means taken.now).hypotheses (entries_of S.means taken.now)) }
 {
-    for place in taken.first..taken.hypotheses.len() {
-        let entry = entry_at(taken.symbols, taken.entries, place);
-        if is_other_essential(&*taken, &taken.hypotheses[place], entry) {
-            return false;
+    let held = &taken.forms.hypotheses[taken.form.first..taken.form.last];
+    for place in first..held.len() {
+        let hypothesis = held[place];
+        if !hypothesis.floating {
+            if !fits(
+                taken.symbols,
+                taken.entries[place],
+                taken.entries,
+                taken.forms,
+                hypothesis.pattern,
+            ) {
+                return false;
+            }
         }
     }
     true
 }
 
-/// What is wrong when an assertion is cited that has its entries, and those of its `$f` have their typecodes: the lowest
-/// number that holds.
+/// What is wrong when an assertion is cited that has its entries, but for the length of its result: the lowest number that
+/// holds.
 pub fn citing_fault<'s, 'a, S: Kept>(
     alloc: Global,
-    taken: &Taken<'s, 'a, S>,
-    expression: &'a [S],
-    pairs: &[(S, S)],
+    taken: &Taken<'s, S>,
     active: &Active<'a, S>,
     room: &mut PairRoom<S>,
 ) -> Result<Option<ProofNumber>, AllocError>
-    requires within { All (IsEntryWithin (length taken.now.symbols.now)) taken.now.entries.now }
-    requires count { length taken.now.entries.now ≡ length taken.now.hypotheses.now }
-    requires frame { IsFrame (frame_from S.means taken.now.hypotheses.now expression.now pairs.now) }
-    requires typecodes { AnyZip OtherTypecode (hypotheses_of S.means taken.now.hypotheses.now) (entries_of S.means taken.now) → ⊥ }
-    requires before { AreFloating (hypotheses_of S.means taken.now.hypotheses.now) taken.now.first }
-    ensures { IfOk result (λ found. CitingSays (meant_pairs S.means active.now.pairs.now)
-        (frame_from S.means taken.now.hypotheses.now expression.now pairs.now) (entries_of S.means taken.now) found) }
+    requires { AreTaken S.means taken.now }
+    ensures { IfOk result (λ found. CitingSays (meant_pairs S.Listed.means active.now.pairs.now)
+        (frame_taking S.means taken.now) (entries_of S.means taken.now) found) }
 {
-    if !essentials_fit(&*taken) {
+    let Some(first) = first_essential(&*taken) else {
+        return Ok(Some(ProofNumber::P08));
+    };
+    if !essentials_fit(&*taken, first) {
         return Ok(Some(ProofNumber::P09));
     }
-    if let Some(number) = pairs_fault(alloc, &*taken, &*pairs, &*active, &mut *room)? {
-        return Ok(Some(number));
-    }
-    if !is_short(&*taken, expression) {
-        return Ok(Some(ProofNumber::P12));
-    }
-    Ok(None)
+    let found = pairs_fault(alloc, &*taken, &*active, &mut *room)?;
+    Ok(found)
 }

@@ -2,13 +2,13 @@
 
 ghost use Rattle.std.specs.Prelude.{◌≡◌, ◌<◌, ◌≤◌, List, IsTrue, OnOk, All, Some, Contains, drop, length, map, slice_get};
 ghost use Rattle.mm_machine.specs.Language.Frame.{Symbol as Meaning};
-ghost use Rattle.mm_machine.specs.Code.Flat.{IsEntryWithin};
-ghost use Rattle.mm_machine.specs.Code.Citation.{entries_of};
+ghost use Rattle.mm_machine.specs.Code.Flat.{IsEntryWithin, read};
+ghost use Rattle.mm_machine.specs.Code.Filling.{AreTaken, entries_of, frame_taking};
 ghost use Rattle.mm_machine.specs.Code.PairClause.{GatheredUpTo, GathersOne, GathersEntry, Gathers};
 
 use crate::active::stands_in;
 use crate::kept::Kept;
-use crate::pattern::{Entry, Taken, entry_symbols};
+use crate::pattern::{Entry, Taken, given_by};
 use crate::slots::home;
 use crate::symbol::Symbol;
 use std::alloc::{AllocError, Global};
@@ -89,16 +89,15 @@ fn gather<S: Kept>(
 
 impl<S: Kept> Gathered<S> {
     /// The variables of one more entry.
-    fn gather_entry<'s, 'a>(
+    fn gather_entry(
         &mut self,
         alloc: Global,
-        taken: &Taken<'s, 'a, S>,
+        symbols: &[S],
+        entry: Entry,
         floating: bool,
-        place: usize,
     ) -> Result<(), AllocError>
-        requires { All (IsEntryWithin (length taken.now.symbols.now)) taken.now.entries.now }
-        ensures { OnOk result ((e : List Meaning) → slice_get (entries_of S.means taken.now) place ≡ Some e
-            → GathersEntry floating e (map S.means self.old.variables.items)
+        requires { IsEntryWithin (length symbols.now) entry }
+        ensures { OnOk result (GathersEntry floating (read (map S.means symbols.now) entry) (map S.means self.old.variables.items)
             (map S.means self.new.variables.items) self.old.spans.items self.new.spans.items) }
     {
         let start = self.variables.len();
@@ -112,7 +111,7 @@ impl<S: Kept> Gathered<S> {
         }
         gather(
             alloc,
-            entry_symbols(&*taken, place),
+            &symbols[entry.end - given_by(entry)..entry.end],
             &mut self.places,
             &mut self.variables,
         )?;
@@ -126,20 +125,17 @@ impl<S: Kept> Gathered<S> {
     }
 
     /// The variables of the entries of all `$f`.
-    pub fn gather_all<'s, 'a>(
-        &mut self,
-        alloc: Global,
-        taken: &Taken<'s, 'a, S>,
-    ) -> Result<(), AllocError>
-        requires within { All (IsEntryWithin (length taken.now.symbols.now)) taken.now.entries.now }
-        requires count { length taken.now.entries.now ≡ length taken.now.hypotheses.now }
-        ensures { OnOk result (Gathers taken.now.hypotheses.now (entries_of S.means taken.now)
-            (map S.means self.new.variables.items) self.new.spans.items (length taken.now.hypotheses.now)) }
+    pub fn gather_all<'s>(&mut self, alloc: Global, taken: &Taken<'s, S>) -> Result<(), AllocError>
+        requires { AreTaken S.means taken.now }
+        ensures { OnOk result (Gathers (frame_taking S.means taken.now).hypotheses (entries_of S.means taken.now)
+            (map S.means self.new.variables.items) self.new.spans.items (length (frame_taking S.means taken.now).hypotheses)) }
     {
         self.variables.clear();
         self.spans.clear();
-        for place in 0..taken.hypotheses.len() {
-            self.gather_entry(alloc, &*taken, taken.hypotheses[place].floating, place)?;
+        let held = &taken.forms.hypotheses[taken.form.first..taken.form.last];
+        for place in 0..held.len() {
+            let floating = held[place].floating;
+            self.gather_entry(alloc, taken.symbols, taken.entries[place], floating)?;
         }
         Ok(())
     }

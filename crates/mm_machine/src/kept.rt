@@ -1,15 +1,20 @@
 //! What the machine needs of symbols that it keeps in a list.
 
-ghost use Rattle.std.specs.Prelude.{◌≡◌, ◌<◌, ◌≤◌, ◌+◌, ◌^◌, ◌++◌, ◌∷◌, [], ℕ, IfOk, OnOk, IsTrue, map, vec_len, vec_capacity};
+ghost use Rattle.std.specs.Prelude.{◌≡◌, ◌<◌, ◌≤◌, ◌+◌, ◌^◌, ◌++◌, ◌↔◌, ℕ, IfOk, OnOk, IsTrue, length, map, take, drop};
 ghost use Rattle.mm_machine.specs.Language.Frame.{Symbol as Meaning};
-ghost use Rattle.mm_machine.specs.Language.NumberedSymbols.{by_number, named_symbol};
 ghost use Rattle.mm_machine.specs.Language.Keys.{key_by_number, key_from, key_next};
 
-use crate::symbol::{NamedSymbol, NumberedSymbol, Symbol};
+use crate::symbol::{CodedSymbol, NamedSymbol, NumberedSymbol, Symbol};
 use std::alloc::{AllocError, Global};
+
+/// Symbols are copied and compared in blocks of this many, the last block over the end of what is asked for.
+pub const BLOCK: usize = 4;
 
 /// A symbol that the machine keeps in its list.
 pub trait Kept: Symbol {
+    /// What it is made from: a symbol as bases have it.
+    type Listed: Symbol;
+
     /// The number by which a symbol is looked for.
     ghost key_of: { Meaning → ℕ };
 
@@ -18,72 +23,56 @@ pub trait Kept: Symbol {
     fn key(&self) -> usize
         ensures { result ≡ key_of (Self.means self.now) };
 
-    /// Adds copies of symbols after others. After out of memory some of them may be added.
-    fn append(alloc: Global, to: &mut Vec<Self>, from: &[Self]) -> Result<(), AllocError>
-        ensures { OnOk result (map Self.means to.new.items ≡ map Self.means to.old.items ++ map Self.means from.now) };
+    /// The number by which a listed symbol is looked for.
+    fn key_of_listed(listed: &Self::Listed) -> usize
+        ensures { result ≡ key_of (Self.Listed.means listed.now) };
 
-    /// The symbols with a copy of one more, for which they have room. They are moved in and out, so that a loop keeps
-    /// their length and their address in registers.
-    fn and_one(alloc: Global, to: Vec<Self>, symbol: &Self) -> Result<Vec<Self>, AllocError>
-        requires { vec_len to < vec_capacity to }
-        ensures symbols { IfOk result (λ all. map Self.means all.items ≡ map Self.means to.items ++ Self.means symbol.now ∷ []) }
-        ensures room { IfOk result (λ all. (vec_len all ≡ vec_len to + 1) × (vec_capacity all ≡ vec_capacity to)) };
+    /// The symbol that a listed one is. It may give a table of keys more places.
+    fn of(alloc: Global, listed: &Self::Listed, places: &mut Vec<usize>) -> Result<Self, AllocError>
+        ensures { IfOk result (λ kept. Self.means kept ≡ Self.Listed.means listed.now) };
 
-    /// The symbols with copies of others after them. Before the call they have room for `more` symbols and one, and after it
-    /// for `more` symbols. After out of memory the list is lost, as with `and_one`.
-    fn and_all(
+    /// Whether this is the symbol that a listed one is.
+    fn is(&self, listed: &Self::Listed) -> bool
+        ensures { IsTrue result ↔ (Self.means self.now ≡ Self.Listed.means listed.now) };
+
+    /// Some symbol, for room that is not in use yet.
+    fn blank(alloc: Global) -> Self;
+
+    /// Puts copies of a range of a list to a place behind it. What comes after them in the list is anything then.
+    fn copy_on(
         alloc: Global,
-        to: Vec<Self>,
-        from: &[Self],
-        more: usize,
-    ) -> Result<Vec<Self>, AllocError>
-        requires { vec_len to + (more + 1) ≤ vec_capacity to }
-        ensures symbols { IfOk result (λ all. map Self.means all.items ≡ map Self.means to.items ++ map Self.means from.now) }
-        ensures room { IfOk result (λ all. vec_len all + more ≤ vec_capacity all) };
-}
+        all: &mut [Self],
+        to: usize,
+        from: usize,
+        len: usize,
+    ) -> Result<(), AllocError>
+        requires order { from + len ≤ to }
+        requires room { to + len + 4 ≤ length all.old }
+        ensures count { length all.new ≡ length all.old }
+        ensures copied { OnOk result (take (to + len) (map Self.means all.new)
+            ≡ take to (map Self.means all.old) ++ take len (drop from (map Self.means all.old))) };
 
-/// Whether symbols have room for so many others, and then for so many more.
-fn have_room(to: &Vec<NumberedSymbol>, count: usize, more: usize) -> bool
-    ensures { IsTrue result → vec_len to.now + (count + more) ≤ vec_capacity to.now }
-{
-    let room = to.capacity() - to.len();
-    count <= room && more <= room - count
-}
+    /// Puts copies of a range of another list to a place. What comes after them in the list is anything then.
+    fn copy_of(
+        alloc: Global,
+        all: &mut [Self],
+        to: usize,
+        list: &[Self],
+        from: usize,
+        len: usize,
+    ) -> Result<(), AllocError>
+        requires room { to + len + 4 ≤ length all.old }
+        requires within { from + len + 4 ≤ length list.now }
+        ensures count { length all.new ≡ length all.old }
+        ensures copied { OnOk result (take (to + len) (map Self.means all.new)
+            ≡ take to (map Self.means all.old) ++ take len (drop from (map Self.means list.now))) };
 
-/// The symbols with others after them, and with room for so many more. It is a function of its own, so that the address of the
-/// list is taken only here.
-#[cold]
-#[inline(never)]
-fn extended(
-    to: Vec<NumberedSymbol>,
-    from: &[NumberedSymbol],
-    more: usize,
-) -> Result<Vec<NumberedSymbol>, AllocError>
-    ensures symbols { IfOk result (λ all. all.items ≡ to.items ++ from.now) }
-    ensures room { IfOk result (λ all. vec_len all + more ≤ vec_capacity all) }
-{
-    let mut to = to;
-    to.extend_from_slice(from)?;
-    to.reserve(more)?;
-    Ok(to)
-}
-
-/// The symbols with others after them, most often in the room that they have.
-#[inline(always)]
-fn and_block(
-    to: Vec<NumberedSymbol>,
-    from: &[NumberedSymbol],
-    more: usize,
-) -> Result<Vec<NumberedSymbol>, AllocError>
-    ensures symbols { IfOk result (λ all. all.items ≡ to.items ++ from.now) }
-    ensures room { IfOk result (λ all. vec_len all + more ≤ vec_capacity all) }
-{
-    if !have_room(&to, from.len(), more) {
-        return extended(to, from, more);
-    }
-    let mut to = to;
-    to.extend_from_slice(from)?;
-    Ok(to)
+    /// Whether ranges of two lists have the same symbols.
+    fn are_same(one: &[Self], at: usize, other: &[Self], from: usize, len: usize) -> bool
+        requires one { at + len ≤ length one.now }
+        requires other { from + len ≤ length other.now }
+        ensures { IsTrue result
+            ↔ (take len (drop at (map Self.means one.now)) ≡ take len (drop from (map Self.means other.now))) };
 }
 
 /// The next number after some bytes of a name.
@@ -96,6 +85,8 @@ fn key_behind(key: usize, byte: u8) -> usize
 }
 
 impl Kept for NamedSymbol {
+    type Listed = NamedSymbol;
+
     ghost key_of = { λ symbol. key_from 0 symbol.name };
 
     fn key(&self) -> usize {
@@ -106,79 +97,189 @@ impl Kept for NamedSymbol {
         key
     }
 
-    fn append(alloc: Global, to: &mut Vec<Self>, from: &[Self]) -> Result<(), AllocError> {
-        for symbol in from {
-            to.push(symbol.copy(alloc)?)?;
+    fn key_of_listed(listed: &NamedSymbol) -> usize {
+        listed.key()
+    }
+
+    fn of(
+        alloc: Global,
+        listed: &NamedSymbol,
+        _places: &mut Vec<usize>,
+    ) -> Result<Self, AllocError> {
+        listed.copy(alloc)
+    }
+
+    fn is(&self, listed: &NamedSymbol) -> bool {
+        self.same(listed)
+    }
+
+    fn blank(alloc: Global) -> Self {
+        NamedSymbol {
+            name: Vec::new(alloc),
+            variable: false,
+        }
+    }
+
+    fn copy_on(
+        alloc: Global,
+        all: &mut [Self],
+        to: usize,
+        from: usize,
+        len: usize,
+    ) -> Result<(), AllocError> {
+        for n in 0..len {
+            let symbol = all[from + n].copy(alloc)?;
+            all[to + n] = symbol;
         }
         Ok(())
     }
 
-    fn and_one(alloc: Global, to: Vec<Self>, symbol: &Self) -> Result<Vec<Self>, AllocError>
-        requires { vec_len to < vec_capacity to }
-        ensures symbols { IfOk result (λ all. map named_symbol all.items ≡ map named_symbol to.items ++ named_symbol symbol.now ∷ []) }
-        ensures room { IfOk result (λ all. (vec_len all ≡ vec_len to + 1) × (vec_capacity all ≡ vec_capacity to)) }
-    {
-        let mut to = to;
-        to.push_reserved(symbol.copy(alloc)?);
-        Ok(to)
+    fn copy_of(
+        alloc: Global,
+        all: &mut [Self],
+        to: usize,
+        list: &[Self],
+        from: usize,
+        len: usize,
+    ) -> Result<(), AllocError> {
+        for n in 0..len {
+            all[to + n] = list[from + n].copy(alloc)?;
+        }
+        Ok(())
     }
 
-    fn and_all(
-        alloc: Global,
-        to: Vec<Self>,
-        from: &[Self],
-        more: usize,
-    ) -> Result<Vec<Self>, AllocError>
-        requires { vec_len to + (more + 1) ≤ vec_capacity to }
-        ensures symbols { IfOk result (λ all. map named_symbol all.items ≡ map named_symbol to.items ++ map named_symbol from.now) }
-        ensures room { IfOk result (λ all. vec_len all + more ≤ vec_capacity all) }
-    {
-        let mut to = to;
-        Self::append(alloc, &mut to, from)?;
-        to.reserve(more)?;
-        Ok(to)
+    fn are_same(one: &[Self], at: usize, other: &[Self], from: usize, len: usize) -> bool {
+        for n in 0..len {
+            if !one[at + n].same(&other[from + n]) {
+                return false;
+            }
+        }
+        true
     }
 }
 
-impl Kept for NumberedSymbol {
+/// Puts copies of a block of a list to a place in it.
+#[inline(always)]
+fn block_on(all: &mut [CodedSymbol], to: usize, from: usize)
+    requires from { from + 4 ≤ length all.old }
+    requires to { to + 4 ≤ length all.old }
+    ensures count { length all.new ≡ length all.old }
+    ensures copied { take (to + 4) all.new ≡ take to all.old ++ take 4 (drop from all.old) }
+{
+    let (a, b, c, d) = (all[from], all[from + 1], all[from + 2], all[from + 3]);
+    all[to] = a;
+    all[to + 1] = b;
+    all[to + 2] = c;
+    all[to + 3] = d;
+}
+
+/// Puts copies of a block of another list to a place.
+#[inline(always)]
+fn block_of(all: &mut [CodedSymbol], to: usize, list: &[CodedSymbol], from: usize)
+    requires from { from + 4 ≤ length list.now }
+    requires to { to + 4 ≤ length all.old }
+    ensures count { length all.new ≡ length all.old }
+    ensures copied { take (to + 4) all.new ≡ take to all.old ++ take 4 (drop from list.now) }
+{
+    let (a, b, c, d) = (list[from], list[from + 1], list[from + 2], list[from + 3]);
+    all[to] = a;
+    all[to + 1] = b;
+    all[to + 2] = c;
+    all[to + 3] = d;
+}
+
+/// Whether blocks of two lists have the same symbols.
+#[inline(always)]
+fn same_block(one: &[CodedSymbol], at: usize, other: &[CodedSymbol], from: usize) -> bool
+    requires one { at + 4 ≤ length one.now }
+    requires other { from + 4 ≤ length other.now }
+    ensures { IsTrue result ↔ (take 4 (drop at one.now) ≡ take 4 (drop from other.now)) }
+{
+    (one[at].code == other[from].code)
+        & (one[at + 1].code == other[from + 1].code)
+        & (one[at + 2].code == other[from + 2].code)
+        & (one[at + 3].code == other[from + 3].code)
+}
+
+impl Kept for CodedSymbol {
+    type Listed = NumberedSymbol;
+
     ghost key_of = { key_by_number };
 
+    #[inline(always)]
     fn key(&self) -> usize {
-        self.name
+        self.name()
     }
 
-    fn append(_alloc: Global, to: &mut Vec<Self>, from: &[Self]) -> Result<(), AllocError> {
-        to.extend_from_slice(from)
-    }
-
-    #[inline(always)]
-    fn and_one(_alloc: Global, to: Vec<Self>, symbol: &Self) -> Result<Vec<Self>, AllocError>
-        requires { vec_len to < vec_capacity to }
-        ensures symbols { IfOk result (λ all. map by_number all.items ≡ map by_number to.items ++ by_number symbol.now ∷ []) }
-        ensures room { IfOk result (λ all. (vec_len all ≡ vec_len to + 1) × (vec_capacity all ≡ vec_capacity to)) }
-    {
-        let mut to = to;
-        to.push_reserved(*symbol);
-        Ok(to)
+    fn key_of_listed(listed: &NumberedSymbol) -> usize {
+        listed.name
     }
 
     #[inline(always)]
-    fn and_all(
+    fn of(
         _alloc: Global,
-        to: Vec<Self>,
-        from: &[Self],
-        more: usize,
-    ) -> Result<Vec<Self>, AllocError>
-        requires { vec_len to + (more + 1) ≤ vec_capacity to }
-        ensures symbols { IfOk result (λ all. map by_number all.items ≡ map by_number to.items ++ map by_number from.now) }
-        ensures room { IfOk result (λ all. vec_len all + more ≤ vec_capacity all) }
-    {
-        // Most often it is one, and that takes less than a block of one.
-        if from.len() == 1 {
-            let mut to = to;
-            to.push_reserved(from[0]);
-            return Ok(to);
+        listed: &NumberedSymbol,
+        places: &mut Vec<usize>,
+    ) -> Result<Self, AllocError> {
+        CodedSymbol::of(listed, places)
+    }
+
+    fn is(&self, listed: &NumberedSymbol) -> bool {
+        self.name() == listed.name && self.is_variable() == listed.variable
+    }
+
+    fn blank(_alloc: Global) -> Self {
+        CodedSymbol { code: 0 }
+    }
+
+    #[inline(always)]
+    fn copy_on(
+        _alloc: Global,
+        all: &mut [Self],
+        to: usize,
+        from: usize,
+        len: usize,
+    ) -> Result<(), AllocError> {
+        let mut n = 0;
+        while n < len {
+            block_on(&mut *all, to + n, from + n);
+            n += 4;
         }
-        and_block(to, from, more)
+        Ok(())
+    }
+
+    #[inline(always)]
+    fn copy_of(
+        _alloc: Global,
+        all: &mut [Self],
+        to: usize,
+        list: &[Self],
+        from: usize,
+        len: usize,
+    ) -> Result<(), AllocError> {
+        let mut n = 0;
+        while n < len {
+            block_of(&mut *all, to + n, list, from + n);
+            n += 4;
+        }
+        Ok(())
+    }
+
+    #[inline(always)]
+    fn are_same(one: &[Self], at: usize, other: &[Self], from: usize, len: usize) -> bool {
+        let mut n = 0;
+        while len - n >= 4 {
+            if !same_block(one, at + n, other, from + n) {
+                return false;
+            }
+            n += 4;
+        }
+        while n < len {
+            if !one[at + n].same(&other[from + n]) {
+                return false;
+            }
+            n += 1;
+        }
+        true
     }
 }

@@ -9,6 +9,7 @@
 mod active;
 mod assertion;
 mod citation;
+mod forms;
 mod gather;
 mod kept;
 mod machine;
@@ -24,7 +25,8 @@ mod symbol;
 mod verdict_laws;
 
 pub use active::Active;
-pub use assertion::{Cited, Hypothesis};
+pub use assertion::Hypothesis;
+pub use forms::{Form, Forms, Held, Pattern, SlotPair};
 pub use kept::Kept;
 pub use machine::Machine;
 pub use named::{Named, Use};
@@ -33,9 +35,10 @@ pub use numbering_laws::{
     numbers_name_symbols, numbers_say_the_same,
 };
 pub use run_laws::{lack_stops, parts_are_run, stops_stay, sure_by_counting};
+pub use slots::Slot;
 pub use step::{Action, ProofFault, ProofStep};
 pub use stepping::{Front, Outcome, run, run_counted};
-pub use symbol::{NamedSymbol, NumberedSymbol, Symbol};
+pub use symbol::{CodedSymbol, NamedSymbol, NumberedSymbol, Symbol};
 pub use verdict_laws::{
     derived_weighs_one, derives_at_most_one, has_count, has_one_count, has_one_step_fault,
     has_one_verdict, has_verdict, last_part_is_shortest, machine_reaches, never_turns_and_fails,

@@ -1,40 +1,47 @@
 //! The machine: a stack of expressions and what was saved, as ranges of one flat list of symbols.
 
-ghost use Rattle.std.specs.Prelude.{◌≡◌, ◌++◌, ◌∷◌, [], ◌<◌, ◌≤◌, ◌-◌, ℕ, IfOk, OnOk, MatchBool, MatchOption, Some, length, map, take, slice_get};
+ghost use Rattle.std.specs.Prelude.{◌≡◌, ◌+◌, ◌++◌, ◌∷◌, [], ◌<◌, ◌≤◌, ◌-◌, ℕ, List, All, IfOk, OnOk, MatchBool, MatchOption, Some, length, map, take, drop, slice_get};
 ghost use Rattle.mm_machine.specs.Code.Ranges.{AreOrderedRanges, Saves};
-ghost use Rattle.mm_machine.specs.Language.CitedFrames.{IsCitable, frame_of, hypotheses_of, meant_pairs};
-ghost use Rattle.mm_machine.specs.Code.Citation.{IsLowestCiting, frame_from};
-ghost use Rattle.mm_machine.specs.Language.Typing.{IsFrame};
+ghost use Rattle.mm_machine.specs.Language.CitedFrames.{meant_pairs};
+ghost use Rattle.mm_machine.specs.Language.Forms.{IsForm, form_frame};
+ghost use Rattle.mm_machine.specs.Code.Citation.{IsLowestCiting};
+ghost use Rattle.mm_machine.specs.Code.Filling.{IsFillable, pattern_filled};
+ghost use Rattle.mm_machine.specs.Code.Flat.{IsEntryWithin, read_all};
 ghost use Rattle.mm_machine.specs.Language.Steps.{Cites};
 ghost use Rattle.mm_machine.specs.Language.Machine.{nothing_yet};
 
 use crate::ProofNumber;
 use crate::active::Active;
-use crate::assertion::{Cited, Hypothesis};
-use crate::citation::{citing_fault, take_floats};
+use crate::citation::citing_fault;
+use crate::forms::{Form, Forms, Pattern};
 use crate::gather::Gathered;
-use crate::kept::Kept;
+use crate::kept::{BLOCK, Kept};
 use crate::pairs::PairRoom;
-use crate::pattern::{Entry, Taken, substitute};
+use crate::pattern::{Entry, Taken, build};
 use crate::symbol::Symbol;
 use std::alloc::{AllocError, Global};
-use std::mem;
+
+/// The most symbols that the result of an assertion step may have.
+const LONGEST_RESULT: usize = 1_000_000;
+
+/// Up to this many symbols, no room is given back.
+const MUCH: usize = 65_536;
 
 /// The stack of expressions, and what was saved.
 #[derive(Drop)]
 pub struct Machine<S> {
-    /// All symbols, of the stack and of what was saved.
+    /// The symbols of the stack and of what was saved, and room behind them.
     pub(crate) symbols: Vec<S>,
+    /// The room begins here. It has a block of symbols at least.
+    pub(crate) top: usize,
     /// The entries, the last one on top.
     pub(crate) stack: Vec<Entry>,
     /// What was saved, in order; before it the expressions of hypotheses, which are kept from the beginning.
     pub(crate) saved: Vec<Entry>,
     /// What was saved is below this place.
     pub(crate) kept: usize,
-    /// The result of a step, until it is put in its place.
-    result: Vec<S>,
-    /// For the key of a variable, where its `$f` may be among the hypotheses of the assertion that is cited.
-    places: Vec<usize>,
+    /// If more symbols than this are in use, results are put in the place of the entries that they are made of.
+    most: usize,
     /// What the pair clause uses over again.
     pairs: PairRoom<S>,
 }
@@ -46,6 +53,21 @@ fn widen(places: &mut Vec<usize>, keys: usize) -> Result<(), AllocError>
     if places.len() < keys {
         places.resize(keys, 0)?;
     }
+    Ok(())
+}
+
+/// Puts an entry in the place of those from a place on.
+#[inline(always)]
+fn put_entry(stack: &mut Vec<Entry>, below: usize, entry: Entry) -> Result<(), AllocError>
+    requires { below ≤ length stack.old.items }
+    ensures { OnOk result (stack.new.items ≡ take below stack.old.items ++ entry ∷ []) }
+{
+    if below < stack.len() {
+        stack.truncate(below + 1);
+        stack[below] = entry;
+        return Ok(());
+    }
+    stack.push(entry)?;
     Ok(())
 }
 
@@ -64,6 +86,96 @@ fn floor_of(stack: &[Entry], below: usize, kept: usize, count: usize) -> usize
     if floor < kept { kept } else { floor }
 }
 
+/// Gives a list this many symbols, if it has fewer.
+#[cold]
+#[inline(never)]
+fn stretch<S: Kept>(alloc: Global, symbols: &mut Vec<S>, count: usize) -> Result<(), AllocError>
+    ensures count { OnOk result (count ≤ length symbols.new.items) }
+    ensures grows { OnOk result ((more : List S) × (symbols.new.items ≡ symbols.old.items ++ more)) }
+{
+    while symbols.len() < count {
+        symbols.push(S::blank(alloc))?;
+    }
+    Ok(())
+}
+
+/// Puts listed symbols to a place of a list.
+fn put_listed<S: Kept>(
+    alloc: Global,
+    all: &mut [S],
+    at: usize,
+    listed: &[S::Listed],
+    places: &mut Vec<usize>,
+) -> Result<(), AllocError>
+    requires { at + length listed.now ≤ length all.old }
+    ensures count { length all.new ≡ length all.old }
+    ensures put { OnOk result (take (at + length listed.now) (map S.means all.new) ≡ take at (map S.means all.old) ++ map S.Listed.means listed.now) }
+{
+    for n in 0..listed.len() {
+        let symbol = S::of(alloc, &listed[n], &mut *places)?;
+        all[at + n] = symbol;
+    }
+    Ok(())
+}
+
+/// Puts copies of symbols to a place before them, where they have room.
+#[cold]
+#[inline(never)]
+fn move_down<S: Kept>(
+    alloc: Global,
+    all: &mut [S],
+    to: usize,
+    from: usize,
+    count: usize,
+) -> Result<(), AllocError>
+    requires order { to + count ≤ from }
+    requires within { from + count ≤ length all.old }
+    ensures count { length all.new ≡ length all.old }
+    ensures moved { OnOk result (take (to + count) (map S.means all.new) ≡ take to (map S.means all.old) ++ take count (drop from (map S.means all.old))) }
+{
+    for n in 0..count {
+        let symbol = all[from + n].copy(alloc)?;
+        all[to + n] = symbol;
+    }
+    Ok(())
+}
+
+/// Puts an expression under the substitution behind all symbols that are in use, and takes room for it. Answers how many
+/// symbols it has, or nothing if they are too many.
+#[inline(always)]
+fn build_in_room<S: Kept>(
+    alloc: Global,
+    symbols: &mut Vec<S>,
+    top: usize,
+    entries: &[Entry],
+    forms: &Forms<S>,
+    pattern: Pattern,
+) -> Result<Option<usize>, AllocError>
+    requires top { top + 4 ≤ length symbols.old.items }
+    requires within { All (IsEntryWithin top) entries.now }
+    requires fillable { IsFillable forms.now (length entries.now) pattern }
+    ensures room { OnOk result (top + 4 ≤ length symbols.new.items) }
+    ensures below { OnOk result (take top (map S.means symbols.new.items) ≡ take top (map S.means symbols.old.items)) }
+    ensures built { IfOk result (λ found. MatchOption found
+        (1000000 < length (pattern_filled S.means forms.now (read_all (map S.means symbols.old.items) entries.now) pattern))
+        (λ n. (n ≤ 1000000) × (top + n + 4 ≤ length symbols.new.items) × (take n (drop top (map S.means symbols.new.items))
+        ≡ pattern_filled S.means forms.now (read_all (map S.means symbols.old.items) entries.now) pattern))) }
+{
+    loop {
+        let room = symbols.len() - top;
+        if let Some(count) = build(alloc, &mut *symbols, top, entries, forms, pattern)? {
+            if count > LONGEST_RESULT {
+                return Ok(None);
+            }
+            return Ok(Some(count));
+        }
+        if room >= LONGEST_RESULT + BLOCK {
+            return Ok(None);
+        }
+        stretch(alloc, &mut *symbols, top + 2 * room + 1024)?;
+    }
+}
+
 impl<S: Kept> Machine<S> {
     ghost use Rattle.mm_machine.specs.Code.MachineState.{state_of, AreRanges};
 
@@ -79,9 +191,9 @@ impl<S: Kept> Machine<S> {
             symbols: Vec::new(alloc),
             stack: Vec::new(alloc),
             saved: Vec::new(alloc),
+            top: 0,
             kept: 0,
-            result: Vec::new(alloc),
-            places: Vec::new(alloc),
+            most: MUCH,
             pairs: PairRoom {
                 gathered: Gathered {
                     variables: Vec::new(alloc),
@@ -93,44 +205,53 @@ impl<S: Kept> Machine<S> {
         }
     }
 
-    /// Takes room for variables whose keys ([`Kept::key`]) are below this number: three numbers for each key. Without it
+    /// Takes room for variables whose keys ([`Kept::key`]) are below this number: two numbers for each key. Without it
     /// look-ups are slow, and answers are the same. After out of memory some of the room may be taken.
     pub fn widen(&mut self, keys: usize) -> Result<(), AllocError>
-        ensures places { OnOk result (keys ≤ length self.new.places.items) }
         ensures marks { OnOk result (keys ≤ length self.new.pairs.marks.items) }
         ensures gathered { OnOk result (keys ≤ length self.new.pairs.gathered.places.items) }
     {
-        widen(&mut self.places, keys)?;
         widen(&mut self.pairs.marks, keys)?;
         widen(&mut self.pairs.gathered.places, keys)
     }
 
     /// Leaves nothing on the stack and nothing saved; the room that was taken stays.
-    pub(crate) fn clear(&mut self)
-        ensures whole { AreRanges self.new }
-        ensures state { state_of S.means self.new ≡ nothing_yet }
+    pub(crate) fn clear(&mut self, alloc: Global) -> Result<(), AllocError>
+        ensures whole { OnOk result (AreRanges self.new) }
+        ensures state { OnOk result (state_of S.means self.new ≡ nothing_yet) }
     {
-        self.symbols.clear();
+        stretch(alloc, &mut self.symbols, BLOCK)?;
+        self.top = 0;
         self.stack.clear();
         self.saved.clear();
         self.kept = 0;
+        self.most = MUCH;
+        Ok(())
     }
 
     /// Saves an expression that was never on the stack: a hypothesis, so that each of its uses is a range.
-    pub(crate) fn load(&mut self, alloc: Global, expression: &[S]) -> Result<(), AllocError>
+    pub(crate) fn load(&mut self, alloc: Global, expression: &[S::Listed]) -> Result<(), AllocError>
         requires { AreRanges self.old }
         ensures whole { OnOk result (AreRanges self.new) }
         ensures stack { OnOk result ((state_of S.means self.new).stack ≡ (state_of S.means self.old).stack) }
-        ensures saved { OnOk result ((state_of S.means self.new).saved ≡ (state_of S.means self.old).saved ++ map S.means expression.now ∷ []) }
+        ensures saved { OnOk result ((state_of S.means self.new).saved ≡ (state_of S.means self.old).saved ++ map S.Listed.means expression.now ∷ []) }
     {
-        let start = self.symbols.len();
-        S::append(alloc, &mut self.symbols, expression)?;
-        let end = self.symbols.len();
+        let start = self.top;
+        let end = start.saturating_add(expression.len());
+        stretch(alloc, &mut self.symbols, end.saturating_add(BLOCK))?;
+        put_listed(
+            alloc,
+            &mut self.symbols,
+            start,
+            expression,
+            &mut self.pairs.marks,
+        )?;
         self.saved.push(Entry {
             start,
             end,
             floor: start,
         })?;
+        self.top = end;
         self.kept = end;
         Ok(())
     }
@@ -149,7 +270,7 @@ impl<S: Kept> Machine<S> {
             end,
             floor: _,
         } = self.saved[number];
-        let floor = self.symbols.len();
+        let floor = self.top;
         self.stack.push(Entry { start, end, floor })?;
         Ok(())
     }
@@ -173,107 +294,75 @@ impl<S: Kept> Machine<S> {
         Ok(true)
     }
 
-    /// Puts the result in the place of the entries from a place on.
-    fn replace(&mut self, below: usize) -> Result<(), AllocError>
+    /// Puts a result that is behind all in the place of the entries from a place on.
+    #[inline(always)]
+    fn replace(&mut self, alloc: Global, below: usize, count: usize) -> Result<(), AllocError>
         requires whole { AreRanges self.old }
         requires in_range { below ≤ length self.old.stack.items }
+        requires room { self.old.top + count + 4 ≤ length self.old.symbols.items }
         ensures whole { OnOk result (AreRanges self.new) }
         ensures stack { OnOk result ((state_of S.means self.new).stack ≡ take below (state_of S.means self.old).stack
-            ++ map S.means self.old.result.items ∷ []) }
+            ++ take count (drop self.old.top (map S.means self.old.symbols.items)) ∷ []) }
         ensures saved { OnOk result ((state_of S.means self.new).saved ≡ (state_of S.means self.old).saved) }
     {
-        let floor = floor_of(&self.stack, below, self.kept, self.symbols.len());
-        self.symbols.truncate(floor);
-        self.symbols.append(&mut self.result)?;
-        let end = self.symbols.len();
-        self.stack.truncate(below);
-        self.stack.push(Entry {
-            start: floor,
-            end,
-            floor,
-        })?;
+        let floor = floor_of(&self.stack, below, self.kept, self.top);
+        let mut start = self.top;
+        if start > self.most && count <= start - floor {
+            move_down(alloc, &mut self.symbols, floor, start, count)?;
+            start = floor;
+            self.most = if floor > MUCH { 2 * floor } else { MUCH };
+        }
+        let end = start + count;
+        put_entry(&mut self.stack, below, Entry { start, end, floor })?;
+        self.top = end;
         Ok(())
     }
 
-    /// Takes the entries of mandatory hypotheses and puts the expression under the substitution there. Answers the lowest
-    /// number of what is wrong, if anything is.
-    fn cite_frame<'a>(
+    /// Cites an assertion. Answers the lowest number of what is wrong, if anything is.
+    pub(crate) fn cite<'a>(
         &mut self,
         alloc: Global,
-        expression: &'a [S],
-        hypotheses: &[Hypothesis<'a, S>],
-        pairs: &'a [(S, S)],
+        forms: &Forms<S>,
+        form: Form,
         active: &Active<'a, S>,
     ) -> Result<Option<ProofNumber>, AllocError>
         requires whole { AreRanges self.old }
-        requires frame { IsFrame (frame_from S.means hypotheses.now expression.now pairs.now) }
+        requires form { IsForm (map S.means forms.now.symbols.items) forms.now.slots.items forms.now.hypotheses.items forms.now.pairs.items form }
         ensures whole { OnOk result (AreRanges self.new) }
         ensures cites { IfOk result (λ found. MatchOption found
-            (Cites (meant_pairs S.means active.now.pairs.now) (frame_from S.means hypotheses.now expression.now pairs.now) (state_of S.means self.old).stack
-            (state_of S.means self.new).stack)
-            (IsLowestCiting (meant_pairs S.means active.now.pairs.now) (frame_from S.means hypotheses.now expression.now pairs.now)
-            (state_of S.means self.old).stack)) }
+            (Cites (meant_pairs S.Listed.means active.now.pairs.now) (form_frame (map S.means forms.now.symbols.items) forms.now.hypotheses.items
+            forms.now.pairs.items form) (state_of S.means self.old).stack (state_of S.means self.new).stack)
+            (IsLowestCiting (meant_pairs S.Listed.means active.now.pairs.now) (form_frame (map S.means forms.now.symbols.items) forms.now.hypotheses.items
+            forms.now.pairs.items form) (state_of S.means self.old).stack)) }
         ensures saved { OnOk result ((state_of S.means self.new).saved ≡ (state_of S.means self.old).saved) }
     {
-        let count = hypotheses.len();
+        let count = form.last - form.first;
         if self.stack.len() < count {
             return Ok(Some(ProofNumber::P07));
         }
         let below = self.stack.len() - count;
-        let symbols: &[S] = &self.symbols;
-        let entries = &self.stack[below..];
-        let Some(first) = take_floats(symbols, entries, hypotheses, &mut self.places) else {
-            return Ok(Some(ProofNumber::P08));
-        };
         let taken = Taken {
-            symbols,
-            entries,
-            hypotheses,
-            first,
-            places: &self.places,
+            symbols: &self.symbols,
+            entries: &self.stack[below..],
+            forms,
+            form,
         };
-        if let Some(number) = citing_fault(
-            alloc,
-            &taken,
-            expression,
-            pairs,
-            &*active,
-            &mut self.pairs,
-        )? {
+        if let Some(number) = citing_fault(alloc, &taken, &*active, &mut self.pairs)? {
             return Ok(Some(number));
         }
-        self.result.clear();
-        self.result.reserve(expression.len())?;
-        let others = mem::replace(&mut self.result, Vec::new(alloc));
-        self.result = substitute(alloc, &taken, expression, others)?;
-        self.replace(below)?;
-        Ok(None)
-    }
-
-    /// Cites an assertion, with its range of mandatory hypotheses. Answers the lowest number of what is wrong, if anything is.
-    pub(crate) fn cite<'a>(
-        &mut self,
-        alloc: Global,
-        mandatory: &[Hypothesis<'a, S>],
-        cited: &Cited<'a, S>,
-        active: &Active<'a, S>,
-    ) -> Result<Option<ProofNumber>, AllocError>
-        requires whole { AreRanges self.old }
-        requires frame { IsCitable S.means (hypotheses_of S.means mandatory.now) cited.now }
-        ensures whole { OnOk result (AreRanges self.new) }
-        ensures cites { IfOk result (λ found. MatchOption found
-            (Cites (meant_pairs S.means active.now.pairs.now) (frame_of S.means (hypotheses_of S.means mandatory.now) cited.now)
-            (state_of S.means self.old).stack (state_of S.means self.new).stack)
-            (IsLowestCiting (meant_pairs S.means active.now.pairs.now) (frame_of S.means (hypotheses_of S.means mandatory.now) cited.now)
-            (state_of S.means self.old).stack)) }
-        ensures saved { OnOk result ((state_of S.means self.new).saved ≡ (state_of S.means self.old).saved) }
-    {
-        self.cite_frame(
+        let entries = &self.stack[below..];
+        let built = build_in_room(
             alloc,
-            cited.expression,
-            &mandatory[cited.first..cited.last],
-            cited.pairs,
-            &*active,
-        )
+            &mut self.symbols,
+            self.top,
+            entries,
+            forms,
+            form.pattern,
+        )?;
+        let Some(count) = built else {
+            return Ok(Some(ProofNumber::P12));
+        };
+        self.replace(alloc, below, count)?;
+        Ok(None)
     }
 }

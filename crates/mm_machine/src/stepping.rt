@@ -1,7 +1,7 @@
 //! A run of the steps of a proof.
 
 ghost use Rattle.std.specs.Prelude.{◌≡◌, ◌+◌, ◌-◌, ◌≤◌, ◌↔◌, ◌∷◌, [], ℕ, List, All, IfOk, OnOk, IfNone, IsTrue, MatchOption, IfSome, length};
-ghost use Rattle.std.specs.Prelude.{map, slice_index_or};
+ghost use Rattle.std.specs.Prelude.{map, drop, take, slice_index_or};
 ghost use Rattle.std.specs.List.{AllZip};
 ghost use Rattle.mm_machine.specs.Language.Frame.{Symbol as Meaning, Frame, Setting, AreSamePairs};
 ghost use Rattle.mm_machine.specs.Language.Typing.{HasFrames};
@@ -9,18 +9,19 @@ ghost use Rattle.mm_machine.specs.Language.Expansion.{Step, NotKnown};
 ghost use Rattle.mm_machine.specs.Language.Faults.{IsLowest};
 ghost use Rattle.mm_machine.specs.Language.Machine.{State, Turns, nothing_yet};
 ghost use Rattle.mm_machine.specs.Language.CitedFrames.{meant_pairs};
-ghost use Rattle.mm_machine.specs.Language.NamedSteps.{AreCitable, AreDoneTo, AreSavedBefore, AreUses, AreUsesWithin, FrontSays, IsFrontWithin};
+ghost use Rattle.mm_machine.specs.Language.Forms.{AreForms, frames_of};
+ghost use Rattle.mm_machine.specs.Language.NamedSteps.{AreDoneTo, AreSavedBefore, AreUses, AreUsesWithin, FrontSays, IsFrontWithin};
 ghost use Rattle.mm_machine.specs.Language.NamedSteps.{IsOutcomeWithin, IsSavedWithin, IsUseWithin, MeansUse, RunSays, StopsAt, actions_mean, meant};
-ghost use Rattle.mm_machine.specs.Language.NamedSteps.{named_expressions, named_frames, saves_by};
+ghost use Rattle.mm_machine.specs.Language.NamedSteps.{named_expressions, saves_by};
 ghost use Rattle.mm_machine.specs.Code.Tasks.{HasState, IsTaskWithin, MeansTask, saves_of};
 ghost use Rattle.mm_machine.specs.Code.MachineState.{state_of, AreRanges};
 
 use crate::ProofNumber;
 use crate::active::Active;
+use crate::forms::Forms;
 use crate::kept::Kept;
 use crate::machine::Machine;
 use crate::named::{Named, Use};
-use crate::pattern::are_same;
 use crate::step::{Action, ProofStep};
 use crate::symbol::Symbol;
 use std::alloc::{AllocError, Global};
@@ -77,12 +78,16 @@ fn use_of(uses: &[Use], k: usize) -> Use
 }
 
 /// What the machine does at a step with this action; nothing if the step is not known.
-fn task_of<'a, S: Kept>(named: &Named<'a, S>, action: Action) -> Option<Task>
-    ensures means { (place : Setting) (names : List Step) → AreUses S.means named.now place names
+fn task_of<'a, S: Kept>(
+    forms: &Forms<S>,
+    named: &Named<'a, S::Listed>,
+    action: Action,
+) -> Option<Task>
+    ensures means { (place : Setting) (names : List Step) → AreUses S.means S.Listed.means forms.now named.now place names
         → MatchOption result (meant names action ≡ NotKnown)
-        (λ task. MeansTask (named_expressions S.means named.now) (named_frames S.means named.now) place task (meant names action)) }
-    ensures within { (saves : ℕ) → AreUsesWithin named.now → IsSavedWithin saves action
-        → IfSome result (λ task. IsTaskWithin (length named.now.hypotheses.items) (length named.now.assertions.items) saves task) }
+        (λ task. MeansTask (named_expressions S.Listed.means named.now) (frames_of S.means forms.now) place task (meant names action)) }
+    ensures within { (saves : ℕ) → AreUsesWithin forms.now named.now → IsSavedWithin saves action
+        → IfSome result (λ task. IsTaskWithin (length named.now.hypotheses.items) (length forms.now.forms.items) saves task) }
     ensures saves { IfSome result (λ task. saves_of task ≡ saves_by action) }
 {
     match action {
@@ -101,21 +106,22 @@ fn task_of<'a, S: Kept>(named: &Named<'a, S>, action: Action) -> Option<Task>
 fn do_task<'a, S: Kept>(
     alloc: Global,
     machine: &mut Machine<S>,
-    named: &Named<'a, S>,
+    forms: &Forms<S>,
+    named: &Named<'a, S::Listed>,
     active: &Active<'a, S>,
     task: Task,
 ) -> Result<Option<ProofNumber>, AllocError>
     requires whole { AreRanges machine.old }
-    requires frames { AreCitable S.means named.now }
+    requires frames { AreForms S.means forms.now }
     requires loaded { length named.now.hypotheses.items ≤ length machine.old.saved.items }
-    requires within { IsTaskWithin (length named.now.hypotheses.items) (length named.now.assertions.items)
+    requires within { IsTaskWithin (length named.now.hypotheses.items) (length forms.now.forms.items)
         (length machine.old.saved.items - length named.now.hypotheses.items) task }
     ensures whole { OnOk result (AreRanges machine.new) }
     ensures turns { IfOk result (λ found. (place : Setting) (step : Step) (before : State)
-        → AreSamePairs (meant_pairs S.means active.now.pairs.now) place.active
-        → HasState S.means (named_expressions S.means named.now) machine.old before
-        → MeansTask (named_expressions S.means named.now) (named_frames S.means named.now) place task step
-        → MatchOption found ((after : State) × HasState S.means (named_expressions S.means named.now) machine.new after × Turns place step before after)
+        → AreSamePairs (meant_pairs S.Listed.means active.now.pairs.now) place.active
+        → HasState S.means (named_expressions S.Listed.means named.now) machine.old before
+        → MeansTask (named_expressions S.Listed.means named.now) (frames_of S.means forms.now) place task step
+        → MatchOption found ((after : State) × HasState S.means (named_expressions S.Listed.means named.now) machine.new after × Turns place step before after)
         (IsLowest place step before.stack)) }
     ensures saves { IfOk result (λ found. IfNone found (length machine.new.saved.items ≡ length machine.old.saved.items + saves_of task)) }
 {
@@ -125,7 +131,7 @@ fn do_task<'a, S: Kept>(
             Ok(None)
         }
         Task::Cite(n) => {
-            let found = machine.cite(alloc, &named.mandatory, &named.assertions[n], &*active)?;
+            let found = machine.cite(alloc, forms, forms.forms[n], &*active)?;
             Ok(found)
         }
         Task::Again(n) => {
@@ -142,26 +148,42 @@ fn do_task<'a, S: Kept>(
     }
 }
 
+/// Whether a range of a list has listed symbols.
+fn has_at<S: Kept>(all: &[S], at: usize, listed: &[S::Listed]) -> bool
+    requires { at + length listed.now ≤ length all.now }
+    ensures { IsTrue result ↔ (take (length listed.now) (drop at (map S.means all.now)) ≡ map S.Listed.means listed.now) }
+{
+    for n in 0..listed.len() {
+        if !all[at + n].is(&listed[n]) {
+            return false;
+        }
+    }
+    true
+}
+
 /// Whether the one entry is an expression.
-fn is_top<S: Kept>(machine: &Machine<S>, expression: &[S]) -> bool
+fn is_top<S: Kept>(machine: &Machine<S>, expression: &[S::Listed]) -> bool
     requires whole { AreRanges machine.now }
     requires one { length machine.now.stack.items ≡ 1 }
-    ensures { IsTrue result ↔ ((state_of S.means machine.now).stack ≡ map S.means expression.now ∷ []) }
+    ensures { IsTrue result ↔ ((state_of S.means machine.now).stack ≡ map S.Listed.means expression.now ∷ []) }
 {
     let entry = machine.stack[0];
-    are_same(&machine.symbols[entry.start..entry.end], expression)
+    if entry.end - entry.start != expression.len() {
+        return false;
+    }
+    has_at(&machine.symbols, entry.start, expression)
 }
 
 /// Keeps the expressions of the hypotheses that are named.
 fn load<'a, S: Kept>(
     alloc: Global,
     machine: &mut Machine<S>,
-    named: &Named<'a, S>,
+    named: &Named<'a, S::Listed>,
 ) -> Result<(), AllocError>
     requires whole { AreRanges machine.old }
     requires nothing { state_of S.means machine.old ≡ nothing_yet }
     ensures whole { OnOk result (AreRanges machine.new) }
-    ensures state { OnOk result (HasState S.means (named_expressions S.means named.now) machine.new nothing_yet) }
+    ensures state { OnOk result (HasState S.means (named_expressions S.Listed.means named.now) machine.new nothing_yet) }
 {
     for n in 0..named.hypotheses.len() {
         let expression = named.hypotheses[n];
@@ -175,27 +197,28 @@ fn load<'a, S: Kept>(
 fn run_through<'a, S: Kept>(
     alloc: Global,
     machine: &mut Machine<S>,
-    named: &Named<'a, S>,
+    forms: &Forms<S>,
+    named: &Named<'a, S::Listed>,
     active: &Active<'a, S>,
     steps: &[ProofStep],
 ) -> Result<Option<Outcome>, AllocError>
-    requires frames { AreCitable S.means named.now }
-    requires within { AreUsesWithin named.now }
+    requires frames { AreForms S.means forms.now }
+    requires within { AreUsesWithin forms.now named.now }
     requires saved { AreSavedBefore steps.now }
     ensures whole { OnOk result (AreRanges machine.new) }
     ensures within { IfOk result (λ found. IfSome found (IsOutcomeWithin (length steps.now))) }
     ensures says { IfOk result (λ found. (place : Setting) (names : List Step) → HasFrames place
-        → AreSamePairs (meant_pairs S.means active.now.pairs.now) place.active → AreUses S.means named.now place names
+        → AreSamePairs (meant_pairs S.Listed.means active.now.pairs.now) place.active → AreUses S.means S.Listed.means forms.now named.now place names
         → MatchOption found (AreDoneTo place (actions_mean names steps.now) (state_of S.means machine.new).stack)
         (StopsAt place (actions_mean names steps.now))) }
 {
-    machine.clear();
+    machine.clear(alloc)?;
     load(alloc, &mut *machine, &*named)?;
     for place in 0..steps.len() {
-        let Some(task) = task_of(&*named, steps[place].action) else {
+        let Some(task) = task_of(&*forms, &*named, steps[place].action) else {
             return Ok(Some(Outcome::Unknown(place)));
         };
-        if let Some(number) = do_task(alloc, &mut *machine, &*named, &*active, task)? {
+        if let Some(number) = do_task(alloc, &mut *machine, &*forms, &*named, &*active, task)? {
             return Ok(Some(Outcome::Fault(number, place)));
         }
     }
@@ -211,19 +234,20 @@ fn run_through<'a, S: Kept>(
 pub fn run_counted<'a, S: Kept>(
     alloc: Global,
     machine: &mut Machine<S>,
-    named: &Named<'a, S>,
+    forms: &Forms<S>,
+    named: &Named<'a, S::Listed>,
     active: &Active<'a, S>,
     steps: &[ProofStep],
 ) -> Result<Front, AllocError>
-    requires frames { AreCitable S.means named.now }
-    requires within { AreUsesWithin named.now }
+    requires frames { AreForms S.means forms.now }
+    requires within { AreUsesWithin forms.now named.now }
     requires saved { AreSavedBefore steps.now }
     ensures within { IfOk result (IsFrontWithin (length steps.now)) }
     ensures says { IfOk result (λ front. (place : Setting) (names : List Step) → HasFrames place
-        → AreSamePairs (meant_pairs S.means active.now.pairs.now) place.active → AreUses S.means named.now place names
+        → AreSamePairs (meant_pairs S.Listed.means active.now.pairs.now) place.active → AreUses S.means S.Listed.means forms.now named.now place names
         → FrontSays place (actions_mean names steps.now) front) }
 {
-    match run_through(alloc, &mut *machine, &*named, &*active, steps)? {
+    match run_through(alloc, &mut *machine, &*forms, &*named, &*active, steps)? {
         Some(outcome) => Ok(Front::Stops(outcome)),
         None => Ok(Front::Leaves(machine.stack.len())),
     }
@@ -236,20 +260,21 @@ pub fn run_counted<'a, S: Kept>(
 pub fn run<'a, S: Kept>(
     alloc: Global,
     machine: &mut Machine<S>,
-    named: &Named<'a, S>,
+    forms: &Forms<S>,
+    named: &Named<'a, S::Listed>,
     active: &Active<'a, S>,
     steps: &[ProofStep],
-    statement: &[S],
+    statement: &[S::Listed],
 ) -> Result<Outcome, AllocError>
-    requires frames { AreCitable S.means named.now }
-    requires within { AreUsesWithin named.now }
+    requires frames { AreForms S.means forms.now }
+    requires within { AreUsesWithin forms.now named.now }
     requires saved { AreSavedBefore steps.now }
     ensures within { IfOk result (IsOutcomeWithin (length steps.now)) }
     ensures says { IfOk result (λ outcome. (place : Setting) (names : List Step) → HasFrames place
-        → AreSamePairs (meant_pairs S.means active.now.pairs.now) place.active
-        → AreUses S.means named.now place names → RunSays place (actions_mean names steps.now) (map S.means statement.now) outcome) }
+        → AreSamePairs (meant_pairs S.Listed.means active.now.pairs.now) place.active
+        → AreUses S.means S.Listed.means forms.now named.now place names → RunSays place (actions_mean names steps.now) (map S.Listed.means statement.now) outcome) }
 {
-    if let Some(outcome) = run_through(alloc, &mut *machine, &*named, &*active, steps)? {
+    if let Some(outcome) = run_through(alloc, &mut *machine, &*forms, &*named, &*active, steps)? {
         return Ok(outcome);
     }
     if machine.stack.len() != 1 {

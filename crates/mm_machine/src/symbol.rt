@@ -1,7 +1,7 @@
 //! Symbols of expressions.
 
-ghost use Rattle.std.specs.Prelude.{◌≡◌, ◌↔◌, IsTrue, IfOk, Ok};
-ghost use Rattle.mm_machine.specs.Language.NumberedSymbols.{by_number, named_symbol};
+ghost use Rattle.std.specs.Prelude.{◌≡◌, ◌↔◌, ◌/◌, ◌<◌, IsTrue, IfOk, OnOk, Ok, length};
+ghost use Rattle.mm_machine.specs.Language.NumberedSymbols.{by_code, by_number, named_symbol};
 ghost use Rattle.mm_machine.specs.Language.Frame.{Symbol as Meaning};
 
 use std::alloc::{AllocError, Global};
@@ -50,6 +50,49 @@ impl NamedSymbol {
             name,
             variable: self.variable,
         })
+    }
+}
+
+/// A symbol by number in one word, for lists that are copied and compared often.
+#[derive(Clone, Copy, Debug, PartialEq, Eq)]
+pub struct CodedSymbol {
+    /// Twice the number of its name, and one more for a variable.
+    pub(crate) code: u64,
+}
+
+/// Gives a table a place for a number.
+#[cold]
+#[inline(never)]
+fn take_place(places: &mut Vec<usize>, number: usize) -> Result<(), AllocError>
+    ensures { OnOk result (number < length places.new.items) }
+{
+    while places.len() <= number {
+        places.push(0)?;
+    }
+    Ok(())
+}
+
+impl CodedSymbol {
+    /// The symbol by this number. The table gets a place for the number, if it has none; so the number is no larger than memory
+    /// has room for, and twice the number is a number, too.
+    #[inline(always)]
+    pub fn of(symbol: &NumberedSymbol, places: &mut Vec<usize>) -> Result<CodedSymbol, AllocError>
+        ensures { IfOk result (λ coded. by_code coded ≡ by_number symbol.now) }
+    {
+        if symbol.name >= places.len() {
+            take_place(&mut *places, symbol.name)?;
+        }
+        Ok(CodedSymbol {
+            code: symbol.name as u64 * 2 + symbol.variable as u64,
+        })
+    }
+
+    /// The number of its name.
+    #[inline(always)]
+    pub fn name(&self) -> usize
+        ensures { result ≡ self.now.code / 2 }
+    {
+        (self.code / 2) as usize
     }
 }
 
@@ -104,5 +147,26 @@ impl Symbol for NumberedSymbol {
         ensures means { IfOk result (λ copy. by_number copy ≡ by_number self.now) }
     {
         Ok(*self)
+    }
+}
+
+impl Symbol for CodedSymbol {
+    ghost means = { by_code };
+
+    #[inline(always)]
+    fn same(&self, other: &Self) -> bool {
+        self.code == other.code
+    }
+
+    #[inline(always)]
+    fn is_variable(&self) -> bool {
+        self.code % 2 == 1
+    }
+
+    /// The symbol itself: it takes no memory.
+    fn copy(&self, _memory: Global) -> Result<Self, AllocError>
+        ensures { IfOk result (λ copy. by_code copy ≡ by_code self.now) }
+    {
+        Ok(CodedSymbol { code: self.code })
     }
 }

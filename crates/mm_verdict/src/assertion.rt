@@ -1,20 +1,25 @@
 //! What citing an assertion of a base needs.
 
-ghost use Rattle.std.specs.Prelude.{◌≡◌, ◌++◌, ◌<◌, ◌≤◌, true, List, All, IfOk, OnOk, length, map, take};
-ghost use Rattle.mm_frame.specs.Language.Base.{BaseView, is_shown_at, is_framed_at, is_proof_at};
-ghost use Rattle.mm_frame.specs.Language.Answering.{IsBase};
-ghost use Rattle.mm_machine.specs.Language.Frame.{Mandatory, AreSameFrame, AreSamePairs};
-ghost use Rattle.mm_machine.specs.Language.CitedFrames.{mandatory_of, hypotheses_of, frame_of, meant_pairs};
+ghost use Rattle.std.specs.Prelude.{◌≡◌, ◌++◌, ◌∷◌, [], ℕ, List, true, All, IfOk, OnOk, length, map, take};
+ghost use Rattle.mm_frame.specs.Language.Base.{BaseView, frame_at, is_shown_at, is_framed_at, is_proof_at};
+ghost use Rattle.mm_frame.specs.Language.Answering.{IsBase, IsBaseBy};
+ghost use Rattle.mm_machine.specs.Language.Frame.{Frame, AreSameFrame, AreSamePairs};
+ghost use Rattle.mm_machine.specs.Language.Typing.{IsFrame};
+ghost use Rattle.mm_machine.specs.Language.CitedFrames.{frame_from, mandatory_of, hypotheses_of, meant_pairs};
+ghost use Rattle.mm_machine.specs.Language.Forms.{AreForms, frames_of};
 ghost use Rattle.mm_machine.specs.Language.Keys.{AreInKeyOrder, key_by_number};
-ghost use Rattle.mm_machine.specs.Language.NumberedSymbols.{by_number, all_by_number};
+ghost use Rattle.mm_machine.specs.Language.Numbering.{unnaming};
+ghost use Rattle.mm_machine.specs.Language.NumberedSymbols.{by_code, by_number, all_by_number};
+ghost use Rattle.mm_machine.specs.Language.Renaming.{renamed_frame};
 ghost use Rattle.mm_frame.specs.declared.base.Resolved.TheVariants as answers;
-ghost use Rattle.mm_verdict.specs.Code.NamedItems.{AreCited, IsNamedBy};
+ghost use Rattle.mm_verdict.specs.Language.DecodedSteps.{AreEntriesOf, IsNamedBy};
+ghost use Rattle.mm_verdict.specs.Code.NamedItems.{AreCited};
 ghost use Rattle.mm_verdict.specs.Code.NumberedBase.{ByNames, numbered_hypothesis, numbered_frame, numbered_setting};
 
 use mm_frame::{Base, places_have_frames};
 use mm_machine::{
-    Cited, Hypothesis, NumberedSymbol, numbers_keep_frames, numbers_keep_order, numbers_keep_pairs,
-    numbers_name_symbols,
+    CodedSymbol, Forms, Hypothesis, NumberedSymbol, numbers_keep_frames, numbers_keep_order,
+    numbers_keep_pairs, numbers_name_symbols,
 };
 use std::alloc::{AllocError, Global};
 
@@ -64,47 +69,72 @@ fn add_hypotheses<'a>(
     Ok(())
 }
 
-/// The assertion with this number. Its mandatory hypotheses are added after others.
-fn assertion_of<'a>(
+/// An assertion, but for its mandatory hypotheses.
+#[derive(Clone, Copy)]
+pub struct Parts<'a> {
+    /// Its expression.
+    pub expression: &'a [NumberedSymbol],
+    /// Its mandatory pairs.
+    pub pairs: &'a [(NumberedSymbol, NumberedSymbol)],
+}
+
+/// Looks up the assertion with this number, which the table of a proof has. The list has its mandatory hypotheses then, and
+/// nothing else.
+pub fn look_up<'a>(
     base: &'a Base,
     number: usize,
     mandatory: &mut Vec<Hypothesis<'a, NumberedSymbol>>,
-) -> Result<Cited<'a, NumberedSymbol>, AllocError>
-    requires { (view : BaseView) × IsBase view base.now × (is_framed_at view number ≡ true) × (number < length view) }
-    ensures grows { OnOk result ((more : List Mandatory)
-        × (hypotheses_of by_number mandatory.new.items ≡ hypotheses_of by_number mandatory.old.items ++ more)) }
-    ensures within { IfOk result (λ cited. (cited.first ≤ cited.last) × (cited.last ≡ length mandatory.new.items)) }
-    ensures frame { IfOk result (λ cited. ByNames base.now (λ names view. is_framed_at view number ≡ true →
-        AreSameFrame (frame_of by_number (hypotheses_of by_number mandatory.new.items) cited) (numbered_frame names view number))) }
+) -> Result<Parts<'a>, AllocError>
+    requires { IsNamedBy base.now (answers.Assertion number) }
+    ensures frame { IfOk result (λ parts. IsFrame (frame_from by_number mandatory.new.items parts.expression.now parts.pairs.now)) }
+    ensures same { IfOk result (λ parts. (names : List (List ℕ)) (view : BaseView) → IsBaseBy names view base.now → is_framed_at view number ≡ true
+        → AreSameFrame (frame_from by_number mandatory.new.items parts.expression.now parts.pairs.now)
+        (renamed_frame (unnaming names) (frame_at view number))) }
 {
+    places_have_frames();
+    numbers_keep_frames();
     numbers_keep_pairs();
     let frame = base.frame(number).unwrap();
-    let first = mandatory.len();
-    add_hypotheses(base, &frame.hypotheses, &mut *mandatory)?;
-    Ok(Cited {
+    mandatory.clear();
+    add_hypotheses(base, &frame.hypotheses, mandatory)?;
+    Ok(Parts {
         expression: expression(base, number),
-        first,
-        last: mandatory.len(),
         pairs: &frame.pairs,
     })
 }
 
-/// Adds assertions and their mandatory hypotheses, so that the lists have those with these numbers. Before, they have those
-/// of the first numbers.
+/// Adds the assertion with this number.
+fn add_assertion<'a>(
+    alloc: Global,
+    base: &'a Base,
+    number: usize,
+    mandatory: &mut Vec<Hypothesis<'a, NumberedSymbol>>,
+    forms: &mut Forms<CodedSymbol>,
+) -> Result<(), AllocError>
+    requires entry { IsNamedBy base.now (answers.Assertion number) }
+    requires forms { AreForms by_code forms.old }
+    ensures forms { OnOk result (AreForms by_code forms.new) }
+    ensures frame { OnOk result ((frame : Frame) × (frames_of by_code forms.new ≡ frames_of by_code forms.old ++ frame ∷ [])
+        × ByNames base.now (λ names view. is_framed_at view number ≡ true → AreSameFrame frame (numbered_frame names view number))) }
+{
+    let parts = look_up(base, number, &mut *mandatory)?;
+    forms.add(alloc, mandatory, parts.expression, parts.pairs)
+}
+
+/// Adds assertions, so that there are those with these numbers. Before, there are those of the first numbers.
 pub fn add_assertions<'a>(
+    alloc: Global,
     base: &'a Base,
     numbers: &[usize],
     mandatory: &mut Vec<Hypothesis<'a, NumberedSymbol>>,
-    assertions: &mut Vec<Cited<'a, NumberedSymbol>>,
+    forms: &mut Forms<CodedSymbol>,
 ) -> Result<(), AllocError>
-    requires named { All (λ j. IsNamedBy base.now (answers.Assertion j)) numbers.now }
-    requires there { AreCited base.now (take (length assertions.old.items) numbers.now) mandatory.old.items assertions.old.items }
-    ensures { OnOk result (AreCited base.now numbers.now mandatory.new.items assertions.new.items) }
+    requires named { AreEntriesOf base.now numbers.now }
+    requires there { AreCited base.now (take (length (frames_of by_code forms.old)) numbers.now) forms.old }
+    ensures { OnOk result (AreCited base.now numbers.now forms.new) }
 {
-    places_have_frames();
-    numbers_keep_frames();
-    for place in assertions.len()..numbers.len() {
-        assertions.push(assertion_of(base, numbers[place], &mut *mandatory)?)?;
+    for place in forms.len()..numbers.len() {
+        add_assertion(alloc, base, numbers[place], &mut *mandatory, &mut *forms)?;
     }
     Ok(())
 }

@@ -56,6 +56,7 @@ impl<'a> Checker<'a> {
         ensures { self.new ≡ self.old }
     {
         let items = self.base.count();
+        self.known.widen(keys)?;
         self.scratch.widen(items, keys)
     }
 

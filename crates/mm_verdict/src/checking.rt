@@ -9,11 +9,11 @@ ghost use Rattle.mm_verdict.specs.Language.Decoding.{word_spot};
 ghost use Rattle.mm_machine.specs.Language.Verdict.{IsVerdictOnSteps};
 ghost use Rattle.mm_verdict.specs.Language.VerdictAt.{IsVerdictAt, AreDoneAt, cites_at, statement_at};
 ghost use Rattle.mm_machine.specs.Language.Frame.{Symbol, Setting};
-ghost use Rattle.mm_verdict.specs.Language.DecodedSteps.{decoded_steps};
+ghost use Rattle.mm_verdict.specs.Language.DecodedSteps.{IsNamedBy, decoded_steps};
 ghost use Rattle.mm_verdict.specs.Code.DecodedProof.{IsDecoded, IsFrontRun, IsJudgedDecoded, IsJudgedItem, IsJudgedWith, IsRun};
 ghost use Rattle.mm_machine.specs.Language.NamedSteps.{IsOutcomeWithin, RunSays, StopsAt};
 ghost use Rattle.mm_verdict.specs.Code.Judged.{HasProof, done_by};
-ghost use Rattle.mm_verdict.specs.Code.NamedItems.{AreKnownOf, AreUsedNamesOf, IsNamedBy};
+ghost use Rattle.mm_verdict.specs.Code.NamedItems.{AreKnownOf, AreUsedNamesOf};
 ghost use Rattle.mm_verdict.specs.Language.ReadIn.{HasTheorem, OfTheorem};
 ghost use Rattle.mm_verdict.specs.Code.UsedLabels.{AreUseMarks, AreUsed};
 ghost use Rattle.mm_verdict.specs.declared.undecoded.Undecoded.TheVariants as errors;
@@ -32,7 +32,7 @@ use crate::used::{labels_marked, labels_used};
 use crate::work::{Checked, Work};
 use mm_frame::{Base, Files, Names, ProofWords, Resolved, places_have_frames, words_of_proof};
 use mm_machine::{
-    Active, Front, Machine, NumberedSymbol, Outcome, ProofFault, ProofNumber, ProofStep, Spot,
+    Active, CodedSymbol, Front, Machine, Outcome, ProofFault, ProofNumber, ProofStep, Spot,
     Verdict, lack_stops, numbers_keep_places, numbers_say_the_same, run, run_counted, stops_stay,
 };
 use std::alloc::{AllocError, Global};
@@ -123,7 +123,7 @@ fn name_used<'b>(
     ensures { OnOk result (AreUsedNamesOf base.now labels.now steps.now known.new) }
 {
     let used = labels_used(alloc, labels, steps)?;
-    name_all(base, &used, room, known)
+    name_all(alloc, base, &used, room, known)
 }
 
 /// If some step may have too few entries, runs the steps of a proof before the first one, by the count of entries alone, and
@@ -132,7 +132,7 @@ fn name_used<'b>(
 fn run_front<'b>(
     alloc: Global,
     room: &mut NamingRoom,
-    machine: &mut Machine<NumberedSymbol>,
+    machine: &mut Machine<CodedSymbol>,
     known: &mut Known<'b>,
     proof: DecodedProof<'b, '_>,
 ) -> Result<Option<Outcome>, AllocError>
@@ -156,7 +156,7 @@ fn run_front<'b>(
     let front = &steps[..count];
     name_used(alloc, room, &mut *known, proof.base, labels, front)?;
     let active = Active::new(active(proof.base, proof.i));
-    let came_to = run_counted(alloc, machine, &known.named, &active, front)?;
+    let came_to = run_counted(alloc, machine, &known.forms, &known.named, &active, front)?;
     let entries = match came_to {
         Front::Stops(outcome) => return Ok(Some(outcome)),
         Front::Leaves(entries) => entries,
@@ -171,7 +171,7 @@ fn run_front<'b>(
 fn run_all<'b>(
     alloc: Global,
     room: &mut NamingRoom,
-    machine: &mut Machine<NumberedSymbol>,
+    machine: &mut Machine<CodedSymbol>,
     known: &mut Known<'b>,
     used: &[Resolved],
     proof: DecodedProof<'b, '_>,
@@ -186,11 +186,12 @@ fn run_all<'b>(
     mandatory_are_active();
     numbers_keep_places();
     numbers_say_the_same();
-    name_all(proof.base, used, room, &mut *known)?;
+    name_all(alloc, proof.base, used, room, &mut *known)?;
     let active = Active::new(active(proof.base, proof.i));
     let outcome = run(
         alloc,
         machine,
+        &known.forms,
         &known.named,
         &active,
         &proof.decoding.steps,
@@ -203,7 +204,7 @@ fn run_all<'b>(
 fn run_steps<'b>(
     alloc: Global,
     room: &mut NamingRoom,
-    machine: &mut Machine<NumberedSymbol>,
+    machine: &mut Machine<CodedSymbol>,
     known: &mut Known<'b>,
     used: &[Resolved],
     proof: DecodedProof<'b, '_>,

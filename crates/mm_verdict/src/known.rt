@@ -5,20 +5,24 @@ ghost use Rattle.std.specs.Prelude.{OnOk};
 ghost use Rattle.mm_verdict.specs.Code.NamedItems.{AreKnownOf, HasBegun};
 
 use crate::named::Numbers;
-use mm_machine::{Named, NumberedSymbol};
+use mm_machine::{CodedSymbol, Forms, Hypothesis, Named, NumberedSymbol};
 use std::alloc::{AllocError, Global};
 
-/// If more assertions and mandatory hypotheses than this are known, all are forgotten. So they take some megabytes at most, and
-/// what one proof adds.
-const MOST_KNOWN: usize = 131_072;
+/// If the assertions that are known have more symbols and slots than this, all are forgotten. So they take some megabytes at
+/// most, and what one proof adds.
+const MOST_KNOWN: usize = 262_144;
 
 /// Assertions of a base that proofs name, with what citing them needs; most are there once.
 #[derive(Drop)]
 pub struct Known<'a> {
     /// Their numbers.
     pub numbers: Numbers,
-    /// The assertions, and what the labels of the proof name that was the last one. The next proof uses its memory again.
+    /// The assertions.
+    pub forms: Forms<CodedSymbol>,
+    /// What else the labels of the proof name that was the last one. The next proof uses its memory again.
     pub named: Named<'a, NumberedSymbol>,
+    /// The mandatory hypotheses of the assertion that was looked up last.
+    pub mandatory: Vec<Hypothesis<'a, NumberedSymbol>>,
 }
 
 impl<'a> Known<'a> {
@@ -28,12 +32,12 @@ impl<'a> Known<'a> {
     {
         Known {
             numbers: Numbers::new(alloc),
+            forms: Forms::new(alloc),
             named: Named {
                 uses: Vec::new(alloc),
                 hypotheses: Vec::new(alloc),
-                mandatory: Vec::new(alloc),
-                assertions: Vec::new(alloc),
             },
+            mandatory: Vec::new(alloc),
         }
     }
 
@@ -41,8 +45,7 @@ impl<'a> Known<'a> {
     pub fn limited(self) -> Known<'a>
         ensures { (base : Meant) → AreKnownOf base self.entry → AreKnownOf base result }
     {
-        let assertions = self.named.assertions.len();
-        if assertions > MOST_KNOWN || self.named.mandatory.len() > MOST_KNOWN - assertions {
+        if self.forms.size() > MOST_KNOWN {
             self.emptied()
         } else {
             self
@@ -53,13 +56,21 @@ impl<'a> Known<'a> {
     fn emptied(self) -> Known<'a>
         ensures { (base : Meant) → AreKnownOf base result }
     {
-        let mut named = self.named;
-        named.mandatory.clear();
-        named.assertions.clear();
+        let mut forms = self.forms;
+        forms.clear();
         Known {
             numbers: self.numbers.emptied(),
-            named,
+            forms,
+            named: self.named,
+            mandatory: self.mandatory,
         }
+    }
+
+    /// Takes room for variables whose keys are below this number, without which assertions are looked up slowly.
+    pub fn widen(&mut self, keys: usize) -> Result<(), AllocError>
+        ensures { (base : Meant) → AreKnownOf base self.old → AreKnownOf base self.new }
+    {
+        self.forms.widen(keys)
     }
 
     /// Begins with this many labels: none is named yet. It changes nothing of the assertions.

@@ -22,6 +22,7 @@ mod used;
 mod words;
 mod work;
 
+pub use assertion::{Parts, look_up};
 pub use checker::Checker;
 pub use checking::check;
 pub use citing_laws::cites_tell;
@@ -42,7 +43,8 @@ pub use mm_frame::{
     nth_word, place, same_proof, words_of_proof,
 };
 pub use mm_machine::{
-    Action, Named, NumberedSymbol, ProofFault, ProofNumber, ProofStep, Spot, Verdict,
+    Action, CodedSymbol, Forms, Hypothesis, Named, NumberedSymbol, ProofFault, ProofNumber,
+    ProofStep, Spot, Verdict,
 };
 pub use program::{Program, program_of};
 pub use reading::{Decoding, decode};

@@ -2,13 +2,14 @@
 
 ghost use Rattle.std.specs.Prelude.{◌≡◌, ◌++◌, ◌∷◌, [], ℕ, List, Some, All, IfOk, IfSome, OnOk, length, slice_get};
 ghost use Rattle.mm_frame.specs.declared.base.Resolved.TheVariants as answers;
-ghost use Rattle.mm_verdict.specs.Code.NamedItems.{AreEachNamed, AreEntriesOf, AreKnownOf, AreNamed, AreShown, IsNamedBy, IsOneMore, IsUseOf, Stays};
-ghost use Rattle.mm_verdict.specs.Code.NamedItems.{AreNamesOf, IsNamesOf, naming, naming_of};
+ghost use Rattle.mm_verdict.specs.Language.DecodedSteps.{AreEntriesOf, IsNamedBy};
+ghost use Rattle.mm_verdict.specs.Code.NamedItems.{AreEachNamed, AreKnownOf, AreNamed, AreShown, IsOneMore, IsUseOf, Stays};
+ghost use Rattle.mm_verdict.specs.Code.NamedItems.{AreNamesOf, naming, naming_of};
 
 use crate::assertion::{add_assertions, expression};
 use crate::known::Known;
 use mm_frame::{Base, Resolved};
-use mm_machine::{Named, NumberedSymbol, Use};
+use mm_machine::{NumberedSymbol, Use};
 use std::alloc::{AllocError, Global};
 
 /// Numbers of items, in order.
@@ -189,6 +190,7 @@ impl NamingRoom {
 /// Names what the labels of a proof's table mean, in a base of which these assertions are known. The room is what naming uses
 /// over again.
 pub fn name_all<'a>(
+    alloc: Global,
     base: &'a Base,
     labels: &[Resolved],
     room: &mut NamingRoom,
@@ -201,12 +203,12 @@ pub fn name_all<'a>(
     room.begin(base.count())?;
     known.begin(labels.len())?;
     room.name_each(base, labels, &mut *known)?;
-    let named = &mut known.named;
     add_assertions(
+        alloc,
         base,
         &known.numbers.items,
-        &mut named.mandatory,
-        &mut named.assertions,
+        &mut known.mandatory,
+        &mut known.forms,
     )
 }
 
@@ -215,12 +217,12 @@ pub fn named_alone<'a>(
     alloc: Global,
     base: &'a Base,
     labels: &[Resolved],
-) -> Result<Named<'a, NumberedSymbol>, AllocError>
+) -> Result<Known<'a>, AllocError>
     requires { All (IsNamedBy base.now) labels.now }
-    ensures { IfOk result (IsNamesOf base.now labels.now) }
+    ensures { IfOk result (AreNamesOf base.now labels.now) }
 {
     let mut room = NamingRoom::new(alloc);
     let mut known = Known::new(alloc);
-    name_all(base, labels, &mut room, &mut known)?;
-    Ok(known.named)
+    name_all(alloc, base, labels, &mut room, &mut known)?;
+    Ok(known)
 }

@@ -1,9 +1,10 @@
 //! A proof as the machine runs it.
 
-ghost use Rattle.std.specs.Prelude.{ℕ, List, IfErr, IfOk};
-ghost use Rattle.mm_machine.specs.Language.NamedSteps.{AreCitable, AreSavedBefore, AreUsesWithin};
-ghost use Rattle.mm_machine.specs.Language.NumberedSymbols.{by_number};
-ghost use Rattle.mm_verdict.specs.Language.DecodedSteps.{TellsFault};
+ghost use Rattle.std.specs.Prelude.{◌≡◌, ℕ, List, IfErr, IfOk, length};
+ghost use Rattle.mm_machine.specs.Language.Forms.{AreForms, frames_of};
+ghost use Rattle.mm_machine.specs.Language.NamedSteps.{AreSavedBefore, AreUsesWithin};
+ghost use Rattle.mm_machine.specs.Language.NumberedSymbols.{by_code};
+ghost use Rattle.mm_verdict.specs.Language.DecodedSteps.{AreEntriesOf, TellsFault};
 ghost use Rattle.mm_verdict.specs.Language.Programs.{IsProgramAt};
 ghost use Rattle.mm_verdict.specs.Language.ReadIn.{HasTheorem, OfTheorem};
 ghost use Rattle.mm_verdict.specs.Language.VerdictAt.{decoding_at};
@@ -14,13 +15,17 @@ use crate::named::named_alone;
 use crate::reading::{Decoding, decode};
 use crate::undecoded::Undecoded;
 use mm_frame::{Base, Files, words_of_proof};
-use mm_machine::{Named, NumberedSymbol, ProofStep};
+use mm_machine::{CodedSymbol, Forms, Named, NumberedSymbol, ProofStep};
 use std::alloc::Global;
 
 /// A proof as [`mm_machine::run`] takes it, with symbols by the numbers of their names.
 #[derive(Drop)]
 pub struct Program<'a> {
-    /// What the labels of the proof name, used or not.
+    /// The assertions that the labels of the proof name, used or not.
+    pub forms: Forms<CodedSymbol>,
+    /// The numbers of their items, each of which [`look_up`](crate::look_up) takes.
+    pub numbers: Vec<usize>,
+    /// What else the labels name.
     pub named: Named<'a, NumberedSymbol>,
     /// The steps, in order.
     pub steps: Vec<ProofStep>,
@@ -39,8 +44,10 @@ pub fn program_of<'a>(
     i: usize,
 ) -> Result<Program<'a>, Undecoded>
     requires { (names : List (List ℕ)) × HasTheorem names files.now base.now i }
-    ensures within { IfOk result (λ program. AreUsesWithin program.named) }
-    ensures frames { IfOk result (λ program. AreCitable by_number program.named) }
+    ensures within { IfOk result (λ program. AreUsesWithin program.forms program.named) }
+    ensures frames { IfOk result (λ program. AreForms by_code program.forms) }
+    ensures numbers { IfOk result (λ program. AreEntriesOf base.now program.numbers.items) }
+    ensures count { IfOk result (λ program. length (frames_of by_code program.forms) ≡ length program.numbers.items) }
     ensures saved { IfOk result (λ program. AreSavedBefore program.steps.items) }
     ensures means { IfOk result (λ program. (names : List (List ℕ)) → OfTheorem names files.now base.now i (λ view. IsProgramAt names view i program)) }
     ensures fault { IfErr result (λ error. (names : List (List ℕ)) → OfTheorem names files.now base.now i (λ view. TellsFault error (decoding_at view i))) }
@@ -51,6 +58,11 @@ pub fn program_of<'a>(
     let mandatory = mandatory(base, i);
     let decoding = decode(base, i, mandatory, &proof, Decoding::new(alloc))?;
     let Decoding { labels, steps } = decoding;
-    let named = named_alone(alloc, base, &labels)?;
-    Ok(Program { named, steps })
+    let known = named_alone(alloc, base, &labels)?;
+    Ok(Program {
+        forms: known.forms,
+        numbers: known.numbers.items,
+        named: known.named,
+        steps,
+    })
 }

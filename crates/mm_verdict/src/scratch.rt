@@ -3,7 +3,7 @@
 use crate::named::NamingRoom;
 use crate::reading::MarkedDecoding;
 use mm_frame::Resolved;
-use mm_machine::{Machine, NumberedSymbol};
+use mm_machine::{CodedSymbol, Machine};
 use std::alloc::{AllocError, Global};
 
 /// What checks use over again, so that none takes its memory anew. No answer depends on what one leaves there.
@@ -15,7 +15,7 @@ pub struct Scratch {
     pub naming: NamingRoom,
     /// For the number of an item a mark.
     pub marks: Vec<bool>,
-    pub machine: Machine<NumberedSymbol>,
+    pub machine: Machine<CodedSymbol>,
 }
 
 impl Scratch {

@@ -1,19 +1,22 @@
 //! The machine over names and over numbers: it says the same of a proof.
 
-ghost use Rattle.std.specs.Prelude.{◌≡◌, List, All, IfOk, length, map};
-ghost use Rattle.mm_machine.specs.Language.Frame.{Mandatory};
-ghost use Rattle.mm_machine.specs.Language.NumberedSymbols.{by_number, named_symbol, all_by_number};
-ghost use Rattle.mm_machine.specs.Language.CitedFrames.{frame_of, hypotheses_of, meant_pairs, range_of};
-ghost use Rattle.mm_machine.specs.Language.NamedSteps.{AreCitable, AreSavedBefore, AreUsesWithin, IsUseWithin};
+ghost use Rattle.std.specs.Prelude.{◌≡◌, ◌+◌, [], All, IfOk, OnOk, length, map};
+ghost use Rattle.mm_machine.specs.Language.Typing.{IsFrame};
+ghost use Rattle.mm_machine.specs.Language.NumberedSymbols.{by_code, by_number, named_symbol, all_by_number};
+ghost use Rattle.mm_machine.specs.Language.CitedFrames.{hypotheses_of, meant_pairs};
+ghost use Rattle.mm_machine.specs.Language.Forms.{AreForms, frames_of};
+ghost use Rattle.mm_machine.specs.Language.NamedSteps.{AreSavedBefore, AreUsesWithin, IsUseWithin};
 ghost use Rattle.mm_machine.specs.Language.Keys.{AreInKeyOrder, key_by_number};
-ghost use Rattle.mmtests.specs.Code.Spelled.{HasOneKey, IsRanged, key_by_name, ranged};
+ghost use Rattle.mm_frame.specs.declared.base.Resolved.TheVariants as answers;
+ghost use Rattle.mmtests.specs.Code.Spelled.{HasOneKey, key_by_name};
+ghost use Rattle.mm_verdict.specs.Language.DecodedSteps.{AreEntriesOf, IsNamedBy};
 ghost use Rattle.mm_verdict.specs.Language.ReadIn.{HasTheorem};
 
 use mm_machine::{
-    Active, Cited, Hypothesis, Kept, Machine, Named, NamedSymbol, NumberedSymbol, Outcome,
+    Active, Forms, Hypothesis, Kept, Machine, Named, NamedSymbol, NumberedSymbol, Outcome,
     ProofStep, Use, numbers_keep_order, run,
 };
-use mm_verdict::{Base, Files, Names, Program, Undecoded, program_of};
+use mm_verdict::{Base, Files, Names, Parts, Program, Undecoded, look_up, program_of};
 use std::alloc::{AllocError, Global};
 use std::mem;
 
@@ -25,15 +28,6 @@ const PLACES: usize = 7;
 struct SpelledHypothesis {
     floating: bool,
     expression: Vec<NamedSymbol>,
-}
-
-/// An assertion with its range of hypotheses, by names.
-#[derive(Drop)]
-struct SpelledFrame {
-    expression: Vec<NamedSymbol>,
-    first: usize,
-    last: usize,
-    pairs: Vec<(NamedSymbol, NamedSymbol)>,
 }
 
 /// The symbol whose name is one byte, which is its number. The databases here have no 256 names.
@@ -112,46 +106,6 @@ fn spelled_hypotheses(
     Ok(named)
 }
 
-/// An assertion.
-fn spelled_frame(
-    alloc: Global,
-    cited: &Cited<'_, NumberedSymbol>,
-) -> Result<SpelledFrame, AllocError>
-    ensures first { IfOk result (λ named. named.first ≡ cited.now.first) }
-    ensures last { IfOk result (λ named. named.last ≡ cited.now.last) }
-    ensures means { IfOk result (λ named. (hypotheses : List Mandatory) → frame_of by_number hypotheses cited.now ≡ record {
-      expression = map named_symbol named.expression.items;
-      hypotheses = range_of named.first named.last hypotheses;
-      pairs = meant_pairs named_symbol named.pairs.items;
-    }) }
-{
-    Ok(SpelledFrame {
-        expression: spelled(alloc, cited.expression)?,
-        first: cited.first,
-        last: cited.last,
-        pairs: spelled_pairs(alloc, cited.pairs)?,
-    })
-}
-
-/// Each of the assertions.
-fn spelled_frames(
-    alloc: Global,
-    cited: &[Cited<'_, NumberedSymbol>],
-) -> Result<Vec<SpelledFrame>, AllocError>
-    ensures { IfOk result (λ named. (hypotheses : List Mandatory)
-        → map (λ a. ranged a.first a.last (frame_of by_number hypotheses a)) cited.now ≡ map (λ f. ranged f.first f.last (record {
-          expression = map named_symbol f.expression.items;
-          hypotheses = range_of f.first f.last hypotheses;
-          pairs = meant_pairs named_symbol f.pairs.items;
-        })) named.items) }
-{
-    let mut named = Vec::new(alloc);
-    for one in cited {
-        named.push(spelled_frame(alloc, one)?)?;
-    }
-    Ok(named)
-}
-
 /// The expressions, as the machine takes them.
 fn lent_expressions<'a>(
     alloc: Global,
@@ -184,126 +138,176 @@ fn lent_hypotheses<'a>(
     Ok(lent)
 }
 
-/// The assertions, as the machine takes them.
-fn lent_frames<'a>(
+/// Adds an assertion with these hypotheses and these parts.
+fn add_lent(
     alloc: Global,
-    frames: &'a [SpelledFrame],
-) -> Result<Vec<Cited<'a, NamedSymbol>>, AllocError>
-    ensures { IfOk result (λ lent. (hypotheses : List Mandatory)
-        → map (λ a. ranged a.first a.last (frame_of named_symbol hypotheses a)) lent.items ≡ map (λ f. ranged f.first f.last (record {
-          expression = map named_symbol f.expression.items;
-          hypotheses = range_of f.first f.last hypotheses;
-          pairs = meant_pairs named_symbol f.pairs.items;
-        })) frames.now) }
+    hypotheses: &[SpelledHypothesis],
+    parts: Parts<'_>,
+    forms: &mut Forms<NamedSymbol>,
+) -> Result<(), AllocError>
+    requires forms { AreForms named_symbol forms.old }
+    requires frame { IsFrame (record {
+      expression = all_by_number parts.expression.now;
+      hypotheses = map (λ h. record { floating = h.floating; expression = map named_symbol h.expression.items }) hypotheses.now;
+      pairs = meant_pairs by_number parts.pairs.now;
+    }) }
+    ensures forms { OnOk result (AreForms named_symbol forms.new) }
+    ensures count { OnOk result (length (frames_of named_symbol forms.new) ≡ length (frames_of named_symbol forms.old) + 1) }
 {
-    let mut lent = Vec::new(alloc);
-    for frame in frames {
-        lent.push(Cited {
-            expression: &frame.expression,
-            first: frame.first,
-            last: frame.last,
-            pairs: &frame.pairs,
-        })?;
-    }
-    Ok(lent)
+    let lent = lent_hypotheses(alloc, hypotheses)?;
+    let expression = spelled(alloc, parts.expression)?;
+    let pairs = spelled_pairs(alloc, parts.pairs)?;
+    forms.add(alloc, &lent, &expression, &pairs)
 }
 
-/// What the labels of a proof name, by names.
-#[derive(Drop)]
-struct SpelledTable {
-    /// The expressions of the hypotheses that are named.
-    expressions: Vec<Vec<NamedSymbol>>,
-    /// The mandatory hypotheses of the assertions, one after another.
-    mandatory: Vec<SpelledHypothesis>,
-    /// The assertions that are named.
-    frames: Vec<SpelledFrame>,
+/// Adds the assertion with this number.
+fn add_spelled<'a>(
+    alloc: Global,
+    base: &'a Base,
+    number: usize,
+    mandatory: &mut Vec<Hypothesis<'a, NumberedSymbol>>,
+    forms: &mut Forms<NamedSymbol>,
+) -> Result<(), AllocError>
+    requires entry { IsNamedBy base.now (answers.Assertion number) }
+    requires forms { AreForms named_symbol forms.old }
+    ensures forms { OnOk result (AreForms named_symbol forms.new) }
+    ensures count { OnOk result (length (frames_of named_symbol forms.new) ≡ length (frames_of named_symbol forms.old) + 1) }
+{
+    let parts = look_up(base, number, &mut *mandatory)?;
+    let hypotheses = spelled_hypotheses(alloc, mandatory)?;
+    let added = add_lent(alloc, &hypotheses, parts, forms);
+    mem::forget(hypotheses);
+    added
+}
+
+/// Adds the assertions with these numbers to none.
+fn add_all_spelled(
+    alloc: Global,
+    base: &Base,
+    numbers: &[usize],
+    forms: &mut Forms<NamedSymbol>,
+) -> Result<(), AllocError>
+    requires entries { AreEntriesOf base.now numbers.now }
+    requires forms { AreForms named_symbol forms.old }
+    requires none { frames_of named_symbol forms.old ≡ [] }
+    ensures forms { OnOk result (AreForms named_symbol forms.new) }
+    ensures count { OnOk result (length (frames_of named_symbol forms.new) ≡ length numbers.now) }
+{
+    forms.widen(PLACES)?;
+    let mut mandatory = Vec::new(alloc);
+    for number in numbers {
+        add_spelled(alloc, base, *number, &mut mandatory, &mut *forms)?;
+    }
+    Ok(())
 }
 
 /// What a run comes to of a machine whose tables have this many places at first. It is not taken apart.
 fn outcome_of<S: Kept>(
     alloc: Global,
     places: usize,
-    named: &Named<'_, S>,
-    pairs: &[(S, S)],
+    forms: &Forms<S>,
+    named: &Named<'_, S::Listed>,
+    pairs: &[(S::Listed, S::Listed)],
     steps: &[ProofStep],
-    statement: &[S],
+    statement: &[S::Listed],
 ) -> Result<Outcome, AllocError>
-    requires frames { AreCitable S.means named.now }
-    requires within { AreUsesWithin named.now }
+    requires frames { AreForms S.means forms.now }
+    requires within { AreUsesWithin forms.now named.now }
     requires saved { AreSavedBefore steps.now }
-    requires order { AreInKeyOrder S.key_of (meant_pairs S.means pairs.now) }
+    requires order { AreInKeyOrder S.key_of (meant_pairs S.Listed.means pairs.now) }
 {
     let active = Active::new(pairs);
     let mut machine = Machine::new(alloc);
     let outcome = match machine.widen(places) {
-        Ok(()) => run(alloc, &mut machine, named, &active, steps, statement),
+        Ok(()) => run(alloc, &mut machine, forms, named, &active, steps, statement),
         Err(error) => Err(error),
     };
     mem::forget(machine);
     outcome
 }
 
-/// What a run over these names comes to.
-fn run_lent<'a>(
+/// What a run over names comes to, of hypotheses with these expressions.
+fn run_lent(
     alloc: Global,
+    forms: &Forms<NamedSymbol>,
     uses: &[Use],
-    table: &'a SpelledTable,
-    pairs: &'a [(NamedSymbol, NamedSymbol)],
+    expressions: &[Vec<NamedSymbol>],
+    pairs: &[(NamedSymbol, NamedSymbol)],
     steps: &[ProofStep],
     statement: &[NamedSymbol],
 ) -> Result<Outcome, AllocError>
-    requires frames { All (λ f. IsRanged (length table.now.mandatory.items) (ranged f.first f.last (record {
-      expression = map named_symbol f.expression.items;
-      hypotheses = range_of f.first f.last (map (λ h. record { floating = h.floating; expression = map named_symbol h.expression.items })
-          table.now.mandatory.items);
-      pairs = meant_pairs named_symbol f.pairs.items;
-    }))) table.now.frames.items }
-    requires within { All (IsUseWithin (length table.now.expressions.items) (length table.now.frames.items)) uses.now }
+    requires frames { AreForms named_symbol forms.now }
+    requires within { All (IsUseWithin (length expressions.now) (length (frames_of named_symbol forms.now))) uses.now }
     requires saved { AreSavedBefore steps.now }
     requires order { AreInKeyOrder key_by_name (meant_pairs named_symbol pairs.now) }
 {
     let uses = Vec::from_slice(alloc, uses)?;
-    let hypotheses = lent_expressions(alloc, &table.expressions)?;
-    let mandatory = lent_hypotheses(alloc, &table.mandatory)?;
-    let assertions = lent_frames(alloc, &table.frames)?;
-    let named = Named {
-        uses,
-        hypotheses,
-        mandatory,
-        assertions,
-    };
-    let outcome = outcome_of(alloc, PLACES, &named, pairs, steps, statement);
+    let hypotheses = lent_expressions(alloc, expressions)?;
+    let named = Named { uses, hypotheses };
+    let outcome = outcome_of(alloc, PLACES, forms, &named, pairs, steps, statement);
     mem::forget(named);
     outcome
 }
 
-/// What a run over names comes to.
-fn run_by_names(
+/// What a run over names comes to, of a proof that these assertions and names are of.
+fn run_spelled(
     alloc: Global,
+    forms: &Forms<NamedSymbol>,
     named: &Named<'_, NumberedSymbol>,
     pairs: &[(NumberedSymbol, NumberedSymbol)],
     steps: &[ProofStep],
     statement: &[NumberedSymbol],
 ) -> Result<Outcome, AllocError>
-    requires frames { AreCitable by_number named.now }
-    requires within { AreUsesWithin named.now }
+    requires frames { AreForms named_symbol forms.now }
+    requires within { AreUsesWithin forms.now named.now }
     requires saved { AreSavedBefore steps.now }
     requires order { AreInKeyOrder key_by_number (meant_pairs by_number pairs.now) }
 {
     let pairs = spelled_pairs(alloc, pairs)?;
     let statement = spelled(alloc, statement)?;
     let expressions = spelled_expressions(alloc, &named.hypotheses)?;
-    let mandatory = spelled_hypotheses(alloc, &named.mandatory)?;
-    let frames = spelled_frames(alloc, &named.assertions)?;
-    let table = SpelledTable {
-        expressions,
-        mandatory,
-        frames,
-    };
-    let outcome = run_lent(alloc, &named.uses, &table, &pairs, steps, &statement);
-    mem::forget(table);
+    let outcome = run_lent(
+        alloc,
+        forms,
+        &named.uses,
+        &expressions,
+        &pairs,
+        steps,
+        &statement,
+    );
+    mem::forget(expressions);
     mem::forget(statement);
     mem::forget(pairs);
+    outcome
+}
+
+/// What a run over names comes to, of the steps of a theorem with these active pairs.
+fn run_by_names(
+    alloc: Global,
+    base: &Base,
+    program: &Program<'_>,
+    pairs: &[(NumberedSymbol, NumberedSymbol)],
+    statement: &[NumberedSymbol],
+) -> Result<Outcome, AllocError>
+    requires entries { AreEntriesOf base.now program.now.numbers.items }
+    requires count { length (frames_of by_code program.now.forms) ≡ length program.now.numbers.items }
+    requires within { AreUsesWithin program.now.forms program.now.named }
+    requires saved { AreSavedBefore program.now.steps.items }
+    requires order { AreInKeyOrder key_by_number (meant_pairs by_number pairs.now) }
+{
+    let mut forms = Forms::new(alloc);
+    let outcome = match add_all_spelled(alloc, base, &program.numbers, &mut forms) {
+        Ok(()) => run_spelled(
+            alloc,
+            &forms,
+            &program.named,
+            pairs,
+            &program.steps,
+            statement,
+        ),
+        Err(error) => Err(error),
+    };
+    mem::forget(forms);
     outcome
 }
 
@@ -319,21 +323,31 @@ fn is_same(one: Outcome, other: Outcome) -> bool {
     }
 }
 
-/// Whether a run over names comes to the same as one over numbers, for these steps of a theorem with these active pairs.
+/// Whether a run over names comes to the same as one over numbers, for the steps of a theorem with these active pairs.
 fn runs_agree(
     alloc: Global,
+    base: &Base,
     program: &Program<'_>,
     pairs: &[(NumberedSymbol, NumberedSymbol)],
     statement: &[NumberedSymbol],
 ) -> bool
-    requires frames { AreCitable by_number program.now.named }
-    requires within { AreUsesWithin program.now.named }
+    requires frames { AreForms by_code program.now.forms }
+    requires entries { AreEntriesOf base.now program.now.numbers.items }
+    requires count { length (frames_of by_code program.now.forms) ≡ length program.now.numbers.items }
+    requires within { AreUsesWithin program.now.forms program.now.named }
     requires saved { AreSavedBefore program.now.steps.items }
     requires order { AreInKeyOrder key_by_number (meant_pairs by_number pairs.now) }
 {
-    let (named, steps) = (&program.named, &program.steps);
-    let by_names = run_by_names(alloc, named, pairs, steps, statement);
-    let by_numbers = outcome_of(alloc, 0, named, pairs, steps, statement);
+    let by_names = run_by_names(alloc, base, program, pairs, statement);
+    let by_numbers = outcome_of(
+        alloc,
+        0,
+        &program.forms,
+        &program.named,
+        pairs,
+        &program.steps,
+        statement,
+    );
     match (by_names, by_numbers) {
         (Ok(one), Ok(other)) => is_same(one, other),
         _ => false,
@@ -350,7 +364,7 @@ pub fn agrees(alloc: Global, names: &Names, files: &Files, base: &Base, i: usize
     };
     let program = program_of(alloc, files, base, i);
     let agree = match &program {
-        Ok(program) => runs_agree(alloc, program, pairs, base.known_expression(i)),
+        Ok(program) => runs_agree(alloc, base, program, pairs, base.known_expression(i)),
         Err(error) => matches!(error, Undecoded::Fault(_)),
     };
     mem::forget(program);

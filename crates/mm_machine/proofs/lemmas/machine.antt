@@ -1,19 +1,24 @@
 -- The machine: its stack, substitution, citations, pairs, and runs of it.
 
 pub mod ApartLemmas
-pub mod BoundLemmas
 pub mod CitingFaults
+pub mod CopyLemmas
 pub mod EntryFaults
+pub mod FillLemmas
 pub mod FlatLemmas
+pub mod FormLemmas
 pub mod Given
 pub mod KeyOrderLemmas
 pub mod LackLemmas
 pub mod MarkLemmas
 pub mod PairClauseLemmas
 pub mod Reaching
+pub mod RoomLemmas
 pub mod Running
+pub mod SlotLemmas
 pub mod StackLemmas
 pub mod StepLemmas
 pub mod Substituted
+pub mod TakenLemmas
 pub mod Threaded
 pub mod Turning

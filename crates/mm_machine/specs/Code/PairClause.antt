@@ -1,18 +1,13 @@
 -- Which variables of two lists are apart, and where they are marked in a table.
-use Rattle.std.specs.Prelude.{◌≡◌, ◌≢◌, ℕ, ◌%◌, ◌≤◌, ◌<◌, ◌==◌, ◌||◌, nat_lt, if◌then◌else◌, Bool, true, ◌⊎◌, ◌↔◌, Option, Some, None, List, [], ◌∷◌, ◌++◌, length, map, take, drop, slice_get}
+use Rattle.std.specs.Prelude.{◌≡◌, ◌≢◌, ℕ, ◌%◌, ◌≤◌, ◌<◌, ◌==◌, ◌||◌, nat_lt, if◌then◌else◌, Bool, true, ◌⊎◌, ◌↔◌, Option, Some, None, List, [], ◌∷◌, ◌++◌, length, take, drop, slice_get}
 use Rattle.std.specs.Prelude.{Contains, All, Any, slice_index}
 use Rattle.mm_machine.specs.Language.Frame.{Symbol, Mandatory, ArePair, HasVariable}
 use Rattle.mm_machine.specs.Language.Typing.{IsTyped}
-use Rattle.mm_machine.specs.Language.CitedFrames.{hypotheses_of, meant_pairs}
-use Rattle.mm_machine.specs.Code.Citation.{IsSlot}
 use Rattle.mm_machine.specs.Language.Derivation.{AreApart, ShareVariable}
 use Rattle.mm_machine.specs.Language.Faults.{LackPair}
 use Rattle.mm_machine.specs.declared.ProofNumber.{ProofNumber}
 use Rattle.mm_machine.specs.declared.ProofNumber.TheVariants.{P10, P11}
-use Rattle.mm_machine.specs.declared.pattern.Entry.{Entry}
-use Rattle.mm_machine.specs.declared.assertion.Hypothesis.{Hypothesis}
-use Rattle.mm_machine.specs.declared.pattern.Taken.{Taken}
-use Rattle.mm_machine.specs.declared.gather.Gathered.{Gathered}
+use Rattle.mm_machine.specs.declared.{forms.SlotPair.{SlotPair}, pattern.Entry.{Entry}}
 use Rattle.mm_machine.specs.Code.Flat.{read, IsEntryWithin}
 
 -- the place of a key in a table of this many places
@@ -58,11 +53,11 @@ abbrev pub IsGathered : List Symbol → Entry → List Symbol → Type 0
 IsGathered variables s e = (v : Symbol) → HasVariable (drop 1 e) v ↔ Contains (read variables s) v
 
 -- the variables of the entries of the first hypotheses that are `$f`
-pub record Gathers {S : Type 0} (hypotheses : List (Hypothesis S)) (es : List (List Symbol)) (variables : List Symbol) (spans : List Entry)
+pub record Gathers (hypotheses : List Mandatory) (es : List (List Symbol)) (variables : List Symbol) (spans : List Entry)
     (n : ℕ) : Type 0 where
   pub count : length spans ≡ n
   pub within : (k : ℕ) (s : Entry) → slice_get spans k ≡ Some s → IsEntryWithin (length variables) s
-  pub right : (k : ℕ) (s : Entry) (h : Hypothesis S) (e : List Symbol) → slice_get spans k ≡ Some s → slice_get hypotheses k ≡ Some h → h.floating ≡ true →
+  pub right : (k : ℕ) (s : Entry) (h : Mandatory) (e : List Symbol) → slice_get spans k ≡ Some s → slice_get hypotheses k ≡ Some h → h.floating ≡ true →
       slice_get es k ≡ Some e → IsGathered variables s e
 
 -- after the front come the variables of the first symbols, and nothing else
@@ -101,25 +96,21 @@ PairsSay active given pairs _ = ⊥
 abbrev pub AreTypedPairs : List Mandatory → List (Symbol × Symbol) → Type 0
 AreTypedPairs hs pairs = All (λ p. IsTyped hs p.0 × IsTyped hs p.1) pairs
 
--- the list is the range of a slot of the variable
-abbrev pub AtSlot : List Mandatory → List Symbol → List Entry → Symbol → List Symbol → Type 0
-AtSlot hs variables spans v xs = (j : ℕ) × IsSlot hs j v × (xs ≡ span_of variables spans j)
+-- the slots of the pairs are among this many
+abbrev pub AreSlotPairs : ℕ → List SlotPair → Type 0
+AreSlotPairs n pairs = All (λ p. (p.first < n) × (p.second < n)) pairs
 
--- this holds of the ranges of slots of the two variables
-abbrev pub AtSlots : (List Symbol → List Symbol → Type 0) → List Mandatory → List Symbol → List Entry → Symbol × Symbol → Type 0
-AtSlots P hs variables spans p = (i j : ℕ) × IsSlot hs i p.0 × IsSlot hs j p.1 × P (span_of variables spans i) (span_of variables spans j)
-
--- this holds of what was gathered for the two variables of a pair
-abbrev pub AtPair : {S : Type 0} → (S → Symbol) → (List Symbol → List Symbol → Type 0) → Taken S → Gathered S → Symbol × Symbol → Type 0
-AtPair means P taken gathered p = AtSlots P (hypotheses_of means taken.hypotheses.now) (map means gathered.variables.items) gathered.spans.items p
+-- this holds of the ranges of the two slots
+abbrev pub AtSlots : (List Symbol → List Symbol → Type 0) → List Symbol → List Entry → SlotPair → Type 0
+AtSlots P variables spans p = P (span_of variables spans p.first) (span_of variables spans p.second)
 
 -- this holds at each pair
-abbrev pub AtEachPair : {S : Type 0} → (S → Symbol) → (List Symbol → List Symbol → Type 0) → Taken S → Gathered S → List (S × S) → Type 0
-AtEachPair means P taken gathered pairs = (k : ℕ) (p : Symbol × Symbol) → slice_get (meant_pairs means pairs) k ≡ Some p → AtPair means P taken gathered p
+abbrev pub AtEachPair : (List Symbol → List Symbol → Type 0) → List Symbol → List Entry → List SlotPair → Type 0
+AtEachPair P variables spans pairs = (k : ℕ) (p : SlotPair) → slice_get pairs k ≡ Some p → AtSlots P variables spans p
 
 -- this holds at some pair
-abbrev pub AtSomePair : {S : Type 0} → (S → Symbol) → (List Symbol → List Symbol → Type 0) → Taken S → Gathered S → List (S × S) → Type 0
-AtSomePair means P taken gathered pairs = (k : ℕ) × (p : Symbol × Symbol) × (slice_get (meant_pairs means pairs) k ≡ Some p) × AtPair means P taken gathered p
+abbrev pub AtSomePair : (List Symbol → List Symbol → Type 0) → List Symbol → List Entry → List SlotPair → Type 0
+AtSomePair P variables spans pairs = (k : ℕ) × (p : SlotPair) × (slice_get pairs k ≡ Some p) × AtSlots P variables spans p
 
 -- for the key of each of the first symbols that the table has, it has the place of one with that key
 abbrev pub AreKeyPlaces : (Symbol → ℕ) → List Symbol → List ℕ → ℕ → Type 0

@@ -1,9 +1,7 @@
--- An assertion that is cited, and its mandatory hypotheses, as code gives them to the machine.
-use Rattle.std.specs.Prelude.{ℕ, ◌-◌, ◌≤◌, List, length, map, take, drop}
+-- An assertion, as code gives it to the machine.
+use Rattle.std.specs.Prelude.{ℕ, ◌-◌, List, map, take, drop}
 use Rattle.mm_machine.specs.Language.Frame.{Symbol, Mandatory, Frame}
-use Rattle.mm_machine.specs.Language.Typing.{IsFrame}
 use Rattle.mm_machine.specs.declared.assertion.Hypothesis.{Hypothesis}
-use Rattle.mm_machine.specs.declared.assertion.Cited.{Cited}
 
 -- a hypothesis of the code as the definitions see it
 abbrev pub mandatory_of : {S : Type 0} → (S → Symbol) → Hypothesis S → Mandatory
@@ -25,16 +23,6 @@ meant_pairs means ps = map (meant_pair means) ps
 abbrev pub range_of : {X : Type 0} → ℕ → ℕ → List X → List X
 range_of first last xs = take (last - first) (drop first xs)
 
--- the frame of an assertion, with its range of these hypotheses
-abbrev pub frame_of : {S : Type 0} → (S → Symbol) → List Mandatory → Cited S → Frame
-frame_of means mandatory cited = record {
-  expression = map means cited.expression.now;
-  hypotheses = range_of cited.first cited.last mandatory;
-  pairs = meant_pairs means cited.pairs.now;
-}
-
--- the assertion's range is one of these hypotheses, and its parts are a frame
-pub record IsCitable {S : Type 0} (means : S → Symbol) (mandatory : List Mandatory) (cited : Cited S) : Type 0 where
-  pub in_order : cited.first ≤ cited.last
-  pub within : cited.last ≤ length mandatory
-  pub frame : IsFrame (frame_of means mandatory cited)
+-- a frame, by its parts
+abbrev pub frame_from : {S : Type 0} → (S → Symbol) → List (Hypothesis S) → List S → List (S × S) → Frame
+frame_from means hs expression pairs = record { expression = map means expression; hypotheses = hypotheses_of means hs; pairs = meant_pairs means pairs }

@@ -1,5 +1,5 @@
 -- The numbers by which symbols are looked for, and pairs in the order of these numbers.
-use Rattle.std.specs.Prelude.{◌≡◌, ℕ, ◌+◌, ◌*◌, ◌%◌, ◌≤◌, ◌==◌, ◌||◌, nat_lt, leb, if◌then◌else◌, false, Some, List, [], ◌∷◌, slice_get, slice_index}
+use Rattle.std.specs.Prelude.{◌≡◌, ℕ, ◌+◌, ◌*◌, ◌%◌, ◌≤◌, leb, if◌then◌else◌, false, Some, List, [], ◌∷◌, slice_get, slice_index}
 use Rattle.mm_machine.specs.Language.Frame.{Symbol}
 use Rattle.mm_machine.specs.Language.NumberedSymbols.{comes_before}
 

@@ -5,7 +5,8 @@ use Rattle.mm_machine.specs.Language.Frame.{Symbol, Frame, Hypothesis, Assertion
 use Rattle.mm_machine.specs.Language.Expansion.{Step, Named, Saved, Save, NotKnown}
 use Rattle.mm_machine.specs.Language.Reaches.{Reaches, IsStepFault}
 use Rattle.mm_machine.specs.Language.Run.{run_part, IsReached}
-use Rattle.mm_machine.specs.Language.CitedFrames.{IsCitable, frame_of, hypotheses_of}
+use Rattle.mm_machine.specs.Language.Forms.{frames_of}
+use Rattle.mm_machine.specs.declared.forms.Forms.{Forms}
 use Rattle.mm_machine.specs.declared.step.Action.{Action}
 use Rattle.mm_machine.specs.declared.step.Action.TheVariants as actions
 use Rattle.mm_machine.specs.declared.step.ProofStep.{ProofStep}
@@ -21,14 +22,6 @@ use Rattle.mm_machine.specs.declared.named.Named.{Named as Listed}
 abbrev pub named_expressions : {S : Type 0} → (S → Symbol) → Listed S → List (List Symbol)
 named_expressions means named = map (λ e. map means e.now) named.hypotheses.items
 
--- the frames of its assertions
-abbrev pub named_frames : {S : Type 0} → (S → Symbol) → Listed S → List Frame
-named_frames means named = map (frame_of means (hypotheses_of means named.mandatory.items)) named.assertions.items
-
--- each of its assertions can be cited
-abbrev pub AreCitable : {S : Type 0} → (S → Symbol) → Listed S → Type 0
-AreCitable means named = All (IsCitable means (hypotheses_of means named.mandatory.items)) named.assertions.items
-
 -- at this place the step is a label that means this hypothesis, or an assertion with the same frame; or it is a `?`, which has no use
 abbrev pub MeansUse : List (List Symbol) → List Frame → Setting → Use → Step → Type 0
 MeansUse expressions frames place (uses.Hypothesis n) (Named label) = (e : List Symbol) × (slice_get expressions n ≡ Some e) ×
@@ -39,8 +32,8 @@ MeansUse expressions frames place uses.Nothing NotKnown = Unit {0}
 MeansUse expressions frames place _ _ = ⊥
 
 -- at this place the labels of a proof, with these uses, are these steps
-abbrev pub AreUses : {S : Type 0} → (S → Symbol) → Listed S → Setting → List Step → Type 0
-AreUses means named place names = AllZip (MeansUse (named_expressions means named) (named_frames means named) place) named.uses.items names
+abbrev pub AreUses : {S L : Type 0} → (S → Symbol) → (L → Symbol) → Forms S → Listed L → Setting → List Step → Type 0
+AreUses means listed forms named place names = AllZip (MeansUse (named_expressions listed named) (frames_of means forms) place) named.uses.items names
 
 -- the number of a use is in range
 abbrev pub IsUseWithin : ℕ → ℕ → Use → Type 0
@@ -49,8 +42,8 @@ IsUseWithin hypotheses assertions (uses.Assertion n) = n < assertions
 IsUseWithin hypotheses assertions uses.Nothing = Unit {0}
 
 -- the uses of all labels are in range
-abbrev pub AreUsesWithin : {S : Type 0} → Listed S → Type 0
-AreUsesWithin named = All (IsUseWithin (length named.hypotheses.items) (length named.assertions.items)) named.uses.items
+abbrev pub AreUsesWithin : {S L : Type 0} → Forms S → Listed L → Type 0
+AreUsesWithin forms named = All (IsUseWithin (length named.hypotheses.items) (length forms.forms.items)) named.uses.items
 
 -- what is put again was saved, after this many saves
 abbrev pub IsSavedWithin : ℕ → Action → Type 0

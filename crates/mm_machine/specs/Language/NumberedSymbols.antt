@@ -1,6 +1,7 @@
 -- What symbols, expressions and pairs mean that are given by numbers of names: the numbers are read by a list of all names.
-use Rattle.std.specs.Prelude.{◌≡◌, ℕ, ◌<◌, ◌≤◌, ◌==◌, ◌&&◌, ◌||◌, Bool, true, false, Some, List, [], ◌∷◌, All, length, map, nat_lt, slice_get}
+use Rattle.std.specs.Prelude.{◌≡◌, ℕ, ◌<◌, ◌≤◌, ◌/◌, ◌%◌, ◌==◌, ◌&&◌, ◌||◌, Bool, true, false, Some, List, [], ◌∷◌, All, length, map, nat_lt, slice_get}
 use Rattle.mm_machine.specs.declared.symbol.NamedSymbol.{NamedSymbol}
+use Rattle.mm_machine.specs.declared.symbol.CodedSymbol.{CodedSymbol}
 use Rattle.mm_machine.specs.declared.symbol.NumberedSymbol.{NumberedSymbol}
 use Rattle.mm_machine.specs.Language.Frame.{Symbol, AreSamePairs}
 use Rattle.mm_machine.specs.Language.Names.{name_at}
@@ -12,6 +13,10 @@ named_symbol kept = record { name = kept.name.items; variable = kept.variable }
 -- the symbol whose name is its number
 abbrev pub by_number : NumberedSymbol → Symbol
 by_number kept = record { name = kept.name ∷ []; variable = kept.variable }
+
+-- the symbol that a code is: its half is the number of the name, and an odd one is a variable's
+abbrev pub by_code : CodedSymbol → Symbol
+by_code coded = record { name = coded.code / 2 ∷ []; variable = coded.code % 2 == 1 }
 
 -- the symbols whose names are their numbers
 abbrev pub all_by_number : List NumberedSymbol → List Symbol

@@ -3,5 +3,4 @@
 pub mod LackLemmas
 pub mod MarkedLabels
 pub mod NamedLemmas
-pub mod RangeLemmas
 pub mod UsedLemmas

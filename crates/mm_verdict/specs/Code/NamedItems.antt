@@ -1,5 +1,5 @@
 -- What was named of a base's items so far, by their numbers.
-use Rattle.std.specs.Prelude.{◌≡◌, ℕ, ◌<◌, true, Some, List, [], All, length, map, slice_get}
+use Rattle.std.specs.Prelude.{◌≡◌, ℕ, true, Some, List, [], length, map, slice_get}
 use Rattle.std.specs.{Borrow.{Bor}, List.{AllZip}}
 use Rattle.mm_frame.specs.declared.base.Base.{Base}
 use Rattle.mm_frame.specs.declared.base.Resolved.{Resolved}
@@ -7,14 +7,13 @@ use Rattle.mm_frame.specs.declared.base.Resolved.TheVariants as answers
 use Rattle.mm_machine.specs.declared.symbol.NumberedSymbol.{NumberedSymbol}
 use Rattle.mm_frame.specs.Language.Base.{BaseView, is_shown_at, is_framed_at}
 use Rattle.mm_machine.specs.Language.Frame.{Symbol, Frame, AreSameFrame}
-use Rattle.mm_frame.specs.Language.Answering.{IsBase}
-use Rattle.mm_machine.specs.Language.CitedFrames.{IsCitable, frame_of, hypotheses_of}
-use Rattle.mm_verdict.specs.Language.DecodedSteps.{AreEntries, IsEntry, entry_steps}
-use Rattle.mm_machine.specs.Language.NamedSteps.{AreCitable, AreUses, AreUsesWithin}
-use Rattle.mm_machine.specs.Language.NumberedSymbols.{by_number, all_by_number}
+use Rattle.mm_machine.specs.Language.Forms.{AreForms, frames_of}
+use Rattle.mm_verdict.specs.Language.DecodedSteps.{AreEntries, AreEntriesOf, entry_steps}
+use Rattle.mm_machine.specs.Language.NamedSteps.{AreUses, AreUsesWithin}
+use Rattle.mm_machine.specs.Language.NumberedSymbols.{by_code, by_number, all_by_number}
 use Rattle.mm_verdict.specs.Code.NumberedBase.{ByNames, numbered_hypothesis, numbered_frame, numbered_setting}
-use Rattle.mm_machine.specs.declared.assertion.Cited.{Cited}
-use Rattle.mm_machine.specs.declared.assertion.Hypothesis.{Hypothesis}
+use Rattle.mm_machine.specs.declared.forms.Forms.{Forms}
+use Rattle.mm_machine.specs.declared.symbol.CodedSymbol.{CodedSymbol}
 use Rattle.mm_verdict.specs.declared.known.Known.{Known}
 use Rattle.mm_verdict.specs.declared.named.{Numbers.{Numbers}, NamingRoom.{NamingRoom}}
 use Rattle.mm_machine.specs.declared.named.Named.{Named}
@@ -44,57 +43,40 @@ abbrev pub HasHypothesis : List (List ℕ) → BaseView → List (Bor (List Numb
 HasHypothesis names view hypotheses n j =
     (e : List Symbol) × (slice_get (expressions_named hypotheses) n ≡ Some e) × (e ≡ (numbered_hypothesis names view j).expression)
 
--- the label is an entry of the table of a proof in this base
-pub record IsNamedBy (code : Base) (label : Resolved) : Type 0 where
-  pub view : BaseView
-  pub i : ℕ
-  pub base : IsBase view code
-  pub within : i < length view
-  pub entry : IsEntry view i label
-
 -- the hypotheses are those that the base has under these numbers
 pub record AreShown (code : Base) (numbers : List ℕ) (hypotheses : List (Bor (List NumberedSymbol))) : Type 0 where
   pub count : length hypotheses ≡ length numbers
   pub each : ByNames code (λ names view. (n j : ℕ) → slice_get numbers n ≡ Some j → is_shown_at view j ≡ true → HasHypothesis names view hypotheses n j)
-
--- the assertions with these numbers are entries of a table
-abbrev pub AreEntriesOf : Base → List ℕ → Type 0
-AreEntriesOf code numbers = All (λ j. IsNamedBy code (answers.Assertion j)) numbers
 
 -- the hypotheses that were named are those that the base has under their numbers, and the assertions are entries of a table
 pub record AreNamed (code : Base) (naming : Naming) : Type 0 where
   pub shown : AreShown code naming.hypothesis_numbers naming.hypotheses
   pub assertions : AreEntriesOf code naming.assertion_numbers
 
--- the frames of assertions, whose hypotheses are ranges of these
-abbrev pub frames_cited : List (Hypothesis NumberedSymbol) → List (Cited NumberedSymbol) → List Frame
-frames_cited mandatory assertions = map (frame_of by_number (hypotheses_of by_number mandatory)) assertions
-
 -- this place has the frame of the assertion with a number
 abbrev pub HasFrame : List (List ℕ) → BaseView → List Frame → ℕ → ℕ → Type 0
 HasFrame names view frames n j = (kept : Frame) × (slice_get frames n ≡ Some kept) × AreSameFrame kept (numbered_frame names view j)
 
 -- the assertions are those that the base has under these numbers
-pub record AreCited (code : Base) (numbers : List ℕ) (mandatory : List (Hypothesis NumberedSymbol)) (assertions : List (Cited NumberedSymbol)) : Type 0 where
-  pub count : length assertions ≡ length numbers
+pub record AreCited (code : Base) (numbers : List ℕ) (forms : Forms CodedSymbol) : Type 0 where
+  pub count : length (frames_of by_code forms) ≡ length numbers
   pub frames : ByNames code (λ names view. (n j : ℕ) → slice_get numbers n ≡ Some j → is_framed_at view j ≡ true
-      → HasFrame names view (frames_cited mandatory assertions) n j)
-  pub citable : All (IsCitable by_number (hypotheses_of by_number mandatory)) assertions
+      → HasFrame names view (frames_of by_code forms) n j)
+  pub citable : AreForms by_code forms
 
 -- assertions that a base has under these numbers, each an entry of a table
-pub record AreKnown (code : Base) (numbers : List ℕ) (mandatory : List (Hypothesis NumberedSymbol)) (assertions : List (Cited NumberedSymbol)) : Type 0 where
-  pub named : All (λ j. IsNamedBy code (answers.Assertion j)) numbers
-  pub cited : AreCited code numbers mandatory assertions
+pub record AreKnown (code : Base) (numbers : List ℕ) (forms : Forms CodedSymbol) : Type 0 where
+  pub named : AreEntriesOf code numbers
+  pub cited : AreCited code numbers forms
 
 -- the assertions that are kept are those of this base
 abbrev pub AreKnownOf : Base → Known → Type 0
-AreKnownOf code known = AreKnown code known.numbers.items.items known.named.mandatory.items known.named.assertions.items
+AreKnownOf code known = AreKnown code known.numbers.items.items known.forms
 
 -- nothing is named yet, and the same assertions are known
 pub record HasBegun (old new : Known) : Type 0 where
   pub numbers : new.numbers ≡ old.numbers
-  pub mandatory : new.named.mandatory ≡ old.named.mandatory
-  pub assertions : new.named.assertions ≡ old.named.assertions
+  pub forms : new.forms ≡ old.forms
   pub hypotheses : new.named.hypotheses.items ≡ []
   pub uses : new.named.uses.items ≡ []
 
@@ -129,20 +111,19 @@ pub record IsOneMore (code : Base) (old new : Naming) (used : Use) (label : Reso
 pub record AreEachNamed (code : Base) (labels : List Resolved) (old : Known) (naming : Naming) (now : Known) : Type 0 where
   pub named : AreNamed code naming
   pub known : Stays old.numbers.items.items now.numbers.items.items
-  pub mandatory : now.named.mandatory ≡ old.named.mandatory
-  pub assertions : now.named.assertions ≡ old.named.assertions
+  pub forms : now.forms ≡ old.forms
   pub stand : AllZip (IsUseIn naming) now.named.uses.items labels
 
 -- this is what these labels name in a base, as a machine runs it
-pub record IsNamesOf (code : Base) (labels : List Resolved) (named : Named NumberedSymbol) : Type 0 where
-  pub within : AreUsesWithin named
-  pub frames : AreCitable by_number named
+pub record IsNamesOf (code : Base) (labels : List Resolved) (forms : Forms CodedSymbol) (named : Named NumberedSymbol) : Type 0 where
+  pub within : AreUsesWithin forms named
+  pub citable : AreForms by_code forms
   pub means : ByNames code (λ names view. (i : ℕ) → AreEntries view i labels
-      → AreUses by_number named (numbered_setting names view i) (entry_steps view labels))
+      → AreUses by_code by_number forms named (numbered_setting names view i) (entry_steps view labels))
 
 -- the same, and its assertions are known
 pub record AreNamesOf (code : Base) (labels : List Resolved) (now : Known) : Type 0 where
-  pub named : IsNamesOf code labels now.named
+  pub named : IsNamesOf code labels now.forms now.named
   pub known : AreKnownOf code now
 
 -- the same of the labels that these steps name

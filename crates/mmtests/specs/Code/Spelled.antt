@@ -1,7 +1,6 @@
 -- The numbers by which symbols by name are looked for, and those of symbols by number.
-use Rattle.std.specs.Prelude.{◌≡◌, ◌≤◌, ℕ}
-use Rattle.mm_machine.specs.Language.Frame.{Symbol, Frame}
-use Rattle.mm_machine.specs.Language.Typing.{IsFrame}
+use Rattle.std.specs.Prelude.{◌≡◌, ℕ}
+use Rattle.mm_machine.specs.Language.Frame.{Symbol}
 use Rattle.mm_machine.specs.Language.Keys.{key_by_number, key_from}
 
 -- the number of a symbol by the bytes of its name
@@ -11,13 +10,3 @@ key_by_name symbol = key_from 0 symbol.name
 -- the key of a symbol by the bytes of its name is the number that its name is
 abbrev pub HasOneKey : Symbol → Type 0
 HasOneKey symbol = key_by_name symbol ≡ key_by_number symbol
-
--- what is said of an assertion: its range of hypotheses, and its frame
-abbrev pub ranged : ℕ → ℕ → Frame → ℕ × ℕ × Frame
-ranged first last frame = (first, last, frame)
-
--- the range is one of this many hypotheses
-pub record IsRanged (count : ℕ) (assertion : ℕ × ℕ × Frame) : Type 0 where
-  pub in_order : assertion.0 ≤ assertion.1
-  pub within : assertion.1 ≤ count
-  pub frame : IsFrame assertion.2

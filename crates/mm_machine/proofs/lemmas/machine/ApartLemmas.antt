@@ -4,8 +4,9 @@ use Rattle.std.proofs.lemmas.List.{length-drop, get_or-drop, get_or_at, take_res
 use Rattle.std.proofs.Common.{◌≡◌, ℕ, zero, suc, ◌+◌, ◌-◌, ◌<◌, ◌≤◌, Bool, Some, List, ◌∷◌, ◌++◌, length, map, take, drop, refl, sym, ◌∙◌, ap, subst, arith, inl, inr, ◌⊎◌, length-append, slice_get}
 use Rattle.std.proofs.Common.{Contains, [], true}
 use native.Mathlib.Decide.{dec_lt}
-use Rattle.mm_machine.specs.{Language.Frame.{Symbol, ArePair, HasVariable}, declared.{pattern.Entry.{Entry}, assertion.Hypothesis.{Hypothesis}}, Code.Flat.{read, IsEntryWithin}}
-use Rattle.mm_machine.{specs.Code.PairClause.{IsPair, GatheredUpTo, GathersOne, GathersEntry, Gathers}, proofs.lemmas.lists.Members.{contains_cases, contains_at, contains_get, pushed, take_next}}
+use Rattle.mm_machine.specs.{Language.Frame.{Symbol, Mandatory, ArePair, HasVariable}, declared.pattern.Entry.{Entry}, Code.Flat.{read, IsEntryWithin}}
+use Rattle.mm_machine.{specs.Code.PairClause.{IsPair, GatheredUpTo, GathersOne, GathersEntry, Gathers}, proofs.lemmas.machine.FlatLemmas.{behind_first}}
+use Rattle.mm_machine.proofs.lemmas.lists.Members.{contains_cases, contains_at, contains_get, pushed, take_next}
 
 -- it is said of each element up to a place
 abbrev pub EachUpTo : {X : Type 0} → (X → Type 0) → List X → ℕ → Type 0
@@ -66,6 +67,14 @@ gathered_more symbols front before after n s at (inr a) f =
           );
     })
 
+-- what an entry has after its typecode are this many last symbols of it
+pub given_last : {X : Type 0} (f : X → Symbol) (xs : List X) (e : Entry) (n : ℕ) → n ≡ e.end - e.start - 1 → e.start ≤ e.end
+    → map f (take (e.end - (e.end - n)) (drop (e.end - n) xs)) ≡ drop 1 (read (map f xs) e)
+given_last f xs e n is l = elim (dec_lt e.start e.end) [
+  | yes o ↦ (let at : e.end - n ≡ e.start + 1 = omega arith in rw at (behind_first f xs e.start e.end))
+  | no o ↦ (let all : e.end - (e.end - n) ≡ 0 = omega arith in let none : e.end - e.start ≡ 0 = omega arith in rw (all, none) refl)
+]
+
 -- what is at a place of a list that has grown
 pub last_at : {X : Type 0} (xs : List X) (x : X) (k : ℕ) → k ≡ length xs → slice_get (xs ++ x ∷ []) k ≡ Some x
 last_at xs x k e = slice_get-get_or (xs ++ x ∷ []) k x (omega (arith, length-append xs (x ∷ []))) ∙ ap Some (get_or_at xs x [] x k (sym e))
@@ -93,10 +102,10 @@ read_kept before after s kept l =
 read_last : (before after : List Symbol) (s : Entry) → s.start ≡ length before → s.end ≡ length after → read after s ≡ drop (length before) after
 read_last before after s a b = grind (arith, common_steps, take_rest) steps 200000
 
-pub gathers_step : {S : Type 0} (hypotheses : List (Hypothesis S)) (es : List (List Symbol)) (before after : List Symbol) (spans more : List Entry) (n : ℕ)
-    (h : Hypothesis S) (e : List Symbol) → slice_get hypotheses n ≡ Some h → slice_get es n ≡ Some e →
+pub gathers_step : (hypotheses : List Mandatory) (es : List (List Symbol)) (before after : List Symbol) (spans more : List Entry) (n : ℕ)
+    (h : Mandatory) (e : List Symbol) → slice_get hypotheses n ≡ Some h → slice_get es n ≡ Some e →
     GathersEntry h.floating e before after spans more → Gathers hypotheses es before spans n → Gathers hypotheses es after more (n + 1)
-gathers_step {S = S} hypotheses es before after spans more n h e at_h at_e a f = record {
+gathers_step hypotheses es before after spans more n h e at_h at_e a f = record {
   count = ap length a.added ∙ length-append spans (a.span ∷ []) ∙ ap (λ k. k + 1) f.count;
   within = λ k s at. elim (at_or_before k s at) [
     | inl b ↦ (let w = f.within k s b.1 in (w.0, omega arith))
@@ -108,7 +117,7 @@ gathers_step {S = S} hypotheses es before after spans more n h e at_h at_e a f =
         let same = ap (read after) (sym b.1) ∙ read_last before after a.span a.start a.end in
         let one = same_Some h g (sym at_h ∙ ap (slice_get hypotheses) (sym b.0) ∙ at_g) in
         let entry = same_Some e d (sym at_e ∙ ap (slice_get es) (sym b.0) ∙ at_d) in
-        rw (same, ← entry) (a.same (ap (λ (w : Hypothesis S). w.floating) one ∙ paired) v)
+        rw (same, ← entry) (a.same (ap (λ (w : Mandatory). w.floating) one ∙ paired) v)
   ];
 }
   where

@@ -71,7 +71,12 @@ module _ (active : List (Symbol × Symbol)) (frame : Frame) (is : IsFrame frame)
           (n11 given g) in
           z.1.5 (z.2.paired z.1.0 z.1.1 z.1.2 z.1.3 z.1.4))))) (shown _ (q own gives))
 
+  -- if nothing else is wrong, and the result that the entries give is too long
+  pub says_long : CitingSays active frame es None → (result : List Symbol) → 1000000 < length result → Each (λ given. result ≡ substituted given frame.expression) →
+      IsLowestCiting active frame stack P12
+  says_long says result long r = says12 says.0 (λ given g. (says.1 given g).0) (λ given g. (says.1 given g).1) (λ given g. subst (λ w. 1000000 < length w) (r given g) long)
+
   -- if nothing is wrong, the assertion is cited, and its result is any that the entries give
-  pub cited_by : CitingSays active frame es None → (result : List Symbol) → Each (λ given. result ≡ substituted given frame.expression) →
+  pub cited_by : CitingSays active frame es None → (result : List Symbol) → length result ≤ 1000000 → Each (λ given. result ≡ substituted given frame.expression) →
       Cites active frame stack (take (length stack - length frame.hypotheses) stack ++ result ∷ [])
-  cited_by says result r = grind (arith, common_steps, all_match, cites_by, count, given_by, gives) steps 200000
+  cited_by says result short r = grind (arith, common_steps, all_match, cites_by, count, given_by, gives) steps 200000

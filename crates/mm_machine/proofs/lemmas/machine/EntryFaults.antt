@@ -1,6 +1,6 @@
 -- What is found wrong with entries, place by place.
-use Rattle.std.proofs.{lemmas.{Grind.{elements}, Option.{slice_get_within, get_or_from_slice_get, same_Some}}, Common.{rules, ◌≡◌, ℕ, ◌+◌, ◌<◌, ◌≤◌, Some, List, length, drop, arith, slice_get}}
-use Rattle.mm_machine.specs.{Language.{Frame.{Symbol, Mandatory, Frame, HasVariable}, Typing.{IsFrame, IsTyped}, Faults.{AnyZip}}, Code.Citation.{IsSlot, GivesVariables, GivesEntries, AreAllTyped}}
+use Rattle.std.proofs.{lemmas.{Grind.{elements}, Option.{slice_get_within, get_or_from_slice_get, same_Some}}, Common.{rules, ◌≡◌, ℕ, ◌+◌, ◌<◌, ◌≤◌, Some, List, length, arith, slice_get}}
+use Rattle.mm_machine.specs.{Language.{Frame.{Symbol, Mandatory, Frame}, Typing.{IsFrame}, Faults.{AnyZip}}, Code.Citation.{GivesSlots, GivesEntries, AreAllTyped}}
 use Rattle.mm_machine.proofs.lemmas.{verdicts.Unique.{substituted-typing}, lists.Zips.{any_place, zip_at}}
 
 -- it holds at this place
@@ -25,17 +25,8 @@ none_all R xs ys n l f a =
     f p.0 (omega arith) (record { x = p.1; y = p.2; first = p.3; second = p.4; holds = p.5 })
 
 -- what is given for the variable of a slot
-pub slot_gives : (hs : List Mandatory) (given : Symbol → List Symbol) (es : List (List Symbol)) → AreAllTyped hs → GivesEntries given hs es → (j : ℕ) (v : Symbol) → IsSlot hs j v → (e : List Symbol) × (slice_get es j ≡ Some e) × (given v ≡ drop 1 e)
+pub slot_gives : (hs : List Mandatory) (given : Symbol → List Symbol) (es : List (List Symbol)) → AreAllTyped hs → GivesEntries given hs es → GivesSlots given hs es
 slot_gives hs given es is gives j v slot = grind (arith, elements, get_or_from_slice_get, slice_get_within, substituted-typing, zip_at) steps 200000
-
--- of an expression whose variables are typed
-pub gives_all : (hs : List Mandatory) (given : Symbol → List Symbol) (es : List (List Symbol)) (expression : List Symbol) → AreAllTyped hs
-    → GivesEntries given hs es → ((v : Symbol) → HasVariable expression v → IsTyped hs v) → GivesVariables given hs es expression
-gives_all hs given es expression is gives typed = record { typed = typed; slots = slot_gives hs given es is gives }
-
--- of a `$e`
-pub gives_essential : (hs : List Mandatory) (given : Symbol → List Symbol) (es : List (List Symbol)) (n : ℕ) (h : Mandatory) → AreAllTyped hs → GivesEntries given hs es → slice_get hs n ≡ Some h → GivesVariables given hs es h.expression
-gives_essential hs given es n h is gives at = gives_all hs given es h.expression is gives (is.typed h (n, slice_get_within hs n h at, get_or_from_slice_get hs n h h at))
 
 pub hypotheses_known : (frame : Frame) → IsFrame frame → AreAllTyped frame.hypotheses
 hypotheses_known frame is = record { typings = is.typings; typed = is.hypotheses_typed }

@@ -1,8 +1,8 @@
 -- Ranges of a flat list, and the expressions under what they give.
 use Rattle.std.proofs.lemmas.Grind.{common_steps, elements, flat_map-append}
-use Rattle.std.proofs.lemmas.List.{append-nil, take_more, take-append-drop, take-map, drop-map, length-map, drop_all, drop-drop, get_or-map, get_or_default, append_cancel_left, take_at}
+use Rattle.std.proofs.lemmas.List.{append-nil, take_more, take-append-drop, take-map, drop-map, length-map, drop-drop, get_or-map, get_or_default, length-take, length-drop, get_or-take, get_or-drop}
 use Rattle.std.proofs.lemmas.Option.{slice_get_within, get_or_from_slice_get, slice_get-get_or}
-use Rattle.std.proofs.Common.{◌≡◌, ℕ, zero, suc, ◌+◌, ◌-◌, ◌<◌, ◌≤◌, Some, List, [], ◌∷◌, ◌++◌, length, map, take, drop, get_or, sym, ◌∙◌, ap, length-append, ◌↔◌, arith, slice_get, refl}
+use Rattle.std.proofs.Common.{◌≡◌, ℕ, zero, suc, ◌+◌, ◌-◌, ◌<◌, Some, List, [], ◌∷◌, ◌++◌, length, map, take, drop, get_or, min, sym, ◌∙◌, ap, arith, slice_get, refl}
 use Rattle.mm_machine.specs.{Language.{Frame.{Symbol}, Substitution.{substituted, replacement}, CitedFrames.{range_of}}, declared.pattern.Entry.{Entry}, Code.Flat.{read}}
 
 -- what is at a place of a list that is mapped
@@ -29,7 +29,7 @@ pub mapped_or : {X Y : Type 0} (f : X → Y) (xs : List X) (n : ℕ) (d : X) (y 
 mapped_or f xs n d y l e = mapped_at f xs n (get_or xs n d) y l (get_or_default xs n d (get_or xs n d) l) e
 
 -- after the first symbol of a range
-drop_one_take : {X : Type 0} (m : ℕ) (xs : List X) → drop 1 (take m xs) ≡ take (m - 1) (drop 1 xs)
+pub drop_one_take : {X : Type 0} (m : ℕ) (xs : List X) → drop 1 (take m xs) ≡ take (m - 1) (drop 1 xs)
 drop_one_take zero [] = grind (arith, elements) steps 200000
 drop_one_take zero (x ∷ xs) = grind (arith, elements) steps 200000
 drop_one_take (suc m) [] = grind (arith, elements) steps 200000
@@ -46,44 +46,11 @@ put_more given expression k s e =
     ∙ ap (λ w. substituted given (take k expression) ++ w) (append-nil (replacement given (get_or expression k s)))
     ∙ ap (λ w. substituted given (take k expression) ++ replacement given w) (get_or_from_slice_get expression k s s e)
 
--- if the lists mean the same, so do their elements
-pub same_at : {S M : Type 0} (f : S → M) (xs ys : List S) (i : ℕ) (x y : S) → x ≡ get_or xs i x → y ≡ get_or ys i y → i < length xs → i < length ys → map f xs ≡ map f ys → f x ≡ f y
-same_at f xs ys i x y at_x at_y in_xs in_ys e = grind (arith, common_steps, get_or-map f xs i x (f x) in_xs, get_or-map f ys i y (f x) in_ys) steps 200000
-
 -- the whole expression, by the symbols so far, one more, and the rest
 pub put_rest : (given : Symbol → List Symbol) (expression : List Symbol) (k : ℕ) (s : Symbol) → slice_get expression k ≡ Some s
     → substituted given expression ≡ substituted given (take k expression) ++ (replacement given s ++ substituted given (drop (k + 1) expression))
 put_rest given expression k s e =
     grind (arith, common_steps, take-append-drop (k + 1) expression, flat_map-append (replacement given) (take (k + 1) expression) (drop (k + 1) expression), put_more given expression k s e) steps 200000
-
--- a list goes on with a part
-pub fits_on : (entry front part : List Symbol) (at n : ℕ) → part ≡ take n (drop at entry) → entry ≡ front ++ drop at entry → entry ≡ (front ++ part) ++ drop (at + n) entry
-fits_on entry front part at n p e = grind (arith, common_steps, take-append-drop n (drop at entry), drop-drop n at entry) steps 200000
-
--- if the expression gives the whole entry, the entry's next part is that of the next symbol
-pub fits_next : (given : Symbol → List Symbol) (expression : List Symbol) (k : ℕ) (s : Symbol) (entry : List Symbol) (at : ℕ)
-    → slice_get expression k ≡ Some s → entry ≡ substituted given (take k expression) ++ drop at entry → substituted given expression ≡ entry →
-    drop at entry ≡ replacement given s ++ substituted given (drop (k + 1) expression)
-fits_next given expression k s entry at is e whole = append_cancel_left (substituted given (take k expression)) (drop at entry)
-    (replacement given s ++ substituted given (drop (k + 1) expression)) (sym e ∙ sym whole ∙ put_rest given expression k s is)
-
-pub fits_short : (rest part more : List Symbol) → rest ≡ part ++ more → length part ≤ length rest
-fits_short rest part more e = let n = ap length e in omega (arith, length-append part more)
-
-pub fits_part : (rest part more : List Symbol) (n : ℕ) → length part ≡ n → rest ≡ part ++ more → part ≡ take n rest
-fits_part rest part more n l e = sym (ap (take n) e ∙ take_at part more n l)
-
-pub none_left : {X : Type 0} (n : ℕ) (xs : List X) → drop n xs ≡ [] → length xs ≤ n
-none_left zero (x ∷ xs) e = cc
-none_left (suc n) (x ∷ xs) e = let h = none_left n xs e in omega arith
-none_left _ [] e = omega arith
-
-pub fits_end : (whole entry : List Symbol) (at : ℕ) → at ≤ length entry → entry ≡ whole ++ drop at entry → (at ≡ length entry) ↔ (whole ≡ entry)
-fits_end whole entry at l e = grind (arith, common_steps, append-nil, append_cancel_left, drop_all, none_left) steps 200000
-
--- a range, before and after the map
-pub range_map : {X Y : Type 0} (f : X → Y) (xs : List X) (at n : ℕ) → map f (take (at + n - at) (drop at xs)) ≡ take n (drop at (map f xs))
-range_map f xs at n = grind (arith, common_steps, take-map f n (drop at xs), drop-map f at xs) steps 200000
 
 -- an entry, before and after the map
 pub entry_map : {X : Type 0} (f : X → Symbol) (xs : List X) (e : Entry) → map f (take (e.end - e.start) (drop e.start xs)) ≡ read (map f xs) e
@@ -92,6 +59,11 @@ entry_map f xs e = sym (take-map f (e.end - e.start) (drop e.start xs)) ∙ ap (
 pub mapped_or_get : {X Y : Type 0} (f : X → Y) (xs : List X) (n : ℕ) (d : X) → n < length xs → slice_get (map f xs) n ≡ Some (f (get_or xs n d))
 mapped_or_get f xs n d l = mapped_get f xs n (get_or xs n d) l (get_or_default xs n d (get_or xs n d) l)
 
--- a range before and after a map
-pub range_mapped : {X Y : Type 0} (f : X → Y) (first last : ℕ) (xs : List X) → map f (range_of first last xs) ≡ range_of first last (map f xs)
-range_mapped f first last xs = sym (take-map f (last - first) (drop first xs)) ∙ ap (take (last - first)) (sym (drop-map f first xs))
+-- the first element of a range
+pub range_first : {X Y : Type 0} (f : X → Y) (xs : List X) (a b : ℕ) (x : X) → a < b → a < length xs → x ≡ get_or xs a x → slice_get (range_of a b (map f xs)) 0 ≡ Some (f x)
+range_first f xs a b x some within is =
+    let ys = map f xs in
+    let long : length (range_of a b ys) ≡ min (b - a) (length ys - a) = length-take (b - a) (drop a ys) ∙ ap (min (b - a)) (length-drop a ys) in
+    let here : 0 < length (range_of a b ys) = omega (arith, long, length-map xs f) in
+    slice_get-get_or (range_of a b ys) 0 (f x) here
+    ∙ ap Some (get_or-take (b - a) (drop a ys) 0 (f x) (omega arith) ∙ get_or-drop a ys 0 (f x) ∙ ap (λ k. get_or ys k (f x)) (omega arith) ∙ get_or-map f xs a x (f x) within ∙ ap f (sym is))

@@ -1,7 +1,7 @@
 -- A renaming of symbols, one to one, keeps verdicts.
 use Rattle.std.proofs.lemmas.{Grind.{common_steps}, Option.{slice_get-map}, List.{length-map, get_or-map, map-append, drop-map, Elements.{All-map}}}
-use Rattle.std.proofs.Common.{◌≡◌, ◌≢◌, ℕ, ◌+◌, ◌-◌, Option, Some, None, Ok, Err, List, ◌∷◌, length, map, take, get_or, refl, sym, ap, ap₂, ◌∙◌, subst, subst₂, arith, slice_get, Contains, All, Any}
-use Rattle.std.{proofs.Common.{pos, if◌then◌else◌, []}, specs.{List.{AllZip}, Option.{option_or}, Ordering.{int_eq}}}
+use Rattle.std.proofs.Common.{◌≡◌, ◌≢◌, ℕ, ◌+◌, Option, Some, None, Ok, Err, List, ◌∷◌, length, map, take, get_or, refl, sym, ap, ap₂, ◌∙◌, subst, subst₂, arith, slice_get, Contains, All, Any, pos}
+use Rattle.std.{proofs.Common.{if◌then◌else◌, []}, specs.{List.{AllZip}, Option.{option_or}, Ordering.{int_eq}}}
 use Rattle.mm_machine.specs.Language.{Frame.{Symbol, Mandatory, Frame, LabelMeaning, Hypothesis, Assertion, Setting, ArePair, HasVariable}, Substitution.{substituted}}
 use Rattle.mm_machine.specs.Language.Derivation.{Derives, DeriveInOrder, by_hypothesis, by_assertion, nothing, first_then, Takes, AreApart}
 use Rattle.mm_machine.specs.Language.Expansion.{Step, Named, Save, Expanded, expand_one, expand_from, last_part, weight, taken_by}

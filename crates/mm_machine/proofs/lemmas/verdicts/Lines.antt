@@ -1,6 +1,6 @@
 -- If a fault of a step holds, nothing is reached by it.
 use Rattle.std.proofs.lemmas.{Grind.{common_steps}, List.{length-map, Elements.{All-contains}}, Option.{slice_get-map}}
-use Rattle.std.proofs.Common.{◌≡◌, ◌≢◌, ◌-◌, ◌<◌, true, false, List, length, ◌∙◌, ap, subst, arith, length-append, slice_get, All, Any, Some, ℕ}
+use Rattle.std.proofs.Common.{◌≡◌, ◌≢◌, ◌<◌, true, false, List, length, ◌∙◌, ap, subst, arith, length-append, slice_get, All, Any, Some, ℕ}
 use Rattle.mm_machine.specs.Language.{Frame.{Symbol, Mandatory, Frame}, Substitution.{substituted}, Derivation.{AreApart, ShareVariable}, Typing.{IsTyped, IsFrame, IsTyping}, Steps.{Cites}}
 use Rattle.mm_machine.specs.{Language.Faults.{AnyZip, last_entries, LackPair, CitingFails, UnderSubstitution}, declared.ProofNumber.{ProofNumber, TheVariants.{P07, P08, P09, P10, P11, P12}}}
 use Rattle.mm_machine.proofs.lemmas.{verdicts.Unique.{substituted-typing, same_substituted, FloatsMatch, agree, floats_of, parts_are}, lists.{Members.{contains_at}, Zips.{any_place, any_at}}}

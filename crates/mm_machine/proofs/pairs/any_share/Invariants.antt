@@ -1,7 +1,6 @@
 use Rattle.std.proofs.Common.{map}
-use Rattle.mm_machine.{specs.{Language.{Frame.{Symbol}, CitedFrames.{meant_pairs, hypotheses_of}}, Code.PairClause.{SomeShared, AtSlots}}, proofs.lemmas.machine.ApartLemmas.{EachUpTo}}
+use Rattle.mm_machine.{specs.Code.PairClause.{SomeShared, AtSlots}, proofs.lemmas.machine.ApartLemmas.{EachUpTo}}
 use Rattle.mm_machine.proofs.pairs.any_share.Given as goal
 
 abbrev pub invariant-loop-n : goal.invariant-loop-n
-invariant-loop-n g l = EachUpTo (λ (p : Symbol × Symbol). AtSlots (λ xs ys. SomeShared xs ys → ⊥) (hypotheses_of g.S.Symbol.means l.taken.hypotheses.now)
-    (map g.S.Symbol.means l.gathered.variables.items) l.gathered.spans.items p) (meant_pairs g.S.Symbol.means l.pairs) l.n
+invariant-loop-n g l = EachUpTo (AtSlots (λ xs ys. SomeShared xs ys → ⊥) (map g.S.Symbol.means l.gathered.variables.items) l.gathered.spans.items) l.pairs l.n

@@ -1,10 +1,12 @@
-use Rattle.std.proofs.Common.{◌≡◌, ◌≤◌, ◌++◌, List, length, map, take, drop}
-use Rattle.mm_machine.specs.{Language.{Frame.{Symbol}, Substitution.{substituted}, CitedFrames.{hypotheses_of}}, Code.Citation.{GivesVariables, entries_of}}
+use Rattle.std.proofs.Common.{◌≤◌, ◌-◌, length, map, drop}
+use Rattle.mm_machine.{specs.Code.{Filling.{AreSlotsWithin, pattern_filled}, Flat.{read_all}}, proofs.lemmas.machine.FillLemmas.{Fitting}}
 use Rattle.mm_machine.proofs.pattern.fits.Given as goal
 
-abbrev pub invariant-loop-place : goal.invariant-loop-place
-invariant-loop-place g l = record {
-  low : l.at ≤ length l.entry;
-  joined : (given : Symbol → List Symbol) → GivesVariables given (hypotheses_of g.S.Symbol.means l.taken.hypotheses.now) (entries_of g.S.Symbol.means l.taken) (map g.S.Symbol.means l.expression) →
-      map g.S.Symbol.means l.entry ≡ substituted given (take l.place (map g.S.Symbol.means l.expression)) ++ drop l.at (map g.S.Symbol.means l.entry);
+abbrev pub invariant-loop-n : goal.invariant-loop-n
+invariant-loop-n g l = record {
+  within : l.at ≤ l.entry.end;
+  from : l.from ≤ l.pattern.end;
+  slots : AreSlotsWithin (length l.entries) (l.pattern.end - l.from) (drop l.n l.slots);
+  fitting : Fitting (map g.S.Symbol.means l.all) (map g.S.Symbol.means l.symbols) l.entries l.entry
+      (pattern_filled g.S.Symbol.means l.forms (read_all (map g.S.Symbol.means l.all) l.entries) l.pattern) l.at l.from l.pattern.end (drop l.n l.slots);
 }

@@ -2,4 +2,4 @@ use Rattle.mm_machine.{specs.{Language.CitedFrames.{hypotheses_of}, Code.Citatio
 use Rattle.mm_machine.proofs.slots.slot_of.Given as goal
 
 abbrev pub invariant-loop-place : goal.invariant-loop-place
-invariant-loop-place g l = EachUpTo (λ h. IsTypingOf h (g.S.Symbol.means l.variable) → ⊥) (hypotheses_of g.S.Symbol.means l.hypotheses) l.place
+invariant-loop-place g l = EachUpTo (λ h. IsTypingOf h (g.S.Listed.Symbol.means l.variable) → ⊥) (hypotheses_of g.S.Listed.Symbol.means l.hypotheses) l.place

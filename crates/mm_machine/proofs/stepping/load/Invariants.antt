@@ -6,5 +6,5 @@ abbrev pub invariant-loop-n : goal.invariant-loop-n
 invariant-loop-n g l = record {
   whole : AreRanges l.machine;
   stack : (state_of g.S.Symbol.means l.machine).stack ≡ [];
-  saved : (state_of g.S.Symbol.means l.machine).saved ≡ take l.n (named_expressions g.S.Symbol.means l.named);
+  saved : (state_of g.S.Symbol.means l.machine).saved ≡ take l.n (named_expressions g.S.Listed.Symbol.means l.named);
 }

@@ -5,7 +5,7 @@ use Rattle.mm_machine.proofs.stepping.run.Goals as goal
 
 pub returns-in-Some-clause-says : goal.returns-in-Some-clause-says
 returns-in-Some-clause-says g c place names is pairs all =
-    grind (arith, stopped_says place (actions_mean names c.args.steps.now) (map g.S.Symbol.means c.args.statement.now) c.in-Some.outcome ((rw c.in-Some.is at c.in_ok-outcome.ensures.says) place names is pairs all)) steps 200000
+    grind (arith, stopped_says place (actions_mean names c.args.steps.now) (map g.S.Listed.Symbol.means c.args.statement.now) c.in-Some.outcome ((rw c.in-Some.is at c.in_ok-outcome.ensures.says) place names is pairs all)) steps 200000
 
 pub returns-then-len-ne1-clause-says : goal.returns-then-len-ne1-clause-says
 returns-then-len-ne1-clause-says g c place names is pairs all =

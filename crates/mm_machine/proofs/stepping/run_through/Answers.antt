@@ -1,5 +1,5 @@
 use Rattle.std.proofs.{lemmas.{Grind.{elements}, List.{length-map}, Option.{slice_get-get_or}}, Common.{◌≡◌, ◌≤◌, length-append, ◌-◌, ◌<◌, ℕ, Some, length, take, get_or, sym, ◌∙◌, ap, subst, arith}}
-use Rattle.mm_machine.specs.{Language.{Reaches.{Reaches}, NamedSteps.{meant, IsSavedWithin, actions_mean, named_expressions, named_frames, saves_in}}, declared.step.ProofStep.{ProofStep}}
+use Rattle.mm_machine.specs.{Language.{Reaches.{Reaches}, NamedSteps.{meant, IsSavedWithin, actions_mean, named_expressions, saves_in}, Forms.{frames_of}}, declared.step.ProofStep.{ProofStep}}
 use Rattle.mm_machine.proofs.lemmas.machine.{Reaching.{at_start}, StepLemmas.{nothing_known, follows_more, fault_here, unknown_here, reached_all, means_known, action_at, saves_next}}
 use Rattle.mm_machine.proofs.lemmas.verdicts.Part.{all_run, known_more}
 use Rattle.mm_machine.specs.declared.step.Action.TheVariants as actions
@@ -41,7 +41,7 @@ returns-in-Some-2-clause-says g c place names is pairs all =
     let f = c.loop-place.invariant.follows place names is pairs all in
     let at = action_at names c.args.steps.now k nowhere (omega (arith, c.loop-place-test.true)) in
     let means = c.in-Some.ensures.means place names all in
-    let known = means_known (named_expressions m c.args.named.now) (named_frames m c.args.named.now) place c.in-Some.task step means in
+    let known = means_known (named_expressions g.S.Listed.Symbol.means c.args.named.now) (frames_of m c.args.forms.now) place c.in-Some.task step means in
     let turns = rw c.in-Some-2.is at c.in_ok-number.ensures.turns in
     fault_here place is (actions_mean names c.args.steps.now) k step f.1 c.in-Some-2.number f.0 at known f.3 (turns place step f.1 pairs f.2 means)
 
@@ -60,16 +60,16 @@ loop-place-preserved g c =
           let f = c.loop-place.invariant.follows place names is pairs all in
           let at = action_at names c.args.steps.now k nowhere within in
           let means = c.in-Some.ensures.means place names all in
-          let known = means_known (named_expressions m c.args.named.now) (named_frames m c.args.named.now) place c.in-Some.task step means in
+          let known = means_known (named_expressions g.S.Listed.Symbol.means c.args.named.now) (frames_of m c.args.forms.now) place c.in-Some.task step means in
           let t = (rw c.in_default-2.is at c.in_ok-number.ensures.turns) place step f.1 pairs f.2 means in
           (known_more steps k step at known f.0, t.0, t.1, follows_more place steps k step f.1 t.0 at f.3 t.2);
     }
 
 pub load-requires-clause-whole : goal.load-requires-clause-whole
-load-requires-clause-whole g c = c.clear.ensures.whole
+load-requires-clause-whole g c = c.in_ok-clear.ensures.whole
 
 pub load-requires-clause-nothing : goal.load-requires-clause-nothing
-load-requires-clause-nothing g c = c.clear.ensures.state
+load-requires-clause-nothing g c = c.in_ok-clear.ensures.state
 
 pub returns-in_default-clause-within : goal.returns-in_default-clause-within
 returns-in_default-clause-within g c = c.loop-place-test.true

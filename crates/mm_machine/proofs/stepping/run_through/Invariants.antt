@@ -7,6 +7,6 @@ abbrev pub invariant-loop-place : goal.invariant-loop-place
 invariant-loop-place g l = record {
   whole : AreRanges l.machine;
   count : length l.machine.saved.items ≡ length l.named.hypotheses.items + saves_in (take l.place l.steps);
-  follows : (place : Setting) (names : List Step) → HasFrames place → AreSamePairs (meant_pairs g.S.Symbol.means l.active.pairs.now) place.active → AreUses g.S.Symbol.means l.named place names →
-      KnownUpTo (actions_mean names l.steps) l.place × (state : State) × HasState g.S.Symbol.means (named_expressions g.S.Symbol.means l.named) l.machine state × Follows place (take l.place (actions_mean names l.steps)) state;
+  follows : (place : Setting) (names : List Step) → HasFrames place → AreSamePairs (meant_pairs g.S.Listed.Symbol.means l.active.pairs.now) place.active → AreUses g.S.Symbol.means g.S.Listed.Symbol.means l.forms l.named place names →
+      KnownUpTo (actions_mean names l.steps) l.place × (state : State) × HasState g.S.Symbol.means (named_expressions g.S.Listed.Symbol.means l.named) l.machine state × Follows place (take l.place (actions_mean names l.steps)) state;
 }

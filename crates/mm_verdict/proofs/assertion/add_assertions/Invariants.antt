@@ -3,4 +3,4 @@ use Rattle.mm_verdict.specs.Code.NamedItems.{AreCited}
 use Rattle.mm_verdict.proofs.assertion.add_assertions.Given as goal
 
 abbrev pub invariant-loop-place : goal.invariant-loop-place
-invariant-loop-place l = AreCited l.base (take l.place l.numbers) l.mandatory.items l.assertions.items
+invariant-loop-place l = AreCited l.base (take l.place l.numbers) l.forms

@@ -13,7 +13,7 @@ name_all-requires c =
 pub run-requires : goal.run-requires
 run-requires c = record {
   saved = rw c.deref.ensures.value (decoded_saved c.mandatory_are_active.ensures c.decodes_surely.ensures _ _ _ _ _ c.requires.decoded.1);
-  frames = c.in_ok-name_all.ensures.named.frames;
+  frames = c.in_ok-name_all.ensures.named.citable;
   within = c.in_ok-name_all.ensures.named.within;
 }
 

@@ -15,7 +15,7 @@ name_used-requires c =
 pub run_counted-requires : goal.run_counted-requires
 run_counted-requires c = record {
   saved = rw c.deref-steps.ensures.value (saved_before_front c.args.proof.decoding.now.steps.items c.steps_before-count.result (decoded_saved c.mandatory_are_active.ensures c.decodes_surely.ensures _ _ _ _ _ c.requires.decoded.1));
-  frames = c.in_ok-name_used.ensures.names.named.frames;
+  frames = c.in_ok-name_used.ensures.names.named.citable;
   within = c.in_ok-name_used.ensures.names.named.within;
 }
 

@@ -1,6 +1,6 @@
 -- A proof that is decoded, and what a run says of it.
 use Rattle.std.proofs.Common.{◌≡◌, ℕ, zero, suc, ◌<◌, true, false, cond, Some, Ok, Err, List, [], ◌∷◌, length, take, get_or, refl, sym, ◌∙◌, ap, subst, arith, inl, inr, slice_get, All, count_by}
-use Rattle.std.proofs.lemmas.{Grind.{common_steps, elements}, List.{take-map, length-take-le, Elements.{All-nil, All-cons, All-head, All-tail}, Sums.{sum_by-cons}}, Option.{slice_get-map}}
+use Rattle.std.proofs.lemmas.{Grind.{common_steps, elements}, List.{take-map, Elements.{All-nil, All-cons, All-head, All-tail}, Sums.{sum_by-cons}}, Option.{slice_get-map}}
 use Rattle.std.specs.Option.{option_map}
 use Rattle.mm_frame.specs.{declared.base.{Base.{Base}, Resolved.{Resolved}}, Language.{Base.{BaseView, before, said_at, is_framed_at}, Framing.{mandatory_numbers}, Answering.{IsBase}}}
 use Rattle.mm_machine.specs.Language.{Frame.{Symbol, Setting}, Expansion.{Step, Saved, NotKnown}, Machine.{AreDecoded, is_save}, Run.{AreDone}}
@@ -8,10 +8,9 @@ use Rattle.mm_machine.specs.{Language.{NamedSteps.{meant, AreSavedBefore, IsSave
 use Rattle.mm_machine.specs.declared.{step.{ProofStep.{ProofStep}, ProofFault.{ProofFault}}, stepping.Outcome.{Outcome, TheVariants.{Proved, Fault, Unknown, NotOne, Other}}}
 use Rattle.mm_machine.specs.declared.Verdict.TheVariants.{Wrong}
 use Rattle.mm_verdict.specs.Language.{BaseLabels.{AreActive, setting_at}, DecodingLaws.{DecodesSurely, MandatoryAreActive}, VerdictAt.{mandatory_labels, AreDoneIn, decoding_at, statement_at}}
-use Rattle.mm_verdict.specs.{Language.{DecodedSteps.{decoded_steps, decoding_of, AreEntries, entry_steps, label_table, labels_at, TellsFault}, Citing.{cites}}, Code.Decoded.{WhereActive}}
-use Rattle.mm_verdict.specs.{Code.{Judged.{IsDecoding, IsTheorem, done_by}, NamedItems.{IsNamedBy}, UsedLabels.{IsPart}, DecodedProof.{IsJudgedProof}}, declared.reading.Decoding.{Decoding}}
-use Rattle.mm_verdict.{specs.declared.{undecoded.Undecoded.{Undecoded}, work.Checked.{Checked}}, proofs.lemmas.{base.FrameLemmas.{framed_proof}, verdicts.ItemLemmas.{active_usable}}}
-use Rattle.mm_verdict.proofs.lemmas.machine.UsedLemmas.{entry_of, part_entries}
+use Rattle.mm_verdict.specs.{Language.{DecodedSteps.{decoded_steps, decoding_of, AreEntries, IsNamedBy, entry_steps, label_table, labels_at, TellsFault}, Citing.{cites}}, Code.Decoded.{WhereActive}}
+use Rattle.mm_verdict.specs.{Code.{Judged.{IsDecoding, IsTheorem, done_by}, UsedLabels.{IsPart}, DecodedProof.{IsJudgedProof}}, declared.{reading.Decoding.{Decoding}, undecoded.Undecoded.{Undecoded}}}
+use Rattle.mm_verdict.{specs.declared.work.Checked.{Checked}, proofs.lemmas.{base.FrameLemmas.{framed_proof}, verdicts.ItemLemmas.{active_usable}, machine.UsedLemmas.{entry_of, part_entries}}}
 use Rattle.mm_machine.specs.declared.step.Action.TheVariants as actions
 use Rattle.mm_verdict.specs.declared.undecoded.Undecoded.TheVariants as errors
 

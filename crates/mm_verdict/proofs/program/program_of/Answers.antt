@@ -42,7 +42,7 @@ returns-clause-means c names view read proof =
       decoded = decoded_steps view c.in_ok-decoding.decoding c.words_of_proof-proof.result;
       decodes = is.decodes;
       steps = refl;
-      uses = (rw c.deref.ensures.value at c.in_ok-named.ensures.means) names view read.base c.args.i is.entries;
+      uses = (rw c.deref.ensures.value at c.in_ok-known.ensures.named.means) names view read.base c.args.i is.entries;
     }
 
 pub returns-in_err-decoding-clause-fault : goal.returns-in_err-decoding-clause-fault

@@ -3,4 +3,4 @@ use Rattle.mm_machine.{specs.Language.CitedFrames.{meant_pair}, proofs.lemmas.ma
 use Rattle.mm_machine.proofs.active.Active.keys_at.Goals as goal
 
 pub returns : goal.returns
-returns g c p at = grind (arith, common_steps, mapped_or (meant_pair g.S.Symbol.means) c.args.self.now.pairs.now c.args.place c.index-self-place.result p c.requires at) steps 200000
+returns g c p at = grind (arith, common_steps, mapped_or (meant_pair g.S.Listed.Symbol.means) c.args.self.now.pairs.now c.args.place c.index-self-place.result p c.requires at) steps 200000

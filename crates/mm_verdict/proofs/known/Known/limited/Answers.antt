@@ -1,4 +1,4 @@
 use Rattle.mm_verdict.proofs.known.Known.limited.Goals as goal
 
-pub returns-then-len-assertions : goal.returns-then-len-assertions
-returns-then-len-assertions c base is = c.emptied.ensures base
+pub returns-then-size-gt-MOST_KNOWN : goal.returns-then-size-gt-MOST_KNOWN
+returns-then-size-gt-MOST_KNOWN c base is = c.emptied.ensures base

@@ -17,7 +17,6 @@ loop-label-preserved c =
     record {
       named = one.named;
       known = λ n j at. one.grows.assertions n j (is.known n j at);
-      mandatory = is.mandatory;
-      assertions = is.assertions;
+      forms = is.forms;
       stand = grind (arith, common_steps, take_more labels k (answers.Hypothesis 0) (omega (arith, c.loop-label-test.true))) steps 200000;
     }

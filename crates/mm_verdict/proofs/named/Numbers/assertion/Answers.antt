@@ -1,5 +1,5 @@
 use Rattle.std.proofs.{Common.{◌∷◌, [], ℕ, sym, subst, All}, lemmas.List.Elements.{All-append, All-cons, All-nil}}
-use Rattle.mm_verdict.{specs.Code.NamedItems.{IsNamedBy}, proofs.lemmas.machine.NamedLemmas.{stays_more, stands_last}}
+use Rattle.mm_verdict.{specs.Language.DecodedSteps.{IsNamedBy}, proofs.lemmas.machine.NamedLemmas.{stays_more, stands_last}}
 use Rattle.mm_frame.specs.declared.base.Resolved.TheVariants as answers
 use Rattle.mm_verdict.proofs.named.Numbers.assertion.Goals as goal
 
