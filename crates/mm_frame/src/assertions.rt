@@ -15,9 +15,10 @@ ghost use Rattle.mm_frame.specs.Code.LastItems.{is_disjoint_item};
 
 use crate::active_items::TakenItem;
 use crate::copied_lists::CopiedLists;
-use crate::draft::Frame;
+use crate::earlier::Earlier;
 use crate::expressions::Expressions;
-use crate::mandatory::{Earlier, FrameRoom, hypotheses, mandatory_pairs};
+use crate::frame::Frame;
+use crate::mandatory::{FrameRoom, hypotheses, mandatory_pairs};
 use crate::pair_lists::PairLists;
 use crate::room::next_frame;
 use crate::sparse::Sparse;

@@ -1,36 +1,29 @@
 //! What the items of files mean, from a top file on.
 
 ghost use Rattle.std.specs.Prelude.{All, true, false, ◌≡◌, ◌<◌, ◌≤◌, ◌↔◌, ◌&&◌, is_some, Some, None, List, length, ℕ};
-ghost use Rattle.std.specs.Prelude.{IfSome, IfOk, IfErr, IsErrOf, IsTrue, map, slice_get};
+ghost use Rattle.std.specs.Prelude.{IfSome, IsTrue, slice_get};
 ghost use Rattle.std.specs.Option.{option_map};
-ghost use Rattle.mm_store.specs.Language.FilesView.{files_in, number_of};
-ghost use Rattle.mm_store.specs.Language.Answers.{IsExpansionError};
-ghost use Rattle.mm_store.specs.declared.error.StoreError.TheVariants.{NoTop};
 ghost use Rattle.mm_statement.specs.Language.Item.{is_labelled};
 ghost use Rattle.mm_machine.specs.Language.Frame.{AreSamePairs};
 ghost use Rattle.mm_frame.specs.Language.Framing.{active_pairs, expression, mandatory_numbers, resolve};
-ghost use Rattle.mm_frame.specs.Language.Base.{BaseView, AreHypotheses, IsOfFiles, before, said_at, fault_at, expression_at, frame_at};
+ghost use Rattle.mm_frame.specs.Language.Base.{BaseView, AreHypotheses, before, said_at, fault_at, expression_at, frame_at};
 ghost use Rattle.mm_frame.specs.Language.Base.{is_proof_at, is_framed_at, is_shown_at, is_sound_at};
-ghost use Rattle.mm_machine.specs.Language.Names.{Begins};
 ghost use Rattle.mm_machine.specs.Language.NumberedSymbols.{symbols_of, kept_pairs, AreInOrder, IsNumbered, IsPairNumbered, ArePairsRead};
-ghost use Rattle.mm_frame.specs.Language.Older.{HasOlder};
 ghost use Rattle.mm_frame.specs.Code.KeptSymbols.{expression_kept};
-ghost use Rattle.mm_frame.specs.Language.Answering.{IsBase, IsBaseBy, StandsLater, pairs_in_order};
-ghost use Rattle.mm_frame.specs.Code.KeptBase.{is_float_item, hypotheses_at};
+ghost use Rattle.mm_frame.specs.Language.Answering.{IsBase, IsBaseBy, pairs_in_order};
+ghost use Rattle.mm_frame.specs.Code.KeptBase.{hypotheses_at};
 ghost use Rattle.mm_statement.specs.Language.Item as meant;
 ghost use Rattle.mm_statement.specs.Language.Statement.{kind_of};
 ghost use Rattle.mm_frame.specs.Language.Resolving.{IsCarrier, IsMeaning, IsUpTo, Resolves};
 ghost use Rattle.mm_frame.specs.declared.base.Resolved.TheVariants as answers;
 
-use crate::again::read_all_again;
-use crate::draft::{Draft, Frame, Parts};
+use crate::frame::Frame;
 use crate::judge::FrameFault;
-use crate::names::Names;
+use crate::parts::Parts;
 use crate::room::{BaseRoom, DraftRoom};
 use crate::sparse::{element_at, number_at};
 use mm_machine::NumberedSymbol;
-use mm_store::{Files, Item, ItemKind, StoreError};
-use std::alloc::{AllocError, Global};
+use mm_store::Item;
 use std::marker::Model;
 use std::mem;
 
@@ -40,12 +33,12 @@ use std::mem;
 /// up by hash. What a base keeps stands for the items of the files and what they say.
 #[derive(Drop)]
 pub struct Base {
-    items: Vec<Item>,
+    pub(crate) items: Vec<Item>,
     /// For each item whether it is a `$f`.
-    floats: Vec<bool>,
-    parts: Parts,
+    pub(crate) floats: Vec<bool>,
+    pub(crate) parts: Parts,
     /// The room of the base that was there before, for the one that is rebuilt next.
-    room: BaseRoom,
+    pub(crate) room: BaseRoom,
 }
 
 impl Model for Base {
@@ -73,89 +66,7 @@ pub enum Resolved {
     Unknown,
 }
 
-fn is_floating(kind: ItemKind) -> bool
-    ensures { result ≡ meant.is_kind meant.Floating (kind_of kind) }
-{
-    matches!(kind, ItemKind::Floating)
-}
-
-/// For each of some items whether it is a `$f`.
-fn floats_among(alloc: Global, items: &[Item]) -> Result<Vec<bool>, AllocError>
-    ensures { IfOk result (λ floats. floats.items ≡ map is_float_item items.now) }
-{
-    let mut floats = Vec::with_capacity(alloc, items.len())?;
-    for item in items {
-        floats.push(is_floating(item.kind))?;
-    }
-    Ok(floats)
-}
-
 impl Base {
-    /// Builds the base of the files from a top file on. `NoTop` comes if no file has the name `top`; any other
-    /// error is `Memory`. It reads each item once, in time near linear in the texts and in the lists of active pairs.
-    /// It makes one such list for each last active `$d` of a sound `$p`.
-    ///
-    /// A base has numbers in place of names of symbols, and is read through the names as they are afterwards, or through
-    /// any that begin with these. New names come after those that were there, also if there is an error.
-    pub fn build(
-        alloc: Global,
-        names: &mut Names,
-        files: &Files,
-        top: &[u8],
-    ) -> Result<Base, StoreError>
-        ensures base { IfOk result (λ built. (base : BaseView) × IsOfFiles files.now top.now built.items base × IsBaseBy names.new base built
-            × StandsLater names.new base built) }
-        ensures grows { Begins names.old names.new }
-        ensures no_top { IsErrOf result NoTop ↔ (number_of (files_in files.now) top.now ≡ None) }
-        ensures err { IfErr result IsExpansionError }
-    {
-        let items = files.statements(top)?;
-        let floats = floats_among(alloc, &items)?;
-        let draft = Draft::read_all(alloc, names, files, &items)?;
-        names.distinct();
-        Ok(Base {
-            items,
-            floats,
-            parts: draft.parts(),
-            room: BaseRoom::none(alloc),
-        })
-    }
-
-    /// Builds the base of the files from a top file on as `build` does, with an older base whose items can still be read. A
-    /// `$d`, `$e`, `$a` or `$p` may be the same bytes as an item of the older base, in the same order. The numbers of its
-    /// symbols are then taken from there, and no symbol is read. As long as all items are the same ones, what is sound is not
-    /// judged again.
-    ///
-    /// The lists are made in the room that the older base has from the one before it, if it has any. The older base answers as
-    /// before.
-    pub fn rebuild(
-        alloc: Global,
-        names: &mut Names,
-        files: &Files,
-        top: &[u8],
-        old: &mut Base,
-    ) -> Result<Base, StoreError>
-        requires older { HasOlder names.old files.now old.old }
-        ensures base { IfOk result (λ built. (base : BaseView) × IsOfFiles files.now top.now built.items base × IsBaseBy names.new base built
-            × StandsLater names.new base built) }
-        ensures grows { Begins names.old names.new }
-        ensures older { old.new ≡ old.old }
-        ensures no_top { IsErrOf result NoTop ↔ (number_of (files_in files.now) top.now ≡ None) }
-        ensures err { IfErr result IsExpansionError }
-    {
-        let BaseRoom { items, draft: room } = mem::replace(&mut old.room, BaseRoom::none(alloc));
-        let found = files.statements_in(top, items)?;
-        let floats = floats_among(alloc, &found)?;
-        let draft = read_all_again(alloc, names, files, &found, old, room)?;
-        names.distinct();
-        Ok(Base {
-            items: found,
-            floats,
-            parts: draft.parts(),
-            room: BaseRoom::none(alloc),
-        })
-    }
-
     /// The room of lists that nobody asks any more.
     fn into_room(self) -> BaseRoom {
         let Base { items, parts, .. } = self;

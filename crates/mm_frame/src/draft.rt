@@ -30,17 +30,16 @@ use crate::active_items::{ActiveItems, TakenItem, is_disjoint};
 use crate::assertions::Assertions;
 use crate::base::Base;
 use crate::blocks::Blocks;
+use crate::earlier::Earlier;
 use crate::expressions::Expressions;
 use crate::guesses::ListGuesses;
 use crate::item_rows::Rows;
 use crate::judge::{FrameFault, fault_of, is_sound_as_known};
-use crate::mandatory::Earlier;
 use crate::names::Names;
-use crate::pair_lists::PairLists;
 use crate::paired::PairTable;
+use crate::parts::Parts;
 use crate::room::DraftRoom;
 use crate::scope::Scope;
-use crate::sparse::Sparse;
 use crate::symbol::{put_symbols, put_variables};
 use crate::tables::Tables;
 use crate::take_over::{ActiveDisjoints, OldItem};
@@ -49,15 +48,6 @@ use mm_statement::Statement;
 use mm_store::{Files, Item, ItemKind};
 use std::alloc::{AllocError, Global};
 use std::mem;
-
-/// What citing an assertion needs.
-#[derive(Drop)]
-pub struct Frame {
-    /// The numbers of the mandatory hypotheses, rising.
-    pub hypotheses: Vec<usize>,
-    /// The mandatory pairs, each once, in the order of the `$f` of their variables.
-    pub pairs: Vec<(NumberedSymbol, NumberedSymbol)>,
-}
 
 /// What is kept of the items so far.
 #[derive(Drop)]
@@ -77,23 +67,6 @@ pub struct Draft<'a> {
     active: ActiveItems,
     /// The pairs of the active `$d`.
     pair_table: PairTable,
-}
-
-/// What is kept of all items.
-#[derive(Drop)]
-pub struct Parts {
-    pub tables: Tables,
-    pub blocks: Blocks,
-    /// The labels and the faults.
-    pub rows: Rows,
-    /// The symbols of each sound `$f`, `$e`, `$a`, `$p` and `$d`, by its number; none for any other item.
-    pub expressions: Expressions,
-    /// The frame of each sound `$a` and `$p`, by its number; none for any other item.
-    pub frames: Sparse<Frame>,
-    /// The lists of active pairs.
-    pub pair_lists: PairLists,
-    /// The number of the list of all active pairs, for each sound `$p`, by its number; none for any other item.
-    pub pair_numbers: Sparse<usize>,
 }
 
 /// The fault that is reported of an item of this kind, if its statement has this fault. Most often there is none, so nothing of

@@ -8,7 +8,7 @@ ghost use Rattle.mm_frame.specs.Language.Scope.{active_numbers};
 ghost use Rattle.mm_frame.specs.Code.LastItems.{is_essential_item, IsRising};
 
 use crate::expressions::Expressions;
-use crate::mandatory::is_among;
+use crate::rising::is_among;
 use mm_machine::NumberedSymbol;
 use std::alloc::{AllocError, Global};
 

@@ -9,12 +9,15 @@ mod asked;
 mod assertions;
 mod base;
 mod blocks;
+mod build;
 mod copied_lists;
 mod counts;
 mod draft;
+mod earlier;
 mod essential;
 mod examples;
 mod expressions;
+mod frame;
 mod guesses;
 mod item_rows;
 mod judge;
@@ -25,7 +28,9 @@ mod names;
 mod pair_lists;
 mod paired;
 mod partners;
+mod parts;
 mod places;
+mod rising;
 mod room;
 mod same;
 mod scope;
@@ -36,8 +41,8 @@ mod tables;
 mod take_over;
 
 pub use base::{Base, Resolved};
-pub use draft::Frame;
 pub use examples::frames_are_read_so;
+pub use frame::Frame;
 pub use judge::FrameFault;
 pub use laws::{
     active_by_blocks, active_in_blocks, assertions_have_frames, fault_is_found, floats_agree,

@@ -19,11 +19,13 @@ ghost use Rattle.mm_frame.specs.Code.KeptAsked.{KnowsAsked, AsksOn};
 
 use crate::asked::AskedPairs;
 use crate::blocks::Blocks;
-use crate::draft::Frame;
+use crate::earlier::Earlier;
 use crate::essential::EssentialVariable;
 use crate::expressions::Expressions;
+use crate::frame::Frame;
 use crate::paired::PairTable;
 use crate::partners::{PlacedVariables, add_partners, are_short, places_if_many};
+use crate::rising::is_among;
 use crate::room::copy_in;
 use crate::tables::Tables;
 use mm_machine::NumberedSymbol;
@@ -58,23 +60,6 @@ impl FrameRoom {
             gone: gone.into_iter(),
         }
     }
-}
-
-/// What is known of the sound items before an assertion.
-#[derive(Clone, Copy)]
-pub struct Earlier<'a> {
-    /// What they declare.
-    pub tables: &'a Tables,
-    /// The pairs of their `$d`.
-    pub pairs: &'a PairTable,
-    /// Their blocks.
-    pub blocks: &'a Blocks,
-    /// The numbers of the active `$e`, rising.
-    pub essentials: &'a [usize],
-    /// The variables of these.
-    pub variables: &'a [EssentialVariable],
-    /// The symbols of each, by its number.
-    pub expressions: &'a Expressions,
 }
 
 /// Adds the number of the `$f` of a symbol that is a variable.
@@ -162,13 +147,6 @@ pub fn hypotheses(
     numbers.dedup();
     let kept = copy_in(alloc, list, numbers)?;
     Ok(kept)
-}
-
-/// Whether a number is one of some that rise.
-pub fn is_among(numbers: &[usize], number: usize) -> bool
-    ensures { IsRising numbers.now → result ≡ paired.is_among numbers.now number }
-{
-    numbers.binary_search(&number).is_ok()
 }
 
 /// Whether a number is at a place.

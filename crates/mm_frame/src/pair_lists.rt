@@ -14,7 +14,7 @@ ghost use Rattle.mm_frame.specs.Code.KeptPairLists.{AreFrontNumbers, HasSame, Ha
 
 use crate::expressions::Expressions;
 use crate::room::{copy_in, move_in, next_list};
-use crate::same::same_pairs;
+use crate::symbol::same_pairs;
 use mm_machine::NumberedSymbol;
 use std::alloc::{AllocError, Global};
 use std::collections::HashMap;

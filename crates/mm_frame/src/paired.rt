@@ -15,7 +15,7 @@ ghost use Rattle.mm_frame.specs.declared.paired.PairTable.{PairTable};
 use crate::active::drop_ended;
 use crate::asked::{Answer, AskedPairs};
 use crate::blocks::Blocks;
-use crate::mandatory::is_among;
+use crate::rising::is_among;
 use std::alloc::{AllocError, Global};
 
 /// For each variable, by the number of its name, the numbers of the `$d` that have it, rising: of all that are active,

@@ -11,8 +11,8 @@ ghost use Rattle.mm_frame.specs.Code.KeptEarlier.{KnowsEarlier};
 ghost use Rattle.mm_frame.specs.Code.LastItems.{IsRising};
 
 use crate::blocks::Blocks;
+use crate::earlier::Earlier;
 use crate::expressions::Expressions;
-use crate::mandatory::Earlier;
 use crate::paired::PairTable;
 use crate::places::Places;
 use mm_machine::NumberedSymbol;

@@ -2,7 +2,7 @@
 
 ghost use Rattle.std.specs.Prelude.{◌≡◌, IfOk};
 
-use crate::draft::Frame;
+use crate::frame::Frame;
 use mm_machine::NumberedSymbol;
 use mm_store::Item;
 use std::alloc::{AllocError, Global};

@@ -8,18 +8,8 @@ ghost use Rattle.mm_machine.specs.Language.Frame.{AreSameFrame, AreSamePairs};
 
 use crate::base::Base;
 use crate::names::Names;
-use crate::symbol::same_symbols;
+use crate::symbol::{same_pairs, same_symbols};
 use mm_machine::NumberedSymbol;
-
-/// Whether two lists of pairs are the same, one by one.
-pub fn same_pairs(
-    one: &[(NumberedSymbol, NumberedSymbol)],
-    other: &[(NumberedSymbol, NumberedSymbol)],
-) -> bool
-    ensures { IsTrue result ↔ (one.now ≡ other.now) }
-{
-    one == other
-}
 
 /// Whether two sound `$f`, `$e`, `$a` or `$p` of bases over the same names have the same expression. Whether they are
 /// sound is not checked. It takes no memory.

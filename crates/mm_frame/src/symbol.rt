@@ -24,6 +24,16 @@ pub fn same_symbols(one: &[NumberedSymbol], other: &[NumberedSymbol]) -> bool
     one == other
 }
 
+/// Whether two lists of pairs are the same, one by one.
+pub fn same_pairs(
+    one: &[(NumberedSymbol, NumberedSymbol)],
+    other: &[(NumberedSymbol, NumberedSymbol)],
+) -> bool
+    ensures { IsTrue result ↔ (one.now ≡ other.now) }
+{
+    one == other
+}
+
 /// Puts the symbols whose names have these numbers: what is no declared constant is a variable.
 pub fn put_symbols(
     tables: &Tables,

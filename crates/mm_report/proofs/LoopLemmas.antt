@@ -2,8 +2,8 @@
 use Rattle.std.proofs.Common.{arith, ◌≡◌, ℕ, zero, suc, true, Option, Some, None, unwrap_or, List, [], ◌∷◌, ◌++◌, inl, inr, drop, take, replicate, refl, sym, ap, ◌∙◌, subst, append_assoc, append-nil}
 use Rattle.std.{proofs.{Common.{◌≢◌, Result, Err, IfErr, IfSome, IsErrOf}, lemmas.Grind.{common_steps}, KnownBytes.{Appends-nil, Appends-trans, Consumes-nil, Consumes-trans}}, specs.Result.{IsErrAnd}}
 use Rattle.std.specs.{List.{AllByRecursion}, Io.KnownBytes.{Consumes, IsAtEnd}}
-use Rattle.mm_script.specs.declared.{error.ScriptError.{ScriptError}, input.Input.{Input}, entry.{CommandAt.{CommandAt}, Complete.{Complete}}, stream.Writing.{Writing}, read_stream.Reading.{Reading}}
-use Rattle.mm_script.specs.Language.Commands.{pending, ReadsOn, IsNextCommand, IsWholeCommand, IsLast, IsWholeOrLast, HasNoEntry, StopsSo, rest_of_script}
+use Rattle.mm_script.specs.declared.{error.ScriptError.{ScriptError}, input.Input.{Input}, command.{CommandAt.{CommandAt}, Complete.{Complete}}, stream.Writing.{Writing}}
+use Rattle.mm_script.specs.{declared.read_stream.Reading.{Reading}, Language.Commands.{pending, ReadsOn, IsNextCommand, IsWholeCommand, IsLast, IsWholeOrLast, HasNoEntry, StopsSo, rest_of_script}}
 use Rattle.mm_script.specs.Language.Script.{Command, End, Done, CutShort, BadLine, Entry, Blank, Given, IsGood, IsGoodEntry, AreRead, IsLongestReading, LacksFeed, entries_bytes, command_bytes}
 use Rattle.mm_script.specs.Language.{Script.{commands_of}, Stream.{cannot_read, unread, written}, ReadingLaws.{CommandsLeaveNothing, ReadingsJoin}}
 use Rattle.mm_keep.specs.Language.Sessions.{SessionView}

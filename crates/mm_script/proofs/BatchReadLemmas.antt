@@ -3,7 +3,7 @@ use Rattle.std.proofs.Common.{[], ◌≡◌, ℕ, ◌+◌, ◌-◌, ◌<◌, ◌
 use Rattle.std.proofs.{Common.{None, inl, inr, Contains}, lemmas.{Grind.{common_steps}, List.{append-nil, length-drop, length-map, map-append, take_at, Concat.{flat_map-append}}}}
 use Rattle.std.{proofs.lemmas.List.Elements.{Contains-append_left, Contains-append_right, Contains-push, Contains-push_cases}, specs.List.{flat_map}}
 use Rattle.mm_text.specs.Language.Asked.{Asked, edited_text}
-use Rattle.mm_script.specs.declared.{entry.{Complete.{Complete}, EditAt.{EditAt, TheVariants.{Insert, Replace, Delete, Move}}}, input.Input.{Input}, script_lines.LineAt.{LineAt}}
+use Rattle.mm_script.specs.declared.{command.{Complete.{Complete}, EditAt.{EditAt, TheVariants.{Insert, Replace, Delete, Move}}}, input.Input.{Input}, script_lines.LineAt.{LineAt}}
 use Rattle.mm_script.specs.Code.{Batches.{IsBatchRead, IsBatchFront, IsListedRead}, Growing.{InputGrows, IsLineAt, line_bytes}, Stops.{batch_bytes, batch_line, AreGoodEdits}}
 use Rattle.mm_script.specs.Language.Commands.{pending, edit_in, AreEditsIn, IsEditWithin, StopsSo, rest_of_script}
 use Rattle.mm_script.{specs.Language.Script.{CutShort, Listed, IsGoodEdit, IsNumber, LastInLine, edit_bytes, edit_line, ended_text, listed_bytes}, proofs.BatchLemmas.{at_end, batch_more, front_bytes}}

@@ -2,7 +2,7 @@
 use Rattle.std.proofs.Common.{[], ◌≡◌, ◌⊎◌, ℕ, ◌+◌, Bool, true, false, List, ◌∷◌, ◌++◌, append_assoc, length, drop, refl, sym, ap, ◌∙◌, subst, arith, Option, inl, inr, length-drop}
 use Rattle.std.{proofs.lemmas.{Grind.{common_steps}, List.Folds.{drop_split}}, specs.Io.KnownBytes.{IsAtEnd}}
 use Rattle.mm_script.proofs.{ScriptLemmas.{none_so_far}, StopLemmas.{text_no_entry, bad_line, bad_last, text_cut, text_line_cut, text_bad}, BatchLemmas.{always, at_end}}
-use Rattle.mm_script.{proofs.{BatchReadLemmas.{edits_counted}, EditLemmas.{shifted_is, unfed_line}}, specs.declared.entry.{EditAt.{EditAt}, CommandAt.{CommandAt}, Complete.{Complete}, Part.{Part}}}
+use Rattle.mm_script.{proofs.{BatchReadLemmas.{edits_counted}, EditLemmas.{shifted_is, unfed_line}}, specs.declared.command.{EditAt.{EditAt}, CommandAt.{CommandAt}, Complete.{Complete}, Part.{Part}}}
 use Rattle.mm_script.specs.{declared.script_lines.LineAt.{LineAt}, Code.{Batches.{IsBatchRead}, Growing.{IsLineAt, IsTextBad, IsTextLine, IsTextShort, line_bytes}, Lines.{SaysLabel}}}
 use Rattle.mm_script.specs.{Code.Stops.{IsBadLine}, Language.Commands.{bytes_of_part, AreEditsIn, IsCommandIn, IsNextCommand, IsWholeOrLast, IsPartWithin, StopsSo, HasNoEntry, rest_of_script}}
 use Rattle.mm_script.specs.Language.Script.{CutShort, BadLine, Command, Batch, IsGood, IsName, EndsInLine, Listed, behind_line, edit_line, line_of}

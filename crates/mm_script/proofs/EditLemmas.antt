@@ -3,7 +3,7 @@ use Rattle.std.proofs.Common.{[], ◌≡◌, ℕ, ◌+◌, ◌-◌, ◌≤◌, f
 use Rattle.std.proofs.lemmas.{Grind.{common_steps}, List.{append-nil, length-drop, length-take, length-replicate, drop-drop, drop-take, take-take, drop_all, Folds.{drop_split}}}
 use Rattle.std.specs.Io.KnownBytes.{IsAtEnd}
 use Rattle.mm_text.specs.Language.Asked.{Asked, edited_text}
-use Rattle.mm_script.specs.declared.{entry.{EditAt.{EditAt}, Part.{Part}}, input.Input.{Input}, script_lines.LineAt.{LineAt}}
+use Rattle.mm_script.specs.declared.{command.{EditAt.{EditAt}, Part.{Part}}, input.Input.{Input}, script_lines.LineAt.{LineAt}}
 use Rattle.mm_script.specs.Code.{Growing.{InputGrows, IsEditRead, IsLineAt, IsOtherByte, IsTextBad, IsTextLine, IsTextShort, line_bytes}, Lines.{SaysEdit}, Stops.{HasTextOf}}
 use Rattle.mm_script.specs.Language.{Commands.{pending, bytes_of_part, edit_in, IsEditWithin, IsPartWithin}, Script.{IsGoodEdit, edit_bytes, edit_line, ended_text}}
 use Rattle.mm_script.proofs.GrowLemmas.{grown_long, part_grown, rest_grown}

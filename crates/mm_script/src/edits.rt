@@ -11,7 +11,7 @@ ghost use Rattle.mm_script.specs.Code.Stops.{batch_line};
 ghost use Rattle.mm_script.specs.Language.Script.{BadLine, CutShort, IsNumber};
 ghost use Rattle.mm_script.specs.Language.Stream.{cannot_read, unread};
 
-use crate::entry::{Complete, EditAt, Part};
+use crate::command::{Complete, EditAt, Part};
 use crate::error::ScriptError;
 use crate::input::Input;
 use crate::line::{EditLine, edit_asked};

@@ -2,140 +2,23 @@
 
 ghost use Rattle.std.specs.Prelude.{◌≡◌, ◌≢◌, ◌<◌, ◌≤◌, ◌+◌, ◌^◌, ◌⊎◌, ◌++◌, [], true, false, Err, None, IfOk, IfSome, IsErrOf, OnErr, OnOk};
 ghost use Rattle.std.specs.Io.KnownBytes.{IsAtEnd};
-ghost use Rattle.mm_text.specs.Language.Asked.{asked};
 ghost use Rattle.mm_script.specs.declared.error.ScriptError.TheVariants as errors;
-ghost use Rattle.mm_script.specs.Language.Commands.{pending, bytes_of_part, edit_in, rest_of_script, to_come};
-ghost use Rattle.mm_script.specs.Language.Commands.{HasNoEntry, IsEditWithin, IsNextCommand, IsPartWithin, ReadsOn, StopsSo};
+ghost use Rattle.mm_script.specs.Language.Commands.{pending, rest_of_script, to_come};
+ghost use Rattle.mm_script.specs.Language.Commands.{HasNoEntry, IsNextCommand, ReadsOn, StopsSo};
 ghost use Rattle.mm_script.specs.Code.Growing.{InputGrows, IsLineAt};
 ghost use Rattle.mm_script.specs.Code.Stops.{IsOneLine};
 ghost use Rattle.mm_script.specs.Language.Script.{CutShort, BadLine};
 ghost use Rattle.mm_script.specs.Language.Stream.{cannot_read, unread};
 
+use crate::command::{CommandAt, Complete, Part};
 use crate::edits::{read_batch, read_edit};
 use crate::error::ScriptError;
 use crate::input::Input;
 use crate::line::{CommandLine, command_asked};
 use crate::read_stream::Reading;
 use crate::script_lines::{LineAt, read_line};
-use mm_text::Edit;
 use std::alloc::Global;
 use std::io::Read;
-
-/// A range of the pending bytes ([`Input::pending`]): from `start` up to, but without, `end`. It holds until bytes are passed,
-/// by [`Input::pass`] or by the next [`next_command`].
-#[derive(Clone, Copy)]
-pub struct Part {
-    /// The first byte, from 0.
-    pub start: usize,
-    /// The byte after the last one.
-    pub end: usize,
-}
-
-/// An edit, with its name and its text as ranges of the pending bytes. Its numbers count pieces from 0, and are at most
-/// 4,294,967,295. Whether the file has such a piece is not looked at.
-#[derive(Clone, Copy)]
-pub enum EditAt {
-    /// A new piece, of this text, before the piece `at` of the file.
-    Insert {
-        /// The name of the file.
-        file: Part,
-        /// The number of the piece before which it comes.
-        at: usize,
-        /// The text of the piece.
-        text: Part,
-    },
-    /// A new piece, of this text, in the place of the piece `at`.
-    Replace {
-        /// The name of the file.
-        file: Part,
-        /// The piece.
-        at: usize,
-        /// The text of the piece.
-        text: Part,
-    },
-    /// The piece `at` is taken out.
-    Delete {
-        /// The name of the file.
-        file: Part,
-        /// The piece.
-        at: usize,
-    },
-    /// The piece `at` is taken out and put back as piece `to`.
-    Move {
-        /// The name of the file.
-        file: Part,
-        /// The piece.
-        at: usize,
-        /// Its number after the move.
-        to: usize,
-    },
-}
-
-/// A command, with its names, texts and labels as ranges of the pending bytes.
-#[derive(Drop)]
-pub enum CommandAt {
-    /// An edit.
-    Change(EditAt),
-    /// Several edits, of which all are made or none.
-    Batch(Vec<EditAt>),
-    /// The report is asked for.
-    Report,
-    /// The verdict of the assertion with this label is asked for.
-    Verdict(Part),
-    /// The axioms of the assertion with this label are asked for.
-    Axioms(Part),
-    /// The assertions that the assertion with this label cites are asked for.
-    Cites(Part),
-    /// The theorems that cite the assertion with this label are asked for.
-    Users(Part),
-}
-
-/// A command, or an edit, that is complete in the pending bytes, and where it ends.
-#[derive(Drop)]
-pub struct Complete<T: Drop> {
-    /// The command or the edit.
-    pub found: T,
-    /// The byte after it and its last line feed; if that is missing, the count of the pending bytes.
-    pub end: usize,
-    /// Whether its last line feed is there. If not, the script ends with it.
-    pub fed: bool,
-}
-
-/// The bytes of a part. `bytes` are the pending bytes in which it was found. Nothing is copied.
-pub fn bytes_of<'a>(bytes: &'a [u8], part: Part) -> &'a [u8]
-    requires { IsPartWithin bytes.now part }
-    ensures { result.now ≡ bytes_of_part bytes.now part }
-{
-    &bytes[part.start..part.end]
-}
-
-/// The edit, with its name and its text borrowed from the pending bytes in which it was found.
-pub fn edit_of<'a>(bytes: &'a [u8], edit: &EditAt) -> Edit<'a>
-    requires { IsEditWithin bytes.now edit.now }
-    ensures { asked result ≡ edit_in bytes.now edit.now }
-{
-    match *edit {
-        EditAt::Insert { file, at, text } => Edit::Insert {
-            file: bytes_of(bytes, file),
-            at,
-            text: bytes_of(bytes, text),
-        },
-        EditAt::Replace { file, at, text } => Edit::Replace {
-            file: bytes_of(bytes, file),
-            at,
-            text: bytes_of(bytes, text),
-        },
-        EditAt::Delete { file, at } => Edit::Delete {
-            file: bytes_of(bytes, file),
-            at,
-        },
-        EditAt::Move { file, at, to } => Edit::Move {
-            file: bytes_of(bytes, file),
-            at,
-            to,
-        },
-    }
-}
 
 /// Reads on until a line that is not empty is complete; an empty one means the end. Empty lines before it are passed as they
 /// come, so they take no memory.

@@ -1,6 +1,7 @@
 //! Scripts: the streams that they come and go through, and how their commands are read.
 #![tactic(auto)]
 
+mod command;
 mod edits;
 mod entry;
 mod error;
@@ -11,7 +12,8 @@ mod read_stream;
 mod script_lines;
 mod stream;
 
-pub use entry::{CommandAt, Complete, EditAt, Part, bytes_of, edit_of, next_command};
+pub use command::{CommandAt, Complete, EditAt, Part, bytes_of, edit_of};
+pub use entry::next_command;
 pub use error::ScriptError;
 pub use input::Input;
 pub use laws::{

@@ -8,7 +8,7 @@ ghost use Rattle.mm_script.specs.Language.Commands.{bytes_of_part};
 ghost use Rattle.mm_script.specs.Code.Stops.{IsOneLine};
 ghost use Rattle.mm_script.specs.Language.Script.{Command, IsGood, IsGoodEdit, IsName, IsNumber, edit_line, line_of};
 
-use crate::entry::Part;
+use crate::command::Part;
 use itoa::Buffer;
 use memchr::memchr;
 use std::str;

@@ -8,7 +8,7 @@ ghost use Rattle.mm_script.specs.Language.Commands.{to_come, pending, IsPartWith
 ghost use Rattle.mm_script.specs.Code.Stops.{IsOneLine};
 ghost use Rattle.mm_script.specs.Language.Stream.{cannot_read, unread};
 
-use crate::entry::Part;
+use crate::command::Part;
 use crate::error::ScriptError;
 use crate::input::Input;
 use crate::read_stream::Reading;

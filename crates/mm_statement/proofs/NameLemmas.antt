@@ -3,7 +3,7 @@ use Rattle.std.proofs.Common.{◌≡◌, ◌≢◌, ℕ, ◌+◌, Bool, true, fa
 use Rattle.std.proofs.{Common.{All}, lemmas.{Grind.{common_steps}, Option.{none-some, same_Some, slice_get-map}, List.{length-map, map-append}}}
 use Rattle.std.{proofs.lemmas.List.Elements.{All-append, All-cons, All-nil, Contains-append_left, Contains-push}, specs.{List.{AllZip}, Option.{option_map}}}
 use Rattle.mm_store.specs.mm_text.{declared.word.Word.{Word}, Language.{Part.{HasUnits, part}, Reading.{HasWords}, Unit.{tokens_of, unit_tokens, Units, Nothing, Simple, Block, AreUnits}}}
-use Rattle.mm_store.specs.{declared.files.PieceKey.{PieceKey}, Language.{FilesView.{File, FileView, PieceView, file_number, number_of}, Keyless.{bare, bare_file, one_key}}}
+use Rattle.mm_store.specs.{declared.key.PieceKey.{PieceKey}, Language.{FilesView.{File, FileView, PieceView, file_number, number_of}, Keyless.{bare, bare_file, one_key}}}
 use Rattle.mm_store.specs.Language.Expansion.{Placed, Named, named_parts, nameless, included_name, placed_part, IsInclusion, ArePartsOf, ArePlaced, Expands, IsExpansion}
 use Rattle.mm_store.specs.Language.Walking.{LevelView, WalkView, Goes, IsRest, ArePending, IsWalk, StandsBefore}
 use Rattle.mm_statement.specs.Language.Database.{Located, said_of, bracket, unit_items, AreLocated, AreOfFile, Refers, Unfolds, IsDatabase}

@@ -3,6 +3,7 @@
 
 mod examples;
 mod laws;
+mod plain_words;
 mod proof_words;
 mod statement;
 

@@ -4,7 +4,7 @@ ghost use Rattle.std.specs.Prelude.{◌≡◌, ◌<◌, ◌≤◌, ◌∷◌, []
 ghost use Rattle.std.specs.List.{AllByRecursion, flat_map};
 ghost use Rattle.mm_statement.specs.Code.PlainWords.{AreFewWords, plain_bytes};
 
-use crate::statement::{bytes_of, is_plain};
+use crate::plain_words::{bytes_of, is_plain};
 use mm_store::WordCursor;
 use std::marker::Model;
 

@@ -16,9 +16,10 @@ ghost use Rattle.mm_store.specs.mm_text.Language.Reading.{HasWords};
 ghost use Rattle.mm_store.specs.mm_text.Language.Unit.{tokens_of};
 
 use crate::laws::one_range_says_one;
+use crate::plain_words::{bytes_of, is_plain};
 use crate::proof_words::ProofWords;
 use memchr::memmem;
-use mm_store::{Files, Item, ItemKind, Word, WordCursor, WordKind, nth_word};
+use mm_store::{Files, Item, ItemKind, Word, WordCursor, nth_word};
 use std::alloc::{AllocError, Global};
 use std::marker::Model;
 
@@ -50,15 +51,6 @@ impl<'a> Model for Statement<'a> {
     ghost invariant = { IsSpoken };
 }
 
-pub(crate) fn is_plain(kind: WordKind) -> bool
-    ensures { result ≡ spoken.is_plain_kind kind }
-{
-    match kind {
-        WordKind::Plain => true,
-        WordKind::Keyword(_) => false,
-    }
-}
-
 fn is_labelled(kind: ItemKind) -> bool
     ensures { result ≡ meant.is_labelled (spoken.kind_of kind) }
 {
@@ -82,14 +74,6 @@ fn symbols_from(kind: ItemKind) -> usize
     ensures { result ≡ spoken.symbols_from (spoken.kind_of kind) }
 {
     if is_labelled(kind) { 2 } else { 1 }
-}
-
-/// The bytes of a word.
-pub(crate) fn bytes_of(text: &[u8], word: Word) -> &[u8]
-    requires { LiesInText text.now word }
-    ensures { result.now ≡ word_bytes text.now word }
-{
-    &text[word.start..word.end]
 }
 
 /// The bytes of an item of the files, and all their words.

@@ -1,24 +1,20 @@
 //! The items that the pieces of the files give.
 
-ghost use Rattle.std.specs.Prelude.{◌≡◌, ℕ, ◌↔◌, IsTrue, List, ◌++◌, IfNone, IfSome, OnOk, map};
-ghost use Rattle.mm_text.specs.declared.word.Word.{Word};
-ghost use Rattle.mm_text.specs.declared.part.PartKind.TheVariants.{Inclusion};
-ghost use Rattle.mm_text.specs.Language.Reading.{HasWords};
-ghost use Rattle.mm_text.specs.Language.Cut.{HoldsOneUnit};
-ghost use Rattle.mm_text.specs.Language.Part.{HasParts, IsReadable, part_bytes};
-ghost use Rattle.mm_store.specs.declared.files.PieceKey.{PieceKey};
-ghost use Rattle.mm_store.specs.Language.FilesView.{files_in};
-ghost use Rattle.mm_store.specs.Language.FileFacts.{second_word};
+ghost use Rattle.std.specs.Prelude.{◌≡◌, ℕ, ◌≤◌, ◌↔◌, List, None, All, ◌++◌, IfOk, IfErr, IsErrOf, OnOk, length, map};
+ghost use Rattle.mm_store.specs.declared.error.StoreError.TheVariants.{NoTop};
+ghost use Rattle.mm_store.specs.Language.FilesView.{bytes_of, files_in, number_of, plain};
+ghost use Rattle.mm_store.specs.Language.FileFacts.{CanBeRead, NamesNoFile, StandsIn};
+ghost use Rattle.mm_store.specs.Language.Answers.{IsExpansionError};
 ghost use Rattle.mm_store.specs.Language.Expansion.{item_kind, IsExpansion};
 ghost use Rattle.mm_store.specs.Language.Walking.{IsWalk};
 ghost use Rattle.mm_store.specs.Code.Gains.{item_of_part};
-ghost use Rattle.mm_store.specs.Code.Steps.{Includes, IncludesNothing};
 
+use crate::error::StoreError;
 use crate::files::Files;
 use crate::item::{Item, ItemKind};
 use crate::kept_part::KeptPart;
 use crate::walk::{Spot, Step, Walk};
-use mm_text::{Part, PartKind, nth_word};
+use mm_text::{Part, PartKind, parts_are_texts, words_stand_alone};
 use std::alloc::AllocError;
 
 fn item_kind(kind: PartKind) -> ItemKind
@@ -38,12 +34,6 @@ fn item_kind(kind: PartKind) -> ItemKind
     }
 }
 
-fn is_inclusion(kind: PartKind) -> bool
-    ensures { IsTrue result ↔ (kind ≡ Inclusion) }
-{
-    matches!(kind, PartKind::Inclusion)
-}
-
 fn item_of(spot: Spot, part: Part) -> Item
     ensures { result ≡ item_of_part spot part }
 {
@@ -55,45 +45,6 @@ fn item_of(spot: Spot, part: Part) -> Item
         start: part.start,
         end: part.end,
     }
-}
-
-/// The bytes of the second word, or none.
-fn second_word(text: &[u8]) -> &[u8]
-    requires { (words : List Word) × HasWords text.now words }
-    ensures { (words : List Word) → HasWords text.now words → result.now ≡ second_word text.now words }
-{
-    match nth_word(text, 1) {
-        Some(word) => &text[word.start..word.end],
-        None => &[],
-    }
-}
-
-/// The second word of a part.
-fn named(text: &[u8], part: Part) -> &[u8]
-    requires { IsReadable text.now part }
-    ensures { (words : List Word) → HasWords (part_bytes text.now part) words → result.now ≡ second_word (part_bytes text.now part) words }
-{
-    second_word(&text[part.start..part.end])
-}
-
-/// The name that a piece includes; `None` if it includes nothing.
-pub(crate) fn included_name<'a>(text: &'a [u8], parts: &[KeptPart]) -> Option<&'a [u8]>
-    requires unit { HoldsOneUnit text.now }
-    requires divided { HasParts text.now parts.now }
-    ensures none { IfNone result ((file number : ℕ) (key : PieceKey) → IncludesNothing file number (record { key = key; text = text.now })) }
-    ensures some { IfSome result
-        (λ name. (file number : ℕ) (key : PieceKey) → Includes file number (record { key = key; text = text.now }) name.now) }
-{
-    mm_text::parts_are_texts();
-    mm_text::words_stand_alone();
-    if parts.is_empty() {
-        return None;
-    }
-    let part = parts[0].part();
-    if !is_inclusion(part.kind) {
-        return None;
-    }
-    Some(named(text, part))
 }
 
 /// Adds the items of a piece after others.
@@ -126,5 +77,52 @@ pub(crate) fn push_rest(
             Step::Nothing => {}
             Step::Missing(_) => {}
         }
+    }
+}
+
+impl Files {
+    /// The items that the file of the name `top` gives, with other files in the place of their first inclusion:
+    /// each statement, each beginning and end of a block, and each first reference to a name that no file has, in
+    /// the order of reading.
+    ///
+    /// There are at most as many as the texts of the files have bytes, and so at most 4,294,967,295. `NoTop` comes
+    /// if no file has the name `top`, before memory is taken; any other error is `Memory`. The files are gone
+    /// through once.
+    pub fn statements(&self, top: &[u8]) -> Result<Vec<Item>, StoreError>
+        ensures items { IfOk result (λ found. IsExpansion (files_in self.now) top.now found.items) }
+        ensures read { IfOk result (λ found. All (CanBeRead self.now) found.items) }
+        ensures stand { IfOk result (λ found. All (StandsIn self.now) found.items) }
+        ensures missing { IfOk result (λ found. All (NamesNoFile self.now) found.items) }
+        ensures few { IfOk result (λ found. length found.items ≤ bytes_of (plain self.now)) }
+        ensures small { IfOk result (λ found. length found.items ≤ 4294967295) }
+        ensures no_top { IsErrOf result NoTop ↔ (number_of (files_in self.now) top.now ≡ None) }
+        ensures err { IfErr result IsExpansionError }
+    {
+        self.statements_in(top, Vec::new(self.allocator()))
+    }
+
+    /// The items as `statements` answers them, in the room of a list. What the list holds is dropped.
+    pub fn statements_in(&self, top: &[u8], room: Vec<Item>) -> Result<Vec<Item>, StoreError>
+        ensures items { IfOk result (λ found. IsExpansion (files_in self.now) top.now found.items) }
+        ensures read { IfOk result (λ found. All (CanBeRead self.now) found.items) }
+        ensures stand { IfOk result (λ found. All (StandsIn self.now) found.items) }
+        ensures missing { IfOk result (λ found. All (NamesNoFile self.now) found.items) }
+        ensures few { IfOk result (λ found. length found.items ≤ bytes_of (plain self.now)) }
+        ensures small { IfOk result (λ found. length found.items ≤ 4294967295) }
+        ensures no_top { IsErrOf result NoTop ↔ (number_of (files_in self.now) top.now ≡ None) }
+        ensures err { IfErr result IsExpansionError }
+    {
+        mm_text::one_meaning();
+        mm_text::one_division();
+        parts_are_texts();
+        words_stand_alone();
+        self.holds_pieces();
+        self.hold_units();
+        let _ = &self.bytes;
+        let mut walk = self.walk_from_top(top)?;
+        let mut items = room;
+        items.clear();
+        push_rest(self, &mut walk, &mut items)?;
+        Ok(items)
     }
 }

@@ -1,49 +1,36 @@
 //! Files by name.
 
-ghost use Rattle.std.specs.Prelude.{◌≡◌, ℕ, ◌+◌, ◌<◌, ◌≤◌, ◌↔◌, IsSome};
-ghost use Rattle.std.specs.Prelude.{◌++◌, ◌∷◌, List, Some, None, IfSome, IfOk, IfErr};
-ghost use Rattle.std.specs.Prelude.{IsErrOf, All, length, map, slice_get, slice_index_or, []};
-ghost use Rattle.std.specs.Prelude.{false, IfNone};
+ghost use Rattle.std.specs.Prelude.{◌≡◌, ℕ, ◌+◌, ◌<◌, ◌≤◌, IsSome};
+ghost use Rattle.std.specs.Prelude.{◌++◌, List, Some, None, IfSome, IfOk};
+ghost use Rattle.std.specs.Prelude.{All, length, map, slice_get, slice_index_or, []};
+ghost use Rattle.std.specs.Prelude.{IfNone};
 ghost use Rattle.std.specs.Option.{option_map};
 ghost use Rattle.std.specs.List.{concat};
 ghost use Rattle.std.specs.VecDeque.{deque_len};
 ghost use Rattle.std.specs.FinMap as finite;
 ghost use Rattle.mm_text.specs.Language.Place.{line_at, column_at};
-ghost use Rattle.mm_store.specs.declared.error.StoreError.TheVariants.{NoTop};
 ghost use Rattle.mm_store.specs.Language.Pieces.{text_under};
 ghost use Rattle.mm_store.specs.Language.FilesView.{no_files, bytes_of, file_number, files_in, find_file, number_of, piece_view, plain, text_of};
 ghost use Rattle.mm_store.specs.Language.Holding.{HoldOneEach};
-ghost use Rattle.mm_store.specs.Language.FileFacts.{CanBeRead, HoldsPieces, IsByte, IsLive, NamesNoFile, StandsIn, parked_in};
+ghost use Rattle.mm_store.specs.Language.FileFacts.{HoldsPieces, IsByte, IsLive, parked_in};
 ghost use Rattle.mm_store.specs.Language.Undoing.{keys_in};
-ghost use Rattle.mm_store.specs.Language.Answers.{IsExpansionError};
-ghost use Rattle.mm_store.specs.Language.Expansion.{IsExpansion};
-ghost use Rattle.mm_store.specs.Language.Walking.{IsWalk};
 ghost use Rattle.mm_store.specs.Code.Gains.{HoldUnits};
-ghost use Rattle.mm_store.specs.Language.Keyless.{bare};
-ghost use Rattle.mm_store.specs.Code.Steps.{first_walk, Includes, IncludesNothing, piece_at};
+ghost use Rattle.mm_store.specs.Code.Steps.{Includes, IncludesNothing, piece_at};
 ghost use Rattle.mm_text.specs.Language.Part.{HasParts};
 ghost use Rattle.mm_store.specs.Code.Lines.{AreLines, bytes_before};
 ghost use Rattle.mm_store.specs.Code.Starts.{KnowsStarts};
 ghost use Rattle.mm_store.specs.Code.Batched.{StandOnce};
 
-use crate::error::StoreError;
-use crate::expanding::{included_name, push_rest};
 use crate::file_text::{FileText, starts};
-use crate::item::Item;
+use crate::included::included_name;
 use crate::kept_part::KeptPart;
+use crate::key::PieceKey;
 use crate::line_feeds::Lines;
 use crate::pieces::PieceStore;
-use crate::walk::Walk;
 use indexmap::IndexMap;
-use mm_text::{Place, parts_are_texts, words_stand_alone};
+use mm_text::Place;
 use std::alloc::{AllocError, Global};
 use std::marker::Model;
-
-/// A name for a piece that stays when other pieces come and go. No two pieces that are held have one key.
-#[derive(Clone, Copy, Debug, PartialEq, Eq)]
-pub struct PieceKey {
-    pub(crate) at: usize,
-}
 
 /// The files of a database, in the order of adding: each with its name, its pieces and its tail; and the pieces
 /// that edits took out, parked until their edit is undone or settled.
@@ -133,78 +120,6 @@ impl Files {
         match self.files.get_full(name) {
             None => None,
             Some((_, _, file)) => Some(file.keys.len()),
-        }
-    }
-
-    /// The items that the file of the name `top` gives, with other files in the place of their first inclusion:
-    /// each statement, each beginning and end of a block, and each first reference to a name that no file has, in
-    /// the order of reading.
-    ///
-    /// There are at most as many as the texts of the files have bytes, and so at most 4,294,967,295. `NoTop` comes
-    /// if no file has the name `top`, before memory is taken; any other error is `Memory`. The files are gone
-    /// through once.
-    pub fn statements(&self, top: &[u8]) -> Result<Vec<Item>, StoreError>
-        ensures items { IfOk result (λ found. IsExpansion (files_in self.now) top.now found.items) }
-        ensures read { IfOk result (λ found. All (CanBeRead self.now) found.items) }
-        ensures stand { IfOk result (λ found. All (StandsIn self.now) found.items) }
-        ensures missing { IfOk result (λ found. All (NamesNoFile self.now) found.items) }
-        ensures few { IfOk result (λ found. length found.items ≤ bytes_of (plain self.now)) }
-        ensures small { IfOk result (λ found. length found.items ≤ 4294967295) }
-        ensures no_top { IsErrOf result NoTop ↔ (number_of (files_in self.now) top.now ≡ None) }
-        ensures err { IfErr result IsExpansionError }
-    {
-        self.statements_in(top, Vec::new(self.allocator()))
-    }
-
-    /// The items as `statements` answers them, in the room of a list. What the list holds is dropped.
-    pub fn statements_in(&self, top: &[u8], room: Vec<Item>) -> Result<Vec<Item>, StoreError>
-        ensures items { IfOk result (λ found. IsExpansion (files_in self.now) top.now found.items) }
-        ensures read { IfOk result (λ found. All (CanBeRead self.now) found.items) }
-        ensures stand { IfOk result (λ found. All (StandsIn self.now) found.items) }
-        ensures missing { IfOk result (λ found. All (NamesNoFile self.now) found.items) }
-        ensures few { IfOk result (λ found. length found.items ≤ bytes_of (plain self.now)) }
-        ensures small { IfOk result (λ found. length found.items ≤ 4294967295) }
-        ensures no_top { IsErrOf result NoTop ↔ (number_of (files_in self.now) top.now ≡ None) }
-        ensures err { IfErr result IsExpansionError }
-    {
-        mm_text::one_meaning();
-        mm_text::one_division();
-        parts_are_texts();
-        words_stand_alone();
-        self.holds_pieces();
-        self.hold_units();
-        let _ = &self.bytes;
-        let mut walk = self.walk_from_top(top)?;
-        let mut items = room;
-        items.clear();
-        push_rest(self, &mut walk, &mut items)?;
-        Ok(items)
-    }
-
-    /// A walk through the files from the file of the name `top` on, which has gone past nothing.
-    ///
-    /// `NoTop` comes if no file has the name `top`, before memory is taken; any other error is `Memory`.
-    pub fn walk(&self, top: &[u8]) -> Result<Walk, StoreError>
-        ensures ok { IfOk result (λ walk. IsWalk (bare (plain self.now)) top.now [] walk) }
-        ensures first { IfOk result (λ walk. walk.names ≡ top.now ∷ []) }
-        ensures untold { IfOk result (λ walk. walk.told ≡ false) }
-        ensures no_top { IsErrOf result NoTop ↔ (file_number (plain self.now) top.now ≡ None) }
-        ensures err { IfErr result IsExpansionError }
-    {
-        self.hold_units();
-        self.walk_from_top(top)
-    }
-
-    /// A walk before the first piece of the top file.
-    fn walk_from_top(&self, top: &[u8]) -> Result<Walk, StoreError>
-        ensures ok { IfOk result (λ walk. (number : ℕ) × (file_number (plain self.now) top.now ≡ Some number) × (walk ≡ first_walk top.now number)) }
-        ensures no_top { IsErrOf result NoTop ↔ (file_number (plain self.now) top.now ≡ None) }
-        ensures no_file { IsErrOf result NoTop ↔ (number_of (files_in self.now) top.now ≡ None) }
-        ensures err { IfErr result IsExpansionError }
-    {
-        match self.number_of(top) {
-            None => Err(StoreError::NoTop),
-            Some(number) => Ok(Walk::from_top(self.allocator(), top, number)?),
         }
     }
 

@@ -1,6 +1,6 @@
 //! The items of the files.
 
-use crate::files::PieceKey;
+use crate::key::PieceKey;
 
 /// What an item is.
 #[derive(Clone, Copy, Debug, PartialEq, Eq)]

@@ -16,8 +16,10 @@ mod examples;
 mod expanding;
 mod file_text;
 mod files;
+mod included;
 mod item;
 mod kept_part;
+mod key;
 mod laws;
 mod line_feeds;
 mod piece_text;
@@ -34,8 +36,9 @@ pub use batch::{BatchError, Undos};
 pub use edit::EditError;
 pub use error::StoreError;
 pub use examples::{edits_are_done_so, files_are_held_so, rings_are_read_so};
-pub use files::{Files, PieceKey};
+pub use files::Files;
 pub use item::{Item, ItemKind};
+pub use key::PieceKey;
 pub use laws::{
     added_files_have_their_text, appending_keeps_items, bytes_are_within, edits_keep_files,
     edits_keep_members, edits_keep_units, edits_reverse, has_expansion, items_stand,

@@ -1,15 +1,19 @@
 //! The walk through the files, from the top file on, in the order in which they are read.
 
 ghost use Rattle.std.specs.Prelude.{◌≡◌, ℕ, ◌+◌, ◌<◌, ◌≤◌, ◌↔◌, IsTrue, false, List, [], ◌∷◌, ◌++◌, Contains};
-ghost use Rattle.std.specs.Prelude.{None, IfNone, IfSome, IfOk, OnOk, OnErr, length, vec_len, vec_capacity};
+ghost use Rattle.std.specs.Prelude.{None, Some, IfErr, IfNone, IfSome, IfOk, IsErrOf, OnOk, OnErr, length, vec_len, vec_capacity};
 ghost use Rattle.mm_store.specs.declared.item.Item.{Item};
-ghost use Rattle.mm_store.specs.Language.FilesView.{FileView, files_in, number_of, plain};
+ghost use Rattle.mm_store.specs.declared.error.StoreError.TheVariants.{NoTop};
+ghost use Rattle.mm_store.specs.Language.Answers.{IsExpansionError};
+ghost use Rattle.mm_store.specs.Language.FilesView.{FileView, file_number, files_in, number_of, plain};
 ghost use Rattle.mm_store.specs.Language.Keyless.{bare};
 ghost use Rattle.mm_store.specs.Language.Walking.{WalkView, IsWalk, GoesOn, FindsMissing, FindsEnd};
 ghost use Rattle.mm_store.specs.Code.Gains.{names_in};
 ghost use Rattle.mm_store.specs.Code.Steps.{behind, beginning, first_walk, IsReference, IsStep};
 
-use crate::files::{Files, PieceKey};
+use crate::error::StoreError;
+use crate::files::Files;
+use crate::key::PieceKey;
 use indexmap::IndexSet;
 use std::alloc::{AllocError, Global};
 use std::marker::Model;
@@ -284,6 +288,35 @@ impl Walk {
                 Step::Nothing => {}
                 Step::Items(_) => {}
             }
+        }
+    }
+}
+
+impl Files {
+    /// A walk through the files from the file of the name `top` on, which has gone past nothing.
+    ///
+    /// `NoTop` comes if no file has the name `top`, before memory is taken; any other error is `Memory`.
+    pub fn walk(&self, top: &[u8]) -> Result<Walk, StoreError>
+        ensures ok { IfOk result (λ walk. IsWalk (bare (plain self.now)) top.now [] walk) }
+        ensures first { IfOk result (λ walk. walk.names ≡ top.now ∷ []) }
+        ensures untold { IfOk result (λ walk. walk.told ≡ false) }
+        ensures no_top { IsErrOf result NoTop ↔ (file_number (plain self.now) top.now ≡ None) }
+        ensures err { IfErr result IsExpansionError }
+    {
+        self.hold_units();
+        self.walk_from_top(top)
+    }
+
+    /// A walk before the first piece of the top file.
+    pub(crate) fn walk_from_top(&self, top: &[u8]) -> Result<Walk, StoreError>
+        ensures ok { IfOk result (λ walk. (number : ℕ) × (file_number (plain self.now) top.now ≡ Some number) × (walk ≡ first_walk top.now number)) }
+        ensures no_top { IsErrOf result NoTop ↔ (file_number (plain self.now) top.now ≡ None) }
+        ensures no_file { IsErrOf result NoTop ↔ (number_of (files_in self.now) top.now ≡ None) }
+        ensures err { IfErr result IsExpansionError }
+    {
+        match self.number_of(top) {
+            None => Err(StoreError::NoTop),
+            Some(number) => Ok(Walk::from_top(self.allocator(), top, number)?),
         }
     }
 }

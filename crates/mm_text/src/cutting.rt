@@ -12,21 +12,10 @@ use crate::fault::{TextError, TextFault, TextNumber};
 use crate::grammar::Grammar;
 use crate::pieces::{Cut, DividedCut, DividedPiece};
 use crate::reader::Reader;
-use crate::spelling::{is_white_space, white_len};
+use crate::spelling::{ends_white, white_len};
 use crate::whole_text::first_bad_byte;
 use bytes::Bytes;
 use std::alloc::{AllocError, Global};
-
-/// Whether a text ends in white space, so that `cut` adds no line feed; the empty text counts as one that does. It takes no
-/// memory.
-pub fn ends_white(bytes: &[u8]) -> bool
-    ensures { result ≡ pieces.ends_white bytes.now }
-{
-    match bytes.last() {
-        Some(last) => is_white_space(*last),
-        None => true,
-    }
-}
 
 /// A copy of bytes, with a line feed after them if they do not end in white space.
 fn ended_copy(alloc: Global, bytes: &[u8]) -> Result<Vec<u8>, AllocError>

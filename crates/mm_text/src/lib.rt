@@ -32,7 +32,7 @@ mod whole_text;
 mod word;
 
 pub use cursor::WordCursor;
-pub use cutting::{cut, divided_cut, ends_white};
+pub use cutting::{cut, divided_cut};
 pub use edit::Edit;
 pub use examples::texts_are_read_so;
 pub use fault::{TextError, TextFault, TextNumber};
@@ -44,7 +44,7 @@ pub use location::Place;
 pub use part::{Part, PartKind};
 pub use pieces::{Cut, DividedCut, DividedPiece};
 pub use placing::place;
-pub use spelling::could_label;
+pub use spelling::{could_label, ends_white};
 pub use standard_words::standard_words_mean;
 pub use whole_text::{nth_word, words};
 pub use word::{Keyword, Word, WordKind};

@@ -5,7 +5,7 @@ ghost use Rattle.mm_text.specs.Language.Run.{ends_run};
 ghost use Rattle.mm_text.specs.Language.Cut as pieces;
 ghost use Rattle.mm_text.specs.Code.LeftToRight.{has_dollar};
 
-use crate::cutting::ends_white;
+use crate::spelling::ends_white;
 use memchr::memchr;
 
 /// How many bytes there are up to the last white space, that one included.

@@ -3,6 +3,7 @@
 ghost use Rattle.std.specs.Prelude.{◌≡◌, ◌<◌, ◌≤◌, ◌↔◌, IfSome, IsTrue, Some, false, length, not, take};
 ghost use Rattle.std.specs.List.{list_all, position, prefix_len};
 ghost use Rattle.mm_text.specs.declared.word.WordKind.TheVariants as kinds;
+ghost use Rattle.mm_text.specs.Language.Cut as pieces;
 ghost use Rattle.mm_text.specs.Language.Unit as labels;
 ghost use Rattle.mm_text.specs.Language.Run.{is_white, is_solid, ends_run};
 ghost use Rattle.mm_text.specs.Language.Reading.{is_allowed};
@@ -183,4 +184,15 @@ pub fn could_label(word: &[u8]) -> bool
     ensures { result ≡ list_all labels.is_label_byte word.now }
 {
     word.iter().all(|byte| is_label_byte(*byte))
+}
+
+/// Whether a text ends in white space, so that `cut` adds no line feed; the empty text counts as one that does. It takes no
+/// memory.
+pub fn ends_white(bytes: &[u8]) -> bool
+    ensures { result ≡ pieces.ends_white bytes.now }
+{
+    match bytes.last() {
+        Some(last) => is_white_space(*last),
+        None => true,
+    }
 }

@@ -2,7 +2,7 @@
 use Rattle.std.specs.Prelude.{◌≡◌, ℕ, Bool, ◌&&◌, Some, IfSome, is_some, is_none, List, Option}
 use Rattle.std.specs.Option.{option_map}
 use Rattle.mm_frame.specs.declared.assertions.Assertions.{Assertions}
-use Rattle.mm_frame.specs.declared.draft.Frame.{Frame}
+use Rattle.mm_frame.specs.declared.frame.Frame.{Frame}
 use Rattle.mm_frame.specs.declared.pair_lists.PairLists.{PairLists}
 use Rattle.mm_statement.specs.Language.Item.{Said, is_assertion}
 use Rattle.mm_frame.specs.Language.Sound.{sound_items}

@@ -3,8 +3,8 @@ use Rattle.std.specs.Prelude.{◌≡◌, ℕ, Bool, List, Option}
 use Rattle.std.specs.Option.{option_map}
 use Rattle.mm_store.specs.declared.item.Item as store
 use Rattle.mm_frame.specs.declared.draft.Draft.{Draft}
-use Rattle.mm_frame.specs.declared.draft.Parts.{Parts}
-use Rattle.mm_frame.specs.declared.draft.Frame.{Frame}
+use Rattle.mm_frame.specs.declared.parts.Parts.{Parts}
+use Rattle.mm_frame.specs.declared.frame.Frame.{Frame}
 use Rattle.mm_machine.specs.declared.symbol.NumberedSymbol.{NumberedSymbol}
 use Rattle.mm_machine.specs.Language.Names.{AreDistinct, Begins}
 use Rattle.mm_frame.specs.Code.KeptAssertions.{TellsFrame, TellsPairs, AreAssertions}

@@ -1,6 +1,6 @@
 -- What the code keeps of the sound items before an assertion, from which its frame is made.
 use Rattle.std.specs.Prelude.{◌≡◌, ℕ, true, List}
-use Rattle.mm_frame.specs.declared.mandatory.Earlier.{Earlier}
+use Rattle.mm_frame.specs.declared.earlier.Earlier.{Earlier}
 use Rattle.mm_machine.specs.declared.symbol.NumberedSymbol.{NumberedSymbol}
 use Rattle.mm_statement.specs.Language.Item.{Said, is_assertion}
 use Rattle.mm_frame.specs.Language.Sound.{AreSound, IsSound}

@@ -2,8 +2,8 @@
 use Rattle.std.specs.Prelude.{◌≡◌, ◌≤◌, ◌+◌, ℕ, Bool, true, false, Option, List, [], ◌∷◌, ◌++◌, length, take, drop}
 use Rattle.std.specs.List.{flat_map}
 use Rattle.std.specs.Io.KnownBytes.{IsAtEnd}
-use Rattle.mm_script.specs.declared.entry.Complete.{Complete}
-use Rattle.mm_script.specs.declared.entry.EditAt.{EditAt}
+use Rattle.mm_script.specs.declared.command.Complete.{Complete}
+use Rattle.mm_script.specs.declared.command.EditAt.{EditAt}
 use Rattle.mm_script.specs.Code.Growing.{HasBlanks, IsEditRead}
 use Rattle.mm_script.specs.Language.Commands.{AreEditsIn, HasNoEntry, StopsSo, rest_of_script}
 use Rattle.mm_script.specs.Code.Stops.{AreGoodEdits, AreListed, batch_line}

@@ -3,8 +3,8 @@ use Rattle.std.specs.Prelude.{◌≡◌, ◌≢◌, ◌≤◌, ◌+◌, ℕ, tru
 use Rattle.std.specs.Prelude.{None, List, ◌∷◌, ◌++◌, ◌-◌, length, drop, replicate, slice_range}
 use Rattle.std.specs.Io.KnownBytes.{Consumes, IsAtEnd}
 use Rattle.mm_text.specs.Language.Asked.{Asked, edited_text}
-use Rattle.mm_script.specs.declared.entry.Complete.{Complete}
-use Rattle.mm_script.specs.declared.entry.EditAt.{EditAt}
+use Rattle.mm_script.specs.declared.command.Complete.{Complete}
+use Rattle.mm_script.specs.declared.command.EditAt.{EditAt}
 use Rattle.mm_script.specs.declared.input.Input.{Input}
 use Rattle.mm_script.specs.declared.script_lines.LineAt.{LineAt}
 use Rattle.mm_script.specs.Language.Commands.{pending, edit_in, IsEditWithin}

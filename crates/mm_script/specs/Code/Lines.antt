@@ -1,7 +1,7 @@
 -- What lines of a script ask for, as they are read.
 use Rattle.std.specs.Prelude.{◌≡◌, ◌≢◌, ◌≤◌, ◌+◌, ℕ, List, [], ◌∷◌, ◌++◌, length, codes, decimal, take, drop}
 use Rattle.std.specs.List.{AllByRecursion, join_with_byte}
-use Rattle.mm_script.specs.declared.entry.Part.{Part}
+use Rattle.mm_script.specs.declared.command.Part.{Part}
 use Rattle.mm_script.specs.declared.line.EditLine.{EditLine}
 use Rattle.mm_script.specs.declared.line.EditLine.TheVariants as edits
 use Rattle.mm_script.specs.declared.line.CommandLine.{CommandLine}

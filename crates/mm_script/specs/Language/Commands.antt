@@ -2,12 +2,12 @@
 use Rattle.std.specs.Prelude.{◌≡◌, ◌≤◌, ◌+◌, ◌*◌, ◌⊎◌, ℕ, true, false, Option, unwrap_or, List, Contains, [], ◌∷◌, ◌++◌, length, map, drop, replicate, slice_range}
 use Rattle.std.specs.Io.KnownBytes.{Consumes, IsAtEnd}
 use Rattle.mm_text.specs.Language.Asked.{Asked, Insert, Replace, Delete, Move}
-use Rattle.mm_script.specs.declared.entry.Part.{Part}
-use Rattle.mm_script.specs.declared.entry.EditAt.{EditAt}
-use Rattle.mm_script.specs.declared.entry.EditAt.TheVariants as edits
-use Rattle.mm_script.specs.declared.entry.CommandAt.{CommandAt}
-use Rattle.mm_script.specs.declared.entry.CommandAt.TheVariants as code
-use Rattle.mm_script.specs.declared.entry.Complete.{Complete}
+use Rattle.mm_script.specs.declared.command.Part.{Part}
+use Rattle.mm_script.specs.declared.command.EditAt.{EditAt}
+use Rattle.mm_script.specs.declared.command.EditAt.TheVariants as edits
+use Rattle.mm_script.specs.declared.command.CommandAt.{CommandAt}
+use Rattle.mm_script.specs.declared.command.CommandAt.TheVariants as code
+use Rattle.mm_script.specs.declared.command.Complete.{Complete}
 use Rattle.mm_script.specs.declared.input.Input.{Input}
 use Rattle.mm_script.specs.declared.read_stream.Reading.{Reading}
 use Rattle.mm_script.specs.Language.Script.{Command, Change, Batch, Report, Verdict, Axioms, Cites, Users}

@@ -8,7 +8,7 @@ use Rattle.mm_text.specs.declared.part.PartKind.TheVariants as parts
 use Rattle.mm_text.specs.Language.Reading.{HasWords}
 use Rattle.mm_text.specs.Language.Unit.{Shape, Inclusion, Units, Nothing, Simple, Block, AreUnits, unit_tokens, tokens_of}
 use Rattle.mm_text.specs.Language.Part.{part, shape_part}
-use Rattle.mm_store.specs.declared.files.PieceKey.{PieceKey}
+use Rattle.mm_store.specs.declared.key.PieceKey.{PieceKey}
 use Rattle.mm_store.specs.declared.item.Item.{Item}
 use Rattle.mm_store.specs.declared.item.ItemKind.{ItemKind}
 use Rattle.mm_store.specs.declared.item.ItemKind.TheVariants as items

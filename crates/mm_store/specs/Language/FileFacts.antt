@@ -6,7 +6,7 @@ use Rattle.std.specs.FinMap as finite
 use Rattle.mm_text.specs.declared.word.Word.{Word}
 use Rattle.mm_text.specs.Language.Reading.{HasWords}
 use Rattle.mm_text.specs.Language.Cut.{IsCut}
-use Rattle.mm_store.specs.declared.files.PieceKey.{PieceKey}
+use Rattle.mm_store.specs.declared.key.PieceKey.{PieceKey}
 use Rattle.mm_store.specs.declared.item.Item.{Item}
 use Rattle.mm_store.specs.declared.item.ItemKind.TheVariants.{Missing}
 use Rattle.mm_store.specs.Language.Pieces.{HeldPiece, parked_pieces}

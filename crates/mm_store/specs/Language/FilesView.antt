@@ -4,7 +4,7 @@ use Rattle.std.specs.Prelude.{ℕ, ◌+◌, List, [], ◌∷◌, ◌++◌, Optio
 use Rattle.std.specs.List.{concat}
 use Rattle.std.specs.Str.{bytes_eq}
 use Rattle.std.specs.FinMap as finite
-use Rattle.mm_store.specs.declared.files.PieceKey.{PieceKey}
+use Rattle.mm_store.specs.declared.key.PieceKey.{PieceKey}
 use Rattle.mm_store.specs.Language.Pieces.{Pieces, text_under}
 
 -- a file as it is kept: its name, the keys of its pieces in order, and its tail

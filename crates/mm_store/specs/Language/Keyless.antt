@@ -1,6 +1,6 @@
 -- Files, parts and items without their keys: one key stands for all.
 use Rattle.std.specs.Prelude.{List, map}
-use Rattle.mm_store.specs.declared.files.PieceKey.{PieceKey}
+use Rattle.mm_store.specs.declared.key.PieceKey.{PieceKey}
 use Rattle.mm_store.specs.declared.item.Item.{Item}
 use Rattle.mm_store.specs.Language.FilesView.{FileView, File}
 use Rattle.mm_store.specs.Language.Expansion.{Placed}

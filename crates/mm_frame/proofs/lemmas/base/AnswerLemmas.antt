@@ -9,7 +9,7 @@ use Rattle.mm_frame.specs.Code.{KeptSymbols.{AreSymbols, expression_kept, kept_o
 use Rattle.mm_frame.specs.Code.{KeptAssertions.{TellsFrame, TellsPairs}, KeptBase.{AreParts, is_float_item, frame_told, list_told}, KeptSparse.{value_or_none, value_kept}}
 use Rattle.mm_frame.specs.Language.{Base.{told_fault, AreLabelled, BaseView, before, said_at, fault_at, is_sound_at, is_proof_at}, Sound.{fault, sound_items}, Framing.{active_pairs, expression}}
 use Rattle.mm_frame.specs.{Language.{Resolving.{IsCarrier}, Answering.{AreRows, IsLabelTold, IsExpressionTold, IsFrameTold, AreActiveTold, BaseAnswers, IsBaseBy}}, declared.FrameNumber.{FrameNumber}}
-use Rattle.mm_frame.specs.declared.{draft.{Frame.{Frame}, Parts.{Parts}}, base.Base.TheInside.{Inside}, pair_lists.PairLists.{PairLists}}
+use Rattle.mm_frame.specs.declared.{frame.Frame.{Frame}, parts.Parts.{Parts}, base.Base.TheInside.{Inside}, pair_lists.PairLists.{PairLists}}
 use Rattle.mm_machine.specs.Language.{NumberedSymbols.{AreInOrder, AreSamePairsRead, symbols_of, kept_pairs, IsNumbered, ArePairsRead}, Names.{AreDistinct}, Frame.{Symbol, AreSamePairs}}
 use Rattle.mm_machine.specs.declared.symbol.NumberedSymbol.{NumberedSymbol}
 use Rattle.mm_statement.specs.Language.Item.{passed, Said, is_kind, Floating, is_labelled, is_read, item_at}

@@ -6,7 +6,7 @@ use Rattle.std.{proofs.Common.{drop, slice_get, get_or, refl, sym, ◌∙◌, ap
 use native.Mathlib.Decide.{dec_lt}
 use Rattle.mm_machine.specs.{declared.symbol.NumberedSymbol.{NumberedSymbol}, Language.{Frame.{Symbol}, Names.{name_at}}}
 use Rattle.mm_machine.specs.Language.NumberedSymbols.{symbol_of, symbols_of, pair_of, kept_pairs, IsNumbered, IsPairNumbered, ArePairsRead}
-use Rattle.mm_frame.specs.{declared.{paired.PairTable.{PairTable}, places.Places.{Places}, mandatory.Earlier.{Earlier}}, Language.{Framing.{symbol, expression, active_pairs}, Marks.{Mark}}}
+use Rattle.mm_frame.specs.{declared.{paired.PairTable.{PairTable}, places.Places.{Places}, earlier.Earlier.{Earlier}}, Language.{Framing.{symbol, expression, active_pairs}, Marks.{Mark}}}
 use Rattle.mm_frame.specs.{Language.Answering.{are_paired}, Code.{BlockMarks.{stays_by}, KeptEarlier.{KnowsEarlier}, KeptPairTable.{row_at, IsDisjointAt, ReadsPairs}}}
 use Rattle.mm_frame.specs.Code.{KeptPlaces.{place_of, ArePlaces, later_place, later_places_at, pair_at}, KeptSymbols.{expression_kept, AreSymbols}, LastItems.{IsRising}, Numbers.{IsNameNumber}}
 use Rattle.mm_frame.proofs.lemmas.frames.{Frames.{in_at}, HypothesisNumbers.{rise_step, same_rising, drop_step}}

@@ -1,5 +1,5 @@
 use Rattle.std.proofs.{Common.{[], ◌≡◌, ◌<◌, ◌+◌, ◌++◌, ◌∷◌, ◌∙◌, ap, sym, subst, arith, length, length-append, false, rules, List}, lemmas.{Grind.{common_steps}, Bool.{not-false, not-true}}}
-use Rattle.mm_script.specs.{declared.{entry.{Complete.{Complete}, EditAt.{EditAt}}, error.ScriptError.{ScriptError}}, Code.Batches.{IsBatchRead}, Language.Commands.{pending}}
+use Rattle.mm_script.specs.{declared.{command.{Complete.{Complete}, EditAt.{EditAt}}, error.ScriptError.{ScriptError}}, Code.Batches.{IsBatchRead}, Language.Commands.{pending}}
 use Rattle.mm_script.proofs.{GrowLemmas.{grows_not, grows_then, same_error}, EditLemmas.{behind_within}}
 use Rattle.mm_script.proofs.BatchReadLemmas.{batch_begun, batch_front, batch_line_last, batch_one_more, edits_counted, fed_by}
 use Rattle.mm_script.proofs.edits.read_batch.Goals.{else-not-line-via-then-not-line+else-count-gt0, else-not-line-via-else-not-line}

@@ -1,8 +1,8 @@
 use Rattle.std.proofs.{Common.{arith, subst, inl, refl, rules}, lemmas.{Bool.{not-false, not-true}, Grind.{common_steps}}}
-use Rattle.mm_script.specs.{declared.{entry.Part.{Part}, error.ScriptError.{ScriptError}}, Code.{Growing.{line_bytes}, Lines.{SaysEdit}}, Language.Commands.{pending}}
+use Rattle.mm_script.specs.{declared.{command.Part.{Part}, error.ScriptError.{ScriptError}}, Code.{Growing.{line_bytes}, Lines.{SaysEdit}}, Language.Commands.{pending}}
 use Rattle.mm_script.proofs.{GrowLemmas.{few_pending, same_error}, EditLemmas.{asks_insert, asks_replace, plain_read, text_fails, text_line_last, text_read}}
 use Rattle.mm_text.specs.Language.Asked as ask
-use Rattle.mm_script.specs.declared.entry.EditAt.TheVariants as found
+use Rattle.mm_script.specs.declared.command.EditAt.TheVariants as found
 use Rattle.mm_script.specs.declared.line.EditLine.TheVariants as lines
 use Rattle.mm_script.proofs.edits.read_edit.Goals as goal
 

@@ -1,6 +1,6 @@
 use Rattle.std.proofs.{Common.{◌≡◌, ◌<◌, ◌∙◌, ap, arith, false, refl, rules, slice_range}, lemmas.Bool.{false_from_ne_true, not-true}}
-use Rattle.mm_script.specs.{declared.{entry.{Complete.{Complete}, EditAt.{EditAt}}, script_lines.LineAt.{LineAt}, error.ScriptError.{ScriptError}}, Code.{Growing.{line_bytes}, Stops.{IsBadEditLine}}}
-use Rattle.mm_script.{specs.Language.Commands.{pending, edit_in}, proofs.GrowLemmas.{blanks_grown, grows_then, other_error, same_error}}
+use Rattle.mm_script.specs.{declared.{command.{Complete.{Complete}, EditAt.{EditAt}}, script_lines.LineAt.{LineAt}, error.ScriptError.{ScriptError}}, Code.Growing.{line_bytes}}
+use Rattle.mm_script.{specs.{Code.Stops.{IsBadEditLine}, Language.Commands.{pending, edit_in}}, proofs.GrowLemmas.{blanks_grown, grows_then, other_error, same_error}}
 use Rattle.mm_script.proofs.BatchLemmas.{bad_listed, bad_text, begun_holds, edit_missing, line_some, none_left, short_holds, text_stops}
 use Rattle.mm_script.specs.declared.error.ScriptError.TheVariants as errors
 use Rattle.mm_script.proofs.edits.read_listed.Goals as goal

@@ -3,7 +3,7 @@ use Rattle.std.proofs.lemmas.{Grind.{common_steps}, Bool.{eqb-true}, Option.{non
 use Rattle.std.{proofs.Common.{◌≡◌, ℕ, ◌<◌, true, false, length, arith, List, [], ◌∷◌, Some, map, refl, sym, ap, ◌∙◌, subst, ◌⊎◌, inl, inr, ◌==◌, slice_get}, specs.List.{AllByRecursion}}
 use Rattle.mm_text.specs.{declared.{word.Word.{Word}, part.Part.{Part}}, Language.{Reading.{HasWords}, Unit.{Units, Nothing, Simple, Block, AreUnits}, Part.{HasUnits, HasParts, part, part_bytes}}}
 use Rattle.mm_text.specs.Language.Cut.{IsOneUnit, HoldsOneUnit}
-use Rattle.mm_store.specs.{declared.files.PieceKey.{PieceKey}, Language.{FileFacts.{second_word}, Expansion.{Named, Placed, IsInclusion, nameless, named_parts, placed_part, ArePartsOf}}}
+use Rattle.mm_store.specs.{declared.key.PieceKey.{PieceKey}, Language.{FileFacts.{second_word}, Expansion.{Named, Placed, IsInclusion, nameless, named_parts, placed_part, ArePartsOf}}}
 use Rattle.mm_store.{specs.Code.Steps.{IncludesNothing, Includes}, proofs.lemmas.expansion.NameLemmas.{StandsAlone, all_and, all_named, named_are, inner_kind}}
 use Rattle.mm_text.specs.declared.part.PartKind.TheVariants as kinds
 

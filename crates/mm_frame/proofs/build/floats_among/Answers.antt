@@ -1,6 +1,6 @@
 use Rattle.std.proofs.{Common.{arith, map, take_all, ap, ◌∙◌}, lemmas.Grind.{common_steps}}
 use Rattle.mm_frame.{specs.Code.KeptBase.{is_float_item}, proofs.lemmas.lists.Growing.{map_grows}}
-use Rattle.mm_frame.proofs.base.floats_among.Goals as goal
+use Rattle.mm_frame.proofs.build.floats_among.Goals as goal
 
 pub loop-item-preserved : goal.loop-item-preserved
 loop-item-preserved c = grind (arith, common_steps, map_grows) steps 200000

@@ -1,7 +1,7 @@
 use Rattle.std.proofs.{Common.{arith, ◌≡◌, List, ◌∙◌, sym, ap, subst, get_or, All}, lemmas.{Grind.{common_steps}, Bool.{false≢true}, Option.{slice_get-get_or, get_or_from_slice_get}}}
 use Rattle.mm_text.specs.{declared.{part.Part.{Part}, word.Word.{Word}}, Language.{Reading.{HasWords}, Part.{IsReadable, part_bytes}}}
 use Rattle.mm_store.{specs.Language.FileFacts.{second_word}, proofs.lemmas.expansion.IncludeLemmas.{nothing_there, included_there, units, no_first, some_first}}
-use Rattle.mm_store.proofs.expanding.included_name.Goals as goal
+use Rattle.mm_store.proofs.included.included_name.Goals as goal
 
 pub returns-then-is_empty-clause-none : goal.returns-then-is_empty-clause-none
 returns-then-is_empty-clause-none c file number key =

@@ -1,6 +1,6 @@
 use Rattle.std.proofs.{Common.{arith}, lemmas.{Grind.{common_steps}, Slice.Eq.{slice_eq-Decides}}}
 use Rattle.mm_frame.proofs.lemmas.frames.SameLemmas.{both_decide}
-use Rattle.mm_frame.proofs.same.same_pairs.Goals as goal
+use Rattle.mm_frame.proofs.symbol.same_pairs.Goals as goal
 
 pub returns : goal.returns
 returns c =
