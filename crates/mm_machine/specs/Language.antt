@@ -19,5 +19,6 @@ pub mod Keys
 pub mod CitedFrames
 pub mod Forms
 pub mod NamedSteps
+pub mod Lasting
 pub mod Laws
 pub mod RunLaws

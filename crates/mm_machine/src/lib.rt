@@ -29,7 +29,7 @@ pub use assertion::Hypothesis;
 pub use forms::{Form, Forms, Held, Pattern, SlotPair};
 pub use kept::Kept;
 pub use machine::Machine;
-pub use named::{Named, Use};
+pub use named::Use;
 pub use numbering_laws::{
     numbers_keep_frames, numbers_keep_order, numbers_keep_pairs, numbers_keep_places,
     numbers_name_symbols, numbers_say_the_same,

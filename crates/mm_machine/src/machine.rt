@@ -8,7 +8,6 @@ ghost use Rattle.mm_machine.specs.Code.Citation.{IsLowestCiting};
 ghost use Rattle.mm_machine.specs.Code.Filling.{IsFillable, pattern_filled};
 ghost use Rattle.mm_machine.specs.Code.Flat.{IsEntryWithin, read_all};
 ghost use Rattle.mm_machine.specs.Language.Steps.{Cites};
-ghost use Rattle.mm_machine.specs.Language.Machine.{nothing_yet};
 
 use crate::ProofNumber;
 use crate::active::Active;
@@ -36,8 +35,12 @@ pub struct Machine<S> {
     pub(crate) top: usize,
     /// The entries, the last one on top.
     pub(crate) stack: Vec<Entry>,
-    /// What was saved, in order; before it the expressions of hypotheses, which are kept from the beginning.
+    /// What was saved, in order; before it the lasting expressions, which each run can push.
     pub(crate) saved: Vec<Entry>,
+    /// How many lasting expressions there are.
+    pub(crate) lasting: usize,
+    /// Their symbols are below this place.
+    pub(crate) ground: usize,
     /// What was saved is below this place.
     pub(crate) kept: usize,
     /// If more symbols than this are in use, results are put in the place of the entries that they are made of.
@@ -177,20 +180,22 @@ fn build_in_room<S: Kept>(
 }
 
 impl<S: Kept> Machine<S> {
+    ghost use Rattle.mm_machine.specs.Language.Lasting.{HoldsLasting, KeepsLasting, lasting_of};
     ghost use Rattle.mm_machine.specs.Code.MachineState.{state_of, AreRanges};
 
-    /// A machine with nothing on its stack and nothing saved. It takes no memory. A run begins by itself with such a one, so no
-    /// answer depends on what a machine has from other runs.
+    /// A machine with no lasting expression. It takes no memory. A run begins by itself with nothing on the stack and nothing
+    /// saved, so no answer depends on what a machine has from other runs.
     pub fn new(alloc: Global) -> Machine<S>
-        ensures symbols { result.symbols.items ≡ [] }
-        ensures stack { result.stack.items ≡ [] }
-        ensures saved { result.saved.items ≡ [] }
-        ensures kept { result.kept ≡ 0 }
+        ensures holds { HoldsLasting result }
+        ensures count { result.lasting ≡ 0 }
+        ensures lasting { lasting_of S.means result ≡ [] }
     {
         Machine {
             symbols: Vec::new(alloc),
             stack: Vec::new(alloc),
             saved: Vec::new(alloc),
+            lasting: 0,
+            ground: 0,
             top: 0,
             kept: 0,
             most: MUCH,
@@ -210,35 +215,39 @@ impl<S: Kept> Machine<S> {
     pub fn widen(&mut self, keys: usize) -> Result<(), AllocError>
         ensures marks { OnOk result (keys ≤ length self.new.pairs.marks.items) }
         ensures gathered { OnOk result (keys ≤ length self.new.pairs.gathered.places.items) }
+        ensures holds { HoldsLasting self.old → HoldsLasting self.new }
+        ensures lasting { KeepsLasting S.means self.old self.new }
     {
         widen(&mut self.pairs.marks, keys)?;
         widen(&mut self.pairs.gathered.places, keys)
     }
 
-    /// Leaves nothing on the stack and nothing saved; the room that was taken stays.
-    pub(crate) fn clear(&mut self, alloc: Global) -> Result<(), AllocError>
-        ensures whole { OnOk result (AreRanges self.new) }
-        ensures state { OnOk result (state_of S.means self.new ≡ nothing_yet) }
-    {
-        stretch(alloc, &mut self.symbols, BLOCK)?;
-        self.top = 0;
-        self.stack.clear();
-        self.saved.clear();
-        self.kept = 0;
-        self.most = MUCH;
-        Ok(())
+    /// How many symbols the lasting expressions have.
+    pub fn size(&self) -> usize {
+        self.ground
     }
 
-    /// Saves an expression that was never on the stack: a hypothesis, so that each of its uses is a range.
-    pub(crate) fn load(&mut self, alloc: Global, expression: &[S::Listed]) -> Result<(), AllocError>
-        requires { AreRanges self.old }
-        ensures whole { OnOk result (AreRanges self.new) }
-        ensures stack { OnOk result ((state_of S.means self.new).stack ≡ (state_of S.means self.old).stack) }
-        ensures saved { OnOk result ((state_of S.means self.new).saved ≡ (state_of S.means self.old).saved ++ map S.Listed.means expression.now ∷ []) }
+    /// Leaves no lasting expression. The memory is kept.
+    pub fn forget(&mut self)
+        ensures holds { HoldsLasting self.new }
+        ensures lasting { lasting_of S.means self.new ≡ [] }
     {
-        let start = self.top;
+        self.saved.clear();
+        self.lasting = 0;
+        self.ground = 0;
+    }
+
+    /// Adds a lasting expression: a hypothesis, or an assertion that takes nothing. So each use of it, in each run, is a range.
+    /// After out of memory the lasting expressions have to be forgotten.
+    pub fn load(&mut self, alloc: Global, expression: &[S::Listed]) -> Result<(), AllocError>
+        requires { HoldsLasting self.old }
+        ensures holds { OnOk result (HoldsLasting self.new) }
+        ensures count { OnOk result (self.new.lasting ≡ self.old.lasting + 1) }
+        ensures lasting { OnOk result (lasting_of S.means self.new ≡ lasting_of S.means self.old ++ map S.Listed.means expression.now ∷ []) }
+    {
+        let start = self.ground;
         let end = start.saturating_add(expression.len());
-        stretch(alloc, &mut self.symbols, end.saturating_add(BLOCK))?;
+        stretch(alloc, &mut self.symbols, end)?;
         put_listed(
             alloc,
             &mut self.symbols,
@@ -246,13 +255,31 @@ impl<S: Kept> Machine<S> {
             expression,
             &mut self.pairs.marks,
         )?;
+        self.saved.truncate(self.lasting);
         self.saved.push(Entry {
             start,
             end,
             floor: start,
         })?;
-        self.top = end;
-        self.kept = end;
+        self.lasting = self.saved.len();
+        self.ground = end;
+        Ok(())
+    }
+
+    /// Leaves nothing on the stack, and nothing saved but the lasting expressions; the room that was taken stays.
+    pub(crate) fn clear(&mut self, alloc: Global) -> Result<(), AllocError>
+        requires { HoldsLasting self.old }
+        ensures whole { OnOk result (AreRanges self.new) }
+        ensures stack { OnOk result ((state_of S.means self.new).stack ≡ []) }
+        ensures saved { OnOk result ((state_of S.means self.new).saved ≡ lasting_of S.means self.old) }
+        ensures lasting { OnOk result (KeepsLasting S.means self.old self.new) }
+    {
+        stretch(alloc, &mut self.symbols, self.ground.saturating_add(BLOCK))?;
+        self.top = self.ground;
+        self.stack.clear();
+        self.saved.truncate(self.lasting);
+        self.kept = self.ground;
+        self.most = self.ground.saturating_add(MUCH);
         Ok(())
     }
 
@@ -261,6 +288,7 @@ impl<S: Kept> Machine<S> {
         requires whole { AreRanges self.old }
         requires in_range { number < length self.old.saved.items }
         ensures whole { OnOk result (AreRanges self.new) }
+        ensures lasting { OnOk result (self.new.lasting ≡ self.old.lasting) }
         ensures stack { OnOk result ((e : _) → slice_get (state_of S.means self.old).saved number ≡ Some e
             → (state_of S.means self.new).stack ≡ (state_of S.means self.old).stack ++ e ∷ []) }
         ensures saved { OnOk result ((state_of S.means self.new).saved ≡ (state_of S.means self.old).saved) }
@@ -279,6 +307,7 @@ impl<S: Kept> Machine<S> {
     pub(crate) fn save(&mut self) -> Result<bool, AllocError>
         requires { AreRanges self.old }
         ensures whole { OnOk result (AreRanges self.new) }
+        ensures lasting { OnOk result (self.new.lasting ≡ self.old.lasting) }
         ensures saves { IfOk result (λ done. MatchBool done (Saves (state_of S.means self.old) (state_of S.means self.new))
             (((state_of S.means self.old).stack ≡ []) × ((state_of S.means self.new) ≡ (state_of S.means self.old)))) }
     {
@@ -301,6 +330,7 @@ impl<S: Kept> Machine<S> {
         requires in_range { below ≤ length self.old.stack.items }
         requires room { self.old.top + count + 4 ≤ length self.old.symbols.items }
         ensures whole { OnOk result (AreRanges self.new) }
+        ensures lasting { OnOk result (self.new.lasting ≡ self.old.lasting) }
         ensures stack { OnOk result ((state_of S.means self.new).stack ≡ take below (state_of S.means self.old).stack
             ++ take count (drop self.old.top (map S.means self.old.symbols.items)) ∷ []) }
         ensures saved { OnOk result ((state_of S.means self.new).saved ≡ (state_of S.means self.old).saved) }
@@ -329,6 +359,7 @@ impl<S: Kept> Machine<S> {
         requires whole { AreRanges self.old }
         requires form { IsForm (map S.means forms.now.symbols.items) forms.now.slots.items forms.now.hypotheses.items forms.now.pairs.items form }
         ensures whole { OnOk result (AreRanges self.new) }
+        ensures lasting { OnOk result (self.new.lasting ≡ self.old.lasting) }
         ensures cites { IfOk result (λ found. MatchOption found
             (Cites (meant_pairs S.Listed.means active.now.pairs.now) (form_frame (map S.means forms.now.symbols.items) forms.now.hypotheses.items
             forms.now.pairs.items form) (state_of S.means self.old).stack (state_of S.means self.new).stack)

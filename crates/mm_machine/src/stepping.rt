@@ -7,12 +7,13 @@ ghost use Rattle.mm_machine.specs.Language.Frame.{Symbol as Meaning, Frame, Sett
 ghost use Rattle.mm_machine.specs.Language.Typing.{HasFrames};
 ghost use Rattle.mm_machine.specs.Language.Expansion.{Step, NotKnown};
 ghost use Rattle.mm_machine.specs.Language.Faults.{IsLowest};
-ghost use Rattle.mm_machine.specs.Language.Machine.{State, Turns, nothing_yet};
+ghost use Rattle.mm_machine.specs.Language.Machine.{State, Turns};
+ghost use Rattle.mm_machine.specs.Language.Lasting.{HoldsLasting, KeepsLasting, lasting_of};
 ghost use Rattle.mm_machine.specs.Language.CitedFrames.{meant_pairs};
 ghost use Rattle.mm_machine.specs.Language.Forms.{AreForms, frames_of};
 ghost use Rattle.mm_machine.specs.Language.NamedSteps.{AreDoneTo, AreSavedBefore, AreUses, AreUsesWithin, FrontSays, IsFrontWithin};
 ghost use Rattle.mm_machine.specs.Language.NamedSteps.{IsOutcomeWithin, IsSavedWithin, IsUseWithin, MeansUse, RunSays, StopsAt, actions_mean, meant};
-ghost use Rattle.mm_machine.specs.Language.NamedSteps.{named_expressions, saves_by};
+ghost use Rattle.mm_machine.specs.Language.NamedSteps.{saves_by};
 ghost use Rattle.mm_machine.specs.Code.Tasks.{HasState, IsTaskWithin, MeansTask, saves_of};
 ghost use Rattle.mm_machine.specs.Code.MachineState.{state_of, AreRanges};
 
@@ -21,7 +22,7 @@ use crate::active::Active;
 use crate::forms::Forms;
 use crate::kept::Kept;
 use crate::machine::Machine;
-use crate::named::{Named, Use};
+use crate::named::Use;
 use crate::step::{Action, ProofStep};
 use crate::symbol::Symbol;
 use std::alloc::{AllocError, Global};
@@ -29,7 +30,7 @@ use std::alloc::{AllocError, Global};
 /// What the machine does at a known step.
 #[derive(Clone, Copy)]
 pub enum Task {
-    /// It pushes the hypothesis with this number.
+    /// It pushes the lasting expression with this number.
     Push(usize),
     /// It cites the assertion with this number.
     Cite(usize),
@@ -78,21 +79,17 @@ fn use_of(uses: &[Use], k: usize) -> Use
 }
 
 /// What the machine does at a step with this action; nothing if the step is not known.
-fn task_of<'a, S: Kept>(
-    forms: &Forms<S>,
-    named: &Named<'a, S::Listed>,
-    action: Action,
-) -> Option<Task>
-    ensures means { (place : Setting) (names : List Step) → AreUses S.means S.Listed.means forms.now named.now place names
-        → MatchOption result (meant names action ≡ NotKnown)
-        (λ task. MeansTask (named_expressions S.Listed.means named.now) (frames_of S.means forms.now) place task (meant names action)) }
-    ensures within { (saves : ℕ) → AreUsesWithin forms.now named.now → IsSavedWithin saves action
-        → IfSome result (λ task. IsTaskWithin (length named.now.hypotheses.items) (length forms.now.forms.items) saves task) }
+fn task_of(uses: &[Use], action: Action) -> Option<Task>
+    ensures means { (expressions : List (List Meaning)) (frames : List Frame) (place : Setting) (names : List Step)
+        → AllZip (MeansUse expressions frames place) uses.now names
+        → MatchOption result (meant names action ≡ NotKnown) (λ task. MeansTask expressions frames place task (meant names action)) }
+    ensures within { (lasting assertions saves : ℕ) → All (IsUseWithin lasting assertions) uses.now → IsSavedWithin saves action
+        → IfSome result (IsTaskWithin lasting assertions saves) }
     ensures saves { IfSome result (λ task. saves_of task ≡ saves_by action) }
 {
     match action {
-        Action::Label(k) => match use_of(&named.uses, k) {
-            Use::Hypothesis(n) => Some(Task::Push(n)),
+        Action::Label(k) => match use_of(uses, k) {
+            Use::Lasting(n) => Some(Task::Push(n)),
             Use::Assertion(n) => Some(Task::Cite(n)),
             Use::Nothing => None,
         },
@@ -107,21 +104,19 @@ fn do_task<'a, S: Kept>(
     alloc: Global,
     machine: &mut Machine<S>,
     forms: &Forms<S>,
-    named: &Named<'a, S::Listed>,
     active: &Active<'a, S>,
     task: Task,
 ) -> Result<Option<ProofNumber>, AllocError>
     requires whole { AreRanges machine.old }
     requires frames { AreForms S.means forms.now }
-    requires loaded { length named.now.hypotheses.items ≤ length machine.old.saved.items }
-    requires within { IsTaskWithin (length named.now.hypotheses.items) (length forms.now.forms.items)
-        (length machine.old.saved.items - length named.now.hypotheses.items) task }
+    requires within { IsTaskWithin machine.old.lasting (length forms.now.forms.items) (length machine.old.saved.items - machine.old.lasting) task }
     ensures whole { OnOk result (AreRanges machine.new) }
-    ensures turns { IfOk result (λ found. (place : Setting) (step : Step) (before : State)
+    ensures lasting { OnOk result (KeepsLasting S.means machine.old machine.new) }
+    ensures turns { IfOk result (λ found. (place : Setting) (step : Step) (before : State) → HasFrames place
         → AreSamePairs (meant_pairs S.Listed.means active.now.pairs.now) place.active
-        → HasState S.means (named_expressions S.Listed.means named.now) machine.old before
-        → MeansTask (named_expressions S.Listed.means named.now) (frames_of S.means forms.now) place task step
-        → MatchOption found ((after : State) × HasState S.means (named_expressions S.Listed.means named.now) machine.new after × Turns place step before after)
+        → HasState S.means machine.old before
+        → MeansTask (lasting_of S.means machine.old) (frames_of S.means forms.now) place task step
+        → MatchOption found ((after : State) × HasState S.means machine.new after × Turns place step before after)
         (IsLowest place step before.stack)) }
     ensures saves { IfOk result (λ found. IfNone found (length machine.new.saved.items ≡ length machine.old.saved.items + saves_of task)) }
 {
@@ -135,7 +130,7 @@ fn do_task<'a, S: Kept>(
             Ok(found)
         }
         Task::Again(n) => {
-            machine.push_saved(named.hypotheses.len() + n)?;
+            machine.push_saved(machine.lasting + n)?;
             Ok(None)
         }
         Task::Keep => {
@@ -174,51 +169,34 @@ fn is_top<S: Kept>(machine: &Machine<S>, expression: &[S::Listed]) -> bool
     has_at(&machine.symbols, entry.start, expression)
 }
 
-/// Keeps the expressions of the hypotheses that are named.
-fn load<'a, S: Kept>(
-    alloc: Global,
-    machine: &mut Machine<S>,
-    named: &Named<'a, S::Listed>,
-) -> Result<(), AllocError>
-    requires whole { AreRanges machine.old }
-    requires nothing { state_of S.means machine.old ≡ nothing_yet }
-    ensures whole { OnOk result (AreRanges machine.new) }
-    ensures state { OnOk result (HasState S.means (named_expressions S.Listed.means named.now) machine.new nothing_yet) }
-{
-    for n in 0..named.hypotheses.len() {
-        let expression = named.hypotheses[n];
-        machine.load(alloc, expression)?;
-    }
-    Ok(())
-}
-
 /// Runs steps up to the first that is at fault or not known, and answers what they come to. If there is none, all are done,
 /// and it answers `None`.
 fn run_through<'a, S: Kept>(
     alloc: Global,
     machine: &mut Machine<S>,
     forms: &Forms<S>,
-    named: &Named<'a, S::Listed>,
+    uses: &[Use],
     active: &Active<'a, S>,
     steps: &[ProofStep],
 ) -> Result<Option<Outcome>, AllocError>
+    requires holds { HoldsLasting machine.old }
     requires frames { AreForms S.means forms.now }
-    requires within { AreUsesWithin forms.now named.now }
+    requires within { AreUsesWithin machine.old forms.now uses.now }
     requires saved { AreSavedBefore steps.now }
     ensures whole { OnOk result (AreRanges machine.new) }
+    ensures lasting { OnOk result (KeepsLasting S.means machine.old machine.new) }
     ensures within { IfOk result (λ found. IfSome found (IsOutcomeWithin (length steps.now))) }
     ensures says { IfOk result (λ found. (place : Setting) (names : List Step) → HasFrames place
-        → AreSamePairs (meant_pairs S.Listed.means active.now.pairs.now) place.active → AreUses S.means S.Listed.means forms.now named.now place names
+        → AreSamePairs (meant_pairs S.Listed.means active.now.pairs.now) place.active → AreUses S.means machine.old forms.now uses.now place names
         → MatchOption found (AreDoneTo place (actions_mean names steps.now) (state_of S.means machine.new).stack)
         (StopsAt place (actions_mean names steps.now))) }
 {
     machine.clear(alloc)?;
-    load(alloc, &mut *machine, &*named)?;
     for place in 0..steps.len() {
-        let Some(task) = task_of(&*forms, &*named, steps[place].action) else {
+        let Some(task) = task_of(uses, steps[place].action) else {
             return Ok(Some(Outcome::Unknown(place)));
         };
-        if let Some(number) = do_task(alloc, &mut *machine, &*forms, &*named, &*active, task)? {
+        if let Some(number) = do_task(alloc, &mut *machine, &*forms, &*active, task)? {
             return Ok(Some(Outcome::Fault(number, place)));
         }
     }
@@ -226,55 +204,61 @@ fn run_through<'a, S: Kept>(
 }
 
 /// Runs the first steps of a proof, up to one that is at fault or not known, and answers whether they stop there or how many
-/// entries they leave. What the machine has from other runs does not count.
+/// entries they leave. The labels of the proof have these uses. Of what the machine has from other runs, its lasting
+/// expressions alone count, and they stay.
 ///
 /// The assertions that are named can be cited, each number is in range, and what is pushed again was saved before. It takes
 /// time near linear in the symbols of the entries that are made and compared, and memory for these. The only error is out of
-/// memory, and the machine can be used again after it.
+/// memory; after it the lasting expressions have to be forgotten ([`Machine::forget`]).
 pub fn run_counted<'a, S: Kept>(
     alloc: Global,
     machine: &mut Machine<S>,
     forms: &Forms<S>,
-    named: &Named<'a, S::Listed>,
+    uses: &[Use],
     active: &Active<'a, S>,
     steps: &[ProofStep],
 ) -> Result<Front, AllocError>
+    requires holds { HoldsLasting machine.old }
     requires frames { AreForms S.means forms.now }
-    requires within { AreUsesWithin forms.now named.now }
+    requires within { AreUsesWithin machine.old forms.now uses.now }
     requires saved { AreSavedBefore steps.now }
+    ensures holds { OnOk result (HoldsLasting machine.new) }
+    ensures lasting { OnOk result (KeepsLasting S.means machine.old machine.new) }
     ensures within { IfOk result (IsFrontWithin (length steps.now)) }
     ensures says { IfOk result (λ front. (place : Setting) (names : List Step) → HasFrames place
-        → AreSamePairs (meant_pairs S.Listed.means active.now.pairs.now) place.active → AreUses S.means S.Listed.means forms.now named.now place names
+        → AreSamePairs (meant_pairs S.Listed.means active.now.pairs.now) place.active → AreUses S.means machine.old forms.now uses.now place names
         → FrontSays place (actions_mean names steps.now) front) }
 {
-    match run_through(alloc, &mut *machine, &*forms, &*named, &*active, steps)? {
+    match run_through(alloc, &mut *machine, &*forms, uses, &*active, steps)? {
         Some(outcome) => Ok(Front::Stops(outcome)),
         None => Ok(Front::Leaves(machine.stack.len())),
     }
 }
 
-/// Runs the steps of a proof of a statement, up to the first that is at fault or not known. What the machine has from
-/// other runs does not count.
+/// Runs the steps of a proof of a statement, up to the first that is at fault or not known.
 ///
 /// It requires what [`run_counted`] does, and costs the same.
 pub fn run<'a, S: Kept>(
     alloc: Global,
     machine: &mut Machine<S>,
     forms: &Forms<S>,
-    named: &Named<'a, S::Listed>,
+    uses: &[Use],
     active: &Active<'a, S>,
     steps: &[ProofStep],
     statement: &[S::Listed],
 ) -> Result<Outcome, AllocError>
+    requires holds { HoldsLasting machine.old }
     requires frames { AreForms S.means forms.now }
-    requires within { AreUsesWithin forms.now named.now }
+    requires within { AreUsesWithin machine.old forms.now uses.now }
     requires saved { AreSavedBefore steps.now }
+    ensures holds { OnOk result (HoldsLasting machine.new) }
+    ensures lasting { OnOk result (KeepsLasting S.means machine.old machine.new) }
     ensures within { IfOk result (IsOutcomeWithin (length steps.now)) }
     ensures says { IfOk result (λ outcome. (place : Setting) (names : List Step) → HasFrames place
         → AreSamePairs (meant_pairs S.Listed.means active.now.pairs.now) place.active
-        → AreUses S.means S.Listed.means forms.now named.now place names → RunSays place (actions_mean names steps.now) (map S.Listed.means statement.now) outcome) }
+        → AreUses S.means machine.old forms.now uses.now place names → RunSays place (actions_mean names steps.now) (map S.Listed.means statement.now) outcome) }
 {
-    if let Some(outcome) = run_through(alloc, &mut *machine, &*forms, &*named, &*active, steps)? {
+    if let Some(outcome) = run_through(alloc, &mut *machine, &*forms, uses, &*active, steps)? {
         return Ok(outcome);
     }
     if machine.stack.len() != 1 {

@@ -1,27 +1,25 @@
 //! What citing an assertion of a base needs.
 
-ghost use Rattle.std.specs.Prelude.{◌≡◌, ◌++◌, ◌∷◌, [], ℕ, List, true, All, IfOk, OnOk, length, map, take};
+ghost use Rattle.std.specs.Prelude.{◌≡◌, ◌++◌, ℕ, List, true, All, IfOk, OnOk, map};
 ghost use Rattle.mm_frame.specs.Language.Base.{BaseView, frame_at, is_shown_at, is_framed_at, is_proof_at};
 ghost use Rattle.mm_frame.specs.Language.Answering.{IsBase, IsBaseBy};
-ghost use Rattle.mm_machine.specs.Language.Frame.{Frame, AreSameFrame, AreSamePairs};
+ghost use Rattle.mm_machine.specs.Language.Frame.{AreSameFrame, AreSamePairs};
 ghost use Rattle.mm_machine.specs.Language.Typing.{IsFrame};
 ghost use Rattle.mm_machine.specs.Language.CitedFrames.{frame_from, mandatory_of, hypotheses_of, meant_pairs};
-ghost use Rattle.mm_machine.specs.Language.Forms.{AreForms, frames_of};
 ghost use Rattle.mm_machine.specs.Language.Keys.{AreInKeyOrder, key_by_number};
 ghost use Rattle.mm_machine.specs.Language.Numbering.{unnaming};
-ghost use Rattle.mm_machine.specs.Language.NumberedSymbols.{by_code, by_number, all_by_number};
+ghost use Rattle.mm_machine.specs.Language.NumberedSymbols.{by_number, all_by_number};
 ghost use Rattle.mm_machine.specs.Language.Renaming.{renamed_frame};
 ghost use Rattle.mm_frame.specs.declared.base.Resolved.TheVariants as answers;
-ghost use Rattle.mm_verdict.specs.Language.DecodedSteps.{AreEntriesOf, IsNamedBy};
-ghost use Rattle.mm_verdict.specs.Code.NamedItems.{AreCited};
-ghost use Rattle.mm_verdict.specs.Code.NumberedBase.{ByNames, numbered_hypothesis, numbered_frame, numbered_setting};
+ghost use Rattle.mm_verdict.specs.Language.DecodedSteps.{IsNamedBy};
+ghost use Rattle.mm_verdict.specs.Code.NumberedBase.{ByNames, numbered_hypothesis, numbered_setting};
 
 use mm_frame::{Base, places_have_frames};
 use mm_machine::{
-    CodedSymbol, Forms, Hypothesis, NumberedSymbol, numbers_keep_frames, numbers_keep_order,
-    numbers_keep_pairs, numbers_name_symbols,
+    Hypothesis, NumberedSymbol, numbers_keep_frames, numbers_keep_order, numbers_keep_pairs,
+    numbers_name_symbols,
 };
-use std::alloc::{AllocError, Global};
+use std::alloc::AllocError;
 
 /// The expression of the item with this number, which is one that has an expression.
 pub fn expression(base: &Base, number: usize) -> &[NumberedSymbol]
@@ -101,40 +99,4 @@ pub fn look_up<'a>(
         expression: expression(base, number),
         pairs: &frame.pairs,
     })
-}
-
-/// Adds the assertion with this number.
-fn add_assertion<'a>(
-    alloc: Global,
-    base: &'a Base,
-    number: usize,
-    mandatory: &mut Vec<Hypothesis<'a, NumberedSymbol>>,
-    forms: &mut Forms<CodedSymbol>,
-) -> Result<(), AllocError>
-    requires entry { IsNamedBy base.now (answers.Assertion number) }
-    requires forms { AreForms by_code forms.old }
-    ensures forms { OnOk result (AreForms by_code forms.new) }
-    ensures frame { OnOk result ((frame : Frame) × (frames_of by_code forms.new ≡ frames_of by_code forms.old ++ frame ∷ [])
-        × ByNames base.now (λ names view. is_framed_at view number ≡ true → AreSameFrame frame (numbered_frame names view number))) }
-{
-    let parts = look_up(base, number, &mut *mandatory)?;
-    forms.add(alloc, mandatory, parts.expression, parts.pairs)
-}
-
-/// Adds assertions, so that there are those with these numbers. Before, there are those of the first numbers.
-pub fn add_assertions<'a>(
-    alloc: Global,
-    base: &'a Base,
-    numbers: &[usize],
-    mandatory: &mut Vec<Hypothesis<'a, NumberedSymbol>>,
-    forms: &mut Forms<CodedSymbol>,
-) -> Result<(), AllocError>
-    requires named { AreEntriesOf base.now numbers.now }
-    requires there { AreCited base.now (take (length (frames_of by_code forms.old)) numbers.now) forms.old }
-    ensures { OnOk result (AreCited base.now numbers.now forms.new) }
-{
-    for place in forms.len()..numbers.len() {
-        add_assertion(alloc, base, numbers[place], &mut *mandatory, &mut *forms)?;
-    }
-    Ok(())
 }

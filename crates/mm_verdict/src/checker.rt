@@ -1,21 +1,19 @@
 //! A base whose proofs are checked.
 
 ghost use Rattle.std.specs.Prelude.{◌≡◌};
-ghost use Rattle.mm_verdict.specs.Code.NamedItems.{AreKnownOf};
 
 use crate::known::Known;
 use crate::scratch::Scratch;
 use mm_frame::Base;
 use std::alloc::{AllocError, Global};
 use std::marker::Model;
-use std::mem;
 
-/// Checks proofs of a base, one after another. An assertion that an earlier one names is mostly not looked up again. Its value
-/// is the base.
+/// Checks proofs of a base, one after another. What an earlier one names is mostly not looked up again. Its value is the base.
 #[derive(Drop)]
 pub struct Checker<'a> {
     base: &'a Base,
-    known: Known<'a>,
+    /// What is known of it, for all checks.
+    pub(crate) known: Known<'a>,
     /// What checks use over again.
     pub(crate) scratch: Scratch,
 }
@@ -56,24 +54,7 @@ impl<'a> Checker<'a> {
         ensures { self.new ≡ self.old }
     {
         let items = self.base.count();
-        self.known.widen(keys)?;
-        self.scratch.widen(items, keys)
-    }
-
-    /// Lends what is known, or nothing if it is too much. Nothing is known until it is taken back.
-    pub(crate) fn lend(&mut self, alloc: Global) -> Known<'a>
-        ensures same { self.new ≡ self.old }
-        ensures known { AreKnownOf self.old result }
-    {
-        let known = mem::replace(&mut self.known, Known::new(alloc));
-        known.limited()
-    }
-
-    /// Takes back what is known, for the next check.
-    pub(crate) fn take_back(&mut self, known: Known<'a>)
-        requires { AreKnownOf self.old known }
-        ensures { self.new ≡ self.old }
-    {
-        self.known = known;
+        self.known.widen(items, keys)?;
+        self.scratch.widen(items)
     }
 }

@@ -15,7 +15,7 @@ ghost use Rattle.mm_machine.specs.Language.NamedSteps.{IsOutcomeWithin, RunSays,
 ghost use Rattle.mm_verdict.specs.Code.Judged.{HasProof, done_by};
 ghost use Rattle.mm_verdict.specs.Code.NamedItems.{AreKnownOf, AreUsedNamesOf};
 ghost use Rattle.mm_verdict.specs.Language.ReadIn.{HasTheorem, OfTheorem};
-ghost use Rattle.mm_verdict.specs.Code.UsedLabels.{AreUseMarks, AreUsed};
+ghost use Rattle.mm_verdict.specs.Code.UsedLabels.{AreUseMarks};
 ghost use Rattle.mm_verdict.specs.declared.undecoded.Undecoded.TheVariants as errors;
 
 use crate::assertion::{active, expression};
@@ -23,17 +23,16 @@ use crate::checker::Checker;
 use crate::citing::cites_used;
 use crate::decoding_laws::{decodes_short, decodes_surely, labels_are_own, mandatory_are_active};
 use crate::known::Known;
-use crate::named::{NamingRoom, name_all};
 use crate::reading::{Decoding, MarkedDecoding, decode_marked};
 use crate::scratch::Scratch;
 use crate::short::{steps_before, take_more, takes_more};
 use crate::undecoded::Undecoded;
-use crate::used::{labels_marked, labels_used};
+use crate::used::marks_of;
 use crate::work::{Checked, Work};
 use mm_frame::{Base, Files, Names, ProofWords, Resolved, places_have_frames, words_of_proof};
 use mm_machine::{
-    Active, CodedSymbol, Front, Machine, Outcome, ProofFault, ProofNumber, ProofStep, Spot,
-    Verdict, lack_stops, numbers_keep_places, numbers_say_the_same, run, run_counted, stops_stay,
+    Active, Front, Outcome, ProofFault, ProofNumber, ProofStep, Spot, Verdict, lack_stops,
+    numbers_keep_places, numbers_say_the_same, run, run_counted, stops_stay,
 };
 use std::alloc::{AllocError, Global};
 use std::mem;
@@ -112,7 +111,6 @@ pub struct DecodedProof<'b, 'a> {
 /// Names the labels that these steps name.
 fn name_used<'b>(
     alloc: Global,
-    room: &mut NamingRoom,
     known: &mut Known<'b>,
     base: &'b Base,
     labels: &[Resolved],
@@ -122,8 +120,8 @@ fn name_used<'b>(
     requires known { AreKnownOf base.now known.old }
     ensures { OnOk result (AreUsedNamesOf base.now labels.now steps.now known.new) }
 {
-    let used = labels_used(alloc, labels, steps)?;
-    name_all(alloc, base, &used, room, known)
+    let marks = marks_of(alloc, labels.len(), steps)?;
+    known.name_all(alloc, base, labels, &marks)
 }
 
 /// If some step may have too few entries, runs the steps of a proof before the first one, by the count of entries alone, and
@@ -131,8 +129,6 @@ fn name_used<'b>(
 /// answers `None`.
 fn run_front<'b>(
     alloc: Global,
-    room: &mut NamingRoom,
-    machine: &mut Machine<CodedSymbol>,
     known: &mut Known<'b>,
     proof: DecodedProof<'b, '_>,
 ) -> Result<Option<Outcome>, AllocError>
@@ -154,9 +150,16 @@ fn run_front<'b>(
     }
     let count = steps_before(proof.base, labels, steps);
     let front = &steps[..count];
-    name_used(alloc, room, &mut *known, proof.base, labels, front)?;
+    name_used(alloc, &mut *known, proof.base, labels, front)?;
     let active = Active::new(active(proof.base, proof.i));
-    let came_to = run_counted(alloc, machine, &known.forms, &known.named, &active, front)?;
+    let came_to = run_counted(
+        alloc,
+        &mut known.machine,
+        &known.forms,
+        &known.uses,
+        &active,
+        front,
+    )?;
     let entries = match came_to {
         Front::Stops(outcome) => return Ok(Some(outcome)),
         Front::Leaves(entries) => entries,
@@ -167,17 +170,15 @@ fn run_front<'b>(
     Ok(None)
 }
 
-/// Runs all steps of a proof, which name these labels.
+/// Runs all steps of a proof. Marks say which labels they name.
 fn run_all<'b>(
     alloc: Global,
-    room: &mut NamingRoom,
-    machine: &mut Machine<CodedSymbol>,
     known: &mut Known<'b>,
-    used: &[Resolved],
+    marks: &[bool],
     proof: DecodedProof<'b, '_>,
 ) -> Result<Outcome, AllocError>
     requires decoded { IsDecoded proof }
-    requires used { AreUsed proof.decoding.now.labels.items used.now proof.decoding.now.steps.items }
+    requires marks { AreUseMarks (length proof.decoding.now.labels.items) marks.now proof.decoding.now.steps.items }
     requires known { AreKnownOf proof.base.now known.old }
     ensures { IfOk result (λ outcome. IsRun proof.entry outcome known.new) }
 {
@@ -186,13 +187,14 @@ fn run_all<'b>(
     mandatory_are_active();
     numbers_keep_places();
     numbers_say_the_same();
-    name_all(alloc, proof.base, used, room, &mut *known)?;
+    let labels: &[Resolved] = &proof.decoding.labels;
+    known.name_all(alloc, proof.base, labels, marks)?;
     let active = Active::new(active(proof.base, proof.i));
     let outcome = run(
         alloc,
-        machine,
+        &mut known.machine,
         &known.forms,
-        &known.named,
+        &known.uses,
         &active,
         &proof.decoding.steps,
         expression(proof.base, proof.i),
@@ -200,23 +202,21 @@ fn run_all<'b>(
     Ok(outcome)
 }
 
-/// Runs the steps of a proof, which name these labels.
+/// Runs the steps of a proof. Marks say which labels they name.
 fn run_steps<'b>(
     alloc: Global,
-    room: &mut NamingRoom,
-    machine: &mut Machine<CodedSymbol>,
     known: &mut Known<'b>,
-    used: &[Resolved],
+    marks: &[bool],
     proof: DecodedProof<'b, '_>,
 ) -> Result<Outcome, AllocError>
     requires decoded { IsDecoded proof }
-    requires used { AreUsed proof.decoding.now.labels.items used.now proof.decoding.now.steps.items }
+    requires marks { AreUseMarks (length proof.decoding.now.labels.items) marks.now proof.decoding.now.steps.items }
     requires known { AreKnownOf proof.base.now known.old }
     ensures { IfOk result (λ outcome. IsRun proof.entry outcome known.new) }
 {
-    match run_front(alloc, &mut *room, &mut *machine, &mut *known, proof)? {
+    match run_front(alloc, &mut *known, proof)? {
         Some(outcome) => Ok(outcome),
-        None => run_all(alloc, room, machine, known, used, proof),
+        None => run_all(alloc, known, marks, proof),
     }
 }
 
@@ -236,24 +236,15 @@ fn judge_steps<'b>(
     decodes_short();
     labels_are_own();
     let hypotheses = mandatory(proof.base, proof.i).len();
-    labels_marked(&mut scratch.used, &proof.decoding.labels, marks)?;
-    let used: &[Resolved] = &scratch.used;
     let cites = cites_used(
         alloc,
         &mut scratch.marks,
         proof.decoding,
-        used,
+        marks,
         hypotheses,
         proof.words,
     )?;
-    let outcome = run_steps(
-        alloc,
-        &mut scratch.naming,
-        &mut scratch.machine,
-        known,
-        used,
-        proof,
-    )?;
+    let outcome = run_steps(alloc, known, marks, proof)?;
     let done = steps_done(outcome, proof.decoding.steps.len());
     let verdict = verdict(outcome, proof.decoding, proof.words.again());
     Ok((Checked::new(verdict, cites), done as u64))
@@ -364,8 +355,8 @@ impl Checker<'_> {
         Ok(checked)
     }
 
-    /// What a check says of a proof, and how many steps are done. The assertions that it looks up are known then; after out of
-    /// memory none is.
+    /// What a check says of a proof, and how many steps are done. What it looks up is known then; after out of memory nothing
+    /// is.
     fn judge(
         &mut self,
         alloc: Global,
@@ -377,9 +368,11 @@ impl Checker<'_> {
         ensures judged { IfOk result (IsJudgedItem self.old i proof.now) }
     {
         let base = self.base();
-        let mut known = self.lend(alloc);
-        let judged = judge(alloc, &mut self.scratch, &mut known, base, i, proof)?;
-        self.take_back(known);
-        Ok(judged)
+        self.known.limit();
+        let judged = judge(alloc, &mut self.scratch, &mut self.known, base, i, proof);
+        if judged.is_err() {
+            self.known.forget();
+        }
+        judged
     }
 }

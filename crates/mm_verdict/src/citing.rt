@@ -1,9 +1,11 @@
 //! Which words of a proof cite an assertion.
 
-ghost use Rattle.std.specs.Prelude.{◌≡◌, ◌≤◌, true, false, ℕ, ◌+◌, ◌++◌, ◌∷◌, ◌||◌, nat_eq, List, IfOk, OnOk, drop, length};
-ghost use Rattle.mm_verdict.specs.Code.Cited.{item_cites, without, marked_at, is_listed};
-ghost use Rattle.mm_verdict.specs.Code.UsedLabels.{AreUsed};
+ghost use Rattle.std.specs.Prelude.{◌≡◌, ◌≤◌, true, false, ℕ, ◌+◌, ◌++◌, ◌∷◌, ◌||◌, nat_eq, if◌then◌else◌, Some, List, IfOk, OnOk, drop, length};
+ghost use Rattle.mm_verdict.specs.Code.Cited.{cited_item, is_item, item_cites, without, marked_at, is_listed};
+ghost use Rattle.mm_verdict.specs.Code.UsedLabels.{AreUseMarks};
+ghost use Rattle.mm_verdict.specs.Code.NamedItems.{masked};
 ghost use Rattle.mm_frame.specs.declared.base.Resolved as labels;
+ghost use Rattle.mm_frame.specs.declared.base.Resolved.TheVariants as answers;
 ghost use Rattle.mm_frame.specs.Language.Base.{BaseView};
 ghost use Rattle.mm_verdict.specs.Language.BaseLabels.{NoLabelTwice, setting_at};
 ghost use Rattle.mm_verdict.specs.Language.Citing.{cited_words};
@@ -50,15 +52,27 @@ fn forget(marks: &mut Vec<bool>, labels: &[Resolved])
     }
 }
 
+/// Marks the assertion that a label names, if the label is in use and names one.
+fn mark_named(marks: &mut Vec<bool>, label: Resolved, used: bool) -> Result<(), AllocError>
+    ensures { OnOk result ((i : ℕ) → marked_at marks.new.items i
+        ≡ (marked_at marks.old.items i || is_item (cited_item (Some (if used then label else answers.Unknown))) i)) }
+{
+    if used {
+        if let Resolved::Assertion(j) = label {
+            return mark(&mut *marks, j);
+        }
+    }
+    Ok(())
+}
+
 /// Marks, of the assertions that labels name, those that the labels in use name. Of others the marks do not count.
-fn named(marks: &mut Vec<bool>, labels: &[Resolved], used: &[Resolved]) -> Result<(), AllocError>
-    ensures { OnOk result ((j : ℕ) → is_listed labels.now j ≡ true → marked_at marks.new.items j ≡ is_listed used.now j) }
+fn named(marks: &mut Vec<bool>, labels: &[Resolved], used: &[bool]) -> Result<(), AllocError>
+    requires { length used.now ≡ length labels.now }
+    ensures { OnOk result ((j : ℕ) → is_listed labels.now j ≡ true → marked_at marks.new.items j ≡ is_listed (masked labels.now used.now) j) }
 {
     forget(&mut *marks, labels);
-    for label in used {
-        if let Resolved::Assertion(j) = *label {
-            mark(&mut *marks, j)?;
-        }
+    for k in 0..labels.len() {
+        mark_named(&mut *marks, labels[k], used[k])?;
     }
     Ok(())
 }
@@ -98,12 +112,13 @@ fn cited(
     alloc: Global,
     marks: &mut Vec<bool>,
     labels: &[Resolved],
-    used: &[Resolved],
+    used: &[bool],
     first: FirstLabel,
     room: usize,
 ) -> Result<Vec<usize>, AllocError>
-    requires { first.word ≤ 1 }
-    ensures { IfOk result (λ words. words.items ≡ item_cites (is_listed used.now) first.word (drop first.place labels.now)) }
+    requires first { first.word ≤ 1 }
+    requires used { length used.now ≡ length labels.now }
+    ensures { IfOk result (λ words. words.items ≡ item_cites (is_listed (masked labels.now used.now)) first.word (drop first.place labels.now)) }
 {
     named(&mut *marks, labels, used)?;
     let mut words = Vec::with_capacity(alloc, room)?;
@@ -115,17 +130,17 @@ fn cited(
 }
 
 /// The numbers of the words of a proof that cite: for each assertion that a decoded step names, the first word that is its
-/// label. They rise. It takes the decoding of the proof, the labels in use, how many mandatory hypotheses there are, and the
-/// words. It marks assertions by their numbers; the marks that are there do not count.
+/// label. They rise. It takes the decoding of the proof, marks for the labels in use, how many mandatory hypotheses there
+/// are, and the words. It marks assertions by their numbers; the marks that are there do not count.
 pub fn cites_used(
     alloc: Global,
     marks: &mut Vec<bool>,
     decoding: &Decoding,
-    used: &[Resolved],
+    used: &[bool],
     mandatory: usize,
     proof: &ProofWords,
 ) -> Result<Vec<usize>, AllocError>
-    requires { AreUsed decoding.now.labels.items used.now decoding.now.steps.items }
+    requires { AreUseMarks (length decoding.now.labels.items) used.now decoding.now.steps.items }
     ensures { IfOk result (λ words. (view : BaseView) (i : ℕ) (numbers : List ℕ) → NoLabelTwice view → length numbers ≡ mandatory →
         AreEntries view i decoding.now.labels.items →
         entry_steps view decoding.now.labels.items ≡ label_table (labels_at view numbers) proof.now →

@@ -1,85 +1,240 @@
-//! What checks of a base keep of its assertions.
+//! What checks of a base keep of it: its assertions as forms, and the expressions that labels push.
 
+ghost use Rattle.std.specs.Prelude.{◌≡◌, if◌then◌else◌, Some, All, IsTrue, IfSome, IfOk, OnOk, length, slice_get};
 ghost use Rattle.mm_frame.specs.declared.base.Base.{Base as Meant};
-ghost use Rattle.std.specs.Prelude.{OnOk};
-ghost use Rattle.mm_verdict.specs.Code.NamedItems.{AreKnownOf, HasBegun};
+ghost use Rattle.mm_frame.specs.declared.base.Resolved.TheVariants as answers;
+ghost use Rattle.mm_verdict.specs.Language.DecodedSteps.{IsNamedBy};
+ghost use Rattle.mm_verdict.specs.Code.NamedItems.{AreKnownOf, AreNamesOf, Grows, IsOneMore, IsUseIn, TakesNothing, masked};
 
-use crate::named::Numbers;
-use mm_machine::{CodedSymbol, Forms, Hypothesis, Named, NumberedSymbol};
+use crate::assertion::{expression, look_up};
+use mm_frame::{Base, Resolved};
+use mm_machine::{CodedSymbol, Forms, Hypothesis, Machine, NumberedSymbol, Use};
 use std::alloc::{AllocError, Global};
 
-/// If the assertions that are known have more symbols and slots than this, all are forgotten. So they take some megabytes at
-/// most, and what one proof adds.
+/// If what is known has more symbols and slots than this, all of it is forgotten. So it takes some megabytes at most, and what
+/// one proof adds.
 const MOST_KNOWN: usize = 262_144;
 
-/// Assertions of a base that proofs name, with what citing them needs; most are there once.
+/// An assertion that takes nothing is pushed as it is, if it has at most this many symbols; a longer one is a fault when it is
+/// cited.
+const LONGEST_PUSHED: usize = 1_000_000;
+
+/// What labels of proofs push and cite in a base; most of it is there once for all proofs.
 #[derive(Drop)]
 pub struct Known<'a> {
-    /// Their numbers.
-    pub numbers: Numbers,
-    /// The assertions.
+    /// The machine. Its lasting expressions are those that labels push.
+    pub machine: Machine<CodedSymbol>,
+    /// The numbers of the items with these expressions: hypotheses, and assertions that take nothing.
+    pub pushed: Vec<usize>,
+    /// The assertions that labels cite.
     pub forms: Forms<CodedSymbol>,
-    /// What else the labels of the proof name that was the last one. The next proof uses its memory again.
-    pub named: Named<'a, NumberedSymbol>,
+    /// The numbers of their items.
+    pub cited: Vec<usize>,
+    /// What each label of the last proof is used for.
+    pub uses: Vec<Use>,
+    /// For the number of an item, where it may be in one of the two lists of numbers. What is found by it is compared, so
+    /// that no answer depends on it.
+    places: Vec<u32>,
     /// The mandatory hypotheses of the assertion that was looked up last.
-    pub mandatory: Vec<Hypothesis<'a, NumberedSymbol>>,
+    mandatory: Vec<Hypothesis<'a, NumberedSymbol>>,
+}
+
+/// Where a number is in a list, if it is found there.
+fn find(places: &[u32], numbers: &[usize], number: usize) -> Option<usize>
+    ensures { IfSome result (λ n. slice_get numbers.now n ≡ Some number) }
+{
+    if number >= places.len() {
+        return None;
+    }
+    let place = places[number] as usize;
+    if place >= numbers.len() {
+        return None;
+    }
+    if numbers[place] != number {
+        return None;
+    }
+    Some(place)
+}
+
+/// Notes where a number is in a list.
+fn note(places: &mut [u32], number: usize, place: usize) {
+    if number < places.len() && place <= 4294967295 {
+        places[number] = place as u32;
+    }
+}
+
+/// Gives a table this many places, if it has fewer.
+fn widen_places(places: &mut Vec<u32>, count: usize) -> Result<(), AllocError> {
+    if places.len() < count {
+        places.resize(count, 0)?;
+    }
+    Ok(())
+}
+
+/// Whether the assertion with this number has no mandatory hypothesis, and is not too long to be pushed.
+fn takes_nothing(base: &Base, number: usize) -> bool
+    ensures { IsTrue result → TakesNothing base.now number }
+{
+    match base.frame(number) {
+        Some(frame) => {
+            frame.hypotheses.is_empty() && expression(base, number).len() <= LONGEST_PUSHED
+        }
+        None => false,
+    }
 }
 
 impl<'a> Known<'a> {
-    /// None, which takes no memory.
-    pub fn new(alloc: Global) -> Known<'a>
+    /// Nothing, which takes no memory.
+    pub(crate) fn new(alloc: Global) -> Known<'a>
         ensures { (base : Meant) → AreKnownOf base result }
     {
+        let machine: Machine<CodedSymbol> = Machine::new(alloc);
         Known {
-            numbers: Numbers::new(alloc),
+            machine,
+            pushed: Vec::new(alloc),
             forms: Forms::new(alloc),
-            named: Named {
-                uses: Vec::new(alloc),
-                hypotheses: Vec::new(alloc),
-            },
+            cited: Vec::new(alloc),
+            uses: Vec::new(alloc),
+            places: Vec::new(alloc),
             mandatory: Vec::new(alloc),
         }
     }
 
-    /// These; or none, with the room that these have, if they are too many.
-    pub fn limited(self) -> Known<'a>
-        ensures { (base : Meant) → AreKnownOf base self.entry → AreKnownOf base result }
-    {
-        if self.forms.size() > MOST_KNOWN {
-            self.emptied()
-        } else {
-            self
-        }
-    }
-
-    /// None, with the room that these have.
-    fn emptied(self) -> Known<'a>
-        ensures { (base : Meant) → AreKnownOf base result }
-    {
-        let mut forms = self.forms;
-        forms.clear();
-        Known {
-            numbers: self.numbers.emptied(),
-            forms,
-            named: self.named,
-            mandatory: self.mandatory,
-        }
-    }
-
-    /// Takes room for variables whose keys are below this number, without which assertions are looked up slowly.
-    pub fn widen(&mut self, keys: usize) -> Result<(), AllocError>
+    /// Takes room for a base of this many items, and for variables whose keys are below this number; with less, assertions are
+    /// looked up slowly.
+    pub(crate) fn widen(&mut self, items: usize, keys: usize) -> Result<(), AllocError>
         ensures { (base : Meant) → AreKnownOf base self.old → AreKnownOf base self.new }
     {
+        widen_places(&mut self.places, items)?;
+        self.machine.widen(keys)?;
         self.forms.widen(keys)
     }
 
-    /// Begins with this many labels: none is named yet. It changes nothing of the assertions.
-    pub fn begin(&mut self, labels: usize) -> Result<(), AllocError>
-        ensures { OnOk result (HasBegun self.old self.new) }
+    /// Forgets all, if it is too much.
+    pub(crate) fn limit(&mut self)
+        ensures { (base : Meant) → AreKnownOf base self.old → AreKnownOf base self.new }
     {
-        self.named.hypotheses.clear();
-        self.named.uses.clear();
-        self.named.uses.reserve(labels)?;
+        if self.forms.size().saturating_add(self.machine.size()) > MOST_KNOWN {
+            self.forget();
+        }
+    }
+
+    /// Forgets all, and keeps the room.
+    pub(crate) fn forget(&mut self)
+        ensures { (base : Meant) → AreKnownOf base self.new }
+    {
+        self.machine.forget();
+        self.pushed.clear();
+        self.forms.clear();
+        self.cited.clear();
+    }
+
+    /// Where the expression of the item with this number is among those that are pushed; it is there then.
+    fn push(&mut self, alloc: Global, base: &Base, number: usize) -> Result<usize, AllocError>
+        requires { AreKnownOf base.now self.old }
+        ensures known { OnOk result (AreKnownOf base.now self.new) }
+        ensures grows { OnOk result (Grows self.old self.new) }
+        ensures place { IfOk result (λ n. slice_get self.new.pushed.items n ≡ Some number) }
+    {
+        if let Some(place) = find(&self.places, &self.pushed, number) {
+            return Ok(place);
+        }
+        let place = self.pushed.len();
+        self.machine.load(alloc, expression(base, number))?;
+        self.pushed.push(number)?;
+        note(&mut self.places, number, place);
+        Ok(place)
+    }
+
+    /// Where the assertion with this number is among those that are cited, after the others; it was not there.
+    fn add(&mut self, alloc: Global, base: &'a Base, number: usize) -> Result<usize, AllocError>
+        requires known { AreKnownOf base.now self.old }
+        requires entry { IsNamedBy base.now (answers.Assertion number) }
+        ensures known { OnOk result (AreKnownOf base.now self.new) }
+        ensures grows { OnOk result (Grows self.old self.new) }
+        ensures place { IfOk result (λ n. slice_get self.new.cited.items n ≡ Some number) }
+    {
+        let place = self.cited.len();
+        let parts = look_up(base, number, &mut self.mandatory)?;
+        self.forms
+            .add(alloc, &self.mandatory, parts.expression, parts.pairs)?;
+        self.cited.push(number)?;
+        note(&mut self.places, number, place);
+        Ok(place)
+    }
+
+    /// What a label is used for that names the assertion with this number.
+    fn cite(&mut self, alloc: Global, base: &'a Base, number: usize) -> Result<Use, AllocError>
+        requires known { AreKnownOf base.now self.old }
+        requires entry { IsNamedBy base.now (answers.Assertion number) }
+        ensures { IfOk result (λ used. IsOneMore base.now self.old self.new used (answers.Assertion number)) }
+    {
+        if let Some(place) = find(&self.places, &self.cited, number) {
+            return Ok(Use::Assertion(place));
+        }
+        if takes_nothing(base, number) {
+            let place = self.push(alloc, base, number)?;
+            return Ok(Use::Lasting(place));
+        }
+        let place = self.add(alloc, base, number)?;
+        Ok(Use::Assertion(place))
+    }
+
+    /// What a label is used for.
+    fn name(&mut self, alloc: Global, base: &'a Base, label: Resolved) -> Result<Use, AllocError>
+        requires known { AreKnownOf base.now self.old }
+        requires entry { IsNamedBy base.now label }
+        ensures { IfOk result (λ used. IsOneMore base.now self.old self.new used label) }
+    {
+        match label {
+            Resolved::Hypothesis(number) => {
+                let place = self.push(alloc, base, number)?;
+                Ok(Use::Lasting(place))
+            }
+            Resolved::Assertion(number) => self.cite(alloc, base, number),
+            Resolved::Inactive | Resolved::Unknown => Ok(Use::Nothing),
+        }
+    }
+
+    /// What a label is used for, if it is marked.
+    fn name_marked(
+        &mut self,
+        alloc: Global,
+        base: &'a Base,
+        label: Resolved,
+        marked: bool,
+    ) -> Result<Use, AllocError>
+        requires known { AreKnownOf base.now self.old }
+        requires entry { IsNamedBy base.now label }
+        ensures { IfOk result (λ used. IsOneMore base.now self.old self.new used (if marked then label else answers.Unknown)) }
+    {
+        if marked {
+            self.name(alloc, base, label)
+        } else {
+            Ok(Use::Nothing)
+        }
+    }
+
+    /// Finds what each of the labels of a proof is used for that has a mark. The others are used for nothing: a label that no
+    /// step names needs nothing of the base.
+    pub(crate) fn name_all(
+        &mut self,
+        alloc: Global,
+        base: &'a Base,
+        labels: &[Resolved],
+        marks: &[bool],
+    ) -> Result<(), AllocError>
+        requires known { AreKnownOf base.now self.old }
+        requires labels { All (IsNamedBy base.now) labels.now }
+        requires marks { length marks.now ≡ length labels.now }
+        ensures { OnOk result (AreNamesOf base.now (masked labels.now marks.now) self.new) }
+    {
+        self.uses.clear();
+        self.uses.reserve(labels.len())?;
+        for k in 0..labels.len() {
+            let used = self.name_marked(alloc, base, labels[k], marks[k])?;
+            self.uses.push(used)?;
+        }
         Ok(())
     }
 }

@@ -12,7 +12,6 @@ mod item_laws;
 mod known;
 mod labels;
 mod letters;
-mod named;
 mod program;
 mod reading;
 mod scratch;
@@ -36,6 +35,7 @@ pub use item_laws::{
     has_count_at, has_one_count_at, has_one_verdict_at, has_verdict_at, labels_are_a_proof,
     mandatory_labels_mean, proved_is_derived_at, spots_are_in,
 };
+pub use known::Known;
 pub use mm_frame::{
     Base, BatchError, Edit, EditError, Files, Item, ItemKind, Keyword, NamedSymbol, Names,
     PieceKey, Place, ProofWords, Resolved, Statement, StoreError, Symbol, TextError, TextFault,
@@ -43,11 +43,11 @@ pub use mm_frame::{
     nth_word, place, same_proof, words_of_proof,
 };
 pub use mm_machine::{
-    Action, CodedSymbol, Forms, Hypothesis, Named, NumberedSymbol, ProofFault, ProofNumber,
-    ProofStep, Spot, Verdict,
+    Action, CodedSymbol, Forms, Hypothesis, Machine, NumberedSymbol, ProofFault, ProofNumber,
+    ProofStep, Spot, Use, Verdict,
 };
 pub use program::{Program, program_of};
-pub use reading::{Decoding, decode};
+pub use reading::Decoding;
 pub use undecoded::Undecoded;
 pub use words::{is_close, is_open, is_unknown};
 pub use work::{Checked, Work};

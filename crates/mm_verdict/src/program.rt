@@ -2,6 +2,7 @@
 
 ghost use Rattle.std.specs.Prelude.{◌≡◌, ℕ, List, IfErr, IfOk, length};
 ghost use Rattle.mm_machine.specs.Language.Forms.{AreForms, frames_of};
+ghost use Rattle.mm_machine.specs.Language.Lasting.{HoldsLasting};
 ghost use Rattle.mm_machine.specs.Language.NamedSteps.{AreSavedBefore, AreUsesWithin};
 ghost use Rattle.mm_machine.specs.Language.NumberedSymbols.{by_code};
 ghost use Rattle.mm_verdict.specs.Language.DecodedSteps.{AreEntriesOf, TellsFault};
@@ -11,22 +12,18 @@ ghost use Rattle.mm_verdict.specs.Language.VerdictAt.{decoding_at};
 
 use crate::checking::mandatory;
 use crate::decoding_laws::{decodes_surely, mandatory_are_active};
-use crate::named::named_alone;
-use crate::reading::{Decoding, decode};
+use crate::known::Known;
+use crate::reading::{MarkedDecoding, decode_marked};
 use crate::undecoded::Undecoded;
 use mm_frame::{Base, Files, words_of_proof};
-use mm_machine::{CodedSymbol, Forms, Named, NumberedSymbol, ProofStep};
+use mm_machine::ProofStep;
 use std::alloc::Global;
 
 /// A proof as [`mm_machine::run`] takes it, with symbols by the numbers of their names.
 #[derive(Drop)]
 pub struct Program<'a> {
-    /// The assertions that the labels of the proof name, used or not.
-    pub forms: Forms<CodedSymbol>,
-    /// The numbers of their items, each of which [`look_up`](crate::look_up) takes.
-    pub numbers: Vec<usize>,
-    /// What else the labels name.
-    pub named: Named<'a, NumberedSymbol>,
+    /// What its steps push and cite.
+    pub known: Known<'a>,
     /// The steps, in order.
     pub steps: Vec<ProofStep>,
 }
@@ -34,9 +31,8 @@ pub struct Program<'a> {
 /// The proof of the item with the number `i`, a sound `$p` of a base whose items can be read in these files, as a machine runs
 /// it. So a caller can run the first steps of a proof; for the verdict there is `check`.
 ///
-/// The error is the first fault of decoding, or out of memory. It takes time near linear in the words of the proof, in the
-/// frames of the assertions that it names, and in the items of the base, of which it makes a table. A `Checker` keeps this
-/// table for its next check.
+/// The error is the first fault of decoding, or out of memory. It takes time near linear in the words of the proof, and in the
+/// frames of the assertions that its steps name.
 pub fn program_of<'a>(
     alloc: Global,
     files: &Files,
@@ -44,10 +40,12 @@ pub fn program_of<'a>(
     i: usize,
 ) -> Result<Program<'a>, Undecoded>
     requires { (names : List (List ℕ)) × HasTheorem names files.now base.now i }
-    ensures within { IfOk result (λ program. AreUsesWithin program.forms program.named) }
-    ensures frames { IfOk result (λ program. AreForms by_code program.forms) }
-    ensures numbers { IfOk result (λ program. AreEntriesOf base.now program.numbers.items) }
-    ensures count { IfOk result (λ program. length (frames_of by_code program.forms) ≡ length program.numbers.items) }
+    ensures holds { IfOk result (λ program. HoldsLasting program.known.machine) }
+    ensures within { IfOk result (λ program. AreUsesWithin program.known.machine program.known.forms program.known.uses.items) }
+    ensures frames { IfOk result (λ program. AreForms by_code program.known.forms) }
+    ensures numbers { IfOk result (λ program. AreEntriesOf base.now program.known.cited.items) }
+    ensures cited { IfOk result (λ program. length (frames_of by_code program.known.forms) ≡ length program.known.cited.items) }
+    ensures pushed { IfOk result (λ program. program.known.machine.lasting ≡ length program.known.pushed.items) }
     ensures saved { IfOk result (λ program. AreSavedBefore program.steps.items) }
     ensures means { IfOk result (λ program. (names : List (List ℕ)) → OfTheorem names files.now base.now i (λ view. IsProgramAt names view i program)) }
     ensures fault { IfErr result (λ error. (names : List (List ℕ)) → OfTheorem names files.now base.now i (λ view. TellsFault error (decoding_at view i))) }
@@ -56,13 +54,12 @@ pub fn program_of<'a>(
     decodes_surely();
     let proof = words_of_proof(files, base.item(i));
     let mandatory = mandatory(base, i);
-    let decoding = decode(base, i, mandatory, &proof, Decoding::new(alloc))?;
-    let Decoding { labels, steps } = decoding;
-    let known = named_alone(alloc, base, &labels)?;
+    let room = MarkedDecoding::new(alloc);
+    let marked = decode_marked(base, i, mandatory, &proof, room)?;
+    let mut known = Known::new(alloc);
+    known.name_all(alloc, base, &marked.decoding.labels, &marked.used)?;
     Ok(Program {
-        forms: known.forms,
-        numbers: known.numbers.items,
-        named: known.named,
-        steps,
+        known,
+        steps: marked.decoding.steps,
     })
 }

@@ -176,7 +176,11 @@ pub fn is_compressed(proof: &ProofWords) -> bool
     }
 }
 
-/// Decodes the proof of the item with the number `i` as `decode` does, and marks the labels that its steps name.
+/// Decodes the proof of the item with the number `i`, which has these words, and whose mandatory hypotheses are the items
+/// with these numbers, and marks the labels that its steps name.
+///
+/// It reads the words once, in time linear in their bytes, and looks each label up once. The lists of an older decoding
+/// are used over again; what they have does not count. After an error nothing is kept.
 pub fn decode_marked(
     base: &Base,
     i: usize,
@@ -197,36 +201,5 @@ pub fn decode_marked(
         decode_compressed(base, i, mandatory, proof, room)
     } else {
         decode_normal(base, i, proof, room)
-    }
-}
-
-/// Decodes the proof of the item with the number `i`, which has these words, and whose mandatory hypotheses are the items
-/// with these numbers.
-///
-/// It reads the words once, in time linear in their bytes, and looks each label up once. The lists of an older decoding
-/// are used over again; what they have does not count. After an error nothing is kept.
-pub fn decode(
-    base: &Base,
-    i: usize,
-    mandatory: &[usize],
-    proof: &ProofWords,
-    room: Decoding,
-) -> Result<Decoding, Undecoded>
-    ensures ok { IfOk result (λ d. (view : BaseView) → IsBase view base.now → AreActive view i mandatory.now →
-        decoding_of view i mandatory.now proof.now ≡ Ok (decoded_steps view d proof.now)) }
-    ensures entries { IfOk result (λ d. (view : BaseView) → IsBase view base.now → AreActive view i mandatory.now → AreEntries view i d.labels.items) }
-    ensures table { IfOk result (λ d. (view : BaseView) → IsBase view base.now → AreActive view i mandatory.now →
-        entry_steps view d.labels.items ≡ label_table (labels_at view mandatory.now) proof.now) }
-    ensures err { IfErr result (λ e. (view : BaseView) → IsBase view base.now → AreActive view i mandatory.now →
-        TellsFault e (decoding_of view i mandatory.now proof.now)) }
-{
-    let used = Vec::new(*room.steps.allocator());
-    let room = MarkedDecoding {
-        decoding: room,
-        used,
-    };
-    match decode_marked(base, i, mandatory, proof, room) {
-        Ok(marked) => Ok(marked.decoding),
-        Err(error) => Err(error),
     }
 }

@@ -23,10 +23,10 @@ pub use loading::load_session;
 pub use mm_report::{
     Action, At, Base, BatchError, Checked, Checker, CodedSymbol, Decoding, Edit, EditError, Files,
     Finding, Forms, Frame, FrameFault, FrameNumber, Hypothesis, Item, ItemKind, KeepError, Keyword,
-    Marks, Named, NamedSymbol, Names, NumberedSymbol, PieceKey, Place, ProofFault, ProofNumber,
+    Machine, Marks, NamedSymbol, Names, NumberedSymbol, PieceKey, Place, ProofFault, ProofNumber,
     ProofStep, ProofWords, ReadFailed, Reading, Resolved, ScriptError, Session, Spot, Statement,
     StoreError, Symbol, Tally, TextError, TextFault, TextNumber, Unbegun, Undecoded, Undo, Undos,
-    Verdict, Walk, Word, WordCursor, WordKind, Work, WriteFailed, Writing, check, decode, fits,
+    Use, Verdict, Walk, Word, WordCursor, WordKind, Work, WriteFailed, Writing, check, fits,
     has_bytes, nth_of_proof, nth_word, place, same_proof, words_of_proof,
 };
 pub use outcome::{Outcome, status};

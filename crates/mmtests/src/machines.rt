@@ -5,7 +5,8 @@ ghost use Rattle.mm_machine.specs.Language.Typing.{IsFrame};
 ghost use Rattle.mm_machine.specs.Language.NumberedSymbols.{by_code, by_number, named_symbol, all_by_number};
 ghost use Rattle.mm_machine.specs.Language.CitedFrames.{hypotheses_of, meant_pairs};
 ghost use Rattle.mm_machine.specs.Language.Forms.{AreForms, frames_of};
-ghost use Rattle.mm_machine.specs.Language.NamedSteps.{AreSavedBefore, AreUsesWithin, IsUseWithin};
+ghost use Rattle.mm_machine.specs.Language.Lasting.{HoldsLasting};
+ghost use Rattle.mm_machine.specs.Language.NamedSteps.{AreSavedBefore, AreUsesWithin};
 ghost use Rattle.mm_machine.specs.Language.Keys.{AreInKeyOrder, key_by_number};
 ghost use Rattle.mm_frame.specs.declared.base.Resolved.TheVariants as answers;
 ghost use Rattle.mmtests.specs.Code.Spelled.{HasOneKey, key_by_name};
@@ -13,10 +14,10 @@ ghost use Rattle.mm_verdict.specs.Language.DecodedSteps.{AreEntriesOf, IsNamedBy
 ghost use Rattle.mm_verdict.specs.Language.ReadIn.{HasTheorem};
 
 use mm_machine::{
-    Active, Forms, Hypothesis, Kept, Machine, Named, NamedSymbol, NumberedSymbol, Outcome,
-    ProofStep, Use, numbers_keep_order, run,
+    Active, Forms, Hypothesis, Machine, NamedSymbol, NumberedSymbol, Outcome, ProofStep, Use,
+    numbers_keep_order, run,
 };
-use mm_verdict::{Base, Files, Names, Parts, Program, Undecoded, look_up, program_of};
+use mm_verdict::{Base, Files, Known, Names, Parts, Program, Undecoded, look_up, program_of};
 use std::alloc::{AllocError, Global};
 use std::mem;
 
@@ -74,20 +75,6 @@ fn spelled_pairs(
     Ok(named)
 }
 
-/// Each of the expressions.
-fn spelled_expressions(
-    alloc: Global,
-    expressions: &[&[NumberedSymbol]],
-) -> Result<Vec<Vec<NamedSymbol>>, AllocError>
-    ensures { IfOk result (λ named. length named.items ≡ length expressions.now) }
-{
-    let mut named = Vec::new(alloc);
-    for symbols in expressions {
-        named.push(spelled(alloc, *symbols)?)?;
-    }
-    Ok(named)
-}
-
 /// Each of the hypotheses.
 fn spelled_hypotheses(
     alloc: Global,
@@ -104,20 +91,6 @@ fn spelled_hypotheses(
         })?;
     }
     Ok(named)
-}
-
-/// The expressions, as the machine takes them.
-fn lent_expressions<'a>(
-    alloc: Global,
-    expressions: &'a [Vec<NamedSymbol>],
-) -> Result<Vec<&'a [NamedSymbol]>, AllocError>
-    ensures { IfOk result (λ lent. length lent.items ≡ length expressions.now) }
-{
-    let mut lent: Vec<&'a [NamedSymbol]> = Vec::new(alloc);
-    for symbols in expressions {
-        lent.push(symbols)?;
-    }
-    Ok(lent)
 }
 
 /// The hypotheses, as the machine takes them.
@@ -201,84 +174,73 @@ fn add_all_spelled(
     Ok(())
 }
 
-/// What a run comes to of a machine whose tables have this many places at first. It is not taken apart.
-fn outcome_of<S: Kept>(
+/// Loads the expressions of the items with these numbers into a machine that has none.
+fn load_spelled(
     alloc: Global,
-    places: usize,
-    forms: &Forms<S>,
-    named: &Named<'_, S::Listed>,
-    pairs: &[(S::Listed, S::Listed)],
-    steps: &[ProofStep],
-    statement: &[S::Listed],
-) -> Result<Outcome, AllocError>
-    requires frames { AreForms S.means forms.now }
-    requires within { AreUsesWithin forms.now named.now }
-    requires saved { AreSavedBefore steps.now }
-    requires order { AreInKeyOrder S.key_of (meant_pairs S.Listed.means pairs.now) }
+    base: &Base,
+    numbers: &[usize],
+    machine: &mut Machine<NamedSymbol>,
+) -> Result<(), AllocError>
+    requires holds { HoldsLasting machine.old }
+    requires none { machine.old.lasting ≡ 0 }
+    ensures holds { OnOk result (HoldsLasting machine.new) }
+    ensures count { OnOk result (machine.new.lasting ≡ length numbers.now) }
 {
-    let active = Active::new(pairs);
-    let mut machine = Machine::new(alloc);
-    let outcome = match machine.widen(places) {
-        Ok(()) => run(alloc, &mut machine, forms, named, &active, steps, statement),
-        Err(error) => Err(error),
-    };
-    mem::forget(machine);
-    outcome
+    machine.widen(PLACES)?;
+    for number in numbers {
+        let expression = spelled(alloc, base.known_expression(*number))?;
+        let loaded = machine.load(alloc, &expression);
+        mem::forget(expression);
+        loaded?;
+    }
+    Ok(())
 }
 
-/// What a run over names comes to, of hypotheses with these expressions.
-fn run_lent(
-    alloc: Global,
-    forms: &Forms<NamedSymbol>,
-    uses: &[Use],
-    expressions: &[Vec<NamedSymbol>],
-    pairs: &[(NamedSymbol, NamedSymbol)],
-    steps: &[ProofStep],
-    statement: &[NamedSymbol],
-) -> Result<Outcome, AllocError>
-    requires frames { AreForms named_symbol forms.now }
-    requires within { All (IsUseWithin (length expressions.now) (length (frames_of named_symbol forms.now))) uses.now }
-    requires saved { AreSavedBefore steps.now }
-    requires order { AreInKeyOrder key_by_name (meant_pairs named_symbol pairs.now) }
-{
-    let uses = Vec::from_slice(alloc, uses)?;
-    let hypotheses = lent_expressions(alloc, expressions)?;
-    let named = Named { uses, hypotheses };
-    let outcome = outcome_of(alloc, PLACES, forms, &named, pairs, steps, statement);
-    mem::forget(named);
-    outcome
-}
-
-/// What a run over names comes to, of a proof that these assertions and names are of.
+/// What a run over names comes to, of a proof whose assertions and expressions these are.
 fn run_spelled(
     alloc: Global,
     forms: &Forms<NamedSymbol>,
-    named: &Named<'_, NumberedSymbol>,
+    machine: &mut Machine<NamedSymbol>,
+    uses: &[Use],
     pairs: &[(NumberedSymbol, NumberedSymbol)],
     steps: &[ProofStep],
     statement: &[NumberedSymbol],
 ) -> Result<Outcome, AllocError>
+    requires holds { HoldsLasting machine.old }
     requires frames { AreForms named_symbol forms.now }
-    requires within { AreUsesWithin forms.now named.now }
+    requires within { AreUsesWithin machine.old forms.now uses.now }
     requires saved { AreSavedBefore steps.now }
     requires order { AreInKeyOrder key_by_number (meant_pairs by_number pairs.now) }
 {
     let pairs = spelled_pairs(alloc, pairs)?;
     let statement = spelled(alloc, statement)?;
-    let expressions = spelled_expressions(alloc, &named.hypotheses)?;
-    let outcome = run_lent(
-        alloc,
-        forms,
-        &named.uses,
-        &expressions,
-        &pairs,
-        steps,
-        &statement,
-    );
-    mem::forget(expressions);
+    let active = Active::new(&pairs);
+    let outcome = run(alloc, machine, forms, uses, &active, steps, &statement);
     mem::forget(statement);
     mem::forget(pairs);
     outcome
+}
+
+/// Looks up by names what a proof cites and pushes.
+fn look_up_spelled(
+    alloc: Global,
+    base: &Base,
+    known: &Known<'_>,
+    forms: &mut Forms<NamedSymbol>,
+    machine: &mut Machine<NamedSymbol>,
+) -> Result<(), AllocError>
+    requires entries { AreEntriesOf base.now known.now.cited.items }
+    requires forms { AreForms named_symbol forms.old }
+    requires none { frames_of named_symbol forms.old ≡ [] }
+    requires holds { HoldsLasting machine.old }
+    requires lasting { machine.old.lasting ≡ 0 }
+    ensures forms { OnOk result (AreForms named_symbol forms.new) }
+    ensures count { OnOk result (length (frames_of named_symbol forms.new) ≡ length known.now.cited.items) }
+    ensures holds { OnOk result (HoldsLasting machine.new) }
+    ensures lasting { OnOk result (machine.new.lasting ≡ length known.now.pushed.items) }
+{
+    add_all_spelled(alloc, base, &known.cited, forms)?;
+    load_spelled(alloc, base, &known.pushed, machine)
 }
 
 /// What a run over names comes to, of the steps of a theorem with these active pairs.
@@ -289,24 +251,29 @@ fn run_by_names(
     pairs: &[(NumberedSymbol, NumberedSymbol)],
     statement: &[NumberedSymbol],
 ) -> Result<Outcome, AllocError>
-    requires entries { AreEntriesOf base.now program.now.numbers.items }
-    requires count { length (frames_of by_code program.now.forms) ≡ length program.now.numbers.items }
-    requires within { AreUsesWithin program.now.forms program.now.named }
+    requires entries { AreEntriesOf base.now program.now.known.cited.items }
+    requires cited { length (frames_of by_code program.now.known.forms) ≡ length program.now.known.cited.items }
+    requires pushed { program.now.known.machine.lasting ≡ length program.now.known.pushed.items }
+    requires within { AreUsesWithin program.now.known.machine program.now.known.forms program.now.known.uses.items }
     requires saved { AreSavedBefore program.now.steps.items }
     requires order { AreInKeyOrder key_by_number (meant_pairs by_number pairs.now) }
 {
     let mut forms = Forms::new(alloc);
-    let outcome = match add_all_spelled(alloc, base, &program.numbers, &mut forms) {
+    let mut machine = Machine::new(alloc);
+    let looked_up = look_up_spelled(alloc, base, &program.known, &mut forms, &mut machine);
+    let outcome = match looked_up {
         Ok(()) => run_spelled(
             alloc,
             &forms,
-            &program.named,
+            &mut machine,
+            &program.known.uses,
             pairs,
             &program.steps,
             statement,
         ),
         Err(error) => Err(error),
     };
+    mem::forget(machine);
     mem::forget(forms);
     outcome
 }
@@ -323,31 +290,51 @@ fn is_same(one: Outcome, other: Outcome) -> bool {
     }
 }
 
+/// What a run over numbers comes to, of steps that push and cite what is known.
+fn run_known(
+    alloc: Global,
+    known: &mut Known<'_>,
+    pairs: &[(NumberedSymbol, NumberedSymbol)],
+    steps: &[ProofStep],
+    statement: &[NumberedSymbol],
+) -> Result<Outcome, AllocError>
+    requires holds { HoldsLasting known.old.machine }
+    requires frames { AreForms by_code known.old.forms }
+    requires within { AreUsesWithin known.old.machine known.old.forms known.old.uses.items }
+    requires saved { AreSavedBefore steps.now }
+    requires order { AreInKeyOrder key_by_number (meant_pairs by_number pairs.now) }
+{
+    let active = Active::new(pairs);
+    run(
+        alloc,
+        &mut known.machine,
+        &known.forms,
+        &known.uses,
+        &active,
+        steps,
+        statement,
+    )
+}
+
 /// Whether a run over names comes to the same as one over numbers, for the steps of a theorem with these active pairs.
 fn runs_agree(
     alloc: Global,
     base: &Base,
-    program: &Program<'_>,
+    program: &mut Program<'_>,
     pairs: &[(NumberedSymbol, NumberedSymbol)],
     statement: &[NumberedSymbol],
 ) -> bool
-    requires frames { AreForms by_code program.now.forms }
-    requires entries { AreEntriesOf base.now program.now.numbers.items }
-    requires count { length (frames_of by_code program.now.forms) ≡ length program.now.numbers.items }
-    requires within { AreUsesWithin program.now.forms program.now.named }
-    requires saved { AreSavedBefore program.now.steps.items }
+    requires holds { HoldsLasting program.old.known.machine }
+    requires frames { AreForms by_code program.old.known.forms }
+    requires entries { AreEntriesOf base.now program.old.known.cited.items }
+    requires cited { length (frames_of by_code program.old.known.forms) ≡ length program.old.known.cited.items }
+    requires pushed { program.old.known.machine.lasting ≡ length program.old.known.pushed.items }
+    requires within { AreUsesWithin program.old.known.machine program.old.known.forms program.old.known.uses.items }
+    requires saved { AreSavedBefore program.old.steps.items }
     requires order { AreInKeyOrder key_by_number (meant_pairs by_number pairs.now) }
 {
-    let by_names = run_by_names(alloc, base, program, pairs, statement);
-    let by_numbers = outcome_of(
-        alloc,
-        0,
-        &program.forms,
-        &program.named,
-        pairs,
-        &program.steps,
-        statement,
-    );
+    let by_names = run_by_names(alloc, base, &*program, pairs, statement);
+    let by_numbers = run_known(alloc, &mut program.known, pairs, &program.steps, statement);
     match (by_names, by_numbers) {
         (Ok(one), Ok(other)) => is_same(one, other),
         _ => false,
@@ -362,10 +349,10 @@ pub fn agrees(alloc: Global, names: &Names, files: &Files, base: &Base, i: usize
     let Some(pairs) = base.pairs(i) else {
         return false;
     };
-    let program = program_of(alloc, files, base, i);
-    let agree = match &program {
+    let mut program = program_of(alloc, files, base, i);
+    let agree = match &mut program {
         Ok(program) => runs_agree(alloc, base, program, pairs, base.known_expression(i)),
-        Err(error) => matches!(error, Undecoded::Fault(_)),
+        Err(error) => matches!(*error, Undecoded::Fault(_)),
     };
     mem::forget(program);
     agree

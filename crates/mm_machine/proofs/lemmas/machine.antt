@@ -17,6 +17,7 @@ pub mod RoomLemmas
 pub mod Running
 pub mod SlotLemmas
 pub mod StackLemmas
+pub mod PushLemmas
 pub mod StepLemmas
 pub mod Substituted
 pub mod TakenLemmas

@@ -2,6 +2,7 @@
 use Rattle.std.specs.Prelude.{◌+◌, ◌≤◌, length, map}
 use Rattle.mm_machine.specs.Language.Frame.{Symbol}
 use Rattle.mm_machine.specs.Language.Machine.{State}
+use Rattle.mm_machine.specs.Language.Lasting.{HoldsLasting}
 use Rattle.mm_machine.specs.Code.Ranges.{AreOrderedRanges, expressions}
 use Rattle.mm_machine.specs.declared.machine.Machine.{Machine}
 
@@ -9,4 +10,4 @@ abbrev pub state_of : {S : Type 0} → (S → Symbol) → Machine S → State
 state_of means m = expressions (map means m.symbols.items) m.stack.items m.saved.items
 
 abbrev pub AreRanges : {S : Type 0} → Machine S → Type 0
-AreRanges m = AreOrderedRanges m.top m.kept m.stack.items m.saved.items × (m.top + 4 ≤ length m.symbols.items)
+AreRanges m = AreOrderedRanges m.top m.kept m.stack.items m.saved.items × (m.top + 4 ≤ length m.symbols.items) × HoldsLasting m × (m.ground ≤ m.kept)

@@ -3,6 +3,7 @@ use Rattle.std.specs.Prelude.{◌≡◌, ℕ, ◌<◌, List, ◌++◌}
 use Rattle.mm_machine.specs.Language.Frame.{Symbol, Frame, Setting}
 use Rattle.mm_machine.specs.Language.Expansion.{Step, Named, Saved, Save}
 use Rattle.mm_machine.specs.Language.Machine.{State}
+use Rattle.mm_machine.specs.Language.Lasting.{lasting_of}
 use Rattle.mm_machine.specs.Language.NamedSteps.{MeansUse}
 use Rattle.mm_machine.specs.declared.stepping.Task.{Task}
 use Rattle.mm_machine.specs.declared.stepping.Task.TheVariants as tasks
@@ -12,7 +13,7 @@ use Rattle.mm_machine.specs.Code.MachineState.{state_of}
 
 -- what a task means at a place
 abbrev pub MeansTask : List (List Symbol) → List Frame → Setting → Task → Step → Type 0
-MeansTask expressions frames place (tasks.Push n) (Named label) = MeansUse expressions frames place (uses.Hypothesis n) (Named label)
+MeansTask expressions frames place (tasks.Push n) (Named label) = MeansUse expressions frames place (uses.Lasting n) (Named label)
 MeansTask expressions frames place (tasks.Cite n) (Named label) = MeansUse expressions frames place (uses.Assertion n) (Named label)
 MeansTask expressions frames place (tasks.Again n) (Saved m) = n ≡ m
 MeansTask expressions frames place tasks.Keep Save = Unit {0}
@@ -20,17 +21,17 @@ MeansTask expressions frames place _ _ = ⊥
 
 -- the number of a task is in range, after this many saves
 abbrev pub IsTaskWithin : ℕ → ℕ → ℕ → Task → Type 0
-IsTaskWithin hypotheses assertions saves (tasks.Push n) = n < hypotheses
-IsTaskWithin hypotheses assertions saves (tasks.Cite n) = n < assertions
-IsTaskWithin hypotheses assertions saves (tasks.Again n) = n < saves
-IsTaskWithin hypotheses assertions saves tasks.Keep = Unit {0}
+IsTaskWithin lasting assertions saves (tasks.Push n) = n < lasting
+IsTaskWithin lasting assertions saves (tasks.Cite n) = n < assertions
+IsTaskWithin lasting assertions saves (tasks.Again n) = n < saves
+IsTaskWithin lasting assertions saves tasks.Keep = Unit {0}
 
 -- how many expressions a task saves
 abbrev pub saves_of : Task → ℕ
 saves_of tasks.Keep = 1
 saves_of _ = 0
 
--- the machine has the state of a run, after the expressions of hypotheses that it keeps
-pub record HasState {S : Type 0} (means : S → Symbol) (expressions : List (List Symbol)) (machine : Machine S) (state : State) : Type 0 where
+-- the machine has the state of a run, after its lasting expressions
+pub record HasState {S : Type 0} (means : S → Symbol) (machine : Machine S) (state : State) : Type 0 where
   pub stack : (state_of means machine).stack ≡ state.stack
-  pub saved : (state_of means machine).saved ≡ expressions ++ state.saved
+  pub saved : (state_of means machine).saved ≡ lasting_of means machine ++ state.saved

@@ -1,12 +1,14 @@
 -- What the labels of a proof name, what its steps mean by that, and what a run of them comes to.
-use Rattle.std.specs.Prelude.{◌≡◌, ◌≢◌, ℕ, ◌<◌, Some, List, [], ◌∷◌, length, map, take, slice_get, slice_index_or, sum_by, All}
+use Rattle.std.specs.Prelude.{◌≡◌, ◌≢◌, ℕ, ◌<◌, ◌≤◌, Some, List, [], ◌∷◌, length, map, take, slice_get, slice_index_or, sum_by, All}
 use Rattle.std.specs.List.{AllZip}
-use Rattle.mm_machine.specs.Language.Frame.{Symbol, Frame, Hypothesis, Assertion, Setting, AreSameFrame}
+use Rattle.mm_machine.specs.Language.Frame.{Symbol, Frame, LabelMeaning, Hypothesis, Assertion, Setting, AreSameFrame}
 use Rattle.mm_machine.specs.Language.Expansion.{Step, Named, Saved, Save, NotKnown}
 use Rattle.mm_machine.specs.Language.Reaches.{Reaches, IsStepFault}
 use Rattle.mm_machine.specs.Language.Run.{run_part, IsReached}
 use Rattle.mm_machine.specs.Language.Forms.{frames_of}
+use Rattle.mm_machine.specs.Language.Lasting.{lasting_of}
 use Rattle.mm_machine.specs.declared.forms.Forms.{Forms}
+use Rattle.mm_machine.specs.declared.machine.Machine.{Machine}
 use Rattle.mm_machine.specs.declared.step.Action.{Action}
 use Rattle.mm_machine.specs.declared.step.Action.TheVariants as actions
 use Rattle.mm_machine.specs.declared.step.ProofStep.{ProofStep}
@@ -16,34 +18,35 @@ use Rattle.mm_machine.specs.declared.stepping.Outcome.{Outcome}
 use Rattle.mm_machine.specs.declared.stepping.Outcome.TheVariants.{Proved, Fault, Unknown, NotOne, Other}
 use Rattle.mm_machine.specs.declared.named.Use.{Use}
 use Rattle.mm_machine.specs.declared.named.Use.TheVariants as uses
-use Rattle.mm_machine.specs.declared.named.Named.{Named as Listed}
 
--- the expressions of the hypotheses that are named
-abbrev pub named_expressions : {S : Type 0} → (S → Symbol) → Listed S → List (List Symbol)
-named_expressions means named = map (λ e. map means e.now) named.hypotheses.items
+-- the label pushes the expression: it means this hypothesis, or an assertion that takes nothing and says this, which is not too long
+abbrev pub Pushes : LabelMeaning → List Symbol → Type 0
+Pushes (Hypothesis h) e = h ≡ e
+Pushes (Assertion frame) e = (frame.hypotheses ≡ []) × (frame.expression ≡ e) × (length e ≤ 1000000)
+Pushes _ e = ⊥
 
--- at this place the step is a label that means this hypothesis, or an assertion with the same frame; or it is a `?`, which has no use
+-- at this place the step is a label that pushes this expression, or that means an assertion with the same frame; or it is a `?`, which has no use
 abbrev pub MeansUse : List (List Symbol) → List Frame → Setting → Use → Step → Type 0
-MeansUse expressions frames place (uses.Hypothesis n) (Named label) = (e : List Symbol) × (slice_get expressions n ≡ Some e) ×
-    (place.resolve label ≡ Hypothesis e)
+MeansUse expressions frames place (uses.Lasting n) (Named label) =
+    (e : List Symbol) × (slice_get expressions n ≡ Some e) × Pushes (place.resolve label) e
 MeansUse expressions frames place (uses.Assertion n) (Named label) =
     (kept frame : Frame) × (slice_get frames n ≡ Some kept) × (place.resolve label ≡ Assertion frame) × AreSameFrame kept frame
 MeansUse expressions frames place uses.Nothing NotKnown = Unit {0}
 MeansUse expressions frames place _ _ = ⊥
 
--- at this place the labels of a proof, with these uses, are these steps
-abbrev pub AreUses : {S L : Type 0} → (S → Symbol) → (L → Symbol) → Forms S → Listed L → Setting → List Step → Type 0
-AreUses means listed forms named place names = AllZip (MeansUse (named_expressions listed named) (frames_of means forms) place) named.uses.items names
+-- at this place the labels of a proof, with these uses by a machine that has these forms, are these steps
+abbrev pub AreUses : {S : Type 0} → (S → Symbol) → Machine S → Forms S → List Use → Setting → List Step → Type 0
+AreUses means machine forms uses place names = AllZip (MeansUse (lasting_of means machine) (frames_of means forms) place) uses names
 
 -- the number of a use is in range
 abbrev pub IsUseWithin : ℕ → ℕ → Use → Type 0
-IsUseWithin hypotheses assertions (uses.Hypothesis n) = n < hypotheses
-IsUseWithin hypotheses assertions (uses.Assertion n) = n < assertions
-IsUseWithin hypotheses assertions uses.Nothing = Unit {0}
+IsUseWithin lasting assertions (uses.Lasting n) = n < lasting
+IsUseWithin lasting assertions (uses.Assertion n) = n < assertions
+IsUseWithin lasting assertions uses.Nothing = Unit {0}
 
 -- the uses of all labels are in range
-abbrev pub AreUsesWithin : {S L : Type 0} → Forms S → Listed L → Type 0
-AreUsesWithin forms named = All (IsUseWithin (length named.hypotheses.items) (length forms.forms.items)) named.uses.items
+abbrev pub AreUsesWithin : {S : Type 0} → Machine S → Forms S → List Use → Type 0
+AreUsesWithin machine forms uses = All (IsUseWithin machine.lasting (length forms.forms.items)) uses
 
 -- what is put again was saved, after this many saves
 abbrev pub IsSavedWithin : ℕ → Action → Type 0

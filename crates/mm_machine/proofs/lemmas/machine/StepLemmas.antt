@@ -1,15 +1,15 @@
 -- Tasks of the code and steps of a proof.
 use Rattle.std.proofs.Common.{rules, ◌≡◌, ◌≢◌, ℕ, zero, suc, ◌+◌, ◌<◌, ◌≤◌, Option, Some, None, List, ◌∷◌, ◌++◌, length, take, drop, get_or, refl, sym, ◌∙◌, ap, subst, arith, append_assoc, zero-add}
 use Rattle.std.proofs.{Common.{add-zero, length-append, slice_get, MatchOption, IfNone, map, []}, lemmas.Grind.{common_steps, elements}}
-use Rattle.std.proofs.lemmas.List.{length-take-le, take_more, take-append-drop, drop_more, take_all, length-map, get_or_append_left, Sums.{sum_by-cons, sum_by-append}}
+use Rattle.std.proofs.lemmas.List.{length-take-le, take_more, take-append-drop, take-append-le, drop_more, take_all, length-map, get_or_append_left, Sums.{sum_by-cons, sum_by-append}}
 use Rattle.std.{proofs.lemmas.Option.{slice_get_within, get_or_from_slice_get, slice_get-get_or}, specs.List.{AllZip}}
-use Rattle.mm_machine.specs.Language.{Frame.{Symbol, Frame, LabelMeaning, Hypothesis, Assertion, Setting, AreSameFrame, AreSamePairs}, Typing.{HasFrames}, Steps.{Cites}}
+use Rattle.mm_machine.specs.Language.{Frame.{Symbol, Frame, LabelMeaning, Assertion, Setting, AreSameFrame, AreSamePairs}, Typing.{HasFrames}, Steps.{Cites}}
 use Rattle.mm_machine.specs.Language.{Expansion.{Step, Named, Saved, Save, NotKnown}, Machine.{State, Turns}, Faults.{LabelFails, IsLowest}, Reaches.{Reaches, IsStepFault}, Run.{run_part, IsReached}}
-use Rattle.mm_machine.specs.{Language.{RunLaws.{KnownUpTo}, NamedSteps.{meant, MeansUse, actions_mean, saves_by, saves_in}}, declared.{ProofNumber.{ProofNumber}, stepping.Task.{Task}}}
-use Rattle.mm_machine.specs.{declared.{named.Use.{Use}, machine.Machine.{Machine}, step.ProofStep.{ProofStep}}, Code.{Citation.{IsLowestCiting}, MachineState.{state_of}, Ranges.{Saves}}}
-use Rattle.mm_machine.{specs.Code.{Tasks.{HasState, MeansTask}, Flat.{read}}, proofs.lemmas.verdicts.Moving.{takes_moved, frame_back, label_moved}}
+use Rattle.mm_machine.specs.Language.{RunLaws.{KnownUpTo}, NamedSteps.{meant, MeansUse, Pushes, actions_mean, saves_by, saves_in}, Lasting.{HoldsLasting, KeepsLasting, lasting_of}}
+use Rattle.mm_machine.specs.{declared.{ProofNumber.{ProofNumber}, stepping.Task.{Task}, named.Use.{Use}, machine.Machine.{Machine}, step.ProofStep.{ProofStep}}, Code.Citation.{IsLowestCiting}}
+use Rattle.mm_machine.{specs.Code.{MachineState.{state_of}, Ranges.{Saves}, Tasks.{HasState, MeansTask}, Flat.{read}}, proofs.lemmas.verdicts.Moving.{takes_moved, frame_back, label_moved}}
 use Rattle.mm_machine.proofs.lemmas.{verdicts.Part.{part_begins, part_at, part_ends, not_all_run}, machine.{Reaching.{Follows, follows_on, reached}, Running.{faulty}, FlatLemmas.{mapped_or_get}}}
-use Rattle.mm_machine.proofs.lemmas.lists.{Zips.{zip_at}, Members.{take_next}}
+use Rattle.mm_machine.proofs.lemmas.{machine.PushLemmas.{pushed_moves}, lists.{Zips.{zip_at}, Members.{take_next}}}
 use Rattle.mm_machine.specs.declared.stepping.Task.TheVariants as tasks
 use Rattle.mm_machine.specs.declared.named.Use.TheVariants as uses
 
@@ -24,7 +24,7 @@ means_cite expressions frames place n t step is m = grind (arith, elements) step
 -- and a hypothesis
 pub means_push :
     (expressions : List (List Symbol)) (frames : List Frame) (place : Setting) (n : ℕ) (t : Task) (step : Step) → t ≡ tasks.Push n → MeansTask expressions frames place t step →
-    (label : List ℕ) × (e : List Symbol) × (step ≡ Named label) × (slice_get expressions n ≡ Some e) × (place.resolve label ≡ Hypothesis e)
+    (label : List ℕ) × (e : List Symbol) × (step ≡ Named label) × (slice_get expressions n ≡ Some e) × Pushes (place.resolve label) e
 means_push expressions frames place n t step is m = grind (arith, elements) steps 200000
 
 -- what is put again
@@ -98,39 +98,47 @@ reached_all place steps k state l f = subst (λ (w : List Step). Reaches place w
 -- ---- what a task makes of the machine
 
 -- the machine has the state after a turn
-abbrev pub TurnsTo : {S : Type 0} → (S → Symbol) → List (List Symbol) → Machine S → Setting → Step → State → Type 0
-TurnsTo means expressions machine place step before = (after : State) × HasState means expressions machine after × Turns place step before after
+abbrev pub TurnsTo : {S : Type 0} → (S → Symbol) → Machine S → Setting → Step → State → Type 0
+TurnsTo means machine place step before = (after : State) × HasState means machine after × Turns place step before after
 
-pub named_turns : (place : Setting) (label : List ℕ) (step : Step) (e : List Symbol) (before : State) → step ≡ Named label →
-    place.resolve label ≡ Hypothesis e → Turns place step before (record before { stack = before.stack ++ e ∷ [] })
-named_turns place label step e before is at = rw is (rw at refl, refl)
+pub named_turns : (place : Setting) → HasFrames place → (label : List ℕ) (step : Step) (e : List Symbol) (before : State) → step ≡ Named label →
+    Pushes (place.resolve label) e → Turns place step before (record before { stack = before.stack ++ e ∷ [] })
+named_turns place is label step e before says pushes = rw says (pushed_moves place is label (place.resolve label) e before.stack refl pushes, refl)
 
 pub pushed_turns :
-    {S : Type 0} (means : S → Symbol) (expressions : List (List Symbol)) (place : Setting) (step : Step) (e : List Symbol) (before : State)
+    {S : Type 0} (means : S → Symbol) (place : Setting) (step : Step) (e : List Symbol) (before : State)
     (old new : Machine S) →
-    Turns place step before (record before { stack = before.stack ++ e ∷ [] }) → HasState means expressions old before →
-    (state_of means new).stack ≡ (state_of means old).stack ++ e ∷ [] → (state_of means new).saved ≡ (state_of means old).saved → TurnsTo means expressions new place step before
-pushed_turns means expressions place step e before old new turns state stack saved = grind (arith, common_steps) steps 200000
+    Turns place step before (record before { stack = before.stack ++ e ∷ [] }) → HasState means old before →
+    (state_of means new).stack ≡ (state_of means old).stack ++ e ∷ [] → (state_of means new).saved ≡ (state_of means old).saved →
+    KeepsLasting means old new → TurnsTo means new place step before
+pushed_turns means place step e before old new turns state stack saved keeps = (
+  record before { stack = before.stack ++ e ∷ [] },
+  record {
+    stack = stack ∙ ap (λ w. w ++ e ∷ []) state.stack;
+    saved = saved ∙ state.saved ∙ ap (λ w. w ++ before.saved) (sym keeps.1);
+  },
+  turns,
+)
 
 pub kept_turns :
-    {S : Type 0} (means : S → Symbol) (expressions : List (List Symbol)) (place : Setting) (step : Step) (before : State) (old new : Machine S) →
-    step ≡ Save → HasState means expressions old before → Saves (state_of means old) (state_of means new) → TurnsTo means expressions new place step before
-kept_turns means expressions place step before old new is state saves =
+    {S : Type 0} (means : S → Symbol) (place : Setting) (step : Step) (before : State) (old new : Machine S) →
+    step ≡ Save → HasState means old before → Saves (state_of means old) (state_of means new) → KeepsLasting means old new → TurnsTo means new place step before
+kept_turns means place step before old new is state saves keeps =
     let e = saves.1 in
     let after : State = record { stack = before.stack; saved = before.saved ++ e ∷ [] } in (
       after,
       record {
         stack = saves.3 ∙ state.stack;
-        saved = saves.4 ∙ ap (λ w. w ++ e ∷ []) state.saved ∙ append_assoc expressions before.saved (e ∷ []);
+        saved = saves.4 ∙ ap (λ w. w ++ e ∷ []) state.saved ∙ append_assoc (lasting_of means old) before.saved (e ∷ []) ∙ ap (λ w. w ++ (before.saved ++ e ∷ [])) (sym keeps.1);
       },
       subst (λ (s : Step). Turns place s before after) (sym is) (saves.0, e, sym state.stack ∙ saves.2, refl, refl),
     )
 
 pub cited_turns :
-    {S : Type 0} (means : S → Symbol) (expressions : List (List Symbol)) (place : Setting) (label : List ℕ) (before after : State) (new : Machine S) (found : Option ProofNumber) →
-    HasState means expressions new after → MatchOption found (Turns place (Named label) before after) (IsLowest place (Named label) before.stack) →
-    MatchOption found (TurnsTo means expressions new place (Named label) before) (IsLowest place (Named label) before.stack)
-cited_turns means expressions place label before after new found has t = grind (arith, common_steps) steps 200000
+    {S : Type 0} (means : S → Symbol) (place : Setting) (label : List ℕ) (before after : State) (new : Machine S) (found : Option ProofNumber) →
+    HasState means new after → MatchOption found (Turns place (Named label) before after) (IsLowest place (Named label) before.stack) →
+    MatchOption found (TurnsTo means new place (Named label) before) (IsLowest place (Named label) before.stack)
+cited_turns means place label before after new found has t = grind (arith, common_steps) steps 200000
 
 -- ---- what the table's entries are used for
 
@@ -147,7 +155,7 @@ unused_at expressions frames place (u ∷ all) (x ∷ names) zero l zip = absurd
 unused_at expressions frames place (u ∷ all) (x ∷ names) (suc k) l zip = unused_at expressions frames place all names k (omega arith) zip.1
 unused_at expressions frames place _ _ k l zip = absurd zip
 
-pub push_means : (expressions : List (List Symbol)) (frames : List Frame) (place : Setting) (n : ℕ) (step : Step) → MeansUse expressions frames place (uses.Hypothesis n) step → MeansTask expressions frames place (tasks.Push n) step
+pub push_means : (expressions : List (List Symbol)) (frames : List Frame) (place : Setting) (n : ℕ) (step : Step) → MeansUse expressions frames place (uses.Lasting n) step → MeansTask expressions frames place (tasks.Push n) step
 push_means expressions frames place n step m = grind (arith, common_steps) steps 200000
 
 pub cite_means : (expressions : List (List Symbol)) (frames : List Frame) (place : Setting) (n : ℕ) (step : Step) → MeansUse expressions frames place (uses.Assertion n) step → MeansTask expressions frames place (tasks.Cite n) step
@@ -178,3 +186,19 @@ saved_more means old new saves = grind (arith, common_steps, length-append, leng
 
 pub if_none : {A : Type 0} (found : Option A) (P : Type 0) → P → IfNone found P
 if_none found P p = grind (arith, common_steps) steps 200000
+
+-- ---- the lasting expressions
+
+-- they stay if what was saved stays
+pub lasting_same : {S : Type 0} (means : S → Symbol) (old new : Machine S) → new.lasting ≡ old.lasting → (state_of means new).saved ≡ (state_of means old).saved → KeepsLasting means old new
+lasting_same means old new count saved = (count, ap (λ w. take new.lasting w) saved ∙ ap (λ n. take n (state_of means old).saved) count)
+
+-- and if more is saved
+pub lasting_saved : {S : Type 0} (means : S → Symbol) (old new : Machine S) → HoldsLasting old → new.lasting ≡ old.lasting → Saves (state_of means old) (state_of means new) → KeepsLasting means old new
+lasting_saved means old new holds count saves =
+    let front = take-append-le old.lasting (state_of means old).saved (saves.1 ∷ []) (omega (arith, holds.count, length-map old.saved.items (read (map means old.symbols.items)))) in
+    (count, ap (λ w. take new.lasting w) saves.4 ∙ ap (λ n. take n ((state_of means old).saved ++ saves.1 ∷ [])) count ∙ front)
+
+-- how many there are
+pub lasting_count : {S : Type 0} (means : S → Symbol) (m : Machine S) → HoldsLasting m → length (lasting_of means m) ≡ m.lasting
+lasting_count means m holds = length-take-le m.lasting (state_of means m).saved (omega (arith, holds.count, length-map m.saved.items (read (map means m.symbols.items))))

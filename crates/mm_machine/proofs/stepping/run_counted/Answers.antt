@@ -4,6 +4,8 @@ use Rattle.mm_machine.proofs.stepping.run_counted.Goals as goal
 
 pub returns-in-None : goal.returns-in-None
 returns-in-None g c = record {
+  holds = c.in_ok-outcome.ensures.whole.2;
+  lasting = c.in_ok-outcome.ensures.lasting;
   within = tt;
   says = λ place names is pairs all.
       let m = g.S.Symbol.means in

@@ -1,12 +1,13 @@
 use Rattle.std.proofs.Common.{◌≡◌, ◌+◌, List, length, take}
-use Rattle.mm_machine.specs.Language.{RunLaws.{KnownUpTo}, Frame.{Setting, AreSamePairs}, Typing.{HasFrames}, Expansion.{Step}, Machine.{State}, CitedFrames.{meant_pairs}}
-use Rattle.mm_machine.{specs.{Language.NamedSteps.{AreUses, actions_mean, named_expressions, saves_in}, Code.{MachineState.{AreRanges}, Tasks.{HasState}}}, proofs.lemmas.machine.Reaching.{Follows}}
+use Rattle.mm_machine.specs.Language.{RunLaws.{KnownUpTo}, Frame.{Setting, AreSamePairs}, Lasting.{KeepsLasting}, Typing.{HasFrames}, Expansion.{Step}, Machine.{State}, CitedFrames.{meant_pairs}}
+use Rattle.mm_machine.{specs.{Language.NamedSteps.{AreUses, actions_mean, saves_in}, Code.{MachineState.{AreRanges}, Tasks.{HasState}}}, proofs.lemmas.machine.Reaching.{Follows}}
 use Rattle.mm_machine.proofs.stepping.run_through.Given as goal
 
 abbrev pub invariant-loop-place : goal.invariant-loop-place
 invariant-loop-place g l = record {
   whole : AreRanges l.machine;
-  count : length l.machine.saved.items ≡ length l.named.hypotheses.items + saves_in (take l.place l.steps);
-  follows : (place : Setting) (names : List Step) → HasFrames place → AreSamePairs (meant_pairs g.S.Listed.Symbol.means l.active.pairs.now) place.active → AreUses g.S.Symbol.means g.S.Listed.Symbol.means l.forms l.named place names →
-      KnownUpTo (actions_mean names l.steps) l.place × (state : State) × HasState g.S.Symbol.means (named_expressions g.S.Listed.Symbol.means l.named) l.machine state × Follows place (take l.place (actions_mean names l.steps)) state;
+  lasting : KeepsLasting g.S.Symbol.means l.initial.machine l.machine;
+  count : length l.machine.saved.items ≡ l.machine.lasting + saves_in (take l.place l.steps);
+  follows : (place : Setting) (names : List Step) → HasFrames place → AreSamePairs (meant_pairs g.S.Listed.Symbol.means l.active.pairs.now) place.active → AreUses g.S.Symbol.means l.initial.machine l.forms l.uses place names →
+      KnownUpTo (actions_mean names l.steps) l.place × (state : State) × HasState g.S.Symbol.means l.machine state × Follows place (take l.place (actions_mean names l.steps)) state;
 }

@@ -1,4 +1,4 @@
-use Rattle.std.{proofs.{Common.{◌≡◌, ◌<◌, ◌≤◌, ℕ, Result, List, length, sym, ◌∙◌, ap, subst, arith}, lemmas.{List.{length-map}, Result.{err_from_is_err_and}}}, specs.List.{AllByRecursion, flat_map}}
+use Rattle.std.{proofs.{Common.{◌≡◌, ◌<◌, ◌≤◌, ℕ, Result, List, length, sym, ◌∙◌, ap, subst, arith}, lemmas.List.{length-map}}, specs.List.{AllByRecursion, flat_map}}
 use Rattle.mm_frame.specs.Language.{Base.{before, said_at}, Framing.{mandatory_numbers}}
 use Rattle.mm_verdict.specs.Language.{BaseLabels.{setting_at}, Citing.{cites, cited_words}, VerdictAt.{mandatory_labels, statement_at}, DecodedSteps.{decoded_steps, entry_steps}}
 use Rattle.mm_verdict.{specs.Code.Judged.{done_by}, proofs.lemmas.{base.FrameLemmas.{framed_proof}, decoding.DecodedProofs.{done_says}}}
@@ -39,14 +39,10 @@ returns c =
     }
 
 pub run_steps-requires : goal.run_steps-requires
-run_steps-requires c = record {
-  known = c.requires.known;
-  decoded = c.requires.decoded;
-  used = rw c.deref-used.ensures.value ((rw c.deref.ensures.value at c.in_ok-labels_marked.ensures) c.args.proof.decoding.now.steps.items c.requires.marks);
-}
+run_steps-requires c = record { known = c.requires.known; decoded = c.requires.decoded; marks = c.requires.marks }
 
 pub cites_used-requires : goal.cites_used-requires
-cites_used-requires c = rw c.deref-used.ensures.value ((rw c.deref.ensures.value at c.in_ok-labels_marked.ensures) c.args.proof.decoding.now.steps.items c.requires.marks)
+cites_used-requires c = c.requires.marks
 
 pub mandatory-hypotheses-requires : goal.mandatory-hypotheses-requires
 mandatory-hypotheses-requires c = let has = c.requires.decoded in (has.0, has.1.theorem.base, framed_proof has.0 c.args.proof.i has.1.theorem.is_sound)
@@ -59,6 +55,3 @@ steps_done-done-requires c =
 
 pub verdict-verdict-requires-clause-within : goal.verdict-verdict-requires-clause-within
 verdict-verdict-requires-clause-within c = c.in_ok-outcome.ensures.within
-
-pub returns-in_err-labels_marked : goal.returns-in_err-labels_marked
-returns-in_err-labels_marked c = rw (err_from_is_err_and c.from_residual.result c.from_residual.ensures.1).1 tt

@@ -1,6 +1,6 @@
 use Rattle.std.proofs.{Common.{refl, length, ap, arith}, lemmas.{Grind.{common_steps}, Option.{slice_get_within}}}
 use Rattle.mm_verdict.{specs.{Language.{BaseLabels.{setting_at}, DecodedSteps.{entry_steps}}, Code.NumberedBase.{numbered_setting}}, proofs.lemmas.decoding.DecodedProofs.{decoded_saved, named_by}}
-use Rattle.mm_verdict.proofs.lemmas.machine.{LackLemmas.{front_lacks_counted, front_stops, saved_before_front}, UsedLemmas.{part_entries}}
+use Rattle.mm_verdict.proofs.lemmas.machine.{LackLemmas.{front_lacks_counted, front_stops, saved_before_front}, NamedLemmas.{ran}, UsedLemmas.{part_entries}}
 use Rattle.mm_verdict.proofs.checking.run_front.Goals as goal
 
 pub name_used-requires : goal.name_used-requires
@@ -15,24 +15,25 @@ name_used-requires c =
 pub run_counted-requires : goal.run_counted-requires
 run_counted-requires c = record {
   saved = rw c.deref-steps.ensures.value (saved_before_front c.args.proof.decoding.now.steps.items c.steps_before-count.result (decoded_saved c.mandatory_are_active.ensures c.decodes_surely.ensures _ _ _ _ _ c.requires.decoded.1));
-  frames = c.in_ok-name_used.ensures.names.named.citable;
-  within = c.in_ok-name_used.ensures.names.named.within;
+  holds = c.in_ok-name_used.ensures.names.of_base.holds;
+  frames = c.in_ok-name_used.ensures.names.of_base.cited.citable;
+  within = rw c.deref.ensures.value c.in_ok-name_used.ensures.names.within;
 }
 
 pub returns-in-Stops : goal.returns-in-Stops
 returns-in-Stops c = record {
   within = grind (arith, common_steps);
-  known = c.in_ok-name_used.ensures.names.known;
+  known = ran c.args.proof.base.now _ _ c.in_ok-name_used.ensures.names.of_base c.in_ok-came_to.ensures.holds c.in_ok-came_to.ensures.lasting.1 refl refl refl;
   says = λ view is. let i = c.args.proof.i in
       let d = c.args.proof.decoding.now in
       let names = is.theorem.base.0 in
       let named = c.in_ok-name_used.ensures in
       let entries = part_entries view i d.labels.items named.used (rw c.deref-labels.ensures.value at named.are.part) is.entries in
       let keeps = rw (c.deref-labels.ensures.value, c.deref-steps.ensures.value) at named.are.kept in
-      let mean = named.names.named.means names view is.theorem.base.1 i entries in
+      let mean = named.names.means names view is.theorem.base.1 i entries in
       let frames = c.numbers_keep_places.ensures names (setting_at view i) (c.places_have_frames.ensures view i) in
       let pairs = c.active.ensures.same names view is.theorem.base.1 is.theorem.is_sound in
-      let stops = (rw c.in-Stops.is at c.in_ok-came_to.ensures.says) (numbered_setting names view i) (entry_steps view named.used) frames (rw c.new-active.ensures pairs) mean in
+      let stops = (rw c.in-Stops.is at c.in_ok-came_to.ensures.says) (numbered_setting names view i) (entry_steps view named.used) frames (rw c.new-active.ensures pairs) (rw c.deref.ensures.value mean) in
       front_stops c.numbers_say_the_same.ensures c.stops_stay.ensures c.lack_stops.ensures names view i d.labels.items named.used d.steps.items c.steps_before-count.result keeps c.in-Stops.outcome (rw c.deref-steps.ensures.value at stops);
 }
 
@@ -42,7 +43,7 @@ returns-then-takes_more c =
     let within = slice_get_within c.deref-steps.result.now c.steps_before-count.result t.step t.at in
     record {
       within = omega (arith, within, ap length c.deref-steps.ensures.value);
-      known = c.in_ok-name_used.ensures.names.known;
+      known = ran c.args.proof.base.now _ _ c.in_ok-name_used.ensures.names.of_base c.in_ok-came_to.ensures.holds c.in_ok-came_to.ensures.lasting.1 refl refl refl;
       says = λ view is. let proof = c.args.proof in
           let i = proof.i in
           let d = proof.decoding.now in
@@ -51,14 +52,14 @@ returns-then-takes_more c =
           let named = c.in_ok-name_used.ensures in
           let entries = part_entries view i d.labels.items named.used (rw c.deref-labels.ensures.value at named.are.part) is.entries in
           let keeps = rw (c.deref-labels.ensures.value, c.deref-steps.ensures.value) at named.are.kept in
-          let mean = named.names.named.means names view base i entries in
+          let mean = named.names.means names view base i entries in
           let frames = c.numbers_keep_places.ensures names (setting_at view i) (c.places_have_frames.ensures view i) in
           let pairs = c.active.ensures.same names view base is.theorem.is_sound in
-          let done = (rw c.in-Leaves.is at c.in_ok-came_to.ensures.says) (numbered_setting names view i) (entry_steps view named.used) frames (rw c.new-active.ensures pairs) mean in
+          let done = (rw c.in-Leaves.is at c.in_ok-came_to.ensures.says) (numbered_setting names view i) (entry_steps view named.used) frames (rw c.new-active.ensures pairs) (rw c.deref.ensures.value mean) in
           let more = rw (c.deref-labels.ensures.value, c.deref-steps.ensures.value) at (c.if-takes_more.ensures refl view is.theorem.base) in
           front_lacks_counted c.numbers_say_the_same.ensures c.stops_stay.ensures c.lack_stops.ensures names view i d.labels.items named.used d.steps.items c.steps_before-count.result
           keeps c.deref-steps.result.now c.deref-steps.ensures.value _ done frames is.entries more;
     }
 
 pub returns : goal.returns
-returns c = record { within = tt; says = tt; known = c.in_ok-name_used.ensures.names.known }
+returns c = record { within = tt; says = tt; known = ran c.args.proof.base.now _ _ c.in_ok-name_used.ensures.names.of_base c.in_ok-came_to.ensures.holds c.in_ok-came_to.ensures.lasting.1 refl refl refl }

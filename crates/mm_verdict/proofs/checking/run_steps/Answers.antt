@@ -16,7 +16,7 @@ returns-in-Some c =
     }
 
 pub run_all-requires : goal.run_all-requires
-run_all-requires c = record { decoded = c.requires.decoded; used = c.requires.used; known = c.in_ok-outcome.ensures.known }
+run_all-requires c = record { decoded = c.requires.decoded; marks = c.requires.marks; known = c.in_ok-outcome.ensures.known }
 
 pub returns-in-None : goal.returns-in-None
 returns-in-None c = c.run_all.ensures

@@ -1,4 +1,4 @@
-use Rattle.std.proofs.{Common.{rules, ◌-◌, arith}, lemmas.Grind.{common_steps}}
+use Rattle.std.proofs.{Common.{rules, arith}, lemmas.Grind.{common_steps}}
 use Rattle.mm_verdict.proofs.lemmas.citing.MarkedLemmas.{listed_behind, cites_alike}
 use Rattle.mm_verdict.proofs.citing.cited.Goals as goal
 

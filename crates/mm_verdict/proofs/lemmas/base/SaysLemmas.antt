@@ -1,7 +1,7 @@
 -- What a base and its files say of one item.
 use Rattle.std.{proofs.{Common.{◌≡◌, ℕ, zero, suc, true, Some, List, [], ◌∷◌, slice_get, refl, sym, subst}, lemmas.Option.{get_or_from_slice_get}}, specs.List.{AllZip}}
-use Rattle.mm_frame.specs.{mm_store.Language.{FilesView.{FilesView}, FileFacts.{CanBeRead}}, Language.{Base.{BaseView, is_proof_at, said_at}, Answering.{IsBase}}}
-use Rattle.mm_frame.specs.{mm_statement.Language.{Item.{Said, passed}, Statement.{Says}}, declared.base.Base.{Base}}
+use Rattle.mm_frame.specs.{mm_store.Language.{FilesView.{FilesView}, FileFacts.{CanBeRead}}, Language.Base.{BaseView, is_proof_at, said_at}, mm_statement.Language.Item.{Said, passed}}
+use Rattle.mm_frame.specs.{mm_statement.Language.Statement.{Says}, declared.base.Base.{Base}}
 use Rattle.mm_verdict.specs.{Language.ReadIn.{HasTheorem, IsReadIn}, Code.Judged.{IsTheorem}}
 use Rattle.mm_frame.specs.mm_store.declared.item.Item as store
 

@@ -1,6 +1,6 @@
 -- The words that cite are labels of exactly the assertions that decoded steps name.
-use Rattle.std.proofs.Common.{◌==◌, ◌≡◌, ◌⊎◌, ℕ, suc, ◌+◌, ◌-◌, Bool, true, false, not, cond, Some, Result, Ok, Err, List, [], ◌∷◌, ◌++◌, length, map, drop, take, slice_get, refl, sym, ap, ◌∙◌, subst}
-use Rattle.std.proofs.{Common.{inl, inr, arith}, lemmas.{Grind.{common_steps}, Bool.{false≢true, and_parts, and_from, or_left, or_right, cases_Bool}, Option.{same_Some}, Slice.Eq.{bytes_eq-Decides}}}
+use Rattle.std.proofs.Common.{◌==◌, ◌≡◌, ◌⊎◌, ℕ, suc, ◌+◌, Bool, true, false, not, cond, Some, Result, Ok, Err, List, [], ◌∷◌, ◌++◌, length, map, drop, take, slice_get, refl, sym, ap, ◌∙◌, subst, inl}
+use Rattle.std.proofs.{Common.{inr, arith}, lemmas.{Grind.{common_steps}, Bool.{false≢true, and_parts, and_from, or_left, or_right, cases_Bool}, Option.{same_Some}, Slice.Eq.{bytes_eq-Decides}}}
 use Rattle.std.{proofs.lemmas.List.{take-append-drop, Elements.{Contains-append_right, Contains-append_cases}}, specs.{Option.{ok_or, option_map_or}, Result.{result_and}}}
 use Rattle.std.specs.{Prelude.{◌↔◌, Contains, filter, bytes_eq, codes}, List.{AllZip, AllByRecursion, list_any, enumerate_from, before_first, after_first, range_with_len}}
 use Rattle.mm_machine.specs.{declared.{ProofNumber.{ProofNumber, TheVariants.{P06, P03}}, Spot.{Spot}, step.ProofFault.{ProofFault}}, Language.Frame.{Mandatory, Setting}}

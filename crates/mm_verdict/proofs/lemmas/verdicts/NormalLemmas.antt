@@ -1,6 +1,6 @@
 -- Labels as the words of a normal proof: each is one step, and they stand for themselves.
 use Rattle.std.proofs.lemmas.{Bool.{false≢true, false_from_ne_true}, List.{append-nil}, Slice.Eq.{bytes_eq-Decides}}
-use Rattle.std.proofs.Common.{◌≡◌, ℕ, ◌+◌, true, false, Some, Result, Ok, List, [], ◌∷◌, ◌++◌, length, map, refl, sym, ap, ◌∙◌, subst, bytes_eq, codes, append_assoc}
+use Rattle.std.proofs.Common.{◌≡◌, ℕ, ◌+◌, false, Some, Result, Ok, List, [], ◌∷◌, ◌++◌, length, map, refl, sym, ap, ◌∙◌, subst, bytes_eq, codes, append_assoc}
 use Rattle.std.specs.List.{AllByRecursion, enumerate_from, list_all}
 use Rattle.mm_verdict.{proofs.lemmas.decoding.OrderLemmas.{decoded}, specs.Language.ItemLaws.{CouldLabel, LabelsAreAProof}}
 use Rattle.mm_verdict.specs.Language.Decoding.{Steps, read_first, in_order, readings_of_words, read_word, read_label, usable, word_spot, decoding, steps_in, is_compressed}

@@ -1,6 +1,6 @@
 use Rattle.std.proofs.{Common.{◌≡◌, ◌+◌, ◌-◌, ◌++◌, ◌∷◌, [], ◌≤◌, ℕ, length, map, take, drop, refl, ◌∙◌, ap, subst, arith, slice_get, Vec, Global}, lemmas.List.{length-map, length-take, length-drop}}
 use Rattle.mm_machine.{specs.{Language.Frame.{Symbol}, declared.{machine.Machine.{Machine}, pattern.Entry.{Entry}}}, proofs.lemmas.machine.RoomLemmas.{put_behind, written_back}}
-use Rattle.mm_machine.proofs.lemmas.machine.StackLemmas.{ends_of, front_kept, replaced_by, whole_replaced}
+use Rattle.mm_machine.proofs.lemmas.machine.StackLemmas.{ends_of, front_kept, replaced_by, whole_replaced, lasting_held}
 use Rattle.mm_machine.proofs.machine.Machine.replace.Goals.{Joined-start-self, In_ok-put_entry, then-start-self+then-count-start+in_ok-move_down, else-start-self}
 use Rattle.mm_machine.proofs.machine.Machine.replace.Goals as goal
 
@@ -9,6 +9,8 @@ record Placed {S : Type 0} (means : S → Symbol) (old new : Machine S) (floor c
   stack : new.stack ≡ old.stack
   saved : new.saved ≡ old.saved
   kept : new.kept ≡ old.kept
+  lasting : new.lasting ≡ old.lasting
+  ground : new.ground ≡ old.ground
   first : floor ≤ start
   last : start ≤ old.top
   long : length new.symbols.items ≡ length old.symbols.items
@@ -36,6 +38,8 @@ placed g c =
             stack = ap (λ (x : Machine g.row.S.Denot). x.stack) w.self-is;
             saved = ap (λ (x : Machine g.row.S.Denot). x.saved) w.self-is;
             kept = ap (λ (x : Machine g.row.S.Denot). x.kept) w.self-is;
+            lasting = ap (λ (x : Machine g.row.S.Denot). x.lasting) w.self-is;
+            ground = ap (λ (x : Machine g.row.S.Denot). x.ground) w.self-is;
             first = omega (arith, w.start-is);
             last = omega (arith, w.start-is, c.floor_of-floor.ensures.within);
             long = ap length is ∙ k.count ∙ ap length now;
@@ -46,6 +50,8 @@ placed g c =
         stack = ap (λ (x : Machine g.row.S.Denot). x.stack) w.self-is;
         saved = ap (λ (x : Machine g.row.S.Denot). x.saved) w.self-is;
         kept = ap (λ (x : Machine g.row.S.Denot). x.kept) w.self-is;
+        lasting = ap (λ (x : Machine g.row.S.Denot). x.lasting) w.self-is;
+        ground = ap (λ (x : Machine g.row.S.Denot). x.ground) w.self-is;
         first = omega (arith, w.start-is, c.floor_of-floor.ensures.within);
         last = omega (arith, w.start-is);
         long = ap (λ (x : Machine g.row.S.Denot). length x.symbols.items) w.self-is;
@@ -74,7 +80,10 @@ returns-clause-whole g c =
     let last : start ≤ self.top = p.last in
     let whole = whole_replaced self.top m self.kept f c.args.below self.stack.items self.saved.items c.put_entry.new.stack.items (entry start c.args.count f) c.requires.whole.0 c.requires.in_range c.floor_of-floor.ensures.saved
     (omega arith) (λ i e o at. c.floor_of-floor.ensures.stays i e o (ap (λ w. slice_get w i) c.deref.ensures.value ∙ at)) (next g d.In_ok-put_entry p.stack) (omega arith, omega arith) refl in
-    rw (p.kept, p.saved) (whole, omega (arith, p.long, c.requires.room))
+    let holds = c.requires.whole.2 in
+    let new = record c.if-start-self.self { stack = c.put_entry.new.stack; top = m } in
+    let held = lasting_held self new holds p.lasting p.ground (ap (λ (x : Vec Entry Global). take self.lasting x.items) p.saved) (rw p.saved holds.count) (omega (arith, p.long, holds.below)) in
+    (rw (p.kept, p.saved) whole, omega (arith, p.long, c.requires.room), held, omega (arith, p.kept, p.ground, c.requires.whole.3))
 
 pub returns-clause-stack : goal.returns-clause-stack
 returns-clause-stack g c =
@@ -112,3 +121,6 @@ floor_of-floor-requires-clause-whole g c =
       saved_within = λ k d l. absurd (omega (arith, l));
       apart = whole.apart;
     })
+
+pub returns-clause-lasting : goal.returns-clause-lasting
+returns-clause-lasting g c = (placed g (goal.at.returns-clause-lasting g c).Joined-start-self).lasting

@@ -1,5 +1,0 @@
-use Rattle.std.proofs.{Common.{arith}, lemmas.Grind.{common_steps}}
-use Rattle.mmtests.proofs.machines.spelled_expressions.Goals as goal
-
-pub loop-symbols-preserved : goal.loop-symbols-preserved
-loop-symbols-preserved c = grind (arith, common_steps)
