@@ -11,8 +11,8 @@ use mm_frame::{Base, Resolved};
 use mm_machine::{CodedSymbol, Forms, Hypothesis, Machine, NumberedSymbol, Use};
 use std::alloc::{AllocError, Global};
 
-/// If what is known has more symbols and slots than this, all of it is forgotten. So it takes some megabytes at most, and what
-/// one proof adds.
+/// If what is known has more symbols and slots than this, and more than twice those that the first proof needed, all of it is
+/// forgotten. So it takes some megabytes at most, or some times what one proof needs.
 const MOST_KNOWN: usize = 262_144;
 
 /// An assertion that takes nothing is pushed as it is, if it has at most this many symbols; a longer one is a fault when it is
@@ -37,6 +37,8 @@ pub struct Known<'a> {
     places: Vec<u32>,
     /// The mandatory hypotheses of the assertion that was looked up last.
     mandatory: Vec<Hypothesis<'a, NumberedSymbol>>,
+    /// How much was known after the first proof since all was forgotten: 0 before it.
+    first: usize,
 }
 
 /// Where a number is in a list, if it is found there.
@@ -71,6 +73,14 @@ fn widen_places(places: &mut Vec<u32>, count: usize) -> Result<(), AllocError> {
     Ok(())
 }
 
+/// Whether this much is too much to be kept. The first size since all was forgotten is noted.
+fn is_too_much(first: &mut usize, size: usize) -> bool {
+    if *first == 0 {
+        *first = size;
+    }
+    size > MOST_KNOWN && size / 2 > *first
+}
+
 /// Whether the assertion with this number has no mandatory hypothesis, and is not too long to be pushed.
 fn takes_nothing(base: &Base, number: usize) -> bool
     ensures { IsTrue result → TakesNothing base.now number }
@@ -97,6 +107,7 @@ impl<'a> Known<'a> {
             uses: Vec::new(alloc),
             places: Vec::new(alloc),
             mandatory: Vec::new(alloc),
+            first: 0,
         }
     }
 
@@ -114,7 +125,8 @@ impl<'a> Known<'a> {
     pub(crate) fn limit(&mut self)
         ensures { (base : Meant) → AreKnownOf base self.old → AreKnownOf base self.new }
     {
-        if self.forms.size().saturating_add(self.machine.size()) > MOST_KNOWN {
+        let size = self.forms.size().saturating_add(self.machine.size());
+        if is_too_much(&mut self.first, size) {
             self.forget();
         }
     }
@@ -127,6 +139,7 @@ impl<'a> Known<'a> {
         self.pushed.clear();
         self.forms.clear();
         self.cited.clear();
+        self.first = 0;
     }
 
     /// Where the expression of the item with this number is among those that are pushed; it is there then.

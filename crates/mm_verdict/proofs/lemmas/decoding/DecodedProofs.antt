@@ -1,7 +1,6 @@
 -- A proof that is decoded, and what a run says of it.
 use Rattle.std.proofs.Common.{◌≡◌, ℕ, zero, suc, ◌<◌, true, false, cond, Some, Ok, Err, List, [], ◌∷◌, length, take, get_or, refl, sym, ◌∙◌, ap, subst, arith, inl, inr, slice_get, All, count_by}
-use Rattle.std.proofs.lemmas.{Grind.{common_steps, elements}, List.{take-map, Elements.{All-nil, All-cons, All-head, All-tail}, Sums.{sum_by-cons}}, Option.{slice_get-map}}
-use Rattle.std.specs.Option.{option_map}
+use Rattle.std.{proofs.lemmas.{Grind.{common_steps, elements}, List.{take-map, Elements.{All-nil, All-cons}, Sums.{sum_by-cons}}, Option.{slice_get-map}}, specs.Option.{option_map}}
 use Rattle.mm_frame.specs.{declared.base.{Base.{Base}, Resolved.{Resolved}}, Language.{Base.{BaseView, before, said_at, is_framed_at}, Framing.{mandatory_numbers}, Answering.{IsBase}}}
 use Rattle.mm_machine.specs.Language.{Frame.{Symbol, Setting}, Expansion.{Step, Saved, NotKnown}, Machine.{AreDecoded, is_save}, Run.{AreDone}}
 use Rattle.mm_machine.specs.{Language.{NamedSteps.{meant, AreSavedBefore, IsSavedWithin, RunSays, actions_mean, saves_by, saves_in}, Verdict.{IsVerdict}}, declared.step.Action.{Action}}
@@ -9,8 +8,8 @@ use Rattle.mm_machine.specs.declared.{step.{ProofStep.{ProofStep}, ProofFault.{P
 use Rattle.mm_machine.specs.declared.Verdict.TheVariants.{Wrong}
 use Rattle.mm_verdict.specs.Language.{BaseLabels.{AreActive, setting_at}, DecodingLaws.{DecodesSurely, MandatoryAreActive}, VerdictAt.{mandatory_labels, AreDoneIn, decoding_at, statement_at}}
 use Rattle.mm_verdict.specs.{Language.{DecodedSteps.{decoded_steps, decoding_of, AreEntries, IsNamedBy, entry_steps, label_table, labels_at, TellsFault}, Citing.{cites}}, Code.Decoded.{WhereActive}}
-use Rattle.mm_verdict.specs.{Code.{Judged.{IsDecoding, IsTheorem, done_by}, UsedLabels.{IsPart}, DecodedProof.{IsJudgedProof}}, declared.{reading.Decoding.{Decoding}, undecoded.Undecoded.{Undecoded}}}
-use Rattle.mm_verdict.{specs.declared.work.Checked.{Checked}, proofs.lemmas.{base.FrameLemmas.{framed_proof}, verdicts.ItemLemmas.{active_usable}, machine.UsedLemmas.{entry_of, part_entries}}}
+use Rattle.mm_verdict.specs.{Code.{Judged.{IsDecoding, IsTheorem, done_by}, DecodedProof.{IsJudgedProof}}, declared.{reading.Decoding.{Decoding}, undecoded.Undecoded.{Undecoded}}}
+use Rattle.mm_verdict.{specs.declared.work.Checked.{Checked}, proofs.lemmas.{base.FrameLemmas.{framed_proof}, verdicts.ItemLemmas.{active_usable}}}
 use Rattle.mm_machine.specs.declared.step.Action.TheVariants as actions
 use Rattle.mm_verdict.specs.declared.undecoded.Undecoded.TheVariants as errors
 
@@ -19,19 +18,6 @@ use Rattle.mm_verdict.specs.declared.undecoded.Undecoded.TheVariants as errors
 pub named_by : (code : Base) (view : BaseView) (i : ℕ) → IsBase view code → i < length view → (labels : List Resolved) → AreEntries view i labels → All (IsNamedBy code) labels
 named_by code view i base within [] entries = All-nil (IsNamedBy code)
 named_by code view i base within (l ∷ labels) entries = All-cons (IsNamedBy code) l labels (record { view = view; i = i; base = base; within = within; entry = entries.0 }) (named_by code view i base within labels entries.1)
-
--- so are those of them that are kept
-pub used_named : (code : Base) (view : BaseView) (i : ℕ) → IsBase view code → i < length view → (labels used : List Resolved) → IsPart labels used → AreEntries view i labels → All (IsNamedBy code) used
-used_named code view i base within labels used part entries = named_by code view i base within used (part_entries view i labels used part entries)
-
--- the same, whatever named the whole table
-pub part_named : (code : Base) (labels used : List Resolved) → IsPart labels used → All (IsNamedBy code) labels → All (IsNamedBy code) used
-part_named code labels [] part named = All-nil (IsNamedBy code)
-part_named code [] (u ∷ used) part named = absurd (omega (arith, part.count))
-part_named code (l ∷ labels) (u ∷ used) part named =
-    let n = All-head (IsNamedBy code) l labels named in
-    All-cons (IsNamedBy code) u used (record { view = n.view; i = n.i; base = n.base; within = n.within; entry = entry_of n.view n.i u (Some l) l refl (part.each 0 u refl) n.entry })
-    (part_named code labels used (record { count = omega (arith, part.count); each = λ k x e. part.each (suc k) x e }) (All-tail (IsNamedBy code) l labels named))
 
 -- no entry is a save
 entry_saves : (view : BaseView) (labels : List Resolved) (k : ℕ) → is_save (get_or (entry_steps view labels) k NotKnown) ≡ false

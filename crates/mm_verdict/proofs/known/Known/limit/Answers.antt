@@ -1,4 +1,4 @@
 use Rattle.mm_verdict.proofs.known.Known.limit.Goals as goal
 
-pub returns-then-saturating_add-gt-MOST_KNOWN : goal.returns-then-saturating_add-gt-MOST_KNOWN
-returns-then-saturating_add-gt-MOST_KNOWN c base is = c.forget.ensures base
+pub returns-then-is_too_much : goal.returns-then-is_too_much
+returns-then-is_too_much c base is = c.forget.ensures base
