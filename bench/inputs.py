@@ -221,6 +221,18 @@ def wide_entries_apart(n):
     return [*lines, f"t $p |- p $= {listed} {first}Z{second}Z{number(3)}{(saved[0] + saved[1] + number(3)) * (n - 1)} $."]
 
 
+def new_entries_apart(n):
+    """The same, where the first entry of each citation is another one: it has one symbol more each time."""
+    *lines, proof = wide_entries_apart(n)
+    listed = proof[:proof.index(")") + 1]
+    labels = listed.split()[6:-1]
+    joined, first = number(2), number(2 + labels.index("wx0"))
+    letters = proof[len(listed):].split("Z")
+    save = 2 + len(labels)
+    cited = "".join(f"{number(entry)}{first}{joined}Z{number(save + 1)}{number(3)}" for entry in (save, *range(save + 2, save + n)))
+    return [*lines, f"{listed}{letters[0]}Z{letters[1]}Z{cited} $."]
+
+
 def long_axiom(n):
     """An axiom of so many constants, named as many times in one proof."""
     return [*FIRST, f"a $a |- {'( ' * n}$.", f"t $p |- p $= {'a ' * n}$."]

@@ -1,15 +1,13 @@
 //! The active pairs at a statement, and which symbols they keep apart.
 
-ghost use Rattle.std.specs.Prelude.{◌≡◌, ◌↔◌, ◌<◌, ℕ, true, IsTrue, MatchBool, Some, Contains, length, map, slice_get, slice_set};
+ghost use Rattle.std.specs.Prelude.{◌≡◌, ◌↔◌, ◌<◌, ℕ, true, IsTrue, MatchBool, Some, length, slice_get};
 ghost use Rattle.mm_machine.specs.Language.Frame.{Symbol as Meaning, ArePair};
 ghost use Rattle.mm_machine.specs.Language.CitedFrames.{meant_pairs};
 ghost use Rattle.mm_machine.specs.Language.NumberedSymbols.{comes_before};
 ghost use Rattle.mm_machine.specs.Language.Keys.{AreInKeyOrder, lower_first as lower_first_lem, pair_keys};
-ghost use Rattle.mm_machine.specs.Code.PairClause.{IsPair, Apart, NotApart, EachApart, SomeNotApart, SomeShared, AreKeyPlaces};
-ghost use Rattle.mm_machine.specs.Code.PairClause.{home as home_lem, home_at};
+ghost use Rattle.mm_machine.specs.Code.PairClause.{IsPair, Apart, NotApart};
 
 use crate::kept::Kept;
-use crate::slots::home;
 use crate::symbol::Symbol;
 
 /// The active pairs at a statement, in the order of the lower and the higher key of their symbols.
@@ -96,7 +94,7 @@ impl<'a, S: Kept> Active<'a, S> {
     }
 
     /// Whether two variables are different, and an active pair.
-    fn is_apart(&self, x: &S, y: &S) -> bool
+    pub(crate) fn is_apart(&self, x: &S, y: &S) -> bool
         ensures { MatchBool result (Apart (meant_pairs S.Listed.means self.now.pairs.now) (S.means x.now) (S.means y.now)) (NotApart
             (meant_pairs S.Listed.means self.now.pairs.now) (S.means x.now) (S.means y.now)) }
     {
@@ -105,108 +103,4 @@ impl<'a, S: Kept> Active<'a, S> {
         }
         self.has(x, y)
     }
-
-    /// Whether a variable is apart from each of a list.
-    fn is_apart_from(&self, x: &S, ys: &[S]) -> bool
-        ensures { MatchBool result
-            ((y : Meaning) → Contains (map S.means ys.now) y → Apart (meant_pairs S.Listed.means self.now.pairs.now) (S.means x.now) y)
-            ((y : Meaning) × Contains (map S.means ys.now) y × NotApart (meant_pairs S.Listed.means self.now.pairs.now) (S.means x.now) y) }
-    {
-        for i in 0..ys.len() {
-            if !self.is_apart(x, &ys[i]) {
-                return false;
-            }
-        }
-        true
-    }
-
-    /// Whether each variable of one list is apart from each of the other.
-    pub(crate) fn are_apart(&self, xs: &[S], ys: &[S]) -> bool
-        ensures { MatchBool result
-            (EachApart (meant_pairs S.Listed.means self.now.pairs.now) (map S.means xs.now) (map S.means ys.now))
-            (SomeNotApart (meant_pairs S.Listed.means self.now.pairs.now) (map S.means xs.now) (map S.means ys.now)) }
-    {
-        for i in 0..xs.len() {
-            if !self.is_apart_from(&xs[i], ys) {
-                return false;
-            }
-        }
-        true
-    }
-}
-
-/// Whether a symbol is in a list.
-pub fn stands_in<S: Kept>(x: &S, ys: &[S]) -> bool
-    ensures { IsTrue result ↔ Contains (map S.means ys.now) (S.means x.now) }
-{
-    for i in 0..ys.len() {
-        if ys[i].same(x) {
-            return true;
-        }
-    }
-    false
-}
-
-/// The place of a symbol in a table of this many places.
-fn home_of<S: Kept>(symbol: &S, count: usize) -> usize
-    ensures { result ≡ home_lem (S.key_of (S.means symbol.now)) count }
-{
-    home(symbol.key(), count)
-}
-
-/// Writes `place` at `at` into a table, if the table has `at`.
-fn note(places: &mut [usize], at: usize, place: usize)
-    ensures { places.new ≡ slice_set places.old at place }
-{
-    if at < places.len() {
-        places[at] = place;
-    }
-}
-
-/// Notes, at the table's place for each symbol of a list, the number of a symbol of the list that has that place.
-fn mark<S: Kept>(xs: &[S], places: &mut [usize])
-    ensures marks { AreKeyPlaces (home_at S.key_of (length places.old)) (map S.means xs.now) places.new (length xs.now) }
-    ensures count { length places.new ≡ length places.old }
-{
-    for i in 0..xs.len() {
-        let at = home_of(&xs[i], places.len());
-        note(&mut *places, at, i);
-    }
-}
-
-/// Whether a symbol is in a list whose symbols are noted.
-fn is_marked<S: Kept>(xs: &[S], places: &[usize], y: &S) -> bool
-    requires { AreKeyPlaces (home_at S.key_of (length places.now)) (map S.means xs.now) places.now (length xs.now) }
-    ensures { IsTrue result ↔ Contains (map S.means xs.now) (S.means y.now) }
-{
-    let at = home_of(y, places.len());
-    if at >= places.len() {
-        return stands_in(&*y, xs);
-    }
-    let place = places[at];
-    if place >= xs.len() {
-        return false;
-    }
-    let x = &xs[place];
-    if home_of(x, places.len()) != at {
-        return false;
-    }
-    if x.same(y) {
-        return true;
-    }
-    stands_in(&*y, xs)
-}
-
-/// Whether one symbol is in both lists.
-pub fn share<S: Kept>(xs: &[S], ys: &[S], places: &mut [usize]) -> bool
-    ensures { MatchBool result (SomeShared (map S.means xs.now) (map S.means ys.now))
-        (SomeShared (map S.means xs.now) (map S.means ys.now) → ⊥) }
-{
-    mark(xs, &mut *places);
-    for i in 0..ys.len() {
-        if is_marked(xs, &*places, &ys[i]) {
-            return true;
-        }
-    }
-    false
 }

@@ -1,6 +1,6 @@
 //! What is right or wrong when an assertion is cited.
 
-ghost use Rattle.std.specs.Prelude.{◌≡◌, ◌↔◌, ◌<◌, ◌≤◌, ◌+◌, List, IsTrue, IfOk, MatchBool, MatchOption, All, length, map, slice_get};
+ghost use Rattle.std.specs.Prelude.{◌≡◌, ◌↔◌, ◌<◌, ◌≤◌, ◌+◌, List, IsTrue, IfOk, OnOk, MatchBool, MatchOption, All, length, map, slice_get};
 ghost use Rattle.mm_machine.specs.Language.Frame.{Symbol as Meaning};
 ghost use Rattle.mm_machine.specs.Language.Faults.{AnyZip};
 ghost use Rattle.mm_machine.specs.Language.CitedFrames.{meant_pairs};
@@ -8,12 +8,14 @@ ghost use Rattle.mm_machine.specs.Language.Forms.{IsPatternWithin, pattern_symbo
 ghost use Rattle.mm_machine.specs.Code.Flat.{IsEntryWithin, read};
 ghost use Rattle.mm_machine.specs.Code.Citation.{AreFloating, GivesEntries, OtherTypecode, OtherEssential, CitingSays};
 ghost use Rattle.mm_machine.specs.Code.Filling.{AreTaken, entries_of, frame_taking};
+ghost use Rattle.mm_machine.specs.Code.PairClause.{IsPairRoom};
 
 use crate::ProofNumber;
 use crate::active::Active;
 use crate::forms::{Forms, Pattern};
+use crate::gather::PairRoom;
 use crate::kept::Kept;
-use crate::pairs::{PairRoom, pairs_fault};
+use crate::pairs::pairs_fault;
 use crate::pattern::{Entry, Taken, fits};
 use crate::symbol::Symbol;
 use std::alloc::{AllocError, Global};
@@ -96,8 +98,10 @@ pub fn citing_fault<'s, 'a, S: Kept>(
     active: &Active<'a, S>,
     room: &mut PairRoom<S>,
 ) -> Result<Option<ProofNumber>, AllocError>
-    requires { AreTaken S.means taken.now }
-    ensures { IfOk result (λ found. CitingSays (meant_pairs S.Listed.means active.now.pairs.now)
+    requires taken { AreTaken S.means taken.now }
+    requires room { IsPairRoom S.means S.key_of (meant_pairs S.Listed.means active.now.pairs.now) room.old }
+    ensures room { OnOk result (IsPairRoom S.means S.key_of (meant_pairs S.Listed.means active.now.pairs.now) room.new) }
+    ensures says { IfOk result (λ found. CitingSays (meant_pairs S.Listed.means active.now.pairs.now)
         (frame_taking S.means taken.now) (entries_of S.means taken.now) found) }
 {
     let Some(first) = first_essential(&*taken) else {

@@ -1,93 +1,92 @@
-//! The variables of the entries that an assertion takes, each once.
+//! The variables of the entries that an assertion takes, as sets of numbers.
 
-ghost use Rattle.std.specs.Prelude.{◌≡◌, ◌<◌, ◌≤◌, List, IsTrue, OnOk, All, Some, Contains, drop, length, map, slice_get};
+ghost use Rattle.std.specs.Prelude.{◌≡◌, ◌≤◌, ◌++◌, List, OnOk, length, map};
 ghost use Rattle.mm_machine.specs.Language.Frame.{Symbol as Meaning};
 ghost use Rattle.mm_machine.specs.Code.Flat.{IsEntryWithin, read};
 ghost use Rattle.mm_machine.specs.Code.Filling.{AreTaken, entries_of, frame_taking};
-ghost use Rattle.mm_machine.specs.Code.PairClause.{GatheredUpTo, GathersOne, GathersEntry, Gathers};
+ghost use Rattle.mm_machine.specs.Code.PairClause.{AreNumbered, GatheredUpTo, GathersOne, GathersEntry, Gathers, IsPairRoom};
 
-use crate::active::stands_in;
+use crate::apart::KnownApart;
 use crate::kept::Kept;
 use crate::pattern::{Entry, Taken, given_by};
-use crate::slots::home;
+use crate::sets::Sets;
 use crate::symbol::Symbol;
+use crate::variables::Variables;
 use std::alloc::{AllocError, Global};
 
-/// Up to this many variables are compared one by one.
-const FEW: usize = 8;
-
-/// The variables of the entries that an assertion takes.
+/// What the pair clause keeps in a run.
 #[derive(Drop)]
-pub struct Gathered<S> {
-    /// The variables, entry after entry.
-    pub variables: Vec<S>,
-    /// For each entry the range of its variables.
+pub struct PairRoom<S> {
+    /// The variables of the run so far.
+    pub variables: Variables<S>,
+    /// Which of them are known to be apart.
+    pub known: KnownApart,
+    /// The variables of each entry that the last assertion took.
+    pub sets: Sets,
+    /// For each of these entries the range of its chunks.
     pub spans: Vec<Entry>,
-    /// For the key of a variable, where it may be. What is found by it is compared, so that no answer depends on it.
-    pub places: Vec<usize>,
 }
 
-/// Whether a symbol is found among the variables from a place on.
-fn is_found<S: Kept>(variables: &[S], start: usize, places: &[usize], symbol: &S) -> bool
-    requires { start ≤ length variables.now }
-    ensures { IsTrue result → Contains (drop start (map S.means variables.now)) (S.means symbol.now) }
-{
-    if variables.len() - start <= FEW {
-        return stands_in(&*symbol, &variables[start..]);
-    }
-    let at = home(symbol.key(), places.len());
-    if at >= places.len() {
-        return false;
-    }
-    let place = places[at];
-    if place < start {
-        return false;
-    }
-    if place >= variables.len() {
-        return false;
-    }
-    variables[place].same(symbol)
-}
-
-/// Adds a symbol, if it is a variable that is not found from a place on.
+/// Adds a symbol to the last set, whose chunks begin at a place, if it is a variable.
 fn gather_one<S: Kept>(
     alloc: Global,
     symbol: &S,
     start: usize,
-    places: &mut [usize],
-    variables: &mut Vec<S>,
+    variables: &mut Variables<S>,
+    sets: &mut Sets,
 ) -> Result<(), AllocError>
-    requires { start ≤ length variables.old.items }
-    ensures { OnOk result (GathersOne start (S.means symbol.now) (map S.means variables.old.items) (map S.means variables.new.items)) }
+    requires numbered { AreNumbered S.key_of (map S.means variables.old.all.items) variables.old.places.items }
+    requires start { start ≤ length sets.old.chunks.items }
+    ensures numbered { OnOk result (AreNumbered S.key_of (map S.means variables.new.all.items) variables.new.places.items) }
+    ensures grows { OnOk result ((more : List Meaning) × (map S.means variables.new.all.items ≡ map S.means variables.old.all.items ++ more)) }
+    ensures gathers { OnOk result (GathersOne start (S.means symbol.now) (map S.means variables.new.all.items) sets.old.chunks.items sets.new.chunks.items) }
 {
-    if symbol.is_variable() && !is_found(&*variables, start, &*places, &*symbol) {
-        let at = home(symbol.key(), places.len());
-        if at < places.len() {
-            places[at] = variables.len();
-        }
-        variables.push(symbol.copy(alloc)?)?;
+    if symbol.is_variable() {
+        let number = variables.number(alloc, &*symbol)?;
+        sets.add(start, number)?;
     }
     Ok(())
 }
 
-/// Adds the variables among some symbols, each once.
+/// Adds the set of the variables among some symbols.
 fn gather<S: Kept>(
     alloc: Global,
     symbols: &[S],
-    places: &mut [usize],
-    variables: &mut Vec<S>,
+    variables: &mut Variables<S>,
+    sets: &mut Sets,
 ) -> Result<(), AllocError>
-    ensures { OnOk result (GatheredUpTo (map S.means symbols.now) (map S.means variables.old.items) (map S.means variables.new.items)
-        (length symbols.now)) }
+    requires { AreNumbered S.key_of (map S.means variables.old.all.items) variables.old.places.items }
+    ensures numbered { OnOk result (AreNumbered S.key_of (map S.means variables.new.all.items) variables.new.places.items) }
+    ensures grows { OnOk result ((more : List Meaning) × (map S.means variables.new.all.items ≡ map S.means variables.old.all.items ++ more)) }
+    ensures gathers { OnOk result (GatheredUpTo (map S.means symbols.now) (map S.means variables.new.all.items) sets.old.chunks.items
+        sets.new.chunks.items (length symbols.now)) }
 {
-    let start = variables.len();
+    let start = sets.chunks.len();
     for i in 0..symbols.len() {
-        gather_one(alloc, &symbols[i], start, &mut *places, &mut *variables)?;
+        gather_one(alloc, &symbols[i], start, &mut *variables, &mut *sets)?;
     }
     Ok(())
 }
 
-impl<S: Kept> Gathered<S> {
+impl<S: Kept> PairRoom<S> {
+    /// No variables. It takes no memory.
+    pub fn new(alloc: Global) -> PairRoom<S> {
+        PairRoom {
+            variables: Variables::new(alloc),
+            known: KnownApart::new(alloc),
+            sets: Sets::new(alloc),
+            spans: Vec::new(alloc),
+        }
+    }
+
+    /// Begins a run, with no variables. Some memory is kept.
+    pub fn clear(&mut self, alloc: Global)
+        ensures { (active : List (Meaning × Meaning)) → IsPairRoom S.means S.key_of active self.new }
+    {
+        self.variables.clear();
+        self.known.clear(alloc);
+    }
+
     /// The variables of one more entry.
     fn gather_entry(
         &mut self,
@@ -96,11 +95,15 @@ impl<S: Kept> Gathered<S> {
         entry: Entry,
         floating: bool,
     ) -> Result<(), AllocError>
-        requires { IsEntryWithin (length symbols.now) entry }
-        ensures { OnOk result (GathersEntry floating (read (map S.means symbols.now) entry) (map S.means self.old.variables.items)
-            (map S.means self.new.variables.items) self.old.spans.items self.new.spans.items) }
+        requires within { IsEntryWithin (length symbols.now) entry }
+        requires numbered { AreNumbered S.key_of (map S.means self.old.variables.all.items) self.old.variables.places.items }
+        ensures numbered { OnOk result (AreNumbered S.key_of (map S.means self.new.variables.all.items) self.new.variables.places.items) }
+        ensures grows { OnOk result ((more : List Meaning) × (map S.means self.new.variables.all.items ≡ map S.means self.old.variables.all.items ++ more)) }
+        ensures known { OnOk result (self.new.known ≡ self.old.known) }
+        ensures gathers { OnOk result (GathersEntry floating (read (map S.means symbols.now) entry) (map S.means self.new.variables.all.items)
+            self.old.sets.chunks.items self.new.sets.chunks.items self.old.spans.items self.new.spans.items) }
     {
-        let start = self.variables.len();
+        let start = self.sets.chunks.len();
         if !floating {
             self.spans.push(Entry {
                 start,
@@ -112,10 +115,10 @@ impl<S: Kept> Gathered<S> {
         gather(
             alloc,
             &symbols[entry.end - given_by(entry)..entry.end],
-            &mut self.places,
             &mut self.variables,
+            &mut self.sets,
         )?;
-        let end = self.variables.len();
+        let end = self.sets.chunks.len();
         self.spans.push(Entry {
             start,
             end,
@@ -126,11 +129,15 @@ impl<S: Kept> Gathered<S> {
 
     /// The variables of the entries of all `$f`.
     pub fn gather_all<'s>(&mut self, alloc: Global, taken: &Taken<'s, S>) -> Result<(), AllocError>
-        requires { AreTaken S.means taken.now }
-        ensures { OnOk result (Gathers (frame_taking S.means taken.now).hypotheses (entries_of S.means taken.now)
-            (map S.means self.new.variables.items) self.new.spans.items (length (frame_taking S.means taken.now).hypotheses)) }
+        requires taken { AreTaken S.means taken.now }
+        requires numbered { AreNumbered S.key_of (map S.means self.old.variables.all.items) self.old.variables.places.items }
+        ensures numbered { OnOk result (AreNumbered S.key_of (map S.means self.new.variables.all.items) self.new.variables.places.items) }
+        ensures grows { OnOk result ((more : List Meaning) × (map S.means self.new.variables.all.items ≡ map S.means self.old.variables.all.items ++ more)) }
+        ensures known { OnOk result (self.new.known ≡ self.old.known) }
+        ensures gathers { OnOk result (Gathers (frame_taking S.means taken.now).hypotheses (entries_of S.means taken.now)
+            (map S.means self.new.variables.all.items) self.new.sets.chunks.items self.new.spans.items (length (frame_taking S.means taken.now).hypotheses)) }
     {
-        self.variables.clear();
+        self.sets.chunks.clear();
         self.spans.clear();
         let held = &taken.forms.hypotheses[taken.form.first..taken.form.last];
         for place in 0..held.len() {

@@ -7,6 +7,7 @@
 #![tactic(auto)]
 
 mod active;
+mod apart;
 mod assertion;
 mod citation;
 mod forms;
@@ -18,10 +19,12 @@ mod numbering_laws;
 mod pairs;
 mod pattern;
 mod run_laws;
+mod sets;
 mod slots;
 mod step;
 mod stepping;
 mod symbol;
+mod variables;
 mod verdict_laws;
 
 pub use active::Active;

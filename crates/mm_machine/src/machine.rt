@@ -4,7 +4,9 @@ ghost use Rattle.std.specs.Prelude.{◌≡◌, ◌+◌, ◌++◌, ◌∷◌, [],
 ghost use Rattle.mm_machine.specs.Code.Ranges.{AreOrderedRanges, Saves};
 ghost use Rattle.mm_machine.specs.Language.CitedFrames.{meant_pairs};
 ghost use Rattle.mm_machine.specs.Language.Forms.{IsForm, form_frame};
+ghost use Rattle.mm_machine.specs.Language.Frame.{Symbol as Meaning};
 ghost use Rattle.mm_machine.specs.Code.Citation.{IsLowestCiting};
+ghost use Rattle.mm_machine.specs.Code.PairClause.{IsPairRoom};
 ghost use Rattle.mm_machine.specs.Code.Filling.{IsFillable, pattern_filled};
 ghost use Rattle.mm_machine.specs.Code.Flat.{IsEntryWithin, read_all};
 ghost use Rattle.mm_machine.specs.Language.Steps.{Cites};
@@ -13,9 +15,8 @@ use crate::ProofNumber;
 use crate::active::Active;
 use crate::citation::citing_fault;
 use crate::forms::{Form, Forms, Pattern};
-use crate::gather::Gathered;
+use crate::gather::PairRoom;
 use crate::kept::{BLOCK, Kept};
-use crate::pairs::PairRoom;
 use crate::pattern::{Entry, Taken, build};
 use crate::symbol::Symbol;
 use std::alloc::{AllocError, Global};
@@ -45,8 +46,8 @@ pub struct Machine<S> {
     pub(crate) kept: usize,
     /// If more symbols than this are in use, results are put in the place of the entries that they are made of.
     most: usize,
-    /// What the pair clause uses over again.
-    pairs: PairRoom<S>,
+    /// What the pair clause keeps in a run.
+    pub(crate) pairs: PairRoom<S>,
 }
 
 /// Gives a table this many places, if it has fewer.
@@ -184,7 +185,7 @@ impl<S: Kept> Machine<S> {
     ghost use Rattle.mm_machine.specs.Code.MachineState.{state_of, AreRanges};
 
     /// A machine with no lasting expression. It takes no memory. A run begins by itself with nothing on the stack and nothing
-    /// saved, so no answer depends on what a machine has from other runs.
+    /// saved, so of what a machine has from other runs its lasting expressions alone count.
     pub fn new(alloc: Global) -> Machine<S>
         ensures holds { HoldsLasting result }
         ensures count { result.lasting ≡ 0 }
@@ -199,27 +200,18 @@ impl<S: Kept> Machine<S> {
             top: 0,
             kept: 0,
             most: MUCH,
-            pairs: PairRoom {
-                gathered: Gathered {
-                    variables: Vec::new(alloc),
-                    spans: Vec::new(alloc),
-                    places: Vec::new(alloc),
-                },
-                marks: Vec::new(alloc),
-            },
+            pairs: PairRoom::new(alloc),
         }
     }
 
-    /// Takes room for variables whose keys ([`Kept::key`]) are below this number: two numbers for each key. Without it
+    /// Takes room for variables whose keys ([`Kept::key`]) are below this number: a number for each key. Without it
     /// look-ups are slow, and answers are the same. After out of memory some of the room may be taken.
     pub fn widen(&mut self, keys: usize) -> Result<(), AllocError>
-        ensures marks { OnOk result (keys ≤ length self.new.pairs.marks.items) }
-        ensures gathered { OnOk result (keys ≤ length self.new.pairs.gathered.places.items) }
+        ensures places { OnOk result (keys ≤ length self.new.pairs.variables.places.items) }
         ensures holds { HoldsLasting self.old → HoldsLasting self.new }
         ensures lasting { KeepsLasting S.means self.old self.new }
     {
-        widen(&mut self.pairs.marks, keys)?;
-        widen(&mut self.pairs.gathered.places, keys)
+        widen(&mut self.pairs.variables.places, keys)
     }
 
     /// How many symbols the lasting expressions have.
@@ -253,7 +245,7 @@ impl<S: Kept> Machine<S> {
             &mut self.symbols,
             start,
             expression,
-            &mut self.pairs.marks,
+            &mut self.pairs.variables.places,
         )?;
         self.saved.truncate(self.lasting);
         self.saved.push(Entry {
@@ -273,9 +265,11 @@ impl<S: Kept> Machine<S> {
         ensures stack { OnOk result ((state_of S.means self.new).stack ≡ []) }
         ensures saved { OnOk result ((state_of S.means self.new).saved ≡ lasting_of S.means self.old) }
         ensures lasting { OnOk result (KeepsLasting S.means self.old self.new) }
+        ensures pairs { OnOk result ((active : List (Meaning × Meaning)) → IsPairRoom S.means S.key_of active self.new.pairs) }
     {
         stretch(alloc, &mut self.symbols, self.ground.saturating_add(BLOCK))?;
         self.top = self.ground;
+        self.pairs.clear(alloc);
         self.stack.clear();
         self.saved.truncate(self.lasting);
         self.kept = self.ground;
@@ -289,6 +283,7 @@ impl<S: Kept> Machine<S> {
         requires in_range { number < length self.old.saved.items }
         ensures whole { OnOk result (AreRanges self.new) }
         ensures lasting { OnOk result (self.new.lasting ≡ self.old.lasting) }
+        ensures pairs { OnOk result (self.new.pairs ≡ self.old.pairs) }
         ensures stack { OnOk result ((e : _) → slice_get (state_of S.means self.old).saved number ≡ Some e
             → (state_of S.means self.new).stack ≡ (state_of S.means self.old).stack ++ e ∷ []) }
         ensures saved { OnOk result ((state_of S.means self.new).saved ≡ (state_of S.means self.old).saved) }
@@ -308,6 +303,7 @@ impl<S: Kept> Machine<S> {
         requires { AreRanges self.old }
         ensures whole { OnOk result (AreRanges self.new) }
         ensures lasting { OnOk result (self.new.lasting ≡ self.old.lasting) }
+        ensures pairs { OnOk result (self.new.pairs ≡ self.old.pairs) }
         ensures saves { IfOk result (λ done. MatchBool done (Saves (state_of S.means self.old) (state_of S.means self.new))
             (((state_of S.means self.old).stack ≡ []) × ((state_of S.means self.new) ≡ (state_of S.means self.old)))) }
     {
@@ -331,6 +327,7 @@ impl<S: Kept> Machine<S> {
         requires room { self.old.top + count + 4 ≤ length self.old.symbols.items }
         ensures whole { OnOk result (AreRanges self.new) }
         ensures lasting { OnOk result (self.new.lasting ≡ self.old.lasting) }
+        ensures pairs { OnOk result (self.new.pairs ≡ self.old.pairs) }
         ensures stack { OnOk result ((state_of S.means self.new).stack ≡ take below (state_of S.means self.old).stack
             ++ take count (drop self.old.top (map S.means self.old.symbols.items)) ∷ []) }
         ensures saved { OnOk result ((state_of S.means self.new).saved ≡ (state_of S.means self.old).saved) }
@@ -357,9 +354,11 @@ impl<S: Kept> Machine<S> {
         active: &Active<'a, S>,
     ) -> Result<Option<ProofNumber>, AllocError>
         requires whole { AreRanges self.old }
+        requires pairs { IsPairRoom S.means S.key_of (meant_pairs S.Listed.means active.now.pairs.now) self.old.pairs }
         requires form { IsForm (map S.means forms.now.symbols.items) forms.now.slots.items forms.now.hypotheses.items forms.now.pairs.items form }
         ensures whole { OnOk result (AreRanges self.new) }
         ensures lasting { OnOk result (self.new.lasting ≡ self.old.lasting) }
+        ensures pairs { OnOk result (IsPairRoom S.means S.key_of (meant_pairs S.Listed.means active.now.pairs.now) self.new.pairs) }
         ensures cites { IfOk result (λ found. MatchOption found
             (Cites (meant_pairs S.Listed.means active.now.pairs.now) (form_frame (map S.means forms.now.symbols.items) forms.now.hypotheses.items
             forms.now.pairs.items form) (state_of S.means self.old).stack (state_of S.means self.new).stack)

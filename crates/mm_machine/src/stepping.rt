@@ -14,6 +14,7 @@ ghost use Rattle.mm_machine.specs.Language.Forms.{AreForms, frames_of};
 ghost use Rattle.mm_machine.specs.Language.NamedSteps.{AreDoneTo, AreSavedBefore, AreUses, AreUsesWithin, FrontSays, IsFrontWithin};
 ghost use Rattle.mm_machine.specs.Language.NamedSteps.{IsOutcomeWithin, IsSavedWithin, IsUseWithin, MeansUse, RunSays, StopsAt, actions_mean, meant};
 ghost use Rattle.mm_machine.specs.Language.NamedSteps.{saves_by};
+ghost use Rattle.mm_machine.specs.Code.PairClause.{IsPairRoom};
 ghost use Rattle.mm_machine.specs.Code.Tasks.{HasState, IsTaskWithin, MeansTask, saves_of};
 ghost use Rattle.mm_machine.specs.Code.MachineState.{state_of, AreRanges};
 
@@ -108,10 +109,12 @@ fn do_task<'a, S: Kept>(
     task: Task,
 ) -> Result<Option<ProofNumber>, AllocError>
     requires whole { AreRanges machine.old }
+    requires pairs { IsPairRoom S.means S.key_of (meant_pairs S.Listed.means active.now.pairs.now) machine.old.pairs }
     requires frames { AreForms S.means forms.now }
     requires within { IsTaskWithin machine.old.lasting (length forms.now.forms.items) (length machine.old.saved.items - machine.old.lasting) task }
     ensures whole { OnOk result (AreRanges machine.new) }
     ensures lasting { OnOk result (KeepsLasting S.means machine.old machine.new) }
+    ensures pairs { OnOk result (IsPairRoom S.means S.key_of (meant_pairs S.Listed.means active.now.pairs.now) machine.new.pairs) }
     ensures turns { IfOk result (λ found. (place : Setting) (step : Step) (before : State) → HasFrames place
         → AreSamePairs (meant_pairs S.Listed.means active.now.pairs.now) place.active
         → HasState S.means machine.old before

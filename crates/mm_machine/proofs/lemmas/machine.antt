@@ -7,6 +7,7 @@ pub mod EntryFaults
 pub mod FillLemmas
 pub mod FlatLemmas
 pub mod FormLemmas
+pub mod GatherLemmas
 pub mod Given
 pub mod KeyOrderLemmas
 pub mod LackLemmas
@@ -15,6 +16,7 @@ pub mod PairClauseLemmas
 pub mod Reaching
 pub mod RoomLemmas
 pub mod Running
+pub mod SetLemmas
 pub mod SlotLemmas
 pub mod StackLemmas
 pub mod PushLemmas

@@ -1,14 +1,14 @@
--- Which variables of two lists are apart, and where they are marked in a table.
-use Rattle.std.specs.Prelude.{◌≡◌, ◌≢◌, ℕ, ◌%◌, ◌≤◌, ◌<◌, ◌==◌, ◌||◌, nat_lt, if◌then◌else◌, Bool, true, ◌⊎◌, ◌↔◌, Option, Some, None, List, [], ◌∷◌, ◌++◌, length, take, drop, slice_get}
-use Rattle.std.specs.Prelude.{Contains, All, Any, slice_index}
+-- Which variables are apart, and where they are numbered in a table.
+use Rattle.std.specs.Prelude.{◌≡◌, ◌≢◌, ℕ, ◌+◌, ◌-◌, ◌*◌, ◌%◌, ◌≤◌, ◌<◌, ◌==◌, ◌||◌, nat_lt, if◌then◌else◌, Bool, true, false, ◌⊎◌, ◌↔◌, Option, Some, None, List, [], ◌∷◌, ◌++◌, length, map, take, drop, slice_get}
+use Rattle.std.specs.{Prelude.{Contains, All, Any, slice_index, slice_index_or}, Int.{bit_at}}
 use Rattle.mm_machine.specs.Language.Frame.{Symbol, Mandatory, ArePair, HasVariable}
 use Rattle.mm_machine.specs.Language.Typing.{IsTyped}
 use Rattle.mm_machine.specs.Language.Derivation.{AreApart, ShareVariable}
 use Rattle.mm_machine.specs.Language.Faults.{LackPair}
 use Rattle.mm_machine.specs.declared.ProofNumber.{ProofNumber}
 use Rattle.mm_machine.specs.declared.ProofNumber.TheVariants.{P10, P11}
-use Rattle.mm_machine.specs.declared.{forms.SlotPair.{SlotPair}, pattern.Entry.{Entry}}
-use Rattle.mm_machine.specs.Code.Flat.{read, IsEntryWithin}
+use Rattle.mm_machine.specs.declared.{forms.SlotPair.{SlotPair}, pattern.Entry.{Entry}, sets.Chunk.{Chunk}, apart.{KnownApart.{KnownApart}, KnownChunk.{KnownChunk}}, gather.PairRoom.{PairRoom}}
+use Rattle.mm_machine.specs.Code.Flat.{IsEntryWithin}
 
 -- the place of a key in a table of this many places
 abbrev pub home : ℕ → ℕ → ℕ
@@ -30,55 +30,114 @@ Apart active x y = (x ≢ y) × ArePair active x y
 abbrev pub NotApart : List (Symbol × Symbol) → Symbol → Symbol → Type 0
 NotApart active x y = (x ≡ y) ⊎ ((x ≢ y) × (ArePair active x y → ⊥))
 
-abbrev pub EachApart : List (Symbol × Symbol) → List Symbol → List Symbol → Type 0
-EachApart active xs ys = (x y : Symbol) → Contains xs x → Contains ys y → Apart active x y
+-- a number is one of a chunk: its bit is there
+abbrev pub InChunk : Chunk → ℕ → Type 0
+InChunk w n = (k : ℕ) × (k < 64) × (bit_at w.bits k ≡ 1) × (n ≡ 64 * w.at + k)
 
-abbrev pub SomeNotApart : List (Symbol × Symbol) → List Symbol → List Symbol → Type 0
-SomeNotApart active xs ys = (x y : Symbol) × Contains xs x × Contains ys y × NotApart active x y
+-- a number is in the set that these chunks are
+abbrev pub HasNumber : List Chunk → ℕ → Type 0
+HasNumber chunks n = (w : Chunk) × Contains chunks w × InChunk w n
 
--- one symbol is in both lists
-abbrev pub SomeShared : List Symbol → List Symbol → Type 0
-SomeShared xs ys = (x : Symbol) × Contains xs x × Contains ys x
+-- a variable has its number in the set
+abbrev pub IsIn : List Symbol → List Chunk → Symbol → Type 0
+IsIn all chunks v = (n : ℕ) × HasNumber chunks n × (slice_get all n ≡ Some v)
 
--- the list that a slot's range has
+-- two numbers are those of variables that are apart, and of variables that are not
+abbrev pub ApartAt : List (Symbol × Symbol) → List Symbol → ℕ → ℕ → Type 0
+ApartAt active all m n = (x y : Symbol) × (slice_get all m ≡ Some x) × (slice_get all n ≡ Some y) × Apart active x y
+
+abbrev pub NotApartAt : List (Symbol × Symbol) → List Symbol → ℕ → ℕ → Type 0
+NotApartAt active all m n = (x y : Symbol) × (slice_get all m ≡ Some x) × (slice_get all n ≡ Some y) × NotApart active x y
+
+-- a variable is apart from each of a chunk
+abbrev pub ApartFrom : List (Symbol × Symbol) → List Symbol → ℕ → Chunk → Type 0
+ApartFrom active all m w = (n : ℕ) → InChunk w n → ApartAt active all m n
+
+abbrev pub EachApart : List (Symbol × Symbol) → List Symbol → List Chunk → List Chunk → Type 0
+EachApart active all xs ys = (m n : ℕ) → HasNumber xs m → HasNumber ys n → ApartAt active all m n
+
+abbrev pub SomeNotApart : List (Symbol × Symbol) → List Symbol → List Chunk → List Chunk → Type 0
+SomeNotApart active all xs ys = (m n : ℕ) × HasNumber xs m × HasNumber ys n × NotApartAt active all m n
+
+-- one number is in both sets
+abbrev pub SomeShared : List Chunk → List Chunk → Type 0
+SomeShared xs ys = (n : ℕ) × HasNumber xs n × HasNumber ys n
+
+-- each number of the chunks is one of these variables
+abbrev pub AreNumbersOf : List Symbol → List Chunk → Type 0
+AreNumbersOf all chunks = (n : ℕ) → HasNumber chunks n → n < length all
+
+-- for the key of each of the first symbols that the table has, it has the place of one with that key
+abbrev pub AreKeyPlaces : (Symbol → ℕ) → List Symbol → List ℕ → ℕ → Type 0
+AreKeyPlaces key xs places n = (i : ℕ) (x : Symbol) → i < n → slice_get xs i ≡ Some x → key x < length places →
+    (slice_index places (key x) < n) × ((y : Symbol) × (slice_get xs (slice_index places (key x)) ≡ Some y) × (key y ≡ key x))
+
+-- the variables are there once, and the table has for the key of each the number of one with this key
+pub record AreNumbered (key : Symbol → ℕ) (all : List Symbol) (places : List ℕ) : Type 0 where
+  pub once : (m n : ℕ) (v : Symbol) → slice_get all m ≡ Some v → slice_get all n ≡ Some v → m ≡ n
+  pub table : AreKeyPlaces (home_at key (length places)) all places (length all)
+
+-- what is kept of pairs is so: each variable is apart from those that it is known to be apart from
+pub record KnowsApart (active : List (Symbol × Symbol)) (all : List Symbol) (known : KnownApart) : Type 0 where
+  pub first : (m : ℕ) → ApartFrom active all m (record { at = 0; bits = slice_index_or known.first.items m 0 })
+  pub later : (r : KnownChunk) → Contains known.later.items r → ApartFrom active all r.variable r.chunk
+
+-- what the pair clause keeps is so, in a run with these active pairs
+pub record IsPairRoom {S : Type 0} (means : S → Symbol) (key : Symbol → ℕ) (active : List (Symbol × Symbol)) (room : PairRoom S) : Type 0 where
+  pub numbered : AreNumbered key (map means room.variables.all.items) room.variables.places.items
+  pub known : KnowsApart active (map means room.variables.all.items) room.known
+
+-- the set that a slot's range has
 abbrev pub entry_or : Option Entry → Entry
 entry_or None = record { start = 0; end = 0; floor = 0 }
 entry_or (Some e) = e
 
-abbrev pub span_of : List Symbol → List Entry → ℕ → List Symbol
-span_of variables spans j = read variables (entry_or (slice_get spans j))
+abbrev pub set_of : List Chunk → Entry → List Chunk
+set_of chunks e = take (e.end - e.start) (drop e.start chunks)
 
--- the range has the variables of an entry after its typecode, and no other symbol
-abbrev pub IsGathered : List Symbol → Entry → List Symbol → Type 0
-IsGathered variables s e = (v : Symbol) → HasVariable (drop 1 e) v ↔ Contains (read variables s) v
+abbrev pub set_at : List Chunk → List Entry → ℕ → List Chunk
+set_at chunks spans j = set_of chunks (entry_or (slice_get spans j))
+
+-- the set has the variables of an entry after its typecode, and no other symbol
+abbrev pub IsGathered : List Symbol → List Chunk → List Symbol → Type 0
+IsGathered all set e = (v : Symbol) → HasVariable (drop 1 e) v ↔ IsIn all set v
 
 -- the variables of the entries of the first hypotheses that are `$f`
-pub record Gathers (hypotheses : List Mandatory) (es : List (List Symbol)) (variables : List Symbol) (spans : List Entry)
+pub record Gathers (hypotheses : List Mandatory) (es : List (List Symbol)) (all : List Symbol) (chunks : List Chunk) (spans : List Entry)
     (n : ℕ) : Type 0 where
   pub count : length spans ≡ n
-  pub within : (k : ℕ) (s : Entry) → slice_get spans k ≡ Some s → IsEntryWithin (length variables) s
+  pub within : (k : ℕ) (s : Entry) → slice_get spans k ≡ Some s → IsEntryWithin (length chunks) s
+  pub numbers : AreNumbersOf all chunks
   pub right : (k : ℕ) (s : Entry) (h : Mandatory) (e : List Symbol) → slice_get spans k ≡ Some s → slice_get hypotheses k ≡ Some h → h.floating ≡ true →
-      slice_get es k ≡ Some e → IsGathered variables s e
+      slice_get es k ≡ Some e → IsGathered all (set_of chunks s) e
 
--- after the front come the variables of the first symbols, and nothing else
-pub record GatheredUpTo (symbols front all : List Symbol) (n : ℕ) : Type 0 where
-  pub kept : take (length front) all ≡ front
-  pub long : length front ≤ length all
-  pub same : (v : Symbol) → HasVariable (take n symbols) v ↔ Contains (drop (length front) all) v
+-- a number is added to the set from a place on
+pub record AddsNumber (start number : ℕ) (before after : List Chunk) : Type 0 where
+  pub kept : take start after ≡ take start before
+  pub long : start ≤ length after
+  pub same : (n : ℕ) → HasNumber (drop start after) n ↔ (HasNumber (drop start before) n ⊎ (n ≡ number))
 
--- a symbol is added if it is a variable that is not in the list after this place yet
-abbrev pub GathersOne : ℕ → Symbol → List Symbol → List Symbol → Type 0
-GathersOne start s before after = ((s.variable ≡ true) × (after ≡ before ++ s ∷ [])) ⊎ ((after ≡ before) × (s.variable ≡ true → Contains (drop start before) s))
+-- a symbol is added to the set from a place on, by its number, if it is a variable
+abbrev pub GathersOne : ℕ → Symbol → List Symbol → List Chunk → List Chunk → Type 0
+GathersOne start s all before after = ((s.variable ≡ false) × (after ≡ before)) ⊎ ((s.variable ≡ true) × (n : ℕ) × (slice_get all n ≡ Some s) × AddsNumber start n before after)
+
+-- behind the front comes the set of the variables of the first symbols
+pub record GatheredUpTo (symbols all : List Symbol) (front chunks : List Chunk) (n : ℕ) : Type 0 where
+  pub kept : take (length front) chunks ≡ front
+  pub long : length front ≤ length chunks
+  pub numbers : AreNumbersOf all (drop (length front) chunks)
+  pub same : (v : Symbol) → HasVariable (take n symbols) v ↔ IsIn all (drop (length front) chunks) v
 
 -- the variables of one more entry
-pub record GathersEntry (floating : Bool) (e before after : List Symbol) (spans more : List Entry) : Type 0 where
+pub record GathersEntry (floating : Bool) (e all : List Symbol) (before after : List Chunk) (spans more : List Entry) : Type 0 where
   pub span : Entry
   pub start : span.start ≡ length before
   pub end : span.end ≡ length after
   pub added : more ≡ spans ++ span ∷ []
   pub kept : take (length before) after ≡ before
   pub long : length before ≤ length after
-  pub same : floating ≡ true → (v : Symbol) → HasVariable (drop 1 e) v ↔ Contains (drop (length before) after) v
+  pub numbers : AreNumbersOf all (drop (length before) after)
+  pub same : floating ≡ true → IsGathered all (drop (length before) after) e
 
 -- the ranges are within a list of this length
 abbrev pub AreSpans : ℕ → List Entry → Type 0
@@ -100,19 +159,14 @@ AreTypedPairs hs pairs = All (λ p. IsTyped hs p.0 × IsTyped hs p.1) pairs
 abbrev pub AreSlotPairs : ℕ → List SlotPair → Type 0
 AreSlotPairs n pairs = All (λ p. (p.first < n) × (p.second < n)) pairs
 
--- this holds of the ranges of the two slots
-abbrev pub AtSlots : (List Symbol → List Symbol → Type 0) → List Symbol → List Entry → SlotPair → Type 0
-AtSlots P variables spans p = P (span_of variables spans p.first) (span_of variables spans p.second)
+-- this holds of the sets of the two slots
+abbrev pub AtSlots : (List Chunk → List Chunk → Type 0) → List Chunk → List Entry → SlotPair → Type 0
+AtSlots P chunks spans p = P (set_at chunks spans p.first) (set_at chunks spans p.second)
 
 -- this holds at each pair
-abbrev pub AtEachPair : (List Symbol → List Symbol → Type 0) → List Symbol → List Entry → List SlotPair → Type 0
-AtEachPair P variables spans pairs = (k : ℕ) (p : SlotPair) → slice_get pairs k ≡ Some p → AtSlots P variables spans p
+abbrev pub AtEachPair : (List Chunk → List Chunk → Type 0) → List Chunk → List Entry → List SlotPair → Type 0
+AtEachPair P chunks spans pairs = (k : ℕ) (p : SlotPair) → slice_get pairs k ≡ Some p → AtSlots P chunks spans p
 
 -- this holds at some pair
-abbrev pub AtSomePair : (List Symbol → List Symbol → Type 0) → List Symbol → List Entry → List SlotPair → Type 0
-AtSomePair P variables spans pairs = (k : ℕ) × (p : SlotPair) × (slice_get pairs k ≡ Some p) × AtSlots P variables spans p
-
--- for the key of each of the first symbols that the table has, it has the place of one with that key
-abbrev pub AreKeyPlaces : (Symbol → ℕ) → List Symbol → List ℕ → ℕ → Type 0
-AreKeyPlaces key xs places n = (i : ℕ) (x : Symbol) → i < n → slice_get xs i ≡ Some x → key x < length places →
-    (slice_index places (key x) < n) × ((y : Symbol) × (slice_get xs (slice_index places (key x)) ≡ Some y) × (key y ≡ key x))
+abbrev pub AtSomePair : (List Chunk → List Chunk → Type 0) → List Chunk → List Entry → List SlotPair → Type 0
+AtSomePair P chunks spans pairs = (k : ℕ) × (p : SlotPair) × (slice_get pairs k ≡ Some p) × AtSlots P chunks spans p

@@ -12,19 +12,19 @@ pairs_say : (active : List (Symbol × Symbol)) (frame : Frame) (is : IsFrame fra
 pairs_say active frame is es None n8 n9 says = (n8, λ given gives. (n9 given gives, says given gives))
 pairs_say active frame is es (Some number) n8 n9 says = λ stack l at. says_pairs active frame is es stack l at n8 n9 number says
 
-pub returns-in_default : goal.returns-in_default
-returns-in_default g c stack l at =
+pub returns-in_default-clause-says : goal.returns-in_default-clause-says
+returns-in_default-clause-says g c stack l at =
     let m = g.S.Symbol.means in
-    says08 (meant_pairs g.S.Listed.Symbol.means c.args.active.now.pairs.now) (frame_taking m c.args.taken.now) c.requires.form.frame (entries_of m c.args.taken.now) stack l at c.in_default.ensures
+    says08 (meant_pairs g.S.Listed.Symbol.means c.args.active.now.pairs.now) (frame_taking m c.args.taken.now) c.requires.taken.form.frame (entries_of m c.args.taken.now) stack l at c.in_default.ensures
 
-pub returns-then-not-essentials_fit : goal.returns-then-not-essentials_fit
-returns-then-not-essentials_fit g c stack l at =
+pub returns-then-not-essentials_fit-clause-says : goal.returns-then-not-essentials_fit-clause-says
+returns-then-not-essentials_fit-clause-says g c stack l at =
     let m = g.S.Symbol.means in
-    says09 (meant_pairs g.S.Listed.Symbol.means c.args.active.now.pairs.now) (frame_taking m c.args.taken.now) c.requires.form.frame (entries_of m c.args.taken.now) stack l at
+    says09 (meant_pairs g.S.Listed.Symbol.means c.args.active.now.pairs.now) (frame_taking m c.args.taken.now) c.requires.taken.form.frame (entries_of m c.args.taken.now) stack l at
     c.in-Some.ensures.0 c.if-not-essentials_fit.ensures
 
-pub returns : goal.returns
-returns g c =
+pub returns-clause-says : goal.returns-clause-says
+returns-clause-says g c =
     let m = g.S.Symbol.means in
-    pairs_say (meant_pairs g.S.Listed.Symbol.means c.args.active.now.pairs.now) (frame_taking m c.args.taken.now) c.requires.form.frame (entries_of m c.args.taken.now) c.in_ok-found.found
-    c.in-Some.ensures.0 c.if-not-essentials_fit.ensures c.in_ok-found.ensures
+    pairs_say (meant_pairs g.S.Listed.Symbol.means c.args.active.now.pairs.now) (frame_taking m c.args.taken.now) c.requires.taken.form.frame (entries_of m c.args.taken.now) c.in_ok-found.found
+    c.in-Some.ensures.0 c.if-not-essentials_fit.ensures c.in_ok-found.ensures.says

@@ -1,21 +1,42 @@
-use Rattle.std.proofs.{Common.{map, ℕ, subst, arith}, lemmas.{List.{length-map}, Grind.{common_steps}}}
-use Rattle.mm_machine.{specs.Code.PairClause.{GathersOne}, proofs.lemmas.machine.{FlatLemmas.{mapped_get}, ApartLemmas.{gathered_more}}}
+use Rattle.std.proofs.Common.{◌≡◌, ◌+◌, map, length, sym, ◌∙◌, subst, arith, [], append-nil}
+use Rattle.mm_machine.{specs.Code.PairClause.{GathersOne, GatheredUpTo}, proofs.lemmas.machine.{FlatLemmas.{mapped_get}, GatherLemmas.{gathered_more, gathered_none, grown_twice}}}
 use Rattle.mm_machine.proofs.gather.gather.Goals as goal
+
+pub loop-i-init : goal.loop-i-init
+loop-i-init g c = record {
+  begin = c.len-start.ensures ∙ c.args.sets.now.chunks.ok.0;
+  numbered = c.requires;
+  grows = ([], sym (append-nil (map g.S.Symbol.means c.args.variables.now.all.items)));
+  so_far = gathered_none (map g.S.Symbol.means c.args.symbols.now) (map g.S.Symbol.means c.args.variables.now.all.items) c.args.sets.now.chunks.items;
+}
+
+pub gather_one-requires-clause-start : goal.gather_one-requires-clause-start
+gather_one-requires-clause-start g c = omega (arith, c.loop-i.invariant.begin, c.loop-i.invariant.so_far.long)
 
 pub loop-i-preserved : goal.loop-i-preserved
 loop-i-preserved g c =
     let m = g.S.Symbol.means in
-    let before = map m c.loop-i.variables.items in
-    let after = map m c.gather_one.new.variables.items in
+    let symbols = map m c.args.symbols.now in
+    let i = c.loop-i.i in
+    let s = m c.index-symbols-i.result in
+    let front = c.args.sets.now.chunks.items in
+    let before = c.loop-i.sets.chunks.items in
+    let after = c.gather_one.new.sets.chunks.items in
+    let old = map m c.loop-i.variables.all.items in
+    let new = map m c.gather_one.new.variables.all.items in
+    let grow = c.in_ok-gather_one.ensures.grows in
+    let was = c.loop-i.invariant in
     record {
-      begin = c.loop-i.invariant.begin;
-      so_far = gathered_more (map m c.args.symbols.now) (map m c.args.variables.now.items) before after c.loop-i.i (m c.index-symbols-i.result)
-          (mapped_get m c.args.symbols.now c.loop-i.i c.index-symbols-i.result c.loop-i-test.true c.index-symbols-i.is)
-          (subst (λ (k : ℕ). GathersOne k (m c.index-symbols-i.result) before after) c.loop-i.invariant.begin c.in_ok-gather_one.ensures) c.loop-i.invariant.so_far;
+      begin = was.begin;
+      numbered = c.in_ok-gather_one.ensures.numbered;
+      grows = grown_twice (map m c.args.variables.now.all.items) old new was.grows.0 grow.0 was.grows.1 grow.1;
+      so_far = subst (λ w. GatheredUpTo symbols w front after (i + 1)) (sym grow.1)
+          (gathered_more symbols old grow.0 front before after i s (mapped_get m c.args.symbols.now i c.index-symbols-i.result c.loop-i-test.true c.index-symbols-i.is)
+          (subst (λ w. GathersOne (length front) s w before after) grow.1 (subst (λ k. GathersOne k s new before after) was.begin c.in_ok-gather_one.ensures.gathers)) was.so_far);
     }
 
-pub gather_one-requires : goal.gather_one-requires
-gather_one-requires g c = grind (arith, common_steps, length-map c.loop-i.variables.items g.S.Symbol.means) steps 200000
-
-pub loop-i-init : goal.loop-i-init
-loop-i-init g c = grind (arith, common_steps)
+pub returns-clause-gathers : goal.returns-clause-gathers
+returns-clause-gathers g c =
+    let m = g.S.Symbol.means in
+    let all : c.loop-i.i ≡ length c.args.symbols.now = omega (arith, c.loop-i-test.false, c.loop-i.auto) in
+    subst (GatheredUpTo (map m c.args.symbols.now) (map m c.loop-i.variables.all.items) c.args.sets.now.chunks.items c.loop-i.sets.chunks.items) all c.loop-i.invariant.so_far

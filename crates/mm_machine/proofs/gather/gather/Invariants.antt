@@ -1,9 +1,11 @@
-use Rattle.std.proofs.Common.{◌≡◌, length, map}
-use Rattle.mm_machine.specs.Code.PairClause.{GatheredUpTo}
+use Rattle.std.proofs.Common.{◌≡◌, ◌++◌, List, length, map}
+use Rattle.mm_machine.specs.{Language.Frame.{Symbol}, Code.PairClause.{AreNumbered, GatheredUpTo}}
 use Rattle.mm_machine.proofs.gather.gather.Given as goal
 
 abbrev pub invariant-loop-i : goal.invariant-loop-i
 invariant-loop-i g l = record {
-  begin : l.start ≡ length (map g.S.Symbol.means l.initial.variables.items);
-  so_far : GatheredUpTo (map g.S.Symbol.means l.symbols) (map g.S.Symbol.means l.initial.variables.items) (map g.S.Symbol.means l.variables.items) l.i;
+  begin : l.start ≡ length l.initial.sets.chunks.items;
+  numbered : AreNumbered g.S.Kept.key_of (map g.S.Symbol.means l.variables.all.items) l.variables.places.items;
+  grows : (more : List Symbol) × (map g.S.Symbol.means l.variables.all.items ≡ map g.S.Symbol.means l.initial.variables.all.items ++ more);
+  so_far : GatheredUpTo (map g.S.Symbol.means l.symbols) (map g.S.Symbol.means l.variables.all.items) l.initial.sets.chunks.items l.sets.chunks.items l.i;
 }

@@ -1,7 +1,9 @@
 -- A table by the keys of a list's symbols.
-use Rattle.std.proofs.Common.{◌≡◌, ◌≢◌, ℕ, ◌+◌, ◌<◌, ◌≤◌, Some, List, length, get_or, sym, ◌∙◌, ap, arith, length-set, get_or-set_same, get_or-set_other, slice_get, slice_index, slice_set, Contains}
-use Rattle.std.proofs.{Math.Decide.{ℕ_discrete}, lemmas.Option.{same_Some}}
-use Rattle.mm_machine.{specs.{Language.Frame.{Symbol}, Code.PairClause.{AreKeyPlaces}}, proofs.lemmas.lists.Members.{contains_get}}
+use Rattle.std.proofs.Common.{◌≡◌, ◌≢◌, ℕ, ◌+◌, ◌<◌, ◌≤◌, ◌⊎◌, Some, List, [], ◌∷◌, ◌++◌, length, get_or, refl, sym, ◌∙◌, ap, subst, arith, inl, inr, length-append, length-set, get_or-set_same}
+use Rattle.std.proofs.{Common.{get_or-set_other, slice_get, slice_index, slice_set, Contains}, Math.Decide.{ℕ_discrete}, lemmas.Option.{same_Some, slice_get_within}}
+use native.Mathlib.Decide.{dec_lt}
+use Rattle.mm_machine.{specs.{Language.Frame.{Symbol}, Code.PairClause.{AreKeyPlaces, AreNumbered, home_at}}, proofs.lemmas.machine.ApartLemmas.{front_at, last_at}}
+use Rattle.mm_machine.proofs.lemmas.lists.Members.{contains_at, contains_get}
 
 pub marked_more : (key : Symbol → ℕ) (xs : List Symbol) (before after : List ℕ) (n : ℕ) (x : Symbol) → slice_get xs n ≡ Some x → after ≡ slice_set before (key x) n → AreKeyPlaces key xs before n → AreKeyPlaces key xs after (n + 1)
 marked_more key xs before after n x at e f i y l at_y room =
@@ -24,3 +26,28 @@ marked_more key xs before after n x at e f i y l at_y room =
 pub marked_found : (key : Symbol → ℕ) (xs : List Symbol) (places : List ℕ) (n : ℕ) (y : Symbol) → length xs ≤ n → AreKeyPlaces key xs places n
     → Contains xs y → key y < length places → (x : Symbol) × (slice_get xs (slice_index places (key y)) ≡ Some x) × (key x ≡ key y)
 marked_found key xs places n y l f c room = (f c.0 y (omega arith) (contains_get xs y c) room).1
+
+-- one variable more, which is not there yet
+pub numbered_more : (key : Symbol → ℕ) (all : List Symbol) (before after : List ℕ) (v : Symbol) → (Contains all v → ⊥) → after ≡ slice_set before (home_at key (length before) v) (length all)
+    → AreNumbered key all before → AreNumbered key (all ++ v ∷ []) after
+numbered_more key all before after v new e f =
+    let count : length after ≡ length before = ap length e ∙ length-set before (home_at key (length before) v) (length all) in
+    record {
+      once = λ m n w at_m at_n. elim (place m w at_m) [
+        | inl a ↦ elim (place n w at_n) [ inl b ↦ f.once m n w a b | inr b ↦ absurd (new (subst (λ x. Contains all x) (sym b.1) (contains_at all m w a))) ]
+        | inr a ↦ elim (place n w at_n) [ inl b ↦ absurd (new (subst (λ x. Contains all x) (sym a.1) (contains_at all n w b))) | inr b ↦ a.0 ∙ sym b.0 ]
+      ];
+      table = subst (λ k. AreKeyPlaces (home_at key k) (all ++ v ∷ []) after (length (all ++ v ∷ []))) (sym count)
+          (subst (AreKeyPlaces (home_at key (length before)) (all ++ v ∷ []) after) (sym (length-append all (v ∷ [])))
+          (marked_more (home_at key (length before)) (all ++ v ∷ []) before after (length all) v (last_at all v (length all) refl) e
+          (λ i x l at room. (let b = f.table i x l (sym (front_at all (v ∷ []) i l) ∙ at) room in
+          (b.0, (b.1.0, front_at all (v ∷ []) (slice_index before (home_at key (length before) x)) b.0 ∙ b.1.1, b.1.2))))));
+    }
+  where
+    place : (m : ℕ) (w : Symbol) → slice_get (all ++ v ∷ []) m ≡ Some w → (slice_get all m ≡ Some w) ⊎ ((m ≡ length all) × (v ≡ w))
+    place m w at = elim (dec_lt m (length all)) [
+      | yes l ↦ inl (sym (front_at all (v ∷ []) m l) ∙ at)
+      | no n ↦
+          let last : m ≡ length all = omega (arith, n, slice_get_within (all ++ v ∷ []) m w at, length-append all (v ∷ [])) in
+          inr (last, same_Some v w (sym (last_at all v m last) ∙ at))
+    ]

@@ -3,14 +3,14 @@ use Rattle.std.proofs.Common.{rules, ◌≡◌, ℕ, ◌+◌, ◌-◌, ◌<◌, 
 use Rattle.std.proofs.lemmas.{Grind.{common_steps, elements}, List.{length-map, length-take, length-take-le, take_more, map-append, take-map, take_all, get_or-take, drop-map, take_rest}}
 use Rattle.std.proofs.lemmas.{List.Elements.{All-head, All-tail}, Option.{slice_get_within, get_or_from_slice_get, slice_get-get_or, same_Some}}
 use Rattle.mm_machine.specs.{Code.{Ranges.{expressions, AreOrderedRanges, Saves}, Flat.{read, read_all, IsEntryWithin}}, Language.{Frame.{Symbol, Frame}, Faults.{last_entries}}}
-use Rattle.mm_machine.{specs.{Language.Lasting.{HoldsLasting}, declared.{pattern.Entry.{Entry}, machine.Machine.{Machine}}}, proofs.lemmas.machine.ApartLemmas.{read_kept, last_at, front_at}}
+use Rattle.mm_machine.{specs.{Language.Lasting.{HoldsLasting}, declared.{pattern.Entry.{Entry}, machine.Machine.{Machine}}}, proofs.lemmas.machine.ApartLemmas.{range_kept, last_at, front_at}}
 use Rattle.mm_machine.proofs.lemmas.lists.Members.{contains_at}
 
 -- entries that are in the front read the same
 pub read_all_kept : (before after : List Symbol) (es : List Entry) → All (λ e. e.end ≤ length before) es → take (length before) after ≡ before → read_all after es ≡ read_all before es
 read_all_kept before after [] all kept = refl
 read_all_kept before after (e ∷ es) all kept =
-    let first = read_kept before after e kept (All-head (λ (e : Entry). e.end ≤ length before) e es all) in
+    let first = range_kept before after e kept (All-head (λ (e : Entry). e.end ≤ length before) e es all) in
     let rest = read_all_kept before after es (All-tail (λ (e : Entry). e.end ≤ length before) e es all) kept in
     cc
 

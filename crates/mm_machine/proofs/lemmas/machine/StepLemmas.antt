@@ -182,7 +182,8 @@ pub saved_same : {S : Type 0} (means : S → Symbol) (old new : Machine S) → (
 saved_same means old new e = grind (arith, common_steps, length-map new.saved.items (read (map means new.symbols.items)), length-map old.saved.items (read (map means old.symbols.items))) steps 200000
 
 pub saved_more : {S : Type 0} (means : S → Symbol) (old new : Machine S) → Saves (state_of means old) (state_of means new) → length new.saved.items ≡ length old.saved.items + 1
-saved_more means old new saves = grind (arith, common_steps, length-append, length-map) steps 200000
+saved_more means old new saves =
+    omega (arith, ap length saves.4, length-append (state_of means old).saved (saves.1 ∷ []), length-map new.saved.items (read (map means new.symbols.items)), length-map old.saved.items (read (map means old.symbols.items)))
 
 pub if_none : {A : Type 0} (found : Option A) (P : Type 0) → P → IfNone found P
 if_none found P p = grind (arith, common_steps) steps 200000

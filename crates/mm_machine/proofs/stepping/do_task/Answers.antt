@@ -1,10 +1,14 @@
-use Rattle.std.proofs.Common.{◌≡◌, ◌+◌, ◌-◌, ◌++◌, map, length, get_or, refl, sym, ◌∙◌, ap, subst, arith, MatchOption, slice_get}
-use Rattle.mm_machine.specs.Language.{Frame.{Frame, AreSameFrame}, Expansion.{Step}, Faults.{IsLowest}, Machine.{State}, CitedFrames.{meant_pairs}, Forms.{form_frame, frames_of}, Lasting.{lasting_of}}
-use Rattle.mm_machine.specs.{declared.{pattern.Entry.{Entry}, stepping.Task.{Task}}, Code.{Flat.{read}, MachineState.{state_of}, Tasks.{HasState, IsTaskWithin, saves_of}}}
-use Rattle.mm_machine.proofs.lemmas.machine.FlatLemmas.{mapped_or, mapped_or_get}
+use Rattle.std.proofs.Common.{◌≡◌, ◌+◌, ◌-◌, ◌++◌, ℕ, List, map, length, get_or, refl, sym, ◌∙◌, ap, subst, arith, MatchOption, slice_get}
+use Rattle.mm_machine.specs.Language.{Frame.{Frame, Symbol, AreSameFrame}, Expansion.{Step}, Faults.{IsLowest}, Machine.{State}, CitedFrames.{meant_pairs}, Forms.{form_frame, frames_of}}
+use Rattle.mm_machine.specs.{Language.Lasting.{lasting_of}, declared.{pattern.Entry.{Entry}, stepping.Task.{Task}, gather.PairRoom.{PairRoom}}, Code.{PairClause.{IsPairRoom}, Flat.{read}}}
+use Rattle.mm_machine.{specs.Code.{MachineState.{state_of}, Tasks.{HasState, IsTaskWithin, saves_of}}, proofs.lemmas.machine.FlatLemmas.{mapped_or, mapped_or_get}}
 use Rattle.mm_machine.proofs.lemmas.machine.StepLemmas.{means_push, means_cite, means_again, means_keep, cite_turns, kept_at, saved_at, TurnsTo, pushed_turns, kept_turns, cited_turns, saved_same}
 use Rattle.mm_machine.proofs.lemmas.machine.StepLemmas.{saved_more, if_none, named_turns, lasting_same, lasting_saved, lasting_count}
 use Rattle.mm_machine.proofs.stepping.do_task.Goals as goal
+
+-- what the pair clause keeps is so as before
+pairs_kept : {S : Type 0} {old new : PairRoom S} (means : S → Symbol) (key : Symbol → ℕ) (active : List (Symbol × Symbol)) → new ≡ old → IsPairRoom means key active old → IsPairRoom means key active new
+pairs_kept {S} means key active e is = subst (λ (r : PairRoom S). IsPairRoom means key active r) (sym e) is
 
 pub returns-in_ok-push_saved-in-Push : goal.returns-in_ok-push_saved-in-Push
 returns-in_ok-push_saved-in-Push g c =
@@ -19,6 +23,7 @@ returns-in_ok-push_saved-in-Push g c =
           pushed_turns m place step k.1 before old c.push_saved.new.self (named_turns place is k.0 step k.1 before k.2 k.4) state (ensures.stack k.1 at) ensures.saved keeps;
       whole = ensures.whole;
       lasting = keeps;
+      pairs = pairs_kept m g.S.Kept.key_of (meant_pairs g.S.Listed.Symbol.means c.args.active.now.pairs.now) ensures.pairs c.requires.pairs;
       saves = omega (arith, saved_same m old c.push_saved.new.self ensures.saved, ap saves_of c.in-Push.is);
     }
 
@@ -47,6 +52,7 @@ returns-in_ok-found-in-Cite g c =
           (cite_turns (meant_pairs g.S.Listed.Symbol.means c.args.active.now.pairs.now) place k.0 (frame x) k.2 (state_of m old).stack before after found pairs k.5 same state.stack refl ensures.cites));
       whole = ensures.whole;
       lasting = keeps;
+      pairs = ensures.pairs;
       saves = let count : length new.saved.items ≡ length old.saved.items + saves_of c.args.task = omega (arith, saved_same m old new ensures.saved, ap saves_of c.in-Cite.is) in
           if_none c.in_ok-found-in-Cite.found (length new.saved.items ≡ length old.saved.items + saves_of c.args.task) count;
     }
@@ -74,6 +80,7 @@ returns-in_ok-push_saved-in-Again g c =
           pushed_turns m place step e before old new (rw says (e, saved, refl, refl)) state (ensures.stack e at) ensures.saved keeps;
       whole = ensures.whole;
       lasting = keeps;
+      pairs = pairs_kept m g.S.Kept.key_of (meant_pairs g.S.Listed.Symbol.means c.args.active.now.pairs.now) ensures.pairs c.requires.pairs;
       saves = omega (arith, saved_same m old new ensures.saved, ap saves_of c.in-Again.is);
     }
 
@@ -89,6 +96,7 @@ returns-then-branch g c =
           kept_turns m place step before old c.save.new.self says state saves keeps;
       whole = c.in_ok-save-in-Keep.ensures.whole;
       lasting = keeps;
+      pairs = pairs_kept m g.S.Kept.key_of (meant_pairs g.S.Listed.Symbol.means c.args.active.now.pairs.now) c.in_ok-save-in-Keep.ensures.pairs c.requires.pairs;
       saves = omega (arith, saved_more m old c.save.new.self saves, ap saves_of c.in-Keep.is);
     }
 

@@ -1,8 +1,8 @@
 use Rattle.std.{specs.List.{AllZip}, proofs.lemmas.{List.{length-map}, Option.{slice_get-get_or}}}
 use Rattle.std.proofs.Common.{◌≡◌, refl, map, append-nil, ◌≤◌, ◌-◌, ◌<◌, ℕ, List, Some, length, take, get_or, sym, ◌∙◌, ap, subst, arith}
 use Rattle.mm_machine.specs.Language.{Reaches.{Reaches}, Frame.{Setting}, Expansion.{Step}, NamedSteps.{AreUses, MeansUse, meant, IsSavedWithin, actions_mean, saves_in}, Lasting.{lasting_of}}
-use Rattle.mm_machine.{specs.{Language.{Machine.{nothing_yet}, Forms.{frames_of}}, declared.step.ProofStep.{ProofStep}, Code.Flat.{read}}, proofs.lemmas.machine.Reaching.{at_start}}
-use Rattle.mm_machine.proofs.lemmas.machine.StepLemmas.{nothing_known, lasting_count, follows_more, fault_here, unknown_here, reached_all, means_known, action_at, saves_next}
+use Rattle.mm_machine.specs.{Language.{CitedFrames.{meant_pairs}, Machine.{nothing_yet}, Forms.{frames_of}}, declared.step.ProofStep.{ProofStep}, Code.Flat.{read}}
+use Rattle.mm_machine.proofs.lemmas.machine.{Reaching.{at_start}, StepLemmas.{nothing_known, lasting_count, follows_more, fault_here, unknown_here, reached_all, means_known, action_at, saves_next}}
 use Rattle.mm_machine.proofs.{lemmas.verdicts.Part.{all_run, known_more}, stepping.run_through.Goals.{In_ok-clear}}
 use Rattle.mm_machine.specs.declared.step.Action.TheVariants as actions
 use Rattle.mm_machine.proofs.stepping.run_through.Goals as goal
@@ -23,6 +23,7 @@ loop-place-init g c =
     let ensures = c.in_ok-clear.ensures in
     record {
       whole = ensures.whole;
+      pairs = ensures.pairs (meant_pairs g.S.Listed.Symbol.means c.args.active.now.pairs.now);
       lasting = (refl, refl);
       count = omega (arith, ap length ensures.saved, length-map new.saved.items (read (map m new.symbols.items)), lasting_count m c.args.machine.now c.requires.holds, ensures.lasting.0);
       follows = λ place names is pairs all. (
@@ -43,6 +44,7 @@ do_task-requires g c =
       within = (c.in-Some.ensures.within c.loop-place.machine.lasting (length c.args.forms.now.forms.items) n (rw (c.loop-place.invariant.lasting.0, c.in_ok-clear.ensures.lasting.0) c.requires.within)
           (subst (λ (s : ℕ). IsSavedWithin s (get_or steps k nowhere).action) count (c.requires.saved k (get_or steps k nowhere) (slice_get-get_or steps k nowhere (omega (arith, c.loop-place-test.true))))));
       whole = c.loop-place.invariant.whole;
+      pairs = c.loop-place.invariant.pairs;
       frames = c.requires.frames;
     }
 
@@ -73,6 +75,7 @@ loop-place-preserved g c =
     let saves = rw c.in_default-2.is at c.in_ok-number.ensures.saves in
     record {
       whole = c.in_ok-number.ensures.whole;
+      pairs = c.in_ok-number.ensures.pairs;
       lasting = (c.in_ok-number.ensures.lasting.0 ∙ c.loop-place.invariant.lasting.0, c.in_ok-number.ensures.lasting.1 ∙ c.loop-place.invariant.lasting.1);
       count = omega (arith, saves, c.in_ok-number.ensures.lasting.0, c.in-Some.ensures.saves, c.loop-place.invariant.count, saves_next c.args.steps.now k nowhere within);
       follows = λ place names is pairs all.

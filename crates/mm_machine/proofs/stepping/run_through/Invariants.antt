@@ -1,11 +1,13 @@
 use Rattle.std.proofs.Common.{◌≡◌, ◌+◌, List, length, take}
 use Rattle.mm_machine.specs.Language.{RunLaws.{KnownUpTo}, Frame.{Setting, AreSamePairs}, Lasting.{KeepsLasting}, Typing.{HasFrames}, Expansion.{Step}, Machine.{State}, CitedFrames.{meant_pairs}}
-use Rattle.mm_machine.{specs.{Language.NamedSteps.{AreUses, actions_mean, saves_in}, Code.{MachineState.{AreRanges}, Tasks.{HasState}}}, proofs.lemmas.machine.Reaching.{Follows}}
+use Rattle.mm_machine.specs.{Language.NamedSteps.{AreUses, actions_mean, saves_in}, Code.{PairClause.{IsPairRoom}, MachineState.{AreRanges}, Tasks.{HasState}}}
+use Rattle.mm_machine.proofs.lemmas.machine.Reaching.{Follows}
 use Rattle.mm_machine.proofs.stepping.run_through.Given as goal
 
 abbrev pub invariant-loop-place : goal.invariant-loop-place
 invariant-loop-place g l = record {
   whole : AreRanges l.machine;
+  pairs : IsPairRoom g.S.Symbol.means g.S.Kept.key_of (meant_pairs g.S.Listed.Symbol.means l.active.pairs.now) l.machine.pairs;
   lasting : KeepsLasting g.S.Symbol.means l.initial.machine l.machine;
   count : length l.machine.saved.items ≡ l.machine.lasting + saves_in (take l.place l.steps);
   follows : (place : Setting) (names : List Step) → HasFrames place → AreSamePairs (meant_pairs g.S.Listed.Symbol.means l.active.pairs.now) place.active → AreUses g.S.Symbol.means l.initial.machine l.forms l.uses place names →

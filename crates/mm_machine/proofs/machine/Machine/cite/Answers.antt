@@ -44,11 +44,11 @@ says g c =
     let m = g.S.Symbol.means in
     let p = c.len-2.result - (c.args.form.last - c.args.form.first) in
     let taken = slice_taken c.deref.result.now c.args.self.now.symbols.items m c.deref-2.result.now c.args.self.now.stack.items p c.deref.ensures.value c.deref-2.ensures.value in
-    subst (λ es. CitingSays (meant_pairs g.S.Listed.Symbol.means c.args.active.now.pairs.now) (cited m c.args.forms.now c.args.form) es c.in_ok-number.field-0) taken c.in_ok-number.ensures
+    subst (λ es. CitingSays (meant_pairs g.S.Listed.Symbol.means c.args.active.now.pairs.now) (cited m c.args.forms.now c.args.form) es c.in_ok-number.field-0) taken c.in_ok-number.ensures.says
 
-pub citing_fault-requires : goal.citing_fault-requires
-citing_fault-requires g c =
-    let d = (goal.at.citing_fault-requires g c).After-len-2 in
+pub citing_fault-requires-clause-taken : goal.citing_fault-requires-clause-taken
+citing_fault-requires-clause-taken g c =
+    let d = (goal.at.citing_fault-requires-clause-taken g c).After-len-2 in
     record {
       within = (
         c.args.self.now.top,

@@ -25,6 +25,7 @@ returns g c =
         c.requires.whole.3,
       );
       lasting = refl;
+      pairs = refl;
     }
 
 pub index-requires : goal.index-requires
