@@ -243,6 +243,12 @@ def outermost_hypothesis_named(n):
     return [*FIRST, f"h $e |- {'p ' * n}$.", *(f"t{k} $p |- p $= h $." for k in range(n))]
 
 
+def outermost_hypotheses_in_turn(n):
+    """Four `$e` of the outermost block with so many symbols together, named in turn, with a short proof after each."""
+    lines = [*FIRST, "a $a wff p $.", *(f"h{k} $e |- {'p ' * (n // 4)}$." for k in range(4))]
+    return lines + [f"t{k} $p |- p $= h{k % 4} $. u{k} $p wff p $= a $." for k in range(n // 16)]
+
+
 def number(value):
     """The letters of a number of a compressed proof."""
     value, last = divmod(value - 1, 20)

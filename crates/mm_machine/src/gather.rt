@@ -4,7 +4,7 @@ ghost use Rattle.std.specs.Prelude.{◌≡◌, ◌≤◌, ◌++◌, List, OnOk, 
 ghost use Rattle.mm_machine.specs.Language.Frame.{Symbol as Meaning};
 ghost use Rattle.mm_machine.specs.Code.Flat.{IsEntryWithin, read};
 ghost use Rattle.mm_machine.specs.Code.Filling.{AreTaken, entries_of, frame_taking};
-ghost use Rattle.mm_machine.specs.Code.PairClause.{AreNumbered, GatheredUpTo, GathersOne, GathersEntry, Gathers, IsPairRoom};
+ghost use Rattle.mm_machine.specs.Code.PairClause.{AreNumbered, GathersOne, GathersSymbols, GathersEntry, Gathers, IsPairRoom};
 
 use crate::apart::KnownApart;
 use crate::kept::Kept;
@@ -58,8 +58,8 @@ fn gather<S: Kept>(
     requires { AreNumbered S.key_of (map S.means variables.old.all.items) variables.old.places.items }
     ensures numbered { OnOk result (AreNumbered S.key_of (map S.means variables.new.all.items) variables.new.places.items) }
     ensures grows { OnOk result ((more : List Meaning) × (map S.means variables.new.all.items ≡ map S.means variables.old.all.items ++ more)) }
-    ensures gathers { OnOk result (GatheredUpTo (map S.means symbols.now) (map S.means variables.new.all.items) sets.old.chunks.items
-        sets.new.chunks.items (length symbols.now)) }
+    ensures gathers { OnOk result (GathersSymbols (map S.means symbols.now) (map S.means variables.new.all.items) sets.old.chunks.items
+        sets.new.chunks.items) }
 {
     let start = sets.chunks.len();
     for i in 0..symbols.len() {

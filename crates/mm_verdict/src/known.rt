@@ -11,9 +11,13 @@ use mm_frame::{Base, Resolved};
 use mm_machine::{CodedSymbol, Forms, Hypothesis, Machine, NumberedSymbol, Use};
 use std::alloc::{AllocError, Global};
 
-/// If what is known has more symbols and slots than this, and more than twice those that the first proof needed, all of it is
-/// forgotten. So it takes some megabytes at most, or some times what one proof needs.
+/// If what is known has more symbols and slots than this, it is forgotten: the assertions after each proof, and the expressions
+/// that labels push as `COPIED_FOR_EACH` says. So it takes some megabytes at most, or some times what one proof needs.
 const MOST_KNOWN: usize = 262_144;
+
+/// Expressions that labels push are kept, however long they are, until there was a proof for each of so many of their symbols.
+/// So no more than this many symbols are copied again for one proof, on average.
+const COPIED_FOR_EACH: usize = 4_096;
 
 /// An assertion that takes nothing is pushed as it is, if it has at most this many symbols; a longer one is a fault when it is
 /// cited.
@@ -37,8 +41,8 @@ pub struct Known<'a> {
     places: Vec<u32>,
     /// The mandatory hypotheses of the assertion that was looked up last.
     mandatory: Vec<Hypothesis<'a, NumberedSymbol>>,
-    /// How much was known after the first proof since all was forgotten: 0 before it.
-    first: usize,
+    /// How many proofs were checked since all was forgotten.
+    proofs: usize,
 }
 
 /// Where a number is in a list, if it is found there.
@@ -73,14 +77,6 @@ fn widen_places(places: &mut Vec<u32>, count: usize) -> Result<(), AllocError> {
     Ok(())
 }
 
-/// Whether this much is too much to be kept. The first size since all was forgotten is noted.
-fn is_too_much(first: &mut usize, size: usize) -> bool {
-    if *first == 0 {
-        *first = size;
-    }
-    size > MOST_KNOWN && size / 2 > *first
-}
-
 /// Whether the assertion with this number has no mandatory hypothesis, and is not too long to be pushed.
 fn takes_nothing(base: &Base, number: usize) -> bool
     ensures { IsTrue result → TakesNothing base.now number }
@@ -107,7 +103,7 @@ impl<'a> Known<'a> {
             uses: Vec::new(alloc),
             places: Vec::new(alloc),
             mandatory: Vec::new(alloc),
-            first: 0,
+            proofs: 0,
         }
     }
 
@@ -121,13 +117,21 @@ impl<'a> Known<'a> {
         self.forms.widen(keys)
     }
 
-    /// Forgets all, if it is too much.
+    /// After a proof: forgets what is too much.
     pub(crate) fn limit(&mut self)
         ensures { (base : Meant) → AreKnownOf base self.old → AreKnownOf base self.new }
     {
-        let size = self.forms.size().saturating_add(self.machine.size());
-        if is_too_much(&mut self.first, size) {
+        self.proofs = self.proofs.saturating_add(1);
+        let pushed = self.machine.size();
+        if pushed.saturating_add(self.forms.size()) <= MOST_KNOWN {
+            return;
+        }
+        if pushed / COPIED_FOR_EACH < self.proofs {
             self.forget();
+            return;
+        }
+        if self.forms.size() > MOST_KNOWN {
+            self.forget_cited();
         }
     }
 
@@ -139,7 +143,15 @@ impl<'a> Known<'a> {
         self.pushed.clear();
         self.forms.clear();
         self.cited.clear();
-        self.first = 0;
+        self.proofs = 0;
+    }
+
+    /// Forgets the assertions, and keeps their room.
+    fn forget_cited(&mut self)
+        ensures { (base : Meant) → AreKnownOf base self.old → AreKnownOf base self.new }
+    {
+        self.forms.clear();
+        self.cited.clear();
     }
 
     /// Where the expression of the item with this number is among those that are pushed; it is there then.

@@ -41,7 +41,8 @@ OtherEssential given h e = (h.floating ≡ false) × (substituted given h.expres
 
 -- the lowest number that holds if the frame is cited after this stack
 abbrev pub IsLowestCiting : List (Symbol × Symbol) → Frame → List (List Symbol) → ProofNumber → Type 0
-IsLowestCiting active frame stack number = CitingFails 1000000 active frame stack number × ((other : ProofNumber) → CitingFails 1000000 active frame stack other →
+IsLowestCiting active frame stack number = CitingFails 1000000 active frame stack number
+    × ((other : ProofNumber) → CitingFails 1000000 active frame stack other →
     row_of number ≤ row_of other)
 
 -- what is found of a citation that has its entries, but for the length of its result: nothing is wrong, or what is wrong first

@@ -40,4 +40,5 @@ frame_taking means taken = form_frame (map means taken.forms.now.symbols.items) 
 pub record AreTaken {S : Type 0} (means : S → Symbol) (taken : Taken S) : Type 0 where
   pub within : (n : ℕ) × (n + 4 ≤ length taken.symbols.now) × All (IsEntryWithin n) taken.entries.now
   pub count : length taken.entries.now ≡ length (frame_taking means taken).hypotheses
-  pub form : IsForm (map means taken.forms.now.symbols.items) taken.forms.now.slots.items taken.forms.now.hypotheses.items taken.forms.now.pairs.items taken.form
+  pub form : IsForm (map means taken.forms.now.symbols.items) taken.forms.now.slots.items taken.forms.now.hypotheses.items
+      taken.forms.now.pairs.items taken.form

@@ -119,14 +119,15 @@ pub record AddsNumber (start number : ℕ) (before after : List Chunk) : Type 0 
 
 -- a symbol is added to the set from a place on, by its number, if it is a variable
 abbrev pub GathersOne : ℕ → Symbol → List Symbol → List Chunk → List Chunk → Type 0
-GathersOne start s all before after = ((s.variable ≡ false) × (after ≡ before)) ⊎ ((s.variable ≡ true) × (n : ℕ) × (slice_get all n ≡ Some s) × AddsNumber start n before after)
+GathersOne start s all before after = ((s.variable ≡ false) × (after ≡ before))
+    ⊎ ((s.variable ≡ true) × (n : ℕ) × (slice_get all n ≡ Some s) × AddsNumber start n before after)
 
--- behind the front comes the set of the variables of the first symbols
-pub record GatheredUpTo (symbols all : List Symbol) (front chunks : List Chunk) (n : ℕ) : Type 0 where
+-- behind the front comes the set of the variables of some symbols
+pub record GathersSymbols (symbols all : List Symbol) (front chunks : List Chunk) : Type 0 where
   pub kept : take (length front) chunks ≡ front
   pub long : length front ≤ length chunks
   pub numbers : AreNumbersOf all (drop (length front) chunks)
-  pub same : (v : Symbol) → HasVariable (take n symbols) v ↔ IsIn all (drop (length front) chunks) v
+  pub same : (v : Symbol) → HasVariable symbols v ↔ IsIn all (drop (length front) chunks) v
 
 -- the variables of one more entry
 pub record GathersEntry (floating : Bool) (e all : List Symbol) (before after : List Chunk) (spans more : List Entry) : Type 0 where

@@ -34,13 +34,15 @@ abbrev pub CitingFails : ℕ → List (Symbol × Symbol) → Frame → List (Lis
 -- fewer entries than mandatory hypotheses
 CitingFails longest active frame stack P07 = length stack < length frame.hypotheses
 -- an entry of a `$f` has another typecode
-CitingFails longest active frame stack P08 = AnyZip (λ h e. (h.floating ≡ true) × (slice_get h.expression 0 ≢ slice_get e 0)) frame.hypotheses (last_entries frame stack)
+CitingFails longest active frame stack P08 = AnyZip (λ h e. (h.floating ≡ true) × (slice_get h.expression 0 ≢ slice_get e 0))
+    frame.hypotheses (last_entries frame stack)
 -- an entry of a `$e` is not the `$e` under the substitution
 CitingFails longest active frame stack P09 =
     UnderSubstitution frame (last_entries frame stack)
     (λ given. AnyZip (λ h e. (h.floating ≡ false) × (substituted given h.expression ≢ e)) frame.hypotheses (last_entries frame stack))
 -- what the two variables of a mandatory pair stand for shares a variable
-CitingFails longest active frame stack P10 = UnderSubstitution frame (last_entries frame stack) (λ given. Any (λ pair. ShareVariable (given pair.0) (given pair.1)) frame.pairs)
+CitingFails longest active frame stack P10 = UnderSubstitution frame (last_entries frame stack)
+    (λ given. Any (λ pair. ShareVariable (given pair.0) (given pair.1)) frame.pairs)
 -- what the variables of a mandatory pair stand for has two different variables, one from each, that are no active pair
 CitingFails longest active frame stack P11 =
     UnderSubstitution frame (last_entries frame stack) (λ given. Any (λ pair. LackPair active (given pair.0) (given pair.1)) frame.pairs)

@@ -33,7 +33,8 @@ FilesHaveOneDatabase = (files : List File) (top : List ℕ) (a b : List Located)
 
 -- Files each piece of which holds one unit have items from each top file on that is among them, and from no other.
 abbrev pub DatabasesAreThere : Type 0
-DatabasesAreThere = (files : List File) (top : List ℕ) → HoldOneEach files → ((items : List Located) × IsDatabase files top items) ↔ (file_number files top ≢ None)
+DatabasesAreThere = (files : List File) (top : List ℕ) → HoldOneEach files →
+    ((items : List Located) × IsDatabase files top items) ↔ (file_number files top ≢ None)
 
 -- Each reference to a missing file in a database names one file; the name is among those of the database, and no file has it.
 abbrev pub MissingAreNamed : Type 0

@@ -74,11 +74,16 @@ HasOtherTypecode =
 
 -- Of two faults, too few entries and another typecode, the lower number counts.
 abbrev pub TellsLowest : Type 0
-TellsLowest = StepLineHolds here (Named (codes "wi")) (letter_symbols (codes "(p") ∷ []) P08 × IsLowest here (Named (codes "wi")) (letter_symbols (codes "(p") ∷ []) P07
+TellsLowest = StepLineHolds here (Named (codes "wi")) (letter_symbols (codes "(p") ∷ []) P08
+    × IsLowest here (Named (codes "wi")) (letter_symbols (codes "(p") ∷ []) P07
 
 -- `w p` and the `$e` `( p` give `> p`
 abbrev pub rule : Frame
-rule = record { expression = letter_symbols (codes ">p"); hypotheses = typing (codes "wp") ∷ record { floating = false; expression = letter_symbols (codes "(p") } ∷ []; pairs = [] }
+rule = record {
+  expression = letter_symbols (codes ">p");
+  hypotheses = typing (codes "wp") ∷ record { floating = false; expression = letter_symbols (codes "(p") } ∷ [];
+  pairs = [];
+}
 
 -- P09: with `q` for `p` the `$e` is `( q`, and its entry is `( r`.
 abbrev pub IsOtherEssential : Type 0

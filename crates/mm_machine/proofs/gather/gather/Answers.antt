@@ -1,5 +1,5 @@
-use Rattle.std.proofs.Common.{◌≡◌, ◌+◌, map, length, sym, ◌∙◌, subst, arith, [], append-nil}
-use Rattle.mm_machine.{specs.Code.PairClause.{GathersOne, GatheredUpTo}, proofs.lemmas.machine.{FlatLemmas.{mapped_get}, GatherLemmas.{gathered_more, gathered_none, grown_twice}}}
+use Rattle.std.proofs.{Common.{◌≡◌, ◌+◌, ◌≤◌, map, length, take, sym, ◌∙◌, subst, arith, [], append-nil}, lemmas.List.{length-map, take_all}}
+use Rattle.mm_machine.{specs.Code.PairClause.{GathersOne, GathersSymbols}, proofs.lemmas.machine.{FlatLemmas.{mapped_get}, GatherLemmas.{gathered_more, gathered_none, grown_twice}}}
 use Rattle.mm_machine.proofs.gather.gather.Goals as goal
 
 pub loop-i-init : goal.loop-i-init
@@ -7,7 +7,7 @@ loop-i-init g c = record {
   begin = c.len-start.ensures ∙ c.args.sets.now.chunks.ok.0;
   numbered = c.requires;
   grows = ([], sym (append-nil (map g.S.Symbol.means c.args.variables.now.all.items)));
-  so_far = gathered_none (map g.S.Symbol.means c.args.symbols.now) (map g.S.Symbol.means c.args.variables.now.all.items) c.args.sets.now.chunks.items;
+  so_far = gathered_none (map g.S.Symbol.means c.args.variables.now.all.items) c.args.sets.now.chunks.items;
 }
 
 pub gather_one-requires-clause-start : goal.gather_one-requires-clause-start
@@ -30,7 +30,7 @@ loop-i-preserved g c =
       begin = was.begin;
       numbered = c.in_ok-gather_one.ensures.numbered;
       grows = grown_twice (map m c.args.variables.now.all.items) old new was.grows.0 grow.0 was.grows.1 grow.1;
-      so_far = subst (λ w. GatheredUpTo symbols w front after (i + 1)) (sym grow.1)
+      so_far = subst (λ w. GathersSymbols (take (i + 1) symbols) w front after) (sym grow.1)
           (gathered_more symbols old grow.0 front before after i s (mapped_get m c.args.symbols.now i c.index-symbols-i.result c.loop-i-test.true c.index-symbols-i.is)
           (subst (λ w. GathersOne (length front) s w before after) grow.1 (subst (λ k. GathersOne k s new before after) was.begin c.in_ok-gather_one.ensures.gathers)) was.so_far);
     }
@@ -38,5 +38,6 @@ loop-i-preserved g c =
 pub returns-clause-gathers : goal.returns-clause-gathers
 returns-clause-gathers g c =
     let m = g.S.Symbol.means in
-    let all : c.loop-i.i ≡ length c.args.symbols.now = omega (arith, c.loop-i-test.false, c.loop-i.auto) in
-    subst (GatheredUpTo (map m c.args.symbols.now) (map m c.loop-i.variables.all.items) c.args.sets.now.chunks.items c.loop-i.sets.chunks.items) all c.loop-i.invariant.so_far
+    let symbols = map m c.args.symbols.now in
+    let all : length symbols ≤ c.loop-i.i = omega (arith, length-map c.args.symbols.now m, c.loop-i-test.false) in
+    subst (λ w. GathersSymbols w (map m c.loop-i.variables.all.items) c.args.sets.now.chunks.items c.loop-i.sets.chunks.items) (take_all c.loop-i.i symbols all) c.loop-i.invariant.so_far

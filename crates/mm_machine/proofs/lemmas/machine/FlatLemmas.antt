@@ -52,10 +52,6 @@ pub put_rest : (given : Symbol → List Symbol) (expression : List Symbol) (k : 
 put_rest given expression k s e =
     grind (arith, common_steps, take-append-drop (k + 1) expression, flat_map-append (replacement given) (take (k + 1) expression) (drop (k + 1) expression), put_more given expression k s e) steps 200000
 
--- an entry, before and after the map
-pub entry_map : {X : Type 0} (f : X → Symbol) (xs : List X) (e : Entry) → map f (take (e.end - e.start) (drop e.start xs)) ≡ read (map f xs) e
-entry_map f xs e = sym (take-map f (e.end - e.start) (drop e.start xs)) ∙ ap (take (e.end - e.start)) (sym (drop-map f e.start xs))
-
 pub mapped_or_get : {X Y : Type 0} (f : X → Y) (xs : List X) (n : ℕ) (d : X) → n < length xs → slice_get (map f xs) n ≡ Some (f (get_or xs n d))
 mapped_or_get f xs n d l = mapped_get f xs n (get_or xs n d) l (get_or_default xs n d (get_or xs n d) l)
 

@@ -1,9 +1,9 @@
 -- The variables of entries, gathered as sets of numbers.
 use Rattle.std.proofs.Common.{◌≡◌, ℕ, ◌+◌, ◌-◌, ◌<◌, ◌≤◌, Bool, true, Some, List, [], ◌∷◌, ◌++◌, length, take, drop, refl, sym, ◌∙◌, ap, subst, arith, inl, inr, ◌⊎◌, append_assoc, length-append}
-use Rattle.std.proofs.{Common.{slice_get, Contains}, lemmas.{Grind.{common_steps}, Bool.{false≢true}, Option.{slice_get_within, same_Some}, List.{take_all, take_rest, take-append-drop}}}
+use Rattle.std.proofs.{Common.{slice_get, Contains}, lemmas.{Grind.{common_steps}, Bool.{false≢true}, Option.{slice_get_within, same_Some}, List.{drop_all, take_all, take_rest, take-append-drop}}}
 use Rattle.std.proofs.lemmas.List.Elements.{Contains-append_cases, Contains-append_left, Contains-append_right}
 use Rattle.mm_machine.specs.{Language.Frame.{Symbol, Mandatory, HasVariable}, declared.{pattern.Entry.{Entry}, sets.Chunk.{Chunk}}, Code.Flat.{IsEntryWithin}}
-use Rattle.mm_machine.{specs.Code.PairClause.{AreNumbersOf, GatheredUpTo, GathersOne, GathersEntry, Gathers, IsIn, set_of}, proofs.lemmas.machine.ApartLemmas.{front_at, last_at, range_kept}}
+use Rattle.mm_machine.{specs.Code.PairClause.{AreNumbersOf, GathersOne, GathersSymbols, GathersEntry, Gathers, IsIn, set_of}, proofs.lemmas.machine.ApartLemmas.{front_at, last_at, range_kept}}
 use Rattle.mm_machine.proofs.lemmas.lists.Members.{pushed, take_next}
 
 -- ---- more variables
@@ -30,7 +30,8 @@ grown_twice first second third more later e f = (more ++ later, f ∙ ap (λ w. 
 
 -- one symbol more
 pub gathered_more : (symbols all : List Symbol) (more : List Symbol) (front before after : List Chunk) (n : ℕ) (s : Symbol) → slice_get symbols n ≡ Some s
-    → GathersOne (length front) s (all ++ more) before after → GatheredUpTo symbols all front before n → GatheredUpTo symbols (all ++ more) front after (n + 1)
+    → GathersOne (length front) s (all ++ more) before after → GathersSymbols (take n symbols) all front before
+    → GathersSymbols (take (n + 1) symbols) (all ++ more) front after
 gathered_more symbols all more front before after n s at (inl a) f =
     rw a.1 (record {
       kept = f.kept;
@@ -73,27 +74,23 @@ gathered_more symbols all more front before after n s at (inr a) f =
     }
 
 -- none yet
-pub gathered_none : (symbols all : List Symbol) (front : List Chunk) → GatheredUpTo symbols all front front 0
-gathered_none symbols all front =
-    let none : drop (length front) front ≡ [] = drop_whole front in
+pub gathered_none : (all : List Symbol) (front : List Chunk) → GathersSymbols [] all front front
+gathered_none all front =
+    let none : drop (length front) front ≡ [] = drop_all (length front) front (omega arith) in
     record {
       kept = take_all (length front) front (omega arith);
       long = omega arith;
       numbers = rw none (λ n h. absurd (omega (arith, h.1.1)));
       same = λ v. rw none (λ h. absurd (omega (arith, h.0.1)), λ i. absurd (omega (arith, i.1.1.1)));
     }
-  where
-    drop_whole : (xs : List Chunk) → drop (length xs) xs ≡ []
-    drop_whole [] = refl
-    drop_whole (x ∷ xs) = drop_whole xs
 
 -- ---- the entries
 
 -- one entry, by what was gathered of it
-pub entry_gathered : (xs e all : List Symbol) (before after : List Chunk) (n start end : ℕ) (floating : Bool) (spans more : List Entry) → xs ≡ drop 1 e → length xs ≤ n
-    → GatheredUpTo xs all before after n → start ≡ length before → end ≡ length after
+pub entry_gathered : (xs e all : List Symbol) (before after : List Chunk) (start end : ℕ) (floating : Bool) (spans more : List Entry) → xs ≡ drop 1 e
+    → GathersSymbols xs all before after → start ≡ length before → end ≡ length after
     → more ≡ spans ++ record { start = start; end = end; floor = start } ∷ [] → GathersEntry floating e all before after spans more
-entry_gathered xs e all before after n start end floating spans more is l f a b c = record {
+entry_gathered xs e all before after start end floating spans more is f a b c = record {
   span = record { start = start; end = end; floor = start };
   start = a;
   end = b;
@@ -101,10 +98,7 @@ entry_gathered xs e all before after n start end floating spans more is l f a b 
   kept = f.kept;
   long = f.long;
   numbers = f.numbers;
-  same = λ _ v. (
-    λ h. (f.same v).0 (subst (λ w. HasVariable w v) (sym (take_all n xs l ∙ is)) h),
-    λ h. subst (λ w. HasVariable w v) (take_all n xs l ∙ is) ((f.same v).1 h),
-  );
+  same = λ _ v. rw (sym is) (f.same v);
 }
 
 set_last : (before after : List Chunk) (s : Entry) → s.start ≡ length before → s.end ≡ length after → set_of after s ≡ drop (length before) after

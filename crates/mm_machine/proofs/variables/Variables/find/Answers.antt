@@ -1,12 +1,6 @@
-use Rattle.std.proofs.{Common.{◌≡◌, ◌<◌, ℕ, List, map, sym, ◌∙◌, ap, arith, Some, get_or, length, slice_get, slice_index}, lemmas.List.{length-map}}
-use Rattle.std.proofs.lemmas.Option.{slice_get-get_or, slice_get_within, same_Some}
+use Rattle.std.proofs.{Common.{◌≡◌, ◌<◌, map, sym, ◌∙◌, ap, arith, Some, length, slice_get, slice_index}, lemmas.{List.{get_or_default, length-map}, Option.{slice_get_within, same_Some}}}
 use Rattle.mm_machine.{specs.Code.PairClause.{home, home_at}, proofs.lemmas.machine.{FlatLemmas.{mapped_get}, MarkLemmas.{marked_found}}}
 use Rattle.mm_machine.proofs.variables.Variables.find.Goals as goal
-
--- what is read at a place of a table
-read_at : (places : List ℕ) (at k place : ℕ) → at ≡ k → at < length places → place ≡ get_or places at place → place ≡ slice_index places k
-read_at places at k place e l is =
-    same_Some place (get_or places at 0) (ap Some is ∙ sym (slice_get-get_or places at place l) ∙ slice_get-get_or places at 0 l) ∙ ap (λ j. get_or places j 0) e
 
 pub returns-then-place-len : goal.returns-then-place-len
 returns-then-place-len g c h =
@@ -18,7 +12,7 @@ returns-then-place-len g c h =
     let key = home_at g.S.Kept.key_of (length places) in
     let at : c.home-at.result ≡ key y = c.home-at.ensures ∙ ap (λ k. home k c.len.result) c.key.ensures ∙ ap (home (g.S.Kept.key_of y)) (c.len.ensures ∙ self.places.ok.0) in
     let room : c.home-at.result < length places = omega (arith, c.if-at-len.false, c.len-2.ensures, self.places.ok) in
-    let place = read_at places c.home-at.result (key y) c.index-place.result.now at room c.index-place.ensures in
+    let place = c.index-place.ensures ∙ get_or_default places c.home-at.result c.index-place.result.now 0 room ∙ ap (slice_index places) at in
     let f = marked_found key all places (length all) y (omega arith) c.requires.table h (omega (arith, room, at)) in
     absurd (omega (arith, slice_get_within all (slice_index places (key y)) f.0 f.1, length-map self.all.items m, place, c.if-place-len.true, c.len-3.ensures, self.all.ok))
 
@@ -40,7 +34,7 @@ returns-then-home-at g c h =
     let key = home_at g.S.Kept.key_of (length places) in
     let at : c.home-at.result ≡ key y = c.home-at.ensures ∙ ap (λ k. home k c.len.result) c.key.ensures ∙ ap (home (g.S.Kept.key_of y)) (c.len.ensures ∙ self.places.ok.0) in
     let room : c.home-at.result < length places = omega (arith, c.if-at-len.false, c.len-2.ensures, self.places.ok) in
-    let place = read_at places c.home-at.result (key y) c.index-place.result.now at room c.index-place.ensures in
+    let place = c.index-place.ensures ∙ get_or_default places c.home-at.result c.index-place.result.now 0 room ∙ ap (slice_index places) at in
     let f = marked_found key all places (length all) y (omega arith) c.requires.table h (omega (arith, room, at)) in
     let within : c.index-place.result.now < length self.all.items = omega (arith, c.if-place-len.false, c.len-3.ensures, self.all.ok) in
     let same = same_Some x f.0 (sym (mapped_get m self.all.items c.index-place.result.now c.index-x.result.now within c.index-x.ensures) ∙ ap (slice_get all) place ∙ f.1) in
