@@ -200,9 +200,9 @@ fn take_over_known<'a>(
     requires known { (names : List (List ℕ)) × IsKnownItem names files.now item.now by.known }
     ensures read { OnOk result ((one : meant.Said) × Says files.now item.now one
         × ((all : List (List ℕ)) (base : BaseView) (said : List meant.Said) → IsBaseBy all base by.entry.base.now
-            → AllZip (Says files.now) by.entry.base.now.items base
+        → AllZip (Says files.now) by.entry.base.now.items base
         → AreFirst base said → IsKnownItem all files.now item.now by.entry.known
-            → IsSoundAgain all by.entry.base.now.items base (length said) item.now by.entry.known
+        → IsSoundAgain all by.entry.base.now.items base (length said) item.now by.entry.known
         → IsDraft all said draft.old → IsDraft all (said ++ one ∷ []) draft.new)) }
 {
     let KnownBy { base, known } = by;

@@ -82,7 +82,7 @@ fn judged<'a>(files: &'a Files, base: &Base, number: usize, verdict: Verdict) ->
 /// What is found of a sound item that is no theorem.
 fn unproved<'a>(kind: ItemKind) -> Finding<'a>
     ensures { (files : FilesView) (found : List store.Item) (view : BaseView) (n : ℕ) → is_sound_at view n ≡ true
-            → is_kind Theorem (spoken.kind_of kind) ≡ false
+        → is_kind Theorem (spoken.kind_of kind) ≡ false
         → spoken.kind_of kind ≡ (said_at view n).kind → IsKeyedTold files found view n (told result) }
 {
     match kind {

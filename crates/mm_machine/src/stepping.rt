@@ -260,7 +260,7 @@ pub fn run<'a, S: Kept>(
     ensures says { IfOk result (λ outcome. (place : Setting) (names : List Step) → HasFrames place
         → AreSamePairs (meant_pairs S.Listed.means active.now.pairs.now) place.active
         → AreUses S.means machine.old forms.now uses.now place names → RunSays place (actions_mean names steps.now)
-            (map S.Listed.means statement.now) outcome) }
+        (map S.Listed.means statement.now) outcome) }
 {
     if let Some(outcome) = run_through(alloc, &mut *machine, &*forms, uses, &*active, steps)? {
         return Ok(outcome);

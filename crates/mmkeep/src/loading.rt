@@ -150,7 +150,7 @@ fn add_missing<S: Source>(
 ) -> Result<(), Unloaded<S::Opened>>
     requires { HasBegun (S.holds source.now) (plain files.old) walk.old }
     ensures loaded { OnOk result ((top : List ℕ) → Loads (S.holds source.now) top 0 (plain files.old) walk.old
-            → AreLoaded (S.holds source.now) top (plain files.new)) }
+        → AreLoaded (S.holds source.now) top (plain files.new)) }
     ensures parked { OnOk result (parked_in files.new ≡ parked_in files.old) }
     ensures kept { OnOk result (KeepsFiles (plain files.old) (plain files.new)) }
     ensures error { IfErr result (λ unloaded. (top : List ℕ) → Loads (S.holds source.now) top 0 (plain files.old) walk.old

@@ -28,7 +28,7 @@ pub record ReadsLetters (aim : Aim) (reader : LetterReader) (letters : List Lett
 pub record IsFound (aim : Aim) (reader : LetterReader) (byte : ℕ) (found : Result Action ProofNumber) : Type 0 where
   pub other : is_digit byte ≡ false
   pub says : (n : ℕ) → length aim.names ≡ reader.labels → reader.digits ≡ min n (2 ^ 64 - 1)
-    → meant_or aim.names found ≡ read_behind (nameable aim.names reader.saves) n byte
+      → meant_or aim.names found ≡ read_behind (nameable aim.names reader.saves) n byte
 
 -- there is room for so many steps more
 abbrev pub HasRoom : ℕ → LetterReader → Type 0
