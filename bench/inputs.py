@@ -2,6 +2,8 @@
 a file, or those of some files by their names. A file `script` is read by a session over the others.
 """
 
+import math
+
 FIRST = ["$c wff |- -> ( ) $.", "$v p q $.", "wp $f wff p $.", "wq $f wff q $.", "wi $a wff ( p -> q ) $."]
 
 
@@ -156,10 +158,10 @@ def wide_pairs_and_blocks(n):
 
 
 def many_pairs_of_each(n):
-    """So many variables, each in as many `$d` with others, and as many assertions of all of them."""
-    names, lines = variables(n)
+    """So many pairs of variables, each variable in a `$d` with each other one, and as many assertions of all as there are variables."""
+    names, lines = variables(math.isqrt(2 * n))
     lines += [f"$d {name} {' '.join(names[k + 1 :])} $." for k, name in enumerate(names[:-1])]
-    return [*lines, *(f"a{k} $a |- {' '.join(names)} $." for k in range(n))]
+    return [*lines, *(f"a{k} $a |- {' '.join(names)} $." for k in range(len(names)))]
 
 
 def equal_lists(n):
@@ -311,6 +313,11 @@ def large_frames_cited(n):
 def outermost_hypotheses(n):
     """So many `$e` of the outermost block, and as many assertions after them, each with all of them in its frame."""
     return [*FIRST, *(f"e{k} $e |- p $." for k in range(n)), *(f"a{k} $a |- p $." for k in range(n))]
+
+
+def new_outermost_hypotheses(n):
+    """An `$e` of the outermost block and an assertion, in turn, so that each assertion has a frame of its own."""
+    return [*FIRST, *(f"e{k} $e |- p $. a{k} $a |- p $." for k in range(n))]
 
 
 def endless_number(n):

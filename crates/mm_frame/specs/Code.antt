@@ -17,6 +17,8 @@ pub mod KeptCounts
 pub mod KeptSymbolLists
 pub mod KeptExpressions
 pub mod KeptSparse
+pub mod KeptShared
+pub mod KeptFrames
 pub mod KeptRows
 pub mod KeptEarlier
 pub mod KeptActive

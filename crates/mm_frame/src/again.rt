@@ -28,7 +28,7 @@ use std::alloc::{AllocError, Global};
 
 /// What an older base knows of an item.
 #[derive(Clone, Copy)]
-pub struct Known<'a> {
+pub struct KnownStatement<'a> {
     /// Its label.
     pub label: Option<&'a [u8]>,
     /// Its symbols.
@@ -57,7 +57,7 @@ fn needs_no_names(kind: ItemKind) -> bool
 
 /// What the item with this number in an older base knows of an item, if the two are the same.
 #[inline(always)]
-fn known_of<'a>(old: &'a Base, i: usize, item: &Item) -> Option<Known<'a>>
+fn known_of<'a>(old: &'a Base, i: usize, item: &Item) -> Option<KnownStatement<'a>>
     requires { (base : BaseView) × IsBase base old.now }
     ensures known { (names : List (List ℕ)) (files : FilesView) (base : BaseView) → IsBaseBy names base old.now → AllZip (Says files) old.now.items base
         → IfSome result (IsKnownItem names files item.now) }
@@ -69,7 +69,7 @@ fn known_of<'a>(old: &'a Base, i: usize, item: &Item) -> Option<Known<'a>>
     // A law: the same bytes say the same.
     mm_statement::one_range_says_one();
     match old.sound_symbols(i) {
-        Some(symbols) => Some(Known {
+        Some(symbols) => Some(KnownStatement {
             label: old.label(i),
             symbols,
             list: old.list_number(i),
@@ -110,7 +110,7 @@ fn read_known<'a>(
     names: &Names,
     files: &'a Files,
     item: &Item,
-    known: Known<'a>,
+    known: KnownStatement<'a>,
 ) -> Result<(), AllocError>
     requires read { CanBeRead files.now item.now }
     requires known { IsKnownItem names.now files.now item.now known }
@@ -184,7 +184,7 @@ fn put_needed(
 #[derive(Clone, Copy)]
 struct KnownBy<'a> {
     base: &'a Base,
-    known: Known<'a>,
+    known: KnownStatement<'a>,
 }
 
 /// Takes one more item over from an older base, which knows it. All items before it are the first ones of the older base.

@@ -17,10 +17,11 @@ use crate::active_items::TakenItem;
 use crate::copied_lists::CopiedLists;
 use crate::earlier::Earlier;
 use crate::expressions::Expressions;
-use crate::frame::Frame;
-use crate::mandatory::{FrameRoom, hypotheses, mandatory_pairs};
-use crate::pair_lists::PairLists;
-use crate::room::next_frame;
+use crate::frame::{Frame, MadeFrame};
+use crate::frames::Frames;
+use crate::mandatory::{FrameRoom, mandatory_pairs, put_hypotheses};
+use crate::pair_lists::{PairLists, count_to_last};
+use crate::room::{copy_in, next_frame};
 use crate::sparse::Sparse;
 use mm_machine::NumberedSymbol;
 use mm_store::ItemKind;
@@ -29,8 +30,8 @@ use std::alloc::{AllocError, Global};
 /// What is kept of the assertions so far.
 #[derive(Drop)]
 pub struct Assertions {
-    /// The frame of each sound `$a` and `$p`, by its number; none for any other item.
-    pub frames: Sparse<Frame>,
+    /// The frames.
+    pub frames: Frames,
     /// The lists of active pairs.
     pub pair_lists: PairLists,
     /// The number of the list of all active pairs, for each sound `$p`, by its number; none for any other item.
@@ -55,31 +56,37 @@ fn has_proof(item: TakenItem) -> bool
     item.sound && matches!(item.kind, ItemKind::Theorem)
 }
 
-/// Keeps the frame of one more item, which has these symbols, if it is a sound assertion.
+/// Keeps the frame of one more item, which has these symbols, if it is a sound assertion; `disjoints` are the numbers of the
+/// active `$d`.
 fn keep_frame(
     alloc: Global,
-    frames: &mut Sparse<Frame>,
+    frames: &mut Frames,
     earlier: &Earlier,
     room: &mut FrameRoom,
+    disjoints: &[usize],
     own: &[NumberedSymbol],
     framed: bool,
 ) -> Result<(), AllocError>
     ensures asked { OnOk result ((all : List (List ℕ)) (before : List meant.Said) → KnowsEarlier all before earlier.now → KnowsAsked all before room.old.asked
         → KnowsAsked all before room.new.asked) }
     ensures frames { OnOk result ((all : List (List ℕ)) (said : List meant.Said) (item : meant.Said) → KnowsEarlier all (sound_items said) earlier.now
-        → KnowsAsked all (sound_items said) room.old.asked → framed ≡ is_told_framed (sound_items said) item
-        → (framed ≡ true → IsFramed all (sound_items said) item own.now)
-        → AreRows (TellsFrame all) said frames.old → AreRows (TellsFrame all) (said ++ item ∷ []) frames.new) }
+        → KnowsAsked all (sound_items said) room.old.asked → disjoints.now ≡ active_numbers is_disjoint_item (sound_items said)
+        → framed ≡ is_told_framed (sound_items said) item → (framed ≡ true → IsFramed all (sound_items said) item own.now)
+        → AreRows (TellsFrame all) said frames.old.kept → AreRows (TellsFrame all) (said ++ item ∷ []) frames.new.kept) }
 {
     if !framed {
         frames.pass()?;
         return Ok(());
     }
+    put_hypotheses(earlier, own, &mut room.numbers)?;
+    let reach = count_to_last(disjoints, earlier.expressions);
+    if frames.add_again(&room.numbers, reach)? {
+        return Ok(());
+    }
     let gone = next_frame(alloc, &mut room.gone);
-    let hypotheses = hypotheses(alloc, earlier, own, &mut room.numbers, gone.hypotheses)?;
-    let pairs = mandatory_pairs(alloc, earlier, room, &hypotheses, gone.pairs)?;
-    frames.add(Frame { hypotheses, pairs })?;
-    Ok(())
+    let hypotheses = copy_in(alloc, gone.hypotheses, &room.numbers)?;
+    let pairs = mandatory_pairs(alloc, earlier, room, gone.pairs)?;
+    frames.add(Frame { hypotheses, pairs }, reach)
 }
 
 /// Keeps the number of the list of active pairs of one more item, if it is a sound `$p`.
@@ -115,12 +122,12 @@ impl Assertions {
     pub fn with_room(
         alloc: Global,
         count: usize,
-        gone: Vec<Frame>,
+        gone: Vec<MadeFrame>,
         lists: Vec<Vec<(NumberedSymbol, NumberedSymbol)>>,
     ) -> Result<Assertions, AllocError>
         ensures { IfOk result (λ assertions. (all : List (List ℕ)) → AreAssertions all [] assertions) }
     {
-        let frames = Sparse::with_room(alloc, count)?;
+        let frames = Frames::with_room(alloc, count)?;
         let pair_numbers = Sparse::with_room(alloc, count)?;
         Ok(Assertions {
             frames,
@@ -152,6 +159,7 @@ impl Assertions {
             &mut self.frames,
             earlier,
             &mut self.room,
+            disjoints,
             own,
             is_framed(item),
         )?;

@@ -18,8 +18,9 @@ ghost use Rattle.mm_frame.specs.Language.Resolving.{IsCarrier, IsMeaning, IsUpTo
 ghost use Rattle.mm_frame.specs.declared.base.Resolved.TheVariants as answers;
 
 use crate::frame::Frame;
+use crate::frames::frame_at;
 use crate::judge::FrameFault;
-use crate::parts::Parts;
+use crate::parts::BaseParts;
 use crate::room::{BaseRoom, DraftRoom};
 use crate::sparse::{element_at, number_at};
 use mm_machine::NumberedSymbol;
@@ -36,7 +37,7 @@ pub struct Base {
     pub(crate) items: Vec<Item>,
     /// For each item whether it is a `$f`.
     pub(crate) floats: Vec<bool>,
-    pub(crate) parts: Parts,
+    pub(crate) parts: BaseParts,
     /// The room of the base that was there before, for the one that is rebuilt next.
     pub(crate) room: BaseRoom,
 }
@@ -193,7 +194,7 @@ impl Base {
         ensures order { (names : List (List ℕ)) (base : BaseView) → IsBaseBy names base self.now →
             IfSome result (λ frame. ArePairsRead names (pairs_in_order (frame_at base i)) frame.now.pairs.items) }
     {
-        self.parts.frames.at(i)
+        frame_at(&self.parts.frames, i)
     }
 
     /// The frame of the item with this number, if it is a sound `$a` or `$p`: its mandatory hypotheses and pairs.

@@ -27,7 +27,7 @@ impl CopiedLists {
     }
 
     /// Keeps that the `$p` with this number has this list. There are places for all lists up to this one then.
-    pub fn keep(&mut self, list: usize, number: usize) -> Result<(), AllocError> {
+    pub fn set(&mut self, list: usize, number: usize) -> Result<(), AllocError> {
         let count = list.saturating_add(1);
         if self.theorems.len() < count {
             self.theorems.resize(count, number)?;

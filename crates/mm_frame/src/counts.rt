@@ -33,7 +33,7 @@ impl Model for Counts {
 
 /// A part of a list.
 #[derive(Clone, Copy)]
-pub struct Part {
+pub struct ListPart {
     /// The place of its first element.
     pub start: usize,
     /// The place after its last one.
@@ -79,7 +79,7 @@ impl Counts {
 
     /// The part with this number, if these are the ends of parts one after another.
     #[inline(always)]
-    pub fn part(&self, number: usize) -> Part
+    pub fn part(&self, number: usize) -> ListPart
         ensures start { result.start ≡ start_at 0 self.now number }
         ensures end { result.end ≡ slice_index_or self.now number 0 }
     {
@@ -91,7 +91,7 @@ impl Counts {
         } else {
             self.narrow[number - 1] as usize
         };
-        Part {
+        ListPart {
             start,
             end: self.narrow[number] as usize,
         }
@@ -99,12 +99,12 @@ impl Counts {
 
     /// The part with this number, whether its end is among those that fit or not.
     #[inline(never)]
-    fn far_part(&self, number: usize) -> Part
+    fn far_part(&self, number: usize) -> ListPart
         ensures start { result.start ≡ start_at 0 self.now number }
         ensures end { result.end ≡ slice_index_or self.now number 0 }
     {
         let start = if number == 0 { 0 } else { self.at(number - 1) };
-        Part {
+        ListPart {
             start,
             end: self.at(number),
         }

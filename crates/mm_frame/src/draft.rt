@@ -37,7 +37,7 @@ use crate::item_rows::Rows;
 use crate::judge::{FrameFault, fault_of, is_sound_as_known};
 use crate::names::Names;
 use crate::paired::PairTable;
-use crate::parts::Parts;
+use crate::parts::BaseParts;
 use crate::room::DraftRoom;
 use crate::scope::Scope;
 use crate::symbol::{put_symbols, put_variables};
@@ -430,7 +430,7 @@ impl<'a> Draft<'a> {
     }
 
     /// What is kept when all items are read.
-    pub fn parts(self) -> Parts
+    pub fn parts(self) -> BaseParts
         ensures { (all : List (List ℕ)) (said : List meant.Said) → IsDraft all said self.entry → AreParts all said result }
     {
         let Draft {
@@ -447,12 +447,12 @@ impl<'a> Draft<'a> {
             pair_numbers,
             ..
         } = assertions;
-        Parts {
+        BaseParts {
             tables,
             blocks,
             rows,
             expressions,
-            frames,
+            frames: frames.kept,
             pair_lists: pair_lists.finished(),
             pair_numbers,
         }

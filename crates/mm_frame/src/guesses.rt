@@ -30,6 +30,20 @@ impl ListGuesses {
         for symbol in symbols {
             hash = hash.wrapping_mul(131).wrapping_add(symbol.name);
         }
+        self.place(hash)
+    }
+
+    /// Where the guess for a list of numbers is kept. It takes time linear in the list.
+    pub fn place_of_numbers(&self, numbers: &[usize]) -> usize {
+        let mut hash: usize = 0;
+        for number in numbers {
+            hash = hash.wrapping_mul(131).wrapping_add(*number);
+        }
+        self.place(hash)
+    }
+
+    /// The place for this number.
+    fn place(&self, hash: usize) -> usize {
         let places = self.numbers.len();
         if places == 0 { 0 } else { hash % places }
     }

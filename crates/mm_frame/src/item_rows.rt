@@ -4,7 +4,7 @@ ghost use Rattle.std.specs.Prelude.{◌≡◌, ◌<◌, ◌≤◌, ◌+◌, ◌+
 ghost use Rattle.std.specs.Option.{option_map};
 ghost use Rattle.mm_frame.specs.Code.KeptRows.{bytes_or_none, fault_kept, fault_told, row_label, row_fault, is_shown_in, AreRowsKept, rows_of};
 
-use crate::counts::{Counts, Part};
+use crate::counts::{Counts, ListPart};
 use crate::judge::FrameFault;
 use std::alloc::{AllocError, Global};
 
@@ -123,7 +123,7 @@ impl Rows {
         if !is_labelled(&self.labelled, n) {
             return None;
         }
-        let Part { start, end } = self.ends.part(n);
+        let ListPart { start, end } = self.ends.part(n);
         Some(bytes_between(&self.bytes, start, end))
     }
 

@@ -22,7 +22,7 @@ use crate::blocks::Blocks;
 use crate::earlier::Earlier;
 use crate::essential::EssentialVariable;
 use crate::expressions::Expressions;
-use crate::frame::Frame;
+use crate::frame::MadeFrame;
 use crate::paired::PairTable;
 use crate::partners::{PlacedVariables, add_partners, are_short, places_if_many};
 use crate::rising::is_among;
@@ -44,12 +44,12 @@ pub struct FrameRoom {
     /// Its pairs.
     pub pairs: Vec<(NumberedSymbol, NumberedSymbol)>,
     /// Frames that nobody asks any more, in whose lists the next ones are kept.
-    pub gone: IntoIter<Frame>,
+    pub gone: IntoIter<MadeFrame>,
 }
 
 impl FrameRoom {
     /// No frame is made yet; the first ones are kept in the lists of these, which nobody asks any more. It takes no memory.
-    pub fn with_lists(alloc: Global, gone: Vec<Frame>) -> FrameRoom
+    pub fn with_lists(alloc: Global, gone: Vec<MadeFrame>) -> FrameRoom
         ensures { (all : List (List ℕ)) → KnowsAsked all [] result.asked }
     {
         FrameRoom {
@@ -123,18 +123,15 @@ fn add_known_floats(
     Ok(())
 }
 
-/// The numbers of the mandatory hypotheses of a sound assertion with these symbols, rising: of the active `$e`, and of
-/// the `$f` of the variables of these and of the assertion. They are collected in `numbers`, and kept in the room of `list`,
-/// if it fits.
-pub fn hypotheses(
-    alloc: Global,
+/// Puts the numbers of the mandatory hypotheses of a sound assertion with these symbols, rising: of the active `$e`, and of
+/// the `$f` of the variables of these and of the assertion.
+pub fn put_hypotheses(
     earlier: &Earlier,
     own: &[NumberedSymbol],
     numbers: &mut Vec<usize>,
-    list: Vec<usize>,
-) -> Result<Vec<usize>, AllocError>
-    ensures { IfOk result (λ numbers. (all : List (List ℕ)) (before : List meant.Said) (item : meant.Said) → KnowsEarlier all before earlier.now
-        → IsFramed all before item own.now → numbers.items ≡ mandatory_numbers before item) }
+) -> Result<(), AllocError>
+    ensures { OnOk result ((all : List (List ℕ)) (before : List meant.Said) (item : meant.Said) → KnowsEarlier all before earlier.now
+        → IsFramed all before item own.now → numbers.new.items ≡ mandatory_numbers before item) }
 {
     let (tables, essentials) = (earlier.tables, earlier.essentials);
     numbers.clear();
@@ -145,8 +142,7 @@ pub fn hypotheses(
     numbers.dedup();
     numbers.sort_unstable();
     numbers.dedup();
-    let kept = copy_in(alloc, list, numbers)?;
-    Ok(kept)
+    Ok(())
 }
 
 /// Whether a number is at a place.
@@ -300,33 +296,28 @@ fn active_among(
     Ok(kept)
 }
 
-/// The pairs of a sound assertion with these mandatory hypotheses: of the variables of its mandatory `$f`, in their order,
-/// those that an active `$d` has. They are kept in the room of `list`, if it fits. After an allocation failure what was looked
-/// up must not be used.
+/// The pairs of a sound assertion whose mandatory hypotheses have the numbers that are put: of the variables of its mandatory
+/// `$f`, in their order, those that an active `$d` has. They are kept in the room of `list`, if it fits. After an allocation
+/// failure what was looked up must not be used.
 pub fn mandatory_pairs(
     alloc: Global,
     earlier: &Earlier,
     room: &mut FrameRoom,
-    hypotheses: &[usize],
     list: Vec<(NumberedSymbol, NumberedSymbol)>,
 ) -> Result<Vec<(NumberedSymbol, NumberedSymbol)>, AllocError>
     ensures asked { OnOk result ((all : List (List ℕ)) (before : List meant.Said) → KnowsEarlier all before earlier.now → KnowsAsked all before room.old.asked
         → KnowsAsked all before room.new.asked) }
     ensures pairs { IfOk result (λ pairs. (all : List (List ℕ)) (before : List meant.Said) (item : meant.Said) → KnowsEarlier all before earlier.now
-        → KnowsAsked all before room.old.asked → hypotheses.now ≡ mandatory_numbers before item
+        → KnowsAsked all before room.old.asked → room.old.numbers.items ≡ mandatory_numbers before item
         → ArePairsRead all (pairs_in_order (frame before item)) pairs.items) }
 {
     let FrameRoom {
         asked,
+        numbers,
         variables,
         pairs,
         ..
     } = room;
-    put_typed(
-        earlier.essentials,
-        earlier.expressions,
-        hypotheses,
-        variables,
-    )?;
+    put_typed(earlier.essentials, earlier.expressions, numbers, variables)?;
     active_among(alloc, earlier, asked, variables, pairs, list)
 }

@@ -172,7 +172,7 @@ fn count_to(number: usize, count: usize) -> usize
 }
 
 /// The count of items up to the last of the first active `$d`: 0 if there is none.
-fn count_to_last(disjoints: &[usize], expressions: &Expressions) -> usize
+pub fn count_to_last(disjoints: &[usize], expressions: &Expressions) -> usize
     ensures { (all : List (List ℕ)) (before : List meant.Said) (rest : List ℕ) → AreSymbols all before expressions.now
         → disjoints.now ++ rest ≡ active_numbers is_disjoint_item before → AreFrontNumbers before disjoints.now result }
 {

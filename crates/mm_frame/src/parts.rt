@@ -2,15 +2,16 @@
 
 use crate::blocks::Blocks;
 use crate::expressions::Expressions;
-use crate::frame::Frame;
+use crate::frame::MadeFrame;
 use crate::item_rows::Rows;
 use crate::pair_lists::PairLists;
+use crate::shared::Shared;
 use crate::sparse::Sparse;
 use crate::tables::Tables;
 
 /// What is kept of all items.
 #[derive(Drop)]
-pub struct Parts {
+pub struct BaseParts {
     pub tables: Tables,
     pub blocks: Blocks,
     /// The labels and the faults.
@@ -18,7 +19,7 @@ pub struct Parts {
     /// The symbols of each sound `$f`, `$e`, `$a`, `$p` and `$d`, by its number; none for any other item.
     pub expressions: Expressions,
     /// The frame of each sound `$a` and `$p`, by its number; none for any other item.
-    pub frames: Sparse<Frame>,
+    pub frames: Shared<MadeFrame>,
     /// The lists of active pairs.
     pub pair_lists: PairLists,
     /// The number of the list of all active pairs, for each sound `$p`, by its number; none for any other item.

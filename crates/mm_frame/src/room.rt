@@ -2,7 +2,7 @@
 
 ghost use Rattle.std.specs.Prelude.{◌≡◌, IfOk};
 
-use crate::frame::Frame;
+use crate::frame::{Frame, MadeFrame};
 use mm_machine::NumberedSymbol;
 use mm_store::Item;
 use std::alloc::{AllocError, Global};
@@ -23,7 +23,7 @@ pub struct BaseRoom {
 pub struct DraftRoom {
     pub symbols: Vec<NumberedSymbol>,
     /// The frames, for their lists.
-    pub frames: Vec<Frame>,
+    pub frames: Vec<MadeFrame>,
     /// The lists of active pairs.
     pub lists: Vec<Vec<(NumberedSymbol, NumberedSymbol)>>,
 }
@@ -50,9 +50,9 @@ impl DraftRoom {
 }
 
 /// The next frame whose room may be used: one without room, if there is none. It takes no memory.
-pub fn next_frame(alloc: Global, frames: &mut IntoIter<Frame>) -> Frame {
+pub fn next_frame(alloc: Global, frames: &mut IntoIter<MadeFrame>) -> Frame {
     match frames.next() {
-        Some(frame) => frame,
+        Some(made) => made.frame,
         None => Frame {
             hypotheses: Vec::new(alloc),
             pairs: Vec::new(alloc),

@@ -1,10 +1,10 @@
 //! What some items have, and others do not.
 
-ghost use Rattle.std.specs.Prelude.{◌≡◌, ◌∷◌, ◌++◌, [], Some, None, IfOk, OnOk, slice_get};
+ghost use Rattle.std.specs.Prelude.{◌≡◌, ◌∷◌, ◌++◌, [], Some, None, IfOk, OnErr, OnOk, slice_get};
 ghost use Rattle.std.specs.Option.{option_map};
 ghost use Rattle.mm_frame.specs.Code.KeptSparse.{value_kept};
 
-use crate::counts::{Counts, Part};
+use crate::counts::{Counts, ListPart};
 use std::alloc::{AllocError, Global};
 use std::marker::Model;
 
@@ -63,11 +63,16 @@ impl<T: Drop> Sparse<T> {
         self.values
     }
 
+    /// How many items there are.
+    pub fn count(&self) -> usize {
+        self.ends.len()
+    }
+
     /// The value of the item with this number, if it has one.
     pub fn at(&self, number: usize) -> Option<&T>
         ensures { option_map (λ value. value.now) result ≡ value_kept self.now number }
     {
-        let Part { start, end } = self.ends.part(number);
+        let ListPart { start, end } = self.ends.part(number);
         if start < end {
             element_at(&self.values, start)
         } else {
@@ -78,7 +83,8 @@ impl<T: Drop> Sparse<T> {
     /// Adds one more item, which has this value. Out of memory changes nothing.
     #[inline(always)]
     pub fn add(&mut self, value: T) -> Result<(), AllocError>
-        ensures { OnOk result (self.new ≡ self.old ++ Some value ∷ []) }
+        ensures ok { OnOk result (self.new ≡ self.old ++ Some value ∷ []) }
+        ensures err { OnErr result (self.new ≡ self.old) }
     {
         self.values.reserve(1)?;
         self.ends.push(self.values.len() + 1)?;
@@ -89,7 +95,8 @@ impl<T: Drop> Sparse<T> {
     /// Adds one more item, which has no value. Out of memory changes nothing.
     #[inline(always)]
     pub fn pass(&mut self) -> Result<(), AllocError>
-        ensures { OnOk result (self.new ≡ self.old ++ None ∷ []) }
+        ensures ok { OnOk result (self.new ≡ self.old ++ None ∷ []) }
+        ensures err { OnErr result (self.new ≡ self.old) }
     {
         self.ends.push(self.values.len())?;
         Ok(())

@@ -3,7 +3,7 @@
 ghost use Rattle.std.specs.Prelude.{◌≡◌, ◌≤◌, List, [], ◌∷◌, ◌++◌, IfOk, IsTrue, OnErr, OnOk, Some, length, slice_get, slice_range};
 ghost use Rattle.mm_frame.specs.Code.KeptSymbols.{expression_kept};
 
-use crate::counts::{Counts, Part};
+use crate::counts::{Counts, ListPart};
 use crate::symbol::same_symbols;
 use mm_machine::NumberedSymbol;
 use std::alloc::{AllocError, Global};
@@ -94,7 +94,7 @@ impl SymbolLists {
     pub fn at(&self, number: usize) -> &[NumberedSymbol]
         ensures { result.now ≡ expression_kept self.now number }
     {
-        let Part { start, end } = self.ends.part(number);
+        let ListPart { start, end } = self.ends.part(number);
         if start < end {
             part(&self.symbols, start, end)
         } else {

@@ -19,8 +19,9 @@ use crate::assertions::Assertions;
 use crate::base::Base;
 use crate::copied_lists::CopiedLists;
 use crate::expressions::Expressions;
-use crate::frame::Frame;
-use crate::pair_lists::PairLists;
+use crate::frame::{Frame, MadeFrame};
+use crate::frames::Frames;
+use crate::pair_lists::{PairLists, count_to_last};
 use crate::room::{copy_in, next_frame};
 use crate::sparse::{Sparse, number_at};
 use mm_machine::NumberedSymbol;
@@ -41,28 +42,33 @@ pub struct ActiveDisjoints<'a> {
     pub expressions: &'a Expressions,
 }
 
-/// Adds the frame of one more item, a copy of the one that is kept, if one is: in the lists of the next of these that nobody
-/// asks any more, if they fit.
+/// Adds the frame of one more item: an equal one of an earlier item, or a copy of the one that is kept, if one is. The copy is
+/// in the lists of the next of these that nobody asks any more, if they fit.
 fn copy_frame(
     alloc: Global,
-    frames: &mut Sparse<Frame>,
-    gone: &mut IntoIter<Frame>,
+    frames: &mut Frames,
+    gone: &mut IntoIter<MadeFrame>,
+    active: ActiveDisjoints,
     kept: Option<&Frame>,
 ) -> Result<(), AllocError>
     ensures { OnOk result ((all : List (List ℕ)) (said : List meant.Said) (item : meant.Said)
+        → AreSymbols all (sound_items said) active.entry.expressions.now → active.entry.numbers.now ≡ active_numbers is_disjoint_item (sound_items said)
         → option_map (λ frame. frame.now.hypotheses.items) kept.entry ≡ told_numbers (sound_items said) item
         → IfSome kept.entry (λ kept. ArePairsRead all (pairs_in_order (frame (sound_items said) item)) kept.now.pairs.items)
-        → AreRows (TellsFrame all) said frames.old → AreRows (TellsFrame all) (said ++ item ∷ []) frames.new) }
+        → AreRows (TellsFrame all) said frames.old.kept → AreRows (TellsFrame all) (said ++ item ∷ []) frames.new.kept) }
 {
     let Some(kept) = kept else {
         frames.pass()?;
         return Ok(());
     };
+    let reach = count_to_last(active.numbers, active.expressions);
+    if frames.add_again(&kept.hypotheses, reach)? {
+        return Ok(());
+    }
     let room = next_frame(alloc, gone);
     let hypotheses = copy_in(alloc, room.hypotheses, &kept.hypotheses)?;
     let pairs = copy_in(alloc, room.pairs, &kept.pairs)?;
-    frames.add(Frame { hypotheses, pairs })?;
-    Ok(())
+    frames.add(Frame { hypotheses, pairs }, reach)
 }
 
 /// A sound `$p` of an older base by its number, and the pairs that are active at it.
@@ -107,7 +113,7 @@ fn copied_list(
         return Ok(k);
     }
     let k = lists.keep_copy(alloc, proof.pairs)?;
-    copied.keep(list, proof.number)?;
+    copied.set(list, proof.number)?;
     Ok(k)
 }
 
@@ -195,6 +201,7 @@ impl Assertions {
             alloc,
             &mut self.frames,
             &mut self.room.gone,
+            active,
             old.base.kept_frame(old.number),
         )?;
         copy_pairs(

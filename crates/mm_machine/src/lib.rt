@@ -40,7 +40,7 @@ pub use numbering_laws::{
 pub use run_laws::{lack_stops, parts_are_run, stops_stay, sure_by_counting};
 pub use slots::Slot;
 pub use step::{Action, ProofFault, ProofStep};
-pub use stepping::{Front, Outcome, run, run_counted};
+pub use stepping::{Front, RunOutcome, run, run_counted};
 pub use symbol::{CodedSymbol, NamedSymbol, NumberedSymbol, Symbol};
 pub use verdict_laws::{
     derived_weighs_one, derives_at_most_one, has_count, has_one_count, has_one_step_fault,

@@ -43,7 +43,7 @@ pub enum Task {
 
 /// What a run comes to.
 #[derive(Clone, Copy)]
-pub enum Outcome {
+pub enum RunOutcome {
     /// The one entry at the end is the statement.
     Proved,
     /// The step with this number, from 0, has this fault, one of P07 to P13.
@@ -60,7 +60,7 @@ pub enum Outcome {
 #[derive(Clone, Copy)]
 pub enum Front {
     /// They stop at a step that is at fault or not known.
-    Stops(Outcome),
+    Stops(RunOutcome),
     /// All are done, and leave this many entries.
     Leaves(usize),
 }
@@ -181,7 +181,7 @@ fn run_through<'a, S: Kept>(
     uses: &[Use],
     active: &Active<'a, S>,
     steps: &[ProofStep],
-) -> Result<Option<Outcome>, AllocError>
+) -> Result<Option<RunOutcome>, AllocError>
     requires holds { HoldsLasting machine.old }
     requires frames { AreForms S.means forms.now }
     requires within { AreUsesWithin machine.old forms.now uses.now }
@@ -197,10 +197,10 @@ fn run_through<'a, S: Kept>(
     machine.clear(alloc)?;
     for place in 0..steps.len() {
         let Some(task) = task_of(uses, steps[place].action) else {
-            return Ok(Some(Outcome::Unknown(place)));
+            return Ok(Some(RunOutcome::Unknown(place)));
         };
         if let Some(number) = do_task(alloc, &mut *machine, &*forms, &*active, task)? {
-            return Ok(Some(Outcome::Fault(number, place)));
+            return Ok(Some(RunOutcome::Fault(number, place)));
         }
     }
     Ok(None)
@@ -249,7 +249,7 @@ pub fn run<'a, S: Kept>(
     active: &Active<'a, S>,
     steps: &[ProofStep],
     statement: &[S::Listed],
-) -> Result<Outcome, AllocError>
+) -> Result<RunOutcome, AllocError>
     requires holds { HoldsLasting machine.old }
     requires frames { AreForms S.means forms.now }
     requires within { AreUsesWithin machine.old forms.now uses.now }
@@ -266,11 +266,11 @@ pub fn run<'a, S: Kept>(
         return Ok(outcome);
     }
     if machine.stack.len() != 1 {
-        return Ok(Outcome::NotOne);
+        return Ok(RunOutcome::NotOne);
     }
     if is_top(&*machine, statement) {
-        Ok(Outcome::Proved)
+        Ok(RunOutcome::Proved)
     } else {
-        Ok(Outcome::Other)
+        Ok(RunOutcome::Other)
     }
 }

@@ -2,9 +2,10 @@
 use Rattle.std.proofs.Common.{[], ◌≡◌, ◌⊎◌, ℕ, ◌+◌, Bool, true, false, List, ◌∷◌, ◌++◌, append_assoc, length, drop, refl, sym, ap, ◌∙◌, subst, arith, Option, inl, inr, length-drop}
 use Rattle.std.{proofs.lemmas.{Grind.{common_steps}, List.Folds.{drop_split}}, specs.Io.KnownBytes.{IsAtEnd}}
 use Rattle.mm_script.proofs.{ScriptLemmas.{none_so_far}, StopLemmas.{text_no_entry, bad_line, bad_last, text_cut, text_line_cut, text_bad}, BatchLemmas.{always, at_end}}
-use Rattle.mm_script.{proofs.{BatchReadLemmas.{edits_counted}, EditLemmas.{shifted_is, unfed_line}}, specs.declared.command.{EditAt.{EditAt}, CommandAt.{CommandAt}, Complete.{Complete}, Part.{Part}}}
-use Rattle.mm_script.specs.{declared.script_lines.LineAt.{LineAt}, Code.{Batches.{IsBatchRead}, Growing.{IsLineAt, IsTextBad, IsTextLine, IsTextShort, line_bytes}, Lines.{SaysLabel}}}
-use Rattle.mm_script.specs.{Code.Stops.{IsBadLine}, Language.Commands.{bytes_of_part, AreEditsIn, IsCommandIn, IsNextCommand, IsWholeOrLast, IsPartWithin, StopsSo, HasNoEntry, rest_of_script}}
+use Rattle.mm_script.{proofs.{BatchReadLemmas.{edits_counted}, EditLemmas.{shifted_is, unfed_line}}, specs.declared.command.{EditAt.{EditAt}, CommandAt.{CommandAt}, Complete.{Complete}}}
+use Rattle.mm_script.specs.{declared.{command.PendingRange.{PendingRange}, script_lines.LineAt.{LineAt}}, Code.Batches.{IsBatchRead}}
+use Rattle.mm_script.specs.Code.{Growing.{IsLineAt, IsTextBad, IsTextLine, IsTextShort, line_bytes}, Lines.{SaysLabel}, Stops.{IsBadLine}}
+use Rattle.mm_script.specs.Language.Commands.{bytes_of_part, AreEditsIn, IsCommandIn, IsNextCommand, IsWholeOrLast, IsPartWithin, StopsSo, HasNoEntry, rest_of_script}
 use Rattle.mm_script.specs.Language.Script.{CutShort, BadLine, Command, Batch, IsGood, IsName, EndsInLine, Listed, behind_line, edit_line, line_of}
 
 all_bytes : (bytes : List ℕ) (start : ℕ) → start ≡ 0 → bytes ≡ drop start bytes
@@ -57,7 +58,7 @@ line_next bytes left line command next kind is start says none good found is_com
     by false e = grind (arith, common_steps, is.unfed e, all_bytes bytes line.start start, unfed_line bytes left line is e, at_end) steps 200000
 
 -- one with a label
-pub label_next : (bytes : List ℕ) (left : Option (List ℕ)) (line : LineAt) (label : Part) (word : List ℕ) (make : List ℕ → Command) (next : Complete CommandAt)
+pub label_next : (bytes : List ℕ) (left : Option (List ℕ)) (line : LineAt) (label : PendingRange) (word : List ℕ) (make : List ℕ → Command) (next : Complete CommandAt)
     (kind : CommandAt) → IsLineAt bytes left line → line.start ≡ 0
     → SaysLabel (line_bytes bytes line) word label → ((name : List ℕ) → line_of (make name) ≡ word ++ 32 ∷ name) → ((name : List ℕ) → behind_line (make name) ≡ [])
     → ((name : List ℕ) → IsName name → IsGood (make name)) → ((name : List ℕ) → EndsInLine (make name))

@@ -3,7 +3,7 @@ use Rattle.std.proofs.Common.{[], ◌≡◌, ℕ, ◌+◌, ◌-◌, ◌≤◌, f
 use Rattle.std.proofs.lemmas.{Grind.{common_steps}, List.{append-nil, length-drop, length-take, length-replicate, drop-drop, drop-take, take-take, drop_all, Folds.{drop_split}}}
 use Rattle.std.specs.Io.KnownBytes.{IsAtEnd}
 use Rattle.mm_text.specs.Language.Asked.{Asked, edited_text}
-use Rattle.mm_script.specs.declared.{command.{EditAt.{EditAt}, Part.{Part}}, input.Input.{Input}, script_lines.LineAt.{LineAt}}
+use Rattle.mm_script.specs.declared.{command.{EditAt.{EditAt}, PendingRange.{PendingRange}}, input.Input.{Input}, script_lines.LineAt.{LineAt}}
 use Rattle.mm_script.specs.Code.{Growing.{InputGrows, IsEditRead, IsLineAt, IsOtherByte, IsTextBad, IsTextLine, IsTextShort, line_bytes}, Lines.{SaysEdit}, Stops.{HasTextOf}}
 use Rattle.mm_script.specs.Language.{Commands.{pending, bytes_of_part, edit_in, IsEditWithin, IsPartWithin}, Script.{IsGoodEdit, edit_bytes, edit_line, ended_text}}
 use Rattle.mm_script.proofs.GrowLemmas.{grown_long, part_grown, rest_grown}
@@ -16,10 +16,10 @@ pub record AsksText (line : List ℕ) (count : ℕ) (edit : List ℕ → Asked) 
   pub good : (text : List ℕ) → length text ≡ count → IsGoodEdit (edit text)
   pub text_is : (text : List ℕ) → edited_text (edit text) ≡ Some text
 
-pub asks_insert : (line : List ℕ) (file : Part) (at count : ℕ) → SaysEdit line (lines.Insert file at count) → AsksText line count (ask.Insert (bytes_of_part line file) at)
+pub asks_insert : (line : List ℕ) (file : PendingRange) (at count : ℕ) → SaysEdit line (lines.Insert file at count) → AsksText line count (ask.Insert (bytes_of_part line file) at)
 asks_insert line file at count says = grind (arith, common_steps) steps 200000
 
-pub asks_replace : (line : List ℕ) (file : Part) (at count : ℕ) → SaysEdit line (lines.Replace file at count) → AsksText line count (ask.Replace (bytes_of_part line file) at)
+pub asks_replace : (line : List ℕ) (file : PendingRange) (at count : ℕ) → SaysEdit line (lines.Replace file at count) → AsksText line count (ask.Replace (bytes_of_part line file) at)
 asks_replace line file at count says = grind (arith, common_steps) steps 200000
 
 abbrev pub feeds : ℕ → List ℕ
@@ -72,19 +72,19 @@ part_of_line bytes start end i j low within =
     grind (arith, common_steps, drop-drop i start bytes, drop-take i (n - i) xs, take-take (j - i) (n - i) (drop i xs) (omega arith)) steps 200000
 
 -- the part of a line that is later by this count
-pub record IsShifted (part shifted : Part) (by : ℕ) : Type 0 where
+pub record IsShifted (part shifted : PendingRange) (by : ℕ) : Type 0 where
   pub start : shifted.start ≡ by + part.start
   pub end : shifted.end ≡ by + part.end
 
-pub shifted_is : (bytes : List ℕ) (left : Option (List ℕ)) (line : LineAt) (part shifted : Part) → IsLineAt bytes left line → IsPartWithin (line_bytes bytes line) part → IsShifted part shifted line.start
+pub shifted_is : (bytes : List ℕ) (left : Option (List ℕ)) (line : LineAt) (part shifted : PendingRange) → IsLineAt bytes left line → IsPartWithin (line_bytes bytes line) part → IsShifted part shifted line.start
     → (bytes_of_part bytes shifted ≡ bytes_of_part (line_bytes bytes line) part) × IsPartWithin bytes shifted
 shifted_is bytes left line part shifted is within at = grind (arith, common_steps, length-drop, length-take, part_of_line) steps 200000
 
-pub bytes_grown : (a b : Input) (u v : Option (List ℕ)) (part : Part) → InputGrows a b u v → IsPartWithin (pending a) part → bytes_of_part (pending b) part ≡ bytes_of_part (pending a) part
+pub bytes_grown : (a b : Input) (u v : Option (List ℕ)) (part : PendingRange) → InputGrows a b u v → IsPartWithin (pending a) part → bytes_of_part (pending b) part ≡ bytes_of_part (pending a) part
 bytes_grown a b u v part grows within = part_grown a b u v part.start part.end grows within.ordered within.within
 
 -- an edit whose text is read
-pub text_read : (a b : Input) (u v : Option (List ℕ)) (line : LineAt) (count : ℕ) (make : List ℕ → List ℕ → Asked) (part file text : Part) (at : EditAt)
+pub text_read : (a b : Input) (u v : Option (List ℕ)) (line : LineAt) (count : ℕ) (make : List ℕ → List ℕ → Asked) (part file text : PendingRange) (at : EditAt)
     → AsksText (line_bytes (pending a) line) count (make (bytes_of_part (line_bytes (pending a) line) part)) → IsPartWithin (line_bytes (pending a) line) part
     → IsShifted part file line.start
     → IsLineAt (pending a) u line → InputGrows a b u v → line.fed ≡ true
@@ -112,7 +112,7 @@ pub behind_within : (bytes : List ℕ) (left : Option (List ℕ)) (line : LineAt
 behind_within bytes left line end is fed unfed = grind (arith, common_steps, length-drop) steps 200000
 
 -- an edit without a text
-pub plain_read : (bytes : List ℕ) (left : Option (List ℕ)) (line : LineAt) (make : List ℕ → Asked) (part file : Part) (at : EditAt) (end : ℕ)
+pub plain_read : (bytes : List ℕ) (left : Option (List ℕ)) (line : LineAt) (make : List ℕ → Asked) (part file : PendingRange) (at : EditAt) (end : ℕ)
     → IsLineAt bytes left line
     → line_bytes bytes line ≡ edit_line (make (bytes_of_part (line_bytes bytes line) part)) → IsGoodEdit (make (bytes_of_part (line_bytes bytes line) part))
     → ((xs : List ℕ) → edited_text (make xs) ≡ None)

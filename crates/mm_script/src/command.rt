@@ -9,7 +9,7 @@ use mm_text::Edit;
 /// A range of the pending bytes ([`Input::pending`]): from `start` up to, but without, `end`. It holds until bytes are passed,
 /// by [`Input::pass`] or by the next [`next_command`].
 #[derive(Clone, Copy)]
-pub struct Part {
+pub struct PendingRange {
     /// The first byte, from 0.
     pub start: usize,
     /// The byte after the last one.
@@ -23,32 +23,32 @@ pub enum EditAt {
     /// A new piece, of this text, before the piece `at` of the file.
     Insert {
         /// The name of the file.
-        file: Part,
+        file: PendingRange,
         /// The number of the piece before which it comes.
         at: usize,
         /// The text of the piece.
-        text: Part,
+        text: PendingRange,
     },
     /// A new piece, of this text, in the place of the piece `at`.
     Replace {
         /// The name of the file.
-        file: Part,
+        file: PendingRange,
         /// The piece.
         at: usize,
         /// The text of the piece.
-        text: Part,
+        text: PendingRange,
     },
     /// The piece `at` is taken out.
     Delete {
         /// The name of the file.
-        file: Part,
+        file: PendingRange,
         /// The piece.
         at: usize,
     },
     /// The piece `at` is taken out and put back as piece `to`.
     Move {
         /// The name of the file.
-        file: Part,
+        file: PendingRange,
         /// The piece.
         at: usize,
         /// Its number after the move.
@@ -66,13 +66,13 @@ pub enum CommandAt {
     /// The report is asked for.
     Report,
     /// The verdict of the assertion with this label is asked for.
-    Verdict(Part),
+    Verdict(PendingRange),
     /// The axioms of the assertion with this label are asked for.
-    Axioms(Part),
+    Axioms(PendingRange),
     /// The assertions that the assertion with this label cites are asked for.
-    Cites(Part),
+    Cites(PendingRange),
     /// The theorems that cite the assertion with this label are asked for.
-    Users(Part),
+    Users(PendingRange),
 }
 
 /// A command, or an edit, that is complete in the pending bytes, and where it ends.
@@ -87,7 +87,7 @@ pub struct Complete<T: Drop> {
 }
 
 /// The bytes of a part. `bytes` are the pending bytes in which it was found. Nothing is copied.
-pub fn bytes_of<'a>(bytes: &'a [u8], part: Part) -> &'a [u8]
+pub fn bytes_of<'a>(bytes: &'a [u8], part: PendingRange) -> &'a [u8]
     requires { IsPartWithin bytes.now part }
     ensures { result.now ≡ bytes_of_part bytes.now part }
 {

@@ -11,7 +11,7 @@ ghost use Rattle.mm_script.specs.Code.Stops.{batch_line};
 ghost use Rattle.mm_script.specs.Language.Script.{BadLine, CutShort, IsNumber};
 ghost use Rattle.mm_script.specs.Language.Stream.{cannot_read, unread};
 
-use crate::command::{Complete, EditAt, Part};
+use crate::command::{Complete, EditAt, PendingRange};
 use crate::error::ScriptError;
 use crate::input::Input;
 use crate::line::{EditLine, edit_asked};
@@ -21,12 +21,12 @@ use std::alloc::Global;
 use std::io::Read;
 
 /// The part that begins later by this count.
-fn shifted(part: Part, by: usize) -> Part
+fn shifted(part: PendingRange, by: usize) -> PendingRange
     requires { (part.end + by < 2 ^ 64) × (part.start ≤ part.end) }
     ensures start { result.start ≡ by + part.start }
     ensures end { result.end ≡ by + part.end }
 {
-    Part {
+    PendingRange {
         start: by + part.start,
         end: by + part.end,
     }

@@ -10,7 +10,7 @@ ghost use Rattle.mm_script.specs.Code.Stops.{IsOneLine};
 ghost use Rattle.mm_script.specs.Language.Script.{CutShort, BadLine};
 ghost use Rattle.mm_script.specs.Language.Stream.{cannot_read, unread};
 
-use crate::command::{CommandAt, Complete, Part};
+use crate::command::{CommandAt, Complete, PendingRange};
 use crate::edits::{read_batch, read_edit};
 use crate::error::ScriptError;
 use crate::input::Input;

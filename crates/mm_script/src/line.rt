@@ -8,7 +8,7 @@ ghost use Rattle.mm_script.specs.Language.Commands.{bytes_of_part};
 ghost use Rattle.mm_script.specs.Code.Stops.{IsOneLine};
 ghost use Rattle.mm_script.specs.Language.Script.{Command, IsGood, IsGoodEdit, IsName, IsNumber, edit_line, line_of};
 
-use crate::command::Part;
+use crate::command::PendingRange;
 use itoa::Buffer;
 use memchr::memchr;
 use std::str;
@@ -17,11 +17,26 @@ use std::str;
 #[derive(Clone, Copy)]
 pub(crate) enum EditLine {
     /// A text of this many bytes comes after the line.
-    Insert { file: Part, at: usize, count: usize },
+    Insert {
+        file: PendingRange,
+        at: usize,
+        count: usize,
+    },
     /// The same holds here.
-    Replace { file: Part, at: usize, count: usize },
-    Delete { file: Part, at: usize },
-    Move { file: Part, at: usize, to: usize },
+    Replace {
+        file: PendingRange,
+        at: usize,
+        count: usize,
+    },
+    Delete {
+        file: PendingRange,
+        at: usize,
+    },
+    Move {
+        file: PendingRange,
+        at: usize,
+        to: usize,
+    },
 }
 
 /// What a line asks for. The parts of the line are labels.
@@ -31,10 +46,10 @@ pub(crate) enum CommandLine {
     /// This many edits come after the line.
     Batch(usize),
     Report,
-    Verdict(Part),
-    Axioms(Part),
-    Cites(Part),
-    Users(Part),
+    Verdict(PendingRange),
+    Axioms(PendingRange),
+    Cites(PendingRange),
+    Users(PendingRange),
 }
 
 /// The first word of a line that has more words than one.
@@ -158,12 +173,12 @@ fn verb_of(word: &[u8]) -> Option<Verb>
 }
 
 /// The name after the first word of a line, of this many bytes.
-fn name_part(line: &[u8], from: usize, count: usize) -> Part
+fn name_part(line: &[u8], from: usize, count: usize) -> PendingRange
     requires { (from ≤ length line.now) × (count ≤ length (drop from line.now)) }
     ensures start { result.start ≡ from }
     ensures end { result.end ≡ from + count }
 {
-    Part {
+    PendingRange {
         start: from,
         end: from + count,
     }
@@ -213,7 +228,7 @@ pub(crate) fn edit_asked(line: &[u8]) -> Option<EditLine>
 }
 
 /// The label that a line is from `from` on.
-fn label(line: &[u8], from: usize) -> Option<Part>
+fn label(line: &[u8], from: usize) -> Option<PendingRange>
     requires within { from ≤ length line.now }
     requires one_line { IsOneLine line.now }
     ensures some { IfSome result (λ label. IsNameIn line.now label × (bytes_of_part line.now label ≡ drop from line.now)) }
@@ -221,7 +236,7 @@ fn label(line: &[u8], from: usize) -> Option<Part>
 {
     let end = line.len();
     if is_name(&line[from..]) {
-        Some(Part { start: from, end })
+        Some(PendingRange { start: from, end })
     } else {
         None
     }

@@ -8,7 +8,7 @@ ghost use Rattle.mm_script.specs.Language.Commands.{to_come, pending, IsPartWith
 ghost use Rattle.mm_script.specs.Code.Stops.{IsOneLine};
 ghost use Rattle.mm_script.specs.Language.Stream.{cannot_read, unread};
 
-use crate::command::Part;
+use crate::command::PendingRange;
 use crate::error::ScriptError;
 use crate::input::Input;
 use crate::read_stream::Reading;
@@ -78,7 +78,7 @@ pub(crate) fn read_text<R: Read>(
     reading: &mut Reading<R>,
     start: usize,
     count: usize,
-) -> Result<Part, ScriptError>
+) -> Result<PendingRange, ScriptError>
     requires { start ≤ length (pending input.old) }
     ensures grows { InputGrows input.old input.new (unread R.remaining reading.old) (unread R.remaining reading.new) }
     ensures within { IfOk result (λ text. IsPartWithin (pending input.new) text × (text.start ≡ start) × (text.end ≡ start + count)) }
@@ -95,7 +95,7 @@ pub(crate) fn read_text<R: Read>(
             if *byte != b'\n' {
                 return Err(ScriptError::BadLine);
             }
-            return Ok(Part {
+            return Ok(PendingRange {
                 start,
                 end: start + count,
             });

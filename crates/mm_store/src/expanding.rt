@@ -13,7 +13,7 @@ use crate::error::StoreError;
 use crate::files::Files;
 use crate::item::{Item, ItemKind};
 use crate::kept_part::KeptPart;
-use crate::walk::{Spot, Step, Walk};
+use crate::walk::{PlacedPiece, Step, Walk};
 use mm_text::{Part, PartKind, parts_are_texts, words_stand_alone};
 use std::alloc::AllocError;
 
@@ -34,7 +34,7 @@ fn item_kind(kind: PartKind) -> ItemKind
     }
 }
 
-fn item_of(spot: Spot, part: Part) -> Item
+fn item_of(spot: PlacedPiece, part: Part) -> Item
     ensures { result ≡ item_of_part spot part }
 {
     Item {
@@ -48,7 +48,11 @@ fn item_of(spot: Spot, part: Part) -> Item
 }
 
 /// Adds the items of a piece after others.
-fn push_items(spot: Spot, parts: &[KeptPart], items: &mut Vec<Item>) -> Result<(), AllocError>
+fn push_items(
+    spot: PlacedPiece,
+    parts: &[KeptPart],
+    items: &mut Vec<Item>,
+) -> Result<(), AllocError>
     ensures { OnOk result (items.new.items ≡ items.old.items ++ map (item_of_part spot) parts.now) }
 {
     for part in parts {

@@ -37,7 +37,7 @@ impl Model for Level {
 
 /// Where a piece is, and its key.
 #[derive(Clone, Copy)]
-pub struct Spot {
+pub struct PlacedPiece {
     pub(crate) file: usize,
     pub(crate) piece: usize,
     pub(crate) key: PieceKey,
@@ -51,7 +51,7 @@ pub enum Step {
     /// No items: a file is left or entered, or a name comes once more.
     Nothing,
     /// The items of this piece, one for each part: a piece that includes nothing, or a reference that was reported.
-    Items(Spot),
+    Items(PlacedPiece),
     /// A reference to a missing file of this name, past which the walk does not go before it is reported.
     Missing(Vec<u8>),
 }
@@ -197,7 +197,7 @@ impl Walk {
     }
 
     /// A reference to a missing file: it is reported, or gone past if it was reported.
-    fn report_missing(&mut self, spot: Spot, name: &[u8]) -> Result<Step, AllocError>
+    fn report_missing(&mut self, spot: PlacedPiece, name: &[u8]) -> Result<Step, AllocError>
         requires last { (front : List Level) × (level : Level) × (self.old.levels ≡ front ++ level ∷ []) × (level.piece < 18446744073709551615) }
         requires fresh { ¬ Contains self.old.names name.now }
         ensures ok { IfOk result (λ step. (files : List FileView) → IsReference files self.old.levels spot name.now → number_of files name.now ≡ None
@@ -214,7 +214,7 @@ impl Walk {
     }
 
     /// A reference: it is gone past if its name was taken, or its file is entered, or it is missing.
-    fn include(&mut self, files: &Files, spot: Spot, name: &[u8]) -> Result<Step, AllocError>
+    fn include(&mut self, files: &Files, spot: PlacedPiece, name: &[u8]) -> Result<Step, AllocError>
         requires { IsReference (files_in files.now) self.old.levels spot name.now }
         ensures ok { IfOk result (λ step. IsStep (files_in files.now) self.old step self.new) }
         ensures err { OnErr result (self.new ≡ self.old) }
@@ -249,7 +249,7 @@ impl Walk {
             }
             Some(key) => key,
         };
-        let spot = Spot { file, piece, key };
+        let spot = PlacedPiece { file, piece, key };
         match files.included_name(key) {
             None => {
                 self.pass();

@@ -69,7 +69,7 @@ fn add_hypotheses<'a>(
 
 /// An assertion, but for its mandatory hypotheses.
 #[derive(Clone, Copy)]
-pub struct Parts<'a> {
+pub struct AssertionParts<'a> {
     /// Its expression.
     pub expression: &'a [NumberedSymbol],
     /// Its mandatory pairs.
@@ -82,7 +82,7 @@ pub fn look_up<'a>(
     base: &'a Base,
     number: usize,
     mandatory: &mut Vec<Hypothesis<'a, NumberedSymbol>>,
-) -> Result<Parts<'a>, AllocError>
+) -> Result<AssertionParts<'a>, AllocError>
     requires { IsNamedBy base.now (answers.Assertion number) }
     ensures frame { IfOk result (λ parts. IsFrame (frame_from by_number mandatory.new.items parts.expression.now parts.pairs.now)) }
     ensures same { IfOk result (λ parts. (names : List (List ℕ)) (view : BaseView) → IsBaseBy names view base.now → is_framed_at view number ≡ true
@@ -95,7 +95,7 @@ pub fn look_up<'a>(
     let frame = base.frame(number).unwrap();
     mandatory.clear();
     add_hypotheses(base, &frame.hypotheses, mandatory)?;
-    Ok(Parts {
+    Ok(AssertionParts {
         expression: expression(base, number),
         pairs: &frame.pairs,
     })

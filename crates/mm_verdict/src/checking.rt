@@ -31,7 +31,7 @@ use crate::used::marks_of;
 use crate::work::{Checked, Work};
 use mm_frame::{Base, Files, Names, ProofWords, Resolved, places_have_frames, words_of_proof};
 use mm_machine::{
-    Active, Front, Outcome, ProofFault, ProofNumber, ProofStep, Spot, Verdict, lack_stops,
+    Active, Front, ProofFault, ProofNumber, ProofStep, RunOutcome, Spot, Verdict, lack_stops,
     numbers_keep_places, numbers_say_the_same, run, run_counted, stops_stay,
 };
 use std::alloc::{AllocError, Global};
@@ -70,7 +70,7 @@ fn closing_spot(words: ProofWords) -> Spot
 }
 
 /// The verdict on a proof with these words, by what the run of its steps came to.
-pub fn verdict(outcome: Outcome, decoding: &Decoding, words: ProofWords) -> Verdict
+pub fn verdict(outcome: RunOutcome, decoding: &Decoding, words: ProofWords) -> Verdict
     requires within { IsOutcomeWithin (length decoding.now.steps.items) outcome }
     requires few { length words ≤ 4294967295 }
     ensures { (view : BaseView) (place : Setting) (statement : List Symbol)
@@ -78,24 +78,24 @@ pub fn verdict(outcome: Outcome, decoding: &Decoding, words: ProofWords) -> Verd
         → IsVerdictOnSteps place statement (decoded_steps view decoding.now words.entry) result }
 {
     match outcome {
-        Outcome::Proved => Verdict::Proved,
-        Outcome::Fault(number, n) => Verdict::Wrong(number, decoding.steps[n].spot),
-        Outcome::Unknown(n) => Verdict::Incomplete(decoding.steps[n].spot),
-        Outcome::NotOne => Verdict::Wrong(ProofNumber::P14, closing_spot(words)),
-        Outcome::Other => Verdict::Wrong(ProofNumber::P15, closing_spot(words)),
+        RunOutcome::Proved => Verdict::Proved,
+        RunOutcome::Fault(number, n) => Verdict::Wrong(number, decoding.steps[n].spot),
+        RunOutcome::Unknown(n) => Verdict::Incomplete(decoding.steps[n].spot),
+        RunOutcome::NotOne => Verdict::Wrong(ProofNumber::P14, closing_spot(words)),
+        RunOutcome::Other => Verdict::Wrong(ProofNumber::P15, closing_spot(words)),
     }
 }
 
 /// How many of this many steps are done in a run that came to this.
-fn steps_done(outcome: Outcome, steps: usize) -> usize
+fn steps_done(outcome: RunOutcome, steps: usize) -> usize
     requires { IsOutcomeWithin steps outcome }
     ensures value { result ≡ done_by steps outcome }
     ensures within { result ≤ steps }
 {
     match outcome {
-        Outcome::Proved | Outcome::NotOne | Outcome::Other => steps,
-        Outcome::Fault(_, n) => n + 1,
-        Outcome::Unknown(n) => n,
+        RunOutcome::Proved | RunOutcome::NotOne | RunOutcome::Other => steps,
+        RunOutcome::Fault(_, n) => n + 1,
+        RunOutcome::Unknown(n) => n,
     }
 }
 
@@ -131,7 +131,7 @@ fn run_front<'b>(
     alloc: Global,
     known: &mut Known<'b>,
     proof: DecodedProof<'b, '_>,
-) -> Result<Option<Outcome>, AllocError>
+) -> Result<Option<RunOutcome>, AllocError>
     requires decoded { IsDecoded proof }
     requires known { AreKnownOf proof.base.now known.old }
     ensures { IfOk result (λ found. IsFrontRun proof.entry found known.new) }
@@ -165,7 +165,7 @@ fn run_front<'b>(
         Front::Leaves(entries) => entries,
     };
     if takes_more(proof.base, labels, steps, count, entries) {
-        return Ok(Some(Outcome::Fault(ProofNumber::P07, count)));
+        return Ok(Some(RunOutcome::Fault(ProofNumber::P07, count)));
     }
     Ok(None)
 }
@@ -176,7 +176,7 @@ fn run_all<'b>(
     known: &mut Known<'b>,
     marks: &[bool],
     proof: DecodedProof<'b, '_>,
-) -> Result<Outcome, AllocError>
+) -> Result<RunOutcome, AllocError>
     requires decoded { IsDecoded proof }
     requires marks { AreUseMarks (length proof.decoding.now.labels.items) marks.now proof.decoding.now.steps.items }
     requires known { AreKnownOf proof.base.now known.old }
@@ -208,7 +208,7 @@ fn run_steps<'b>(
     known: &mut Known<'b>,
     marks: &[bool],
     proof: DecodedProof<'b, '_>,
-) -> Result<Outcome, AllocError>
+) -> Result<RunOutcome, AllocError>
     requires decoded { IsDecoded proof }
     requires marks { AreUseMarks (length proof.decoding.now.labels.items) marks.now proof.decoding.now.steps.items }
     requires known { AreKnownOf proof.base.now known.old }

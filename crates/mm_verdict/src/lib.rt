@@ -21,7 +21,7 @@ mod used;
 mod words;
 mod work;
 
-pub use assertion::{Parts, look_up};
+pub use assertion::{AssertionParts, look_up};
 pub use checker::Checker;
 pub use checking::check;
 pub use citing_laws::cites_tell;

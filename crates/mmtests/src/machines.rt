@@ -14,10 +14,12 @@ ghost use Rattle.mm_verdict.specs.Language.DecodedSteps.{AreEntriesOf, IsNamedBy
 ghost use Rattle.mm_verdict.specs.Language.ReadIn.{HasTheorem};
 
 use mm_machine::{
-    Active, Forms, Hypothesis, Machine, NamedSymbol, NumberedSymbol, Outcome, ProofStep, Use,
+    Active, Forms, Hypothesis, Machine, NamedSymbol, NumberedSymbol, ProofStep, RunOutcome, Use,
     numbers_keep_order, run,
 };
-use mm_verdict::{Base, Files, Known, Names, Parts, Program, Undecoded, look_up, program_of};
+use mm_verdict::{
+    AssertionParts, Base, Files, Known, Names, Program, Undecoded, look_up, program_of,
+};
 use std::alloc::{AllocError, Global};
 use std::mem;
 
@@ -115,7 +117,7 @@ fn lent_hypotheses<'a>(
 fn add_lent(
     alloc: Global,
     hypotheses: &[SpelledHypothesis],
-    parts: Parts<'_>,
+    parts: AssertionParts<'_>,
     forms: &mut Forms<NamedSymbol>,
 ) -> Result<(), AllocError>
     requires forms { AreForms named_symbol forms.old }
@@ -205,7 +207,7 @@ fn run_spelled(
     pairs: &[(NumberedSymbol, NumberedSymbol)],
     steps: &[ProofStep],
     statement: &[NumberedSymbol],
-) -> Result<Outcome, AllocError>
+) -> Result<RunOutcome, AllocError>
     requires holds { HoldsLasting machine.old }
     requires frames { AreForms named_symbol forms.now }
     requires within { AreUsesWithin machine.old forms.now uses.now }
@@ -250,7 +252,7 @@ fn run_by_names(
     program: &Program<'_>,
     pairs: &[(NumberedSymbol, NumberedSymbol)],
     statement: &[NumberedSymbol],
-) -> Result<Outcome, AllocError>
+) -> Result<RunOutcome, AllocError>
     requires entries { AreEntriesOf base.now program.now.known.cited.items }
     requires cited { length (frames_of by_code program.now.known.forms) ≡ length program.now.known.cited.items }
     requires pushed { program.now.known.machine.lasting ≡ length program.now.known.pushed.items }
@@ -279,13 +281,13 @@ fn run_by_names(
 }
 
 /// Whether two runs come to the same.
-fn is_same(one: Outcome, other: Outcome) -> bool {
+fn is_same(one: RunOutcome, other: RunOutcome) -> bool {
     match (one, other) {
-        (Outcome::Proved, Outcome::Proved)
-        | (Outcome::NotOne, Outcome::NotOne)
-        | (Outcome::Other, Outcome::Other) => true,
-        (Outcome::Fault(number, n), Outcome::Fault(same, m)) => number == same && n == m,
-        (Outcome::Unknown(n), Outcome::Unknown(m)) => n == m,
+        (RunOutcome::Proved, RunOutcome::Proved)
+        | (RunOutcome::NotOne, RunOutcome::NotOne)
+        | (RunOutcome::Other, RunOutcome::Other) => true,
+        (RunOutcome::Fault(number, n), RunOutcome::Fault(same, m)) => number == same && n == m,
+        (RunOutcome::Unknown(n), RunOutcome::Unknown(m)) => n == m,
         _ => false,
     }
 }
@@ -297,7 +299,7 @@ fn run_known(
     pairs: &[(NumberedSymbol, NumberedSymbol)],
     steps: &[ProofStep],
     statement: &[NumberedSymbol],
-) -> Result<Outcome, AllocError>
+) -> Result<RunOutcome, AllocError>
     requires holds { HoldsLasting known.old.machine }
     requires frames { AreForms by_code known.old.forms }
     requires within { AreUsesWithin known.old.machine known.old.forms known.old.uses.items }

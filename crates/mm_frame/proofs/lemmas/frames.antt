@@ -6,4 +6,5 @@ pub mod HypothesisNumbers
 pub mod MandatoryLemmas
 pub mod SameFrames
 pub mod SameLemmas
+pub mod SharedFrames
 pub mod VariableLemmas

@@ -3,3 +3,4 @@
 pub mod Growing
 pub mod Members
 pub mod Rising
+pub mod SharedValues

@@ -2,7 +2,7 @@
 use Rattle.std.specs.Prelude.{◌≡◌, ℕ, Bool, ◌&&◌, Some, IfSome, is_some, is_none, List, Option}
 use Rattle.std.specs.Option.{option_map}
 use Rattle.mm_frame.specs.declared.assertions.Assertions.{Assertions}
-use Rattle.mm_frame.specs.declared.frame.Frame.{Frame}
+use Rattle.mm_frame.specs.declared.frame.MadeFrame.{MadeFrame}
 use Rattle.mm_frame.specs.declared.pair_lists.PairLists.{PairLists}
 use Rattle.mm_statement.specs.Language.Item.{Said, is_assertion}
 use Rattle.mm_frame.specs.Language.Sound.{sound_items}
@@ -11,16 +11,20 @@ use Rattle.mm_frame.specs.Language.Base.{told_fault}
 use Rattle.mm_machine.specs.Language.NumberedSymbols.{ArePairsRead}
 use Rattle.mm_frame.specs.Language.Answering.{AreRows, told_numbers, is_told_proof, pairs_in_order}
 use Rattle.mm_frame.specs.Code.KeptAsked.{KnowsAsked}
-use Rattle.mm_frame.specs.Code.KeptPairLists.{IsList, AreMade}
+use Rattle.mm_frame.specs.Code.KeptPairLists.{AreFrontNumbers, IsList, AreMade}
+use Rattle.mm_frame.specs.Code.LastItems.{is_disjoint_item}
+use Rattle.mm_frame.specs.Language.Scope.{active_numbers}
 
 -- the item is a sound `$a` or `$p` after the sound items before it
 abbrev pub is_told_framed : List Said → Said → Bool
 is_told_framed before item = is_none (told_fault before item) && is_assertion item.kind
 
--- a frame is kept exactly for a sound `$a` or `$p`, and has the numbers and pairs of its frame after the sound items before it
-pub record TellsFrame (all : List (List ℕ)) (before : List Said) (item : Said) (kept_frame : Option Frame) : Type 0 where
-  pub hypotheses : option_map (λ frame. frame.hypotheses.items) kept_frame ≡ told_numbers before item
-  pub pairs : IfSome kept_frame (λ kept. ArePairsRead all (pairs_in_order (frame before item)) kept.pairs.items)
+-- a frame is kept exactly for a sound `$a` or `$p`, has the numbers and pairs of its frame after the sound items before it, and tells
+-- how many of these there are up to the last active `$d`
+pub record TellsFrame (all : List (List ℕ)) (before : List Said) (item : Said) (kept_frame : Option MadeFrame) : Type 0 where
+  pub hypotheses : option_map (λ made. made.frame.hypotheses.items) kept_frame ≡ told_numbers before item
+  pub pairs : IfSome kept_frame (λ made. ArePairsRead all (pairs_in_order (frame before item)) made.frame.pairs.items)
+  pub reach : IfSome kept_frame (λ made. AreFrontNumbers before (active_numbers is_disjoint_item before) made.reach)
 
 -- there is a number of a list exactly for a sound `$p`, and the list is of the pairs that are active there
 pub record TellsPairs (all : List (List ℕ)) (lists : PairLists) (before : List Said) (item : Said) (number : Option ℕ) : Type 0 where
@@ -29,7 +33,7 @@ pub record TellsPairs (all : List (List ℕ)) (lists : PairLists) (before : List
 
 -- the assertions are those of items that say this, by the numbers of names in the list of all
 pub record AreAssertions (all : List (List ℕ)) (said : List Said) (assertions : Assertions) : Type 0 where
-  pub frames : AreRows (TellsFrame all) said assertions.frames
+  pub frames : AreRows (TellsFrame all) said assertions.frames.kept
   pub made : AreMade all (sound_items said) assertions.pair_lists
   pub pair_numbers : AreRows (TellsPairs all assertions.pair_lists) said assertions.pair_numbers
   pub room : KnowsAsked all (sound_items said) assertions.room.asked

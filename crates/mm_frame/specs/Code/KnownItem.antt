@@ -3,7 +3,7 @@ use Rattle.std.specs.Prelude.{◌≡◌, ℕ, true, Some, List, map, slice_get, 
 use Rattle.std.specs.Option.{option_map}
 use Rattle.mm_store.specs.declared.item.Item as store
 use Rattle.mm_store.specs.Language.FilesView.{FilesView}
-use Rattle.mm_frame.specs.declared.again.Known.{Known}
+use Rattle.mm_frame.specs.declared.again.KnownStatement.{KnownStatement}
 use Rattle.mm_machine.specs.declared.symbol.NumberedSymbol.{NumberedSymbol}
 use Rattle.mm_statement.specs.Language.Item.{Said, is_read}
 use Rattle.mm_frame.specs.Language.Base.{BaseView, before, said_at, is_sound_at}
@@ -23,12 +23,12 @@ pub record IsAgain (found : List store.Item) (i : ℕ) (item : store.Item) : Typ
   pub same : AreOneRange was item
 
 -- what is known of an item is its label and the numbers of its symbols
-pub record IsKnownItem (names : List (List ℕ)) (files : FilesView) (item : store.Item) (known : Known) : Type 0 where
+pub record IsKnownItem (names : List (List ℕ)) (files : FilesView) (item : store.Item) (known : KnownStatement) : Type 0 where
   pub label : (said : Said) → Says files item said → option_map (λ label. label.now) known.label ≡ said.label
   pub symbols : (said : Said) → Says files item said → AreNameNumbers names (numbers_of known.symbols.now) said.symbols
 
 -- the item with this number in a base is the same bytes and sound, and what is known of it are the symbols that are kept there
-pub record IsSoundAgain (names : List (List ℕ)) (found : List store.Item) (base : BaseView) (i : ℕ) (item : store.Item) (known : Known) : Type 0 where
+pub record IsSoundAgain (names : List (List ℕ)) (found : List store.Item) (base : BaseView) (i : ℕ) (item : store.Item) (known : KnownStatement) : Type 0 where
   pub again : IsAgain found i item
   pub sound : is_sound_at base i ≡ true
   pub read : is_read (said_at base i).kind ≡ true

@@ -14,8 +14,8 @@ use Rattle.mm_machine.specs.declared.step.Action.TheVariants as actions
 use Rattle.mm_machine.specs.declared.step.ProofStep.{ProofStep}
 use Rattle.mm_machine.specs.declared.stepping.Front.{Front}
 use Rattle.mm_machine.specs.declared.stepping.Front.TheVariants.{Stops, Leaves}
-use Rattle.mm_machine.specs.declared.stepping.Outcome.{Outcome}
-use Rattle.mm_machine.specs.declared.stepping.Outcome.TheVariants.{Proved, Fault, Unknown, NotOne, Other}
+use Rattle.mm_machine.specs.declared.stepping.RunOutcome.{RunOutcome}
+use Rattle.mm_machine.specs.declared.stepping.RunOutcome.TheVariants.{Proved, Fault, Unknown, NotOne, Other}
 use Rattle.mm_machine.specs.declared.named.Use.{Use}
 use Rattle.mm_machine.specs.declared.named.Use.TheVariants as uses
 
@@ -78,7 +78,7 @@ abbrev pub actions_mean : List Step → List ProofStep → List Step
 actions_mean names steps = map (λ step. meant names step.action) steps
 
 -- what a run says of the steps of a proof
-abbrev pub RunSays : Setting → List Step → List Symbol → Outcome → Type 0
+abbrev pub RunSays : Setting → List Step → List Symbol → RunOutcome → Type 0
 RunSays place steps statement Proved = (run_part steps ≡ steps) × Reaches place steps (statement ∷ [])
 RunSays place steps statement (Fault number n) = IsStepFault place (run_part steps) n number
 RunSays place steps statement (Unknown n) = (n ≡ length (run_part steps)) × (run_part steps ≢ steps) × IsReached place steps
@@ -86,7 +86,7 @@ RunSays place steps statement NotOne = (run_part steps ≡ steps) × (stack : Li
 RunSays place steps statement Other = (run_part steps ≡ steps) × (e : List Symbol) × Reaches place steps (e ∷ []) × (e ≢ statement)
 
 -- the steps stop at one that is at fault or not known
-abbrev pub StopsAt : Setting → List Step → Outcome → Type 0
+abbrev pub StopsAt : Setting → List Step → RunOutcome → Type 0
 StopsAt place steps (Fault number n) = IsStepFault place (run_part steps) n number
 StopsAt place steps (Unknown n) = (n ≡ length (run_part steps)) × (run_part steps ≢ steps) × IsReached place steps
 StopsAt place steps _ = ⊥
@@ -101,7 +101,7 @@ FrontSays place steps (Stops outcome) = StopsAt place steps outcome
 FrontSays place steps (Leaves count) = (stack : List (List Symbol)) × AreDoneTo place steps stack × (length stack ≡ count)
 
 -- the step that an outcome names is one of this many
-abbrev pub IsOutcomeWithin : ℕ → Outcome → Type 0
+abbrev pub IsOutcomeWithin : ℕ → RunOutcome → Type 0
 IsOutcomeWithin steps (Fault number n) = n < steps
 IsOutcomeWithin steps (Unknown n) = n < steps
 IsOutcomeWithin steps _ = Unit {0}

@@ -2,8 +2,8 @@
 use Rattle.std.specs.Prelude.{◌≡◌, ◌≢◌, ℕ, ◌<◌, ◌↔◌, Some, List, ◌∷◌, ◌++◌, length, map, take, slice_get, All}
 use Rattle.mm_machine.specs.declared.symbol.NumberedSymbol.{NumberedSymbol}
 use Rattle.mm_machine.specs.declared.ProofNumber.TheVariants.{P07}
-use Rattle.mm_machine.specs.declared.stepping.Outcome.{Outcome}
-use Rattle.mm_machine.specs.declared.stepping.Outcome.TheVariants.{Fault}
+use Rattle.mm_machine.specs.declared.stepping.RunOutcome.{RunOutcome}
+use Rattle.mm_machine.specs.declared.stepping.RunOutcome.TheVariants.{Fault}
 use Rattle.mm_machine.specs.Language.Frame.{Symbol, Frame, Assertion, Setting, AreSamePairs}
 use Rattle.mm_machine.specs.Language.Typing.{IsFrame, HasFrames}
 use Rattle.mm_machine.specs.Language.Names.{AreDistinct}
@@ -46,12 +46,12 @@ NumbersKeepPlaces = (names : List (List ℕ)) (place : Setting) → HasFrames pl
 -- What a run says by numbers, it says by names.
 abbrev pub NumbersSayTheSame : Type 0
 NumbersSayTheSame =
-    (names : List (List ℕ)) (place : Setting) (steps : List Step) (statement : List Symbol) (outcome : Outcome) →
+    (names : List (List ℕ)) (place : Setting) (steps : List Step) (statement : List Symbol) (outcome : RunOutcome) →
     RunSays (renamed_setting (unnaming names) place) steps (map (unnaming names) statement) outcome → RunSays place steps statement outcome
 
 -- Steps that stop do so whatever comes after them.
 abbrev pub StopsStay : Type 0
-StopsStay = (place : Setting) (front behind : List Step) (outcome : Outcome) → StopsAt place front outcome → StopsAt place (front ++ behind) outcome
+StopsStay = (place : Setting) (front behind : List Step) (outcome : RunOutcome) → StopsAt place front outcome → StopsAt place (front ++ behind) outcome
 
 -- Steps that are all done, and then one that cites an assertion with more hypotheses than there are entries, stop at that one.
 abbrev pub LackStops : Type 0

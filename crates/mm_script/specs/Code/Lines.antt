@@ -1,7 +1,7 @@
 -- What lines of a script ask for, as they are read.
 use Rattle.std.specs.Prelude.{◌≡◌, ◌≢◌, ◌≤◌, ◌+◌, ℕ, List, [], ◌∷◌, ◌++◌, length, codes, decimal, take, drop}
 use Rattle.std.specs.List.{AllByRecursion, join_with_byte}
-use Rattle.mm_script.specs.declared.command.Part.{Part}
+use Rattle.mm_script.specs.declared.command.PendingRange.{PendingRange}
 use Rattle.mm_script.specs.declared.line.EditLine.{EditLine}
 use Rattle.mm_script.specs.declared.line.EditLine.TheVariants as edits
 use Rattle.mm_script.specs.declared.line.CommandLine.{CommandLine}
@@ -62,7 +62,7 @@ words_said line (edits.Delete file at) = codes "delete" ∷ bytes_of_part line f
 words_said line (edits.Move file at to) = codes "move" ∷ bytes_of_part line file ∷ decimal at ∷ decimal to ∷ []
 
 -- the part of the line is a name
-pub record IsNameIn (line : List ℕ) (part : Part) : Type 0 where
+pub record IsNameIn (line : List ℕ) (part : PendingRange) : Type 0 where
   pub within : IsPartWithin line part
   pub name : IsName (bytes_of_part line part)
 
@@ -78,7 +78,7 @@ pub record SaysEdit (line : List ℕ) (asked : EditLine) : Type 0 where
   pub is : line ≡ join_with_byte 32 (words_said line asked)
 
 -- the line is this word and a label
-pub record SaysLabel (line word : List ℕ) (label : Part) : Type 0 where
+pub record SaysLabel (line word : List ℕ) (label : PendingRange) : Type 0 where
   pub good : IsNameIn line label
   pub is : line ≡ word ++ 32 ∷ bytes_of_part line label
 

@@ -2,7 +2,7 @@
 use Rattle.std.specs.Prelude.{◌≡◌, ◌≤◌, ◌+◌, ◌*◌, ◌⊎◌, ℕ, true, false, Option, unwrap_or, List, Contains, [], ◌∷◌, ◌++◌, length, map, drop, replicate, slice_range}
 use Rattle.std.specs.Io.KnownBytes.{Consumes, IsAtEnd}
 use Rattle.mm_text.specs.Language.Asked.{Asked, Insert, Replace, Delete, Move}
-use Rattle.mm_script.specs.declared.command.Part.{Part}
+use Rattle.mm_script.specs.declared.command.PendingRange.{PendingRange}
 use Rattle.mm_script.specs.declared.command.EditAt.{EditAt}
 use Rattle.mm_script.specs.declared.command.EditAt.TheVariants as edits
 use Rattle.mm_script.specs.declared.command.CommandAt.{CommandAt}
@@ -34,11 +34,11 @@ pub record ReadsOn (old new : Input) (unread left : Option (List ℕ)) : Type 0 
   pub are : pending old ++ part ≡ replicate blanks 10 ++ pending new
 
 -- the bytes of a part
-abbrev pub bytes_of_part : List ℕ → Part → List ℕ
+abbrev pub bytes_of_part : List ℕ → PendingRange → List ℕ
 bytes_of_part bytes part = slice_range bytes part.start part.end
 
 -- the part is within the bytes
-pub record IsPartWithin (bytes : List ℕ) (part : Part) : Type 0 where
+pub record IsPartWithin (bytes : List ℕ) (part : PendingRange) : Type 0 where
   pub ordered : part.start ≤ part.end
   pub within : part.end ≤ length bytes
 

@@ -8,7 +8,7 @@ use Rattle.mm_text.specs.Language.Reading.{HasWords}
 use Rattle.mm_text.specs.Language.Cut.{HoldsOneUnit}
 use Rattle.mm_text.specs.Language.Part.{part_bytes}
 use Rattle.mm_store.specs.declared.item.Item.{Item}
-use Rattle.mm_store.specs.declared.walk.Spot.{Spot}
+use Rattle.mm_store.specs.declared.walk.PlacedPiece.{PlacedPiece}
 use Rattle.mm_store.specs.Language.FilesView.{PieceView, FileView}
 use Rattle.mm_store.specs.Language.FileFacts.{second_word}
 use Rattle.mm_store.specs.Language.Expansion.{Named, placed_item, placed_part, nameless}
@@ -23,7 +23,7 @@ IsNamed text named =
     → named.name ≡ second_word (part_bytes text named.part) words
 
 -- the item that a part of a piece is
-abbrev pub item_of_part : Spot → Part → Item
+abbrev pub item_of_part : PlacedPiece → Part → Item
 item_of_part spot part = placed_item (placed_part spot.file spot.piece spot.key (nameless part))
 
 -- each piece of these files holds one unit

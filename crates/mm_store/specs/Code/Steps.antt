@@ -1,7 +1,7 @@
 -- The steps of a walk through the files.
 use Rattle.std.specs.Prelude.{◌≡◌, ℕ, ◌+◌, ◌<◌, true, false, List, [], ◌∷◌, ◌++◌, Option, Some, None, Contains, slice_get, ◌⊎◌}
 use Rattle.std.specs.List.{AllByRecursion}
-use Rattle.mm_store.specs.declared.walk.Spot.{Spot}
+use Rattle.mm_store.specs.declared.walk.PlacedPiece.{PlacedPiece}
 use Rattle.mm_store.specs.declared.walk.Step.{Step}
 use Rattle.mm_store.specs.declared.walk.Step.TheVariants as steps
 use Rattle.mm_store.specs.Language.FilesView.{PieceView, FileView, number_of}
@@ -46,7 +46,7 @@ pub record Includes (file number : ℕ) (piece : PieceView) (name : List ℕ) : 
   pub is_inclusion : IsInclusion part
   pub is_name : part.name ≡ name
 
-abbrev pub spot_at : LevelView → PieceView → Spot
+abbrev pub spot_at : LevelView → PieceView → PlacedPiece
 spot_at level piece = record { file = level.file; piece = level.piece; key = piece.key }
 
 -- the walk leaves a file that has no more pieces, or that is not there
@@ -82,7 +82,7 @@ pub record Enters (files : List FileView) (old new : WalkView) : Type 0 where
   pub after : new ≡ record { names = old.names ++ name ∷ []; levels = (front ++ behind level ∷ []) ++ beginning number ∷ []; told = false }
 
 -- the walk goes past a piece that includes nothing
-pub record Passes (files : List FileView) (old : WalkView) (spot : Spot) (new : WalkView) : Type 0 where
+pub record Passes (files : List FileView) (old : WalkView) (spot : PlacedPiece) (new : WalkView) : Type 0 where
   pub front : List LevelView
   pub level : LevelView
   pub piece : PieceView
@@ -92,7 +92,7 @@ pub record Passes (files : List FileView) (old : WalkView) (spot : Spot) (new : 
   pub after : new ≡ record { names = old.names; levels = front ++ behind level ∷ []; told = false }
 
 -- the walk goes past a reference to a missing file that was reported
-pub record PassesTold (files : List FileView) (old : WalkView) (spot : Spot) (new : WalkView) : Type 0 where
+pub record PassesTold (files : List FileView) (old : WalkView) (spot : PlacedPiece) (new : WalkView) : Type 0 where
   pub front : List LevelView
   pub level : LevelView
   pub piece : PieceView
@@ -125,7 +125,7 @@ IsStep files old (steps.Items spot) new = Passes files old spot new ⊎ PassesTo
 IsStep files old (steps.Missing name) new = Tells files old name.items new
 
 -- the next piece of the innermost file is a reference to this name
-pub record IsReference (files : List FileView) (levels : List LevelView) (spot : Spot) (name : List ℕ) : Type 0 where
+pub record IsReference (files : List FileView) (levels : List LevelView) (spot : PlacedPiece) (name : List ℕ) : Type 0 where
   pub front : List LevelView
   pub level : LevelView
   pub piece : PieceView

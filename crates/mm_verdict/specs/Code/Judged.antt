@@ -6,8 +6,8 @@ use Rattle.mm_frame.specs.Language.Answering.{IsBase}
 use Rattle.mm_verdict.specs.Language.VerdictAt.{decoding_at, mandatory_labels}
 use Rattle.mm_verdict.specs.Language.DecodedSteps.{decoded_steps, AreEntries, entry_steps, label_table}
 use Rattle.mm_verdict.specs.declared.reading.Decoding.{Decoding}
-use Rattle.mm_machine.specs.declared.stepping.Outcome.{Outcome}
-use Rattle.mm_machine.specs.declared.stepping.Outcome.TheVariants.{Proved, Fault, Unknown, NotOne, Other}
+use Rattle.mm_machine.specs.declared.stepping.RunOutcome.{RunOutcome}
+use Rattle.mm_machine.specs.declared.stepping.RunOutcome.TheVariants.{Proved, Fault, Unknown, NotOne, Other}
 
 -- the code's base answers this, by what its items' words say, and the item with this number is a sound `$p` with a proof of
 -- these words
@@ -41,7 +41,7 @@ abbrev pub HasDecoding : Base → ℕ → List (List ℕ) → Decoding → Type 
 HasDecoding code i proof d = (view : BaseView) × IsDecoding code i proof d view × (i < length view)
 
 -- how many of this many steps are done
-abbrev pub done_by : ℕ → Outcome → ℕ
+abbrev pub done_by : ℕ → RunOutcome → ℕ
 done_by steps Proved = steps
 done_by steps (Fault number n) = n + 1
 done_by steps (Unknown n) = n

@@ -9,7 +9,7 @@ use Rattle.mm_frame.specs.Code.{KeptSymbols.{AreSymbols, expression_kept, kept_o
 use Rattle.mm_frame.specs.Code.{KeptAssertions.{TellsFrame, TellsPairs}, KeptBase.{AreParts, is_float_item, frame_told, list_told}, KeptSparse.{value_or_none, value_kept}}
 use Rattle.mm_frame.specs.Language.{Base.{told_fault, AreLabelled, BaseView, before, said_at, fault_at, is_sound_at, is_proof_at}, Sound.{fault, sound_items}, Framing.{active_pairs, expression}}
 use Rattle.mm_frame.specs.{Language.{Resolving.{IsCarrier}, Answering.{AreRows, IsLabelTold, IsExpressionTold, IsFrameTold, AreActiveTold, BaseAnswers, IsBaseBy}}, declared.FrameNumber.{FrameNumber}}
-use Rattle.mm_frame.specs.declared.{frame.Frame.{Frame}, parts.Parts.{Parts}, base.Base.TheInside.{Inside}, pair_lists.PairLists.{PairLists}}
+use Rattle.mm_frame.specs.declared.{frame.{Frame.{Frame}, MadeFrame.{MadeFrame}}, parts.BaseParts.{BaseParts}, base.Base.TheInside.{Inside}, pair_lists.PairLists.{PairLists}}
 use Rattle.mm_machine.specs.Language.{NumberedSymbols.{AreInOrder, AreSamePairsRead, symbols_of, kept_pairs, IsNumbered, ArePairsRead}, Names.{AreDistinct}, Frame.{Symbol, AreSamePairs}}
 use Rattle.mm_machine.specs.declared.symbol.NumberedSymbol.{NumberedSymbol}
 use Rattle.mm_statement.specs.Language.Item.{passed, Said, is_kind, Floating, is_labelled, is_read, item_at}
@@ -32,7 +32,7 @@ rows_told : {X Y : Type 0} (f : X → Y) (tells : List Said → Said → X → T
 rows_told f tells told step said rows are = grind (arith, common_steps, length-map rows f, are.each, told_from) steps 200000
 
 -- the frame
-pub hypotheses_told : (kept : Option Frame) → option_map (λ it. it.0) (frame_told kept) ≡ option_map (λ (frame : Frame). frame.hypotheses.items) kept
+pub hypotheses_told : (kept : Option MadeFrame) → option_map (λ it. it.0) (frame_told kept) ≡ option_map (λ (frame : Frame). frame.hypotheses.items) (option_map (λ (made : MadeFrame). made.frame) kept)
 hypotheses_told kept = grind (arith, common_steps) steps 200000
 
 -- all active pairs
@@ -84,7 +84,8 @@ expression_numbered all said expressions i are = by (slice_get expressions i) re
     by (Some symbols) e = (are.each i symbols e).numbered
 
 -- the pairs of a frame that is lent
-pub order_told : (all : List (List ℕ)) (pairs : List (Symbol × Symbol)) (lent : Option (Bor Frame)) (kept : Option Frame) → option_map (λ frame. frame.now) lent ≡ kept → IfSome (frame_told kept) (λ it. ArePairsRead all pairs it.1)
+pub order_told : (all : List (List ℕ)) (pairs : List (Symbol × Symbol)) (lent : Option (Bor Frame)) (kept : Option MadeFrame) → option_map (λ frame. frame.now) lent ≡ option_map (λ (made : MadeFrame). made.frame) kept
+    → IfSome (frame_told kept) (λ it. ArePairsRead all pairs it.1)
     → IfSome lent (λ frame. ArePairsRead all pairs frame.now.pairs.items)
 order_told all pairs lent kept e told = grind (arith, common_steps) steps 200000
 
@@ -98,7 +99,7 @@ told_at f told said kept are i beyond = by (slice_get kept i) refl
     by None e = beyond (row_none told said (map f kept) i are (slice_get-map f kept i ∙ ap (option_map f) e))
 
 -- the frame that is kept of an item
-pub frame_in : (all : List (List ℕ)) (base : BaseView) (answers : BaseAnswers) (frames : List (Option Frame)) → map frame_told frames ≡ answers.frames → IsBaseBy all base answers → (i : ℕ)
+pub frame_in : (all : List (List ℕ)) (base : BaseView) (answers : BaseAnswers) (frames : List (Option MadeFrame)) → map frame_told frames ≡ answers.frames → IsBaseBy all base answers → (i : ℕ)
     → IsFrameTold all (before base i) (said_at base i) (frame_told (value_kept frames i))
 frame_in all base answers frames same is i =
     told_at frame_told (IsFrameTold all) base frames (subst (AreRows (IsFrameTold all) base) (sym same) is.frames) i
@@ -147,7 +148,7 @@ carrier_told base rows are label j = (
         record { shown = and_from (is_sound_at base j) (is_labelled (said_at base j).kind) (ap is_none (sym told.fault)) (sym told.labelled); label_is = sym told.label }
 
 -- the tables know it
-pub labels_told : (all : List (List ℕ)) (base : BaseView) (parts : Parts) → AreParts all base parts → (label : List ℕ) (j : ℕ) → (table_label parts.tables label ≡ Some j) ↔ (slice_get (rows_of parts.rows) j ≡ Some (Some label, None))
+pub labels_told : (all : List (List ℕ)) (base : BaseView) (parts : BaseParts) → AreParts all base parts → (label : List ℕ) (j : ℕ) → (table_label parts.tables label ≡ Some j) ↔ (slice_get (rows_of parts.rows) j ≡ Some (Some label, None))
 labels_told all base parts are label j =
     grind (arith, common_steps, carrier_told base (rows_of parts.rows) are.rows label j, are.labels label, (carrier_told base (rows_of parts.rows) are.rows label j).0, found_carrier, carrier_found) steps 200000
 

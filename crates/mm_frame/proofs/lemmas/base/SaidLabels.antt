@@ -1,6 +1,6 @@
 -- Each item of a kind that has a label has one: the first of its words.
-use Rattle.std.{proofs.{Common.{arith, ◌≡◌, ◌<◌, ℕ, zero, suc, true, cond, Some, None, List, [], ◌∷◌, length, slice_range, sym, ◌∙◌, ap}, lemmas.Bool.{and_parts, false≢true}}, specs.List.{AllZip}}
-use Rattle.mm_frame.specs.Language.{Base.{BaseView, AreLabelled, said_at, is_sound_at, is_shown_at}, Laws.{ItemsHaveLabels, SaidAreLabelled}}
+use Rattle.std.proofs.{Common.{arith, ◌≡◌, ◌<◌, ℕ, zero, suc, true, cond, Some, None, List, [], ◌∷◌, length, slice_range, sym, ◌∙◌, ap}, lemmas.Bool.{and_parts, false≢true}}
+use Rattle.mm_frame.specs.Language.{Base.{said_at, is_sound_at}, Laws.{ItemsHaveLabels, SaidAreLabelled}}
 use Rattle.mm_store.specs.mm_text.{declared.word.Word.{Word}, Language.Unit.{tokens_of}}
 use Rattle.mm_statement.specs.Language.{Item.{Kind, Said, is_labelled}, Statement.{kind_of, label_in}}
 

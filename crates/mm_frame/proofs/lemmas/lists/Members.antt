@@ -1,8 +1,8 @@
 -- What is in a list, by recursion, and what tests find.
 use Rattle.std.proofs.lemmas.{Option.{slice_get_read, slice_get_within, slice_get-get_or, get_or_from_slice_get}, List.{length-take, get_or-take}, Grind.{common_steps}}
 use Rattle.std.proofs.lemmas.{Bool.{or_cases, false≢true, or_left, or_right}, Slice.Eq.{bytes_eq-Decides}}
-use Rattle.std.proofs.Common.{◌+◌, ◌∙◌, take, arith, ◌≡◌, ℕ, zero, suc, ◌<◌, Bool, true, false, cond, Some, List, [], ◌∷◌, ◌++◌, length, map, filter, flat_map, bytes_eq, slice_get, refl, sym, ap}
-use Rattle.std.proofs.Common.{subst, inl, inr, ◌⊎◌, Contains}
+use Rattle.std.proofs.Common.{◌∙◌, take, arith, ◌≡◌, ℕ, zero, suc, ◌<◌, Bool, true, false, cond, Some, List, [], ◌∷◌, ◌++◌, length, map, filter, flat_map, bytes_eq, slice_get, refl, sym, ap, subst}
+use Rattle.std.proofs.Common.{inl, inr, ◌⊎◌, Contains}
 use Rattle.mm_statement.specs.Language.Item.{Kind, Said, has}
 use Rattle.mm_frame.specs.Language.Scope.{symbols_by}
 

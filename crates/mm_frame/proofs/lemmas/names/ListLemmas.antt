@@ -1,6 +1,6 @@
 -- Lists of symbols by their numbers: a list by its part, a list that is there, and lists that keep their numbers.
 use Rattle.std.proofs.lemmas.{Grind.{common_steps}, Option.{slice_get-get_or, slice_get_past}, List.Elements.{All-head, All-tail}}
-use Rattle.std.proofs.Common.{◌≡◌, ℕ, ◌-◌, ◌<◌, ◌≤◌, Some, List, [], ◌∷◌, length, map, slice_get, get_or, refl, sym, ◌∙◌, ap, arith, All}
+use Rattle.std.proofs.Common.{◌≡◌, ℕ, ◌<◌, ◌≤◌, Some, List, [], ◌∷◌, length, map, slice_get, get_or, refl, sym, ◌∙◌, ap, arith, All}
 use native.Mathlib.Decide.{dec_lt}
 use Rattle.mm_machine.specs.declared.symbol.NumberedSymbol.{NumberedSymbol}
 use Rattle.mm_frame.specs.Code.{KeptSymbols.{kept_or_none, expression_kept}, KeptExpressions.{KeepsExpressions}, KeptParts.{cut_from, start_at}}

@@ -9,11 +9,11 @@ use Rattle.mm_frame.specs.Language.{Scope.{active, active_numbers}, Sound.{IsSou
 use Rattle.mm_frame.specs.Language.Framing.{symbol, expression, mandatory_variables, is_mandatory, hypothesis, mandatory_hypotheses, pairs_of, active_pairs, is_mandatory_pair, frame}
 use Rattle.mm_frame.specs.{Language.{Framing.{mandatory_numbers}, Answering.{are_paired, typed_variables, pairs_in_order}}, Code.LastItems.{is_active_at, is_essential_item}}
 use Rattle.mm_frame.specs.Code.{KeptSymbols.{expression_kept, AreExpressions, AreNumbered}, PairOrder.{is_among, float_variable, float_variables}}
-use Rattle.mm_frame.proofs.lemmas.pairs.ActivePairLemmas.{all_next, row_next, expression_at_number, pairs_with, in_order, is_pair, SameNames, same_names, found_pair, to_paired, pair_here, pair_turned}
-use Rattle.mm_frame.proofs.lemmas.{pairs.ActivePairLemmas.{apart_active}, lists.Members.{In, in_contains, contains_in, from_map, in_filter, from_filter, in_flat, from_flat}}
+use Rattle.mm_frame.proofs.lemmas.pairs.ActivePairLemmas.{all_next, flat_of_map, row_next, expression_at_number, pairs_with, in_order, is_pair, SameNames, same_names, found_pair, to_paired, pair_here}
+use Rattle.mm_frame.proofs.lemmas.{pairs.ActivePairLemmas.{pair_turned, apart_active}, lists.Members.{In, in_contains, contains_in, from_map, in_filter, from_filter, in_flat, from_flat}}
 use Rattle.mm_frame.proofs.lemmas.{lists.Rising.{in_among, among_in}, scope.{Facts.{float_two}, SoundItems.{split_at, filter_same}}}
 use Rattle.mm_frame.proofs.lemmas.frames.Frames.{in_at, float_of, float_name, float_labelled, from_pairs, pairs_typed_at, assertion_expression}
-use Rattle.mm_frame.proofs.lemmas.frames.{HypothesisNumbers.{to_active_number, from_active_number}, MandatoryLemmas.{not_both}}
+use Rattle.mm_frame.proofs.lemmas.frames.{HypothesisNumbers.{hypotheses_by_numbers, to_active_number, from_active_number}, MandatoryLemmas.{not_both}}
 use Rattle.mm_statement.specs.Language.Item.{Said, passed, is_kind, Essential, Floating, is_assertion, has, variable_of, item_at}
 
 -- the variables of the mandatory `$f`
@@ -50,6 +50,12 @@ variables_at all before item expressions n h a m =
           ∙ second_read all (expression_kept expressions n)
           ∙ ap (λ w. option_to_list (slice_get w 1)) ((a n x there labelled ∙ sym (expression_at_number before h n x there stayed labelled)) ∙ symbols)
           ∙ sym (ap (λ b. variables_if b (expression before x)) f ∙ ap (drop 1) symbols)
+
+-- the variables of the mandatory `$f`, by the numbers of these
+pub typed_by_numbers : (before : List Said) (item : Said) → typed_variables (mandatory_hypotheses before item)
+    ≡ flat_map (λ n. variables_if (is_kind Floating (item_at before n).kind) (expression before (item_at before n))) (mandatory_numbers before item)
+typed_by_numbers before item = ap typed_variables (hypotheses_by_numbers before item)
+    ∙ flat_of_map (λ (x : Mandatory). variables_if x.floating x.expression) (λ n. hypothesis before (item_at before n)) (mandatory_numbers before item)
 
 pub read_each : {X : Type 0} (all : List (List ℕ)) (f : X → List NumberedSymbol) (xs : List X) → symbols_of all (flat_map f xs) ≡ flat_map (λ x. symbols_of all (f x)) xs
 read_each all f [] = refl

@@ -3,12 +3,12 @@ use Rattle.std.proofs.lemmas.{Grind.{common_steps}, List.{take-append-le}, Optio
 use Rattle.std.proofs.Common.{◌≡◌, ◌≢◌, ℕ, ◌+◌, ◌<◌, List, ◌∷◌, ◌++◌, length, refl, sym, ◌∙◌, ap, subst, arith, [], inl, inr}
 use Rattle.mm_machine.specs.Language.{Frame.{Symbol, Frame, LabelMeaning, Assertion, Setting}, Typing.{HasFrames}, Expansion.{Step, Named, NotKnown}, Faults.{LabelFails, IsLowest}}
 use Rattle.mm_machine.specs.{Language.{Reaches.{Reaches, IsStepFault}, Run.{run_part}, NamedSteps.{AreDoneTo, RunSays, StopsAt}}, declared.ProofNumber.{ProofNumber, TheVariants.{P07}}}
-use Rattle.mm_machine.{specs.declared.stepping.Outcome.{Outcome, TheVariants.{Fault, Unknown}}, proofs.lemmas.machine.{CitingFaults.{says07}, Reaching.{at_start}}}
+use Rattle.mm_machine.{specs.declared.stepping.RunOutcome.{RunOutcome, TheVariants.{Fault, Unknown}}, proofs.lemmas.machine.{CitingFaults.{says07}, Reaching.{at_start}}}
 use Rattle.mm_machine.proofs.lemmas.machine.{Running.{faulty, runs_reach, runs_follow}, StepLemmas.{kept_at}}
 use Rattle.mm_machine.proofs.lemmas.verdicts.Part.{AreKnown, all_known, known_or_not, not_all_run, part_none, part_one, run_or_unknown}
 
 -- if steps stop, a run says so, whatever the statement is
-pub stopped_says : (place : Setting) (steps : List Step) (statement : List Symbol) (outcome : Outcome) → StopsAt place steps outcome → RunSays place steps statement outcome
+pub stopped_says : (place : Setting) (steps : List Step) (statement : List Symbol) (outcome : RunOutcome) → StopsAt place steps outcome → RunSays place steps statement outcome
 stopped_says place steps statement outcome s = grind (arith, common_steps) steps 200000
 
 -- what is run of more steps begins like what is run of the first of them
@@ -42,7 +42,7 @@ not_run_longer front behind n all = elim (run_or_unknown front) [
 ]
 
 -- if the first steps stop, all stop
-pub stops_on : (place : Setting) (front behind : List Step) (outcome : Outcome) → StopsAt place front outcome → StopsAt place (front ++ behind) outcome
+pub stops_on : (place : Setting) (front behind : List Step) (outcome : RunOutcome) → StopsAt place front outcome → StopsAt place (front ++ behind) outcome
 stops_on place front behind (Fault number n) s = grind (arith, common_steps, part_longer front behind, fault_longer place (run_part front) (part_longer front behind).0 n number s) steps 200000
 stops_on place front behind (Unknown n) s =
     let same = part_stays front behind s.1 in

@@ -4,7 +4,7 @@ use Rattle.std.proofs.Common.{◌≡◌, ◌≢◌, ℕ, true, List, map, get_or
 use Rattle.mm_machine.specs.Language.{Frame.{Symbol, Mandatory, Frame, LabelMeaning, Assertion, Setting, ArePair, AreSamePairs}, Typing.{IsTyped, IsTyping, IsFrame, HasFrames}}
 use Rattle.mm_machine.specs.Language.{Renaming.{IsRenaming, renamed_pair, renamed_pairs, renamed_mandatory, renamed_frame, renamed_meaning, renamed_setting}, Names.{AreDistinct}}
 use Rattle.mm_machine.specs.Language.{NumberedSymbols.{kept_pairs, IsPairNumbered, by_number}, Expansion.{Step}, CitedFrames.{meant_pairs}, NamedSteps.{RunSays}, Numbering.{naming, unnaming}}
-use Rattle.mm_machine.{specs.declared.{symbol.NumberedSymbol.{NumberedSymbol}, stepping.Outcome.{Outcome}}, proofs.lemmas.renaming.NumberingLemmas.{naming_is_renaming, pairs_numbered}}
+use Rattle.mm_machine.{specs.declared.{symbol.NumberedSymbol.{NumberedSymbol}, stepping.RunOutcome.{RunOutcome}}, proofs.lemmas.renaming.NumberingLemmas.{naming_is_renaming, pairs_numbered}}
 use Rattle.mm_machine.proofs.lemmas.renaming.RenamingLemmas.{map_back, contains_map, contains_back, pair_there, pair_back, renaming_back, mandatory_there, has_there, has_back, setting_back}
 use Rattle.mm_machine.proofs.lemmas.renaming.RenamingLemmas.{run_renamed}
 
@@ -79,7 +79,7 @@ module _ (names : List (List ℕ)) where
   frames_by_number place has = frames_renamed (unnaming names) (naming names) by_numbers place has
 
   -- what a run says by numbers, it says by names
-  pub run_named : (place : Setting) (steps : List Step) (statement : List Symbol) (outcome : Outcome) →
+  pub run_named : (place : Setting) (steps : List Step) (statement : List Symbol) (outcome : RunOutcome) →
       RunSays (renamed_setting (unnaming names) place) steps (map (unnaming names) statement) outcome → RunSays place steps statement outcome
   run_named place steps statement outcome says =
       subst₂ (λ (p : Setting) (e : List Symbol). RunSays p steps e outcome) (setting_back (unnaming names) (naming names) by_numbers place)

@@ -9,9 +9,9 @@ use Rattle.mm_machine.specs.Language.{Faults.{AnyZip, UnderSubstitution, LackPai
 use Rattle.mm_machine.specs.Language.{Verdict.{Decoded, IsVerdictOnSteps}, SameProof.{IsSameStep, IsSameProof}}
 use Rattle.mm_machine.specs.Language.Renaming.{IsRenaming, renamed_pair, renamed_pairs, renamed_mandatory, renamed_frame, renamed_meaning, IsRenamedSetting, renamed_setting}
 use Rattle.mm_machine.specs.{Language.{Laws.{RenamingKeepsVerdict}, NamedSteps.{RunSays}}, declared.ProofNumber.{ProofNumber, TheVariants.{P07, P08, P09, P10, P11, P12, P13, P14, P15}}}
-use Rattle.mm_machine.{specs.declared.{Verdict.{Verdict, TheVariants.{Proved, Incomplete, Wrong}}, stepping.Outcome.{Outcome}}, proofs.lemmas.verdicts.Moving.{verdict_moved}}
+use Rattle.mm_machine.{specs.declared.{Verdict.{Verdict, TheVariants.{Proved, Incomplete, Wrong}}, stepping.RunOutcome.{RunOutcome}}, proofs.lemmas.verdicts.Moving.{verdict_moved}}
 use Rattle.mm_machine.proofs.lemmas.lists.Zips.{any_at, any_place}
-use Rattle.mm_machine.specs.declared.stepping.Outcome.TheVariants as outcomes
+use Rattle.mm_machine.specs.declared.stepping.RunOutcome.TheVariants as outcomes
 
 -- a list under a map, and under its inverse
 pub map_back : {X Y : Type 0} (f : X → Y) (g : Y → X) → ((x : X) → g (f x) ≡ x) → (xs : List X) → map g (map f xs) ≡ xs
@@ -223,7 +223,7 @@ fault_renamed to back is place steps n number f = record {
 
 -- what a run says of steps, it says of the renamed statement at the renamed place
 pub run_renamed :
-    (to back : Symbol → Symbol) → IsRenaming to back → (place : Setting) (steps : List Step) (statement : List Symbol) (outcome : Outcome) →
+    (to back : Symbol → Symbol) → IsRenaming to back → (place : Setting) (steps : List Step) (statement : List Symbol) (outcome : RunOutcome) →
     RunSays place steps statement outcome → RunSays (renamed_setting to place) steps (map to statement) outcome
 run_renamed to back is place steps statement outcomes.Proved r = (r.0, reached_renamed to back is place steps (statement ∷ []) r.1)
 run_renamed to back is place steps statement (outcomes.Fault number n) r = fault_renamed to back is place (run_part steps) n number r

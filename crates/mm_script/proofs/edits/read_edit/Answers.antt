@@ -1,5 +1,5 @@
 use Rattle.std.proofs.{Common.{arith, subst, inl, refl, rules}, lemmas.{Bool.{not-false, not-true}, Grind.{common_steps}}}
-use Rattle.mm_script.specs.{declared.{command.Part.{Part}, error.ScriptError.{ScriptError}}, Code.{Growing.{line_bytes}, Lines.{SaysEdit}}, Language.Commands.{pending}}
+use Rattle.mm_script.specs.{declared.{command.PendingRange.{PendingRange}, error.ScriptError.{ScriptError}}, Code.{Growing.{line_bytes}, Lines.{SaysEdit}}, Language.Commands.{pending}}
 use Rattle.mm_script.proofs.{GrowLemmas.{few_pending, same_error}, EditLemmas.{asks_insert, asks_replace, plain_read, text_fails, text_line_last, text_read}}
 use Rattle.mm_text.specs.Language.Asked as ask
 use Rattle.mm_script.specs.declared.command.EditAt.TheVariants as found
@@ -17,7 +17,7 @@ returns-in_err-text-in-Insert g c =
     c.in-Insert.is c.requires.says) in
     let fails = c.in_err-text-in-Insert.ensures in
     let text = text_fails c.args.input.now c.read_text.new.input _ _ c.args.line _ _ asks c.requires.line fails.grows (not-false _ c.if-not-line.false) in
-    let same = λ (e : ScriptError). same_error {T = Part} c.from_residual.result c.in_err-text-in-Insert.field-0.0 e c.from_residual.ensures.1 in
+    let same = λ (e : ScriptError). same_error {T = PendingRange} c.from_residual.result c.in_err-text-in-Insert.field-0.0 e c.from_residual.ensures.1 in
     record {
       grows = fails.grows;
       edit = search rules;
@@ -54,7 +54,7 @@ returns-in_err-text-in-Replace g c =
     let fails = c.in_err-text-in-Replace.ensures in
     let text = text_fails c.args.input.now c.read_text-in-Replace.new.input _ _ c.args.line _ _ asks c.requires.line fails.grows
     (not-false _ c.if-not-line-2.false) in
-    let same = λ (e : ScriptError). same_error {T = Part} c.from_residual-in_err-text-in-Replace.result c.in_err-text-in-Replace.field-0.0 e
+    let same = λ (e : ScriptError). same_error {T = PendingRange} c.from_residual-in_err-text-in-Replace.result c.in_err-text-in-Replace.field-0.0 e
     c.from_residual-in_err-text-in-Replace.ensures.1 in
     record {
       grows = fails.grows;

@@ -1,7 +1,7 @@
 -- The steps of a walk do not go by keys.
 use Rattle.std.{proofs.{Common.{rules, arith, ◌≡◌, ℕ, List, [], ◌∷◌, map, refl, sym, ap, ◌∙◌, subst, inl, inr}, lemmas.{Grind.{common_steps}, Option.{slice_get-map}}}, specs.List.{AllByRecursion}}
 use Rattle.std.specs.Option.{option_map}
-use Rattle.mm_store.specs.{declared.walk.Spot.{Spot}, Language.{FilesView.{PieceView, FileView, FilesView, files_in, plain, number_of}, Expansion.{Placed, IsInclusion}}}
+use Rattle.mm_store.specs.{declared.walk.PlacedPiece.{PlacedPiece}, Language.{FilesView.{PieceView, FileView, FilesView, files_in, plain, number_of}, Expansion.{Placed, IsInclusion}}}
 use Rattle.mm_store.specs.{Language.{Keyless.{bare, keyless_placed}, Walking.{LevelView, WalkView}}, Code.Gains.{HoldUnits}}
 use Rattle.mm_store.{specs.Code.Steps.{piece_at, IsHere, IncludesNothing, Includes, spot_at, Tells, IsStep}, proofs.lemmas.files.ViewLemmas.{there_from_map}}
 use Rattle.mm_store.proofs.lemmas.expansion.KeylessLemmas.{keyless_piece, keyless_file, number_keyless, parts_keyless, keyless_bare}
@@ -42,7 +42,7 @@ module _ (files : List FileView) where
       after = e.after;
     }))
 
-    items_step : (spot : Spot) → IsStep files old (steps.Items spot) new → (other : Spot) × IsStep (map keyless_file files) old (steps.Items other) new
+    items_step : (spot : PlacedPiece) → IsStep files old (steps.Items spot) new → (other : PlacedPiece) × IsStep (map keyless_file files) old (steps.Items other) new
     items_step spot (inl p) = (
       spot_at p.level (keyless_piece p.piece),
       inl (record {
@@ -86,7 +86,7 @@ module _ (view : FilesView) where
     pub bare_nothing : IsStep (files_in view) old steps.Nothing new → IsStep (bare (plain view)) old steps.Nothing new
     bare_nothing s = subst (λ files. IsStep files old steps.Nothing new) (keyless_bare view) (nothing_step (files_in view) old new s)
 
-    pub bare_items : (spot : Spot) → IsStep (files_in view) old (steps.Items spot) new → (other : Spot) × IsStep (bare (plain view)) old (steps.Items other) new
+    pub bare_items : (spot : PlacedPiece) → IsStep (files_in view) old (steps.Items spot) new → (other : PlacedPiece) × IsStep (bare (plain view)) old (steps.Items other) new
     bare_items spot s = (let t = items_step (files_in view) old new spot s in (t.0, subst (λ files. IsStep files old (steps.Items t.0) new) (keyless_bare view) t.1))
 
     pub bare_tells : (name : List ℕ) → Tells (files_in view) old name new → Tells (bare (plain view)) old name new

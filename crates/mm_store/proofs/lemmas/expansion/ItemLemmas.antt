@@ -1,7 +1,7 @@
 -- The items that a walk goes past, as the code puts them one after another.
 use Rattle.std.proofs.{Common.{arith, ◌≡◌, ℕ, List, [], ◌∷◌, ◌++◌, map, sym, ap, ◌∙◌, subst, append-nil, inl, inr, IsSome}, lemmas.{Grind.{elements}, Simd.{map-map}}}
 use Rattle.mm_text.specs.{declared.part.Part.{Part}, Language.Part.{HasParts}}
-use Rattle.mm_store.specs.{declared.{item.Item.{Item}, walk.Spot.{Spot}}, Language.{Pieces.{text_under}, FilesView.{PieceView, FilesView, files_in}, FileFacts.{HoldsPieces}}}
+use Rattle.mm_store.specs.{declared.{item.Item.{Item}, walk.PlacedPiece.{PlacedPiece}}, Language.{Pieces.{text_under}, FilesView.{PieceView, FilesView, files_in}, FileFacts.{HoldsPieces}}}
 use Rattle.mm_store.specs.{Language.{Expansion.{Placed, placed_item, named_parts, placed_part, ArePartsOf}, Walking.{LevelView, WalkView, IsWalk}}, Code.Gains.{HoldUnits, item_of_part}}
 use Rattle.mm_store.{specs.Code.Steps.{spot_at, Tells, IsStep}, proofs.lemmas.expansion.{ExpansionLemmas.{OneReading, OneDivision}, NameLemmas.{named_are}}}
 use Rattle.mm_store.proofs.lemmas.{expansion.WalkStepLemmas.{leaves, comes_again, enters, passes, passes_told, walk_on}, files.ViewLemmas.{PieceThere, next_there, held_there}}
@@ -13,21 +13,21 @@ items_are : (level : LevelView) (piece : PieceView) (placed : List Placed) (part
 items_are level piece placed parts are divided = grind (arith, named_are are.units, map-map placed_item (placed_part level.file level.piece piece.key) (named_parts are.units), map-map) steps 200000
 
 -- the piece of a step's items is held
-pub spot_held : (view : FilesView) (old new : WalkView) (spot : Spot) → HoldsPieces view → IsStep (files_in view) old (steps.Items spot) new → IsSome (finite.get view.pieces spot.key.at)
+pub spot_held : (view : FilesView) (old new : WalkView) (spot : PlacedPiece) → HoldsPieces view → IsStep (files_in view) old (steps.Items spot) new → IsSome (finite.get view.pieces spot.key.at)
 spot_held view old new spot holds (inl p) =
     let there = next_there view p.level p.piece p.is_here.there in
-    subst (λ (spot : Spot). IsSome (finite.get view.pieces spot.key.at)) (sym p.is_spot) (held_there view p.level.file p.level.piece there.file p.piece.key.at holds there.there there.is_key)
+    subst (λ (spot : PlacedPiece). IsSome (finite.get view.pieces spot.key.at)) (sym p.is_spot) (held_there view p.level.file p.level.piece there.file p.piece.key.at holds there.there there.is_key)
 spot_held view old new spot holds (inr p) =
     let there = next_there view p.level p.piece p.is_here.there in
-    subst (λ (spot : Spot). IsSome (finite.get view.pieces spot.key.at)) (sym p.is_spot) (held_there view p.level.file p.level.piece there.file p.piece.key.at holds there.there there.is_key)
+    subst (λ (spot : PlacedPiece). IsSome (finite.get view.pieces spot.key.at)) (sym p.is_spot) (held_there view p.level.file p.level.piece there.file p.piece.key.at holds there.there there.is_key)
 
 -- its text is the one under its key
-own_parts : (view : FilesView) (level : LevelView) (piece : PieceView) (spot : Spot) (parts : List Part) → PieceThere view level.file level.piece piece
+own_parts : (view : FilesView) (level : LevelView) (piece : PieceView) (spot : PlacedPiece) (parts : List Part) → PieceThere view level.file level.piece piece
     → spot ≡ spot_at level piece → HasParts (text_under view.pieces spot.key.at) parts → HasParts piece.text parts
 own_parts view level piece spot parts there is divided = grind (arith, elements) steps 200000
 
 module _ (one_reading : OneReading) (one_division : OneDivision) (view : FilesView) (hold : HoldUnits (files_in view)) (top : List ℕ) (items : List Item) (old new : WalkView) (is : IsWalk (files_in view) top items old) where
-  pub walk_items : (spot : Spot) (parts : List Part) → IsStep (files_in view) old (steps.Items spot) new → HasParts (text_under view.pieces spot.key.at) parts → IsWalk (files_in view) top (items ++ map (item_of_part spot) parts) new
+  pub walk_items : (spot : PlacedPiece) (parts : List Part) → IsStep (files_in view) old (steps.Items spot) new → HasParts (text_under view.pieces spot.key.at) parts → IsWalk (files_in view) top (items ++ map (item_of_part spot) parts) new
   walk_items spot parts (inl p) divided =
       let own = own_parts view p.level p.piece spot parts (next_there view p.level p.piece p.is_here.there) p.is_spot divided in
       let same = ap (λ spot. map (item_of_part spot) parts) p.is_spot ∙ items_are p.level p.piece p.nothing.placed parts p.nothing.are_parts own in

@@ -1,8 +1,9 @@
 -- A walk that stands before a reference takes its name with the next step.
 use Rattle.std.proofs.lemmas.{List.{same_from_push}, Option.{none-some, same_Some}}
 use Rattle.std.{proofs.Common.{◌≡◌, ℕ, List, [], ◌∷◌, ◌++◌, Option, Some, None, refl, sym, ap, ◌∙◌, subst, Contains, inl, inr, slice_get}, specs.List.{AllByRecursion}}
-use Rattle.mm_store.specs.{declared.walk.Spot.{Spot}, Language.{FilesView.{PieceView, FileView}, Expansion.{Placed, IsInclusion, ArePartsOf}, Walking.{IsNextPiece, LevelView, StandsBefore, WalkView}}}
-use Rattle.mm_store.{specs.Code.Steps.{piece_in, piece_at, Includes, IsHere, IsStep}, proofs.lemmas.{expansion.ExpansionLemmas.{OneReading, OneDivision, parts_one}, files.GrowthLemmas.{last_in}}}
+use Rattle.mm_store.specs.{declared.walk.PlacedPiece.{PlacedPiece}, Language.{FilesView.{PieceView, FileView}, Expansion.{Placed, IsInclusion, ArePartsOf}}}
+use Rattle.mm_store.specs.{Language.Walking.{IsNextPiece, LevelView, StandsBefore, WalkView}, Code.Steps.{piece_in, piece_at, Includes, IsHere, IsStep}}
+use Rattle.mm_store.proofs.lemmas.{expansion.ExpansionLemmas.{OneReading, OneDivision, parts_one}, files.GrowthLemmas.{last_in}}
 use Rattle.mm_store.specs.declared.walk.Step.TheVariants as steps
 
 file_of : (found : Option FileView) (n : ℕ) (piece : PieceView) → piece_in found n ≡ Some piece → (file : FileView) × (found ≡ Some file) × (slice_get file.pieces n ≡ Some piece)
@@ -56,7 +57,7 @@ module _ (one_reading : OneReading) (one_division : OneDivision) (files : List F
   nothing_takes (inr (inl a)) = absurd (stands.new (subst (Contains old.names) (same_name a.front a.level a.piece a.name a.is_here a.includes) a.known))
   nothing_takes (inr (inr e)) = takes_name e.name (same_name e.front e.level e.piece e.name e.is_here e.includes) (ap (λ (walk : WalkView). walk.names) e.after)
 
-  pub items_takes : (spot : Spot) → IsStep files old (steps.Items spot) new → Contains new.names part.name
+  pub items_takes : (spot : PlacedPiece) → IsStep files old (steps.Items spot) new → Contains new.names part.name
   items_takes spot (inl p) =
       let own = subst (AllByRecursion (λ part. ¬ IsInclusion part)) (same_parts p.front p.level p.piece p.nothing.placed p.is_here p.nothing.are_parts) p.nothing.own in
       absurd (own.0 stands.is_inclusion)

@@ -1,7 +1,7 @@
 -- A walk takes a number of turns at most: each step but the last makes what is left smaller.
 use Rattle.std.proofs.{Common.{rules, ◌≡◌, ℕ, ◌+◌, ◌*◌, ◌-◌, ◌<◌, Bool, true, false, List, [], ◌∷◌, ◌++◌, Option, Some, None, length, ap, ◌∙◌, arith, inl, inr, slice_get}, lemmas.Grind.{common_steps}}
 use Rattle.std.proofs.lemmas.Option.{none-some, slice_get_within}
-use Rattle.mm_store.specs.{declared.walk.Spot.{Spot}, Language.{FilesView.{PieceView, FileView}, Walking.{LevelView, WalkView}}}
+use Rattle.mm_store.specs.{declared.walk.PlacedPiece.{PlacedPiece}, Language.{FilesView.{PieceView, FileView}, Walking.{LevelView, WalkView}}}
 use Rattle.mm_store.{specs.Code.Steps.{behind, beginning, IsHere, ComesAgain, Enters, Passes, PassesTold, Tells, IsStep}, proofs.lemmas.files.GrowthLemmas.{name_of_number, there_number}}
 use Rattle.mm_store.proofs.lemmas.expansion.BudgetLemmas.{weight, weight_less, weight_entered}
 use Rattle.mm_store.specs.declared.walk.Step.TheVariants as steps
@@ -39,10 +39,10 @@ module _ (files : List FileView) (old new : WalkView) where
   again_less : ComesAgain files old new → turns files new < turns files old
   again_less a = grind (arith, common_steps, moved files old.levels a.front a.level a.piece a.is_here) steps 200000
 
-  passes_less : (spot : Spot) → Passes files old spot new → turns files new < turns files old
+  passes_less : (spot : PlacedPiece) → Passes files old spot new → turns files new < turns files old
   passes_less spot p = grind (arith, common_steps, moved files old.levels p.front p.level p.piece p.is_here) steps 200000
 
-  told_less : (spot : Spot) → PassesTold files old spot new → turns files new < turns files old
+  told_less : (spot : PlacedPiece) → PassesTold files old spot new → turns files new < turns files old
   told_less spot p = search (rules, moved files old.levels p.front p.level p.piece p.is_here, weight_less file_turns files old.names p.name) steps 200000
 
   pub tells_less : (name : List ℕ) → Tells files old name new → turns files new < turns files old
@@ -67,6 +67,6 @@ module _ (files : List FileView) (old new : WalkView) where
   nothing_less (inr (inl a)) = again_less a
   nothing_less (inr (inr e)) = enters_less e
 
-  pub items_less : (spot : Spot) → IsStep files old (steps.Items spot) new → turns files new < turns files old
+  pub items_less : (spot : PlacedPiece) → IsStep files old (steps.Items spot) new → turns files new < turns files old
   items_less spot (inl p) = passes_less spot p
   items_less spot (inr p) = told_less spot p

@@ -1,7 +1,8 @@
 -- How a walk goes on, step by step.
 use Rattle.std.proofs.{Common.{◌≡◌, ◌≢◌, ℕ, true, false, Some, None, List, [], ◌∷◌, ◌++◌, map, refl, sym, ap, ◌∙◌, subst, append_assoc, append-nil, Contains, ◌⊎◌, inl, inr}, lemmas.Bool.{false≢true}}
 use Rattle.std.{proofs.lemmas.{List.Elements.{Contains-push_cases, All-from_recursion, recursion_from_All}, Option.{none-some}}, specs.List.{AllByRecursion}}
-use Rattle.mm_store.specs.{declared.{item.{Item.{Item}, ItemKind.TheVariants.{Missing}}, walk.Spot.{Spot}}, Language.{FilesView.{FileView, number_of}, Expansion.{Placed, IsInclusion, placed_item}}}
+use Rattle.mm_store.specs.{declared.{item.{Item.{Item}, ItemKind.TheVariants.{Missing}}, walk.PlacedPiece.{PlacedPiece}}, Language.FilesView.{FileView, number_of}}
+use Rattle.mm_store.specs.Language.Expansion.{Placed, IsInclusion, placed_item}
 use Rattle.mm_store.specs.{Language.Walking.{WalkView, ArePending, Goes, IsWalk, HasReported, StandsBefore, MissNothing, MissOnlyTold, GoesOn, FindsMissing, FindsEnd}, Code.Gains.{HoldUnits}}
 use Rattle.mm_store.{specs.Code.Steps.{PassesTold, Tells, IsStep}, proofs.lemmas.expansion.{ExpansionLemmas.{OneReading, OneDivision}, NameLemmas.{all_and, kind_missing}}}
 use Rattle.mm_store.proofs.lemmas.expansion.{GoesLemmas.{goes_grows, goes_keeps}, StandingLemmas.{next_here, nothing_takes, items_takes}}
@@ -117,7 +118,7 @@ module _ (files : List FileView) (top : List ℕ) (items : List Item) (first now
         gained_on new [] since (enters one_reading one_division files hold now new since.goes_on.is_walk.pending e since.goes_on.is_walk.are_pending) miss_none (ap (λ (walk : WalkView). walk.told) e.after)
         (takes_nothing new (inr (inr e))) (takes_one new e.name e.number (ap (λ (walk : WalkView). walk.names) e.after) e.is_number)
 
-    stands_at : (spot : Spot) (new walk : WalkView) (p : PassesTold files now spot new) → now ≡ walk → (is : IsWalk files top items now) → StandsBefore files walk p.includes.part
+    stands_at : (spot : PlacedPiece) (new walk : WalkView) (p : PassesTold files now spot new) → now ≡ walk → (is : IsWalk files top items now) → StandsBefore files walk p.includes.part
     stands_at spot new walk p same is =
         let b = before files now.levels p.front p.level p.piece is.pending p.is_here is.are_pending in
         let joined = included_first one_reading one_division files p.front p.level p.piece p.name is.pending b p.includes in
@@ -129,7 +130,7 @@ module _ (files : List FileView) (top : List ℕ) (items : List Item) (first now
           is_next = next_here files now.levels p.front p.level p.piece p.includes.part p.is_here p.includes.are_parts;
         })
 
-    told_taken : (spot : Spot) (new : WalkView) (p : PassesTold files now spot new) → now ≡ first → IsWalk files top items now → TakenOf new
+    told_taken : (spot : PlacedPiece) (new : WalkView) (p : PassesTold files now spot new) → now ≡ first → IsWalk files top items now → TakenOf new
     told_taken spot new p same is name known =
         by (Contains-push_cases now.names p.name name (subst (λ names. Contains names name) (ap (λ (walk : WalkView). walk.names) p.after) known))
       where
@@ -138,7 +139,7 @@ module _ (files : List FileView) (top : List ℕ) (items : List Item) (first now
         by (inr named) =
             inr (inr (p.includes.part, ap (λ (walk : WalkView). walk.told) (sym same) ∙ p.told, stands_at spot new first p same is, p.includes.is_name ∙ named))
 
-    pub since_items : (spot : Spot) (new : WalkView) → IsStep files now (steps.Items spot) new → Since files top items first now → IsWalk files top items first → Since files top items first new
+    pub since_items : (spot : PlacedPiece) (new : WalkView) → IsStep files now (steps.Items spot) new → Since files top items first now → IsWalk files top items first → Since files top items first new
     since_items spot new (inl p) since start =
         gained_on new (map placed_item p.nothing.placed) since (passes one_reading one_division files now new spot since.goes_on.is_walk.pending p since.goes_on.is_walk.are_pending)
         (All-from_recursion NotMissing (map placed_item p.nothing.placed) (own_miss p.nothing.placed p.nothing.own)) (ap (λ (walk : WalkView). walk.told) p.after)

@@ -3,7 +3,7 @@ use Rattle.std.proofs.lemmas.{Grind.{elements, common_steps}, List.{drop_all}, O
 use Rattle.std.proofs.Common.{◌≡◌, ℕ, suc, ◌+◌, false, List, [], ◌∷◌, ◌++◌, Some, None, map, drop, refl, sym, ap, ◌∙◌, subst, append_assoc, append-nil, arith, Contains, slice_get}
 use Rattle.std.proofs.Math.Seq.{drop-cons}
 use Rattle.mm_text.specs.Language.Cut.{HoldsOneUnit}
-use Rattle.mm_store.specs.{declared.{item.Item.{Item}, walk.Spot.{Spot}}, Language.FilesView.{PieceView, FileView, number_of}}
+use Rattle.mm_store.specs.{declared.{item.Item.{Item}, walk.PlacedPiece.{PlacedPiece}}, Language.FilesView.{PieceView, FileView, number_of}}
 use Rattle.mm_store.specs.Language.Expansion.{Placed, placed_item, named_parts, placed_part, ArePartsOf, ArePlaced, IsExpansion}
 use Rattle.mm_store.specs.{Language.Walking.{LevelView, WalkView, IsRest, ArePending, Goes, here, again, missing, included, IsWalk}, Code.Gains.{HoldUnits}}
 use Rattle.mm_store.specs.Code.Steps.{piece_at, behind, beginning, IsHere, Includes, Leaves, ComesAgain, Enters, Passes, PassesTold}
@@ -103,7 +103,7 @@ module _ (one_reading : OneReading) (one_division : OneDivision) (files : List F
       record { rest = rest; are_pending = pending_behind files c.front (behind c.level) b.later b.outer b.rest b.are_outer; goes = goes } in
       subst (λ new. Went files old new pending []) (sym c.after) went
 
-  pub passes_told : (old new : WalkView) (spot : Spot) (pending : List Placed) (p : PassesTold files old spot new) → ArePending files old.levels pending → Went files old new pending (placed_item p.includes.part ∷ [])
+  pub passes_told : (old new : WalkView) (spot : PlacedPiece) (pending : List Placed) (p : PassesTold files old spot new) → ArePending files old.levels pending → Went files old new pending (placed_item p.includes.part ∷ [])
   passes_told old new spot pending p are =
       let b = before files old.levels p.front p.level p.piece pending p.is_here are in
       let rest = b.later ++ b.outer in
@@ -117,7 +117,7 @@ module _ (one_reading : OneReading) (one_division : OneDivision) (files : List F
       record { rest = rest; are_pending = pending_behind files p.front (behind p.level) b.later b.outer b.rest b.are_outer; goes = goes } in
       subst (λ new. Went files old new pending (item ∷ [])) (sym p.after) went
 
-  pub passes : (old new : WalkView) (spot : Spot) (pending : List Placed) (p : Passes files old spot new) → ArePending files old.levels pending → Went files old new pending (map placed_item p.nothing.placed)
+  pub passes : (old new : WalkView) (spot : PlacedPiece) (pending : List Placed) (p : Passes files old spot new) → ArePending files old.levels pending → Went files old new pending (map placed_item p.nothing.placed)
   passes old new spot pending p are =
       let b = before files old.levels p.front p.level p.piece pending p.is_here are in
       let rest = b.later ++ b.outer in

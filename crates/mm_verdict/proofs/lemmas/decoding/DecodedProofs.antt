@@ -4,7 +4,7 @@ use Rattle.std.{proofs.lemmas.{Grind.{common_steps, elements}, List.{take-map, E
 use Rattle.mm_frame.specs.{declared.base.{Base.{Base}, Resolved.{Resolved}}, Language.{Base.{BaseView, before, said_at, is_framed_at}, Framing.{mandatory_numbers}, Answering.{IsBase}}}
 use Rattle.mm_machine.specs.Language.{Frame.{Symbol, Setting}, Expansion.{Step, Saved, NotKnown}, Machine.{AreDecoded, is_save}, Run.{AreDone}}
 use Rattle.mm_machine.specs.{Language.{NamedSteps.{meant, AreSavedBefore, IsSavedWithin, RunSays, actions_mean, saves_by, saves_in}, Verdict.{IsVerdict}}, declared.step.Action.{Action}}
-use Rattle.mm_machine.specs.declared.{step.{ProofStep.{ProofStep}, ProofFault.{ProofFault}}, stepping.Outcome.{Outcome, TheVariants.{Proved, Fault, Unknown, NotOne, Other}}}
+use Rattle.mm_machine.specs.declared.{step.{ProofStep.{ProofStep}, ProofFault.{ProofFault}}, stepping.RunOutcome.{RunOutcome, TheVariants.{Proved, Fault, Unknown, NotOne, Other}}}
 use Rattle.mm_machine.specs.declared.Verdict.TheVariants.{Wrong}
 use Rattle.mm_verdict.specs.Language.{BaseLabels.{AreActive, setting_at}, DecodingLaws.{DecodesSurely, MandatoryAreActive}, VerdictAt.{mandatory_labels, AreDoneIn, decoding_at, statement_at}}
 use Rattle.mm_verdict.specs.{Language.{DecodedSteps.{decoded_steps, decoding_of, AreEntries, IsNamedBy, entry_steps, label_table, labels_at, TellsFault}, Citing.{cites}}, Code.Decoded.{WhereActive}}
@@ -92,7 +92,7 @@ fault_judged view i fault judged verdict cited is = record {
 
 -- ---- steps that are done
 
-pub done_says : (place : Setting) (statement : List Symbol) (steps : List Step) (outcome : Outcome) → RunSays place steps statement outcome → AreDone place steps (done_by (length steps) outcome)
+pub done_says : (place : Setting) (statement : List Symbol) (steps : List Step) (outcome : RunOutcome) → RunSays place steps statement outcome → AreDone place steps (done_by (length steps) outcome)
 done_says place statement steps Proved r = inr ((statement ∷ [], rw r.0 r.1), sym (ap length r.0))
 done_says place statement steps (Fault number n) r = inl (n, number, r, refl)
 done_says place statement steps (Unknown n) r = inr (r.2, r.0)

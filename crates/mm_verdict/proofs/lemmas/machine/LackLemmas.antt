@@ -5,7 +5,7 @@ use Rattle.std.{proofs.Common.{◌≡◌, ℕ, ◌+◌, ◌<◌, Some, List, [],
 use Rattle.mm_machine.specs.Language.{Frame.{Symbol, Setting}, Typing.{HasFrames}, Expansion.{Step, Named, NotKnown}}
 use Rattle.mm_machine.specs.Language.{NamedSteps.{AreDoneTo, FrontSays, AreSavedBefore, RunSays, StopsAt, actions_mean, meant}, Renaming.{renamed_mandatory, renamed_meaning, renamed_setting}}
 use Rattle.mm_machine.specs.{Language.{Numbering.{unnaming}, RunLaws.{LackStops, NumbersSayTheSame, StopsStay}}, declared.{ProofNumber.TheVariants.{P07}, stepping.Front.TheVariants.{Leaves}}}
-use Rattle.mm_machine.specs.declared.{stepping.Outcome.{Outcome, TheVariants.{Fault, Unknown}}, step.ProofStep.{ProofStep}}
+use Rattle.mm_machine.specs.declared.{stepping.RunOutcome.{RunOutcome, TheVariants.{Fault, Unknown}}, step.ProofStep.{ProofStep}}
 use Rattle.mm_frame.specs.Language.Base.{BaseView, frame_at}
 use Rattle.mm_verdict.specs.{Language.{BaseLabels.{label_at, setting_at}, DecodedSteps.{AreEntries, IsEntry, entry_step, entry_steps}}, Code.NumberedBase.{numbered_frame, numbered_setting}}
 use Rattle.mm_verdict.{specs.Code.{ShortSteps.{TakesMore}, UsedLabels.{KeepsUsed}}, proofs.lemmas.{machine.UsedLemmas.{part_means}, lists.{Every.{all_at}, Members.{kept_at}}}}
@@ -13,13 +13,13 @@ use Rattle.mm_frame.specs.declared.base.Resolved as listed
 use Rattle.mm_frame.specs.declared.base.Resolved.TheVariants as answers
 
 -- if steps stop by numbers, they stop by names
-stops_named : NumbersSayTheSame → (names : List (List ℕ)) (place : Setting) (steps : List Step) (outcome : Outcome) → StopsAt (renamed_setting (unnaming names) place) steps outcome → StopsAt place steps outcome
+stops_named : NumbersSayTheSame → (names : List (List ℕ)) (place : Setting) (steps : List Step) (outcome : RunOutcome) → StopsAt (renamed_setting (unnaming names) place) steps outcome → StopsAt place steps outcome
 stops_named same names place steps (Fault number n) s = same names place steps [] (Fault number n) s
 stops_named same names place steps (Unknown n) s = same names place steps [] (Unknown n) s
 stops_named same names place steps _ s = absurd s
 
 -- and that is what their run comes to, whatever the statement
-pub stops_says : (place : Setting) (steps : List Step) (statement : List Symbol) (outcome : Outcome) → StopsAt place steps outcome → RunSays place steps statement outcome
+pub stops_says : (place : Setting) (steps : List Step) (statement : List Symbol) (outcome : RunOutcome) → StopsAt place steps outcome → RunSays place steps statement outcome
 stops_says place steps statement (Fault number n) s = s
 stops_says place steps statement (Unknown n) s = s
 stops_says place steps statement _ s = absurd s
@@ -32,7 +32,7 @@ module _ (same : NumbersSayTheSame) (stay : StopsStay) (lack : LackStops) (names
   numbered = numbered_setting names view i
 
   -- if the first steps of a proof stop, all stop
-  pub front_stops : (outcome : Outcome) → StopsAt numbered (actions_mean (entry_steps view used) (take n steps)) outcome → StopsAt (setting_at view i) (actions_mean (entry_steps view labels) steps) outcome
+  pub front_stops : (outcome : RunOutcome) → StopsAt numbered (actions_mean (entry_steps view used) (take n steps)) outcome → StopsAt (setting_at view i) (actions_mean (entry_steps view labels) steps) outcome
   front_stops outcome s =
       let table = entry_steps view labels in
       let here = subst (λ (w : List Step). StopsAt numbered w outcome) (part_means view labels used (take n steps) keeps) s in

@@ -11,7 +11,7 @@ returns c all said one known disjoints kind sound parts a =
     let framed = (c.is_framed.ensures ∙ (λ i. sym sound i && is_assertion (kind i)) ∙ (grind (arith, common_steps) steps 200000)) in
     let made = c.in_ok-keep_pairs.ensures.made all before (kept_are_sound said) known.symbols disjoints a.made in
     record {
-      frames = c.in_ok-keep_frame.ensures.frames all said one known a.room framed (λ t. parts (sym c.is_framed.ensures ∙ t)) a.frames;
+      frames = c.in_ok-keep_frame.ensures.frames all said one known a.room disjoints framed (λ t. parts (sym c.is_framed.ensures ∙ t)) a.frames;
       made = subst (λ w. AreMade all w c.keep_pairs.new.pair_lists) more (made_more all before _ c.keep_pairs.new.pair_lists made);
       pair_numbers =
           c.in_ok-keep_pairs.ensures.pairs all said one known.symbols disjoints a.made

@@ -13,7 +13,7 @@ returns c all base said one next number symbols disjoints a =
     let pairs = subst (λ f. IfSome c.kept_frame.result (λ kept. ArePairsRead all (pairs_in_order f) kept.now.pairs.items)) framed (c.kept_frame.ensures.order all base next.by) in
     let made = c.in_ok-copy_pairs.ensures.made all base said one next number symbols disjoints a.pair_numbers a.made in
     record {
-      frames = c.in_ok-copy_frame.ensures all said one numbers pairs a.frames;
+      frames = c.in_ok-copy_frame.ensures all said one symbols disjoints numbers pairs a.frames;
       made = subst (λ w. AreMade all w c.copy_pairs.new.lists) more (made_more all before _ c.copy_pairs.new.lists made);
       pair_numbers = c.in_ok-copy_pairs.ensures.pairs all base said one next number symbols disjoints a.made a.pair_numbers;
       room = subst (λ w. KnowsAsked all w c.args.self.now.room.asked) more (asked_more all before (judged one (fault before one)) c.args.self.now.room.asked a.room);

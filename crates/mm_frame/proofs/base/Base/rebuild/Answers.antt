@@ -1,4 +1,4 @@
-use Rattle.std.{proofs.{Common.{ℕ, List, map, refl, sym, ◌∙◌, ap, subst, arith}, lemmas.Slice.Zip.{AllZip-long}}, specs.List.{AllZip}}
+use Rattle.std.{proofs.{Common.{ℕ, List, map, sym, ◌∙◌, ap, subst, arith}, lemmas.Slice.Zip.{AllZip-long}}, specs.List.{AllZip}}
 use Rattle.mm_frame.specs.{declared.base.Base.TheInside.{Inside}, Language.{Base.{BaseView}, Answering.{IsBaseBy}}, Code.{BaseInside.{answers_of}, KeptBase.{is_float_item}}}
 use Rattle.mm_frame.proofs.lemmas.{base.{AnswerLemmas.{base_told, labels_told}, SaidLabels.{said_labelled}}, frames.FrameNumbers.{kinds_said}}
 use Rattle.mm_machine.specs.Language.Names.{AreDistinct, Begins}

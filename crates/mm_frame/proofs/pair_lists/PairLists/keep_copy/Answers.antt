@@ -1,4 +1,4 @@
-use Rattle.std.proofs.{lemmas.Grind.{common_steps}, Common.{◌≡◌, ◌-◌, length, slice_get, refl, ap, ◌∙◌, arith}}
+use Rattle.std.proofs.{lemmas.Grind.{common_steps}, Common.{◌≡◌, length, slice_get, refl, ap, ◌∙◌, arith}}
 use Rattle.mm_frame.proofs.lemmas.scope.BlockLemmas.{get_last}
 use Rattle.mm_frame.proofs.pair_lists.PairLists.keep_copy.Goals as goal
 

@@ -11,8 +11,8 @@ invariant_of-self-2 g c =
     (cut_added i.values.items (value ∷ []) c.push-2.new.self.items i.ends c.push.new.self (c.len.result + 1) c.self.invariant all
     (omega (arith, c.len.ensures, c.reserve.new.self.ok.0, ap length c.reserve.ensures.items, count)) c.in_ok-push.ensures.ok).0
 
-pub returns : goal.returns
-returns g c =
+pub returns-clause-ok : goal.returns-clause-ok
+returns-clause-ok g c =
     let i = c.self.inside in
     let value = c.args.value in
     let all = pushed c.push-2.result c.unwrap.result c.push-2.new.self.items (c.reserve.new.self.items ++ value ∷ []) c.reserve.new.self.items c.unwrap.ensures c.push-2.ensures.items ∙ ap (λ w. w ++ value ∷ []) c.reserve.ensures.items in

@@ -1,0 +1,61 @@
+-- Values that several items can have: they stay while more values come.
+use Rattle.std.proofs.Common.{◌≡◌, ℕ, zero, suc, ◌<◌, Option, Some, None, Result, Ok, Err, List, [], ◌∷◌, ◌++◌, length, map, slice_get, refl, sym, ◌∙◌, ap, subst, arith, inl, inr}
+use Rattle.std.{proofs.lemmas.{Grind.{common_steps}, List.{map-append}, Option.{slice_get_cases}}, specs.Prelude.{OnOk, OnErr}}
+use Rattle.mm_frame.{specs.Code.{KeptShared.{value_at}, KeptSparse.{value_kept}}, proofs.lemmas.{lists.Members.{get_join}, scope.BlockLemmas.{get_cases}}}
+
+-- each place is below this
+abbrev pub AreBelow : ℕ → List (Option ℕ) → Type 0
+AreBelow count places = (n place : ℕ) → slice_get places n ≡ Some (Some place) → place < count
+
+-- the value of an item is that at its place
+pub value_of : {X : Type 0} (values : List X) (places : List (Option ℕ)) (n : ℕ) → value_kept (map (value_at values) places) n ≡ value_at values (value_kept places n)
+value_of values [] n = refl
+value_of values (p ∷ places) zero = refl
+value_of values (p ∷ places) (suc n) = value_of values places n
+
+-- with one more value the items have what they had
+pub value_stays : {X : Type 0} (values more : List X) (place : Option ℕ) → ((n : ℕ) → place ≡ Some n → n < length values) → value_at (values ++ more) place ≡ value_at values place
+value_stays values more None h = refl
+value_stays values more (Some n) h = elim (slice_get_cases values n).1 [
+  | inl p ↦ get_join values more n p.0 p.2 ∙ sym p.2
+  | inr p ↦ absurd (omega (arith, h n refl, p.0))
+]
+
+pub values_stay : {X : Type 0} (values more : List X) (places : List (Option ℕ)) → AreBelow (length values) places → map (value_at (values ++ more)) places ≡ map (value_at values) places
+values_stay values more [] h = refl
+values_stay values more (p ∷ places) h =
+    let one = value_stays values more p (λ n e. h 0 n (ap Some e)) in
+    let rest = values_stay values more places (λ k n e. h (suc k) n e) in
+    λ i. one i ∷ rest i
+
+-- an item that has a value
+pub value_there : {X : Type 0} (kept : List (Option X)) (n : ℕ) (x : X) → value_kept kept n ≡ Some x → slice_get kept n ≡ Some (Some x)
+value_there kept n x e = grind (arith, common_steps) steps 200000
+
+-- one more item
+pub below_more : (count : ℕ) (places : List (Option ℕ)) (place : Option ℕ) → AreBelow count places → ((n : ℕ) → place ≡ Some n → n < count) → AreBelow count (places ++ place ∷ [])
+below_more count places place h k n at e = elim (get_cases places place (Some at) n e) [
+  | inl there ↦ h n at there
+  | inr last ↦ k at (last.1)
+]
+
+-- or none, if there is no memory
+pub still_below : {T E : Type 0} (count : ℕ) (old new : List (Option ℕ)) (place : Option ℕ) (r : Result T E) → OnOk r (new ≡ old ++ place ∷ []) → OnErr r (new ≡ old)
+    → AreBelow count old → ((n : ℕ) → place ≡ Some n → n < count) → AreBelow count new
+still_below count old new place (Ok u) ok err h k = subst (AreBelow count) (sym ok) (below_more count old place h k)
+still_below count old new place (Err e) ok err h k = subst (AreBelow count) (sym err) h
+
+pub shared_push : {X T E : Type 0} (values more : List X) (old new : List (Option ℕ)) (place : Option ℕ) (kept : List (Option X)) (r : Result T E) → OnOk r (new ≡ old ++ place ∷ [])
+    → AreBelow (length values) old → map (value_at values) old ≡ kept → OnOk r (map (value_at (values ++ more)) new ≡ kept ++ value_at (values ++ more) place ∷ [])
+shared_push values more old new place kept (Ok u) ok h view =
+    ap (map (value_at (values ++ more))) ok ∙ map-append (value_at (values ++ more)) old (place ∷ [])
+    ∙ ap (λ w. w ++ value_at (values ++ more) place ∷ []) (values_stay values more old h ∙ view)
+shared_push values more old new place kept (Err e) ok h view = tt
+
+-- or with what an earlier one has
+pub shared_again : {X T E : Type 0} (values : List X) (old new : List (Option ℕ)) (place : Option ℕ) (number : ℕ) (kept : List (Option X)) (r : Result T E) → OnOk r (new ≡ old ++ place ∷ [])
+    → place ≡ value_kept old number → map (value_at values) old ≡ kept → OnOk r (map (value_at values) new ≡ kept ++ value_kept kept number ∷ [])
+shared_again values old new place number kept (Ok u) ok e view =
+    let one = ap (value_at values) e ∙ sym (value_of values old number) ∙ ap (λ w. value_kept w number) view in
+    ap (map (value_at values)) ok ∙ map-append (value_at values) old (place ∷ []) ∙ (λ i. view i ++ one i ∷ [])
+shared_again values old new place number kept (Err e) ok f view = tt

@@ -1,0 +1,88 @@
+//! What some items have, and others do not, where several items can have the same.
+
+ghost use Rattle.std.specs.Prelude.{◌≡◌, ◌∷◌, ◌++◌, [], Some, None, IfOk, OnOk};
+ghost use Rattle.std.specs.Option.{option_map};
+ghost use Rattle.mm_frame.specs.Code.KeptSparse.{value_kept};
+
+use crate::sparse::{Sparse, element_at, number_at};
+use std::alloc::{AllocError, Global};
+use std::marker::Model;
+
+/// A value of each of some items, by the numbers of all items from 0. A value that several items have is kept once.
+///
+/// To add one more item takes constant time on the average, and so does a look at an item.
+#[derive(Drop)]
+pub struct Shared<T> {
+    values: Vec<T>,
+    /// For each item that has a value, where it is.
+    places: Sparse<usize>,
+}
+
+impl<T> Model for Shared<T> {
+    ghost use Rattle.std.specs.Prelude.{List, Option};
+
+    ghost Value = { List (Option T) };
+
+    ghost use Rattle.mm_frame.specs.Code.KeptShared.{shared_inside, ArePlacesWithin};
+
+    ghost view = { shared_inside };
+
+    ghost invariant = { ArePlacesWithin };
+}
+
+impl<T: Drop> Shared<T> {
+    /// No items, with room for this many, of which some have a value.
+    pub fn with_room(alloc: Global, count: usize) -> Result<Shared<T>, AllocError>
+        ensures { IfOk result (λ shared. shared ≡ []) }
+    {
+        let places = Sparse::with_room(alloc, count)?;
+        Ok(Shared {
+            values: Vec::new(alloc),
+            places,
+        })
+    }
+
+    /// The list of the values, for its room and theirs.
+    pub fn into_values(self) -> Vec<T> {
+        self.values
+    }
+
+    /// How many items there are.
+    pub fn count(&self) -> usize {
+        self.places.count()
+    }
+
+    /// The value of the item with this number, if it has one.
+    pub fn at(&self, number: usize) -> Option<&T>
+        ensures { option_map (λ value. value.now) result ≡ value_kept self.now number }
+    {
+        let place = number_at(&self.places, number)?;
+        element_at(&self.values, place)
+    }
+
+    /// Adds one more item, which has this value. After out of memory the items must not be used.
+    pub fn add(&mut self, value: T) -> Result<(), AllocError>
+        ensures { OnOk result (self.new ≡ self.old ++ Some value ∷ []) }
+    {
+        let place = self.values.len();
+        self.values.push(value)?;
+        self.places.add(place)
+    }
+
+    /// Adds one more item, which has what the one with this number has. Out of memory changes nothing.
+    pub fn add_again(&mut self, number: usize) -> Result<(), AllocError>
+        ensures { OnOk result (self.new ≡ self.old ++ value_kept self.old number ∷ []) }
+    {
+        match number_at(&self.places, number) {
+            Some(place) => self.places.add(place),
+            None => self.places.pass(),
+        }
+    }
+
+    /// Adds one more item, which has no value. Out of memory changes nothing.
+    pub fn pass(&mut self) -> Result<(), AllocError>
+        ensures { OnOk result (self.new ≡ self.old ++ None ∷ []) }
+    {
+        self.places.pass()
+    }
+}
