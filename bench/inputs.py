@@ -150,6 +150,13 @@ def wide_frames(n):
     return [*lines, f"$d {' '.join(names)} $.", f"h $e |- {' '.join(names)} $.", *(f"a{k} $a |- x0 $." for k in range(n))]
 
 
+def wide_frames_in_blocks(n):
+    """A `$d` and an `$e` of so many variables; and then as many times an assertion outside of a block, and one in a block with a pair of its own."""
+    names, lines = variables(n)
+    lines += ["$v z $.", "wz $f wff z $.", f"$d {' '.join(names)} $.", f"h $e |- {' '.join(names)} $."]
+    return [*lines, *(f"s{k} $a |- x0 $. ${{ $d x{k} z $. t{k} $a |- x0 $. $}}" for k in range(n))]
+
+
 def wide_pairs_and_blocks(n):
     """A `$d` of so many variables; and then as many times a theorem outside of a block, and one in a block with a pair of its own."""
     names, lines = variables(n)
