@@ -164,6 +164,13 @@ def wide_pairs_and_blocks(n):
     return [*lines, *(f"s{k} $p |- x0 $= ? $. ${{ $d x{k} z $. t{k} $p |- x0 $= ? $. $}}" for k in range(n))]
 
 
+def equal_pairs_in_blocks(n):
+    """A `$d` of so many variables; and then as many times a theorem outside of a block, and one in a block with the same pair more."""
+    names, lines = variables(n)
+    lines += ["$v z $.", "wz $f wff z $.", f"$d {' '.join(names)} $."]
+    return [*lines, *(f"s{k} $p |- x0 $= ? $. ${{ $d x0 z $. t{k} $p |- x0 $= ? $. $}}" for k in range(n))]
+
+
 def many_pairs_of_each(n):
     """So many pairs of variables, each variable in a `$d` with each other one, and as many assertions of all as there are variables."""
     names, lines = variables(math.isqrt(2 * n))
@@ -342,6 +349,12 @@ def changed_long_label(n):
     axiom, *others = (f"{'l' * n} $a |- ( {one} -> {other} ) $." for one, other in ("pq", "qp", "pp", "qq", "pq"))
     proofs = (f"t{k} $p wff ( p -> q ) $= wp wq wi $." for k in range(n))
     return {"input.mm": [*FIRST, axiom, *proofs], "script": [f"replace input.mm 5 {len(text)}\n{text}" for text in others]}
+
+
+def new_names(n):
+    """So many edits of one piece, each of which gives it a hundred names that no text had before."""
+    texts = ("$v " + " ".join(f"v{k}n{j}" for j in range(100)) + " $.\n" for k in range(n))
+    return {"input.mm": ["$c wff $.", "$v x $."], "script": [f"replace input.mm 1 {len(text)}\n{text}" for text in texts]}
 
 
 def longer_labels(n):

@@ -22,6 +22,7 @@ pub mod KeptFrames
 pub mod KeptRows
 pub mod KeptEarlier
 pub mod KeptActive
+pub mod KeptSortedLists
 pub mod KeptPairLists
 pub mod KeptActiveItems
 pub mod KeptAssertions

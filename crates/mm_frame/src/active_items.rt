@@ -131,8 +131,7 @@ impl ActiveItems {
         self.variables.as_slice()
     }
 
-    /// Goes on past one more item: these are the blocks with it, and the symbols of all items with its own. After an
-    /// allocation failure what is active must not be used.
+    /// Goes on past one more item: these are the blocks with it, and the symbols of all items with its own.
     pub fn follow(
         &mut self,
         blocks: &Blocks,

@@ -20,7 +20,6 @@ ghost use Rattle.mm_frame.specs.Code.TakenOver.{AreFirst, AreFirstIf};
 use crate::base::Base;
 use crate::draft::{Draft, number_all};
 use crate::names::Names;
-use crate::room::DraftRoom;
 use mm_machine::NumberedSymbol;
 use mm_statement::{Statement, is_same_range};
 use mm_store::{Files, Item, ItemKind};
@@ -103,7 +102,7 @@ fn place_behind(old: &Base, i: usize, item: &Item, label: Option<&[u8]>) -> usiz
     }
 }
 
-/// Reads one more item of the files, of which this is known. After out of memory the draft must not be used.
+/// Reads one more item of the files, of which this is known.
 fn read_known<'a>(
     draft: &mut Draft<'a>,
     alloc: Global,
@@ -134,7 +133,7 @@ pub struct Beside<'a> {
 }
 
 /// Reads one more item of the files, which may be the next one of an older base, and answers which may be the next one then.
-/// After out of memory the draft must not be used, and there may be more names.
+/// After out of memory there may be more names.
 fn read_again<'a>(
     draft: &mut Draft<'a>,
     alloc: Global,
@@ -188,7 +187,6 @@ struct KnownBy<'a> {
 }
 
 /// Takes one more item over from an older base, which knows it. All items before it are the first ones of the older base.
-/// After out of memory the draft must not be used.
 fn take_over_known<'a>(
     draft: &mut Draft<'a>,
     alloc: Global,
@@ -237,8 +235,8 @@ fn is_same_again(beside: BesideFrom, i: usize, item: &Item) -> bool
     beside.same && is_again(beside.base, i, item)
 }
 
-/// Reads one more item of the files: takes it over from an older base, if all items before it are the first ones there.
-/// After out of memory the draft must not be used, and there may be more names.
+/// Reads one more item of the files: takes it over from an older base, if all items before it are the first ones there. After
+/// out of memory there may be more names.
 fn read_next<'a>(
     draft: &mut Draft<'a>,
     alloc: Global,
@@ -273,8 +271,8 @@ fn read_next<'a>(
     Ok(Reached { next, same })
 }
 
-/// Reads some more items of the files, the first ones, with the help of an older base. After out of memory the draft must not
-/// be used, and there may be more names.
+/// Reads some more items of the files, the first ones, with the help of an older base. After out of memory there may be more
+/// names.
 fn read_each_again<'a>(
     draft: &mut Draft<'a>,
     alloc: Global,
@@ -305,22 +303,20 @@ fn read_each_again<'a>(
     Ok(())
 }
 
-/// Reads items of the files, from the first one on, with the help of an older base. What is kept of them lies in the lists of
-/// this room, as far as they fit.
+/// Reads items of the files, from the first one on, with the help of an older base.
 pub fn read_all_again<'a>(
     alloc: Global,
     names: &mut Names,
     files: &'a Files,
     items: &[Item],
     old: &'a Base,
-    room: DraftRoom,
 ) -> Result<Draft<'a>, AllocError>
     requires read { All (CanBeRead files.now) items.now }
     requires older { HasOlder names.old files.now old.now }
     ensures grows { Begins names.old names.new }
     ensures read { IfOk result (λ draft. (said : List meant.Said) × AllZip (Says files.now) items.now said × IsDraftLater names.new said draft) }
 {
-    let mut draft = Draft::with_room(alloc, items.len(), room)?;
+    let mut draft = Draft::with_room(alloc, items.len())?;
     match read_each_again(&mut draft, alloc, names, files, items, old) {
         Ok(()) => Ok(draft),
         Err(error) => {

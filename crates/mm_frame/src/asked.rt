@@ -72,7 +72,7 @@ impl AskedPairs {
         }
     }
 
-    /// Keeps an answer. After an allocation failure the answers must not be used.
+    /// Keeps an answer.
     pub fn keep(&mut self, answer: Answer) -> Result<(), AllocError>
         ensures { OnOk result ((all : List (List ℕ)) (before : List meant.Said) → KnowsAsked all before self.old → IsKnownPair all before answer
             → KnowsAsked all before self.new) }

@@ -10,18 +10,17 @@ ghost use Rattle.mm_frame.specs.Code.KeptAsked.{KnowsAsked};
 ghost use Rattle.mm_frame.specs.Code.KeptEarlier.{IsFramed, KnowsEarlier};
 ghost use Rattle.mm_frame.specs.Code.KeptPairLists.{AreMade};
 ghost use Rattle.mm_frame.specs.Code.KeptSymbols.{AreSymbols};
-ghost use Rattle.mm_frame.specs.Code.KeptAssertions.{TellsFrame, TellsPairs, is_told_framed};
+ghost use Rattle.mm_frame.specs.Code.KeptAssertions.{AreFrames, TellsPairs, is_told_framed};
 ghost use Rattle.mm_frame.specs.Code.LastItems.{is_disjoint_item};
 
 use crate::active_items::TakenItem;
 use crate::copied_lists::CopiedLists;
 use crate::earlier::Earlier;
 use crate::expressions::Expressions;
-use crate::frame::{Frame, MadeFrame};
+use crate::frame::Frame;
 use crate::frames::Frames;
 use crate::mandatory::{FrameRoom, mandatory_pairs, put_hypotheses};
 use crate::pair_lists::{PairLists, count_to_last};
-use crate::room::{copy_in, next_frame};
 use crate::sparse::Sparse;
 use mm_machine::NumberedSymbol;
 use mm_store::ItemKind;
@@ -72,7 +71,7 @@ fn keep_frame(
     ensures frames { OnOk result ((all : List (List ℕ)) (said : List meant.Said) (item : meant.Said) → KnowsEarlier all (sound_items said) earlier.now
         → KnowsAsked all (sound_items said) room.old.asked → disjoints.now ≡ active_numbers is_disjoint_item (sound_items said)
         → framed ≡ is_told_framed (sound_items said) item → (framed ≡ true → IsFramed all (sound_items said) item own.now)
-        → AreRows (TellsFrame all) said frames.old.kept → AreRows (TellsFrame all) (said ++ item ∷ []) frames.new.kept) }
+        → AreFrames all said frames.old → AreFrames all (said ++ item ∷ []) frames.new) }
 {
     if !framed {
         frames.pass()?;
@@ -80,12 +79,11 @@ fn keep_frame(
     }
     put_hypotheses(earlier, own, &mut room.numbers)?;
     let reach = count_to_last(disjoints, earlier.expressions);
-    if frames.add_again(&room.numbers, reach)? {
+    if frames.add_same(&room.numbers, reach)? {
         return Ok(());
     }
-    let gone = next_frame(alloc, &mut room.gone);
-    let hypotheses = copy_in(alloc, gone.hypotheses, &room.numbers)?;
-    let pairs = mandatory_pairs(alloc, earlier, room, gone.pairs)?;
+    let hypotheses = Vec::from_slice(alloc, &room.numbers)?;
+    let pairs = mandatory_pairs(alloc, earlier, room)?;
     frames.add(Frame { hypotheses, pairs }, reach)
 }
 
@@ -117,29 +115,24 @@ fn keep_pairs(
 impl Assertions {
     ghost use Rattle.mm_frame.specs.Code.KeptAssertions.{AreAssertions};
 
-    /// No items, with room for this many. Frames and lists of active pairs are kept in the lists of this room, as far as they
-    /// fit.
-    pub fn with_room(
-        alloc: Global,
-        count: usize,
-        gone: Vec<MadeFrame>,
-        lists: Vec<Vec<(NumberedSymbol, NumberedSymbol)>>,
-    ) -> Result<Assertions, AllocError>
+    /// No items, with room for this many.
+    pub fn with_room(alloc: Global, count: usize) -> Result<Assertions, AllocError>
         ensures { IfOk result (λ assertions. (all : List (List ℕ)) → AreAssertions all [] assertions) }
     {
         let frames = Frames::with_room(alloc, count)?;
         let pair_numbers = Sparse::with_room(alloc, count)?;
+        let pair_lists = PairLists::with_room(alloc, count)?;
         Ok(Assertions {
             frames,
-            pair_lists: PairLists::with_lists(alloc, lists),
+            pair_lists,
             pair_numbers,
-            room: FrameRoom::with_lists(alloc, gone),
+            room: FrameRoom::new(alloc),
             copied: CopiedLists::new(alloc),
         })
     }
 
     /// Keeps what citing one more item needs, and the list of the pairs that are active there. Its symbols are `own`, and
-    /// `disjoints` are the numbers of the active `$d`. After out of memory the assertions must not be used.
+    /// `disjoints` are the numbers of the active `$d`.
     pub fn keep(
         &mut self,
         alloc: Global,

@@ -18,15 +18,12 @@ ghost use Rattle.mm_frame.specs.Language.Resolving.{IsCarrier, IsMeaning, IsUpTo
 ghost use Rattle.mm_frame.specs.declared.base.Resolved.TheVariants as answers;
 
 use crate::frame::Frame;
-use crate::frames::frame_at;
 use crate::judge::FrameFault;
 use crate::parts::BaseParts;
-use crate::room::{BaseRoom, DraftRoom};
 use crate::sparse::{element_at, number_at};
 use mm_machine::NumberedSymbol;
 use mm_store::Item;
 use std::marker::Model;
-use std::mem;
 
 /// The items of files from a top file on, which of them are sound, and the frames of the assertions.
 ///
@@ -38,8 +35,6 @@ pub struct Base {
     /// For each item whether it is a `$f`.
     pub(crate) floats: Vec<bool>,
     pub(crate) parts: BaseParts,
-    /// The room of the base that was there before, for the one that is rebuilt next.
-    pub(crate) room: BaseRoom,
 }
 
 impl Model for Base {
@@ -68,27 +63,6 @@ pub enum Resolved {
 }
 
 impl Base {
-    /// The room of lists that nobody asks any more.
-    fn into_room(self) -> BaseRoom {
-        let Base { items, parts, .. } = self;
-        BaseRoom {
-            items,
-            draft: DraftRoom {
-                symbols: parts.expressions.into_symbols(),
-                frames: parts.frames.into_values(),
-                lists: parts.pair_lists.into_lists(),
-            },
-        }
-    }
-
-    /// Puts a newer base in the place of this one, which leaves its room to the base that is rebuilt next. It takes no memory.
-    pub fn replace(&mut self, newer: Base)
-        ensures { self.new ≡ newer }
-    {
-        let older = mem::replace(self, newer);
-        self.room = older.into_room();
-    }
-
     /// Whether the item with this number is a sound `$f`, `$e`, `$a` or `$p`.
     fn is_shown(&self, i: usize) -> bool
         ensures { (base : BaseView) → IsBase base self.now → result ≡ (is_sound_at base i && is_labelled (said_at base i).kind) }
@@ -194,7 +168,7 @@ impl Base {
         ensures order { (names : List (List ℕ)) (base : BaseView) → IsBaseBy names base self.now →
             IfSome result (λ frame. ArePairsRead names (pairs_in_order (frame_at base i)) frame.now.pairs.items) }
     {
-        frame_at(&self.parts.frames, i)
+        self.parts.frames.at(i)
     }
 
     /// The frame of the item with this number, if it is a sound `$a` or `$p`: its mandatory hypotheses and pairs.
@@ -209,6 +183,13 @@ impl Base {
             → IfSome result (λ frame. All (IsPairNumbered names) frame.now.pairs.items) }
     {
         self.kept_frame(i)
+    }
+
+    /// Whether the item with this number is a sound `$a` or `$p`. Its frame is not looked at.
+    fn is_framed(&self, i: usize) -> bool
+        ensures { (base : BaseView) → IsBase base self.now → result ≡ is_framed_at base i }
+    {
+        self.parts.frames.has(i)
     }
 
     /// All active pairs at the item with this number, if it is a sound `$p`: its own and those of its scope,
@@ -255,7 +236,7 @@ impl Base {
     {
         if j >= i {
             Resolved::Unknown
-        } else if self.frame(j).is_some() {
+        } else if self.is_framed(j) {
             Resolved::Assertion(j)
         } else if self.parts.blocks.is_active_at(j, i) {
             Resolved::Hypothesis(j)

@@ -16,10 +16,8 @@ use crate::again::read_all_again;
 use crate::base::Base;
 use crate::draft::Draft;
 use crate::names::Names;
-use crate::room::BaseRoom;
 use mm_store::{Files, Item, ItemKind, StoreError};
 use std::alloc::{AllocError, Global};
-use std::mem;
 
 fn is_floating(kind: ItemKind) -> bool
     ensures { result ≡ meant.is_kind meant.Floating (kind_of kind) }
@@ -65,7 +63,6 @@ impl Base {
             items,
             floats,
             parts: draft.parts(),
-            room: BaseRoom::none(alloc),
         })
     }
 
@@ -73,34 +70,28 @@ impl Base {
     /// `$d`, `$e`, `$a` or `$p` may be the same bytes as an item of the older base, in the same order. The numbers of its
     /// symbols are then taken from there, and no symbol is read. As long as all items are the same ones, what is sound is not
     /// judged again.
-    ///
-    /// The lists are made in the room that the older base has from the one before it, if it has any. The older base answers as
-    /// before.
     pub fn rebuild(
         alloc: Global,
         names: &mut Names,
         files: &Files,
         top: &[u8],
-        old: &mut Base,
+        old: &Base,
     ) -> Result<Base, StoreError>
-        requires older { HasOlder names.old files.now old.old }
+        requires older { HasOlder names.old files.now old.now }
         ensures base { IfOk result (λ built. (base : BaseView) × IsOfFiles files.now top.now built.items base × IsBaseBy names.new base built
             × StandsLater names.new base built) }
         ensures grows { Begins names.old names.new }
-        ensures older { old.new ≡ old.old }
         ensures no_top { IsErrOf result NoTop ↔ (number_of (files_in files.now) top.now ≡ None) }
         ensures err { IfErr result IsExpansionError }
     {
-        let BaseRoom { items, draft: room } = mem::replace(&mut old.room, BaseRoom::none(alloc));
-        let found = files.statements_in(top, items)?;
+        let found = files.statements(top)?;
         let floats = floats_among(alloc, &found)?;
-        let draft = read_all_again(alloc, names, files, &found, old, room)?;
+        let draft = read_all_again(alloc, names, files, &found, old)?;
         names.distinct();
         Ok(Base {
             items: found,
             floats,
             parts: draft.parts(),
-            room: BaseRoom::none(alloc),
         })
     }
 }

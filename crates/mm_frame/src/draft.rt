@@ -38,7 +38,6 @@ use crate::judge::{FrameFault, fault_of, is_sound_as_known};
 use crate::names::Names;
 use crate::paired::PairTable;
 use crate::parts::BaseParts;
-use crate::room::DraftRoom;
 use crate::scope::Scope;
 use crate::symbol::{put_symbols, put_variables};
 use crate::tables::Tables;
@@ -192,19 +191,14 @@ fn with<A: Drop, B: Drop>(one: A, more: Result<B, AllocError>) -> Result<(A, B),
 impl<'a> Draft<'a> {
     ghost use Rattle.mm_frame.specs.Code.KeptBase.{IsDraft, IsDraftApart, IsDraftLater, AreParts};
 
-    /// No items, with room for this many. What is kept of them lies in the lists of this room, as far as they fit.
-    pub fn with_room(alloc: Global, count: usize, room: DraftRoom) -> Result<Self, AllocError>
+    /// No items, with room for this many.
+    pub fn with_room(alloc: Global, count: usize) -> Result<Self, AllocError>
         ensures { IfOk result (λ draft. (all : List (List ℕ)) → AreDistinct all → IsDraft all [] draft) }
     {
-        let DraftRoom {
-            symbols,
-            frames,
-            lists: gone,
-        } = room;
-        let expressions = Expressions::with_room(alloc, count, symbols)?;
+        let expressions = Expressions::with_room(alloc, count)?;
         let lists = with(expressions, ListGuesses::with_room(alloc, count))?;
         let told = with(lists, Rows::with_room(alloc, count))?;
-        let framed = with(told, Assertions::with_room(alloc, count, frames, gone))?;
+        let framed = with(told, Assertions::with_room(alloc, count))?;
         let (kept, scope) = with(framed, Scope::with_room(alloc, count))?;
         let (((expressions, guesses), rows), assertions) = kept;
         Ok(Draft {
@@ -222,7 +216,7 @@ impl<'a> Draft<'a> {
 
     /// Goes on past one more statement, which has these symbols, and this fault or none, and of which the assertions are told
     /// already. Where they are needed, the numbers of its symbols are kept; the list with the expected number may have the
-    /// symbols. After out of memory the draft must not be used.
+    /// symbols.
     fn follow(
         &mut self,
         alloc: Global,
@@ -256,8 +250,7 @@ impl<'a> Draft<'a> {
     }
 
     /// Adds one more statement, which has these symbols, and this fault or none. Where they are needed, the numbers of its
-    /// symbols are kept; the list with the expected number may have the symbols. After out of memory the draft must not be
-    /// used.
+    /// symbols are kept; the list with the expected number may have the symbols.
     fn add(
         &mut self,
         alloc: Global,
@@ -290,7 +283,7 @@ impl<'a> Draft<'a> {
     }
 
     /// Adds one more statement, whose symbols have the numbers that are kept; the list with the expected number may have what
-    /// is kept of them. After out of memory the draft must not be used.
+    /// is kept of them.
     pub fn add_numbered(
         &mut self,
         alloc: Global,
@@ -314,8 +307,7 @@ impl<'a> Draft<'a> {
     }
 
     /// Takes one more statement, whose symbols are known, if it is a `$e`, `$a` or `$p` that is sound with them as they are;
-    /// else nothing changes, and the answer is `false`. The list with the expected number may have these symbols. After out
-    /// of memory the draft must not be used.
+    /// else nothing changes, and the answer is `false`. The list with the expected number may have these symbols.
     pub fn take_known(
         &mut self,
         alloc: Global,
@@ -370,7 +362,7 @@ impl<'a> Draft<'a> {
         self.follow(alloc, statement, symbols, &None, old.list_number(number))
     }
 
-    /// Reads one more item of the files. After out of memory the draft must not be used, and there may be more names.
+    /// Reads one more item of the files. After out of memory there may be more names.
     pub fn read(
         &mut self,
         alloc: Global,
@@ -400,7 +392,7 @@ impl<'a> Draft<'a> {
         ensures grows { Begins names.old names.new }
         ensures read { IfOk result (λ draft. (said : List meant.Said) × AllZip (Says files.now) items.now said × IsDraftLater names.new said draft) }
     {
-        let mut draft = Draft::with_room(alloc, items.len(), DraftRoom::none(alloc))?;
+        let mut draft = Draft::with_room(alloc, items.len())?;
         match draft.read_each(alloc, names, files, items) {
             Ok(()) => Ok(draft),
             Err(error) => {
@@ -410,7 +402,7 @@ impl<'a> Draft<'a> {
         }
     }
 
-    /// Reads some more items of the files. After out of memory the draft must not be used, and there may be more names.
+    /// Reads some more items of the files. After out of memory there may be more names.
     fn read_each(
         &mut self,
         alloc: Global,

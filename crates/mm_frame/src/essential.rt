@@ -138,7 +138,6 @@ impl EssentialVariables {
     }
 
     /// Goes on past one more item, which has this number: these are the active `$e` after it, and the symbols of all.
-    /// After an allocation failure the variables must not be used.
     pub fn follow(
         &mut self,
         essentials: &[usize],

@@ -78,22 +78,13 @@ fn number_of(
 }
 
 impl Expressions {
-    /// No items, with room for this many, each with a few symbols: in the room of this list, if it has as much.
-    pub fn with_room(
-        alloc: Global,
-        count: usize,
-        room: Vec<NumberedSymbol>,
-    ) -> Result<Expressions, AllocError>
+    /// No items, with room for this many, each with a few symbols.
+    pub fn with_room(alloc: Global, count: usize) -> Result<Expressions, AllocError>
         ensures { IfOk result (λ expressions. expressions ≡ []) }
     {
         let numbers = Counts::with_room(alloc, count)?;
-        let lists = SymbolLists::with_room(alloc, count, room)?;
+        let lists = SymbolLists::with_room(alloc, count)?;
         Ok(Expressions { lists, numbers })
-    }
-
-    /// The list in which the symbols lie, for its room.
-    pub fn into_symbols(self) -> Vec<NumberedSymbol> {
-        self.lists.into_symbols()
     }
 
     /// How many items there are.

@@ -10,11 +10,3 @@ pub struct Frame {
     /// The mandatory pairs, each once, in the order of the `$f` of their variables.
     pub pairs: Vec<(NumberedSymbol, NumberedSymbol)>,
 }
-
-/// A frame, and where it was made.
-#[derive(Drop)]
-pub struct MadeFrame {
-    pub frame: Frame,
-    /// The count of items up to the last `$d` that is active there: 0 if none is.
-    pub reach: usize,
-}

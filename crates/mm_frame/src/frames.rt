@@ -1,71 +1,93 @@
 //! The frames of assertions, of which equal ones are one.
 
-ghost use Rattle.std.specs.Prelude.{◌≡◌, ◌∷◌, ◌++◌, [], None, Some, IfOk, IfSome, IsTrue, OnOk, MatchBool};
-ghost use Rattle.std.specs.Option.{option_map};
-ghost use Rattle.mm_frame.specs.Code.KeptFrames.{AddsAgain, IsFrameAt};
-ghost use Rattle.mm_frame.specs.Code.KeptSparse.{value_kept};
+ghost use Rattle.std.specs.Prelude.{◌≡◌, [], None, IfOk, IfSome, IsTrue, OnOk, MatchBool};
+ghost use Rattle.mm_frame.specs.Code.KeptFrames.{AddsEqual, AddsFrame, AddsSame, IsEqualAt, IsFrameAt, KeepsEqual};
 
-use crate::frame::{Frame, MadeFrame};
+use crate::frame::Frame;
 use crate::guesses::ListGuesses;
 use crate::shared::Shared;
+use crate::sparse::{Sparse, number_at};
+use crate::symbol::same_pairs;
 use std::alloc::{AllocError, Global};
 
 /// The frames of the assertions so far.
 ///
 /// Which pairs are active depends on the items up to the last active `$d` alone, and the mandatory pairs depend on these and on
-/// the mandatory hypotheses. So assertions that have the same hypotheses and the same last active `$d` have one frame.
+/// the mandatory hypotheses. So assertions that have the same hypotheses and the same last active `$d` have one frame, which is
+/// found before its pairs are made. With another last `$d` the pairs can be the same too: this is seen when they are there.
 #[derive(Drop)]
 pub struct Frames {
     /// The frame of each sound `$a` and `$p`, by its number; none for any other item.
-    pub kept: Shared<MadeFrame>,
+    pub kept: Shared<Frame>,
+    /// For each of these the count of items up to the last `$d` that is active there: 0 if none is.
+    pub reaches: Sparse<usize>,
     /// The number of an item that may have such a frame.
     guesses: ListGuesses,
 }
 
-/// Whether a frame is that of these hypotheses, made where this is the count of items up to the last active `$d`.
-fn is_that(made: &MadeFrame, hypotheses: &[usize], reach: usize) -> bool
-    ensures { IsTrue result → (made.now.frame.hypotheses.items ≡ hypotheses.now) × (made.now.reach ≡ reach) }
+/// Whether a frame has these hypotheses.
+fn has_hypotheses(frame: &Frame, hypotheses: &[usize]) -> bool
+    ensures { IsTrue result → frame.now.hypotheses.items ≡ hypotheses.now }
 {
-    made.reach == reach && made.frame.hypotheses.as_slice() == hypotheses
+    frame.hypotheses.as_slice() == hypotheses
 }
 
-/// The frame of the item with this number, if it has one.
-pub fn frame_at(frames: &Shared<MadeFrame>, number: usize) -> Option<&Frame>
-    ensures { option_map (λ frame. frame.now) result ≡ option_map (λ made. made.frame) (value_kept frames.now number) }
+/// Whether two frames are equal.
+fn are_equal(one: &Frame, other: &Frame) -> bool
+    ensures { IsTrue result → (one.now.hypotheses.items ≡ other.now.hypotheses.items) × (one.now.pairs.items ≡ other.now.pairs.items) }
 {
-    match frames.at(number) {
-        Some(made) => Some(&made.frame),
-        None => None,
-    }
+    has_hypotheses(one, &other.hypotheses) && same_pairs(&one.pairs, &other.pairs)
 }
 
 impl Frames {
     /// No items, with room for this many.
     pub fn with_room(alloc: Global, count: usize) -> Result<Frames, AllocError>
-        ensures { IfOk result (λ frames. frames.kept ≡ []) }
+        ensures { IfOk result (λ frames. (frames.kept ≡ []) × (frames.reaches ≡ [])) }
     {
         let kept = Shared::with_room(alloc, count)?;
+        let reaches = Sparse::with_room(alloc, count)?;
         let guesses = ListGuesses::with_room(alloc, count)?;
-        Ok(Frames { kept, guesses })
+        Ok(Frames {
+            kept,
+            reaches,
+            guesses,
+        })
     }
 
     /// Adds one more item, which has no frame.
     pub fn pass(&mut self) -> Result<(), AllocError>
-        ensures { OnOk result (self.new.kept ≡ self.old.kept ++ None ∷ []) }
+        ensures { OnOk result (AddsFrame self.old self.new None None) }
     {
-        self.kept.pass()
+        self.kept.pass()?;
+        self.reaches.pass()
     }
 
     /// The number of an item whose frame has these hypotheses, and was made for this count of items up to the last active `$d`,
     /// if one is found.
-    fn find(&self, hypotheses: &[usize], reach: usize) -> Option<usize>
-        ensures { IfSome result (λ number. IsFrameAt self.now.kept hypotheses.now reach number) }
+    fn find_same(&self, hypotheses: &[usize], reach: usize) -> Option<usize>
+        ensures { IfSome result (λ number. IsFrameAt self.now hypotheses.now reach number) }
     {
         let number = self
             .guesses
-            .guess(self.guesses.place_of_numbers(hypotheses));
-        let made = self.kept.at(number)?;
-        if is_that(made, hypotheses, reach) {
+            .guess(self.guesses.place_of_numbers(hypotheses, reach));
+        let frame = self.kept.at(number)?;
+        let found = number_at(&self.reaches, number)?;
+        if found == reach && has_hypotheses(frame, hypotheses) {
+            Some(number)
+        } else {
+            None
+        }
+    }
+
+    /// The number of an item whose frame is equal to this one, if one is found.
+    fn find_equal(&self, frame: &Frame) -> Option<usize>
+        ensures { IfSome result (λ number. IsEqualAt self.now frame.now number) }
+    {
+        let number = self.guesses.guess(
+            self.guesses.place_of_pairs(&frame.hypotheses, &frame.pairs),
+        );
+        let kept = self.kept.at(number)?;
+        if are_equal(kept, frame) {
             Some(number)
         } else {
             None
@@ -74,25 +96,39 @@ impl Frames {
 
     /// Adds one more item, which has the frame of an earlier one with these hypotheses, made for this count of items up to the
     /// last active `$d`. If none is found, nothing changes, and the answer is `false`.
-    pub fn add_again(&mut self, hypotheses: &[usize], reach: usize) -> Result<bool, AllocError>
-        ensures { IfOk result (λ found. MatchBool found (AddsAgain self.old.kept hypotheses.now reach self.new.kept) (self.new.kept ≡ self.old.kept)) }
+    pub fn add_same(&mut self, hypotheses: &[usize], reach: usize) -> Result<bool, AllocError>
+        ensures { IfOk result (λ found. MatchBool found (AddsSame self.old self.new hypotheses.now reach) (self.new ≡ self.old)) }
     {
-        match self.find(hypotheses, reach) {
+        match self.find_same(hypotheses, reach) {
             Some(number) => {
                 self.kept.add_again(number)?;
+                self.reaches.add(reach)?;
                 Ok(true)
             }
             None => Ok(false),
         }
     }
 
-    /// Adds one more item, which has this frame, made for this count of items up to the last active `$d`. After out of memory
-    /// the frames must not be used.
-    pub fn add(&mut self, frame: Frame, reach: usize) -> Result<(), AllocError>
-        ensures { OnOk result (self.new.kept ≡ self.old.kept ++ Some (record { frame = frame; reach = reach }) ∷ []) }
+    /// Keeps a frame equal to this one for one more item: that of an earlier item, if one is found.
+    fn keep(&mut self, frame: Frame) -> Result<(), AllocError>
+        ensures kept { OnOk result (KeepsEqual self.old.kept self.new.kept frame) }
+        ensures reaches { self.new.reaches ≡ self.old.reaches }
     {
-        let place = self.guesses.place_of_numbers(&frame.hypotheses);
+        if let Some(number) = self.find_equal(&frame) {
+            return self.kept.add_again(number);
+        }
+        let place = self.guesses.place_of_pairs(&frame.hypotheses, &frame.pairs);
         self.guesses.keep(place, self.kept.count());
-        self.kept.add(MadeFrame { frame, reach })
+        self.kept.add(frame)
+    }
+
+    /// Adds one more item, which has a frame equal to this one, made for this count of items up to the last active `$d`.
+    pub fn add(&mut self, frame: Frame, reach: usize) -> Result<(), AllocError>
+        ensures { OnOk result (AddsEqual self.old self.new frame reach) }
+    {
+        let place = self.guesses.place_of_numbers(&frame.hypotheses, reach);
+        self.guesses.keep(place, self.kept.count());
+        self.keep(frame)?;
+        self.reaches.add(reach)
     }
 }

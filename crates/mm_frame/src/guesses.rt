@@ -24,6 +24,13 @@ impl ListGuesses {
         Ok(ListGuesses { numbers })
     }
 
+    /// No guesses. It takes no memory.
+    pub fn none(alloc: Global) -> ListGuesses {
+        ListGuesses {
+            numbers: Vec::new(alloc),
+        }
+    }
+
     /// Where the guess for a list of symbols is kept. It takes time linear in the list.
     pub fn place_of(&self, symbols: &[NumberedSymbol]) -> usize {
         let mut hash: usize = 0;
@@ -33,11 +40,28 @@ impl ListGuesses {
         self.place(hash)
     }
 
-    /// Where the guess for a list of numbers is kept. It takes time linear in the list.
-    pub fn place_of_numbers(&self, numbers: &[usize]) -> usize {
+    /// Where the guess for a list of numbers and one more number is kept. It takes time linear in the list.
+    pub fn place_of_numbers(&self, numbers: &[usize], more: usize) -> usize {
+        let mut hash = more;
+        for number in numbers {
+            hash = hash.wrapping_mul(131).wrapping_add(*number);
+        }
+        self.place(hash)
+    }
+
+    /// Where the guess for a list of numbers and one of pairs is kept. It takes time linear in the lists.
+    pub fn place_of_pairs(
+        &self,
+        numbers: &[usize],
+        pairs: &[(NumberedSymbol, NumberedSymbol)],
+    ) -> usize {
         let mut hash: usize = 0;
         for number in numbers {
             hash = hash.wrapping_mul(131).wrapping_add(*number);
+        }
+        for pair in pairs {
+            hash = hash.wrapping_mul(131).wrapping_add(pair.0.name);
+            hash = hash.wrapping_mul(131).wrapping_add(pair.1.name);
         }
         self.place(hash)
     }

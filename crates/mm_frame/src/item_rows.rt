@@ -146,7 +146,7 @@ impl Rows {
         kept_fault(&self.faults, n).is_none()
     }
 
-    /// Adds the label and the fault of one more item. After out of memory the rows must not be used.
+    /// Adds the label and the fault of one more item.
     pub fn add(&mut self, label: Option<&[u8]>, fault: Option<FrameFault>) -> Result<(), AllocError>
         ensures kept { OnOk result (AreRowsKept self.old → AreRowsKept self.new) }
         ensures more { OnOk result (AreRowsKept self.old

@@ -64,7 +64,7 @@ impl LabelNumbers {
         }
     }
 
-    /// Gives a label this number, in the place of the one that it had. After out of memory the labels must not be used.
+    /// Gives a label this number, in the place of the one that it had.
     pub fn insert(&mut self, alloc: Global, label: &[u8], number: usize) -> Result<(), AllocError>
         ensures { OnOk result ((other : List ℕ) → label_number self.new other
             ≡ (if bytes_eq label.now other then Some number else label_number self.old other)) }

@@ -22,15 +22,12 @@ use crate::blocks::Blocks;
 use crate::earlier::Earlier;
 use crate::essential::EssentialVariable;
 use crate::expressions::Expressions;
-use crate::frame::MadeFrame;
 use crate::paired::PairTable;
 use crate::partners::{PlacedVariables, add_partners, are_short, places_if_many};
 use crate::rising::is_among;
-use crate::room::copy_in;
 use crate::tables::Tables;
 use mm_machine::NumberedSymbol;
 use std::alloc::{AllocError, Global};
-use std::vec::IntoIter;
 
 /// What frames are made with, one after another: the lists are used again, and take memory only when they grow.
 #[derive(Drop)]
@@ -43,13 +40,11 @@ pub struct FrameRoom {
     pub variables: Vec<NumberedSymbol>,
     /// Its pairs.
     pub pairs: Vec<(NumberedSymbol, NumberedSymbol)>,
-    /// Frames that nobody asks any more, in whose lists the next ones are kept.
-    pub gone: IntoIter<MadeFrame>,
 }
 
 impl FrameRoom {
-    /// No frame is made yet; the first ones are kept in the lists of these, which nobody asks any more. It takes no memory.
-    pub fn with_lists(alloc: Global, gone: Vec<MadeFrame>) -> FrameRoom
+    /// No frame is made yet. It takes no memory.
+    pub fn new(alloc: Global) -> FrameRoom
         ensures { (all : List (List ℕ)) → KnowsAsked all [] result.asked }
     {
         FrameRoom {
@@ -57,7 +52,6 @@ impl FrameRoom {
             numbers: Vec::new(alloc),
             variables: Vec::new(alloc),
             pairs: Vec::new(alloc),
-            gone: gone.into_iter(),
         }
     }
 }
@@ -270,15 +264,14 @@ fn add_pairs_with_later(
     add_active_with(table, asked, earlier.blocks, first, later, pairs)
 }
 
-/// The pairs of each variable with each later one that an active `$d` has. They are collected in `pairs`, and kept in the room
-/// of `list`, if it fits.
+/// The pairs of each variable with each later one that an active `$d` has. They are collected in `pairs`, and the answer is a
+/// copy.
 fn active_among(
     alloc: Global,
     earlier: &Earlier,
     asked: &mut AskedPairs,
     variables: &[NumberedSymbol],
     pairs: &mut Vec<(NumberedSymbol, NumberedSymbol)>,
-    list: Vec<(NumberedSymbol, NumberedSymbol)>,
 ) -> Result<Vec<(NumberedSymbol, NumberedSymbol)>, AllocError>
     ensures pairs { IfOk result (λ pairs. (all : List (List ℕ)) (before : List meant.Said) → KnowsEarlier all before earlier.now
         → KnowsAsked all before asked.old → All (IsNumbered all) variables.now
@@ -292,18 +285,15 @@ fn active_among(
     for n in 0..variables.len() {
         add_pairs_with_later(alloc, earlier, asked, &placed, n, pairs)?;
     }
-    let kept = copy_in(alloc, list, pairs)?;
-    Ok(kept)
+    Vec::from_slice(alloc, pairs)
 }
 
 /// The pairs of a sound assertion whose mandatory hypotheses have the numbers that are put: of the variables of its mandatory
-/// `$f`, in their order, those that an active `$d` has. They are kept in the room of `list`, if it fits. After an allocation
-/// failure what was looked up must not be used.
+/// `$f`, in their order, those that an active `$d` has.
 pub fn mandatory_pairs(
     alloc: Global,
     earlier: &Earlier,
     room: &mut FrameRoom,
-    list: Vec<(NumberedSymbol, NumberedSymbol)>,
 ) -> Result<Vec<(NumberedSymbol, NumberedSymbol)>, AllocError>
     ensures asked { OnOk result ((all : List (List ℕ)) (before : List meant.Said) → KnowsEarlier all before earlier.now → KnowsAsked all before room.old.asked
         → KnowsAsked all before room.new.asked) }
@@ -316,8 +306,7 @@ pub fn mandatory_pairs(
         numbers,
         variables,
         pairs,
-        ..
     } = room;
     put_typed(earlier.essentials, earlier.expressions, numbers, variables)?;
-    active_among(alloc, earlier, asked, variables, pairs, list)
+    active_among(alloc, earlier, asked, variables, pairs)
 }

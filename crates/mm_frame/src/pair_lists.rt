@@ -1,4 +1,4 @@
-//! The lists of active pairs, which neighbours share.
+//! The lists of active pairs, each made from that of the outer `$d`.
 
 ghost use Rattle.std.specs.Prelude.{◌≡◌, ◌<◌, ◌≤◌, ◌+◌, ◌-◌, ◌++◌, ℕ, List, [], OnOk, IfOk, IfSome, IsTrue, All, Contains, length, map, take};
 ghost use Rattle.std.specs.List.{flat_map};
@@ -10,33 +10,31 @@ ghost use Rattle.mm_frame.specs.Code.LastItems.{is_disjoint_item};
 ghost use Rattle.mm_frame.specs.Language.Scope.{active_numbers};
 ghost use Rattle.mm_frame.specs.Code.KeptSymbols.{AreSymbols, expression_kept};
 ghost use Rattle.mm_machine.specs.Language.NumberedSymbols.{AreInOrder, AreSamePairsRead};
-ghost use Rattle.mm_frame.specs.Code.KeptPairLists.{AreFrontNumbers, HasSame, HasEach, pairs_among, with_low_first};
+ghost use Rattle.mm_frame.specs.Code.KeptPairLists.{AreFrontNumbers, pairs_among, with_low_first};
+ghost use Rattle.mm_frame.specs.Code.KeptSortedLists.{HasEach};
 
 use crate::expressions::Expressions;
-use crate::room::{copy_in, move_in, next_list};
-use crate::symbol::same_pairs;
+use crate::sorted_lists::{SortedLists, in_order};
 use mm_machine::NumberedSymbol;
 use std::alloc::{AllocError, Global};
 use std::collections::HashMap;
-use std::vec::IntoIter;
 
 /// The lists of active pairs, each made once.
 ///
 /// Which pairs are active depends on the items up to the last active `$d` alone. So all places with the same last
-/// active `$d` share one list; and so do two lists made one after the other that have the same pairs. A list has each
-/// pair once, with the lower number of a name first, and is sorted by these numbers.
+/// active `$d` share one list, and equal lists are one. A list has each pair once, with the lower number of a name first,
+/// and is sorted by these numbers.
 ///
-/// A list is made from that of the outer `$d`, those that were active when the last list was made. It is the same list
-/// if the other `$d` add no pair to it, which takes time near linear in their pairs.
+/// A list is made from that of the outer `$d`, those that were active when the last list was made, and that of the others.
+/// It is the list of the outer ones if the others add no pair, which takes time near linear in the pairs of the others; and
+/// what was made of the same two lists is not made again.
 #[derive(Drop)]
 pub struct PairLists {
-    lists: Vec<Vec<(NumberedSymbol, NumberedSymbol)>>,
+    pub lists: SortedLists,
     /// The number of the list, by the count of items up to the last active `$d`: 0 if no `$d` is active.
     made: HashMap<usize, usize>,
     /// The count of items up to the last `$d` of the last list that was made.
     reach: usize,
-    /// Lists that nobody asks any more, in whose room the next ones are kept.
-    gone: IntoIter<Vec<(NumberedSymbol, NumberedSymbol)>>,
 }
 
 /// The two symbols, the one with the lower number of its name first.
@@ -112,19 +110,6 @@ fn pairs_at(
     Ok(pairs)
 }
 
-/// Sorts the pairs, each with the lower number of a name first, and keeps each once.
-fn in_order(
-    mut pairs: Vec<(NumberedSymbol, NumberedSymbol)>,
-) -> Vec<(NumberedSymbol, NumberedSymbol)>
-    ensures same { HasSame pairs.items result.items }
-    ensures order { All (λ pair. pair.0.name ≤ pair.1.name) pairs.items → AreInOrder result.items }
-{
-    pairs.sort_unstable_by_key(|pair| (pair.0.name, pair.1.name));
-    pairs.dedup();
-    pairs.shrink_to_fit();
-    pairs
-}
-
 /// Whether a sorted list has a pair. What is found is compared.
 fn has_pair(
     list: &[(NumberedSymbol, NumberedSymbol)],
@@ -183,18 +168,18 @@ pub fn count_to_last(disjoints: &[usize], expressions: &Expressions) -> usize
 }
 
 impl PairLists {
-    ghost use Rattle.mm_frame.specs.Code.KeptPairLists.{AreMade, IsList, KeepsLists, IsThere, list_kept, list_made};
+    ghost use Rattle.mm_frame.specs.Code.KeptPairLists.{AreMade, IsList, KeepsLists, list_kept, list_made};
 
-    /// No lists; the first ones are kept in the room of these, which nobody asks any more. It takes no memory.
-    pub fn with_lists(alloc: Global, gone: Vec<Vec<(NumberedSymbol, NumberedSymbol)>>) -> Self
-        ensures { (all : List (List ℕ)) → AreMade all [] result }
+    /// No lists, with guesses for those of this many items.
+    pub fn with_room(alloc: Global, count: usize) -> Result<Self, AllocError>
+        ensures { IfOk result (λ lists. (all : List (List ℕ)) → AreMade all [] lists) }
     {
-        PairLists {
-            lists: Vec::new(alloc),
+        let lists = SortedLists::with_room(alloc, count)?;
+        Ok(PairLists {
+            lists,
             made: HashMap::new(alloc),
             reach: 0,
-            gone: gone.into_iter(),
-        }
+        })
     }
 
     /// The number of the list that is made for this many items, if one is made.
@@ -210,76 +195,21 @@ impl PairLists {
             .is_some()
     }
 
-    /// Whether the last list is this one.
-    fn is_last(&self, list: &[(NumberedSymbol, NumberedSymbol)]) -> bool
-        ensures { IsTrue result → IsThere self.now (length self.now.lists.items - 1) list.now }
-    {
-        match self.lists.last() {
-            Some(last) => same_pairs(last, list),
-            None => false,
-        }
-    }
-
-    /// Keeps a list, unless the last one is the same, and answers its number.
-    fn keep(
-        &mut self,
-        alloc: Global,
-        list: Vec<(NumberedSymbol, NumberedSymbol)>,
-    ) -> Result<usize, AllocError>
-        ensures there { IfOk result (λ k. IsThere self.new k list.items) }
-        ensures kept { OnOk result (KeepsLists self.old self.new) }
-        ensures made { OnOk result (self.new.made ≡ self.old.made) }
-    {
-        let count = self.lists.len();
-        if self.is_last(&list) {
-            return Ok(count - 1);
-        }
-        let room = next_list(alloc, &mut self.gone);
-        self.lists.push(move_in(room, list))?;
-        Ok(count)
-    }
-
-    /// Keeps a copy of a list, unless the last one is the same, and answers its number.
-    pub fn keep_copy(
-        &mut self,
-        alloc: Global,
-        list: &[(NumberedSymbol, NumberedSymbol)],
-    ) -> Result<usize, AllocError>
-        ensures there { IfOk result (λ k. IsThere self.new k list.now) }
-        ensures kept { OnOk result (KeepsLists self.old self.new) }
-        ensures made { OnOk result (self.new.made ≡ self.old.made) }
-    {
-        let count = self.lists.len();
-        if self.is_last(list) {
-            return Ok(count - 1);
-        }
-        let room = next_list(alloc, &mut self.gone);
-        let copy = copy_in(alloc, room, list)?;
-        self.lists.push(copy)?;
-        Ok(count)
-    }
-
-    /// The same lists alone: what is of use only while lists are made is dropped, and the room that is left.
+    /// The same lists alone: what is of use only while lists are made is dropped.
     pub fn finished(self) -> PairLists
         ensures { result.lists ≡ self.lists }
     {
         let PairLists { lists, .. } = self;
-        let alloc = *lists.allocator();
+        let alloc = lists.allocator();
         PairLists {
-            lists,
+            lists: lists.finished(),
             made: HashMap::new(alloc),
             reach: 0,
-            gone: Vec::new(alloc).into_iter(),
         }
     }
 
-    /// The lists, for their room.
-    pub fn into_lists(self) -> Vec<Vec<(NumberedSymbol, NumberedSymbol)>> {
-        self.lists
-    }
-
-    /// The number of the list of the first active `$d`, which is made now, of all their pairs, if there is none yet: `count`
-    /// is that of the items up to the last of them. After out of memory the lists must not be used.
+    /// The number of the list of the first active `$d`, which is made now, of all their pairs, if there is none yet: `count` is
+    /// that of the items up to the last of them.
     fn first_list(
         &mut self,
         alloc: Global,
@@ -297,7 +227,7 @@ impl PairLists {
             return Ok(k);
         }
         let pairs = pairs_at(alloc, first, expressions)?;
-        let k = self.keep(alloc, in_order(pairs))?;
+        let k = self.lists.keep(in_order(pairs))?;
         self.made.insert(count, k)?;
         Ok(k)
     }
@@ -315,13 +245,12 @@ impl PairLists {
         ensures kept { OnOk result (KeepsLists self.old self.new) }
         ensures made { OnOk result (self.new.made ≡ self.old.made) }
     {
-        let mut pairs = pairs_at(alloc, own, expressions)?;
+        let pairs = pairs_at(alloc, own, expressions)?;
         if has_all(self.list(base), &pairs) {
             return Ok(base);
         }
-        pairs.extend_from_slice(self.list(base))?;
-        let k = self.keep(alloc, in_order(pairs))?;
-        Ok(k)
+        let k = self.lists.keep(in_order(pairs))?;
+        self.lists.joined(alloc, k, base)
     }
 
     /// How many of the first active `$d` have a list that is made: the most that have one, or none of them.
@@ -335,9 +264,9 @@ impl PairLists {
         count
     }
 
-    /// The number of the list of the outer `$d`, the first of those that are active, which is made now if there is none
-    /// yet: `count` is that of the items up to the last of them. It is made from that of the most `$d` that have one, so
-    /// that no pair of these `$d` is looked up again. After an allocation failure the lists must not be used.
+    /// The number of the list of the outer `$d`, the first of those that are active, which is made now if there is none yet:
+    /// `count` is that of the items up to the last of them. It is made from that of the most `$d` that have one, so that no
+    /// pair of these `$d` is looked up again.
     fn outer_list(
         &mut self,
         alloc: Global,
@@ -368,7 +297,6 @@ impl PairLists {
     /// The number of the list of the active pairs after sound items, which is made now if there is none yet.
     ///
     /// `disjoints` are the numbers of the active `$d`, and `expressions` the symbols of the items by their numbers.
-    /// After out of memory the lists must not be used.
     pub fn list_of(
         &mut self,
         alloc: Global,
@@ -424,9 +352,6 @@ impl PairLists {
     pub fn list(&self, k: usize) -> &[(NumberedSymbol, NumberedSymbol)]
         ensures { result.now ≡ list_kept self.now k }
     {
-        match self.lists.get(k) {
-            Some(list) => list,
-            None => &[],
-        }
+        self.lists.at(k)
     }
 }

@@ -171,8 +171,7 @@ impl PairTable {
         !self.row(name).is_empty()
     }
 
-    /// Whether an active `$d` has the two names with these numbers. After an allocation failure what was looked up must
-    /// not be used.
+    /// Whether an active `$d` has the two names with these numbers.
     pub fn is_active_pair(
         &self,
         asked: &mut AskedPairs,
@@ -227,8 +226,7 @@ impl PairTable {
         Ok(())
     }
 
-    /// Adds one more sound `$d`, with the numbers of its variables, its own number, and the blocks of the items before
-    /// it. After out of memory the table must not be used.
+    /// Adds one more sound `$d`, with the numbers of its variables, its own number, and the blocks of the items before it.
     pub fn add(
         &mut self,
         alloc: Global,

@@ -2,7 +2,7 @@
 
 use crate::blocks::Blocks;
 use crate::expressions::Expressions;
-use crate::frame::MadeFrame;
+use crate::frame::Frame;
 use crate::item_rows::Rows;
 use crate::pair_lists::PairLists;
 use crate::shared::Shared;
@@ -19,7 +19,7 @@ pub struct BaseParts {
     /// The symbols of each sound `$f`, `$e`, `$a`, `$p` and `$d`, by its number; none for any other item.
     pub expressions: Expressions,
     /// The frame of each sound `$a` and `$p`, by its number; none for any other item.
-    pub frames: Shared<MadeFrame>,
+    pub frames: Shared<Frame>,
     /// The lists of active pairs.
     pub pair_lists: PairLists,
     /// The number of the list of all active pairs, for each sound `$p`, by its number; none for any other item.

@@ -224,8 +224,7 @@ impl<'a> Scope<'a> {
         Ok(())
     }
 
-    /// Takes one more item, with the numbers of its symbols: as it is if it is sound, and else passes over it. After
-    /// out of memory the scope must not be used.
+    /// Takes one more item, with the numbers of its symbols: as it is if it is sound, and else passes over it.
     pub fn next(
         &mut self,
         alloc: Global,

@@ -1,6 +1,6 @@
 //! What some items have, and others do not, where several items can have the same.
 
-ghost use Rattle.std.specs.Prelude.{◌≡◌, ◌∷◌, ◌++◌, [], Some, None, IfOk, OnOk};
+ghost use Rattle.std.specs.Prelude.{◌≡◌, ◌∷◌, ◌++◌, [], Some, None, IfOk, OnOk, is_some};
 ghost use Rattle.std.specs.Option.{option_map};
 ghost use Rattle.mm_frame.specs.Code.KeptSparse.{value_kept};
 
@@ -42,11 +42,6 @@ impl<T: Drop> Shared<T> {
         })
     }
 
-    /// The list of the values, for its room and theirs.
-    pub fn into_values(self) -> Vec<T> {
-        self.values
-    }
-
     /// How many items there are.
     pub fn count(&self) -> usize {
         self.places.count()
@@ -60,7 +55,14 @@ impl<T: Drop> Shared<T> {
         element_at(&self.values, place)
     }
 
-    /// Adds one more item, which has this value. After out of memory the items must not be used.
+    /// Whether the item with this number has a value. No value is looked at.
+    pub fn has(&self, number: usize) -> bool
+        ensures { result ≡ is_some (value_kept self.now number) }
+    {
+        self.places.has(number)
+    }
+
+    /// Adds one more item, which has this value.
     pub fn add(&mut self, value: T) -> Result<(), AllocError>
         ensures { OnOk result (self.new ≡ self.old ++ Some value ∷ []) }
     {

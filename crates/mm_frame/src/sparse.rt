@@ -1,6 +1,6 @@
 //! What some items have, and others do not.
 
-ghost use Rattle.std.specs.Prelude.{◌≡◌, ◌∷◌, ◌++◌, [], Some, None, IfOk, OnErr, OnOk, slice_get};
+ghost use Rattle.std.specs.Prelude.{◌≡◌, ◌∷◌, ◌++◌, [], Some, None, IfOk, OnErr, OnOk, is_some, slice_get};
 ghost use Rattle.std.specs.Option.{option_map};
 ghost use Rattle.mm_frame.specs.Code.KeptSparse.{value_kept};
 
@@ -58,11 +58,6 @@ impl<T: Drop> Sparse<T> {
         Ok(Sparse { values, ends })
     }
 
-    /// The list of the values, for its room and theirs.
-    pub fn into_values(self) -> Vec<T> {
-        self.values
-    }
-
     /// How many items there are.
     pub fn count(&self) -> usize {
         self.ends.len()
@@ -78,6 +73,14 @@ impl<T: Drop> Sparse<T> {
         } else {
             None
         }
+    }
+
+    /// Whether the item with this number has a value. No value is looked at.
+    pub fn has(&self, number: usize) -> bool
+        ensures { result ≡ is_some (value_kept self.now number) }
+    {
+        let ListPart { start, end } = self.ends.part(number);
+        start < end
     }
 
     /// Adds one more item, which has this value. Out of memory changes nothing.

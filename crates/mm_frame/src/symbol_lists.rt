@@ -48,39 +48,15 @@ fn part(symbols: &[NumberedSymbol], start: usize, end: usize) -> &[NumberedSymbo
     &symbols[start..end]
 }
 
-/// A list without symbols, with room for this many: this one, if it has as much.
-fn emptied(
-    alloc: Global,
-    mut list: Vec<NumberedSymbol>,
-    count: usize,
-) -> Result<Vec<NumberedSymbol>, AllocError>
-    ensures { IfOk result (λ empty. empty.items ≡ []) }
-{
-    if list.capacity() < count {
-        return Vec::with_capacity(alloc, count);
-    }
-    list.clear();
-    Ok(list)
-}
-
 impl SymbolLists {
-    /// No lists, with room for this many, each with a few symbols: in the room of this list, if it has as much.
-    pub fn with_room(
-        alloc: Global,
-        count: usize,
-        room: Vec<NumberedSymbol>,
-    ) -> Result<SymbolLists, AllocError>
+    /// No lists, with room for this many, each with a few symbols.
+    pub fn with_room(alloc: Global, count: usize) -> Result<SymbolLists, AllocError>
         ensures { IfOk result (λ lists. lists ≡ []) }
     {
         let ends = Counts::with_room(alloc, count)?;
         let some = (count | ROUND).saturating_mul(FEW_SYMBOLS);
-        let symbols = emptied(alloc, room, some)?;
+        let symbols = Vec::with_capacity(alloc, some)?;
         Ok(SymbolLists { symbols, ends })
-    }
-
-    /// The list in which the symbols lie, for its room.
-    pub fn into_symbols(self) -> Vec<NumberedSymbol> {
-        self.symbols
     }
 
     /// How many lists there are.

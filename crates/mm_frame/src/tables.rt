@@ -222,8 +222,7 @@ impl Tables {
         Ok(())
     }
 
-    /// Adds one more item, with its number and the numbers of its symbols. After out of memory the tables must not be
-    /// used.
+    /// Adds one more item, with its number and the numbers of its symbols.
     pub fn add(
         &mut self,
         alloc: Global,

@@ -9,7 +9,7 @@ ghost use Rattle.mm_frame.specs.Language.Framing.{active_pairs, frame};
 ghost use Rattle.mm_frame.specs.Language.Base.{BaseView, is_proof_at};
 ghost use Rattle.mm_machine.specs.Language.NumberedSymbols.{AreInOrder, ArePairsRead, AreSamePairsRead};
 ghost use Rattle.mm_frame.specs.Language.Answering.{AreRows, IsBaseBy, pairs_in_order, told_numbers};
-ghost use Rattle.mm_frame.specs.Code.KeptAssertions.{AreAssertions, TellsFrame, TellsPairs};
+ghost use Rattle.mm_frame.specs.Code.KeptAssertions.{AreAssertions, AreFrames, TellsPairs};
 ghost use Rattle.mm_frame.specs.Code.KeptPairLists.{AreMade, IsList, KeepsLists};
 ghost use Rattle.mm_frame.specs.Code.KeptSymbols.{AreSymbols};
 ghost use Rattle.mm_frame.specs.Code.LastItems.{is_disjoint_item};
@@ -19,14 +19,12 @@ use crate::assertions::Assertions;
 use crate::base::Base;
 use crate::copied_lists::CopiedLists;
 use crate::expressions::Expressions;
-use crate::frame::{Frame, MadeFrame};
+use crate::frame::Frame;
 use crate::frames::Frames;
 use crate::pair_lists::{PairLists, count_to_last};
-use crate::room::{copy_in, next_frame};
 use crate::sparse::{Sparse, number_at};
 use mm_machine::NumberedSymbol;
 use std::alloc::{AllocError, Global};
-use std::vec::IntoIter;
 
 /// An older base, and the number of an item of it.
 #[derive(Clone, Copy)]
@@ -42,12 +40,10 @@ pub struct ActiveDisjoints<'a> {
     pub expressions: &'a Expressions,
 }
 
-/// Adds the frame of one more item: an equal one of an earlier item, or a copy of the one that is kept, if one is. The copy is
-/// in the lists of the next of these that nobody asks any more, if they fit.
+/// Adds the frame of one more item: an equal one of an earlier item, or a copy of the one that is kept, if one is.
 fn copy_frame(
     alloc: Global,
     frames: &mut Frames,
-    gone: &mut IntoIter<MadeFrame>,
     active: ActiveDisjoints,
     kept: Option<&Frame>,
 ) -> Result<(), AllocError>
@@ -55,19 +51,18 @@ fn copy_frame(
         → AreSymbols all (sound_items said) active.entry.expressions.now → active.entry.numbers.now ≡ active_numbers is_disjoint_item (sound_items said)
         → option_map (λ frame. frame.now.hypotheses.items) kept.entry ≡ told_numbers (sound_items said) item
         → IfSome kept.entry (λ kept. ArePairsRead all (pairs_in_order (frame (sound_items said) item)) kept.now.pairs.items)
-        → AreRows (TellsFrame all) said frames.old.kept → AreRows (TellsFrame all) (said ++ item ∷ []) frames.new.kept) }
+        → AreFrames all said frames.old → AreFrames all (said ++ item ∷ []) frames.new) }
 {
     let Some(kept) = kept else {
         frames.pass()?;
         return Ok(());
     };
     let reach = count_to_last(active.numbers, active.expressions);
-    if frames.add_again(&kept.hypotheses, reach)? {
+    if frames.add_same(&kept.hypotheses, reach)? {
         return Ok(());
     }
-    let room = next_frame(alloc, gone);
-    let hypotheses = copy_in(alloc, room.hypotheses, &kept.hypotheses)?;
-    let pairs = copy_in(alloc, room.pairs, &kept.pairs)?;
+    let hypotheses = Vec::from_slice(alloc, &kept.hypotheses)?;
+    let pairs = Vec::from_slice(alloc, &kept.pairs)?;
     frames.add(Frame { hypotheses, pairs }, reach)
 }
 
@@ -112,7 +107,7 @@ fn copied_list(
     if let Some(k) = shared_list(numbers, proof, copied.guess(list)) {
         return Ok(k);
     }
-    let k = lists.keep_copy(alloc, proof.pairs)?;
+    let k = lists.lists.keep_copy(alloc, proof.pairs)?;
     copied.set(list, proof.number)?;
     Ok(k)
 }
@@ -184,8 +179,7 @@ fn copy_pairs(
 }
 
 impl Assertions {
-    /// Keeps what citing one more item needs, and the list of the pairs that are active there, as the older base has it. After
-    /// out of memory the assertions must not be used.
+    /// Keeps what citing one more item needs, and the list of the pairs that are active there, as the older base has it.
     pub fn take_over(
         &mut self,
         alloc: Global,
@@ -200,7 +194,6 @@ impl Assertions {
         copy_frame(
             alloc,
             &mut self.frames,
-            &mut self.room.gone,
             active,
             old.base.kept_frame(old.number),
         )?;

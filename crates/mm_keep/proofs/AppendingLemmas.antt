@@ -3,11 +3,11 @@ use Rattle.std.proofs.lemmas.{Grind.{common_steps}, List.{length-map}, Option.{g
 use Rattle.std.proofs.Common.{◌≡◌, ◌<◌, ◌≤◌, ℕ, zero, suc, List, [], ◌∷◌, Some, ◌++◌, length, length-append, map, refl, slice_get, sym, ap, ◌∙◌, subst, subst₂, arith, take, All, is_none}
 use Rattle.std.specs.{List.{AllZip}, Option.{option_map}}
 use Rattle.mm_proof.specs.mm_store.Language.{Appending.{IsAppended}, Expansion.{IsExpansion}, FileFacts.{StandsIn}, FilesView.{FilesView, File, files_in, plain}, Keyless.{keyless_item}}
-use Rattle.mm_proof.specs.mm_statement.Language.{Database.{IsDatabase, Located}, Item.{Said, item_at, passed}, Laws.{FilesHaveOneDatabase, LocatedAreItems}, Locating.{IsLocated}, Statement.{Says}}
-use Rattle.mm_proof.specs.mm_frame.Language.{Base.{BaseView, base_of, said_at, told_fault}, Framing.{active_pairs, expression, frame, resolve}, Laws.{SaidAreLabelled}, Sound.{sound_items}}
+use Rattle.mm_proof.specs.mm_statement.Language.{Database.{IsDatabase, Located}, Item.{Said, item_at}, Laws.{FilesHaveOneDatabase, LocatedAreItems}, Locating.{IsLocated}, Statement.{Says}}
+use Rattle.mm_proof.specs.mm_frame.Language.{Base.{base_of, said_at, told_fault}, Framing.{active_pairs, expression, frame, resolve}, Laws.{SaidAreLabelled}, Sound.{sound_items}}
 use Rattle.mm_proof.specs.mm_verdict.Language.{ItemLaws.{HasOneVerdictAt, HasVerdictAt, SpotsAreIn}, SameToDecode.{labels_named}, View.{View, view_at, AreSameViews}}
 use Rattle.mm_proof.specs.{Language.ViewLaws.{SameViewSameVerdict}, mm_machine.Language.{Frame.{LabelMeaning, Hypothesis, Assertion, Inactive, Unknown}, SameProof.{AreSameMeaning}}}
-use Rattle.mm_keep.specs.Language.{Laws.{AppendingKeepsFindings, ItemsHaveFindings}, Told.{Told, IsRightlyTold}}
+use Rattle.mm_keep.specs.Language.{Laws.{AppendingKeepsFindings, ItemsHaveFindings}, Told.{IsRightlyTold}}
 use Rattle.mm_keep.proofs.{AlikeItems.{AreAlike, BeginAlike, OneReading, got_before, place_stays, same_located}, FindingLaws.{findings, zip_there}, FoundLemmas.{ItemsStand}, ZipLemmas.{zip_found}}
 use Rattle.mm_keep.proofs.{HavingLemmas.{Keyed, KeysThere, keyed}, OneAnswers.{AgreeAt, agreed_told, class_of}, PlacedLemmas.{said_there, told_there}}
 use Rattle.mm_proof.specs.mm_store.declared.item.Item as store

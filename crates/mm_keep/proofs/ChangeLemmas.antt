@@ -1,5 +1,5 @@
 -- How a session goes on with edited files.
-use Rattle.std.proofs.{Common.{arith, rules, ◌≡◌, ℕ, Option, List, sym, ◌∙◌, subst}, lemmas.Grind.{common_steps}}
+use Rattle.std.proofs.{Common.{arith, ◌≡◌, ℕ, List, sym, ◌∙◌, subst}, lemmas.Grind.{common_steps}}
 use Rattle.mm_proof.specs.mm_store.Language.{Undoing.{UndoView}, Batches.{IsBatchOf, IsSpendable, KeepsReading, KeepsStanding}, FileFacts.{parked_in}, FilesView.{FilesView, files_in, plain}}
 use Rattle.mm_proof.specs.{mm_text.Language.Asked.{Asked}, mm_frame.{Language.{Base.{BaseView}, Older.{IsOlder}}, declared.base.Base.{Base}}, mm_verdict.Language.Work.{Recorded}}
 use Rattle.mm_keep.specs.{declared.keeping.Next.{Next}, Code.{Changing.{CanTake, HasKept, HasRun, WereKept}, KeptCheck.{Kept}, KeptSession.{AreChecked}, Next.{IsBuilt, IsNextBase}}}

@@ -1,6 +1,6 @@
 -- The items that a theorem cites are those whose labels are words that cite.
 use Rattle.std.proofs.lemmas.{Grind.{common_steps}, Bool.{and_parts, and_from, false≢true}, List.{get_or_default}, Option.{same_Some, slice_get-get_or}}
-use Rattle.std.proofs.Common.{◌≡◌, ◌<◌, ◌⊎◌, ℕ, Bool, true, false, Option, Some, None, List, length, get_or, slice_get, sym, ap, ◌∙◌, subst, inl, inr, arith, ◌↔◌, Contains, slice_index}
+use Rattle.std.proofs.Common.{◌≡◌, ◌<◌, ◌⊎◌, ℕ, Bool, true, false, Option, Some, None, List, length, get_or, slice_get, sym, ◌∙◌, subst, inl, inr, arith, ◌↔◌, Contains, slice_index}
 use Rattle.mm_proof.specs.mm_frame.Language.{Base.{BaseView, AreLabelled, said_at, is_proof_at}, Laws.{HasOwnLabels}, Resolving.{IsCarrier}}
 use Rattle.mm_proof.specs.mm_verdict.Language.{CitingLaws.{CitesNameAssertions, CitesTellAssertions, IsCiteOf}, BaseLabels.{setting_at}, DecodingLaws.{CitesRise}, VerdictAt.{cites_at, decoding_at}}
 use Rattle.mm_proof.specs.mm_verdict.Language.Work.{Judgement}

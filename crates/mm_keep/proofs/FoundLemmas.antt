@@ -1,9 +1,9 @@
 -- From what a session keeps to what it answers.
-use Rattle.std.proofs.Common.{arith, rules, ◌≡◌, refl, length, subst₂, ℕ, Bool, true, false, ◌&&◌, Option, None, is_none, List, sym, subst, All, IfSome, IfOk, Result, Ok, Err}
+use Rattle.std.proofs.Common.{arith, rules, ◌≡◌, refl, length, subst₂, ℕ, Bool, true, false, ◌&&◌, Option, None, is_none, List, sym, ◌∙◌, ap, subst, All, IfSome, IfOk, Result, Ok, Err}
 use Rattle.std.{proofs.lemmas.Grind.{common_steps}, specs.{List.{AllZip}, Option.{option_map}}}
 use Rattle.mm_proof.specs.{mm_store.Language.{Expansion.{IsExpansion}, FileFacts.{HoldsPieces, StandsIn}, FilesView.{FilesView, files_in, plain}}, mm_statement.Language.Database.{IsDatabase, Located}}
 use Rattle.mm_proof.specs.{mm_statement.Language.{Laws.{FilesHaveOneDatabase, ItemsAreLocated}, Locating.{IsLocated}}, mm_frame.declared.{FrameNumber.{FrameNumber}, judge.FrameFault.{FrameFault}}}
-use Rattle.mm_proof.specs.{mm_frame.Language.Base.{BaseView, base_of, is_proof_at}, mm_verdict.Language.Work.{Recorded}}
+use Rattle.mm_proof.specs.{mm_frame.Language.Base.{BaseView, IsOfFiles, base_of, is_proof_at}, mm_verdict.Language.Work.{Recorded}}
 use Rattle.mm_keep.specs.{Code.{Changing.{HasRun}, KeptSession.{AreChecked, IsSessionKept, session_view}, Next.{IsFirst}, OfFiles.{IsOf}}, Language.Sessions.{IsBegun, IsChanged, OfItems, SessionView}}
 use Rattle.mm_keep.specs.{Language.Runs.{AreRuns, AreStepsOf, AreThose}, declared.{keeping.Next.{Next}, session.Session.TheInside.{Inside}}}
 use Rattle.mm_proof.specs.mm_store.declared.item.Item as store
@@ -50,6 +50,14 @@ kept stand located inside k holds session is =
 -- what holds of the items of the files holds of what is kept
 pub holds_of : FilesHaveOneDatabase → (inside : Inside) (session : SessionView) → (k : Kept inside session) → (P : BaseView → Type 0) → OfItems session P → P (base_of k.items)
 holds_of one inside session k P has = subst (λ (items : List Located). P (base_of items)) (one session.files session.top has.0 k.items has.1 k.of_files) has.2
+
+-- two readings of the same files say the same
+pub one_reading : FilesHaveOneDatabase → ItemsAreLocated → (files : FilesView) (top : List ℕ) (found other : List store.Item) (base copy : BaseView) → HoldsPieces files
+    → IsOfFiles files top found base → IsOfFiles files top other copy → base ≡ copy
+one_reading one located files top found other base copy holds is also =
+    let first = located files top found base holds is.expansion is.each in
+    let second = located files top other copy holds also.expansion also.each in
+    sym first.2 ∙ ap base_of (one (plain files) top first.0 second.0 first.1 second.1) ∙ second.2
 
 -- ---- what is run
 

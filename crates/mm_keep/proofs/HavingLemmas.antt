@@ -1,7 +1,7 @@
 -- Sessions have answers: items, lists of runs, and what assertions cite.
-use Rattle.std.proofs.lemmas.{Grind.{common_steps}, List.{get_or_default}, Option.{none-some, same_Some}}
-use Rattle.std.proofs.Common.{◌≡◌, ◌≢◌, ◌⊎◌, ◌<◌, ℕ, zero, suc, Bool, true, false, Some, None, List, [], ◌∷◌, length, refl, sym, ◌∙◌, subst, inl, inr, arith, slice_range, All, slice_index}
-use Rattle.std.{proofs.Math.Decide.{dec_lt, ℕ_discrete, map_dec}, specs.List.{AllZip}}
+use Rattle.std.proofs.lemmas.{Grind.{common_steps}, List.{get_or_default}, Option.{same_Some}}
+use Rattle.std.proofs.{Common.{◌≡◌, ◌⊎◌, ◌<◌, ℕ, zero, suc, Bool, true, false, Some, List, length, refl, sym, ◌∙◌, subst, inl, inr, arith, slice_index}, Math.Decide.{dec_lt, ℕ_discrete, map_dec}}
+use Rattle.std.specs.List.{AllZip}
 use Rattle.mm_proof.specs.mm_store.Language.{FileFacts.{HoldsPieces}, FilesView.{File, FilesView, plain}}
 use Rattle.mm_proof.specs.mm_frame.Language.{Base.{BaseView, base_of, AreLabelled, IsOfFiles, said_at, is_framed_at, is_proof_at, is_sound_at}, Laws.{HasOwnLabels, SaidAreLabelled}}
 use Rattle.mm_proof.specs.{mm_frame.Language.Resolving.{IsCarrier}, mm_statement.Language.{Database.{IsDatabase, Located}, Laws.{FilesHaveOneDatabase, LocatedAreItems}, Locating.{IsLocated}}}

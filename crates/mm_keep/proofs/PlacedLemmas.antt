@@ -1,10 +1,9 @@
 -- What is reported of items that are kept as bytes under keys is rightly reported of them where they stand.
-use Rattle.std.proofs.lemmas.{Grind.{common_steps}, List.{length-map}, Option.{get_or_from_slice_get, slice_get-map}}
-use Rattle.std.{proofs.Common.{◌≡◌, ◌≤◌, ℕ, ◌+◌, Option, Some, None, List, length, slice_get, slice_range, refl, sym, ap, ◌∙◌, subst, arith}, specs.{List.{AllZip}, Option.{option_map}}}
+use Rattle.std.proofs.lemmas.{List.{length-map}, Option.{get_or_from_slice_get, slice_get-map}}
+use Rattle.std.{proofs.Common.{◌≡◌, ◌≤◌, ℕ, ◌+◌, Option, Some, None, List, length, slice_get, slice_range, sym, ap, ◌∙◌, subst, arith}, specs.{List.{AllZip}, Option.{option_map}}}
 use Rattle.mm_proof.specs.mm_text.{declared.word.Word.{Word}, Language.{Place.{line_at, column_at}, Stretch.{moved}, Unit.{Token, token_of, tokens_of}}}
-use Rattle.mm_proof.specs.{mm_store.Language.{FilesView.{FilesView, plain}, FileFacts.{CanBeRead, piece_offset}}, mm_frame.Language.Base.{BaseView, base_of, said_at}}
-use Rattle.mm_proof.specs.{mm_statement.Language.{Database.{Located}, Item.{Said, passed}, Locating.{IsLocated}, Statement.{Says}}, mm_verdict.Language.ItemLaws.{SpotsAreIn, IsSpotIn}}
-use Rattle.mm_proof.specs.mm_machine.declared.Spot.{Spot}
+use Rattle.mm_proof.specs.{mm_store.Language.{FilesView.{FilesView, plain}, FileFacts.{CanBeRead, piece_offset}}, mm_frame.Language.Base.{base_of, said_at}, mm_statement.Language.Database.{Located}}
+use Rattle.mm_proof.specs.{mm_statement.Language.{Item.{Said, passed}, Locating.{IsLocated}, Statement.{Says}}, mm_verdict.Language.ItemLaws.{SpotsAreIn, IsSpotIn}, mm_machine.declared.Spot.{Spot}}
 use Rattle.mm_keep.specs.{declared.finding.At.{At}, Language.WordPlaces.{HasPlace, IsPlaceOfSpot, proof_word, spelled, start_of, word_offset}}
 use Rattle.mm_keep.specs.Language.Told.{Shown, Told, Quiet, AnAxiom, Proved, Incomplete, Wrong, Fault, IsRightlyTold, IsShown, AreRightlyTold}
 use Rattle.mm_keep.{specs.Code.KeyedTold.{HasKeyedPlace, IsKeyedPlaceOfSpot, AreKeyedTold, IsKeyedShown, IsKeyedTold, word_start, word_spelling}, proofs.SpotLemmas.{letter_in}}

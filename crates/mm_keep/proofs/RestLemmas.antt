@@ -1,6 +1,6 @@
 -- What leads to proved theorems alone rests on axioms: citations lead to earlier items.
 use Rattle.std.proofs.lemmas.{Grind.{common_steps}, List.Elements.{Contains-append_right, Contains-append_cases}, Option.{same_Some}}
-use Rattle.std.proofs.Common.{◌≡◌, ◌<◌, ◌⊎◌, ℕ, zero, suc, ◌+◌, Bool, true, false, ◌&&◌, if◌then◌else◌, Option, Some, None, List, [], ◌∷◌, ◌++◌, slice_get, refl, sym, subst, inl, inr, arith, Contains}
+use Rattle.std.proofs.Common.{◌≡◌, ◌<◌, ◌⊎◌, ℕ, zero, suc, Bool, true, false, ◌&&◌, if◌then◌else◌, Option, Some, None, List, [], ◌∷◌, ◌++◌, slice_get, refl, sym, subst, inl, inr, arith, Contains}
 use Rattle.std.specs.Option.{option_map, option_or}
 use Rattle.mm_proof.specs.{mm_frame.Language.Base.{BaseView, said_at, is_sound_at, is_framed_at, is_proof_at}, mm_statement.Language.Item.{Kind, Axiom, is_assertion, is_kind, Theorem}}
 use Rattle.mm_proof.specs.mm_machine.Language.{Frame.{Setting}, Expansion.{Step, Named, Saved, Save, NotKnown, Expanded, expand_one, expand_from, expansion, last_part}}

@@ -5,6 +5,7 @@ pub mod OfFiles
 pub mod KeyedTold
 pub mod FoundKinds
 pub mod KeptSession
+pub mod Asked
 pub mod Cited
 pub mod Planned
 pub mod Next

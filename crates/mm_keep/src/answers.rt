@@ -69,7 +69,7 @@ fn judged<'a>(files: &'a Files, base: &Base, number: usize, verdict: Verdict) ->
     ensures { (names : List (List ℕ)) (view : BaseView) → IsOf names files.now base.now view → is_proof_at view number ≡ true
         → IsVerdictAt view number verdict → IsKeyedTold files.now base.now.items view number (told result) }
 {
-    spots_are_in();
+    spots_are_in(); // A law: the spot of a verdict is in its proof.
     match verdict {
         Verdict::Proved => Finding::Proved,
         Verdict::Incomplete(spot) => Finding::Incomplete(place_of_spot(files, base, number, spot)),
@@ -113,7 +113,7 @@ fn kind_of(base: &Base, checked: &Checks, i: usize) -> FindingKind
     ensures { (names : List (List ℕ)) (files : FilesView) (view : BaseView) → IsOf names files base.now view → AreChecked view checked.now
         → i < length view → IsFoundAs files base.now.items view i result }
 {
-    spots_are_in();
+    spots_are_in(); // A law: the spot of a verdict is in its proof.
     if let Some(_fault) = base.fault(i) {
         return FindingKind::Fault;
     }
@@ -154,12 +154,12 @@ impl Session {
         ensures found { IsFinding self.now i (told result) }
         ensures derived { result ≡ Proved → IsDerivable self.now i }
     {
-        files_have_one_database();
-        items_are_located();
-        mm_proof::items_stand();
+        files_have_one_database(); // A law: files have one database at most.
+        items_are_located(); // A law: items say what the database says, at the same places.
+        mm_proof::items_stand(); // A law: each item is where it says.
         self.files.holds_pieces();
-        proved_is_derived_at();
-        spots_are_in();
+        proved_is_derived_at(); // A law: proved is said exactly if labels derive the statement.
+        spots_are_in(); // A law: the spot of a verdict is in its proof.
         finding_of(&self.files, &self.base, &self.checked, i)
     }
 
@@ -168,9 +168,9 @@ impl Session {
         ensures some { IfSome result (λ i. OfItems self.now (λ base. IsAssertion base label.now i)) }
         ensures none { result ≡ None → ¬ HasAssertion self.now label.now }
     {
-        files_have_one_database();
-        items_are_located();
-        mm_proof::items_stand();
+        files_have_one_database(); // A law: files have one database at most.
+        items_are_located(); // A law: items say what the database says, at the same places.
+        mm_proof::items_stand(); // A law: each item is where it says.
         self.files.holds_pieces();
         assertion_in(&self.base, label)
     }
@@ -183,7 +183,7 @@ impl Session {
         ensures none { IsErrOf result NoAssertion ↔ ¬ HasAssertion self.now label.now }
         ensures err { IfErr result (λ error. error ≡ NoAssertion) }
     {
-        files_have_one_database();
+        files_have_one_database(); // A law: files have one database at most.
         match self.assertion(label) {
             Some(i) => Ok(self.finding(i)),
             None => Err(KeepError::NoAssertion),
@@ -194,9 +194,9 @@ impl Session {
     pub fn tally(&self) -> Tally
         ensures { IsTally self.now (counted result) }
     {
-        items_are_located();
-        mm_proof::items_stand();
-        spots_are_in();
+        items_are_located(); // A law: items say what the database says, at the same places.
+        mm_proof::items_stand(); // A law: each item is where it says.
+        spots_are_in(); // A law: the spot of a verdict is in its proof.
         self.files.holds_pieces();
         tally_of(&self.base, &self.checked)
     }

@@ -94,9 +94,9 @@ pub fn mark_cites(files: &Files, base: &Base, checked: &Checks, j: usize, marks:
     requires places { j ≤ length marks.old }
     ensures { OfChecks files.now base.now checked.now (λ view. MarksMore (CitesItem view j) marks.old marks.new) }
 {
-    cites_rise();
-    cites_tell();
-    has_own_labels();
+    cites_rise(); // A law: the words that cite rise.
+    cites_tell(); // A law: the words that cite are the labels that steps name.
+    has_own_labels(); // A law: two sound items with one label are one.
     if let Some(check) = checked.get(j) {
         let words = words_of_proof(files, base.item(j));
         mark_words(base, words, check, marks);
@@ -108,9 +108,9 @@ pub fn cites_label(files: &Files, base: &Base, checked: &Checks, j: usize, label
     requires { HasChecks files.now base.now checked.now (λ view. j < length view) }
     ensures { OfChecks files.now base.now checked.now (λ view. (i : ℕ) → IsAssertion view label.now i → IsTrue result ↔ CitesItem view j i) }
 {
-    cites_rise();
-    cites_tell();
-    has_own_labels();
+    cites_rise(); // A law: the words that cite rise.
+    cites_tell(); // A law: the words that cite are the labels that steps name.
+    has_own_labels(); // A law: two sound items with one label are one.
     match checked.get(j) {
         Some(check) => {
             let words = words_of_proof(files, base.item(j));

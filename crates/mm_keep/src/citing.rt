@@ -6,8 +6,9 @@ ghost use Rattle.mm_proof.specs.mm_frame.Language.Answering.{IsBase};
 ghost use Rattle.mm_keep.specs.declared.answers.KeepError.TheVariants.{NoAssertion};
 ghost use Rattle.mm_keep.specs.Language.Citations.{CitesItem, IsAxiomOf};
 ghost use Rattle.mm_keep.specs.Language.Runs.{AreThose};
-ghost use Rattle.mm_keep.specs.Language.Sessions.{AreAxiomsOf, AreCitesOf, AreUsersOf, HasAssertion, IsAssertion};
+ghost use Rattle.mm_keep.specs.Language.Sessions.{AreAxiomsOf, AreCitesOf, AreNumbersOf, AreUsersOf, HasAssertion, IsAssertion};
 ghost use Rattle.mm_keep.specs.Language.Told.{IsAxiom};
+ghost use Rattle.mm_keep.specs.Code.Asked.{stands};
 ghost use Rattle.mm_keep.specs.Code.Cited.{HasChecks, IsMarked, MarksBehind, OfChecks};
 
 use crate::answers::KeepError;
@@ -134,7 +135,64 @@ fn axioms_of(
     marked_axioms(alloc, base, &marks)
 }
 
+/// What is asked of an assertion.
+#[derive(Clone, Copy)]
+pub enum Question {
+    /// What it cites.
+    Cites,
+    /// What cites it.
+    Users,
+    /// Its axioms.
+    Axioms,
+}
+
+/// The numbers of the items that are asked for of the item with this number, which has this label, rising.
+fn numbers_of(
+    alloc: Global,
+    files: &Files,
+    base: &Base,
+    checked: &Checks,
+    i: usize,
+    label: &[u8],
+    asked: Question,
+) -> Result<Vec<usize>, AllocError>
+    requires { HasChecks files.now base.now checked.now (λ view. IsAssertion view label.now i) }
+    ensures { IfOk result (λ numbers. OfChecks files.now base.now checked.now (λ view.
+        IsAssertion view label.now i → AreThose (stands asked view i) (length view) numbers.items)) }
+{
+    match asked {
+        Question::Cites => cites_of(alloc, files, base, checked, i),
+        Question::Users => users_of(alloc, files, base, checked, i, label),
+        Question::Axioms => axioms_of(alloc, files, base, checked, i),
+    }
+}
+
 impl Session {
+    /// The numbers, rising, of the items that are asked for of the sound `$a` or `$p` with this label.
+    ///
+    /// `NoAssertion` comes before memory is taken.
+    fn numbers(&self, label: &[u8], asked: Question) -> Result<Vec<usize>, KeepError>
+        ensures ok { IfOk result (λ numbers. AreNumbersOf self.now label.now (stands asked) numbers.items) }
+        ensures none { IsErrOf result NoAssertion ↔ ¬ HasAssertion self.now label.now }
+    {
+        files_have_one_database(); // A law: files have one database at most.
+        items_are_located(); // A law: items say what the database says, at the same places.
+        mm_proof::items_stand(); // A law: each item is where it says.
+        self.files.holds_pieces();
+        match self.assertion(label) {
+            Some(i) => Ok(numbers_of(
+                self.allocator(),
+                &self.files,
+                &self.base,
+                &self.checked,
+                i,
+                label,
+                asked,
+            )?),
+            None => Err(KeepError::NoAssertion),
+        }
+    }
+
     /// The numbers, rising, of the items that the sound `$a` or `$p` with this label cites: those that the decoded steps of
     /// its proof name. A `$a` cites none, and neither does a `$p` whose proof cannot be decoded.
     ///
@@ -143,20 +201,7 @@ impl Session {
         ensures ok { IfOk result (λ numbers. AreCitesOf self.now label.now numbers.items) }
         ensures none { IsErrOf result NoAssertion ↔ ¬ HasAssertion self.now label.now }
     {
-        files_have_one_database();
-        items_are_located();
-        mm_proof::items_stand();
-        self.files.holds_pieces();
-        match self.assertion(label) {
-            Some(citing) => Ok(cites_of(
-                self.allocator(),
-                &self.files,
-                &self.base,
-                &self.checked,
-                citing,
-            )?),
-            None => Err(KeepError::NoAssertion),
-        }
+        self.numbers(label, Question::Cites)
     }
 
     /// The numbers, rising, of the sound `$p` that cite the sound `$a` or `$p` with this label.
@@ -166,21 +211,7 @@ impl Session {
         ensures ok { IfOk result (λ numbers. AreUsersOf self.now label.now numbers.items) }
         ensures none { IsErrOf result NoAssertion ↔ ¬ HasAssertion self.now label.now }
     {
-        files_have_one_database();
-        items_are_located();
-        mm_proof::items_stand();
-        self.files.holds_pieces();
-        match self.assertion(label) {
-            Some(cited) => Ok(users_of(
-                self.allocator(),
-                &self.files,
-                &self.base,
-                &self.checked,
-                cited,
-                label,
-            )?),
-            None => Err(KeepError::NoAssertion),
-        }
+        self.numbers(label, Question::Users)
     }
 
     /// The numbers, rising, of the axioms of the sound `$a` or `$p` with this label: the sound `$a` to which chains of
@@ -191,19 +222,6 @@ impl Session {
         ensures ok { IfOk result (λ numbers. AreAxiomsOf self.now label.now numbers.items) }
         ensures none { IsErrOf result NoAssertion ↔ ¬ HasAssertion self.now label.now }
     {
-        files_have_one_database();
-        items_are_located();
-        mm_proof::items_stand();
-        self.files.holds_pieces();
-        match self.assertion(label) {
-            Some(first) => Ok(axioms_of(
-                self.allocator(),
-                &self.files,
-                &self.base,
-                &self.checked,
-                first,
-            )?),
-            None => Err(KeepError::NoAssertion),
-        }
+        self.numbers(label, Question::Axioms)
     }
 }

@@ -48,11 +48,10 @@ fn base_of(
     names: &mut Names,
     files: &Files,
     top: &[u8],
-    old: &mut Base,
+    old: &Base,
 ) -> Result<Base, AllocError>
     requires top { HasTop files.now top.now }
-    requires old { HasOlder names.old files.now old.old }
-    ensures old { old.new ≡ old.old }
+    requires old { HasOlder names.old files.now old.now }
     ensures base { IfOk result (λ built. (base : BaseView) × IsBuilt names.new files.now top.now built base) }
     ensures grows { Begins names.old names.new }
 {
@@ -101,16 +100,15 @@ pub fn next_of(
     names: &mut Names,
     files: &Files,
     top: &[u8],
-    old: &mut Base,
+    old: &Base,
 ) -> Result<Next, AllocError>
     requires top { HasTop files.now top.now }
-    requires old { HasOlder names.old files.now old.old }
-    ensures old { old.new ≡ old.old }
+    requires old { HasOlder names.old files.now old.now }
     ensures grows { Begins names.old names.new }
     ensures distinct { AreDistinct names.new }
-    ensures next { IfOk result (λ next. (view : BaseView) → IsOlder names.old files.now old.old view → IsNextBase names.new files.now top.now view next) }
+    ensures next { IfOk result (λ next. (view : BaseView) → IsOlder names.old files.now old.now view → IsNextBase names.new files.now top.now view next) }
 {
-    let built = base_of(alloc, &mut *names, files, top, &mut *old);
+    let built = base_of(alloc, &mut *names, files, top, old);
     // No name is there twice.
     let _count = names.count();
     let base = built?;

@@ -197,9 +197,9 @@ pub fn carry(old: &mut Checks, plan: &Plan, new: &mut Checks)
     requires { CanBeCarried old.old plan.now new.old }
     ensures { (base copy : BaseView) → CanCarry base copy old.old plan.now new.old → AreChecked copy new.new }
 {
-    labels_are_own();
-    same_view_same_verdict();
-    same_view_same_cites();
+    labels_are_own(); // A law: no two sound items have the same label.
+    same_view_same_verdict(); // A law: equal views have equal verdicts.
+    same_view_same_cites(); // A law: with equal views the same words cite.
     for j in 0..new.count() {
         carry_one(&mut *old, plan.at(j), &mut *new, j);
     }

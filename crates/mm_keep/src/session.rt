@@ -22,12 +22,15 @@ use crate::kept::Checks;
 use crate::planning::carry;
 use crate::unbegun::Unbegun;
 use mm_proof::{
-    Base, BatchError, Edit, EditError, Files, Names, StoreError, Undos, Work, items_are_located,
-    items_stand,
+    Base, BatchError, Edit, EditError, Files, Names, StoreError, Undos, Work,
+    files_have_one_database, items_are_located, items_stand,
 };
 use std::alloc::{AllocError, Global};
 use std::marker::Model;
 use std::slice;
+
+/// So many names that are gone cost an edit less than a millisecond.
+const FEW_NAMES: usize = 16_384;
 
 /// Files that are verified from a top file on, and stay verified from edit to edit: an edit runs the proofs whose view it
 /// changes, and no others.
@@ -40,6 +43,8 @@ pub struct Session {
     pub(crate) files: Files,
     pub(crate) top: Vec<u8>,
     pub(crate) names: Names,
+    /// How many names there were when the files were last read over new ones.
+    pub(crate) fresh: usize,
     pub(crate) base: Base,
     /// For the number of each item what the check of its proof said; nothing if it is no sound `$p`.
     pub(crate) checked: Checks,
@@ -109,7 +114,7 @@ fn take_next(
         → HasRun before files.new top result }
     ensures plain { plain files.new ≡ plain files.old }
 {
-    items_stand();
+    items_stand(); // A law: each item is where it says.
     let Next { base: new, ran } = next;
     let Ran {
         plan,
@@ -117,7 +122,7 @@ fn take_next(
         work,
     } = ran;
     carry(&mut *checked, &plan, &mut ran);
-    base.replace(new);
+    *base = new;
     *checked = ran;
     files.settle_all(undos);
     work
@@ -141,7 +146,7 @@ fn go_on(
     ensures undone { OnErr result ((before : FilesView) → WereKept before files.old undos top.now names.old base.old checked.old → files.new ≡ before) }
 {
     let alloc = checked.allocator();
-    match next_of(alloc, names, files, top, &mut *base) {
+    match next_of(alloc, names, files, top, base) {
         Ok(next) => Ok(take_next(files, base, checked, next, undos)),
         Err(error) => {
             files.undo_all(undos);
@@ -166,7 +171,7 @@ fn change(
     ensures refused { IfErr result (IsBatchRefusal (map asked edits.now) (plain files.old)) }
     ensures unchanged { OnErr result (files.new ≡ files.old) }
 {
-    mm_proof::edits_keep_files();
+    mm_proof::edits_keep_files(); // A law: an edit keeps the names of the files and their order.
     match files.edit_all(edits) {
         Ok(undos) => match go_on(files, names, top, base, checked, undos) {
             Ok(work) => Ok(work),
@@ -190,17 +195,19 @@ impl Session {
         ensures no_top { IfErr result (λ unbegun. (unbegun.fault ≡ NoTop) ↔ (file_number (plain files) top.now ≡ None)) }
         ensures told { IfErr result (λ unbegun. IsExpansionError unbegun.fault) }
     {
-        items_are_located();
+        items_are_located(); // A law: items say what the database says, at the same places.
         files.holds_pieces();
         let mut names = Names::new(alloc);
         match first_with_top(alloc, &mut names, &files, top) {
             Ok((top, next)) => {
                 let Next { base, ran } = next;
                 let Ran { checked, work, .. } = ran;
+                let fresh = names.count();
                 let session = Session {
                     files,
                     top,
                     names,
+                    fresh,
                     base,
                     checked,
                 };
@@ -245,7 +252,7 @@ impl Session {
         ensures refused { IfErr result (IsBatchRefusal (map asked edits.now) self.old.files) }
         ensures unchanged { OnErr result (self.new ≡ self.old) }
     {
-        items_are_located();
+        items_are_located(); // A law: items say what the database says, at the same places.
         self.files.holds_pieces();
         let changed = change(
             &mut self.files,
@@ -256,7 +263,28 @@ impl Session {
             edits,
         );
         self.files.holds_pieces();
+        self.renew_names();
         changed
+    }
+
+    /// Reads the files over new names, if most of the names are gone: an edit makes tables with a place for each name that
+    /// there is. So all edits take time near linear in what they read. Without memory for it nothing changes.
+    fn renew_names(&mut self)
+        ensures { self.new ≡ self.old }
+    {
+        if self.names.count() / 2 <= self.fresh.max(FEW_NAMES) {
+            return;
+        }
+        files_have_one_database(); // A law: files have one database at most.
+        items_are_located(); // A law: items say what the database says, at the same places.
+        self.files.holds_pieces();
+        let alloc = self.allocator();
+        let mut names = Names::new(alloc);
+        if let Ok(base) = Base::build(alloc, &mut names, &self.files, &self.top) {
+            self.fresh = names.count();
+            self.names = names;
+            self.base = base;
+        }
     }
 
     /// The allocator that all lists are made on.
@@ -278,8 +306,8 @@ impl Session {
         ensures count { IsCount self.now result }
         ensures few { result ≤ 4294967295 }
     {
-        items_are_located();
-        items_stand();
+        items_are_located(); // A law: items say what the database says, at the same places.
+        items_stand(); // A law: each item is where it says.
         self.files.holds_pieces();
         self.base.count()
     }
@@ -288,8 +316,8 @@ impl Session {
     pub fn label(&self, i: usize) -> Option<&[u8]>
         ensures { IsLabelOfItem self.now i (option_map (λ label. label.now) result) }
     {
-        items_are_located();
-        items_stand();
+        items_are_located(); // A law: items say what the database says, at the same places.
+        items_stand(); // A law: each item is where it says.
         self.files.holds_pieces();
         self.base.label(i)
     }

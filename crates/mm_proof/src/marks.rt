@@ -170,7 +170,7 @@ fn has_label(base: &Base, i: usize, label: &[u8]) -> bool
 fn find_expected(base: &Base, label: &[u8], expected: usize) -> Option<usize>
     ensures { (view : BaseView) (i : ℕ) → IsBase view base.now → (result ≡ Some i) ↔ IsCarrier view label.now i }
 {
-    has_own_labels();
+    has_own_labels(); // A law: two sound items with one label are one.
     if has_label(base, expected, label) {
         Some(expected)
     } else {
@@ -304,7 +304,7 @@ fn marked(
     ensures kept { IsHypothesisMark bases.entry.old.now bases.entry.new.now j result.0 }
     ensures step { IsStepAt bases.entry.old.now bases.entry.new.now (changed_behind changed.now j result.1.changed) (j + 1) result.1 }
 {
-    labels_mean();
+    labels_mean(); // A law: a label is that of a sound item before, or means nothing.
     let TwoBases { old, new, ordinals } = bases;
     let (mark, last) = mark_of(old, new, j, step.last, step.expected, marks);
     let placed = step.in_step && keeps_place(new, j, ordinals, mark);

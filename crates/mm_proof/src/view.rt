@@ -60,7 +60,7 @@ fn meaning_of(base: &Base, carrier: Option<usize>, framed: bool, i: usize) -> Re
     ensures { (view : BaseView) (label : List ℕ) → IsBase view base.now → IsOneCarrier view label carrier
         → (framed ≡ true → (n : ℕ) → carrier ≡ Some n → is_framed_at view n ≡ true) → Resolves view i label result }
 {
-    kept_next();
+    kept_next(); // A law: one more item is judged against the sound ones before it.
     match carrier {
         Some(k) if framed => base.assertion_meaning(k, i),
         Some(k) => base.meaning(k, i),
@@ -73,7 +73,7 @@ fn same_marked(two: TwoTheorems, mine: Resolved, yours: Resolved, marks: &Marks,
     ensures { OfTwo two.entry (λ base copy. AreMarks base copy marks.now → (label : List ℕ) → IsCarrier copy label m
         → Resolves base two.entry.i label mine → Resolves copy two.entry.j label yours → IsTrue result ↔ MeansSame two.entry base copy label) }
 {
-    has_own_labels();
+    has_own_labels(); // A law: two sound items with one label are one.
     match (mine, yours) {
         (Resolved::Assertion(_), Resolved::Assertion(_)) => marks.same(m),
         _ => same_meaning(two, mine, yours),
@@ -85,8 +85,8 @@ fn same_marked(two: TwoTheorems, mine: Resolved, yours: Resolved, marks: &Marks,
 fn same_by(two: TwoTheorems, marks: &Marks, label: &[u8]) -> bool
     ensures { OfTwo two.entry (λ base copy. AreMarks base copy marks.now → IsTrue result ↔ MeansSame two.entry base copy label.now) }
 {
-    kept_next();
-    labels_mean();
+    kept_next(); // A law: one more item is judged against the sound ones before it.
+    labels_mean(); // A law: a label is that of a sound item before, or means nothing.
     match two.new.find(label) {
         Some(m) if marks.keeps(m, two.i, two.j) => true,
         Some(m) => {

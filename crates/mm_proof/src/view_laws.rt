@@ -9,15 +9,15 @@ use mm_verdict::{mandatory_labels_mean, same_cites_same, same_decodes_same};
 pub fn same_view_same_verdict()
     ensures { SameViewSameVerdict }
 {
-    mandatory_labels_mean();
-    same_decodes_same();
-    same_proof_same_verdict();
+    mandatory_labels_mean(); // A law: the label of a mandatory hypothesis means it.
+    same_decodes_same(); // A law: the same words decode to the same if labels mean the same.
+    same_proof_same_verdict(); // A law: proofs that mean the same have the same verdict.
 }
 
 /// In two theorems with equal views the same words of the proofs cite.
 pub fn same_view_same_cites()
     ensures { SameViewSameCites }
 {
-    mandatory_labels_mean();
-    same_cites_same();
+    mandatory_labels_mean(); // A law: the label of a mandatory hypothesis means it.
+    same_cites_same(); // A law: the same words cite if labels mean the same.
 }

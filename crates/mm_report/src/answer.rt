@@ -133,7 +133,7 @@ fn write_label_lines<W: Write>(
 ) -> Result<(), WriteFailed>
     ensures { WritesOf W.contents session.now (λ base. label_lines (map (said_at base) items.now)) to.old to.new result }
 {
-    files_have_one_database();
+    files_have_one_database(); // A law: files have one database at most.
     for i in items {
         let label = session.label(*i).unwrap_or(&[]);
         write_part(label, b"\n", to)?;
@@ -278,7 +278,7 @@ fn write_refusal<W: Write>(
     ensures { (session : SessionView) → IsRefusal (asked edit.now) session.files error
         → Answers W.contents (Change (asked edit.now)) session session to.old to.new result }
 {
-    mm_keep::first_faults_are_within();
+    mm_keep::first_faults_are_within(); // A law: the first fault of a text is at one of its bytes.
     match error {
         EditError::Memory => Err(ScriptError::from(AllocError)),
         _ => Ok(write_refused(edit, error, to)?),
@@ -296,7 +296,7 @@ fn write_batch_refusal<W: Write>(
         → IsBatchRefusal (map asked edits.now) session.files error
         → Answers W.contents (Batch listed) session session to.old to.new result }
 {
-    mm_keep::first_faults_are_within();
+    mm_keep::first_faults_are_within(); // A law: the first fault of a text is at one of its bytes.
     match error {
         BatchError::Edit(number, error) => {
             Ok(write_batch_refused(number, &edits[number], error, to)?)

@@ -17,7 +17,7 @@ pub fn scripts_are_answered_so()
     ensures refused { RefusesSecond }
     ensures script { AnswersFive }
 {
-    mm_script::commands_leave_nothing();
+    mm_script::commands_leave_nothing(); // A law: commands that leave nothing are the reading.
 }
 
 /// What the session has and finds, why it refuses an edit, and how counts and lines are written.
@@ -31,6 +31,6 @@ pub fn sessions_are_told_so()
     ensures counts { CountsEach }
     ensures lines { WritesLines }
 {
-    mm_keep::files_have_one_database();
-    mm_keep::one_answer_each();
+    mm_keep::files_have_one_database(); // A law: files have one database at most.
+    mm_keep::one_answer_each(); // A law: a session has one answer each.
 }

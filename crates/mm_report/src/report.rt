@@ -210,8 +210,8 @@ fn write_lines<W: Write>(session: &Session, to: &mut Writing<W>) -> Result<Tally
     ensures ok { IfOk result (λ tally. AreAllWritten session.now (written W.contents to.old) (written W.contents to.new) (counted tally)) }
     ensures err { OnErr result (FailsWithin W.contents session.now to.old to.new) }
 {
-    files_have_one_database();
-    items_have_findings();
+    files_have_one_database(); // A law: files have one database at most.
+    items_have_findings(); // A law: something is rightly reported of each item.
     let mut tally = Tally::none();
     for i in 0..session.count() {
         let finding = session.finding(i);

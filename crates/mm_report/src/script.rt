@@ -42,8 +42,8 @@ fn answer_next<R: Read, W: Write>(
         → IfErr result (StopsAnswering R.remaining W.contents begun session.new all reading.new before writing.new) }
     ensures fewer { IfOk result (λ more. more ≡ true → to_come input.new reading.new + 1 ≤ to_come input.old reading.old) }
 {
-    readings_join();
-    commands_leave_nothing();
+    readings_join(); // A law: what is left of a script is read by itself.
+    commands_leave_nothing(); // A law: commands that leave nothing are the reading.
     let Some(next) = next_command(alloc, input, reading)? else {
         return Ok(false);
     };

@@ -11,13 +11,13 @@ use mm_keep::Session;
 pub fn one_script_answer()
     ensures { OneScriptAnswer }
 {
-    mm_script::one_reading();
-    mm_script::divisions_agree();
-    mm_keep::one_edit();
-    mm_keep::files_have_one_database();
-    mm_keep::one_answer_each();
-    mm_keep::one_list_of_runs();
-    mm_keep::one_list_each();
+    mm_script::one_reading(); // A law: a script is read in one way.
+    mm_script::divisions_agree(); // A law: two divisions of a script agree.
+    mm_keep::one_edit(); // A law: an edit gives one list of files, or one refusal.
+    mm_keep::files_have_one_database(); // A law: files have one database at most.
+    mm_keep::one_answer_each(); // A law: a session has one answer each.
+    mm_keep::one_list_of_runs(); // A law: there is one list of runs at most.
+    mm_keep::one_list_each(); // A law: there is one list each at most.
 }
 
 /// Each script has answers, whatever session it is put to. So if a script is not answered to its end, the beginning of its
@@ -25,14 +25,14 @@ pub fn one_script_answer()
 pub fn has_script_answer()
     ensures { HasScriptAnswer }
 {
-    mm_keep::one_edit();
-    mm_keep::edits_keep_files();
-    mm_keep::edits_keep_units();
-    mm_keep::databases_are_there();
-    mm_keep::items_have_findings();
-    mm_keep::has_list_of_runs();
-    mm_keep::has_list_each();
-    mm_script::has_reading();
+    mm_keep::one_edit(); // A law: an edit gives one list of files, or one refusal.
+    mm_keep::edits_keep_files(); // A law: an edit keeps the names of the files and their order.
+    mm_keep::edits_keep_units(); // A law: after an edit each piece holds one unit.
+    mm_keep::databases_are_there(); // A law: files have a database from each top file on.
+    mm_keep::items_have_findings(); // A law: something is rightly reported of each item.
+    mm_keep::has_list_of_runs(); // A law: there is a list of runs.
+    mm_keep::has_list_each(); // A law: there is a list each for each assertion.
+    mm_script::has_reading(); // A law: each script has a reading.
 }
 
 /// Each session is one of which scripts have answers.
@@ -47,11 +47,11 @@ pub fn sessions_are_whole(session: &Session)
 pub fn answers_begin()
     ensures { AnswersBegin }
 {
-    mm_script::one_reading();
-    mm_script::divisions_agree();
-    mm_keep::one_edit();
-    mm_keep::files_have_one_database();
-    mm_keep::one_answer_each();
-    mm_keep::one_list_of_runs();
-    mm_keep::one_list_each();
+    mm_script::one_reading(); // A law: a script is read in one way.
+    mm_script::divisions_agree(); // A law: two divisions of a script agree.
+    mm_keep::one_edit(); // A law: an edit gives one list of files, or one refusal.
+    mm_keep::files_have_one_database(); // A law: files have one database at most.
+    mm_keep::one_answer_each(); // A law: a session has one answer each.
+    mm_keep::one_list_of_runs(); // A law: there is one list of runs at most.
+    mm_keep::one_list_each(); // A law: there is one list each at most.
 }

@@ -260,16 +260,6 @@ impl<'a> Statement<'a> {
     {
         proof_among(self.kind, self.text, self.words.again())
     }
-
-    /// The place of the n-th word of the proof, counted from 0, among all words of the statement, which are counted
-    /// from 0 as well, the label being the first. Where n is the count of these words, it is the place of the `$.` that
-    /// closes a `$p`.
-    pub fn proof_place(&self, n: usize) -> usize
-        requires { n ≤ length self.now.proof }
-        ensures { result ≡ spoken.symbols_from self.now.kind + length self.now.symbols + 1 + n }
-    {
-        symbols_from(self.kind) + self.count + 1 + n
-    }
 }
 
 /// The words of the proof of an item, from the first one on; none if it has no proof. The item's bytes are read up to

@@ -18,7 +18,7 @@ pub fn edits_are_done_so()
     ensures together { BatchIsDone }
     ensures refused_together { BatchIsRefused }
 {
-    mm_text::one_cut();
+    mm_text::one_cut(); // A law: a text has one cut or one first fault.
 }
 
 /// Two files: their names, texts and sizes, files that are added to them, and files by keys.

@@ -70,8 +70,8 @@ pub(crate) fn push_rest(
     ensures { OnOk result
         ((top : List ℕ) → IsWalk (files_in files.now) top items.old.items walk.old → IsExpansion (files_in files.now) top items.new.items) }
 {
-    mm_text::one_meaning();
-    mm_text::one_division();
+    mm_text::one_meaning(); // A law: a text has one list of words, or one fault.
+    mm_text::one_division(); // A law: words are divided into units in one way.
     files.holds_pieces();
     files.hold_units();
     loop {
@@ -102,30 +102,15 @@ impl Files {
         ensures no_top { IsErrOf result NoTop ↔ (number_of (files_in self.now) top.now ≡ None) }
         ensures err { IfErr result IsExpansionError }
     {
-        self.statements_in(top, Vec::new(self.allocator()))
-    }
-
-    /// The items as `statements` answers them, in the room of a list. What the list holds is dropped.
-    pub fn statements_in(&self, top: &[u8], room: Vec<Item>) -> Result<Vec<Item>, StoreError>
-        ensures items { IfOk result (λ found. IsExpansion (files_in self.now) top.now found.items) }
-        ensures read { IfOk result (λ found. All (CanBeRead self.now) found.items) }
-        ensures stand { IfOk result (λ found. All (StandsIn self.now) found.items) }
-        ensures missing { IfOk result (λ found. All (NamesNoFile self.now) found.items) }
-        ensures few { IfOk result (λ found. length found.items ≤ bytes_of (plain self.now)) }
-        ensures small { IfOk result (λ found. length found.items ≤ 4294967295) }
-        ensures no_top { IsErrOf result NoTop ↔ (number_of (files_in self.now) top.now ≡ None) }
-        ensures err { IfErr result IsExpansionError }
-    {
-        mm_text::one_meaning();
-        mm_text::one_division();
-        parts_are_texts();
-        words_stand_alone();
+        mm_text::one_meaning(); // A law: a text has one list of words, or one fault.
+        mm_text::one_division(); // A law: words are divided into units in one way.
+        parts_are_texts(); // A law: each part of a text of whole units is a text.
+        words_stand_alone(); // A law: the bytes of a unit are a text with its words.
         self.holds_pieces();
         self.hold_units();
         let _ = &self.bytes;
         let mut walk = self.walk_from_top(top)?;
-        let mut items = room;
-        items.clear();
+        let mut items = Vec::new(self.allocator());
         push_rest(self, &mut walk, &mut items)?;
         Ok(items)
     }

@@ -214,17 +214,6 @@ impl Files {
         name
     }
 
-    /// The place of the byte `at` of a piece in the text of its file, counted from 0.
-    ///
-    /// It takes no memory, and constant time.
-    pub fn offset(&self, file: usize, piece: usize, at: usize) -> usize
-        requires { (text : List ℕ) × (offset : ℕ) × IsByte self.now file piece at text offset }
-        ensures { (text : List ℕ) (offset : ℕ) → IsByte self.now file piece at text offset → result ≡ offset }
-    {
-        let (_, text) = self.files.as_slice().get_index(file).unwrap();
-        text.start(&self.pieces, piece).bytes as usize + at
-    }
-
     /// The line and the column, in the text of its file, of the byte `at` of a piece, or of its end if `at` is
     /// the length of the piece.
     ///

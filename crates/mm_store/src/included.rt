@@ -46,8 +46,8 @@ pub(crate) fn included_name<'a>(text: &'a [u8], parts: &[KeptPart]) -> Option<&'
     ensures some { IfSome result
         (λ name. (file number : ℕ) (key : PieceKey) → Includes file number (record { key = key; text = text.now }) name.now) }
 {
-    mm_text::parts_are_texts();
-    mm_text::words_stand_alone();
+    mm_text::parts_are_texts(); // A law: each part of a text of whole units is a text.
+    mm_text::words_stand_alone(); // A law: the bytes of a unit are a text with its words.
     if parts.is_empty() {
         return None;
     }

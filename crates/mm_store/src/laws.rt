@@ -22,8 +22,8 @@ ghost use Rattle.mm_store.specs.Language.Keyless.{bare, keyless_item};
 pub fn one_expansion()
     ensures { (files : List FileView) (top : List ℕ) (a b : List Item) → IsExpansion files top a → IsExpansion files top b → a ≡ b }
 {
-    mm_text::one_meaning();
-    mm_text::one_division();
+    mm_text::one_meaning(); // A law: a text has one list of words, or one fault.
+    mm_text::one_division(); // A law: words are divided into units in one way.
 }
 
 /// Files each piece of which holds one unit give items from each top file on that is among them.
@@ -38,7 +38,7 @@ pub fn edits_keep_units()
     ensures units { (edit : Asked) (files after : List File) → HoldOneEach files → IsEditOf edit files after → HoldOneEach after }
     ensures keys { (files : List File) → (view : FilesView) × HoldsPieces view × (plain view ≡ files) }
 {
-    mm_text::one_unit_of_cut();
+    mm_text::one_unit_of_cut(); // A law: a text that is cut into one piece holds one unit.
 }
 
 /// Each item of files can be read, and is where it says.
@@ -47,7 +47,7 @@ pub fn items_stand()
         → All (CanBeRead files) items }
     ensures stand { (files : FilesView) (top : List ℕ) (items : List Item) → IsExpansion (files_in files) top items → All (StandsIn files) items }
 {
-    mm_text::parts_are_texts();
+    mm_text::parts_are_texts(); // A law: each part of a text of whole units is a text.
 }
 
 /// The keys of pieces do not matter: files that are the same but for the keys of their pieces give items that are
@@ -56,9 +56,9 @@ pub fn keys_do_not_matter()
     ensures { (a b : List FileView) (top : List ℕ) (items others : List Item) → map without_keys a ≡ map without_keys b
         → IsExpansion a top items → IsExpansion b top others → map keyless_item items ≡ map keyless_item others }
 {
-    mm_text::one_meaning();
-    mm_text::one_division();
-    mm_text::one_cut();
+    mm_text::one_meaning(); // A law: a text has one list of words, or one fault.
+    mm_text::one_division(); // A law: words are divided into units in one way.
+    mm_text::one_cut(); // A law: a text has one cut or one first fault.
 }
 
 /// A unit behind all others of the top file: the items of before come first, but for keys; and each file has the pieces that it
@@ -70,8 +70,8 @@ pub fn appending_keeps_items()
     ensures files { (name : List ℕ) (old new : List File) → IsAppended name old new → (n : ℕ) (file other : File)
         → slice_get old n ≡ Some file → slice_get new n ≡ Some other → (more : List (List ℕ)) × (other.pieces ≡ file.pieces ++ more) }
 {
-    mm_text::one_meaning();
-    mm_text::one_division();
+    mm_text::one_meaning(); // A law: a text has one list of words, or one fault.
+    mm_text::one_division(); // A law: words are divided into units in one way.
 }
 
 /// A walk goes on among more files.
@@ -91,8 +91,8 @@ pub fn walks_go_on()
     ensures end { (files : FilesView) (top : List ℕ) (items others : List Item) → IsExpansion (files_in files) top items
         → IsExpansion (bare (plain files)) top others → others ≡ map keyless_item items }
 {
-    mm_text::one_meaning();
-    mm_text::one_division();
+    mm_text::one_meaning(); // A law: a text has one list of words, or one fault.
+    mm_text::one_division(); // A law: words are divided into units in one way.
 }
 
 /// A byte of a piece, or the end of the piece, is in the text of its file, or at its end.
@@ -153,7 +153,7 @@ pub fn one_edit()
     ensures reason { (edit : Asked) (files : List File) (a b : EditError) → a ≢ Memory → b ≢ Memory
         → IsEditError edit files a → IsEditError edit files b → a ≡ b }
 {
-    mm_text::one_cut();
+    mm_text::one_cut(); // A law: a text has one cut or one first fault.
 }
 
 /// The text of a file that was added is the text that it was added with, with a line feed added if that does
@@ -164,5 +164,5 @@ pub fn added_files_have_their_text()
     ensures others { (old new : List File) (name text other : List ℕ) → IsAdded old new name text → other ≢ name → find_file new other ≡ find_file old other }
     ensures one { (old a b : List File) (name text : List ℕ) → IsAdded old a name text → IsAdded old b name text → a ≡ b }
 {
-    mm_text::one_cut();
+    mm_text::one_cut(); // A law: a text has one cut or one first fault.
 }

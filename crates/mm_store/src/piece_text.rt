@@ -30,7 +30,7 @@ pub(crate) fn kept_piece(alloc: Global, piece: DividedPiece) -> Result<PieceText
     ensures text { IfOk result (λ kept. kept.text ≡ piece.text) }
     ensures kept { IfOk result IsPieceKept }
 {
-    mm_text::parts_are_texts();
+    mm_text::parts_are_texts(); // A law: each part of a text of whole units is a text.
     let DividedPiece { text, parts } = piece;
     let parts = kept_parts(alloc, &parts)?;
     let marks = marks(alloc, text.as_slice())?;

@@ -28,7 +28,7 @@ fn read_unit(alloc: Global, text: &[u8]) -> Result<DividedPiece, EditError>
     ensures parts { IfOk result HasOwnParts }
     ensures err { IfErr result (IsUnitError text.now) }
 {
-    one_unit_of_cut();
+    one_unit_of_cut(); // A law: a text that is cut into one piece holds one unit.
     let whole = Bytes::copy_from_slice(alloc, text)?;
     let DividedCut { mut pieces, tail } = divided_cut(alloc, &whole)?;
     if pieces.len() != 1 {

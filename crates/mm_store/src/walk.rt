@@ -277,8 +277,8 @@ impl Walk {
         ensures err { OnErr result ((top : List ℕ) (items : List Item)
             → IsWalk (bare (plain files.now)) top items self.old → GoesOn (bare (plain files.now)) top items self.old self.new) }
     {
-        mm_text::one_meaning();
-        mm_text::one_division();
+        mm_text::one_meaning(); // A law: a text has one list of words, or one fault.
+        mm_text::one_division(); // A law: words are divided into units in one way.
         files.hold_units();
         files.stay_small();
         loop {

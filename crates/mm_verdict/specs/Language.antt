@@ -13,6 +13,7 @@ pub mod ItemLaws
 pub mod View
 pub mod Work
 pub mod ReadIn
+pub mod Checking
 pub mod Programs
 pub mod Examples
 pub mod FaultExamples

@@ -26,7 +26,7 @@ pub fn expression(base: &Base, number: usize) -> &[NumberedSymbol]
     ensures { ByNames base.now (λ names view. is_shown_at view number ≡ true
         → all_by_number result.now ≡ (numbered_hypothesis names view number).expression) }
 {
-    numbers_name_symbols();
+    numbers_name_symbols(); // A law: symbols by number are those of their names.
     base.known_expression(number)
 }
 
@@ -37,8 +37,8 @@ pub fn active(base: &Base, number: usize) -> &[(NumberedSymbol, NumberedSymbol)]
         → AreSamePairs (meant_pairs by_number result.now) (numbered_setting names view number).active) }
     ensures order { AreInKeyOrder key_by_number (meant_pairs by_number result.now) }
 {
-    numbers_keep_pairs();
-    numbers_keep_order();
+    numbers_keep_pairs(); // A law: pairs that are the same by names are so by numbers.
+    numbers_keep_order(); // A law: pairs in the order of numbers are in the order of keys.
     base.pairs(number).unwrap()
 }
 
@@ -89,9 +89,9 @@ pub fn look_up<'a>(
         → AreSameFrame (frame_from by_number mandatory.new.items parts.expression.now parts.pairs.now)
         (renamed_frame (unnaming names) (frame_at view number))) }
 {
-    places_have_frames();
-    numbers_keep_frames();
-    numbers_keep_pairs();
+    places_have_frames(); // A law: each label of an assertion has a typed frame.
+    numbers_keep_frames(); // A law: a frame is typed by numbers, too.
+    numbers_keep_pairs(); // A law: pairs that are the same by names are so by numbers.
     let frame = base.frame(number).unwrap();
     mandatory.clear();
     add_hypotheses(base, &frame.hypotheses, mandatory)?;

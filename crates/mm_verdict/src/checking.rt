@@ -7,14 +7,14 @@ ghost use Rattle.mm_frame.specs.Language.Answering.{IsBase};
 ghost use Rattle.mm_verdict.specs.Language.BaseLabels.{setting_at};
 ghost use Rattle.mm_verdict.specs.Language.Decoding.{word_spot};
 ghost use Rattle.mm_machine.specs.Language.Verdict.{IsVerdictOnSteps};
-ghost use Rattle.mm_verdict.specs.Language.VerdictAt.{IsVerdictAt, AreDoneAt, cites_at, statement_at};
+ghost use Rattle.mm_verdict.specs.Language.VerdictAt.{statement_at};
 ghost use Rattle.mm_machine.specs.Language.Frame.{Symbol, Setting};
 ghost use Rattle.mm_verdict.specs.Language.DecodedSteps.{IsNamedBy, decoded_steps};
 ghost use Rattle.mm_verdict.specs.Code.DecodedProof.{IsDecoded, IsFrontRun, IsJudgedDecoded, IsJudgedItem, IsJudgedWith, IsRun};
 ghost use Rattle.mm_machine.specs.Language.NamedSteps.{IsOutcomeWithin, RunSays, StopsAt};
 ghost use Rattle.mm_verdict.specs.Code.Judged.{HasProof, done_by};
 ghost use Rattle.mm_verdict.specs.Code.NamedItems.{AreKnownOf, AreUsedNamesOf};
-ghost use Rattle.mm_verdict.specs.Language.ReadIn.{HasTheorem, OfTheorem};
+ghost use Rattle.mm_verdict.specs.Language.Checking.{CanCheck, IsCheck};
 ghost use Rattle.mm_verdict.specs.Code.UsedLabels.{AreUseMarks};
 ghost use Rattle.mm_verdict.specs.declared.undecoded.Undecoded.TheVariants as errors;
 
@@ -136,13 +136,13 @@ fn run_front<'b>(
     requires known { AreKnownOf proof.base.now known.old }
     ensures { IfOk result (λ found. IsFrontRun proof.entry found known.new) }
 {
-    places_have_frames();
-    decodes_surely();
-    mandatory_are_active();
-    numbers_keep_places();
-    numbers_say_the_same();
-    stops_stay();
-    lack_stops();
+    places_have_frames(); // A law: each label of an assertion has a typed frame.
+    decodes_surely(); // A law: what decoding makes sure of.
+    mandatory_are_active(); // A law: mandatory hypotheses are active.
+    numbers_keep_places(); // A law: assertions are typed by numbers, too.
+    numbers_say_the_same(); // A law: what a run says by numbers, it says by names.
+    stops_stay(); // A law: steps that stop do so whatever follows.
+    lack_stops(); // A law: a step that lacks entries is at fault.
     let labels: &[Resolved] = &proof.decoding.labels;
     let steps: &[ProofStep] = &proof.decoding.steps;
     if !take_more(proof.base, labels, steps.len()) {
@@ -182,11 +182,11 @@ fn run_all<'b>(
     requires known { AreKnownOf proof.base.now known.old }
     ensures { IfOk result (λ outcome. IsRun proof.entry outcome known.new) }
 {
-    places_have_frames();
-    decodes_surely();
-    mandatory_are_active();
-    numbers_keep_places();
-    numbers_say_the_same();
+    places_have_frames(); // A law: each label of an assertion has a typed frame.
+    decodes_surely(); // A law: what decoding makes sure of.
+    mandatory_are_active(); // A law: mandatory hypotheses are active.
+    numbers_keep_places(); // A law: assertions are typed by numbers, too.
+    numbers_say_the_same(); // A law: what a run says by numbers, it says by names.
     let labels: &[Resolved] = &proof.decoding.labels;
     known.name_all(alloc, proof.base, labels, marks)?;
     let active = Active::new(active(proof.base, proof.i));
@@ -233,8 +233,8 @@ fn judge_steps<'b>(
     requires known { AreKnownOf proof.base.now known.old }
     ensures { IfOk result (λ judged. IsJudgedDecoded proof.entry judged known.new) }
 {
-    decodes_short();
-    labels_are_own();
+    decodes_short(); // A law: there are no more steps than bytes.
+    labels_are_own(); // A law: no two sound items have the same label.
     let hypotheses = mandatory(proof.base, proof.i).len();
     let cites = cites_used(
         alloc,
@@ -263,7 +263,7 @@ fn judge<'b, 'a>(
     requires known { AreKnownOf base.now known.old }
     ensures { IfOk result (λ judged. IsJudgedWith base.now i proof.now judged known.new) }
 {
-    mandatory_are_active();
+    mandatory_are_active(); // A law: mandatory hypotheses are active.
     let mandatory = mandatory(base, i);
     let room = mem::replace(&mut scratch.decoding, MarkedDecoding::new(alloc));
     match decode_marked(base, i, mandatory, proof, room) {
@@ -301,21 +301,8 @@ pub fn check(
     i: usize,
     work: &mut Work,
 ) -> Result<Checked, AllocError>
-    requires theorem { HasTheorem names.now files.now base.now i }
-    requires room { 0 < work.old.room }
-    requires steps { work.old.steps + 4294967295 < 2 ^ 64 }
-
-    // The verdict is that on the item's proof, its decoding included, and the words are those that cite.
-    ensures verdict { IfOk result (λ checked. OfTheorem names.now files.now base.now i (λ view. IsVerdictAt view i checked.verdict)) }
-    ensures cites { IfOk result (λ checked. OfTheorem names.now files.now base.now i (λ view. checked.cites ≡ cites_at view i)) }
-
-    // One more run is recorded, with the steps that are done in it.
-    ensures run { OnOk result (work.new.runs ≡ work.old.runs ++ i ∷ []) }
-    ensures room { OnOk result (work.new.room + 1 ≡ work.old.room) }
-    ensures done { OnOk result (OfTheorem names.now files.now base.now i (λ view.
-        (n : ℕ) × AreDoneAt view i n × (n ≤ 4294967295) × (work.new.steps ≡ work.old.steps + n))) }
-
-    ensures memory { OnErr result (work.new ≡ work.old) }
+    requires { CanCheck names.now files.now base.now i work.old }
+    ensures { IsCheck names.now files.now base.now i work.old result work.new }
 {
     let mut checker = Checker::new(alloc, base);
     checker.check(alloc, names, files, i, work)
@@ -332,20 +319,9 @@ impl Checker<'_> {
         i: usize,
         work: &mut Work,
     ) -> Result<Checked, AllocError>
-        requires theorem { HasTheorem names.now files.now self.old i }
-        requires room { 0 < work.old.room }
-        requires steps { work.old.steps + 4294967295 < 2 ^ 64 }
-
-        ensures verdict { IfOk result (λ checked. OfTheorem names.now files.now self.old i (λ view. IsVerdictAt view i checked.verdict)) }
-        ensures cites { IfOk result (λ checked. OfTheorem names.now files.now self.old i (λ view. checked.cites ≡ cites_at view i)) }
-
-        ensures run { OnOk result (work.new.runs ≡ work.old.runs ++ i ∷ []) }
-        ensures room { OnOk result (work.new.room + 1 ≡ work.old.room) }
-        ensures done { OnOk result (OfTheorem names.now files.now self.old i (λ view.
-            (n : ℕ) × AreDoneAt view i n × (n ≤ 4294967295) × (work.new.steps ≡ work.old.steps + n))) }
-
+        requires { CanCheck names.now files.now self.old i work.old }
+        ensures check { IsCheck names.now files.now self.old i work.old result work.new }
         ensures base { self.new ≡ self.old }
-        ensures memory { OnErr result (work.new ≡ work.old) }
     {
         let base = self.base();
         let proof = words_of_proof(files, base.item(i));

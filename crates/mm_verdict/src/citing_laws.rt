@@ -12,7 +12,7 @@ pub fn cites_tell()
     ensures each { CitesNameAssertions }
     ensures tell { CitesTellAssertions }
 {
-    kept_next();
-    mandatory_labels_mean();
-    labels_mean();
+    kept_next(); // A law: one more item is judged against the sound ones before it.
+    mandatory_labels_mean(); // A law: the label of a mandatory hypothesis means it.
+    labels_mean(); // A law: a label is that of a sound item before, or means nothing.
 }

@@ -49,7 +49,7 @@ pub fn tells_first_fault()
 pub fn decodes_surely()
     ensures { DecodesSurely }
 {
-    sure_by_counting();
+    sure_by_counting(); // A law: what decoding makes sure of is seen by counting saves.
 }
 
 /// Letters read on over the ends of words.
@@ -93,8 +93,8 @@ pub fn decodes_short()
 pub fn labels_are_own()
     ensures { LabelsAreOwn }
 {
-    has_own_labels();
-    items_have_labels();
+    has_own_labels(); // A law: two sound items with one label are one.
+    items_have_labels(); // A law: each sound `$f`, `$e`, `$a` and `$p` has a label.
 }
 
 /// The mandatory hypotheses of an item are active there.
@@ -103,9 +103,9 @@ pub fn labels_are_own()
 pub fn mandatory_are_active()
     ensures { MandatoryAreActive }
 {
-    items_have_labels();
-    mandatory_means();
-    mandatory_stand_before();
+    items_have_labels(); // A law: each sound `$f`, `$e`, `$a` and `$p` has a label.
+    mandatory_means(); // A law: a mandatory hypothesis is what its label means.
+    mandatory_stand_before(); // A law: mandatory hypotheses are sound and come before.
 }
 
 /// A renaming of symbols keeps what the words of a proof decode to, and which of them cite.

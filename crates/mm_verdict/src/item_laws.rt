@@ -13,9 +13,9 @@ use mm_machine::{has_count, has_one_count, has_one_verdict, has_verdict, proved_
 pub fn mandatory_labels_mean()
     ensures { MandatoryLabelsMean }
 {
-    items_have_labels();
-    mandatory_means();
-    mandatory_stand_before();
+    items_have_labels(); // A law: each sound `$f`, `$e`, `$a` and `$p` has a label.
+    mandatory_means(); // A law: a mandatory hypothesis is what its label means.
+    mandatory_stand_before(); // A law: mandatory hypotheses are sound and come before.
 }
 
 /// There is one verdict at most on the proof of an item.
@@ -24,8 +24,8 @@ pub fn mandatory_labels_mean()
 pub fn has_one_verdict_at()
     ensures { HasOneVerdictAt }
 {
-    places_have_frames();
-    has_one_verdict();
+    places_have_frames(); // A law: each label of an assertion has a typed frame.
+    has_one_verdict(); // A law: there is one verdict at most.
 }
 
 /// There is a verdict on the proof of each item of a base of files.
@@ -34,12 +34,12 @@ pub fn has_one_verdict_at()
 pub fn has_verdict_at()
     ensures { HasVerdictAt }
 {
-    places_have_frames();
-    items_have_labels();
-    mandatory_means();
-    mandatory_stand_before();
-    decodes_surely();
-    has_verdict();
+    places_have_frames(); // A law: each label of an assertion has a typed frame.
+    items_have_labels(); // A law: each sound `$f`, `$e`, `$a` and `$p` has a label.
+    mandatory_means(); // A law: a mandatory hypothesis is what its label means.
+    mandatory_stand_before(); // A law: mandatory hypotheses are sound and come before.
+    decodes_surely(); // A law: what decoding makes sure of.
+    has_verdict(); // A law: there is a verdict.
 }
 
 /// Proved is the verdict on the proof of an item exactly when it decodes, no step is unknown, and its expanded labels
@@ -49,7 +49,7 @@ pub fn has_verdict_at()
 pub fn proved_is_derived_at()
     ensures { ProvedIsDerivedAt }
 {
-    proved_is_derived();
+    proved_is_derived(); // A law: proved is said exactly if labels derive the statement.
 }
 
 /// There is one number at most of the steps of the proof of an item that are done.
@@ -58,8 +58,8 @@ pub fn proved_is_derived_at()
 pub fn has_one_count_at()
     ensures { HasOneCountAt }
 {
-    places_have_frames();
-    has_one_count();
+    places_have_frames(); // A law: each label of an assertion has a typed frame.
+    has_one_count(); // A law: there is one such number at most.
 }
 
 /// There is a number of the steps that are done, on the proof of each item of a base of files.
@@ -68,12 +68,12 @@ pub fn has_one_count_at()
 pub fn has_count_at()
     ensures { HasCountAt }
 {
-    places_have_frames();
-    items_have_labels();
-    mandatory_means();
-    mandatory_stand_before();
-    decodes_surely();
-    has_count();
+    places_have_frames(); // A law: each label of an assertion has a typed frame.
+    items_have_labels(); // A law: each sound `$f`, `$e`, `$a` and `$p` has a label.
+    mandatory_means(); // A law: a mandatory hypothesis is what its label means.
+    mandatory_stand_before(); // A law: mandatory hypotheses are sound and come before.
+    decodes_surely(); // A law: what decoding makes sure of.
+    has_count(); // A law: there is a number of the steps that are done.
 }
 
 /// The spot of a verdict is in the proof that it is on.

@@ -11,8 +11,9 @@ use mm_frame::{Base, Resolved};
 use mm_machine::{CodedSymbol, Forms, Hypothesis, Machine, NumberedSymbol, Use};
 use std::alloc::{AllocError, Global};
 
-/// If what is known has more symbols and slots than this, it is forgotten: the assertions after each proof, and the expressions
-/// that labels push as `COPIED_FOR_EACH` says. So it takes some megabytes at most, or some times what one proof needs.
+/// If what is known has more symbols and slots than this, it is forgotten: all of it if `COPIED_FOR_EACH` lets the expressions
+/// go that labels push, and else the assertions, if they alone have more. So it takes some megabytes at most, or some times
+/// what one proof needs.
 const MOST_KNOWN: usize = 262_144;
 
 /// Expressions that labels push are kept, however long they are, until there was a proof for each of so many of their symbols.

@@ -50,8 +50,8 @@ pub fn program_of<'a>(
     ensures means { IfOk result (λ program. (names : List (List ℕ)) → OfTheorem names files.now base.now i (λ view. IsProgramAt names view i program)) }
     ensures fault { IfErr result (λ error. (names : List (List ℕ)) → OfTheorem names files.now base.now i (λ view. TellsFault error (decoding_at view i))) }
 {
-    mandatory_are_active();
-    decodes_surely();
+    mandatory_are_active(); // A law: mandatory hypotheses are active.
+    decodes_surely(); // A law: what decoding makes sure of.
     let proof = words_of_proof(files, base.item(i));
     let mandatory = mandatory(base, i);
     let room = MarkedDecoding::new(alloc);

@@ -16,7 +16,7 @@ pub fn commands_are_done_so()
     ensures words { HasTheseWords }
 {
     mm_report::scripts_are_answered_so();
-    mm_report::clean_is_derived();
+    mm_report::clean_is_derived(); // A law: if nothing is reported, labels derive each statement.
 }
 
 /// Two files that include each other are loaded from a source that lacks a third; and a file with a fault is not loaded. Which

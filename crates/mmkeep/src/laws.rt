@@ -14,5 +14,5 @@ pub fn missing_are_lacked()
     ensures items { (holds : List ℕ → KnownFile) (top : List ℕ) (files : List File) (loaded : AreLoaded holds top files)
         → All (λ item. item.said.kind ≡ Missing → (name : List ℕ) × Refers item name × GivesFile (holds name) name []) loaded.items }
 {
-    mm_report::missing_are_named();
+    mm_report::missing_are_named(); // A law: a missing file is one of the names of the database.
 }

@@ -156,8 +156,8 @@ fn add_missing<S: Source>(
     ensures error { IfErr result (λ unloaded. (top : List ℕ) → Loads (S.holds source.now) top 0 (plain files.old) walk.old
         → IsUnloaded S.Opened.remaining (S.holds source.now) top unloaded) }
 {
-    walks_go_on();
-    names_are_taken();
+    walks_go_on(); // A law: a walk goes on among more files.
+    names_are_taken(); // A law: a database has the names that a walk takes.
     loop {
         files.hold_one_each();
         match walk.next_missing(files) {

@@ -131,7 +131,7 @@ pub fn judge(session: &Session) -> Outcome
     ensures judged { IsJudged session.now result }
     ensures derived { result ≡ Clean → AllInOrder session.now }
 {
-    clean_is_derived();
+    clean_is_derived(); // A law: if nothing is reported, labels derive each statement.
     if is_clean(&session.tally()) {
         Outcome::Clean
     } else {

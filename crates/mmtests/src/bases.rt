@@ -14,8 +14,21 @@ const LOGIC: &[u8] =
     b"$c wff |- -> ( ) $.\n$v p q $.\nwp $f wff p $.\nwq $f wff q $.\nwi $a wff ( p -> q ) $.\n\
         ${ e1 $e |- p $. $v r $. wr $f wff r $. a3 $a |- r $. $}\nt $p wff p $= wp $.\n";
 
-/// Where its items begin, in bytes from its beginning on.
-const OFFSETS: &[usize] = &[0, 20, 30, 45, 60, 84, 87, 101, 109, 124, 138, 141];
+/// The lines and columns where its items begin.
+const PLACES: &[(u64, u64)] = &[
+    (1, 1),
+    (2, 1),
+    (3, 1),
+    (4, 1),
+    (5, 1),
+    (6, 1),
+    (6, 4),
+    (6, 18),
+    (6, 26),
+    (6, 41),
+    (6, 55),
+    (7, 1),
+];
 
 /// The hypotheses of the frame of the axiom in the block are in the order of their items, `$f` and `$e` alike.
 fn are_in_order(base: &Base) -> bool {
@@ -39,24 +52,23 @@ fn has_hypotheses(alloc: Global, files: &Files) -> bool {
     ordered
 }
 
-/// Whether the first word of a proof has the place after label, keyword, two symbols and `$=`, and its `$.` the next.
-fn has_proof_places(alloc: Global, files: &Files, item: &Item) -> Result<bool, AllocError>
+/// Whether a statement has a proof of one word.
+fn has_one_word(alloc: Global, files: &Files, item: &Item) -> Result<bool, AllocError>
     requires { CanBeRead files.now item.now }
 {
     let statement = Statement::read(alloc, files, item)?;
-    let placed = statement.proof().next_word().is_some()
-        && statement.proof_place(0) == 5
-        && statement.proof_place(1) == 6;
+    let mut proof = statement.proof();
+    let one = proof.next_word().is_some() && proof.next_word().is_none();
     mem::forget(statement);
-    Ok(placed)
+    Ok(one)
 }
 
 /// Where an item begins in the text of its file.
-fn offset_of(files: &Files, item: &Item) -> usize
+fn place_of(files: &Files, item: &Item) -> Place
     requires read { CanBeRead files.now item.now }
     requires stands { StandsIn files.now item.now }
 {
-    files.offset(item.file, item.piece, item.start)
+    files.place(item.file, item.piece, item.start)
 }
 
 /// Whether the items begin where they have to.
@@ -65,20 +77,19 @@ fn begin_so(files: &Files, items: &[Item]) -> bool
     requires stand { All (StandsIn files.now) items.now }
 {
     for (k, item) in items.iter().enumerate() {
-        if OFFSETS.get(k) != Some(&offset_of(files, item)) {
+        let Place { line, column } = place_of(files, item);
+        if PLACES.get(k) != Some(&(line, column)) {
             return false;
         }
     }
-    items.len() == OFFSETS.len()
+    items.len() == PLACES.len()
 }
 
-/// Whether the items and the words of the proof of the last have their places.
+/// Whether the items have their places, and the last one a proof of one word.
 fn have_places(alloc: Global, files: &Files) -> Result<bool, StoreError> {
     let items = files.statements(NAME)?;
     let placed = match items.last() {
-        Some(item) => {
-            begin_so(files, &items) && has_proof_places(alloc, files, item) == Ok(true)
-        }
+        Some(item) => { begin_so(files, &items) && has_one_word(alloc, files, item) == Ok(true) }
         None => false,
     };
     mem::forget(items);

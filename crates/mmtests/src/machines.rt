@@ -347,7 +347,7 @@ fn runs_agree(
 pub fn agrees(alloc: Global, names: &Names, files: &Files, base: &Base, i: usize) -> bool
     requires { HasTheorem names.now files.now base.now i }
 {
-    numbers_keep_order();
+    numbers_keep_order(); // A law: pairs in the order of numbers are in the order of keys.
     let Some(pairs) = base.pairs(i) else {
         return false;
     };

@@ -4,6 +4,7 @@ pub mod ActivePairLemmas
 pub mod AskedLemmas
 pub mod FramePairs
 pub mod PairListLemmas
+pub mod SortedLemmas
 pub mod PairOrderLemmas
 pub mod PairTableLemmas
 pub mod PlaceLemmas

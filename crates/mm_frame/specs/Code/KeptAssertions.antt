@@ -2,7 +2,8 @@
 use Rattle.std.specs.Prelude.{◌≡◌, ℕ, Bool, ◌&&◌, Some, IfSome, is_some, is_none, List, Option}
 use Rattle.std.specs.Option.{option_map}
 use Rattle.mm_frame.specs.declared.assertions.Assertions.{Assertions}
-use Rattle.mm_frame.specs.declared.frame.MadeFrame.{MadeFrame}
+use Rattle.mm_frame.specs.declared.frame.Frame.{Frame}
+use Rattle.mm_frame.specs.declared.frames.Frames.{Frames}
 use Rattle.mm_frame.specs.declared.pair_lists.PairLists.{PairLists}
 use Rattle.mm_statement.specs.Language.Item.{Said, is_assertion}
 use Rattle.mm_frame.specs.Language.Sound.{sound_items}
@@ -19,12 +20,19 @@ use Rattle.mm_frame.specs.Language.Scope.{active_numbers}
 abbrev pub is_told_framed : List Said → Said → Bool
 is_told_framed before item = is_none (told_fault before item) && is_assertion item.kind
 
--- a frame is kept exactly for a sound `$a` or `$p`, has the numbers and pairs of its frame after the sound items before it, and tells
--- how many of these there are up to the last active `$d`
-pub record TellsFrame (all : List (List ℕ)) (before : List Said) (item : Said) (kept_frame : Option MadeFrame) : Type 0 where
-  pub hypotheses : option_map (λ made. made.frame.hypotheses.items) kept_frame ≡ told_numbers before item
-  pub pairs : IfSome kept_frame (λ made. ArePairsRead all (pairs_in_order (frame before item)) made.frame.pairs.items)
-  pub reach : IfSome kept_frame (λ made. AreFrontNumbers before (active_numbers is_disjoint_item before) made.reach)
+-- a frame is kept exactly for a sound `$a` or `$p`, and has the numbers and pairs of its frame after the sound items before it
+pub record TellsFrame (all : List (List ℕ)) (before : List Said) (item : Said) (kept_frame : Option Frame) : Type 0 where
+  pub hypotheses : option_map (λ frame. frame.hypotheses.items) kept_frame ≡ told_numbers before item
+  pub pairs : IfSome kept_frame (λ kept. ArePairsRead all (pairs_in_order (frame before item)) kept.pairs.items)
+
+-- a count of items is kept that says which `$d` are active after the items before
+abbrev pub TellsReach : List Said → Said → Option ℕ → Type 0
+TellsReach before item reach = IfSome reach (AreFrontNumbers before (active_numbers is_disjoint_item before))
+
+-- the frames are those of items that say this
+pub record AreFrames (all : List (List ℕ)) (said : List Said) (frames : Frames) : Type 0 where
+  pub kept : AreRows (TellsFrame all) said frames.kept
+  pub reaches : AreRows TellsReach said frames.reaches
 
 -- there is a number of a list exactly for a sound `$p`, and the list is of the pairs that are active there
 pub record TellsPairs (all : List (List ℕ)) (lists : PairLists) (before : List Said) (item : Said) (number : Option ℕ) : Type 0 where
@@ -33,7 +41,7 @@ pub record TellsPairs (all : List (List ℕ)) (lists : PairLists) (before : List
 
 -- the assertions are those of items that say this, by the numbers of names in the list of all
 pub record AreAssertions (all : List (List ℕ)) (said : List Said) (assertions : Assertions) : Type 0 where
-  pub frames : AreRows (TellsFrame all) said assertions.frames.kept
+  pub frames : AreFrames all said assertions.frames
   pub made : AreMade all (sound_items said) assertions.pair_lists
   pub pair_numbers : AreRows (TellsPairs all assertions.pair_lists) said assertions.pair_numbers
   pub room : KnowsAsked all (sound_items said) assertions.room.asked

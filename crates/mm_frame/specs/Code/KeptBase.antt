@@ -4,7 +4,7 @@ use Rattle.std.specs.Option.{option_map}
 use Rattle.mm_store.specs.declared.item.Item as store
 use Rattle.mm_frame.specs.declared.draft.Draft.{Draft}
 use Rattle.mm_frame.specs.declared.parts.BaseParts.{BaseParts}
-use Rattle.mm_frame.specs.declared.frame.MadeFrame.{MadeFrame}
+use Rattle.mm_frame.specs.declared.frame.Frame.{Frame}
 use Rattle.mm_machine.specs.declared.symbol.NumberedSymbol.{NumberedSymbol}
 use Rattle.mm_machine.specs.Language.Names.{AreDistinct, Begins}
 use Rattle.mm_frame.specs.Code.KeptAssertions.{TellsFrame, TellsPairs, AreAssertions}
@@ -75,8 +75,8 @@ abbrev pub is_float_item : store.Item → Bool
 is_float_item item = is_kind Floating (kind_of item.kind)
 
 -- what is reported from the frame that is kept, if one is
-abbrev pub frame_told : Option MadeFrame → Option (List ℕ × List (NumberedSymbol × NumberedSymbol))
-frame_told kept_frame = option_map (λ made. (made.frame.hypotheses.items, made.frame.pairs.items)) kept_frame
+abbrev pub frame_told : Option Frame → Option (List ℕ × List (NumberedSymbol × NumberedSymbol))
+frame_told kept_frame = option_map (λ frame. (frame.hypotheses.items, frame.pairs.items)) kept_frame
 
 -- the list of active pairs with this number, if there is one
 abbrev pub list_told : PairLists → Option ℕ → Option (List (NumberedSymbol × NumberedSymbol))

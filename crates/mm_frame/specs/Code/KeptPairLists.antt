@@ -1,9 +1,9 @@
 -- The lists of active pairs, each made once, for a count of items.
-use Rattle.std.specs.Prelude.{◌≡◌, ℕ, ◌≤◌, leb, cond, Option, Some, None, List, [], ◌∷◌, ◌++◌, length, map, take, slice_get, nat_eq, Contains, Vec}
+use Rattle.std.specs.Prelude.{◌≡◌, ℕ, ◌≤◌, leb, cond, Option, Some, List, [], ◌∷◌, ◌++◌, length, map, take, slice_get, nat_eq}
 use Rattle.std.specs.HashMap.{get}
-use Rattle.std.specs.Global.{Global}
 use Rattle.mm_machine.specs.declared.symbol.NumberedSymbol.{NumberedSymbol}
 use Rattle.mm_frame.specs.declared.pair_lists.PairLists.{PairLists}
+use Rattle.mm_frame.specs.Code.KeptSortedLists.{Kept, KeepsAll, list_at}
 use Rattle.mm_machine.specs.Language.Frame.{Symbol}
 use Rattle.mm_statement.specs.Language.Item.{Said}
 use Rattle.mm_frame.specs.Language.Framing.{active_pairs}
@@ -11,14 +11,9 @@ use Rattle.mm_frame.specs.Language.Scope.{active_numbers}
 use Rattle.mm_frame.specs.Code.LastItems.{is_disjoint_item}
 use Rattle.mm_machine.specs.Language.NumberedSymbols.{AreSamePairsRead, AreInOrder}
 
--- the pairs of a list: none if there is no list
-abbrev pub pairs_or_none : Option (Vec (NumberedSymbol × NumberedSymbol) Global) → List (NumberedSymbol × NumberedSymbol)
-pairs_or_none None = []
-pairs_or_none (Some list) = list.items
-
 -- the list with this number: empty if there is no such list
 abbrev pub list_kept : PairLists → ℕ → List (NumberedSymbol × NumberedSymbol)
-list_kept lists k = pairs_or_none (slice_get lists.lists.items k)
+list_kept lists k = list_at lists.lists k
 
 -- the two symbols, the one with the lower number of its name first
 abbrev pub with_low_first : NumberedSymbol × NumberedSymbol → NumberedSymbol × NumberedSymbol
@@ -29,16 +24,10 @@ abbrev pub pairs_among : List NumberedSymbol → List (NumberedSymbol × Numbere
 pairs_among [] = []
 pairs_among (x ∷ xs) = map (λ y. with_low_first (x, y)) xs ++ pairs_among xs
 
--- the list with this number is of these pairs
-pub record IsThere (lists : PairLists) (k : ℕ) (kept : List (NumberedSymbol × NumberedSymbol)) : Type 0 where
-  pub list : Vec (NumberedSymbol × NumberedSymbol) Global
-  pub there : slice_get lists.lists.items k ≡ Some list
-  pub same : list.items ≡ kept
-
 -- there is a list with this number, it is of these pairs, and they are in order
 pub record IsList (all : List (List ℕ)) (lists : PairLists) (k : ℕ) (pairs : List (Symbol × Symbol)) : Type 0 where
-  pub list : Vec (NumberedSymbol × NumberedSymbol) Global
-  pub there : slice_get lists.lists.items k ≡ Some list
+  pub list : Kept
+  pub there : slice_get lists.lists k ≡ Some list
   pub read : AreSamePairsRead all pairs list.items
   pub order : AreInOrder list.items
 
@@ -56,19 +45,10 @@ abbrev pub AreMade : List (List ℕ) → List Said → PairLists → Type 0
 AreMade all before lists = (count k : ℕ) → list_made lists count ≡ Some k → IsMadeFor all before lists count k
 
 -- the lists that were there still are, with the same numbers, and there may be more
-pub record KeepsLists (old new : PairLists) : Type 0 where
-  pub more : List (Vec (NumberedSymbol × NumberedSymbol) Global)
-  pub whole : new.lists.items ≡ old.lists.items ++ more
+abbrev pub KeepsLists : PairLists → PairLists → Type 0
+KeepsLists old new = KeepsAll old.lists new.lists
 
 -- these are the numbers of the `$d` that are active after this many of the items
 pub record AreFrontNumbers (before : List Said) (numbers : List ℕ) (count : ℕ) : Type 0 where
   pub within : count ≤ length before
   pub active : numbers ≡ active_numbers is_disjoint_item (take count before)
-
--- the list has each of these pairs
-abbrev pub HasEach : List (NumberedSymbol × NumberedSymbol) → List (NumberedSymbol × NumberedSymbol) → Type 0
-HasEach list pairs = (p : NumberedSymbol × NumberedSymbol) → Contains pairs p → Contains list p
-
--- the two lists have the same pairs
-abbrev pub HasSame : List (NumberedSymbol × NumberedSymbol) → List (NumberedSymbol × NumberedSymbol) → Type 0
-HasSame pairs list = HasEach list pairs × HasEach pairs list

@@ -1,5 +1,5 @@
 -- What a session keeps, by its parts, and how it goes on with edited files.
-use Rattle.std.specs.Prelude.{◌≡◌, ℕ, Option, List}
+use Rattle.std.specs.Prelude.{◌≡◌, ℕ, List}
 use Rattle.mm_proof.specs.mm_store.declared.item.Item as store
 use Rattle.mm_proof.specs.mm_store.Language.Undoing.{UndoView}
 use Rattle.mm_proof.specs.mm_store.Language.Batches.{IsSpendable, KeepsReading}

@@ -1,5 +1,5 @@
 -- A base as that of the files that it was built from, and what its items are there.
-use Rattle.std.specs.Prelude.{◌≡◌, ℕ, ◌+◌, ◌<◌, true, All, Option, List, length, slice_get}
+use Rattle.std.specs.Prelude.{◌≡◌, ℕ, ◌+◌, ◌<◌, true, All, List, length, slice_get}
 use Rattle.mm_proof.specs.mm_store.declared.item.Item as store
 use Rattle.mm_proof.specs.mm_store.Language.FilesView.{FilesView}
 use Rattle.mm_proof.specs.mm_store.Language.FileFacts.{CanBeRead, StandsIn}

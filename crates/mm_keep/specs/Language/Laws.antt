@@ -1,8 +1,7 @@
 -- What is proved of sessions: each is the contract of a function.
-use Rattle.std.specs.Prelude.{◌≡◌, ◌≢◌, ◌↔◌, ◌⊎◌, ◌<◌, ◌≤◌, ℕ, List, None, true, length, Contains}
+use Rattle.std.specs.Prelude.{◌≡◌, ◌↔◌, ◌⊎◌, ◌<◌, ◌≤◌, ℕ, List, true, length, Contains}
 use Rattle.mm_proof.specs.mm_store.Language.Appending.{IsAppended}
-use Rattle.mm_proof.specs.mm_store.Language.FilesView.{File, file_number}
-use Rattle.mm_proof.specs.mm_store.Language.Holding.{HoldOneEach}
+use Rattle.mm_proof.specs.mm_store.Language.FilesView.{File}
 use Rattle.mm_proof.specs.mm_statement.Language.Database.{Located, IsDatabase}
 use Rattle.mm_proof.specs.mm_frame.Language.Base.{BaseView, base_of, is_framed_at, is_proof_at}
 use Rattle.mm_proof.specs.mm_verdict.Language.VerdictAt.{IsVerdictAt}

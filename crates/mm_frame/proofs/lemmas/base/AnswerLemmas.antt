@@ -4,12 +4,13 @@ use Rattle.std.proofs.lemmas.Option.{slice_get-map, slice_get_within, slice_get_
 use Rattle.std.proofs.Common.{◌≡◌, ◌↔◌, ℕ, zero, suc, ◌≤◌, true, false, ◌&&◌, Option, Some, None, List, [], ◌∷◌, length, map, take, slice_get, nat_eq, is_none, refl, sym, ◌∙◌, ap, subst, arith, All}
 use Rattle.std.{proofs.Common.{IfSome}, specs.{Borrow.{Bor}, Option.{option_map, option_eq}, List.{AllZip}}}
 use Rattle.mm_frame.proofs.lemmas.base.{BaseLemmas.{item_there, kept_front_at, kept_item_at, none_told, row_none, item_beyond, kept_count}, ResolvingLemmas.{carrier_found, found_carrier}}
-use Rattle.mm_frame.{proofs.lemmas.{faults.FoundFaults.{sound_found}, frames.FrameNumbers.{HasKind}, pairs.SharedPairs.{same_turned, same_joined}}, specs.Code.KeptPairLists.{pairs_or_none, list_kept}}
-use Rattle.mm_frame.specs.Code.{KeptSymbols.{AreSymbols, expression_kept, kept_or_none}, KeptTables.{table_label}, BaseInside.{answers_of}, KeptRows.{rows_of, row_label, row_fault, is_shown_in}}
-use Rattle.mm_frame.specs.Code.{KeptAssertions.{TellsFrame, TellsPairs}, KeptBase.{AreParts, is_float_item, frame_told, list_told}, KeptSparse.{value_or_none, value_kept}}
-use Rattle.mm_frame.specs.Language.{Base.{told_fault, AreLabelled, BaseView, before, said_at, fault_at, is_sound_at, is_proof_at}, Sound.{fault, sound_items}, Framing.{active_pairs, expression}}
-use Rattle.mm_frame.specs.{Language.{Resolving.{IsCarrier}, Answering.{AreRows, IsLabelTold, IsExpressionTold, IsFrameTold, AreActiveTold, BaseAnswers, IsBaseBy}}, declared.FrameNumber.{FrameNumber}}
-use Rattle.mm_frame.specs.declared.{frame.{Frame.{Frame}, MadeFrame.{MadeFrame}}, parts.BaseParts.{BaseParts}, base.Base.TheInside.{Inside}, pair_lists.PairLists.{PairLists}}
+use Rattle.mm_frame.{proofs.lemmas.{faults.FoundFaults.{sound_found}, frames.FrameNumbers.{HasKind}, pairs.SharedPairs.{same_turned, same_joined}}, specs.Code.KeptPairLists.{list_kept}}
+use Rattle.mm_frame.specs.Code.{KeptSortedLists.{pairs_or_none}, KeptSymbols.{AreSymbols, expression_kept, kept_or_none}, KeptTables.{table_label}, BaseInside.{answers_of}}
+use Rattle.mm_frame.specs.Code.{KeptRows.{rows_of, row_label, row_fault, is_shown_in}, KeptAssertions.{TellsFrame, TellsPairs}, KeptBase.{AreParts, is_float_item, frame_told, list_told}}
+use Rattle.mm_frame.specs.{Code.KeptSparse.{value_or_none, value_kept}, Language.Base.{told_fault, AreLabelled, BaseView, before, said_at, fault_at, is_sound_at, is_proof_at}}
+use Rattle.mm_frame.specs.Language.{Sound.{fault, sound_items}, Framing.{active_pairs, expression}, Resolving.{IsCarrier}}
+use Rattle.mm_frame.specs.{Language.Answering.{AreRows, IsLabelTold, IsExpressionTold, IsFrameTold, AreActiveTold, BaseAnswers, IsBaseBy}, declared.{FrameNumber.{FrameNumber}, frame.Frame.{Frame}}}
+use Rattle.mm_frame.specs.declared.{parts.BaseParts.{BaseParts}, base.Base.TheInside.{Inside}, pair_lists.PairLists.{PairLists}}
 use Rattle.mm_machine.specs.Language.{NumberedSymbols.{AreInOrder, AreSamePairsRead, symbols_of, kept_pairs, IsNumbered, ArePairsRead}, Names.{AreDistinct}, Frame.{Symbol, AreSamePairs}}
 use Rattle.mm_machine.specs.declared.symbol.NumberedSymbol.{NumberedSymbol}
 use Rattle.mm_statement.specs.Language.Item.{passed, Said, is_kind, Floating, is_labelled, is_read, item_at}
@@ -32,7 +33,7 @@ rows_told : {X Y : Type 0} (f : X → Y) (tells : List Said → Said → X → T
 rows_told f tells told step said rows are = grind (arith, common_steps, length-map rows f, are.each, told_from) steps 200000
 
 -- the frame
-pub hypotheses_told : (kept : Option MadeFrame) → option_map (λ it. it.0) (frame_told kept) ≡ option_map (λ (frame : Frame). frame.hypotheses.items) (option_map (λ (made : MadeFrame). made.frame) kept)
+pub hypotheses_told : (kept : Option Frame) → option_map (λ it. it.0) (frame_told kept) ≡ option_map (λ (frame : Frame). frame.hypotheses.items) kept
 hypotheses_told kept = grind (arith, common_steps) steps 200000
 
 -- all active pairs
@@ -84,8 +85,7 @@ expression_numbered all said expressions i are = by (slice_get expressions i) re
     by (Some symbols) e = (are.each i symbols e).numbered
 
 -- the pairs of a frame that is lent
-pub order_told : (all : List (List ℕ)) (pairs : List (Symbol × Symbol)) (lent : Option (Bor Frame)) (kept : Option MadeFrame) → option_map (λ frame. frame.now) lent ≡ option_map (λ (made : MadeFrame). made.frame) kept
-    → IfSome (frame_told kept) (λ it. ArePairsRead all pairs it.1)
+pub order_told : (all : List (List ℕ)) (pairs : List (Symbol × Symbol)) (lent : Option (Bor Frame)) (kept : Option Frame) → option_map (λ frame. frame.now) lent ≡ kept → IfSome (frame_told kept) (λ it. ArePairsRead all pairs it.1)
     → IfSome lent (λ frame. ArePairsRead all pairs frame.now.pairs.items)
 order_told all pairs lent kept e told = grind (arith, common_steps) steps 200000
 
@@ -99,7 +99,7 @@ told_at f told said kept are i beyond = by (slice_get kept i) refl
     by None e = beyond (row_none told said (map f kept) i are (slice_get-map f kept i ∙ ap (option_map f) e))
 
 -- the frame that is kept of an item
-pub frame_in : (all : List (List ℕ)) (base : BaseView) (answers : BaseAnswers) (frames : List (Option MadeFrame)) → map frame_told frames ≡ answers.frames → IsBaseBy all base answers → (i : ℕ)
+pub frame_in : (all : List (List ℕ)) (base : BaseView) (answers : BaseAnswers) (frames : List (Option Frame)) → map frame_told frames ≡ answers.frames → IsBaseBy all base answers → (i : ℕ)
     → IsFrameTold all (before base i) (said_at base i) (frame_told (value_kept frames i))
 frame_in all base answers frames same is i =
     told_at frame_told (IsFrameTold all) base frames (subst (AreRows (IsFrameTold all) base) (sym same) is.frames) i

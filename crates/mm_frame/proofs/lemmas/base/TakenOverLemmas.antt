@@ -81,4 +81,4 @@ made_stays all before old new keeps same made count k e =
 
 -- the same lists
 pub list_kept_on : (all : List (List ℕ)) (old new : PairLists) (k : ℕ) (pairs : List (Symbol × Symbol)) → new.lists ≡ old.lists → IsList all old k pairs → IsList all new k pairs
-list_kept_on all old new k pairs same is = record { list = is.list; there = ap (λ w. slice_get w.items k) same ∙ is.there; read = is.read; order = is.order }
+list_kept_on all old new k pairs same is = record { list = is.list; there = ap (λ w. slice_get w k) same ∙ is.there; read = is.read; order = is.order }

@@ -1,13 +1,14 @@
 -- Assertions with the same mandatory hypotheses and the same active `$d` have the same mandatory pairs.
 use Rattle.std.proofs.lemmas.{Grind.{common_steps}, Bool.{or_cases, and_parts}, Option.{slice_get_within, slice_get-get_or, get_or_from_slice_get, same_Some}, List.{take-append-le}}
-use Rattle.std.proofs.Common.{◌≡◌, ℕ, ◌<◌, Bool, true, ◌&&◌, Option, Some, List, ◌++◌, length, take, drop, filter, flat_map, slice_get, refl, sym, ◌∙◌, ap, subst, arith, inl, inr, take-append-drop}
-use Rattle.mm_frame.specs.{declared.frame.MadeFrame.{MadeFrame}, Language.{Scope.{active_numbers}, Sound.{AreSound, sound_items}}}
-use Rattle.mm_frame.specs.Language.Answering.{AreRows, are_paired, numbers_if, pairs_in_order, typed_variables}
+use Rattle.std.proofs.Common.{◌≡◌, ℕ, ◌<◌, Bool, true, ◌&&◌, Option, Some, None, List, [], ◌∷◌, ◌++◌, length, take, drop, filter, flat_map, slice_get, refl, sym, ◌∙◌, ap, subst, arith, inl, inr}
+use Rattle.std.proofs.Common.{take-append-drop}
+use Rattle.mm_frame.specs.{declared.{frame.Frame.{Frame}, frames.Frames.{Frames}}, Language.{Scope.{active_numbers}, Sound.{AreSound, sound_items}}}
+use Rattle.mm_frame.specs.Language.Answering.{AreRows, are_paired, numbers_if, pairs_in_order, told_numbers, typed_variables}
 use Rattle.mm_frame.specs.Language.Framing.{active_pairs, expression, frame, is_mandatory, mandatory_hypotheses, mandatory_numbers, mandatory_variables, pairs_of}
-use Rattle.mm_frame.specs.Code.{KeptAssertions.{TellsFrame, is_told_framed}, KeptFrames.{IsFrameAt}, KeptPairLists.{AreFrontNumbers}, KeptSparse.{value_kept}, LastItems.{is_disjoint_item}}
-use Rattle.mm_frame.proofs.lemmas.{base.BaseLemmas.{kept_are_sound, kept_front_at}, frames.{Frames.{float_labelled}, HypothesisNumbers.{from_active_number}}, lists.Members.{In, get_join}}
-use Rattle.mm_frame.proofs.lemmas.{lists.SharedValues.{value_there}, pairs.{ActivePairLemmas.{expression_at_number, flat_same}, FramePairs.{active_in_order, typed_by_numbers, variables_if}}}
-use Rattle.mm_frame.proofs.lemmas.{pairs.PairListLemmas.{whole_front}, scope.Facts.{sound_front}}
+use Rattle.mm_frame.specs.Code.{KeptAssertions.{AreFrames, TellsFrame, TellsReach, is_told_framed}, KeptFrames.{AddsEqual, AddsFrame, AddsSame, IsFrameAt}, KeptPairLists.{AreFrontNumbers}}
+use Rattle.mm_frame.{specs.Code.{KeptSparse.{value_kept}, LastItems.{is_disjoint_item}}, proofs.lemmas.{base.BaseLemmas.{kept_are_sound, kept_front_at, rows_more}, frames.Frames.{float_labelled}}}
+use Rattle.mm_frame.proofs.lemmas.{frames.HypothesisNumbers.{from_active_number}, lists.{Members.{In, get_join}, SharedValues.{value_there}}, pairs.ActivePairLemmas.{expression_at_number, flat_same}}
+use Rattle.mm_frame.proofs.lemmas.{pairs.{FramePairs.{active_in_order, typed_by_numbers, variables_if}, PairListLemmas.{whole_front}}, scope.Facts.{sound_front}}
 use Rattle.mm_machine.specs.Language.{Frame.{Symbol}, NumberedSymbols.{ArePairsRead}}
 use Rattle.mm_statement.specs.Language.Item.{Said, passed, is_kind, is_labelled, Essential, Floating, has, item_at, variable_of}
 
@@ -71,34 +72,57 @@ pairs_again before more item other reach h e was now =
 
 -- ---- the rows
 
-pub told_framed : (b : Bool) (before : List Said) (item : Said) (xs : List ℕ) → Some xs ≡ numbers_if b before item → true ≡ b
+told_framed : (b : Bool) (before : List Said) (item : Said) (xs : List ℕ) → Some xs ≡ numbers_if b before item → true ≡ b
 told_framed b before item xs e = grind (arith, common_steps) steps 200000
 
-pub told_some : (b : Bool) (before : List Said) (item : Said) (xs : List ℕ) → Some xs ≡ numbers_if b before item → xs ≡ mandatory_numbers before item
+told_some : (b : Bool) (before : List Said) (item : Said) (xs : List ℕ) → Some xs ≡ numbers_if b before item → xs ≡ mandatory_numbers before item
 told_some b before item xs e = grind (arith, common_steps) steps 200000
 
 -- the frame of an earlier assertion with the same hypotheses, made where the same `$d` are active, is that of one more
-pub frame_again : (all : List (List ℕ)) (said : List Said) (item : Said) (frames : List (Option MadeFrame)) (hypotheses : List ℕ) (reach number : ℕ) → IsFrameAt frames hypotheses reach number
-    → AreRows (TellsFrame all) said frames → true ≡ is_told_framed (sound_items said) item → hypotheses ≡ mandatory_numbers (sound_items said) item
-    → AreFrontNumbers (sound_items said) (active_numbers is_disjoint_item (sound_items said)) reach → TellsFrame all (sound_items said) item (value_kept frames number)
-frame_again all said item frames hypotheses reach number s rows framed e now =
-    let made = s.made in
-    let later = sound_items said in
-    let there = value_there frames number made s.there in
-    let within : number < length said = (let w = slice_get_within frames number (Some made) there in omega (arith, rows.count)) in
+frame_again : (all : List (List ℕ)) (said : List Said) (item : Said) (frames : Frames) (hypotheses : List ℕ) (reach number : ℕ) → IsFrameAt frames hypotheses reach number → AreFrames all said frames
+    → Some hypotheses ≡ told_numbers (sound_items said) item → AreFrontNumbers (sound_items said) (active_numbers is_disjoint_item (sound_items said)) reach
+    → TellsFrame all (sound_items said) item (value_kept frames.kept number)
+frame_again all said item frames hypotheses reach number s are e now =
+    let there = value_there frames.kept number s.frame s.there in
+    let within : number < length said = (let w = slice_get_within frames.kept number (Some s.frame) there in omega (arith, are.kept.count)) in
     let other = item_at said number in
+    let later = sound_items said in
     let before = take number later in
     let more = drop number later in
     let whole : before ++ more ≡ later = take-append-drop number later in
     let front : sound_items (take number said) ≡ before = sym (kept_front_at said number other (slice_get-get_or said number passed within)) in
-    let told : TellsFrame all before other (Some made) = subst (λ w. TellsFrame all w other (Some made)) front (rows.each number (Some made) there) in
-    let was : AreFrontNumbers before (active_numbers is_disjoint_item before) reach = subst (AreFrontNumbers before (active_numbers is_disjoint_item before)) s.reach_is told.reach in
-    let numbers : mandatory_numbers later item ≡ mandatory_numbers before other = sym e ∙ sym s.hypotheses_are ∙ told_some (is_told_framed before other) before other made.frame.hypotheses.items told.hypotheses in
+    let told : TellsFrame all before other (Some s.frame) = subst (λ w. TellsFrame all w other (Some s.frame)) front (are.kept.each number (Some s.frame) there) in
+    let was : AreFrontNumbers before (active_numbers is_disjoint_item before) reach =
+    subst (λ w. AreFrontNumbers w (active_numbers is_disjoint_item w) reach) front (are.reaches.each number (Some reach) (value_there frames.reaches number reach s.reach_there)) in
+    let numbers : mandatory_numbers later item ≡ mandatory_numbers before other =
+    sym (told_some (is_told_framed later item) later item hypotheses e) ∙ sym s.hypotheses_are ∙ told_some (is_told_framed before other) before other s.frame.hypotheses.items told.hypotheses in
     let same : pairs_in_order (frame before other) ≡ pairs_in_order (frame later item) =
     subst (λ w. mandatory_numbers w item ≡ mandatory_numbers before other → AreFrontNumbers w (active_numbers is_disjoint_item w) reach → AreSound w → pairs_in_order (frame before other) ≡ pairs_in_order (frame w item)) whole
     (λ n f h. pairs_again before more item other reach h n was f) numbers now (kept_are_sound said) in
-    subst (TellsFrame all later item) (sym s.there) (record {
-      hypotheses = ap Some (s.hypotheses_are ∙ e) ∙ ap (λ b. numbers_if b later item) framed;
-      pairs = subst (λ w. ArePairsRead all w made.frame.pairs.items) same told.pairs;
-      reach = subst (AreFrontNumbers later (active_numbers is_disjoint_item later)) (sym s.reach_is) now;
-    })
+    subst (TellsFrame all later item) (sym s.there) (record { hypotheses = ap Some s.hypotheses_are ∙ e; pairs = subst (λ w. ArePairsRead all w s.frame.pairs.items) same told.pairs })
+
+-- one more item, with what it has
+frames_more : (all : List (List ℕ)) (said : List Said) (item : Said) (old new : Frames) (kept : Option Frame) (reach : Option ℕ) → AddsFrame old new kept reach → AreFrames all said old
+    → TellsFrame all (sound_items said) item kept → TellsReach (sound_items said) item reach → AreFrames all (said ++ item ∷ []) new
+frames_more all said item old new kept reach adds are told known = record {
+  kept = subst (AreRows (TellsFrame all) (said ++ item ∷ [])) (sym adds.kept) (rows_more (TellsFrame all) said item old.kept kept are.kept told);
+  reaches = subst (AreRows TellsReach (said ++ item ∷ [])) (sym adds.reaches) (rows_more TellsReach said item old.reaches reach are.reaches known);
+}
+
+pub frames_none : (all : List (List ℕ)) (said : List Said) (item : Said) (old new : Frames) → AddsFrame old new None None → AreFrames all said old
+    → None ≡ told_numbers (sound_items said) item → AreFrames all (said ++ item ∷ []) new
+frames_none all said item old new adds are e = frames_more all said item old new None None adds are (record { hypotheses = e; pairs = tt }) tt
+
+pub frames_same : (all : List (List ℕ)) (said : List Said) (item : Said) (old new : Frames) (hypotheses : List ℕ) (reach : ℕ) → AddsSame old new hypotheses reach → AreFrames all said old
+    → Some hypotheses ≡ told_numbers (sound_items said) item → AreFrontNumbers (sound_items said) (active_numbers is_disjoint_item (sound_items said)) reach → AreFrames all (said ++ item ∷ []) new
+frames_same all said item old new hypotheses reach adds are e now =
+    frames_more all said item old new (value_kept old.kept adds.number) (Some reach) adds.added are (frame_again all said item old hypotheses reach adds.number adds.same are e now) now
+
+pub frames_equal : (all : List (List ℕ)) (said : List Said) (item : Said) (old new : Frames) (made : Frame) (reach : ℕ) → AddsEqual old new made reach → AreFrames all said old
+    → TellsFrame all (sound_items said) item (Some made) → AreFrontNumbers (sound_items said) (active_numbers is_disjoint_item (sound_items said)) reach → AreFrames all (said ++ item ∷ []) new
+frames_equal all said item old new made reach adds are told now =
+    let equal = adds.equal in
+    frames_more all said item old new (Some equal.kept) (Some reach) (record { kept = equal.added; reaches = adds.reaches }) are (record {
+      hypotheses = ap Some equal.hypotheses ∙ told.hypotheses;
+      pairs = subst (ArePairsRead all (pairs_in_order (frame (sound_items said) item))) (sym equal.pairs) told.pairs;
+    }) now

@@ -1,5 +1,5 @@
 -- Values that several items can have: they stay while more values come.
-use Rattle.std.proofs.Common.{◌≡◌, ℕ, zero, suc, ◌<◌, Option, Some, None, Result, Ok, Err, List, [], ◌∷◌, ◌++◌, length, map, slice_get, refl, sym, ◌∙◌, ap, subst, arith, inl, inr}
+use Rattle.std.proofs.Common.{◌≡◌, ℕ, zero, suc, ◌<◌, Option, Some, None, Result, Ok, Err, List, [], ◌∷◌, ◌++◌, length, map, slice_get, is_some, refl, sym, ◌∙◌, ap, subst, arith, inl, inr}
 use Rattle.std.{proofs.lemmas.{Grind.{common_steps}, List.{map-append}, Option.{slice_get_cases}}, specs.Prelude.{OnOk, OnErr}}
 use Rattle.mm_frame.{specs.Code.{KeptShared.{value_at}, KeptSparse.{value_kept}}, proofs.lemmas.{lists.Members.{get_join}, scope.BlockLemmas.{get_cases}}}
 
@@ -31,6 +31,17 @@ values_stay values more (p ∷ places) h =
 -- an item that has a value
 pub value_there : {X : Type 0} (kept : List (Option X)) (n : ℕ) (x : X) → value_kept kept n ≡ Some x → slice_get kept n ≡ Some (Some x)
 value_there kept n x e = grind (arith, common_steps) steps 200000
+
+-- each item that has a place has a value
+some_at : {X : Type 0} (values : List X) (place : Option ℕ) → ((n : ℕ) → place ≡ Some n → n < length values) → is_some place ≡ is_some (value_at values place)
+some_at values None h = refl
+some_at values (Some n) h = elim (slice_get_cases values n).1 [
+  | inl p ↦ ap is_some (sym p.2)
+  | inr p ↦ absurd (omega (arith, h n refl, p.0))
+]
+
+pub has_value : {X : Type 0} (values : List X) (places : List (Option ℕ)) (n : ℕ) → AreBelow (length values) places → is_some (value_kept places n) ≡ is_some (value_kept (map (value_at values) places) n)
+has_value values places n h = some_at values (value_kept places n) (λ place e. h n place (value_there places n place e)) ∙ ap is_some (sym (value_of values places n))
 
 -- one more item
 pub below_more : (count : ℕ) (places : List (Option ℕ)) (place : Option ℕ) → AreBelow count places → ((n : ℕ) → place ≡ Some n → n < count) → AreBelow count (places ++ place ∷ [])

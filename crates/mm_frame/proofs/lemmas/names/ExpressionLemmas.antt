@@ -1,6 +1,6 @@
 -- The parts of one list by their ends: how many there are, each of them, and one more.
-use Rattle.std.proofs.lemmas.{Grind.{common_steps}, Option.{slice_get-map, slice_get_past}, List.{take-append-le, drop-append-le, take_all, length-drop, length-map}}
-use Rattle.std.proofs.Common.{◌≡◌, ℕ, zero, suc, ◌+◌, ◌-◌, ◌<◌, ◌≤◌, Some, None, List, [], ◌∷◌, ◌++◌, length, map, take, drop, get_or, slice_get, refl, ◌∙◌, ap, arith, length-append}
+use Rattle.std.proofs.lemmas.{Grind.{common_steps}, Option.{slice_get-map, slice_get_past, slice_get_cases}, List.{take-append-le, drop-append-le, take_all, length-drop, length-map}}
+use Rattle.std.proofs.Common.{◌≡◌, ℕ, zero, suc, ◌+◌, ◌-◌, ◌<◌, ◌≤◌, Some, None, List, [], ◌∷◌, ◌++◌, length, map, take, drop, get_or, slice_get, is_some, ltb, refl, ◌∙◌, ap, arith, length-append}
 use Rattle.std.specs.List.{slice_range}
 use native.Mathlib.Decide.{dec_lt}
 use Rattle.mm_frame.specs.Code.{KeptParts.{cut_from, EndsFrom, start_at}, KeptSparse.{first_of, value_kept}}
@@ -83,3 +83,11 @@ value_missing values ends n start end s e l =
       length-map,
       slice_get_past,
     ) steps 500000
+
+-- so a part with an end behind its start tells that there is a value
+pub value_has : {X : Type 0} (values : List X) (ends : List ℕ) (n start end : ℕ) → start ≡ start_at 0 ends n → end ≡ get_or ends n 0 → EndsFrom 0 ends (length values)
+    → ltb start end ≡ is_some (value_kept (map first_of (cut_from values 0 ends)) n)
+value_has values ends n start end s e cut = elim (dec_lt start end) [
+  | yes l ↦ grind (arith, common_steps, value_there values ends n start end s e l, part_within 0 ends (length values) n cut, end_there, slice_get_cases values start) steps 200000
+  | no m ↦ grind (arith, common_steps, value_missing values ends n start end s e (omega arith)) steps 200000
+]

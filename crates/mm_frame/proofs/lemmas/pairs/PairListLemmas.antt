@@ -13,8 +13,8 @@ use Rattle.mm_frame.proofs.lemmas.pairs.{FramePairs.{each_pair}, ActivePairLemma
 use Rattle.mm_frame.proofs.lemmas.lists.{Members.{get_join, In, in_left, in_cases, in_get, get_in, in_contains, contains_in, in_map, from_map, front_get}, Rising.{rising_front}}
 use Rattle.mm_frame.{proofs.lemmas.base.BaseLemmas.{rows_more}, specs.{declared.pair_lists.PairLists.{PairLists}, Language.{Scope.{stays, active_numbers}, Sound.{AreSound, sound_items}}}}
 use Rattle.mm_frame.specs.{Language.{Framing.{expression, pairs_of, active_pairs}, Answering.{AreRows, is_told_proof}}, Code.LastItems.{is_active_at, is_disjoint_item, IsRising}}
-use Rattle.mm_frame.specs.Code.KeptSymbols.{expression_kept, AreSymbols, AreNumbered}
-use Rattle.mm_frame.specs.Code.{KeptPairLists.{pairs_among, with_low_first, IsThere, IsList, list_made, IsMadeFor, AreMade, KeepsLists, AreFrontNumbers, HasEach, HasSame}, KeptAssertions.{TellsPairs}}
+use Rattle.mm_frame.specs.Code.{KeptSymbols.{expression_kept, AreSymbols, AreNumbered}, KeptPairLists.{pairs_among, with_low_first, IsList, list_made, IsMadeFor, AreMade, KeepsLists, AreFrontNumbers}}
+use Rattle.mm_frame.specs.Code.{KeptSortedLists.{HasEach, HasSame, IsThere}, KeptAssertions.{TellsPairs}}
 use native.Mathlib.Decide.{dec_lt}
 use Rattle.mm_machine.specs.{declared.symbol.NumberedSymbol.{NumberedSymbol}, Language.Frame.{Symbol, ArePair, AreSamePairs}}
 use Rattle.mm_machine.specs.Language.NumberedSymbols.{symbol_of, symbols_of, pair_of, kept_pairs, IsNumbered, IsPairNumbered, ArePairsRead, AreSamePairsRead, AreInOrder}
@@ -298,7 +298,7 @@ shared_same base own each = (λ p h. elim (Contains-append_cases own base p h) [
 pub list_stays : (all : List (List ℕ)) (old new : PairLists) (k : ℕ) (pairs : List (Symbol × Symbol)) → KeepsLists old new → IsList all old k pairs → IsList all new k pairs
 list_stays all old new k pairs keeps is = record {
   list = is.list;
-  there = ap (λ w. slice_get w k) keeps.whole ∙ get_join old.lists.items keeps.more k is.list is.there;
+  there = ap (λ w. slice_get w k) keeps.whole ∙ get_join old.lists keeps.more k is.list is.there;
   read = is.read;
   order = is.order;
 }
@@ -327,7 +327,8 @@ made_one_more all before old new count k keeps made within is told other j e = b
         record { within = r.within; list = list_stays all old new j (active_pairs (take other before)) keeps r.list }
 
 -- the list with this number is of pairs with this reading
-pub is_list : (all : List (List ℕ)) (lists : PairLists) (k : ℕ) (kept : List (NumberedSymbol × NumberedSymbol)) (pairs : List (Symbol × Symbol)) → IsThere lists k kept → AreSamePairsRead all pairs kept → AreInOrder kept → IsList all lists k pairs
+pub is_list : (all : List (List ℕ)) (lists : PairLists) (k : ℕ) (kept : List (NumberedSymbol × NumberedSymbol)) (pairs : List (Symbol × Symbol)) → IsThere lists.lists k kept
+    → AreSamePairsRead all pairs kept → AreInOrder kept → IsList all lists k pairs
 is_list all lists k kept pairs there read order = record { list = there.list; there = there.there; read = subst (AreSamePairsRead all pairs) (sym there.same) read; order = subst AreInOrder (sym there.same) order }
 
 -- the rows of numbers of lists stay right with more lists
@@ -343,7 +344,7 @@ pub pairs_more : (all : List (List ℕ)) (said : List Said) (item : Said) (old n
 pairs_more all said item old new numbers number keeps rows told = rows_more (TellsPairs all new) said item numbers number (pairs_stay all said old new numbers keeps rows) told
 
 pub keeps_all : (lists : PairLists) → KeepsLists lists lists
-keeps_all lists = record { more = []; whole = sym (append-nil lists.lists.items) }
+keeps_all lists = record { more = []; whole = sym (append-nil lists.lists) }
 
 pub no_number : (all : List (List ℕ)) (lists : PairLists) (before : List Said) (item : Said) → false ≡ is_told_proof before item → TellsPairs all lists before item None
 no_number all lists before item e = record { some = e; list = λ k q. absurd (none-some k q) }

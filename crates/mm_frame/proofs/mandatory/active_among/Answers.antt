@@ -1,4 +1,4 @@
-use Rattle.std.proofs.{Common.{arith, ◌+◌, ◌++◌, false, filter, drop, get_or, append-nil}, lemmas.{Grind.{common_steps}, List.{drop_all}, Option.{slice_get-get_or}}}
+use Rattle.std.proofs.{Common.{arith, ◌+◌, ◌++◌, false, filter, drop, get_or, append-nil}, lemmas.{Grind.{common_steps}, List.{drop_all}, Option.{slice_get-get_or}, Result.{IfOk-weaker}}}
 use Rattle.mm_machine.specs.{declared.symbol.NumberedSymbol.{NumberedSymbol}, Language.NumberedSymbols.{symbol_of, symbols_of}}
 use Rattle.mm_frame.{specs.Language.{Framing.{active_pairs, pairs_of}, Answering.{are_paired}}, proofs.lemmas.pairs.{ActivePairLemmas.{pairs_with}, FramePairs.{among_more}}}
 use Rattle.mm_frame.proofs.mandatory.active_among.Goals as goal
@@ -23,5 +23,6 @@ loop-n-preserved c = record {
 }
 
 pub returns-clause-pairs : goal.returns-clause-pairs
-returns-clause-pairs c all before reads m numbered =
-    grind (arith, common_steps, c.loop-n.invariant.pairs all before reads m numbered, append-nil (c.loop-n.invariant.pairs all before reads m numbered).0, drop_all c.loop-n.n c.args.variables.now c.loop-n-test.false) steps 200000
+returns-clause-pairs c = IfOk-weaker c.from_slice.result _ _ (λ pairs copy all before reads m numbered.
+    let so_far = c.loop-n.invariant.pairs all before reads m numbered in
+    grind (arith, common_steps, copy, so_far, append-nil so_far.0, drop_all c.loop-n.n c.args.variables.now c.loop-n-test.false) steps 200000) c.from_slice.ensures.items

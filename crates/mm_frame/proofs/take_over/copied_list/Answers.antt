@@ -3,4 +3,4 @@ use Rattle.mm_frame.proofs.take_over.copied_list.Goals as goal
 
 pub returns-clause-list : goal.returns-clause-list
 returns-clause-list c all base said by front number proof read order rows =
-    is_list all c.keep_copy.new.self c.in_ok-k.k c.args.proof.pairs.now (active_pairs (sound_items said)) c.in_ok-k.ensures.there read order
+    is_list all _ c.in_ok-k.k c.args.proof.pairs.now (active_pairs (sound_items said)) c.in_ok-k.ensures.there read order

@@ -1,4 +1,3 @@
-use Rattle.std.proofs.{Common.{arith}, lemmas.Grind.{common_steps}}
 use Rattle.mm_keep.proofs.{AppendingLemmas.{AppendingLaws, Laws, findings_stay}, laws.appending_keeps_findings.Goals.{After-appending_keeps_items}}
 use Rattle.mm_keep.proofs.laws.appending_keeps_findings.Goals as goal
 

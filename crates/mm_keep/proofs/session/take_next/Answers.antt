@@ -9,7 +9,7 @@ pub returns-clause-kept : goal.returns-clause-kept
 returns-clause-kept c before top names can =
     kept_settled c.items_stand.ensures.stand before c.args.files.now c.settle_all.new.self c.args.undos top names c.args.checked.now c.args.next can
     c.settle_all.ensures.keyed c.settle_all.ensures.standing (c.settle_all.ensures.parked before can.spendable)
-    c.replace.new.self c.carry.new.new c.replace.ensures
+    c.args.next.base c.carry.new.new refl
     (c.carry.ensures can.old can.base (can_carry before c.args.files.now c.args.undos top names c.args.checked.now c.args.next can))
 
 pub returns-clause-runs : goal.returns-clause-runs

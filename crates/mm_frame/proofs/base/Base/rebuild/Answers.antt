@@ -23,7 +23,7 @@ returns-clause-base c =
     let read = c.in_ok-draft.ensures.read in
     let each = subst (λ w. AllZip (Says files) w read.0) c.deref-2.ensures.value read.1 in
     let base : BaseView = read.0 in
-    let built : Inside = record { items = c.in_ok-found.found; floats = c.in_ok-floats.floats; parts = c.parts.result; room = c.none-2.result } in
+    let built : Inside = record { items = c.in_ok-found.found; floats = c.in_ok-floats.floats; parts = c.parts.result } in
     let by : (all : List (List ℕ)) → AreDistinct all → Begins c.read_all_again.new.names all → IsBaseBy all base (answers_of built) = λ all distinct more.
     base_told all base built distinct (sym (AllZip-long (Says files) found read.0 each)) (omega
     (arith, AllZip-long (Says files) found read.0 each, c.in_ok-found.ensures.small)) (said_labelled files found read.0 each) (kinds_said files found read.0 each)

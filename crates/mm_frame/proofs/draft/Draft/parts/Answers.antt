@@ -1,4 +1,4 @@
-use Rattle.std.proofs.Common.{[], append-nil, sym, ap, ◌∙◌}
+use Rattle.std.proofs.Common.{[], append-nil, sym, ◌∙◌}
 use Rattle.mm_frame.{specs.Language.Sound.{sound_items}, proofs.lemmas.pairs.PairListLemmas.{pairs_stay}}
 use Rattle.mm_frame.proofs.draft.Draft.parts.Goals as goal
 
@@ -9,9 +9,9 @@ returns c = λ all said d.
       kept = d.kept;
       rows = d.rows;
       symbols = d.symbols;
-      frames = d.assertions.frames;
+      frames = d.assertions.frames.kept;
       labels = kept.0.labels;
       marks = kept.1;
       pair_numbers = pairs_stay all said _ _ _
-          (record { more = []; whole = ap (λ lists. lists.items) c.finished.ensures ∙ sym (append-nil _) }) d.assertions.pair_numbers;
+          (record { more = []; whole = c.finished.ensures ∙ sym (append-nil _) }) d.assertions.pair_numbers;
     }

@@ -1,24 +1,24 @@
-use Rattle.std.{proofs.Common.{Some, cond, nat_eq, take, flat_map, sym, ap, subst, ◌∙◌, All}, specs.HashMap.{get}}
-use Rattle.mm_frame.specs.{Language.Framing.{active_pairs}, declared.pair_lists.PairLists.{PairLists}, Code.{KeptSymbols.{expression_kept}, KeptPairLists.{KeepsLists, HasSame, pairs_among}}}
-use Rattle.mm_frame.proofs.lemmas.pairs.{PairListLemmas.{made_one_more, is_list, same_members, front_read}, PairOrderLemmas.{IsLowFirst, all_low}}
+use Rattle.std.proofs.Common.{take, flat_map, sym, subst, All}
+use Rattle.mm_frame.specs.{Language.Framing.{active_pairs}, declared.pair_lists.PairLists.{PairLists}, Code.{KeptSymbols.{expression_kept}, KeptPairLists.{KeepsLists, pairs_among}}}
+use Rattle.mm_frame.{specs.Code.KeptSortedLists.{HasSame}, proofs.lemmas.pairs.{PairListLemmas.{made_one_more, is_list, same_members, front_read}, PairOrderLemmas.{IsLowFirst, all_low}}}
 use Rattle.mm_frame.proofs.pair_lists.PairLists.first_list.Goals as goal
 
 pub returns-clause-pairs : goal.returns-clause-pairs
 returns-clause-pairs c all before h a front m =
-    let new : PairLists = record { lists = c.keep.new.self.lists; made = c.insert.new.self; reach = c.keep.new.self.reach; gone = c.keep.new.self.gone } in
+    let new : PairLists = record { lists = c.keep.new.self; made = c.insert.new.self; reach = c.args.self.now.reach } in
     let there = c.in_ok-k.ensures.there in
     let listed = flat_map (λ n. pairs_among (expression_kept c.args.expressions.now n)) c.args.first.now in
     let kept = c.in_order.result.items in
     let pairs = active_pairs (take c.args.count before) in
     let same = subst (λ w. HasSame w kept) c.in_ok-pairs.ensures c.in_order.ensures.same in
     let low = subst (All IsLowFirst) (sym c.in_ok-pairs.ensures) (all_low c.args.expressions.now c.args.first.now) in
-    is_list all new c.in_ok-k.k kept pairs (record { list = there.list; there = there.there; same = there.same })
+    is_list all new c.in_ok-k.k kept pairs there
     (same_members all pairs listed kept same (front_read all before c.args.expressions.now c.args.first.now c.args.count h a front)) (c.in_order.ensures.order low)
 
 pub returns-clause-made : goal.returns-clause-made
 returns-clause-made c all before h a front m =
-    let new : PairLists = record { lists = c.keep.new.self.lists; made = c.insert.new.self; reach = c.keep.new.self.reach; gone = c.keep.new.self.gone } in
+    let new : PairLists = record { lists = c.keep.new.self; made = c.insert.new.self; reach = c.args.self.now.reach } in
     let keeps : KeepsLists c.args.self.now new = record { more = c.in_ok-k.ensures.kept.more; whole = c.in_ok-k.ensures.kept.whole } in
     let count = c.args.count in
     made_one_more all before c.args.self.now new count c.in_ok-k.k keeps m front.within (returns-clause-pairs c all before h a front m)
-    (λ other. c.in_ok-insert.ensures.updates.0 other ∙ ap (λ w. cond (nat_eq count other) (Some c.in_ok-k.k) (get nat_eq w other)) c.in_ok-k.ensures.made)
+    c.in_ok-insert.ensures.updates.0

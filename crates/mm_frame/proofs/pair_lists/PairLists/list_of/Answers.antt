@@ -25,7 +25,7 @@ returns-clause-made c all before h a e m =
     let n = c.outer_count-outer.result in
     let count = c.count_to_last-count.result in
     let k = c.in_ok-k.k in
-    let new : PairLists = record { lists = c.extended.new.self.lists; made = c.insert.new.self; reach = count; gone = c.extended.new.self.gone } in
+    let new : PairLists = record { lists = c.extended.new.self.lists; made = c.insert.new.self; reach = count } in
     let outer = c.count_to_last-front.ensures all before (drop n disjoints) a (take-append-drop n disjoints ∙ e) in
     let whole = c.count_to_last-count.ensures all before [] a (append-nil disjoints ∙ e) in
     let more = c.in_ok-k.ensures.kept in

@@ -25,7 +25,7 @@ returns-clause-made c all before rest h a e f m =
     let outer = c.args.outer.now in
     let n = c.made_count-done.result in
     let count = c.args.count in
-    let new : PairLists = record { lists = c.extended.new.self.lists; made = c.insert.new.self; reach = c.extended.new.self.reach; gone = c.extended.new.self.gone } in
+    let new : PairLists = record { lists = c.extended.new.self.lists; made = c.insert.new.self; reach = c.extended.new.self.reach } in
     let front = c.count_to_last-front.ensures all before (drop n outer ++ rest) a (sym (append_assoc (take n outer) (drop n outer) rest) ∙ ap (λ w. w ++ rest) (take-append-drop n outer) ∙ e) in
     let more = c.in_ok-k.ensures.kept in
     let keeps : KeepsLists c.first_list.new.self new = record { more = more.more; whole = more.whole } in

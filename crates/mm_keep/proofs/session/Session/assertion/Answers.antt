@@ -1,4 +1,4 @@
-use Rattle.std.proofs.{Common.{arith, ℕ}, lemmas.Grind.{common_steps}}
+use Rattle.std.proofs.Common.{ℕ}
 use Rattle.mm_proof.specs.mm_frame.Language.Base.{base_of}
 use Rattle.mm_keep.{specs.Language.Sessions.{IsAssertion, OfItems}, proofs.FoundLemmas.{holds_of, kept, map_some}}
 use Rattle.mm_keep.proofs.session.Session.assertion.Goals as goal

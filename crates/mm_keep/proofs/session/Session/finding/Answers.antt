@@ -1,7 +1,6 @@
 use Rattle.std.proofs.Common.{◌<◌, length, ap, subst}
-use Rattle.mm_proof.specs.{mm_store.Language.FilesView.{File}, mm_frame.Language.Base.{base_of}}
-use Rattle.mm_keep.{specs.Language.{Findings.{told}, Sessions.{IsFinding, SessionView}, Told.{IsRightlyTold}}, proofs.{DerivableLemmas.{found_derivable}, FoundLemmas.{holds_of, kept}}}
-use Rattle.mm_keep.proofs.PlacedLemmas.{told_there}
+use Rattle.mm_proof.specs.mm_frame.Language.Base.{base_of}
+use Rattle.mm_keep.{specs.Language.{Findings.{told}, Sessions.{SessionView}, Told.{IsRightlyTold}}, proofs.{DerivableLemmas.{found_derivable}, FoundLemmas.{holds_of, kept}, PlacedLemmas.{told_there}}}
 use Rattle.mm_keep.proofs.session.Session.finding.Goals as goal
 
 pub finding_of-requires : goal.finding_of-requires
