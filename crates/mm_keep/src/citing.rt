@@ -135,14 +135,11 @@ fn axioms_of(
     marked_axioms(alloc, base, &marks)
 }
 
-/// What is asked of an assertion.
+/// How the items that are asked for stand to an assertion: it cites them, they cite it, or they are its axioms.
 #[derive(Clone, Copy)]
-pub enum Question {
-    /// What it cites.
+enum Relation {
     Cites,
-    /// What cites it.
     Users,
-    /// Its axioms.
     Axioms,
 }
 
@@ -154,16 +151,16 @@ fn numbers_of(
     checked: &Checks,
     i: usize,
     label: &[u8],
-    asked: Question,
+    asked: Relation,
 ) -> Result<Vec<usize>, AllocError>
     requires { HasChecks files.now base.now checked.now (λ view. IsAssertion view label.now i) }
     ensures { IfOk result (λ numbers. OfChecks files.now base.now checked.now (λ view.
         IsAssertion view label.now i → AreThose (stands asked view i) (length view) numbers.items)) }
 {
     match asked {
-        Question::Cites => cites_of(alloc, files, base, checked, i),
-        Question::Users => users_of(alloc, files, base, checked, i, label),
-        Question::Axioms => axioms_of(alloc, files, base, checked, i),
+        Relation::Cites => cites_of(alloc, files, base, checked, i),
+        Relation::Users => users_of(alloc, files, base, checked, i, label),
+        Relation::Axioms => axioms_of(alloc, files, base, checked, i),
     }
 }
 
@@ -171,7 +168,7 @@ impl Session {
     /// The numbers, rising, of the items that are asked for of the sound `$a` or `$p` with this label.
     ///
     /// `NoAssertion` comes before memory is taken.
-    fn numbers(&self, label: &[u8], asked: Question) -> Result<Vec<usize>, KeepError>
+    fn numbers(&self, label: &[u8], asked: Relation) -> Result<Vec<usize>, KeepError>
         ensures ok { IfOk result (λ numbers. AreNumbersOf self.now label.now (stands asked) numbers.items) }
         ensures none { IsErrOf result NoAssertion ↔ ¬ HasAssertion self.now label.now }
     {
@@ -201,7 +198,7 @@ impl Session {
         ensures ok { IfOk result (λ numbers. AreCitesOf self.now label.now numbers.items) }
         ensures none { IsErrOf result NoAssertion ↔ ¬ HasAssertion self.now label.now }
     {
-        self.numbers(label, Question::Cites)
+        self.numbers(label, Relation::Cites)
     }
 
     /// The numbers, rising, of the sound `$p` that cite the sound `$a` or `$p` with this label.
@@ -211,7 +208,7 @@ impl Session {
         ensures ok { IfOk result (λ numbers. AreUsersOf self.now label.now numbers.items) }
         ensures none { IsErrOf result NoAssertion ↔ ¬ HasAssertion self.now label.now }
     {
-        self.numbers(label, Question::Users)
+        self.numbers(label, Relation::Users)
     }
 
     /// The numbers, rising, of the axioms of the sound `$a` or `$p` with this label: the sound `$a` to which chains of
@@ -222,6 +219,6 @@ impl Session {
         ensures ok { IfOk result (λ numbers. AreAxiomsOf self.now label.now numbers.items) }
         ensures none { IsErrOf result NoAssertion ↔ ¬ HasAssertion self.now label.now }
     {
-        self.numbers(label, Question::Axioms)
+        self.numbers(label, Relation::Axioms)
     }
 }

@@ -1,6 +1,6 @@
 -- A session has one report.
 use Rattle.std.proofs.{lemmas.Option.{slice_get-get_or}, Common.{◌≡◌, ◌<◌, length, get_or, sym, ap, ◌∙◌, ext_get_or, arith}}
-use Rattle.mm_keep.specs.{mm_statement.Language.{Database.{Located}, Laws.{FilesHaveOneDatabase}}, mm_frame.Language.Base.{base_of}, Language.{Laws.{OneFinding}, Told.{Quiet}}}
+use Rattle.mm_keep.specs.{mm_statement.Language.Laws.{FilesHaveOneDatabase}, mm_frame.Language.Base.{base_of}, Language.{Laws.{OneFinding}, Told.{Quiet}}}
 use Rattle.mm_report.specs.Language.{Laws.{OneReport}, Report.{names_of, report}}
 
 pub same_report : FilesHaveOneDatabase → OneFinding → OneReport

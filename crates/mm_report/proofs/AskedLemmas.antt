@@ -5,9 +5,9 @@ use Rattle.std.{proofs.{Common.{OnOk, Bool, true, false, ◌↔◌, Some, Vec, g
 use Rattle.mm_keep.specs.{declared.answers.KeepError.{KeepError}, mm_verdict.Language.Work.{Recorded}, mm_frame.Language.Base.{base_of}, mm_statement.Language.Database.{Located, IsDatabase}}
 use Rattle.mm_keep.specs.{mm_text.{declared.edit.Edit.{Edit}, Language.Asked.{Asked, asked}}, mm_store.{Language.Batches.{IsRefusedAt}, declared.edit.EditError.{EditError}}}
 use Rattle.mm_keep.specs.Language.Sessions.{SessionView, AreAxiomsOf, IsChanged, HasAssertion}
-use Rattle.mm_script.specs.{declared.{error.ScriptError.{ScriptError}, stream.Writing.{Writing}}, Language.Script.{Command, Listed, Batch, Axioms, Cites, Users}}
-use Rattle.mm_script.specs.Language.Stream.{written, has_failed, AppendsPart, Stops}
-use Rattle.mm_report.specs.{Code.Answered.{Answers, Finds, Lacks}, Language.Answers.{IsAnswer, IsBatchRefused, IsRunAnswer, batch_refusal_line, numbers_listed}}
+use Rattle.mm_script.specs.declared.{error.ScriptError.{ScriptError}, stream.Writing.{Writing}, command.Question.{Question, TheVariants.{Verdict, Axioms, Cites, Users}}}
+use Rattle.mm_script.specs.Language.{Script.{Command, Listed, Batch, Ask}, Stream.{written, has_failed, AppendsPart, Stops}}
+use Rattle.mm_report.specs.{Code.Answered.{Answers, Finds}, Language.Answers.{IsAnswer, IsBatchRefused, IsRunAnswer, batch_refusal_line, numbers_listed}}
 use Rattle.mm_keep.specs.declared.answers.KeepError.TheVariants as keep
 use Rattle.mm_script.specs.declared.error.ScriptError.TheVariants as errors
 
@@ -45,19 +45,21 @@ batch_refused_is session edits listed n error d same refused =
 -- ---- lists
 
 -- an assertion that has these is there
-pub finds_items : (session : SessionView) (command : Command) (numbers : List ℕ) → Finds session command numbers → (items : List Located) × IsDatabase session.files session.top items
-finds_items session (Users label) numbers finds = (finds.0, finds.1)
-finds_items session command numbers finds = grind (arith, common_steps) steps 200000
+pub finds_items : (session : SessionView) (question : Question) (label numbers : List ℕ) → Finds session question label numbers → (items : List Located) × IsDatabase session.files session.top items
+finds_items session Axioms label numbers finds = (finds.0, finds.1)
+finds_items session Cites label numbers finds = (finds.0, finds.1)
+finds_items session Users label numbers finds = (finds.0, finds.1)
+finds_items session Verdict label numbers finds = absurd finds
 
-pub found_is : (session : SessionView) (command : Command) (numbers : List ℕ) (finds : Finds session command numbers) (items : List Located) → IsDatabase session.files session.top items
-    → IsAnswer session command (numbers_listed (codes "found") (base_of items) numbers) session
-found_is session (Axioms label) numbers finds items is = (inr (numbers, finds, (items, is, refl)), refl)
-found_is session (Cites label) numbers finds items is = (inr (numbers, finds, (items, is, refl)), refl)
-found_is session (Users label) numbers finds items is = (inr (numbers, finds, (items, is, refl)), refl)
-found_is session _ numbers finds items is = absurd finds
+pub found_is : (session : SessionView) (question : Question) (label numbers : List ℕ) (finds : Finds session question label numbers) (items : List Located)
+    → IsDatabase session.files session.top items → IsAnswer session (Ask question label) (numbers_listed (codes "found") (base_of items) numbers) session
+found_is session Axioms label numbers finds items is = (inr (numbers, finds, (items, is, refl)), refl)
+found_is session Cites label numbers finds items is = (inr (numbers, finds, (items, is, refl)), refl)
+found_is session Users label numbers finds items is = (inr (numbers, finds, (items, is, refl)), refl)
+found_is session Verdict label numbers finds items is = absurd finds
 
-pub unknown_is : (session : SessionView) (command : Command) → Lacks session command → IsAnswer session command (codes "refused K01\n") session
-unknown_is session command lacks = grind (arith, common_steps) steps 200000
+pub unknown_is : (session : SessionView) (question : Question) (label : List ℕ) → ¬ HasAssertion session label → IsAnswer session (Ask question label) (codes "refused K01\n") session
+unknown_is session question label none = (inl (record { none = none; answer_is = refl }), refl)
 
 -- ---- the answers of a list of axioms
 

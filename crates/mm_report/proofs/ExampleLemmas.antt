@@ -1,13 +1,12 @@
 -- The worked examples of a report and a script, by computing.
-use Rattle.std.proofs.Common.{AllPairs, ◌≡◌, ◌≢◌, ◌⊎◌, ℕ, zero, suc, ◌+◌, ◌<◌, ◌==◌, Bool, true, false, not, ◌&&◌, Some, None, List, [], ◌∷◌, ◌++◌, length, map, get_or, slice_get, slice_range, refl}
-use Rattle.std.proofs.{Common.{sym, ap, ◌∙◌, subst, inl, inr, arith, codes, bytes_eq, Contains, append-nil, ◌↔◌}, lemmas.{Bool.{and_parts, false≢true}, Option.{none-some, same_Some}}}
+use Rattle.std.proofs.Common.{AllPairs, ◌≡◌, ◌≢◌, ℕ, zero, suc, ◌+◌, ◌<◌, ◌==◌, Bool, true, false, not, Some, None, List, [], ◌∷◌, ◌++◌, length, map, get_or, slice_get, slice_range, refl, sym, ap}
+use Rattle.std.proofs.{Common.{◌∙◌, subst, inl, inr, arith, codes, bytes_eq, Contains, append-nil, ◌↔◌}, lemmas.{Bool.{and_parts, false≢true}, Option.{none-some, same_Some}}}
 use Rattle.std.{proofs.lemmas.{List.{Elements.{All-nil, Contains-push_cases}, Sums.{AllPass-from_list_all}}, Slice.Eq.{bytes_eq-Decides}}, specs.Fmt.{digits}}
 use Rattle.std.specs.{List.{flat_map, list_all, AllByRecursion}, Prelude.{⊤}}
 use Rattle.mm_keep.specs.mm_text.declared.word.{Keyword.{Keyword, TheVariants.{Constants, Variables, Floating, Axiom, Theorem, StatementEnd, ProofStart}}, Word.{Word}, WordKind.{WordKind}}
-use Rattle.mm_keep.specs.mm_text.Language.{Asked.{Asked, Replace, Delete}, Cut.{IsPiece}, Part.{HasUnits}}
-use Rattle.mm_keep.specs.mm_text.Language.{Reading.{Segment, Single, IsSegment, HasWords, segment_runs, segment_words, first_bad, is_allowed}, Run.{Run, runs, is_white}}
-use Rattle.mm_keep.specs.mm_text.Language.Spelling.{IsSpelled, spelling}
-use Rattle.mm_keep.specs.mm_text.Language.Unit.{Token, token_of, tokens_of, Shape, Declaration, Labelled, Provable, IsShape, shape_tokens, Nothing, Simple, is_label_byte}
+use Rattle.mm_keep.specs.mm_text.Language.{Asked.{Asked, Delete}, Cut.{IsPiece}, Part.{HasUnits}, Reading.{Segment, Single, IsSegment, HasWords, segment_runs, segment_words, first_bad, is_allowed}}
+use Rattle.mm_keep.specs.mm_text.Language.{Run.{Run, runs, is_white}, Spelling.{IsSpelled, spelling}}
+use Rattle.mm_keep.specs.mm_text.Language.Unit.{token_of, tokens_of, Shape, Declaration, Labelled, Provable, IsShape, shape_tokens, Nothing, Simple, is_label_byte}
 use Rattle.mm_keep.specs.mm_store.{declared.edit.EditError.TheVariants.{NoPiece, Memory}, Language.{Batches.{IsRefusedAt}, Edits.{IsEditOf, IsPlaced}, FilesView.{File, bytes_of}}}
 use Rattle.mm_keep.specs.mm_statement.Language.{Database.{Located, said_of, AreLocated, Unfolds, nothing, own, IsDatabase}, Laws.{FilesHaveOneDatabase}}
 use Rattle.mm_keep.specs.{mm_frame.Language.{Base.{base_of, is_framed_at, is_proof_at}, Resolving.{IsLabelOf}}, mm_verdict.Language.{BaseLabels.{setting_at}, VerdictAt.{AreDoneAt, IsVerdictAt}}}
@@ -17,7 +16,8 @@ use Rattle.mm_keep.specs.Language.{Resting.{RestsOn, by_axiom, by_labels}, Sessi
 use Rattle.mm_keep.specs.Language.Told.{Told, Quiet, AnAxiom, Proved, Incomplete, IsRightlyTold, AreRightlyTold}
 use Rattle.mm_report.specs.Language.Examples.{ending_in, unproved, proved, gives_proof, deletes_two, BeginsWithTwo, ChangesOne, CountsSo, HasNoLine, HasThisReport, RunsOne, RestsOnOne, RefusesSecond}
 use Rattle.mm_report.specs.Language.Examples.{AnswersFive, at_step, CountsEach, FindingsAreSeen, FindsLast, HasSixItems, LastIsDerivable, LastRestsOnAxiom, RefusesSo, WritesLines}
-use Rattle.mm_script.specs.Language.{Script.{IsGoodEntry, Entry, Given, Change, Report, Verdict, Axioms, IsName, is_word_byte}, ReadingLaws.{CommandsLeaveNothing}}
+use Rattle.mm_script.specs.{declared.command.Question.TheVariants.{Verdict, Axioms}, Language.Script.{IsGoodEntry, Entry, Given, Change, Report, Ask, IsName, is_word_byte}}
+use Rattle.mm_script.specs.Language.ReadingLaws.{CommandsLeaveNothing}
 use Rattle.mm_keep.specs.mm_store.declared.batch.BatchError.TheVariants as batch
 use Rattle.mm_keep.specs.mm_text.declared.word.WordKind.TheVariants as kinds
 use Rattle.mm_keep.specs.mm_statement.Language.Item as meant
@@ -694,7 +694,7 @@ is_name : (name : List ℕ) → name ≢ [] → list_all is_word_byte name ≡ t
 is_name name some bytes = record { some = some; bytes = bytes }
 
 abbrev entries : List Entry
-entries = Given Report ∷ Given (Change gives_proof) ∷ Given (Verdict (codes "no")) ∷ Given (Axioms (codes "no")) ∷ Given deletes_two ∷ []
+entries = Given Report ∷ Given (Change gives_proof) ∷ Given (Ask Verdict (codes "no")) ∷ Given (Ask Axioms (codes "no")) ∷ Given deletes_two ∷ []
 
 top_name : IsName top
 top_name = is_name top (λ (e : top ≡ []). cc) refl

@@ -5,9 +5,10 @@ use Rattle.mm_keep.specs.mm_store.{declared.edit.EditError.{EditError, TheVarian
 use Rattle.mm_keep.specs.{mm_store.Language.{FilesView.{File, file_number}, Holding.{HoldOneEach}}, mm_text.Language.Asked.{Asked}, mm_statement.Language.Laws.{DatabasesAreThere}}
 use Rattle.mm_keep.specs.{mm_frame.Language.Base.{base_of}, Language.Laws.{HasListOf, HasListOfRuns, HasListEach, ItemsHaveFindings, LabelsAreDecided}}
 use Rattle.mm_keep.specs.Language.{Sessions.{SessionView, HasAssertion, AreAxiomsOf, AreCitesOf, AreUsersOf}, Told.{Told, IsRightlyTold}}
-use Rattle.mm_report.specs.Language.Answers.{AreAnswers, IsAnswer, IsFound, IsRunAnswer, IsUnknown, IsVerdictAnswer, batch_refusal_line, numbers_listed, refusal_line, told_line}
+use Rattle.mm_report.specs.Language.Answers.{AreAnswers, IsAnswer, IsAnswerOf, IsFound, IsRunAnswer, IsUnknown, IsVerdictAnswer, batch_refusal_line, numbers_listed, refusal_line, told_line}
 use Rattle.mm_report.{specs.Language.{Report.{names_of, report, IsReport}, ScriptLaws.{HasScriptAnswer, IsWholeSession}}, proofs.WrittenLemmas.{as_many}}
-use Rattle.mm_script.specs.Language.{Script.{Command, Change, Batch, Report, Verdict, Axioms, Cites, Users, Listed, commands_of}, ReadingLaws.{HasReading}}
+use Rattle.mm_script.specs.{declared.command.Question.{Question, TheVariants.{Verdict, Axioms, Cites, Users}}, Language.Script.{Command, Change, Batch, Report, Ask, Listed, commands_of}}
+use Rattle.mm_script.specs.Language.ReadingLaws.{HasReading}
 
 -- what is known of all files and sessions
 pub record HavingLaws : Type 0 where
@@ -140,21 +141,18 @@ module _ (laws : HavingLaws) (session : SessionView) (whole : IsWholeSession ses
       let numbers = lists session label has in
       (numbers_listed (codes "found") (base_of has.0) numbers.0, (numbers.0, numbers.1, (has.0, has.1, refl)))
 
+  answer_there : (question : Question) (label : List ℕ) → HasAssertion session label → (answer : List ℕ) × IsAnswerOf session question label answer
+  answer_there Verdict = verdict_there
+  answer_there Axioms = list_there AreAxiomsOf laws.lists.2
+  answer_there Cites = list_there AreCitesOf laws.lists.0
+  answer_there Users = list_there AreUsersOf laws.lists.1
+
   pub answered : (command : Command) → Answered session command
   answered (Change edit) = edit_answered edit
   answered (Batch listed) = batch_answered listed
   answered Report = record { answer = reported.0; new = session; is = (reported.1, refl); whole = whole }
-  answered (Verdict label) =
-      let a = by_label label (IsVerdictAnswer session label) (verdict_there label) in
-      record { answer = a.0; new = session; is = (a.1, refl); whole = whole }
-  answered (Axioms label) =
-      let a = by_label label (IsFound session (AreAxiomsOf session label)) (list_there AreAxiomsOf laws.lists.2 label) in
-      record { answer = a.0; new = session; is = (a.1, refl); whole = whole }
-  answered (Cites label) =
-      let a = by_label label (IsFound session (AreCitesOf session label)) (list_there AreCitesOf laws.lists.0 label) in
-      record { answer = a.0; new = session; is = (a.1, refl); whole = whole }
-  answered (Users label) =
-      let a = by_label label (IsFound session (AreUsersOf session label)) (list_there AreUsersOf laws.lists.1 label) in
+  answered (Ask question label) =
+      let a = by_label label (IsAnswerOf session question label) (answer_there question label) in
       record { answer = a.0; new = session; is = (a.1, refl); whole = whole }
 
 -- ---- a script

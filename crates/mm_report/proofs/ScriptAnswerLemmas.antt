@@ -3,12 +3,12 @@ use Rattle.std.proofs.lemmas.{Bool.{cases_lt}, List.Elements.{filter_map-append}
 use Rattle.std.proofs.Common.{◌≡◌, ◌≢◌, ◌⊎◌, ℕ, zero, suc, ◌<◌, ◌≤◌, Some, List, [], ◌∷◌, ◌++◌, length, map, take, refl, sym, ap, ◌∙◌, subst, inl, inr, arith, append_assoc, codes, slice_get}
 use Rattle.std.proofs.Common.{append-nil, take_all}
 use Rattle.mm_keep.specs.mm_store.{declared.edit.EditError.{EditError, TheVariants.{Memory}}, Language.{Answers.{IsEditError}, Batches.{IsBatchOf, IsRefusedAt}, Edits.{IsEditOf}, FilesView.{File}}}
-use Rattle.mm_keep.specs.{mm_text.Language.Asked.{Asked}, mm_statement.Language.{Database.{Located, IsDatabase}, Laws.{FilesHaveOneDatabase}}, mm_frame.Language.Base.{BaseView, base_of}}
-use Rattle.mm_keep.specs.Language.{Citations.{CitesItem, IsAxiomOf}, Laws.{IsOneList, OneFinding, OneListEach, OneListOfRuns, OneVerdict}, Runs.{AreRunsOf}, Sessions.{SessionView, AreNumbersOf}}
-use Rattle.mm_report.specs.Language.Answers.{AreAnswers, IsAnswer, IsBatchAnswer, IsEditAnswer, IsFound, IsRunAnswer, IsUnknown, IsVerdictAnswer, batch_refusal_line, numbers_listed, refusal_line}
+use Rattle.mm_keep.specs.{mm_text.Language.Asked.{Asked}, mm_statement.Language.{Database.{Located, IsDatabase}, Laws.{FilesHaveOneDatabase}}, mm_frame.Language.Base.{base_of}}
+use Rattle.mm_keep.specs.Language.{Laws.{IsOneList, OneFinding, OneListEach, OneListOfRuns, OneVerdict}, Runs.{AreRunsOf}, Sessions.{SessionView, HasAssertion, AreAxiomsOf, AreCitesOf, AreUsersOf}}
+use Rattle.mm_report.specs.Language.Answers.{AreAnswers, IsAnswer, IsAnswerOf, IsBatchAnswer, IsEditAnswer, IsFound, IsRunAnswer, IsUnknown, batch_refusal_line, numbers_listed, refusal_line}
 use Rattle.mm_report.{specs.Language.{Answers.{told_line}, Report.{names_of}, ScriptLaws.{AnswersBegin, OneScriptAnswer}, Scripting.{AreFirst}}, proofs.AnswerLemmas.{same_report}}
-use Rattle.mm_script.specs.Language.Script.{Command, Change, Batch, Report, Verdict, Axioms, Cites as CitesOf, Users, EndsSo, Entry, command_of, commands_of, entries_bytes, HasEntries}
-use Rattle.mm_script.specs.Language.ReadingLaws.{DivisionsAgree, OneEnd, OneReading}
+use Rattle.mm_script.specs.declared.command.Question.{Question, TheVariants.{Verdict, Axioms, Cites, Users}}
+use Rattle.mm_script.specs.Language.{Script.{Command, Change, Batch, Report, Ask, EndsSo, Entry, command_of, commands_of, entries_bytes, HasEntries}, ReadingLaws.{DivisionsAgree, OneEnd, OneReading}}
 
 -- what is known of all files, their edits, runs and labels
 pub record AnswerLaws : Type 0 where
@@ -96,22 +96,30 @@ same_batch_answer laws s new copy edits x y (inr f) (inr g) =
 
 -- ---- questions
 
-same_verdict : AnswerLaws → (s : SessionView) (label x y : List ℕ) → IsUnknown s label x ⊎ IsVerdictAnswer s label x → IsUnknown s label y ⊎ IsVerdictAnswer s label y → x ≡ y
-same_verdict laws s label x y (inl f) (inl g) = f.answer_is ∙ sym g.answer_is
-same_verdict laws s label x y (inl f) (inr g) = absurd (f.none (g.1.0, g.1.1, (g.1.2, g.1.3)))
-same_verdict laws s label x y (inr f) (inl g) = absurd (g.none (f.1.0, f.1.1, (f.1.2, f.1.3)))
-same_verdict laws s label x y (inr f) (inr g) = f.2 ∙ ap (told_line (names_of s.files) label) (laws.verdicts label s f.0 g.0 f.1 g.1) ∙ sym g.2
+-- an assertion of which something is answered is there
+asked_there : (s : SessionView) (question : Question) (label x : List ℕ) → IsAnswerOf s question label x → HasAssertion s label
+asked_there s Verdict label x f = (f.1.0, f.1.1, (f.1.2, f.1.3))
+asked_there s Axioms label x f = (f.1.0, f.1.1, (f.1.2.0, f.1.2.1))
+asked_there s Cites label x f = (f.1.0, f.1.1, (f.1.2.0, f.1.2.1))
+asked_there s Users label x f = (f.1.0, f.1.1, (f.1.2.0, f.1.2.1))
 
 -- the items in a relation to the assertion of a label, if they are one list
-same_found : AnswerLaws → (s : SessionView) (label : List ℕ) (stands : BaseView → ℕ → ℕ → Type 0) (x y : List ℕ) → IsOneList (λ session label numbers. AreNumbersOf session label stands numbers)
-    → IsUnknown s label x ⊎ IsFound s (AreNumbersOf s label stands) x → IsUnknown s label y ⊎ IsFound s (AreNumbersOf s label stands) y → x ≡ y
-same_found laws s label stands x y one (inl f) (inl g) = f.answer_is ∙ sym g.answer_is
-same_found laws s label stands x y one (inl f) (inr g) = absurd (f.none (g.1.0, g.1.1, (g.1.2.0, g.1.2.1)))
-same_found laws s label stands x y one (inr f) (inl g) = absurd (g.none (f.1.0, f.1.1, (f.1.2.0, f.1.2.1)))
-same_found laws s label stands x y one (inr f) (inr g) =
-    let numbers : f.0 ≡ g.0 = one label s f.0 g.0 f.1 g.1 in
+same_found : AnswerLaws → (s : SessionView) (label : List ℕ) (AreSo : SessionView → List ℕ → List ℕ → Type 0) (x y : List ℕ) → IsOneList AreSo → IsFound s (AreSo s label) x → IsFound s (AreSo s label) y → x ≡ y
+same_found laws s label AreSo x y one f g =
     let items : f.2.0 ≡ g.2.0 = laws.databases s.files s.top f.2.0 g.2.0 f.2.1 g.2.1 in
-    f.2.2 ∙ same_listed (codes "found") f.2.0 g.2.0 f.0 g.0 items numbers ∙ sym g.2.2
+    f.2.2 ∙ same_listed (codes "found") f.2.0 g.2.0 f.0 g.0 items (one label s f.0 g.0 f.1 g.1) ∙ sym g.2.2
+
+same_asked : AnswerLaws → (s : SessionView) (question : Question) (label x y : List ℕ) → IsAnswerOf s question label x → IsAnswerOf s question label y → x ≡ y
+same_asked laws s Verdict label x y f g = f.2 ∙ ap (told_line (names_of s.files) label) (laws.verdicts label s f.0 g.0 f.1 g.1) ∙ sym g.2
+same_asked laws s Axioms label x y f g = same_found laws s label AreAxiomsOf x y laws.lists.2 f g
+same_asked laws s Cites label x y f g = same_found laws s label AreCitesOf x y laws.lists.0 f g
+same_asked laws s Users label x y f g = same_found laws s label AreUsersOf x y laws.lists.1 f g
+
+same_question : AnswerLaws → (s : SessionView) (question : Question) (label x y : List ℕ) → IsUnknown s label x ⊎ IsAnswerOf s question label x → IsUnknown s label y ⊎ IsAnswerOf s question label y → x ≡ y
+same_question laws s question label x y (inl f) (inl g) = f.answer_is ∙ sym g.answer_is
+same_question laws s question label x y (inl f) (inr g) = absurd (f.none (asked_there s question label y g))
+same_question laws s question label x y (inr f) (inl g) = absurd (g.none (asked_there s question label x f))
+same_question laws s question label x y (inr f) (inr g) = same_asked laws s question label x y f g
 
 -- ---- answers
 
@@ -119,10 +127,7 @@ same_answer : AnswerLaws → (s new copy : SessionView) (command : Command) (x y
 same_answer laws s new copy (Change edit) x y f g = same_edit laws s new copy edit x y f g
 same_answer laws s new copy (Batch edits) x y f g = same_batch_answer laws s new copy (map (λ listed. listed.edit) edits) x y f g
 same_answer laws s new copy Report x y f g = (same_report laws.databases laws.findings s x y f.0 g.0, f.1 ∙ sym g.1)
-same_answer laws s new copy (Verdict label) x y f g = (same_verdict laws s label x y f.0 g.0, f.1 ∙ sym g.1)
-same_answer laws s new copy (Axioms label) x y f g = (same_found laws s label (λ base i k. IsAxiomOf base i k) x y laws.lists.2 f.0 g.0, f.1 ∙ sym g.1)
-same_answer laws s new copy (CitesOf label) x y f g = (same_found laws s label (λ base i k. CitesItem base i k) x y laws.lists.0 f.0 g.0, f.1 ∙ sym g.1)
-same_answer laws s new copy (Users label) x y f g = (same_found laws s label (λ base i k. CitesItem base k i) x y laws.lists.1 f.0 g.0, f.1 ∙ sym g.1)
+same_answer laws s new copy (Ask question label) x y f g = (same_question laws s question label x y f.0 g.0, f.1 ∙ sym g.1)
 
 same_answers : AnswerLaws → (s new copy : SessionView) (commands : List Command) (x y : List ℕ) → AreAnswers s commands x new → AreAnswers s commands y copy → AreOne x y new copy
 same_answers laws s new copy [] x y f g = (f.0 ∙ sym g.0, f.1 ∙ sym g.1)

@@ -12,12 +12,14 @@ ghost use Rattle.mm_keep.specs.Language.Findings.{told};
 ghost use Rattle.mm_keep.specs.Language.Refusals.{IsRefusal, IsBatchRefusal};
 ghost use Rattle.mm_keep.specs.Language.Sessions.{HasAssertion, SessionView};
 ghost use Rattle.mm_script.specs.declared.error.ScriptError.TheVariants as errors;
-ghost use Rattle.mm_report.specs.Code.Answered.{Answers, Finds, IsToldIn, Lacks, WritesAnswer, WritesOf, label_lines, text_brought};
+ghost use Rattle.mm_report.specs.Code.Answered.{Answers, Finds, IsToldIn, WritesAnswer, WritesOf, label_lines, text_brought};
 ghost use Rattle.mm_report.specs.Code.InFiles.{IsInFiles};
 ghost use Rattle.mm_script.specs.Language.Commands.{IsCommandIn, IsEditWithin, edit_in};
 ghost use Rattle.mm_report.specs.Language.Answers.{IsAnswer, batch_refusal_line, numbers_listed, refusal_line, refusal_words, text_code, told_line};
 ghost use Rattle.mm_report.specs.Language.Report.{names_of};
-ghost use Rattle.mm_script.specs.Language.Script.{Command, Listed, Change, Batch, Verdict, Axioms};
+ghost use Rattle.mm_script.specs.declared.command.Question.{Question};
+ghost use Rattle.mm_script.specs.declared.command.Question.TheVariants.{Verdict, Axioms};
+ghost use Rattle.mm_script.specs.Language.Script.{Command, Listed, Change, Batch, Ask};
 ghost use Rattle.mm_script.specs.Language.Stream.{AppendsPart, written, has_failed, Writes};
 
 use crate::report::{
@@ -27,7 +29,9 @@ use mm_keep::{
     BatchError, Edit, EditError, Files, Finding, KeepError, Session, TextFault, TextNumber,
     files_have_one_database, place,
 };
-use mm_script::{CommandAt, EditAt, ScriptError, WriteFailed, Writing, bytes_of, edit_of};
+use mm_script::{
+    CommandAt, EditAt, Question, ScriptError, WriteFailed, Writing, bytes_of, edit_of,
+};
 use std::alloc::{AllocError, Global};
 use std::io::Write;
 
@@ -162,9 +166,9 @@ fn write_found<W: Write>(
     found: Result<Vec<usize>, KeepError>,
     to: &mut Writing<W>,
 ) -> Result<bool, ScriptError>
-    ensures answers { (command : Command) → IfOk found (λ numbers. Finds session.now command numbers.items)
-        → (IsErrOf found keep.NoAssertion → Lacks session.now command)
-        → Answers W.contents command session.now session.now to.old to.new result }
+    ensures answers { (question : Question) (label : List ℕ) → IfOk found (λ numbers. Finds session.now question label numbers.items)
+        → (IsErrOf found keep.NoAssertion → ¬ HasAssertion session.now label)
+        → Answers W.contents (Ask question label) session.now session.now to.old to.new result }
     ensures there { IfOk result (λ there. (IsTrue there × IsOk found) ⊎ ((there ≡ false) × IsErrOf found keep.NoAssertion)) }
     ensures told { IsErrOf found keep.NoAssertion → result ≢ Err errors.Memory }
 {
@@ -183,22 +187,6 @@ fn write_found<W: Write>(
     }
 }
 
-/// Writes what was found for a label.
-fn write_list<W: Write>(
-    session: &Session,
-    found: Result<Vec<usize>, KeepError>,
-    to: &mut Writing<W>,
-) -> Result<(), ScriptError>
-    ensures { (command : Command) → IfOk found (λ numbers. Finds session.now command numbers.items)
-        → (IsErrOf found keep.NoAssertion → Lacks session.now command)
-        → Answers W.contents command session.now session.now to.old to.new result }
-{
-    match write_found(session, found, to) {
-        Ok(_) => Ok(()),
-        Err(error) => Err(error),
-    }
-}
-
 /// Writes what is answered when a script asks for the axioms of the assertion with this label: the labels of the sound `$a`
 /// to which chains of citations lead from it. The answer says whether there is such an assertion; that there is none is
 /// written too.
@@ -210,10 +198,10 @@ pub fn write_axioms<W: Write>(
     label: &[u8],
     writing: &mut Writing<W>,
 ) -> Result<bool, ScriptError>
-    ensures answer { OnOk result ((answer : List ℕ) × IsAnswer session.now (Axioms label.now) answer session.now
+    ensures answer { OnOk result ((answer : List ℕ) × IsAnswer session.now (Ask Axioms label.now) answer session.now
         × Appends (written W.contents writing.old) (written W.contents writing.new) answer) }
     ensures there { IfOk result (λ there. IsTrue there ↔ HasAssertion session.now label.now) }
-    ensures write { IsErrOf result errors.Write → (answer : List ℕ) × IsAnswer session.now (Axioms label.now) answer session.now
+    ensures write { IsErrOf result errors.Write → (answer : List ℕ) × IsAnswer session.now (Ask Axioms label.now) answer session.now
         × AppendsPart (written W.contents writing.old) (written W.contents writing.new) answer }
     ensures write_failed { IsErrOf result errors.Write → has_failed writing.new ≡ true }
     ensures memory { IsErrOf result errors.Memory → writing.new ≡ writing.old }
@@ -260,11 +248,44 @@ fn write_verdict<W: Write>(
     label: &[u8],
     to: &mut Writing<W>,
 ) -> Result<(), WriteFailed>
-    ensures { WritesAnswer W.contents session.now (Verdict label.now) to.old to.new result }
+    ensures { WritesAnswer W.contents session.now (Ask Verdict label.now) to.old to.new result }
 {
     match session.verdict(label) {
         Ok(finding) => write_told(session.files(), label, &finding, to),
         Err(_) => to.write_all(b"refused K01\n"),
+    }
+}
+
+/// Writes what was found for a label.
+fn write_list<W: Write>(
+    session: &Session,
+    found: Result<Vec<usize>, KeepError>,
+    to: &mut Writing<W>,
+) -> Result<(), ScriptError>
+    ensures { (question : Question) (label : List ℕ) → IfOk found (λ numbers. Finds session.now question label numbers.items)
+        → (IsErrOf found keep.NoAssertion → ¬ HasAssertion session.now label)
+        → Answers W.contents (Ask question label) session.now session.now to.old to.new result }
+{
+    match write_found(session, found, to) {
+        Ok(_) => Ok(()),
+        Err(error) => Err(error),
+    }
+}
+
+/// Writes the answer to a question about the assertion with this label.
+fn answer_question<W: Write>(
+    session: &Session,
+    question: Question,
+    label: &[u8],
+    to: &mut Writing<W>,
+) -> Result<(), ScriptError>
+    ensures { Answers W.contents (Ask question label.now) session.now session.now to.old to.new result }
+{
+    match question {
+        Question::Verdict => Ok(write_verdict(session, label, to)?),
+        Question::Axioms => write_list(session, session.axioms(label), to),
+        Question::Cites => write_list(session, session.cites(label), to),
+        Question::Users => write_list(session, session.users(label), to),
     }
 }
 
@@ -370,15 +391,8 @@ fn ask<W: Write>(
         CommandAt::Change(edit) => answer_edit(session, &edit_of(bytes, edit), to),
         CommandAt::Batch(edits) => answer_batch(alloc, session, bytes, edits, to),
         CommandAt::Report => Ok(write_report(session, to)?),
-        CommandAt::Verdict(label) => Ok(write_verdict(session, bytes_of(bytes, *label), to)?),
-        CommandAt::Axioms(label) => {
-            write_list(session, session.axioms(bytes_of(bytes, *label)), to)
-        }
-        CommandAt::Cites(label) => {
-            write_list(session, session.cites(bytes_of(bytes, *label)), to)
-        }
-        CommandAt::Users(label) => {
-            write_list(session, session.users(bytes_of(bytes, *label)), to)
+        CommandAt::Ask(question, label) => {
+            answer_question(session, *question, bytes_of(bytes, *label), to)
         }
     }
 }

@@ -1,12 +1,11 @@
 -- Commands that are read, from their lines on.
-use Rattle.std.proofs.Common.{[], ◌≡◌, ◌⊎◌, ℕ, ◌+◌, Bool, true, false, List, ◌∷◌, ◌++◌, append_assoc, length, drop, refl, sym, ap, ◌∙◌, subst, arith, Option, inl, inr, length-drop}
+use Rattle.std.proofs.Common.{◌≡◌, ◌⊎◌, ℕ, ◌+◌, Bool, true, false, List, ◌∷◌, ◌++◌, append_assoc, length, drop, refl, sym, ap, ◌∙◌, subst, arith, Option, inl, inr, length-drop}
 use Rattle.std.{proofs.lemmas.{Grind.{common_steps}, List.Folds.{drop_split}}, specs.Io.KnownBytes.{IsAtEnd}}
 use Rattle.mm_script.proofs.{ScriptLemmas.{none_so_far}, StopLemmas.{text_no_entry, bad_line, bad_last, text_cut, text_line_cut, text_bad}, BatchLemmas.{always, at_end}}
-use Rattle.mm_script.{proofs.{BatchReadLemmas.{edits_counted}, EditLemmas.{shifted_is, unfed_line}}, specs.declared.command.{EditAt.{EditAt}, CommandAt.{CommandAt}, Complete.{Complete}}}
-use Rattle.mm_script.specs.{declared.{command.PendingRange.{PendingRange}, script_lines.LineAt.{LineAt}}, Code.Batches.{IsBatchRead}}
-use Rattle.mm_script.specs.Code.{Growing.{IsLineAt, IsTextBad, IsTextLine, IsTextShort, line_bytes}, Lines.{SaysLabel}, Stops.{IsBadLine}}
-use Rattle.mm_script.specs.Language.Commands.{bytes_of_part, AreEditsIn, IsCommandIn, IsNextCommand, IsWholeOrLast, IsPartWithin, StopsSo, HasNoEntry, rest_of_script}
-use Rattle.mm_script.specs.Language.Script.{CutShort, BadLine, Command, Batch, IsGood, IsName, EndsInLine, Listed, behind_line, edit_line, line_of}
+use Rattle.mm_script.{proofs.{BatchReadLemmas.{edits_counted}, EditLemmas.{unfed_line}}, specs.declared.command.{EditAt.{EditAt}, CommandAt.{CommandAt}, Complete.{Complete}}}
+use Rattle.mm_script.specs.{declared.script_lines.LineAt.{LineAt}, Code.{Batches.{IsBatchRead}, Growing.{IsLineAt, IsTextBad, IsTextLine, IsTextShort, line_bytes}, Lines.{IsAlone}, Stops.{IsBadLine}}}
+use Rattle.mm_script.specs.Language.Commands.{AreEditsIn, IsCommandIn, IsNextCommand, IsWholeOrLast, StopsSo, HasNoEntry, rest_of_script}
+use Rattle.mm_script.specs.Language.Script.{CutShort, BadLine, Command, Batch, Listed, edit_line}
 
 all_bytes : (bytes : List ℕ) (start : ℕ) → start ≡ 0 → bytes ≡ drop start bytes
 all_bytes bytes start none = sym (ap (λ (n : ℕ). drop n bytes) none)
@@ -45,30 +44,14 @@ held_edit bytes start none t = subst HasNoEntry (sym (all_bytes bytes start none
     (grind (arith, common_steps, none_so_far (edit_line t.edit ++ 10 ∷ t.part) (text_no_entry t.edit t.count t.part t.has t.short)) steps 200000)
 
 -- a command that is no more than its line
-pub line_next : (bytes : List ℕ) (left : Option (List ℕ)) (line : LineAt) (command : Command) (next : Complete CommandAt) (kind : CommandAt)
-    → IsLineAt bytes left line → line.start ≡ 0
-    → line_bytes bytes line ≡ line_of command → behind_line command ≡ [] → IsGood command → next.found ≡ kind → IsCommandIn bytes kind command
-    → EndsInLine command
-    → next.fed ≡ line.fed → (line.fed ≡ true → next.end ≡ line.end + 1) → (line.fed ≡ false → next.end ≡ line.end) → IsNextCommand bytes left next
-line_next bytes left line command next kind is start says none good found is_command in_line fed end unfed =
-    grind (arith, common_steps, by line.fed refl) steps 200000
+pub line_next : (bytes : List ℕ) (left : Option (List ℕ)) (line : LineAt) (found : CommandAt) (end : ℕ) → IsLineAt bytes left line → line.start ≡ 0 → IsAlone bytes line found
+    → (line.fed ≡ true → end ≡ line.end + 1) → (line.fed ≡ false → end ≡ line.end) → IsNextCommand bytes left record { found = found; end = end; fed = line.fed }
+line_next bytes left line found end is start alone fed unfed =
+    record { command = alone.command; good = alone.good; is_command = alone.is_command; whole = by line.fed refl }
   where
-    by : (b : Bool) → line.fed ≡ b → IsWholeOrLast bytes left next command
+    by : (b : Bool) → line.fed ≡ b → IsWholeOrLast bytes left record { found = found; end = end; fed = line.fed } alone.command
     by true e = grind (arith, common_steps, length-drop line.end bytes) steps 200000
     by false e = grind (arith, common_steps, is.unfed e, all_bytes bytes line.start start, unfed_line bytes left line is e, at_end) steps 200000
-
--- one with a label
-pub label_next : (bytes : List ℕ) (left : Option (List ℕ)) (line : LineAt) (label : PendingRange) (word : List ℕ) (make : List ℕ → Command) (next : Complete CommandAt)
-    (kind : CommandAt) → IsLineAt bytes left line → line.start ≡ 0
-    → SaysLabel (line_bytes bytes line) word label → ((name : List ℕ) → line_of (make name) ≡ word ++ 32 ∷ name) → ((name : List ℕ) → behind_line (make name) ≡ [])
-    → ((name : List ℕ) → IsName name → IsGood (make name)) → ((name : List ℕ) → EndsInLine (make name))
-    → next.found ≡ kind → (IsPartWithin bytes label → IsCommandIn bytes kind (make (bytes_of_part bytes label)))
-    → next.fed ≡ line.fed → (line.fed ≡ true → next.end ≡ line.end + 1) → (line.fed ≡ false → next.end ≡ line.end) → IsNextCommand bytes left next
-label_next bytes left line label word make next kind is start says line_is none good in_line found is_command fed end unfed =
-    let there = shifted_is bytes left line label label is says.good.within (record { start = omega arith; end = omega arith }) in
-    line_next bytes left line (make (bytes_of_part bytes label)) next kind is start (says.is ∙ ap (λ (xs : List ℕ). word ++ 32 ∷ xs) (sym there.0)
-    ∙ sym (line_is _)) (none _)
-    (good _ (subst IsName (sym there.0) says.good.name)) found (is_command there.1) (in_line _) fed end unfed
 
 -- a batch
 pub batch_next : (bytes : List ℕ) (left : Option (List ℕ)) (n : ℕ) (next : Complete CommandAt) (found : List EditAt) → IsBatchRead bytes left n found next.end next.fed → length found ≡ n

@@ -1,39 +1,49 @@
 -- Edits that are in the bytes of a script: their lines, and their texts.
-use Rattle.std.proofs.Common.{[], ◌≡◌, ℕ, ◌+◌, ◌-◌, ◌≤◌, false, List, ◌∷◌, ◌++◌, length, drop, replicate, sym, ap, ◌∙◌, subst, arith, ◌⊎◌, true, Option, Some, None, slice_range}
-use Rattle.std.proofs.lemmas.{Grind.{common_steps}, List.{append-nil, length-drop, length-take, length-replicate, drop-drop, drop-take, take-take, drop_all, Folds.{drop_split}}}
-use Rattle.std.specs.Io.KnownBytes.{IsAtEnd}
+use Rattle.std.proofs.Common.{[], ◌≡◌, ℕ, ◌+◌, ◌-◌, ◌≤◌, false, List, ◌∷◌, ◌++◌, length, length-append, drop, replicate, sym, ap, ◌∙◌, subst, arith, ◌⊎◌, true, Option, Some, None, IfSome}
+use Rattle.std.{proofs.lemmas.{Grind.{common_steps}, List.{append-nil, length-drop, length-take, length-replicate, drop_all, Folds.{drop_split}}}, specs.Io.KnownBytes.{IsAtEnd}}
 use Rattle.mm_text.specs.Language.Asked.{Asked, edited_text}
 use Rattle.mm_script.specs.declared.{command.{EditAt.{EditAt}, PendingRange.{PendingRange}}, input.Input.{Input}, script_lines.LineAt.{LineAt}}
-use Rattle.mm_script.specs.Code.{Growing.{InputGrows, IsEditRead, IsLineAt, IsOtherByte, IsTextBad, IsTextLine, IsTextShort, line_bytes}, Lines.{SaysEdit}, Stops.{HasTextOf}}
-use Rattle.mm_script.specs.Language.{Commands.{pending, bytes_of_part, edit_in, IsEditWithin, IsPartWithin}, Script.{IsGoodEdit, edit_bytes, edit_line, ended_text}}
-use Rattle.mm_script.proofs.GrowLemmas.{grown_long, part_grown, rest_grown}
-use Rattle.mm_text.specs.Language.Asked as ask
-use Rattle.mm_script.specs.declared.line.EditLine.TheVariants as lines
+use Rattle.mm_script.specs.Code.{Growing.{InputGrows, IsEditRead, IsLineAt, IsOtherByte, IsTextBad, IsTextLine, IsTextShort, line_bytes}, Lines.{IsLineOfEdit, SaysEdit, text_part}, Stops.{HasTextOf}}
+use Rattle.mm_script.{specs.Language.{Commands.{pending, bytes_of_part, edit_in, IsPartWithin}, Script.{edit_line}}, proofs.GrowLemmas.{part_grown, rest_grown}}
 
--- a line asks for an edit with a text of this many bytes
-pub record AsksText (line : List ℕ) (count : ℕ) (edit : List ℕ → Asked) : Type 0 where
-  pub line_is : (text : List ℕ) → length text ≡ count → edit_line (edit text) ≡ line
-  pub good : (text : List ℕ) → length text ≡ count → IsGoodEdit (edit text)
-  pub text_is : (text : List ℕ) → edited_text (edit text) ≡ Some text
+-- the text of an edit that has one, and of one that has none
+text_is : (bytes : List ℕ) (edit : EditAt) (text : PendingRange) → text_part edit ≡ Some text → edited_text (edit_in bytes edit) ≡ Some (bytes_of_part bytes text)
+text_is bytes edit text is = grind (arith, common_steps) steps 200000
 
-pub asks_insert : (line : List ℕ) (file : PendingRange) (at count : ℕ) → SaysEdit line (lines.Insert file at count) → AsksText line count (ask.Insert (bytes_of_part line file) at)
-asks_insert line file at count says = grind (arith, common_steps) steps 200000
+no_text : (bytes : List ℕ) (edit : EditAt) → text_part edit ≡ None → edited_text (edit_in bytes edit) ≡ None
+no_text bytes edit is = grind (arith, common_steps) steps 200000
 
-pub asks_replace : (line : List ℕ) (file : PendingRange) (at count : ℕ) → SaysEdit line (lines.Replace file at count) → AsksText line count (ask.Replace (bytes_of_part line file) at)
-asks_replace line file at count says = grind (arith, common_steps) steps 200000
+some_is : (P : PendingRange → Type 0) (found : Option PendingRange) (text : PendingRange) → found ≡ Some text → P text → IfSome found P
+some_is P found text is p = subst (λ (x : Option PendingRange). IfSome x P) (sym is) p
 
-abbrev pub feeds : ℕ → List ℕ
-feeds count = replicate count 10
+is_some : (P : PendingRange → Type 0) (found : Option PendingRange) (text : PendingRange) → found ≡ Some text → IfSome found P → P text
+is_some P found text is p = subst (λ (x : Option PendingRange). IfSome x P) is p
 
-pub has_text : (line : List ℕ) (count : ℕ) (edit : List ℕ → Asked) → AsksText line count edit → HasTextOf (edit (feeds count)) count
-has_text line count edit asks = grind (arith, common_steps, count_is count) steps 200000
-  where
-    count_is : (n : ℕ) → length (feeds n) ≡ n
-    count_is n = length-replicate n 10
+text_long : (bytes : List ℕ) (text : PendingRange) → text.end ≤ length bytes → length (bytes_of_part bytes text) ≡ text.end - text.start
+text_long bytes text within = omega (arith, length-take (text.end - text.start) (drop text.start bytes), length-drop text.start bytes, within)
 
-line_of_feeds : (line : List ℕ) (count : ℕ) (edit : List ℕ → Asked) → AsksText line count edit → line ≡ edit_line (edit (feeds count))
-unfolding has_text
-line_of_feeds line count edit asks = sym (asks.line_is (feeds count) (has_text line count edit asks).count_is)
+-- ---- the edit that a line asks for, whose text is not there yet
+
+module _ (bytes : List ℕ) (line : LineAt) (edit : EditAt) (text : PendingRange) (says : SaysEdit bytes line edit) (is : text_part edit ≡ Some text) where
+  -- an edit of this line, with some text
+  pub record OfThisLine : Type 0 where
+    pub asked : Asked
+    pub has : HasTextOf asked (text.end - text.start)
+    pub line_is : line_bytes bytes line ≡ edit_line asked
+
+  pub of_this_line : OfThisLine
+  of_this_line =
+      let more = replicate text.end 10 in
+      let within : text.end ≤ length (bytes ++ more) = omega (arith, length-append bytes more, length-replicate {A = ℕ} text.end 10) in
+      let so = says.is more (some_is _ (text_part edit) text is within) in
+      record {
+        asked = edit_in (bytes ++ more) edit;
+        has = record { good = so.good; text = bytes_of_part (bytes ++ more) text; is_text = text_is (bytes ++ more) edit text is; count_is = text_long (bytes ++ more) text within };
+        line_is = so.is;
+      }
+
+  pub text_begins : (text.start ≡ line.end + 1) × (text.start ≤ text.end)
+  text_begins = is_some _ (text_part edit) text is says.text
 
 -- a line that has its line feed, as the bytes grow
 pub fed_line : (a b : Input) (u v : Option (List ℕ)) (line : LineAt) → IsLineAt (pending a) u line → InputGrows a b u v → line.fed ≡ true
@@ -49,62 +59,36 @@ fed_line a b u v line is grows fed =
 pub unfed_line : (bytes : List ℕ) (left : Option (List ℕ)) (line : LineAt) → IsLineAt bytes left line → line.fed ≡ false → drop line.start bytes ≡ line_bytes bytes line
 unfed_line bytes left line is unfed = grind (arith, common_steps, append-nil, drop_all, drop_split) steps 200000
 
-pub text_line_last : (bytes : List ℕ) (left : Option (List ℕ)) (line : LineAt) (count : ℕ) (edit : List ℕ → Asked)
-    → AsksText (line_bytes bytes line) count edit → IsLineAt bytes left line → line.fed ≡ false
+pub text_line_last : (bytes : List ℕ) (left : Option (List ℕ)) (line : LineAt) (edit : EditAt) (text : PendingRange)
+    → SaysEdit bytes line edit → text_part edit ≡ Some text → IsLineAt bytes left line → line.fed ≡ false
     → IsAtEnd left × (IsTextShort (drop line.start bytes) ⊎ IsTextLine (drop line.start bytes))
-text_line_last bytes left line count edit asks is unfed = grind (arith, common_steps, has_text, line_of_feeds, unfed_line) steps 200000
+text_line_last bytes left line edit text says is at unfed =
+    grind (arith, common_steps, of_this_line bytes line edit text says is, unfed_line bytes left line at unfed, at.unfed unfed) steps 200000
 
--- a line whose text has a wrong end, or is not all there
-pub text_fails : (a b : Input) (u v : Option (List ℕ)) (line : LineAt) (count : ℕ) (edit : List ℕ → Asked) → AsksText (line_bytes (pending a) line) count edit
-    → IsLineAt (pending a) u line → InputGrows a b u v
-    → line.fed ≡ true
-    → (IsOtherByte (pending b) (line.end + 1) count → IsTextBad (drop line.start (pending b))) × (length (drop (line.end + 1) (pending b)) ≤ count →
-    IsTextShort (drop line.start (pending b)))
-text_fails a b u v line count edit asks is grows fed =
-    grind (arith, common_steps, has_text _ count edit asks, line_of_feeds _ count edit asks, fed_line a b u v line is grows fed) steps 200000
+-- a line whose text has a wrong end, or is not all there; or is there
+module _ (a b : Input) (u v : Option (List ℕ)) (line : LineAt) (edit : EditAt) (text : PendingRange) (says : SaysEdit (pending a) line edit)
+    (is : text_part edit ≡ Some text) (at : IsLineAt (pending a) u line) (grows : InputGrows a b u v) (fed : line.fed ≡ true) where
+  behind : drop (line.end + 1) (pending b) ≡ bytes_of_part (pending b) text ++ drop text.end (pending b)
+  behind =
+      let begins = text_begins (pending a) line edit text says is in
+      ap (λ (n : ℕ). drop n (pending b)) (sym begins.0) ∙ drop_split (pending b) text.start text.end begins.1
 
--- a part of a line is a part of the bytes
-pub part_of_line : (bytes : List ℕ) (start end i j : ℕ) → i ≤ j → j ≤ length (slice_range bytes start end) → slice_range bytes (start + i) (start + j) ≡ slice_range (slice_range bytes start end) i j
-part_of_line bytes start end i j low within =
-    let xs = drop start bytes in
-    let n = end - start in
-    let high : j ≤ n = omega (arith, length-take n xs) in
-    grind (arith, common_steps, drop-drop i start bytes, drop-take i (n - i) xs, take-take (j - i) (n - i) (drop i xs) (omega arith)) steps 200000
+  pub text_fails : (IsOtherByte (pending b) text.end → IsTextBad (drop line.start (pending b))) × (length (pending b) ≤ text.end → IsTextShort (drop line.start (pending b)))
+  text_fails = (
+    λ other. grind (arith, common_steps, of_this_line (pending a) line edit text says is, fed_line a b u v line at grows fed, behind, length-drop text.end (pending b), text_long (pending b) text) steps 200000,
+    λ short. grind (arith, common_steps, of_this_line (pending a) line edit text says is, text_begins (pending a) line edit text says is, fed_line a b u v line at grows fed, length-drop (line.end + 1) (pending b)) steps 200000,
+  )
 
--- the part of a line that is later by this count
-pub record IsShifted (part shifted : PendingRange) (by : ℕ) : Type 0 where
-  pub start : shifted.start ≡ by + part.start
-  pub end : shifted.end ≡ by + part.end
-
-pub shifted_is : (bytes : List ℕ) (left : Option (List ℕ)) (line : LineAt) (part shifted : PendingRange) → IsLineAt bytes left line → IsPartWithin (line_bytes bytes line) part → IsShifted part shifted line.start
-    → (bytes_of_part bytes shifted ≡ bytes_of_part (line_bytes bytes line) part) × IsPartWithin bytes shifted
-shifted_is bytes left line part shifted is within at = grind (arith, common_steps, length-drop, length-take, part_of_line) steps 200000
+  pub text_read : drop text.end (pending b) ≡ 10 ∷ drop (text.end + 1) (pending b) → IsEditRead (pending b) v line.start record { found = edit; end = text.end + 1; fed = true }
+  text_read feed =
+      let begins = text_begins (pending a) line edit text says is in
+      let within : text.end + 1 ≤ length (pending b) = omega (arith, ap length feed, length-drop text.end (pending b), length-drop (text.end + 1) (pending b)) in
+      let so = subst (λ (xs : List ℕ). IsLineOfEdit (line_bytes (pending a) line) xs edit) (sym grows.are)
+      (says.is grows.part (some_is _ (text_part edit) text is (omega (arith, within, ap length grows.are)))) in
+      grind (arith, common_steps, so, begins, within, fed_line a b u v line at grows fed, behind, text_is (pending b) edit text is, feed) steps 200000
 
 pub bytes_grown : (a b : Input) (u v : Option (List ℕ)) (part : PendingRange) → InputGrows a b u v → IsPartWithin (pending a) part → bytes_of_part (pending b) part ≡ bytes_of_part (pending a) part
 bytes_grown a b u v part grows within = part_grown a b u v part.start part.end grows within.ordered within.within
-
--- an edit whose text is read
-pub text_read : (a b : Input) (u v : Option (List ℕ)) (line : LineAt) (count : ℕ) (make : List ℕ → List ℕ → Asked) (part file text : PendingRange) (at : EditAt)
-    → AsksText (line_bytes (pending a) line) count (make (bytes_of_part (line_bytes (pending a) line) part)) → IsPartWithin (line_bytes (pending a) line) part
-    → IsShifted part file line.start
-    → IsLineAt (pending a) u line → InputGrows a b u v → line.fed ≡ true
-    → IsPartWithin (pending b) text → text.start ≡ line.end + 1 → text.end ≡ (line.end + 1) + count → drop text.end (pending b) ≡ 10 ∷ drop (text.end + 1) (pending b)
-    → edit_in (pending b) at ≡ make (bytes_of_part (pending b) file) (bytes_of_part (pending b) text)
-    → (IsPartWithin (pending b) file → IsEditWithin (pending b) at)
-    → IsEditRead (pending b) v line.start record { found = at; end = text.end + 1; fed = true }
-text_read a b u v line count make part file text at asks inside shifted is grows fed within start end feed same parts =
-    let there = shifted_is (pending a) u line part file is inside shifted in
-    let edit = make (bytes_of_part (line_bytes (pending a) line) part) in
-    let found : edit_in (pending b) at ≡ edit (bytes_of_part (pending b) text) = same ∙ ap (λ (xs : List ℕ). make xs (bytes_of_part (pending b) text))
-    (bytes_grown a b u v file grows there.1 ∙ there.0) in
-    let all_there = parts (grind (arith, common_steps, grown_long a b u v grows) steps 200000) in
-    let bytes = pending b in
-    let body = bytes_of_part bytes text in
-    let long : length body ≡ count = omega (arith, length-take (text.end - text.start) (drop text.start bytes), length-drop text.start bytes, within.within, start, end) in
-    let rest : drop (line.end + 1) bytes ≡ body ++ 10 ∷ drop (text.end + 1) bytes = ap (λ (n : ℕ). drop n bytes) (sym start) ∙ drop_split bytes text.start text.end within.ordered ∙ ap (λ (xs : List ℕ). body ++ xs) feed in
-    let whole : edit_bytes (edit body) ≡ line_bytes (pending a) line ++ 10 ∷ (body ++ 10 ∷ []) = ap (λ (xs : List ℕ). xs ++ 10 ∷ ended_text (edited_text (edit body))) (asks.line_is body long)
-    ∙ ap (λ (t : Option (List ℕ)). line_bytes (pending a) line ++ 10 ∷ ended_text t) (asks.text_is body) in
-    grind (arith, common_steps, fed_line a b u v line is grows fed, length-drop text.end bytes) steps 200000
 
 -- the beginning of what comes after a line
 pub behind_within : (bytes : List ℕ) (left : Option (List ℕ)) (line : LineAt) (end : ℕ) → IsLineAt bytes left line → (line.fed ≡ true → end ≡ line.end + 1) → (line.fed ≡ false → end ≡ line.end)
@@ -112,20 +96,10 @@ pub behind_within : (bytes : List ℕ) (left : Option (List ℕ)) (line : LineAt
 behind_within bytes left line end is fed unfed = grind (arith, common_steps, length-drop) steps 200000
 
 -- an edit without a text
-pub plain_read : (bytes : List ℕ) (left : Option (List ℕ)) (line : LineAt) (make : List ℕ → Asked) (part file : PendingRange) (at : EditAt) (end : ℕ)
-    → IsLineAt bytes left line
-    → line_bytes bytes line ≡ edit_line (make (bytes_of_part (line_bytes bytes line) part)) → IsGoodEdit (make (bytes_of_part (line_bytes bytes line) part))
-    → ((xs : List ℕ) → edited_text (make xs) ≡ None)
-    → IsPartWithin (line_bytes bytes line) part → IsShifted part file line.start → edit_in bytes at ≡ make (bytes_of_part bytes file)
-    → (IsPartWithin bytes file → IsEditWithin bytes at)
-    → (line.fed ≡ true → end ≡ line.end + 1) → (line.fed ≡ false → end ≡ line.end)
-    → IsEditRead bytes left line.start record { found = at; end = end; fed = line.fed }
-plain_read bytes left line make part file at end is says good none inside shifted same parts fed unfed =
-    let there = shifted_is bytes left line part file is inside shifted in
-    let all_there = parts there.1 in
-    let found : edit_in bytes at ≡ make (bytes_of_part (line_bytes bytes line) part) = same ∙ ap make there.0 in
-    let no_text : edited_text (edit_in bytes at) ≡ None = ap edited_text found ∙ none _ in
-    let is_good : IsGoodEdit (edit_in bytes at) = subst IsGoodEdit (sym found) good in
-    let is_line : line_bytes bytes line ≡ edit_line (edit_in bytes at) = says ∙ ap edit_line (sym found) in
-    let long = behind_within bytes left line end is fed unfed in
-    grind (arith, common_steps, drop_split, unfed_line) steps 500000
+pub plain_read : (bytes : List ℕ) (left : Option (List ℕ)) (line : LineAt) (edit : EditAt) (end : ℕ) → SaysEdit bytes line edit → text_part edit ≡ None → IsLineAt bytes left line
+    → (line.fed ≡ true → end ≡ line.end + 1) → (line.fed ≡ false → end ≡ line.end) → IsEditRead bytes left line.start record { found = edit; end = end; fed = line.fed }
+plain_read bytes left line edit end says is at fed unfed =
+    let so = subst (λ (xs : List ℕ). IsLineOfEdit (line_bytes bytes line) xs edit) (append-nil bytes)
+    (says.is [] (subst (λ (x : Option PendingRange). IfSome x (λ text. text.end ≤ length (bytes ++ []))) (sym is) tt)) in
+    let long = behind_within bytes left line end at fed unfed in
+    grind (arith, common_steps, so, long, no_text bytes edit is, drop_split, unfed_line) steps 500000

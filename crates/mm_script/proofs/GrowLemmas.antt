@@ -1,8 +1,8 @@
 -- Bytes that are read on keep what was in them.
 use Rattle.std.proofs.Common.{[], ◌≡◌, ◌≢◌, ℕ, zero, suc, ◌+◌, ◌-◌, ◌<◌, ◌≤◌, true, false, List, ◌∷◌, ◌++◌, append_assoc, length, length-append, take, drop, replicate, refl, sym, ap, ◌∙◌, subst}
 use Rattle.std.proofs.{Common.{arith, Option, ◌⊎◌, get_or, Result, Err, eq-eqb, ◌==◌, slice_index, slice_range}, lemmas.Grind.{common_steps}}
-use Rattle.std.proofs.lemmas.List.{append-nil, length-drop, take-append-le, drop-append-le, drop-drop, drop_more, length-take-le, take-append-drop, take_all, take_rest, Folds.{drop_split}}
-use Rattle.std.{proofs.{KnownBytes.{Consumes-nil}, Math.Seq.{take-add}}, specs.{Result.{IsErrAnd, IsErrOf}, Io.KnownBytes.{IsAtEnd}}}
+use Rattle.std.proofs.{lemmas.List.{append-nil, length-drop, take-append-le, drop-append-le, drop-drop, drop_more, take_all, take_rest, Folds.{drop_split}}, KnownBytes.{Consumes-nil}}
+use Rattle.std.{proofs.Math.Seq.{take-add}, specs.{Result.{IsErrAnd, IsErrOf}, Io.KnownBytes.{IsAtEnd}}}
 use Rattle.mm_script.specs.{declared.{script_lines.LineAt.{LineAt}, input.Input.{Input}, error.ScriptError.{ScriptError}}, Code.Growing.{InputGrows, HasBlanks, IsLineAt, IsOtherByte}}
 use Rattle.mm_script.specs.{Code.Stops.{IsOneLine}, Language.Commands.{pending, ReadsOn}}
 
@@ -59,14 +59,13 @@ pub last_line : (bytes : List ℕ) (left : Option (List ℕ)) (start count : ℕ
     → IsLineAt bytes left record { start = start; end = count; fed = false }
 last_line bytes left start count is within one at_end = grind (arith, common_steps, take_rest bytes start) steps 200000
 
--- another byte after this many
-pub other_byte : (bytes hay : List ℕ) (start count byte : ℕ) → hay ≡ drop start bytes → count < length hay → byte ≡ get_or hay count byte → byte ≢ 10 → IsOtherByte bytes start count
-other_byte bytes hay start count byte is some here other = grind (arith, common_steps, length-take-le count hay (omega arith), take-append-drop count hay, drop_more hay count byte some) steps 200000
+-- another byte here
+pub other_byte : (bytes hay : List ℕ) (at byte : ℕ) → hay ≡ bytes → at < length hay → byte ≡ get_or hay at byte → byte ≢ 10 → IsOtherByte bytes at
+other_byte bytes hay at byte is some here other = record { byte = byte; more = drop (at + 1) bytes; other = other; are = grind (arith, common_steps, drop_more hay at byte some) steps 200000 }
 
--- a line feed after this many bytes
-pub feed_behind : (bytes hay : List ℕ) (start count byte : ℕ) → hay ≡ drop start bytes → count < length hay → byte ≡ get_or hay count byte → byte ≡ 10
-    → drop (start + count) bytes ≡ 10 ∷ drop ((start + count) + 1) bytes
-feed_behind bytes hay start count byte is some here feed = grind (arith, common_steps, drop_more hay count byte some, drop-drop count start bytes, drop-drop (count + 1) start bytes) steps 200000
+-- a line feed here
+pub feed_here : (bytes hay : List ℕ) (at byte : ℕ) → hay ≡ bytes → at < length hay → byte ≡ get_or hay at byte → byte ≡ 10 → drop at bytes ≡ 10 ∷ drop (at + 1) bytes
+feed_here bytes hay at byte is some here feed = grind (arith, common_steps, drop_more hay at byte some) steps 200000
 
 feeds : (n : ℕ) (xs : List ℕ) → replicate n 10 ++ 10 ∷ xs ≡ replicate (suc n) 10 ++ xs
 feeds zero xs = refl

@@ -1,6 +1,5 @@
 pub mod JoinLemmas
 pub mod StopLemmas
-pub mod VerbLemmas
 pub mod SplitLemmas
 pub mod WordLemmas
 pub mod ScriptLemmas

@@ -3,11 +3,10 @@ use Rattle.std.{proofs.{Common.{◌≡◌, ◌≢◌, ℕ, zero, suc, ◌<◌, S
 use Rattle.std.specs.Io.{Buffered.{writer_buffer}, KnownBytes.{append_known}}
 use Rattle.mm_text.specs.Language.Asked.{Asked, Insert, Replace, Delete}
 use Rattle.mm_script.specs.{Code.Stops.{AreListed, HasTextOf, IsOneLine}, Language.Commands.{StopsSo}}
-use Rattle.mm_script.specs.Language.Script.{Command, Change, Batch, Report, Verdict, Axioms, Cites, Users, Blank, Given, End, CutShort, BadLine, AreRead, IsGood, IsGoodEdit, IsName, edit_line}
-use Rattle.mm_script.specs.Language.Script.{line_of}
+use Rattle.mm_script.specs.Language.Script.{Command, Change, Batch, Report, Ask, Blank, Given, End, CutShort, BadLine, AreRead, IsGood, IsGoodEdit, IsName, edit_line, line_of}
 use Rattle.mm_script.specs.Language.ScriptExamples.{ReadsText, ReadsBatch, ReadsLastEdit, CutsText, CutsFeed, CutsLine, CutsBatch, CutsBatchText, EndsInEdit, EndsAtLine, EndsAtText, WaitsForFeed}
 use Rattle.mm_script.specs.Language.{ScriptExamples.{HasTwoCommands, BoundWords, GrowsByTwo, TellsWriter}, ReadingLaws.{IsReadSo}}
-use Rattle.mm_script.proofs.JoinLemmas.{reading_behind, reading_done, reading_last, so_far_behind}
+use Rattle.mm_script.{specs.declared.command.Question.TheVariants.{Verdict, Axioms, Cites, Users}, proofs.JoinLemmas.{reading_behind, reading_done, reading_last, so_far_behind}}
 use Rattle.mm_script.proofs.StopLemmas.{bad_line, batch_bad_last, batch_cut, batch_text_cut, no_feed, text_bad, text_cut, text_line_cut}
 
 name_a : IsName (codes "a.mm")
@@ -32,7 +31,7 @@ stopped script end s = record { reading = s.reading; ends = s.ends }
 pub reads_text : ReadsText
 unfolding digits
 reads_text = record {
-  reading = reading_last _ (Given (Change (Replace (codes "d.mm") 7 (codes "$c a $.\n$c b $."))) ∷ Blank ∷ Given (Verdict (codes "t")) ∷ Given (Users (codes "a1")) ∷ Blank ∷ []) (codes "axioms t") (Axioms (codes "t"))
+  reading = reading_last _ (Given (Change (Replace (codes "d.mm") 7 (codes "$c a $.\n$c b $."))) ∷ Blank ∷ Given (Ask Verdict (codes "t")) ∷ Given (Ask Users (codes "a1")) ∷ Blank ∷ []) (codes "axioms t") (Ask Axioms (codes "t"))
       (record { good = ((name_d, omega arith, omega arith), (tt, (name_t, (name_a1, (tt, tt))))); joined = refl }) name_t tt refl;
   ends = refl;
 }
@@ -95,6 +94,7 @@ ends_in_edit = stopped (codes "batch 2\ndelete a.mm 0\ndel") BadLine (batch_bad_
 
 no_command : (c : Command) → IsGood c → codes "bogus" ≢ line_of c
 no_command (Change (Insert file at text)) g e = omega (arith, ap (λ (w : List ℕ). slice_index w 0) e)
+no_command (Ask Verdict label) g e = omega (arith, ap (λ (w : List ℕ). slice_index w 0) e)
 no_command (Batch edits) g e = omega (arith, ap (λ (w : List ℕ). slice_index w 1) e)
 no_command _ g e = omega (arith, ap (λ (w : List ℕ). slice_index w 0) e)
 
@@ -107,7 +107,7 @@ bogus = bad_line (codes "bogus") (codes "report\n") (record {
 
 pub ends_at_line : EndsAtLine
 ends_at_line = record {
-  reading = reading_behind (codes "verdict th\nbogus\nreport\n") (Given (Verdict (codes "th")) ∷ []) [] (codes "bogus\nreport\n") (codes "bogus\nreport\n") (record { good = (name_th, tt); joined = refl }) bogus.reading;
+  reading = reading_behind (codes "verdict th\nbogus\nreport\n") (Given (Ask Verdict (codes "th")) ∷ []) [] (codes "bogus\nreport\n") (codes "bogus\nreport\n") (record { good = (name_th, tt); joined = refl }) bogus.reading;
   ends = bogus.ends;
 }
 
@@ -126,7 +126,7 @@ pub waits_for_feed : WaitsForFeed
 waits_for_feed = record {
   so_far = so_far_behind (codes "report\n\ncites t") (Given Report ∷ Blank ∷ []) (codes "cites t") front_read (no_feed (codes "cites t") one_line);
   whole = record {
-    reading = reading_last (codes "report\n\ncites t") (Given Report ∷ Blank ∷ []) (codes "cites t") (Cites (codes "t")) front_read name_t tt refl;
+    reading = reading_last (codes "report\n\ncites t") (Given Report ∷ Blank ∷ []) (codes "cites t") (Ask Cites (codes "t")) front_read name_t tt refl;
     ends = refl;
   };
 }

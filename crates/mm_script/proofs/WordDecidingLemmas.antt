@@ -4,9 +4,9 @@ use Rattle.std.proofs.{lemmas.{Bool.{cases_lt, ne_eqb}, Fmt.{decimal_is_IsNumera
 use Rattle.std.{proofs.Math.{Decide.{map_dec, ℕ_discrete}, Bool.{Bool-discrete}}, specs.{List.{AllByRecursion, list_all, join_with_byte, slice_split}, Str.Parse.{digits_value}}}
 use mathlib.Core.List.{List-discrete}
 use Rattle.mm_text.specs.Language.Asked.{Asked, Insert, Replace, Delete, Move}
-use Rattle.mm_script.specs.Language.Script.{Command, Change, Batch, Report, Verdict, Axioms, Cites, Users, edit_line, edit_words, command_words, line_of, is_word_byte, IsName, IsNumber, IsGood}
-use Rattle.mm_script.{specs.Language.Script.{IsGoodEdit}, proofs.{SplitLemmas.{Lacks}, WordLemmas.{words_solid, has_first, small_number, HasFirst, lack_spaces}}}
-use Rattle.mm_script.proofs.ScriptBatchLemmas.{any_are_good, any_listed}
+use Rattle.mm_script.specs.declared.command.Question.{Question, TheVariants.{Verdict, Axioms, Cites, Users}}
+use Rattle.mm_script.specs.Language.Script.{Command, Change, Batch, Report, Ask, edit_line, edit_words, command_words, line_of, is_word_byte, IsName, IsNumber, IsGood, question_word, IsGoodEdit}
+use Rattle.mm_script.proofs.{SplitLemmas.{Lacks}, WordLemmas.{words_solid, has_first, small_number, HasFirst, lack_spaces}, ScriptBatchLemmas.{any_are_good, any_listed}}
 
 dec_and : {P Q : Type 0} → Dec P → Dec Q → Dec (P × Q)
 dec_and (yes p) (yes q) = yes (p, q)
@@ -166,36 +166,38 @@ edit_line_or_not line = ⊎_elim yes (λ n. no (λ e. no_edit_is (words_in line)
 record IsNoOther (words : List (List ℕ)) : Type 0 where
   batch : ¬ Batches words
   report : words ≢ codes "report" ∷ []
-  verdict : ¬ Asks (codes "verdict") words
-  axioms : ¬ Asks (codes "axioms") words
-  cites : ¬ Asks (codes "cites") words
-  users : ¬ Asks (codes "users") words
+  ask : (question : Question) → ¬ Asks (question_word question) words
 
 no_command_is : (words : List (List ℕ)) → IsNoEdit words → IsNoOther words → (c : Command) → IsGood c → command_words c ≡ words → ⊥
 no_command_is words n o (Change edit) g e = no_edit_is words n edit g e
 no_command_is words n o (Batch edits) g e = o.batch (record { count = length edits; small = g.0; is = sym e })
 no_command_is words n o Report g e = o.report (sym e)
-no_command_is words n o (Verdict l) g e = o.verdict (record { label = l; name = g; is = sym e })
-no_command_is words n o (Axioms l) g e = o.axioms (record { label = l; name = g; is = sym e })
-no_command_is words n o (Cites l) g e = o.cites (record { label = l; name = g; is = sym e })
-no_command_is words n o (Users l) g e = o.users (record { label = l; name = g; is = sym e })
+no_command_is words n o (Ask q l) g e = o.ask q (record { label = l; name = g; is = sym e })
 
 command_by_words : (line : List ℕ) (c : Command) → IsGood c → words_in line ≡ command_words c → IsCommandLine line
 command_by_words line c g k = record { command = c; good = g; is = sym (joined line) ∙ ap (λ (x : List (List ℕ)). join_with_byte 32 x) k }
 
+-- the words are one of the questions, or none
+asked_or_not : (words : List (List ℕ)) → Dec ((question : Question) × Asks (question_word question) words)
+asked_or_not words = by (asks_or_not (codes "verdict") _) (asks_or_not (codes "axioms") _) (asks_or_not (codes "cites") _) (asks_or_not (codes "users") _)
+  where
+    by : Dec (Asks (codes "verdict") words) → Dec (Asks (codes "axioms") words) → Dec (Asks (codes "cites") words) → Dec (Asks (codes "users") words)
+        → Dec ((question : Question) × Asks (question_word question) words)
+    by (yes a) _ _ _ = yes (Verdict, a)
+    by _ (yes a) _ _ = yes (Axioms, a)
+    by _ _ (yes a) _ = yes (Cites, a)
+    by _ _ _ (yes a) = yes (Users, a)
+    by (no v) (no a) (no c) (no u) = no (λ asked. grind (arith, common_steps) steps 200000)
+
 pub command_line_or_not : (line : List ℕ) → Dec (IsCommandLine line)
 command_line_or_not line = ⊎_elim (λ e. yes (record { command = Change e.edit; good = e.good; is = e.is })) (λ n. by n (batches_or_not _)
-    (List-discrete same_bytes _ _) (asks_or_not (codes "verdict") _) (asks_or_not (codes "axioms") _) (asks_or_not (codes "cites") _)
-    (asks_or_not (codes "users") _)) (edit_words_are line)
+    (List-discrete same_bytes _ _) (asked_or_not _)) (edit_words_are line)
   where
-    by : IsNoEdit (words_in line) → Dec (Batches (words_in line)) → Dec (words_in line ≡ codes "report" ∷ []) → Dec (Asks (codes "verdict") (words_in line))
-        → Dec (Asks (codes "axioms") (words_in line)) → Dec (Asks (codes "cites") (words_in line)) → Dec (Asks (codes "users") (words_in line)) → Dec (IsCommandLine line)
-    by n (yes b) _ _ _ _ _ = yes (command_by_words line (Batch (replicate b.count any_listed)) (subst IsNumber (sym (length-replicate b.count any_listed)) b.small, any_are_good b.count)
+    by : IsNoEdit (words_in line) → Dec (Batches (words_in line)) → Dec (words_in line ≡ codes "report" ∷ [])
+        → Dec ((question : Question) × Asks (question_word question) (words_in line)) → Dec (IsCommandLine line)
+    by n (yes b) _ _ = yes (command_by_words line (Batch (replicate b.count any_listed)) (subst IsNumber (sym (length-replicate b.count any_listed)) b.small, any_are_good b.count)
         (b.is ∙ ap (λ (k : ℕ). codes "batch" ∷ decimal k ∷ []) (sym (length-replicate b.count any_listed))))
-    by n (no b) (yes e) _ _ _ _ = yes (command_by_words line Report tt e)
-    by n (no b) (no r) (yes a) _ _ _ = yes (command_by_words line (Verdict a.label) a.name a.is)
-    by n (no b) (no r) (no v) (yes a) _ _ = yes (command_by_words line (Axioms a.label) a.name a.is)
-    by n (no b) (no r) (no v) (no x) (yes a) _ = yes (command_by_words line (Cites a.label) a.name a.is)
-    by n (no b) (no r) (no v) (no x) (no c) (yes a) = yes (command_by_words line (Users a.label) a.name a.is)
-    by n (no b) (no r) (no v) (no x) (no c) (no u) =
-        no (λ (k : IsCommandLine line). no_command_is _ n (record { batch = b; report = r; verdict = v; axioms = x; cites = c; users = u }) k.command k.good (words_are k.command k.good line k.is))
+    by n (no b) (yes e) _ = yes (command_by_words line Report tt e)
+    by n (no b) (no r) (yes a) = yes (command_by_words line (Ask a.0 a.1.label) a.1.name a.1.is)
+    by n (no b) (no r) (no a) =
+        no (λ (k : IsCommandLine line). no_command_is _ n (record { batch = b; report = r; ask = λ q h. a (q, h) }) k.command k.good (words_are k.command k.good line k.is))

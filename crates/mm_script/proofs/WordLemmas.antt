@@ -3,7 +3,8 @@ use Rattle.std.proofs.Common.{[], ◌≡◌, ◌≢◌, ◌⊎◌, ℕ, zero, su
 use Rattle.std.{proofs.lemmas.{Grind.{common_steps}, List.{append-nil}, Fmt.{decimal_by_steps, decimal_injective}, Bool.{and_from, and_parts}}, specs.Prelude.{decimal, slice_index, slice_index_or}}
 use Rattle.std.specs.List.{AllByRecursion, flat_map, list_all, join_with_byte}
 use Rattle.mm_text.specs.Language.Asked.{Asked, Insert, edited_text}
-use Rattle.mm_script.specs.Language.Script.{Listed, Command, Change, Report, Verdict, Axioms, Cites, Users, Batch, edit_line, listed_bytes, edit_words, command_words, line_of, ended_text, behind_line}
+use Rattle.mm_script.specs.declared.command.Question.{Question}
+use Rattle.mm_script.specs.Language.Script.{Listed, Command, Change, Report, Ask, Batch, edit_line, listed_bytes, edit_words, command_words, line_of, ended_text, behind_line, question_word}
 use Rattle.mm_script.specs.{Language.Script.{is_word_byte, IsNumber, IsGoodEdit, IsGood}, Code.Stops.{AreGoodEdits}}
 use Rattle.mm_script.proofs.SplitLemmas.{Lacks, split_at, same_words, join_lacks, solid_space, solid_feed}
 
@@ -131,14 +132,22 @@ edits_begin (x ∷ xs) (y ∷ ys) s t g h l e =
 same_edits : (xs ys : List Listed) (s t : List ℕ) → AreGoodEdits xs → AreGoodEdits ys → length xs ≡ length ys → flat_map listed_bytes xs ++ s ≡ flat_map listed_bytes ys ++ t → (xs ≡ ys) × (s ≡ t)
 same_edits xs ys s t g h l e = grind (arith, common_steps, append-nil, edits_begin xs ys s t g h (omega arith) e, length-append) steps 200000
 
+question_tag : (q : Question) (l : List ℕ) → let t = tag (question_word q ∷ l ∷ []) in (t ≡ 118100) ⊎ ((t ≡ 97111) ⊎ ((t ≡ 99101) ⊎ (t ≡ 117114)))
+question_tag q l = grind (arith, common_steps) steps 200000
+
+-- a question is known from its word
+pub same_question : (q r : Question) → question_word q ≡ question_word r → q ≡ r
+same_question q r e = grind (arith, common_steps) steps 200000
+
 pub same_command : (c d : Command) (s t : List ℕ) → IsGood c → IsGood d → command_words c ≡ command_words d → behind_line c ++ s ≡ behind_line d ++ t → (c ≡ d) × (s ≡ t)
 same_command (Batch xs) (Batch ys) s t g h e k = grind (arith, common_steps, decimal_injective, same_edits, small_number) steps 200000
 same_command Report Report s t g h e k = (refl, k)
-same_command (Verdict l) (Verdict m) s t g h e k = (cc, k)
-same_command (Axioms l) (Axioms m) s t g h e k = (cc, k)
-same_command (Cites l) (Cites m) s t g h e k = (cc, k)
-same_command (Users l) (Users m) s t g h e k = (cc, k)
+same_command (Ask q l) (Ask r m) s t g h e k = (grind (arith, common_steps, same_question q r) steps 200000, k)
 same_command (Change e) (Change f) s t g h w k = let both = same_edit e f s t g h w k in (ap Change both.0, both.1)
+same_command (Change f) (Ask q l) s t g h e k = absurd (omega (arith, edit_tag f, question_tag q l, ap tag e))
+same_command (Ask q l) (Change f) s t g h e k = absurd (omega (arith, edit_tag f, question_tag q l, ap tag e))
 same_command (Change f) _ s t g h e k = absurd (omega (arith, edit_tag f, ap tag e))
 same_command _ (Change f) s t g h e k = absurd (omega (arith, edit_tag f, ap tag e))
+same_command (Ask q l) _ s t g h e k = absurd (omega (arith, question_tag q l, ap tag e))
+same_command _ (Ask q l) s t g h e k = absurd (omega (arith, question_tag q l, ap tag e))
 same_command _ _ s t g h e k = absurd (omega (arith, ap tag e))

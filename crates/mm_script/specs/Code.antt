@@ -1,5 +1,5 @@
 -- What the code keeps: private contracts and loop invariants cite it.
 pub mod Stops
-pub mod Lines
 pub mod Growing
+pub mod Lines
 pub mod Batches

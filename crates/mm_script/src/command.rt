@@ -56,6 +56,19 @@ pub enum EditAt {
     },
 }
 
+/// What may be asked of the assertion with a label.
+#[derive(Clone, Copy)]
+pub enum Question {
+    /// Its verdict.
+    Verdict,
+    /// Its axioms.
+    Axioms,
+    /// The assertions that it cites.
+    Cites,
+    /// The theorems that cite it.
+    Users,
+}
+
 /// A command, with its names, texts and labels as ranges of the pending bytes.
 #[derive(Drop)]
 pub enum CommandAt {
@@ -65,14 +78,8 @@ pub enum CommandAt {
     Batch(Vec<EditAt>),
     /// The report is asked for.
     Report,
-    /// The verdict of the assertion with this label is asked for.
-    Verdict(PendingRange),
-    /// The axioms of the assertion with this label are asked for.
-    Axioms(PendingRange),
-    /// The assertions that the assertion with this label cites are asked for.
-    Cites(PendingRange),
-    /// The theorems that cite the assertion with this label are asked for.
-    Users(PendingRange),
+    /// This is asked of the assertion with this label.
+    Ask(Question, PendingRange),
 }
 
 /// A command, or an edit, that is complete in the pending bytes, and where it ends.

@@ -1,12 +1,12 @@
 //! Reading the edits of a script: the line of each, and its text.
 
-ghost use Rattle.std.specs.Prelude.{◌≡◌, ◌≢◌, ◌≤◌, ◌<◌, ◌+◌, ◌^◌, ◌⊎◌, ◌++◌, true, false, drop, length, Err, IfOk, IsErrOf, OnOk};
+ghost use Rattle.std.specs.Prelude.{◌≡◌, ◌≢◌, ◌≤◌, ◌<◌, ◌+◌, ◌⊎◌, true, false, drop, length, Err, IfOk, IsErrOf, OnOk};
 ghost use Rattle.std.specs.Io.KnownBytes.{IsAtEnd};
 ghost use Rattle.mm_script.specs.declared.error.ScriptError.TheVariants as errors;
 ghost use Rattle.mm_script.specs.Code.Batches.{EndsBatch, HoldsBatch, IsBatchRead, IsListedRead};
 ghost use Rattle.mm_script.specs.Code.Growing.{InputGrows, IsEditRead, IsLineAt, IsTextBad, IsTextLine, IsTextShort, line_bytes};
 ghost use Rattle.mm_script.specs.Language.Commands.{to_come, pending, HasNoEntry, StopsSo, rest_of_script};
-ghost use Rattle.mm_script.specs.Code.Lines.{SaysEdit};
+ghost use Rattle.mm_script.specs.Code.Lines.{SaysEdit, text_part};
 ghost use Rattle.mm_script.specs.Code.Stops.{batch_line};
 ghost use Rattle.mm_script.specs.Language.Script.{BadLine, CutShort, IsNumber};
 ghost use Rattle.mm_script.specs.Language.Stream.{cannot_read, unread};
@@ -14,33 +14,31 @@ ghost use Rattle.mm_script.specs.Language.Stream.{cannot_read, unread};
 use crate::command::{Complete, EditAt, PendingRange};
 use crate::error::ScriptError;
 use crate::input::Input;
-use crate::line::{EditLine, edit_asked};
+use crate::line::edit_asked;
 use crate::read_stream::Reading;
 use crate::script_lines::{LineAt, read_some_line, read_text};
 use std::alloc::Global;
 use std::io::Read;
 
-/// The part that begins later by this count.
-fn shifted(part: PendingRange, by: usize) -> PendingRange
-    requires { (part.end + by < 2 ^ 64) × (part.start ≤ part.end) }
-    ensures start { result.start ≡ by + part.start }
-    ensures end { result.end ≡ by + part.end }
+/// Where the text of an edit is; none if it has none.
+fn text_of(edit: EditAt) -> Option<PendingRange>
+    ensures { result ≡ text_part edit }
 {
-    PendingRange {
-        start: by + part.start,
-        end: by + part.end,
+    match edit {
+        EditAt::Insert { text, .. } | EditAt::Replace { text, .. } => Some(text),
+        EditAt::Delete { .. } | EditAt::Move { .. } => None,
     }
 }
 
-/// Reads on until the edit is complete that a line asks for.
+/// Reads on until the edit is complete that a line asks for: until its text is there.
 pub(crate) fn read_edit<R: Read>(
     input: &mut Input,
     reading: &mut Reading<R>,
-    asked: EditLine,
+    edit: EditAt,
     line: LineAt,
 ) -> Result<Complete<EditAt>, ScriptError>
     requires line { IsLineAt (pending input.old) (unread R.remaining reading.old) line }
-    requires says { SaysEdit (line_bytes (pending input.old) line) asked }
+    requires says { SaysEdit (pending input.old) line edit }
     ensures grows { InputGrows input.old input.new (unread R.remaining reading.old) (unread R.remaining reading.new) }
     ensures edit { IfOk result (IsEditRead (pending input.new) (unread R.remaining reading.new) line.start) }
     ensures fewer { OnOk result (to_come input.new reading.new ≤ to_come input.old reading.old) }
@@ -51,49 +49,22 @@ pub(crate) fn read_edit<R: Read>(
     ensures failed { IsErrOf result errors.Read → cannot_read reading.new ≡ true }
     ensures told { result ≢ Err errors.Write }
 {
-    match asked {
-        EditLine::Insert { file, at, count } => {
-            let file = shifted(file, line.start);
-            if !line.fed {
-                return Err(ScriptError::Cut);
-            }
-            let text = read_text(input, reading, line.end + 1, count)?;
-            Ok(Complete {
-                found: EditAt::Insert { file, at, text },
-                end: text.end + 1,
-                fed: true,
-            })
-        }
-        EditLine::Replace { file, at, count } => {
-            let file = shifted(file, line.start);
-            if !line.fed {
-                return Err(ScriptError::Cut);
-            }
-            let text = read_text(input, reading, line.end + 1, count)?;
-            Ok(Complete {
-                found: EditAt::Replace { file, at, text },
-                end: text.end + 1,
-                fed: true,
-            })
-        }
-        EditLine::Delete { file, at } => Ok(Complete {
-            found: EditAt::Delete {
-                file: shifted(file, line.start),
-                at,
-            },
+    let Some(text) = text_of(edit) else {
+        return Ok(Complete {
+            found: edit,
             end: line.behind(),
             fed: line.fed,
-        }),
-        EditLine::Move { file, at, to } => Ok(Complete {
-            found: EditAt::Move {
-                file: shifted(file, line.start),
-                at,
-                to,
-            },
-            end: line.behind(),
-            fed: line.fed,
-        }),
+        });
+    };
+    if !line.fed {
+        return Err(ScriptError::Cut);
     }
+    read_text(input, reading, text.end)?;
+    Ok(Complete {
+        found: edit,
+        end: text.end + 1,
+        fed: true,
+    })
 }
 
 /// Reads on until the next edit of a batch is complete, from `from` on, with this many missing.
@@ -120,10 +91,10 @@ fn read_listed<R: Read>(
     if line.start == line.end {
         return Err(ScriptError::Cut);
     }
-    let Some(asked) = edit_asked(&input.pending()[line.start..line.end]) else {
+    let Some(edit) = edit_asked(input.pending(), line) else {
         return Err(ScriptError::BadLine);
     };
-    let read = read_edit(input, reading, asked, line)?;
+    let read = read_edit(input, reading, edit, line)?;
     if !read.fed && missing > 1 {
         return Err(ScriptError::Cut);
     }

@@ -1,6 +1,6 @@
 //! The commands of a script, read until each is complete.
 
-ghost use Rattle.std.specs.Prelude.{◌≡◌, ◌≢◌, ◌<◌, ◌≤◌, ◌+◌, ◌^◌, ◌⊎◌, ◌++◌, [], true, false, Err, None, IfOk, IfSome, IsErrOf, OnErr, OnOk};
+ghost use Rattle.std.specs.Prelude.{◌≡◌, ◌≢◌, ◌<◌, ◌≤◌, ◌⊎◌, [], true, Err, None, IfOk, IfSome, IsErrOf, OnErr, OnOk};
 ghost use Rattle.std.specs.Io.KnownBytes.{IsAtEnd};
 ghost use Rattle.mm_script.specs.declared.error.ScriptError.TheVariants as errors;
 ghost use Rattle.mm_script.specs.Language.Commands.{pending, rest_of_script, to_come};
@@ -10,7 +10,7 @@ ghost use Rattle.mm_script.specs.Code.Stops.{IsOneLine};
 ghost use Rattle.mm_script.specs.Language.Script.{CutShort, BadLine};
 ghost use Rattle.mm_script.specs.Language.Stream.{cannot_read, unread};
 
-use crate::command::{CommandAt, Complete, PendingRange};
+use crate::command::{CommandAt, Complete};
 use crate::edits::{read_batch, read_edit};
 use crate::error::ScriptError;
 use crate::input::Input;
@@ -41,21 +41,6 @@ fn first_line<R: Read>(input: &mut Input, reading: &mut Reading<R>) -> Result<Li
     }
 }
 
-/// A command that is no more than its line.
-fn of_line(command: CommandAt, line: LineAt) -> Complete<CommandAt>
-    requires { line.end + 1 < 2 ^ 64 }
-    ensures command { result.found ≡ command }
-    ensures fed { result.fed ≡ line.fed }
-    ensures end { line.fed ≡ true → result.end ≡ line.end + 1 }
-    ensures unfed { line.fed ≡ false → result.end ≡ line.end }
-{
-    Complete {
-        found: command,
-        end: line.behind(),
-        fed: line.fed,
-    }
-}
-
 /// Reads on until the command is complete whose line this is.
 fn read_command<R: Read>(
     alloc: Global,
@@ -75,7 +60,7 @@ fn read_command<R: Read>(
     ensures failed { IsErrOf result errors.Read → cannot_read reading.new ≡ true }
     ensures told { result ≢ Err errors.Write }
 {
-    let Some(asked) = command_asked(&input.pending()[line.start..line.end]) else {
+    let Some(asked) = command_asked(input.pending(), line) else {
         return Err(ScriptError::BadLine);
     };
     match asked {
@@ -95,11 +80,11 @@ fn read_command<R: Read>(
                 fed: read.fed,
             })
         }
-        CommandLine::Report => Ok(of_line(CommandAt::Report, line)),
-        CommandLine::Verdict(label) => Ok(of_line(CommandAt::Verdict(label), line)),
-        CommandLine::Axioms(label) => Ok(of_line(CommandAt::Axioms(label), line)),
-        CommandLine::Cites(label) => Ok(of_line(CommandAt::Cites(label), line)),
-        CommandLine::Users(label) => Ok(of_line(CommandAt::Users(label), line)),
+        CommandLine::Alone(command) => Ok(Complete {
+            found: command,
+            end: line.behind(),
+            fed: line.fed,
+        }),
     }
 }
 

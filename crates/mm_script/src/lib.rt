@@ -12,7 +12,7 @@ mod read_stream;
 mod script_lines;
 mod stream;
 
-pub use command::{CommandAt, Complete, EditAt, PendingRange, bytes_of, edit_of};
+pub use command::{CommandAt, Complete, EditAt, PendingRange, Question, bytes_of, edit_of};
 pub use entry::next_command;
 pub use error::ScriptError;
 pub use input::Input;

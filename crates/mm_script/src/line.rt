@@ -1,69 +1,28 @@
 //! What a line of a script asks for.
 
-ghost use Rattle.std.specs.Prelude.{◌≡◌, ◌≢◌, ◌≤◌, ◌+◌, ◌++◌, ◌∷◌, true, false, None, decimal, drop, length, IfSome, List, ℕ};
+ghost use Rattle.std.specs.Prelude.{◌≡◌, ◌≢◌, ◌<◌, ◌^◌, ◌++◌, ◌∷◌, true, false, None, decimal, length, IfSome, List, Option, ℕ};
 ghost use Rattle.mm_text.specs.Language.Asked.{Asked};
-ghost use Rattle.mm_script.specs.declared.line.Verb.{Verb};
-ghost use Rattle.mm_script.specs.Code.Lines.{BeginsWithVerb, CutsAt, HasNoSpace, IsFileAnd, IsFileAndTwo, IsNameIn, SaysEdit, SaysLine, verb_word};
-ghost use Rattle.mm_script.specs.Language.Commands.{bytes_of_part};
+ghost use Rattle.mm_script.specs.declared.command.Question.{Question};
+ghost use Rattle.mm_script.specs.Code.Growing.{IsLineAt, line_bytes};
+ghost use Rattle.mm_script.specs.Code.Lines.{AreNumbers, CutsAt, CutsName, HasNoSpace, SaysEdit, SaysLine};
 ghost use Rattle.mm_script.specs.Code.Stops.{IsOneLine};
-ghost use Rattle.mm_script.specs.Language.Script.{Command, IsGood, IsGoodEdit, IsName, IsNumber, edit_line, line_of};
+ghost use Rattle.mm_script.specs.Language.Script.{Command, IsGood, IsGoodEdit, IsName, IsNumber, edit_line, line_of, question_word};
 
-use crate::command::PendingRange;
+use crate::command::{CommandAt, EditAt, PendingRange, Question};
+use crate::script_lines::LineAt;
 use itoa::Buffer;
 use memchr::memchr;
 use std::str;
 
-/// An edit that a line asks for. The part of the line is the name of the file.
-#[derive(Clone, Copy)]
-pub(crate) enum EditLine {
-    /// A text of this many bytes comes after the line.
-    Insert {
-        file: PendingRange,
-        at: usize,
-        count: usize,
-    },
-    /// The same holds here.
-    Replace {
-        file: PendingRange,
-        at: usize,
-        count: usize,
-    },
-    Delete {
-        file: PendingRange,
-        at: usize,
-    },
-    Move {
-        file: PendingRange,
-        at: usize,
-        to: usize,
-    },
-}
-
-/// What a line asks for. The parts of the line are labels.
-#[derive(Clone, Copy)]
+/// What a line asks for.
+#[derive(Drop)]
 pub(crate) enum CommandLine {
-    Change(EditLine),
+    /// An edit. Its text, if it has one, is where it has to be: after the line.
+    Change(EditAt),
     /// This many edits come after the line.
     Batch(usize),
-    Report,
-    Verdict(PendingRange),
-    Axioms(PendingRange),
-    Cites(PendingRange),
-    Users(PendingRange),
-}
-
-/// The first word of a line that has more words than one.
-#[derive(Clone, Copy)]
-pub(crate) enum Verb {
-    Insert,
-    Replace,
-    Delete,
-    Move,
-    Batch,
-    Verdict,
-    Axioms,
-    Cites,
-    Users,
+    /// A command that is no more than the line.
+    Alone(CommandAt),
 }
 
 /// What comes before the first space, and what after it.
@@ -95,32 +54,26 @@ fn number(word: &[u8]) -> Option<usize>
     }
 }
 
-/// How many bytes the name of a file has, and the number after it.
-fn file_and_number(bytes: &[u8]) -> Option<(usize, usize)>
-    requires { IsOneLine bytes.now }
-    ensures some { IfSome result (λ found. IsFileAnd bytes.now found.0 found.1) }
-    ensures none { result ≡ None → (name : List ℕ) (n : ℕ) → IsName name → IsNumber n → bytes.now ≢ name ++ 32 ∷ decimal n }
+/// The two numbers that are written like this, with a space between them.
+fn two_numbers(bytes: &[u8]) -> Option<(usize, usize)>
+    ensures some { IfSome result (λ both. AreNumbers bytes.now both.0 both.1) }
+    ensures none { result ≡ None → (n m : ℕ) → IsNumber n → IsNumber m → bytes.now ≢ decimal n ++ 32 ∷ decimal m }
 {
-    let (name, rest) = cut_at_space(bytes)?;
-    if name.is_empty() {
-        return None;
-    }
-    Some((name.len(), number(rest)?))
+    let (first, second) = cut_at_space(bytes)?;
+    Some((number(first)?, number(second)?))
 }
 
-/// How many bytes the name of a file has, and the two numbers after it.
-fn file_and_numbers(bytes: &[u8]) -> Option<(usize, usize, usize)>
+/// The name of a file, and what comes after the space behind it.
+fn name_and_rest(bytes: &[u8]) -> Option<(&[u8], &[u8])>
     requires { IsOneLine bytes.now }
-    ensures some { IfSome result (λ found. IsFileAndTwo bytes.now found.0 found.1 found.2) }
-    ensures none { result ≡ None → (name : List ℕ) (n m : ℕ) → IsName name → IsNumber n → IsNumber m
-        → bytes.now ≢ name ++ 32 ∷ (decimal n ++ 32 ∷ decimal m) }
+    ensures some { IfSome result (λ cut. CutsName bytes.now cut.0.now cut.1.now) }
+    ensures none { result ≡ None → (name tail : List ℕ) → IsName name → bytes.now ≢ name ++ 32 ∷ tail }
 {
     let (name, rest) = cut_at_space(bytes)?;
     if name.is_empty() {
         return None;
     }
-    let (first, second) = cut_at_space(rest)?;
-    Some((name.len(), number(first)?, number(second)?))
+    Some((name, rest))
 }
 
 /// Whether this is a label or the name of a file: some bytes, without a space.
@@ -132,142 +85,84 @@ fn is_name(word: &[u8]) -> bool
     !word.is_empty() && cut_at_space(word).is_none()
 }
 
-/// The word as it is written.
-fn written(verb: Verb) -> &'static [u8]
-    ensures { result.now ≡ verb_word verb }
-{
-    match verb {
-        Verb::Insert => b"insert",
-        Verb::Replace => b"replace",
-        Verb::Delete => b"delete",
-        Verb::Move => b"move",
-        Verb::Batch => b"batch",
-        Verb::Verdict => b"verdict",
-        Verb::Axioms => b"axioms",
-        Verb::Cites => b"cites",
-        Verb::Users => b"users",
-    }
-}
-
-/// The first word of a line that has more words.
-fn verb_of(word: &[u8]) -> Option<Verb>
-    ensures some { IfSome result (λ verb. word.now ≡ verb_word verb) }
-    ensures none { result ≡ None → (verb : Verb) → word.now ≢ verb_word verb }
-{
-    for verb in [
-        Verb::Insert,
-        Verb::Replace,
-        Verb::Delete,
-        Verb::Move,
-        Verb::Batch,
-        Verb::Verdict,
-        Verb::Axioms,
-        Verb::Cites,
-        Verb::Users,
-    ] {
-        if word == written(verb) {
-            return Some(verb);
-        }
-    }
-    None
-}
-
-/// The name after the first word of a line, of this many bytes.
-fn name_part(line: &[u8], from: usize, count: usize) -> PendingRange
-    requires { (from ≤ length line.now) × (count ≤ length (drop from line.now)) }
-    ensures start { result.start ≡ from }
-    ensures end { result.end ≡ from + count }
-{
-    PendingRange {
-        start: from,
-        end: from + count,
-    }
-}
-
-/// The edit that a line with this first word asks for, which goes on from `from` on.
-fn edit_with(verb: Verb, line: &[u8], from: usize) -> Option<EditLine>
-    requires begins { BeginsWithVerb line.now verb from }
-    requires one_line { IsOneLine line.now }
-    ensures some { IfSome result (SaysEdit line.now) }
-    ensures none { result ≡ None → (edit : Asked) → IsGoodEdit edit → line.now ≢ edit_line edit }
-{
-    let rest = &line[from..];
-    match verb {
-        Verb::Insert => {
-            let (name, at, count) = file_and_numbers(rest)?;
-            let file = name_part(line, from, name);
-            Some(EditLine::Insert { file, at, count })
-        }
-        Verb::Replace => {
-            let (name, at, count) = file_and_numbers(rest)?;
-            let file = name_part(line, from, name);
-            Some(EditLine::Replace { file, at, count })
-        }
-        Verb::Delete => {
-            let (name, at) = file_and_number(rest)?;
-            let file = name_part(line, from, name);
-            Some(EditLine::Delete { file, at })
-        }
-        Verb::Move => {
-            let (name, at, to) = file_and_numbers(rest)?;
-            let file = name_part(line, from, name);
-            Some(EditLine::Move { file, at, to })
-        }
-        _ => None,
-    }
-}
-
 /// The edit that a line asks for; none if the line is that of no edit.
-pub(crate) fn edit_asked(line: &[u8]) -> Option<EditLine>
-    requires { IsOneLine line.now }
-    ensures some { IfSome result (SaysEdit line.now) }
-    ensures none { result ≡ None → (edit : Asked) → IsGoodEdit edit → line.now ≢ edit_line edit }
+pub(crate) fn edit_asked(bytes: &[u8], line: LineAt) -> Option<EditAt>
+    requires line { (left : Option (List ℕ)) × IsLineAt bytes.now left line }
+    requires few { length bytes.now < 2 ^ 63 }
+    ensures some { IfSome result (SaysEdit bytes.now line) }
+    ensures none { result ≡ None → (edit : Asked) → IsGoodEdit edit → line_bytes bytes.now line ≢ edit_line edit }
 {
-    let (word, _) = cut_at_space(line)?;
-    edit_with(verb_of(word)?, line, word.len() + 1)
-}
-
-/// The label that a line is from `from` on.
-fn label(line: &[u8], from: usize) -> Option<PendingRange>
-    requires within { from ≤ length line.now }
-    requires one_line { IsOneLine line.now }
-    ensures some { IfSome result (λ label. IsNameIn line.now label × (bytes_of_part line.now label ≡ drop from line.now)) }
-    ensures none { result ≡ None → ¬ IsName (drop from line.now) }
-{
-    let end = line.len();
-    if is_name(&line[from..]) {
-        Some(PendingRange { start: from, end })
+    let (word, rest) = cut_at_space(&bytes[line.start..line.end])?;
+    let (name, numbers) = name_and_rest(rest)?;
+    let start = line.start + word.len() + 1;
+    let file = PendingRange {
+        start,
+        end: start + name.len(),
+    };
+    if word == b"delete".as_slice() {
+        let at = number(numbers)?;
+        return Some(EditAt::Delete { file, at });
+    }
+    let (at, other) = two_numbers(numbers)?;
+    if word == b"move".as_slice() {
+        return Some(EditAt::Move {
+            file,
+            at,
+            to: other,
+        });
+    }
+    let text = PendingRange {
+        start: line.end + 1,
+        end: line.end + 1 + other,
+    };
+    if word == b"insert".as_slice() {
+        Some(EditAt::Insert { file, at, text })
+    } else if word == b"replace".as_slice() {
+        Some(EditAt::Replace { file, at, text })
     } else {
         None
     }
 }
 
-/// What a line with this first word asks for, which goes on from `from` on.
-fn command_with(verb: Verb, line: &[u8], from: usize) -> Option<CommandLine>
-    requires begins { BeginsWithVerb line.now verb from }
-    requires one_line { IsOneLine line.now }
-    ensures some { IfSome result (SaysLine line.now) }
-    ensures none { result ≡ None → (command : Command) → IsGood command → line.now ≢ line_of command }
+/// The question that is asked by this word.
+fn question_of(word: &[u8]) -> Option<Question>
+    ensures some { IfSome result (λ question. word.now ≡ question_word question) }
+    ensures none { result ≡ None → (question : Question) → word.now ≢ question_word question }
 {
-    match verb {
-        Verb::Batch => Some(CommandLine::Batch(number(&line[from..])?)),
-        Verb::Verdict => Some(CommandLine::Verdict(label(line, from)?)),
-        Verb::Axioms => Some(CommandLine::Axioms(label(line, from)?)),
-        Verb::Cites => Some(CommandLine::Cites(label(line, from)?)),
-        Verb::Users => Some(CommandLine::Users(label(line, from)?)),
-        _ => Some(CommandLine::Change(edit_with(verb, line, from)?)),
+    match word {
+        b"verdict" => Some(Question::Verdict),
+        b"axioms" => Some(Question::Axioms),
+        b"cites" => Some(Question::Cites),
+        b"users" => Some(Question::Users),
+        _ => None,
     }
 }
 
 /// What a line asks for; none if the line is that of no command.
-pub(crate) fn command_asked(line: &[u8]) -> Option<CommandLine>
-    requires { IsOneLine line.now }
-    ensures some { IfSome result (SaysLine line.now) }
-    ensures none { result ≡ None → (command : Command) → IsGood command → line.now ≢ line_of command }
+pub(crate) fn command_asked(bytes: &[u8], line: LineAt) -> Option<CommandLine>
+    requires line { (left : Option (List ℕ)) × IsLineAt bytes.now left line }
+    requires few { length bytes.now < 2 ^ 63 }
+    ensures some { IfSome result (SaysLine bytes.now line) }
+    ensures none { result ≡ None → (command : Command) → IsGood command → line_bytes bytes.now line ≢ line_of command }
 {
-    if line == b"report".as_slice() {
-        return Some(CommandLine::Report);
+    let text = &bytes[line.start..line.end];
+    if text == b"report".as_slice() {
+        return Some(CommandLine::Alone(CommandAt::Report));
     }
-    let (word, _) = cut_at_space(line)?;
-    command_with(verb_of(word)?, line, word.len() + 1)
+    let (word, rest) = cut_at_space(text)?;
+    if word == b"batch".as_slice() {
+        return Some(CommandLine::Batch(number(rest)?));
+    }
+    let Some(question) = question_of(word) else {
+        return Some(CommandLine::Change(edit_asked(bytes, line)?));
+    };
+    if !is_name(rest) {
+        return None;
+    }
+    let start = line.start + word.len() + 1;
+    let label = PendingRange {
+        start,
+        end: start + rest.len(),
+    };
+    Some(CommandLine::Alone(CommandAt::Ask(question, label)))
 }

@@ -4,11 +4,10 @@ ghost use Rattle.std.specs.Prelude.{◌≡◌, ◌≢◌, ◌≤◌, ◌<◌, �
 ghost use Rattle.std.specs.Io.KnownBytes.{IsAtEnd};
 ghost use Rattle.mm_script.specs.declared.error.ScriptError.TheVariants as errors;
 ghost use Rattle.mm_script.specs.Code.Growing.{InputGrows, HasBlanks, IsLineAt, IsLineBegun, IsOtherByte};
-ghost use Rattle.mm_script.specs.Language.Commands.{to_come, pending, IsPartWithin};
+ghost use Rattle.mm_script.specs.Language.Commands.{to_come, pending};
 ghost use Rattle.mm_script.specs.Code.Stops.{IsOneLine};
 ghost use Rattle.mm_script.specs.Language.Stream.{cannot_read, unread};
 
-use crate::command::PendingRange;
 use crate::error::ScriptError;
 use crate::input::Input;
 use crate::read_stream::Reading;
@@ -72,33 +71,27 @@ pub(crate) fn read_line<R: Read>(
     }
 }
 
-/// Reads on until the text of this many bytes after a line is complete, and the line feed after it.
+/// Reads on until the text is complete that ends here, and the line feed after it.
 pub(crate) fn read_text<R: Read>(
     input: &mut Input,
     reading: &mut Reading<R>,
-    start: usize,
-    count: usize,
-) -> Result<PendingRange, ScriptError>
-    requires { start ≤ length (pending input.old) }
+    end: usize,
+) -> Result<(), ScriptError>
     ensures grows { InputGrows input.old input.new (unread R.remaining reading.old) (unread R.remaining reading.new) }
-    ensures within { IfOk result (λ text. IsPartWithin (pending input.new) text × (text.start ≡ start) × (text.end ≡ start + count)) }
-    ensures feed { IfOk result (λ text. drop text.end (pending input.new) ≡ 10 ∷ drop (text.end + 1) (pending input.new)) }
+    ensures feed { OnOk result (drop end (pending input.new) ≡ 10 ∷ drop (end + 1) (pending input.new)) }
     ensures fewer { OnOk result (to_come input.new reading.new ≤ to_come input.old reading.old) }
-    ensures bad { IsErrOf result errors.BadLine → IsOtherByte (pending input.new) start count }
-    ensures cut { IsErrOf result errors.Cut → (length (drop start (pending input.new)) ≤ count) × IsAtEnd (unread R.remaining reading.new) }
-    ensures read { IsErrOf result errors.Read → length (drop start (pending input.new)) ≤ count }
+    ensures bad { IsErrOf result errors.BadLine → IsOtherByte (pending input.new) end }
+    ensures cut { IsErrOf result errors.Cut → (length (pending input.new) ≤ end) × IsAtEnd (unread R.remaining reading.new) }
+    ensures read { IsErrOf result errors.Read → length (pending input.new) ≤ end }
     ensures failed { IsErrOf result errors.Read → cannot_read reading.new ≡ true }
     ensures told { result ≢ Err errors.Write }
 {
     loop {
-        if let Some(byte) = input.pending()[start..].get(count) {
+        if let Some(byte) = input.pending().get(end) {
             if *byte != b'\n' {
                 return Err(ScriptError::BadLine);
             }
-            return Ok(PendingRange {
-                start,
-                end: start + count,
-            });
+            return Ok(());
         }
         if !input.read_on(reading)? {
             return Err(ScriptError::Cut);

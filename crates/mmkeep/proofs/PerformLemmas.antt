@@ -9,10 +9,11 @@ use Rattle.mmkeep.specs.declared.{arguments.Invocation.{Invocation}, outcome.Out
 use Rattle.mmkeep.specs.Language.Performing.{AllInOrder, GoesOut, IsCutOff, IsDone, IsJudged, ListsAxioms, StopsAxioms}
 use Rattle.mm_report.specs.mm_script.declared.error.ScriptError.TheVariants as errors
 use Rattle.mm_report.specs.mm_script.Language.Script as script
+use Rattle.mm_report.specs.mm_script.declared.command.Question.TheVariants as questions
 
 -- the axioms of an assertion that is there are listed
 pub lists_there : (session : SessionView) (label word : List ℕ) (before after : Option (List ℕ)) → word ≡ label
-    → ((answer : List ℕ) × IsAnswer session (script.Axioms word) answer session × Appends before after answer)
+    → ((answer : List ℕ) × IsAnswer session (script.Ask questions.Axioms word) answer session × Appends before after answer)
     → HasAssertion session word → ListsAxioms session label before after Clean
 lists_there session label word before after same (answer, is, out) there =
     rw (← same) (record { answer = answer; is_answer = is; out = out; is_by_label = there })
@@ -20,7 +21,7 @@ lists_there session label word before after same (answer, is, out) there =
 -- why they are not
 pub stops_axioms : {W : Type 0} (session : SessionView) (label word : List ℕ) (contents : W → Option (List ℕ)) (old new : Writing W) (error : ScriptError)
     → word ≡ label → (error ≡ errors.Write) ⊎ (error ≡ errors.Memory)
-    → (error ≡ errors.Write → (answer : List ℕ) × IsAnswer session (script.Axioms word) answer session × AppendsPart (written contents old) (written contents new) answer)
+    → (error ≡ errors.Write → (answer : List ℕ) × IsAnswer session (script.Ask questions.Axioms word) answer session × AppendsPart (written contents old) (written contents new) answer)
     → (error ≡ errors.Memory → new ≡ old) → (error ≡ errors.Memory → ¬ HasAssertion session word → ⊥)
     → StopsAxioms session label (written contents old) (written contents new) error
 stops_axioms session label word contents old new error same (inl e) write memory known =

@@ -8,13 +8,15 @@ use Rattle.mm_keep.specs.mm_text.Language.Asked.{Asked, edited_text}
 use Rattle.mm_keep.specs.mm_statement.Language.Database.{Located, IsDatabase}
 use Rattle.mm_keep.specs.mm_statement.Language.Item.{Said}
 use Rattle.mm_keep.specs.mm_frame.Language.Base.{BaseView, base_of}
-use Rattle.mm_keep.specs.Language.Sessions.{SessionView, HasAssertion, AreAxiomsOf, AreCitesOf, AreUsersOf}
+use Rattle.mm_keep.specs.Language.Sessions.{SessionView, AreAxiomsOf, AreCitesOf, AreUsersOf}
+use Rattle.mm_script.specs.declared.command.Question.{Question}
+use Rattle.mm_script.specs.declared.command.Question.TheVariants.{Verdict, Axioms, Cites, Users}
 use Rattle.mm_script.specs.declared.error.ScriptError.{ScriptError}
 use Rattle.mm_script.specs.declared.error.ScriptError.TheVariants as errors
 use Rattle.mm_script.specs.declared.read_stream.Reading.{Reading}
 use Rattle.mm_script.specs.declared.stream.Writing.{Writing}
 use Rattle.mm_report.specs.Language.Answers.{IsAnswer}
-use Rattle.mm_script.specs.Language.Script.{Command, Axioms, Cites, Users, Done, CutShort, BadLine}
+use Rattle.mm_script.specs.Language.Script.{Command, Done, CutShort, BadLine}
 use Rattle.mm_report.specs.Language.Scripting.{AnswersScript, AnswersRead, AnswersFirst, BeginsAnswers}
 use Rattle.mm_script.specs.Language.Stream.{written, has_failed, unread, cannot_read, AppendsPart, Writes}
 
@@ -36,19 +38,12 @@ WritesOf contents session bytes old new result =
 abbrev pub label_lines : List Said → List ℕ
 label_lines items = flat_map (λ item. unwrap_or item.label [] ++ codes "\n") items
 
--- the command asks for items by a label, and these are their numbers
-abbrev pub Finds : SessionView → Command → List ℕ → Type 0
-Finds session (Axioms label) numbers = AreAxiomsOf session label numbers
-Finds session (Cites label) numbers = AreCitesOf session label numbers
-Finds session (Users label) numbers = AreUsersOf session label numbers
-Finds session _ numbers = ⊥
-
--- the command asks for items by a label that no assertion has
-abbrev pub Lacks : SessionView → Command → Type 0
-Lacks session (Axioms label) = ¬ HasAssertion session label
-Lacks session (Cites label) = ¬ HasAssertion session label
-Lacks session (Users label) = ¬ HasAssertion session label
-Lacks session _ = ⊥
+-- the question is one for items, and these are their numbers
+abbrev pub Finds : SessionView → Question → List ℕ → List ℕ → Type 0
+Finds session Axioms label numbers = AreAxiomsOf session label numbers
+Finds session Cites label numbers = AreCitesOf session label numbers
+Finds session Users label numbers = AreUsersOf session label numbers
+Finds session Verdict label numbers = ⊥
 
 -- an answer to a command is written that leaves the session as it is; or the write of it has failed
 pub record WritesAnswer {W T E : Type 0} (contents : W → Option (List ℕ)) (session : SessionView) (command : Command) (old new : Writing W)

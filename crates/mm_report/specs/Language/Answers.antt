@@ -11,13 +11,13 @@ use Rattle.mm_keep.specs.mm_store.Language.Batches.{IsBatchOf, IsRefusedAt}
 use Rattle.mm_keep.specs.mm_text.Language.Asked.{Asked, edited_text}
 use Rattle.mm_keep.specs.mm_store.Language.Edits.{IsEditOf}
 use Rattle.mm_keep.specs.mm_frame.Language.Base.{BaseView, base_of, said_at}
-use Rattle.mm_keep.specs.mm_statement.Language.Item.{Said}
 use Rattle.mm_keep.specs.Language.Runs.{AreRunsOf}
 use Rattle.mm_keep.specs.Language.Sessions.{SessionView, OfItems, HasAssertion, IsVerdictOf, AreAxiomsOf, AreCitesOf, AreUsersOf}
 use Rattle.mm_keep.specs.Language.Told.{Told, AnAxiom, Proved, Incomplete, Wrong}
 use Rattle.mm_report.specs.Language.Report.{names_of, incomplete_line, wrong_line, IsReport}
-use Rattle.mm_script.specs.Language.Script.{Command, Change, Batch, Report, Verdict, Axioms, Cites, Users, Entry, commands_of}
-use Rattle.mm_script.specs.Language.Script.{End, EndsSo, IsLongestReading}
+use Rattle.mm_script.specs.declared.command.Question.{Question}
+use Rattle.mm_script.specs.declared.command.Question.TheVariants.{Verdict, Axioms, Cites, Users}
+use Rattle.mm_script.specs.Language.Script.{Command, Change, Batch, Report, Ask, End, EndsSo, Entry, IsLongestReading, commands_of}
 
 -- the number of a fault of a text, as it is written
 abbrev pub text_code : TextNumber → List ℕ
@@ -114,15 +114,19 @@ abbrev pub IsFound : SessionView → (List ℕ → Type 0) → List ℕ → Type
 IsFound session are answer =
     (numbers : List ℕ) × are numbers × OfItems session (λ base. answer ≡ numbers_listed (codes "found") base numbers)
 
+-- the answer to a question about an assertion, which has this label
+abbrev pub IsAnswerOf : SessionView → Question → List ℕ → List ℕ → Type 0
+IsAnswerOf session Verdict label answer = IsVerdictAnswer session label answer
+IsAnswerOf session Axioms label answer = IsFound session (AreAxiomsOf session label) answer
+IsAnswerOf session Cites label answer = IsFound session (AreCitesOf session label) answer
+IsAnswerOf session Users label answer = IsFound session (AreUsersOf session label) answer
+
 -- the answer to a command, and the session after it
 abbrev pub IsAnswer : SessionView → Command → List ℕ → SessionView → Type 0
 IsAnswer old (Change edit) answer new = IsEditAnswer old edit answer new
 IsAnswer old (Batch edits) answer new = IsBatchAnswer old (map (λ listed. listed.edit) edits) answer new
 IsAnswer old Report answer new = IsReport old answer × (new ≡ old)
-IsAnswer old (Verdict label) answer new = (IsUnknown old label answer ⊎ IsVerdictAnswer old label answer) × (new ≡ old)
-IsAnswer old (Axioms label) answer new = (IsUnknown old label answer ⊎ IsFound old (AreAxiomsOf old label) answer) × (new ≡ old)
-IsAnswer old (Cites label) answer new = (IsUnknown old label answer ⊎ IsFound old (AreCitesOf old label) answer) × (new ≡ old)
-IsAnswer old (Users label) answer new = (IsUnknown old label answer ⊎ IsFound old (AreUsersOf old label) answer) × (new ≡ old)
+IsAnswer old (Ask question label) answer new = (IsUnknown old label answer ⊎ IsAnswerOf old question label answer) × (new ≡ old)
 
 -- the answers to commands, joined, each put to the session after the one before it; and the session after them all
 abbrev pub AreAnswers : SessionView → List Command → List ℕ → SessionView → Type 0

@@ -16,7 +16,8 @@ use Rattle.mm_keep.specs.Language.Refusals.{IsBatchRefusal, IsRefusal}
 use Rattle.mm_keep.specs.Language.Resting.{RestsOn}
 use Rattle.mm_keep.specs.Language.Sessions.{SessionView, HasItem, HasItems, IsBegun, IsChanged, IsCount, IsFinding, IsLabelOfItem, IsTally, OfItems}
 use Rattle.mm_keep.specs.Language.Told.{Told, AreRightlyTold, AnAxiom, Counts, Fault, Incomplete, Proved, Quiet, Wrong, counts}
-use Rattle.mm_script.specs.Language.Script.{Command, Change, Batch, Verdict, Axioms, Done}
+use Rattle.mm_script.specs.declared.command.Question.TheVariants.{Axioms}
+use Rattle.mm_script.specs.Language.Script.{Command, Change, Batch, Ask, Done}
 use Rattle.mm_report.specs.Language.Answers.{IsAnswer, IsScriptAnswer}
 use Rattle.mm_report.specs.Language.Report.{IsReport, fault_line, lines, names_of, summary, wrong_line}
 
@@ -103,7 +104,7 @@ RunsOne = IsAnswer unproved (Change gives_proof) (codes "ran 1\nno\n") proved
 
 -- The theorem is proved then, and rests on one axiom.
 abbrev pub RestsOnOne : Type 0
-RestsOnOne = IsAnswer proved (Axioms (codes "no")) (codes "found 1\nax\n") proved
+RestsOnOne = IsAnswer proved (Ask Axioms (codes "no")) (codes "found 1\nax\n") proved
 
 -- The second of the two edits is refused, so neither is done.
 abbrev pub RefusesSecond : Type 0

@@ -29,14 +29,12 @@ pub record IsLineAt (bytes : List ℕ) (left : Option (List ℕ)) (line : LineAt
   pub fed : line.fed ≡ true → drop line.end bytes ≡ 10 ∷ drop (line.end + 1) bytes
   pub unfed : line.fed ≡ false → (line.end ≡ length bytes) × IsAtEnd left
 
--- this many bytes from there on, and another byte than a line feed
-pub record IsOtherByte (bytes : List ℕ) (start count : ℕ) : Type 0 where
-  pub text : List ℕ
+-- there is another byte here than a line feed
+pub record IsOtherByte (bytes : List ℕ) (at : ℕ) : Type 0 where
   pub byte : ℕ
   pub more : List ℕ
-  pub is : length text ≡ count
   pub other : byte ≢ 10
-  pub are : drop start bytes ≡ text ++ byte ∷ more
+  pub are : drop at bytes ≡ byte ∷ more
 
 -- only empty lines are between one place and another
 pub record HasBlanks (bytes : List ℕ) (from to : ℕ) : Type 0 where

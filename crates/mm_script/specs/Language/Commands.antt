@@ -10,8 +10,7 @@ use Rattle.mm_script.specs.declared.command.CommandAt.TheVariants as code
 use Rattle.mm_script.specs.declared.command.Complete.{Complete}
 use Rattle.mm_script.specs.declared.input.Input.{Input}
 use Rattle.mm_script.specs.declared.read_stream.Reading.{Reading}
-use Rattle.mm_script.specs.Language.Script.{Command, Change, Batch, Report, Verdict, Axioms, Cites, Users}
-use Rattle.mm_script.specs.Language.Script.{End, EndsSo, Listed, command_bytes, IsGood, IsLongestReading, IsReadSoFar, EndsInLine}
+use Rattle.mm_script.specs.Language.Script.{Command, Change, Batch, Report, Ask, End, EndsSo, Listed, command_bytes, IsGood, IsLongestReading, IsReadSoFar, EndsInLine}
 use Rattle.mm_script.specs.Language.Stream.{calls_left}
 
 -- the pending bytes
@@ -66,10 +65,7 @@ abbrev pub IsCommandIn : List ℕ → CommandAt → Command → Type 0
 IsCommandIn bytes (code.Change edit) command = IsEditWithin bytes edit × (command ≡ Change (edit_in bytes edit))
 IsCommandIn bytes (code.Batch found) command = (listed : List Listed) × AreEditsIn bytes found.items listed × (command ≡ Batch listed)
 IsCommandIn bytes code.Report command = command ≡ Report
-IsCommandIn bytes (code.Verdict label) command = IsPartWithin bytes label × (command ≡ Verdict (bytes_of_part bytes label))
-IsCommandIn bytes (code.Axioms label) command = IsPartWithin bytes label × (command ≡ Axioms (bytes_of_part bytes label))
-IsCommandIn bytes (code.Cites label) command = IsPartWithin bytes label × (command ≡ Cites (bytes_of_part bytes label))
-IsCommandIn bytes (code.Users label) command = IsPartWithin bytes label × (command ≡ Users (bytes_of_part bytes label))
+IsCommandIn bytes (code.Ask question label) command = IsPartWithin bytes label × (command ≡ Ask question (bytes_of_part bytes label))
 
 -- the bytes begin with the command, and it takes this many of them
 pub record IsWholeCommand (bytes : List ℕ) (command : Command) (end : ℕ) : Type 0 where

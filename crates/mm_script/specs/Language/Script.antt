@@ -3,21 +3,20 @@ use Rattle.std.specs.Prelude.{◌≡◌, ◌≢◌, ◌≤◌, ◌==◌, ◌⊎�
 use Rattle.std.specs.Prelude.{List, [], ◌∷◌, ◌++◌, length, codes, decimal, replicate}
 use Rattle.std.specs.List.{AllByRecursion, flat_map, filter_map, list_all, join_with_byte}
 use Rattle.mm_text.specs.Language.Asked.{Asked, Insert, Replace, Delete, Move, edited_text}
+use Rattle.mm_script.specs.declared.command.Question.{Question}
+use Rattle.mm_script.specs.declared.command.Question.TheVariants.{Verdict, Axioms, Cites, Users}
 
 -- An edit of a batch, and how many empty lines come before it.
 pub record Listed : Type 0 where
   pub blanks : ℕ
   pub edit : Asked
 
--- What a command asks: for an edit, or for several at once; for the report; or for what is known of the assertion with a label.
+-- What a command asks: for an edit, or for several at once; for the report; or for the answer to a question about the assertion with a label.
 pub data Command : Type 0 where
   Change : Asked → Command
   Batch : List Listed → Command
   Report : Command
-  Verdict : List ℕ → Command
-  Axioms : List ℕ → Command
-  Cites : List ℕ → Command
-  Users : List ℕ → Command
+  Ask : Question → List ℕ → Command
 
 -- the words of the line of an edit; if a text comes after the line, its last word counts the bytes of the text
 abbrev pub edit_words : Asked → List (List ℕ)
@@ -26,15 +25,19 @@ edit_words (Replace file at text) = codes "replace" ∷ file ∷ decimal at ∷ 
 edit_words (Delete file at) = codes "delete" ∷ file ∷ decimal at ∷ []
 edit_words (Move file at to) = codes "move" ∷ file ∷ decimal at ∷ decimal to ∷ []
 
+-- the word of a question
+abbrev pub question_word : Question → List ℕ
+question_word Verdict = codes "verdict"
+question_word Axioms = codes "axioms"
+question_word Cites = codes "cites"
+question_word Users = codes "users"
+
 -- the words of the line of a command
 abbrev pub command_words : Command → List (List ℕ)
 command_words (Change edit) = edit_words edit
 command_words (Batch edits) = codes "batch" ∷ decimal (length edits) ∷ []
 command_words Report = codes "report" ∷ []
-command_words (Verdict label) = codes "verdict" ∷ label ∷ []
-command_words (Axioms label) = codes "axioms" ∷ label ∷ []
-command_words (Cites label) = codes "cites" ∷ label ∷ []
-command_words (Users label) = codes "users" ∷ label ∷ []
+command_words (Ask question label) = question_word question ∷ label ∷ []
 
 -- the line of an edit: its words, with one space between each two
 abbrev pub edit_line : Asked → List ℕ
@@ -92,10 +95,7 @@ abbrev pub IsGood : Command → Type 0
 IsGood (Change edit) = IsGoodEdit edit
 IsGood (Batch edits) = IsNumber (length edits) × AllByRecursion (λ listed. IsGoodEdit listed.edit) edits
 IsGood Report = Unit {0}
-IsGood (Verdict label) = IsName label
-IsGood (Axioms label) = IsName label
-IsGood (Cites label) = IsName label
-IsGood (Users label) = IsName label
+IsGood (Ask question label) = IsName label
 
 -- the last edit of a batch has no text
 abbrev pub LastInLine : List Listed → Type 0

@@ -3,7 +3,8 @@ use Rattle.std.specs.Prelude.{◌≡◌, ℕ, true, List, Some, [], ◌∷◌, �
 use Rattle.std.specs.declared.io.buffered.BufWriter.{BufWriter}
 use Rattle.std.specs.Io.Buffered.{writer_buffer, writer_contents, writer_inner}
 use Rattle.mm_text.specs.Language.Asked.{Replace, Delete, Insert, Move}
-use Rattle.mm_script.specs.Language.Script.{Change, Batch, Report, Verdict, Axioms, Cites, Users, Blank, Given, Done, CutShort, BadLine}
+use Rattle.mm_script.specs.declared.command.Question.TheVariants.{Verdict, Axioms, Cites, Users}
+use Rattle.mm_script.specs.Language.Script.{Change, Batch, Report, Ask, Blank, Given, Done, CutShort, BadLine}
 use Rattle.mm_script.specs.Language.Script.{IsGood, IsReadSoFar, commands_of}
 use Rattle.mm_script.specs.Language.ReadingLaws.{IsReadSo}
 use Rattle.mm_script.specs.Language.Stream.{AppendsPart, gone_out, has_failed, written}
@@ -11,8 +12,8 @@ use Rattle.mm_script.specs.Language.Stream.{AppendsPart, gone_out, has_failed, w
 -- A text of two lines, and the line feed after it; the last line of the script may be without one.
 abbrev pub ReadsText : Type 0
 ReadsText = IsReadSo (codes "replace d.mm 7 15\n$c a $.\n$c b $.\n\nverdict t\nusers a1\n\naxioms t")
-    (Given (Change (Replace (codes "d.mm") 7 (codes "$c a $.\n$c b $."))) ∷ Blank ∷ Given (Verdict (codes "t")) ∷ Given (Users (codes "a1")) ∷ Blank
-    ∷ Given (Axioms (codes "t")) ∷ [])
+    (Given (Change (Replace (codes "d.mm") 7 (codes "$c a $.\n$c b $."))) ∷ Blank ∷ Given (Ask Verdict (codes "t")) ∷ Given (Ask Users (codes "a1")) ∷ Blank
+    ∷ Given (Ask Axioms (codes "t")) ∷ [])
     [] Done
 
 -- A batch of two edits with an empty line before the second, and a command after it.
@@ -52,7 +53,7 @@ EndsInEdit = IsReadSo (codes "batch 2\ndelete a.mm 0\ndel") [] (codes "batch 2\n
 
 -- A bad line ends a script, and nothing after it is read.
 abbrev pub EndsAtLine : Type 0
-EndsAtLine = IsReadSo (codes "verdict th\nbogus\nreport\n") (Given (Verdict (codes "th")) ∷ []) (codes "bogus\nreport\n") BadLine
+EndsAtLine = IsReadSo (codes "verdict th\nbogus\nreport\n") (Given (Ask Verdict (codes "th")) ∷ []) (codes "bogus\nreport\n") BadLine
 
 -- An edit whose text is followed by another byte than a line feed is a bad line.
 abbrev pub EndsAtText : Type 0
@@ -61,19 +62,19 @@ EndsAtText = IsReadSo (codes "insert a.mm 0 3\nabcd\n") [] (codes "insert a.mm 0
 -- Of bytes that may go on, a last line is not read before its line feed is there. Of a whole script, it is.
 pub record WaitsForFeed : Type 0 where
   pub so_far : IsReadSoFar (codes "report\n\ncites t") (Given Report ∷ Blank ∷ []) (codes "cites t")
-  pub whole : IsReadSo (codes "report\n\ncites t") (Given Report ∷ Blank ∷ Given (Cites (codes "t")) ∷ []) [] Done
+  pub whole : IsReadSo (codes "report\n\ncites t") (Given Report ∷ Blank ∷ Given (Ask Cites (codes "t")) ∷ []) [] Done
 
 -- The commands of some entries.
 abbrev pub HasTwoCommands : Type 0
-HasTwoCommands = commands_of (Given Report ∷ Blank ∷ Given (Cites (codes "t")) ∷ []) ≡ Report ∷ Cites (codes "t") ∷ []
+HasTwoCommands = commands_of (Given Report ∷ Blank ∷ Given (Ask Cites (codes "t")) ∷ []) ≡ Report ∷ Ask Cites (codes "t") ∷ []
 
 -- The largest number that a line can have, and what no label is.
 pub record BoundWords : Type 0 where
   pub largest : IsGood (Change (Delete (codes "a.mm") 4294967295))
   pub too_large : ¬ IsGood (Change (Delete (codes "a.mm") 4294967296))
-  pub empty : ¬ IsGood (Verdict [])
-  pub spaced : ¬ IsGood (Verdict (codes "a b"))
-  pub broken : ¬ IsGood (Verdict (codes "a\nb"))
+  pub empty : ¬ IsGood (Ask Verdict [])
+  pub spaced : ¬ IsGood (Ask Verdict (codes "a b"))
+  pub broken : ¬ IsGood (Ask Verdict (codes "a\nb"))
 
 -- What is written grows by the first two of four bytes. It does not grow by the fourth alone.
 pub record GrowsByTwo : Type 0 where

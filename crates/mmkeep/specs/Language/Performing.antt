@@ -11,6 +11,7 @@ use Rattle.mm_report.specs.Language.Answers.{IsAnswer}
 use Rattle.mm_report.specs.Language.Laws.{IsInOrder}
 use Rattle.mm_report.specs.Language.Report.{IsReport, BeginsReport, lines, names_of}
 use Rattle.mm_report.specs.mm_script.Language.Script as script
+use Rattle.mm_report.specs.mm_script.declared.command.Question.TheVariants as questions
 use Rattle.mm_report.specs.Language.Scripting.{AnswersScript, AnswersFirst, AnswersRead, BeginsAnswers}
 use Rattle.mm_report.specs.mm_script.Language.Stream.{AppendsPart}
 use Rattle.mmkeep.specs.declared.arguments.Invocation.{Invocation}
@@ -54,14 +55,14 @@ IsByLabel session label _ = ⊥
 -- the axioms that the assertion with a label rests on are written, or that there is no such assertion
 pub record ListsAxioms (session : SessionView) (label : List ℕ) (before after : Option (List ℕ)) (outcome : Outcome) : Type 0 where
   pub answer : List ℕ
-  pub is_answer : IsAnswer session (script.Axioms label) answer session
+  pub is_answer : IsAnswer session (script.Ask questions.Axioms label) answer session
   pub out : Appends before after answer
   pub is_by_label : IsByLabel session label outcome
 
 -- the beginning of the answer on axioms, or all of it, is written
 pub record BeginsAxioms (session : SessionView) (label : List ℕ) (before after : Option (List ℕ)) : Type 0 where
   pub answer : List ℕ
-  pub is_answer : IsAnswer session (script.Axioms label) answer session
+  pub is_answer : IsAnswer session (script.Ask questions.Axioms label) answer session
   pub out : AppendsPart before after answer
 
 -- a script is answered to its end

@@ -1,4 +1,4 @@
-use Rattle.std.proofs.{Common.{◌≡◌, ◌<◌, ◌∙◌, ap, arith, false, refl, rules, slice_range}, lemmas.Bool.{false_from_ne_true, not-true}}
+use Rattle.std.proofs.{Common.{◌≡◌, ◌<◌, arith, false, refl, rules}, lemmas.Bool.{false_from_ne_true, not-true}}
 use Rattle.mm_script.specs.{declared.{command.{Complete.{Complete}, EditAt.{EditAt}}, script_lines.LineAt.{LineAt}, error.ScriptError.{ScriptError}}, Code.Growing.{line_bytes}}
 use Rattle.mm_script.{specs.{Code.Stops.{IsBadEditLine}, Language.Commands.{pending, edit_in}}, proofs.GrowLemmas.{blanks_grown, grows_then, other_error, same_error}}
 use Rattle.mm_script.proofs.BatchLemmas.{bad_listed, bad_text, begun_holds, edit_missing, line_some, none_left, short_holds, text_stops}
@@ -37,11 +37,10 @@ returns-in_default-clause-bad g c = λ cut n front f count.
     let is = c.in_ok-line.ensures.line in
     let some : line.start < line.end = omega (arith, is.ordered) in
     let bytes = pending c.read_some_line.new.input in
-    let same : slice_range c.pending.result.now line.start line.end ≡ line_bytes bytes line = ap (λ xs. slice_range xs line.start line.end) c.pending.ensures in
     let bad : IsBadEditLine (line_bytes bytes line) = record {
       some = line_some bytes _ line is some;
       one_line = is.one_line;
-      no_edit = λ edit good says. c.in_default.ensures.none refl edit good (same ∙ says);
+      no_edit = rw c.pending.ensures at (c.edit_asked.ensures.none c.in_default.is);
     } in
     bad_listed c.args.input.now c.read_some_line.new.input _ _ n front c.args.from line f c.in_ok-line.ensures.grows c.in_ok-line.ensures.start is bad
 

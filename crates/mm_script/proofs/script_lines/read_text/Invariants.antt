@@ -1,11 +1,10 @@
-use Rattle.std.proofs.Common.{◌≤◌, length}
-use Rattle.mm_script.specs.{Code.Growing.{InputGrows}, Language.Commands.{to_come, pending}}
+use Rattle.std.proofs.Common.{◌≤◌}
+use Rattle.mm_script.specs.{Code.Growing.{InputGrows}, Language.Commands.{to_come}}
 use Rattle.mm_script.proofs.script_lines.read_text.Given as goal
 
 abbrev pub invariant-loop-byte : goal.invariant-loop-byte
 invariant-loop-byte g l = record {
   grows : InputGrows l.initial.input l.input (g.R.Read.remaining l.initial.reading.inner) (g.R.Read.remaining l.reading.inner);
-  within : l.start ≤ length (pending l.input);
   fewer : to_come l.input l.reading ≤ to_come l.initial.input l.initial.reading;
 }
 
