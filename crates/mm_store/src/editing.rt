@@ -4,113 +4,63 @@ ghost use Rattle.std.specs.Prelude.{◌≡◌, ℕ, ◌+◌, ◌<◌, ◌≤◌,
 ghost use Rattle.std.specs.Prelude.{Some, None, IfOk, IfErr, OnOk, OnErr};
 ghost use Rattle.std.specs.Prelude.{IsErrOf, length, slice_index_or, slice_set, []};
 ghost use Rattle.std.specs.List.{insert};
+ghost use Rattle.std.specs.FinMap as finite;
 ghost use Rattle.mm_store.specs.declared.edit.EditError.TheVariants.{NoFile, NoPiece};
 ghost use Rattle.mm_store.specs.Language.Pieces.{Replaced, Deleted};
 ghost use Rattle.mm_store.specs.Language.FilesView.{bytes_of, file_number, number_of, plain};
 ghost use Rattle.mm_store.specs.Language.FileFacts.{parked_in};
 ghost use Rattle.mm_text.specs.Language.Asked.{asked, edited_name};
 ghost use Rattle.mm_store.specs.Language.Edits.{IsEditOf, NamesNoMember};
-ghost use Rattle.mm_store.specs.Language.EditedKeys.{IsEditByKeys, parks};
-ghost use Rattle.mm_store.specs.Language.Undoing as action;
-ghost use Rattle.mm_store.specs.Language.Undoing.{keys_in};
+ghost use Rattle.mm_store.specs.Language.EditedKeys.{inserted, replaced, IsEditByKeys, parks};
+ghost use Rattle.mm_store.specs.Language.Undoing.{keys_in, key_at};
 ghost use Rattle.mm_store.specs.Language.Undoing.{IsUndoable, KeepsKeys};
 ghost use Rattle.mm_store.specs.Language.Answers.{IsEditError};
-ghost use Rattle.mm_store.specs.Code.Edited.{pieces_in, with_pieces, IsReplaced, IsInserted, IsDeleted, IsMoved, NamesPlace};
+ghost use Rattle.mm_store.specs.Code.Edited.{pieces_in, with_pieces, IsDone, NamesPlace};
 ghost use Rattle.mm_store.specs.Code.Inside.{IsPieceKept};
 
 use crate::edit::{EditError, edited_file, is_among};
 use crate::files::Files;
 use crate::piece_text::PieceText;
-use crate::state::{EditKind, State};
 use crate::undo::{Action, Undo};
 use crate::unit::new_piece;
 use mm_text::Edit;
 use std::alloc::AllocError;
 
 impl Files {
-    /// Puts a piece in the place of another, which is parked. After out of memory the files are as before.
+    /// Puts a piece in the place of another, parks that, and answers its key. After out of memory the files are as before.
     fn replace_piece(
         &mut self,
         number: usize,
         at: usize,
         kept: PieceText,
-    ) -> Result<Undo, AllocError>
+    ) -> Result<usize, AllocError>
         requires there { at < length (keys_in self.old.keyed number) }
         requires kept { IsPieceKept kept }
         requires within { bytes_of (with_pieces (plain self.old) number (slice_set (pieces_in (plain self.old) number) at kept.text)) ≤ 4294967295 }
-        ensures ok { IfOk result (λ undo. IsReplaced self.old self.new number at kept.text undo) }
+        ensures ok { OnOk result ((key : ℕ) × (finite.get self.old.pieces key ≡ None) × (self.new ≡ replaced self.old number at key kept.text)) }
+        ensures key { IfOk result (λ old. old ≡ key_at self.old number at) }
         ensures err { OnErr result (self.new ≡ self.old) }
     {
-        let more = kept.text.len() as u64;
-        let key = self.pieces.put(kept)?;
-        let file = self.files.get_index_mut(number).unwrap();
-        let old = file.replace_key(at, key);
-        let less = self
-            .pieces
-            .set_state(old, State::Parked(number, EditKind::Replaced));
-        self.bytes = self.bytes - less as u64 + more;
-        Ok(Undo {
-            file: number,
-            action: Action::Replaced(at, old),
-        })
+        self.stand_once();
+        self.stay_small();
+        let key = self.hold_replaced(number, kept)?;
+        Ok(self.exchange(number, at, key))
     }
 
     /// Puts a piece before the one at `at`. After out of memory the files are as before.
-    fn insert_piece(
-        &mut self,
-        number: usize,
-        at: usize,
-        kept: PieceText,
-    ) -> Result<Undo, AllocError>
+    fn insert_piece(&mut self, number: usize, at: usize, kept: PieceText) -> Result<(), AllocError>
         requires file { number < length self.old.keyed }
         requires there { at ≤ length (keys_in self.old.keyed number) }
         requires kept { IsPieceKept kept }
         requires within { bytes_of (with_pieces (plain self.old) number (insert (pieces_in (plain self.old) number) at kept.text)) ≤ 4294967295 }
-        ensures ok { IfOk result (λ undo. IsInserted self.old self.new number at kept.text undo) }
+        ensures ok { OnOk result ((key : ℕ) × (finite.get self.old.pieces key ≡ None) × (self.new ≡ inserted self.old number at key kept.text)) }
         ensures err { OnErr result (self.new ≡ self.old) }
     {
-        let more = kept.text.len() as u64;
-        let file = self.files.get_index_mut(number).unwrap();
-        file.reserve_one()?;
-        let key = self.pieces.put(kept)?;
-        let file_again = self.files.get_index_mut(number).unwrap();
-        file_again.put_key(at, key);
-        self.bytes += more;
-        Ok(Undo {
-            file: number,
-            action: Action::Inserted(at),
-        })
-    }
-
-    /// Takes a piece out and parks it.
-    fn delete_piece(&mut self, number: usize, at: usize) -> Undo
-        requires there { at < length (keys_in self.old.keyed number) }
-        ensures { IsDeleted self.old self.new number at result }
-    {
-        let file = self.files.get_index_mut(number).unwrap();
-        let old = file.delete_key(at);
-        let less = self
-            .pieces
-            .set_state(old, State::Parked(number, EditKind::Deleted));
-        self.bytes -= less as u64;
-        Undo {
-            file: number,
-            action: Action::Deleted(at, old),
-        }
-    }
-
-    /// Takes a piece out and puts it back as piece `to`.
-    pub(crate) fn move_piece(&mut self, number: usize, at: usize, to: usize) -> Undo
-        requires there { at < length (keys_in self.old.keyed number) }
-        requires there_too { to < length (keys_in self.old.keyed number) }
-        ensures { IsMoved self.old self.new number at to result }
-    {
-        let file = self.files.get_index_mut(number).unwrap();
-        file.move_key(at, to);
-        Undo {
-            file: number,
-            action: Action::Moved(at, to),
-        }
+        self.stand_once();
+        self.stay_small();
+        let key = self.hold_deleted(number, kept)?;
+        self.put_back(number, at, key);
+        Ok(())
     }
 
     /// How many bytes the texts have. It takes no memory.
@@ -146,26 +96,34 @@ impl Files {
 
     /// Does an edit, and does not work out where the pieces after its own begin.
     pub(crate) fn apply(&mut self, edit: &Edit<'_>) -> Result<Undo, EditError>
-        ensures ok { OnOk result (IsEditOf (asked edit.now) (plain self.old) (plain self.new)) }
-        ensures by_keys { IfOk result (IsEditByKeys (asked edit.now) self.old self.new) }
-        ensures keys { OnOk result (KeepsKeys self.old self.new) }
-        ensures undoes { IfOk result (IsUndoable self.old self.new) }
+        ensures ok { IfOk result (IsDone (asked edit.now) self.old self.new) }
         ensures err { IfErr result (IsEditError (asked edit.now) (plain self.old)) }
         ensures unchanged { OnErr result (self.new ≡ self.old) }
     {
         let number = self.placed(edit)?;
-        match *edit {
+        self.stand_once();
+        self.stay_small();
+        let action = match *edit {
             Edit::Insert { at, text, .. } => {
                 let kept = new_piece(self.allocator(), self.bytes_held(), text)?;
-                Ok(self.insert_piece(number, at, kept)?)
+                self.insert_piece(number, at, kept)?;
+                Action::Inserted(at)
             }
             Edit::Replace { at, text, .. } => {
                 let kept = new_piece(self.allocator(), self.bytes_without(number, at), text)?;
-                Ok(self.replace_piece(number, at, kept)?)
+                Action::Replaced(at, self.replace_piece(number, at, kept)?)
             }
-            Edit::Delete { at, .. } => Ok(self.delete_piece(number, at)),
-            Edit::Move { at, to, .. } => Ok(self.move_piece(number, at, to)),
-        }
+            Edit::Delete { at, .. } => Action::Deleted(at, self.take_out(number, at)),
+            Edit::Move { at, to, .. } => {
+                self.move_piece(number, at, to);
+                Action::Moved(at, to)
+            }
+        };
+        self.stay_small();
+        Ok(Undo {
+            file: number,
+            action,
+        })
     }
 
     /// Does an edit, and answers what is needed to undo it.

@@ -1,14 +1,14 @@
 //! A file by the keys of its pieces.
 
-ghost use Rattle.std.specs.Prelude.{◌≡◌, ℕ, ◌+◌, ◌<◌, ◌≤◌, All, IfOk, OnOk, length, map, slice_index_or, slice_set, take};
+ghost use Rattle.std.specs.Prelude.{◌≡◌, ◌+◌, ◌<◌, ◌≤◌, All, IfOk, OnOk, OnErr, length, map, slice_index_or, slice_set, take};
 ghost use Rattle.std.specs.List.{concat, insert, remove};
 ghost use Rattle.std.specs.VecDeque.{deque_len};
 ghost use Rattle.mm_store.specs.Language.Pieces.{Pieces, text_under};
 ghost use Rattle.mm_store.specs.Language.Undoing.{moved_list};
 ghost use Rattle.mm_store.specs.Code.Inside.{IsPieceKept};
 ghost use Rattle.mm_store.specs.Code.Lines.{AreStarts, AreStartsTo, IsStart};
-ghost use Rattle.mm_store.specs.Code.Room.{HasRoom, HasRoomForOne};
-ghost use Rattle.mm_store.specs.Code.Starts.{KnowsStarts};
+ghost use Rattle.mm_store.specs.Code.Room.{HasRoom};
+ghost use Rattle.mm_store.specs.Code.Starts.{HasKeys, KnowsStarts};
 
 use crate::piece_text::PieceText;
 use crate::pieces::PieceStore;
@@ -63,13 +63,10 @@ impl FileText {
 
     /// Sets the beginnings of pieces and tail that are not known, in one step for each.
     pub(crate) fn restart(&mut self, pieces: &PieceStore)
-        requires room { deque_len self.old.keys < length self.old.starts.items }
+        requires room { HasRoom self.old }
         requires small { length (concat (map (text_under pieces.now) self.old.keys.items)) ≤ 4294967295 }
         requires starts { KnowsStarts pieces.now self.old }
-        ensures starts { KnowsStarts pieces.now self.new }
-        ensures many { length self.new.starts.items ≡ length self.old.starts.items }
-        ensures keys { self.new.keys ≡ self.old.keys }
-        ensures tail { self.new.tail ≡ self.old.tail }
+        ensures keys { HasKeys pieces.now self.old self.new self.old.keys.items }
         ensures deleted { self.new.deleted ≡ self.old.deleted }
     {
         for piece in self.known..self.keys.len() {
@@ -106,17 +103,12 @@ impl FileText {
         self.known = self.known.min(piece);
     }
 
-    /// Makes room for one key more, in addition to the deleted pieces that are parked. If there is none, the room is doubled.
-    pub(crate) fn reserve_one(&mut self) -> Result<(), AllocError>
-        requires room { HasRoom self.old }
-        ensures ok { OnOk result (HasRoomForOne self.new) }
-        ensures room { HasRoom self.new }
-        ensures items { self.new.keys.items ≡ self.old.keys.items }
-        ensures starts { (number : ℕ) (default : Start) → number ≤ deque_len self.old.keys
-            → slice_index_or self.new.starts.items number default ≡ slice_index_or self.old.starts.items number default }
-        ensures known { self.new.known ≡ self.old.known }
-        ensures tail { self.new.tail ≡ self.old.tail }
-        ensures deleted { self.new.deleted ≡ self.old.deleted }
+    /// Makes room for one deleted piece more, and counts it. If there is none, the room is doubled.
+    pub(crate) fn hold_one(&mut self) -> Result<(), AllocError>
+        requires { HasRoom self.old }
+        ensures ok { OnOk result (self.new.deleted ≡ self.old.deleted + 1) }
+        ensures err { OnErr result (self.new.deleted ≡ self.old.deleted) }
+        ensures keys { (pieces : Pieces) → HasKeys pieces self.old self.new self.old.keys.items }
     {
         let held = self.keys.len() + self.deleted;
         if self.keys.capacity() <= held {
@@ -125,6 +117,7 @@ impl FileText {
         if self.starts.len() <= held + 1 {
             self.starts.push(Start::first())?;
         }
+        self.deleted += 1;
         Ok(())
     }
 
@@ -134,45 +127,12 @@ impl FileText {
         requires room { HasRoom self.old }
         ensures value { result ≡ slice_index_or self.old.keys.items at 0 }
         ensures deleted { self.new.deleted ≡ self.old.deleted }
-        ensures items { self.new.keys.items ≡ slice_set self.old.keys.items at key }
-        ensures starts { (pieces : Pieces) → KnowsStarts pieces self.old → KnowsStarts pieces self.new }
-        ensures room { HasRoom self.new }
-        ensures tail { self.new.tail ≡ self.old.tail }
+        ensures keys { (pieces : Pieces) → HasKeys pieces self.old self.new (slice_set self.old.keys.items at key) }
     {
         let old = self.keys[at];
         self.keys[at] = key;
         self.forget_behind(at);
         old
-    }
-
-    /// Puts a key before the one at `at`, for which there is room.
-    pub(crate) fn put_key(&mut self, at: usize, key: usize)
-        requires there { at ≤ deque_len self.old.keys }
-        requires room { HasRoomForOne self.old }
-        ensures deleted { self.new.deleted ≡ self.old.deleted }
-        ensures items { self.new.keys.items ≡ insert self.old.keys.items at key }
-        ensures starts { (pieces : Pieces) → KnowsStarts pieces self.old → KnowsStarts pieces self.new }
-        ensures room { HasRoom self.new }
-        ensures tail { self.new.tail ≡ self.old.tail }
-    {
-        self.keys.insert(at, key).unwrap();
-        self.forget_behind(at);
-    }
-
-    /// Takes a key out, and answers it.
-    pub(crate) fn take_key(&mut self, at: usize) -> usize
-        requires there { at < deque_len self.old.keys }
-        requires room { HasRoom self.old }
-        ensures value { result ≡ slice_index_or self.old.keys.items at 0 }
-        ensures deleted { self.new.deleted ≡ self.old.deleted }
-        ensures items { self.new.keys.items ≡ remove self.old.keys.items at }
-        ensures starts { (pieces : Pieces) → KnowsStarts pieces self.old → KnowsStarts pieces self.new }
-        ensures room { HasRoom self.new }
-        ensures tail { self.new.tail ≡ self.old.tail }
-    {
-        let key = self.keys.remove(at).unwrap();
-        self.forget_behind(at);
-        key
     }
 
     /// Takes a key out, and answers it. Its piece is parked, and room for it is kept.
@@ -181,10 +141,7 @@ impl FileText {
         requires room { HasRoom self.old }
         ensures value { result ≡ slice_index_or self.old.keys.items at 0 }
         ensures deleted { self.new.deleted ≡ self.old.deleted + 1 }
-        ensures items { self.new.keys.items ≡ remove self.old.keys.items at }
-        ensures starts { (pieces : Pieces) → KnowsStarts pieces self.old → KnowsStarts pieces self.new }
-        ensures room { HasRoom self.new }
-        ensures tail { self.new.tail ≡ self.old.tail }
+        ensures keys { (pieces : Pieces) → HasKeys pieces self.old self.new (remove self.old.keys.items at) }
     {
         let key = self.keys.remove(at).unwrap();
         self.deleted += 1;
@@ -198,10 +155,7 @@ impl FileText {
         requires parked { 0 < self.old.deleted }
         requires room { HasRoom self.old }
         ensures deleted { self.new.deleted + 1 ≡ self.old.deleted }
-        ensures items { self.new.keys.items ≡ insert self.old.keys.items at key }
-        ensures starts { (pieces : Pieces) → KnowsStarts pieces self.old → KnowsStarts pieces self.new }
-        ensures room { HasRoom self.new }
-        ensures tail { self.new.tail ≡ self.old.tail }
+        ensures keys { (pieces : Pieces) → HasKeys pieces self.old self.new (insert self.old.keys.items at key) }
     {
         self.keys.insert(at, key).unwrap();
         self.deleted -= 1;
@@ -210,12 +164,10 @@ impl FileText {
 
     /// Gives up the room for a deleted piece.
     pub(crate) fn forget_deleted(&mut self)
-        requires { 0 < self.old.deleted }
-        ensures keys { self.new.keys ≡ self.old.keys }
-        ensures starts { self.new.starts ≡ self.old.starts }
-        ensures known { self.new.known ≡ self.old.known }
-        ensures tail { self.new.tail ≡ self.old.tail }
+        requires parked { 0 < self.old.deleted }
+        requires room { HasRoom self.old }
         ensures deleted { self.new.deleted + 1 ≡ self.old.deleted }
+        ensures keys { (pieces : Pieces) → HasKeys pieces self.old self.new self.old.keys.items }
     {
         self.deleted -= 1;
     }
@@ -226,10 +178,7 @@ impl FileText {
         requires there_too { to < deque_len self.old.keys }
         requires room { HasRoom self.old }
         ensures deleted { self.new.deleted ≡ self.old.deleted }
-        ensures items { self.new.keys.items ≡ moved_list self.old.keys.items at to }
-        ensures starts { (pieces : Pieces) → KnowsStarts pieces self.old → KnowsStarts pieces self.new }
-        ensures room { HasRoom self.new }
-        ensures tail { self.new.tail ≡ self.old.tail }
+        ensures keys { (pieces : Pieces) → HasKeys pieces self.old self.new (moved_list self.old.keys.items at to) }
     {
         let key = self.keys.remove(at).unwrap();
         self.keys.insert(to, key).unwrap();

@@ -25,6 +25,7 @@ mod line_feeds;
 mod piece_text;
 mod pieces;
 mod room;
+mod standing;
 mod start;
 mod state;
 mod undo;

@@ -53,7 +53,8 @@ impl Model for PieceStore {
 
 /// One for a parked piece.
 fn count_parked(state: State) -> usize
-    ensures { result ≡ parked_state (piece_state state) }
+    ensures is { result ≡ parked_state (piece_state state) }
+    ensures one { result ≤ 1 }
 {
     match state {
         State::Standing => 0,
@@ -87,18 +88,17 @@ impl PieceStore {
         }
     }
 
-    /// Puts a piece that is in a file under a key that no piece has.
-    pub(crate) fn put(&mut self, kept: PieceText) -> Result<usize, AllocError>
+    /// Puts a piece under a key that no piece has.
+    pub(crate) fn put(&mut self, kept: PieceText, state: State) -> Result<usize, AllocError>
         requires { IsPieceKept kept }
         ensures fresh { IfOk result (λ key. finite.get self.old key ≡ None) }
-        ensures ok { IfOk result (λ key. self.new ≡ finite.insert self.old key (standing_piece kept.text)) }
+        ensures ok { IfOk result (λ key. self.new ≡ finite.insert self.old key (record { text = kept.text; state = piece_state state })) }
         ensures err { OnErr result (self.new ≡ self.old) }
     {
-        let piece = Piece {
-            kept,
-            state: State::Standing,
-        };
-        Ok(self.slab.insert(piece)?)
+        let key = self.slab.insert(Piece { kept, state })?;
+        prove!(self.parked < self.slab.len());
+        self.parked += count_parked(state);
+        Ok(key)
     }
 
     /// Puts pieces that are in a file, each under a key that no piece has: all or, if memory runs out, none.

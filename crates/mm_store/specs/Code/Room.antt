@@ -7,8 +7,3 @@ use Rattle.mm_store.specs.declared.file_text.FileText.{FileText}
 pub record HasRoom (file : FileText) : Type 0 where
   pub keys : deque_len file.keys + file.deleted ≤ deque_capacity file.keys
   pub starts : deque_len file.keys + file.deleted < length file.starts.items
-
--- there is such room, and room for one more
-pub record HasRoomForOne (file : FileText) : Type 0 where
-  pub keys : deque_len file.keys + file.deleted + 1 ≤ deque_capacity file.keys
-  pub starts : deque_len file.keys + file.deleted + 1 < length file.starts.items

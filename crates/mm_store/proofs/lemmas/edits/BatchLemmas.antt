@@ -5,7 +5,7 @@ use Rattle.mm_store.specs.Language.{FileFacts.{parked_in}, FilesView.{FilesView}
 use Rattle.mm_store.specs.Language.Pieces.{Standing, Removal, HeldPiece, IsParked, Pieces, parked_count, parked_pieces, parked_state, parked_under, with_state}
 use Rattle.mm_store.specs.{Language.Undoing.{UndoView, EditAction, CanSettle, CanUndo, Fits, IsUndoable, dropped, key_at, reversed, settled, spent, undone}, Code.Batched.{StandOnce}}
 use Rattle.mm_store.{specs.Code.Kept.{standing_count}, proofs.lemmas.files.{MapLemmas.{get_drop_other, get_drop_same}, PieceLemmas.{get_state_other, get_state_same}}}
-use Rattle.mm_store.proofs.lemmas.{files.StoreLemmas.{parked_changed, parked_dropped}, edits.StepLemmas.{key_stands, parked}}
+use Rattle.mm_store.proofs.lemmas.{files.StoreLemmas.{parked_changed, parked_dropped}, edits.StepLemmas.{key_stands, parked, stands}}
 use Rattle.mm_text.specs.Language.Asked.{Asked}
 use Rattle.std.specs.FinMap as finite
 use Rattle.mm_store.specs.Language.Undoing as action
@@ -101,17 +101,11 @@ settled_count a b [] can also same = same
 settled_count a b (undo ∷ undos) can also same =
     spent_count (settled_all undos a) (settled_all undos b) undo.action can.1 also.1 (settled_count a b undos can.0 also.0 same)
 
--- a piece of a file is there, and is not parked
-record Stands (o : Option HeldPiece) : Type 0 where
-  pub piece : HeldPiece
-  pub is : o ≡ Some piece
-  pub none : parked_state piece.state ≡ 0
-
-stands : (o : Option HeldPiece) → standing_count o ≡ 1 → Stands o
-stands o is = grind (arith, common_steps) steps 200000
-
+-- a piece of a file is not parked
 standing_drop : (p : Pieces) (k : ℕ) → standing_count (finite.get p k) ≡ 1 → parked_pieces (finite.remove p k) ≡ parked_pieces p
-standing_drop p k is = grind (arith, common_steps, stands (finite.get p k) is, parked_dropped p k (stands (finite.get p k) is).piece (stands (finite.get p k) is).is) steps 200000
+standing_drop p k is =
+    let was = stands (finite.get p k) is in
+    omega (arith, parked_dropped p k was.piece was.is, ap parked_state was.state)
 
 -- a piece that is put back is not parked, and the others are as before
 stood : (p : Pieces) (k key : ℕ) → parked_under (with_state p k Standing) key ≡ 1 → key ≢ k

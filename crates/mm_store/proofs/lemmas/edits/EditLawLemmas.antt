@@ -1,17 +1,14 @@
 -- Edits over files without keys: what they leave as it was, and what reverses them.
-use Rattle.std.proofs.lemmas.{Grind.{common_steps}, List.{Edits.{length-remove}, Folds.{position_or_len-set}, Sums.{sum_by-cons, sum_by-insert, sum_by-remove}}}
+use Rattle.std.proofs.lemmas.{Grind.{common_steps}, List.{set-set, Edits.{get_or-insert_at, length-insert, length-remove}, Folds.{position_or_len-set}, Sums.{sum_by-insert, sum_by-remove}}}
 use Rattle.std.proofs.lemmas.Option.{get_or_from_slice_get, none-some, same_Some}
-use Rattle.std.proofs.Common.{◌≡◌, ◌≢◌, ℕ, suc, ◌+◌, ◌<◌, ◌≤◌, List, [], ◌∷◌, ◌++◌, Some, length, map, get_or, set, refl, sym, ap, ◌∙◌, append_assoc, arith, length-append, slice_get, length-set}
-use Rattle.std.{proofs.Math.Seq.{map-set_same}, specs.{List.{concat, sum_by, insert, remove}, Str.{bytes_eq}}}
+use Rattle.std.proofs.Common.{◌≡◌, ◌≢◌, ℕ, suc, ◌+◌, ◌≤◌, List, [], ◌∷◌, ◌++◌, Some, length, map, get_or, set, refl, sym, ap, ◌∙◌, append_assoc, arith, length-append, slice_get, length-set}
+use Rattle.std.{proofs.Math.Seq.{map-set_same}, specs.{List.{sum_by, insert, remove}, Str.{bytes_eq}}}
 use Rattle.mm_text.specs.Language.{Cut.{ended}, Asked.{Asked, Insert, Replace, Delete, Move}}
 use Rattle.mm_store.specs.Language.{FilesView.{File, file_number, find_file, bytes_of, text_of}, Edits.{edited, with_members, IsEditOf}}
+use Rattle.mm_store.proofs.lemmas.files.ListLemmas.{insert_removed, remove_inserted, size_is}
 
 -- one element of a list set
 module _ {X : Type 0} where
-  set_set : (xs : List X) (n : ℕ) (x y : X) → set (set xs n x) n y ≡ set xs n y
-  set_set (z ∷ xs) (suc n) x y = ap (λ ys. z ∷ ys) (set_set xs n x y)
-  set_set _ _ x y = refl
-
   set_back : (xs : List X) (n : ℕ) (x : X) → slice_get xs n ≡ Some x → set xs n x ≡ xs
   set_back (z ∷ xs) (suc n) x there = ap (λ ys. z ∷ ys) (set_back xs n x there)
   set_back xs n x there = grind (arith, common_steps, same_Some) steps 200000
@@ -23,23 +20,6 @@ module _ {X : Type 0} where
   pub get_other : (xs : List X) (n m : ℕ) (y : X) → m ≢ n → slice_get (set xs n y) m ≡ slice_get xs m
   get_other (z ∷ xs) (suc n) (suc m) y differs = get_other xs n m y (λ e. differs (ap suc e))
   get_other xs n m y differs = grind (arith, common_steps) steps 200000
-
-  longer : (xs : List X) (i : ℕ) (x : X) → i ≤ length xs → length (insert xs i x) ≡ suc (length xs)
-  longer (y ∷ xs) (suc i) x le = ap suc (longer xs i x (omega arith))
-  longer xs i x le = grind (arith, common_steps) steps 200000
-
-  -- the member that was put in is there, and the list without it is that of before
-  put_there : (xs : List X) (i : ℕ) (x d : X) → i ≤ length xs → get_or (insert xs i x) i d ≡ x
-  put_there (y ∷ xs) (suc i) x d le = put_there xs i x d (omega arith)
-  put_there xs i x d le = grind (arith, common_steps) steps 200000
-
-  remove_put : (xs : List X) (i : ℕ) (x : X) → i ≤ length xs → remove (insert xs i x) i ≡ xs
-  remove_put (y ∷ xs) (suc i) x le = ap (λ ys. y ∷ ys) (remove_put xs i x (omega arith))
-  remove_put xs i x le = grind (arith, common_steps) steps 200000
-
-  put_removed : (xs : List X) (i : ℕ) (d : X) → i < length xs → insert (remove xs i) i (get_or xs i d) ≡ xs
-  put_removed (y ∷ xs) (suc i) d lt = ap (λ ys. y ∷ ys) (put_removed xs i d (omega arith))
-  put_removed xs i d lt = grind (arith, common_steps) steps 200000
 
   -- in a list of three parts
   put_at : (before behind : List X) (x : X) → insert (before ++ behind) (length before) x ≡ before ++ x ∷ behind
@@ -99,10 +79,6 @@ bytes_set : (files : List File) (n : ℕ) (file other : File) → slice_get file
 bytes_set (first ∷ files) (suc n) file other there = omega (arith, bytes_set files n file other there)
 bytes_set files n file other there = grind (arith, common_steps, none-some, same_Some) steps 200000
 
-size_is : (texts : List (List ℕ)) → length (concat texts) ≡ sum_by length texts
-size_is [] = refl
-size_is (text ∷ texts) = omega (arith, length-append text (concat texts), sum_by-cons length text texts, size_is texts)
-
 -- an edit of the edited file that gives its members of before gives the files of before
 module _ (edit : Asked) (files between : List File) (is : IsEditOf edit files between) where
   abbrev pub changed : File
@@ -121,7 +97,7 @@ module _ (edit : Asked) (files between : List File) (is : IsEditOf edit files be
   changed_there = ap (λ fs. slice_get fs is.number) is.is_after ∙ get_set files is.number is.file changed is.placed.file_there.there
 
   pub given_back : (members : List (List ℕ)) → members ≡ is.file.pieces → files ≡ set between is.number (with_members changed members)
-  given_back members same = grind (arith, common_steps, set_back, set_set) steps 200000
+  given_back members same = grind (arith, common_steps, set_back, set-set) steps 200000
 
   pub bytes_before : bytes_of between + sum_by length is.file.pieces ≡ bytes_of files + sum_by length (edited edit is.file.pieces)
   bytes_before = grind (arith, common_steps, bytes_set files is.number is.file changed is.placed.file_there.there, length-append, size_is) steps 200000
@@ -137,10 +113,10 @@ insert_reversed name text at files between is = record {
   file = changed (Insert name at text) files between is;
   placed = record {
     file_there = record { named = number_kept (Insert name at text) files between is name ∙ is.placed.file_there.named; there = changed_there (Insert name at text) files between is };
-    among = omega (arith, longer is.file.pieces at (ended text) is.placed.among, is.placed.among);
+    among = omega (arith, length-insert is.file.pieces at (ended text) is.placed.among, is.placed.among);
   };
   one_unit = tt;
-  is_after = given_back (Insert name at text) files between is (remove (insert is.file.pieces at (ended text)) at) (remove_put is.file.pieces at (ended text) is.placed.among);
+  is_after = given_back (Insert name at text) files between is (remove (insert is.file.pieces at (ended text)) at) (remove_inserted is.file.pieces at (ended text) is.placed.among);
   within = omega (arith, is.within, bytes_before (Insert name at text) files between is, sum_by-insert length is.file.pieces at (ended text));
 }
 
@@ -152,7 +128,7 @@ move_reversed name at to files between is =
     let rest = remove pieces at in
     let short = length-remove pieces at is.placed.among.0 in
     let le : to ≤ length rest = omega (arith, short, is.placed.among.1) in
-    let long = longer rest to old le in
+    let long = length-insert rest to old le in
     record {
       number = is.number;
       file = changed (Move name at to) files between is;
@@ -162,7 +138,7 @@ move_reversed name at to files between is =
       };
       one_unit = tt;
       is_after = given_back (Move name at to) files between is (insert (remove (insert rest to old) to) at (get_or (insert rest to old) to []))
-          (ap (λ x. insert (remove (insert rest to old) to) at x) (put_there rest to old [] le) ∙ ap (λ xs. insert xs at old) (remove_put rest to old le) ∙ put_removed pieces at [] is.placed.among.0);
+          (ap (λ x. insert (remove (insert rest to old) to) at x) (get_or-insert_at rest to old [] le) ∙ ap (λ xs. insert xs at old) (remove_inserted rest to old le) ∙ insert_removed pieces at [] is.placed.among.0);
       within = omega (arith, is.within, bytes_before (Move name at to) files between is, sum_by-insert length rest to old, sum_by-remove length pieces at [] is.placed.among.0);
     }
 

@@ -1,9 +1,8 @@
 -- What settling leaves as it was.
-use Rattle.std.proofs.lemmas.{Grind.{common_steps}, Bool.{cases_eq}, List.Sums.{sum_by-cons}, Option.{none-some, same_Some}}
-use Rattle.std.proofs.Common.{◌≡◌, ◌≢◌, inl, inr, ℕ, suc, ◌≤◌, List, [], ◌∷◌, Some, map, refl, ap, ◌∙◌, arith, slice_get}
+use Rattle.std.proofs.{lemmas.{Grind.{common_steps}, List.Sums.{sum_by-cons}, Option.{none-some, same_Some}}, Common.{◌≡◌, ◌≢◌, ℕ, suc, ◌≤◌, List, [], ◌∷◌, Some, map, refl, ap, ◌∙◌, arith, slice_get}}
 use Rattle.mm_store.specs.Language.{Batches.{KeepsStanding}, FilesView.{FilesView, KeyedFile, file_view, files_in, piece_view, plain}, Pieces.{Pieces, parked_under, text_under}}
-use Rattle.mm_store.{specs.{Language.Undoing.{EditAction, CanSettle, dropped, spent}, Code.{Batched.{StandOnce}, Kept.{one, places, times}}}, proofs.lemmas.files.ListLemmas.{one_same, plain_same}}
-use Rattle.mm_store.proofs.lemmas.{files.{MapLemmas.{get_drop_other}, PieceLemmas.{text_drop_other}}, edits.StepLemmas.{parked, parked_by_some}}
+use Rattle.mm_store.specs.{Language.Undoing.{EditAction, CanSettle, dropped, spent}, Code.{Batched.{StandOnce}, Kept.{one, places, times}}}
+use Rattle.mm_store.proofs.lemmas.{files.{ListLemmas.{map_kept, one_same, plain_same}, MapLemmas.{get_drop_other}, PieceLemmas.{text_drop_other}}, edits.StepLemmas.{parked, parked_by_some}}
 use Rattle.std.specs.FinMap as finite
 use Rattle.mm_store.specs.Language.Undoing as action
 
@@ -19,13 +18,8 @@ places_there files n key file is = grind (arith, common_steps, none-some, same_S
 -- files of which no piece has this key, after what is under it has changed
 module _ (p p' : Pieces) (k : ℕ) (same : (q : ℕ) → q ≢ k → text_under p' q ≡ text_under p q) where
   views_same : (keys : List ℕ) → times k keys ≡ 0 → map (piece_view p') keys ≡ map (piece_view p) keys
-  views_same [] none = refl
-  views_same (x ∷ keys) none =
-      let cons = sum_by-cons (one k) x keys in
-      elim (cases_eq x k) [
-        | inl is ↦ absurd (omega (arith, cons, one_same k, ap (one k) is))
-        | inr differs ↦ ap (λ (text : List ℕ). record { key = record { at = x }; text = text } ∷ map (piece_view p') keys) (same x differs) ∙ ap (λ vs. piece_view p x ∷ vs) (views_same keys (omega (arith, cons)))
-      ]
+  views_same keys none = map_kept (piece_view p) (piece_view p') keys
+      (λ q some. ap (λ (text : List ℕ). record { key = record { at = q }; text = text }) (same q (λ e. omega (arith, some, none, ap (λ q. times q keys) e))))
 
   keyed_same : (files : List KeyedFile) → places k files ≡ 0 → map (file_view p') files ≡ map (file_view p) files
   keyed_same [] none = refl

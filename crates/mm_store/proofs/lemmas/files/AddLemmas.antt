@@ -4,10 +4,9 @@ use Rattle.std.proofs.{Common.{position, Bool, Result, Ok}, lemmas.{Grind.{commo
 use Rattle.std.specs.{Result.{OnOk}, List.{position_or_len, concat}, Map.{keys_of, lookup}}
 use Rattle.mm_text.specs.Language.{Cut.{ArePieces}, Reading.{HasWords}}
 use Rattle.mm_store.specs.Code.{Inside.{CanBeKept, ArePut}, Starts.{HasStarts}, Room.{HasRoom}}
-use Rattle.mm_store.specs.{Code.Kept.{files_view, keyed_file, one, times, places, standing_count, deletions, IsRoomy, HaveRoom, HaveStarts, AreFilesKept}, declared.file_text.FileText.{FileText}}
-use Rattle.mm_store.specs.{declared.files.Files.TheInside.{Inside}, Language.Pieces.{HeldPiece, Pieces, standing_piece, text_in, text_under}}
-use Rattle.mm_store.{specs.Language.FilesView.{File, KeyedFile, plain, plain_file, text_of, bytes_of}, proofs.lemmas.files.{MapLemmas.{get_put_same, get_put_other}, PieceLemmas.{stands_put}}}
-use Rattle.mm_store.proofs.lemmas.{files.{ListLemmas.{one_same}, EntryLemmas.{room_same}}, expansion.WeightLemmas.{weight_fresh}}
+use Rattle.mm_store.specs.{Code.Kept.{files_view, keyed_file, times, places, standing_count, deletions, IsRoomy, HaveRoom, HaveStarts, AreFilesKept}, declared.file_text.FileText.{FileText}}
+use Rattle.mm_store.specs.{declared.files.Files.TheInside.{Inside}, Language.{Pieces.{HeldPiece, Pieces, standing_piece, text_in, text_under}, FilesView.{File, plain, plain_file, text_of, bytes_of}}}
+use Rattle.mm_store.proofs.lemmas.{files.{MapLemmas.{get_put_same, get_put_other}, PieceLemmas.{stands_put}, ListLemmas.{plain_kept}, EntryLemmas.{room_same}}, expansion.WeightLemmas.{weight_fresh}}
 use Rattle.std.specs.FinMap as finite
 
 -- pieces that were put: what was there stays
@@ -41,15 +40,6 @@ put_many p p' (text ∷ texts) keys put = omega (arith, ap length put.2, put_man
 
 pub stands_some : (o : Option HeldPiece) → 1 ≤ standing_count o → is_some o ≡ true
 stands_some o some = grind (arith, common_steps) steps 200000
-
-texts_kept : (p p' : Pieces) (keys : List ℕ) → ((q : ℕ) → 1 ≤ times q keys → text_under p' q ≡ text_under p q) → map (text_under p') keys ≡ map (text_under p) keys
-texts_kept p p' [] same = refl
-texts_kept p p' (k ∷ keys) same =
-    grind (arith, common_steps, texts_kept p p' keys (λ q some. same q (omega (arith, some, sum_by-cons (one q) k keys))), one_same, sum_by-cons) steps 200000
-
-pub plain_kept : (p p' : Pieces) (files : List KeyedFile) → ((q : ℕ) → 1 ≤ places q files → text_under p' q ≡ text_under p q) → map (plain_file p') files ≡ map (plain_file p) files
-plain_kept p p' [] same = refl
-plain_kept p p' (file ∷ files) same = grind (arith, common_steps, plain_kept p p' files (λ q some. same q (omega (arith, some))), texts_kept) steps 200000
 
 places_more : {Y : Type 0} (e : Vec ℕ Y × FileText) (q : ℕ) (es : List (Vec ℕ Y × FileText)) → places q (map keyed_file (es ++ e ∷ [])) ≡ places q (map keyed_file es) + times q e.1.keys.items
 places_more e q [] = omega arith

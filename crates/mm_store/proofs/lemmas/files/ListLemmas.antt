@@ -1,6 +1,6 @@
 -- Keys in lists of files, and what the files mean.
-use Rattle.std.proofs.lemmas.{Grind.{common_steps}, Bool.{cases_eq, Decides.{nat_tests}}, List.{get_or-map, length-map, Sums.{sum_by-cons, sum_by-insert, sum_by-set, get_or-le-sum_by}}}
-use Rattle.std.{proofs.Common.{◌≡◌, ◌≢◌, inl, inr, ℕ, suc, ◌+◌, ◌<◌, ◌≤◌, List, [], ◌∷◌, length, map, get_or, set, refl, ap, ◌∙◌, arith, length-append}, specs.List.{concat, sum_by, insert}}
+use Rattle.std.proofs.lemmas.{Grind.{common_steps}, Bool.Decides.{nat_tests}, List.{get_or-map, length-map, Sums.{sum_by-cons, sum_by-insert, sum_by-set, get_or-le-sum_by}}}
+use Rattle.std.{proofs.Common.{◌≡◌, ◌≢◌, ℕ, suc, ◌+◌, ◌<◌, ◌≤◌, List, [], ◌∷◌, length, map, get_or, set, refl, ap, ◌∙◌, arith, length-append}, specs.List.{concat, sum_by, insert, remove}}
 use Rattle.mm_store.specs.{Code.{Edited.{pieces_in, with_pieces}, Kept.{one, times, places}}, Language.{FilesView.{File, KeyedFile, plain_file, bytes_of}, Pieces.{Pieces, text_under}}}
 use Rattle.mm_store.specs.Language.Undoing.{keys_in, with_keys}
 
@@ -10,8 +10,8 @@ one_same k = grind (arith, nat_tests)
 pub one_other : (k x : ℕ) → k ≢ x → one k x ≡ 0
 one_other k x differs = grind (arith, nat_tests)
 
-pub times_at : (keys : List ℕ) (at : ℕ) → at < length keys → 1 ≤ times (get_or keys at 0) keys
-times_at keys at lt = omega (arith, one_same (get_or keys at 0), get_or-le-sum_by (one (get_or keys at 0)) keys at 0 lt)
+pub times_at : (keys : List ℕ) (at d : ℕ) → at < length keys → 1 ≤ times (get_or keys at d) keys
+times_at keys at d lt = omega (arith, one_same (get_or keys at d), get_or-le-sum_by (one (get_or keys at d)) keys at d lt)
 
 pub places_with : (q : ℕ) (files : List KeyedFile) (n : ℕ) (keys : List ℕ) → n < length files → places q (with_keys files n keys) + times q (keys_in files n) ≡ places q files + times q keys
 places_with q (file ∷ files) (suc n) keys lt = omega (arith, places_with q files n keys (omega arith))
@@ -42,19 +42,27 @@ keys_with files n a lt = grind (arith, common_steps) steps 200000
 pub back : (files : List KeyedFile) (n : ℕ) (a b : List ℕ) → b ≡ keys_in files n → with_keys (with_keys files n a) n b ≡ files
 back files n a b is = with_with files n a b ∙ ap (with_keys files n) is ∙ with_same files n
 
+-- what keys of the files, or of one, become by functions that agree on them
+pub map_kept : {X : Type 0} (f g : ℕ → X) (keys : List ℕ) → ((q : ℕ) → 1 ≤ times q keys → g q ≡ f q) → map g keys ≡ map f keys
+map_kept f g [] same = refl
+map_kept f g (k ∷ keys) same =
+    grind (arith, common_steps, map_kept f g keys (λ q some. same q (omega (arith, some, sum_by-cons (one q) k keys))), one_same, sum_by-cons) steps 200000
+
+pub plain_kept : (p p' : Pieces) (files : List KeyedFile) → ((q : ℕ) → 1 ≤ places q files → text_under p' q ≡ text_under p q) → map (plain_file p') files ≡ map (plain_file p) files
+plain_kept p p' [] same = refl
+plain_kept p p' (file ∷ files) same = grind (
+  arith,
+  common_steps,
+  plain_kept p p' files (λ q some. same q (omega (arith, some))),
+  map_kept (text_under p) (text_under p') file.keys (λ q some. same q (omega (arith, some))),
+) steps 200000
+
 module _ (p p' : Pieces) (k : ℕ) (same : (q : ℕ) → q ≢ k → text_under p' q ≡ text_under p q) where
   pub texts_same : (keys : List ℕ) → times k keys ≡ 0 → map (text_under p') keys ≡ map (text_under p) keys
-  texts_same [] none = refl
-  texts_same (x ∷ keys) none =
-      let cons = sum_by-cons (one k) x keys in
-      elim (cases_eq x k) [
-        | inl is ↦ absurd (omega (arith, cons, one_same k, ap (one k) is))
-        | inr differs ↦ ap (λ t. t ∷ map (text_under p') keys) (same x differs) ∙ ap (λ ts. text_under p x ∷ ts) (texts_same keys (omega (arith, cons)))
-      ]
+  texts_same keys none = map_kept (text_under p) (text_under p') keys (λ q some. same q (λ e. omega (arith, some, none, ap (λ q. times q keys) e)))
 
   pub plain_same : (files : List KeyedFile) → places k files ≡ 0 → map (plain_file p') files ≡ map (plain_file p) files
-  plain_same [] none = refl
-  plain_same (file ∷ files) none = grind (arith, common_steps, plain_same files (omega arith), texts_same file.keys (omega arith)) steps 200000
+  plain_same files none = plain_kept p p' files (λ q some. same q (λ e. omega (arith, some, none, ap (λ q. places q files) e)))
 
 pub plain_with : (p : Pieces) (files : List KeyedFile) (n : ℕ) (keys : List ℕ) → map (plain_file p) (with_keys files n keys) ≡ with_pieces (map (plain_file p) files) n (map (text_under p) keys)
 plain_with p (file ∷ files) (suc n) keys = ap (λ fs. plain_file p file ∷ fs) (plain_with p files n keys)
@@ -68,7 +76,7 @@ plain_pieces p _ _ = refl
 abbrev pub size : List (List ℕ) → ℕ
 size texts = sum_by length texts
 
-size_is : (texts : List (List ℕ)) → length (concat texts) ≡ size texts
+pub size_is : (texts : List (List ℕ)) → length (concat texts) ≡ size texts
 size_is [] = refl
 size_is (text ∷ texts) = omega (arith, length-append text (concat texts), sum_by-cons length text texts, size_is texts)
 
@@ -102,15 +110,17 @@ read_member p files n at there = ap (λ ts. get_or ts at []) (plain_pieces p fil
 pub count_members : (p : Pieces) (files : List KeyedFile) (n : ℕ) → length (pieces_in (map (plain_file p) files) n) ≡ length (keys_in files n)
 count_members p files n = ap length (plain_pieces p files n) ∙ length-map (keys_in files n) (text_under p)
 
-pub with_pieces_same : (files : List File) (n : ℕ) → with_pieces files n (pieces_in files n) ≡ files
-with_pieces_same (file ∷ files) (suc n) = ap (λ fs. file ∷ fs) (with_pieces_same files n)
-with_pieces_same _ _ = refl
-
-pub pieces_with : (files : List File) (n : ℕ) (members : List (List ℕ)) → n < length files → pieces_in (with_pieces files n members) n ≡ members
-pieces_with (file ∷ files) (suc n) members lt = pieces_with files n members (omega arith)
-pieces_with files n members lt = grind (arith, common_steps) steps 200000
-
 -- the members of a file are no longer than all texts
 pub members_within : (files : List File) (n : ℕ) → length (concat (pieces_in files n)) ≤ bytes_of files
 members_within (file ∷ files) (suc n) = omega (arith, members_within files n)
 members_within files n = grind (arith, common_steps, length-append) steps 200000
+
+-- a member put in and taken out, or taken out and put back
+module _ {X : Type 0} where
+  pub remove_inserted : (xs : List X) (i : ℕ) (x : X) → i ≤ length xs → remove (insert xs i x) i ≡ xs
+  remove_inserted (y ∷ xs) (suc i) x le = ap (λ ys. y ∷ ys) (remove_inserted xs i x (omega arith))
+  remove_inserted xs i x le = grind (arith, common_steps) steps 200000
+
+  pub insert_removed : (xs : List X) (i : ℕ) (d : X) → i < length xs → insert (remove xs i) i (get_or xs i d) ≡ xs
+  insert_removed (y ∷ xs) (suc i) d lt = ap (λ ys. y ∷ ys) (insert_removed xs i d (omega arith))
+  insert_removed xs i d lt = grind (arith, common_steps) steps 200000

@@ -32,8 +32,8 @@ weigh_is (e ∷ es) = sum_by-cons (λ (entry : ℕ × HeldPiece). parked_state e
 pub parked_is : (p : Pieces) → parked_pieces p ≡ weigh parked_weight (finite.entries p)
 parked_is p = weigh_is (finite.entries p)
 
-pub parked_put : (p : Pieces) (k : ℕ) (text : List ℕ) → finite.get p k ≡ None → parked_pieces (finite.insert p k (standing_piece text)) ≡ parked_pieces p
-parked_put p k text fresh = omega (arith, parked_is p, parked_is (finite.insert p k (standing_piece text)), weight_fresh parked_weight p k (standing_piece text) fresh)
+pub parked_put : (p : Pieces) (k : ℕ) (piece : HeldPiece) → finite.get p k ≡ None → parked_pieces (finite.insert p k piece) ≡ parked_pieces p + parked_state piece.state
+parked_put p k piece fresh = omega (arith, parked_is p, parked_is (finite.insert p k piece), weight_fresh parked_weight p k piece fresh)
 
 pub parked_changed : (p : Pieces) (k : ℕ) (piece : HeldPiece) (s : PieceState) → finite.get p k ≡ Some piece → parked_pieces (with_state p k s) + parked_under p k ≡ parked_pieces p + parked_state s
 parked_changed p k piece s is = grind (arith, common_steps, parked_is, weight_put) steps 200000
@@ -54,7 +54,7 @@ weigh_slots first (Some piece ∷ rest) =
     let fresh : finite.get later first ≡ None = get-from_entries nat_cmp_total (map entry_view (entries_from (first + 1) rest)) first ∙ below first (first + 1) rest (omega arith) in
     omega (arith, weight_fresh parked_weight later first (held piece) fresh, weigh_slots (first + 1) rest, sum_by-cons (λ (entry : ℕ × Piece). parked_state (piece_state entry.1.state)) (first, piece) (entries_from (first + 1) rest))
 
-no_more : (first : ℕ) (slots : List (Option Piece)) → sum_by (λ (entry : ℕ × Piece). parked_state (piece_state entry.1.state)) (entries_from first slots) ≤ count_by is_some slots
+pub no_more : (first : ℕ) (slots : List (Option Piece)) → sum_by (λ (entry : ℕ × Piece). parked_state (piece_state entry.1.state)) (entries_from first slots) ≤ count_by is_some slots
 no_more first [] = omega arith
 no_more first (None ∷ rest) = omega (arith, no_more (first + 1) rest, sum_by-cons (λ (o : Option Piece). cond (is_some o) 1 0) None rest)
 no_more first (Some piece ∷ rest) = grind (arith, common_steps, no_more (first + 1) rest, sum_by-cons) steps 200000
@@ -85,7 +85,7 @@ kept_all old new (first ∷ pieces) keys put all kept =
 
 pub parked_all : (old new : Pieces) (texts : List (List ℕ)) (keys : List ℕ) → ArePut old texts keys new → parked_pieces new ≡ parked_pieces old
 parked_all old new [] keys put = ap parked_pieces put.1
-parked_all old new (text ∷ texts) keys put = parked_all (finite.insert old put.0 (standing_piece text)) new texts put.1 put.4 ∙ parked_put old put.0 text put.3
+parked_all old new (text ∷ texts) keys put = omega (arith, parked_all (finite.insert old put.0 (standing_piece text)) new texts put.1 put.4, parked_put old put.0 (standing_piece text) put.3)
 
 -- what the map has under a key is what the slab has
 pub at_is : (slab : Slab Piece) (key : ℕ) (m : Pieces) → pieces_of slab ≡ m → finite.get m key ≡ option_map held (get slab key)

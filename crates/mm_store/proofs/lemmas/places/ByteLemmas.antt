@@ -1,6 +1,6 @@
 -- Where a byte of a piece is in its file, by the fields of `Files`.
 use Rattle.std.proofs.{Common.{rules, arith, ◌≡◌, ℕ, ◌+◌, ◌<◌, ◌≤◌, List, [], Some, length, map, take, get_or, sym, ap, ◌∙◌, subst, Global, Vec, slice_get}, lemmas.Grind.{common_steps}}
-use Rattle.std.{proofs.lemmas.Option.{slice_get-map, slice_get_within, get_or_from_slice_get, same_Some}, specs.List.{concat}}
+use Rattle.std.proofs.lemmas.Option.{slice_get-map, slice_get_within, get_or_from_slice_get, same_Some}
 use Rattle.mm_store.{proofs.lemmas.{places.PlaceLemmas.{before_in}, files.FileLemmas.{IsShown}}, specs.declared.{file_text.FileText.{FileText}, files.Files.TheInside.{Inside}}}
 use Rattle.mm_store.specs.{Language.{Pieces.{Pieces, text_under}, FilesView.{File, FilesView, plain_file, text_of}, FileFacts.{IsByte, piece_offset}}, Code.Lines.{bytes_before}}
 use Rattle.mm_store.specs.Code.Kept.{files_view, keyed_file}
@@ -27,6 +27,3 @@ module _ {inside : Inside} {number : ℕ} {entry : Vec ℕ Global × FileText} {
       let before = ap (λ n. take n text) byte.is_offset ∙ ap (take (piece_offset byte.file piece + at)) byte.is_text in
       let found = in_file byte.file piece at byte.bytes byte.is_piece byte.within in
       subst (λ (file : File). IsIn file.pieces piece at (take offset text)) file_is (subst (IsIn byte.file.pieces piece at) (sym before) found)
-
-  pub offset_in : offset ≡ length (concat (take piece (map (text_under p) entry.1.keys.items))) + at
-  offset_in = byte.is_offset ∙ ap (λ (file : File). piece_offset file piece + at) file_is

@@ -1,7 +1,7 @@
 -- Where pieces begin, after a change of their list.
 use Rattle.std.proofs.lemmas.{Grind.{common_steps}, Bool.{cases_eq}, List.{length-map, get_or-set_same, get_or-set_other, take-map}}
 use Rattle.std.{proofs.Common.{◌≡◌, ℕ, suc, ◌+◌, ◌<◌, ◌≤◌, List, ◌∷◌, length, deque_len, take, get_or, set, ap, arith}, specs.List.{concat, insert, remove}}
-use Rattle.mm_store.specs.{declared.{start.Start.{Start}, file_text.FileText.{FileText}}, Language.Pieces.{Pieces, text_under}, Code.{Starts.{HasStarts, KnowsStarts}, Lines.{IsStart, AreStartsTo}}}
+use Rattle.mm_store.specs.{declared.{start.Start.{Start}, file_text.FileText.{FileText}}, Language.Pieces.{Pieces, text_under}, Code.{Starts.{KnowsStarts}, Lines.{IsStart, AreStartsTo}}}
 
 pub take_insert : (xs : List ℕ) (at key n : ℕ) → n ≤ at → at ≤ length xs → take n (insert xs at key) ≡ take n xs
 take_insert (x ∷ xs) (suc at) key (suc n) le there = ap (λ ys. x ∷ ys) (take_insert xs at key n (omega arith) (omega arith))
@@ -25,10 +25,6 @@ pub starts_stay : (p : Pieces) (v w : FileText) → w.keys.items ≡ v.keys.item
     → ((number : ℕ) (default : Start) → number ≤ deque_len v.keys → get_or w.starts.items number default ≡ get_or v.starts.items number default)
     → KnowsStarts p v → KnowsStarts p w
 starts_stay p v w items known same knows = grind (arith, common_steps, length-map v.keys.items (text_under p), knows.starts) steps 200000
-
--- and if nothing of this changed
-pub starts_alike : (texts : List (List ℕ)) (v w : FileText) → w.known ≡ v.known → w.starts ≡ v.starts → HasStarts texts v → HasStarts texts w
-starts_alike texts v w known starts has = grind (arith, common_steps, has.starts) steps 200000
 
 -- one start more
 pub starts_more : (texts : List (List ℕ)) (starts : List Start) (last : ℕ) (start : Start) → suc last < length starts → IsStart (concat (take (last + 1) texts)) start

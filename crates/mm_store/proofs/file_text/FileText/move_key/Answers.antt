@@ -1,9 +1,9 @@
-use Rattle.std.{proofs.{Common.{◌≡◌, ◌+◌, ◌<◌, ◌≤◌, length, take, ap, ◌∙◌, arith}, lemmas.List.Edits.{length-insert, length-remove}}, specs.List.{insert, remove}}
+use Rattle.std.{proofs.{Common.{rules, ◌≡◌, ◌+◌, ◌<◌, ◌≤◌, length, take, ap, ◌∙◌, arith}, lemmas.List.Edits.{length-insert, length-remove}}, specs.List.{insert, remove}}
 use Rattle.mm_store.proofs.lemmas.places.StartLemmas.{known_same, take_insert, take_remove}
 use Rattle.mm_store.proofs.file_text.FileText.move_key.Goals as goal
 
-pub returns-clause-starts : goal.returns-clause-starts
-returns-clause-starts c = λ pieces knows.
+pub returns-clause-keys : goal.returns-clause-keys
+returns-clause-keys c pieces =
     let old = c.args.self.now.keys.items in
     let at = c.args.at in
     let to = c.args.to in
@@ -16,6 +16,11 @@ returns-clause-starts c = λ pieces knows.
     let less : length short + 1 ≡ length old = omega (arith, ap length removed, length-remove old at there) in
     let long : to ≤ length short = omega (arith, less, c.requires.there_too, c.args.self.now.keys.ok.0) in
     let least : (w.known ≤ at) × (w.known ≤ to) = (omega (arith, c.min.ensures, c.forget_behind.ensures.at_most), omega (arith, c.min.ensures, c.forget_behind.ensures.at_most)) in
-    known_same pieces c.args.self.now w c.forget_behind.ensures.no_more (omega (arith, least.0, ap length items, length-insert short to key long, less, there))
-    (λ n le. ap (take n) items ∙ take_insert short to key n (omega (arith, le, least.1)) long ∙ ap (take n) removed ∙ take_remove old at n (omega (arith, le, least.0)))
-    c.forget_behind.ensures.starts knows
+    record {
+      items = search rules;
+      starts = known_same pieces c.args.self.now w c.forget_behind.ensures.no_more (omega (arith, least.0, ap length items, length-insert short to key long, less, there))
+          (λ n le. ap (take n) items ∙ take_insert short to key n (omega (arith, le, least.1)) long ∙ ap (take n) removed ∙ take_remove old at n (omega (arith, le, least.0)))
+          c.forget_behind.ensures.starts;
+      room = search rules;
+      tail = search rules;
+    }

@@ -7,7 +7,7 @@ use Rattle.mm_store.proofs.pieces.PieceStore.drop_piece.Goals as goal
 pub overflow_sub-self : goal.overflow_sub-self
 overflow_sub-self c =
     let is = get_is c.self.inside.slab c.args.key ∙ ap (option_map held) (sym c.in-Some.ensures.value) in
-    omega (arith, c.count_parked.ensures, parked_dropped (pieces_of c.self.inside.slab) c.args.key (held c.in-Some.piece) is, c.self.invariant.counted)
+    omega (arith, c.count_parked.ensures.is, parked_dropped (pieces_of c.self.inside.slab) c.args.key (held c.in-Some.piece) is, c.self.invariant.counted)
 
 pub invariant_of-self-in-Some : goal.invariant_of-self-in-Some
 invariant_of-self-in-Some c =
@@ -16,7 +16,7 @@ invariant_of-self-in-Some c =
     let updates = c.in-Some.ensures.updates in
     record {
       kept = kept_drop slab c.try_remove.new.self c.args.key updates c.self.invariant.kept;
-      counted = omega (arith, c.count_parked.ensures, parked_dropped (pieces_of slab) c.args.key (held c.in-Some.piece) is, c.self.invariant.counted, ap parked_pieces (drop_is slab c.try_remove.new.self c.args.key updates));
+      counted = omega (arith, c.count_parked.ensures.is, parked_dropped (pieces_of slab) c.args.key (held c.in-Some.piece) is, c.self.invariant.counted, ap parked_pieces (drop_is slab c.try_remove.new.self c.args.key updates));
     }
 
 pub returns-in-None-clause-pieces : goal.returns-in-None-clause-pieces

@@ -28,7 +28,7 @@ invariant_of-self-in-Some c =
     let under = parked_there slab c.args.key (pieces_of slab) piece refl there in
     record {
       kept = kept_put slab new c.args.key after (Updates-with_value slab c.args.key after (ap is_some there)) (c.self.invariant.kept c.args.key piece there) c.self.invariant.kept;
-      counted = omega (arith, c.self.invariant.counted, c.parked_under.ensures, parked_there slab c.args.key c.args.self.now piece c.self.view_is there, under, changed, dropped, now, c.count_parked.ensures);
+      counted = omega (arith, c.self.invariant.counted, c.parked_under.ensures, parked_there slab c.args.key c.args.self.now piece c.self.view_is there, under, changed, dropped, now, c.count_parked.ensures.is);
     }
 
 pub returns-in-None : goal.returns-in-None

@@ -1,6 +1,0 @@
-use Rattle.std.proofs.{Common.{rules}, lemmas.List.Edits.{length-remove}}
-use Rattle.mm_store.proofs.lemmas.places.StartLemmas.{known_same, take_remove}
-use Rattle.mm_store.proofs.file_text.FileText.take_key.Goals as goal
-
-pub returns-clause-starts : goal.returns-clause-starts
-returns-clause-starts c = search (rules, known_same, length-remove, take_remove) steps 200000
