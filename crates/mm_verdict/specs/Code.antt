@@ -4,14 +4,11 @@ pub mod Coded
 pub mod Reader
 pub mod LeftToRight
 pub mod Labels
-pub mod Decoded
 pub mod Cited
 pub mod KeptWork
 pub mod NamedItems
 pub mod KeptChecker
 pub mod UsedLabels
-pub mod MarkedLabels
 pub mod Judged
 pub mod DecodedProof
 pub mod NumberedBase
-pub mod ShortSteps

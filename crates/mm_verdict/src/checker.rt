@@ -2,8 +2,8 @@
 
 ghost use Rattle.std.specs.Prelude.{◌≡◌};
 
+use crate::decoding::Decoding;
 use crate::known::Known;
-use crate::scratch::Scratch;
 use mm_frame::Base;
 use std::alloc::{AllocError, Global};
 use std::marker::Model;
@@ -14,8 +14,8 @@ pub struct Checker<'a> {
     base: &'a Base,
     /// What is known of it, for all checks.
     pub(crate) known: Known<'a>,
-    /// What checks use over again.
-    pub(crate) scratch: Scratch,
+    /// Room for what a proof decodes to. What it has does not count.
+    pub(crate) room: Decoding,
 }
 
 impl<'a> Model for Checker<'a> {
@@ -38,7 +38,7 @@ impl<'a> Checker<'a> {
         Checker {
             base,
             known: Known::new(alloc),
-            scratch: Scratch::new(alloc),
+            room: Decoding::new(alloc),
         }
     }
 
@@ -53,8 +53,6 @@ impl<'a> Checker<'a> {
     pub(crate) fn widen(&mut self, keys: usize) -> Result<(), AllocError>
         ensures { self.new ≡ self.old }
     {
-        let items = self.base.count();
-        self.known.widen(items, keys)?;
-        self.scratch.widen(items)
+        self.known.widen(self.base.count(), keys)
     }
 }

@@ -1,53 +1,40 @@
 //! The check of a proof.
 
-ghost use Rattle.std.specs.Prelude.{true, ◌≡◌, ◌<◌, ◌≤◌, ◌+◌, ◌++◌, ◌∷◌, ◌^◌, [], ℕ, List, Err, All, IfOk, OnOk, OnErr, length};
-ghost use Rattle.mm_frame.specs.Language.Base.{BaseView, before, said_at, is_framed_at};
-ghost use Rattle.mm_frame.specs.Language.Framing.{mandatory_numbers};
-ghost use Rattle.mm_frame.specs.Language.Answering.{IsBase};
-ghost use Rattle.mm_verdict.specs.Language.BaseLabels.{setting_at};
+ghost use Rattle.std.specs.Prelude.{◌≡◌, ◌≤◌, List, All, IfOk, IsTrue, OnOk, length};
+ghost use Rattle.mm_frame.specs.Language.Base.{BaseView};
 ghost use Rattle.mm_verdict.specs.Language.Decoding.{word_spot};
 ghost use Rattle.mm_machine.specs.Language.Verdict.{IsVerdictOnSteps};
-ghost use Rattle.mm_verdict.specs.Language.VerdictAt.{statement_at};
+ghost use Rattle.mm_machine.specs.Language.Expansion.{Step};
 ghost use Rattle.mm_machine.specs.Language.Frame.{Symbol, Setting};
 ghost use Rattle.mm_verdict.specs.Language.DecodedSteps.{IsNamedBy, decoded_steps};
-ghost use Rattle.mm_verdict.specs.Code.DecodedProof.{IsDecoded, IsFrontRun, IsJudgedDecoded, IsJudgedItem, IsJudgedWith, IsRun};
+ghost use Rattle.mm_verdict.specs.Code.DecodedProof.{IsDecoded, IsFrontRun, IsJudgedProof, IsRun, OfDecoded};
 ghost use Rattle.mm_machine.specs.Language.NamedSteps.{IsOutcomeWithin, RunSays, StopsAt};
-ghost use Rattle.mm_verdict.specs.Code.Judged.{HasProof, done_by};
+ghost use Rattle.mm_verdict.specs.Code.Judged.{HasProof, OfProof, done_by};
 ghost use Rattle.mm_verdict.specs.Code.NamedItems.{AreKnownOf, AreUsedNamesOf};
 ghost use Rattle.mm_verdict.specs.Language.Checking.{CanCheck, IsCheck};
-ghost use Rattle.mm_verdict.specs.Code.UsedLabels.{AreUseMarks};
 ghost use Rattle.mm_verdict.specs.declared.undecoded.Undecoded.TheVariants as errors;
 
 use crate::assertion::{active, expression};
 use crate::checker::Checker;
 use crate::citing::cites_used;
-use crate::decoding_laws::{decodes_short, decodes_surely, labels_are_own, mandatory_are_active};
+use crate::decoding::Decoding;
+use crate::decoding_laws::{decodes_short, decodes_surely, mandatory_are_active};
 use crate::known::Known;
-use crate::reading::{Decoding, MarkedDecoding, decode_marked};
-use crate::scratch::Scratch;
-use crate::short::{steps_before, take_more, takes_more};
+use crate::reading::{DecodedProof, decode};
+use crate::short::{steps_to_lack, take_more};
 use crate::undecoded::Undecoded;
 use crate::used::marks_of;
 use crate::work::{Checked, Work};
 use mm_frame::{Base, Files, Names, ProofWords, Resolved, places_have_frames, words_of_proof};
 use mm_machine::{
-    Active, Front, ProofFault, ProofNumber, ProofStep, RunOutcome, Spot, Verdict, lack_stops,
-    numbers_keep_places, numbers_say_the_same, run, run_counted, stops_stay,
+    Active, ProofFault, ProofNumber, ProofStep, RunOutcome, Spot, Verdict, numbers_keep_places,
+    numbers_say_the_same, run, stops_stay,
 };
 use std::alloc::{AllocError, Global};
 use std::mem;
 
-/// The numbers of the mandatory hypotheses of the sound assertion with this number.
-pub fn mandatory(base: &Base, i: usize) -> &[usize]
-    requires { (view : BaseView) × IsBase view base.now × (is_framed_at view i ≡ true) }
-    ensures { (view : BaseView) → IsBase view base.now → is_framed_at view i ≡ true → result.now ≡ mandatory_numbers (before view i) (said_at view i) }
-{
-    let frame = base.frame(i).unwrap();
-    &frame.hypotheses
-}
-
 /// The fault that decoding reports; out of memory stays what it is.
-pub fn decoding_fault(error: Undecoded) -> Result<ProofFault, AllocError>
+fn decoding_fault(error: Undecoded) -> Result<ProofFault, AllocError>
     ensures { IfOk result (λ fault. error ≡ errors.Fault fault) }
 {
     match error {
@@ -99,15 +86,6 @@ fn steps_done(outcome: RunOutcome, steps: usize) -> usize
     }
 }
 
-/// The proof of the item `i` of a base, and what it decodes to.
-#[derive(Clone, Copy)]
-pub struct DecodedProof<'b, 'a> {
-    pub base: &'b Base,
-    pub i: usize,
-    pub words: &'a ProofWords<'a>,
-    pub decoding: &'a Decoding,
-}
-
 /// Names the labels that these steps name.
 fn name_used<'b>(
     alloc: Global,
@@ -124,10 +102,19 @@ fn name_used<'b>(
     known.name_all(alloc, base, labels, &marks)
 }
 
-/// If some step may have too few entries, runs the steps of a proof before the first one, by the count of entries alone, and
-/// looks at that one. It loads no assertion for a step with too few entries. If that does not say what the steps come to, it
-/// answers `None`.
-fn run_front<'b>(
+/// Whether steps whose run came to this stop at one that is at fault or not known.
+fn stops(outcome: RunOutcome) -> bool
+    ensures { IsTrue result
+        → (place : Setting) (steps : List Step) (statement : List Symbol) → RunSays place steps statement outcome → StopsAt place steps outcome }
+{
+    matches!(outcome, RunOutcome::Fault(_, _) | RunOutcome::Unknown(_))
+}
+
+/// Runs the steps of a proof up to the first one with too few entries, by the count of entries alone. Steps that stop do so
+/// whatever comes after them, so the assertions that later steps name are not looked up. If they do not, it answers `None`.
+#[cold]
+#[inline(never)]
+fn run_to_lack<'b>(
     alloc: Global,
     known: &mut Known<'b>,
     proof: DecodedProof<'b, '_>,
@@ -142,43 +129,54 @@ fn run_front<'b>(
     numbers_keep_places(); // A law: assertions are typed by numbers, too.
     numbers_say_the_same(); // A law: what a run says by numbers, it says by names.
     stops_stay(); // A law: steps that stop do so whatever follows.
-    lack_stops(); // A law: a step that lacks entries is at fault.
     let labels: &[Resolved] = &proof.decoding.labels;
     let steps: &[ProofStep] = &proof.decoding.steps;
-    if !take_more(proof.base, labels, steps.len()) {
-        return Ok(None);
-    }
-    let count = steps_before(proof.base, labels, steps);
+    let count = steps_to_lack(proof.base, labels, steps);
     let front = &steps[..count];
     name_used(alloc, &mut *known, proof.base, labels, front)?;
     let active = Active::new(active(proof.base, proof.i));
-    let came_to = run_counted(
+    let outcome = run(
         alloc,
         &mut known.machine,
         &known.forms,
         &known.uses,
         &active,
         front,
+        expression(proof.base, proof.i),
     )?;
-    let entries = match came_to {
-        Front::Stops(outcome) => return Ok(Some(outcome)),
-        Front::Leaves(entries) => entries,
-    };
-    if takes_more(proof.base, labels, steps, count, entries) {
-        return Ok(Some(RunOutcome::Fault(ProofNumber::P07, count)));
+    if stops(outcome) {
+        return Ok(Some(outcome));
     }
     Ok(None)
 }
 
-/// Runs all steps of a proof. Marks say which labels they name.
+/// What the steps of a proof come to that has a step with too few entries, if the steps up to there say it.
+fn run_front<'b>(
+    alloc: Global,
+    known: &mut Known<'b>,
+    proof: DecodedProof<'b, '_>,
+) -> Result<Option<RunOutcome>, AllocError>
+    requires decoded { IsDecoded proof }
+    requires known { AreKnownOf proof.base.now known.old }
+    ensures { IfOk result (λ found. IsFrontRun proof.entry found known.new) }
+{
+    if take_more(
+        proof.base,
+        &proof.decoding.labels,
+        proof.decoding.steps.len(),
+    ) {
+        return run_to_lack(alloc, known, proof);
+    }
+    Ok(None)
+}
+
+/// Runs all steps of a proof.
 fn run_all<'b>(
     alloc: Global,
     known: &mut Known<'b>,
-    marks: &[bool],
     proof: DecodedProof<'b, '_>,
 ) -> Result<RunOutcome, AllocError>
     requires decoded { IsDecoded proof }
-    requires marks { AreUseMarks (length proof.decoding.now.labels.items) marks.now proof.decoding.now.steps.items }
     requires known { AreKnownOf proof.base.now known.old }
     ensures { IfOk result (λ outcome. IsRun proof.entry outcome known.new) }
 {
@@ -188,7 +186,7 @@ fn run_all<'b>(
     numbers_keep_places(); // A law: assertions are typed by numbers, too.
     numbers_say_the_same(); // A law: what a run says by numbers, it says by names.
     let labels: &[Resolved] = &proof.decoding.labels;
-    known.name_all(alloc, proof.base, labels, marks)?;
+    known.name_all(alloc, proof.base, labels, &proof.decoding.used)?;
     let active = Active::new(active(proof.base, proof.i));
     let outcome = run(
         alloc,
@@ -202,49 +200,37 @@ fn run_all<'b>(
     Ok(outcome)
 }
 
-/// Runs the steps of a proof. Marks say which labels they name.
+/// Runs the steps of a proof.
 fn run_steps<'b>(
     alloc: Global,
     known: &mut Known<'b>,
-    marks: &[bool],
     proof: DecodedProof<'b, '_>,
 ) -> Result<RunOutcome, AllocError>
     requires decoded { IsDecoded proof }
-    requires marks { AreUseMarks (length proof.decoding.now.labels.items) marks.now proof.decoding.now.steps.items }
     requires known { AreKnownOf proof.base.now known.old }
     ensures { IfOk result (λ outcome. IsRun proof.entry outcome known.new) }
 {
     match run_front(alloc, &mut *known, proof)? {
         Some(outcome) => Ok(outcome),
-        None => run_all(alloc, known, marks, proof),
+        None => run_all(alloc, known, proof),
     }
 }
 
-/// What a check says of a proof that decodes, and how many steps are done. Marks say which labels its steps name.
+/// What a check says of a proof that decodes, and how many steps are done.
 fn judge_steps<'b>(
     alloc: Global,
-    scratch: &mut Scratch,
     known: &mut Known<'b>,
-    marks: &[bool],
     proof: DecodedProof<'b, '_>,
 ) -> Result<(Checked, u64), AllocError>
     requires decoded { IsDecoded proof }
-    requires marks { AreUseMarks (length proof.decoding.now.labels.items) marks.now proof.decoding.now.steps.items }
     requires known { AreKnownOf proof.base.now known.old }
-    ensures { IfOk result (λ judged. IsJudgedDecoded proof.entry judged known.new) }
+    ensures says { IfOk result (λ judged. OfDecoded proof.entry (λ view. IsJudgedProof view proof.entry.i judged)) }
+    ensures few { IfOk result (λ judged. judged.1 ≤ 4294967295) }
+    ensures known { OnOk result (AreKnownOf proof.entry.base.now known.new) }
 {
     decodes_short(); // A law: there are no more steps than bytes.
-    labels_are_own(); // A law: no two sound items have the same label.
-    let hypotheses = mandatory(proof.base, proof.i).len();
-    let cites = cites_used(
-        alloc,
-        &mut scratch.marks,
-        proof.decoding,
-        marks,
-        hypotheses,
-        proof.words,
-    )?;
-    let outcome = run_steps(alloc, known, marks, proof)?;
+    let cites = cites_used(alloc, &mut known.marks, proof)?;
+    let outcome = run_steps(alloc, known, proof)?;
     let done = steps_done(outcome, proof.decoding.steps.len());
     let verdict = verdict(outcome, proof.decoding, proof.words.again());
     Ok((Checked::new(verdict, cites), done as u64))
@@ -253,7 +239,7 @@ fn judge_steps<'b>(
 /// What a check says of a proof, and how many steps are done.
 fn judge<'b, 'a>(
     alloc: Global,
-    scratch: &mut Scratch,
+    room: &mut Decoding,
     known: &mut Known<'b>,
     base: &'b Base,
     i: usize,
@@ -261,21 +247,21 @@ fn judge<'b, 'a>(
 ) -> Result<(Checked, u64), AllocError>
     requires proof { HasProof base.now i proof.now }
     requires known { AreKnownOf base.now known.old }
-    ensures { IfOk result (λ judged. IsJudgedWith base.now i proof.now judged known.new) }
+    ensures says { IfOk result (λ judged. OfProof base.now i proof.now (λ view. IsJudgedProof view i judged)) }
+    ensures few { IfOk result (λ judged. judged.1 ≤ 4294967295) }
+    ensures known { OnOk result (AreKnownOf base.now known.new) }
 {
-    mandatory_are_active(); // A law: mandatory hypotheses are active.
-    let mandatory = mandatory(base, i);
-    let room = mem::replace(&mut scratch.decoding, MarkedDecoding::new(alloc));
-    match decode_marked(base, i, mandatory, proof, room) {
-        Ok(marked) => {
+    let taken = mem::replace(room, Decoding::new(alloc));
+    match decode(base, i, proof, taken) {
+        Ok(decoding) => {
             let decoded = DecodedProof {
                 base,
                 i,
                 words: proof,
-                decoding: &marked.decoding,
+                decoding: &decoding,
             };
-            let judged = judge_steps(alloc, &mut *scratch, &mut *known, &marked.used, decoded);
-            drop(mem::replace(&mut scratch.decoding, marked));
+            let judged = judge_steps(alloc, &mut *known, decoded);
+            drop(mem::replace(room, decoding));
             judged
         }
         Err(error) => {
@@ -341,11 +327,12 @@ impl Checker<'_> {
     ) -> Result<(Checked, u64), AllocError>
         requires { HasProof self.old i proof.now }
         ensures base { self.new ≡ self.old }
-        ensures judged { IfOk result (IsJudgedItem self.old i proof.now) }
+        ensures says { IfOk result (λ judged. OfProof self.old i proof.now (λ view. IsJudgedProof view i judged)) }
+        ensures few { IfOk result (λ judged. judged.1 ≤ 4294967295) }
     {
         let base = self.base();
         self.known.limit();
-        let judged = judge(alloc, &mut self.scratch, &mut self.known, base, i, proof);
+        let judged = judge(alloc, &mut self.room, &mut self.known, base, i, proof);
         if judged.is_err() {
             self.known.forget();
         }

@@ -99,7 +99,7 @@ pub fn labels_are_own()
 
 /// The mandatory hypotheses of an item are active there.
 ///
-/// For `decode`, which takes their numbers.
+/// For `decode`, whose table begins with them.
 pub fn mandatory_are_active()
     ensures { MandatoryAreActive }
 {

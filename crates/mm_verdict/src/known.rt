@@ -4,7 +4,7 @@ ghost use Rattle.std.specs.Prelude.{◌≡◌, if◌then◌else◌, Some, All, I
 ghost use Rattle.mm_frame.specs.declared.base.Base.{Base as Meant};
 ghost use Rattle.mm_frame.specs.declared.base.Resolved.TheVariants as answers;
 ghost use Rattle.mm_verdict.specs.Language.DecodedSteps.{IsNamedBy};
-ghost use Rattle.mm_verdict.specs.Code.NamedItems.{AreKnownOf, AreNamesOf, Grows, IsOneMore, IsUseIn, TakesNothing, masked};
+ghost use Rattle.mm_verdict.specs.Code.NamedItems.{AreKnownOf, AreNamesOf, Grows, IsOneMore, TakesNothing, masked};
 
 use crate::assertion::{expression, look_up};
 use mm_frame::{Base, Resolved};
@@ -40,6 +40,8 @@ pub struct Known<'a> {
     /// For the number of an item, where it may be in one of the two lists of numbers. What is found by it is compared, so
     /// that no answer depends on it.
     places: Vec<u32>,
+    /// For the number of an item a mark: whether a label in use of the last proof names it. Those of other proofs do not count.
+    pub marks: Vec<bool>,
     /// The mandatory hypotheses of the assertion that was looked up last.
     mandatory: Vec<Hypothesis<'a, NumberedSymbol>>,
     /// How many proofs were checked since all was forgotten.
@@ -70,10 +72,15 @@ fn note(places: &mut [u32], number: usize, place: usize) {
     }
 }
 
-/// Gives a table this many places, if it has fewer.
-fn widen_places(places: &mut Vec<u32>, count: usize) -> Result<(), AllocError> {
+/// Gives tables this many places, if they have fewer.
+fn widen_tables(
+    places: &mut Vec<u32>,
+    marks: &mut Vec<bool>,
+    count: usize,
+) -> Result<(), AllocError> {
     if places.len() < count {
         places.resize(count, 0)?;
+        marks.resize(count, false)?;
     }
     Ok(())
 }
@@ -103,6 +110,7 @@ impl<'a> Known<'a> {
             cited: Vec::new(alloc),
             uses: Vec::new(alloc),
             places: Vec::new(alloc),
+            marks: Vec::new(alloc),
             mandatory: Vec::new(alloc),
             proofs: 0,
         }
@@ -113,7 +121,7 @@ impl<'a> Known<'a> {
     pub(crate) fn widen(&mut self, items: usize, keys: usize) -> Result<(), AllocError>
         ensures { (base : Meant) → AreKnownOf base self.old → AreKnownOf base self.new }
     {
-        widen_places(&mut self.places, items)?;
+        widen_tables(&mut self.places, &mut self.marks, items)?;
         self.machine.widen(keys)?;
         self.forms.widen(keys)
     }
@@ -206,24 +214,8 @@ impl<'a> Known<'a> {
         Ok(Use::Assertion(place))
     }
 
-    /// What a label is used for.
-    fn name(&mut self, alloc: Global, base: &'a Base, label: Resolved) -> Result<Use, AllocError>
-        requires known { AreKnownOf base.now self.old }
-        requires entry { IsNamedBy base.now label }
-        ensures { IfOk result (λ used. IsOneMore base.now self.old self.new used label) }
-    {
-        match label {
-            Resolved::Hypothesis(number) => {
-                let place = self.push(alloc, base, number)?;
-                Ok(Use::Lasting(place))
-            }
-            Resolved::Assertion(number) => self.cite(alloc, base, number),
-            Resolved::Inactive | Resolved::Unknown => Ok(Use::Nothing),
-        }
-    }
-
     /// What a label is used for, if it is marked.
-    fn name_marked(
+    fn name(
         &mut self,
         alloc: Global,
         base: &'a Base,
@@ -234,10 +226,14 @@ impl<'a> Known<'a> {
         requires entry { IsNamedBy base.now label }
         ensures { IfOk result (λ used. IsOneMore base.now self.old self.new used (if marked then label else answers.Unknown)) }
     {
-        if marked {
-            self.name(alloc, base, label)
-        } else {
-            Ok(Use::Nothing)
+        match label {
+            _ if !marked => Ok(Use::Nothing),
+            Resolved::Hypothesis(number) => {
+                let place = self.push(alloc, base, number)?;
+                Ok(Use::Lasting(place))
+            }
+            Resolved::Assertion(number) => self.cite(alloc, base, number),
+            Resolved::Inactive | Resolved::Unknown => Ok(Use::Nothing),
         }
     }
 
@@ -258,7 +254,7 @@ impl<'a> Known<'a> {
         self.uses.clear();
         self.uses.reserve(labels.len())?;
         for k in 0..labels.len() {
-            let used = self.name_marked(alloc, base, labels[k], marks[k])?;
+            let used = self.name(alloc, base, labels[k], marks[k])?;
             self.uses.push(used)?;
         }
         Ok(())

@@ -4,7 +4,7 @@ ghost use Rattle.std.specs.Prelude.{◌≡◌, ◌≤◌, ◌+◌, ℕ, List, Ok
 ghost use Rattle.mm_frame.specs.Language.Base.{BaseView};
 ghost use Rattle.mm_frame.specs.Language.Answering.{IsBase};
 ghost use Rattle.mm_verdict.specs.Language.BaseLabels.{setting_at};
-ghost use Rattle.mm_verdict.specs.Language.Decoding.{word_spot, read_label as read_label_lem, is_close as is_close_lem};
+ghost use Rattle.mm_verdict.specs.Language.Decoding.{word_spot, read_label as read_label_lem};
 ghost use Rattle.mm_verdict.specs.declared.undecoded.Undecoded.TheVariants as errors;
 ghost use Rattle.mm_verdict.specs.Language.DecodedSteps.{IsEntry, entry_step};
 ghost use Rattle.mm_verdict.specs.Code.Labels.{TellsWord, FromBegin, IsListed, TellsListed};

@@ -6,7 +6,6 @@ ghost use Rattle.mm_verdict.specs.Language.Numbers as numbers;
 ghost use Rattle.std.specs.Option.{ok_or};
 ghost use Rattle.mm_verdict.specs.Language.Decoding.{nameable};
 ghost use Rattle.mm_verdict.specs.Code.LeftToRight.{read_behind, read_on};
-ghost use Rattle.mm_machine.specs.Language.NamedSteps.{meant};
 ghost use Rattle.mm_verdict.specs.Code.Coded.{TellsSteps, meant_or, meant_steps, LettersGive};
 ghost use Rattle.mm_verdict.specs.Code.UsedLabels.{AreUseMarks, IsLabelWithin};
 

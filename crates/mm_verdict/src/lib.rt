@@ -6,6 +6,7 @@ mod checker;
 mod checking;
 mod citing;
 mod citing_laws;
+mod decoding;
 mod decoding_laws;
 mod examples;
 mod item_laws;
@@ -14,7 +15,6 @@ mod labels;
 mod letters;
 mod program;
 mod reading;
-mod scratch;
 mod short;
 mod undecoded;
 mod used;
@@ -25,6 +25,7 @@ pub use assertion::{AssertionParts, look_up};
 pub use checker::Checker;
 pub use checking::check;
 pub use citing_laws::cites_tell;
+pub use decoding::Decoding;
 pub use decoding_laws::{
     cites_rise, decodes_short, decodes_surely, each_is_written, has_number_table, has_one_division,
     labels_are_own, letters_read_on, mandatory_are_active, numbers_are_apart,
@@ -47,7 +48,6 @@ pub use mm_machine::{
     ProofStep, Spot, Use, Verdict,
 };
 pub use program::{Program, program_of};
-pub use reading::Decoding;
 pub use undecoded::Undecoded;
 pub use words::{is_close, is_open, is_unknown};
 pub use work::{Checked, Work};

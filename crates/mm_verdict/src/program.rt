@@ -10,10 +10,10 @@ ghost use Rattle.mm_verdict.specs.Language.Programs.{IsProgramAt};
 ghost use Rattle.mm_verdict.specs.Language.ReadIn.{HasTheorem, OfTheorem};
 ghost use Rattle.mm_verdict.specs.Language.VerdictAt.{decoding_at};
 
-use crate::checking::mandatory;
+use crate::decoding::Decoding;
 use crate::decoding_laws::{decodes_surely, mandatory_are_active};
 use crate::known::Known;
-use crate::reading::{MarkedDecoding, decode_marked};
+use crate::reading::decode;
 use crate::undecoded::Undecoded;
 use mm_frame::{Base, Files, words_of_proof};
 use mm_machine::ProofStep;
@@ -53,13 +53,11 @@ pub fn program_of<'a>(
     mandatory_are_active(); // A law: mandatory hypotheses are active.
     decodes_surely(); // A law: what decoding makes sure of.
     let proof = words_of_proof(files, base.item(i));
-    let mandatory = mandatory(base, i);
-    let room = MarkedDecoding::new(alloc);
-    let marked = decode_marked(base, i, mandatory, &proof, room)?;
+    let decoding = decode(base, i, &proof, Decoding::new(alloc))?;
     let mut known = Known::new(alloc);
-    known.name_all(alloc, base, &marked.decoding.labels, &marked.used)?;
+    known.name_all(alloc, base, &decoding.labels, &decoding.used)?;
     Ok(Program {
         known,
-        steps: marked.decoding.steps,
+        steps: decoding.steps,
     })
 }

@@ -1,21 +1,22 @@
 //! Decoding: the steps of a proof, or its first fault.
 
-ghost use Rattle.std.specs.Prelude.{◌≡◌, true, ◌+◌, List, Ok, IfOk, IfErr, map, length, codes, bytes_eq, ◌∷◌, ◌++◌};
+ghost use Rattle.std.specs.Prelude.{◌≡◌, true, false, ◌+◌, List, Ok, IfOk, IfErr, map, length, ◌∷◌, ◌++◌};
 ghost use Rattle.mm_machine.specs.Language.Expansion.{Step};
-ghost use Rattle.mm_frame.specs.Language.Base.{BaseView};
+ghost use Rattle.mm_frame.specs.Language.Base.{BaseView, before, said_at, is_framed_at};
+ghost use Rattle.mm_frame.specs.Language.Framing.{mandatory_numbers};
 ghost use Rattle.mm_frame.specs.Language.Answering.{IsBase};
-ghost use Rattle.mm_verdict.specs.Language.BaseLabels.{setting_at, AreActive};
+ghost use Rattle.mm_verdict.specs.Language.BaseLabels.{setting_at};
 ghost use Rattle.mm_verdict.specs.Language.Decoding.{read_word as read_word_lem, is_compressed as is_compressed_lem};
 ghost use Rattle.mm_frame.specs.declared.base.Resolved.TheVariants as answers;
-ghost use Rattle.mm_verdict.specs.Language.DecodedSteps.{decoded_steps, TellsFault, decoding_of, labels_at, label_table};
+ghost use Rattle.mm_verdict.specs.Language.VerdictAt.{decoding_at};
 ghost use Rattle.mm_machine.specs.Language.NamedSteps.{meant};
-ghost use Rattle.mm_verdict.specs.Language.DecodedSteps.{AreEntries, IsEntry, entry_step, entry_steps, word_step};
-ghost use Rattle.mm_verdict.specs.Code.Coded.{TellsSteps};
-ghost use Rattle.mm_verdict.specs.Code.Decoded.{InViews, WhereActive, compressed_at, normal_at, steps_by, listed_table};
-ghost use Rattle.mm_verdict.specs.Code.Labels.{TellsWord};
+ghost use Rattle.mm_verdict.specs.Language.DecodedSteps.{IsEntry, TellsFault, entry_step};
+ghost use Rattle.mm_verdict.specs.Code.Judged.{HasProof, IsDecoding, OfProof};
+ghost use Rattle.mm_verdict.specs.Code.Labels.{InViews, TellsWord};
 ghost use Rattle.mm_verdict.specs.Code.UsedLabels.{IsLabelWithin};
-ghost use Rattle.mm_verdict.specs.Code.MarkedLabels.{HasMarks};
 
+use crate::decoding::Decoding;
+use crate::decoding_laws::mandatory_are_active;
 use crate::labels::{read_label, read_list};
 use crate::letters::{MarkedSteps, read_letters};
 use crate::undecoded::Undecoded;
@@ -23,43 +24,15 @@ use crate::used::mark;
 use crate::words::{is_open, is_unknown};
 use mm_frame::{Base, ProofWords, Resolved};
 use mm_machine::{Action, ProofStep, Spot};
-use std::alloc::{AllocError, Global};
+use std::alloc::AllocError;
 
-/// The steps of a proof, and what the labels that they name mean.
-#[derive(Drop)]
-pub struct Decoding {
-    /// Of a compressed proof what its numbers name first: the mandatory hypotheses and the listed labels; of a normal
-    /// one what its words name, with `Unknown` for a `?`.
-    pub labels: Vec<Resolved>,
-    /// The steps, in order.
-    pub steps: Vec<ProofStep>,
-}
-
-impl Decoding {
-    /// Nothing, which takes no memory.
-    pub fn new(alloc: Global) -> Decoding {
-        Decoding {
-            labels: Vec::new(alloc),
-            steps: Vec::new(alloc),
-        }
-    }
-}
-
-/// A decoding, and for each of its labels whether one of its steps names it.
-#[derive(Drop)]
-pub struct MarkedDecoding {
-    pub decoding: Decoding,
-    pub used: Vec<bool>,
-}
-
-impl MarkedDecoding {
-    /// Nothing, which takes no memory.
-    pub fn new(alloc: Global) -> MarkedDecoding {
-        MarkedDecoding {
-            decoding: Decoding::new(alloc),
-            used: Vec::new(alloc),
-        }
-    }
+/// The proof of the item `i` of a base, and what it decodes to.
+#[derive(Clone, Copy)]
+pub struct DecodedProof<'b, 'a> {
+    pub base: &'b Base,
+    pub i: usize,
+    pub words: &'a ProofWords<'a>,
+    pub decoding: &'a Decoding,
 }
 
 /// The entries of the mandatory hypotheses, which are the items with these numbers, in place of what a list has.
@@ -74,42 +47,47 @@ fn hypotheses(room: Vec<Resolved>, mandatory: &[usize]) -> Result<Vec<Resolved>,
     Ok(labels)
 }
 
-/// Decodes a compressed proof of the item with the number `i`.
+/// The numbers of the mandatory hypotheses of the sound assertion with this number.
+pub fn mandatory(base: &Base, i: usize) -> &[usize]
+    requires { (view : BaseView) × IsBase view base.now × (is_framed_at view i ≡ true) }
+    ensures { (view : BaseView) → IsBase view base.now → is_framed_at view i ≡ true → result.now ≡ mandatory_numbers (before view i) (said_at view i) }
+{
+    let frame = base.frame(i).unwrap();
+    &frame.hypotheses
+}
+
+/// Decodes the compressed proof of the theorem with the number `i`.
 fn decode_compressed(
     base: &Base,
     i: usize,
-    mandatory: &[usize],
     proof: &ProofWords,
-    room: MarkedDecoding,
-) -> Result<MarkedDecoding, Undecoded>
-    requires { is_compressed_lem proof.now ≡ true }
-    ensures marks { IfOk result HasMarks }
-    ensures ok { IfOk result (λ d. WhereActive base.now i mandatory.now (λ view.
-        compressed_at view i mandatory.now proof.now ≡ Ok (steps_by view d.decoding))) }
-    ensures entries { IfOk result (λ d. WhereActive base.now i mandatory.now (λ view. AreEntries view i d.decoding.labels.items)) }
-    ensures table { IfOk result (λ d. WhereActive base.now i mandatory.now (λ view.
-        entry_steps view d.decoding.labels.items ≡ listed_table view mandatory.now proof.now)) }
-    ensures err { IfErr result (λ e. WhereActive base.now i mandatory.now (λ view.
-        TellsSteps e (compressed_at view i mandatory.now proof.now))) }
+    room: Decoding,
+) -> Result<Decoding, Undecoded>
+    requires proof { HasProof base.now i proof.now }
+    requires compressed { is_compressed_lem proof.now ≡ true }
+    ensures ok { IfOk result (λ d. OfProof base.now i proof.now (IsDecoding base.now i proof.now d)) }
+    ensures err { IfErr result (λ e. OfProof base.now i proof.now (λ view. TellsFault e (decoding_at view i))) }
 {
-    let MarkedDecoding { decoding, used } = room;
-    let mut labels = hypotheses(decoding.labels, mandatory)?;
+    mandatory_are_active(); // A law: mandatory hypotheses are active.
+    let Decoding {
+        labels,
+        used,
+        steps,
+    } = room;
+    let mut labels = hypotheses(labels, mandatory(base, i))?;
     let mut words = proof.again();
     let _open = words.next_word();
     let close = read_list(base, i, &mut words, &mut labels)?;
-    let steps = decoding.steps;
     let read = read_letters(
         MarkedSteps { steps, used },
         &mut words,
         close + 1,
         labels.len(),
     )?;
-    Ok(MarkedDecoding {
-        decoding: Decoding {
-            labels,
-            steps: read.steps,
-        },
+    Ok(Decoding {
+        labels,
         used: read.used,
+        steps: read.steps,
     })
 }
 
@@ -129,24 +107,24 @@ fn read_word(base: &Base, i: usize, word: &[u8], n: usize) -> Result<(Resolved, 
     }
 }
 
-/// The words of a normal proof of the item with the number `i`, one by one.
+/// Decodes the normal proof of the theorem with the number `i`, word by word.
 fn decode_normal(
     base: &Base,
     i: usize,
     proof: &ProofWords,
-    room: MarkedDecoding,
-) -> Result<MarkedDecoding, Undecoded>
-    ensures marks { IfOk result HasMarks }
-    ensures ok { IfOk result (λ d. InViews base.now (λ view. normal_at view i proof.now ≡ Ok (steps_by view d.decoding))) }
-    ensures entries { IfOk result (λ d. InViews base.now (λ view. AreEntries view i d.decoding.labels.items)) }
-    ensures table { IfOk result (λ d. InViews base.now (λ view. entry_steps view d.decoding.labels.items ≡ map word_step proof.now)) }
-    ensures err { IfErr result (λ e. InViews base.now (λ view. TellsSteps e (normal_at view i proof.now))) }
+    room: Decoding,
+) -> Result<Decoding, Undecoded>
+    requires { is_compressed_lem proof.now ≡ false }
+    ensures ok { IfOk result (λ d. OfProof base.now i proof.now (IsDecoding base.now i proof.now d)) }
+    ensures err { IfErr result (λ e. OfProof base.now i proof.now (λ view. TellsFault e (decoding_at view i))) }
 {
-    let mut labels = room.decoding.labels;
+    let Decoding {
+        mut labels,
+        mut used,
+        mut steps,
+    } = room;
     labels.clear();
-    let mut steps = room.decoding.steps;
     steps.clear();
-    let mut used = room.used;
     used.clear();
     let mut words = proof.again();
     let mut n = 0;
@@ -161,8 +139,11 @@ fn decode_normal(
         mark(&mut used, action);
         n += 1;
     }
-    let decoding = Decoding { labels, steps };
-    Ok(MarkedDecoding { decoding, used })
+    Ok(Decoding {
+        labels,
+        used,
+        steps,
+    })
 }
 
 /// Whether the words of a proof are those of a compressed one: the first is a `(`.
@@ -176,29 +157,22 @@ pub fn is_compressed(proof: &ProofWords) -> bool
     }
 }
 
-/// Decodes the proof of the item with the number `i`, which has these words, and whose mandatory hypotheses are the items
-/// with these numbers, and marks the labels that its steps name.
+/// Decodes the proof of the theorem with the number `i`, which has these words, and marks the labels that its steps name.
 ///
 /// It reads the words once, in time linear in their bytes, and looks each label up once. The lists of an older decoding
 /// are used over again; what they have does not count. After an error nothing is kept.
-pub fn decode_marked(
+pub fn decode(
     base: &Base,
     i: usize,
-    mandatory: &[usize],
     proof: &ProofWords,
-    room: MarkedDecoding,
-) -> Result<MarkedDecoding, Undecoded>
-    ensures marks { IfOk result HasMarks }
-    ensures ok { IfOk result (λ d. WhereActive base.now i mandatory.now (λ view.
-        decoding_of view i mandatory.now proof.now ≡ Ok (decoded_steps view d.decoding proof.now))) }
-    ensures entries { IfOk result (λ d. WhereActive base.now i mandatory.now (λ view. AreEntries view i d.decoding.labels.items)) }
-    ensures table { IfOk result (λ d. WhereActive base.now i mandatory.now (λ view.
-        entry_steps view d.decoding.labels.items ≡ label_table (labels_at view mandatory.now) proof.now)) }
-    ensures err { IfErr result (λ e. WhereActive base.now i mandatory.now (λ view.
-        TellsFault e (decoding_of view i mandatory.now proof.now))) }
+    room: Decoding,
+) -> Result<Decoding, Undecoded>
+    requires { HasProof base.now i proof.now }
+    ensures ok { IfOk result (λ d. OfProof base.now i proof.now (IsDecoding base.now i proof.now d)) }
+    ensures err { IfErr result (λ e. OfProof base.now i proof.now (λ view. TellsFault e (decoding_at view i))) }
 {
     if is_compressed(proof) {
-        decode_compressed(base, i, mandatory, proof, room)
+        decode_compressed(base, i, proof, room)
     } else {
         decode_normal(base, i, proof, room)
     }

@@ -1,17 +1,12 @@
 //! Proofs that name assertions with more hypotheses than they have steps: somewhere an entry is missing.
 
-ghost use Rattle.std.specs.Prelude.{◌<◌, ◌≤◌, ℕ, Some, IsTrue, length};
-ghost use Rattle.mm_frame.specs.Language.Base.{BaseView};
-ghost use Rattle.mm_frame.specs.Language.Answering.{IsBase};
-ghost use Rattle.mm_verdict.specs.Code.ShortSteps.{NamesLarger, TakesMore};
+ghost use Rattle.std.specs.Prelude.{◌≤◌, length};
 
 use mm_frame::{Base, Resolved};
 use mm_machine::{Action, ProofStep};
 
 /// How many entries what a label names takes from the stack.
-fn taken_by(base: &Base, label: Resolved) -> usize
-    ensures { (view : BaseView) (n : ℕ) → IsBase view base.now → n < result → NamesLarger view label n }
-{
+fn taken_by(base: &Base, label: Resolved) -> usize {
     match label {
         Resolved::Assertion(number) => match base.frame(number) {
             Some(frame) => frame.hypotheses.len(),
@@ -47,35 +42,17 @@ fn entries_behind(base: &Base, labels: &[Resolved], action: Action, count: usize
     }
 }
 
-/// How many steps there are before the first with too few entries, by the count of entries alone.
-pub fn steps_before(base: &Base, labels: &[Resolved], steps: &[ProofStep]) -> usize
+/// How many steps there are up to the first with too few entries, by the count of entries alone, that one among them; all of
+/// them, if there is none.
+pub fn steps_to_lack(base: &Base, labels: &[Resolved], steps: &[ProofStep]) -> usize
     ensures { result ≤ length steps.now }
 {
     let mut count = 0;
     for n in 0..steps.len() {
         match entries_behind(base, labels, steps[n].action, count) {
             Some(behind) => count = behind,
-            None => return n,
+            None => return n + 1,
         }
     }
     steps.len()
-}
-
-/// Whether there is a step with this number, and it takes more entries than this count.
-pub fn takes_more(
-    base: &Base,
-    labels: &[Resolved],
-    steps: &[ProofStep],
-    n: usize,
-    count: usize,
-) -> bool
-    ensures { IsTrue result → (view : BaseView) → IsBase view base.now → TakesMore view labels.now steps.now n count }
-{
-    if n >= steps.len() {
-        return false;
-    }
-    match steps[n].action {
-        Action::Label(k) if k < labels.len() => count < taken_by(base, labels[k]),
-        _ => false,
-    }
 }

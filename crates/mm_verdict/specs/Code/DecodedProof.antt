@@ -1,26 +1,29 @@
 -- The proof of an item of a base that is judged, with what it decodes to.
-use Rattle.std.specs.Prelude.{◌≡◌, ◌≤◌, ℕ, List, Option, IfSome, length}
+use Rattle.std.specs.Prelude.{◌≡◌, ◌<◌, ℕ, List, Option, IfSome, length}
 use Rattle.mm_frame.specs.Language.Base.{BaseView}
 use Rattle.mm_verdict.specs.Language.DecodedSteps.{decoded_steps}
 use Rattle.mm_machine.specs.Language.Expansion.{Step}
-use Rattle.mm_frame.specs.declared.base.Base.{Base}
 use Rattle.mm_machine.specs.Language.NamedSteps.{IsOutcomeWithin, RunSays, StopsAt}
 use Rattle.mm_machine.specs.declared.stepping.RunOutcome.{RunOutcome}
 use Rattle.mm_verdict.specs.Language.BaseLabels.{setting_at}
 use Rattle.mm_verdict.specs.Language.VerdictAt.{IsVerdictAt, AreDoneAt, cites_at, statement_at}
-use Rattle.mm_verdict.specs.Code.Judged.{HasDecoding, OfDecoding, OfProof}
+use Rattle.mm_verdict.specs.Code.Judged.{IsDecoding}
 use Rattle.mm_verdict.specs.Code.NamedItems.{AreKnownOf}
 use Rattle.mm_verdict.specs.declared.known.Known.{Known}
-use Rattle.mm_verdict.specs.declared.checking.DecodedProof.{DecodedProof}
+use Rattle.mm_verdict.specs.declared.reading.DecodedProof.{DecodedProof}
 use Rattle.mm_verdict.specs.declared.work.Checked.{Checked}
 
--- this holds in each view of the base in which the proof decodes to this
-abbrev pub OfDecoded : DecodedProof → (BaseView → Type 0) → Type 0
-OfDecoded proof holds = OfDecoding proof.base.now proof.i proof.words.now proof.decoding.now holds
+-- in this view of the base the proof decodes to this
+abbrev pub IsDecodedIn : DecodedProof → BaseView → Type 0
+IsDecodedIn proof view = IsDecoding proof.base.now proof.i proof.words.now proof.decoding.now view
 
--- there is a view of the base in which the proof decodes to this
+-- this holds in each such view
+abbrev pub OfDecoded : DecodedProof → (BaseView → Type 0) → Type 0
+OfDecoded proof holds = (view : BaseView) → IsDecodedIn proof view → holds view
+
+-- there is such a view
 abbrev pub IsDecoded : DecodedProof → Type 0
-IsDecoded proof = HasDecoding proof.base.now proof.i proof.words.now proof.decoding.now
+IsDecoded proof = (view : BaseView) × IsDecodedIn proof view × (proof.i < length view)
 
 -- the steps that it decodes to
 abbrev pub steps_of : DecodedProof → BaseView → List Step
@@ -43,19 +46,3 @@ pub record IsJudgedProof (view : BaseView) (i : ℕ) (judged : Checked × ℕ) :
   pub verdict : IsVerdictAt view i judged.0.verdict
   pub cites : judged.0.cites ≡ cites_at view i
   pub done : AreDoneAt view i judged.1
-
--- the same of the proof that is decoded, and a run has not too many steps
-pub record IsJudgedDecoded (proof : DecodedProof) (judged : Checked × ℕ) (now : Known) : Type 0 where
-  pub says : OfDecoded proof (λ view. IsJudgedProof view proof.i judged)
-  pub few : judged.1 ≤ 4294967295
-  pub known : AreKnownOf proof.base.now now
-
--- the same of the proof of an item, of these words
-pub record IsJudgedItem (code : Base) (i : ℕ) (proof : List (List ℕ)) (judged : Checked × ℕ) : Type 0 where
-  pub says : OfProof code i proof (λ view. IsJudgedProof view i judged)
-  pub few : judged.1 ≤ 4294967295
-
--- and the assertions that are known are the base's
-pub record IsJudgedWith (code : Base) (i : ℕ) (proof : List (List ℕ)) (told : Checked × ℕ) (now : Known) : Type 0 where
-  pub judged : IsJudgedItem code i proof told
-  pub known : AreKnownOf code now

@@ -5,7 +5,7 @@ use Rattle.mm_frame.specs.Language.Base.{BaseView, AreLabelled, said_at, is_proo
 use Rattle.mm_frame.specs.Language.Answering.{IsBase}
 use Rattle.mm_verdict.specs.Language.VerdictAt.{decoding_at, mandatory_labels}
 use Rattle.mm_verdict.specs.Language.DecodedSteps.{decoded_steps, AreEntries, entry_steps, label_table}
-use Rattle.mm_verdict.specs.declared.reading.Decoding.{Decoding}
+use Rattle.mm_verdict.specs.declared.decoding.Decoding.{Decoding}
 use Rattle.mm_machine.specs.declared.stepping.RunOutcome.{RunOutcome}
 use Rattle.mm_machine.specs.declared.stepping.RunOutcome.TheVariants.{Proved, Fault, Unknown, NotOne, Other}
 
@@ -25,20 +25,12 @@ OfProof code i proof holds = (view : BaseView) → IsTheorem code i proof view �
 abbrev pub HasProof : Base → ℕ → List (List ℕ) → Type 0
 HasProof code i proof = (view : BaseView) × IsTheorem code i proof view × (i < length view)
 
--- the base has such a theorem, and its proof decodes to this
+-- it has such a theorem, and its proof decodes to this
 pub record IsDecoding (code : Base) (i : ℕ) (proof : List (List ℕ)) (d : Decoding) (view : BaseView) : Type 0 where
   pub theorem : IsTheorem code i proof view
   pub decodes : decoding_at view i ≡ Ok (decoded_steps view d proof)
   pub entries : AreEntries view i d.labels.items
   pub table : entry_steps view d.labels.items ≡ label_table (mandatory_labels view i) proof
-
--- this holds in each such view of the base
-abbrev pub OfDecoding : Base → ℕ → List (List ℕ) → Decoding → (BaseView → Type 0) → Type 0
-OfDecoding code i proof d holds = (view : BaseView) → IsDecoding code i proof d view → holds view
-
--- there is such a view of the base
-abbrev pub HasDecoding : Base → ℕ → List (List ℕ) → Decoding → Type 0
-HasDecoding code i proof d = (view : BaseView) × IsDecoding code i proof d view × (i < length view)
 
 -- how many of this many steps are done
 abbrev pub done_by : ℕ → RunOutcome → ℕ

@@ -17,6 +17,10 @@ use Rattle.mm_verdict.specs.Code.Coded.{TellsSteps, meant_steps}
 use Rattle.mm_verdict.specs.Code.Left.{AreLeft}
 use Rattle.mm_machine.specs.declared.step.ProofStep.{ProofStep}
 
+-- this holds in each view that the base stands for
+abbrev pub InViews : Base → (BaseView → Type 0) → Type 0
+InViews code holds = (view : BaseView) → IsBase view code → holds view
+
 -- a fault that is reported is that of a word
 abbrev pub TellsWord : Undecoded → ℕ → Result Step ProofNumber → Type 0
 TellsWord (errors.Fault fault) n read = (read ≡ Err fault.number) × (fault.spot ≡ word_spot n)

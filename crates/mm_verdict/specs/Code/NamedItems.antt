@@ -1,6 +1,5 @@
 -- What is known of a base's items, by their numbers.
 use Rattle.std.specs.Prelude.{◌≡◌, ℕ, ◌≤◌, Bool, true, Some, List, [], ◌∷◌, length, slice_get, if◌then◌else◌}
-use Rattle.std.specs.List.{AllZip}
 use Rattle.mm_frame.specs.declared.base.Base.{Base}
 use Rattle.mm_frame.specs.declared.base.Resolved.{Resolved}
 use Rattle.mm_frame.specs.declared.base.Resolved.TheVariants as answers
@@ -80,11 +79,6 @@ pub record IsOneMore (code : Base) (old new : Known) (used : Use) (label : Resol
   pub known : AreKnownOf code new
   pub grows : Grows old new
   pub stands : IsUseIn code new used label
-
--- each of these labels has its use
-pub record AreEachNamed (code : Base) (labels : List Resolved) (known : Known) : Type 0 where
-  pub of_base : AreKnownOf code known
-  pub stand : AllZip (IsUseIn code known) known.uses.items labels
 
 -- the labels that are marked, each in its place, and that of a `?` in the place of each other
 abbrev pub masked : List Resolved → List Bool → List Resolved

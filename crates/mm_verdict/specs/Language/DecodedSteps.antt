@@ -7,12 +7,12 @@ use Rattle.mm_frame.specs.Language.Resolving.{Resolves}
 use Rattle.mm_frame.specs.declared.base.Base.{Base}
 use Rattle.mm_frame.specs.declared.base.Resolved.{Resolved}
 use Rattle.mm_frame.specs.declared.base.Resolved.TheVariants as answers
-use Rattle.mm_verdict.specs.Language.BaseLabels.{label_at, setting_at}
+use Rattle.mm_verdict.specs.Language.BaseLabels.{label_at}
 use Rattle.mm_verdict.specs.Language.Decoding.{word_spot, is_close, is_compressed, decoding}
 use Rattle.mm_machine.specs.Language.Expansion.{Step, Named, NotKnown}
 use Rattle.mm_machine.specs.Language.Verdict.{Decoded}
 use Rattle.mm_machine.specs.Language.NamedSteps.{meant}
-use Rattle.mm_verdict.specs.declared.reading.Decoding.{Decoding}
+use Rattle.mm_verdict.specs.declared.decoding.Decoding.{Decoding}
 use Rattle.mm_machine.specs.declared.step.ProofFault.{ProofFault}
 use Rattle.mm_verdict.specs.declared.undecoded.Undecoded.{Undecoded}
 use Rattle.mm_verdict.specs.declared.undecoded.Undecoded.TheVariants as errors
@@ -70,10 +70,6 @@ decoded_steps base d words = record {
   spots = map (λ step. step.spot) d.steps.items;
   close = word_spot (length words);
 }
-
--- what a proof of item i with these mandatory hypotheses decodes to
-abbrev pub decoding_of : BaseView → ℕ → List ℕ → List (List ℕ) → Result Decoded ProofFault
-decoding_of view i mandatory words = decoding (setting_at view i) (labels_at view mandatory) words
 
 -- a fault that is reported is the fault; running out of memory is none
 abbrev pub TellsFault : Undecoded → Result Decoded ProofFault → Type 0

@@ -1,12 +1,29 @@
-use Rattle.std.{proofs.{Common.{◌≡◌, ◌<◌, ◌≤◌, ℕ, Result, List, length, sym, ◌∙◌, ap, subst, arith}, lemmas.List.{length-map}}, specs.List.{AllByRecursion, flat_map}}
-use Rattle.mm_frame.specs.Language.{Base.{before, said_at}, Framing.{mandatory_numbers}}
-use Rattle.mm_verdict.specs.Language.{BaseLabels.{setting_at}, Citing.{cites, cited_words}, VerdictAt.{mandatory_labels, statement_at}, DecodedSteps.{decoded_steps, entry_steps}}
-use Rattle.mm_verdict.{specs.Code.Judged.{done_by}, proofs.lemmas.{base.FrameLemmas.{framed_proof}, decoding.DecodedProofs.{done_says}}}
-use Rattle.mm_machine.specs.{Language.{Verdict.{Decoded}, NamedSteps.{IsOutcomeWithin, meant, actions_mean}}, declared.step.{ProofFault.{ProofFault}, ProofStep.{ProofStep}}}
+use Rattle.std.{proofs.{Common.{◌≡◌, ◌<◌, ◌≤◌, ℕ, List, length, sym, ◌∙◌, ap, subst, arith}, lemmas.List.{length-map}}, specs.List.{AllByRecursion, flat_map}}
+use Rattle.mm_frame.specs.Language.Base.{said_at}
+use Rattle.mm_verdict.specs.{Language.{BaseLabels.{setting_at}, VerdictAt.{mandatory_labels, statement_at}, DecodedSteps.{decoded_steps, entry_steps}}, Code.Judged.{done_by}}
+use Rattle.mm_verdict.proofs.lemmas.decoding.DecodedProofs.{done_says}
+use Rattle.mm_machine.specs.{Language.NamedSteps.{IsOutcomeWithin, meant, actions_mean}, declared.step.ProofStep.{ProofStep}}
 use Rattle.mm_verdict.proofs.checking.judge_steps.Goals as goal
 
-pub returns : goal.returns
-returns c =
+pub returns-clause-says : goal.returns-clause-says
+returns-clause-says c view is =
+    let i = c.args.proof.i in
+    let d = c.args.proof.decoding.now in
+    let place = setting_at view i in
+    let names = entry_steps view d.labels.items in
+    let steps = actions_mean names d.steps.items in
+    let says = c.in_ok-outcome.ensures.says view is in
+    let on = rw c.again.ensures.words at (c.verdict-verdict.ensures view place (statement_at view i) says) in
+    let many : length steps ≡ c.len.result = omega (arith, c.len.ensures, d.steps.ok, length-map d.steps.items (λ (step : ProofStep). meant names step.action)) in
+    let done = ap (λ n. done_by n c.in_ok-outcome.outcome) many ∙ sym c.steps_done-done.ensures.value in
+    record {
+      verdict = rw (ap (λ j. j.verdict) c.new.ensures, is.decodes) on;
+      cites = ap (λ j. j.cites) c.new.ensures ∙ c.in_ok-cites.ensures view is;
+      done = rw is.decodes (rw done at (done_says place (statement_at view i) steps c.in_ok-outcome.outcome says));
+    }
+
+pub returns-clause-few : goal.returns-clause-few
+returns-clause-few c =
     let has = c.requires.decoded in
     let view = has.0 in
     let i = c.args.proof.i in
@@ -16,36 +33,10 @@ returns c =
     let some = subst (λ (ws : List (List ℕ)). AllByRecursion (λ word. 0 < length word) ws) same c.again.ensures.some in
     let bytes = subst (λ (ws : List (List ℕ)). length (flat_map (λ word. word) ws) ≤ 4294967295) same c.again.ensures.bytes in
     let short = c.decodes_short.ensures (setting_at view i) (mandatory_labels view i) (said_at view i).proof (decoded_steps view d c.args.proof.words.now) some has.1.decodes in
-    record {
-      says = λ view is. let proof = c.args.proof in
-          let i = proof.i in
-          let d = proof.decoding.now in
-          let place = setting_at view i in
-          let names = entry_steps view d.labels.items in
-          let steps = actions_mean names d.steps.items in
-          let says = c.in_ok-outcome.ensures.says view is in
-          let on = rw c.again.ensures.words at (c.verdict-verdict.ensures view place (statement_at view i) says) in
-          let count = ap length (c.mandatory-hypotheses.ensures view is.theorem.base (framed_proof view i is.theorem.is_sound)) in
-          let told = c.in_ok-cites.ensures view i (mandatory_numbers (before view i) (said_at view i)) (c.labels_are_own.ensures view is.theorem.said) (sym count) is.entries is.table in
-          let many : length steps ≡ c.len.result = omega (arith, c.len.ensures, d.steps.ok, length-map d.steps.items (λ (step : ProofStep). meant names step.action)) in
-          let done = ap (λ n. done_by n c.in_ok-outcome.outcome) many ∙ sym c.steps_done-done.ensures.value in
-          record {
-            verdict = rw (ap (λ j. j.verdict) c.new.ensures, is.decodes) on;
-            cites = ap (λ j. j.cites) c.new.ensures ∙ told ∙ sym (ap (λ (o : Result Decoded ProofFault). cites place (said_at view i).proof o) is.decodes ∙ ap (λ (words : List (List ℕ)). cited_words place words steps) is.theorem.says);
-            done = rw is.decodes (rw done at (done_says place (statement_at view i) steps c.in_ok-outcome.outcome says));
-          };
-      known = c.in_ok-outcome.ensures.known;
-      few = omega (arith, c.steps_done-done.ensures.within, c.len.ensures, d.steps.ok, length-map d.steps.items (λ (step : ProofStep). meant names step.action));
-    }
+    omega (arith, c.steps_done-done.ensures.within, c.len.ensures, d.steps.ok, length-map d.steps.items (λ (step : ProofStep). meant names step.action))
 
 pub run_steps-requires : goal.run_steps-requires
-run_steps-requires c = record { known = c.requires.known; decoded = c.requires.decoded; marks = c.requires.marks }
-
-pub cites_used-requires : goal.cites_used-requires
-cites_used-requires c = c.requires.marks
-
-pub mandatory-hypotheses-requires : goal.mandatory-hypotheses-requires
-mandatory-hypotheses-requires c = let has = c.requires.decoded in (has.0, has.1.theorem.base, framed_proof has.0 c.args.proof.i has.1.theorem.is_sound)
+run_steps-requires c = let is = c.requires.known in record { decoded = c.requires.decoded; known = record { holds = is.holds; pushed = is.pushed; named = is.named; cited = is.cited } }
 
 pub steps_done-done-requires : goal.steps_done-done-requires
 steps_done-done-requires c =

@@ -1,8 +1,5 @@
-use Rattle.mm_verdict.{specs.{Language.{BaseLabels.{setting_at}, VerdictAt.{statement_at}}, Code.DecodedProof.{steps_of}}, proofs.lemmas.machine.LackLemmas.{stops_says}}
+use Rattle.mm_verdict.{specs.{Language.{BaseLabels.{setting_at}, VerdictAt.{statement_at}}, Code.DecodedProof.{steps_of}}, proofs.lemmas.machine.FrontLemmas.{stops_says}}
 use Rattle.mm_verdict.proofs.checking.run_steps.Goals as goal
-
-pub run_front-requires : goal.run_front-requires
-run_front-requires c = record { decoded = c.requires.decoded; known = c.requires.known }
 
 pub returns-in-Some : goal.returns-in-Some
 returns-in-Some c =
@@ -16,7 +13,7 @@ returns-in-Some c =
     }
 
 pub run_all-requires : goal.run_all-requires
-run_all-requires c = record { decoded = c.requires.decoded; marks = c.requires.marks; known = c.in_ok-outcome.ensures.known }
+run_all-requires c = record { decoded = c.requires.decoded; known = c.in_ok-outcome.ensures.known }
 
 pub returns-in-None : goal.returns-in-None
 returns-in-None c = c.run_all.ensures

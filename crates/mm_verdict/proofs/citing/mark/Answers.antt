@@ -1,5 +1,5 @@
 use Rattle.std.proofs.{Common.{arith}, lemmas.Grind.{common_steps}}
 use Rattle.mm_verdict.proofs.citing.mark.Goals as goal
 
-pub returns : goal.returns
-returns c = grind (arith, common_steps)
+pub returns-in_ok-push-in-Assertion-2 : goal.returns-in_ok-push-in-Assertion-2
+returns-in_ok-push-in-Assertion-2 c = grind (arith, common_steps)

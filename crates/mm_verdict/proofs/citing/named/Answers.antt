@@ -20,7 +20,7 @@ loop-k-preserved c j e =
     let front = take k (masked labels used) in
     let label = if get_or used k false then get_or labels k (answers.Hypothesis 0) else answers.Unknown in
     let names : Resolved → Bool = λ l. is_item (cited_item (Some l)) j in
-    c.in_ok-mark_named.ensures j
+    c.in_ok-mark.ensures j
     ∙ ap (λ b. b || names label) (c.loop-k.invariant j e)
     ∙ sym (ap (λ ls. is_listed ls j) (masked_next labels used k (answers.Hypothesis 0) false c.loop-k-test.true c.requires)
     ∙ list_any-append names front (label ∷ [])

@@ -1,9 +1,9 @@
 -- The decoding that the code has.
-use Rattle.std.proofs.{Common.{arith, ◌≡◌, ℕ, true, false, Ok, List, length, map, drop, refl}, lemmas.{Grind.{common_steps}, Simd.{map-map}}}
-use Rattle.mm_verdict.{proofs.lemmas.decoding.OrderLemmas.{decoded}, specs.Language.DecodedSteps.{TellsFault, label_table, word_step}}
-use Rattle.mm_verdict.specs.{Language.Decoding.{in_order, readings_of_words, read_word, compressed_steps, is_compressed, word_spot, decoding}, Code.Coded.{meant_steps, TellsSteps}}
-use Rattle.mm_verdict.specs.declared.undecoded.Undecoded.{Undecoded}
-use Rattle.mm_machine.specs.{Language.{Frame.{Setting}, Expansion.{Step}, NamedSteps.{meant}, Verdict.{Decoded}}, declared.{Spot.{Spot}, step.ProofStep.{ProofStep}}}
+use Rattle.std.proofs.{Common.{arith, ◌≡◌, ◌∙◌, ap, ℕ, Ok, List, length, map}, lemmas.{Grind.{common_steps}, Simd.{map-map}}}
+use Rattle.mm_frame.specs.Language.Base.{BaseView, said_at}
+use Rattle.mm_verdict.{proofs.lemmas.decoding.OrderLemmas.{decoded}, specs.Language.{BaseLabels.{setting_at}, DecodedSteps.{TellsFault}, VerdictAt.{decoding_at, mandatory_labels}}}
+use Rattle.mm_verdict.specs.{Language.Decoding.{Steps, steps_in, word_spot, decoding}, Code.Coded.{meant_steps, TellsSteps}, declared.undecoded.Undecoded.{Undecoded}}
+use Rattle.mm_machine.specs.{Language.{Expansion.{Step}, NamedSteps.{meant}, Verdict.{Decoded}}, declared.{Spot.{Spot}, step.ProofStep.{ProofStep}}}
 use Rattle.mm_verdict.specs.declared.undecoded.Undecoded.TheVariants as errors
 
 abbrev made : List Step → List ProofStep → Spot → Decoded
@@ -12,24 +12,17 @@ made names steps close = record { steps = map (λ (step : ProofStep). meant name
 decoded_is : (names : List Step) (steps : List ProofStep) (close : Spot) → decoded close (Ok (meant_steps names steps)) ≡ Ok (made names steps close)
 decoded_is names steps close = grind (arith, common_steps, map-map) steps 200000
 
-pub compressed_done :
-    (place : Setting) (mandatory words : List (List ℕ)) (names : List Step) (steps : List ProofStep) → is_compressed words ≡ true →
-    compressed_steps place mandatory (drop 1 words) (word_spot (length words)) ≡ Ok (meant_steps names steps) →
-    decoding place mandatory words ≡ Ok (made names steps (word_spot (length words)))
-compressed_done place mandatory words names steps is e = rw (is, e) (decoded_is names steps (word_spot (length words)))
+module _ (view : BaseView) (i : ℕ) (words : List (List ℕ)) (says : (said_at view i).proof ≡ words) where
+  -- what the words of the proof of an item say
+  abbrev given : Steps
+  given = steps_in (setting_at view i) (mandatory_labels view i) words (word_spot (length words))
 
-pub normal_done :
-    (place : Setting) (mandatory words : List (List ℕ)) (names : List Step) (steps : List ProofStep) → is_compressed words ≡ false →
-    in_order (readings_of_words (read_word place) 0 words) ≡ Ok (meant_steps names steps) →
-    decoding place mandatory words ≡ Ok (made names steps (word_spot (length words)))
-normal_done place mandatory words names steps is e = rw (is, e) (decoded_is names steps (word_spot (length words)))
+  its_decoding : decoding_at view i ≡ decoded (word_spot (length words)) given
+  its_decoding = ap (decoding (setting_at view i) (mandatory_labels view i)) says
 
--- a normal proof has the steps of its words as its table, and its fault
-pub normal_table : (mandatory words : List (List ℕ)) → is_compressed words ≡ false → map word_step words ≡ label_table mandatory words
-normal_table mandatory words is = rw is refl
+  pub decodes_so : (names : List Step) (steps : List ProofStep) → given ≡ Ok (meant_steps names steps) → decoding_at view i ≡ Ok (made names steps (word_spot (length words)))
+  decodes_so names steps e = its_decoding ∙ ap (decoded (word_spot (length words))) e ∙ decoded_is names steps (word_spot (length words))
 
-pub normal_fails :
-    (place : Setting) (mandatory words : List (List ℕ)) (e : Undecoded) → is_compressed words ≡ false →
-    TellsSteps e (in_order (readings_of_words (read_word place) 0 words)) → TellsFault e (decoding place mandatory words)
-normal_fails place mandatory words (errors.Fault fault) is tells = rw (is, tells) refl
-normal_fails place mandatory words errors.Memory is tells = tt
+  pub fails_so : (e : Undecoded) → TellsSteps e given → TellsFault e (decoding_at view i)
+  fails_so (errors.Fault fault) tells = its_decoding ∙ ap (decoded (word_spot (length words))) tells
+  fails_so errors.Memory tells = tt

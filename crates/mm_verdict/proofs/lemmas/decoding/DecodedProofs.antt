@@ -1,17 +1,15 @@
 -- A proof that is decoded, and what a run says of it.
-use Rattle.std.proofs.Common.{◌≡◌, ℕ, zero, suc, ◌<◌, true, false, cond, Some, Ok, Err, List, [], ◌∷◌, length, take, get_or, refl, sym, ◌∙◌, ap, subst, arith, inl, inr, slice_get, All, count_by}
+use Rattle.std.proofs.Common.{◌≡◌, ℕ, zero, suc, ◌<◌, false, cond, Some, Err, List, [], ◌∷◌, length, take, get_or, refl, sym, ◌∙◌, ap, subst, arith, inl, inr, slice_get, All, count_by}
 use Rattle.std.{proofs.lemmas.{Grind.{common_steps, elements}, List.{take-map, Elements.{All-nil, All-cons}, Sums.{sum_by-cons}}, Option.{slice_get-map}}, specs.Option.{option_map}}
-use Rattle.mm_frame.specs.{declared.base.{Base.{Base}, Resolved.{Resolved}}, Language.{Base.{BaseView, before, said_at, is_framed_at}, Framing.{mandatory_numbers}, Answering.{IsBase}}}
+use Rattle.mm_frame.specs.{declared.base.{Base.{Base}, Resolved.{Resolved}}, Language.{Base.{BaseView, before, said_at}, Framing.{mandatory_numbers}, Answering.{IsBase}}}
 use Rattle.mm_machine.specs.Language.{Frame.{Symbol, Setting}, Expansion.{Step, Saved, NotKnown}, Machine.{AreDecoded, is_save}, Run.{AreDone}}
 use Rattle.mm_machine.specs.{Language.{NamedSteps.{meant, AreSavedBefore, IsSavedWithin, RunSays, actions_mean, saves_by, saves_in}, Verdict.{IsVerdict}}, declared.step.Action.{Action}}
 use Rattle.mm_machine.specs.declared.{step.{ProofStep.{ProofStep}, ProofFault.{ProofFault}}, stepping.RunOutcome.{RunOutcome, TheVariants.{Proved, Fault, Unknown, NotOne, Other}}}
 use Rattle.mm_machine.specs.declared.Verdict.TheVariants.{Wrong}
-use Rattle.mm_verdict.specs.Language.{BaseLabels.{AreActive, setting_at}, DecodingLaws.{DecodesSurely, MandatoryAreActive}, VerdictAt.{mandatory_labels, AreDoneIn, decoding_at, statement_at}}
-use Rattle.mm_verdict.specs.{Language.{DecodedSteps.{decoded_steps, decoding_of, AreEntries, IsNamedBy, entry_steps, label_table, labels_at, TellsFault}, Citing.{cites}}, Code.Decoded.{WhereActive}}
-use Rattle.mm_verdict.specs.{Code.{Judged.{IsDecoding, IsTheorem, done_by}, DecodedProof.{IsJudgedProof}}, declared.{reading.Decoding.{Decoding}, undecoded.Undecoded.{Undecoded}}}
-use Rattle.mm_verdict.{specs.declared.work.Checked.{Checked}, proofs.lemmas.{base.FrameLemmas.{framed_proof}, verdicts.ItemLemmas.{active_usable}}}
+use Rattle.mm_verdict.specs.Language.{BaseLabels.{setting_at}, DecodingLaws.{DecodesSurely, MandatoryAreActive}, VerdictAt.{mandatory_labels, AreDoneIn, decoding_at, statement_at}}
+use Rattle.mm_verdict.specs.{Language.{DecodedSteps.{decoded_steps, AreEntries, IsNamedBy, entry_steps}, Citing.{cites}}, Code.{Judged.{IsDecoding, done_by}, DecodedProof.{IsJudgedProof}}}
+use Rattle.mm_verdict.{specs.declared.{decoding.Decoding.{Decoding}, work.Checked.{Checked}}, proofs.lemmas.verdicts.ItemLemmas.{active_usable}}
 use Rattle.mm_machine.specs.declared.step.Action.TheVariants as actions
-use Rattle.mm_verdict.specs.declared.undecoded.Undecoded.TheVariants as errors
 
 -- ---- entries
 
@@ -54,35 +52,9 @@ decoded_saved active sure code i proof d view is =
     let usable = active_usable view i (mandatory_numbers (before view i) (said_at view i)) (active view i is.theorem.said) in
     saved_before (setting_at view i) view d.labels.items d.steps.items (sure (setting_at view i) (mandatory_labels view i) (said_at view i).proof (decoded_steps view d proof) usable is.decodes).0
 
--- ---- what decodes
+-- ---- what is judged
 
--- what decoding says of these hypotheses, it says of the mandatory ones
-pub decoded : (code : Base) (i : ℕ) (proof : List (List ℕ)) (d : Decoding) (numbers : List ℕ) (view : BaseView) → IsTheorem code i proof view →
-    ((v : BaseView) → IsBase v code → is_framed_at v i ≡ true → numbers ≡ mandatory_numbers (before v i) (said_at v i)) → AreActive view i (mandatory_numbers (before view i) (said_at view i)) →
-    WhereActive code i numbers (λ v. decoding_of v i numbers proof ≡ Ok (decoded_steps v d proof)) → WhereActive code i numbers (λ v. AreEntries v i d.labels.items) →
-    WhereActive code i numbers (λ v. entry_steps v d.labels.items ≡ label_table (labels_at v numbers) proof) → IsDecoding code i proof d view
-decoded code i proof d numbers view theorem mandatory active ok entries table =
-    let same : numbers ≡ mandatory_numbers (before view i) (said_at view i) = mandatory view theorem.base (framed_proof view i theorem.is_sound) in
-    let here : AreActive view i numbers = subst (AreActive view i) (sym same) active in
-    record {
-      theorem = theorem;
-      decodes = ap (λ words. decoding_of view i (mandatory_numbers (before view i) (said_at view i)) words) theorem.says
-          ∙ subst (λ n. decoding_of view i n proof ≡ Ok (decoded_steps view d proof)) same (ok view theorem.base here);
-      entries = entries view theorem.base here;
-      table = subst (λ n. entry_steps view d.labels.items ≡ label_table (labels_at view n) proof) same (table view theorem.base here);
-    }
-
--- so a fault that it tells is the fault of the item's proof
-pub told_fault : (code : Base) (i : ℕ) (proof : List (List ℕ)) (error : Undecoded) (fault : ProofFault) (numbers : List ℕ) (view : BaseView) → IsTheorem code i proof view →
-    ((v : BaseView) → IsBase v code → is_framed_at v i ≡ true → numbers ≡ mandatory_numbers (before v i) (said_at v i)) → AreActive view i (mandatory_numbers (before view i) (said_at view i)) →
-    error ≡ errors.Fault fault → WhereActive code i numbers (λ v. TellsFault error (decoding_of v i numbers proof)) → decoding_at view i ≡ Err fault
-told_fault code i proof error fault numbers view theorem mandatory active is tells =
-    let same : numbers ≡ mandatory_numbers (before view i) (said_at view i) = mandatory view theorem.base (framed_proof view i theorem.is_sound) in
-    let here : AreActive view i numbers = subst (AreActive view i) (sym same) active in
-    ap (λ words. decoding_of view i (mandatory_numbers (before view i) (said_at view i)) words) theorem.says
-    ∙ subst (λ n. decoding_of view i n proof ≡ Err fault) same (subst (λ e. TellsFault e (decoding_of view i numbers proof)) is (tells view theorem.base here))
-
--- and the verdict is that fault, with no word that cites and no step that is done
+-- a fault of decoding is the verdict, with no word that cites and no step that is done
 pub fault_judged : (view : BaseView) (i : ℕ) (fault : ProofFault) (judged : Checked) → judged.verdict ≡ Wrong fault.number fault.spot → judged.cites ≡ [] → decoding_at view i ≡ Err fault → IsJudgedProof view i (judged, 0)
 fault_judged view i fault judged verdict cited is = record {
   verdict = subst (λ d. IsVerdict (setting_at view i) (statement_at view i) d judged.verdict) (sym is) verdict;

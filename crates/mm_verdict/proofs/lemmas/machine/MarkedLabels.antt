@@ -2,7 +2,7 @@
 use Rattle.std.proofs.lemmas.{Grind.{common_steps}, Bool.{cases_Bool, false≢true}, List.Folds.{list_any-append}, Map.Keys.{any_passes_from_place}}
 use Rattle.std.proofs.lemmas.Option.{same_Some, slice_get_cases, slice_get_past, slice_get_within}
 use Rattle.std.proofs.{Common.{◌≡◌, ℕ, zero, suc, ◌<◌, Bool, true, false, ◌||◌, Some, List, [], ◌∷◌, ◌++◌, length, refl, sym, ◌∙◌, ap, inl, inr, slice_get, ◌⊎◌, eq-eqb, arith}, Math.Bool.{or-false}}
-use Rattle.std.specs.List.{list_any}
+use Rattle.std.specs.{Cmp.{both_ways}, List.{list_any}}
 use Rattle.mm_frame.specs.declared.base.Resolved.{Resolved}
 use Rattle.mm_verdict.specs.Code.{Cited.{cited_item, is_item, is_listed, item_named, marked_at, names_item}, UsedLabels.{AreUseMarks, AreUsed, KeepsNamed, KeepsUsed, label_named, names_label}}
 use Rattle.mm_machine.specs.declared.step.{Action.{Action}, ProofStep.{ProofStep}}
@@ -34,11 +34,6 @@ found p (x ∷ xs) e = elim (cases_Bool (p x)) [
   | inr f ↦ let more = found p xs (rw f at e) in (suc more.0, more.1, more.2, more.3)
 ]
 
-same_answer : (a b : Bool) → (a ≡ true → b ≡ true) → (b ≡ true → a ≡ true) → a ≡ b
-same_answer true b f g = sym (f refl)
-same_answer false true f g = g refl
-same_answer false false f g = refl
-
 -- the entry of a label that an action names
 named_at : (labels : List Resolved) (k : ℕ) (action : Action) → is_item (label_named action) k ≡ true → item_named labels action ≡ cited_item (slice_get labels k)
 named_at labels k action e = grind (arith, common_steps) steps 200000
@@ -59,7 +54,7 @@ pub marked_used :
 marked_used labels used marks steps count are marked out = record {
   part = record { count = count; each = part };
   kept = kept;
-  listed = λ j. same_answer (is_listed used j) (list_any (names_item labels j) steps) (named j) (listed j);
+  listed = λ j. both_ways (is_listed used j) (list_any (names_item labels j) steps) (named j) (listed j);
 }
   where
     part : (k : ℕ) (u : Resolved) → slice_get used k ≡ Some u → (u ≡ answers.Unknown) ⊎ (slice_get labels k ≡ Some u)

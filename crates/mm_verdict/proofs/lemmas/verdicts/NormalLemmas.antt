@@ -2,7 +2,7 @@
 use Rattle.std.proofs.lemmas.{Bool.{false≢true, false_from_ne_true}, List.{append-nil}, Slice.Eq.{bytes_eq-Decides}}
 use Rattle.std.proofs.Common.{◌≡◌, ℕ, ◌+◌, false, Some, Result, Ok, List, [], ◌∷◌, ◌++◌, length, map, refl, sym, ap, ◌∙◌, subst, bytes_eq, codes, append_assoc}
 use Rattle.std.specs.List.{AllByRecursion, enumerate_from, list_all}
-use Rattle.mm_verdict.{proofs.lemmas.decoding.OrderLemmas.{decoded}, specs.Language.ItemLaws.{CouldLabel, LabelsAreAProof}}
+use Rattle.mm_verdict.{proofs.lemmas.{decoding.OrderLemmas.{decoded}, lists.Every.{joined}}, specs.Language.ItemLaws.{CouldLabel, LabelsAreAProof}}
 use Rattle.mm_verdict.specs.Language.Decoding.{Steps, read_first, in_order, readings_of_words, read_word, read_label, usable, word_spot, decoding, steps_in, is_compressed}
 use Rattle.mm_frame.specs.mm_text.Language.Unit.{is_label_byte}
 use Rattle.mm_machine.specs.Language.{Frame.{Setting, Symbol}, Expansion.{Step, Named, expand_from, expansion}, Verdict.{Decoded, IsVerdict}}
@@ -13,20 +13,16 @@ use Rattle.mm_machine.specs.declared.Verdict.TheVariants as verdicts
 abbrev IsUsable : Setting → List ℕ → Type 0
 IsUsable place label = read_label place label ≡ Ok (Named label)
 
-all_append : {X : Type 0} (P : X → Type 0) (xs ys : List X) → AllByRecursion P xs → AllByRecursion P ys → AllByRecursion P (xs ++ ys)
-all_append P [] ys a b = b
-all_append P (x ∷ xs) ys a b = (a.0, all_append P xs ys a.1 b)
-
 mutual
   usable_labels : (place : Setting) (labels : List (List ℕ)) (e : List Symbol) → Derives place labels e → AllByRecursion (IsUsable place) labels
   usable_labels place _ e (by_hypothesis {label = label} means) = (ap (usable label) means, tt)
   usable_labels place _ e (by_assertion {labels = labels} {label = label} {entries = entries} inner means takes) =
-      all_append (IsUsable place) labels (label ∷ []) (usable_in_order place labels entries inner) (ap (usable label) means, tt)
+      joined (IsUsable place) labels (label ∷ []) (usable_in_order place labels entries inner) (ap (usable label) means, tt)
 
   usable_in_order : (place : Setting) (labels : List (List ℕ)) (es : List (List Symbol)) → DeriveInOrder place labels es → AllByRecursion (IsUsable place) labels
   usable_in_order place _ _ nothing = tt
   usable_in_order place _ _ (first_then {first = first} {rest = rest} {e = e} {es = es} d later) =
-      all_append (IsUsable place) first rest (usable_labels place first e d) (usable_in_order place rest es later)
+      joined (IsUsable place) first rest (usable_labels place first e d) (usable_in_order place rest es later)
 
 -- the steps that words with numbers name, each at its word
 abbrev numbered : ℕ → List (List ℕ) → List (Step × Spot)

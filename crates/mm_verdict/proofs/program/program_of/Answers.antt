@@ -1,7 +1,7 @@
-use Rattle.std.proofs.{Common.{sym, subst, ℕ, List, ◌≡◌, true}, lemmas.Result.{err_from_is_err_and}}
-use Rattle.mm_verdict.specs.{Language.{BaseLabels.{AreActive}, DecodedSteps.{decoded_steps, entry_steps}, ReadIn.{IsReadIn}}, Code.{Judged.{IsDecoding}, NamedItems.{masked}}}
-use Rattle.mm_verdict.proofs.lemmas.{base.{FrameLemmas.{framed_proof}, SaysLemmas.{read_at, theorem_at}}, decoding.DecodedProofs.{decoded, decoded_saved, named_by}, machine.NamedLemmas.{masked_used}}
-use Rattle.mm_verdict.proofs.{lemmas.machine.UsedLemmas.{part_entries, part_means}, program.program_of.Goals.{In_ok-marked}}
+use Rattle.std.proofs.{Common.{sym, ℕ, List, ◌≡◌, true}, lemmas.Result.{err_from_is_err_and}}
+use Rattle.mm_verdict.specs.{Language.{DecodedSteps.{decoded_steps, entry_steps}, ReadIn.{IsReadIn}}, Code.{Judged.{IsDecoding}, NamedItems.{masked}}}
+use Rattle.mm_verdict.proofs.lemmas.{base.SaysLemmas.{read_at, theorem_at}, decoding.DecodedProofs.{decoded_saved, named_by}, machine.NamedLemmas.{masked_used}}
+use Rattle.mm_verdict.proofs.{lemmas.machine.UsedLemmas.{part_entries, part_means}, program.program_of.Goals.{In_ok-decoding}}
 use Rattle.mm_frame.specs.Language.Base.{BaseView, is_proof_at}
 use Rattle.mm_verdict.proofs.program.program_of.Goals as goal
 
@@ -11,41 +11,38 @@ item-requires c = let has = c.requires.1 in (has.0, (c.requires.0, has.1.base), 
 pub words_of_proof-proof-requires : goal.words_of_proof-proof-requires
 words_of_proof-proof-requires c = read_at c.requires.0 c.args.files.now c.args.base.now c.args.i c.item.result.now c.requires.1 c.item.ensures.found
 
-pub mandatory-mandatory-requires : goal.mandatory-mandatory-requires
-mandatory-mandatory-requires c = let has = c.requires.1 in (has.0, (c.requires.0, has.1.base), framed_proof has.0 c.args.i has.3)
-
 -- what decoding gave for the theorem
-the_decoding : (c : In_ok-marked) (names : List (List ℕ)) (view : BaseView) → IsReadIn names c.args.files.now c.args.base.now view →
-    is_proof_at view c.args.i ≡ true → IsDecoding c.args.base.now c.args.i c.words_of_proof-proof.result c.in_ok-marked.marked.decoding view
+the_decoding : (c : In_ok-decoding) (names : List (List ℕ)) (view : BaseView) → IsReadIn names c.args.files.now c.args.base.now view →
+    is_proof_at view c.args.i ≡ true → IsDecoding c.args.base.now c.args.i c.words_of_proof-proof.result c.in_ok-decoding.decoding view
 the_decoding c names view read proof =
-    let found = c.item.ensures.found in
-    let theorem = theorem_at _ _ _ _ c.item.result.now _ view read proof found c.words_of_proof-proof.ensures.words in
-    decoded _ _ _ c.in_ok-marked.marked.decoding _ view theorem c.mandatory-mandatory.ensures (c.mandatory_are_active.ensures view c.args.i theorem.said)
-    c.in_ok-marked.ensures.ok c.in_ok-marked.ensures.entries c.in_ok-marked.ensures.table
+    c.in_ok-decoding.ensures.ok view (theorem_at _ _ _ _ c.item.result.now _ view read proof c.item.ensures.found c.words_of_proof-proof.ensures.words)
+
+pub decode-requires : goal.decode-requires
+decode-requires c = let has = c.requires.1 in (has.0, theorem_at _ _ _ _ c.item.result.now _ has.0 has.1 has.3 c.item.ensures.found c.words_of_proof-proof.ensures.words, has.2)
 
 pub name_all-requires : goal.name_all-requires
 name_all-requires c =
     let has = c.requires.1 in
-    let is = the_decoding (goal.at.name_all-requires c).In_ok-marked c.requires.0 has.0 has.1 has.3 in
+    let is = the_decoding (goal.at.name_all-requires c).In_ok-decoding c.requires.0 has.0 has.1 has.3 in
     record {
       known = c.new-known.ensures c.args.base.now;
-      labels = rw c.deref.ensures.value (named_by c.args.base.now has.0 c.args.i is.theorem.base has.2 c.in_ok-marked.marked.decoding.labels.items is.entries);
-      marks = rw (c.deref.ensures.value, c.deref-2.ensures.value) c.in_ok-marked.ensures.marks.count;
+      labels = rw c.deref.ensures.value (named_by c.args.base.now has.0 c.args.i is.theorem.base has.2 c.in_ok-decoding.decoding.labels.items is.entries);
+      marks = rw (c.deref.ensures.value, c.deref-2.ensures.value) c.in_ok-decoding.decoding.marked.count;
     }
 
 pub returns-clause-saved : goal.returns-clause-saved
 returns-clause-saved c =
     let has = c.requires.1 in
     decoded_saved c.mandatory_are_active.ensures c.decodes_surely.ensures _ _ _ _ _
-    (the_decoding (goal.at.returns-clause-saved c).In_ok-marked c.requires.0 has.0 has.1 has.3)
+    (the_decoding (goal.at.returns-clause-saved c).In_ok-decoding c.requires.0 has.0 has.1 has.3)
 
 pub returns-clause-means : goal.returns-clause-means
 returns-clause-means c names view read proof =
-    let is = the_decoding (goal.at.returns-clause-means c).In_ok-marked names view read proof in
-    let d = c.in_ok-marked.marked.decoding in
+    let is = the_decoding (goal.at.returns-clause-means c).In_ok-decoding names view read proof in
+    let d = c.in_ok-decoding.decoding in
     let labels = d.labels.items in
-    let marks = c.in_ok-marked.marked.used.items in
-    let are = masked_used labels marks d.steps.items c.in_ok-marked.ensures.marks in
+    let marks = c.in_ok-decoding.decoding.used.items in
+    let are = masked_used labels marks d.steps.items c.in_ok-decoding.decoding.marked in
     let used = masked labels marks in
     record {
       labels = entry_steps view used;
@@ -55,12 +52,7 @@ returns-clause-means c names view read proof =
       uses = (rw (c.deref.ensures.value, c.deref-2.ensures.value) at c.in_ok-name_all.ensures.means) names view read.base c.args.i (part_entries view c.args.i labels used are.part is.entries);
     }
 
-pub returns-in_err-marked-clause-fault : goal.returns-in_err-marked-clause-fault
-returns-in_err-marked-clause-fault c =
+pub returns-in_err-decoding-clause-fault : goal.returns-in_err-decoding-clause-fault
+returns-in_err-decoding-clause-fault c =
     let p = err_from_is_err_and c.from_residual.result c.from_residual.ensures.1 in
-    rw (p.1, p.2) (λ names view read proof.
-    let i = c.args.i in
-    let theorem = theorem_at names c.args.files.now c.args.base.now i c.item.result.now c.words_of_proof-proof.result view read proof c.item.ensures.found c.words_of_proof-proof.ensures.words in
-    let are = c.mandatory-mandatory.ensures view theorem.base (framed_proof view i theorem.is_sound) in
-    let there = subst (λ (ns : List ℕ). AreActive view i ns) (sym are) (c.mandatory_are_active.ensures view i theorem.said) in
-    rw (theorem.says, ← are) (c.in_err-marked.ensures.err view theorem.base there))
+    rw (p.1, p.2) (λ names view read proof. c.in_err-decoding.ensures.err view (theorem_at _ _ _ _ c.item.result.now _ view read proof c.item.ensures.found c.words_of_proof-proof.ensures.words))

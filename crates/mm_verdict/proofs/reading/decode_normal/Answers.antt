@@ -1,5 +1,6 @@
-use Rattle.std.proofs.{lemmas.{Grind.{common_steps}, List.{length-append}, Result.{err_from_is_err_and}}, Common.{◌≤◌, false, [], ◌∷◌, length, ap, arith}}
+use Rattle.std.proofs.{lemmas.{List.{length-append}, Result.{err_from_is_err_and}}, Common.{◌≤◌, false, [], ◌∷◌, length, ap, arith}}
 use Rattle.mm_verdict.proofs.lemmas.{machine.MarkedLabels.{marks_next}, decoding.{LeftLemmas.{take_one, none_left}, NormalLemmas.{word_on, word_fails, table_is, finishes}}}
+use Rattle.mm_verdict.{proofs.lemmas.decoding.DecodeLemmas.{decodes_so, fails_so}, specs.Language.DecodedSteps.{entry_steps}}
 use Rattle.mm_verdict.proofs.reading.decode_normal.Goals as goal
 
 pub loop-word-preserved : goal.loop-word-preserved
@@ -24,19 +25,24 @@ pub returns-in_err-label-clause-err : goal.returns-in_err-label-clause-err
 returns-in_err-label-clause-err c =
     let p = err_from_is_err_and c.from_residual.result c.from_residual.ensures.1 in
     let words = c.args.proof.now in
-    let word = c.in-Some.word.now in
-    let took = take_one words c.loop-word.words c.next_word.new.self c.loop-word.n word c.loop-word.invariant.left c.in-Some.ensures in
-    rw (p.1, p.2) (λ view is. word_fails view c.args.i words c.loop-word.n c.loop-word.labels.items c.loop-word.steps.items (c.loop-word.invariant.normal view is) word _ took.within took.is (c.in_err-label.ensures.err view is))
+    let at = c.loop-word in
+    let took = take_one words at.words c.next_word.new.self at.n c.in-Some.word.now at.invariant.left c.in-Some.ensures in
+    rw (p.1, p.2) (λ view theorem.
+    fails_so view c.args.i words theorem.says _ (rw c.requires
+    (word_fails view c.args.i words at.n at.labels.items at.steps.items (at.invariant.normal view theorem.base) c.in-Some.word.now _ took.within took.is
+    (c.in_err-label.ensures.err view theorem.base))))
 
 pub returns-clause-ok : goal.returns-clause-ok
-returns-clause-ok c view is =
-    let past : length c.args.proof.now ≤ c.loop-word.n = omega (arith, none_left c.args.proof.now c.loop-word.words c.loop-word.n c.loop-word.invariant.left c.in_default.ensures.0) in
-    grind (arith, common_steps, finishes view c.args.i c.args.proof.now c.loop-word.n c.loop-word.labels.items c.loop-word.steps.items (c.loop-word.invariant.normal view is) past) steps 200000
-
-pub returns-clause-table : goal.returns-clause-table
-returns-clause-table c view is =
-    let past : length c.args.proof.now ≤ c.loop-word.n = omega (arith, none_left c.args.proof.now c.loop-word.words c.loop-word.n c.loop-word.invariant.left c.in_default.ensures.0) in
-    grind (arith, common_steps, table_is view c.args.i c.args.proof.now c.loop-word.n c.loop-word.labels.items c.loop-word.steps.items (c.loop-word.invariant.normal view is) past) steps 200000
-
-pub returns-clause-entries : goal.returns-clause-entries
-returns-clause-entries c view is = (c.loop-word.invariant.normal view is).entries
+returns-clause-ok c view theorem =
+    let words = c.args.proof.now in
+    let at = c.loop-word in
+    let labels = at.labels.items in
+    let steps = at.steps.items in
+    let normal = at.invariant.normal view theorem.base in
+    let past : length words ≤ at.n = omega (arith, none_left words at.words at.n at.invariant.left c.in_default.ensures.0) in
+    record {
+      theorem = theorem;
+      decodes = decodes_so view c.args.i words theorem.says (entry_steps view labels) steps (rw c.requires (finishes view c.args.i words at.n labels steps normal past));
+      entries = normal.entries;
+      table = rw c.requires (table_is view c.args.i words at.n labels steps normal past);
+    }

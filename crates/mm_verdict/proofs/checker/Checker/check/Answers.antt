@@ -18,7 +18,7 @@ judge-requires c =
 pub returns-clause-check : goal.returns-clause-check
 returns-clause-check c =
     let found = rw c.base-base.ensures at c.item.ensures.found in
-    let says = rw c.widen.ensures at c.in_ok-checked.ensures.judged.says in
+    let says = rw c.widen.ensures at c.in_ok-checked.ensures.says in
     let at = λ (view : BaseView) (is : IsReadIn c.args.names.now c.args.files.now c.args.self.now view) (proof : is_proof_at view c.args.i ≡ true).
     says view (theorem_at _ _ _ _ c.item.result.now _ view is proof found c.words_of_proof-proof.ensures.words) in
     record {
@@ -26,6 +26,6 @@ returns-clause-check c =
       cites = λ view is proof. (at view is proof).cites;
       run = c.in_ok-record.ensures.runs;
       room = c.in_ok-record.ensures.room;
-      done = λ view is proof. (c.in_ok-checked.done, (at view is proof).done, c.in_ok-checked.ensures.judged.few, c.in_ok-record.ensures.steps);
+      done = λ view is proof. (c.in_ok-checked.done, (at view is proof).done, c.in_ok-checked.ensures.few, c.in_ok-record.ensures.steps);
       memory = tt;
     }
