@@ -259,6 +259,12 @@ def outermost_hypothesis_named(n):
     return [*FIRST, f"h $e |- {'p ' * n}$.", *(f"t{k} $p |- p $= h $." for k in range(n))]
 
 
+def outermost_hypothesis_cited(n):
+    """An `$e` of the outermost block with so many symbols, and a proof that cites as many assertions after it."""
+    steps = " ".join(f"wp h a{k}" for k in range(n))
+    return [*FIRST, f"h $e |- {'p ' * n}$.", *(f"a{k} $a |- p $." for k in range(n)), f"t $p |- p $= {steps} $."]
+
+
 def outermost_hypotheses_in_turn(n):
     """Four `$e` of the outermost block with so many symbols together, named in turn, with a short proof after each."""
     lines = [*FIRST, "a $a wff p $.", *(f"h{k} $e |- {'p ' * (n // 4)}$." for k in range(4))]

@@ -1,16 +1,16 @@
 //! Assertions as the machine cites them.
 
-ghost use Rattle.std.specs.Prelude.{◌≡◌, ◌++◌, ◌∷◌, [], List, All, Contains, OnOk, IfOk, length, map};
+ghost use Rattle.std.specs.Prelude.{◌≡◌, ◌++◌, ◌∷◌, [], List, All, Contains, OnOk, IfOk, IsTrue, length, map};
 ghost use Rattle.mm_machine.specs.Language.Frame.{Symbol as Meaning, Mandatory, HasVariable};
 ghost use Rattle.mm_machine.specs.Language.Typing.{IsFrame, IsTyped};
 ghost use Rattle.mm_machine.specs.Language.CitedFrames.{frame_from, hypotheses_of, meant_pairs};
 ghost use Rattle.mm_machine.specs.Language.Forms.{AreForms, IsSomeSlot, frames_of, slot_pair};
 ghost use Rattle.mm_machine.specs.Code.PairClause.{AreTypedPairs};
-ghost use Rattle.mm_machine.specs.Code.Adding.{AddsHypotheses, AddsPattern};
+ghost use Rattle.mm_machine.specs.Code.Adding.{AddsHypotheses, AddsPattern, HasPattern};
 
 use crate::assertion::Hypothesis;
-use crate::kept::{BLOCK, Kept};
-use crate::slots::{Slot, add_slots, note_places, slot_of};
+use crate::kept::{BLOCK, Kept, has_at};
+use crate::slots::{Slot, add_slots, are_slots_of, note_places, slot_of};
 use crate::symbol::Symbol;
 use std::alloc::{AllocError, Global};
 
@@ -68,7 +68,18 @@ pub struct Forms<S> {
     pub(crate) forms: Vec<Form>,
     /// For the key of a variable, where its `$f` may be among the hypotheses of the assertion that is added.
     places: Vec<usize>,
+    /// For the symbols of a long hypothesis, where one with the same symbols may be among `hypotheses`. What is found by it is
+    /// compared, so that no answer depends on it.
+    long: Vec<usize>,
 }
+
+/// A hypothesis with this many symbols is long: assertions that have it share its symbols and its slots. So many assertions in
+/// the scope of a long `$e` take no more memory than there are hypotheses of them. A shorter one is added for each of them,
+/// which takes less time than to find it again.
+const LONG: usize = 32;
+
+/// How many places there are for long hypotheses.
+const LONG_PLACES: usize = 4096;
 
 /// Adds symbols after others.
 fn add_symbols<S: Kept>(
@@ -121,6 +132,83 @@ fn add_pattern<'a, S: Kept>(
     })
 }
 
+/// Where a hypothesis is noted in a table of this many places, if it is long: past all of them if not.
+fn long_place<S: Kept>(expression: &[S::Listed], count: usize) -> usize {
+    if expression.len() < LONG || count == 0 {
+        return count;
+    }
+    let mut hash: usize = 0;
+    for n in 0..expression.len() {
+        hash = hash
+            .wrapping_mul(131)
+            .wrapping_add(S::key_of_listed(&expression[n]));
+    }
+    hash % count
+}
+
+/// The pattern that is noted at this place.
+fn noted_pattern(long: &[usize], held: &[Held], place: usize) -> Option<Pattern> {
+    let number = long.get(place)?;
+    Some(held.get(*number)?.pattern)
+}
+
+/// Notes the hypothesis with this number at a place.
+fn note_long(long: &mut [usize], place: usize, number: usize) {
+    if place < long.len() {
+        long[place] = number;
+    }
+}
+
+/// Whether a pattern is that of an expression.
+fn is_pattern_of<'a, S: Kept>(
+    hypotheses: &[Hypothesis<'a, S::Listed>],
+    expression: &[S::Listed],
+    symbols: &[S],
+    slots: &[Slot],
+    pattern: Pattern,
+) -> bool
+    ensures { IsTrue result → HasPattern (hypotheses_of S.Listed.means hypotheses.now) (map S.Listed.means expression.now) (map S.means symbols.now)
+        slots.now pattern }
+{
+    let Pattern {
+        start,
+        end,
+        first,
+        last,
+    } = pattern;
+    if start > end || end > symbols.len() || first > last || last > slots.len() {
+        return false;
+    }
+    if end - start != expression.len() || !has_at(symbols, start, expression) {
+        return false;
+    }
+    are_slots_of::<S>(hypotheses, expression, &slots[first..last])
+}
+
+/// The pattern of an expression whose variables are typed: the one that is noted, if that is its pattern, or one that is added.
+fn pattern_of<'a, S: Kept>(
+    alloc: Global,
+    hypotheses: &[Hypothesis<'a, S::Listed>],
+    places: &mut Vec<usize>,
+    expression: &[S::Listed],
+    noted: Option<Pattern>,
+    symbols: &mut Vec<S>,
+    slots: &mut Vec<Slot>,
+) -> Result<Pattern, AllocError>
+    requires { (v : Meaning) → HasVariable (map S.Listed.means expression.now) v → IsTyped (hypotheses_of S.Listed.means hypotheses.now) v }
+    ensures symbols { OnOk result ((more : List Meaning) × (map S.means symbols.new.items ≡ map S.means symbols.old.items ++ more)) }
+    ensures slots { OnOk result ((more : List Slot) × (slots.new.items ≡ slots.old.items ++ more)) }
+    ensures pattern { IfOk result (HasPattern (hypotheses_of S.Listed.means hypotheses.now) (map S.Listed.means expression.now)
+        (map S.means symbols.new.items) slots.new.items) }
+{
+    if let Some(pattern) = noted {
+        if is_pattern_of(hypotheses, expression, &*symbols, &*slots, pattern) {
+            return Ok(pattern);
+        }
+    }
+    add_pattern(alloc, hypotheses, places, expression, symbols, slots)
+}
+
 /// Adds mandatory hypotheses whose variables are typed.
 fn add_hypotheses<'a, S: Kept>(
     alloc: Global,
@@ -128,6 +216,7 @@ fn add_hypotheses<'a, S: Kept>(
     places: &mut Vec<usize>,
     symbols: &mut Vec<S>,
     slots: &mut Vec<Slot>,
+    long: &mut [usize],
     to: &mut Vec<Held>,
 ) -> Result<(), AllocError>
     requires { (h : Mandatory) → Contains (hypotheses_of S.Listed.means hypotheses.now) h → (v : Meaning) → HasVariable h.expression v
@@ -136,14 +225,19 @@ fn add_hypotheses<'a, S: Kept>(
         symbols.old.items slots.old.items to.old.items symbols.new.items slots.new.items to.new.items) }
 {
     for n in 0..hypotheses.len() {
-        let pattern = add_pattern(
+        let expression = hypotheses[n].expression;
+        let place = long_place::<S>(expression, long.len());
+        let noted = noted_pattern(&*long, &*to, place);
+        let pattern = pattern_of(
             alloc,
             hypotheses,
             &mut *places,
-            hypotheses[n].expression,
+            expression,
+            noted,
             &mut *symbols,
             &mut *slots,
         )?;
+        note_long(&mut *long, place, to.len());
         to.push(Held {
             floating: hypotheses[n].floating,
             pattern,
@@ -187,6 +281,7 @@ impl<S: Kept> Forms<S> {
             pairs: Vec::new(alloc),
             forms: Vec::new(alloc),
             places: Vec::new(alloc),
+            long: Vec::new(alloc),
         }
     }
 
@@ -197,6 +292,9 @@ impl<S: Kept> Forms<S> {
     {
         if self.places.len() < keys {
             self.places.resize(keys, 0)?;
+        }
+        if self.long.is_empty() {
+            self.long.resize(LONG_PLACES, 0)?;
         }
         Ok(())
     }
@@ -247,6 +345,7 @@ impl<S: Kept> Forms<S> {
             &mut self.places,
             &mut self.symbols,
             &mut self.slots,
+            &mut self.long,
             &mut self.hypotheses,
         )?;
         let pattern = add_pattern(

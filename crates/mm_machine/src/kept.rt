@@ -75,6 +75,19 @@ pub trait Kept: Symbol {
             ↔ (take len (drop at (map Self.means one.now)) ≡ take len (drop from (map Self.means other.now))) };
 }
 
+/// Whether a range of a list has listed symbols.
+pub fn has_at<S: Kept>(all: &[S], at: usize, listed: &[S::Listed]) -> bool
+    requires { at + length listed.now ≤ length all.now }
+    ensures { IsTrue result ↔ (take (length listed.now) (drop at (map S.means all.now)) ≡ map S.Listed.means listed.now) }
+{
+    for n in 0..listed.len() {
+        if !all[at + n].is(&listed[n]) {
+            return false;
+        }
+    }
+    true
+}
+
 /// The next number after some bytes of a name.
 fn key_behind(key: usize, byte: u8) -> usize
     requires { key < 2 ^ 32 }

@@ -37,10 +37,10 @@ pub use numbering_laws::{
     numbers_keep_frames, numbers_keep_order, numbers_keep_pairs, numbers_keep_places,
     numbers_name_symbols, numbers_say_the_same,
 };
-pub use run_laws::{lack_stops, parts_are_run, stops_stay, sure_by_counting};
+pub use run_laws::{parts_are_run, stops_stay, sure_by_counting};
 pub use slots::Slot;
 pub use step::{Action, ProofFault, ProofStep};
-pub use stepping::{Front, RunOutcome, run, run_counted};
+pub use stepping::{RunOutcome, run};
 pub use symbol::{CodedSymbol, NamedSymbol, NumberedSymbol, Symbol};
 pub use verdict_laws::{
     derived_weighs_one, derives_at_most_one, has_count, has_one_count, has_one_step_fault,

@@ -1,19 +1,12 @@
 //! The laws of steps that are run.
 
-ghost use Rattle.mm_machine.specs.Language.RunLaws.{LackStops, PartsAreRun, StopsStay, SureByCounting};
+ghost use Rattle.mm_machine.specs.Language.RunLaws.{PartsAreRun, StopsStay, SureByCounting};
 
 /// Steps that stop do so whatever comes after them.
 ///
 /// For a check of `mm_verdict`, which may run the first steps of a proof alone.
 pub fn stops_stay()
     ensures { StopsStay }
-{}
-
-/// A step that cites an assertion with more hypotheses than there are entries is at fault.
-///
-/// For a check of `mm_verdict`, which may run the first steps of a proof alone.
-pub fn lack_stops()
-    ensures { LackStops }
 {}
 
 /// Which steps are run: all of them, or those before the first unknown one.

@@ -1,6 +1,6 @@
 //! The slots of an expression: where its variables are, and which hypotheses type these.
 
-ghost use Rattle.std.specs.Prelude.{◌≡◌, ◌↔◌, ◌<◌, ◌++◌, List, IsTrue, OnOk, map};
+ghost use Rattle.std.specs.Prelude.{◌≡◌, ◌↔◌, ◌<◌, ◌++◌, List, Some, IsTrue, OnOk, map, slice_get};
 ghost use Rattle.mm_machine.specs.Language.Frame.{Symbol as Meaning, HasVariable};
 ghost use Rattle.mm_machine.specs.Language.Typing.{IsTyped};
 ghost use Rattle.mm_machine.specs.Language.CitedFrames.{mandatory_of, hypotheses_of};
@@ -79,6 +79,20 @@ pub fn note_places<'a, S: Kept>(hypotheses: &[Hypothesis<'a, S::Listed>], places
     }
 }
 
+/// Whether the hypothesis at this place is the `$f` of a variable.
+fn is_slot_of<'a, S: Kept>(
+    hypotheses: &[Hypothesis<'a, S::Listed>],
+    place: usize,
+    variable: &S::Listed,
+) -> bool
+    ensures { IsTrue result → IsSlot (hypotheses_of S.Listed.means hypotheses.now) place (S.Listed.means variable.now) }
+{
+    if place >= hypotheses.len() {
+        return false;
+    }
+    is_float_of(&hypotheses[place], variable)
+}
+
 /// The slot of a variable that some `$f` types.
 pub fn slot_of<'a, S: Kept>(
     hypotheses: &[Hypothesis<'a, S::Listed>],
@@ -89,10 +103,8 @@ pub fn slot_of<'a, S: Kept>(
         → IsSlot (hypotheses_of S.Listed.means hypotheses.now) result (S.Listed.means variable.now) }
 {
     let guess = noted(places, S::key_of_listed(variable));
-    if guess < hypotheses.len() {
-        if is_float_of(&hypotheses[guess], &*variable) {
-            return guess;
-        }
+    if is_slot_of::<S>(hypotheses, guess, &*variable) {
+        return guess;
     }
     for place in 0..hypotheses.len() {
         if is_float_of(&hypotheses[place], &*variable) {
@@ -128,4 +140,53 @@ pub fn add_slots<'a, S: Kept>(
         }
     }
     Ok(())
+}
+
+/// Whether the slot with this number has so many constants, and is of this variable.
+fn is_slot_at<'a, S: Kept>(
+    hypotheses: &[Hypothesis<'a, S::Listed>],
+    slots: &[Slot],
+    number: usize,
+    constants: usize,
+    variable: &S::Listed,
+) -> bool
+    ensures { IsTrue result → (slot : Slot) × (slice_get slots.now number ≡ Some slot) × (slot.constants ≡ constants)
+        × IsSlot (hypotheses_of S.Listed.means hypotheses.now) slot.hypothesis (S.Listed.means variable.now) }
+{
+    if number >= slots.len() {
+        return false;
+    }
+    let slot = slots[number];
+    if slot.constants != constants {
+        return false;
+    }
+    is_slot_of::<S>(hypotheses, slot.hypothesis, variable)
+}
+
+/// Whether these are the slots of an expression.
+pub fn are_slots_of<'a, S: Kept>(
+    hypotheses: &[Hypothesis<'a, S::Listed>],
+    expression: &[S::Listed],
+    slots: &[Slot],
+) -> bool
+    ensures { IsTrue result → AreSlotsOf (hypotheses_of S.Listed.means hypotheses.now) (map S.Listed.means expression.now) slots.now }
+{
+    let mut run = 0;
+    let mut count = 0;
+    for place in 0..expression.len() {
+        let symbol = &expression[place];
+        if symbol.is_variable() {
+            if !is_slot_at::<S>(hypotheses, slots, count, run, symbol) {
+                return false;
+            }
+            count += 1;
+            run = 0;
+        } else {
+            run += 1;
+        }
+    }
+    if count < slots.len() {
+        return false;
+    }
+    true
 }

@@ -11,7 +11,7 @@ ghost use Rattle.mm_machine.specs.Language.Machine.{State, Turns};
 ghost use Rattle.mm_machine.specs.Language.Lasting.{HoldsLasting, KeepsLasting, lasting_of};
 ghost use Rattle.mm_machine.specs.Language.CitedFrames.{meant_pairs};
 ghost use Rattle.mm_machine.specs.Language.Forms.{AreForms, frames_of};
-ghost use Rattle.mm_machine.specs.Language.NamedSteps.{AreDoneTo, AreSavedBefore, AreUses, AreUsesWithin, FrontSays, IsFrontWithin};
+ghost use Rattle.mm_machine.specs.Language.NamedSteps.{AreDoneTo, AreSavedBefore, AreUses, AreUsesWithin};
 ghost use Rattle.mm_machine.specs.Language.NamedSteps.{IsOutcomeWithin, IsSavedWithin, IsUseWithin, MeansUse, RunSays, StopsAt, actions_mean, meant};
 ghost use Rattle.mm_machine.specs.Language.NamedSteps.{saves_by};
 ghost use Rattle.mm_machine.specs.Code.PairClause.{IsPairRoom};
@@ -21,7 +21,7 @@ ghost use Rattle.mm_machine.specs.Code.MachineState.{state_of, AreRanges};
 use crate::ProofNumber;
 use crate::active::Active;
 use crate::forms::Forms;
-use crate::kept::Kept;
+use crate::kept::{Kept, has_at};
 use crate::machine::Machine;
 use crate::named::Use;
 use crate::step::{Action, ProofStep};
@@ -54,15 +54,6 @@ pub enum RunOutcome {
     NotOne,
     /// The one entry at the end is not the statement.
     Other,
-}
-
-/// What the first steps of a proof come to.
-#[derive(Clone, Copy)]
-pub enum Front {
-    /// They stop at a step that is at fault or not known.
-    Stops(RunOutcome),
-    /// All are done, and leave this many entries.
-    Leaves(usize),
 }
 
 /// What an entry of a proof's table is used for; nothing if there is no such entry.
@@ -146,19 +137,6 @@ fn do_task<'a, S: Kept>(
     }
 }
 
-/// Whether a range of a list has listed symbols.
-fn has_at<S: Kept>(all: &[S], at: usize, listed: &[S::Listed]) -> bool
-    requires { at + length listed.now ≤ length all.now }
-    ensures { IsTrue result ↔ (take (length listed.now) (drop at (map S.means all.now)) ≡ map S.Listed.means listed.now) }
-{
-    for n in 0..listed.len() {
-        if !all[at + n].is(&listed[n]) {
-            return false;
-        }
-    }
-    true
-}
-
 /// Whether the one entry is an expression.
 fn is_top<S: Kept>(machine: &Machine<S>, expression: &[S::Listed]) -> bool
     requires whole { AreRanges machine.now }
@@ -206,41 +184,12 @@ fn run_through<'a, S: Kept>(
     Ok(None)
 }
 
-/// Runs the first steps of a proof, up to one that is at fault or not known, and answers whether they stop there or how many
-/// entries they leave. The labels of the proof have these uses. Of what the machine has from other runs, its lasting
-/// expressions alone count, and they stay.
+/// Runs the steps of a proof of a statement, up to the first that is at fault or not known. The labels of the proof have these
+/// uses. Of what the machine has from other runs, its lasting expressions alone count, and they stay.
 ///
 /// The assertions that are named can be cited, each number is in range, and what is pushed again was saved before. It takes
 /// time near linear in the symbols of the entries that are made and compared, and memory for these. The only error is out of
 /// memory; after it the lasting expressions have to be forgotten ([`Machine::forget`]).
-pub fn run_counted<'a, S: Kept>(
-    alloc: Global,
-    machine: &mut Machine<S>,
-    forms: &Forms<S>,
-    uses: &[Use],
-    active: &Active<'a, S>,
-    steps: &[ProofStep],
-) -> Result<Front, AllocError>
-    requires holds { HoldsLasting machine.old }
-    requires frames { AreForms S.means forms.now }
-    requires within { AreUsesWithin machine.old forms.now uses.now }
-    requires saved { AreSavedBefore steps.now }
-    ensures holds { OnOk result (HoldsLasting machine.new) }
-    ensures lasting { OnOk result (KeepsLasting S.means machine.old machine.new) }
-    ensures within { IfOk result (IsFrontWithin (length steps.now)) }
-    ensures says { IfOk result (λ front. (place : Setting) (names : List Step) → HasFrames place
-        → AreSamePairs (meant_pairs S.Listed.means active.now.pairs.now) place.active → AreUses S.means machine.old forms.now uses.now place names
-        → FrontSays place (actions_mean names steps.now) front) }
-{
-    match run_through(alloc, &mut *machine, &*forms, uses, &*active, steps)? {
-        Some(outcome) => Ok(Front::Stops(outcome)),
-        None => Ok(Front::Leaves(machine.stack.len())),
-    }
-}
-
-/// Runs the steps of a proof of a statement, up to the first that is at fault or not known.
-///
-/// It requires what [`run_counted`] does, and costs the same.
 pub fn run<'a, S: Kept>(
     alloc: Global,
     machine: &mut Machine<S>,

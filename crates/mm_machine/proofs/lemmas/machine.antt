@@ -10,7 +10,6 @@ pub mod FormLemmas
 pub mod GatherLemmas
 pub mod Given
 pub mod KeyOrderLemmas
-pub mod LackLemmas
 pub mod MarkLemmas
 pub mod PairClauseLemmas
 pub mod Reaching
@@ -21,6 +20,7 @@ pub mod SlotLemmas
 pub mod StackLemmas
 pub mod PushLemmas
 pub mod StepLemmas
+pub mod StopLemmas
 pub mod Substituted
 pub mod TakenLemmas
 pub mod Threaded

@@ -1,7 +1,7 @@
 -- What adding to the lists of forms comes to.
 use Rattle.std.specs.Prelude.{◌≡◌, ◌+◌, List, ◌++◌, length, map, All}
 use Rattle.mm_machine.specs.Language.Frame.{Symbol, Mandatory}
-use Rattle.mm_machine.specs.Language.Forms.{AreSlotsOf, IsPattern, held_of}
+use Rattle.mm_machine.specs.Language.Forms.{AreSlotsOf, IsPattern, held_of, pattern_symbols}
 use Rattle.mm_machine.specs.declared.slots.Slot.{Slot}
 use Rattle.mm_machine.specs.declared.forms.{Pattern.{Pattern}, Held.{Held}}
 
@@ -14,6 +14,11 @@ pub record AddsPattern {S : Type 0} (means : S → Symbol) (hs : List Mandatory)
   pub end : p.end ≡ length all
   pub first : p.first ≡ length old_slots
   pub last : p.last ≡ length all_slots
+
+-- the pattern is that of the expression, whose variables these hypotheses type
+pub record HasPattern (hs : List Mandatory) (expression symbols : List Symbol) (slots : List Slot) (p : Pattern) : Type 0 where
+  pub symbols_are : pattern_symbols symbols p ≡ expression
+  pub pattern : IsPattern (length symbols + 4) hs symbols slots p
 
 -- so many of the hypotheses are added, with their symbols and slots
 pub record AddsHypotheses {S : Type 0} (means : S → Symbol) (hs added : List Mandatory) (old : List S) (old_slots : List Slot) (old_held : List Held)

@@ -12,8 +12,6 @@ use Rattle.mm_machine.specs.declared.machine.Machine.{Machine}
 use Rattle.mm_machine.specs.declared.step.Action.{Action}
 use Rattle.mm_machine.specs.declared.step.Action.TheVariants as actions
 use Rattle.mm_machine.specs.declared.step.ProofStep.{ProofStep}
-use Rattle.mm_machine.specs.declared.stepping.Front.{Front}
-use Rattle.mm_machine.specs.declared.stepping.Front.TheVariants.{Stops, Leaves}
 use Rattle.mm_machine.specs.declared.stepping.RunOutcome.{RunOutcome}
 use Rattle.mm_machine.specs.declared.stepping.RunOutcome.TheVariants.{Proved, Fault, Unknown, NotOne, Other}
 use Rattle.mm_machine.specs.declared.named.Use.{Use}
@@ -95,18 +93,8 @@ StopsAt place steps _ = ⊥
 abbrev pub AreDoneTo : Setting → List Step → List (List Symbol) → Type 0
 AreDoneTo place steps stack = (run_part steps ≡ steps) × Reaches place steps stack
 
--- what a run says of the first steps of a proof: they stop, or all are done and leave this many entries
-abbrev pub FrontSays : Setting → List Step → Front → Type 0
-FrontSays place steps (Stops outcome) = StopsAt place steps outcome
-FrontSays place steps (Leaves count) = (stack : List (List Symbol)) × AreDoneTo place steps stack × (length stack ≡ count)
-
 -- the step that an outcome names is one of this many
 abbrev pub IsOutcomeWithin : ℕ → RunOutcome → Type 0
 IsOutcomeWithin steps (Fault number n) = n < steps
 IsOutcomeWithin steps (Unknown n) = n < steps
 IsOutcomeWithin steps _ = Unit {0}
-
--- the step at which the first steps stop is one of this many
-abbrev pub IsFrontWithin : ℕ → Front → Type 0
-IsFrontWithin steps (Stops outcome) = IsOutcomeWithin steps outcome
-IsFrontWithin steps (Leaves count) = Unit {0}

@@ -1,14 +1,12 @@
 -- What is proved of steps that are run, and of numbers in place of names: each is the contract of a function.
-use Rattle.std.specs.Prelude.{◌≡◌, ◌≢◌, ℕ, ◌<◌, ◌↔◌, Some, List, ◌∷◌, ◌++◌, length, map, take, slice_get, All}
+use Rattle.std.specs.Prelude.{◌≡◌, ◌≢◌, ℕ, ◌<◌, ◌↔◌, Some, List, ◌++◌, length, map, take, slice_get, All}
 use Rattle.mm_machine.specs.declared.symbol.NumberedSymbol.{NumberedSymbol}
-use Rattle.mm_machine.specs.declared.ProofNumber.TheVariants.{P07}
 use Rattle.mm_machine.specs.declared.stepping.RunOutcome.{RunOutcome}
-use Rattle.mm_machine.specs.declared.stepping.RunOutcome.TheVariants.{Fault}
-use Rattle.mm_machine.specs.Language.Frame.{Symbol, Frame, Assertion, Setting, AreSamePairs}
+use Rattle.mm_machine.specs.Language.Frame.{Symbol, Frame, Setting, AreSamePairs}
 use Rattle.mm_machine.specs.Language.Typing.{IsFrame, HasFrames}
 use Rattle.mm_machine.specs.Language.Names.{AreDistinct}
 use Rattle.mm_machine.specs.Language.NumberedSymbols.{by_number, all_by_number, symbols_of, kept_pairs, IsNumbered, IsPairNumbered, AreInOrder}
-use Rattle.mm_machine.specs.Language.Expansion.{Step, Named, NotKnown}
+use Rattle.mm_machine.specs.Language.Expansion.{Step, NotKnown}
 use Rattle.mm_machine.specs.Language.Machine.{AreDecoded, AreDecodedAfter}
 use Rattle.mm_machine.specs.Language.Run.{run_part}
 use Rattle.mm_machine.specs.Language.Reaches.{Reaches}
@@ -16,7 +14,7 @@ use Rattle.mm_machine.specs.Language.Renaming.{renamed_frame, renamed_pairs, ren
 use Rattle.mm_machine.specs.Language.Numbering.{unnaming}
 use Rattle.mm_machine.specs.Language.Keys.{AreInKeyOrder, key_by_number}
 use Rattle.mm_machine.specs.Language.CitedFrames.{meant_pairs}
-use Rattle.mm_machine.specs.Language.NamedSteps.{AreDoneTo, RunSays, StopsAt}
+use Rattle.mm_machine.specs.Language.NamedSteps.{RunSays, StopsAt}
 
 -- Symbols by number, read by the names and then renamed to numbers, are the symbols whose names are these numbers.
 abbrev pub NumbersNameSymbols : Type 0
@@ -52,13 +50,6 @@ NumbersSayTheSame =
 -- Steps that stop do so whatever comes after them.
 abbrev pub StopsStay : Type 0
 StopsStay = (place : Setting) (front behind : List Step) (outcome : RunOutcome) → StopsAt place front outcome → StopsAt place (front ++ behind) outcome
-
--- Steps that are all done, and then one that cites an assertion with more hypotheses than there are entries, stop at that one.
-abbrev pub LackStops : Type 0
-LackStops =
-    (place : Setting) → HasFrames place → (front behind : List Step) (label : List ℕ) (frame : Frame) (stack : List (List Symbol)) →
-    AreDoneTo place front stack → place.resolve label ≡ Assertion frame → length stack < length frame.hypotheses →
-    StopsAt place (front ++ Named label ∷ behind) (Fault P07 (length front))
 
 -- no step before step n is a `?`
 abbrev pub KnownUpTo : List Step → ℕ → Type 0

@@ -1,4 +1,4 @@
-use Rattle.std.proofs.{Common.{◌≡◌, ◌+◌, ◌≤◌, map, length, take, sym, ◌∙◌, subst, arith, [], append-nil}, lemmas.List.{length-map, take_all}}
+use Rattle.std.proofs.{Common.{◌+◌, ◌≤◌, map, length, take, sym, ◌∙◌, subst, arith, [], append-nil}, lemmas.List.{length-map, take_all}}
 use Rattle.mm_machine.{specs.Code.PairClause.{GathersOne, GathersSymbols}, proofs.lemmas.machine.{FlatLemmas.{mapped_get}, GatherLemmas.{gathered_more, gathered_none, grown_twice}}}
 use Rattle.mm_machine.proofs.gather.gather.Goals as goal
 

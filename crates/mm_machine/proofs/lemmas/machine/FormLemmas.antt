@@ -6,14 +6,14 @@ use Rattle.std.proofs.Common.{◌≡◌, ℕ, ◌+◌, ◌-◌, ◌<◌, ◌≤�
 use Rattle.std.proofs.Common.{All}
 use Rattle.mm_machine.specs.Language.{Frame.{Symbol, Mandatory, Frame}, Typing.{IsFrame, IsTyped}, CitedFrames.{range_of, meant_pair, meant_pairs, mandatory_of, hypotheses_of}}
 use Rattle.mm_machine.specs.Language.Forms.{IsSlot, IsSomeSlot, IsPattern, IsPatternWithin, IsForm, pattern_symbols, pattern_slots, held_of, form_hypotheses, form_frame, slot_pair, variable_at}
-use Rattle.mm_machine.specs.{Code.{Adding.{AddsPattern, AddsHypotheses}, Filling.{IsFillable, AreSlotsWithin}, PairClause.{AreTypedPairs}}, declared.slots.Slot.{Slot}}
+use Rattle.mm_machine.specs.{Code.{Adding.{AddsPattern, AddsHypotheses, HasPattern}, Filling.{IsFillable, AreSlotsWithin}, PairClause.{AreTypedPairs}}, declared.slots.Slot.{Slot}}
 use Rattle.mm_machine.specs.declared.{assertion.Hypothesis.{Hypothesis}, forms.{Pattern.{Pattern}, Held.{Held}, SlotPair.{SlotPair}, Form.{Form}, Forms.{Forms}}}
 use Rattle.mm_machine.proofs.lemmas.{machine.{FlatLemmas.{mapped_get}, SlotLemmas.{slots_within}}, lists.Members.{contains_at}}
 
 -- ---- pairs
 
 -- the variable of a slot
-slot_variable : (hs : List Mandatory) (j : ℕ) (v : Symbol) → IsSlot hs j v → variable_at hs j ≡ v
+pub slot_variable : (hs : List Mandatory) (j : ℕ) (v : Symbol) → IsSlot hs j v → variable_at hs j ≡ v
 slot_variable hs j v is =
     let none : Symbol = record { name = []; variable = false } in
     ap (λ (h : Mandatory). slice_index_or h.expression 1 none) (get_or_from_slice_get hs j is.0 (record { floating = true; expression = [] }) is.1)
@@ -78,16 +78,16 @@ pattern_stays room wider hs symbols more all slots more_slots all_slots p e f l 
     }
 
 -- the pattern that is added
-pattern_added : {S : Type 0} (means : S → Symbol) (hs : List Mandatory) (expression : List Symbol) (old : List S) (old_slots : List Slot) (all : List S) (all_slots : List Slot)
-    (p : Pattern) → AddsPattern means hs expression old old_slots all all_slots p →
-    (pattern_symbols (map means all) p ≡ expression) × IsPattern (length (map means all) + 4) hs (map means all) all_slots p
+pub pattern_added : {S : Type 0} (means : S → Symbol) (hs : List Mandatory) (expression : List Symbol) (old : List S) (old_slots : List Slot) (all : List S) (all_slots : List Slot)
+    (p : Pattern) → AddsPattern means hs expression old old_slots all all_slots p → HasPattern hs expression (map means all) all_slots p
 pattern_added means hs expression old old_slots all all_slots p a =
     let n = ap length a.symbols in
     let k = ap length a.slots.1 in
     let symbols = range_added p.start p.end (map means old) expression (map means all) a.symbols (a.start ∙ sym (length-map old means)) (a.end ∙ sym (length-map all means)) in
-    let slots = range_added p.first p.last old_slots a.slots.0 all_slots a.slots.1 a.first a.last in (
-      symbols,
-      record {
+    let slots = range_added p.first p.last old_slots a.slots.0 all_slots a.slots.1 a.first a.last in
+    record {
+      symbols_are = symbols;
+      pattern = record {
         ranges = record {
           in_order = omega (arith, n, a.start, a.end, length-map old means, length-map all means, length-append (map means old) expression);
           within = omega (arith, a.end, length-map all means);
@@ -95,8 +95,8 @@ pattern_added means hs expression old old_slots all all_slots p a =
           slots_within = omega (arith, a.last);
         };
         slots = rw (symbols, slots) a.slots.2;
-      },
-    )
+      };
+    }
 
 -- ---- hypotheses
 
@@ -118,25 +118,25 @@ patterns_stay room wider hs symbols more all slots more_slots all_slots held e f
 
 -- one more hypothesis
 hypothesis_added : {S : Type 0} (means : S → Symbol) (hs added : List Mandatory) (old : List S) (old_slots : List Slot) (old_held : List Held)
-    (mid : List S) (mid_slots : List Slot) (mid_held : List Held) (all : List S) (all_slots : List Slot) (held : Held) (expression : List Symbol) →
-    AddsHypotheses means hs added old old_slots old_held mid mid_slots mid_held → AddsPattern means hs expression mid mid_slots all all_slots held.pattern →
+    (mid : List S) (mid_slots : List Slot) (mid_held : List Held) (all : List S) (all_slots : List Slot) (held : Held) (expression more : List Symbol) (more_slots : List Slot) →
+    AddsHypotheses means hs added old old_slots old_held mid mid_slots mid_held → map means all ≡ map means mid ++ more → all_slots ≡ mid_slots ++ more_slots →
+    HasPattern hs expression (map means all) all_slots held.pattern →
     AddsHypotheses means hs (added ++ record { floating = held.floating; expression = expression } ∷ []) old old_slots old_held all all_slots (mid_held ++ held ∷ [])
-hypothesis_added means hs added old old_slots old_held mid mid_slots mid_held all all_slots held expression a b =
-    let n = ap length b.symbols in
-    let p = pattern_added means hs expression mid mid_slots all all_slots held.pattern b in
+hypothesis_added means hs added old old_slots old_held mid mid_slots mid_held all all_slots held expression more more_slots a e f is =
+    let n = ap length e in
     let made : List Symbol → Mandatory = λ w. record { floating = held.floating; expression = w } in
     let room = length (map means mid) + 4 in
-    let front = held_stay room hs (map means mid) expression (map means all) mid_slots a.held.0 b.symbols (omega arith) a.held.3 ∙ a.held.2 in
+    let front = held_stay room hs (map means mid) more (map means all) mid_slots a.held.0 e (omega arith) a.held.3 ∙ a.held.2 in
     record {
-      symbols = (a.symbols.0 ++ expression, b.symbols ∙ ap (λ w. w ++ expression) a.symbols.1 ∙ append_assoc (map means old) a.symbols.0 expression);
-      slots = (a.slots.0 ++ b.slots.0, b.slots.1 ∙ ap (λ w. w ++ b.slots.0) a.slots.1 ∙ append_assoc old_slots a.slots.0 b.slots.0);
+      symbols = (a.symbols.0 ++ more, e ∙ ap (λ w. w ++ more) a.symbols.1 ∙ append_assoc (map means old) a.symbols.0 more);
+      slots = (a.slots.0 ++ more_slots, f ∙ ap (λ w. w ++ more_slots) a.slots.1 ∙ append_assoc old_slots a.slots.0 more_slots);
       held = (
         a.held.0 ++ held ∷ [],
         ap (λ w. w ++ held ∷ []) a.held.1 ∙ append_assoc old_held a.held.0 (held ∷ []),
-        map_push (held_of (map means all)) a.held.0 held ∙ ap₂ (λ (hs : List Mandatory) (h : Mandatory). hs ++ h ∷ []) front (ap made p.0),
+        map_push (held_of (map means all)) a.held.0 held ∙ ap₂ (λ (hs : List Mandatory) (h : Mandatory). hs ++ h ∷ []) front (ap made is.symbols_are),
         All-push (λ (h : Held). IsPattern (length (map means all) + 4) hs (map means all) all_slots h.pattern) a.held.0 held
-            (patterns_stay room (length (map means all) + 4) hs (map means mid) expression (map means all) mid_slots b.slots.0 all_slots a.held.0 b.symbols b.slots.1 (omega arith)
-            (omega (arith, n, length-append (map means mid) expression)) a.held.3) p.1,
+            (patterns_stay room (length (map means all) + 4) hs (map means mid) more (map means all) mid_slots more_slots all_slots a.held.0 e f (omega arith)
+            (omega (arith, n, length-append (map means mid) more)) a.held.3) is.pattern,
       );
     }
 
@@ -144,19 +144,20 @@ hypothesis_added means hs added old old_slots old_held mid mid_slots mid_held al
 pub next_added : {S L : Type 0} (means : S → Symbol) (listed : L → Symbol) (hs : List (Hypothesis L)) (n : ℕ) (d e : Hypothesis L) (old : List S) (old_slots : List Slot)
     (old_held : List Held) (mid : List S) (mid_slots : List Slot) (mid_held : List Held) (all : List S) (all_slots : List Slot) (all_held : List Held) (p : Pattern) → n < length hs →
     AddsHypotheses means (hypotheses_of listed hs) (hypotheses_of listed (take n hs)) old old_slots old_held mid mid_slots mid_held →
-    AddsPattern means (hypotheses_of listed hs) (map listed (get_or hs n d).expression.now) mid mid_slots all all_slots p →
+    (more : List Symbol) × (map means all ≡ map means mid ++ more) → (more : List Slot) × (all_slots ≡ mid_slots ++ more) →
+    HasPattern (hypotheses_of listed hs) (map listed (get_or hs n d).expression.now) (map means all) all_slots p →
     all_held ≡ mid_held ++ record { floating = (get_or hs n e).floating; pattern = p } ∷ [] →
     AddsHypotheses means (hypotheses_of listed hs) (hypotheses_of listed (take (n + 1) hs)) old old_slots old_held all all_slots all_held
-next_added means listed hs n d e old old_slots old_held mid mid_slots mid_held all all_slots all_held p l a b more =
+next_added means listed hs n d e old old_slots old_held mid mid_slots mid_held all all_slots all_held p l a symbols slots is more =
     let mandatory = hypotheses_of listed hs in
     let added = hypotheses_of listed (take n hs) in
     let h = get_or hs n e in
     let held : Held = record { floating = h.floating; pattern = p } in
-    let pattern : AddsPattern means mandatory (map listed h.expression.now) mid mid_slots all all_slots p =
-    subst (λ w. AddsPattern means mandatory (map listed w.expression.now) mid mid_slots all all_slots p) (get_or_default hs n d e l) b in
+    let pattern : HasPattern mandatory (map listed h.expression.now) (map means all) all_slots p =
+    subst (λ w. HasPattern mandatory (map listed w.expression.now) (map means all) all_slots p) (get_or_default hs n d e l) is in
     subst (λ w. AddsHypotheses means mandatory w old old_slots old_held all all_slots all_held) (sym (map_more (mandatory_of listed) hs n e l))
     (subst (λ w. AddsHypotheses means mandatory (added ++ mandatory_of listed h ∷ []) old old_slots old_held all all_slots w) (sym more)
-    (hypothesis_added means mandatory added old old_slots old_held mid mid_slots mid_held all all_slots held (map listed h.expression.now) a pattern))
+    (hypothesis_added means mandatory added old old_slots old_held mid mid_slots mid_held all all_slots held (map listed h.expression.now) symbols.0 slots.0 a symbols.1 slots.1 pattern))
 
 -- ---- forms
 
@@ -255,13 +256,13 @@ module _ {S : Type 0} (means : S → Symbol) (hs : List Mandatory) (expression :
       ap (map (held_of (map means all))) added_held
       ∙ held_stay (length (map means mid) + 4) hs (map means mid) (expression ++ map means block) (map means all) mid_slots a.held.0 whole (omega arith) a.held.3 ∙ a.held.2
 
-  pattern_here : (pattern_symbols (map means last) form.pattern ≡ expression) × IsPattern (length (map means last) + 4) hs (map means last) slots form.pattern
+  pattern_here : HasPattern hs expression (map means last) slots form.pattern
   pattern_here = pattern_added means hs expression mid mid_slots last slots form.pattern b
 
   -- its frame
   added_frame : form_frame (map means all) held slot_pairs form ≡ record { expression = expression; hypotheses = hs; pairs = pairs }
   added_frame = frame_is (form_frame (map means all) held slot_pairs form) (record { expression = expression; hypotheses = hs; pairs = pairs })
-      (symbols_stay (length (map means last) + 4) hs (map means last) (map means block) (map means all) slots form.pattern grown (omega arith) pattern_here.1 ∙ pattern_here.0)
+      (symbols_stay (length (map means last) + 4) hs (map means last) (map means block) (map means all) slots form.pattern grown (omega arith) pattern_here.pattern ∙ pattern_here.symbols_are)
       added_hypotheses
       (ap₂ (λ (hs : List Mandatory) (ps : List SlotPair). map (slot_pair hs) ps) added_hypotheses added_pairs ∙ paired)
 
@@ -283,7 +284,7 @@ module _ {S : Type 0} (means : S → Symbol) (hs : List Mandatory) (expression :
         pairs_within = omega arith;
         pattern = subst (λ w. IsPattern (length symbols) w symbols slots form.pattern) (sym added_hypotheses)
             (pattern_stays (length (map means last) + 4) (length symbols) hs (map means last) (map means block) symbols slots [] slots form.pattern grown (sym (append-nil slots)) (omega arith)
-            room pattern_here.1);
+            room pattern_here.pattern);
         held = subst (λ w. All (λ h. IsPattern (length symbols) (form_hypotheses symbols held form) symbols slots h.pattern) w) (sym added_held)
             (subst (λ w. All (λ h. IsPattern (length symbols) w symbols slots h.pattern) a.held.0) (sym added_hypotheses)
             (patterns_stay (length (map means mid) + 4) (length symbols) hs (map means mid) (expression ++ map means block) symbols mid_slots b.slots.0 slots a.held.0 whole b.slots.1

@@ -1,8 +1,8 @@
 -- The variables of entries, gathered as sets of numbers.
-use Rattle.std.proofs.Common.{◌≡◌, ℕ, ◌+◌, ◌-◌, ◌<◌, ◌≤◌, Bool, true, Some, List, [], ◌∷◌, ◌++◌, length, take, drop, refl, sym, ◌∙◌, ap, subst, arith, inl, inr, ◌⊎◌, append_assoc, length-append}
-use Rattle.std.proofs.{Common.{slice_get, Contains}, lemmas.{Grind.{common_steps}, Bool.{false≢true}, Option.{slice_get_within, same_Some}, List.{drop_all, take_all, take_rest, take-append-drop}}}
+use Rattle.std.proofs.Common.{◌≡◌, ℕ, ◌+◌, ◌-◌, ◌<◌, Bool, true, Some, List, [], ◌∷◌, ◌++◌, length, take, drop, refl, sym, ◌∙◌, ap, subst, arith, inl, inr, ◌⊎◌, append_assoc, length-append, slice_get}
+use Rattle.std.proofs.{Common.{Contains}, lemmas.{Grind.{common_steps}, Bool.{false≢true}, Option.{slice_get_within, same_Some}, List.{drop_all, take_all, take_rest, take-append-drop}}}
 use Rattle.std.proofs.lemmas.List.Elements.{Contains-append_cases, Contains-append_left, Contains-append_right}
-use Rattle.mm_machine.specs.{Language.Frame.{Symbol, Mandatory, HasVariable}, declared.{pattern.Entry.{Entry}, sets.Chunk.{Chunk}}, Code.Flat.{IsEntryWithin}}
+use Rattle.mm_machine.specs.{Language.Frame.{Symbol, Mandatory}, declared.{pattern.Entry.{Entry}, sets.Chunk.{Chunk}}, Code.Flat.{IsEntryWithin}}
 use Rattle.mm_machine.{specs.Code.PairClause.{AreNumbersOf, GathersOne, GathersSymbols, GathersEntry, Gathers, IsIn, set_of}, proofs.lemmas.machine.ApartLemmas.{front_at, last_at, range_kept}}
 use Rattle.mm_machine.proofs.lemmas.lists.Members.{pushed, take_next}
 

@@ -1,17 +1,11 @@
 -- What is gathered, and the pair clause.
-use Rattle.std.proofs.Common.{[], ◌++◌, true, false, ◌≡◌, ℕ, Some, List, length, map, get_or, sym, ◌∙◌, ap, subst, arith, inl, inr, refl, ◌↔◌, slice_get, Contains, All, Any}
+use Rattle.std.proofs.Common.{[], ◌++◌, false, ◌≡◌, ℕ, Some, List, length, map, get_or, sym, ◌∙◌, ap, subst, arith, inl, inr, refl, ◌↔◌, slice_get, Contains, All, Any}
 use Rattle.std.proofs.lemmas.{List.Elements.{All-contains, All-map}, Option.{slice_get_within, get_or_from_slice_get, slice_get-get_or, same_Some}}
-use Rattle.mm_machine.specs.Language.{Frame.{Symbol, Mandatory, HasVariable}, Forms.{IsSlot, IsSomeSlot, slot_pair, variable_at}, Derivation.{AreApart, ShareVariable}, Faults.{LackPair}}
+use Rattle.mm_machine.specs.Language.{Frame.{Symbol, Mandatory, HasVariable}, Forms.{IsSomeSlot, slot_pair, variable_at}, Derivation.{AreApart, ShareVariable}, Faults.{LackPair}}
 use Rattle.mm_machine.specs.Code.PairClause.{Apart, ApartAt, AreNumbersOf, AreSlotPairs, AtEachPair, AtSlots, EachApart, Gathers, HasNumber, IsIn, KnowsApart, SomeNotApart, SomeShared, entry_or}
 use Rattle.mm_machine.specs.{Code.{PairClause.{set_at}, Citation.{AreAllTyped, GivesEntries}}, declared.{forms.SlotPair.{SlotPair}, pattern.Entry.{Entry}, sets.Chunk.{Chunk}}}
-use Rattle.mm_machine.{specs.declared.apart.KnownApart.{KnownApart}, proofs.lemmas.machine.{FlatLemmas.{mapped_get, unmapped}, EntryFaults.{slot_gives}, GatherLemmas.{part_of, still_at}}}
-use Rattle.mm_machine.proofs.lemmas.lists.Members.{contains_at}
-
--- the variable of a slot is that of its `$f`
-variable_is : (hs : List Mandatory) (j : ℕ) (v : Symbol) → IsSlot hs j v → variable_at hs j ≡ v
-variable_is hs j v slot =
-    let nothing : Symbol = record { name = []; variable = false } in
-    ap (λ (h : Mandatory). get_or h.expression 1 nothing) (get_or_from_slice_get hs j slot.0 (record { floating = true; expression = [] }) slot.1) ∙ get_or_from_slice_get slot.0.expression 1 v nothing slot.3
+use Rattle.mm_machine.{specs.declared.apart.KnownApart.{KnownApart}, proofs.lemmas.machine.{FlatLemmas.{mapped_get, unmapped}, EntryFaults.{slot_gives}, FormLemmas.{slot_variable}}}
+use Rattle.mm_machine.proofs.lemmas.{machine.GatherLemmas.{part_of, still_at}, lists.Members.{contains_at}}
 
 -- the variables that two numbers name
 named_once : (all : List Symbol) → ((m n : ℕ) (v : Symbol) → slice_get all m ≡ Some v → slice_get all n ≡ Some v → m ≡ n)
@@ -40,7 +34,7 @@ module _ (hs : List Mandatory) (es : List (List Symbol)) (all : List Symbol) (ch
       let e = slot_gives hs given es is gives j s.0 slot in
       let d : Entry = record { start = 0; end = 0; floor = 0 } in
       let at = slice_get-get_or spans j d (omega (arith, gathers.count, slice_get_within hs j slot.0 slot.1)) in
-      rw (variable_is hs j s.0 slot, e.2, at) (gathers.right j (get_or spans j d) slot.0 e.0 at slot.1 slot.2 e.1 z)
+      rw (slot_variable hs j s.0 slot, e.2, at) (gathers.right j (get_or spans j d) slot.0 e.0 at slot.1 slot.2 e.1 z)
 
   slots_at : (k : ℕ) (p : SlotPair) → slice_get pairs k ≡ Some p → IsSomeSlot hs p.first × IsSomeSlot hs p.second
   slots_at k p at = All-contains (λ (p : SlotPair). IsSomeSlot hs p.first × IsSomeSlot hs p.second) pairs p slots (contains_at pairs k p at)

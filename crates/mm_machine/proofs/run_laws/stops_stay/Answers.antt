@@ -1,4 +1,4 @@
-use Rattle.mm_machine.proofs.lemmas.machine.LackLemmas.{stops_on}
+use Rattle.mm_machine.proofs.lemmas.machine.StopLemmas.{stops_on}
 use Rattle.mm_machine.proofs.run_laws.stops_stay.Goals as goal
 
 pub returns : goal.returns

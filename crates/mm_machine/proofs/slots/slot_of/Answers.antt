@@ -5,15 +5,8 @@ use Rattle.mm_machine.proofs.slots.slot_of.Goals as goal
 pub returns-then-is_float_of : goal.returns-then-is_float_of
 returns-then-is_float_of g c typed =
     let m = g.S.Listed.Symbol.means in
-    let h = c.index-hypotheses-guess.result in
-    let t = c.is_float_of.ensures.0 c.if-is_float_of.true in
-    (mandatory_of m h, mapped_get (mandatory_of m) c.args.hypotheses.now c.noted-guess.result h c.if-guess-hypotheses.true c.index-hypotheses-guess.is, t.0, t.1)
-
-pub returns-then-is_float_of-2 : goal.returns-then-is_float_of-2
-returns-then-is_float_of-2 g c typed =
-    let m = g.S.Listed.Symbol.means in
     let h = c.index-hypotheses-place.result in
-    let t = c.is_float_of-in-loop-place.ensures.0 c.if-is_float_of-2.true in
+    let t = c.is_float_of.ensures.0 c.if-is_float_of.true in
     (mandatory_of m h, mapped_get (mandatory_of m) c.args.hypotheses.now c.loop-place.place h c.loop-place-test.true c.index-hypotheses-place.is, t.0, t.1)
 
 pub loop-place-preserved : goal.loop-place-preserved
@@ -22,7 +15,7 @@ loop-place-preserved g c =
     let h = c.index-hypotheses-place.result in
     each_more (λ h. IsTypingOf h (m c.args.variable.now) → ⊥) (hypotheses_of m c.args.hypotheses.now) c.loop-place.place (mandatory_of m h)
     (mapped_get (mandatory_of m) c.args.hypotheses.now c.loop-place.place h c.loop-place-test.true c.index-hypotheses-place.is)
-    (λ t. false≢true (sym c.if-is_float_of-2.false ∙ c.is_float_of-in-loop-place.ensures.1 t)) c.loop-place.invariant
+    (λ t. false≢true (sym c.if-is_float_of.false ∙ c.is_float_of.ensures.1 t)) c.loop-place.invariant
 
 pub returns : goal.returns
 returns g c typed =

@@ -1,6 +1,6 @@
 use Rattle.std.proofs.{lemmas.{Grind.{common_steps}, Bool.{false≢true}, List.{length-map, get_or_default}}, Common.{◌≡◌, ◌<◌, ◌∷◌, [], map, length, get_or, refl, ◌∙◌, subst, arith}}
 use Rattle.mm_machine.specs.{Language.{Reaches.{Reaches}, NamedSteps.{actions_mean}}, declared.pattern.Entry.{Entry}, Code.{Flat.{read, read_all}, MachineState.{state_of}}}
-use Rattle.mm_machine.proofs.lemmas.machine.{StackLemmas.{top_of}, LackLemmas.{stopped_says}}
+use Rattle.mm_machine.proofs.lemmas.machine.{StackLemmas.{top_of}, StopLemmas.{stopped_says}}
 use Rattle.mm_machine.proofs.stepping.run.Goals as goal
 
 pub returns-in-Some-clause-says : goal.returns-in-Some-clause-says

@@ -1,11 +1,9 @@
--- Steps that stop before one that lacks an entry, or at it.
+-- Steps that stop do so whatever comes after them.
 use Rattle.std.proofs.lemmas.{Grind.{common_steps}, List.{take-append-le}, Option.{slice_get_within}}
-use Rattle.std.proofs.Common.{◌≡◌, ◌≢◌, ℕ, ◌+◌, ◌<◌, List, ◌∷◌, ◌++◌, length, refl, sym, ◌∙◌, ap, subst, arith, [], inl, inr}
-use Rattle.mm_machine.specs.Language.{Frame.{Symbol, Frame, LabelMeaning, Assertion, Setting}, Typing.{HasFrames}, Expansion.{Step, Named, NotKnown}, Faults.{LabelFails, IsLowest}}
-use Rattle.mm_machine.specs.{Language.{Reaches.{Reaches, IsStepFault}, Run.{run_part}, NamedSteps.{AreDoneTo, RunSays, StopsAt}}, declared.ProofNumber.{ProofNumber, TheVariants.{P07}}}
-use Rattle.mm_machine.{specs.declared.stepping.RunOutcome.{RunOutcome, TheVariants.{Fault, Unknown}}, proofs.lemmas.machine.{CitingFaults.{says07}, Reaching.{at_start}}}
-use Rattle.mm_machine.proofs.lemmas.machine.{Running.{faulty, runs_reach, runs_follow}, StepLemmas.{kept_at}}
-use Rattle.mm_machine.proofs.lemmas.verdicts.Part.{AreKnown, all_known, known_or_not, not_all_run, part_none, part_one, run_or_unknown}
+use Rattle.std.proofs.Common.{◌≡◌, ◌≢◌, ℕ, ◌+◌, List, ◌∷◌, ◌++◌, length, refl, sym, ◌∙◌, ap, subst, arith, [], inl, inr}
+use Rattle.mm_machine.specs.Language.{Frame.{Symbol, Setting}, Expansion.{Step, NotKnown}, Reaches.{Reaches, IsStepFault}, Run.{run_part}, NamedSteps.{RunSays, StopsAt}}
+use Rattle.mm_machine.{specs.declared.{ProofNumber.{ProofNumber}, stepping.RunOutcome.{RunOutcome, TheVariants.{Fault, Unknown}}}, proofs.lemmas.machine.StepLemmas.{kept_at}}
+use Rattle.mm_machine.proofs.lemmas.verdicts.Part.{known_or_not, not_all_run, part_none, part_one, run_or_unknown}
 
 -- if steps stop, a run says so, whatever the statement is
 pub stopped_says : (place : Setting) (steps : List Step) (statement : List Symbol) (outcome : RunOutcome) → StopsAt place steps outcome → RunSays place steps statement outcome
@@ -48,21 +46,3 @@ stops_on place front behind (Unknown n) s =
     let same = part_stays front behind s.1 in
     (s.0 ∙ ap length (sym same), not_run_longer front behind s.1, (s.2.0, subst (λ (w : List Step). Reaches place w s.2.0) (sym same) s.2.1))
 stops_on place front behind _ s = absurd s
-
-known_longer : (front : List Step) (step : Step) (behind : List Step) → AreKnown front → step ≢ NotKnown → run_part (front ++ step ∷ behind) ≡ front ++ step ∷ run_part behind
-known_longer [] step behind all known = part_one step behind known
-known_longer (x ∷ front) step behind all known = part_one x (front ++ step ∷ behind) all.0 ∙ ap (λ (w : List Step). x ∷ w) (known_longer front step behind all.1 known)
-
--- the step after those that are done lacks an entry
-pub lacks_entry :
-    (place : Setting) → HasFrames place → (front behind : List Step) (label : List ℕ) (frame : Frame) (stack : List (List Symbol)) → AreDoneTo place front stack →
-    place.resolve label ≡ Assertion frame → length stack < length frame.hypotheses → StopsAt place (front ++ Named label ∷ behind) (Fault P07 (length front))
-lacks_entry place is front behind label frame stack done at few =
-    let runs = (runs_reach place is front stack).1 done.1 in
-    let follows = runs_follow place [] front _ runs.0 (at_start place) runs.1 in
-    let says = says07 place.active frame runs.0.stack (subst (λ (w : List (List Symbol)). length w < length frame.hypotheses) (sym runs.2) few) in
-    let lowest : IsLowest place (Named label) runs.0.stack P07 = record {
-      holds = subst (λ (r : LabelMeaning). LabelFails place.active r runs.0.stack P07) (sym at) says.0;
-      lowest = λ other p. says.1 other (subst (λ (r : LabelMeaning). LabelFails place.active r runs.0.stack other) at p);
-    } in
-    grind (arith, common_steps, faulty place is front (run_part behind) runs.0 (Named label) P07 follows lowest, known_longer front (Named label) behind (all_known front done.0) (λ e. (cc))) steps 200000

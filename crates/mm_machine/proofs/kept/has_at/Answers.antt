@@ -1,6 +1,6 @@
 use Rattle.std.proofs.{Common.{◌++◌, ◌∷◌, [], refl, sym, ◌∙◌, ap, arith, map, take}, lemmas.Bool.{false≢true}}
 use Rattle.mm_machine.proofs.lemmas.machine.RoomLemmas.{map_next, range_at, range_next}
-use Rattle.mm_machine.proofs.stepping.has_at.Goals as goal
+use Rattle.mm_machine.proofs.kept.has_at.Goals as goal
 
 pub returns-then-not-is : goal.returns-then-not-is
 returns-then-not-is g c = (
