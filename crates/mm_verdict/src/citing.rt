@@ -55,6 +55,7 @@ fn forget(marks: &mut Vec<bool>, labels: &[Resolved])
 }
 
 /// Marks, of the assertions that labels name, those that the labels in use name. Of others the marks do not count.
+#[inline(never)]
 fn named(marks: &mut Vec<bool>, labels: &[Resolved], used: &[bool]) -> Result<(), AllocError>
     requires { length used.now ≡ length labels.now }
     ensures { OnOk result ((j : ℕ) → is_listed labels.now j ≡ true → marked_at marks.new.items j ≡ is_listed (masked labels.now used.now) j) }

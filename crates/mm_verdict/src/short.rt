@@ -18,6 +18,7 @@ fn taken_by(base: &Base, label: Resolved) -> usize {
 
 /// Whether labels name assertions with more hypotheses, all together, than this count. A proof whose steps do has a step
 /// with too few entries or that is not known: each step pushes one entry at most.
+#[inline(never)]
 pub fn take_more(base: &Base, labels: &[Resolved], count: usize) -> bool {
     let mut all = 0usize;
     for label in labels {
