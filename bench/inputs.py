@@ -144,6 +144,14 @@ def rows_apart_in_turn(n):
     return [*lines, *(f"$d x a $. $d y b $. k{k} $a |- x y $." for k in range(n))]
 
 
+def wide_frames_cited(n):
+    """One `$d` of so many variables, and ten assertions of all of them, which one proof cites."""
+    names, lines = variables(n)
+    every, typed = " ".join(names), " ".join(f"w{name}" for name in names)
+    proof = " ".join(f"{typed} a{k}" for k in range(10))
+    return [*lines, f"$d {every} $.", *(f"a{k} $a |- {every} $." for k in range(10)), f"t $p |- {every} $= {proof} $."]
+
+
 def wide_frames(n):
     """One `$d` and one `$e` of the outermost block with so many variables, and as many assertions after them."""
     names, lines = variables(n)
