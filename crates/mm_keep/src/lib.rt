@@ -24,11 +24,11 @@ pub use laws::{
     proved_is_derivable, proved_rests_on_axioms,
 };
 pub use mm_proof::{
-    Action, Base, BatchError, Checked, Checker, CodedSymbol, Decoding, Edit, EditError, Files,
-    Forms, Frame, FrameFault, FrameNumber, Hypothesis, Item, ItemKind, Keyword, Machine, Marks,
-    NamedSymbol, Names, NumberedSymbol, PieceKey, Place, ProofFault, ProofNumber, ProofStep,
-    ProofWords, Resolved, Spot, Statement, StoreError, Symbol, TextError, TextFault, TextNumber,
-    Undecoded, Undo, Undos, Use, Verdict, Walk, Word, WordCursor, WordKind, Work, check,
+    Action, Base, BatchError, Checked, Checker, Cited, CodedSymbol, Decoding, Edit, EditError,
+    Files, Frame, FrameFault, FrameNumber, Item, ItemKind, Keyword, Machine, Marks, NamedSymbol,
+    Names, NumberedSymbol, PieceKey, Place, ProofFault, ProofNumber, ProofStep, ProofWords,
+    Resolved, Spot, Statement, StoreError, Symbol, TextError, TextFault, TextNumber, Undecoded,
+    Undo, Undos, Use, Verdict, Walk, Word, WordCursor, WordKind, Work, check,
     databases_are_read_so, databases_are_there, edits_keep_files, edits_keep_units,
     files_have_one_database, first_faults_are_within, fits, has_bytes, has_one_verdict_at,
     has_own_labels, items_stand, missing_are_named, names_are_taken, nth_of_proof, nth_word,

@@ -6,4 +6,3 @@ pub mod PairClause
 pub mod Ranges
 pub mod MachineState
 pub mod Tasks
-pub mod Adding

@@ -17,8 +17,7 @@ pub mod Renaming
 pub mod Numbering
 pub mod Keys
 pub mod CitedFrames
-pub mod Forms
-pub mod NamedSteps
 pub mod Lasting
+pub mod NamedSteps
 pub mod Laws
 pub mod RunLaws

@@ -2,17 +2,26 @@
 
 ghost use Rattle.std.specs.Prelude.{◌≡◌, ◌≤◌, ◌++◌, List, OnOk, length, map};
 ghost use Rattle.mm_machine.specs.Language.Frame.{Symbol as Meaning};
+ghost use Rattle.mm_machine.specs.Language.Keys.{AreNumbered};
 ghost use Rattle.mm_machine.specs.Code.Flat.{IsEntryWithin, read};
 ghost use Rattle.mm_machine.specs.Code.Filling.{AreTaken, entries_of, frame_taking};
-ghost use Rattle.mm_machine.specs.Code.PairClause.{AreNumbered, GathersOne, GathersSymbols, GathersEntry, Gathers, IsPairRoom};
+ghost use Rattle.mm_machine.specs.Code.PairClause.{GathersOne, GathersSymbols, GathersEntry, Gathers, IsPairRoom};
 
 use crate::apart::KnownApart;
 use crate::kept::Kept;
-use crate::pattern::{Entry, Taken, given_by};
+use crate::pattern::Entry;
 use crate::sets::Sets;
 use crate::symbol::Symbol;
+use crate::taken::{Taken, hypothesis_at};
 use crate::variables::Variables;
 use std::alloc::{AllocError, Global};
+
+/// A mandatory pair, by where the `$f` of its variables are among the mandatory hypotheses.
+#[derive(Clone, Copy)]
+pub struct SlotPair {
+    pub first: usize,
+    pub second: usize,
+}
 
 /// What the pair clause keeps in a run.
 #[derive(Drop)]
@@ -25,6 +34,8 @@ pub struct PairRoom<S> {
     pub sets: Sets,
     /// For each of these entries the range of its chunks.
     pub spans: Vec<Entry>,
+    /// The mandatory pairs of this assertion.
+    pub slots: Vec<SlotPair>,
 }
 
 /// Adds a symbol to the last set, whose chunks begin at a place, if it is a variable.
@@ -76,6 +87,7 @@ impl<S: Kept> PairRoom<S> {
             known: KnownApart::new(alloc),
             sets: Sets::new(alloc),
             spans: Vec::new(alloc),
+            slots: Vec::new(alloc),
         }
     }
 
@@ -104,7 +116,7 @@ impl<S: Kept> PairRoom<S> {
             self.old.sets.chunks.items self.new.sets.chunks.items self.old.spans.items self.new.spans.items) }
     {
         let start = self.sets.chunks.len();
-        if !floating {
+        if !floating || entry.start == entry.end {
             self.spans.push(Entry {
                 start,
                 end: start,
@@ -114,7 +126,7 @@ impl<S: Kept> PairRoom<S> {
         }
         gather(
             alloc,
-            &symbols[entry.end - given_by(entry)..entry.end],
+            &symbols[entry.start + 1..entry.end],
             &mut self.variables,
             &mut self.sets,
         )?;
@@ -128,20 +140,23 @@ impl<S: Kept> PairRoom<S> {
     }
 
     /// The variables of the entries of all `$f`.
-    pub fn gather_all<'s>(&mut self, alloc: Global, taken: &Taken<'s, S>) -> Result<(), AllocError>
-        requires taken { AreTaken S.means taken.now }
+    pub fn gather_all<'s, 'c>(
+        &mut self,
+        alloc: Global,
+        taken: &Taken<'s, 'c, S, S::Listed>,
+    ) -> Result<(), AllocError>
+        requires taken { AreTaken S.means S.Listed.means S.key_of taken.now }
         requires numbered { AreNumbered S.key_of (map S.means self.old.variables.all.items) self.old.variables.places.items }
         ensures numbered { OnOk result (AreNumbered S.key_of (map S.means self.new.variables.all.items) self.new.variables.places.items) }
         ensures grows { OnOk result ((more : List Meaning) × (map S.means self.new.variables.all.items ≡ map S.means self.old.variables.all.items ++ more)) }
         ensures known { OnOk result (self.new.known ≡ self.old.known) }
-        ensures gathers { OnOk result (Gathers (frame_taking S.means taken.now).hypotheses (entries_of S.means taken.now)
-            (map S.means self.new.variables.all.items) self.new.sets.chunks.items self.new.spans.items (length (frame_taking S.means taken.now).hypotheses)) }
+        ensures gathers { OnOk result (Gathers (frame_taking S.means S.Listed.means taken.now).hypotheses (entries_of S.means taken.now)
+            (map S.means self.new.variables.all.items) self.new.sets.chunks.items self.new.spans.items (length taken.now.entries.now)) }
     {
         self.sets.chunks.clear();
         self.spans.clear();
-        let held = &taken.forms.hypotheses[taken.form.first..taken.form.last];
-        for place in 0..held.len() {
-            let floating = held[place].floating;
+        for place in 0..taken.entries.len() {
+            let floating = hypothesis_at(&*taken, place).floating;
             self.gather_entry(alloc, taken.symbols, taken.entries[place], floating)?;
         }
         Ok(())

@@ -27,8 +27,8 @@ pub trait Kept: Symbol {
     fn key_of_listed(listed: &Self::Listed) -> usize
         ensures { result ≡ key_of (Self.Listed.means listed.now) };
 
-    /// The symbol that a listed one is. It may give a table of keys more places.
-    fn of(alloc: Global, listed: &Self::Listed, places: &mut Vec<usize>) -> Result<Self, AllocError>
+    /// The symbol that a listed one is.
+    fn of(alloc: Global, listed: &Self::Listed) -> Result<Self, AllocError>
         ensures { IfOk result (λ kept. Self.means kept ≡ Self.Listed.means listed.now) };
 
     /// Whether this is the symbol that a listed one is.
@@ -51,21 +51,6 @@ pub trait Kept: Symbol {
         ensures count { length all.new ≡ length all.old }
         ensures copied { OnOk result (take (to + len) (map Self.means all.new)
             ≡ take to (map Self.means all.old) ++ take len (drop from (map Self.means all.old))) };
-
-    /// Puts copies of a range of another list to a place. What comes after them in the list is anything then.
-    fn copy_of(
-        alloc: Global,
-        all: &mut [Self],
-        to: usize,
-        list: &[Self],
-        from: usize,
-        len: usize,
-    ) -> Result<(), AllocError>
-        requires room { to + len + 4 ≤ length all.old }
-        requires within { from + len + 4 ≤ length list.now }
-        ensures count { length all.new ≡ length all.old }
-        ensures copied { OnOk result (take (to + len) (map Self.means all.new)
-            ≡ take to (map Self.means all.old) ++ take len (drop from (map Self.means list.now))) };
 
     /// Whether ranges of two lists have the same symbols.
     fn are_same(one: &[Self], at: usize, other: &[Self], from: usize, len: usize) -> bool
@@ -114,11 +99,7 @@ impl Kept for NamedSymbol {
         listed.key()
     }
 
-    fn of(
-        alloc: Global,
-        listed: &NamedSymbol,
-        _places: &mut Vec<usize>,
-    ) -> Result<Self, AllocError> {
+    fn of(alloc: Global, listed: &NamedSymbol) -> Result<Self, AllocError> {
         listed.copy(alloc)
     }
 
@@ -147,20 +128,6 @@ impl Kept for NamedSymbol {
         Ok(())
     }
 
-    fn copy_of(
-        alloc: Global,
-        all: &mut [Self],
-        to: usize,
-        list: &[Self],
-        from: usize,
-        len: usize,
-    ) -> Result<(), AllocError> {
-        for n in 0..len {
-            all[to + n] = list[from + n].copy(alloc)?;
-        }
-        Ok(())
-    }
-
     fn are_same(one: &[Self], at: usize, other: &[Self], from: usize, len: usize) -> bool {
         for n in 0..len {
             if !one[at + n].same(&other[from + n]) {
@@ -180,21 +147,6 @@ fn block_on(all: &mut [CodedSymbol], to: usize, from: usize)
     ensures copied { take (to + 4) all.new ≡ take to all.old ++ take 4 (drop from all.old) }
 {
     let (a, b, c, d) = (all[from], all[from + 1], all[from + 2], all[from + 3]);
-    all[to] = a;
-    all[to + 1] = b;
-    all[to + 2] = c;
-    all[to + 3] = d;
-}
-
-/// Puts copies of a block of another list to a place.
-#[inline(always)]
-fn block_of(all: &mut [CodedSymbol], to: usize, list: &[CodedSymbol], from: usize)
-    requires from { from + 4 ≤ length list.now }
-    requires to { to + 4 ≤ length all.old }
-    ensures count { length all.new ≡ length all.old }
-    ensures copied { take (to + 4) all.new ≡ take to all.old ++ take 4 (drop from list.now) }
-{
-    let (a, b, c, d) = (list[from], list[from + 1], list[from + 2], list[from + 3]);
     all[to] = a;
     all[to + 1] = b;
     all[to + 2] = c;
@@ -229,12 +181,8 @@ impl Kept for CodedSymbol {
     }
 
     #[inline(always)]
-    fn of(
-        _alloc: Global,
-        listed: &NumberedSymbol,
-        places: &mut Vec<usize>,
-    ) -> Result<Self, AllocError> {
-        CodedSymbol::of(listed, places)
+    fn of(_alloc: Global, listed: &NumberedSymbol) -> Result<Self, AllocError> {
+        CodedSymbol::of(listed)
     }
 
     fn is(&self, listed: &NumberedSymbol) -> bool {
@@ -256,23 +204,6 @@ impl Kept for CodedSymbol {
         let mut n = 0;
         while n < len {
             block_on(&mut *all, to + n, from + n);
-            n += 4;
-        }
-        Ok(())
-    }
-
-    #[inline(always)]
-    fn copy_of(
-        _alloc: Global,
-        all: &mut [Self],
-        to: usize,
-        list: &[Self],
-        from: usize,
-        len: usize,
-    ) -> Result<(), AllocError> {
-        let mut n = 0;
-        while n < len {
-            block_of(&mut *all, to + n, list, from + n);
             n += 4;
         }
         Ok(())

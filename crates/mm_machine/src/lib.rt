@@ -8,13 +8,13 @@
 
 mod active;
 mod apart;
-mod assertion;
 mod citation;
-mod forms;
 mod gather;
 mod kept;
+mod lasting;
 mod machine;
 mod named;
+mod narrow;
 mod numbering_laws;
 mod pairs;
 mod pattern;
@@ -24,20 +24,20 @@ mod slots;
 mod step;
 mod stepping;
 mod symbol;
+mod taken;
 mod variables;
 mod verdict_laws;
 
 pub use active::Active;
-pub use assertion::Hypothesis;
-pub use forms::{Form, Forms, Held, Pattern, SlotPair};
 pub use kept::Kept;
+pub use lasting::{Lasting, Pattern};
 pub use machine::Machine;
-pub use named::Use;
+pub use named::{Cited, Use};
 pub use numbering_laws::{
     numbers_keep_frames, numbers_keep_order, numbers_keep_pairs, numbers_keep_places,
     numbers_name_symbols, numbers_say_the_same,
 };
-pub use run_laws::{parts_are_run, stops_stay, sure_by_counting};
+pub use run_laws::{parts_are_run, sure_by_counting};
 pub use slots::Slot;
 pub use step::{Action, ProofFault, ProofStep};
 pub use stepping::{RunOutcome, run};

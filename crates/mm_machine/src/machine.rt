@@ -1,24 +1,27 @@
 //! The machine: a stack of expressions and what was saved, as ranges of one flat list of symbols.
 
-ghost use Rattle.std.specs.Prelude.{◌≡◌, ◌+◌, ◌++◌, ◌∷◌, [], ◌<◌, ◌≤◌, ◌-◌, ℕ, List, All, IfOk, OnOk, MatchBool, MatchOption, Some, length, map, take, drop, slice_get};
+ghost use Rattle.std.specs.Prelude.{◌≡◌, ◌⊎◌, ◌+◌, ◌++◌, ◌∷◌, [], ◌<◌, ◌≤◌, ◌-◌, ℕ, List, All, IfOk, OnOk, MatchBool, MatchOption, Some, length, map, take, drop, slice_get};
 ghost use Rattle.mm_machine.specs.Code.Ranges.{AreOrderedRanges, Saves};
 ghost use Rattle.mm_machine.specs.Language.CitedFrames.{meant_pairs};
-ghost use Rattle.mm_machine.specs.Language.Forms.{IsForm, form_frame};
+ghost use Rattle.mm_machine.specs.Language.Lasting.{IsCited, cited_frame};
 ghost use Rattle.mm_machine.specs.Language.Frame.{Symbol as Meaning};
 ghost use Rattle.mm_machine.specs.Code.Citation.{IsLowestCiting};
 ghost use Rattle.mm_machine.specs.Code.PairClause.{IsPairRoom};
 ghost use Rattle.mm_machine.specs.Code.Filling.{IsFillable, pattern_filled};
-ghost use Rattle.mm_machine.specs.Code.Flat.{IsEntryWithin, read_all};
 ghost use Rattle.mm_machine.specs.Language.Steps.{Cites};
 
 use crate::ProofNumber;
 use crate::active::Active;
 use crate::citation::citing_fault;
-use crate::forms::{Form, Forms, Pattern};
 use crate::gather::PairRoom;
 use crate::kept::{BLOCK, Kept};
-use crate::pattern::{Entry, Taken, build};
+use crate::lasting::{Lasting, Pattern};
+use crate::named::Cited;
+use crate::narrow::narrow;
+use crate::pattern::{Entry, Given, build};
+use crate::slots::{Slot, add_slots};
 use crate::symbol::Symbol;
+use crate::taken::Taken;
 use std::alloc::{AllocError, Global};
 
 /// The most symbols that the result of an assertion step may have.
@@ -30,34 +33,24 @@ const MUCH: usize = 65_536;
 /// The stack of expressions, and what was saved.
 #[derive(Drop)]
 pub struct Machine<S> {
-    /// The symbols of the stack and of what was saved, and room behind them.
+    /// The symbols of the lasting expressions, of the stack and of what was saved, and room behind them.
     pub(crate) symbols: Vec<S>,
     /// The room begins here. It has a block of symbols at least.
     pub(crate) top: usize,
     /// The entries, the last one on top.
     pub(crate) stack: Vec<Entry>,
-    /// What was saved, in order; before it the lasting expressions, which each run can push.
+    /// What was saved, in order.
     pub(crate) saved: Vec<Entry>,
-    /// How many lasting expressions there are.
-    pub(crate) lasting: usize,
-    /// Their symbols are below this place.
-    pub(crate) ground: usize,
+    /// The lasting expressions. Their symbols are the first ones.
+    pub(crate) lasting: Lasting<S>,
+    /// For each variable of these, by its number, what the last assertion gave that has it.
+    pub(crate) given: Vec<Given>,
     /// What was saved is below this place.
     pub(crate) kept: usize,
     /// If more symbols than this are in use, results are put in the place of the entries that they are made of.
     most: usize,
     /// What the pair clause keeps in a run.
     pub(crate) pairs: PairRoom<S>,
-}
-
-/// Gives a table this many places, if it has fewer.
-fn widen(places: &mut Vec<usize>, keys: usize) -> Result<(), AllocError>
-    ensures { OnOk result (keys ≤ length places.new.items) }
-{
-    if places.len() < keys {
-        places.resize(keys, 0)?;
-    }
-    Ok(())
 }
 
 /// Puts an entry in the place of those from a place on.
@@ -109,14 +102,13 @@ fn put_listed<S: Kept>(
     all: &mut [S],
     at: usize,
     listed: &[S::Listed],
-    places: &mut Vec<usize>,
 ) -> Result<(), AllocError>
     requires { at + length listed.now ≤ length all.old }
     ensures count { length all.new ≡ length all.old }
     ensures put { OnOk result (take (at + length listed.now) (map S.means all.new) ≡ take at (map S.means all.old) ++ map S.Listed.means listed.now) }
 {
     for n in 0..listed.len() {
-        let symbol = S::of(alloc, &listed[n], &mut *places)?;
+        let symbol = S::of(alloc, &listed[n])?;
         all[at + n] = symbol;
     }
     Ok(())
@@ -151,23 +143,22 @@ fn build_in_room<S: Kept>(
     alloc: Global,
     symbols: &mut Vec<S>,
     top: usize,
-    entries: &[Entry],
-    forms: &Forms<S>,
+    given: &[Given],
+    slots: &[Slot],
     pattern: Pattern,
 ) -> Result<Option<usize>, AllocError>
     requires top { top + 4 ≤ length symbols.old.items }
-    requires within { All (IsEntryWithin top) entries.now }
-    requires fillable { IsFillable forms.now (length entries.now) pattern }
+    requires fillable { IsFillable given.now top slots.now pattern }
     ensures room { OnOk result (top + 4 ≤ length symbols.new.items) }
     ensures below { OnOk result (take top (map S.means symbols.new.items) ≡ take top (map S.means symbols.old.items)) }
     ensures built { IfOk result (λ found. MatchOption found
-        (1000000 < length (pattern_filled S.means forms.now (read_all (map S.means symbols.old.items) entries.now) pattern))
+        (1000000 < length (pattern_filled (map S.means symbols.old.items) given.now slots.now pattern))
         (λ n. (n ≤ 1000000) × (top + n + 4 ≤ length symbols.new.items) × (take n (drop top (map S.means symbols.new.items))
-        ≡ pattern_filled S.means forms.now (read_all (map S.means symbols.old.items) entries.now) pattern))) }
+        ≡ pattern_filled (map S.means symbols.old.items) given.now slots.now pattern))) }
 {
     loop {
         let room = symbols.len() - top;
-        if let Some(count) = build(alloc, &mut *symbols, top, entries, forms, pattern)? {
+        if let Some(count) = build(alloc, &mut *symbols, top, given, slots, pattern)? {
             if count > LONGEST_RESULT {
                 return Ok(None);
             }
@@ -180,6 +171,40 @@ fn build_in_room<S: Kept>(
     }
 }
 
+/// A pattern with these ranges.
+fn pattern_from(
+    start: usize,
+    end: usize,
+    first: usize,
+    last: usize,
+    floating: bool,
+) -> Result<Pattern, AllocError>
+    ensures { IfOk result (λ p. (p.start ≡ start) × (p.end ≡ end) × (p.first ≡ first) × (p.last ≡ last) × (p.floating ≡ floating)) }
+{
+    Ok(Pattern {
+        start: narrow(start)?,
+        end: narrow(end)?,
+        first: narrow(first)?,
+        last: narrow(last)?,
+        floating,
+    })
+}
+
+/// Has a place for what each of so many variables is given.
+fn give_places(given: &mut Vec<Given>, count: usize) -> Result<(), AllocError>
+    requires { length given.old.items ≤ count }
+    ensures { OnOk result (length given.new.items ≡ count) }
+{
+    while given.len() < count {
+        given.push(Given {
+            start: 0,
+            end: 0,
+            place: 0,
+        })?;
+    }
+    Ok(())
+}
+
 impl<S: Kept> Machine<S> {
     ghost use Rattle.mm_machine.specs.Language.Lasting.{HoldsLasting, KeepsLasting, lasting_of};
     ghost use Rattle.mm_machine.specs.Code.MachineState.{state_of, AreRanges};
@@ -187,16 +212,15 @@ impl<S: Kept> Machine<S> {
     /// A machine with no lasting expression. It takes no memory. A run begins by itself with nothing on the stack and nothing
     /// saved, so of what a machine has from other runs its lasting expressions alone count.
     pub fn new(alloc: Global) -> Machine<S>
-        ensures holds { HoldsLasting result }
-        ensures count { result.lasting ≡ 0 }
+        ensures holds { HoldsLasting S.means S.key_of result }
         ensures lasting { lasting_of S.means result ≡ [] }
     {
         Machine {
             symbols: Vec::new(alloc),
             stack: Vec::new(alloc),
             saved: Vec::new(alloc),
-            lasting: 0,
-            ground: 0,
+            lasting: Lasting::new(alloc),
+            given: Vec::new(alloc),
             top: 0,
             kept: 0,
             most: MUCH,
@@ -204,85 +228,120 @@ impl<S: Kept> Machine<S> {
         }
     }
 
-    /// Takes room for variables whose keys ([`Kept::key`]) are below this number: a number for each key. Without it
-    /// look-ups are slow, and answers are the same. After out of memory some of the room may be taken.
+    /// Takes room for variables whose keys ([`Kept::key`]) are below this number: two numbers for each key. Without it
+    /// look-ups are slow, and answers are the same. If it takes more than there was, the lasting expressions are forgotten.
     pub fn widen(&mut self, keys: usize) -> Result<(), AllocError>
-        ensures places { OnOk result (keys ≤ length self.new.pairs.variables.places.items) }
-        ensures holds { HoldsLasting self.old → HoldsLasting self.new }
-        ensures lasting { KeepsLasting S.means self.old self.new }
+        requires { HoldsLasting S.means S.key_of self.old }
+        ensures places { OnOk result ((keys ≤ length self.new.lasting.variables.places.items) × (keys ≤ length self.new.pairs.variables.places.items)) }
+        ensures holds { HoldsLasting S.means S.key_of self.new }
+        ensures lasting { KeepsLasting S.means self.old self.new ⊎ (lasting_of S.means self.new ≡ []) }
     {
-        widen(&mut self.pairs.variables.places, keys)
+        let has = self.lasting.variables.places.len() >= keys;
+        if has && self.pairs.variables.places.len() >= keys {
+            return Ok(());
+        }
+        self.given.clear();
+        self.lasting.begin(keys)?;
+        self.pairs.variables.places.resize(keys, 0)?;
+        Ok(())
     }
 
-    /// How many symbols the lasting expressions have.
-    pub fn size(&self) -> usize {
-        self.ground
+    /// How many lasting expressions there are.
+    #[inline(always)]
+    pub fn count(&self) -> usize
+        ensures { result ≡ length (lasting_of S.means self.now) }
+    {
+        self.lasting.patterns.len()
     }
 
     /// Leaves no lasting expression. The memory is kept.
     pub fn forget(&mut self)
-        ensures holds { HoldsLasting self.new }
+        ensures holds { HoldsLasting S.means S.key_of self.new }
         ensures lasting { lasting_of S.means self.new ≡ [] }
     {
-        self.saved.clear();
-        self.lasting = 0;
-        self.ground = 0;
+        self.lasting.clear();
+        self.given.clear();
     }
 
-    /// Adds a lasting expression: a hypothesis, or an assertion that takes nothing. So each use of it, in each run, is a range.
-    /// After out of memory the lasting expressions have to be forgotten.
-    pub fn load(&mut self, alloc: Global, expression: &[S::Listed]) -> Result<(), AllocError>
-        requires { HoldsLasting self.old }
-        ensures holds { OnOk result (HoldsLasting self.new) }
-        ensures count { OnOk result (self.new.lasting ≡ self.old.lasting + 1) }
-        ensures lasting { OnOk result (lasting_of S.means self.new ≡ lasting_of S.means self.old ++ map S.Listed.means expression.now ∷ []) }
+    /// Adds a lasting expression, behind the others: that of a `$f`, or another. Each use of it, in each run, is a range. It
+    /// takes time and memory for its symbols. After out of memory the lasting expressions have to be forgotten.
+    pub fn load(
+        &mut self,
+        alloc: Global,
+        floating: bool,
+        expression: &[S::Listed],
+    ) -> Result<(), AllocError>
+        requires { HoldsLasting S.means S.key_of self.old }
+        ensures holds { OnOk result (HoldsLasting S.means S.key_of self.new) }
+        ensures lasting { OnOk result (lasting_of S.means self.new ≡ lasting_of S.means self.old
+            ++ record { floating = floating; expression = map S.Listed.means expression.now } ∷ []) }
     {
-        let start = self.ground;
+        let start = self.lasting.ground;
         let end = start.saturating_add(expression.len());
         stretch(alloc, &mut self.symbols, end)?;
-        put_listed(
+        put_listed(alloc, &mut self.symbols, start, expression)?;
+        let first = self.lasting.slots.len();
+        add_slots(
             alloc,
-            &mut self.symbols,
-            start,
-            expression,
-            &mut self.pairs.variables.places,
+            &self.symbols[start..end],
+            &mut self.lasting.variables,
+            &mut self.lasting.slots,
         )?;
-        self.saved.truncate(self.lasting);
-        self.saved.push(Entry {
-            start,
-            end,
-            floor: start,
-        })?;
-        self.lasting = self.saved.len();
-        self.ground = end;
+        let last = self.lasting.slots.len();
+        let pattern = pattern_from(start, end, first, last, floating)?;
+        self.lasting.patterns.push(pattern)?;
+        self.lasting.ground = end;
+        give_places(&mut self.given, self.lasting.variables.all.len())?;
         Ok(())
     }
 
-    /// Leaves nothing on the stack, and nothing saved but the lasting expressions; the room that was taken stays.
+    /// Leaves nothing on the stack, and nothing saved; the room that was taken stays.
     pub(crate) fn clear(&mut self, alloc: Global) -> Result<(), AllocError>
-        requires { HoldsLasting self.old }
-        ensures whole { OnOk result (AreRanges self.new) }
+        requires { HoldsLasting S.means S.key_of self.old }
+        ensures whole { OnOk result (AreRanges S.means S.key_of self.new) }
         ensures stack { OnOk result ((state_of S.means self.new).stack ≡ []) }
-        ensures saved { OnOk result ((state_of S.means self.new).saved ≡ lasting_of S.means self.old) }
+        ensures saved { OnOk result ((state_of S.means self.new).saved ≡ []) }
         ensures lasting { OnOk result (KeepsLasting S.means self.old self.new) }
         ensures pairs { OnOk result ((active : List (Meaning × Meaning)) → IsPairRoom S.means S.key_of active self.new.pairs) }
     {
-        stretch(alloc, &mut self.symbols, self.ground.saturating_add(BLOCK))?;
-        self.top = self.ground;
+        let ground = self.lasting.ground;
+        stretch(alloc, &mut self.symbols, ground.saturating_add(BLOCK))?;
+        self.top = ground;
         self.pairs.clear(alloc);
         self.stack.clear();
-        self.saved.truncate(self.lasting);
-        self.kept = self.ground;
-        self.most = self.ground.saturating_add(MUCH);
+        self.saved.clear();
+        self.kept = ground;
+        self.most = ground.saturating_add(MUCH);
+        Ok(())
+    }
+
+    /// Pushes the lasting expression with a number.
+    pub(crate) fn push_lasting(&mut self, number: usize) -> Result<(), AllocError>
+        requires whole { AreRanges S.means S.key_of self.old }
+        requires in_range { number < length (lasting_of S.means self.old) }
+        ensures whole { OnOk result (AreRanges S.means S.key_of self.new) }
+        ensures lasting { OnOk result (KeepsLasting S.means self.old self.new) }
+        ensures pairs { OnOk result (self.new.pairs ≡ self.old.pairs) }
+        ensures stack { OnOk result ((h : _) → slice_get (lasting_of S.means self.old) number ≡ Some h
+            → (state_of S.means self.new).stack ≡ (state_of S.means self.old).stack ++ h.expression ∷ []) }
+        ensures saved { OnOk result ((state_of S.means self.new).saved ≡ (state_of S.means self.old).saved) }
+    {
+        let Pattern { start, end, .. } = self.lasting.patterns[number];
+        let floor = self.top;
+        self.stack.push(Entry {
+            start: start as usize,
+            end: end as usize,
+            floor,
+        })?;
         Ok(())
     }
 
     /// Pushes what was saved under a number.
     pub(crate) fn push_saved(&mut self, number: usize) -> Result<(), AllocError>
-        requires whole { AreRanges self.old }
+        requires whole { AreRanges S.means S.key_of self.old }
         requires in_range { number < length self.old.saved.items }
-        ensures whole { OnOk result (AreRanges self.new) }
-        ensures lasting { OnOk result (self.new.lasting ≡ self.old.lasting) }
+        ensures whole { OnOk result (AreRanges S.means S.key_of self.new) }
+        ensures lasting { OnOk result (KeepsLasting S.means self.old self.new) }
         ensures pairs { OnOk result (self.new.pairs ≡ self.old.pairs) }
         ensures stack { OnOk result ((e : _) → slice_get (state_of S.means self.old).saved number ≡ Some e
             → (state_of S.means self.new).stack ≡ (state_of S.means self.old).stack ++ e ∷ []) }
@@ -300,9 +359,9 @@ impl<S: Kept> Machine<S> {
 
     /// Saves the entry on top, by its range. Answers whether there is one.
     pub(crate) fn save(&mut self) -> Result<bool, AllocError>
-        requires { AreRanges self.old }
-        ensures whole { OnOk result (AreRanges self.new) }
-        ensures lasting { OnOk result (self.new.lasting ≡ self.old.lasting) }
+        requires { AreRanges S.means S.key_of self.old }
+        ensures whole { OnOk result (AreRanges S.means S.key_of self.new) }
+        ensures lasting { OnOk result (KeepsLasting S.means self.old self.new) }
         ensures pairs { OnOk result (self.new.pairs ≡ self.old.pairs) }
         ensures saves { IfOk result (λ done. MatchBool done (Saves (state_of S.means self.old) (state_of S.means self.new))
             (((state_of S.means self.old).stack ≡ []) × ((state_of S.means self.new) ≡ (state_of S.means self.old)))) }
@@ -322,11 +381,11 @@ impl<S: Kept> Machine<S> {
     /// Puts a result that is behind all in the place of the entries from a place on.
     #[inline(always)]
     fn replace(&mut self, alloc: Global, below: usize, count: usize) -> Result<(), AllocError>
-        requires whole { AreRanges self.old }
+        requires whole { AreRanges S.means S.key_of self.old }
         requires in_range { below ≤ length self.old.stack.items }
         requires room { self.old.top + count + 4 ≤ length self.old.symbols.items }
-        ensures whole { OnOk result (AreRanges self.new) }
-        ensures lasting { OnOk result (self.new.lasting ≡ self.old.lasting) }
+        ensures whole { OnOk result (AreRanges S.means S.key_of self.new) }
+        ensures lasting { OnOk result (KeepsLasting S.means self.old self.new) }
         ensures pairs { OnOk result (self.new.pairs ≡ self.old.pairs) }
         ensures stack { OnOk result ((state_of S.means self.new).stack ≡ take below (state_of S.means self.old).stack
             ++ take count (drop self.old.top (map S.means self.old.symbols.items)) ∷ []) }
@@ -349,45 +408,49 @@ impl<S: Kept> Machine<S> {
     pub(crate) fn cite<'a>(
         &mut self,
         alloc: Global,
-        forms: &Forms<S>,
-        form: Form,
+        cited: &Cited<'a, S::Listed>,
         active: &Active<'a, S>,
     ) -> Result<Option<ProofNumber>, AllocError>
-        requires whole { AreRanges self.old }
+        requires whole { AreRanges S.means S.key_of self.old }
         requires pairs { IsPairRoom S.means S.key_of (meant_pairs S.Listed.means active.now.pairs.now) self.old.pairs }
-        requires form { IsForm (map S.means forms.now.symbols.items) forms.now.slots.items forms.now.hypotheses.items forms.now.pairs.items form }
-        ensures whole { OnOk result (AreRanges self.new) }
-        ensures lasting { OnOk result (self.new.lasting ≡ self.old.lasting) }
+        requires cited { IsCited S.Listed.means (lasting_of S.means self.old) cited.now }
+        ensures whole { OnOk result (AreRanges S.means S.key_of self.new) }
+        ensures lasting { OnOk result (KeepsLasting S.means self.old self.new) }
         ensures pairs { OnOk result (IsPairRoom S.means S.key_of (meant_pairs S.Listed.means active.now.pairs.now) self.new.pairs) }
         ensures cites { IfOk result (λ found. MatchOption found
-            (Cites (meant_pairs S.Listed.means active.now.pairs.now) (form_frame (map S.means forms.now.symbols.items) forms.now.hypotheses.items
-            forms.now.pairs.items form) (state_of S.means self.old).stack (state_of S.means self.new).stack)
-            (IsLowestCiting (meant_pairs S.Listed.means active.now.pairs.now) (form_frame (map S.means forms.now.symbols.items) forms.now.hypotheses.items
-            forms.now.pairs.items form) (state_of S.means self.old).stack)) }
+            (Cites (meant_pairs S.Listed.means active.now.pairs.now) (cited_frame S.Listed.means (lasting_of S.means self.old) cited.now)
+            (state_of S.means self.old).stack (state_of S.means self.new).stack)
+            (IsLowestCiting (meant_pairs S.Listed.means active.now.pairs.now) (cited_frame S.Listed.means (lasting_of S.means self.old) cited.now)
+            (state_of S.means self.old).stack)) }
         ensures saved { OnOk result ((state_of S.means self.new).saved ≡ (state_of S.means self.old).saved) }
     {
-        let count = form.last - form.first;
+        let count = cited.hypotheses.len();
         if self.stack.len() < count {
             return Ok(Some(ProofNumber::P07));
         }
         let below = self.stack.len() - count;
         let taken = Taken {
             symbols: &self.symbols,
+            lasting: &self.lasting,
             entries: &self.stack[below..],
-            forms,
-            form,
+            cited,
         };
-        if let Some(number) = citing_fault(alloc, &taken, &*active, &mut self.pairs)? {
+        if let Some(number) = citing_fault(
+            alloc,
+            &taken,
+            &mut self.given,
+            &*active,
+            &mut self.pairs,
+        )? {
             return Ok(Some(number));
         }
-        let entries = &self.stack[below..];
         let built = build_in_room(
             alloc,
             &mut self.symbols,
             self.top,
-            entries,
-            forms,
-            form.pattern,
+            &self.given,
+            &self.lasting.slots,
+            self.lasting.patterns[cited.expression],
         )?;
         let Some(count) = built else {
             return Ok(Some(ProofNumber::P12));

@@ -1,22 +1,25 @@
 //! The pair clause: whether the entries of mandatory pairs are kept apart.
 
-ghost use Rattle.std.specs.Prelude.{◌≡◌, ◌<◌, List, IfOk, OnOk, MatchBool, All, length, map};
+ghost use Rattle.std.specs.Prelude.{◌≡◌, ◌<◌, ℕ, List, Some, IfOk, OnOk, MatchBool, All, length, map, slice_get};
 ghost use Rattle.mm_machine.specs.Language.Frame.{Symbol as Meaning};
 ghost use Rattle.mm_machine.specs.Language.CitedFrames.{meant_pairs};
 ghost use Rattle.mm_machine.specs.Code.Citation.{GivesEntries};
-ghost use Rattle.mm_machine.specs.Code.Filling.{AreTaken, entries_of, frame_taking};
+ghost use Rattle.mm_machine.specs.Language.Keys.{AreNumbered};
+ghost use Rattle.mm_machine.specs.declared.pattern.Given.{Given as Put};
+ghost use Rattle.mm_machine.specs.Code.Filling.{AllGive, AreTaken, entries_of, frame_taking};
 ghost use Rattle.mm_machine.specs.Code.PairClause.{EachApart, SomeNotApart, SomeShared, AreNumbersOf, AreSpans, AreSlotPairs, AtEachPair, AtSomePair};
-ghost use Rattle.mm_machine.specs.Code.PairClause.{IsPairRoom, KnowsApart, PairsSay, set_at};
+ghost use Rattle.mm_machine.specs.Code.PairClause.{HasSlots, IsPairRoom, KnowsApart, PairsSay, set_at};
 
 use crate::ProofNumber;
 use crate::active::Active;
 use crate::apart::{KnownApart, are_apart, share};
-use crate::forms::SlotPair;
-use crate::gather::PairRoom;
+use crate::gather::{PairRoom, SlotPair};
 use crate::kept::Kept;
-use crate::pattern::{Entry, Taken};
+use crate::pattern::{Entry, Given};
 use crate::sets::Chunk;
 use crate::symbol::Symbol;
+use crate::taken::Taken;
+use crate::variables::Variables;
 use std::alloc::{AllocError, Global};
 
 /// The set of the variables of the entry of a slot.
@@ -76,37 +79,101 @@ fn any_share(chunks: &[Chunk], spans: &[Entry], pairs: &[SlotPair]) -> bool
     false
 }
 
-/// What is wrong with the mandatory pairs of an assertion: the lower number of those that hold.
-pub fn pairs_fault<'s, 'a, S: Kept>(
+/// Where the `$f` of a variable is, by what is given to this.
+fn slot_of<S: Kept>(
     alloc: Global,
-    taken: &Taken<'s, S>,
+    variables: &Variables<S>,
+    given: &[Given],
+    listed: &S::Listed,
+) -> Result<usize, AllocError>
+    requires { AreNumbered S.key_of (map S.means variables.now.all.items) variables.now.places.items }
+    ensures { IfOk result (λ slot. (n : ℕ) (g : Put) → slice_get (map S.means variables.now.all.items) n ≡ Some (S.Listed.means listed.now)
+        → slice_get given.now n ≡ Some g → slot ≡ g.place) }
+{
+    let symbol = S::of(alloc, listed)?;
+    match variables.find(&symbol) {
+        Some(number) if number < given.len() => Ok(given[number].place),
+        _ => Ok(0),
+    }
+}
+
+/// Finds the slots of mandatory pairs, in place of those that are listed.
+fn find_slots<'s, 'c, S: Kept>(
+    alloc: Global,
+    taken: &Taken<'s, 'c, S, S::Listed>,
+    given: &[Given],
+    to: &mut Vec<SlotPair>,
+) -> Result<(), AllocError>
+    requires taken { AreTaken S.means S.Listed.means S.key_of taken.now }
+    requires given { AllGive S.means S.Listed.means taken.now given.now }
+    ensures { OnOk result (HasSlots (frame_taking S.means S.Listed.means taken.now).hypotheses (frame_taking S.means S.Listed.means taken.now).pairs
+        to.new.items) }
+{
+    to.clear();
+    let pairs = taken.cited.pairs;
+    for n in 0..pairs.len() {
+        let first = slot_of(alloc, &taken.lasting.variables, given, &pairs[n].0)?;
+        let second = slot_of(alloc, &taken.lasting.variables, given, &pairs[n].1)?;
+        to.push(SlotPair { first, second })?;
+    }
+    Ok(())
+}
+
+/// What is wrong with mandatory pairs: the lower number of those that hold. Most citations have none, and do not come here.
+#[inline(never)]
+fn some_pairs_fault<'s, 'c, 'a, S: Kept>(
+    alloc: Global,
+    taken: &Taken<'s, 'c, S, S::Listed>,
+    given: &[Given],
     active: &Active<'a, S>,
     room: &mut PairRoom<S>,
 ) -> Result<Option<ProofNumber>, AllocError>
-    requires taken { AreTaken S.means taken.now }
+    requires taken { AreTaken S.means S.Listed.means S.key_of taken.now }
+    requires given { AllGive S.means S.Listed.means taken.now given.now }
     requires room { IsPairRoom S.means S.key_of (meant_pairs S.Listed.means active.now.pairs.now) room.old }
     ensures room { OnOk result (IsPairRoom S.means S.key_of (meant_pairs S.Listed.means active.now.pairs.now) room.new) }
-    ensures says { IfOk result (λ found. (given : Meaning → List Meaning)
-        → GivesEntries given (frame_taking S.means taken.now).hypotheses (entries_of S.means taken.now)
-        → PairsSay (meant_pairs S.Listed.means active.now.pairs.now) given (frame_taking S.means taken.now).pairs found) }
+    ensures says { IfOk result (λ found. (gives : Meaning → List Meaning)
+        → GivesEntries gives (frame_taking S.means S.Listed.means taken.now).hypotheses (entries_of S.means taken.now)
+        → PairsSay (meant_pairs S.Listed.means active.now.pairs.now) gives (frame_taking S.means S.Listed.means taken.now).pairs found) }
 {
-    let pairs = &taken.forms.pairs[taken.form.first_pair..taken.form.last_pair];
-    if pairs.is_empty() {
-        return Ok(None);
-    }
     room.gather_all(alloc, &*taken)?;
+    find_slots(alloc, &*taken, given, &mut room.slots)?;
     if all_apart(
         &mut room.known,
         &room.variables.all,
         &*active,
         &room.sets.chunks,
         &room.spans,
-        pairs,
+        &room.slots,
     )? {
         return Ok(None);
     }
-    if any_share(&room.sets.chunks, &room.spans, pairs) {
+    if any_share(&room.sets.chunks, &room.spans, &room.slots) {
         return Ok(Some(ProofNumber::P10));
     }
     Ok(Some(ProofNumber::P11))
+}
+
+/// What is wrong with the mandatory pairs of an assertion: the lower number of those that hold.
+#[inline(always)]
+pub fn pairs_fault<'s, 'c, 'a, S: Kept>(
+    alloc: Global,
+    taken: &Taken<'s, 'c, S, S::Listed>,
+    given: &[Given],
+    active: &Active<'a, S>,
+    room: &mut PairRoom<S>,
+) -> Result<Option<ProofNumber>, AllocError>
+    requires taken { AreTaken S.means S.Listed.means S.key_of taken.now }
+    requires given { AllGive S.means S.Listed.means taken.now given.now }
+    requires room { IsPairRoom S.means S.key_of (meant_pairs S.Listed.means active.now.pairs.now) room.old }
+    ensures room { OnOk result (IsPairRoom S.means S.key_of (meant_pairs S.Listed.means active.now.pairs.now) room.new) }
+    ensures says { IfOk result (λ found. (gives : Meaning → List Meaning)
+        → GivesEntries gives (frame_taking S.means S.Listed.means taken.now).hypotheses (entries_of S.means taken.now)
+        → PairsSay (meant_pairs S.Listed.means active.now.pairs.now) gives (frame_taking S.means S.Listed.means taken.now).pairs found) }
+{
+    if taken.cited.pairs.is_empty() {
+        return Ok(None);
+    }
+    let found = some_pairs_fault(alloc, &*taken, given, &*active, &mut *room)?;
+    Ok(found)
 }

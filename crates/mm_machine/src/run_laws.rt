@@ -1,13 +1,6 @@
 //! The laws of steps that are run.
 
-ghost use Rattle.mm_machine.specs.Language.RunLaws.{PartsAreRun, StopsStay, SureByCounting};
-
-/// Steps that stop do so whatever comes after them.
-///
-/// For a check of `mm_verdict`, which may run the first steps of a proof alone.
-pub fn stops_stay()
-    ensures { StopsStay }
-{}
+ghost use Rattle.mm_machine.specs.Language.RunLaws.{PartsAreRun, SureByCounting};
 
 /// Which steps are run: all of them, or those before the first unknown one.
 ///

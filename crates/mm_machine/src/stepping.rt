@@ -8,9 +8,8 @@ ghost use Rattle.mm_machine.specs.Language.Typing.{HasFrames};
 ghost use Rattle.mm_machine.specs.Language.Expansion.{Step, NotKnown};
 ghost use Rattle.mm_machine.specs.Language.Faults.{IsLowest};
 ghost use Rattle.mm_machine.specs.Language.Machine.{State, Turns};
-ghost use Rattle.mm_machine.specs.Language.Lasting.{HoldsLasting, KeepsLasting, lasting_of};
+ghost use Rattle.mm_machine.specs.Language.Lasting.{HoldsLasting, IsCited, KeepsLasting, cited_frame, lasting_of};
 ghost use Rattle.mm_machine.specs.Language.CitedFrames.{meant_pairs};
-ghost use Rattle.mm_machine.specs.Language.Forms.{AreForms, frames_of};
 ghost use Rattle.mm_machine.specs.Language.NamedSteps.{AreDoneTo, AreSavedBefore, AreUses, AreUsesWithin};
 ghost use Rattle.mm_machine.specs.Language.NamedSteps.{IsOutcomeWithin, IsSavedWithin, IsUseWithin, MeansUse, RunSays, StopsAt, actions_mean, meant};
 ghost use Rattle.mm_machine.specs.Language.NamedSteps.{saves_by};
@@ -20,10 +19,9 @@ ghost use Rattle.mm_machine.specs.Code.MachineState.{state_of, AreRanges};
 
 use crate::ProofNumber;
 use crate::active::Active;
-use crate::forms::Forms;
 use crate::kept::{Kept, has_at};
 use crate::machine::Machine;
-use crate::named::Use;
+use crate::named::{Cited, Use};
 use crate::step::{Action, ProofStep};
 use crate::symbol::Symbol;
 use std::alloc::{AllocError, Global};
@@ -95,36 +93,37 @@ fn task_of(uses: &[Use], action: Action) -> Option<Task>
 fn do_task<'a, S: Kept>(
     alloc: Global,
     machine: &mut Machine<S>,
-    forms: &Forms<S>,
+    cited: &[Cited<'a, S::Listed>],
     active: &Active<'a, S>,
     task: Task,
 ) -> Result<Option<ProofNumber>, AllocError>
-    requires whole { AreRanges machine.old }
+    requires whole { AreRanges S.means S.key_of machine.old }
     requires pairs { IsPairRoom S.means S.key_of (meant_pairs S.Listed.means active.now.pairs.now) machine.old.pairs }
-    requires frames { AreForms S.means forms.now }
-    requires within { IsTaskWithin machine.old.lasting (length forms.now.forms.items) (length machine.old.saved.items - machine.old.lasting) task }
-    ensures whole { OnOk result (AreRanges machine.new) }
+    requires cited { All (IsCited S.Listed.means (lasting_of S.means machine.old)) cited.now }
+    requires within { IsTaskWithin (length machine.old.lasting.patterns.items) (length cited.now) (length machine.old.saved.items) task }
+    ensures whole { OnOk result (AreRanges S.means S.key_of machine.new) }
     ensures lasting { OnOk result (KeepsLasting S.means machine.old machine.new) }
     ensures pairs { OnOk result (IsPairRoom S.means S.key_of (meant_pairs S.Listed.means active.now.pairs.now) machine.new.pairs) }
     ensures turns { IfOk result (λ found. (place : Setting) (step : Step) (before : State) → HasFrames place
         → AreSamePairs (meant_pairs S.Listed.means active.now.pairs.now) place.active
         → HasState S.means machine.old before
-        → MeansTask (lasting_of S.means machine.old) (frames_of S.means forms.now) place task step
+        → MeansTask (map (λ h. h.expression) (lasting_of S.means machine.old))
+        (map (cited_frame S.Listed.means (lasting_of S.means machine.old)) cited.now) place task step
         → MatchOption found ((after : State) × HasState S.means machine.new after × Turns place step before after)
         (IsLowest place step before.stack)) }
     ensures saves { IfOk result (λ found. IfNone found (length machine.new.saved.items ≡ length machine.old.saved.items + saves_of task)) }
 {
     match task {
         Task::Push(n) => {
-            machine.push_saved(n)?;
+            machine.push_lasting(n)?;
             Ok(None)
         }
         Task::Cite(n) => {
-            let found = machine.cite(alloc, forms, forms.forms[n], &*active)?;
+            let found = machine.cite(alloc, &cited[n], &*active)?;
             Ok(found)
         }
         Task::Again(n) => {
-            machine.push_saved(machine.lasting + n)?;
+            machine.push_saved(n)?;
             Ok(None)
         }
         Task::Keep => {
@@ -139,7 +138,7 @@ fn do_task<'a, S: Kept>(
 
 /// Whether the one entry is an expression.
 fn is_top<S: Kept>(machine: &Machine<S>, expression: &[S::Listed]) -> bool
-    requires whole { AreRanges machine.now }
+    requires whole { AreRanges S.means S.key_of machine.now }
     requires one { length machine.now.stack.items ≡ 1 }
     ensures { IsTrue result ↔ ((state_of S.means machine.now).stack ≡ map S.Listed.means expression.now ∷ []) }
 {
@@ -155,20 +154,21 @@ fn is_top<S: Kept>(machine: &Machine<S>, expression: &[S::Listed]) -> bool
 fn run_through<'a, S: Kept>(
     alloc: Global,
     machine: &mut Machine<S>,
-    forms: &Forms<S>,
+    cited: &[Cited<'a, S::Listed>],
     uses: &[Use],
     active: &Active<'a, S>,
     steps: &[ProofStep],
 ) -> Result<Option<RunOutcome>, AllocError>
-    requires holds { HoldsLasting machine.old }
-    requires frames { AreForms S.means forms.now }
-    requires within { AreUsesWithin machine.old forms.now uses.now }
+    requires holds { HoldsLasting S.means S.key_of machine.old }
+    requires cited { All (IsCited S.Listed.means (lasting_of S.means machine.old)) cited.now }
+    requires within { AreUsesWithin machine.old cited.now uses.now }
     requires saved { AreSavedBefore steps.now }
-    ensures whole { OnOk result (AreRanges machine.new) }
+    ensures whole { OnOk result (AreRanges S.means S.key_of machine.new) }
     ensures lasting { OnOk result (KeepsLasting S.means machine.old machine.new) }
     ensures within { IfOk result (λ found. IfSome found (IsOutcomeWithin (length steps.now))) }
     ensures says { IfOk result (λ found. (place : Setting) (names : List Step) → HasFrames place
-        → AreSamePairs (meant_pairs S.Listed.means active.now.pairs.now) place.active → AreUses S.means machine.old forms.now uses.now place names
+        → AreSamePairs (meant_pairs S.Listed.means active.now.pairs.now) place.active
+        → AreUses S.means S.Listed.means machine.old cited.now uses.now place names
         → MatchOption found (AreDoneTo place (actions_mean names steps.now) (state_of S.means machine.new).stack)
         (StopsAt place (actions_mean names steps.now))) }
 {
@@ -177,7 +177,7 @@ fn run_through<'a, S: Kept>(
         let Some(task) = task_of(uses, steps[place].action) else {
             return Ok(Some(RunOutcome::Unknown(place)));
         };
-        if let Some(number) = do_task(alloc, &mut *machine, &*forms, &*active, task)? {
+        if let Some(number) = do_task(alloc, &mut *machine, cited, &*active, task)? {
             return Ok(Some(RunOutcome::Fault(number, place)));
         }
     }
@@ -187,31 +187,31 @@ fn run_through<'a, S: Kept>(
 /// Runs the steps of a proof of a statement, up to the first that is at fault or not known. The labels of the proof have these
 /// uses. Of what the machine has from other runs, its lasting expressions alone count, and they stay.
 ///
-/// The assertions that are named can be cited, each number is in range, and what is pushed again was saved before. It takes
+/// Each number is in range, and what is pushed again was saved before. It takes
 /// time near linear in the symbols of the entries that are made and compared, and memory for these. The only error is out of
 /// memory; after it the lasting expressions have to be forgotten ([`Machine::forget`]).
 pub fn run<'a, S: Kept>(
     alloc: Global,
     machine: &mut Machine<S>,
-    forms: &Forms<S>,
+    cited: &[Cited<'a, S::Listed>],
     uses: &[Use],
     active: &Active<'a, S>,
     steps: &[ProofStep],
     statement: &[S::Listed],
 ) -> Result<RunOutcome, AllocError>
-    requires holds { HoldsLasting machine.old }
-    requires frames { AreForms S.means forms.now }
-    requires within { AreUsesWithin machine.old forms.now uses.now }
+    requires holds { HoldsLasting S.means S.key_of machine.old }
+    requires cited { All (IsCited S.Listed.means (lasting_of S.means machine.old)) cited.now }
+    requires within { AreUsesWithin machine.old cited.now uses.now }
     requires saved { AreSavedBefore steps.now }
-    ensures holds { OnOk result (HoldsLasting machine.new) }
+    ensures holds { OnOk result (HoldsLasting S.means S.key_of machine.new) }
     ensures lasting { OnOk result (KeepsLasting S.means machine.old machine.new) }
     ensures within { IfOk result (IsOutcomeWithin (length steps.now)) }
     ensures says { IfOk result (λ outcome. (place : Setting) (names : List Step) → HasFrames place
         → AreSamePairs (meant_pairs S.Listed.means active.now.pairs.now) place.active
-        → AreUses S.means machine.old forms.now uses.now place names → RunSays place (actions_mean names steps.now)
+        → AreUses S.means S.Listed.means machine.old cited.now uses.now place names → RunSays place (actions_mean names steps.now)
         (map S.Listed.means statement.now) outcome) }
 {
-    if let Some(outcome) = run_through(alloc, &mut *machine, &*forms, uses, &*active, steps)? {
+    if let Some(outcome) = run_through(alloc, &mut *machine, cited, uses, &*active, steps)? {
         return Ok(outcome);
     }
     if machine.stack.len() != 1 {

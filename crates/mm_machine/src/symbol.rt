@@ -4,6 +4,7 @@ ghost use Rattle.std.specs.Prelude.{◌≡◌, ◌↔◌, ◌/◌, ◌<◌, IsTr
 ghost use Rattle.mm_machine.specs.Language.NumberedSymbols.{by_code, by_number, named_symbol};
 ghost use Rattle.mm_machine.specs.Language.Frame.{Symbol as Meaning};
 
+use crate::narrow::narrow;
 use std::alloc::{AllocError, Global};
 
 /// A symbol by the number of its name among some names, as a constant or as a variable.
@@ -53,37 +54,22 @@ impl NamedSymbol {
     }
 }
 
-/// A symbol by number in one word, for lists that are copied and compared often.
+/// A symbol by number in four bytes, for lists that are copied and compared often.
 #[derive(Clone, Copy, Debug, PartialEq, Eq)]
 pub struct CodedSymbol {
     /// Twice the number of its name, and one more for a variable.
-    pub(crate) code: u64,
-}
-
-/// Gives a table a place for a number.
-#[cold]
-#[inline(never)]
-fn take_place(places: &mut Vec<usize>, number: usize) -> Result<(), AllocError>
-    ensures { OnOk result (number < length places.new.items) }
-{
-    while places.len() <= number {
-        places.push(0)?;
-    }
-    Ok(())
+    pub(crate) code: u32,
 }
 
 impl CodedSymbol {
-    /// The symbol by this number. The table gets a place for the number, if it has none; so the number is no larger than memory
-    /// has room for, and twice the number is a number, too.
+    /// The symbol by this number. It fails if its code does not fit into four bytes.
     #[inline(always)]
-    pub fn of(symbol: &NumberedSymbol, places: &mut Vec<usize>) -> Result<CodedSymbol, AllocError>
+    pub fn of(symbol: &NumberedSymbol) -> Result<CodedSymbol, AllocError>
         ensures { IfOk result (λ coded. by_code coded ≡ by_number symbol.now) }
     {
-        if symbol.name >= places.len() {
-            take_place(&mut *places, symbol.name)?;
-        }
+        let number = narrow(symbol.name)? as usize;
         Ok(CodedSymbol {
-            code: symbol.name as u64 * 2 + symbol.variable as u64,
+            code: narrow(number * 2 + symbol.variable as usize)?,
         })
     }
 

@@ -2,10 +2,9 @@
 
 ghost use Rattle.std.specs.Prelude.{◌≡◌, ◌++◌, List, [], Contains, Some, MatchOption, IfOk, OnOk, map, slice_get, slice_set};
 ghost use Rattle.mm_machine.specs.Language.Frame.{Symbol as Meaning};
-ghost use Rattle.mm_machine.specs.Code.PairClause.{AreNumbered};
+ghost use Rattle.mm_machine.specs.Language.Keys.{AreNumbered, home as home_lem};
 
 use crate::kept::Kept;
-use crate::slots::home;
 use crate::symbol::Symbol;
 use std::alloc::{AllocError, Global};
 
@@ -16,6 +15,17 @@ pub struct Variables<S> {
     pub all: Vec<S>,
     /// At the place of the key of each variable, its number, or that of another variable with this place.
     pub places: Vec<usize>,
+}
+
+/// Where a key is noted in a table of this many places: at its own place, or at its remainder.
+fn home(key: usize, count: usize) -> usize
+    ensures { result ≡ home_lem key count }
+{
+    if key < count || count == 0 {
+        key
+    } else {
+        key % count
+    }
 }
 
 /// Writes `place` at `at` into a table, if the table has `at`.
@@ -29,7 +39,9 @@ fn note(places: &mut Vec<usize>, at: usize, place: usize)
 
 impl<S: Kept> Variables<S> {
     /// None. It takes no memory.
-    pub fn new(alloc: Global) -> Variables<S> {
+    pub fn new(alloc: Global) -> Variables<S>
+        ensures { result.all.items ≡ [] }
+    {
         Variables {
             all: Vec::new(alloc),
             places: Vec::new(alloc),
@@ -38,6 +50,7 @@ impl<S: Kept> Variables<S> {
 
     /// Leaves none. The memory is kept.
     pub fn clear(&mut self)
+        ensures none { self.new.all.items ≡ [] }
         ensures numbered { AreNumbered S.key_of (map S.means self.new.all.items) self.new.places.items }
     {
         self.all.clear();
@@ -57,7 +70,7 @@ impl<S: Kept> Variables<S> {
     }
 
     /// The number of a symbol, if it is one of the variables: the one that the table has for its key, if that is its own.
-    fn find(&self, symbol: &S) -> Option<usize>
+    pub fn find(&self, symbol: &S) -> Option<usize>
         requires { AreNumbered S.key_of (map S.means self.now.all.items) self.now.places.items }
         ensures { MatchOption result (Contains (map S.means self.now.all.items) (S.means symbol.now) → ⊥)
             (λ n. slice_get (map S.means self.now.all.items) n ≡ Some (S.means symbol.now)) }

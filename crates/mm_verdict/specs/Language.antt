@@ -14,6 +14,7 @@ pub mod View
 pub mod Work
 pub mod ReadIn
 pub mod Checking
+pub mod Loaded
 pub mod Programs
 pub mod Examples
 pub mod FaultExamples

@@ -1,25 +1,20 @@
-//! What citing an assertion of a base needs.
+//! What pushing and citing an item of a base needs.
 
-ghost use Rattle.std.specs.Prelude.{◌≡◌, ◌++◌, ℕ, List, true, All, IfOk, OnOk, map};
-ghost use Rattle.mm_frame.specs.Language.Base.{BaseView, frame_at, is_shown_at, is_framed_at, is_proof_at};
-ghost use Rattle.mm_frame.specs.Language.Answering.{IsBase, IsBaseBy};
-ghost use Rattle.mm_machine.specs.Language.Frame.{AreSameFrame, AreSamePairs};
-ghost use Rattle.mm_machine.specs.Language.Typing.{IsFrame};
-ghost use Rattle.mm_machine.specs.Language.CitedFrames.{frame_from, mandatory_of, hypotheses_of, meant_pairs};
+ghost use Rattle.std.specs.Prelude.{◌≡◌, ◌<◌, ℕ, List, true, length};
+ghost use Rattle.mm_frame.specs.Language.Base.{BaseView, is_shown_at, is_framed_at, is_proof_at};
+ghost use Rattle.mm_frame.specs.Language.Answering.{IsBase};
+ghost use Rattle.mm_machine.specs.Language.Frame.{AreSamePairs, Mandatory};
+ghost use Rattle.mm_machine.specs.Language.CitedFrames.{meant_pairs};
 ghost use Rattle.mm_machine.specs.Language.Keys.{AreInKeyOrder, key_by_number};
-ghost use Rattle.mm_machine.specs.Language.Numbering.{unnaming};
 ghost use Rattle.mm_machine.specs.Language.NumberedSymbols.{by_number, all_by_number};
-ghost use Rattle.mm_machine.specs.Language.Renaming.{renamed_frame};
-ghost use Rattle.mm_frame.specs.declared.base.Resolved.TheVariants as answers;
-ghost use Rattle.mm_verdict.specs.Language.DecodedSteps.{IsNamedBy};
+ghost use Rattle.mm_verdict.specs.Language.Loaded.{AreItemsOf, CanBeCited, CitesItem, IsAssertionOf, IsItemOf};
 ghost use Rattle.mm_verdict.specs.Code.NumberedBase.{ByNames, numbered_hypothesis, numbered_setting};
 
-use mm_frame::{Base, places_have_frames};
+use mm_frame::{Base, assertions_have_frames};
 use mm_machine::{
-    Hypothesis, NumberedSymbol, numbers_keep_frames, numbers_keep_order, numbers_keep_pairs,
+    Cited, NumberedSymbol, numbers_keep_frames, numbers_keep_order, numbers_keep_pairs,
     numbers_name_symbols,
 };
-use std::alloc::AllocError;
 
 /// The expression of the item with this number, which is one that has an expression.
 pub fn expression(base: &Base, number: usize) -> &[NumberedSymbol]
@@ -42,61 +37,29 @@ pub fn active(base: &Base, number: usize) -> &[(NumberedSymbol, NumberedSymbol)]
     base.pairs(number).unwrap()
 }
 
-/// The hypothesis with this number.
-fn hypothesis_of(base: &Base, number: usize) -> Hypothesis<'_, NumberedSymbol>
-    ensures { ByNames base.now (λ names view. is_shown_at view number ≡ true → mandatory_of by_number result ≡ numbered_hypothesis names view number) }
+/// What a machine loads of the item with this number: whether it is a `$f`, and its expression; no symbols if it has none.
+pub fn loaded_of(base: &Base, number: usize) -> (bool, &[NumberedSymbol])
+    ensures { IsItemOf base.now number (record { floating = result.0; expression = all_by_number result.1.now }) }
 {
-    Hypothesis {
-        floating: base.is_floating(number),
-        expression: expression(base, number),
-    }
+    numbers_name_symbols(); // A law: symbols by number are those of their names.
+    let symbols = base.expression(number).unwrap_or(&[]);
+    (base.is_floating(number), symbols)
 }
 
-/// Adds the hypotheses with these numbers after others.
-fn add_hypotheses<'a>(
-    base: &'a Base,
-    numbers: &[usize],
-    to: &mut Vec<Hypothesis<'a, NumberedSymbol>>,
-) -> Result<(), AllocError>
-    ensures { OnOk result (ByNames base.now (λ names view. All (λ n. is_shown_at view n ≡ true) numbers.now →
-        hypotheses_of by_number to.new.items ≡ hypotheses_of by_number to.old.items ++ map (numbered_hypothesis names view) numbers.now)) }
+/// The assertion with this number, as each machine cites it that has loaded the items up to it.
+pub fn cited_of(base: &Base, number: usize) -> Cited<'_, NumberedSymbol>
+    requires { IsAssertionOf base.now number }
+    ensures number { result.expression ≡ number }
+    ensures frame { CanBeCited base.now result }
+    ensures same { (lasting : List Mandatory) → AreItemsOf base.now lasting → number < length lasting → CitesItem base.now number lasting result }
 {
-    for number in numbers {
-        to.push(hypothesis_of(base, *number))?;
-    }
-    Ok(())
-}
-
-/// An assertion, but for its mandatory hypotheses.
-#[derive(Clone, Copy)]
-pub struct AssertionParts<'a> {
-    /// Its expression.
-    pub expression: &'a [NumberedSymbol],
-    /// Its mandatory pairs.
-    pub pairs: &'a [(NumberedSymbol, NumberedSymbol)],
-}
-
-/// Looks up the assertion with this number, which the table of a proof has. The list has its mandatory hypotheses then, and
-/// nothing else.
-pub fn look_up<'a>(
-    base: &'a Base,
-    number: usize,
-    mandatory: &mut Vec<Hypothesis<'a, NumberedSymbol>>,
-) -> Result<AssertionParts<'a>, AllocError>
-    requires { IsNamedBy base.now (answers.Assertion number) }
-    ensures frame { IfOk result (λ parts. IsFrame (frame_from by_number mandatory.new.items parts.expression.now parts.pairs.now)) }
-    ensures same { IfOk result (λ parts. (names : List (List ℕ)) (view : BaseView) → IsBaseBy names view base.now → is_framed_at view number ≡ true
-        → AreSameFrame (frame_from by_number mandatory.new.items parts.expression.now parts.pairs.now)
-        (renamed_frame (unnaming names) (frame_at view number))) }
-{
-    places_have_frames(); // A law: each label of an assertion has a typed frame.
+    assertions_have_frames(); // A law: each assertion has a typed frame.
     numbers_keep_frames(); // A law: a frame is typed by numbers, too.
     numbers_keep_pairs(); // A law: pairs that are the same by names are so by numbers.
     let frame = base.frame(number).unwrap();
-    mandatory.clear();
-    add_hypotheses(base, &frame.hypotheses, mandatory)?;
-    Ok(AssertionParts {
-        expression: expression(base, number),
+    Cited {
+        expression: number,
+        hypotheses: &frame.hypotheses,
         pairs: &frame.pairs,
-    })
+    }
 }

@@ -8,7 +8,7 @@ use mm_frame::Base;
 use std::alloc::{AllocError, Global};
 use std::marker::Model;
 
-/// Checks proofs of a base, one after another. What an earlier one names is mostly not looked up again. Its value is the base.
+/// Checks proofs of a base, one after another. The expressions of an item are loaded once for all. Its value is the base.
 #[derive(Drop)]
 pub struct Checker<'a> {
     base: &'a Base,

@@ -1,16 +1,15 @@
 //! The check of a proof.
 
-ghost use Rattle.std.specs.Prelude.{◌≡◌, ◌≤◌, List, All, IfOk, IsTrue, OnOk, length};
+ghost use Rattle.std.specs.Prelude.{◌≡◌, ◌≤◌, List, IfOk, OnOk, length};
 ghost use Rattle.mm_frame.specs.Language.Base.{BaseView};
 ghost use Rattle.mm_verdict.specs.Language.Decoding.{word_spot};
 ghost use Rattle.mm_machine.specs.Language.Verdict.{IsVerdictOnSteps};
-ghost use Rattle.mm_machine.specs.Language.Expansion.{Step};
 ghost use Rattle.mm_machine.specs.Language.Frame.{Symbol, Setting};
-ghost use Rattle.mm_verdict.specs.Language.DecodedSteps.{IsNamedBy, decoded_steps};
-ghost use Rattle.mm_verdict.specs.Code.DecodedProof.{IsDecoded, IsFrontRun, IsJudgedProof, IsRun, OfDecoded};
-ghost use Rattle.mm_machine.specs.Language.NamedSteps.{IsOutcomeWithin, RunSays, StopsAt};
+ghost use Rattle.mm_verdict.specs.Language.DecodedSteps.{decoded_steps};
+ghost use Rattle.mm_verdict.specs.Code.DecodedProof.{IsDecoded, IsJudgedProof, IsRun, OfDecoded};
+ghost use Rattle.mm_machine.specs.Language.NamedSteps.{IsOutcomeWithin, RunSays};
 ghost use Rattle.mm_verdict.specs.Code.Judged.{HasProof, OfProof, done_by};
-ghost use Rattle.mm_verdict.specs.Code.NamedItems.{AreKnownOf, AreUsedNamesOf};
+ghost use Rattle.mm_verdict.specs.Code.NamedItems.{AreKnownOf};
 ghost use Rattle.mm_verdict.specs.Language.Checking.{CanCheck, IsCheck};
 ghost use Rattle.mm_verdict.specs.declared.undecoded.Undecoded.TheVariants as errors;
 
@@ -21,14 +20,12 @@ use crate::decoding::Decoding;
 use crate::decoding_laws::{decodes_short, decodes_surely, mandatory_are_active};
 use crate::known::Known;
 use crate::reading::{DecodedProof, decode};
-use crate::short::{steps_to_lack, take_more};
 use crate::undecoded::Undecoded;
-use crate::used::marks_of;
 use crate::work::{Checked, Work};
 use mm_frame::{Base, Files, Names, ProofWords, Resolved, places_have_frames, words_of_proof};
 use mm_machine::{
-    Active, ProofFault, ProofNumber, ProofStep, RunOutcome, Spot, Verdict, numbers_keep_places,
-    numbers_say_the_same, run, stops_stay,
+    Active, ProofFault, ProofNumber, RunOutcome, Spot, Verdict, numbers_keep_places,
+    numbers_say_the_same, run,
 };
 use std::alloc::{AllocError, Global};
 use std::mem;
@@ -86,120 +83,6 @@ fn steps_done(outcome: RunOutcome, steps: usize) -> usize
     }
 }
 
-/// Names the labels that these steps name.
-fn name_used<'b>(
-    alloc: Global,
-    known: &mut Known<'b>,
-    base: &'b Base,
-    labels: &[Resolved],
-    steps: &[ProofStep],
-) -> Result<(), AllocError>
-    requires labels { All (IsNamedBy base.now) labels.now }
-    requires known { AreKnownOf base.now known.old }
-    ensures { OnOk result (AreUsedNamesOf base.now labels.now steps.now known.new) }
-{
-    let marks = marks_of(alloc, labels.len(), steps)?;
-    known.name_all(alloc, base, labels, &marks)
-}
-
-/// Whether steps whose run came to this stop at one that is at fault or not known.
-fn stops(outcome: RunOutcome) -> bool
-    ensures { IsTrue result
-        → (place : Setting) (steps : List Step) (statement : List Symbol) → RunSays place steps statement outcome → StopsAt place steps outcome }
-{
-    matches!(outcome, RunOutcome::Fault(_, _) | RunOutcome::Unknown(_))
-}
-
-/// Runs the steps of a proof up to the first one with too few entries, by the count of entries alone. Steps that stop do so
-/// whatever comes after them, so the assertions that later steps name are not looked up. If they do not, it answers `None`.
-#[cold]
-#[inline(never)]
-fn run_to_lack<'b>(
-    alloc: Global,
-    known: &mut Known<'b>,
-    proof: DecodedProof<'b, '_>,
-) -> Result<Option<RunOutcome>, AllocError>
-    requires decoded { IsDecoded proof }
-    requires known { AreKnownOf proof.base.now known.old }
-    ensures { IfOk result (λ found. IsFrontRun proof.entry found known.new) }
-{
-    places_have_frames(); // A law: each label of an assertion has a typed frame.
-    decodes_surely(); // A law: what decoding makes sure of.
-    mandatory_are_active(); // A law: mandatory hypotheses are active.
-    numbers_keep_places(); // A law: assertions are typed by numbers, too.
-    numbers_say_the_same(); // A law: what a run says by numbers, it says by names.
-    stops_stay(); // A law: steps that stop do so whatever follows.
-    let labels: &[Resolved] = &proof.decoding.labels;
-    let steps: &[ProofStep] = &proof.decoding.steps;
-    let count = steps_to_lack(proof.base, labels, steps);
-    let front = &steps[..count];
-    name_used(alloc, &mut *known, proof.base, labels, front)?;
-    let active = Active::new(active(proof.base, proof.i));
-    let outcome = run(
-        alloc,
-        &mut known.machine,
-        &known.forms,
-        &known.uses,
-        &active,
-        front,
-        expression(proof.base, proof.i),
-    )?;
-    if stops(outcome) {
-        return Ok(Some(outcome));
-    }
-    Ok(None)
-}
-
-/// What the steps of a proof come to that has a step with too few entries, if the steps up to there say it.
-fn run_front<'b>(
-    alloc: Global,
-    known: &mut Known<'b>,
-    proof: DecodedProof<'b, '_>,
-) -> Result<Option<RunOutcome>, AllocError>
-    requires decoded { IsDecoded proof }
-    requires known { AreKnownOf proof.base.now known.old }
-    ensures { IfOk result (λ found. IsFrontRun proof.entry found known.new) }
-{
-    if take_more(
-        proof.base,
-        &proof.decoding.labels,
-        proof.decoding.steps.len(),
-    ) {
-        return run_to_lack(alloc, known, proof);
-    }
-    Ok(None)
-}
-
-/// Runs all steps of a proof.
-fn run_all<'b>(
-    alloc: Global,
-    known: &mut Known<'b>,
-    proof: DecodedProof<'b, '_>,
-) -> Result<RunOutcome, AllocError>
-    requires decoded { IsDecoded proof }
-    requires known { AreKnownOf proof.base.now known.old }
-    ensures { IfOk result (λ outcome. IsRun proof.entry outcome known.new) }
-{
-    places_have_frames(); // A law: each label of an assertion has a typed frame.
-    decodes_surely(); // A law: what decoding makes sure of.
-    mandatory_are_active(); // A law: mandatory hypotheses are active.
-    numbers_keep_places(); // A law: assertions are typed by numbers, too.
-    numbers_say_the_same(); // A law: what a run says by numbers, it says by names.
-    let labels: &[Resolved] = &proof.decoding.labels;
-    known.name_all(alloc, proof.base, labels, &proof.decoding.used)?;
-    let active = Active::new(active(proof.base, proof.i));
-    let outcome = run(
-        alloc,
-        &mut known.machine,
-        &known.forms,
-        &known.uses,
-        &active,
-        &proof.decoding.steps,
-        expression(proof.base, proof.i),
-    )?;
-    Ok(outcome)
-}
-
 /// Runs the steps of a proof.
 fn run_steps<'b>(
     alloc: Global,
@@ -210,10 +93,24 @@ fn run_steps<'b>(
     requires known { AreKnownOf proof.base.now known.old }
     ensures { IfOk result (λ outcome. IsRun proof.entry outcome known.new) }
 {
-    match run_front(alloc, &mut *known, proof)? {
-        Some(outcome) => Ok(outcome),
-        None => run_all(alloc, known, proof),
-    }
+    places_have_frames(); // A law: each label of an assertion has a typed frame.
+    decodes_surely(); // A law: what decoding makes sure of.
+    mandatory_are_active(); // A law: mandatory hypotheses are active.
+    numbers_keep_places(); // A law: assertions are typed by numbers, too.
+    numbers_say_the_same(); // A law: what a run says by numbers, it says by names.
+    let labels: &[Resolved] = &proof.decoding.labels;
+    known.name_all(alloc, proof.base, proof.i, labels, &proof.decoding.used)?;
+    let active = Active::new(active(proof.base, proof.i));
+    let outcome = run(
+        alloc,
+        &mut known.machine,
+        &known.cited,
+        &known.uses,
+        &active,
+        &proof.decoding.steps,
+        expression(proof.base, proof.i),
+    )?;
+    Ok(outcome)
 }
 
 /// What a check says of a proof that decodes, and how many steps are done.
@@ -277,8 +174,9 @@ fn judge<'b, 'a>(
 /// these.
 ///
 /// A run has at most 4,294,967,295 steps. It takes time near linear in the symbols of the expressions that its steps
-/// make and compare, and memory for the entries of the stack and for what is saved. It also makes tables with a place for
-/// each item of the base; a [`Checker`] makes them once for many checks. After out of memory nothing is recorded.
+/// make and compare, and memory for the entries of the stack and for what is saved. It also loads the expressions of the
+/// items before `i`, and makes a table with a place for each item of the base; a [`Checker`] does so once for many checks.
+/// After out of memory nothing is recorded.
 pub fn check(
     alloc: Global,
     names: &Names,
@@ -295,8 +193,8 @@ pub fn check(
 }
 
 impl Checker<'_> {
-    /// Checks the proof of an item of the base, as the function `check` does. The assertions that it looks up are known to the
-    /// next check, unless they are too many. After out of memory none is known.
+    /// Checks the proof of an item of the base, as the function `check` does. The expressions that it loads are there for the
+    /// next check. After out of memory none is.
     pub fn check(
         &mut self,
         alloc: Global,
@@ -317,8 +215,7 @@ impl Checker<'_> {
         Ok(checked)
     }
 
-    /// What a check says of a proof, and how many steps are done. What it looks up is known then; after out of memory nothing
-    /// is.
+    /// What a check says of a proof, and how many steps are done. What it loads is there then; after out of memory nothing is.
     fn judge(
         &mut self,
         alloc: Global,
@@ -331,7 +228,6 @@ impl Checker<'_> {
         ensures few { IfOk result (λ judged. judged.1 ≤ 4294967295) }
     {
         let base = self.base();
-        self.known.limit();
         let judged = judge(alloc, &mut self.room, &mut self.known, base, i, proof);
         if judged.is_err() {
             self.known.forget();

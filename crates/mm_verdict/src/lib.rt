@@ -15,13 +15,12 @@ mod labels;
 mod letters;
 mod program;
 mod reading;
-mod short;
 mod undecoded;
 mod used;
 mod words;
 mod work;
 
-pub use assertion::{AssertionParts, look_up};
+pub use assertion::{cited_of, loaded_of};
 pub use checker::Checker;
 pub use checking::check;
 pub use citing_laws::cites_tell;
@@ -44,8 +43,8 @@ pub use mm_frame::{
     nth_word, place, same_proof, words_of_proof,
 };
 pub use mm_machine::{
-    Action, CodedSymbol, Forms, Hypothesis, Machine, NumberedSymbol, ProofFault, ProofNumber,
-    ProofStep, Spot, Use, Verdict,
+    Action, Cited, CodedSymbol, Machine, NumberedSymbol, ProofFault, ProofNumber, ProofStep, Spot,
+    Use, Verdict,
 };
 pub use program::{Program, program_of};
 pub use undecoded::Undecoded;

@@ -1,11 +1,12 @@
 //! A proof as the machine runs it.
 
-ghost use Rattle.std.specs.Prelude.{◌≡◌, ℕ, List, IfErr, IfOk, length};
-ghost use Rattle.mm_machine.specs.Language.Forms.{AreForms, frames_of};
-ghost use Rattle.mm_machine.specs.Language.Lasting.{HoldsLasting};
+ghost use Rattle.std.specs.Prelude.{ℕ, List, All, IfErr, IfOk};
+ghost use Rattle.mm_machine.specs.Language.Keys.{key_by_number};
+ghost use Rattle.mm_machine.specs.Language.Lasting.{HoldsLasting, IsCited, lasting_of};
 ghost use Rattle.mm_machine.specs.Language.NamedSteps.{AreSavedBefore, AreUsesWithin};
-ghost use Rattle.mm_machine.specs.Language.NumberedSymbols.{by_code};
-ghost use Rattle.mm_verdict.specs.Language.DecodedSteps.{AreEntriesOf, TellsFault};
+ghost use Rattle.mm_machine.specs.Language.NumberedSymbols.{by_code, by_number};
+ghost use Rattle.mm_verdict.specs.Language.DecodedSteps.{TellsFault};
+ghost use Rattle.mm_verdict.specs.Language.Loaded.{AreItemsOf, CanBeCited, IsAssertionOf};
 ghost use Rattle.mm_verdict.specs.Language.Programs.{IsProgramAt};
 ghost use Rattle.mm_verdict.specs.Language.ReadIn.{HasTheorem, OfTheorem};
 ghost use Rattle.mm_verdict.specs.Language.VerdictAt.{decoding_at};
@@ -32,7 +33,7 @@ pub struct Program<'a> {
 /// it. So a caller can run the first steps of a proof; for the verdict there is `check`.
 ///
 /// The error is the first fault of decoding, or out of memory. It takes time near linear in the words of the proof, and in the
-/// frames of the assertions that its steps name.
+/// symbols of the items before it.
 pub fn program_of<'a>(
     alloc: Global,
     files: &Files,
@@ -40,12 +41,12 @@ pub fn program_of<'a>(
     i: usize,
 ) -> Result<Program<'a>, Undecoded>
     requires { (names : List (List ℕ)) × HasTheorem names files.now base.now i }
-    ensures holds { IfOk result (λ program. HoldsLasting program.known.machine) }
-    ensures within { IfOk result (λ program. AreUsesWithin program.known.machine program.known.forms program.known.uses.items) }
-    ensures frames { IfOk result (λ program. AreForms by_code program.known.forms) }
-    ensures numbers { IfOk result (λ program. AreEntriesOf base.now program.known.cited.items) }
-    ensures cited { IfOk result (λ program. length (frames_of by_code program.known.forms) ≡ length program.known.cited.items) }
-    ensures pushed { IfOk result (λ program. program.known.machine.lasting ≡ length program.known.pushed.items) }
+    ensures holds { IfOk result (λ program. HoldsLasting by_code key_by_number program.known.machine) }
+    ensures items { IfOk result (λ program. AreItemsOf base.now (lasting_of by_code program.known.machine)) }
+    ensures numbers { IfOk result (λ program. All (λ c. IsAssertionOf base.now c.expression) program.known.cited.items) }
+    ensures citable { IfOk result (λ program. All (CanBeCited base.now) program.known.cited.items) }
+    ensures cited { IfOk result (λ program. All (IsCited by_number (lasting_of by_code program.known.machine)) program.known.cited.items) }
+    ensures within { IfOk result (λ program. AreUsesWithin program.known.machine program.known.cited.items program.known.uses.items) }
     ensures saved { IfOk result (λ program. AreSavedBefore program.steps.items) }
     ensures means { IfOk result (λ program. (names : List (List ℕ)) → OfTheorem names files.now base.now i (λ view. IsProgramAt names view i program)) }
     ensures fault { IfErr result (λ error. (names : List (List ℕ)) → OfTheorem names files.now base.now i (λ view. TellsFault error (decoding_at view i))) }
@@ -55,7 +56,7 @@ pub fn program_of<'a>(
     let proof = words_of_proof(files, base.item(i));
     let decoding = decode(base, i, &proof, Decoding::new(alloc))?;
     let mut known = Known::new(alloc);
-    known.name_all(alloc, base, &decoding.labels, &decoding.used)?;
+    known.name_all(alloc, base, i, &decoding.labels, &decoding.used)?;
     Ok(Program {
         known,
         steps: decoding.steps,

@@ -1,37 +1,27 @@
 //! The machine over names and over numbers: it says the same of a proof.
 
-ghost use Rattle.std.specs.Prelude.{◌≡◌, ◌+◌, [], All, IfOk, OnOk, length, map};
-ghost use Rattle.mm_machine.specs.Language.Typing.{IsFrame};
+ghost use Rattle.std.specs.Prelude.{◌≡◌, [], List, All, IfOk, OnOk, length, map};
+ghost use Rattle.mm_machine.specs.Language.Frame.{Mandatory};
 ghost use Rattle.mm_machine.specs.Language.NumberedSymbols.{by_code, by_number, named_symbol, all_by_number};
-ghost use Rattle.mm_machine.specs.Language.CitedFrames.{hypotheses_of, meant_pairs};
-ghost use Rattle.mm_machine.specs.Language.Forms.{AreForms, frames_of};
-ghost use Rattle.mm_machine.specs.Language.Lasting.{HoldsLasting};
-ghost use Rattle.mm_machine.specs.Language.NamedSteps.{AreSavedBefore, AreUsesWithin};
+ghost use Rattle.mm_machine.specs.Language.CitedFrames.{meant_pairs};
+ghost use Rattle.mm_machine.specs.Language.Lasting.{HoldsLasting, IsCited, lasting_of};
+ghost use Rattle.mm_machine.specs.Language.NamedSteps.{AreSavedBefore, AreUsesWithin, IsUseWithin};
 ghost use Rattle.mm_machine.specs.Language.Keys.{AreInKeyOrder, key_by_number};
-ghost use Rattle.mm_frame.specs.declared.base.Resolved.TheVariants as answers;
 ghost use Rattle.mmtests.specs.Code.Spelled.{HasOneKey, key_by_name};
-ghost use Rattle.mm_verdict.specs.Language.DecodedSteps.{AreEntriesOf, IsNamedBy};
+ghost use Rattle.mmtests.specs.Code.SpelledAssertions.{IsCitedSo};
+ghost use Rattle.mm_verdict.specs.Language.Loaded.{AreItemsOf, CanBeCited};
 ghost use Rattle.mm_verdict.specs.Language.ReadIn.{HasTheorem};
 
 use mm_machine::{
-    Active, Forms, Hypothesis, Machine, NamedSymbol, NumberedSymbol, ProofStep, RunOutcome, Use,
+    Active, Cited, Machine, NamedSymbol, NumberedSymbol, ProofStep, RunOutcome, Use,
     numbers_keep_order, run,
 };
-use mm_verdict::{
-    AssertionParts, Base, Files, Known, Names, Program, Undecoded, look_up, program_of,
-};
+use mm_verdict::{Base, Files, Known, Names, Program, Undecoded, loaded_of, program_of};
 use std::alloc::{AllocError, Global};
 use std::mem;
 
 /// The tables of a run over names have this many places: fewer than there are names, so some names share one.
 const PLACES: usize = 7;
-
-/// A hypothesis, by names.
-#[derive(Drop)]
-struct SpelledHypothesis {
-    floating: bool,
-    expression: Vec<NamedSymbol>,
-}
 
 /// The symbol whose name is one byte, which is its number. The databases here have no 256 names.
 fn spelled_symbol(alloc: Global, symbol: &NumberedSymbol) -> Result<NamedSymbol, AllocError>
@@ -77,172 +67,177 @@ fn spelled_pairs(
     Ok(named)
 }
 
-/// Each of the hypotheses.
-fn spelled_hypotheses(
+/// An assertion that is cited, with its pairs by names.
+#[derive(Drop)]
+struct NamedAssertion {
+    expression: usize,
+    hypotheses: Vec<usize>,
+    pairs: Vec<(NamedSymbol, NamedSymbol)>,
+}
+
+/// An assertion by names.
+fn spelled_assertion(
     alloc: Global,
-    hypotheses: &[Hypothesis<'_, NumberedSymbol>],
-) -> Result<Vec<SpelledHypothesis>, AllocError>
-    ensures { IfOk result (λ named. hypotheses_of by_number hypotheses.now
-        ≡ map (λ h. record { floating = h.floating; expression = map named_symbol h.expression.items }) named.items) }
+    cited: &Cited<'_, NumberedSymbol>,
+) -> Result<NamedAssertion, AllocError>
+    ensures { IfOk result (λ named. (lasting : List Mandatory) → IsCited by_number lasting cited.now
+        → IsCitedSo lasting named.expression named.hypotheses.items named.pairs.items) }
+{
+    Ok(NamedAssertion {
+        expression: cited.expression,
+        hypotheses: Vec::from_slice(alloc, cited.hypotheses)?,
+        pairs: spelled_pairs(alloc, cited.pairs)?,
+    })
+}
+
+/// Each of the assertions.
+fn spelled_cited(
+    alloc: Global,
+    cited: &[Cited<'_, NumberedSymbol>],
+) -> Result<Vec<NamedAssertion>, AllocError>
+    ensures count { IfOk result (λ named. length named.items ≡ length cited.now) }
+    ensures cited { IfOk result (λ named. (lasting : List Mandatory) → All (IsCited by_number lasting) cited.now
+        → All (λ n. IsCitedSo lasting n.expression n.hypotheses.items n.pairs.items) named.items) }
 {
     let mut named = Vec::new(alloc);
-    for hypothesis in hypotheses {
-        named.push(SpelledHypothesis {
-            floating: hypothesis.floating,
-            expression: spelled(alloc, hypothesis.expression)?,
-        })?;
+    for k in 0..cited.len() {
+        named.push(spelled_assertion(alloc, &cited[k])?)?;
     }
     Ok(named)
 }
 
-/// The hypotheses, as the machine takes them.
-fn lent_hypotheses<'a>(
+/// An assertion, as the machine takes it.
+fn lent_assertion(named: &NamedAssertion) -> Cited<'_, NamedSymbol>
+    ensures { (lasting : List Mandatory) → IsCitedSo lasting named.now.expression named.now.hypotheses.items named.now.pairs.items
+        → IsCited named_symbol lasting result }
+{
+    Cited {
+        expression: named.expression,
+        hypotheses: &named.hypotheses,
+        pairs: &named.pairs,
+    }
+}
+
+/// The assertions, as the machine takes them.
+fn lent_cited(
     alloc: Global,
-    hypotheses: &'a [SpelledHypothesis],
-) -> Result<Vec<Hypothesis<'a, NamedSymbol>>, AllocError>
-    ensures { IfOk result (λ lent. hypotheses_of named_symbol lent.items
-        ≡ map (λ h. record { floating = h.floating; expression = map named_symbol h.expression.items }) hypotheses.now) }
+    named: &[NamedAssertion],
+) -> Result<Vec<Cited<'_, NamedSymbol>>, AllocError>
+    ensures count { IfOk result (λ lent. length lent.items ≡ length named.now) }
+    ensures cited { IfOk result (λ lent. (lasting : List Mandatory)
+        → All (λ n. IsCitedSo lasting n.expression n.hypotheses.items n.pairs.items) named.now → All (IsCited named_symbol lasting) lent.items) }
 {
     let mut lent = Vec::new(alloc);
-    for hypothesis in hypotheses {
-        lent.push(Hypothesis {
-            floating: hypothesis.floating,
-            expression: &hypothesis.expression,
-        })?;
+    for k in 0..named.len() {
+        lent.push(lent_assertion(&named[k]))?;
     }
     Ok(lent)
 }
 
-/// Adds an assertion with these hypotheses and these parts.
-fn add_lent(
-    alloc: Global,
-    hypotheses: &[SpelledHypothesis],
-    parts: AssertionParts<'_>,
-    forms: &mut Forms<NamedSymbol>,
-) -> Result<(), AllocError>
-    requires forms { AreForms named_symbol forms.old }
-    requires frame { IsFrame (record {
-      expression = all_by_number parts.expression.now;
-      hypotheses = map (λ h. record { floating = h.floating; expression = map named_symbol h.expression.items }) hypotheses.now;
-      pairs = meant_pairs by_number parts.pairs.now;
-    }) }
-    ensures forms { OnOk result (AreForms named_symbol forms.new) }
-    ensures count { OnOk result (length (frames_of named_symbol forms.new) ≡ length (frames_of named_symbol forms.old) + 1) }
-{
-    let lent = lent_hypotheses(alloc, hypotheses)?;
-    let expression = spelled(alloc, parts.expression)?;
-    let pairs = spelled_pairs(alloc, parts.pairs)?;
-    forms.add(alloc, &lent, &expression, &pairs)
-}
-
-/// Adds the assertion with this number.
-fn add_spelled<'a>(
-    alloc: Global,
-    base: &'a Base,
-    number: usize,
-    mandatory: &mut Vec<Hypothesis<'a, NumberedSymbol>>,
-    forms: &mut Forms<NamedSymbol>,
-) -> Result<(), AllocError>
-    requires entry { IsNamedBy base.now (answers.Assertion number) }
-    requires forms { AreForms named_symbol forms.old }
-    ensures forms { OnOk result (AreForms named_symbol forms.new) }
-    ensures count { OnOk result (length (frames_of named_symbol forms.new) ≡ length (frames_of named_symbol forms.old) + 1) }
-{
-    let parts = look_up(base, number, &mut *mandatory)?;
-    let hypotheses = spelled_hypotheses(alloc, mandatory)?;
-    let added = add_lent(alloc, &hypotheses, parts, forms);
-    mem::forget(hypotheses);
-    added
-}
-
-/// Adds the assertions with these numbers to none.
-fn add_all_spelled(
-    alloc: Global,
-    base: &Base,
-    numbers: &[usize],
-    forms: &mut Forms<NamedSymbol>,
-) -> Result<(), AllocError>
-    requires entries { AreEntriesOf base.now numbers.now }
-    requires forms { AreForms named_symbol forms.old }
-    requires none { frames_of named_symbol forms.old ≡ [] }
-    ensures forms { OnOk result (AreForms named_symbol forms.new) }
-    ensures count { OnOk result (length (frames_of named_symbol forms.new) ≡ length numbers.now) }
-{
-    forms.widen(PLACES)?;
-    let mut mandatory = Vec::new(alloc);
-    for number in numbers {
-        add_spelled(alloc, base, *number, &mut mandatory, &mut *forms)?;
-    }
-    Ok(())
-}
-
-/// Loads the expressions of the items with these numbers into a machine that has none.
+/// Loads the first items of a base, so many of them, into a machine that has none.
 fn load_spelled(
     alloc: Global,
     base: &Base,
-    numbers: &[usize],
+    count: usize,
     machine: &mut Machine<NamedSymbol>,
 ) -> Result<(), AllocError>
-    requires holds { HoldsLasting machine.old }
-    requires none { machine.old.lasting ≡ 0 }
-    ensures holds { OnOk result (HoldsLasting machine.new) }
-    ensures count { OnOk result (machine.new.lasting ≡ length numbers.now) }
+    requires holds { HoldsLasting named_symbol key_by_name machine.old }
+    requires none { lasting_of named_symbol machine.old ≡ [] }
+    ensures holds { OnOk result (HoldsLasting named_symbol key_by_name machine.new) }
+    ensures items { OnOk result (AreItemsOf base.now (lasting_of named_symbol machine.new)) }
+    ensures count { OnOk result (length (lasting_of named_symbol machine.new) ≡ count) }
 {
     machine.widen(PLACES)?;
-    for number in numbers {
-        let expression = spelled(alloc, base.known_expression(*number))?;
-        let loaded = machine.load(alloc, &expression);
+    for n in 0..count {
+        let loaded = loaded_of(base, n);
+        let expression = spelled(alloc, loaded.1)?;
+        let added = machine.load(alloc, loaded.0, &expression);
         mem::forget(expression);
-        loaded?;
+        added?;
     }
     Ok(())
 }
 
-/// What a run over names comes to, of a proof whose assertions and expressions these are.
+/// What a run over names needs besides a machine that has the expressions.
+#[derive(Drop)]
+struct NamedParts {
+    cited: Vec<NamedAssertion>,
+    /// The active pairs.
+    pairs: Vec<(NamedSymbol, NamedSymbol)>,
+    statement: Vec<NamedSymbol>,
+}
+
+/// What a run over names needs, by what one over numbers has.
+fn spelled_parts(
+    alloc: Global,
+    cited: &[Cited<'_, NumberedSymbol>],
+    pairs: &[(NumberedSymbol, NumberedSymbol)],
+    statement: &[NumberedSymbol],
+) -> Result<NamedParts, AllocError>
+    requires { AreInKeyOrder key_by_number (meant_pairs by_number pairs.now) }
+    ensures count { IfOk result (λ parts. length parts.cited.items ≡ length cited.now) }
+    ensures cited { IfOk result (λ parts. (lasting : List Mandatory) → All (IsCited by_number lasting) cited.now
+        → All (λ n. IsCitedSo lasting n.expression n.hypotheses.items n.pairs.items) parts.cited.items) }
+    ensures order { IfOk result (λ parts. AreInKeyOrder key_by_name (meant_pairs named_symbol parts.pairs.items)) }
+{
+    Ok(NamedParts {
+        cited: spelled_cited(alloc, cited)?,
+        pairs: spelled_pairs(alloc, pairs)?,
+        statement: spelled(alloc, statement)?,
+    })
+}
+
+/// What a run over names comes to, of a proof with these uses and steps, by a machine that has the expressions.
 fn run_spelled(
     alloc: Global,
-    forms: &Forms<NamedSymbol>,
     machine: &mut Machine<NamedSymbol>,
+    parts: &NamedParts,
     uses: &[Use],
-    pairs: &[(NumberedSymbol, NumberedSymbol)],
     steps: &[ProofStep],
-    statement: &[NumberedSymbol],
 ) -> Result<RunOutcome, AllocError>
-    requires holds { HoldsLasting machine.old }
-    requires frames { AreForms named_symbol forms.now }
-    requires within { AreUsesWithin machine.old forms.now uses.now }
+    requires holds { HoldsLasting named_symbol key_by_name machine.old }
+    requires cited { All (λ n. IsCitedSo (lasting_of named_symbol machine.old) n.expression n.hypotheses.items n.pairs.items) parts.now.cited.items }
+    requires within { All (IsUseWithin (length (lasting_of named_symbol machine.old)) (length parts.now.cited.items)) uses.now }
     requires saved { AreSavedBefore steps.now }
-    requires order { AreInKeyOrder key_by_number (meant_pairs by_number pairs.now) }
+    requires order { AreInKeyOrder key_by_name (meant_pairs named_symbol parts.now.pairs.items) }
 {
-    let pairs = spelled_pairs(alloc, pairs)?;
-    let statement = spelled(alloc, statement)?;
-    let active = Active::new(&pairs);
-    let outcome = run(alloc, machine, forms, uses, &active, steps, &statement);
-    mem::forget(statement);
-    mem::forget(pairs);
+    let cited = lent_cited(alloc, &parts.cited)?;
+    let active = Active::new(&parts.pairs);
+    let outcome = run(
+        alloc,
+        machine,
+        &cited,
+        uses,
+        &active,
+        steps,
+        &parts.statement,
+    );
+    mem::forget(cited);
     outcome
 }
 
-/// Looks up by names what a proof cites and pushes.
-fn look_up_spelled(
+/// What a run over names comes to, of the steps of a theorem with these active pairs, by a machine without expressions.
+fn run_loaded(
     alloc: Global,
     base: &Base,
-    known: &Known<'_>,
-    forms: &mut Forms<NamedSymbol>,
     machine: &mut Machine<NamedSymbol>,
-) -> Result<(), AllocError>
-    requires entries { AreEntriesOf base.now known.now.cited.items }
-    requires forms { AreForms named_symbol forms.old }
-    requires none { frames_of named_symbol forms.old ≡ [] }
-    requires holds { HoldsLasting machine.old }
-    requires lasting { machine.old.lasting ≡ 0 }
-    ensures forms { OnOk result (AreForms named_symbol forms.new) }
-    ensures count { OnOk result (length (frames_of named_symbol forms.new) ≡ length known.now.cited.items) }
-    ensures holds { OnOk result (HoldsLasting machine.new) }
-    ensures lasting { OnOk result (machine.new.lasting ≡ length known.now.pushed.items) }
+    program: &Program<'_>,
+    pairs: &[(NumberedSymbol, NumberedSymbol)],
+    statement: &[NumberedSymbol],
+) -> Result<RunOutcome, AllocError>
+    requires holds { HoldsLasting named_symbol key_by_name machine.old }
+    requires none { lasting_of named_symbol machine.old ≡ [] }
+    requires citable { All (CanBeCited base.now) program.now.known.cited.items }
+    requires cited { All (IsCited by_number (lasting_of by_code program.now.known.machine)) program.now.known.cited.items }
+    requires within { AreUsesWithin program.now.known.machine program.now.known.cited.items program.now.known.uses.items }
+    requires saved { AreSavedBefore program.now.steps.items }
+    requires order { AreInKeyOrder key_by_number (meant_pairs by_number pairs.now) }
 {
-    add_all_spelled(alloc, base, &known.cited, forms)?;
-    load_spelled(alloc, base, &known.pushed, machine)
+    load_spelled(alloc, base, program.known.machine.count(), &mut *machine)?;
+    let parts = spelled_parts(alloc, &program.known.cited, pairs, statement)?;
+    let outcome = run_spelled(alloc, machine, &parts, &program.known.uses, &program.steps);
+    mem::forget(parts);
+    outcome
 }
 
 /// What a run over names comes to, of the steps of a theorem with these active pairs.
@@ -253,30 +248,15 @@ fn run_by_names(
     pairs: &[(NumberedSymbol, NumberedSymbol)],
     statement: &[NumberedSymbol],
 ) -> Result<RunOutcome, AllocError>
-    requires entries { AreEntriesOf base.now program.now.known.cited.items }
-    requires cited { length (frames_of by_code program.now.known.forms) ≡ length program.now.known.cited.items }
-    requires pushed { program.now.known.machine.lasting ≡ length program.now.known.pushed.items }
-    requires within { AreUsesWithin program.now.known.machine program.now.known.forms program.now.known.uses.items }
+    requires citable { All (CanBeCited base.now) program.now.known.cited.items }
+    requires cited { All (IsCited by_number (lasting_of by_code program.now.known.machine)) program.now.known.cited.items }
+    requires within { AreUsesWithin program.now.known.machine program.now.known.cited.items program.now.known.uses.items }
     requires saved { AreSavedBefore program.now.steps.items }
     requires order { AreInKeyOrder key_by_number (meant_pairs by_number pairs.now) }
 {
-    let mut forms = Forms::new(alloc);
     let mut machine = Machine::new(alloc);
-    let looked_up = look_up_spelled(alloc, base, &program.known, &mut forms, &mut machine);
-    let outcome = match looked_up {
-        Ok(()) => run_spelled(
-            alloc,
-            &forms,
-            &mut machine,
-            &program.known.uses,
-            pairs,
-            &program.steps,
-            statement,
-        ),
-        Err(error) => Err(error),
-    };
+    let outcome = run_loaded(alloc, base, &mut machine, program, pairs, statement);
     mem::forget(machine);
-    mem::forget(forms);
     outcome
 }
 
@@ -300,9 +280,9 @@ fn run_known(
     steps: &[ProofStep],
     statement: &[NumberedSymbol],
 ) -> Result<RunOutcome, AllocError>
-    requires holds { HoldsLasting known.old.machine }
-    requires frames { AreForms by_code known.old.forms }
-    requires within { AreUsesWithin known.old.machine known.old.forms known.old.uses.items }
+    requires holds { HoldsLasting by_code key_by_number known.old.machine }
+    requires cited { All (IsCited by_number (lasting_of by_code known.old.machine)) known.old.cited.items }
+    requires within { AreUsesWithin known.old.machine known.old.cited.items known.old.uses.items }
     requires saved { AreSavedBefore steps.now }
     requires order { AreInKeyOrder key_by_number (meant_pairs by_number pairs.now) }
 {
@@ -310,7 +290,7 @@ fn run_known(
     run(
         alloc,
         &mut known.machine,
-        &known.forms,
+        &known.cited,
         &known.uses,
         &active,
         steps,
@@ -326,12 +306,10 @@ fn runs_agree(
     pairs: &[(NumberedSymbol, NumberedSymbol)],
     statement: &[NumberedSymbol],
 ) -> bool
-    requires holds { HoldsLasting program.old.known.machine }
-    requires frames { AreForms by_code program.old.known.forms }
-    requires entries { AreEntriesOf base.now program.old.known.cited.items }
-    requires cited { length (frames_of by_code program.old.known.forms) ≡ length program.old.known.cited.items }
-    requires pushed { program.old.known.machine.lasting ≡ length program.old.known.pushed.items }
-    requires within { AreUsesWithin program.old.known.machine program.old.known.forms program.old.known.uses.items }
+    requires holds { HoldsLasting by_code key_by_number program.old.known.machine }
+    requires citable { All (CanBeCited base.now) program.old.known.cited.items }
+    requires cited { All (IsCited by_number (lasting_of by_code program.old.known.machine)) program.old.known.cited.items }
+    requires within { AreUsesWithin program.old.known.machine program.old.known.cited.items program.old.known.uses.items }
     requires saved { AreSavedBefore program.old.steps.items }
     requires order { AreInKeyOrder key_by_number (meant_pairs by_number pairs.now) }
 {

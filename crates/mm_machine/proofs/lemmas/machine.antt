@@ -6,10 +6,10 @@ pub mod CopyLemmas
 pub mod EntryFaults
 pub mod FillLemmas
 pub mod FlatLemmas
-pub mod FormLemmas
 pub mod GatherLemmas
 pub mod Given
 pub mod KeyOrderLemmas
+pub mod LastingLemmas
 pub mod MarkLemmas
 pub mod PairClauseLemmas
 pub mod Reaching
@@ -20,7 +20,6 @@ pub mod SlotLemmas
 pub mod StackLemmas
 pub mod PushLemmas
 pub mod StepLemmas
-pub mod StopLemmas
 pub mod Substituted
 pub mod TakenLemmas
 pub mod Threaded

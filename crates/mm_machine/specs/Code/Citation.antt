@@ -1,22 +1,24 @@
 -- An assertion that is cited, as the code has it.
-use Rattle.std.specs.Prelude.{◌≡◌, ◌≢◌, ℕ, ◌≤◌, ◌<◌, true, false, Option, Some}
-use Rattle.std.specs.Prelude.{None, List, length, drop, slice_get, All, Contains}
+use Rattle.std.specs.Prelude.{◌≡◌, ◌≢◌, ℕ, ◌+◌, ◌≤◌, ◌<◌, true, false, Option, Some}
+use Rattle.std.specs.Prelude.{None, List, length, slice_get, All, Contains}
 use Rattle.std.specs.List.{AllZip}
 use Rattle.mm_machine.specs.Language.Frame.{Symbol, Mandatory, Frame, HasVariable}
 use Rattle.mm_machine.specs.Language.Typing.{IsTyped, IsTyping}
-use Rattle.mm_machine.specs.Language.Forms.{IsSlot}
 use Rattle.mm_machine.specs.Language.Substitution.{substituted}
 use Rattle.mm_machine.specs.Language.Derivation.{AreApart}
 use Rattle.mm_machine.specs.Language.Faults.{AnyZip, CitingFails, last_entries, row_of}
 use Rattle.mm_machine.specs.declared.ProofNumber.{ProofNumber}
+use Rattle.mm_machine.specs.declared.pattern.{Entry.{Entry}, Given.{Given}}
 
 -- the hypothesis is the `$f` of this variable
 abbrev pub IsTypingOf : Mandatory → Symbol → Type 0
 IsTypingOf h v = (h.floating ≡ true) × (slice_get h.expression 1 ≡ Some v)
 
--- the variable of each `$f` is given what the entry of that `$f` has after the typecode
-abbrev pub GivesSlots : (Symbol → List Symbol) → List Mandatory → List (List Symbol) → Type 0
-GivesSlots given hs es = (j : ℕ) (v : Symbol) → IsSlot hs j v → (e : List Symbol) × (slice_get es j ≡ Some e) × (given v ≡ drop 1 e)
+-- the first so many hypotheses that are `$f` give: the number of the variable of each has what the entry has after its typecode, and its place
+abbrev pub AreGiven : List Symbol → List Mandatory → List Entry → List Given → ℕ → Type 0
+AreGiven variables hs entries given count = (k : ℕ) (h : Mandatory) (v : Symbol) (n : ℕ) → k < count → slice_get hs k ≡ Some h → IsTypingOf h v →
+    slice_get variables n ≡ Some v → (e : Entry) × (slice_get entries k ≡ Some e) × (e.start < e.end) ×
+    (slice_get given n ≡ Some (record { start = e.start + 1; end = e.end; place = k }))
 
 -- what is known of the hypotheses of a frame
 pub record AreAllTyped (hs : List Mandatory) : Type 0 where

@@ -1,5 +1,5 @@
 -- The state of the machine.
-use Rattle.std.specs.Prelude.{◌+◌, ◌≤◌, length, map}
+use Rattle.std.specs.Prelude.{ℕ, ◌+◌, ◌≤◌, length, map}
 use Rattle.mm_machine.specs.Language.Frame.{Symbol}
 use Rattle.mm_machine.specs.Language.Machine.{State}
 use Rattle.mm_machine.specs.Language.Lasting.{HoldsLasting}
@@ -9,5 +9,6 @@ use Rattle.mm_machine.specs.declared.machine.Machine.{Machine}
 abbrev pub state_of : {S : Type 0} → (S → Symbol) → Machine S → State
 state_of means m = expressions (map means m.symbols.items) m.stack.items m.saved.items
 
-abbrev pub AreRanges : {S : Type 0} → Machine S → Type 0
-AreRanges m = AreOrderedRanges m.top m.kept m.stack.items m.saved.items × (m.top + 4 ≤ length m.symbols.items) × HoldsLasting m × (m.ground ≤ m.kept)
+abbrev pub AreRanges : {S : Type 0} → (S → Symbol) → (Symbol → ℕ) → Machine S → Type 0
+AreRanges means key m = AreOrderedRanges m.top m.kept m.stack.items m.saved.items × (m.top + 4 ≤ length m.symbols.items) × HoldsLasting means key m
+    × (m.lasting.ground ≤ m.kept)

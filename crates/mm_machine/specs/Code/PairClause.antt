@@ -1,22 +1,36 @@
 -- Which variables are apart, and where they are numbered in a table.
-use Rattle.std.specs.Prelude.{◌≡◌, ◌≢◌, ℕ, ◌+◌, ◌-◌, ◌*◌, ◌%◌, ◌≤◌, ◌<◌, ◌==◌, ◌||◌, nat_lt, if◌then◌else◌, Bool, true, false, ◌⊎◌, ◌↔◌, Option, Some, None, List, [], ◌∷◌, ◌++◌, length, map, take, drop, slice_get}
-use Rattle.std.specs.{Prelude.{Contains, All, Any, slice_index, slice_index_or}, Int.{bit_at}}
+use Rattle.std.specs.Prelude.{◌≡◌, ◌≢◌, ℕ, ◌+◌, ◌-◌, ◌*◌, ◌≤◌, ◌<◌, Bool, true, false, ◌⊎◌, ◌↔◌, Option, Some, None, List, [], ◌∷◌, ◌++◌, length, map, take, drop, slice_get}
+use Rattle.std.specs.{Prelude.{Contains, All, Any, slice_index_or}, Int.{bit_at}}
 use Rattle.mm_machine.specs.Language.Frame.{Symbol, Mandatory, ArePair, HasVariable}
 use Rattle.mm_machine.specs.Language.Typing.{IsTyped}
 use Rattle.mm_machine.specs.Language.Derivation.{AreApart, ShareVariable}
 use Rattle.mm_machine.specs.Language.Faults.{LackPair}
 use Rattle.mm_machine.specs.declared.ProofNumber.{ProofNumber}
 use Rattle.mm_machine.specs.declared.ProofNumber.TheVariants.{P10, P11}
-use Rattle.mm_machine.specs.declared.{forms.SlotPair.{SlotPair}, pattern.Entry.{Entry}, sets.Chunk.{Chunk}, apart.{KnownApart.{KnownApart}, KnownChunk.{KnownChunk}}, gather.PairRoom.{PairRoom}}
+use Rattle.mm_machine.specs.declared.{gather.SlotPair.{SlotPair}, pattern.Entry.{Entry}, sets.Chunk.{Chunk}, apart.{KnownApart.{KnownApart}, KnownChunk.{KnownChunk}}, gather.PairRoom.{PairRoom}}
 use Rattle.mm_machine.specs.Code.Flat.{IsEntryWithin}
+use Rattle.mm_machine.specs.Language.Keys.{AreNumbered}
 
--- the place of a key in a table of this many places
-abbrev pub home : ℕ → ℕ → ℕ
-home key count = if nat_lt key count || (count == 0) then key else key % count
+-- this slot is of the `$f` of this variable
+abbrev pub IsSlot : List Mandatory → ℕ → Symbol → Type 0
+IsSlot hs j v = (h : Mandatory) × (slice_get hs j ≡ Some h) × (h.floating ≡ true) × (slice_get h.expression 1 ≡ Some v)
 
--- the place of a symbol in such a table
-abbrev pub home_at : (Symbol → ℕ) → ℕ → Symbol → ℕ
-home_at key count symbol = home (key symbol) count
+-- the slot is of a `$f`
+abbrev pub IsSomeSlot : List Mandatory → ℕ → Type 0
+IsSomeSlot hs j = (v : Symbol) × IsSlot hs j v
+
+-- the variable of a slot
+abbrev pub variable_at : List Mandatory → ℕ → Symbol
+variable_at hs j = slice_index_or (slice_index_or hs j (record { floating = true; expression = [] })).expression 1 (record { name = []; variable = false })
+
+-- the variables of a pair of slots
+abbrev pub slot_pair : List Mandatory → SlotPair → Symbol × Symbol
+slot_pair hs pair = (variable_at hs pair.first, variable_at hs pair.second)
+
+-- these are the slots of the pairs
+pub record HasSlots (hs : List Mandatory) (pairs : List (Symbol × Symbol)) (slots : List SlotPair) : Type 0 where
+  pub are : map (slot_pair hs) slots ≡ pairs
+  pub some : All (λ p. IsSomeSlot hs p.first × IsSomeSlot hs p.second) slots
 
 -- a pair is of these two, in one order or the other
 abbrev pub IsPair : Symbol × Symbol → Symbol → Symbol → Type 0
@@ -66,16 +80,6 @@ SomeShared xs ys = (n : ℕ) × HasNumber xs n × HasNumber ys n
 -- each number of the chunks is one of these variables
 abbrev pub AreNumbersOf : List Symbol → List Chunk → Type 0
 AreNumbersOf all chunks = (n : ℕ) → HasNumber chunks n → n < length all
-
--- for the key of each of the first symbols that the table has, it has the place of one with that key
-abbrev pub AreKeyPlaces : (Symbol → ℕ) → List Symbol → List ℕ → ℕ → Type 0
-AreKeyPlaces key xs places n = (i : ℕ) (x : Symbol) → i < n → slice_get xs i ≡ Some x → key x < length places →
-    (slice_index places (key x) < n) × ((y : Symbol) × (slice_get xs (slice_index places (key x)) ≡ Some y) × (key y ≡ key x))
-
--- the variables are there once, and the table has for the key of each the number of one with this key
-pub record AreNumbered (key : Symbol → ℕ) (all : List Symbol) (places : List ℕ) : Type 0 where
-  pub once : (m n : ℕ) (v : Symbol) → slice_get all m ≡ Some v → slice_get all n ≡ Some v → m ≡ n
-  pub table : AreKeyPlaces (home_at key (length places)) all places (length all)
 
 -- what is kept of pairs is so: each variable is apart from those that it is known to be apart from
 pub record KnowsApart (active : List (Symbol × Symbol)) (all : List Symbol) (known : KnownApart) : Type 0 where

@@ -1,9 +1,8 @@
 -- What the machine does at each step.
-use Rattle.std.specs.Prelude.{◌≡◌, ℕ, ◌<◌, List, ◌++◌}
+use Rattle.std.specs.Prelude.{◌≡◌, ℕ, ◌<◌, List}
 use Rattle.mm_machine.specs.Language.Frame.{Symbol, Frame, Setting}
 use Rattle.mm_machine.specs.Language.Expansion.{Step, Named, Saved, Save}
 use Rattle.mm_machine.specs.Language.Machine.{State}
-use Rattle.mm_machine.specs.Language.Lasting.{lasting_of}
 use Rattle.mm_machine.specs.Language.NamedSteps.{MeansUse}
 use Rattle.mm_machine.specs.declared.stepping.Task.{Task}
 use Rattle.mm_machine.specs.declared.stepping.Task.TheVariants as tasks
@@ -31,7 +30,7 @@ abbrev pub saves_of : Task → ℕ
 saves_of tasks.Keep = 1
 saves_of _ = 0
 
--- the machine has the state of a run, after its lasting expressions
+-- the machine has the state of a run
 pub record HasState {S : Type 0} (means : S → Symbol) (machine : Machine S) (state : State) : Type 0 where
   pub stack : (state_of means machine).stack ≡ state.stack
-  pub saved : (state_of means machine).saved ≡ lasting_of means machine ++ state.saved
+  pub saved : (state_of means machine).saved ≡ state.saved

@@ -1,5 +1,5 @@
--- The numbers by which symbols are looked for, and pairs in the order of these numbers.
-use Rattle.std.specs.Prelude.{◌≡◌, ℕ, ◌+◌, ◌*◌, ◌%◌, ◌≤◌, leb, if◌then◌else◌, false, Some, List, [], ◌∷◌, slice_get, slice_index}
+-- The numbers by which symbols are looked for, pairs in the order of these numbers, and symbols that are numbered in a table by them.
+use Rattle.std.specs.Prelude.{◌≡◌, ℕ, ◌+◌, ◌*◌, ◌%◌, ◌≤◌, ◌<◌, ◌==◌, ◌||◌, leb, nat_lt, if◌then◌else◌, false, Some, List, [], ◌∷◌, length, slice_get, slice_index}
 use Rattle.mm_machine.specs.Language.Frame.{Symbol}
 use Rattle.mm_machine.specs.Language.NumberedSymbols.{comes_before}
 
@@ -28,3 +28,21 @@ pair_keys key pair = lower_first (key pair.0) (key pair.1)
 abbrev pub AreInKeyOrder : (Symbol → ℕ) → List (Symbol × Symbol) → Type 0
 AreInKeyOrder key pairs = (i j : ℕ) (p q : Symbol × Symbol) → i ≤ j → slice_get pairs i ≡ Some p → slice_get pairs j ≡ Some q
     → comes_before (pair_keys key q) (pair_keys key p) ≡ false
+
+-- the place of a key in a table of this many places
+abbrev pub home : ℕ → ℕ → ℕ
+home key count = if nat_lt key count || (count == 0) then key else key % count
+
+-- the place of a symbol in such a table
+abbrev pub home_at : (Symbol → ℕ) → ℕ → Symbol → ℕ
+home_at key count symbol = home (key symbol) count
+
+-- for the key of each of the first symbols that the table has, it has the place of one with that key
+abbrev pub AreKeyPlaces : (Symbol → ℕ) → List Symbol → List ℕ → ℕ → Type 0
+AreKeyPlaces key xs places n = (i : ℕ) (x : Symbol) → i < n → slice_get xs i ≡ Some x → key x < length places →
+    (slice_index places (key x) < n) × ((y : Symbol) × (slice_get xs (slice_index places (key x)) ≡ Some y) × (key y ≡ key x))
+
+-- the variables are there once, and the table has for the key of each the number of one with this key
+pub record AreNumbered (key : Symbol → ℕ) (all : List Symbol) (places : List ℕ) : Type 0 where
+  pub once : (m n : ℕ) (v : Symbol) → slice_get all m ≡ Some v → slice_get all n ≡ Some v → m ≡ n
+  pub table : AreKeyPlaces (home_at key (length places)) all places (length all)

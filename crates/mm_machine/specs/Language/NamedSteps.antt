@@ -5,9 +5,8 @@ use Rattle.mm_machine.specs.Language.Frame.{Symbol, Frame, LabelMeaning, Hypothe
 use Rattle.mm_machine.specs.Language.Expansion.{Step, Named, Saved, Save, NotKnown}
 use Rattle.mm_machine.specs.Language.Reaches.{Reaches, IsStepFault}
 use Rattle.mm_machine.specs.Language.Run.{run_part, IsReached}
-use Rattle.mm_machine.specs.Language.Forms.{frames_of}
-use Rattle.mm_machine.specs.Language.Lasting.{lasting_of}
-use Rattle.mm_machine.specs.declared.forms.Forms.{Forms}
+use Rattle.mm_machine.specs.Language.Lasting.{cited_frame, lasting_of}
+use Rattle.mm_machine.specs.declared.named.Cited.{Cited}
 use Rattle.mm_machine.specs.declared.machine.Machine.{Machine}
 use Rattle.mm_machine.specs.declared.step.Action.{Action}
 use Rattle.mm_machine.specs.declared.step.Action.TheVariants as actions
@@ -32,9 +31,10 @@ MeansUse expressions frames place (uses.Assertion n) (Named label) =
 MeansUse expressions frames place uses.Nothing NotKnown = Unit {0}
 MeansUse expressions frames place _ _ = ⊥
 
--- at this place the labels of a proof, with these uses by a machine that has these forms, are these steps
-abbrev pub AreUses : {S : Type 0} → (S → Symbol) → Machine S → Forms S → List Use → Setting → List Step → Type 0
-AreUses means machine forms uses place names = AllZip (MeansUse (lasting_of means machine) (frames_of means forms) place) uses names
+-- at this place the labels of a proof, with these uses by a machine and these assertions that they cite, are these steps
+abbrev pub AreUses : {S L : Type 0} → (S → Symbol) → (L → Symbol) → Machine S → List (Cited L) → List Use → Setting → List Step → Type 0
+AreUses means listed machine cited uses place names =
+    AllZip (MeansUse (map (λ h. h.expression) (lasting_of means machine)) (map (cited_frame listed (lasting_of means machine)) cited) place) uses names
 
 -- the number of a use is in range
 abbrev pub IsUseWithin : ℕ → ℕ → Use → Type 0
@@ -43,8 +43,8 @@ IsUseWithin lasting assertions (uses.Assertion n) = n < assertions
 IsUseWithin lasting assertions uses.Nothing = Unit {0}
 
 -- the uses of all labels are in range
-abbrev pub AreUsesWithin : {S : Type 0} → Machine S → Forms S → List Use → Type 0
-AreUsesWithin machine forms uses = All (IsUseWithin machine.lasting (length forms.forms.items)) uses
+abbrev pub AreUsesWithin : {S L : Type 0} → Machine S → List (Cited L) → List Use → Type 0
+AreUsesWithin machine cited uses = All (IsUseWithin (length machine.lasting.patterns.items) (length cited)) uses
 
 -- what is put again was saved, after this many saves
 abbrev pub IsSavedWithin : ℕ → Action → Type 0

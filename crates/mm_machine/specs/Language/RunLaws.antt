@@ -1,5 +1,5 @@
 -- What is proved of steps that are run, and of numbers in place of names: each is the contract of a function.
-use Rattle.std.specs.Prelude.{◌≡◌, ◌≢◌, ℕ, ◌<◌, ◌↔◌, Some, List, ◌++◌, length, map, take, slice_get, All}
+use Rattle.std.specs.Prelude.{◌≡◌, ◌≢◌, ℕ, ◌<◌, ◌↔◌, Some, List, length, map, take, slice_get, All}
 use Rattle.mm_machine.specs.declared.symbol.NumberedSymbol.{NumberedSymbol}
 use Rattle.mm_machine.specs.declared.stepping.RunOutcome.{RunOutcome}
 use Rattle.mm_machine.specs.Language.Frame.{Symbol, Frame, Setting, AreSamePairs}
@@ -14,7 +14,7 @@ use Rattle.mm_machine.specs.Language.Renaming.{renamed_frame, renamed_pairs, ren
 use Rattle.mm_machine.specs.Language.Numbering.{unnaming}
 use Rattle.mm_machine.specs.Language.Keys.{AreInKeyOrder, key_by_number}
 use Rattle.mm_machine.specs.Language.CitedFrames.{meant_pairs}
-use Rattle.mm_machine.specs.Language.NamedSteps.{RunSays, StopsAt}
+use Rattle.mm_machine.specs.Language.NamedSteps.{RunSays}
 
 -- Symbols by number, read by the names and then renamed to numbers, are the symbols whose names are these numbers.
 abbrev pub NumbersNameSymbols : Type 0
@@ -46,10 +46,6 @@ abbrev pub NumbersSayTheSame : Type 0
 NumbersSayTheSame =
     (names : List (List ℕ)) (place : Setting) (steps : List Step) (statement : List Symbol) (outcome : RunOutcome) →
     RunSays (renamed_setting (unnaming names) place) steps (map (unnaming names) statement) outcome → RunSays place steps statement outcome
-
--- Steps that stop do so whatever comes after them.
-abbrev pub StopsStay : Type 0
-StopsStay = (place : Setting) (front behind : List Step) (outcome : RunOutcome) → StopsAt place front outcome → StopsAt place (front ++ behind) outcome
 
 -- no step before step n is a `?`
 abbrev pub KnownUpTo : List Step → ℕ → Type 0

@@ -1,6 +1,6 @@
--- What is given to the machine: the labels that steps name, what they name, and the first steps of a proof.
+-- What is given to the machine: the labels that steps name, and what they name.
 
-pub mod FrontLemmas
+pub mod LoadedLemmas
 pub mod MarkedLabels
 pub mod NamedLemmas
 pub mod UsedLemmas

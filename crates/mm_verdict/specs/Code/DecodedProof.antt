@@ -1,9 +1,9 @@
 -- The proof of an item of a base that is judged, with what it decodes to.
-use Rattle.std.specs.Prelude.{◌≡◌, ◌<◌, ℕ, List, Option, IfSome, length}
+use Rattle.std.specs.Prelude.{◌≡◌, ◌<◌, ℕ, List, length}
 use Rattle.mm_frame.specs.Language.Base.{BaseView}
 use Rattle.mm_verdict.specs.Language.DecodedSteps.{decoded_steps}
 use Rattle.mm_machine.specs.Language.Expansion.{Step}
-use Rattle.mm_machine.specs.Language.NamedSteps.{IsOutcomeWithin, RunSays, StopsAt}
+use Rattle.mm_machine.specs.Language.NamedSteps.{IsOutcomeWithin, RunSays}
 use Rattle.mm_machine.specs.declared.stepping.RunOutcome.{RunOutcome}
 use Rattle.mm_verdict.specs.Language.BaseLabels.{setting_at}
 use Rattle.mm_verdict.specs.Language.VerdictAt.{IsVerdictAt, AreDoneAt, cites_at, statement_at}
@@ -29,13 +29,7 @@ IsDecoded proof = (view : BaseView) × IsDecodedIn proof view × (proof.i < leng
 abbrev pub steps_of : DecodedProof → BaseView → List Step
 steps_of proof view = (decoded_steps view proof.decoding.now proof.words.now).steps
 
--- this is what the first steps of the proof say of its run, if they say it, and the assertions that are known are the base's
-pub record IsFrontRun (proof : DecodedProof) (found : Option RunOutcome) (now : Known) : Type 0 where
-  pub within : IfSome found (IsOutcomeWithin (length proof.decoding.now.steps.items))
-  pub says : IfSome found (λ outcome. OfDecoded proof (λ view. StopsAt (setting_at view proof.i) (steps_of proof view) outcome))
-  pub known : AreKnownOf proof.base.now now
-
--- this is what a run of the proof's steps comes to, and the assertions that are known are the base's
+-- this is what a run of the proof's steps comes to, and what is known is the base's
 pub record IsRun (proof : DecodedProof) (outcome : RunOutcome) (now : Known) : Type 0 where
   pub within : IsOutcomeWithin (length proof.decoding.now.steps.items) outcome
   pub says : OfDecoded proof (λ view. RunSays (setting_at view proof.i) (steps_of proof view) (statement_at view proof.i) outcome)

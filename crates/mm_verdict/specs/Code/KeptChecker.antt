@@ -6,6 +6,6 @@ use Rattle.mm_verdict.specs.Code.NamedItems.{AreKnownOf}
 abbrev pub base_of : Inside → Base
 base_of inside = inside.base.now
 
--- the assertions that are known are its own
+-- what is known is of it
 abbrev pub AreOfBase : Inside → Type 0
 AreOfBase inside = AreKnownOf inside.base.now inside.known

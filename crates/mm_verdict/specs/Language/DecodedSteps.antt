@@ -1,10 +1,8 @@
 -- What a decoding of the code stands for at an item of a base: which label each entry of its table is, and which steps its actions are.
-use Rattle.std.specs.Prelude.{◌≡◌, ℕ, ◌<◌, Result, Err, List, ◌++◌, All, length, map, drop, if◌then◌else◌, bytes_eq, codes}
+use Rattle.std.specs.Prelude.{◌≡◌, ℕ, Result, Err, List, ◌++◌, length, map, drop, if◌then◌else◌, bytes_eq, codes}
 use Rattle.std.specs.List.{AllByRecursion, before_first}
 use Rattle.mm_frame.specs.Language.Base.{BaseView}
-use Rattle.mm_frame.specs.Language.Answering.{IsBase}
 use Rattle.mm_frame.specs.Language.Resolving.{Resolves}
-use Rattle.mm_frame.specs.declared.base.Base.{Base}
 use Rattle.mm_frame.specs.declared.base.Resolved.{Resolved}
 use Rattle.mm_frame.specs.declared.base.Resolved.TheVariants as answers
 use Rattle.mm_verdict.specs.Language.BaseLabels.{label_at}
@@ -38,18 +36,6 @@ IsEntry base i answers.Unknown = Unit {0}
 -- the label of each entry means there what the entry says
 abbrev pub AreEntries : BaseView → ℕ → List Resolved → Type 0
 AreEntries base i labels = AllByRecursion (IsEntry base i) labels
-
--- the label is an entry of the table of a proof in this base
-pub record IsNamedBy (code : Base) (label : Resolved) : Type 0 where
-  pub view : BaseView
-  pub i : ℕ
-  pub base : IsBase view code
-  pub within : i < length view
-  pub entry : IsEntry view i label
-
--- the assertions with these numbers are entries of tables of proofs in this base
-abbrev pub AreEntriesOf : Base → List ℕ → Type 0
-AreEntriesOf code numbers = All (λ j. IsNamedBy code (answers.Assertion j)) numbers
 
 -- the labels of items
 abbrev pub labels_at : BaseView → List ℕ → List (List ℕ)

@@ -3,7 +3,7 @@ use Rattle.std.specs.Prelude.{◌≡◌, ℕ, Ok, List}
 use Rattle.mm_frame.specs.Language.Base.{BaseView}
 use Rattle.mm_machine.specs.Language.Expansion.{Step}
 use Rattle.mm_machine.specs.Language.NamedSteps.{AreUses, actions_mean}
-use Rattle.mm_machine.specs.Language.NumberedSymbols.{by_code}
+use Rattle.mm_machine.specs.Language.NumberedSymbols.{by_code, by_number}
 use Rattle.mm_machine.specs.Language.Numbering.{unnaming}
 use Rattle.mm_machine.specs.Language.Renaming.{renamed_setting}
 use Rattle.mm_machine.specs.Language.Verdict.{Decoded}
@@ -17,4 +17,5 @@ pub record IsProgramAt (names : List (List ℕ)) (view : BaseView) (i : ℕ) (pr
   pub decoded : Decoded
   pub decodes : decoding_at view i ≡ Ok decoded
   pub steps : decoded.steps ≡ actions_mean labels program.steps.items
-  pub uses : AreUses by_code program.known.machine program.known.forms program.known.uses.items (renamed_setting (unnaming names) (setting_at view i)) labels
+  pub uses : AreUses by_code by_number program.known.machine program.known.cited.items program.known.uses.items
+      (renamed_setting (unnaming names) (setting_at view i)) labels

@@ -14,17 +14,18 @@ pairs_say active frame is es (Some number) n8 n9 says = λ stack l at. says_pair
 
 pub returns-in_default-clause-says : goal.returns-in_default-clause-says
 returns-in_default-clause-says g c stack l at =
-    let m = g.S.Symbol.means in
-    says08 (meant_pairs g.S.Listed.Symbol.means c.args.active.now.pairs.now) (frame_taking m c.args.taken.now) c.requires.taken.form.frame (entries_of m c.args.taken.now) stack l at c.in_default.ensures
+    let taken = c.args.taken.now in
+    says08 (meant_pairs g.S.Listed.Symbol.means c.args.active.now.pairs.now) (frame_taking g.S.Symbol.means g.S.Listed.Symbol.means taken) c.requires.taken.cited.frame
+    (entries_of g.S.Symbol.means taken) stack l at c.in_default.ensures.gives
 
 pub returns-then-not-essentials_fit-clause-says : goal.returns-then-not-essentials_fit-clause-says
 returns-then-not-essentials_fit-clause-says g c stack l at =
-    let m = g.S.Symbol.means in
-    says09 (meant_pairs g.S.Listed.Symbol.means c.args.active.now.pairs.now) (frame_taking m c.args.taken.now) c.requires.taken.form.frame (entries_of m c.args.taken.now) stack l at
-    c.in-Some.ensures.0 c.if-not-essentials_fit.ensures
+    let taken = c.args.taken.now in
+    says09 (meant_pairs g.S.Listed.Symbol.means c.args.active.now.pairs.now) (frame_taking g.S.Symbol.means g.S.Listed.Symbol.means taken) c.requires.taken.cited.frame
+    (entries_of g.S.Symbol.means taken) stack l at c.in-Some.ensures.gives.0 c.if-not-essentials_fit.ensures
 
 pub returns-clause-says : goal.returns-clause-says
 returns-clause-says g c =
-    let m = g.S.Symbol.means in
-    pairs_say (meant_pairs g.S.Listed.Symbol.means c.args.active.now.pairs.now) (frame_taking m c.args.taken.now) c.requires.taken.form.frame (entries_of m c.args.taken.now) c.in_ok-found.found
-    c.in-Some.ensures.0 c.if-not-essentials_fit.ensures c.in_ok-found.ensures.says
+    let taken = c.args.taken.now in
+    pairs_say (meant_pairs g.S.Listed.Symbol.means c.args.active.now.pairs.now) (frame_taking g.S.Symbol.means g.S.Listed.Symbol.means taken) c.requires.taken.cited.frame
+    (entries_of g.S.Symbol.means taken) c.in_ok-found.found c.in-Some.ensures.gives.0 c.if-not-essentials_fit.ensures c.in_ok-found.ensures.says

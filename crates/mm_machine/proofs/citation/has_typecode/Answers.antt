@@ -5,9 +5,10 @@ use Rattle.mm_machine.proofs.citation.has_typecode.Goals as goal
 pub returns : goal.returns
 returns g c =
     let m = g.S.Symbol.means in
-    let typing = range_first m c.args.forms.now.symbols.items c.args.typing.start c.args.typing.end c.index.result.now c.requires.some (omega (arith, c.requires.some, c.requires.typing.within)) c.index.ensures in
-    let first = range_first m c.args.all.now c.args.entry.start c.args.entry.end c.index-all-entry.result (omega (arith, c.requires.entry.0, c.if-entry.false))
+    let all = c.args.all.now in
+    let typing = range_first m all c.args.typing.start c.args.typing.end c.index-all-typing.result c.requires.typing (omega (arith, c.requires.typing, c.requires.within)) c.index-all-typing.is in
+    let first = range_first m all c.args.entry.start c.args.entry.end c.index-all-entry.result (omega (arith, c.requires.entry.0, c.if-entry.false))
     (omega (arith, c.requires.entry.0, c.requires.entry.1, c.if-entry.false)) c.index-all-entry.is in (
       λ t. typing ∙ ap Some (sym (c.same.ensures.0 t)) ∙ sym first,
-      λ e. c.same.ensures.1 (same_Some (m c.index-all-entry.result) (m c.index.result.now) (sym first ∙ sym e ∙ typing)),
+      λ e. c.same.ensures.1 (same_Some (m c.index-all-entry.result) (m c.index-all-typing.result) (sym first ∙ sym e ∙ typing)),
     )

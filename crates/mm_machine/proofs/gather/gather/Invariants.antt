@@ -1,5 +1,5 @@
 use Rattle.std.proofs.Common.{◌≡◌, ◌++◌, List, length, map, take}
-use Rattle.mm_machine.specs.{Language.Frame.{Symbol}, Code.PairClause.{AreNumbered, GathersSymbols}}
+use Rattle.mm_machine.specs.{Language.{Frame.{Symbol}, Keys.{AreNumbered}}, Code.PairClause.{GathersSymbols}}
 use Rattle.mm_machine.proofs.gather.gather.Given as goal
 
 abbrev pub invariant-loop-i : goal.invariant-loop-i

@@ -1,6 +1,7 @@
 -- What is in a list, and in one that is longer by one.
-use Rattle.std.proofs.Common.{◌≡◌, ℕ, zero, suc, ◌<◌, List, ◌∷◌, length, get_or, refl, arith, inl, inr, ◌⊎◌, Contains, Some, ap, slice_get, ◌++◌, ◌∙◌, [], subst, take, ◌+◌, ◌↔◌}
-use Rattle.std.proofs.lemmas.{Option.{get_or_from_slice_get, slice_get-get_or, slice_get_within}, List.{take_more, Elements.{Contains-append_left, Contains-push, Contains-push_cases}}}
+use Rattle.std.proofs.Common.{◌≡◌, ℕ, zero, suc, ◌<◌, List, ◌∷◌, length, get_or, refl, arith, inl, inr, ◌⊎◌, Contains, Some, ap, slice_get, ◌++◌, ◌∙◌, [], subst, take, drop, ◌+◌, ◌↔◌}
+use Rattle.std.proofs.lemmas.{Option.{get_or_from_slice_get, slice_get-get_or, slice_get_within}, List.{take_more, take-append-drop}}
+use Rattle.std.proofs.lemmas.List.Elements.{Contains-append_left, Contains-append_right, Contains-push, Contains-push_cases}
 
 pub Contains-here : {X : Type 0} (x : X) (xs : List X) → Contains (x ∷ xs) x
 Contains-here x xs = (0, omega arith, refl)
@@ -37,3 +38,7 @@ pushed xs y x = (
   Contains-push_cases xs y x,
   λ s. elim s [ inl c ↦ Contains-append_left xs (y ∷ []) x c | inr e ↦ subst (λ w. Contains (xs ++ y ∷ []) w) e (Contains-push xs y) ],
 )
+
+-- what is in the rest of a list is in it
+pub contains_behind : {X : Type 0} (xs : List X) (n : ℕ) (x : X) → Contains (drop n xs) x → Contains xs x
+contains_behind xs n x c = subst (λ w. Contains w x) (take-append-drop n xs) (Contains-append_right (take n xs) (drop n xs) x c)

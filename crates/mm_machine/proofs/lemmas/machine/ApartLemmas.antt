@@ -1,9 +1,8 @@
 -- Elements of lists, one after another, and which of them are apart.
 use Rattle.std.proofs.lemmas.{Grind.{common_steps}, Option.{slice_get-get_or, same_Some}, List.{length-drop, get_or_at, drop-append-le, take-append-le, take-append-drop}}
-use Rattle.std.proofs.Common.{◌≡◌, ℕ, zero, suc, ◌+◌, ◌-◌, ◌<◌, ◌≤◌, Some, List, ◌∷◌, ◌++◌, length, map, take, drop, refl, sym, ◌∙◌, ap, arith, inl, inr, length-append, slice_get, Contains, []}
+use Rattle.std.proofs.Common.{◌≡◌, ℕ, zero, suc, ◌+◌, ◌-◌, ◌<◌, ◌≤◌, Some, List, ◌∷◌, ◌++◌, length, take, drop, refl, sym, ◌∙◌, ap, arith, inl, inr, length-append, slice_get, Contains, []}
 use native.Mathlib.Decide.{dec_lt}
-use Rattle.mm_machine.{specs.{Language.Frame.{Symbol, ArePair}, declared.pattern.Entry.{Entry}, Code.{Flat.{read}, PairClause.{IsPair}}}, proofs.lemmas.machine.FlatLemmas.{behind_first}}
-use Rattle.mm_machine.proofs.lemmas.lists.Members.{contains_at, contains_get}
+use Rattle.mm_machine.{specs.{Language.Frame.{Symbol, ArePair}, declared.pattern.Entry.{Entry}, Code.PairClause.{IsPair}}, proofs.lemmas.lists.Members.{contains_at, contains_get}}
 
 -- it is said of each element up to a place
 abbrev pub EachUpTo : {X : Type 0} → (X → Type 0) → List X → ℕ → Type 0
@@ -22,14 +21,6 @@ pair_found pairs k p x y at h = grind (arith, common_steps, contains_at) steps 2
 pub pair_nowhere : (pairs : List (Symbol × Symbol)) (n : ℕ) (x y : Symbol) → length pairs ≤ n → EachUpTo (λ p. IsPair p x y → ⊥) pairs n → ArePair pairs x y → ⊥
 pair_nowhere pairs n x y l f (inl c) = each_all (λ (p : Symbol × Symbol). IsPair p x y → ⊥) pairs n l f (x, y) c (inl (refl, refl))
 pair_nowhere pairs n x y l f (inr c) = each_all (λ (p : Symbol × Symbol). IsPair p x y → ⊥) pairs n l f (y, x) c (inr (refl, refl))
-
--- what an entry has after its typecode are this many last symbols of it
-pub given_last : {X : Type 0} (f : X → Symbol) (xs : List X) (e : Entry) (n : ℕ) → n ≡ e.end - e.start - 1 → e.start ≤ e.end
-    → map f (take (e.end - (e.end - n)) (drop (e.end - n) xs)) ≡ drop 1 (read (map f xs) e)
-given_last f xs e n is l = elim (dec_lt e.start e.end) [
-  | yes o ↦ (let at : e.end - n ≡ e.start + 1 = omega arith in rw at (behind_first f xs e.start e.end))
-  | no o ↦ (let all : e.end - (e.end - n) ≡ 0 = omega arith in let none : e.end - e.start ≡ 0 = omega arith in rw (all, none) refl)
-]
 
 -- what is at a place of a list that has grown
 pub last_at : {X : Type 0} (xs : List X) (x : X) (k : ℕ) → k ≡ length xs → slice_get (xs ++ x ∷ []) k ≡ Some x

@@ -5,10 +5,6 @@ use Rattle.mm_machine.specs.{Language.Faults.{AnyZip, CitingFails, last_entries,
 use Rattle.mm_machine.specs.Code.{Citation.{GivesEntries, OtherTypecode, OtherEssential, CitingSays, IsLowestCiting}, PairClause.{PairsSay}}
 use Rattle.mm_machine.proofs.lemmas.{machine.{Given.{given_by, floats_match, all_match}, Turning.{NoneBelow, none_more, none_first, cites_by, lowest}}, verdicts.Lines.{any_all}}
 
--- there are too few entries
-pub says07 : (active : List (Symbol × Symbol)) (frame : Frame) (stack : List (List Symbol)) → length stack < length frame.hypotheses → IsLowestCiting active frame stack P07
-says07 active frame stack few = lowest (CitingFails 1000000 active frame stack) P07 (none_first active frame stack) few
-
 module _ (active : List (Symbol × Symbol)) (frame : Frame) (is : IsFrame frame) (es stack : List (List Symbol)) (l : length frame.hypotheses ≤ length stack)
     (at : last_entries frame stack ≡ es) where
   abbrev Fails : ProofNumber → Type 0

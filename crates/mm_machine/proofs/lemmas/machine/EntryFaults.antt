@@ -1,6 +1,6 @@
 -- What is found wrong with entries, place by place.
-use Rattle.std.proofs.{lemmas.{Grind.{elements}, Option.{slice_get_within, get_or_from_slice_get, same_Some}}, Common.{rules, ◌≡◌, ℕ, ◌+◌, ◌<◌, ◌≤◌, Some, List, length, arith, slice_get}}
-use Rattle.mm_machine.specs.{Language.{Frame.{Symbol, Mandatory, Frame}, Typing.{IsFrame}, Faults.{AnyZip}}, Code.Citation.{GivesSlots, GivesEntries, AreAllTyped}}
+use Rattle.std.proofs.{lemmas.{Grind.{elements}, Option.{slice_get_within, get_or_from_slice_get, same_Some}}, Common.{rules, ◌≡◌, ℕ, ◌+◌, ◌<◌, ◌≤◌, Some, List, length, drop, arith, slice_get}}
+use Rattle.mm_machine.specs.{Language.{Frame.{Symbol, Mandatory, Frame}, Typing.{IsFrame}, Faults.{AnyZip}}, Code.{Citation.{GivesEntries, AreAllTyped}, PairClause.{IsSlot}}}
 use Rattle.mm_machine.proofs.lemmas.{verdicts.Unique.{substituted-typing}, lists.Zips.{any_place, zip_at}}
 
 -- it holds at this place
@@ -25,7 +25,8 @@ none_all R xs ys n l f a =
     f p.0 (omega arith) (record { x = p.1; y = p.2; first = p.3; second = p.4; holds = p.5 })
 
 -- what is given for the variable of a slot
-pub slot_gives : (hs : List Mandatory) (given : Symbol → List Symbol) (es : List (List Symbol)) → AreAllTyped hs → GivesEntries given hs es → GivesSlots given hs es
+pub slot_gives : (hs : List Mandatory) (given : Symbol → List Symbol) (es : List (List Symbol)) → AreAllTyped hs → GivesEntries given hs es →
+    (j : ℕ) (v : Symbol) → IsSlot hs j v → (e : List Symbol) × (slice_get es j ≡ Some e) × (given v ≡ drop 1 e)
 slot_gives hs given es is gives j v slot = grind (arith, elements, get_or_from_slice_get, slice_get_within, substituted-typing, zip_at) steps 200000
 
 pub hypotheses_known : (frame : Frame) → IsFrame frame → AreAllTyped frame.hypotheses

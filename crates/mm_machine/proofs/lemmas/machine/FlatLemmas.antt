@@ -63,3 +63,12 @@ range_first f xs a b x some within is =
     let here : 0 < length (range_of a b ys) = omega (arith, long, length-map xs f) in
     slice_get-get_or (range_of a b ys) 0 (f x) here
     ∙ ap Some (get_or-take (b - a) (drop a ys) 0 (f x) (omega arith) ∙ get_or-drop a ys 0 (f x) ∙ ap (λ k. get_or ys k (f x)) (omega arith) ∙ get_or-map f xs a x (f x) within ∙ ap f (sym is))
+
+-- and where it is in the whole list
+pub range_at : {X : Type 0} (a b : ℕ) (xs : List X) (x : X) → slice_get (range_of a b xs) 0 ≡ Some x → slice_get xs a ≡ Some x
+range_at a b xs x at =
+    let long : length (range_of a b xs) ≡ min (b - a) (length xs - a) = length-take (b - a) (drop a xs) ∙ ap (min (b - a)) (length-drop a xs) in
+    let here = slice_get_within (range_of a b xs) 0 x at in
+    slice_get-get_or xs a x (omega (arith, long, here))
+    ∙ ap Some (ap (λ k. get_or xs k x) (omega arith) ∙ sym (get_or-drop a xs 0 x) ∙ sym (get_or-take (b - a) (drop a xs) 0 x (omega (arith, long, here)))
+    ∙ get_or_from_slice_get (range_of a b xs) 0 x x at)

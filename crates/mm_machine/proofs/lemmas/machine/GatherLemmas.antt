@@ -143,12 +143,3 @@ gathers_step hypotheses es all more before after spans later n h e at_h at_e a f
   where
     at_or_before : (k : ℕ) (s : Entry) → slice_get later k ≡ Some s → ((k < n) × (slice_get spans k ≡ Some s)) ⊎ ((k ≡ n) × (a.span ≡ s))
     at_or_before k s at = grind (arith, common_steps, front_at, last_at, length-append, same_Some, slice_get_within) steps 200000
-
--- none yet
-pub gathers_none : (hypotheses : List Mandatory) (es : List (List Symbol)) (all : List Symbol) → Gathers hypotheses es all [] [] 0
-gathers_none hypotheses es all = record {
-  count = refl;
-  within = λ k s at. absurd (omega (arith, slice_get_within [] k s at));
-  numbers = λ n h. absurd (omega (arith, h.1.1));
-  right = λ k s g d at. absurd (omega (arith, slice_get_within [] k s at));
-}

@@ -1,20 +1,17 @@
 -- The substitution that the entries of the mandatory `$f` give.
-use Rattle.std.proofs.lemmas.{Grind.{common_steps}, List.Elements.{All-head, All-tail}, Bool.{cases_Bool}}
-use Rattle.std.proofs.Common.{◌≡◌, ◌≢◌, suc, true, false, Option, Some, None, List, ◌∷◌, length, map, drop, refl, sym, ◌∙◌, ap, subst, arith, inl, inr, slice_get, Contains, All, AllPairs, []}
-use Rattle.std.proofs.Math.Decide.{map_dec}
+use Rattle.std.proofs.lemmas.{Grind.{common_steps}, List.Elements.{All-head, All-tail}, Bool.{cases_Bool, false≢true}, Option.{get_or_from_slice_get, same_Some, slice_get-get_or, slice_get_within}}
+use Rattle.std.proofs.Common.{◌≡◌, ◌≢◌, ℕ, ◌+◌, ◌<◌, suc, true, false, Option, Some, None, List, ◌∷◌, length, map, drop, get_or-set_other, get_or-set_same, length-set, refl, sym, ◌∙◌, ap, subst}
+use Rattle.std.proofs.{Common.{arith, inl, inr, slice_get, slice_set, Contains, All, AllPairs, []}, Math.Decide.{map_dec, ℕ_discrete}}
 use mathlib.Core.Bool.{Bool-discrete}
-use Rattle.mm_machine.{specs.Language.{Frame.{Symbol, Mandatory}, Substitution.{substituted}, Typing.{IsTyping}, Faults.{AnyZip}}, proofs.lemmas.lists.Members.{Contains-here, contains_there}}
-use Rattle.mm_machine.proofs.lemmas.verdicts.{Choices.{symbol_discrete, expression_discrete, both_of}, Unique.{FloatsMatch}}
-
--- the hypothesis is a `$f` of this variable
-abbrev pub Types : Mandatory → Symbol → Type 0
-Types h v = (h.floating ≡ true) × (slice_get h.expression 1 ≡ Some v)
+use Rattle.mm_machine.specs.{Language.{Frame.{Symbol, Mandatory}, Substitution.{substituted}, Typing.{IsTyping}, Faults.{AnyZip}}, Code.Citation.{AreGiven, IsTypingOf}, declared.pattern.Entry.{Entry}}
+use Rattle.mm_machine.{specs.declared.pattern.Given.{Given}, proofs.lemmas.{lists.Members.{Contains-here, contains_there}, verdicts.Choices.{symbol_discrete, expression_discrete, both_of}}}
+use Rattle.mm_machine.proofs.lemmas.verdicts.Unique.{FloatsMatch}
 
 dec_second : (o : Option Symbol) (v : Symbol) → Dec (o ≡ Some v)
 dec_second None v = no (λ e. (cc))
 dec_second (Some w) v = map_dec (λ e. ap Some e) (λ e. (cc)) (symbol_discrete w v)
 
-pub dec_types : (h : Mandatory) (v : Symbol) → Dec (Types h v)
+pub dec_types : (h : Mandatory) (v : Symbol) → Dec (IsTypingOf h v)
 dec_types h v = both_of (Bool-discrete h.floating true) (dec_second (slice_get h.expression 1) v)
 
 -- the entry after its typecode, of the first `$f` of the variable
@@ -22,11 +19,11 @@ pub given_by : List Mandatory → List (List Symbol) → Symbol → List Symbol
 given_by (h ∷ hs) (e ∷ es) v = elim (dec_types h v) [ yes t ↦ drop 1 e | no n ↦ given_by hs es v ]
 given_by _ _ v = []
 
-given_here : (h : Mandatory) (hs : List Mandatory) (e : List Symbol) (es : List (List Symbol)) (v : Symbol) → Types h v → given_by (h ∷ hs) (e ∷ es) v ≡ drop 1 e
+given_here : (h : Mandatory) (hs : List Mandatory) (e : List Symbol) (es : List (List Symbol)) (v : Symbol) → IsTypingOf h v → given_by (h ∷ hs) (e ∷ es) v ≡ drop 1 e
 unfolding given_by
 given_here h hs e es v t = grind (arith, common_steps, dec_types h v) steps 200000
 
-given_there : (h : Mandatory) (hs : List Mandatory) (e : List Symbol) (es : List (List Symbol)) (v : Symbol) → (Types h v → ⊥) → given_by (h ∷ hs) (e ∷ es) v ≡ given_by hs es v
+given_there : (h : Mandatory) (hs : List Mandatory) (e : List Symbol) (es : List (List Symbol)) (v : Symbol) → (IsTypingOf h v → ⊥) → given_by (h ∷ hs) (e ∷ es) v ≡ given_by hs es v
 unfolding given_by
 given_there h hs e es v n = grind (arith, common_steps, dec_types h v) steps 200000
 
@@ -45,7 +42,7 @@ IsOnce hs = AllPairs (λ h g. h.floating ≡ true → g.floating ≡ true → sl
 once_tail : (h : Mandatory) (hs : List Mandatory) → IsOnce (h ∷ hs) → IsOnce hs
 once_tail h hs a = λ i j d l m. a (suc i) (suc j) d (omega arith) (omega arith)
 
-once_head : (h : Mandatory) (hs : List Mandatory) (v : Symbol) → IsOnce (h ∷ hs) → Types h v → (g : Mandatory) → Contains hs g → Types g v → ⊥
+once_head : (h : Mandatory) (hs : List Mandatory) (v : Symbol) → IsOnce (h ∷ hs) → IsTypingOf h v → (g : Mandatory) → Contains hs g → IsTypingOf g v → ⊥
 once_head h hs v a t g c u =
     let n = a 0 (suc c.0) g (omega arith) (omega arith) in
     let m : slice_get h.expression 1 ≢ slice_get g.expression 1 = subst (λ (w : Mandatory). slice_get h.expression 1 ≢ slice_get w.expression 1) c.2 (n t.0 (subst (λ (w : Mandatory). w.floating ≡ true) (sym c.2) u.0)) in
@@ -59,7 +56,7 @@ OtherTypecode h e = (h.floating ≡ true) × (slice_get h.expression 0 ≢ slice
 floats_match_by :
     (f : Symbol → List Symbol) (hs : List Mandatory) (es : List (List Symbol)) → length hs ≡ length es →
     All (λ h. h.floating ≡ true → IsTyping h.expression) hs → IsOnce hs → (AnyZip OtherTypecode hs es → ⊥) →
-    ((v : Symbol) (h : Mandatory) → Contains hs h → Types h v → f v ≡ given_by hs es v) → FloatsMatch f hs es
+    ((v : Symbol) (h : Mandatory) → Contains hs h → IsTypingOf h v → f v ≡ given_by hs es v) → FloatsMatch f hs es
 floats_match_by f [] [] l t o n a = tt
 floats_match_by f (h ∷ hs) (e ∷ es) l t o n a = (
   λ is. entry_is f h e (All-head (λ h. h.floating ≡ true → IsTyping h.expression) h hs t is)
@@ -85,3 +82,50 @@ all_match f (h ∷ hs) (e ∷ es) l m n =
       | inr is ↦ elim (expression_discrete (substituted f h.expression) e) [ yes s ↦ s | no k ↦ absurd (n (inl (is, k))) ]
     ] in
     cc
+
+-- ---- what the variables are given, `$f` by `$f`
+
+-- no two `$f` are of one variable
+once_at : (hs : List Mandatory) (k n : ℕ) (h g : Mandatory) (v : Symbol) → IsOnce hs → k < n → slice_get hs k ≡ Some h → slice_get hs n ≡ Some g → IsTypingOf h v → IsTypingOf g v → ⊥
+once_at hs k n h g v once l at_h at_g t u =
+    let first = get_or_from_slice_get hs k h h at_h in
+    let second = get_or_from_slice_get hs n g h at_g in
+    let floating = λ (w x : Mandatory) (e : w ≡ x) (f : x.floating ≡ true). ap (λ (y : Mandatory). y.floating) e ∙ f in
+    once k n h l (slice_get_within hs n g at_g) (floating _ h first t.0) (floating _ g second u.0)
+    (ap (λ (w : Mandatory). slice_get w.expression 1) first ∙ t.1 ∙ sym u.1 ∙ ap (λ (w : Mandatory). slice_get w.expression 1) (sym second))
+
+module _ (variables : List Symbol) (hs : List Mandatory) (entries : List Entry) (given : List Given) (n : ℕ) (h : Mandatory) (at_h : slice_get hs n ≡ Some h)
+    (were : AreGiven variables hs entries given n) where
+  -- one `$e` more gives nothing
+  pub gives_still : h.floating ≡ false → AreGiven variables hs entries given (n + 1)
+  gives_still is k g w m l at_g typing at_m = elim (ℕ_discrete k n) [
+    | yes s ↦ absurd (false≢true (sym is ∙ ap (λ (x : Mandatory). x.floating) (same_Some h g (sym at_h ∙ sym (ap (slice_get hs) s) ∙ at_g)) ∙ typing.0))
+    | no o ↦ were k g w m (omega (arith, l, o)) at_g typing at_m
+  ]
+
+  -- one `$f` more gives its variable the rest of its entry
+  pub gives_more : (number : ℕ) (v : Symbol) (e : Entry) → IsOnce hs → ((i j : ℕ) (w : Symbol) → slice_get variables i ≡ Some w → slice_get variables j ≡ Some w → i ≡ j)
+      → number < length given → IsTypingOf h v → slice_get variables number ≡ Some v → slice_get entries n ≡ Some e → e.start < e.end
+      → AreGiven variables hs entries (slice_set given number (record { start = e.start + 1; end = e.end; place = n })) (n + 1)
+  gives_more number v e once single within is at_v at_e some k g w m l at_g typing at_m =
+      let put : Given = record { start = e.start + 1; end = e.end; place = n } in
+      let all = slice_set given number put in
+      elim (ℕ_discrete k n) [
+        | yes s ↦
+            let same_h = same_Some h g (sym at_h ∙ sym (ap (slice_get hs) s) ∙ at_g) in
+            let same_v = same_Some v w (sym is.1 ∙ ap (λ (x : Mandatory). slice_get x.expression 1) same_h ∙ typing.1) in
+            let there = slice_get-get_or all number put (omega (arith, within, length-set given number put)) ∙ ap Some (get_or-set_same given number put put within) in
+            let make : ℕ → Given = λ j. record { start = e.start + 1; end = e.end; place = j } in
+            (e, ap (slice_get entries) s ∙ at_e, some, ap (slice_get all) (single m number w at_m (at_v ∙ ap Some same_v)) ∙ there ∙ ap (λ j. Some (make j)) (sym s))
+        | no o ↦
+            let r = were k g w m (omega (arith, l, o)) at_g typing at_m in
+            let was : Given = record { start = r.0.start + 1; end = r.0.end; place = k } in
+            let other : m ≢ number = λ s. once_at hs k n g h w once (omega (arith, l, o)) at_g at_h typing (is.0, is.1 ∙ sym at_v ∙ ap (slice_get variables) (sym s) ∙ at_m) in
+            let long = slice_get_within given m was r.3 in (
+              r.0,
+              r.1,
+              r.2,
+              slice_get-get_or all m was (omega (arith, long, length-set given number put))
+                  ∙ ap Some (get_or-set_other given number m put was other ∙ get_or_from_slice_get given m was was r.3),
+            )
+      ]

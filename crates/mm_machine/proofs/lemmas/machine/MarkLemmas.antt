@@ -2,8 +2,7 @@
 use Rattle.std.proofs.Common.{◌≡◌, ◌≢◌, ℕ, ◌+◌, ◌<◌, ◌≤◌, ◌⊎◌, Some, List, [], ◌∷◌, ◌++◌, length, get_or, refl, sym, ◌∙◌, ap, subst, arith, inl, inr, length-append, length-set, get_or-set_same}
 use Rattle.std.proofs.{Common.{get_or-set_other, slice_get, slice_index, slice_set, Contains}, Math.Decide.{ℕ_discrete}, lemmas.Option.{same_Some, slice_get_within}}
 use native.Mathlib.Decide.{dec_lt}
-use Rattle.mm_machine.{specs.{Language.Frame.{Symbol}, Code.PairClause.{AreKeyPlaces, AreNumbered, home_at}}, proofs.lemmas.machine.ApartLemmas.{front_at, last_at}}
-use Rattle.mm_machine.proofs.lemmas.lists.Members.{contains_at, contains_get}
+use Rattle.mm_machine.{specs.Language.{Frame.{Symbol}, Keys.{AreKeyPlaces, AreNumbered, home_at}}, proofs.lemmas.{machine.ApartLemmas.{front_at, last_at}, lists.Members.{contains_at, contains_get}}}
 
 pub marked_more : (key : Symbol → ℕ) (xs : List Symbol) (before after : List ℕ) (n : ℕ) (x : Symbol) → slice_get xs n ≡ Some x → after ≡ slice_set before (key x) n → AreKeyPlaces key xs before n → AreKeyPlaces key xs after (n + 1)
 marked_more key xs before after n x at e f i y l at_y room =

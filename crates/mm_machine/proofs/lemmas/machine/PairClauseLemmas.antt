@@ -1,11 +1,30 @@
 -- What is gathered, and the pair clause.
-use Rattle.std.proofs.Common.{[], ◌++◌, false, ◌≡◌, ℕ, Some, List, length, map, get_or, sym, ◌∙◌, ap, subst, arith, inl, inr, refl, ◌↔◌, slice_get, Contains, All, Any}
-use Rattle.std.proofs.lemmas.{List.Elements.{All-contains, All-map}, Option.{slice_get_within, get_or_from_slice_get, slice_get-get_or, same_Some}}
-use Rattle.mm_machine.specs.Language.{Frame.{Symbol, Mandatory, HasVariable}, Forms.{IsSomeSlot, slot_pair, variable_at}, Derivation.{AreApart, ShareVariable}, Faults.{LackPair}}
+use Rattle.std.proofs.Common.{[], ◌∷◌, ◌++◌, true, false, ◌≡◌, ℕ, ◌+◌, Some, List, length, map, take, get_or, sym, ◌∙◌, ap, ap₂, subst, arith, inl, inr, refl, ◌↔◌, slice_get, slice_index_or, Contains}
+use Rattle.std.proofs.{Common.{All, Any}, lemmas.{List.{map_push, Elements.{All-contains, All-map, All-push}}, Option.{slice_get_within, get_or_from_slice_get, slice_get-get_or, same_Some}}}
+use Rattle.mm_machine.specs.Language.{Frame.{Symbol, Mandatory, HasVariable}, Derivation.{AreApart, ShareVariable}, Faults.{LackPair}}
 use Rattle.mm_machine.specs.Code.PairClause.{Apart, ApartAt, AreNumbersOf, AreSlotPairs, AtEachPair, AtSlots, EachApart, Gathers, HasNumber, IsIn, KnowsApart, SomeNotApart, SomeShared, entry_or}
-use Rattle.mm_machine.specs.{Code.{PairClause.{set_at}, Citation.{AreAllTyped, GivesEntries}}, declared.{forms.SlotPair.{SlotPair}, pattern.Entry.{Entry}, sets.Chunk.{Chunk}}}
-use Rattle.mm_machine.{specs.declared.apart.KnownApart.{KnownApart}, proofs.lemmas.machine.{FlatLemmas.{mapped_get, unmapped}, EntryFaults.{slot_gives}, FormLemmas.{slot_variable}}}
-use Rattle.mm_machine.proofs.lemmas.{machine.GatherLemmas.{part_of, still_at}, lists.Members.{contains_at}}
+use Rattle.mm_machine.specs.{Code.{PairClause.{HasSlots, IsSlot, IsSomeSlot, set_at, slot_pair, variable_at}, Citation.{AreAllTyped, GivesEntries}}, declared.gather.SlotPair.{SlotPair}}
+use Rattle.mm_machine.{specs.declared.{pattern.Entry.{Entry}, sets.Chunk.{Chunk}, apart.KnownApart.{KnownApart}}, proofs.lemmas.machine.{FlatLemmas.{mapped_get, unmapped}, EntryFaults.{slot_gives}}}
+use Rattle.mm_machine.proofs.lemmas.{machine.GatherLemmas.{part_of, still_at}, lists.Members.{contains_at, take_next}}
+
+-- the variable of a slot
+slot_variable : (hs : List Mandatory) (j : ℕ) (v : Symbol) → IsSlot hs j v → variable_at hs j ≡ v
+slot_variable hs j v is =
+    let none : Symbol = record { name = []; variable = false } in
+    ap (λ (h : Mandatory). slice_index_or h.expression 1 none) (get_or_from_slice_get hs j is.0 (record { floating = true; expression = [] }) is.1)
+    ∙ get_or_from_slice_get is.0.expression 1 v none is.3
+
+-- the slots of one more pair
+pub slots_more : (hs : List Mandatory) (pairs : List (Symbol × Symbol)) (n : ℕ) (x : Symbol × Symbol) (slots : List SlotPair) (p : SlotPair) → slice_get pairs n ≡ Some x
+    → IsSlot hs p.first x.0 → IsSlot hs p.second x.1 → HasSlots hs (take n pairs) slots → HasSlots hs (take (n + 1) pairs) (slots ++ p ∷ [])
+slots_more hs pairs n x slots p at first second has = record {
+  are =
+      map_push (slot_pair hs) slots p
+      ∙ ap₂ (λ (ps : List (Symbol × Symbol)) (q : Symbol × Symbol). ps ++ q ∷ []) has.are
+      (ap₂ (λ (v w : Symbol). (v, w)) (slot_variable hs p.first x.0 first) (slot_variable hs p.second x.1 second))
+      ∙ sym (take_next pairs n x at);
+  some = All-push (λ (q : SlotPair). IsSomeSlot hs q.first × IsSomeSlot hs q.second) slots p has.some ((x.0, first), (x.1, second));
+}
 
 -- the variables that two numbers name
 named_once : (all : List Symbol) → ((m n : ℕ) (v : Symbol) → slice_get all m ≡ Some v → slice_get all n ≡ Some v → m ≡ n)
@@ -24,8 +43,8 @@ knows_more active all more known k = record { first = λ m n i. still m n (k.fir
     still : (m n : ℕ) → ApartAt active all m n → ApartAt active (all ++ more) m n
     still m n a = (a.0, a.1, still_at all more m a.0 a.2, still_at all more n a.1 a.3, a.4)
 
-module _ (hs : List Mandatory) (es : List (List Symbol)) (all : List Symbol) (chunks : List Chunk) (spans : List Entry) (given : Symbol → List Symbol) (is : AreAllTyped hs) (gives : GivesEntries given hs es)
-    (gathers : Gathers hs es all chunks spans (length hs)) (pairs : List SlotPair) (slots : All (λ p. IsSomeSlot hs p.first × IsSomeSlot hs p.second) pairs)
+module _ (hs : List Mandatory) (es : List (List Symbol)) (all : List Symbol) (chunks : List Chunk) (spans : List Entry) (count : ℕ) (long : length hs ≡ count)
+    (given : Symbol → List Symbol) (is : AreAllTyped hs) (gives : GivesEntries given hs es) (gathers : Gathers hs es all chunks spans count) (wanted : List (Symbol × Symbol)) (pairs : List SlotPair) (has : HasSlots hs wanted pairs)
     (once : (m n : ℕ) (v : Symbol) → slice_get all m ≡ Some v → slice_get all n ≡ Some v → m ≡ n) where
   -- the set of a slot has the variables that are given
   span_gives : (j : ℕ) → IsSomeSlot hs j → (z : Symbol) → HasVariable (given (variable_at hs j)) z ↔ IsIn all (set_at chunks spans j) z
@@ -33,14 +52,14 @@ module _ (hs : List Mandatory) (es : List (List Symbol)) (all : List Symbol) (ch
       let slot = s.1 in
       let e = slot_gives hs given es is gives j s.0 slot in
       let d : Entry = record { start = 0; end = 0; floor = 0 } in
-      let at = slice_get-get_or spans j d (omega (arith, gathers.count, slice_get_within hs j slot.0 slot.1)) in
+      let at = slice_get-get_or spans j d (omega (arith, gathers.count, long, slice_get_within hs j slot.0 slot.1)) in
       rw (slot_variable hs j s.0 slot, e.2, at) (gathers.right j (get_or spans j d) slot.0 e.0 at slot.1 slot.2 e.1 z)
 
   slots_at : (k : ℕ) (p : SlotPair) → slice_get pairs k ≡ Some p → IsSomeSlot hs p.first × IsSomeSlot hs p.second
-  slots_at k p at = All-contains (λ (p : SlotPair). IsSomeSlot hs p.first × IsSomeSlot hs p.second) pairs p slots (contains_at pairs k p at)
+  slots_at k p at = All-contains (λ (p : SlotPair). IsSomeSlot hs p.first × IsSomeSlot hs p.second) pairs p has.some (contains_at pairs k p at)
 
-  pub apart_given : (active : List (Symbol × Symbol)) → AtEachPair (EachApart active all) chunks spans pairs → All (λ pair. AreApart active (given pair.0) (given pair.1)) (map (slot_pair hs) pairs)
-  apart_given active each = All-map (λ (pair : Symbol × Symbol). AreApart active (given pair.0) (given pair.1)) (slot_pair hs) pairs (λ k d l.
+  pub apart_given : (active : List (Symbol × Symbol)) → AtEachPair (EachApart active all) chunks spans pairs → All (λ pair. AreApart active (given pair.0) (given pair.1)) wanted
+  apart_given active each = subst (All (λ pair. AreApart active (given pair.0) (given pair.1))) has.are (All-map (λ (pair : Symbol × Symbol). AreApart active (given pair.0) (given pair.1)) (slot_pair hs) pairs (λ k d l.
       let p = get_or pairs k d in
       let at = slice_get-get_or pairs k d l in
       let xs = set_at chunks spans p.first in
@@ -49,17 +68,17 @@ module _ (hs : List Mandatory) (es : List (List Symbol)) (all : List Symbol) (ch
       record {
         unshared = λ h. (apart_named active all xs ys h.0 h.0 (each k p at) ((span_gives p.first s.0 h.0).0 h.1) ((span_gives p.second s.1 h.0).0 h.2)).0 refl;
         paired = λ a b h i n. (apart_named active all xs ys a b (each k p at) ((span_gives p.first s.0 a).0 h) ((span_gives p.second s.1 b).0 i)).1;
-      })
+      }))
 
   any_pair : (P : List Symbol → List Symbol → Type 0) (k : ℕ) (p : SlotPair) → slice_get pairs k ≡ Some p → P (given (variable_at hs p.first)) (given (variable_at hs p.second))
-      → Any (λ pair. P (given pair.0) (given pair.1)) (map (slot_pair hs) pairs)
+      → Any (λ pair. P (given pair.0) (given pair.1)) wanted
   any_pair P k p at h =
       let q = slot_pair hs p in
       let ps = map (slot_pair hs) pairs in
       let there = mapped_get (slot_pair hs) pairs k p (slice_get_within pairs k p at) (sym (get_or_from_slice_get pairs k p p at)) in
-      (k, q, slice_get_within ps k q there, get_or_from_slice_get ps k q q there, h)
+      subst (Any (λ pair. P (given pair.0) (given pair.1))) has.are (k, q, slice_get_within ps k q there, get_or_from_slice_get ps k q q there, h)
 
-  pub shared_given : (k : ℕ) (p : SlotPair) → slice_get pairs k ≡ Some p → AtSlots SomeShared chunks spans p → Any (λ pair. ShareVariable (given pair.0) (given pair.1)) (map (slot_pair hs) pairs)
+  pub shared_given : (k : ℕ) (p : SlotPair) → slice_get pairs k ≡ Some p → AtSlots SomeShared chunks spans p → Any (λ pair. ShareVariable (given pair.0) (given pair.1)) wanted
   shared_given k p at h =
       let s = slots_at k p at in
       let nothing : Symbol = record { name = []; variable = false } in
@@ -69,8 +88,9 @@ module _ (hs : List Mandatory) (es : List (List Symbol)) (all : List Symbol) (ch
       let there = slice_get-get_or all h.0 nothing within in
       any_pair ShareVariable k p at (v, (span_gives p.first s.0 v).1 (h.0, h.1, there), (span_gives p.second s.1 v).1 (h.0, h.2, there))
 
-  pub none_shared : AtEachPair (λ xs ys. SomeShared xs ys → ⊥) chunks spans pairs → Any (λ pair. ShareVariable (given pair.0) (given pair.1)) (map (slot_pair hs) pairs) → ⊥
-  none_shared none a =
+  pub none_shared : AtEachPair (λ xs ys. SomeShared xs ys → ⊥) chunks spans pairs → Any (λ pair. ShareVariable (given pair.0) (given pair.1)) wanted → ⊥
+  none_shared none shared =
+      let a = subst (Any (λ pair. ShareVariable (given pair.0) (given pair.1))) (sym has.are) shared in
       let x = unmapped (slot_pair hs) pairs a.0 a.1 (slice_get-get_or (map (slot_pair hs) pairs) a.0 a.1 a.2 ∙ ap Some a.3) in
       let p = x.0 in
       let s = slots_at a.0 p x.1 in
@@ -78,7 +98,7 @@ module _ (hs : List Mandatory) (es : List (List Symbol)) (all : List Symbol) (ch
       none a.0 p x.1 (named_once all once (set_at chunks spans p.first) (set_at chunks spans p.second) h.0 ((span_gives p.first s.0 h.0).0 h.1) ((span_gives p.second s.1 h.0).0 h.2))
 
   pub lack_given : (active : List (Symbol × Symbol)) (k : ℕ) (p : SlotPair) → slice_get pairs k ≡ Some p → AtSlots (SomeNotApart active all) chunks spans p
-      → AtEachPair (λ xs ys. SomeShared xs ys → ⊥) chunks spans pairs → Any (λ pair. LackPair active (given pair.0) (given pair.1)) (map (slot_pair hs) pairs)
+      → AtEachPair (λ xs ys. SomeShared xs ys → ⊥) chunks spans pairs → Any (λ pair. LackPair active (given pair.0) (given pair.1)) wanted
   lack_given active k p at (m, n, hm, hn, (x, y, at_x, at_y, apart)) none =
       let s = slots_at k p at in
       let xs = set_at chunks spans p.first in
@@ -91,11 +111,11 @@ module _ (hs : List Mandatory) (es : List (List Symbol)) (all : List Symbol) (ch
       ]
 
 -- the slots of pairs are among the ranges, if there is one for each hypothesis
-pub slots_within : (hs : List Mandatory) (spans : List Entry) (pairs : List SlotPair) → length spans ≡ length hs → All (λ p. IsSomeSlot hs p.first × IsSomeSlot hs p.second) pairs
-    → AreSlotPairs (length spans) pairs
-slots_within hs spans pairs count slots k d l =
+pub slots_within : (hs : List Mandatory) (spans : List Entry) (count : ℕ) (wanted : List (Symbol × Symbol)) (pairs : List SlotPair) → length hs ≡ count → length spans ≡ count
+    → HasSlots hs wanted pairs → AreSlotPairs (length spans) pairs
+slots_within hs spans count wanted pairs long as_long has k d l =
     let p = get_or pairs k d in
-    let s = slots k d l in
+    let s = has.some k d l in
     (omega (arith, slice_get_within hs p.first s.0.1.0 s.0.1.1), omega (arith, slice_get_within hs p.second s.1.1.0 s.1.1.1))
 
 -- what holds of two sets that are those of two slots

@@ -1,10 +1,9 @@
 -- Entries, when the list of symbols changes behind its front.
 use Rattle.std.proofs.Common.{rules, ◌≡◌, ℕ, ◌+◌, ◌-◌, ◌<◌, ◌≤◌, Some, List, [], ◌∷◌, ◌++◌, length, map, take, drop, get_or, refl, sym, ◌∙◌, ap, arith, ◌⊎◌, length-append, slice_get, All}
-use Rattle.std.proofs.lemmas.{Grind.{common_steps, elements}, List.{length-map, length-take, length-take-le, take_more, map-append, take-map, take_all, get_or-take, drop-map, take_rest}}
+use Rattle.std.proofs.lemmas.{Grind.{common_steps, elements}, List.{length-map, length-take, length-take-le, take_more, map-append, take-map, take_all, get_or-take, drop-map}}
 use Rattle.std.proofs.lemmas.{List.Elements.{All-head, All-tail}, Option.{slice_get_within, get_or_from_slice_get, slice_get-get_or, same_Some}}
 use Rattle.mm_machine.specs.{Code.{Ranges.{expressions, AreOrderedRanges, Saves}, Flat.{read, read_all, IsEntryWithin}}, Language.{Frame.{Symbol, Frame}, Faults.{last_entries}}}
-use Rattle.mm_machine.{specs.{Language.Lasting.{HoldsLasting}, declared.{pattern.Entry.{Entry}, machine.Machine.{Machine}}}, proofs.lemmas.machine.ApartLemmas.{range_kept, last_at, front_at}}
-use Rattle.mm_machine.proofs.lemmas.lists.Members.{contains_at}
+use Rattle.mm_machine.{specs.declared.pattern.Entry.{Entry}, proofs.lemmas.{machine.ApartLemmas.{range_kept, last_at, front_at}, lists.Members.{contains_at}}}
 
 -- entries that are in the front read the same
 pub read_all_kept : (before after : List Symbol) (es : List Entry) → All (λ e. e.end ≤ length before) es → take (length before) after ≡ before → read_all after es ≡ read_all before es
@@ -72,10 +71,6 @@ pub entries_taken : (frame : Frame) (symbols : List Symbol) (es : List Entry) (b
     → last_entries frame (read_all symbols es) ≡ read_all symbols (drop below es)
 entries_taken frame symbols es below e = grind (arith, common_steps, drop-map, length-map) steps 200000
 
-pub slice_taken : {X : Type 0} (read_symbols symbols : List X) (f : X → Symbol) (read_es es : List Entry) (below : ℕ) → read_symbols ≡ symbols
-    → read_es ≡ es → read_all (map f read_symbols) (take (length read_es - below) (drop below read_es)) ≡ read_all (map f symbols) (drop below es)
-slice_taken read_symbols symbols f read_es es below a b = grind (arith, common_steps, take_rest read_es below) steps 200000
-
 -- the entries that are taken are within the symbols
 pub all_taken : (n : ℕ) (es known : List Entry) (k : ℕ) → known ≡ es → All (IsEntryWithin n) es → All (IsEntryWithin n) (take (length known - k) (drop k known))
 all_taken n es known k b h = grind (arith, elements) steps 200000
@@ -85,12 +80,3 @@ pub whole_pushed :
     (n kept : ℕ) (es saved next : List Entry) (new : Entry) → AreOrderedRanges n kept es saved → IsEntryWithin n new → new.floor ≡ n → next ≡ es ++ new ∷ [] →
     AreOrderedRanges n kept next saved
 whole_pushed n kept es saved next new whole in_range floor e = grind (arith, elements, contains_at, take_all, whole_replaced) steps 200000
-
--- the lasting expressions are ranges as before
-pub lasting_held : {S : Type 0} (old new : Machine S) → HoldsLasting old → new.lasting ≡ old.lasting → new.ground ≡ old.ground → take old.lasting new.saved.items ≡ take old.lasting old.saved.items →
-    old.lasting ≤ length new.saved.items → old.ground ≤ length new.symbols.items → HoldsLasting new
-lasting_held old new holds count ground same saved below = record {
-  count = omega (arith, count, saved);
-  within = rw (count, same, ground) holds.within;
-  below = omega (arith, ground, below);
-}

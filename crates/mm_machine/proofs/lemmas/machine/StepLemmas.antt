@@ -1,19 +1,25 @@
 -- Tasks of the code and steps of a proof.
-use Rattle.std.proofs.Common.{rules, ◌≡◌, ◌≢◌, ℕ, zero, suc, ◌+◌, ◌<◌, ◌≤◌, Option, Some, None, List, ◌∷◌, ◌++◌, length, take, drop, get_or, refl, sym, ◌∙◌, ap, subst, arith, append_assoc, zero-add}
-use Rattle.std.proofs.{Common.{add-zero, length-append, slice_get, MatchOption, IfNone, map, []}, lemmas.Grind.{common_steps, elements}}
-use Rattle.std.proofs.lemmas.List.{length-take-le, take_more, take-append-drop, take-append-le, drop_more, take_all, length-map, get_or_append_left, Sums.{sum_by-cons, sum_by-append}}
-use Rattle.std.{proofs.lemmas.Option.{slice_get_within, get_or_from_slice_get, slice_get-get_or}, specs.List.{AllZip}}
+use Rattle.std.proofs.Common.{rules, ◌≡◌, ◌≢◌, ℕ, zero, suc, ◌+◌, ◌<◌, ◌≤◌, Option, Some, None, List, ◌∷◌, ◌++◌, length, take, drop, get_or, refl, sym, ◌∙◌, ap, subst, arith, add-zero, slice_get}
+use Rattle.std.proofs.{Common.{MatchOption, map, []}, lemmas.{Grind.{common_steps, elements}, List.{length-take-le, take_more, take-append-drop, drop_more, take_all}}}
+use Rattle.std.{proofs.lemmas.{List.Sums.{sum_by-cons, sum_by-append}, Option.{slice_get_within, get_or_from_slice_get, slice_get-get_or}}, specs.List.{AllZip}}
 use Rattle.mm_machine.specs.Language.{Frame.{Symbol, Frame, LabelMeaning, Assertion, Setting, AreSameFrame, AreSamePairs}, Typing.{HasFrames}, Steps.{Cites}}
 use Rattle.mm_machine.specs.Language.{Expansion.{Step, Named, Saved, Save, NotKnown}, Machine.{State, Turns}, Faults.{LabelFails, IsLowest}, Reaches.{Reaches, IsStepFault}, Run.{run_part, IsReached}}
-use Rattle.mm_machine.specs.Language.{RunLaws.{KnownUpTo}, NamedSteps.{meant, MeansUse, Pushes, actions_mean, saves_by, saves_in}, Lasting.{HoldsLasting, KeepsLasting, lasting_of}}
-use Rattle.mm_machine.specs.{declared.{ProofNumber.{ProofNumber}, stepping.Task.{Task}, named.Use.{Use}, machine.Machine.{Machine}, step.ProofStep.{ProofStep}}, Code.Citation.{IsLowestCiting}}
-use Rattle.mm_machine.{specs.Code.{MachineState.{state_of}, Ranges.{Saves}, Tasks.{HasState, MeansTask}, Flat.{read}}, proofs.lemmas.verdicts.Moving.{takes_moved, frame_back, label_moved}}
-use Rattle.mm_machine.proofs.lemmas.{verdicts.Part.{part_begins, part_at, part_ends, not_all_run}, machine.{Reaching.{Follows, follows_on, reached}, Running.{faulty}, FlatLemmas.{mapped_or_get}}}
-use Rattle.mm_machine.proofs.lemmas.{machine.PushLemmas.{pushed_moves}, lists.{Zips.{zip_at}, Members.{take_next}}}
+use Rattle.mm_machine.specs.Language.{Lasting.{cited_frame, lasting_of}, RunLaws.{KnownUpTo}, NamedSteps.{meant, MeansUse, Pushes, RunSays, StopsAt, actions_mean, saves_by, saves_in}}
+use Rattle.mm_machine.specs.declared.{ProofNumber.{ProofNumber}, stepping.{RunOutcome.{RunOutcome}, Task.{Task}}, named.{Cited.{Cited}, Use.{Use}}, machine.Machine.{Machine}}
+use Rattle.mm_machine.specs.{declared.step.ProofStep.{ProofStep}, Code.{Citation.{IsLowestCiting}, MachineState.{state_of}, Ranges.{Saves}, Tasks.{HasState, MeansTask}}}
+use Rattle.mm_machine.proofs.lemmas.{verdicts.{Moving.{takes_moved, frame_back, label_moved}, Part.{part_begins, part_at, part_ends, not_all_run}}, machine.Reaching.{Follows, follows_on, reached}}
+use Rattle.mm_machine.proofs.lemmas.{machine.{Running.{faulty}, FlatLemmas.{mapped_or_get}, PushLemmas.{pushed_moves}}, lists.{Zips.{zip_at}, Members.{take_next}}}
 use Rattle.mm_machine.specs.declared.stepping.Task.TheVariants as tasks
 use Rattle.mm_machine.specs.declared.named.Use.TheVariants as uses
 
 -- ---- one step
+
+-- the lasting expressions, and the frames of the assertions that are cited
+abbrev pub lasting : {S : Type 0} → (S → Symbol) → Machine S → List (List Symbol)
+lasting means machine = map (λ h. h.expression) (lasting_of means machine)
+
+abbrev pub frames : {S L : Type 0} → (S → Symbol) → (L → Symbol) → Machine S → List (Cited L) → List Frame
+frames means listed machine cited = map (cited_frame listed (lasting_of means machine)) cited
 
 -- what an assertion that is cited means
 pub means_cite :
@@ -55,15 +61,6 @@ cite_turns active place label kept frame stack before after (Some number) pairs 
       lowest = λ other p. d.1 other (label_moved place.active active (Assertion frame) (Assertion kept) before.stack other
           (λ x y. ((pairs x y).1, (pairs x y).0)) (frame_back kept frame same) (subst (λ (r : LabelMeaning). LabelFails place.active r before.stack other) at p));
     }
-
--- ---- after what is kept
-
-pub kept_at : {X : Type 0} (front back : List X) (n : ℕ) (x : X) → slice_get front n ≡ Some x → slice_get (front ++ back) n ≡ Some x
-kept_at front back n x e = grind (arith, elements, get_or_append_left, get_or_from_slice_get, length-append, slice_get-get_or, slice_get_within) steps 200000
-
-pub saved_at : {X : Type 0} (front back : List X) (n : ℕ) → slice_get (front ++ back) (length front + n) ≡ slice_get back n
-saved_at [] back n = ap (slice_get back) (zero-add n)
-saved_at (y ∷ front) back n = grind (arith, common_steps, saved_at front back n) steps 200000
 
 -- ---- step after step
 
@@ -109,27 +106,26 @@ pub pushed_turns :
     {S : Type 0} (means : S → Symbol) (place : Setting) (step : Step) (e : List Symbol) (before : State)
     (old new : Machine S) →
     Turns place step before (record before { stack = before.stack ++ e ∷ [] }) → HasState means old before →
-    (state_of means new).stack ≡ (state_of means old).stack ++ e ∷ [] → (state_of means new).saved ≡ (state_of means old).saved →
-    KeepsLasting means old new → TurnsTo means new place step before
-pushed_turns means place step e before old new turns state stack saved keeps = (
+    (state_of means new).stack ≡ (state_of means old).stack ++ e ∷ [] → (state_of means new).saved ≡ (state_of means old).saved → TurnsTo means new place step before
+pushed_turns means place step e before old new turns state stack saved = (
   record before { stack = before.stack ++ e ∷ [] },
   record {
     stack = stack ∙ ap (λ w. w ++ e ∷ []) state.stack;
-    saved = saved ∙ state.saved ∙ ap (λ w. w ++ before.saved) (sym keeps.1);
+    saved = saved ∙ state.saved;
   },
   turns,
 )
 
 pub kept_turns :
     {S : Type 0} (means : S → Symbol) (place : Setting) (step : Step) (before : State) (old new : Machine S) →
-    step ≡ Save → HasState means old before → Saves (state_of means old) (state_of means new) → KeepsLasting means old new → TurnsTo means new place step before
-kept_turns means place step before old new is state saves keeps =
+    step ≡ Save → HasState means old before → Saves (state_of means old) (state_of means new) → TurnsTo means new place step before
+kept_turns means place step before old new is state saves =
     let e = saves.1 in
     let after : State = record { stack = before.stack; saved = before.saved ++ e ∷ [] } in (
       after,
       record {
         stack = saves.3 ∙ state.stack;
-        saved = saves.4 ∙ ap (λ w. w ++ e ∷ []) state.saved ∙ append_assoc (lasting_of means old) before.saved (e ∷ []) ∙ ap (λ w. w ++ (before.saved ++ e ∷ [])) (sym keeps.1);
+        saved = saves.4 ∙ ap (λ w. w ++ e ∷ []) state.saved;
       },
       subst (λ (s : Step). Turns place s before after) (sym is) (saves.0, e, sym state.stack ∙ saves.2, refl, refl),
     )
@@ -177,29 +173,6 @@ action_at names steps k d l = mapped_or_get (λ (step : ProofStep). meant names 
 pub saves_next : (steps : List ProofStep) (k : ℕ) (d : ProofStep) → k < length steps → saves_in (take (k + 1) steps) ≡ saves_in (take k steps) + saves_by (get_or steps k d).action
 saves_next steps k d l = grind (arith, common_steps, add-zero, slice_get-get_or, sum_by-append, sum_by-cons, take_next) steps 200000
 
--- how much was saved
-pub saved_same : {S : Type 0} (means : S → Symbol) (old new : Machine S) → (state_of means new).saved ≡ (state_of means old).saved → length new.saved.items ≡ length old.saved.items
-saved_same means old new e = grind (arith, common_steps, length-map new.saved.items (read (map means new.symbols.items)), length-map old.saved.items (read (map means old.symbols.items))) steps 200000
-
-pub saved_more : {S : Type 0} (means : S → Symbol) (old new : Machine S) → Saves (state_of means old) (state_of means new) → length new.saved.items ≡ length old.saved.items + 1
-saved_more means old new saves =
-    omega (arith, ap length saves.4, length-append (state_of means old).saved (saves.1 ∷ []), length-map new.saved.items (read (map means new.symbols.items)), length-map old.saved.items (read (map means old.symbols.items)))
-
-pub if_none : {A : Type 0} (found : Option A) (P : Type 0) → P → IfNone found P
-if_none found P p = grind (arith, common_steps) steps 200000
-
--- ---- the lasting expressions
-
--- they stay if what was saved stays
-pub lasting_same : {S : Type 0} (means : S → Symbol) (old new : Machine S) → new.lasting ≡ old.lasting → (state_of means new).saved ≡ (state_of means old).saved → KeepsLasting means old new
-lasting_same means old new count saved = (count, ap (λ w. take new.lasting w) saved ∙ ap (λ n. take n (state_of means old).saved) count)
-
--- and if more is saved
-pub lasting_saved : {S : Type 0} (means : S → Symbol) (old new : Machine S) → HoldsLasting old → new.lasting ≡ old.lasting → Saves (state_of means old) (state_of means new) → KeepsLasting means old new
-lasting_saved means old new holds count saves =
-    let front = take-append-le old.lasting (state_of means old).saved (saves.1 ∷ []) (omega (arith, holds.count, length-map old.saved.items (read (map means old.symbols.items)))) in
-    (count, ap (λ w. take new.lasting w) saves.4 ∙ ap (λ n. take n ((state_of means old).saved ++ saves.1 ∷ [])) count ∙ front)
-
--- how many there are
-pub lasting_count : {S : Type 0} (means : S → Symbol) (m : Machine S) → HoldsLasting m → length (lasting_of means m) ≡ m.lasting
-lasting_count means m holds = length-take-le m.lasting (state_of means m).saved (omega (arith, holds.count, length-map m.saved.items (read (map means m.symbols.items))))
+-- if steps stop, a run says so, whatever the statement is
+pub stopped_says : (place : Setting) (steps : List Step) (statement : List Symbol) (outcome : RunOutcome) → StopsAt place steps outcome → RunSays place steps statement outcome
+stopped_says place steps statement outcome s = grind (arith, common_steps) steps 200000

@@ -1,5 +1,5 @@
 use Rattle.std.proofs.{Common.{List, get_or, arith}, lemmas.Option.{slice_get_within, slice_get-get_or}}
-use Rattle.mm_machine.{specs.{Code.PairClause.{SomeShared, AtSlots}, declared.{forms.SlotPair.{SlotPair}, sets.Chunk.{Chunk}}}, proofs.lemmas.machine.ApartLemmas.{each_more}}
+use Rattle.mm_machine.{specs.{Code.PairClause.{SomeShared, AtSlots}, declared.{gather.SlotPair.{SlotPair}, sets.Chunk.{Chunk}}}, proofs.lemmas.machine.ApartLemmas.{each_more}}
 use Rattle.mm_machine.proofs.lemmas.machine.PairClauseLemmas.{at_slots}
 use Rattle.mm_machine.proofs.pairs.any_share.Goals as goal
 

@@ -1,7 +1,11 @@
 use Rattle.std.proofs.Common.{◌≡◌, ◌++◌, List, map}
-use Rattle.mm_machine.{specs.{Language.CitedFrames.{hypotheses_of}, declared.slots.Slot.{Slot}}, proofs.lemmas.machine.SlotLemmas.{SlotsUpTo}}
+use Rattle.mm_machine.{specs.{Language.{Frame.{Symbol}, Keys.{AreNumbered}}, declared.slots.Slot.{Slot}}, proofs.lemmas.machine.SlotLemmas.{SlotsUpTo}}
 use Rattle.mm_machine.proofs.slots.add_slots.Given as goal
 
 abbrev pub invariant-loop-place : goal.invariant-loop-place
-invariant-loop-place g l = (more : List Slot) × (l.to.items ≡ l.initial.to.items ++ more)
-    × SlotsUpTo (hypotheses_of g.S.Listed.Symbol.means l.hypotheses) (map g.S.Listed.Symbol.means l.expression) l.place l.constants more
+invariant-loop-place g l = record {
+  numbered : AreNumbered g.S.Kept.key_of (map g.S.Symbol.means l.variables.all.items) l.variables.places.items;
+  grows : (more : List Symbol) × (map g.S.Symbol.means l.variables.all.items ≡ map g.S.Symbol.means l.initial.variables.all.items ++ more);
+  slots : (more : List Slot) × (l.to.items ≡ l.initial.to.items ++ more)
+      × SlotsUpTo (map g.S.Symbol.means l.variables.all.items) (map g.S.Symbol.means l.expression) l.place l.constants more;
+}

@@ -1,6 +1,6 @@
 use Rattle.std.proofs.{lemmas.{Grind.{common_steps}, Bool.{false≢true}, List.{length-map, get_or_default}}, Common.{◌≡◌, ◌<◌, ◌∷◌, [], map, length, get_or, refl, ◌∙◌, subst, arith}}
 use Rattle.mm_machine.specs.{Language.{Reaches.{Reaches}, NamedSteps.{actions_mean}}, declared.pattern.Entry.{Entry}, Code.{Flat.{read, read_all}, MachineState.{state_of}}}
-use Rattle.mm_machine.proofs.lemmas.machine.{StackLemmas.{top_of}, StopLemmas.{stopped_says}}
+use Rattle.mm_machine.proofs.lemmas.machine.{StackLemmas.{top_of}, StepLemmas.{stopped_says}}
 use Rattle.mm_machine.proofs.stepping.run.Goals as goal
 
 pub returns-in-Some-clause-says : goal.returns-in-Some-clause-says
@@ -34,9 +34,3 @@ returns-else-is_top-clause-says g c place names is pairs all =
     let top : read_all symbols machine.stack.items ≡ e ∷ [] = top_of (read symbols) machine.stack.items 0 (get_or machine.stack.items 0 d) some
     (omega (arith, l, c.if-len-ne1.false, c.len.ensures)) (get_or_default machine.stack.items 0 d (get_or machine.stack.items 0 d) some) in
     grind (arith, common_steps, c.if-is_top.ensures.1, false≢true) steps 200000
-
-pub is_top-requires-clause-whole : goal.is_top-requires-clause-whole
-is_top-requires-clause-whole g c = c.in_ok-outcome.ensures.whole
-
-pub is_top-requires-clause-one : goal.is_top-requires-clause-one
-is_top-requires-clause-one g c = omega (arith, c.len.ensures, c.if-len-ne1.false, c.run_through.new.machine.stack.ok)

@@ -35,9 +35,6 @@ returns-clause-few c =
     let short = c.decodes_short.ensures (setting_at view i) (mandatory_labels view i) (said_at view i).proof (decoded_steps view d c.args.proof.words.now) some has.1.decodes in
     omega (arith, c.steps_done-done.ensures.within, c.len.ensures, d.steps.ok, length-map d.steps.items (λ (step : ProofStep). meant names step.action))
 
-pub run_steps-requires : goal.run_steps-requires
-run_steps-requires c = let is = c.requires.known in record { decoded = c.requires.decoded; known = record { holds = is.holds; pushed = is.pushed; named = is.named; cited = is.cited } }
-
 pub steps_done-done-requires : goal.steps_done-done-requires
 steps_done-done-requires c =
     let steps = c.args.proof.decoding.now.steps in

@@ -1,21 +1,17 @@
 -- A proof that is decoded, and what a run says of it.
-use Rattle.std.proofs.Common.{◌≡◌, ℕ, zero, suc, ◌<◌, false, cond, Some, Err, List, [], ◌∷◌, length, take, get_or, refl, sym, ◌∙◌, ap, subst, arith, inl, inr, slice_get, All, count_by}
-use Rattle.std.{proofs.lemmas.{Grind.{common_steps, elements}, List.{take-map, Elements.{All-nil, All-cons}, Sums.{sum_by-cons}}, Option.{slice_get-map}}, specs.Option.{option_map}}
-use Rattle.mm_frame.specs.{declared.base.{Base.{Base}, Resolved.{Resolved}}, Language.{Base.{BaseView, before, said_at}, Framing.{mandatory_numbers}, Answering.{IsBase}}}
+use Rattle.std.proofs.Common.{◌≡◌, ℕ, zero, suc, ◌<◌, false, cond, Some, Err, List, [], ◌∷◌, length, take, get_or, refl, sym, ◌∙◌, ap, subst, arith, inl, inr, slice_get, count_by}
+use Rattle.std.{proofs.lemmas.{Grind.{common_steps, elements}, List.{take-map, Sums.{sum_by-cons}}, Option.{slice_get-map}}, specs.Option.{option_map}}
+use Rattle.mm_frame.specs.{declared.base.{Base.{Base}, Resolved.{Resolved}}, Language.{Base.{BaseView, before, said_at}, Framing.{mandatory_numbers}}}
 use Rattle.mm_machine.specs.Language.{Frame.{Symbol, Setting}, Expansion.{Step, Saved, NotKnown}, Machine.{AreDecoded, is_save}, Run.{AreDone}}
 use Rattle.mm_machine.specs.{Language.{NamedSteps.{meant, AreSavedBefore, IsSavedWithin, RunSays, actions_mean, saves_by, saves_in}, Verdict.{IsVerdict}}, declared.step.Action.{Action}}
 use Rattle.mm_machine.specs.declared.{step.{ProofStep.{ProofStep}, ProofFault.{ProofFault}}, stepping.RunOutcome.{RunOutcome, TheVariants.{Proved, Fault, Unknown, NotOne, Other}}}
 use Rattle.mm_machine.specs.declared.Verdict.TheVariants.{Wrong}
 use Rattle.mm_verdict.specs.Language.{BaseLabels.{setting_at}, DecodingLaws.{DecodesSurely, MandatoryAreActive}, VerdictAt.{mandatory_labels, AreDoneIn, decoding_at, statement_at}}
-use Rattle.mm_verdict.specs.{Language.{DecodedSteps.{decoded_steps, AreEntries, IsNamedBy, entry_steps}, Citing.{cites}}, Code.{Judged.{IsDecoding, done_by}, DecodedProof.{IsJudgedProof}}}
+use Rattle.mm_verdict.specs.{Language.{DecodedSteps.{decoded_steps, entry_steps}, Citing.{cites}}, Code.{Judged.{IsDecoding, done_by}, DecodedProof.{IsJudgedProof}}}
 use Rattle.mm_verdict.{specs.declared.{decoding.Decoding.{Decoding}, work.Checked.{Checked}}, proofs.lemmas.verdicts.ItemLemmas.{active_usable}}
 use Rattle.mm_machine.specs.declared.step.Action.TheVariants as actions
 
 -- ---- entries
-
-pub named_by : (code : Base) (view : BaseView) (i : ℕ) → IsBase view code → i < length view → (labels : List Resolved) → AreEntries view i labels → All (IsNamedBy code) labels
-named_by code view i base within [] entries = All-nil (IsNamedBy code)
-named_by code view i base within (l ∷ labels) entries = All-cons (IsNamedBy code) l labels (record { view = view; i = i; base = base; within = within; entry = entries.0 }) (named_by code view i base within labels entries.1)
 
 -- no entry is a save
 entry_saves : (view : BaseView) (labels : List Resolved) (k : ℕ) → is_save (get_or (entry_steps view labels) k NotKnown) ≡ false

@@ -1,6 +1,6 @@
 -- What holds of every element of a list, by recursion.
-use Rattle.std.{specs.List.{AllByRecursion}, proofs.{Common.{Bool, List, Some, [], arith, filter, map, slice_get, subst, suc, zero, ℕ, ◌++◌, ◌∷◌, ◌≡◌}, lemmas.Bool.{cases_Bool}}}
-use Rattle.std.proofs.lemmas.Grind.{common_steps}
+use Rattle.std.{specs.List.{AllByRecursion}, proofs.{Common.{All, Bool, List, Some, [], arith, filter, map, refl, slice_get, subst, suc, zero, ℕ, ◌++◌, ◌∷◌, ◌≡◌}, lemmas.Bool.{cases_Bool}}}
+use Rattle.std.proofs.lemmas.{List.Elements.{All-head, All-tail}, Grind.{common_steps}}
 
 pub all_at : {X : Type 0} (P : X → Type 0) (xs : List X) (n : ℕ) (x : X) → AllByRecursion P xs → slice_get xs n ≡ Some x → P x
 all_at P [] n x a e = cc
@@ -18,3 +18,8 @@ mapped P f (x ∷ xs) all = (all.0, mapped P f xs all.1)
 pub kept_all : {X : Type 0} (P : X → Type 0) (f : X → Bool) (xs : List X) → AllByRecursion P xs → AllByRecursion P (filter f xs)
 kept_all P f [] all = tt
 kept_all P f (x ∷ xs) all = grind (arith, common_steps, cases_Bool (f x), kept_all P f xs all.1) steps 200000
+
+-- functions that agree on each element
+pub map_alike : {X Y : Type 0} (f g : X → Y) (xs : List X) → All (λ x. f x ≡ g x) xs → map f xs ≡ map g xs
+map_alike f g [] all = refl
+map_alike f g (x ∷ xs) all = λ i. All-head (λ x. f x ≡ g x) x xs all i ∷ map_alike f g xs (All-tail (λ x. f x ≡ g x) x xs all) i

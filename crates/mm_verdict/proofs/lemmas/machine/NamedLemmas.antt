@@ -1,145 +1,119 @@
--- What was named so far, when more is named.
-use Rattle.std.proofs.lemmas.{Grind.{common_steps}, Bool.{false≢true}, List.{length-map, length-take-le, take_more, Elements.{All-nil, All-cons}}, Option.{slice_get_within}}
-use Rattle.std.proofs.Common.{◌≡◌, ℕ, zero, suc, ◌<◌, Bool, true, false, Some, List, [], ◌∷◌, ◌++◌, length, map, take, get_or, ◌+◌, if◌then◌else◌, refl, sym, ◌∙◌, ap, subst, arith, length-append}
-use Rattle.std.{proofs.Common.{slice_get, All}, specs.List.{AllZip}}
-use Rattle.mm_verdict.specs.Code.NamedItems.{AreCited, AreKnownOf, AreNamesOf, ArePushed, Grows, IsUseIn, Stays, TakesNothing, masked}
-use Rattle.mm_verdict.specs.Code.{NumberedBase.{ByNames, numbered_frame, numbered_hypothesis, numbered_setting}, Cited.{marked_at}, UsedLabels.{AreUseMarks, AreUsed}}
-use Rattle.mm_verdict.{specs.{Language.DecodedSteps.{AreEntries, IsEntry, entry_step, entry_steps}, declared.known.Known.{Known}}, proofs.lemmas.lists.Members.{before_or_last, kept_at, last_there}}
-use Rattle.mm_verdict.proofs.lemmas.{base.FrameLemmas.{shown_framed}, machine.MarkedLabels.{marked_used}}
-use Rattle.mm_frame.specs.{declared.base.{Base.{Base}, Resolved.{Resolved}}, Language.{Base.{BaseView, is_framed_at, is_shown_at}, Answering.{IsBaseBy}}}
-use Rattle.mm_machine.specs.Language.{Forms.{AreForms, frames_of}, Frame.{Symbol, Frame, LabelMeaning, Assertion, AreSameFrame}, Renaming.{renamed_meaning}, Numbering.{unnaming}}
-use Rattle.mm_machine.specs.{Language.{NamedSteps.{IsUseWithin, MeansUse, Pushes}, CitedFrames.{range_of}, Lasting.{HoldsLasting, lasting_of}, NumberedSymbols.{by_code}}, declared.forms.Forms.{Forms}}
-use Rattle.mm_machine.specs.declared.{machine.Machine.{Machine}, named.Use.{Use}, step.ProofStep.{ProofStep}, symbol.CodedSymbol.{CodedSymbol}}
+-- What the labels of a proof name, by what a machine has loaded.
+use Rattle.std.proofs.lemmas.{Bool.{false≢true}, List.{length-map, take_more, Elements.{All-nil, All-cons}}, Option.{slice_get-get_or, slice_get-map, slice_get_within}}
+use Rattle.std.proofs.Common.{◌≡◌, ℕ, zero, suc, ◌<◌, ◌≤◌, Bool, true, false, Some, List, [], ◌∷◌, ◌++◌, length, map, take, get_or, ◌+◌, if◌then◌else◌, refl, sym, ◌∙◌, ap, subst, arith, slice_get}
+use Rattle.std.{proofs.Common.{All}, specs.{List.{AllZip}, Option.{option_map}}}
+use Rattle.mm_verdict.specs.Code.NamedItems.{AreCited, AreKnownOf, AreNamesOf, HasItems, IsNamedBy, IsUseIn, IsUseOf, TakesNothing, masked}
+use Rattle.mm_verdict.specs.Code.{NumberedBase.{numbered_frame, numbered_hypothesis, numbered_setting}, Cited.{marked_at}, UsedLabels.{AreUseMarks, AreUsed}}
+use Rattle.mm_verdict.specs.{Language.{DecodedSteps.{AreEntries, IsEntry, entry_step, entry_steps}, Loaded.{AreItemsOf, IsItemOf}}, declared.known.Known.{Known}}
+use Rattle.mm_verdict.proofs.lemmas.{base.FrameLemmas.{shown_framed}, machine.{LoadedLemmas.{item_there}, MarkedLabels.{marked_used}}}
+use Rattle.mm_frame.specs.{declared.base.{Base.{Base}, Resolved.{Resolved}}, Language.{Base.{BaseView, is_framed_at, is_shown_at}, Answering.{IsBase, IsBaseBy}}}
+use Rattle.mm_machine.specs.Language.{Frame.{Symbol, Mandatory, LabelMeaning, Assertion}, Keys.{key_by_number}, Renaming.{renamed_meaning}, Numbering.{unnaming}}
+use Rattle.mm_machine.specs.Language.{NamedSteps.{IsUseWithin, MeansUse, Pushes}, Lasting.{HoldsLasting, cited_frame, lasting_at, lasting_of, lasting_or}, NumberedSymbols.{by_code, by_number}}
+use Rattle.mm_machine.specs.declared.{machine.Machine.{Machine}, named.{Cited.{Cited}, Use.{Use}}, step.ProofStep.{ProofStep}, symbol.{CodedSymbol.{CodedSymbol}, NumberedSymbol.{NumberedSymbol}}}
 use Rattle.mm_frame.specs.declared.base.Resolved.TheVariants as answers
 use Rattle.mm_machine.specs.declared.named.Use.TheVariants as uses
 
--- ---- one more of a list
+-- ---- entries of a table
 
-pub stays_more : (old new : List ℕ) (j : ℕ) → new ≡ old ++ j ∷ [] → Stays old new
-stays_more old new j e n k at = ap (λ w. slice_get w n) e ∙ kept_at old (j ∷ []) n k at
+pub named_by : (code : Base) (view : BaseView) (i : ℕ) → IsBase view code → (labels : List Resolved) → AreEntries view i labels → All (IsNamedBy code i) labels
+named_by code view i base [] entries = All-nil (IsNamedBy code i)
+named_by code view i base (l ∷ labels) entries =
+    All-cons (IsNamedBy code i) l labels (record { view = view; i = i; base = base; within = omega arith; entry = entries.0 }) (named_by code view i base labels entries.1)
 
--- what a list has for each number of another, it has with one more of each
-pub placed_more :
-    {X Y : Type 0} (shown : X → Type 0) (R : Y → X → Type 0) (xs more : List X) (ys new : List Y) (x : X) (y : Y) →
-    length ys ≡ length xs → more ≡ xs ++ x ∷ [] → new ≡ ys ++ y ∷ [] → (shown x → R y x) →
-    ((n : ℕ) (k : X) → slice_get xs n ≡ Some k → shown k → (z : Y) × (slice_get ys n ≡ Some z) × R z k) →
-    (n : ℕ) (k : X) → slice_get more n ≡ Some k → shown k → (z : Y) × (slice_get new n ≡ Some z) × R z k
-placed_more shown R xs more ys new x y count e f right before n k at is = grind (arith, common_steps, before_or_last, kept_at, last_there) steps 200000
-
--- one more assertion
-pub cited_more :
-    (code : Base) (numbers : List ℕ) (j : ℕ) (forms next : Forms CodedSymbol) (frame : Frame) → AreCited code numbers forms → frames_of by_code next ≡ frames_of by_code forms ++ frame ∷ [] →
-    AreForms by_code next → ByNames code (λ names view. is_framed_at view j ≡ true → AreSameFrame frame (numbered_frame names view j)) → AreCited code (numbers ++ j ∷ []) next
-cited_more code numbers j forms next frame are e all same = record {
-  count = omega (arith, ap length e, are.count, length-append numbers (j ∷ []), length-append (frames_of by_code forms) (frame ∷ []));
-  frames = λ names view base n i at framed.
-      placed_more (λ k. is_framed_at view k ≡ true) (λ f k. AreSameFrame f (numbered_frame names view k)) numbers (numbers ++ j ∷ []) (frames_of by_code forms) (frames_of by_code next) j frame
-      are.count refl e (λ f. same names view base f) (λ m k there f. are.frames names view base m k there f) n i at framed;
-  citable = all;
-}
-
--- the place of one more
-pub stands_last : (old new : List ℕ) (n j : ℕ) → new ≡ old ++ j ∷ [] → n ≡ length old → slice_get new n ≡ Some j
-stands_last old new n j e f = ap (λ w. slice_get w n) e ∙ ap (slice_get (old ++ j ∷ [])) f ∙ last_there old j
-
--- one more expression
-pub pushed_more :
-    (code : Base) (numbers : List ℕ) (j : ℕ) (expressions : List (List Symbol)) (e : List Symbol) → ArePushed code numbers expressions →
-    ByNames code (λ names view. is_shown_at view j ≡ true → e ≡ (numbered_hypothesis names view j).expression) → ArePushed code (numbers ++ j ∷ []) (expressions ++ e ∷ [])
-pushed_more code numbers j expressions e are is = record {
-  count = omega (arith, are.count, length-append numbers (j ∷ []), length-append expressions (e ∷ []));
-  each = λ names view base n i at shown.
-      placed_more (λ k. is_shown_at view k ≡ true) (λ e k. e ≡ (numbered_hypothesis names view k).expression) numbers (numbers ++ j ∷ []) expressions (expressions ++ e ∷ []) j e
-      are.count refl refl (λ s. is names view base s) (λ m k there s. are.each names view base m k there s) n i at shown;
-}
+-- up to a number that is not lower
+pub named_up : (code : Base) (i n : ℕ) (label : Resolved) → i ≤ n → IsNamedBy code i label → IsNamedBy code n label
+named_up code i n label l is = record { view = is.view; i = is.i; base = is.base; within = (let w = is.within in omega (arith, l, w)); entry = is.entry }
 
 -- ---- all uses
 
-pub one_grows : (code : Base) (old new : Known) → Grows old new → (u : Use) (l : Resolved) → IsUseIn code old u l → IsUseIn code new u l
-one_grows code old new g (uses.Lasting n) (answers.Hypothesis j) s = g.pushed n j s
-one_grows code old new g (uses.Lasting n) (answers.Assertion j) s = (g.pushed n j s.0, s.1)
-one_grows code old new g (uses.Assertion n) (answers.Assertion j) s = g.cited n j s
-one_grows code old new g uses.Nothing answers.Inactive s = tt
-one_grows code old new g uses.Nothing answers.Unknown s = tt
-one_grows code old new g _ _ s = absurd s
+abbrev Assertions : Type 0
+Assertions = List (Cited NumberedSymbol)
 
-pub uses_grow : (code : Base) (old new : Known) → Grows old new → (all : List Use) (labels : List Resolved) → AllZip (IsUseIn code old) all labels → AllZip (IsUseIn code new) all labels
-uses_grow code old new g [] [] z = tt
-uses_grow code old new g (u ∷ all) (l ∷ labels) z = (one_grows code old new g u l z.0, uses_grow code old new g all labels z.1)
-uses_grow code old new g _ _ z = absurd z
+-- each assertion is at the same place in the other list
+abbrev Stay : Assertions → Assertions → Type 0
+Stay old new = (n : ℕ) (c : Cited NumberedSymbol) → slice_get old n ≡ Some c → slice_get new n ≡ Some c
 
-pub uses_more : (code : Base) (known : Known) (all : List Use) (labels : List Resolved) (u : Use) (l : Resolved) → AllZip (IsUseIn code known) all labels → IsUseIn code known u l
-    → AllZip (IsUseIn code known) (all ++ u ∷ []) (labels ++ l ∷ [])
-uses_more code known [] [] u l z s = (s, tt)
-uses_more code known (v ∷ all) (m ∷ labels) u l z s = (z.0, uses_more code known all labels u l z.1 s)
-uses_more code known _ _ u l z s = absurd z
+one_stays : (code : Base) (lasting : List Mandatory) (old new : Assertions) → Stay old new → (u : Use) (l : Resolved) → IsUseOf code lasting old u l → IsUseOf code lasting new u l
+one_stays code lasting old new stay (uses.Lasting n) (answers.Hypothesis j) s = s
+one_stays code lasting old new stay (uses.Lasting n) (answers.Assertion j) s = s
+one_stays code lasting old new stay (uses.Assertion n) (answers.Assertion j) s = (s.0, stay n s.0 s.1, s.2)
+one_stays code lasting old new stay uses.Nothing answers.Inactive s = tt
+one_stays code lasting old new stay uses.Nothing answers.Unknown s = tt
+one_stays code lasting old new stay _ _ s = absurd s
+
+-- with one more
+pub uses_more : (code : Base) (lasting : List Mandatory) (old new : Assertions) → Stay old new → (all : List Use) (labels : List Resolved) (u : Use) (l : Resolved) →
+    AllZip (IsUseOf code lasting old) all labels → IsUseOf code lasting new u l → AllZip (IsUseOf code lasting new) (all ++ u ∷ []) (labels ++ l ∷ [])
+uses_more code lasting old new stay [] [] u l z s = (s, tt)
+uses_more code lasting old new stay (v ∷ all) (m ∷ labels) u l z s = (one_stays code lasting old new stay v m z.0, uses_more code lasting old new stay all labels u l z.1 s)
+uses_more code lasting old new stay _ _ u l z s = absurd z
 
 -- they are in range
-one_within : (code : Base) (known : Known) (u : Use) (l : Resolved) → IsUseIn code known u l → IsUseWithin (length known.pushed.items) (length known.cited.items) u
-one_within code known (uses.Lasting n) (answers.Hypothesis j) s = slice_get_within known.pushed.items n j s
-one_within code known (uses.Lasting n) (answers.Assertion j) s = slice_get_within known.pushed.items n j s.0
-one_within code known (uses.Assertion n) (answers.Assertion j) s = slice_get_within known.cited.items n j s
-one_within code known uses.Nothing answers.Inactive s = tt
-one_within code known uses.Nothing answers.Unknown s = tt
-one_within code known _ _ s = absurd s
+one_within : (code : Base) (lasting : List Mandatory) (cited : Assertions) (u : Use) (l : Resolved) → IsUseOf code lasting cited u l → IsUseWithin (length lasting) (length cited) u
+one_within code lasting cited (uses.Lasting n) (answers.Hypothesis j) s = s.1
+one_within code lasting cited (uses.Lasting n) (answers.Assertion j) s = s.1
+one_within code lasting cited (uses.Assertion n) (answers.Assertion j) s = slice_get_within cited n s.0 s.1
+one_within code lasting cited uses.Nothing answers.Inactive s = tt
+one_within code lasting cited uses.Nothing answers.Unknown s = tt
+one_within code lasting cited _ _ s = absurd s
 
-uses_within : (code : Base) (known : Known) (all : List Use) (labels : List Resolved) → AllZip (IsUseIn code known) all labels → All (IsUseWithin (length known.pushed.items) (length known.cited.items)) all
-uses_within code known [] labels z = All-nil (IsUseWithin (length known.pushed.items) (length known.cited.items))
-uses_within code known (u ∷ all) [] z = absurd z
-uses_within code known (u ∷ all) (l ∷ labels) z =
-    All-cons (IsUseWithin (length known.pushed.items) (length known.cited.items)) u all (one_within code known u l z.0) (uses_within code known all labels z.1)
+uses_within : (code : Base) (lasting : List Mandatory) (cited : Assertions) (all : List Use) (labels : List Resolved) → AllZip (IsUseOf code lasting cited) all labels → All (IsUseWithin (length lasting) (length cited)) all
+uses_within code lasting cited [] labels z = All-nil (IsUseWithin (length lasting) (length cited))
+uses_within code lasting cited (u ∷ all) [] z = absurd z
+uses_within code lasting cited (u ∷ all) (l ∷ labels) z =
+    All-cons (IsUseWithin (length lasting) (length cited)) u all (one_within code lasting cited u l z.0) (uses_within code lasting cited all labels z.1)
 
 -- what an assertion that takes nothing pushes
 nothing_pushed : (code : Base) (j : ℕ) → TakesNothing code j → (names : List (List ℕ)) (view : BaseView) → IsBaseBy names view code → is_framed_at view j ≡ true → (e : List Symbol) →
     e ≡ (numbered_hypothesis names view j).expression → Pushes (Assertion (numbered_frame names view j)) e
 nothing_pushed code j takes names view base framed e is = let t = takes names view base framed in (t.0, sym is, rw is t.1)
 
--- and mean what the entries mean
-one_means :
-    (code : Base) (known : Known) → AreKnownOf code known → (names : List (List ℕ)) (view : BaseView) (i : ℕ) →
-    IsBaseBy names view code → (u : Use) (l : Resolved) → IsUseIn code known u l → IsEntry view i l →
-    MeansUse (lasting_of by_code known.machine) (frames_of by_code known.forms) (numbered_setting names view i) u (entry_step view l)
-one_means code known is names view i base (uses.Lasting n) (answers.Hypothesis j) s e =
-    let h = is.pushed.each names view base n j s e.0.carrier.shown in
-    (h.0, h.1, subst (λ (m : LabelMeaning). Pushes m h.0) (sym (ap (renamed_meaning (unnaming names)) e.1)) (sym h.2))
-one_means code known is names view i base (uses.Lasting n) (answers.Assertion j) s e =
-    let h = is.pushed.each names view base n j s.0 (shown_framed view j e.1) in
-    (h.0, h.1, subst (λ (m : LabelMeaning). Pushes m h.0) (sym (ap (renamed_meaning (unnaming names)) e.2)) (nothing_pushed code j s.1 names view base e.1 h.0 h.2))
-one_means code known is names view i base (uses.Assertion n) (answers.Assertion j) s e =
-    let h = is.cited.frames names view base n j s e.1 in (h.0, numbered_frame names view j, h.1, ap (renamed_meaning (unnaming names)) e.2, h.2)
-one_means code known is names view i base uses.Nothing answers.Inactive s e = tt
-one_means code known is names view i base uses.Nothing answers.Unknown s e = tt
-one_means code known is names view i base _ _ s e = absurd s
+module _ (code : Base) (lasting : List Mandatory) (cited : Assertions) (items : AreItemsOf code lasting) (names : List (List ℕ)) (view : BaseView) (base : IsBaseBy names view code) where
+  -- the expression that a use pushes
+  pushed : (n j : ℕ) → n ≡ j → n < length lasting → is_shown_at view j ≡ true →
+      (e : List Symbol) × (slice_get (map (λ h. h.expression) lasting) n ≡ Some e) × (e ≡ (numbered_hypothesis names view j).expression)
+  pushed n j same l shown =
+      let h = lasting_or lasting n in (
+        h.expression,
+        slice_get-map (λ (h : Mandatory). h.expression) lasting n ∙ ap (option_map (λ (h : Mandatory). h.expression)) (slice_get-get_or lasting n _ l),
+        ap (λ h. h.expression) (subst (λ m. IsItemOf code m h) same (item_there code lasting items n l) names view base shown),
+      )
 
-uses_mean :
-    (code : Base) (known : Known) → AreKnownOf code known → (names : List (List ℕ)) (view : BaseView) (i : ℕ) →
-    IsBaseBy names view code → (all : List Use) (labels : List Resolved) → AllZip (IsUseIn code known) all labels → AreEntries view i labels →
-    AllZip (MeansUse (lasting_of by_code known.machine) (frames_of by_code known.forms) (numbered_setting names view i)) all (entry_steps view labels)
-uses_mean code known is names view i base [] [] z e = tt
-uses_mean code known is names view i base (u ∷ all) (l ∷ labels) z e = (one_means code known is names view i base u l z.0 e.0, uses_mean code known is names view i base all labels z.1 e.1)
-uses_mean code known is names view i base _ _ z e = absurd z
+  -- and they mean what the entries mean
+  one_means : (i : ℕ) (u : Use) (l : Resolved) → IsUseOf code lasting cited u l → IsEntry view i l →
+      MeansUse (map (λ h. h.expression) lasting) (map (cited_frame by_number lasting) cited) (numbered_setting names view i) u (entry_step view l)
+  one_means i (uses.Lasting n) (answers.Hypothesis j) s e =
+      let h = pushed n j s.0 s.1 e.0.carrier.shown in
+      (h.0, h.1, subst (λ (m : LabelMeaning). Pushes m h.0) (sym (ap (renamed_meaning (unnaming names)) e.1)) (sym h.2))
+  one_means i (uses.Lasting n) (answers.Assertion j) s e =
+      let h = pushed n j s.0 s.1 (shown_framed view j e.1) in
+      (h.0, h.1, subst (λ (m : LabelMeaning). Pushes m h.0) (sym (ap (renamed_meaning (unnaming names)) e.2)) (nothing_pushed code j s.2 names view base e.1 h.0 h.2))
+  one_means i (uses.Assertion n) (answers.Assertion j) s e =
+      let frame = cited_frame by_number lasting in
+      (frame s.0, numbered_frame names view j, slice_get-map frame cited n ∙ ap (option_map frame) s.1, ap (renamed_meaning (unnaming names)) e.2, s.2 names view base e.1)
+  one_means i uses.Nothing answers.Inactive s e = tt
+  one_means i uses.Nothing answers.Unknown s e = tt
+  one_means i _ _ s e = absurd s
+
+  uses_mean : (i : ℕ) (all : List Use) (labels : List Resolved) → AllZip (IsUseOf code lasting cited) all labels → AreEntries view i labels →
+      AllZip (MeansUse (map (λ h. h.expression) lasting) (map (cited_frame by_number lasting) cited) (numbered_setting names view i)) all (entry_steps view labels)
+  uses_mean i [] [] z e = tt
+  uses_mean i (u ∷ all) (l ∷ labels) z e = (one_means i u l z.0 e.0, uses_mean i all labels z.1 e.1)
+  uses_mean i _ _ z e = absurd z
 
 -- what is known names the labels
-pub names_of : (code : Base) (known : Known) (labels : List Resolved) → AreKnownOf code known → AllZip (IsUseIn code known) known.uses.items labels → AreNamesOf code labels known
-names_of code known labels is stand = record {
+pub names_of : (code : Base) (known : Known) (labels : List Resolved) → AreKnownOf code known → AreCited code known → AllZip (IsUseIn code known) known.uses.items labels → AreNamesOf code labels known
+names_of code known labels is cited stand = record {
   of_base = is;
-  within = subst (λ n. All (IsUseWithin known.machine.lasting n) known.uses.items) (sym is.cited.count ∙ length-map known.forms.forms.items _)
-      (subst (λ n. All (IsUseWithin n (length known.cited.items)) known.uses.items) (sym is.pushed.count ∙ lasting_count known.machine is.holds) (uses_within code known known.uses.items labels stand));
-  means = λ names view base i entries. uses_mean code known is names view i base known.uses.items labels stand entries;
+  cited = cited;
+  within = subst (λ n. All (IsUseWithin n (length known.cited.items)) known.uses.items) (length-map known.machine.lasting.patterns.items (lasting_at (map by_code known.machine.symbols.items)))
+      (uses_within code (lasting_of by_code known.machine) known.cited.items known.uses.items labels stand);
+  means = λ names view base i entries. uses_mean code (lasting_of by_code known.machine) known.cited.items is.items names view base i known.uses.items labels stand entries;
 }
-  where
-    lasting_count : (m : Machine CodedSymbol) → HoldsLasting m → length (lasting_of by_code m) ≡ m.lasting
-    lasting_count m holds = length-take-le m.lasting _ (omega (arith, holds.count, length-map m.saved.items (λ e. range_of e.start e.end (map by_code m.symbols.items))))
 
 -- what is known stays if the lasting expressions stay
-pub ran : (code : Base) (old new : Known) → AreKnownOf code old → HoldsLasting new.machine → lasting_of by_code new.machine ≡ lasting_of by_code old.machine → new.pushed ≡ old.pushed → new.cited ≡ old.cited
-    → new.forms ≡ old.forms → AreKnownOf code new
-ran code old new is holds same pushed cited forms = record {
-  holds = holds;
-  pushed = rw (pushed, same) is.pushed;
-  named = rw cited is.named;
-  cited = rw (cited, forms) is.cited;
-}
+pub ran : (code : Base) (old new : Machine CodedSymbol) → HasItems code old → HoldsLasting by_code key_by_number new → lasting_of by_code new ≡ lasting_of by_code old → HasItems code new
+ran code old new is holds same = record { holds = holds; items = rw same is.items }
 
 -- ---- labels with marks
 

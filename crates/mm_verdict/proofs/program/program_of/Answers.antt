@@ -1,6 +1,6 @@
 use Rattle.std.proofs.{Common.{sym, ℕ, List, ◌≡◌, true}, lemmas.Result.{err_from_is_err_and}}
 use Rattle.mm_verdict.specs.{Language.{DecodedSteps.{decoded_steps, entry_steps}, ReadIn.{IsReadIn}}, Code.{Judged.{IsDecoding}, NamedItems.{masked}}}
-use Rattle.mm_verdict.proofs.lemmas.{base.SaysLemmas.{read_at, theorem_at}, decoding.DecodedProofs.{decoded_saved, named_by}, machine.NamedLemmas.{masked_used}}
+use Rattle.mm_verdict.proofs.lemmas.{base.SaysLemmas.{read_at, theorem_at}, decoding.DecodedProofs.{decoded_saved}, machine.NamedLemmas.{masked_used, named_by}}
 use Rattle.mm_verdict.proofs.{lemmas.machine.UsedLemmas.{part_entries, part_means}, program.program_of.Goals.{In_ok-decoding}}
 use Rattle.mm_frame.specs.Language.Base.{BaseView, is_proof_at}
 use Rattle.mm_verdict.proofs.program.program_of.Goals as goal
@@ -26,9 +26,15 @@ name_all-requires c =
     let is = the_decoding (goal.at.name_all-requires c).In_ok-decoding c.requires.0 has.0 has.1 has.3 in
     record {
       known = c.new-known.ensures c.args.base.now;
-      labels = rw c.deref.ensures.value (named_by c.args.base.now has.0 c.args.i is.theorem.base has.2 c.in_ok-decoding.decoding.labels.items is.entries);
+      labels = rw c.deref.ensures.value (named_by c.args.base.now has.0 c.args.i is.theorem.base c.in_ok-decoding.decoding.labels.items is.entries);
       marks = rw (c.deref.ensures.value, c.deref-2.ensures.value) c.in_ok-decoding.decoding.marked.count;
     }
+
+pub returns-clause-numbers : goal.returns-clause-numbers
+returns-clause-numbers c k d l = (c.in_ok-name_all.ensures.cited k d l).item
+
+pub returns-clause-citable : goal.returns-clause-citable
+returns-clause-citable c k d l = (c.in_ok-name_all.ensures.cited k d l).citable
 
 pub returns-clause-saved : goal.returns-clause-saved
 returns-clause-saved c =

@@ -1,6 +1,6 @@
 use Rattle.std.proofs.{Common.{◌++◌, ◌∷◌, [], List, map, sym, ◌∙◌, ap, arith, refl, subst}, lemmas.List.{map-append}}
 use Rattle.mm_machine.{specs.{Language.Frame.{Symbol}, declared.pattern.Entry.{Entry}, Code.Flat.{read, read_all, IsEntryWithin}}, proofs.lemmas.machine.FlatLemmas.{mapped_at}}
-use Rattle.mm_machine.proofs.lemmas.machine.StackLemmas.{whole_pushed, lasting_held}
+use Rattle.mm_machine.proofs.lemmas.machine.StackLemmas.{whole_pushed}
 use Rattle.mm_machine.proofs.machine.Machine.push_saved.Goals as goal
 
 pub returns : goal.returns
@@ -21,7 +21,7 @@ returns g c =
       whole = (
         whole_pushed n machine.kept machine.stack.items machine.saved.items c.push.new.self.items new whole (within.0, omega (arith, whole.kept_within, within.1)) refl c.in_ok-push.ensures.items,
         c.requires.whole.1,
-        lasting_held machine (record machine { stack = c.push.new.self }) c.requires.whole.2 refl refl refl c.requires.whole.2.count c.requires.whole.2.below,
+        record { below = c.requires.whole.2.below; numbered = c.requires.whole.2.numbered; patterns = c.requires.whole.2.patterns; given = c.requires.whole.2.given },
         c.requires.whole.3,
       );
       lasting = refl;

@@ -1,6 +1,7 @@
-use Rattle.std.proofs.{Common.{◌≡◌, ◌+◌, ◌-◌, ◌++◌, ◌∷◌, [], ◌≤◌, ℕ, length, map, take, drop, refl, ◌∙◌, ap, subst, arith, slice_get, Vec, Global}, lemmas.List.{length-map, length-take, length-drop}}
-use Rattle.mm_machine.{specs.{Language.Frame.{Symbol}, declared.{machine.Machine.{Machine}, pattern.Entry.{Entry}}}, proofs.lemmas.machine.RoomLemmas.{put_behind, written_back}}
-use Rattle.mm_machine.proofs.lemmas.machine.StackLemmas.{ends_of, front_kept, replaced_by, whole_replaced, lasting_held}
+use Rattle.std.proofs.Common.{◌≡◌, ◌+◌, ◌-◌, ◌++◌, ◌∷◌, [], ◌≤◌, ℕ, length, map, take, drop, refl, sym, ◌∙◌, ap, subst, arith, slice_get, Vec, Global}
+use Rattle.std.proofs.lemmas.List.{length-map, length-take, length-drop, take-take}
+use Rattle.mm_machine.{specs.{Language.Frame.{Symbol}, declared.{machine.Machine.{Machine}, pattern.{Entry.{Entry}, Given.{Given}}}}, proofs.lemmas.machine.RoomLemmas.{put_behind, written_back}}
+use Rattle.mm_machine.proofs.lemmas.machine.{LastingLemmas.{expressions_stay, patterns_kept}, StackLemmas.{ends_of, front_kept, replaced_by, whole_replaced}}
 use Rattle.mm_machine.proofs.machine.Machine.replace.Goals.{Joined-start-self, In_ok-put_entry, then-start-self+then-count-start+in_ok-move_down, else-start-self}
 use Rattle.mm_machine.proofs.machine.Machine.replace.Goals as goal
 
@@ -10,7 +11,7 @@ record Placed {S : Type 0} (means : S → Symbol) (old new : Machine S) (floor c
   saved : new.saved ≡ old.saved
   kept : new.kept ≡ old.kept
   lasting : new.lasting ≡ old.lasting
-  ground : new.ground ≡ old.ground
+  given : new.given ≡ old.given
   first : floor ≤ start
   last : start ≤ old.top
   long : length new.symbols.items ≡ length old.symbols.items
@@ -39,7 +40,7 @@ placed g c =
             saved = ap (λ (x : Machine g.row.S.Denot). x.saved) w.self-is;
             kept = ap (λ (x : Machine g.row.S.Denot). x.kept) w.self-is;
             lasting = ap (λ (x : Machine g.row.S.Denot). x.lasting) w.self-is;
-            ground = ap (λ (x : Machine g.row.S.Denot). x.ground) w.self-is;
+            given = ap (λ (x : Machine g.row.S.Denot). x.given) w.self-is;
             first = omega (arith, w.start-is);
             last = omega (arith, w.start-is, c.floor_of-floor.ensures.within);
             long = ap length is ∙ k.count ∙ ap length now;
@@ -51,7 +52,7 @@ placed g c =
         saved = ap (λ (x : Machine g.row.S.Denot). x.saved) w.self-is;
         kept = ap (λ (x : Machine g.row.S.Denot). x.kept) w.self-is;
         lasting = ap (λ (x : Machine g.row.S.Denot). x.lasting) w.self-is;
-        ground = ap (λ (x : Machine g.row.S.Denot). x.ground) w.self-is;
+        given = ap (λ (x : Machine g.row.S.Denot). x.given) w.self-is;
         first = omega (arith, w.start-is, c.floor_of-floor.ensures.within);
         last = omega (arith, w.start-is);
         long = ap (λ (x : Machine g.row.S.Denot). length x.symbols.items) w.self-is;
@@ -59,6 +60,16 @@ placed g c =
         moved = ap (λ (x : Machine g.row.S.Denot). take count (drop c.if-start-self.start (map m x.symbols.items))) w.self-is ∙ ap (λ n. take count (drop n (map m old.items))) w.start-is;
       }
     ]
+
+-- the symbols of the lasting expressions stay
+below : (g : _) (c : Joined-start-self g) → take c.args.self.now.lasting.ground (map g.S.Symbol.means c.if-start-self.self.symbols.items)
+    ≡ take c.args.self.now.lasting.ground (map g.S.Symbol.means c.args.self.now.symbols.items)
+below g c =
+    let m = g.S.Symbol.means in
+    let ground = c.args.self.now.lasting.ground in
+    let f = c.floor_of-floor.result in
+    let low : ground ≤ f = omega (arith, c.requires.whole.3, c.floor_of-floor.ensures.saved) in
+    sym (take-take ground f (map m c.if-start-self.self.symbols.items) low) ∙ ap (take ground) (placed g c).front ∙ take-take ground f (map m c.args.self.now.symbols.items) low
 
 -- the entry that is put
 abbrev entry : ℕ → ℕ → ℕ → Entry
@@ -81,9 +92,19 @@ returns-clause-whole g c =
     let whole = whole_replaced self.top m self.kept f c.args.below self.stack.items self.saved.items c.put_entry.new.stack.items (entry start c.args.count f) c.requires.whole.0 c.requires.in_range c.floor_of-floor.ensures.saved
     (omega arith) (λ i e o at. c.floor_of-floor.ensures.stays i e o (ap (λ w. slice_get w i) c.deref.ensures.value ∙ at)) (next g d.In_ok-put_entry p.stack) (omega arith, omega arith) refl in
     let holds = c.requires.whole.2 in
-    let new = record c.if-start-self.self { stack = c.put_entry.new.stack; top = m } in
-    let held = lasting_held self new holds p.lasting p.ground (ap (λ (x : Vec Entry Global). take self.lasting x.items) p.saved) (rw p.saved holds.count) (omega (arith, p.long, holds.below)) in
-    (rw (p.kept, p.saved) whole, omega (arith, p.long, c.requires.room), held, omega (arith, p.kept, p.ground, c.requires.whole.3))
+    let l = self.lasting in
+    let symbols = map g.S.Symbol.means c.if-start-self.self.symbols.items in
+    let variables = map g.S.Symbol.means l.variables.all.items in (
+      rw (p.kept, p.saved) whole,
+      omega (arith, p.long, c.requires.room),
+      rw p.lasting (record {
+        below = omega (arith, p.long, holds.below);
+        numbered = holds.numbered;
+        patterns = patterns_kept l.ground (map g.S.Symbol.means self.symbols.items) symbols variables l.slots.items l.patterns.items (below g d.Joined-start-self) holds.patterns;
+        given = ap (λ (x : Vec Given Global). length x.items) p.given ∙ holds.given;
+      }),
+      rw (p.kept, p.lasting) c.requires.whole.3,
+    )
 
 pub returns-clause-stack : goal.returns-clause-stack
 returns-clause-stack g c =
@@ -123,4 +144,9 @@ floor_of-floor-requires-clause-whole g c =
     })
 
 pub returns-clause-lasting : goal.returns-clause-lasting
-returns-clause-lasting g c = (placed g (goal.at.returns-clause-lasting g c).Joined-start-self).lasting
+returns-clause-lasting g c =
+    let m = g.S.Symbol.means in
+    let d = (goal.at.returns-clause-lasting g c).Joined-start-self in
+    let l = c.args.self.now.lasting in
+    rw (placed g d).lasting (expressions_stay l.ground (map m c.args.self.now.symbols.items) (map m c.if-start-self.self.symbols.items) (map m l.variables.all.items) l.slots.items l.patterns.items
+    (below g d) c.requires.whole.2.patterns)

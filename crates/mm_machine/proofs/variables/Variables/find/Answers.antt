@@ -1,5 +1,5 @@
 use Rattle.std.proofs.{Common.{◌≡◌, ◌<◌, map, sym, ◌∙◌, ap, arith, Some, length, slice_get, slice_index}, lemmas.{List.{get_or_default, length-map}, Option.{slice_get_within, same_Some}}}
-use Rattle.mm_machine.{specs.Code.PairClause.{home, home_at}, proofs.lemmas.machine.{FlatLemmas.{mapped_get}, MarkLemmas.{marked_found}}}
+use Rattle.mm_machine.{specs.Language.Keys.{home, home_at}, proofs.lemmas.machine.{FlatLemmas.{mapped_get}, MarkLemmas.{marked_found}}}
 use Rattle.mm_machine.proofs.variables.Variables.find.Goals as goal
 
 pub returns-then-place-len : goal.returns-then-place-len

@@ -1,5 +1,5 @@
 use Rattle.std.proofs.{Common.{◌≡◌, ◌++◌, ◌∷◌, [], map, sym, ◌∙◌, ap, length, subst, slice_get, slice_set}, lemmas.List.{length-map, map-append}}
-use Rattle.mm_machine.{specs.Code.PairClause.{AreNumbered, home, home_at}, proofs.lemmas.machine.{ApartLemmas.{last_at}, MarkLemmas.{numbered_more}}}
+use Rattle.mm_machine.{specs.Language.Keys.{AreNumbered, home, home_at}, proofs.lemmas.machine.{ApartLemmas.{last_at}, MarkLemmas.{numbered_more}}}
 use Rattle.mm_machine.proofs.variables.Variables.number.Goals as goal
 
 -- the variables with one more

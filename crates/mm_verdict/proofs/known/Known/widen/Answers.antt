@@ -1,14 +1,12 @@
-use Rattle.std.proofs.Common.{◌∙◌, ap, length}
+use Rattle.mm_machine.specs.Language.{Lasting.{lasting_of}, NumberedSymbols.{by_code}}
+use Rattle.mm_verdict.proofs.lemmas.machine.LoadedLemmas.{items_kept}
 use Rattle.mm_verdict.proofs.known.Known.widen.Goals as goal
+
+pub widen-requires : goal.widen-requires
+widen-requires c = c.requires
 
 pub returns : goal.returns
 returns c base is = record {
-  holds = c.widen.ensures.holds is.holds;
-  pushed = rw c.widen.ensures.lasting.1 is.pushed;
-  named = is.named;
-  cited = record {
-    count = ap length c.widen-2.ensures.frames ∙ is.cited.count;
-    frames = rw (← c.widen-2.ensures.frames) at is.cited.frames;
-    citable = c.widen-2.ensures.forms is.cited.citable;
-  };
+  holds = c.widen.ensures.holds;
+  items = items_kept base (lasting_of by_code c.args.self.now.machine) _ is.items c.widen.ensures.lasting;
 }

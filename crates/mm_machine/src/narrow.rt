@@ -1,0 +1,17 @@
+//! Numbers in four bytes.
+
+ghost use Rattle.std.specs.Prelude.{◌≡◌, IfOk};
+
+use std::alloc::AllocError;
+
+/// A number in four bytes. A larger one is refused as if there were no memory for what it counts: the symbols of a base, its
+/// slots, and the names of its variables. Files have 4,294,967,295 bytes at most, all together, and each of these takes two or
+/// more, so no base that is made of files has so many.
+pub fn narrow(number: usize) -> Result<u32, AllocError>
+    ensures { IfOk result (λ narrow. narrow ≡ number) }
+{
+    if number > 4_294_967_295 {
+        return Err(AllocError);
+    }
+    Ok(number as u32)
+}
