@@ -1,6 +1,6 @@
 //! Reads the items of files with the help of an older base, which knows most of them.
 
-ghost use Rattle.std.specs.Prelude.{◌≡◌, ◌<◌, ◌∷◌, ◌++◌, ℕ, List, [], All, IfOk, IfSome, IsTrue, MatchBool, OnOk, true, length};
+ghost use Rattle.std.specs.Prelude.{◌≡◌, ◌<◌, ◌∷◌, ◌++◌, ℕ, List, [], All, IfOk, IfSome, IsTrue, OnOk, true, length};
 ghost use Rattle.std.specs.List.{AllZip};
 ghost use Rattle.mm_store.specs.Language.FilesView.{FilesView};
 ghost use Rattle.mm_store.specs.Language.FileFacts.{CanBeRead};
@@ -11,7 +11,6 @@ ghost use Rattle.mm_statement.specs.Language.Statement.{Says, kind_of};
 ghost use Rattle.mm_machine.specs.Language.Names.{Begins};
 ghost use Rattle.mm_frame.specs.Language.Answering.{IsBase, IsBaseBy};
 ghost use Rattle.mm_frame.specs.Language.Older.{HasOlder};
-ghost use Rattle.mm_frame.specs.Code.Numbers.{AreNameNumbers};
 ghost use Rattle.mm_frame.specs.Code.KeptBase.{IsDraft, IsDraftLater};
 ghost use Rattle.mm_frame.specs.Code.KeptScope.{uses_numbers};
 ghost use Rattle.mm_frame.specs.Code.KnownItem.{IsAgain, IsKnownItem, IsSoundAgain, numbers_of};

@@ -34,7 +34,7 @@ pub struct Assertions {
     /// The lists of active pairs.
     pub pair_lists: PairLists,
     /// The number of the list of all active pairs, for each sound `$p`, by its number; none for any other item.
-    pub pair_numbers: Sparse<usize>,
+    pub pair_numbers: Sparse,
     /// What the frames are made with.
     pub room: FrameRoom,
     /// Which lists of an older base are taken over.
@@ -91,7 +91,7 @@ fn keep_frame(
 fn keep_pairs(
     alloc: Global,
     pair_lists: &mut PairLists,
-    pairs: &mut Sparse<usize>,
+    pairs: &mut Sparse,
     disjoints: &[usize],
     expressions: &Expressions,
     proof: bool,
@@ -104,11 +104,11 @@ fn keep_pairs(
         → AreRows (TellsPairs all pair_lists.old) said pairs.old → AreRows (TellsPairs all pair_lists.new) (said ++ item ∷ []) pairs.new) }
 {
     if !proof {
-        pairs.pass()?;
+        pairs.add(None)?;
         return Ok(());
     }
     let k = pair_lists.list_of(alloc, disjoints, expressions)?;
-    pairs.add(k)?;
+    pairs.add(Some(k))?;
     Ok(())
 }
 

@@ -20,7 +20,7 @@ ghost use Rattle.mm_frame.specs.declared.base.Resolved.TheVariants as answers;
 use crate::frame::Frame;
 use crate::judge::FrameFault;
 use crate::parts::BaseParts;
-use crate::sparse::{element_at, number_at};
+use crate::shared::element_at;
 use mm_machine::NumberedSymbol;
 use mm_store::Item;
 use std::marker::Model;
@@ -202,7 +202,7 @@ impl Base {
             → IfSome result (λ pairs. All (IsPairNumbered names) pairs.now) }
         ensures order { (base : BaseView) → IsBase base self.now → IfSome result (λ pairs. AreInOrder pairs.now) }
     {
-        match number_at(&self.parts.pair_numbers, i) {
+        match self.parts.pair_numbers.at(i) {
             Some(k) => Some(self.parts.pair_lists.list(k)),
             None => None,
         }
@@ -211,7 +211,7 @@ impl Base {
     /// A number that sound `$p` have in common if they share their list of active pairs. Any number will do: whether they
     /// share it is asked for.
     pub(crate) fn list_guess(&self, i: usize) -> usize {
-        number_at(&self.parts.pair_numbers, i).unwrap_or(0)
+        self.parts.pair_numbers.at(i).unwrap_or(0)
     }
 
     /// Whether two sound `$p` share their list of active pairs, as neighbours often do. Where they do not, they may still
@@ -220,7 +220,7 @@ impl Base {
         ensures { (base : BaseView) → IsBase base self.now → is_proof_at base i ≡ true → is_proof_at base j ≡ true
             → IsTrue result → AreSamePairs (active_pairs (before base i)) (active_pairs (before base j)) }
     {
-        number_at(&self.parts.pair_numbers, i) == number_at(&self.parts.pair_numbers, j)
+        self.parts.pair_numbers.at(i) == self.parts.pair_numbers.at(j)
     }
 
     /// The number of the sound item that has a label, if one has it, active or not.

@@ -6,7 +6,7 @@ ghost use Rattle.mm_frame.specs.Code.KeptFrames.{AddsEqual, AddsFrame, AddsSame,
 use crate::frame::Frame;
 use crate::guesses::ListGuesses;
 use crate::shared::Shared;
-use crate::sparse::{Sparse, number_at};
+use crate::sparse::Sparse;
 use crate::symbol::same_pairs;
 use std::alloc::{AllocError, Global};
 
@@ -20,7 +20,7 @@ pub struct Frames {
     /// The frame of each sound `$a` and `$p`, by its number; none for any other item.
     pub kept: Shared<Frame>,
     /// For each of these the count of items up to the last `$d` that is active there: 0 if none is.
-    pub reaches: Sparse<usize>,
+    pub reaches: Sparse,
     /// The number of an item that may have such a frame.
     guesses: ListGuesses,
 }
@@ -59,7 +59,7 @@ impl Frames {
         ensures { OnOk result (AddsFrame self.old self.new None None) }
     {
         self.kept.pass()?;
-        self.reaches.pass()
+        self.reaches.add(None)
     }
 
     /// The number of an item whose frame has these hypotheses, and was made for this count of items up to the last active `$d`,
@@ -71,7 +71,7 @@ impl Frames {
             .guesses
             .guess(self.guesses.place_of_numbers(hypotheses, reach));
         let frame = self.kept.at(number)?;
-        let found = number_at(&self.reaches, number)?;
+        let found = self.reaches.at(number)?;
         if found == reach && has_hypotheses(frame, hypotheses) {
             Some(number)
         } else {
@@ -102,7 +102,7 @@ impl Frames {
         match self.find_same(hypotheses, reach) {
             Some(number) => {
                 self.kept.add_again(number)?;
-                self.reaches.add(reach)?;
+                self.reaches.add(Some(reach))?;
                 Ok(true)
             }
             None => Ok(false),
@@ -129,6 +129,6 @@ impl Frames {
         let place = self.guesses.place_of_numbers(&frame.hypotheses, reach);
         self.guesses.keep(place, self.kept.count());
         self.keep(frame)?;
-        self.reaches.add(reach)
+        self.reaches.add(Some(reach))
     }
 }

@@ -1,6 +1,6 @@
 //! The lists of active pairs, each made from that of the outer `$d`.
 
-ghost use Rattle.std.specs.Prelude.{◌≡◌, ◌<◌, ◌≤◌, ◌+◌, ◌-◌, ◌++◌, ℕ, List, [], OnOk, IfOk, IfSome, IsTrue, All, Contains, length, map, take};
+ghost use Rattle.std.specs.Prelude.{◌≡◌, ◌<◌, ◌≤◌, ◌+◌, ◌-◌, ◌++◌, ℕ, List, [], OnOk, IfOk, IfSome, IsTrue, Contains, length, map, take};
 ghost use Rattle.std.specs.List.{flat_map};
 ghost use Rattle.mm_statement.specs.Language.Item as meant;
 ghost use Rattle.mm_frame.specs.Language.Sound.{AreSound};
@@ -9,7 +9,7 @@ ghost use Rattle.mm_frame.specs.Language.Framing.{active_pairs};
 ghost use Rattle.mm_frame.specs.Code.LastItems.{is_disjoint_item};
 ghost use Rattle.mm_frame.specs.Language.Scope.{active_numbers};
 ghost use Rattle.mm_frame.specs.Code.KeptSymbols.{AreSymbols, expression_kept};
-ghost use Rattle.mm_machine.specs.Language.NumberedSymbols.{AreInOrder, AreSamePairsRead};
+ghost use Rattle.mm_machine.specs.Language.NumberedSymbols.{AreSamePairsRead};
 ghost use Rattle.mm_frame.specs.Code.KeptPairLists.{AreFrontNumbers, pairs_among, with_low_first};
 ghost use Rattle.mm_frame.specs.Code.KeptSortedLists.{HasEach};
 

@@ -23,5 +23,5 @@ pub struct BaseParts {
     /// The lists of active pairs.
     pub pair_lists: PairLists,
     /// The number of the list of all active pairs, for each sound `$p`, by its number; none for any other item.
-    pub pair_numbers: Sparse<usize>,
+    pub pair_numbers: Sparse,
 }

@@ -1,10 +1,10 @@
 //! What some items have, and others do not, where several items can have the same.
 
-ghost use Rattle.std.specs.Prelude.{◌≡◌, ◌∷◌, ◌++◌, [], Some, None, IfOk, OnOk, is_some};
+ghost use Rattle.std.specs.Prelude.{◌≡◌, ◌∷◌, ◌++◌, [], Some, None, IfOk, OnOk, is_some, slice_get};
 ghost use Rattle.std.specs.Option.{option_map};
 ghost use Rattle.mm_frame.specs.Code.KeptSparse.{value_kept};
 
-use crate::sparse::{Sparse, element_at, number_at};
+use crate::sparse::Sparse;
 use std::alloc::{AllocError, Global};
 use std::marker::Model;
 
@@ -15,7 +15,14 @@ use std::marker::Model;
 pub struct Shared<T> {
     values: Vec<T>,
     /// For each item that has a value, where it is.
-    places: Sparse<usize>,
+    places: Sparse,
+}
+
+/// The element at a place of a list, if there is such a place.
+pub fn element_at<T>(list: &[T], i: usize) -> Option<&T>
+    ensures { option_map (λ element. element.now) result ≡ slice_get list.now i }
+{
+    list.get(i)
 }
 
 impl<T> Model for Shared<T> {
@@ -51,7 +58,7 @@ impl<T: Drop> Shared<T> {
     pub fn at(&self, number: usize) -> Option<&T>
         ensures { option_map (λ value. value.now) result ≡ value_kept self.now number }
     {
-        let place = number_at(&self.places, number)?;
+        let place = self.places.at(number)?;
         element_at(&self.values, place)
     }
 
@@ -68,23 +75,21 @@ impl<T: Drop> Shared<T> {
     {
         let place = self.values.len();
         self.values.push(value)?;
-        self.places.add(place)
+        self.places.add(Some(place))
     }
 
     /// Adds one more item, which has what the one with this number has. Out of memory changes nothing.
     pub fn add_again(&mut self, number: usize) -> Result<(), AllocError>
         ensures { OnOk result (self.new ≡ self.old ++ value_kept self.old number ∷ []) }
     {
-        match number_at(&self.places, number) {
-            Some(place) => self.places.add(place),
-            None => self.places.pass(),
-        }
+        let place = self.places.at(number);
+        self.places.add(place)
     }
 
     /// Adds one more item, which has no value. Out of memory changes nothing.
     pub fn pass(&mut self) -> Result<(), AllocError>
         ensures { OnOk result (self.new ≡ self.old ++ None ∷ []) }
     {
-        self.places.pass()
+        self.places.add(None)
     }
 }

@@ -5,7 +5,7 @@ ghost use Rattle.mm_machine.specs.Language.NumberedSymbols.{AreInOrder};
 ghost use Rattle.mm_frame.specs.Code.KeptSortedLists.{HasBoth, HasSame, IsJoined, IsOfBoth, IsThere, KeepsAll, list_at};
 
 use crate::guesses::ListGuesses;
-use crate::sparse::element_at;
+use crate::shared::element_at;
 use crate::symbol::same_pairs;
 use mm_machine::NumberedSymbol;
 use std::alloc::{AllocError, Global};

@@ -1,107 +1,111 @@
-//! What some items have, and others do not.
+//! Numbers that some items have, and others do not.
 
-ghost use Rattle.std.specs.Prelude.{◌≡◌, ◌∷◌, ◌++◌, [], Some, None, IfOk, OnErr, OnOk, is_some, slice_get};
-ghost use Rattle.std.specs.Option.{option_map};
-ghost use Rattle.mm_frame.specs.Code.KeptSparse.{value_kept};
+ghost use Rattle.std.specs.Prelude.{◌≡◌, ◌<◌, ◌∷◌, ◌++◌, [], IfNone, IfOk, IfSome, IsSomeAnd, OnErr, OnOk, is_some};
+ghost use Rattle.mm_frame.specs.Code.KeptSparse.{number_of, value_kept};
 
-use crate::counts::{Counts, ListPart};
 use std::alloc::{AllocError, Global};
 use std::marker::Model;
 
-/// At the beginning there is room for the values of one in this many items.
-const VALUE_SHARE: usize = 3;
+/// The largest number that is kept in 32 bits.
+const MOST_NARROW: usize = 4_294_967_294;
 
-/// A value of each of some items, by the numbers of all items from 0. The values are in one list; for an item that has
-/// none, only a number is kept.
+/// A number of each of some items, by the numbers of all items from 0.
 ///
-/// To add one more item takes constant time on the average, and so does a look at an item.
+/// An item has 32 bits as long as the numbers fit, and full width from the first one on that does not. To add one more item
+/// takes constant time on the average, and so does a look at an item.
 #[derive(Drop)]
-pub struct Sparse<T> {
-    values: Vec<T>,
-    /// For each item, how many values there are up to its own.
-    ends: Counts,
+pub struct Sparse {
+    /// For each item before the first whose number does not fit one more than its number, or 0 if it has none.
+    narrow: Vec<u32>,
+    /// The numbers of that item and of all after it.
+    wide: Vec<Option<usize>>,
 }
 
-impl<T> Model for Sparse<T> {
-    ghost use Rattle.std.specs.Prelude.{List, Option};
+impl Model for Sparse {
+    ghost use Rattle.std.specs.Prelude.{ℕ, List, Option};
 
-    ghost Value = { List (Option T) };
+    ghost Value = { List (Option ℕ) };
 
-    ghost use Rattle.mm_frame.specs.Code.KeptSparse.{values_inside, AreValuesCut};
+    ghost use Rattle.mm_frame.specs.Code.KeptSparse.{numbers_inside};
 
-    ghost view = { values_inside };
-
-    ghost invariant = { AreValuesCut };
+    ghost view = { numbers_inside };
 }
 
-/// The element at a place of a list, if there is such a place.
-pub fn element_at<T>(list: &[T], i: usize) -> Option<&T>
-    ensures { option_map (λ element. element.now) result ≡ slice_get list.now i }
+/// What stands for a number in 32 bits, if it fits.
+fn code_of(number: Option<usize>) -> Option<u32>
+    ensures code { IfSome result (λ code. number_of code ≡ number) }
+    ensures fits { IfNone result (IsSomeAnd number (λ n. 4294967294 < n)) }
 {
-    list.get(i)
+    match number {
+        Some(number) if number > MOST_NARROW => None,
+        Some(number) => Some(number as u32 + 1),
+        None => Some(0),
+    }
 }
 
-/// The number that is kept of an item, if one is.
-pub fn number_at(numbers: &Sparse<usize>, i: usize) -> Option<usize>
-    ensures { result ≡ value_kept numbers.now i }
+/// The number that this stands for.
+fn number_from(code: u32) -> Option<usize>
+    ensures { result ≡ number_of code }
 {
-    numbers.at(i).copied()
+    if code == 0 {
+        None
+    } else {
+        Some(code as usize - 1)
+    }
 }
 
-impl<T: Drop> Sparse<T> {
-    /// No items, with room for this many, of which some have a value.
-    pub fn with_room(alloc: Global, count: usize) -> Result<Sparse<T>, AllocError>
+impl Sparse {
+    /// No items, with room for this many.
+    pub fn with_room(alloc: Global, count: usize) -> Result<Sparse, AllocError>
         ensures { IfOk result (λ sparse. sparse ≡ []) }
     {
-        let ends = Counts::with_room(alloc, count)?;
-        let values = Vec::with_capacity(alloc, count / VALUE_SHARE)?;
-        Ok(Sparse { values, ends })
+        let narrow = Vec::with_capacity(alloc, count)?;
+        Ok(Sparse {
+            narrow,
+            wide: Vec::new(alloc),
+        })
     }
 
     /// How many items there are.
     pub fn count(&self) -> usize {
-        self.ends.len()
+        self.narrow.len() + self.wide.len()
     }
 
-    /// The value of the item with this number, if it has one.
-    pub fn at(&self, number: usize) -> Option<&T>
-        ensures { option_map (λ value. value.now) result ≡ value_kept self.now number }
+    /// The number of an item, if it has one.
+    #[inline(always)]
+    pub fn at(&self, item: usize) -> Option<usize>
+        ensures { result ≡ value_kept self.now item }
     {
-        let ListPart { start, end } = self.ends.part(number);
-        if start < end {
-            element_at(&self.values, start)
-        } else {
-            None
+        if item < self.narrow.len() {
+            return number_from(self.narrow[item]);
+        }
+        match self.wide.get(item - self.narrow.len()) {
+            Some(number) => *number,
+            None => None,
         }
     }
 
-    /// Whether the item with this number has a value. No value is looked at.
-    pub fn has(&self, number: usize) -> bool
-        ensures { result ≡ is_some (value_kept self.now number) }
+    /// Whether an item has a number.
+    #[inline(always)]
+    pub fn has(&self, item: usize) -> bool
+        ensures { result ≡ is_some (value_kept self.now item) }
     {
-        let ListPart { start, end } = self.ends.part(number);
-        start < end
+        self.at(item).is_some()
     }
 
-    /// Adds one more item, which has this value. Out of memory changes nothing.
+    /// Adds one more item, with its number if it has one. Out of memory changes nothing.
     #[inline(always)]
-    pub fn add(&mut self, value: T) -> Result<(), AllocError>
-        ensures ok { OnOk result (self.new ≡ self.old ++ Some value ∷ []) }
+    pub fn add(&mut self, number: Option<usize>) -> Result<(), AllocError>
+        ensures ok { OnOk result (self.new ≡ self.old ++ number ∷ []) }
         ensures err { OnErr result (self.new ≡ self.old) }
     {
-        self.values.reserve(1)?;
-        self.ends.push(self.values.len() + 1)?;
-        self.values.push(value).unwrap();
-        Ok(())
-    }
-
-    /// Adds one more item, which has no value. Out of memory changes nothing.
-    #[inline(always)]
-    pub fn pass(&mut self) -> Result<(), AllocError>
-        ensures ok { OnOk result (self.new ≡ self.old ++ None ∷ []) }
-        ensures err { OnErr result (self.new ≡ self.old) }
-    {
-        self.ends.push(self.values.len())?;
+        if self.wide.is_empty() {
+            if let Some(code) = code_of(number) {
+                self.narrow.push(code)?;
+                return Ok(());
+            }
+        }
+        self.wide.push(number)?;
         Ok(())
     }
 }

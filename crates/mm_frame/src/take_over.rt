@@ -22,7 +22,7 @@ use crate::expressions::Expressions;
 use crate::frame::Frame;
 use crate::frames::Frames;
 use crate::pair_lists::{PairLists, count_to_last};
-use crate::sparse::{Sparse, number_at};
+use crate::sparse::Sparse;
 use mm_machine::NumberedSymbol;
 use std::alloc::{AllocError, Global};
 
@@ -75,12 +75,12 @@ struct OldProof<'a> {
 }
 
 /// The number of the list of an earlier `$p`, if it shares its list with the `$p` of the older base.
-fn shared_list(numbers: &Sparse<usize>, proof: OldProof, earlier: usize) -> Option<usize>
+fn shared_list(numbers: &Sparse, proof: OldProof, earlier: usize) -> Option<usize>
     ensures { IfSome result (λ k. (all : List (List ℕ)) (lists : PairLists) (base : BaseView) (said : List meant.Said) → IsBaseBy all base proof.entry.base.now
         → AreFirst base said → proof.entry.number ≡ length said → is_proof_at base proof.entry.number ≡ true → AreRows (TellsPairs all lists) said numbers.now
         → IsList all lists k (active_pairs (sound_items said))) }
 {
-    let k = number_at(numbers, earlier)?;
+    let k = numbers.at(earlier)?;
     if proof.base.shares_pairs(earlier, proof.number) {
         Some(k)
     } else {
@@ -93,7 +93,7 @@ fn copied_list(
     alloc: Global,
     lists: &mut PairLists,
     copied: &mut CopiedLists,
-    numbers: &Sparse<usize>,
+    numbers: &Sparse,
     proof: OldProof,
 ) -> Result<usize, AllocError>
     ensures list { IfOk result (λ k. (all : List (List ℕ)) (base : BaseView) (said : List meant.Said) → IsBaseBy all base proof.entry.base.now
@@ -118,7 +118,7 @@ fn list_again(
     alloc: Global,
     lists: &mut PairLists,
     copied: &mut CopiedLists,
-    numbers: &Sparse<usize>,
+    numbers: &Sparse,
     active: ActiveDisjoints,
     proof: OldProof,
 ) -> Result<usize, AllocError>
@@ -149,7 +149,7 @@ fn copy_pairs(
     alloc: Global,
     lists: &mut PairLists,
     copied: &mut CopiedLists,
-    numbers: &mut Sparse<usize>,
+    numbers: &mut Sparse,
     active: ActiveDisjoints,
     old: OldItem,
 ) -> Result<(), AllocError>
@@ -165,7 +165,7 @@ fn copy_pairs(
         → AreRows (TellsPairs all lists.new) (said ++ item ∷ []) numbers.new) }
 {
     let Some(pairs) = old.base.pairs(old.number) else {
-        numbers.pass()?;
+        numbers.add(None)?;
         return Ok(());
     };
     let proof = OldProof {
@@ -174,7 +174,7 @@ fn copy_pairs(
         pairs,
     };
     let k = list_again(alloc, lists, copied, numbers, active, proof)?;
-    numbers.add(k)?;
+    numbers.add(Some(k))?;
     Ok(())
 }
 

@@ -87,9 +87,6 @@ module _ (laws : Laws) (old new : List File) (top : List ℕ) (items others : Li
   as_many : length items ≤ length others
   as_many = omega (arith, ap length found, length-append (map keyless_item a.found) more, length-map a.found keyless_item, length-map b.found keyless_item, counts_old, counts_new)
 
-  stands_in : (files : FilesView) (all : List store.Item) → All (StandsIn files) all → (n : ℕ) (item : store.Item) → slice_get all n ≡ Some item → StandsIn files item
-  stands_in files all stand n item there = grind (arith, common_steps, get_or_from_slice_get all n item item there, stand n item (slice_get_within all n item there)) steps 200000
-
   -- an item as it is kept of both files
   record Both (n : ℕ) : Type 0 where
     x : store.Item

@@ -16,7 +16,7 @@ pub mod SameProof
 pub mod Renaming
 pub mod Numbering
 pub mod Keys
-pub mod CitedFrames
+pub mod CodeLists
 pub mod Lasting
 pub mod NamedSteps
 pub mod Laws

@@ -3,7 +3,7 @@
 ghost use Rattle.std.specs.Prelude.{◌≡◌, ◌↔◌, ◌<◌, ◌≤◌, ◌+◌, List, IsTrue, IfNone, IfOk, OnOk, MatchBool, MatchOption, length, map, slice_get};
 ghost use Rattle.mm_machine.specs.Language.Frame.{Symbol as Meaning};
 ghost use Rattle.mm_machine.specs.Language.Faults.{AnyZip};
-ghost use Rattle.mm_machine.specs.Language.CitedFrames.{meant_pairs};
+ghost use Rattle.mm_machine.specs.Language.CodeLists.{meant_pairs};
 ghost use Rattle.mm_machine.specs.Language.Lasting.{pattern_symbols};
 ghost use Rattle.mm_machine.specs.Code.Flat.{IsEntryWithin, read};
 ghost use Rattle.mm_machine.specs.Code.Citation.{AreFloating, GivesEntries, OtherTypecode, OtherEssential, CitingSays};

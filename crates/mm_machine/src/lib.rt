@@ -30,7 +30,7 @@ mod verdict_laws;
 
 pub use active::Active;
 pub use kept::Kept;
-pub use lasting::{Lasting, Pattern};
+pub use lasting::Pattern;
 pub use machine::Machine;
 pub use named::{Cited, Use};
 pub use numbering_laws::{

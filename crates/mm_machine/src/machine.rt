@@ -1,10 +1,10 @@
 //! The machine: a stack of expressions and what was saved, as ranges of one flat list of symbols.
 
-ghost use Rattle.std.specs.Prelude.{◌≡◌, ◌⊎◌, ◌+◌, ◌++◌, ◌∷◌, [], ◌<◌, ◌≤◌, ◌-◌, ℕ, List, All, IfOk, OnOk, MatchBool, MatchOption, Some, length, map, take, drop, slice_get};
+ghost use Rattle.std.specs.Prelude.{◌≡◌, ◌≢◌, ◌↔◌, ◌⊎◌, ◌+◌, ◌++◌, ◌∷◌, [], ◌<◌, ◌≤◌, ◌-◌, ℕ, List, All, IsTrue, IfOk, OnOk, MatchBool, MatchOption, Some, length, map, max, take, drop, slice_get, slice_set};
 ghost use Rattle.mm_machine.specs.Code.Ranges.{AreOrderedRanges, Saves};
-ghost use Rattle.mm_machine.specs.Language.CitedFrames.{meant_pairs};
-ghost use Rattle.mm_machine.specs.Language.Lasting.{IsCited, cited_frame};
-ghost use Rattle.mm_machine.specs.Language.Frame.{Symbol as Meaning};
+ghost use Rattle.mm_machine.specs.Language.CodeLists.{meant_pairs};
+ghost use Rattle.mm_machine.specs.Language.Lasting.{IsCited, cited_frame, lasting_or};
+ghost use Rattle.mm_machine.specs.Language.Frame.{Symbol as Meaning, Mandatory};
 ghost use Rattle.mm_machine.specs.Code.Citation.{IsLowestCiting};
 ghost use Rattle.mm_machine.specs.Code.PairClause.{IsPairRoom};
 ghost use Rattle.mm_machine.specs.Code.Filling.{IsFillable, pattern_filled};
@@ -19,7 +19,7 @@ use crate::lasting::{Lasting, Pattern};
 use crate::named::Cited;
 use crate::narrow::narrow;
 use crate::pattern::{Entry, Given, build};
-use crate::slots::{Slot, add_slots};
+use crate::slots::{Slot, put_expression};
 use crate::symbol::Symbol;
 use crate::taken::Taken;
 use std::alloc::{AllocError, Global};
@@ -92,24 +92,6 @@ fn stretch<S: Kept>(alloc: Global, symbols: &mut Vec<S>, count: usize) -> Result
 {
     while symbols.len() < count {
         symbols.push(S::blank(alloc))?;
-    }
-    Ok(())
-}
-
-/// Puts listed symbols to a place of a list.
-fn put_listed<S: Kept>(
-    alloc: Global,
-    all: &mut [S],
-    at: usize,
-    listed: &[S::Listed],
-) -> Result<(), AllocError>
-    requires { at + length listed.now ≤ length all.old }
-    ensures count { length all.new ≡ length all.old }
-    ensures put { OnOk result (take (at + length listed.now) (map S.means all.new) ≡ take at (map S.means all.old) ++ map S.Listed.means listed.now) }
-{
-    for n in 0..listed.len() {
-        let symbol = S::of(alloc, &listed[n])?;
-        all[at + n] = symbol;
     }
     Ok(())
 }
@@ -263,33 +245,67 @@ impl<S: Kept> Machine<S> {
         self.given.clear();
     }
 
-    /// Adds a lasting expression, behind the others: that of a `$f`, or another. Each use of it, in each run, is a range. It
+    /// Makes places for lasting expressions until there are so many: each new one has no symbol until it is loaded.
+    pub fn make_places(&mut self, count: usize) -> Result<(), AllocError>
+        requires { HoldsLasting S.means S.key_of self.old }
+        ensures holds { OnOk result (HoldsLasting S.means S.key_of self.new) }
+        ensures count { OnOk result (length (lasting_of S.means self.new) ≡ max count (length (lasting_of S.means self.old))) }
+        ensures lasting { OnOk result ((more : List Mandatory) × (lasting_of S.means self.new ≡ lasting_of S.means self.old ++ more)
+            × All (λ h. h.expression ≡ []) more) }
+    {
+        while self.lasting.patterns.len() < count {
+            self.lasting.patterns.push(Pattern {
+                start: 0,
+                end: 0,
+                first: 0,
+                last: 0,
+                floating: false,
+            })?;
+        }
+        Ok(())
+    }
+
+    /// Whether the lasting expression with a number has a symbol: it was loaded.
+    #[inline(always)]
+    pub fn is_loaded(&self, number: usize) -> bool
+        requires holds { HoldsLasting S.means S.key_of self.now }
+        requires within { number < length (lasting_of S.means self.now) }
+        ensures { IsTrue result ↔ ((lasting_or (lasting_of S.means self.now) number).expression ≢ []) }
+    {
+        let Pattern { start, end, .. } = self.lasting.patterns[number];
+        start < end
+    }
+
+    /// Loads the lasting expression with a number: that of a `$f`, or another. Each use of it, in each run, is a range. It
     /// takes time and memory for its symbols. After out of memory the lasting expressions have to be forgotten.
     pub fn load(
         &mut self,
         alloc: Global,
+        number: usize,
         floating: bool,
         expression: &[S::Listed],
     ) -> Result<(), AllocError>
-        requires { HoldsLasting S.means S.key_of self.old }
+        requires holds { HoldsLasting S.means S.key_of self.old }
+        requires within { number < length (lasting_of S.means self.old) }
         ensures holds { OnOk result (HoldsLasting S.means S.key_of self.new) }
-        ensures lasting { OnOk result (lasting_of S.means self.new ≡ lasting_of S.means self.old
-            ++ record { floating = floating; expression = map S.Listed.means expression.now } ∷ []) }
+        ensures lasting { OnOk result (lasting_of S.means self.new ≡ slice_set (lasting_of S.means self.old) number
+            (record { floating = floating; expression = map S.Listed.means expression.now })) }
     {
         let start = self.lasting.ground;
         let end = start.saturating_add(expression.len());
         stretch(alloc, &mut self.symbols, end)?;
-        put_listed(alloc, &mut self.symbols, start, expression)?;
         let first = self.lasting.slots.len();
-        add_slots(
+        put_expression(
             alloc,
-            &self.symbols[start..end],
+            &mut self.symbols,
+            start,
+            expression,
             &mut self.lasting.variables,
             &mut self.lasting.slots,
         )?;
         let last = self.lasting.slots.len();
         let pattern = pattern_from(start, end, first, last, floating)?;
-        self.lasting.patterns.push(pattern)?;
+        self.lasting.patterns[number] = pattern;
         self.lasting.ground = end;
         give_places(&mut self.given, self.lasting.variables.all.len())?;
         Ok(())

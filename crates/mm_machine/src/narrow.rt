@@ -1,6 +1,6 @@
 //! Numbers in four bytes.
 
-ghost use Rattle.std.specs.Prelude.{◌≡◌, IfOk};
+ghost use Rattle.std.specs.Prelude.{◌≡◌, ◌<◌, IfOk, OnErr};
 
 use std::alloc::AllocError;
 
@@ -8,7 +8,8 @@ use std::alloc::AllocError;
 /// slots, and the names of its variables. Files have 4,294,967,295 bytes at most, all together, and each of these takes two or
 /// more, so no base that is made of files has so many.
 pub fn narrow(number: usize) -> Result<u32, AllocError>
-    ensures { IfOk result (λ narrow. narrow ≡ number) }
+    ensures same { IfOk result (λ narrow. narrow ≡ number) }
+    ensures err { OnErr result (4294967295 < number) }
 {
     if number > 4_294_967_295 {
         return Err(AllocError);

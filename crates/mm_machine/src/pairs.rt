@@ -1,8 +1,8 @@
 //! The pair clause: whether the entries of mandatory pairs are kept apart.
 
-ghost use Rattle.std.specs.Prelude.{◌≡◌, ◌<◌, ℕ, List, Some, IfOk, OnOk, MatchBool, All, length, map, slice_get};
+ghost use Rattle.std.specs.Prelude.{◌≡◌, ◌<◌, ℕ, List, Some, IfOk, OnOk, MatchBool, length, map, slice_get};
 ghost use Rattle.mm_machine.specs.Language.Frame.{Symbol as Meaning};
-ghost use Rattle.mm_machine.specs.Language.CitedFrames.{meant_pairs};
+ghost use Rattle.mm_machine.specs.Language.CodeLists.{meant_pairs};
 ghost use Rattle.mm_machine.specs.Code.Citation.{GivesEntries};
 ghost use Rattle.mm_machine.specs.Language.Keys.{AreNumbered};
 ghost use Rattle.mm_machine.specs.declared.pattern.Given.{Given as Put};

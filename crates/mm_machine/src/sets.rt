@@ -1,6 +1,6 @@
 //! Sets of numbers, 64 to a chunk.
 
-ghost use Rattle.std.specs.Prelude.{◌≡◌, ◌≤◌, OnOk, length};
+ghost use Rattle.std.specs.Prelude.{◌≤◌, OnOk, length};
 ghost use Rattle.mm_machine.specs.Code.PairClause.{AddsNumber};
 
 use std::alloc::{AllocError, Global};

@@ -1,6 +1,6 @@
 //! The slots of an expression: where its variables are.
 
-ghost use Rattle.std.specs.Prelude.{◌≡◌, ◌++◌, List, Some, IfOk, OnOk, map, slice_get};
+ghost use Rattle.std.specs.Prelude.{◌≡◌, ◌+◌, ◌++◌, ◌≤◌, List, IfOk, OnOk, length, map, take};
 ghost use Rattle.mm_machine.specs.Language.Frame.{Symbol as Meaning};
 ghost use Rattle.mm_machine.specs.Language.Lasting.{AreSlotsOf};
 ghost use Rattle.mm_machine.specs.Language.Keys.{AreNumbered};
@@ -29,29 +29,37 @@ fn slot_from(constants: usize, variable: usize) -> Result<Slot, AllocError>
     })
 }
 
-/// Adds the slots of an expression after others. Its variables get numbers, if they have none yet.
-pub fn add_slots<S: Kept>(
+/// Puts the symbols of an expression to a place of a list, and adds its slots after others. Its variables get numbers, if they
+/// have none yet.
+pub fn put_expression<S: Kept>(
     alloc: Global,
-    expression: &[S],
+    all: &mut [S],
+    at: usize,
+    expression: &[S::Listed],
     variables: &mut Variables<S>,
-    to: &mut Vec<Slot>,
+    slots: &mut Vec<Slot>,
 ) -> Result<(), AllocError>
-    requires { AreNumbered S.key_of (map S.means variables.old.all.items) variables.old.places.items }
+    requires room { at + length expression.now ≤ length all.old }
+    requires numbered { AreNumbered S.key_of (map S.means variables.old.all.items) variables.old.places.items }
+    ensures count { length all.new ≡ length all.old }
+    ensures put { OnOk result (take (at + length expression.now) (map S.means all.new)
+        ≡ take at (map S.means all.old) ++ map S.Listed.means expression.now) }
     ensures numbered { OnOk result (AreNumbered S.key_of (map S.means variables.new.all.items) variables.new.places.items) }
     ensures grows { OnOk result ((more : List Meaning) × (map S.means variables.new.all.items ≡ map S.means variables.old.all.items ++ more)) }
-    ensures slots { OnOk result ((more : List Slot) × (to.new.items ≡ to.old.items ++ more)
-        × AreSlotsOf (map S.means variables.new.all.items) (map S.means expression.now) more) }
+    ensures slots { OnOk result ((more : List Slot) × (slots.new.items ≡ slots.old.items ++ more)
+        × AreSlotsOf (map S.means variables.new.all.items) (map S.Listed.means expression.now) more) }
 {
     let mut constants: usize = 0;
     for place in 0..expression.len() {
-        let symbol = &expression[place];
+        let symbol = S::of(alloc, &expression[place])?;
         if symbol.is_variable() {
-            let variable = variables.number(alloc, symbol)?;
-            to.push(slot_from(constants, variable)?)?;
+            let variable = variables.number(alloc, &symbol)?;
+            slots.push(slot_from(constants, variable)?)?;
             constants = 0;
         } else {
             constants += 1;
         }
+        all[at + place] = symbol;
     }
     Ok(())
 }

@@ -1,7 +1,7 @@
 //! A run of the steps of a proof.
 
-ghost use Rattle.std.specs.Prelude.{◌≡◌, ◌+◌, ◌-◌, ◌≤◌, ◌↔◌, ◌∷◌, [], ℕ, List, All, IfOk, OnOk, IfNone, IsTrue, MatchOption, IfSome, length};
-ghost use Rattle.std.specs.Prelude.{map, drop, take, slice_index_or};
+ghost use Rattle.std.specs.Prelude.{◌≡◌, ◌+◌, ◌-◌, ◌↔◌, ◌∷◌, [], ℕ, List, All, IfOk, OnOk, IfNone, IsTrue, MatchOption, IfSome, length};
+ghost use Rattle.std.specs.Prelude.{map, slice_index_or};
 ghost use Rattle.std.specs.List.{AllZip};
 ghost use Rattle.mm_machine.specs.Language.Frame.{Symbol as Meaning, Frame, Setting, AreSamePairs};
 ghost use Rattle.mm_machine.specs.Language.Typing.{HasFrames};
@@ -9,7 +9,7 @@ ghost use Rattle.mm_machine.specs.Language.Expansion.{Step, NotKnown};
 ghost use Rattle.mm_machine.specs.Language.Faults.{IsLowest};
 ghost use Rattle.mm_machine.specs.Language.Machine.{State, Turns};
 ghost use Rattle.mm_machine.specs.Language.Lasting.{HoldsLasting, IsCited, KeepsLasting, cited_frame, lasting_of};
-ghost use Rattle.mm_machine.specs.Language.CitedFrames.{meant_pairs};
+ghost use Rattle.mm_machine.specs.Language.CodeLists.{meant_pairs};
 ghost use Rattle.mm_machine.specs.Language.NamedSteps.{AreDoneTo, AreSavedBefore, AreUses, AreUsesWithin};
 ghost use Rattle.mm_machine.specs.Language.NamedSteps.{IsOutcomeWithin, IsSavedWithin, IsUseWithin, MeansUse, RunSays, StopsAt, actions_mean, meant};
 ghost use Rattle.mm_machine.specs.Language.NamedSteps.{saves_by};

@@ -1,6 +1,6 @@
 //! Symbols of expressions.
 
-ghost use Rattle.std.specs.Prelude.{◌≡◌, ◌↔◌, ◌/◌, ◌<◌, IsTrue, IfOk, OnOk, Ok, length};
+ghost use Rattle.std.specs.Prelude.{◌≡◌, ◌↔◌, ◌/◌, ◌^◌, ◌<◌, ◌≤◌, IsTrue, IfOk, OnErr, Ok};
 ghost use Rattle.mm_machine.specs.Language.NumberedSymbols.{by_code, by_number, named_symbol};
 ghost use Rattle.mm_machine.specs.Language.Frame.{Symbol as Meaning};
 
@@ -65,7 +65,8 @@ impl CodedSymbol {
     /// The symbol by this number. It fails if its code does not fit into four bytes.
     #[inline(always)]
     pub fn of(symbol: &NumberedSymbol) -> Result<CodedSymbol, AllocError>
-        ensures { IfOk result (λ coded. by_code coded ≡ by_number symbol.now) }
+        ensures same { IfOk result (λ coded. by_code coded ≡ by_number symbol.now) }
+        ensures err { OnErr result (2 ^ 31 ≤ symbol.now.name) }
     {
         let number = narrow(symbol.name)? as usize;
         Ok(CodedSymbol {

@@ -1,6 +1,6 @@
 //! What an assertion takes when it is cited.
 
-ghost use Rattle.std.specs.Prelude.{◌≡◌, ◌<◌, true, Some, length, map, slice_get};
+ghost use Rattle.std.specs.Prelude.{◌≡◌, ◌<◌, Some, length, map, slice_get};
 ghost use Rattle.mm_machine.specs.Language.Frame.{Symbol as Meaning};
 ghost use Rattle.mm_machine.specs.Language.Typing.{IsTyping};
 ghost use Rattle.mm_machine.specs.Language.Lasting.{IsPattern, lasting_at, pattern_symbols};

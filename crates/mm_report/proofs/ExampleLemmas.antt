@@ -229,9 +229,6 @@ five_unfold rest =
     own (λ (e : meant.Constants ≡ meant.Missing). cc) (own (λ (e : meant.Variables ≡ meant.Missing). cc) (own (λ (e : meant.Floating ≡ meant.Missing). cc)
     (own (λ (e : meant.Axiom ≡ meant.Missing). cc) (own (λ (e : meant.Theorem ≡ meant.Missing). cc) rest))))
 
-five_are : IsDatabase (record { name = top; pieces = constants ∷ variable ∷ typing ∷ assumed ∷ first_theorem ∷ []; tail = [] } ∷ []) top five
-five_are = record { own = five; of_top = record { number = 0; file = _; is_number = refl; there = refl; located = five_is [] [] refl }; after = top ∷ []; unfolds = five_unfold nothing }
-
 six_are : (last : List ℕ) (shape : Shape) → HasUnits last (Simple shape Nothing) → (said_of shape).kind ≢ meant.Missing → IsDatabase (ending_in last).files top (six shape)
 six_are last shape units kind = record {
   own = six shape;

@@ -4,7 +4,7 @@ ghost use Rattle.std.specs.Prelude.{◌≡◌, ℕ, ◌+◌, ◌++◌, ◌≤◌
 ghost use Rattle.std.specs.FinMap as finite;
 ghost use Rattle.slab.specs.Slab.{HasRoomFor};
 ghost use Rattle.mm_text.specs.Language.Cut.{HoldsOneUnit};
-ghost use Rattle.mm_store.specs.Language.Pieces.{standing_piece, text_under, with_state, parked_pieces, parked_state, parked_under, state_in};
+ghost use Rattle.mm_store.specs.Language.Pieces.{text_under, with_state, parked_pieces, parked_state, parked_under, state_in};
 ghost use Rattle.mm_text.specs.Language.Part.{HasParts};
 ghost use Rattle.mm_store.specs.Code.Inside.{IsPieceKept, ArePut};
 ghost use Rattle.mm_store.specs.Code.Lines.{AreLines, IsStart, StaysSmall};

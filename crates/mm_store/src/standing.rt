@@ -107,6 +107,7 @@ impl Files {
         file.move_key(at, to);
     }
 
+    /// Drops the piece that an edit replaced, which was kept until the edit is done.
     fn drop_replaced(&mut self, number: usize, old: usize)
         requires { IsParked self.old.pieces old number Replaced }
         ensures { self.new ≡ dropped old self.old }
@@ -114,6 +115,7 @@ impl Files {
         self.pieces.drop_piece(old);
     }
 
+    /// Drops the piece that an edit deleted, and the place that its file kept for it.
     fn drop_deleted(&mut self, number: usize, old: usize)
         requires { IsParked self.old.pieces old number Deleted }
         ensures { self.new ≡ dropped old self.old }

@@ -1,13 +1,13 @@
 //! What pushing and citing an item of a base needs.
 
-ghost use Rattle.std.specs.Prelude.{◌≡◌, ◌<◌, ℕ, List, true, length};
-ghost use Rattle.mm_frame.specs.Language.Base.{BaseView, is_shown_at, is_framed_at, is_proof_at};
+ghost use Rattle.std.specs.Prelude.{◌≡◌, ◌<◌, List, true, length};
+ghost use Rattle.mm_frame.specs.Language.Base.{BaseView, is_shown_at, is_proof_at};
 ghost use Rattle.mm_frame.specs.Language.Answering.{IsBase};
 ghost use Rattle.mm_machine.specs.Language.Frame.{AreSamePairs, Mandatory};
-ghost use Rattle.mm_machine.specs.Language.CitedFrames.{meant_pairs};
+ghost use Rattle.mm_machine.specs.Language.CodeLists.{meant_pairs};
 ghost use Rattle.mm_machine.specs.Language.Keys.{AreInKeyOrder, key_by_number};
 ghost use Rattle.mm_machine.specs.Language.NumberedSymbols.{by_number, all_by_number};
-ghost use Rattle.mm_verdict.specs.Language.Loaded.{AreItemsOf, CanBeCited, CitesItem, IsAssertionOf, IsItemOf};
+ghost use Rattle.mm_verdict.specs.Language.Loaded.{CanBeCited, CitesItem, HasCited, IsAssertionOf, IsItemOf, IsLoaded};
 ghost use Rattle.mm_verdict.specs.Code.NumberedBase.{ByNames, numbered_hypothesis, numbered_setting};
 
 use mm_frame::{Base, assertions_have_frames};
@@ -46,12 +46,13 @@ pub fn loaded_of(base: &Base, number: usize) -> (bool, &[NumberedSymbol])
     (base.is_floating(number), symbols)
 }
 
-/// The assertion with this number, as each machine cites it that has loaded the items up to it.
+/// The assertion with this number, as each machine cites it that has loaded it and its hypotheses.
 pub fn cited_of(base: &Base, number: usize) -> Cited<'_, NumberedSymbol>
     requires { IsAssertionOf base.now number }
     ensures number { result.expression ≡ number }
     ensures frame { CanBeCited base.now result }
-    ensures same { (lasting : List Mandatory) → AreItemsOf base.now lasting → number < length lasting → CitesItem base.now number lasting result }
+    ensures has { (lasting : List Mandatory) → IsLoaded base.now lasting number → HasCited base.now lasting result }
+    ensures same { (lasting : List Mandatory) → HasCited base.now lasting result → CitesItem base.now number lasting result }
 {
     assertions_have_frames(); // A law: each assertion has a typed frame.
     numbers_keep_frames(); // A law: a frame is typed by numbers, too.

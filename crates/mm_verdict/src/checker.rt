@@ -49,10 +49,10 @@ impl<'a> Checker<'a> {
         self.base
     }
 
-    /// Gives what checks use over again a place for each item of the base, and for each of this many keys of variables.
+    /// Gives what checks use over again a place for each of this many keys of variables.
     pub(crate) fn widen(&mut self, keys: usize) -> Result<(), AllocError>
         ensures { self.new ≡ self.old }
     {
-        self.known.widen(self.base.count(), keys)
+        self.known.widen(keys)
     }
 }

@@ -99,7 +99,7 @@ fn run_steps<'b>(
     numbers_keep_places(); // A law: assertions are typed by numbers, too.
     numbers_say_the_same(); // A law: what a run says by numbers, it says by names.
     let labels: &[Resolved] = &proof.decoding.labels;
-    known.name_all(alloc, proof.base, proof.i, labels, &proof.decoding.used)?;
+    known.name_all(alloc, proof.base, proof.i, labels)?;
     let active = Active::new(active(proof.base, proof.i));
     let outcome = run(
         alloc,
@@ -174,9 +174,9 @@ fn judge<'b, 'a>(
 /// these.
 ///
 /// A run has at most 4,294,967,295 steps. It takes time near linear in the symbols of the expressions that its steps
-/// make and compare, and memory for the entries of the stack and for what is saved. It also loads the expressions of the
-/// items before `i`, and makes a table with a place for each item of the base; a [`Checker`] does so once for many checks.
-/// After out of memory nothing is recorded.
+/// make and compare, and memory for the entries of the stack and for what is saved. It also loads the expressions that the
+/// proof names, and makes tables with a place for each name and for each item before `i`; a [`Checker`] does so once for
+/// many checks. After out of memory nothing is recorded.
 pub fn check(
     alloc: Global,
     names: &Names,

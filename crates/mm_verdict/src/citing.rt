@@ -1,9 +1,8 @@
 //! Which words of a proof cite an assertion.
 
 ghost use Rattle.std.specs.Prelude.{◌≡◌, ◌≤◌, true, false, ℕ, ◌+◌, ◌++◌, ◌∷◌, ◌||◌, if◌then◌else◌, Some, List, IfOk, OnOk, length};
-ghost use Rattle.mm_verdict.specs.Code.Cited.{cited_item, is_item, item_cites, without, marked_at, is_listed};
+ghost use Rattle.mm_verdict.specs.Code.Cited.{cited_item, is_item, item_cites, without, marked_at, masked, is_listed};
 ghost use Rattle.mm_verdict.specs.Code.DecodedProof.{IsDecoded, OfDecoded};
-ghost use Rattle.mm_verdict.specs.Code.NamedItems.{masked};
 ghost use Rattle.mm_verdict.specs.Language.VerdictAt.{cites_at};
 ghost use Rattle.mm_frame.specs.declared.base.Resolved as labels;
 ghost use Rattle.mm_frame.specs.declared.base.Resolved.TheVariants as answers;
@@ -55,7 +54,6 @@ fn forget(marks: &mut Vec<bool>, labels: &[Resolved])
 }
 
 /// Marks, of the assertions that labels name, those that the labels in use name. Of others the marks do not count.
-#[inline(never)]
 fn named(marks: &mut Vec<bool>, labels: &[Resolved], used: &[bool]) -> Result<(), AllocError>
     requires { length used.now ≡ length labels.now }
     ensures { OnOk result ((j : ℕ) → is_listed labels.now j ≡ true → marked_at marks.new.items j ≡ is_listed (masked labels.now used.now) j) }

@@ -1,14 +1,16 @@
 //! What checks of a base keep of it: the expressions of its items, as the machine has them.
 
-ghost use Rattle.std.specs.Prelude.{◌≡◌, ◌≤◌, if◌then◌else◌, List, All, IsTrue, IfOk, OnOk, length};
+ghost use Rattle.std.specs.Prelude.{◌≡◌, ◌<◌, false, ℕ, List, All, IsTrue, IfOk, OnOk, length};
+ghost use Rattle.mm_frame.specs.Language.Answering.{IsBase};
+ghost use Rattle.mm_frame.specs.Language.Base.{BaseView, is_framed_at};
 ghost use Rattle.mm_frame.specs.declared.base.Base.{Base as Meant};
 ghost use Rattle.mm_frame.specs.declared.base.Resolved.TheVariants as answers;
 ghost use Rattle.mm_machine.specs.Language.Frame.{Mandatory};
 ghost use Rattle.mm_machine.specs.Language.Keys.{key_by_number};
 ghost use Rattle.mm_machine.specs.Language.Lasting.{HoldsLasting, lasting_of};
 ghost use Rattle.mm_machine.specs.Language.NumberedSymbols.{by_code};
-ghost use Rattle.mm_verdict.specs.Language.Loaded.{CitesItem};
-ghost use Rattle.mm_verdict.specs.Code.NamedItems.{AreCited, AreKnownOf, AreNamesOf, HasItems, IsNamedBy, IsOneMore, TakesNothing, masked};
+ghost use Rattle.mm_verdict.specs.Language.Loaded.{CitesItem, HasHypotheses, HasItem, IsAssertionOf, IsLoaded};
+ghost use Rattle.mm_verdict.specs.Code.NamedItems.{AreCited, AreKnownOf, AreNamesOf, HasItems, IsNamedBy, IsOneMore, IsThere, KeepsItems, TakesNothing};
 
 use crate::assertion::{cited_of, expression, loaded_of};
 use mm_frame::{Base, Resolved};
@@ -22,7 +24,7 @@ const LONGEST_PUSHED: usize = 1_000_000;
 /// What labels of proofs push and cite in a base. The expressions are there once for all proofs.
 #[derive(Drop)]
 pub struct Known<'a> {
-    /// The machine. Its lasting expressions are those of the first items of the base, by their numbers.
+    /// The machine. Its lasting expressions are those of items of the base, by their numbers; what has no symbol is not loaded.
     pub machine: Machine<CodedSymbol>,
     /// What each label of the last proof is used for.
     pub uses: Vec<Use>,
@@ -30,14 +32,6 @@ pub struct Known<'a> {
     pub cited: Vec<Cited<'a, NumberedSymbol>>,
     /// For the number of an item a mark: whether a label in use of the last proof names it. Those of other proofs do not count.
     pub marks: Vec<bool>,
-}
-
-/// Gives a list of marks this many places, if it has fewer.
-fn widen_marks(marks: &mut Vec<bool>, count: usize) -> Result<(), AllocError> {
-    if marks.len() < count {
-        marks.resize(count, false)?;
-    }
-    Ok(())
 }
 
 /// Whether this assertion, which has this number, has no mandatory hypothesis, and is not too long to be pushed.
@@ -48,22 +42,74 @@ fn takes_nothing(base: &Base, number: usize, cited: &Cited<'_, NumberedSymbol>) 
     cited.hypotheses.is_empty() && expression(base, number).len() <= LONGEST_PUSHED
 }
 
-/// Loads the expressions of the items before this number that the machine does not have yet.
+/// Loads the items with these numbers that are not loaded. The hypotheses of the assertions among them are loaded.
+fn load_each(
+    alloc: Global,
+    machine: &mut Machine<CodedSymbol>,
+    base: &Base,
+    numbers: &[usize],
+) -> Result<(), AllocError>
+    requires items { HasItems base.now machine.old }
+    requires within { All (λ n. n < length (lasting_of by_code machine.old)) numbers.now }
+    requires hypotheses { All (HasHypotheses base.now (lasting_of by_code machine.old)) numbers.now }
+    ensures items { OnOk result (HasItems base.now machine.new) }
+    ensures loaded { OnOk result (All (IsLoaded base.now (lasting_of by_code machine.new)) numbers.now) }
+    ensures keeps { OnOk result (KeepsItems base.now machine.old machine.new) }
+{
+    for k in 0..numbers.len() {
+        if !machine.is_loaded(numbers[k]) {
+            let loaded = loaded_of(base, numbers[k]);
+            machine.load(alloc, numbers[k], loaded.0, loaded.1)?;
+        }
+    }
+    Ok(())
+}
+
+/// Loads an item, and with an assertion its hypotheses.
 #[cold]
 #[inline(never)]
-fn load_to(
+fn load(
     alloc: Global,
     machine: &mut Machine<CodedSymbol>,
     base: &Base,
     number: usize,
 ) -> Result<(), AllocError>
-    requires { HasItems base.now machine.old }
+    requires base { (view : BaseView) × IsBase view base.now }
+    requires items { HasItems base.now machine.old }
+    requires within { number < length (lasting_of by_code machine.old) }
     ensures items { OnOk result (HasItems base.now machine.new) }
-    ensures count { OnOk result (number ≤ length (lasting_of by_code machine.new)) }
+    ensures loaded { OnOk result (IsLoaded base.now (lasting_of by_code machine.new) number) }
+    ensures keeps { OnOk result (KeepsItems base.now machine.old machine.new) }
 {
-    while machine.count() < number {
-        let loaded = loaded_of(base, machine.count());
-        machine.load(alloc, loaded.0, loaded.1)?;
+    if let Some(frame) = base.frame(number) {
+        load_each(alloc, &mut *machine, base, &frame.hypotheses)?;
+    }
+    load_each(alloc, machine, base, &[number])?;
+    Ok(())
+}
+
+/// Loads what the labels name that is not loaded.
+fn load_all(
+    alloc: Global,
+    machine: &mut Machine<CodedSymbol>,
+    base: &Base,
+    labels: &[Resolved],
+) -> Result<(), AllocError>
+    requires items { HasItems base.now machine.old }
+    requires labels { All (IsNamedBy base.now (length (lasting_of by_code machine.old))) labels.now }
+    ensures items { OnOk result (HasItems base.now machine.new) }
+    ensures there { OnOk result (All (IsThere base.now (lasting_of by_code machine.new)) labels.now) }
+    ensures keeps { OnOk result (KeepsItems base.now machine.old machine.new) }
+{
+    for label in labels {
+        match *label {
+            Resolved::Hypothesis(number) | Resolved::Assertion(number) => {
+                if !machine.is_loaded(number) {
+                    load(alloc, &mut *machine, base, number)?;
+                }
+            }
+            Resolved::Inactive | Resolved::Unknown => {}
+        }
     }
     Ok(())
 }
@@ -82,13 +128,12 @@ impl<'a> Known<'a> {
         }
     }
 
-    /// Takes room for a base of this many items, and for variables whose keys are below this number. If it takes more than
-    /// there was, the expressions are forgotten.
-    pub(crate) fn widen(&mut self, items: usize, keys: usize) -> Result<(), AllocError>
+    /// Takes room for variables whose keys are below this number. If it takes more than there was, the expressions are
+    /// forgotten.
+    pub(crate) fn widen(&mut self, keys: usize) -> Result<(), AllocError>
         requires { HoldsLasting by_code key_by_number self.old.machine }
         ensures { (base : Meant) → AreKnownOf base self.old → AreKnownOf base self.new }
     {
-        widen_marks(&mut self.marks, items)?;
         self.machine.widen(keys)
     }
 
@@ -101,9 +146,9 @@ impl<'a> Known<'a> {
 
     /// What a label is used for that names the assertion with this number.
     fn cite(&mut self, base: &'a Base, number: usize) -> Result<Use, AllocError>
-        requires known { AreKnownOf base.now self.old }
+        requires item { IsAssertionOf base.now number }
+        requires loaded { IsLoaded base.now (lasting_of by_code self.old.machine) number }
         requires cited { AreCited base.now self.old }
-        requires entry { IsNamedBy base.now (length (lasting_of by_code self.old.machine)) (answers.Assertion number) }
         ensures { IfOk result (λ used. IsOneMore base.now self.old self.new used (answers.Assertion number)) }
     {
         let cited = cited_of(base, number);
@@ -115,42 +160,39 @@ impl<'a> Known<'a> {
         Ok(Use::Assertion(place))
     }
 
-    /// What a label is used for, if it is marked.
-    fn name(&mut self, base: &'a Base, label: Resolved, marked: bool) -> Result<Use, AllocError>
-        requires known { AreKnownOf base.now self.old }
+    /// What a label is used for.
+    fn name(&mut self, base: &'a Base, label: Resolved) -> Result<Use, AllocError>
+        requires entry { (i : ℕ) × IsNamedBy base.now i label }
+        requires there { IsThere base.now (lasting_of by_code self.old.machine) label }
         requires cited { AreCited base.now self.old }
-        requires entry { IsNamedBy base.now (length (lasting_of by_code self.old.machine)) label }
-        ensures { IfOk result (λ used. IsOneMore base.now self.old self.new used (if marked then label else answers.Unknown)) }
+        ensures { IfOk result (λ used. IsOneMore base.now self.old self.new used label) }
     {
         match label {
-            _ if !marked => Ok(Use::Nothing),
             Resolved::Hypothesis(number) => Ok(Use::Lasting(number)),
             Resolved::Assertion(number) => self.cite(base, number),
             Resolved::Inactive | Resolved::Unknown => Ok(Use::Nothing),
         }
     }
 
-    /// Finds what each of the labels of a proof of item `i` is used for that has a mark, and loads the items before that. The
-    /// others are used for nothing: a label that no step names needs nothing of the base.
+    /// Finds what each of the labels of a proof of item `i` is used for, and loads what they name.
     pub(crate) fn name_all(
         &mut self,
         alloc: Global,
         base: &'a Base,
         i: usize,
         labels: &[Resolved],
-        marks: &[bool],
     ) -> Result<(), AllocError>
         requires known { AreKnownOf base.now self.old }
         requires labels { All (IsNamedBy base.now i) labels.now }
-        requires marks { length marks.now ≡ length labels.now }
-        ensures { OnOk result (AreNamesOf base.now (masked labels.now marks.now) self.new) }
+        ensures { OnOk result (AreNamesOf base.now labels.now self.new) }
     {
-        load_to(alloc, &mut self.machine, base, i)?;
+        self.machine.make_places(i)?;
+        load_all(alloc, &mut self.machine, base, labels)?;
         self.cited.clear();
         self.uses.clear();
         self.uses.reserve(labels.len())?;
-        for k in 0..labels.len() {
-            let used = self.name(base, labels[k], marks[k])?;
+        for label in labels {
+            let used = self.name(base, *label)?;
             self.uses.push(used)?;
         }
         Ok(())

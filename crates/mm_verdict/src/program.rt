@@ -32,8 +32,8 @@ pub struct Program<'a> {
 /// The proof of the item with the number `i`, a sound `$p` of a base whose items can be read in these files, as a machine runs
 /// it. So a caller can run the first steps of a proof; for the verdict there is `check`.
 ///
-/// The error is the first fault of decoding, or out of memory. It takes time near linear in the words of the proof, and in the
-/// symbols of the items before it.
+/// The error is the first fault of decoding, or out of memory. It takes time near linear in the words of the proof, in the
+/// symbols of the items that its labels name and of their hypotheses, and in the number of items before it.
 pub fn program_of<'a>(
     alloc: Global,
     files: &Files,
@@ -56,7 +56,7 @@ pub fn program_of<'a>(
     let proof = words_of_proof(files, base.item(i));
     let decoding = decode(base, i, &proof, Decoding::new(alloc))?;
     let mut known = Known::new(alloc);
-    known.name_all(alloc, base, i, &decoding.labels, &decoding.used)?;
+    known.name_all(alloc, base, i, &decoding.labels)?;
     Ok(Program {
         known,
         steps: decoding.steps,

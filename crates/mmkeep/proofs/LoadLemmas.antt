@@ -103,17 +103,6 @@ unread_error files (Some bytes) error (inr is) = rw is tt
 
 -- ---- a file that was opened and is not added
 
--- its reason stops loading
-pub stops_loading : {R : Type 0} (remaining : R → Option (List ℕ)) (files : List File) (unread : Option (List ℕ)) (error : FileError) (reading : Reading R)
-    → IsFileError files unread error → (error ≡ errors.Read → cannot_read reading ≡ true) → ReadsOn remaining unread 4294967295 reading
-    → StopsLoading remaining files unread (unloaded_by error reading)
-stops_loading remaining files unread errors.Read reading why failed on = (failed refl, on)
-stops_loading remaining files None (errors.Text place number) reading why failed on = tt
-stops_loading remaining files (Some text) (errors.Text place number) reading why failed on = (errors.Text place number, (λ e. absurd (cc)), why)
-stops_loading remaining files None errors.TooMany reading why failed on = tt
-stops_loading remaining files (Some text) errors.TooMany reading why failed on = (errors.TooMany, (λ e. absurd (cc)), why)
-stops_loading remaining files unread errors.Memory reading why failed on = tt
-
 -- if less is known of it
 unknown_stops : {R : Type 0} (remaining : R → Option (List ℕ)) (files : List File) (unread : Option (List ℕ)) (unloaded : Unloaded R)
     → StopsLoading remaining files unread unloaded → StopsLoading remaining files None unloaded

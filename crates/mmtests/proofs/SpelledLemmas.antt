@@ -1,10 +1,10 @@
 -- What is the same by numbers and by names, for the tests of the machine.
-use Rattle.std.proofs.{Common.{◌≡◌, ◌⊎◌, ℕ, List, [], ◌∷◌, ◌++◌, ◌+◌, length, subst, All, arith, inl, inr, Some, slice_get, length-append}, lemmas.List.{get_or_append_left, get_or_push}}
-use Rattle.std.proofs.lemmas.{List.Elements.{All-map}, Option.{get_or_from_slice_get, slice_get_within, same_Some, slice_get-get_or}, Grind.{elements}}
+use Rattle.std.proofs.{Common.{◌≡◌, ◌<◌, ◌+◌, ◌++◌, ◌∷◌, [], ℕ, List, length, length-append, set, subst, sym, All, arith, get_or-set_other, get_or-set_same}, lemmas.List.{length-set}}
+use Rattle.std.proofs.{lemmas.{List.Elements.{All-map}, Option.{get_or_from_slice_get, slice_get_within}}, Math.Decide.{ℕ_discrete}}
 use Rattle.mm_frame.specs.declared.base.Base.{Base}
-use Rattle.mm_machine.specs.Language.{Frame.{Mandatory, Symbol}, NumberedSymbols.{by_number, named_symbol}, CitedFrames.{meant_pair, meant_pairs}, Keys.{AreInKeyOrder, key_by_number}}
-use Rattle.mm_machine.specs.{Language.Lasting.{IsCited}, declared.{named.Cited.{Cited}, symbol.{NamedSymbol.{NamedSymbol}, NumberedSymbol.{NumberedSymbol}}}}
-use Rattle.mm_verdict.specs.Language.Loaded.{AreItemsOf, IsItemOf}
+use Rattle.mm_machine.specs.Language.{Frame.{Mandatory, Symbol}, NumberedSymbols.{by_number, named_symbol}, CodeLists.{meant_pair, meant_pairs}, Keys.{AreInKeyOrder, key_by_number}}
+use Rattle.mm_machine.specs.{Language.Lasting.{IsCited, lasting_or}, declared.{named.Cited.{Cited}, symbol.{NamedSymbol.{NamedSymbol}, NumberedSymbol.{NumberedSymbol}}}}
+use Rattle.mm_verdict.specs.Language.Loaded.{HasItem, IsItemOf}
 use Rattle.mmtests.specs.Code.{Spelled.{HasOneKey, key_by_name}, SpelledAssertions.{IsCitedSo}}
 
 -- symbols whose numbers are the same both ways have the same order both ways
@@ -28,14 +28,12 @@ cited_by_name lasting c expression hypotheses pairs same alike meant is d e h p 
 }
 
 -- one more item of a base
-pub items_more : (code : Base) (lasting : List Mandatory) (n : ℕ) (h : Mandatory) → AreItemsOf code lasting → length lasting ≡ n → IsItemOf code n h → AreItemsOf code (lasting ++ h ∷ [])
-items_more code lasting n h items count is j g at = elim (cases j g at) [
-  | inl there ↦ items j g there
-  | inr last ↦ rw (last.0, ← last.1, count) is
+pub items_more : (code : Base) (lasting : List Mandatory) (n : ℕ) (h : Mandatory) → n < length lasting → IsItemOf code n h → ((j : ℕ) → j < n → HasItem code lasting j) →
+    (j : ℕ) → j < n + 1 → HasItem code (set lasting n h) j
+items_more code lasting n h within is items j l = elim (ℕ_discrete j n) [
+  | yes same ↦ (omega (arith, same, within, length-set lasting n h), subst (λ k. IsItemOf code k (lasting_or (set lasting n h) k)) (sym same) (subst (IsItemOf code n) (sym (get_or-set_same lasting n h _ within)) is))
+  | no other ↦ (let has = items j (omega (arith, l, other)) in (omega (arith, has.0, length-set lasting n h), subst (IsItemOf code j) (sym (get_or-set_other lasting n j h _ other)) has.1))
 ]
-  where
-    cases : (j : ℕ) (g : Mandatory) → slice_get (lasting ++ h ∷ []) j ≡ Some g → (slice_get lasting j ≡ Some g) ⊎ ((j ≡ length lasting) × (h ≡ g))
-    cases j g e = grind (arith, elements, get_or_append_left, get_or_from_slice_get, get_or_push, length-append, same_Some, slice_get-get_or, slice_get_within) steps 200000
 
 -- one more of a list
 pub longer : {X : Type 0} (xs : List X) (x : X) (n : ℕ) → length xs ≡ n → length (xs ++ x ∷ []) ≡ n + 1

@@ -1,15 +1,15 @@
 //! The machine over names and over numbers: it says the same of a proof.
 
-ghost use Rattle.std.specs.Prelude.{◌≡◌, [], List, All, IfOk, OnOk, length, map};
+ghost use Rattle.std.specs.Prelude.{◌≡◌, ◌<◌, ℕ, [], List, All, IfOk, OnOk, length, map};
 ghost use Rattle.mm_machine.specs.Language.Frame.{Mandatory};
 ghost use Rattle.mm_machine.specs.Language.NumberedSymbols.{by_code, by_number, named_symbol, all_by_number};
-ghost use Rattle.mm_machine.specs.Language.CitedFrames.{meant_pairs};
+ghost use Rattle.mm_machine.specs.Language.CodeLists.{meant_pairs};
 ghost use Rattle.mm_machine.specs.Language.Lasting.{HoldsLasting, IsCited, lasting_of};
 ghost use Rattle.mm_machine.specs.Language.NamedSteps.{AreSavedBefore, AreUsesWithin, IsUseWithin};
 ghost use Rattle.mm_machine.specs.Language.Keys.{AreInKeyOrder, key_by_number};
 ghost use Rattle.mmtests.specs.Code.Spelled.{HasOneKey, key_by_name};
 ghost use Rattle.mmtests.specs.Code.SpelledAssertions.{IsCitedSo};
-ghost use Rattle.mm_verdict.specs.Language.Loaded.{AreItemsOf, CanBeCited};
+ghost use Rattle.mm_verdict.specs.Language.Loaded.{CanBeCited, HasItem};
 ghost use Rattle.mm_verdict.specs.Language.ReadIn.{HasTheorem};
 
 use mm_machine::{
@@ -144,14 +144,15 @@ fn load_spelled(
     requires holds { HoldsLasting named_symbol key_by_name machine.old }
     requires none { lasting_of named_symbol machine.old ≡ [] }
     ensures holds { OnOk result (HoldsLasting named_symbol key_by_name machine.new) }
-    ensures items { OnOk result (AreItemsOf base.now (lasting_of named_symbol machine.new)) }
+    ensures items { OnOk result ((j : ℕ) → j < count → HasItem base.now (lasting_of named_symbol machine.new) j) }
     ensures count { OnOk result (length (lasting_of named_symbol machine.new) ≡ count) }
 {
     machine.widen(PLACES)?;
+    machine.make_places(count)?;
     for n in 0..count {
         let loaded = loaded_of(base, n);
         let expression = spelled(alloc, loaded.1)?;
-        let added = machine.load(alloc, loaded.0, &expression);
+        let added = machine.load(alloc, n, loaded.0, &expression);
         mem::forget(expression);
         added?;
     }

@@ -1,20 +1,15 @@
--- What some items have, as the code keeps it: the values of these in one list, with the count of those up to each item.
-use Rattle.std.specs.Prelude.{ℕ, Option, Some, None, List, [], ◌∷◌, map, length, slice_get}
+-- Numbers that some items have, as the code keeps them: those that fit into half the room, and all from the first that does not.
+use Rattle.std.specs.Prelude.{ℕ, zero, suc, Option, Some, None, List, ◌++◌, map, slice_get}
 use Rattle.mm_frame.specs.declared.sparse.Sparse.TheInside.{Inside}
-use Rattle.mm_frame.specs.Code.KeptParts.{cut_from, EndsFrom}
 
--- the first of some values, if there is one
-abbrev pub first_of : {X : Type 0} → List X → Option X
-first_of [] = None
-first_of (x ∷ xs) = Some x
+-- the number that is written as one more, if one is
+abbrev pub number_of : ℕ → Option ℕ
+number_of zero = None
+number_of (suc n) = Some n
 
--- the value of each item, if it has one
-abbrev pub values_inside : {X : Type 0} → Inside X → List (Option X)
-values_inside inside = map first_of (cut_from inside.values.items 0 inside.ends)
-
--- the ends are those of all values
-abbrev pub AreValuesCut : {X : Type 0} → Inside X → Type 0
-AreValuesCut inside = EndsFrom 0 inside.ends (length inside.values.items)
+-- the number of each item, if it has one
+abbrev pub numbers_inside : Inside → List (Option ℕ)
+numbers_inside inside = map number_of inside.narrow.items ++ inside.wide.items
 
 -- a value, if there is such an item and it has one
 abbrev pub value_or_none : {X : Type 0} → Option (Option X) → Option X

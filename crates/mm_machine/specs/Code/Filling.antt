@@ -1,7 +1,7 @@
 -- What takes the place of the variables of an expression when its assertion is cited.
 use Rattle.std.specs.Prelude.{◌≡◌, ℕ, ◌+◌, ◌-◌, ◌<◌, ◌≤◌, Some, List, [], ◌∷◌, ◌++◌, length, map, take, drop, slice_get, slice_index_or, All}
 use Rattle.mm_machine.specs.Language.Frame.{Symbol, Mandatory, Frame}
-use Rattle.mm_machine.specs.Language.CitedFrames.{range_of}
+use Rattle.mm_machine.specs.Language.CodeLists.{range_of}
 use Rattle.mm_machine.specs.Language.Keys.{AreNumbered}
 use Rattle.mm_machine.specs.Language.Lasting.{IsCited, IsPattern, cited_frame, lasting_at, pattern_slots, pattern_symbols}
 use Rattle.mm_machine.specs.declared.slots.Slot.{Slot}
@@ -58,8 +58,7 @@ variables_of means taken = map means taken.lasting.now.variables.all.items
 abbrev pub frame_taking : {S L : Type 0} → (S → Symbol) → (L → Symbol) → Taken S L → Frame
 frame_taking means listed taken = cited_frame listed (lasting_taken means taken) taken.cited.now
 
--- the entries are as many as the assertion has hypotheses, and within the symbols up to a block before their end; the lasting expressions are
--- before that, too
+-- the entries are as many as the assertion has hypotheses, and within the symbols; the lasting expressions are within them, too
 pub record AreTaken {S L : Type 0} (means : S → Symbol) (listed : L → Symbol) (key : Symbol → ℕ) (taken : Taken S L) : Type 0 where
   pub within : All (IsEntryWithin (length taken.symbols.now)) taken.entries.now
   pub count : length taken.entries.now ≡ length taken.cited.now.hypotheses.now

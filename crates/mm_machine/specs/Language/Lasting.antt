@@ -2,7 +2,7 @@
 use Rattle.std.specs.Prelude.{◌≡◌, ℕ, ◌+◌, ◌<◌, ◌≤◌, true, false, Some, List, [], ◌∷◌, length, map, drop, take, slice_get, slice_index_or, Contains, All}
 use Rattle.mm_machine.specs.Language.Frame.{Symbol, Mandatory, Frame}
 use Rattle.mm_machine.specs.Language.Typing.{IsFrame}
-use Rattle.mm_machine.specs.Language.CitedFrames.{range_of, meant_pairs}
+use Rattle.mm_machine.specs.Language.CodeLists.{range_of, meant_pairs}
 use Rattle.mm_machine.specs.Language.Keys.{AreNumbered}
 use Rattle.mm_machine.specs.declared.slots.Slot.{Slot}
 use Rattle.mm_machine.specs.declared.lasting.Pattern.{Pattern}

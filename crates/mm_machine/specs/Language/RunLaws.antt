@@ -13,7 +13,7 @@ use Rattle.mm_machine.specs.Language.Reaches.{Reaches}
 use Rattle.mm_machine.specs.Language.Renaming.{renamed_frame, renamed_pairs, renamed_setting}
 use Rattle.mm_machine.specs.Language.Numbering.{unnaming}
 use Rattle.mm_machine.specs.Language.Keys.{AreInKeyOrder, key_by_number}
-use Rattle.mm_machine.specs.Language.CitedFrames.{meant_pairs}
+use Rattle.mm_machine.specs.Language.CodeLists.{meant_pairs}
 use Rattle.mm_machine.specs.Language.NamedSteps.{RunSays}
 
 -- Symbols by number, read by the names and then renamed to numbers, are the symbols whose names are these numbers.

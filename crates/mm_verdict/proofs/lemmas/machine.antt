@@ -3,4 +3,3 @@
 pub mod LoadedLemmas
 pub mod MarkedLabels
 pub mod NamedLemmas
-pub mod UsedLemmas

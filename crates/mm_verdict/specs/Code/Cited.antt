@@ -48,3 +48,9 @@ item_cites left n (answers.Assertion j ∷ labels) = if left j then n ∷ item_c
 item_cites left n (answers.Hypothesis j ∷ labels) = item_cites left (n + 1) labels
 item_cites left n (answers.Inactive ∷ labels) = item_cites left (n + 1) labels
 item_cites left n (answers.Unknown ∷ labels) = item_cites left (n + 1) labels
+
+-- the labels that are marked, each in its place, and that of a `?` in the place of each other
+abbrev pub masked : List Resolved → List Bool → List Resolved
+masked [] marks = []
+masked (label ∷ labels) [] = answers.Unknown ∷ masked labels []
+masked (label ∷ labels) (mark ∷ marks) = (if mark then label else answers.Unknown) ∷ masked labels marks

@@ -1,5 +1,5 @@
 -- What is known of a base's items, by their numbers, and what the labels of a proof name.
-use Rattle.std.specs.Prelude.{◌≡◌, ℕ, ◌<◌, ◌≤◌, Bool, true, Some, List, [], ◌∷◌, length, slice_get, if◌then◌else◌, All}
+use Rattle.std.specs.Prelude.{◌≡◌, ◌≢◌, ℕ, ◌≤◌, true, Some, List, [], length, slice_get, All}
 use Rattle.mm_frame.specs.declared.base.Base.{Base}
 use Rattle.mm_frame.specs.declared.base.Resolved.{Resolved}
 use Rattle.mm_frame.specs.declared.base.Resolved.TheVariants as answers
@@ -7,9 +7,9 @@ use Rattle.mm_frame.specs.Language.Base.{BaseView, is_framed_at}
 use Rattle.mm_frame.specs.Language.Answering.{IsBase}
 use Rattle.mm_machine.specs.Language.Frame.{Mandatory}
 use Rattle.mm_machine.specs.Language.Keys.{key_by_number}
-use Rattle.mm_machine.specs.Language.Lasting.{HoldsLasting, IsCited, lasting_of}
+use Rattle.mm_machine.specs.Language.Lasting.{HoldsLasting, IsCited, lasting_of, lasting_or}
 use Rattle.mm_verdict.specs.Language.DecodedSteps.{AreEntries, IsEntry, entry_steps}
-use Rattle.mm_verdict.specs.Language.Loaded.{AreItemsOf, CanBeCited, CitesItem, IsAssertionOf}
+use Rattle.mm_verdict.specs.Language.Loaded.{CanBeCited, CitesItem, HasItem, IsAssertionOf, IsLoaded}
 use Rattle.mm_machine.specs.Language.NamedSteps.{AreUses, AreUsesWithin}
 use Rattle.mm_machine.specs.Language.NumberedSymbols.{by_code, by_number}
 use Rattle.mm_verdict.specs.Code.NumberedBase.{ByNames, numbered_frame, numbered_setting}
@@ -21,10 +21,21 @@ use Rattle.mm_verdict.specs.declared.known.Known.{Known}
 use Rattle.mm_machine.specs.declared.named.Use.{Use}
 use Rattle.mm_machine.specs.declared.named.Use.TheVariants as uses
 
--- the lasting expressions of a machine are those of the first items of this base
+-- what a label names is loaded
+abbrev pub IsThere : Base → List Mandatory → Resolved → Type 0
+IsThere code lasting (answers.Hypothesis j) = IsLoaded code lasting j
+IsThere code lasting (answers.Assertion j) = IsLoaded code lasting j
+IsThere code lasting _ = Unit {0}
+
+-- each lasting expression of a machine that has a symbol is that of an item of this base, which is loaded
 pub record HasItems (code : Base) (machine : Machine CodedSymbol) : Type 0 where
   pub holds : HoldsLasting by_code key_by_number machine
-  pub items : AreItemsOf code (lasting_of by_code machine)
+  pub loaded : (j : ℕ) → (lasting_or (lasting_of by_code machine) j).expression ≢ [] → IsLoaded code (lasting_of by_code machine) j
+
+-- there are as many lasting expressions as before, and the items that were among them still are
+pub record KeepsItems (code : Base) (old new : Machine CodedSymbol) : Type 0 where
+  pub count : length (lasting_of by_code new) ≡ length (lasting_of by_code old)
+  pub stay : (j : ℕ) → HasItem code (lasting_of by_code old) j → HasItem code (lasting_of by_code new) j
 
 -- what is kept is of this base
 abbrev pub AreKnownOf : Base → Known → Type 0
@@ -55,8 +66,8 @@ TakesNothing code j = ByNames code (λ names view. is_framed_at view j ≡ true
 
 -- the use is of what the label resolves to, by these lasting expressions and by these assertions that are cited
 abbrev pub IsUseOf : Base → List Mandatory → List (Cited NumberedSymbol) → Use → Resolved → Type 0
-IsUseOf code lasting cited (uses.Lasting n) (answers.Hypothesis j) = (n ≡ j) × (n < length lasting)
-IsUseOf code lasting cited (uses.Lasting n) (answers.Assertion j) = (n ≡ j) × (n < length lasting) × TakesNothing code j
+IsUseOf code lasting cited (uses.Lasting n) (answers.Hypothesis j) = (n ≡ j) × HasItem code lasting n
+IsUseOf code lasting cited (uses.Lasting n) (answers.Assertion j) = (n ≡ j) × HasItem code lasting n × TakesNothing code j
 IsUseOf code lasting cited (uses.Assertion n) (answers.Assertion j) =
     (c : Cited NumberedSymbol) × (slice_get cited n ≡ Some c) × CitesItem code j lasting c
 IsUseOf code lasting cited uses.Nothing answers.Inactive = Unit {0}
@@ -74,12 +85,6 @@ pub record IsOneMore (code : Base) (old new : Known) (used : Use) (label : Resol
   pub stay : (n : ℕ) (c : Cited NumberedSymbol) → slice_get old.cited.items n ≡ Some c → slice_get new.cited.items n ≡ Some c
   pub cited : AreCited code new
   pub stands : IsUseIn code new used label
-
--- the labels that are marked, each in its place, and that of a `?` in the place of each other
-abbrev pub masked : List Resolved → List Bool → List Resolved
-masked [] marks = []
-masked (label ∷ labels) [] = answers.Unknown ∷ masked labels []
-masked (label ∷ labels) (mark ∷ marks) = (if mark then label else answers.Unknown) ∷ masked labels marks
 
 -- this is what these labels name in a base, as a machine runs it
 pub record AreNamesOf (code : Base) (labels : List Resolved) (known : Known) : Type 0 where

@@ -11,6 +11,6 @@ returns-then-not-proof-clause-pairs c all said item a d m e rows =
 pub returns-clause-pairs : goal.returns-clause-pairs
 returns-clause-pairs c all said item a d m e rows =
     let new = c.list_of.new.self in
-    subst (λ w. AreRows (TellsPairs all new) (said ++ item ∷ []) w) (sym c.in_ok-add.ensures.ok)
+    subst (λ w. AreRows (TellsPairs all new) (said ++ item ∷ []) w) (sym c.in_ok-add-2.ensures.ok)
     (pairs_more all said item c.args.pair_lists.now new c.args.pairs.now (Some c.in_ok-k.k) c.in_ok-k.ensures.kept rows
     (some_number all new (sound_items said) item c.in_ok-k.k (sym c.if-not-proof.false ∙ e) (c.in_ok-k.ensures.pairs all (sound_items said) (kept_are_sound said) a d m)))

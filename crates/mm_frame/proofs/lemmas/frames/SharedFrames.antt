@@ -72,9 +72,6 @@ pairs_again before more item other reach h e was now =
 
 -- ---- the rows
 
-told_framed : (b : Bool) (before : List Said) (item : Said) (xs : List ℕ) → Some xs ≡ numbers_if b before item → true ≡ b
-told_framed b before item xs e = grind (arith, common_steps) steps 200000
-
 told_some : (b : Bool) (before : List Said) (item : Said) (xs : List ℕ) → Some xs ≡ numbers_if b before item → xs ≡ mandatory_numbers before item
 told_some b before item xs e = grind (arith, common_steps) steps 200000
 

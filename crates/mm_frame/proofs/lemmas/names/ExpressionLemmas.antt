@@ -1,9 +1,7 @@
 -- The parts of one list by their ends: how many there are, each of them, and one more.
-use Rattle.std.proofs.lemmas.{Grind.{common_steps}, Option.{slice_get-map, slice_get_past, slice_get_cases}, List.{take-append-le, drop-append-le, take_all, length-drop, length-map}}
-use Rattle.std.proofs.Common.{◌≡◌, ℕ, zero, suc, ◌+◌, ◌-◌, ◌<◌, ◌≤◌, Some, None, List, [], ◌∷◌, ◌++◌, length, map, take, drop, get_or, slice_get, is_some, ltb, refl, ◌∙◌, ap, arith, length-append}
-use Rattle.std.specs.List.{slice_range}
-use native.Mathlib.Decide.{dec_lt}
-use Rattle.mm_frame.specs.Code.{KeptParts.{cut_from, EndsFrom, start_at}, KeptSparse.{first_of, value_kept}}
+use Rattle.std.proofs.lemmas.{Grind.{common_steps}, List.{take-append-le, drop-append-le, take_all, length-drop}}
+use Rattle.std.{proofs.Common.{◌≡◌, ℕ, zero, suc, ◌+◌, ◌<◌, ◌≤◌, Some, List, [], ◌∷◌, ◌++◌, length, get_or, slice_get, refl, ap, arith, length-append}, specs.List.{slice_range}}
+use Rattle.mm_frame.specs.Code.KeptParts.{cut_from, EndsFrom, start_at}
 
 pub cut_length : {X : Type 0} (symbols : List X) (from : ℕ) (ends : List ℕ) → length (cut_from symbols from ends) ≡ length ends
 cut_length symbols from [] = refl
@@ -51,43 +49,3 @@ ends_more from (x ∷ ends) last end e l = (e.0, ends_more x ends last end e.1 l
 pub cut_added : {X : Type 0} (symbols own all : List X) (ends new : List ℕ) (end : ℕ) → EndsFrom 0 ends (length symbols) → all ≡ symbols ++ own → end ≡ length all → new ≡ ends ++ end ∷ []
     → EndsFrom 0 new (length all) × (cut_from all 0 new ≡ cut_from symbols 0 ends ++ own ∷ [])
 cut_added symbols own all ends new end e a l n = grind (arith, common_steps, cut_more, ends_more, length-append) steps 200000
-
--- the first of a part
-first_there : {X : Type 0} (xs : List X) (start end : ℕ) → start < end → first_of (slice_range xs start end) ≡ slice_get xs start
-first_there xs start end l = taken (end - start) (drop start xs) (omega arith) ∙ dropped start xs
-  where
-    taken : {X : Type 0} (n : ℕ) (xs : List X) → 0 < n → first_of (take n xs) ≡ slice_get xs 0
-    taken zero xs l = absurd (omega arith)
-    taken (suc n) [] l = refl
-    taken (suc n) (x ∷ xs) l = refl
-
-    dropped : {X : Type 0} (n : ℕ) (xs : List X) → slice_get (drop n xs) 0 ≡ slice_get xs n
-    dropped (suc n) (x ∷ xs) = dropped n xs
-    dropped _ _ = refl
-
--- the value of an item, and that it has none
-pub value_there : {X : Type 0} (values : List X) (ends : List ℕ) (n start end : ℕ) → start ≡ start_at 0 ends n → end ≡ get_or ends n 0 → start < end → slice_get values start ≡ value_kept (map first_of (cut_from values 0 ends)) n
-value_there values ends n start end s e l = grind (arith, common_steps, end_there, first_there, slice_get-map, cut_there) steps 200000
-
-pub value_missing : {X : Type 0} (values : List X) (ends : List ℕ) (n start end : ℕ) → start ≡ start_at 0 ends n → end ≡ get_or ends n 0 → end ≤ start → None ≡ value_kept (map first_of (cut_from values 0 ends)) n
-value_missing values ends n start end s e l =
-    grind (
-      arith,
-      common_steps,
-      dec_lt n (length ends),
-      let none : end - start ≡ 0 = omega arith in
-          ap (λ n. first_of (take n (drop start values))) none,
-      slice_get-map,
-      cut_there,
-      cut_length,
-      length-map,
-      slice_get_past,
-    ) steps 500000
-
--- so a part with an end behind its start tells that there is a value
-pub value_has : {X : Type 0} (values : List X) (ends : List ℕ) (n start end : ℕ) → start ≡ start_at 0 ends n → end ≡ get_or ends n 0 → EndsFrom 0 ends (length values)
-    → ltb start end ≡ is_some (value_kept (map first_of (cut_from values 0 ends)) n)
-value_has values ends n start end s e cut = elim (dec_lt start end) [
-  | yes l ↦ grind (arith, common_steps, value_there values ends n start end s e l, part_within 0 ends (length values) n cut, end_there, slice_get_cases values start) steps 200000
-  | no m ↦ grind (arith, common_steps, value_missing values ends n start end s e (omega arith)) steps 200000
-]

@@ -25,7 +25,7 @@ returns-clause-pairs c all base said item next number symbols disjoints made row
     let pairs = subst (λ w. AreSamePairs (kept_pairs all c.in-Some.pairs.now) (active_pairs w)) (before_next base said c.args.old.number next.front number) (c.in-Some.ensures.pairs all base next.by) in
     let read : AreSamePairsRead all (active_pairs (sound_items said)) c.in-Some.pairs.now = record { pairs = pairs; numbered = c.in-Some.ensures.numbered all base next.by } in
     let list = c.in_ok-k.ensures.list all base said next.by next.front number (sym some) read (c.in-Some.ensures.order base (all, next.by)) symbols disjoints made rows in
-    subst (λ w. AreRows (TellsPairs all new) (said ++ item ∷ []) w) (sym c.in_ok-add.ensures.ok)
+    subst (λ w. AreRows (TellsPairs all new) (said ++ item ∷ []) w) (sym c.in_ok-add-2.ensures.ok)
     (pairs_more all said item c.args.lists.now new c.args.numbers.now (Some c.in_ok-k.k) c.in_ok-k.ensures.kept rows
     (some_number all new (sound_items said) item c.in_ok-k.k
     (some ∙ (ap (is_proof_at base) number ∙ (λ j. is_told_proof (sound_items (next.front j)) (next.here j)))) list))

@@ -1,5 +1,5 @@
 use Rattle.std.proofs.{Common.{ℕ, map, get_or, arith}, lemmas.{Option.{slice_get-get_or}, List.{length-map}}}
-use Rattle.mm_machine.{specs.{Language.CitedFrames.{meant_pairs}, declared.sets.Chunk.{Chunk}, Code.PairClause.{ApartAt, HasNumber, InChunk}}, proofs.lemmas.machine.ApartLemmas.{each_more, each_all}}
+use Rattle.mm_machine.{specs.{Language.CodeLists.{meant_pairs}, declared.sets.Chunk.{Chunk}, Code.PairClause.{ApartAt, HasNumber, InChunk}}, proofs.lemmas.machine.ApartLemmas.{each_more, each_all}}
 use Rattle.mm_machine.proofs.lemmas.lists.Members.{contains_at}
 use Rattle.mm_machine.proofs.apart.are_apart.Goals as goal
 

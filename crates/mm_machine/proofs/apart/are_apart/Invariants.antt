@@ -1,5 +1,5 @@
 use Rattle.std.proofs.Common.{ℕ, map}
-use Rattle.mm_machine.{specs.{Language.CitedFrames.{meant_pairs}, Code.PairClause.{ApartAt, HasNumber, InChunk, KnowsApart}}, proofs.lemmas.machine.ApartLemmas.{EachUpTo}}
+use Rattle.mm_machine.{specs.{Language.CodeLists.{meant_pairs}, Code.PairClause.{ApartAt, HasNumber, InChunk, KnowsApart}}, proofs.lemmas.machine.ApartLemmas.{EachUpTo}}
 use Rattle.mm_machine.proofs.apart.are_apart.Given as goal
 
 abbrev pub invariant-loop-n : goal.invariant-loop-n

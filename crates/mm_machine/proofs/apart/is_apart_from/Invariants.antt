@@ -1,5 +1,5 @@
 use Rattle.std.proofs.Common.{map}
-use Rattle.mm_machine.{specs.{Language.CitedFrames.{meant_pairs}, Code.PairClause.{ApartFrom, KnowsApart}}, proofs.lemmas.machine.ApartLemmas.{EachUpTo}}
+use Rattle.mm_machine.{specs.{Language.CodeLists.{meant_pairs}, Code.PairClause.{ApartFrom, KnowsApart}}, proofs.lemmas.machine.ApartLemmas.{EachUpTo}}
 use Rattle.mm_machine.proofs.apart.is_apart_from.Given as goal
 
 abbrev pub invariant-loop-n : goal.invariant-loop-n

@@ -1,5 +1,5 @@
 use Rattle.std.{proofs.Common.{rules, map, ◌+◌, ◌*◌, arith, w64}, specs.Int.{trailing_zeros}}
-use Rattle.mm_machine.{specs.Language.CitedFrames.{meant_pairs}, proofs.lemmas.machine.FlatLemmas.{mapped_get}}
+use Rattle.mm_machine.{specs.Language.CodeLists.{meant_pairs}, proofs.lemmas.machine.FlatLemmas.{mapped_get}}
 use Rattle.mm_machine.proofs.lemmas.machine.SetLemmas.{all_known, apart_both, asked_all, asked_in, lowest, lowest_done, none_done, without}
 use Rattle.mm_machine.proofs.apart.is_apart_from_chunk.Goals as goal
 

@@ -1,5 +1,5 @@
 use Rattle.std.{proofs.Common.{◌+◌, ◌*◌, map, bit_and, w64}, specs.Int.{bit_not}}
-use Rattle.mm_machine.{specs.{Language.CitedFrames.{meant_pairs}, Code.PairClause.{ApartAt}}, proofs.lemmas.machine.SetLemmas.{BitsDone}}
+use Rattle.mm_machine.{specs.{Language.CodeLists.{meant_pairs}, Code.PairClause.{ApartAt}}, proofs.lemmas.machine.SetLemmas.{BitsDone}}
 use Rattle.mm_machine.proofs.apart.is_apart_from_chunk.Given as goal
 
 abbrev pub invariant-loop-left : goal.invariant-loop-left

@@ -1,5 +1,5 @@
 use Rattle.std.{proofs.Common.{rules, ℕ, ◌+◌, ◌*◌, map, sym, arith, subst, w64}, specs.Int.{trailing_zeros}}
-use Rattle.mm_machine.specs.{Language.CitedFrames.{meant_pairs}, Code.PairClause.{ApartAt, HasNumber}}
+use Rattle.mm_machine.specs.{Language.CodeLists.{meant_pairs}, Code.PairClause.{ApartAt, HasNumber}}
 use Rattle.mm_machine.proofs.lemmas.machine.SetLemmas.{all_done, left_bound, left_in, lowest, lowest_done, none_done, without}
 use Rattle.mm_machine.proofs.apart.is_chunk_apart.Goals as goal
 

@@ -1,5 +1,5 @@
 use Rattle.std.proofs.Common.{ℕ, ◌+◌, ◌*◌, map}
-use Rattle.mm_machine.{specs.{Language.CitedFrames.{meant_pairs}, Code.PairClause.{ApartAt, HasNumber, KnowsApart}}, proofs.lemmas.machine.SetLemmas.{BitsDone}}
+use Rattle.mm_machine.{specs.{Language.CodeLists.{meant_pairs}, Code.PairClause.{ApartAt, HasNumber, KnowsApart}}, proofs.lemmas.machine.SetLemmas.{BitsDone}}
 use Rattle.mm_machine.proofs.apart.is_chunk_apart.Given as goal
 
 abbrev pub invariant-loop-left : goal.invariant-loop-left

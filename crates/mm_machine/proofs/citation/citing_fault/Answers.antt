@@ -1,5 +1,5 @@
 use Rattle.std.proofs.Common.{List, Option, Some, None}
-use Rattle.mm_machine.specs.{Language.{Frame.{Symbol, Frame}, Typing.{IsFrame}, CitedFrames.{meant_pairs}, Faults.{AnyZip}}, declared.ProofNumber.{ProofNumber}}
+use Rattle.mm_machine.specs.{Language.{Frame.{Symbol, Frame}, Typing.{IsFrame}, CodeLists.{meant_pairs}, Faults.{AnyZip}}, declared.ProofNumber.{ProofNumber}}
 use Rattle.mm_machine.specs.Code.{Citation.{CitingSays, GivesEntries, OtherEssential, OtherTypecode}, PairClause.{PairsSay}, Filling.{entries_of, frame_taking}}
 use Rattle.mm_machine.proofs.lemmas.machine.CitingFaults.{says08, says09, says_pairs}
 use Rattle.mm_machine.proofs.citation.citing_fault.Goals as goal

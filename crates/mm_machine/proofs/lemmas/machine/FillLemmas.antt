@@ -2,7 +2,7 @@
 use Rattle.std.proofs.Common.{◌≡◌, ◌↔◌, ℕ, ◌+◌, ◌-◌, ◌<◌, ◌≤◌, false, Some, List, [], ◌∷◌, ◌++◌, length, map, take, drop, get_or, refl, sym, ◌∙◌, ap, ap₂, subst, arith, append_assoc, length-append}
 use Rattle.std.proofs.{Common.{slice_get, Contains}, lemmas.Option.{slice_get_within, get_or_from_slice_get}}
 use Rattle.std.proofs.lemmas.List.{take-take, drop-take, drop-drop, length-take, length-take-le, length-drop, get_or-map, append_cancel_left, take_at, drop_at, take-append-drop, drop_more, drop_all}
-use Rattle.mm_machine.specs.Language.{Frame.{Symbol, HasVariable}, Substitution.{substituted, replacement}, CitedFrames.{range_of}, Lasting.{AreSlotsOf, pattern_slots, pattern_symbols}}
+use Rattle.mm_machine.specs.Language.{Frame.{Symbol, HasVariable}, Substitution.{substituted, replacement}, CodeLists.{range_of}, Lasting.{AreSlotsOf, pattern_slots, pattern_symbols}}
 use Rattle.mm_machine.specs.{declared.{slots.Slot.{Slot}, lasting.Pattern.{Pattern}, pattern.{Entry.{Entry}, Given.{Given}}}, Code.Flat.{read}}
 use Rattle.mm_machine.{specs.Code.Filling.{AreSlotsWithin, IsFillable, IsGivenWithin, filled, given_symbols, pattern_filled}, proofs.lemmas.machine.{CopyLemmas.{range_below}, FlatLemmas.{put_rest}}}
 use Rattle.mm_machine.proofs.lemmas.{verdicts.Unique.{replacement-variable, replacement-constant}, lists.Members.{Contains-here, contains_there, contains_at, contains_behind}}

@@ -3,7 +3,7 @@ use Rattle.std.proofs.lemmas.Grind.{common_steps, elements, flat_map-append}
 use Rattle.std.proofs.lemmas.List.{append-nil, take_more, take-append-drop, take-map, drop-map, length-map, drop-drop, get_or-map, get_or_default, length-take, length-drop, get_or-take, get_or-drop}
 use Rattle.std.proofs.lemmas.Option.{slice_get_within, get_or_from_slice_get, slice_get-get_or}
 use Rattle.std.proofs.Common.{◌≡◌, ℕ, zero, suc, ◌+◌, ◌-◌, ◌<◌, Some, List, [], ◌∷◌, ◌++◌, length, map, take, drop, get_or, min, sym, ◌∙◌, ap, arith, slice_get, refl}
-use Rattle.mm_machine.specs.Language.{Frame.{Symbol}, Substitution.{substituted, replacement}, CitedFrames.{range_of}}
+use Rattle.mm_machine.specs.Language.{Frame.{Symbol}, Substitution.{substituted, replacement}, CodeLists.{range_of}}
 
 -- what is at a place of a list that is mapped
 pub mapped_at : {X Y : Type 0} (f : X → Y) (xs : List X) (n : ℕ) (x : X) (y : Y) → n < length xs → x ≡ get_or xs n x → slice_get (map f xs) n ≡ Some y → y ≡ f x

@@ -3,9 +3,9 @@ use Rattle.std.proofs.lemmas.{Grind.{common_steps}, List.Elements.{All-head, All
 use Rattle.std.proofs.Common.{◌≡◌, ◌≢◌, ℕ, ◌+◌, ◌<◌, suc, true, false, Option, Some, None, List, ◌∷◌, length, map, drop, get_or-set_other, get_or-set_same, length-set, refl, sym, ◌∙◌, ap, subst}
 use Rattle.std.proofs.{Common.{arith, inl, inr, slice_get, slice_set, Contains, All, AllPairs, []}, Math.Decide.{map_dec, ℕ_discrete}}
 use mathlib.Core.Bool.{Bool-discrete}
-use Rattle.mm_machine.specs.{Language.{Frame.{Symbol, Mandatory}, Substitution.{substituted}, Typing.{IsTyping}, Faults.{AnyZip}}, Code.Citation.{AreGiven, IsTypingOf}, declared.pattern.Entry.{Entry}}
-use Rattle.mm_machine.{specs.declared.pattern.Given.{Given}, proofs.lemmas.{lists.Members.{Contains-here, contains_there}, verdicts.Choices.{symbol_discrete, expression_discrete, both_of}}}
-use Rattle.mm_machine.proofs.lemmas.verdicts.Unique.{FloatsMatch}
+use Rattle.mm_machine.specs.{Language.{Frame.{Symbol, Mandatory}, Substitution.{substituted}, Typing.{IsTyping}, Faults.{AnyZip}}, Code.Citation.{AreGiven, IsTypingOf, OtherTypecode}}
+use Rattle.mm_machine.{specs.declared.pattern.{Entry.{Entry}, Given.{Given}}, proofs.lemmas.lists.Members.{Contains-here, contains_there}}
+use Rattle.mm_machine.proofs.lemmas.verdicts.{Choices.{symbol_discrete, expression_discrete, both_of}, Unique.{FloatsMatch}}
 
 dec_second : (o : Option Symbol) (v : Symbol) → Dec (o ≡ Some v)
 dec_second None v = no (λ e. (cc))
@@ -47,10 +47,6 @@ once_head h hs v a t g c u =
     let n = a 0 (suc c.0) g (omega arith) (omega arith) in
     let m : slice_get h.expression 1 ≢ slice_get g.expression 1 = subst (λ (w : Mandatory). slice_get h.expression 1 ≢ slice_get w.expression 1) c.2 (n t.0 (subst (λ (w : Mandatory). w.floating ≡ true) (sym c.2) u.0)) in
     m (t.1 ∙ sym u.1)
-
--- no `$f` of another typecode
-abbrev pub OtherTypecode : Mandatory → List Symbol → Type 0
-OtherTypecode h e = (h.floating ≡ true) × (slice_get h.expression 0 ≢ slice_get e 0)
 
 -- a substitution that agrees with what the entries give matches each `$f`
 floats_match_by :

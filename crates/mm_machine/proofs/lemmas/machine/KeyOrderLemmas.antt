@@ -2,7 +2,7 @@
 use Rattle.std.proofs.lemmas.{Grind.{common_steps}, Bool.{false≢true, Decides.{nat_tests}}, List.Elements.{All-contains}}
 use Rattle.std.proofs.Common.{◌≡◌, ℕ, ◌<◌, ◌≤◌, true, false, Some, List, length, arith, slice_get, sym, ap, ◌∙◌}
 use native.Mathlib.Decide.{dec_lt}
-use Rattle.mm_machine.specs.Language.{Frame.{Symbol, ArePair}, NumberedSymbols.{AreInOrder, by_number, comes_before, name_numbers}, CitedFrames.{meant_pair, meant_pairs}}
+use Rattle.mm_machine.specs.Language.{Frame.{Symbol, ArePair}, NumberedSymbols.{AreInOrder, by_number, comes_before, name_numbers}, CodeLists.{meant_pair, meant_pairs}}
 use Rattle.mm_machine.specs.{Language.Keys.{AreInKeyOrder, key_by_number, pair_keys}, declared.symbol.NumberedSymbol.{NumberedSymbol}, Code.PairClause.{IsPair}}
 use Rattle.mm_machine.proofs.lemmas.{machine.{ApartLemmas.{EachUpTo, pair_nowhere}, FlatLemmas.{unmapped}}, lists.Members.{contains_at}}
 

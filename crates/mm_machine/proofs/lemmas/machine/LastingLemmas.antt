@@ -1,7 +1,7 @@
 -- The lasting expressions of a machine, whose other lists change or get more behind.
-use Rattle.std.proofs.Common.{◌≡◌, ℕ, ◌-◌, ◌≤◌, List, [], ◌∷◌, ◌++◌, length, map, take, drop, refl, sym, ◌∙◌, ap, ap₂, arith, All, append-nil, length-append}
-use Rattle.std.proofs.lemmas.List.{length-drop, drop-append-le, take-append-le, drop_at, take_all, map_push, Elements.{All-head, All-tail, All-weaker, All-push}}
-use Rattle.mm_machine.specs.{Language.{Frame.{Symbol, Mandatory}, CitedFrames.{range_of}, Lasting.{AreSlotsOf, IsPattern, lasting_at, pattern_slots, pattern_symbols}}, declared.slots.Slot.{Slot}}
+use Rattle.std.proofs.Common.{◌≡◌, ℕ, ◌-◌, ◌≤◌, List, [], ◌∷◌, ◌++◌, length, map, take, drop, set, refl, sym, ◌∙◌, ap, ap₂, arith, All, append-nil, length-append}
+use Rattle.std.proofs.lemmas.List.{length-drop, drop-append-le, take-append-le, drop_at, take_all, map-set, Elements.{All-head, All-tail, All-set, All-weaker}}
+use Rattle.mm_machine.specs.{Language.{Frame.{Symbol, Mandatory}, CodeLists.{range_of}, Lasting.{AreSlotsOf, IsPattern, lasting_at, pattern_slots, pattern_symbols}}, declared.slots.Slot.{Slot}}
 use Rattle.mm_machine.{specs.declared.lasting.Pattern.{Pattern}, proofs.lemmas.machine.{CopyLemmas.{range_below}, SlotLemmas.{slots_stay}}}
 
 -- a range stays in a list that gets more behind
@@ -51,22 +51,21 @@ pub patterns_kept : (ground : ℕ) (symbols all variables : List Symbol) (slots 
 patterns_kept ground symbols all variables slots ps e are =
     patterns_stay ground ground symbols all variables [] variables slots [] slots e (omega arith) (sym (append-nil variables)) (sym (append-nil slots)) ps are
 
--- one expression more, whose symbols are behind those of the others
+-- an expression that is put in a place, whose symbols are behind those of the others
 module _ (ground : ℕ) (symbols all expression variables more all_variables : List Symbol) (slots more_slots all_slots : List Slot) (p : Pattern) (same : take ground all ≡ take ground symbols)
     (start : p.start ≡ ground) (in_order : p.start ≤ p.end) (is : pattern_symbols all p ≡ expression) (vs : all_variables ≡ variables ++ more) (ss : all_slots ≡ slots ++ more_slots)
     (first : p.first ≡ length slots) (last : p.last ≡ length all_slots) (are : AreSlotsOf all_variables expression more_slots) (ps : List Pattern) (were : All (IsPattern ground symbols variables slots) ps) where
-  pub pattern_added : All (IsPattern p.end all all_variables all_slots) (ps ++ p ∷ [])
-  pattern_added =
-      All-push (IsPattern p.end all all_variables all_slots) ps p
-      (patterns_stay ground p.end symbols all variables more all_variables slots more_slots all_slots same (omega (arith, start, in_order)) vs ss ps were) (record {
+  pub pattern_set : (n : ℕ) → All (IsPattern p.end all all_variables all_slots) (set ps n p)
+  pattern_set n =
+      All-set (IsPattern p.end all all_variables all_slots) ps n p (record {
         in_order = in_order;
         within = omega arith;
         slots_in_order = omega (arith, first, last, ap length ss, length-append slots more_slots);
         slots_within = omega (arith, last);
         slots_are = rw (is, range_added p.first p.last slots more_slots all_slots ss first last) are;
-      })
+      }) (patterns_stay ground p.end symbols all variables more all_variables slots more_slots all_slots same (omega (arith, start, in_order)) vs ss ps were)
 
-  pub expression_added : map (lasting_at all) (ps ++ p ∷ []) ≡ map (lasting_at symbols) ps ++ record { floating = p.floating; expression = expression } ∷ []
-  expression_added =
+  pub expression_set : (n : ℕ) → map (lasting_at all) (set ps n p) ≡ set (map (lasting_at symbols) ps) n (record { floating = p.floating; expression = expression })
+  expression_set n =
       let made : List Symbol → Mandatory = λ w. record { floating = p.floating; expression = w } in
-      map_push (lasting_at all) ps p ∙ ap₂ (λ (es : List Mandatory) (e : Mandatory). es ++ e ∷ []) (expressions_stay ground symbols all variables slots ps same were) (ap made is)
+      map-set (lasting_at all) ps n p ∙ ap₂ (λ (es : List Mandatory) (e : Mandatory). set es n e) (expressions_stay ground symbols all variables slots ps same were) (ap made is)

@@ -2,7 +2,7 @@
 use Rattle.std.proofs.lemmas.List.{length-drop, length-take-le, take_all, drop-drop, append_assoc, append-nil, get_or-drop}
 use Rattle.std.proofs.lemmas.{Option.{same_Some, slice_get_within, get_or_from_slice_get, slice_get-get_or}, Bool.{false≢true}}
 use Rattle.std.proofs.Common.{◌≡◌, ℕ, zero, suc, ◌+◌, ◌-◌, ◌≤◌, true, false, Some, List, [], ◌∷◌, ◌++◌, length, take, drop, get_or, refl, sym, ◌∙◌, ap, subst, arith, inl, inr, slice_get, Contains}
-use Rattle.mm_machine.specs.Language.{Frame.{Symbol, HasVariable}, Typing.{IsTyping}, CitedFrames.{range_of}, Lasting.{AreSlotsOf, IsPattern, pattern_slots, pattern_symbols}}
+use Rattle.mm_machine.specs.Language.{Frame.{Symbol, HasVariable}, Typing.{IsTyping}, CodeLists.{range_of}, Lasting.{AreSlotsOf, IsPattern, pattern_slots, pattern_symbols}}
 use Rattle.mm_machine.specs.{Code.Filling.{AreSlotsWithin, IsFillable, IsGivenWithin}, declared.{slots.Slot.{Slot}, lasting.Pattern.{Pattern}, pattern.Given.{Given}}}
 use Rattle.mm_machine.proofs.lemmas.{machine.{ApartLemmas.{front_at}, FlatLemmas.{range_at}}, lists.Members.{pushed, take_next, contains_at, contains_behind}}
 

@@ -2,7 +2,7 @@
 use Rattle.std.proofs.Common.{◌≡◌, ℕ, ◌+◌, ◌-◌, ◌<◌, ◌≤◌, true, false, Some, List, [], ◌∷◌, option_map, length, map, take, drop, get_or, refl, sym, ◌∙◌, ap, subst, arith, inl, inr, slice_get, All}
 use Rattle.std.proofs.{Common.{Contains}, lemmas.{Bool.{false≢true}, List.{length-map, length-take, drop-drop, take-append-drop, Elements.{All-contains, Contains-append_cases}}}}
 use Rattle.std.proofs.lemmas.Option.{slice_get-map, slice_get-get_or, slice_get_within, same_Some}
-use Rattle.mm_machine.specs.Language.{Frame.{Symbol, Mandatory, HasVariable}, Substitution.{substituted}, Typing.{IsTyped, IsTyping}, CitedFrames.{range_of}}
+use Rattle.mm_machine.specs.Language.{Frame.{Symbol, Mandatory, HasVariable}, Substitution.{substituted}, Typing.{IsTyped, IsTyping}, CodeLists.{range_of}}
 use Rattle.mm_machine.specs.{Language.Lasting.{AreSlotsOf, IsPattern, lasting_at, lasting_or, pattern_slots, pattern_symbols}, declared.{lasting.Pattern.{Pattern}, slots.Slot.{Slot}}}
 use Rattle.mm_machine.specs.{declared.{pattern.{Entry.{Entry}, Given.{Given}}, taken.Taken.{Taken}}, Code.{Flat.{IsEntryWithin, read}, Citation.{GivesEntries, IsTypingOf}, PairClause.{IsSlot}}}
 use Rattle.mm_machine.specs.Code.Filling.{AllGive, AreTaken, IsFillable, entries_of, frame_taking, given_symbols, lasting_taken, pattern_filled, variables_of}

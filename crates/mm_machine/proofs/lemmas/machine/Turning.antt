@@ -6,9 +6,9 @@ use mathlib.Core.Bool.{Bool-discrete}
 use Rattle.mm_machine.specs.Language.{Frame.{Symbol, Frame, LabelMeaning, Hypothesis, Assertion, Setting}, Substitution.{substituted}, Derivation.{ShareVariable, AreApart}}
 use Rattle.mm_machine.specs.Language.{Typing.{IsFrame, HasFrames}, Steps.{Cites, Moves}, Expansion.{Step, Named, Saved, Save, NotKnown}}
 use Rattle.mm_machine.specs.Language.{Faults.{last_entries, LackPair, CitingFails, LabelFails, StepLineHolds, row_of, IsLowest}, Machine.{State, Turns, IsUsable, IsReady}}
-use Rattle.mm_machine.specs.declared.ProofNumber.{ProofNumber, TheVariants.{P01, P02, P03, P04, P05, P06, P07, P08, P09, P10, P11, P12, P13, P14, P15}}
+use Rattle.mm_machine.specs.{Code.Citation.{OtherTypecode}, declared.ProofNumber.{ProofNumber, TheVariants.{P01, P02, P03, P04, P05, P06, P07, P08, P09, P10, P11, P12, P13, P14, P15}}}
 use Rattle.mm_machine.proofs.lemmas.verdicts.{Lines.{not_cited, long_by, pairs_by, wrong_by}, Choices.{both_of, not_of, expression_discrete, dec_any, dec_any_zip, dec_share, dec_lack, are_apart}}
-use Rattle.mm_machine.proofs.lemmas.{machine.Given.{given_by, floats_match, all_match, OtherTypecode, dec_option}, lists.Members.{last_element}}
+use Rattle.mm_machine.proofs.lemmas.{machine.Given.{given_by, floats_match, all_match, dec_option}, lists.Members.{last_element}}
 
 -- the numbers in the order of their rows
 abbrev number_at : ℕ → ProofNumber

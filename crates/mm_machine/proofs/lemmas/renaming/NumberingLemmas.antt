@@ -3,7 +3,7 @@ use Rattle.std.proofs.lemmas.{Grind.{common_steps}, Bool.{cases_Bool, false≢tr
 use Rattle.std.proofs.Common.{◌≡◌, ◌≢◌, ℕ, zero, suc, ◌+◌, Bool, true, false, Some, List, [], ◌∷◌, map, refl, sym, ap, ap₂, ◌∙◌, arith, slice_get, bytes_eq, All}
 use Rattle.mm_machine.specs.{declared.symbol.NumberedSymbol.{NumberedSymbol}, Language.Names.{AreDistinct, name_at}}
 use Rattle.mm_machine.specs.Language.NumberedSymbols.{symbol_of, symbols_of, pair_of, kept_pairs, IsNumbered, IsPairNumbered, by_number, all_by_number}
-use Rattle.mm_machine.specs.Language.{Renaming.{IsRenaming, renamed_pair, renamed_pairs}, CitedFrames.{meant_pairs}, Numbering.{exchanged, named_from, numbered_from, naming, unnaming}}
+use Rattle.mm_machine.specs.Language.{Renaming.{IsRenaming, renamed_pair, renamed_pairs}, CodeLists.{meant_pairs}, Numbering.{exchanged, named_from, numbered_from, naming, unnaming}}
 
 same_names : (a b : List ℕ) → a ≡ b → bytes_eq a b ≡ true
 same_names a b e = (bytes_eq-Decides a b).1 e

@@ -1,5 +1,5 @@
 use Rattle.std.proofs.{Common.{List, map, get_or, arith}, lemmas.Option.{slice_get_within, slice_get-get_or}}
-use Rattle.mm_machine.specs.{Language.CitedFrames.{meant_pairs}, Code.PairClause.{EachApart, AtSlots, SomeNotApart}, declared.{gather.SlotPair.{SlotPair}, sets.Chunk.{Chunk}}}
+use Rattle.mm_machine.specs.{Language.CodeLists.{meant_pairs}, Code.PairClause.{EachApart, AtSlots, SomeNotApart}, declared.{gather.SlotPair.{SlotPair}, sets.Chunk.{Chunk}}}
 use Rattle.mm_machine.proofs.lemmas.machine.{ApartLemmas.{each_more}, PairClauseLemmas.{at_slots, slot_numbers}}
 use Rattle.mm_machine.proofs.pairs.all_apart.Goals as goal
 

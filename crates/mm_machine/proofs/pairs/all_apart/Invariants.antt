@@ -1,5 +1,5 @@
 use Rattle.std.proofs.Common.{map}
-use Rattle.mm_machine.{specs.{Language.CitedFrames.{meant_pairs}, Code.PairClause.{EachApart, AtSlots, KnowsApart}}, proofs.lemmas.machine.ApartLemmas.{EachUpTo}}
+use Rattle.mm_machine.{specs.{Language.CodeLists.{meant_pairs}, Code.PairClause.{EachApart, AtSlots, KnowsApart}}, proofs.lemmas.machine.ApartLemmas.{EachUpTo}}
 use Rattle.mm_machine.proofs.pairs.all_apart.Given as goal
 
 abbrev pub invariant-loop-n : goal.invariant-loop-n

@@ -1,5 +1,5 @@
 use Rattle.std.proofs.{Common.{◌≡◌, ◌+◌, true, get_or, sym, subst, take}, lemmas.List.{get_or_default, Elements.{All-contains}}}
-use Rattle.mm_machine.specs.{Language.{Frame.{Symbol}, CitedFrames.{meant_pair}, Typing.{IsTyped}}, declared.gather.SlotPair.{SlotPair}, Code.{Filling.{frame_taking}, PairClause.{HasSlots, IsSlot}}}
+use Rattle.mm_machine.specs.{Language.{Frame.{Symbol}, CodeLists.{meant_pair}, Typing.{IsTyped}}, declared.gather.SlotPair.{SlotPair}, Code.{Filling.{frame_taking}, PairClause.{HasSlots, IsSlot}}}
 use Rattle.mm_machine.proofs.lemmas.{machine.{FlatLemmas.{mapped_or_get}, PairClauseLemmas.{slots_more}, TakenLemmas.{slot_found}}, lists.Members.{contains_at}}
 use Rattle.mm_machine.proofs.pairs.find_slots.Goals as goal
 

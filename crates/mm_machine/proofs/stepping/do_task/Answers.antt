@@ -1,5 +1,5 @@
 use Rattle.std.proofs.Common.{◌≡◌, ◌++◌, ◌∷◌, [], map, length, get_or, refl, sym, ◌∙◌, ap, subst, MatchOption, slice_get}
-use Rattle.mm_machine.specs.Language.{Frame.{Frame, Mandatory, AreSameFrame}, Expansion.{Step}, Faults.{IsLowest}, Machine.{State}, CitedFrames.{meant_pairs}, Lasting.{cited_frame, lasting_of}}
+use Rattle.mm_machine.specs.Language.{Frame.{Frame, Mandatory, AreSameFrame}, Expansion.{Step}, Faults.{IsLowest}, Machine.{State}, CodeLists.{meant_pairs}, Lasting.{cited_frame, lasting_of}}
 use Rattle.mm_machine.specs.{declared.{pattern.Entry.{Entry}, stepping.Task.{Task}}, Code.{Flat.{read}, MachineState.{state_of}, Tasks.{HasState, IsTaskWithin}}}
 use Rattle.mm_machine.proofs.lemmas.machine.FlatLemmas.{mapped_at, mapped_or_get, unmapped}
 use Rattle.mm_machine.proofs.lemmas.machine.StepLemmas.{lasting, frames, means_push, means_cite, means_again, means_keep, cite_turns, TurnsTo, pushed_turns, kept_turns, cited_turns, named_turns}

@@ -1,6 +1,6 @@
 use Rattle.std.{specs.List.{AllZip}, proofs.{lemmas.{List.{length-map}, Option.{slice_get-get_or}}, Common.{◌≡◌, refl, map, ◌≤◌, ◌<◌, ℕ, List, All, Some, length, get_or, sym, ◌∙◌, ap, subst, arith}}}
 use Rattle.mm_machine.specs.Language.{Reaches.{Reaches}, Frame.{Mandatory, Setting, Symbol}, Expansion.{Step}, NamedSteps.{AreUses, IsUseWithin, MeansUse, meant, IsSavedWithin, actions_mean}}
-use Rattle.mm_machine.specs.{Language.{Lasting.{KeepsLasting, cited_frame, lasting_at}, CitedFrames.{meant_pairs}, Machine.{nothing_yet}}, declared.{machine.Machine.{Machine}, named.Cited.{Cited}}}
+use Rattle.mm_machine.specs.{Language.{Lasting.{KeepsLasting, cited_frame, lasting_at}, CodeLists.{meant_pairs}, Machine.{nothing_yet}}, declared.{machine.Machine.{Machine}, named.Cited.{Cited}}}
 use Rattle.mm_machine.{specs.{declared.{step.ProofStep.{ProofStep}, stepping.Task.{Task}}, Code.{Flat.{read}, Tasks.{MeansTask}}}, proofs.lemmas.machine.Reaching.{at_start}}
 use Rattle.mm_machine.proofs.lemmas.machine.StepLemmas.{lasting, frames, nothing_known, follows_more, fault_here, unknown_here, reached_all, means_known, action_at, saves_next}
 use Rattle.mm_machine.proofs.{lemmas.verdicts.Part.{all_run, known_more}, stepping.run_through.Goals.{In_ok-clear}}

@@ -1,5 +1,5 @@
 use Rattle.std.proofs.Common.{◌≡◌, List, length, take}
-use Rattle.mm_machine.specs.Language.{RunLaws.{KnownUpTo}, Frame.{Setting, AreSamePairs}, Lasting.{KeepsLasting}, Typing.{HasFrames}, Expansion.{Step}, Machine.{State}, CitedFrames.{meant_pairs}}
+use Rattle.mm_machine.specs.Language.{RunLaws.{KnownUpTo}, Frame.{Setting, AreSamePairs}, Lasting.{KeepsLasting}, Typing.{HasFrames}, Expansion.{Step}, Machine.{State}, CodeLists.{meant_pairs}}
 use Rattle.mm_machine.specs.{Language.NamedSteps.{AreUses, actions_mean, saves_in}, Code.{PairClause.{IsPairRoom}, MachineState.{AreRanges}, Tasks.{HasState}}}
 use Rattle.mm_machine.proofs.lemmas.machine.Reaching.{Follows}
 use Rattle.mm_machine.proofs.stepping.run_through.Given as goal

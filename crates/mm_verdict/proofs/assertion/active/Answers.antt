@@ -1,7 +1,7 @@
 use Rattle.std.{proofs.Common.{◌≡◌, Option, Some, ℕ, List, subst, IfSome, All}, specs.Borrow.{Bor}}
 use Rattle.mm_frame.specs.Language.{Base.{before}, Framing.{active_pairs}}
 use Rattle.mm_machine.specs.Language.{Frame.{Symbol, AreSamePairs}, Names.{AreDistinct}, NumberedSymbols.{kept_pairs, AreInOrder, IsPairNumbered, by_number}, Renaming.{renamed_pairs}}
-use Rattle.mm_machine.specs.{Language.{CitedFrames.{meant_pairs}, Numbering.{unnaming}, RunLaws.{NumbersKeepPairs}}, declared.symbol.NumberedSymbol.{NumberedSymbol}}
+use Rattle.mm_machine.specs.{Language.{CodeLists.{meant_pairs}, Numbering.{unnaming}, RunLaws.{NumbersKeepPairs}}, declared.symbol.NumberedSymbol.{NumberedSymbol}}
 use Rattle.mm_verdict.proofs.assertion.active.Goals as goal
 
 abbrev Kept : Type 0

@@ -3,7 +3,7 @@ use Rattle.mm_frame.specs.Language.{Base.{BaseView, before, said_at}, Framing.{m
 use Rattle.mm_machine.specs.{Language.Verdict.{Decoded}, declared.step.ProofFault.{ProofFault}}
 use Rattle.mm_verdict.specs.{Code.{Cited.{names_item, marked_at, item_cites}, DecodedProof.{IsDecodedIn}}, Language.{BaseLabels.{setting_at}, Citing.{cites, cited_words}}}
 use Rattle.mm_verdict.{specs.Language.{VerdictAt.{cites_at, mandatory_labels}, DecodedSteps.{decoded_steps}}, proofs.lemmas.base.FrameLemmas.{framed_proof}}
-use Rattle.mm_verdict.proofs.lemmas.{citing.{CitedWordLemmas.{cites_compressed, cites_normal}, MarkedLemmas.{cites_alike, listed_behind}}, machine.NamedLemmas.{masked_used}}
+use Rattle.mm_verdict.proofs.lemmas.{citing.{CitedWordLemmas.{cites_compressed, cites_normal}, MarkedLemmas.{cites_alike, listed_behind}}, machine.MarkedLabels.{masked_used}}
 use Rattle.mm_verdict.proofs.citing.cites_used.Goals.{In_ok-named}
 use Rattle.mm_verdict.proofs.citing.cites_used.Goals as goal
 
@@ -14,7 +14,7 @@ left_is c n from =
     let d = c.args.proof.decoding.now in
     let labels = d.labels.items in
     cites_alike (marked_at c.named.new.marks.items) (λ j. list_any (names_item labels j) d.steps.items) from (drop n labels) (λ j e.
-    (rw (c.deref-labels.ensures.value, c.deref.ensures.value) at c.in_ok-named.ensures) j (listed_behind n labels j e) ∙ (masked_used labels c.args.proof.decoding.now.used.items d.steps.items c.args.proof.decoding.now.marked).listed j)
+    (rw (c.deref-labels.ensures.value, c.deref.ensures.value) at c.in_ok-named.ensures) j (listed_behind n labels j e) ∙ masked_used labels d.used.items d.steps.items d.marked j)
 
 -- the words that cite are those of the item's proof
 its_cites : (c : In_ok-named) (view : BaseView) → IsDecodedIn c.args.proof view → let proof = c.args.proof in

@@ -1,5 +1,5 @@
 use Rattle.std.proofs.{Common.{◌∙◌, ◌||◌, ◌∷◌, [], ap, sym, arith, take_all, take, get_or, if◌then◌else◌, false, Some, Bool}, lemmas.List.Folds.{list_any-append}, Math.Bool.{or-false}}
-use Rattle.mm_verdict.{specs.Code.{Cited.{cited_item, is_item, is_listed}, NamedItems.{masked}}, proofs.lemmas.machine.NamedLemmas.{masked_count, masked_next}}
+use Rattle.mm_verdict.{specs.Code.Cited.{cited_item, is_item, is_listed, masked}, proofs.lemmas.machine.MarkedLabels.{masked_count, masked_next}}
 use Rattle.mm_frame.specs.declared.base.Resolved.{Resolved}
 use Rattle.mm_frame.specs.declared.base.Resolved.TheVariants as answers
 use Rattle.mm_verdict.proofs.citing.named.Goals as goal

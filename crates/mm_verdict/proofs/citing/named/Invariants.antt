@@ -1,5 +1,5 @@
 use Rattle.std.proofs.Common.{◌≡◌, ℕ, true, take}
-use Rattle.mm_verdict.specs.Code.{Cited.{is_listed, marked_at}, NamedItems.{masked}}
+use Rattle.mm_verdict.specs.Code.Cited.{is_listed, marked_at, masked}
 use Rattle.mm_verdict.proofs.citing.named.Given as goal
 
 abbrev pub invariant-loop-k : goal.invariant-loop-k

@@ -1,10 +1,10 @@
 -- Marks for the labels that steps name, and the labels that are marked.
-use Rattle.std.proofs.lemmas.{Grind.{common_steps}, Bool.{cases_Bool, false≢true}, List.Folds.{list_any-append}, Map.Keys.{any_passes_from_place}}
+use Rattle.std.proofs.lemmas.{Grind.{common_steps}, Bool.{cases_Bool, false≢true}, List.{take_more, Folds.{list_any-append}}, Map.Keys.{any_passes_from_place}}
 use Rattle.std.proofs.lemmas.Option.{same_Some, slice_get_cases, slice_get_past, slice_get_within}
-use Rattle.std.proofs.{Common.{◌≡◌, ℕ, zero, suc, ◌<◌, Bool, true, false, ◌||◌, Some, List, [], ◌∷◌, ◌++◌, length, refl, sym, ◌∙◌, ap, inl, inr, slice_get, ◌⊎◌, eq-eqb, arith}, Math.Bool.{or-false}}
-use Rattle.std.specs.{Cmp.{both_ways}, List.{list_any}}
+use Rattle.std.proofs.Common.{◌≡◌, ℕ, zero, suc, ◌+◌, ◌<◌, Bool, true, false, ◌||◌, if◌then◌else◌, Some, List, [], ◌∷◌, ◌++◌, length, take, get_or, refl, sym, ◌∙◌, ap, inl, inr, slice_get, eq-eqb}
+use Rattle.std.{proofs.{Common.{arith}, Math.Bool.{or-false}}, specs.{Cmp.{both_ways}, List.{list_any}}}
 use Rattle.mm_frame.specs.declared.base.Resolved.{Resolved}
-use Rattle.mm_verdict.specs.Code.{Cited.{cited_item, is_item, is_listed, item_named, marked_at, names_item}, UsedLabels.{AreUseMarks, AreUsed, KeepsNamed, KeepsUsed, label_named, names_label}}
+use Rattle.mm_verdict.specs.Code.{Cited.{cited_item, is_item, is_listed, item_named, marked_at, masked, names_item}, UsedLabels.{AreUseMarks, label_named, names_label}}
 use Rattle.mm_machine.specs.declared.step.{Action.{Action}, ProofStep.{ProofStep}}
 use Rattle.mm_frame.specs.declared.base.Resolved.TheVariants as answers
 use Rattle.mm_machine.specs.declared.step.Action.TheVariants as actions
@@ -42,50 +42,71 @@ named_at labels k action e = grind (arith, common_steps) steps 200000
 names_it : (action : Action) (k : ℕ) → action ≡ actions.Label k → is_item (label_named action) k ≡ true
 names_it action k e = ap (λ a. is_item (label_named a) k) e ∙ eq-eqb k k refl
 
--- an action that names an assertion, where the labels that it names are kept
-listed_by : (labels used : List Resolved) (j : ℕ) (action : Action) → KeepsNamed labels used action → is_item (item_named labels action) j ≡ true → is_listed used j ≡ true
+-- an action that names an assertion, where the label that it names is kept
+listed_by : (labels used : List Resolved) (j : ℕ) (action : Action) → ((k : ℕ) → action ≡ actions.Label k → slice_get used k ≡ slice_get labels k) → is_item (item_named labels action) j ≡ true → is_listed used j ≡ true
 listed_by labels used j action keeps e = grind (arith, common_steps, false≢true, any_passes_from_place) steps 200000
 
--- the marked labels are those that the steps name
-pub marked_used :
-    (labels used : List Resolved) (marks : List Bool) (steps : List ProofStep) → length used ≡ length labels → AreUseMarks (length labels) marks steps →
-    ((n : ℕ) → marked_at marks n ≡ true → slice_get used n ≡ slice_get labels n) →
-    ((n : ℕ) → n < length labels → marked_at marks n ≡ false → slice_get used n ≡ Some answers.Unknown) → AreUsed labels used steps
-marked_used labels used marks steps count are marked out = record {
-  part = record { count = count; each = part };
-  kept = kept;
-  listed = λ j. both_ways (is_listed used j) (list_any (names_item labels j) steps) (named j) (listed j);
-}
-  where
-    part : (k : ℕ) (u : Resolved) → slice_get used k ≡ Some u → (u ≡ answers.Unknown) ⊎ (slice_get labels k ≡ Some u)
-    part k u at = grind (arith, common_steps, cases_Bool (marked_at marks k), slice_get_within used k u at, same_Some) steps 200000
+-- ---- labels with marks
 
-    kept : KeepsUsed labels used steps
-    kept n step at k names = elim (slice_get_cases labels k).1 [
-      | inl there ↦ marked k (are.each k there.1 ∙ any_passes_from_place (names_label k) steps n step at (names_it step.action k names))
-      | inr past ↦ let beyond = past.0 in slice_get_past used k (omega (arith, beyond, count)) ∙ sym past.1
-    ]
+pub masked_count : (labels : List Resolved) (marks : List Bool) → length (masked labels marks) ≡ length labels
+masked_count [] marks = refl
+masked_count (l ∷ labels) [] = ap suc (masked_count labels [])
+masked_count (l ∷ labels) (m ∷ marks) = ap suc (masked_count labels marks)
 
-    listed : (j : ℕ) → list_any (names_item labels j) steps ≡ true → is_listed used j ≡ true
-    listed j e =
-        let step = found (names_item labels j) steps e in
-        listed_by labels used j step.1.action (kept step.0 step.1 step.2) step.3
+pub masked_marked : (labels : List Resolved) (marks : List Bool) (n : ℕ) → marked_at marks n ≡ true → slice_get (masked labels marks) n ≡ slice_get labels n
+masked_marked [] marks n t = refl
+masked_marked (l ∷ labels) [] n t = absurd (false≢true t)
+masked_marked (l ∷ labels) (m ∷ marks) zero t = rw t refl
+masked_marked (l ∷ labels) (m ∷ marks) (suc n) t = masked_marked labels marks n t
 
-    named_by : (j k : ℕ) (u : Resolved) → slice_get used k ≡ Some u → is_item (cited_item (Some u)) j ≡ true → (u ≡ answers.Unknown) ⊎ (marked_at marks k ≡ true) → list_any (names_item labels j) steps ≡ true
-    named_by j k u at e (inl nothing) = absurd (false≢true (sym (ap (λ label. is_item (cited_item (Some label)) j) nothing) ∙ e))
-    named_by j k u at e (inr t) =
-        let less = slice_get_within used k u at in
-        let step = found (names_label k) steps (sym (are.each k (omega (arith, less, count))) ∙ t) in
-        any_passes_from_place (names_item labels j) steps step.0 step.1 step.2
-        (ap (λ o. is_item o j) (named_at labels k step.1.action step.3 ∙ ap cited_item (sym (marked k t) ∙ at)) ∙ e)
+pub masked_out : (labels : List Resolved) (marks : List Bool) (n : ℕ) → n < length labels → marked_at marks n ≡ false → slice_get (masked labels marks) n ≡ Some answers.Unknown
+masked_out [] marks n l f = absurd (omega (arith, l))
+masked_out (l ∷ labels) [] zero k f = refl
+masked_out (l ∷ labels) [] (suc n) k f = masked_out labels [] n (omega (arith, k)) refl
+masked_out (l ∷ labels) (m ∷ marks) zero k f = rw f refl
+masked_out (l ∷ labels) (m ∷ marks) (suc n) k f = masked_out labels marks n (omega (arith, k)) f
 
-    unless_marked : (k : ℕ) (u : Resolved) → slice_get used k ≡ Some u → (u ≡ answers.Unknown) ⊎ (marked_at marks k ≡ true)
-    unless_marked k u at = elim (cases_Bool (marked_at marks k)) [
-      | inl t ↦ inr t
-      | inr f ↦ let less = slice_get_within used k u at in inl (same_Some u answers.Unknown (sym at ∙ out k (omega (arith, less, count)) f))
-    ]
+masked_at : (labels : List Resolved) (marks : List Bool) (k : ℕ) (d : Resolved) (b : Bool) → k < length labels → length marks ≡ length labels →
+    get_or (masked labels marks) k d ≡ (if get_or marks k b then get_or labels k d else answers.Unknown)
+masked_at [] marks k d b l e = absurd (omega (arith, l))
+masked_at (label ∷ labels) [] k d b l e = absurd (omega (arith, e))
+masked_at (label ∷ labels) (mark ∷ marks) zero d b l e = refl
+masked_at (label ∷ labels) (mark ∷ marks) (suc k) d b l e = masked_at labels marks k d b (omega (arith, l)) (omega (arith, e))
 
-    named : (j : ℕ) → is_listed used j ≡ true → list_any (names_item labels j) steps ≡ true
-    named j e =
-        let entry = found (λ label. is_item (cited_item (Some label)) j) used e in
-        named_by j entry.0 entry.1 entry.2 entry.3 (unless_marked entry.0 entry.1 entry.2)
+-- one more of them
+pub masked_next : (labels : List Resolved) (marks : List Bool) (k : ℕ) (d : Resolved) (b : Bool) → k < length labels → length marks ≡ length labels →
+    take (k + 1) (masked labels marks) ≡ take k (masked labels marks) ++ (if get_or marks k b then get_or labels k d else answers.Unknown) ∷ []
+masked_next labels marks k d b l e =
+    take_more (masked labels marks) k d (omega (arith, l, masked_count labels marks)) ∙ ap (λ u. take k (masked labels marks) ++ u ∷ []) (masked_at labels marks k d b l e)
+
+-- the marked labels list the assertions that the steps name
+module _ (labels : List Resolved) (marks : List Bool) (steps : List ProofStep) (are : AreUseMarks (length labels) marks steps) where
+  abbrev used : List Resolved
+  used = masked labels marks
+
+  kept : (n : ℕ) (step : ProofStep) → slice_get steps n ≡ Some step → (k : ℕ) → step.action ≡ actions.Label k → slice_get used k ≡ slice_get labels k
+  kept n step at k names = elim (slice_get_cases labels k).1 [
+    | inl there ↦ masked_marked labels marks k (are.each k there.1 ∙ any_passes_from_place (names_label k) steps n step at (names_it step.action k names))
+    | inr past ↦ let beyond = past.0 in slice_get_past used k (omega (arith, beyond, masked_count labels marks)) ∙ sym past.1
+  ]
+
+  listed : (j : ℕ) → list_any (names_item labels j) steps ≡ true → is_listed used j ≡ true
+  listed j e =
+      let step = found (names_item labels j) steps e in
+      listed_by labels used j step.1.action (kept step.0 step.1 step.2) step.3
+
+  named_by : (j k : ℕ) (u : Resolved) → slice_get used k ≡ Some u → is_item (cited_item (Some u)) j ≡ true → list_any (names_item labels j) steps ≡ true
+  named_by j k u at e = let less = slice_get_within used k u at in let within : k < length labels = omega (arith, less, masked_count labels marks) in
+      elim (cases_Bool (marked_at marks k)) [
+        | inl t ↦ (let step = found (names_label k) steps (sym (are.each k within) ∙ t) in
+            any_passes_from_place (names_item labels j) steps step.0 step.1 step.2
+            (ap (λ o. is_item o j) (named_at labels k step.1.action step.3 ∙ ap cited_item (sym (masked_marked labels marks k t) ∙ at)) ∙ e))
+        | inr f ↦ (let nothing = same_Some u answers.Unknown (sym at ∙ masked_out labels marks k within f) in
+            absurd (false≢true (sym (ap (λ label. is_item (cited_item (Some label)) j) nothing) ∙ e)))
+      ]
+
+  named : (j : ℕ) → is_listed used j ≡ true → list_any (names_item labels j) steps ≡ true
+  named j e = let entry = found (λ label. is_item (cited_item (Some label)) j) used e in named_by j entry.0 entry.1 entry.2 entry.3
+
+  pub masked_used : (j : ℕ) → is_listed (masked labels marks) j ≡ list_any (names_item labels j) steps
+  masked_used j = both_ways (is_listed used j) (list_any (names_item labels j) steps) (named j) (listed j)

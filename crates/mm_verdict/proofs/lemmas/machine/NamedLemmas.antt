@@ -1,15 +1,13 @@
 -- What the labels of a proof name, by what a machine has loaded.
-use Rattle.std.proofs.lemmas.{Bool.{false≢true}, List.{length-map, take_more, Elements.{All-nil, All-cons}}, Option.{slice_get-get_or, slice_get-map, slice_get_within}}
-use Rattle.std.proofs.Common.{◌≡◌, ℕ, zero, suc, ◌<◌, ◌≤◌, Bool, true, false, Some, List, [], ◌∷◌, ◌++◌, length, map, take, get_or, ◌+◌, if◌then◌else◌, refl, sym, ◌∙◌, ap, subst, arith, slice_get}
-use Rattle.std.{proofs.Common.{All}, specs.{List.{AllZip}, Option.{option_map}}}
-use Rattle.mm_verdict.specs.Code.NamedItems.{AreCited, AreKnownOf, AreNamesOf, HasItems, IsNamedBy, IsUseIn, IsUseOf, TakesNothing, masked}
-use Rattle.mm_verdict.specs.Code.{NumberedBase.{numbered_frame, numbered_hypothesis, numbered_setting}, Cited.{marked_at}, UsedLabels.{AreUseMarks, AreUsed}}
-use Rattle.mm_verdict.specs.{Language.{DecodedSteps.{AreEntries, IsEntry, entry_step, entry_steps}, Loaded.{AreItemsOf, IsItemOf}}, declared.known.Known.{Known}}
-use Rattle.mm_verdict.proofs.lemmas.{base.FrameLemmas.{shown_framed}, machine.{LoadedLemmas.{item_there}, MarkedLabels.{marked_used}}}
+use Rattle.std.proofs.lemmas.{List.{length-map, Elements.{All-nil, All-cons}}, Option.{slice_get-get_or, slice_get-map, slice_get_within}}
+use Rattle.std.{proofs.Common.{◌≡◌, ℕ, ◌≤◌, ◌<◌, ◌⊎◌, inl, inr, true, Some, List, [], ◌∷◌, ◌++◌, length, map, sym, ◌∙◌, ap, subst, arith, slice_get, All}, specs.{List.{AllZip}, Option.{option_map}}}
+use Rattle.mm_verdict.specs.Code.NamedItems.{AreCited, AreKnownOf, AreNamesOf, HasItems, IsNamedBy, IsUseIn, IsUseOf, TakesNothing}
+use Rattle.mm_verdict.specs.{Code.NumberedBase.{numbered_frame, numbered_hypothesis, numbered_setting}, Language.DecodedSteps.{AreEntries, IsEntry, entry_step, entry_steps}}
+use Rattle.mm_verdict.{specs.{Language.Loaded.{HasItem, IsItemOf}, declared.known.Known.{Known}}, proofs.lemmas.{base.FrameLemmas.{shown_framed}, machine.LoadedLemmas.{AreLoaded}}}
 use Rattle.mm_frame.specs.{declared.base.{Base.{Base}, Resolved.{Resolved}}, Language.{Base.{BaseView, is_framed_at, is_shown_at}, Answering.{IsBase, IsBaseBy}}}
 use Rattle.mm_machine.specs.Language.{Frame.{Symbol, Mandatory, LabelMeaning, Assertion}, Keys.{key_by_number}, Renaming.{renamed_meaning}, Numbering.{unnaming}}
 use Rattle.mm_machine.specs.Language.{NamedSteps.{IsUseWithin, MeansUse, Pushes}, Lasting.{HoldsLasting, cited_frame, lasting_at, lasting_of, lasting_or}, NumberedSymbols.{by_code, by_number}}
-use Rattle.mm_machine.specs.declared.{machine.Machine.{Machine}, named.{Cited.{Cited}, Use.{Use}}, step.ProofStep.{ProofStep}, symbol.{CodedSymbol.{CodedSymbol}, NumberedSymbol.{NumberedSymbol}}}
+use Rattle.mm_machine.specs.declared.{machine.Machine.{Machine}, named.{Cited.{Cited}, Use.{Use}}, symbol.{CodedSymbol.{CodedSymbol}, NumberedSymbol.{NumberedSymbol}}}
 use Rattle.mm_frame.specs.declared.base.Resolved.TheVariants as answers
 use Rattle.mm_machine.specs.declared.named.Use.TheVariants as uses
 
@@ -23,6 +21,11 @@ named_by code view i base (l ∷ labels) entries =
 -- up to a number that is not lower
 pub named_up : (code : Base) (i n : ℕ) (label : Resolved) → i ≤ n → IsNamedBy code i label → IsNamedBy code n label
 named_up code i n label l is = record { view = is.view; i = is.i; base = is.base; within = (let w = is.within in omega (arith, l, w)); entry = is.entry }
+
+-- the number of an item that it names
+pub named_within : (code : Base) (n : ℕ) (label : Resolved) (j : ℕ) → IsNamedBy code n label → (label ≡ answers.Hypothesis j) ⊎ (label ≡ answers.Assertion j) → j < n
+named_within code n label j is (inl e) = let entry = subst (IsEntry is.view is.i) e is.entry in let l = entry.0.earlier in let up = is.within in omega (arith, l, up)
+named_within code n label j is (inr e) = let entry = subst (IsEntry is.view is.i) e is.entry in let l = entry.0.earlier in let up = is.within in omega (arith, l, up)
 
 -- ---- all uses
 
@@ -50,8 +53,8 @@ uses_more code lasting old new stay _ _ u l z s = absurd z
 
 -- they are in range
 one_within : (code : Base) (lasting : List Mandatory) (cited : Assertions) (u : Use) (l : Resolved) → IsUseOf code lasting cited u l → IsUseWithin (length lasting) (length cited) u
-one_within code lasting cited (uses.Lasting n) (answers.Hypothesis j) s = s.1
-one_within code lasting cited (uses.Lasting n) (answers.Assertion j) s = s.1
+one_within code lasting cited (uses.Lasting n) (answers.Hypothesis j) s = s.1.0
+one_within code lasting cited (uses.Lasting n) (answers.Assertion j) s = s.1.0
 one_within code lasting cited (uses.Assertion n) (answers.Assertion j) s = slice_get_within cited n s.0 s.1
 one_within code lasting cited uses.Nothing answers.Inactive s = tt
 one_within code lasting cited uses.Nothing answers.Unknown s = tt
@@ -68,15 +71,15 @@ nothing_pushed : (code : Base) (j : ℕ) → TakesNothing code j → (names : Li
     e ≡ (numbered_hypothesis names view j).expression → Pushes (Assertion (numbered_frame names view j)) e
 nothing_pushed code j takes names view base framed e is = let t = takes names view base framed in (t.0, sym is, rw is t.1)
 
-module _ (code : Base) (lasting : List Mandatory) (cited : Assertions) (items : AreItemsOf code lasting) (names : List (List ℕ)) (view : BaseView) (base : IsBaseBy names view code) where
+module _ (code : Base) (lasting : List Mandatory) (cited : Assertions) (names : List (List ℕ)) (view : BaseView) (base : IsBaseBy names view code) where
   -- the expression that a use pushes
-  pushed : (n j : ℕ) → n ≡ j → n < length lasting → is_shown_at view j ≡ true →
+  pushed : (n j : ℕ) → n ≡ j → HasItem code lasting n → is_shown_at view j ≡ true →
       (e : List Symbol) × (slice_get (map (λ h. h.expression) lasting) n ≡ Some e) × (e ≡ (numbered_hypothesis names view j).expression)
-  pushed n j same l shown =
+  pushed n j same has shown =
       let h = lasting_or lasting n in (
         h.expression,
-        slice_get-map (λ (h : Mandatory). h.expression) lasting n ∙ ap (option_map (λ (h : Mandatory). h.expression)) (slice_get-get_or lasting n _ l),
-        ap (λ h. h.expression) (subst (λ m. IsItemOf code m h) same (item_there code lasting items n l) names view base shown),
+        slice_get-map (λ (h : Mandatory). h.expression) lasting n ∙ ap (option_map (λ (h : Mandatory). h.expression)) (slice_get-get_or lasting n _ has.0),
+        ap (λ h. h.expression) (subst (λ m. IsItemOf code m h) same has.1 names view base shown),
       )
 
   -- and they mean what the entries mean
@@ -108,46 +111,9 @@ names_of code known labels is cited stand = record {
   cited = cited;
   within = subst (λ n. All (IsUseWithin n (length known.cited.items)) known.uses.items) (length-map known.machine.lasting.patterns.items (lasting_at (map by_code known.machine.symbols.items)))
       (uses_within code (lasting_of by_code known.machine) known.cited.items known.uses.items labels stand);
-  means = λ names view base i entries. uses_mean code (lasting_of by_code known.machine) known.cited.items is.items names view base i known.uses.items labels stand entries;
+  means = λ names view base i entries. uses_mean code (lasting_of by_code known.machine) known.cited.items names view base i known.uses.items labels stand entries;
 }
 
 -- what is known stays if the lasting expressions stay
 pub ran : (code : Base) (old new : Machine CodedSymbol) → HasItems code old → HoldsLasting by_code key_by_number new → lasting_of by_code new ≡ lasting_of by_code old → HasItems code new
-ran code old new is holds same = record { holds = holds; items = rw same is.items }
-
--- ---- labels with marks
-
-pub masked_count : (labels : List Resolved) (marks : List Bool) → length (masked labels marks) ≡ length labels
-masked_count [] marks = refl
-masked_count (l ∷ labels) [] = ap suc (masked_count labels [])
-masked_count (l ∷ labels) (m ∷ marks) = ap suc (masked_count labels marks)
-
-pub masked_marked : (labels : List Resolved) (marks : List Bool) (n : ℕ) → marked_at marks n ≡ true → slice_get (masked labels marks) n ≡ slice_get labels n
-masked_marked [] marks n t = refl
-masked_marked (l ∷ labels) [] n t = absurd (false≢true t)
-masked_marked (l ∷ labels) (m ∷ marks) zero t = rw t refl
-masked_marked (l ∷ labels) (m ∷ marks) (suc n) t = masked_marked labels marks n t
-
-pub masked_out : (labels : List Resolved) (marks : List Bool) (n : ℕ) → n < length labels → marked_at marks n ≡ false → slice_get (masked labels marks) n ≡ Some answers.Unknown
-masked_out [] marks n l f = absurd (omega (arith, l))
-masked_out (l ∷ labels) [] zero k f = refl
-masked_out (l ∷ labels) [] (suc n) k f = masked_out labels [] n (omega (arith, k)) refl
-masked_out (l ∷ labels) (m ∷ marks) zero k f = rw f refl
-masked_out (l ∷ labels) (m ∷ marks) (suc n) k f = masked_out labels marks n (omega (arith, k)) f
-
-masked_at : (labels : List Resolved) (marks : List Bool) (k : ℕ) (d : Resolved) (b : Bool) → k < length labels → length marks ≡ length labels →
-    get_or (masked labels marks) k d ≡ (if get_or marks k b then get_or labels k d else answers.Unknown)
-masked_at [] marks k d b l e = absurd (omega (arith, l))
-masked_at (label ∷ labels) [] k d b l e = absurd (omega (arith, e))
-masked_at (label ∷ labels) (mark ∷ marks) zero d b l e = refl
-masked_at (label ∷ labels) (mark ∷ marks) (suc k) d b l e = masked_at labels marks k d b (omega (arith, l)) (omega (arith, e))
-
--- one more of them
-pub masked_next : (labels : List Resolved) (marks : List Bool) (k : ℕ) (d : Resolved) (b : Bool) → k < length labels → length marks ≡ length labels →
-    take (k + 1) (masked labels marks) ≡ take k (masked labels marks) ++ (if get_or marks k b then get_or labels k d else answers.Unknown) ∷ []
-masked_next labels marks k d b l e =
-    take_more (masked labels marks) k d (omega (arith, l, masked_count labels marks)) ∙ ap (λ u. take k (masked labels marks) ++ u ∷ []) (masked_at labels marks k d b l e)
-
--- the marked labels are those that the steps name
-pub masked_used : (labels : List Resolved) (marks : List Bool) (steps : List ProofStep) → AreUseMarks (length labels) marks steps → AreUsed labels (masked labels marks) steps
-masked_used labels marks steps are = marked_used labels (masked labels marks) marks steps (masked_count labels marks) are (masked_marked labels marks) (masked_out labels marks)
+ran code old new is holds same = record { holds = holds; loaded = subst (AreLoaded code) (sym same) is.loaded }

@@ -1,7 +1,6 @@
-use Rattle.std.proofs.{Common.{sym, ℕ, List, ◌≡◌, true}, lemmas.Result.{err_from_is_err_and}}
-use Rattle.mm_verdict.specs.{Language.{DecodedSteps.{decoded_steps, entry_steps}, ReadIn.{IsReadIn}}, Code.{Judged.{IsDecoding}, NamedItems.{masked}}}
-use Rattle.mm_verdict.proofs.lemmas.{base.SaysLemmas.{read_at, theorem_at}, decoding.DecodedProofs.{decoded_saved}, machine.NamedLemmas.{masked_used, named_by}}
-use Rattle.mm_verdict.proofs.{lemmas.machine.UsedLemmas.{part_entries, part_means}, program.program_of.Goals.{In_ok-decoding}}
+use Rattle.std.proofs.{Common.{refl, ℕ, List, ◌≡◌, true}, lemmas.Result.{err_from_is_err_and}}
+use Rattle.mm_verdict.{specs.{Language.{DecodedSteps.{decoded_steps, entry_steps}, ReadIn.{IsReadIn}}, Code.Judged.{IsDecoding}}, proofs.lemmas.base.SaysLemmas.{read_at, theorem_at}}
+use Rattle.mm_verdict.proofs.{lemmas.{decoding.DecodedProofs.{decoded_saved}, machine.NamedLemmas.{named_by}}, program.program_of.Goals.{In_ok-decoding}}
 use Rattle.mm_frame.specs.Language.Base.{BaseView, is_proof_at}
 use Rattle.mm_verdict.proofs.program.program_of.Goals as goal
 
@@ -27,8 +26,10 @@ name_all-requires c =
     record {
       known = c.new-known.ensures c.args.base.now;
       labels = rw c.deref.ensures.value (named_by c.args.base.now has.0 c.args.i is.theorem.base c.in_ok-decoding.decoding.labels.items is.entries);
-      marks = rw (c.deref.ensures.value, c.deref-2.ensures.value) c.in_ok-decoding.decoding.marked.count;
     }
+
+pub returns-clause-items : goal.returns-clause-items
+returns-clause-items c j some = (c.in_ok-name_all.ensures.of_base.loaded j some).0.1
 
 pub returns-clause-numbers : goal.returns-clause-numbers
 returns-clause-numbers c k d l = (c.in_ok-name_all.ensures.cited k d l).item
@@ -47,15 +48,12 @@ returns-clause-means c names view read proof =
     let is = the_decoding (goal.at.returns-clause-means c).In_ok-decoding names view read proof in
     let d = c.in_ok-decoding.decoding in
     let labels = d.labels.items in
-    let marks = c.in_ok-decoding.decoding.used.items in
-    let are = masked_used labels marks d.steps.items c.in_ok-decoding.decoding.marked in
-    let used = masked labels marks in
     record {
-      labels = entry_steps view used;
+      labels = entry_steps view labels;
       decoded = decoded_steps view d c.words_of_proof-proof.result;
       decodes = is.decodes;
-      steps = sym (part_means view labels used d.steps.items are.kept);
-      uses = (rw (c.deref.ensures.value, c.deref-2.ensures.value) at c.in_ok-name_all.ensures.means) names view read.base c.args.i (part_entries view c.args.i labels used are.part is.entries);
+      steps = refl;
+      uses = (rw c.deref.ensures.value at c.in_ok-name_all.ensures.means) names view read.base c.args.i is.entries;
     }
 
 pub returns-in_err-decoding-clause-fault : goal.returns-in_err-decoding-clause-fault

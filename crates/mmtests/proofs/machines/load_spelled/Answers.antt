@@ -1,13 +1,18 @@
-use Rattle.std.proofs.Common.{◌≡◌, ◌∙◌, [], ap, subst, sym, length, inl, inr}
+use Rattle.std.proofs.{Common.{◌≡◌, ◌∙◌, [], ap, length, inl, inr, arith}, lemmas.List.{length-set}}
 use Rattle.mm_machine.specs.Language.{Lasting.{lasting_of}, NumberedSymbols.{named_symbol}}
-use Rattle.mm_verdict.specs.Language.Loaded.{AreItemsOf}
-use Rattle.mmtests.proofs.SpelledLemmas.{items_more, longer}
+use Rattle.mmtests.proofs.SpelledLemmas.{items_more}
 use Rattle.mmtests.proofs.machines.load_spelled.Goals as goal
+
+pub make_places-requires : goal.make_places-requires
+make_places-requires c = c.in_ok-widen.ensures.holds
 
 pub loop-n-init : goal.loop-n-init
 loop-n-init c =
     let none : lasting_of named_symbol c.widen.new.self ≡ [] = elim c.in_ok-widen.ensures.lasting [ inl same ↦ same ∙ c.requires.none | inr none ↦ none ] in
-    record { holds = c.in_ok-widen.ensures.holds; items = subst (AreItemsOf c.args.base.now) (sym none) (λ j h at. cc); count = ap length none }
+    record { holds = c.in_ok-make_places.ensures.holds; items = λ j l. absurd (omega (arith, l)); count = omega (arith, c.in_ok-make_places.ensures.count, ap length none) }
+
+pub load-added-requires : goal.load-added-requires
+load-added-requires c = record { holds = c.loop-n.invariant.holds; within = omega (arith, c.loop-n.invariant.count, c.loop-n-test.true) }
 
 pub loop-n-preserved : goal.loop-n-preserved
 loop-n-preserved c =
@@ -16,7 +21,10 @@ loop-n-preserved c =
     let more = c.in_ok-added.ensures.lasting in
     record {
       holds = c.in_ok-added.ensures.holds;
-      items = rw more (items_more c.args.base.now lasting c.loop-n.n _ before.items before.count
-          (rw (c.deref.ensures.value, ← c.in_ok-expression.ensures) c.loaded_of-loaded.ensures));
-      count = ap length more ∙ longer lasting _ c.loop-n.n before.count;
+      items = rw more (items_more c.args.base.now lasting c.loop-n.n _ (omega (arith, before.count, c.loop-n-test.true))
+          (rw (c.deref.ensures.value, ← c.in_ok-expression.ensures) c.loaded_of-loaded.ensures) before.items);
+      count = ap length more ∙ length-set lasting c.loop-n.n _ ∙ before.count;
     }
+
+pub returns-clause-items : goal.returns-clause-items
+returns-clause-items c j l = c.loop-n.invariant.items j (omega (arith, l, c.loop-n-test.false))

@@ -1,5 +1,5 @@
 use Rattle.std.proofs.Common.{◌≡◌, take, All}
-use Rattle.mm_machine.specs.Language.{NumberedSymbols.{by_number, named_symbol}, CitedFrames.{meant_pairs}}
+use Rattle.mm_machine.specs.Language.{NumberedSymbols.{by_number, named_symbol}, CodeLists.{meant_pairs}}
 use Rattle.mmtests.specs.Code.Spelled.{HasOneKey}
 use Rattle.mmtests.proofs.machines.spelled_pairs.Given as goal
 

@@ -1,5 +1,5 @@
 use Rattle.std.proofs.{Common.{rules, ℕ, ◌≡◌, arith, refl, sym, ◌∙◌, ap}, lemmas.{Bool.{false≢true}, List.{length-map}}}
-use Rattle.mm_machine.specs.{Language.{NumberedSymbols.{comes_before}, CitedFrames.{meant_pairs, meant_pair}, Keys.{lower_first, pair_keys}}, Code.PairClause.{IsPair}}
+use Rattle.mm_machine.specs.{Language.{NumberedSymbols.{comes_before}, CodeLists.{meant_pairs, meant_pair}, Keys.{lower_first, pair_keys}}, Code.PairClause.{IsPair}}
 use Rattle.mm_machine.proofs.lemmas.machine.{ApartLemmas.{pair_found, pair_nowhere, each_more}, KeyOrderLemmas.{none_before, none_behind}, FlatLemmas.{there_at}}
 use Rattle.mm_machine.proofs.active.Active.has.Goals as goal
 

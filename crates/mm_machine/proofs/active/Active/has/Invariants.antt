@@ -1,4 +1,4 @@
-use Rattle.mm_machine.{specs.{Code.PairClause.{IsPair}, Language.CitedFrames.{meant_pairs}}, proofs.lemmas.machine.ApartLemmas.{EachUpTo}}
+use Rattle.mm_machine.{specs.{Code.PairClause.{IsPair}, Language.CodeLists.{meant_pairs}}, proofs.lemmas.machine.ApartLemmas.{EachUpTo}}
 use Rattle.mm_machine.proofs.active.Active.has.Given as goal
 
 abbrev pub invariant-loop-place : goal.invariant-loop-place

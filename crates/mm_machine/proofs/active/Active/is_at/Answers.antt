@@ -1,5 +1,5 @@
 use Rattle.std.proofs.{Common.{arith}, lemmas.{Grind.{common_steps}, Bool.{false≢true}}}
-use Rattle.mm_machine.{specs.Language.CitedFrames.{meant_pair}, proofs.{lemmas.machine.FlatLemmas.{mapped_or}, active.Active.is_at.Goals.{then-is, else-is}}}
+use Rattle.mm_machine.{specs.Language.CodeLists.{meant_pair}, proofs.{lemmas.machine.FlatLemmas.{mapped_or}, active.Active.is_at.Goals.{then-is, else-is}}}
 use Rattle.mm_machine.proofs.active.Active.is_at.Goals as goal
 
 pub returns-then-is-2 : goal.returns-then-is-2

@@ -1,5 +1,5 @@
 use Rattle.std.proofs.{Common.{arith}, lemmas.Grind.{common_steps}}
-use Rattle.mm_machine.{specs.Language.CitedFrames.{meant_pair}, proofs.lemmas.machine.FlatLemmas.{mapped_or}}
+use Rattle.mm_machine.{specs.Language.CodeLists.{meant_pair}, proofs.lemmas.machine.FlatLemmas.{mapped_or}}
 use Rattle.mm_machine.proofs.active.Active.keys_at.Goals as goal
 
 pub returns : goal.returns

@@ -1,5 +1,5 @@
 use Rattle.std.proofs.{Common.{◌+◌, ◌-◌, ◌/◌, [], false, get_or, sym, ◌∙◌, ap, arith}, lemmas.{List.{length-map}, Option.{slice_get-get_or}}}
-use Rattle.mm_machine.{specs.Language.{Frame.{Symbol}, NumberedSymbols.{comes_before}, CitedFrames.{meant_pairs, meant_pair}, Keys.{pair_keys}}, proofs.lemmas.machine.KeyOrderLemmas.{before_on}}
+use Rattle.mm_machine.{specs.Language.{Frame.{Symbol}, NumberedSymbols.{comes_before}, CodeLists.{meant_pairs, meant_pair}, Keys.{pair_keys}}, proofs.lemmas.machine.KeyOrderLemmas.{before_on}}
 use Rattle.mm_machine.proofs.active.Active.place_of.Goals as goal
 
 pub loop-low-preserved-then-is_before : goal.loop-low-preserved-then-is_before

@@ -1,5 +1,5 @@
 use Rattle.std.proofs.Common.{◌≡◌, ℕ, ◌<◌, ◌≤◌, ◌-◌, true, Some, length, slice_get}
-use Rattle.mm_machine.specs.Language.{Frame.{Symbol}, NumberedSymbols.{comes_before}, CitedFrames.{meant_pairs}, Keys.{pair_keys}}
+use Rattle.mm_machine.specs.Language.{Frame.{Symbol}, NumberedSymbols.{comes_before}, CodeLists.{meant_pairs}, Keys.{pair_keys}}
 use Rattle.mm_machine.proofs.active.Active.place_of.Given as goal
 
 abbrev pub invariant-loop-low : goal.invariant-loop-low

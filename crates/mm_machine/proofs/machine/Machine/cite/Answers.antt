@@ -1,6 +1,6 @@
 use Rattle.std.proofs.Common.{◌≡◌, ◌+◌, ◌-◌, ◌++◌, ◌∷◌, [], ◌≤◌, ◌<◌, ℕ, false, List, All, IfNone, None, length, map, take, drop, get_or, refl, sym, Vec, Global, ◌∙◌, ap, subst, arith, MatchOption}
 use Rattle.std.proofs.lemmas.List.{length-map, length-drop, get_or-map, take-take, take_rest}
-use Rattle.mm_machine.specs.Language.{Frame.{Symbol, Mandatory, Frame, HasVariable}, Typing.{IsTyped}, Substitution.{substituted}, Steps.{Cites}, CitedFrames.{meant_pairs}, Faults.{last_entries}}
+use Rattle.mm_machine.specs.Language.{Frame.{Symbol, Mandatory, Frame, HasVariable}, Typing.{IsTyped}, Substitution.{substituted}, Steps.{Cites}, CodeLists.{meant_pairs}, Faults.{last_entries}}
 use Rattle.mm_machine.specs.{Language.Lasting.{HoldsLasting, IsCited, IsPattern, cited_frame, lasting_at, lasting_of, pattern_symbols}, declared.machine.Machine.{Machine}}
 use Rattle.mm_machine.specs.declared.{gather.PairRoom.{PairRoom}, lasting.Pattern.{Pattern}, slots.Slot.{Slot}, pattern.{Entry.{Entry}, Given.{Given}}, taken.Taken.{Taken}}
 use Rattle.mm_machine.specs.Code.{Flat.{read, read_all, IsEntryWithin}, Filling.{AllGive, AreTaken, IsFillable, pattern_filled}, Citation.{AreGiven, CitingSays, GivesEntries}}
