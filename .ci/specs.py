@@ -14,6 +14,7 @@ WORD = re.compile(r"[A-Za-z_][A-Za-z0-9_'-]*(?:\.[A-Za-z_][A-Za-z0-9_'-]*)*")
 HEAD = re.compile(r"(?:abbrev |unfoldable )?(?:pub )?(?:record |data )?([^\s:({]+)")
 INNER_HEAD = re.compile(r"  (?:abbrev |unfoldable )?pub (?:record |data )?([^\s:({]+)")
 USE = re.compile(r"(?:pub )?use (\S+?)(?:\.\{(.*)\}|(?: as (\S+)))?$")
+INSIDE = re.compile(r"((?:[^\s.{}]+\.)+)\{(.*)\}")
 COMMENT = re.compile(r"( *)-- ?(.*)")
 IN_WORDS = re.compile(r"In words: `([\w:]+)`: (.+)")
 
@@ -29,6 +30,25 @@ def text_of(path):
     return PASSED_ON.sub(r"Rattle.\1.specs.", path.read_text())
 
 
+def parted(text):
+    """What the commas of a group part, but for those in a group inside."""
+    parts, depth, start = [], 0, 0
+    for at, letter in enumerate(text + ","):
+        depth += (letter == "{") - (letter == "}")
+        if letter == "," and not depth:
+            parts.append(text[start:at].strip())
+            start = at + 1
+    return [part for part in parts if part]
+
+
+def flat(path, parts):
+    """Each list of names of a group of imports, with the path to its module."""
+    names = [part for part in parts if not INSIDE.fullmatch(part)]
+    yield from [(path, names)] if names else []
+    for inside in filter(None, map(INSIDE.fullmatch, parts)):
+        yield from flat(path + inside[1].rstrip(".").split("."), parted(inside[2]))
+
+
 class Imports:
     """What a file imports: names, each with its module and its name there, and modules by other names."""
 
@@ -42,9 +62,10 @@ class Imports:
         if names is None:
             self.aliases[alias or path.rsplit(".", 1)[-1]] = path
             return
-        for name in (each.strip() for each in names.split(",")):
-            first, _, other = name.partition(" as ")
-            self.names[other or first] = (path, first)
+        for steps, listed in flat(path.split("."), parted(names)):
+            for name in listed:
+                first, _, other = name.partition(" as ")
+                self.names[other or first] = (PASSED_ON.sub(r"Rattle.\1.specs.", ".".join(steps)), first)
 
 
 class Module:

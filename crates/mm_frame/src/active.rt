@@ -1,11 +1,8 @@
 //! The active items of one sort, by their numbers.
 
 ghost use Rattle.std.specs.Prelude.{◌≡◌, ◌+◌, ℕ, Bool, true, false, List, [], ◌∷◌, ◌++◌, length, drop, OnOk, OnErr};
+ghost use Rattle.mm_frame.specs.{Language.{Scope.{active_numbers}, Marks.{Neither, mark_of}}, Code.{BlockMarks.{stays_by, block_marks}, KeptActive.{IsPruned}}};
 ghost use Rattle.mm_statement.specs.Language.Item as meant;
-ghost use Rattle.mm_frame.specs.Language.Scope.{active_numbers};
-ghost use Rattle.mm_frame.specs.Language.Marks.{Neither, mark_of};
-ghost use Rattle.mm_frame.specs.Code.BlockMarks.{stays_by, block_marks};
-ghost use Rattle.mm_frame.specs.Code.KeptActive.{IsPruned};
 
 use crate::blocks::Blocks;
 use std::alloc::{AllocError, Global};

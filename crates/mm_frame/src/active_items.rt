@@ -2,15 +2,9 @@
 
 ghost use Rattle.std.specs.Prelude.{◌≡◌, ◌∷◌, ◌++◌, ◌&&◌, Bool, List, [], OnOk, length};
 ghost use Rattle.mm_machine.specs.declared.symbol.NumberedSymbol.{NumberedSymbol as Kept};
-ghost use Rattle.mm_statement.specs.Language.Item as meant;
-ghost use Rattle.mm_frame.specs.Language.Scope.{active_numbers};
-ghost use Rattle.mm_frame.specs.Language.Marks.{mark_of};
-ghost use Rattle.mm_frame.specs.Code.BlockMarks.{closes};
+ghost use Rattle.mm_frame.specs.{Language.{Scope.{active_numbers}, Marks.{mark_of}}, Code.{BlockMarks.{closes, block_marks}, KeptActiveItems.{changes_active}, KeptScope.{taken}, LastItems.{IsSort}}};
 ghost use Rattle.mm_statement.specs.Language.Statement.{kind_of};
-ghost use Rattle.mm_frame.specs.Code.BlockMarks.{block_marks};
-ghost use Rattle.mm_frame.specs.Code.KeptActiveItems.{changes_active};
-ghost use Rattle.mm_frame.specs.Code.KeptScope.{taken};
-ghost use Rattle.mm_frame.specs.Code.LastItems.{IsSort};
+ghost use Rattle.mm_statement.specs.Language.Item as meant;
 
 use crate::active::ActiveNumbers;
 use crate::blocks::Blocks;

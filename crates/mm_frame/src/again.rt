@@ -1,20 +1,12 @@
 //! Reads the items of files with the help of an older base, which knows most of them.
 
-ghost use Rattle.std.specs.Prelude.{◌≡◌, ◌<◌, ◌∷◌, ◌++◌, ℕ, List, [], All, IfOk, IfSome, IsTrue, OnOk, true, length};
-ghost use Rattle.std.specs.List.{AllZip};
-ghost use Rattle.mm_store.specs.Language.FilesView.{FilesView};
-ghost use Rattle.mm_store.specs.Language.FileFacts.{CanBeRead};
-ghost use Rattle.mm_statement.specs.Language.Item as meant;
-ghost use Rattle.mm_statement.specs.Language.Item.{is_read};
-ghost use Rattle.mm_frame.specs.Language.Base.{BaseView};
-ghost use Rattle.mm_statement.specs.Language.Statement.{Says, kind_of};
+ghost use Rattle.std.specs.{Prelude.{◌≡◌, ◌<◌, ◌∷◌, ◌++◌, ℕ, List, [], All, IfOk, IfSome, IsTrue, OnOk, true, length}, List.{AllZip}};
+ghost use Rattle.mm_store.specs.Language.{FilesView.{FilesView}, FileFacts.{CanBeRead}};
+ghost use Rattle.mm_statement.specs.Language.{Item.{is_read}, Statement.{Says, kind_of}};
+ghost use Rattle.mm_frame.specs.{Language.{Base.{BaseView}, Answering.{IsBase, IsBaseBy}, Older.{HasOlder}}, Code.{KeptBase.{IsDraft, IsDraftLater}, KeptScope.{uses_numbers}}};
+ghost use Rattle.mm_frame.specs.Code.{KnownItem.{IsAgain, IsKnownItem, IsSoundAgain, numbers_of}, TakenOver.{AreFirst, AreFirstIf}};
 ghost use Rattle.mm_machine.specs.Language.Names.{Begins};
-ghost use Rattle.mm_frame.specs.Language.Answering.{IsBase, IsBaseBy};
-ghost use Rattle.mm_frame.specs.Language.Older.{HasOlder};
-ghost use Rattle.mm_frame.specs.Code.KeptBase.{IsDraft, IsDraftLater};
-ghost use Rattle.mm_frame.specs.Code.KeptScope.{uses_numbers};
-ghost use Rattle.mm_frame.specs.Code.KnownItem.{IsAgain, IsKnownItem, IsSoundAgain, numbers_of};
-ghost use Rattle.mm_frame.specs.Code.TakenOver.{AreFirst, AreFirstIf};
+ghost use Rattle.mm_statement.specs.Language.Item as meant;
 
 use crate::base::Base;
 use crate::draft::{Draft, number_all};

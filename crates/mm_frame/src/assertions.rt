@@ -1,17 +1,11 @@
 //! What is kept of the assertions.
 
 ghost use Rattle.std.specs.Prelude.{◌≡◌, ◌∷◌, ◌++◌, ◌&&◌, ℕ, List, [], true, IfOk, OnOk, is_none};
-ghost use Rattle.mm_statement.specs.Language.Item as meant;
 ghost use Rattle.mm_statement.specs.Language.Statement.{kind_of};
-ghost use Rattle.mm_frame.specs.Language.Scope.{active_numbers};
-ghost use Rattle.mm_frame.specs.Language.Sound.{AreSound, fault, sound_items};
-ghost use Rattle.mm_frame.specs.Language.Answering.{AreRows, is_told_proof};
-ghost use Rattle.mm_frame.specs.Code.KeptAsked.{KnowsAsked};
-ghost use Rattle.mm_frame.specs.Code.KeptEarlier.{IsFramed, KnowsEarlier};
-ghost use Rattle.mm_frame.specs.Code.KeptPairLists.{AreMade};
-ghost use Rattle.mm_frame.specs.Code.KeptSymbols.{AreSymbols};
-ghost use Rattle.mm_frame.specs.Code.KeptAssertions.{AreFrames, TellsPairs, is_told_framed};
+ghost use Rattle.mm_frame.specs.{Language.{Scope.{active_numbers}, Sound.{AreSound, fault, sound_items}, Answering.{AreRows, is_told_proof}}, Code.KeptAsked.{KnowsAsked}};
+ghost use Rattle.mm_frame.specs.Code.{KeptEarlier.{IsFramed, KnowsEarlier}, KeptPairLists.{AreMade}, KeptSymbols.{AreSymbols}, KeptAssertions.{AreFrames, TellsPairs, is_told_framed}};
 ghost use Rattle.mm_frame.specs.Code.LastItems.{is_disjoint_item};
+ghost use Rattle.mm_statement.specs.Language.Item as meant;
 
 use crate::active_items::TakenItem;
 use crate::copied_lists::CopiedLists;

@@ -1,20 +1,12 @@
 //! What the items of files mean, from a top file on.
 
-ghost use Rattle.std.specs.Prelude.{All, true, false, ◌≡◌, ◌<◌, ◌≤◌, ◌↔◌, ◌&&◌, is_some, Some, None, List, length, ℕ};
-ghost use Rattle.std.specs.Prelude.{IfSome, IsTrue, slice_get};
-ghost use Rattle.std.specs.Option.{option_map};
-ghost use Rattle.mm_statement.specs.Language.Item.{is_labelled};
-ghost use Rattle.mm_machine.specs.Language.Frame.{AreSamePairs};
+ghost use Rattle.std.specs.{Prelude.{All, true, false, ◌≡◌, ◌<◌, ◌≤◌, ◌↔◌, ◌&&◌, is_some, Some, None, List, length, ℕ, IfSome, IsTrue, slice_get}, Option.{option_map}};
+ghost use Rattle.mm_statement.specs.Language.{Item.{is_labelled}, Statement.{kind_of}};
+ghost use Rattle.mm_machine.specs.Language.{Frame.{AreSamePairs}, NumberedSymbols.{symbols_of, kept_pairs, AreInOrder, IsNumbered, IsPairNumbered, ArePairsRead}};
 ghost use Rattle.mm_frame.specs.Language.Framing.{active_pairs, expression, mandatory_numbers, resolve};
-ghost use Rattle.mm_frame.specs.Language.Base.{BaseView, AreHypotheses, before, said_at, fault_at, expression_at, frame_at};
-ghost use Rattle.mm_frame.specs.Language.Base.{is_proof_at, is_framed_at, is_shown_at, is_sound_at};
-ghost use Rattle.mm_machine.specs.Language.NumberedSymbols.{symbols_of, kept_pairs, AreInOrder, IsNumbered, IsPairNumbered, ArePairsRead};
-ghost use Rattle.mm_frame.specs.Code.KeptSymbols.{expression_kept};
-ghost use Rattle.mm_frame.specs.Language.Answering.{IsBase, IsBaseBy, pairs_in_order};
-ghost use Rattle.mm_frame.specs.Code.KeptBase.{hypotheses_at};
+ghost use Rattle.mm_frame.specs.Language.Base.{BaseView, AreHypotheses, before, said_at, fault_at, expression_at, frame_at, is_proof_at, is_framed_at, is_shown_at, is_sound_at};
+ghost use Rattle.mm_frame.specs.{Language.{Answering.{IsBase, IsBaseBy, pairs_in_order}, Resolving.{IsCarrier, IsMeaning, IsUpTo, Resolves}}, Code.{KeptSymbols.{expression_kept}, KeptBase.{hypotheses_at}}};
 ghost use Rattle.mm_statement.specs.Language.Item as meant;
-ghost use Rattle.mm_statement.specs.Language.Statement.{kind_of};
-ghost use Rattle.mm_frame.specs.Language.Resolving.{IsCarrier, IsMeaning, IsUpTo, Resolves};
 ghost use Rattle.mm_frame.specs.declared.base.Resolved.TheVariants as answers;
 
 use crate::frame::Frame;

@@ -1,10 +1,7 @@
 //! Blocks: whether an item is active at a later one.
 
 ghost use Rattle.std.specs.Prelude.{◌≡◌, ◌↔◌, ℕ, true, suc, ◌+◌, ◌<◌, ◌≤◌, List, [], ◌∷◌, ◌++◌, length, take, drop, slice_range, IfOk, OnOk, OnErr};
-ghost use Rattle.mm_frame.specs.Language.Marks.{Opens, Closes, Neither};
-ghost use Rattle.mm_frame.specs.Language.Resolving.{IsUpTo};
-ghost use Rattle.mm_frame.specs.Code.BlockMarks.{is_inside_by, stays_by};
-ghost use Rattle.mm_frame.specs.Code.BlockEnds.{end_of_block};
+ghost use Rattle.mm_frame.specs.{Language.{Marks.{Opens, Closes, Neither}, Resolving.{IsUpTo}}, Code.{BlockMarks.{is_inside_by, stays_by}, BlockEnds.{end_of_block}}};
 
 use std::alloc::{AllocError, Global};
 use std::marker::Model;

@@ -1,16 +1,11 @@
 //! How a base is built.
 
 ghost use Rattle.std.specs.Prelude.{◌≡◌, ◌↔◌, None, IfOk, IfErr, IsErrOf, map};
-ghost use Rattle.mm_store.specs.Language.FilesView.{files_in, number_of};
-ghost use Rattle.mm_store.specs.Language.Answers.{IsExpansionError};
-ghost use Rattle.mm_store.specs.declared.error.StoreError.TheVariants.{NoTop};
-ghost use Rattle.mm_statement.specs.Language.Item as meant;
+ghost use Rattle.mm_store.specs.{Language.{FilesView.{files_in, number_of}, Answers.{IsExpansionError}}, declared.error.StoreError.TheVariants.{NoTop}};
 ghost use Rattle.mm_statement.specs.Language.Statement.{kind_of};
 ghost use Rattle.mm_machine.specs.Language.Names.{Begins};
-ghost use Rattle.mm_frame.specs.Language.Base.{BaseView, IsOfFiles};
-ghost use Rattle.mm_frame.specs.Language.Older.{HasOlder};
-ghost use Rattle.mm_frame.specs.Language.Answering.{IsBaseBy, StandsLater};
-ghost use Rattle.mm_frame.specs.Code.KeptBase.{is_float_item};
+ghost use Rattle.mm_frame.specs.{Language.{Base.{BaseView, IsOfFiles}, Older.{HasOlder}, Answering.{IsBaseBy, StandsLater}}, Code.KeptBase.{is_float_item}};
+ghost use Rattle.mm_statement.specs.Language.Item as meant;
 
 use crate::again::read_all_again;
 use crate::base::Base;

@@ -1,29 +1,14 @@
 //! A base in the making: what the items read so far leave.
 
-ghost use Rattle.std.specs.Prelude.{◌≡◌, ◌∷◌, ◌++◌, ℕ, List, [], true, is_none, IfOk, MatchBool, OnOk, Ok, All, length};
-ghost use Rattle.std.specs.Option.{option_map};
-ghost use Rattle.std.specs.List.{AllZip};
+ghost use Rattle.std.specs.{Prelude.{◌≡◌, ◌∷◌, ◌++◌, ℕ, List, [], true, is_none, IfOk, MatchBool, OnOk, Ok, All, length}, Option.{option_map}, List.{AllZip}};
 ghost use Rattle.mm_store.specs.Language.FileFacts.{CanBeRead};
+ghost use Rattle.mm_statement.specs.Language.{Item.{is_read}, Statement.{Says, kind_of}};
+ghost use Rattle.mm_frame.specs.{Language.{Sound.{AreSound, IsSound, sound_items}, Framing.{expression}, Base.{BaseView, fault_by, is_sound_at}}, Code.BlockMarks.{block_marks}};
+ghost use Rattle.mm_frame.specs.Code.{KeptActiveItems.{AreActiveKept}, KeptEarlier.{KnowsEarlier}, KeptPairTable.{KnowsPairs}, KeptScope.{ScopeHolds, taken, uses_numbers}};
+ghost use Rattle.mm_frame.specs.Code.{KeptSymbols.{AreSymbols, AreSymbolsOf}, KnownItem.{numbers_of}, KeptTables.{Knows}, KeptRows.{rows_of}, Numbers.{AreNameNumbers}, TakenOver.{IsNextOf}};
+ghost use Rattle.mm_machine.specs.Language.{Names.{AreDistinct, Begins}, NumberedSymbols.{symbols_of, IsNumbered}};
 ghost use Rattle.mm_statement.specs.Language.Item as meant;
-ghost use Rattle.mm_statement.specs.Language.Item.{is_read};
-ghost use Rattle.mm_statement.specs.Language.Statement.{Says, kind_of};
 ghost use Rattle.mm_frame.specs.Language.Sound as meaning;
-ghost use Rattle.mm_frame.specs.Language.Sound.{AreSound, IsSound, sound_items};
-ghost use Rattle.mm_frame.specs.Language.Framing.{expression};
-ghost use Rattle.mm_frame.specs.Language.Base.{BaseView, fault_by, is_sound_at};
-ghost use Rattle.mm_machine.specs.Language.Names.{AreDistinct, Begins};
-ghost use Rattle.mm_machine.specs.Language.NumberedSymbols.{symbols_of, IsNumbered};
-ghost use Rattle.mm_frame.specs.Code.BlockMarks.{block_marks};
-ghost use Rattle.mm_frame.specs.Code.KeptActiveItems.{AreActiveKept};
-ghost use Rattle.mm_frame.specs.Code.KeptEarlier.{KnowsEarlier};
-ghost use Rattle.mm_frame.specs.Code.KeptPairTable.{KnowsPairs};
-ghost use Rattle.mm_frame.specs.Code.KeptScope.{ScopeHolds, taken, uses_numbers};
-ghost use Rattle.mm_frame.specs.Code.KeptSymbols.{AreSymbols, AreSymbolsOf};
-ghost use Rattle.mm_frame.specs.Code.KnownItem.{numbers_of};
-ghost use Rattle.mm_frame.specs.Code.KeptTables.{Knows};
-ghost use Rattle.mm_frame.specs.Code.KeptRows.{rows_of};
-ghost use Rattle.mm_frame.specs.Code.Numbers.{AreNameNumbers};
-ghost use Rattle.mm_frame.specs.Code.TakenOver.{IsNextOf};
 
 use crate::FrameNumber;
 use crate::active_items::{ActiveItems, TakenItem, is_disjoint};

@@ -1,11 +1,9 @@
 //! The variables of the active `$e`.
 
 ghost use Rattle.std.specs.Prelude.{◌≡◌, ◌<◌, ◌≤◌, ◌++◌, ◌∷◌, ℕ, List, [], IsTrue, OnOk, Contains, length, drop};
-ghost use Rattle.mm_statement.specs.Language.Item as meant;
 ghost use Rattle.mm_machine.specs.declared.symbol.NumberedSymbol.{NumberedSymbol as Kept};
-ghost use Rattle.mm_frame.specs.declared.essential.EssentialVariable.{EssentialVariable};
-ghost use Rattle.mm_frame.specs.Language.Scope.{active_numbers};
-ghost use Rattle.mm_frame.specs.Code.LastItems.{is_essential_item, IsRising};
+ghost use Rattle.mm_frame.specs.{declared.essential.EssentialVariable.{EssentialVariable}, Language.Scope.{active_numbers}, Code.LastItems.{is_essential_item, IsRising}};
+ghost use Rattle.mm_statement.specs.Language.Item as meant;
 
 use crate::expressions::Expressions;
 use crate::rising::is_among;

@@ -1,8 +1,7 @@
 //! A database worked out by the definitions. The function does nothing; what it promises is the examples.
 
-ghost use Rattle.mm_frame.specs.Language.Examples.{AllAreSound, CountsEssentials, EndsWithItsBlock, HasEachFault, HasItsLabel, HasOneMandatoryPair};
-ghost use Rattle.mm_frame.specs.Language.Examples.{HasTwoFaults, IsActiveInBlock, IsTypedOtherwise, IsTypedTwice, MeansItsExpression, MeansItsFrame};
-ghost use Rattle.mm_frame.specs.Language.Examples.{EachHasLabel, PairsEndWithTheirBlock, ShowsSeven, ThreePairsAreActive};
+ghost use Rattle.mm_frame.specs.Language.Examples.{AllAreSound, CountsEssentials, EndsWithItsBlock, HasEachFault, HasItsLabel, HasOneMandatoryPair, HasTwoFaults, IsActiveInBlock, IsTypedOtherwise};
+ghost use Rattle.mm_frame.specs.Language.Examples.{IsTypedTwice, MeansItsExpression, MeansItsFrame, EachHasLabel, PairsEndWithTheirBlock, ShowsSeven, ThreePairsAreActive};
 
 /// What is sound, active and mandatory in a small database, what labels mean there, and which faults there are.
 pub fn frames_are_read_so()

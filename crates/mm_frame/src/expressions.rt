@@ -1,8 +1,7 @@
 //! The symbols of the items, equal ones kept once.
 
 ghost use Rattle.std.specs.Prelude.{◌≡◌, List, [], ◌∷◌, ◌++◌, IfOk, OnOk, Some, length, slice_get};
-ghost use Rattle.mm_frame.specs.Code.KeptSymbols.{expression_kept};
-ghost use Rattle.mm_frame.specs.Code.KeptExpressions.{KeepsExpressions};
+ghost use Rattle.mm_frame.specs.Code.{KeptSymbols.{expression_kept}, KeptExpressions.{KeepsExpressions}};
 
 use crate::counts::Counts;
 use crate::guesses::ListGuesses;

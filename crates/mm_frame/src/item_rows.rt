@@ -1,7 +1,6 @@
 //! The labels and the faults of the items.
 
-ghost use Rattle.std.specs.Prelude.{◌≡◌, ◌<◌, ◌≤◌, ◌+◌, ◌++◌, ◌∷◌, ℕ, [], Some, None, IfOk, OnOk, false, length, slice_get, slice_index_or, slice_range};
-ghost use Rattle.std.specs.Option.{option_map};
+ghost use Rattle.std.specs.{Prelude.{◌≡◌, ◌<◌, ◌≤◌, ◌+◌, ◌++◌, ◌∷◌, ℕ, [], Some, None, IfOk, OnOk, false, length, slice_get, slice_index_or, slice_range}, Option.{option_map}};
 ghost use Rattle.mm_frame.specs.Code.KeptRows.{bytes_or_none, fault_kept, fault_told, row_label, row_fault, is_shown_in, AreRowsKept, rows_of};
 
 use crate::counts::{Counts, ListPart};

@@ -1,18 +1,12 @@
 //! The fault of a statement after the sound items before it.
 
-ghost use Rattle.std.specs.Prelude.{◌≡◌, ◌<◌, ◌∷◌, ◌++◌, ℕ, true, None, List, [], IfOk, IsTrue, length, map, take, slice_index_or};
-ghost use Rattle.std.specs.Option.{option_map};
+ghost use Rattle.std.specs.{Prelude.{◌≡◌, ◌<◌, ◌∷◌, ◌++◌, ℕ, true, None, List, [], IfOk, IsTrue, length, map, take, slice_index_or}, Option.{option_map}};
+ghost use Rattle.mm_statement.specs.Language.{Item.{Said}, Statement.{kind_of}};
+ghost use Rattle.mm_frame.specs.{Language.Sound.{AreSound}, Code.{KeptScope.{ScopeHolds}, KeptSymbols.{symbol_by}, KnownItem.{numbers_of}, SeenNumbers.{HasSeen, has_number}}};
+ghost use Rattle.mm_frame.specs.Code.Numbers.{IsNameNumber, AreNameNumbers};
 ghost use Rattle.mm_statement.specs.Language.Item as meant;
-ghost use Rattle.mm_statement.specs.Language.Item.{Said};
 ghost use Rattle.mm_frame.specs.Code.FaultInOrder as judging;
 ghost use Rattle.mm_frame.specs.Language.Sound as sound;
-ghost use Rattle.mm_frame.specs.Language.Sound.{AreSound};
-ghost use Rattle.mm_frame.specs.Code.KeptScope.{ScopeHolds};
-ghost use Rattle.mm_frame.specs.Code.KeptSymbols.{symbol_by};
-ghost use Rattle.mm_frame.specs.Code.KnownItem.{numbers_of};
-ghost use Rattle.mm_frame.specs.Code.SeenNumbers.{HasSeen, has_number};
-ghost use Rattle.mm_statement.specs.Language.Statement.{kind_of};
-ghost use Rattle.mm_frame.specs.Code.Numbers.{IsNameNumber, AreNameNumbers};
 
 use crate::FrameNumber;
 use crate::names::Names;

@@ -1,10 +1,8 @@
 //! What is proved of soundness, blocks and frames: each law is the contract of a function.
 
-ghost use Rattle.mm_frame.specs.Language.Laws.{ActiveByBlocks, FaultIsFound, HasFaultOrIsSound, HasOneStatementFault, KeptNext, NeverFaultAndSound};
-ghost use Rattle.mm_frame.specs.Language.Laws.{PlacesHaveFrames, ReaderIsActive, SoundHasNone, StaysByCounts};
-ghost use Rattle.mm_frame.specs.Language.Laws.{AssertionsMean, HasItemOrIsUnknown, HasOwnLabels, ItemsHaveLabels, MandatoryMeans, MandatoryStandBefore};
-ghost use Rattle.mm_frame.specs.Language.Laws.{ActiveHypothesesMean, ActiveInBlocks, AssertionsHaveFrames, EndedHypothesesMean};
-ghost use Rattle.mm_frame.specs.Language.Laws.{FloatsAgree, FloatsAreTypings, FramesHavePairs, PairsAreOfTwo, SaidAreLabelled, SoundItemsStand};
+ghost use Rattle.mm_frame.specs.Language.Laws.{ActiveByBlocks, FaultIsFound, HasFaultOrIsSound, HasOneStatementFault, KeptNext, NeverFaultAndSound, PlacesHaveFrames, ReaderIsActive, SoundHasNone};
+ghost use Rattle.mm_frame.specs.Language.Laws.{StaysByCounts, AssertionsMean, HasItemOrIsUnknown, HasOwnLabels, ItemsHaveLabels, MandatoryMeans, MandatoryStandBefore, ActiveHypothesesMean, ActiveInBlocks};
+ghost use Rattle.mm_frame.specs.Language.Laws.{AssertionsHaveFrames, EndedHypothesesMean, FloatsAgree, FloatsAreTypings, FramesHavePairs, PairsAreOfTwo, SaidAreLabelled, SoundItemsStand};
 
 /// Each label that resolves to an assertion has a frame whose variables are typed once.
 pub fn places_have_frames()

@@ -1,21 +1,12 @@
 //! The mandatory hypotheses and pairs of an assertion.
 
-ghost use Rattle.std.specs.Prelude.{◌≡◌, ◌++◌, ◌∷◌, ◌<◌, ℕ, List, [], All, IsTrue, OnOk, IfOk, IfSome, ◌+◌, Some, length, map, filter, drop, slice_get};
-ghost use Rattle.std.specs.List.{flat_map};
-ghost use Rattle.mm_machine.specs.Language.Frame.{Symbol as Meaning};
+ghost use Rattle.std.specs.{Prelude.{◌≡◌, ◌++◌, ◌∷◌, ◌<◌, ℕ, List, [], All, IsTrue, OnOk, IfOk, IfSome, ◌+◌, Some, length, map, filter, drop, slice_get}, List.{flat_map}};
+ghost use Rattle.mm_machine.specs.Language.{Frame.{Symbol as Meaning}, NumberedSymbols.{symbol_of, symbols_of, IsNumbered, ArePairsRead}};
+ghost use Rattle.mm_frame.specs.{Language.{Framing.{pairs_of, active_pairs, frame, mandatory_numbers}, Answering.{are_paired, pairs_in_order}}, Code.KeptEarlier.{IsFramed, KnowsEarlier}};
+ghost use Rattle.mm_frame.specs.Code.{LastItems.{IsRising}, KeptSymbols.{float_number, float_numbers}, KeptVariables.{known_float}, PairOrder.{float_variable, float_variables}, KeptPairTable.{ReadsPairs}};
+ghost use Rattle.mm_frame.specs.Code.{KeptPlaces.{ArePlaces}, KeptAsked.{KnowsAsked, AsksOn}};
 ghost use Rattle.mm_statement.specs.Language.Item as meant;
-ghost use Rattle.mm_frame.specs.Language.Framing.{pairs_of, active_pairs, frame, mandatory_numbers};
-ghost use Rattle.mm_frame.specs.Code.KeptEarlier.{IsFramed, KnowsEarlier};
-ghost use Rattle.mm_frame.specs.Code.LastItems.{IsRising};
-ghost use Rattle.mm_machine.specs.Language.NumberedSymbols.{symbol_of, symbols_of, IsNumbered, ArePairsRead};
-ghost use Rattle.mm_frame.specs.Code.KeptSymbols.{float_number, float_numbers};
-ghost use Rattle.mm_frame.specs.Code.KeptVariables.{known_float};
 ghost use Rattle.mm_frame.specs.Code.PairOrder as paired;
-ghost use Rattle.mm_frame.specs.Code.PairOrder.{float_variable, float_variables};
-ghost use Rattle.mm_frame.specs.Language.Answering.{are_paired, pairs_in_order};
-ghost use Rattle.mm_frame.specs.Code.KeptPairTable.{ReadsPairs};
-ghost use Rattle.mm_frame.specs.Code.KeptPlaces.{ArePlaces};
-ghost use Rattle.mm_frame.specs.Code.KeptAsked.{KnowsAsked, AsksOn};
 
 use crate::asked::AskedPairs;
 use crate::blocks::Blocks;

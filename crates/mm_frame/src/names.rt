@@ -1,7 +1,6 @@
 //! Names of symbols, numbered from 0 in the order in which they come.
 
-ghost use Rattle.std.specs.Prelude.{◌≡◌, ℕ, List, [], ◌∷◌, ◌++◌, Some, false, IfOk, IsTrue, OnErr, length, slice_get, bytes_eq};
-ghost use Rattle.std.specs.List.{list_any};
+ghost use Rattle.std.specs.{Prelude.{◌≡◌, ℕ, List, [], ◌∷◌, ◌++◌, Some, false, IfOk, IsTrue, OnErr, length, slice_get, bytes_eq}, List.{list_any}};
 ghost use Rattle.mm_machine.specs.Language.Names.{AreDistinct, Begins};
 ghost use Rattle.mm_frame.specs.Code.Numbers.{number_in};
 

@@ -1,17 +1,10 @@
 //! The lists of active pairs, each made from that of the outer `$d`.
 
-ghost use Rattle.std.specs.Prelude.{◌≡◌, ◌<◌, ◌≤◌, ◌+◌, ◌-◌, ◌++◌, ℕ, List, [], OnOk, IfOk, IfSome, IsTrue, Contains, length, map, take};
-ghost use Rattle.std.specs.List.{flat_map};
+ghost use Rattle.std.specs.{Prelude.{◌≡◌, ◌<◌, ◌≤◌, ◌+◌, ◌-◌, ◌++◌, ℕ, List, [], OnOk, IfOk, IfSome, IsTrue, Contains, length, map, take}, List.{flat_map}};
+ghost use Rattle.mm_frame.specs.{Language.{Sound.{AreSound}, Framing.{active_pairs}, Scope.{active_numbers}}, Code.{LastItems.{is_disjoint_item}, KeptSymbols.{AreSymbols, expression_kept}}};
+ghost use Rattle.mm_frame.specs.Code.{KeptPairLists.{AreFrontNumbers, pairs_among, with_low_first}, KeptSortedLists.{HasEach}};
+ghost use Rattle.mm_machine.specs.Language.{Frame.{Symbol as Meaning}, NumberedSymbols.{AreSamePairsRead}};
 ghost use Rattle.mm_statement.specs.Language.Item as meant;
-ghost use Rattle.mm_frame.specs.Language.Sound.{AreSound};
-ghost use Rattle.mm_machine.specs.Language.Frame.{Symbol as Meaning};
-ghost use Rattle.mm_frame.specs.Language.Framing.{active_pairs};
-ghost use Rattle.mm_frame.specs.Code.LastItems.{is_disjoint_item};
-ghost use Rattle.mm_frame.specs.Language.Scope.{active_numbers};
-ghost use Rattle.mm_frame.specs.Code.KeptSymbols.{AreSymbols, expression_kept};
-ghost use Rattle.mm_machine.specs.Language.NumberedSymbols.{AreSamePairsRead};
-ghost use Rattle.mm_frame.specs.Code.KeptPairLists.{AreFrontNumbers, pairs_among, with_low_first};
-ghost use Rattle.mm_frame.specs.Code.KeptSortedLists.{HasEach};
 
 use crate::expressions::Expressions;
 use crate::sorted_lists::{SortedLists, in_order};

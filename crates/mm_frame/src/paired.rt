@@ -1,16 +1,10 @@
 //! Which pairs of variables the active `$d` have.
 
 ghost use Rattle.std.specs.Prelude.{◌≡◌, ◌<◌, ◌≤◌, ℕ, suc, true, false, List, [], Some, MatchBool, IfOk, IfSome, IfNone, OnOk, Contains, length, drop};
-ghost use Rattle.mm_statement.specs.Language.Item as meant;
-ghost use Rattle.mm_frame.specs.Language.Framing.{active_pairs};
+ghost use Rattle.mm_frame.specs.{Language.{Framing.{active_pairs}, Answering.{are_paired}}, Code.{LastItems.{IsRising}, Numbers.{IsNameNumber}, KeptPairTable.{IsCommon, ReadsPairs, row_at}}};
+ghost use Rattle.mm_frame.specs.{Code.{KeptAsked.{KnowsAsked, AsksOn}, BlockMarks.{stays_by}}, declared.paired.PairTable.{PairTable}};
 ghost use Rattle.mm_machine.specs.Language.NumberedSymbols.{as_variable};
-ghost use Rattle.mm_frame.specs.Code.LastItems.{IsRising};
-ghost use Rattle.mm_frame.specs.Code.Numbers.{IsNameNumber};
-ghost use Rattle.mm_frame.specs.Language.Answering.{are_paired};
-ghost use Rattle.mm_frame.specs.Code.KeptPairTable.{IsCommon, ReadsPairs, row_at};
-ghost use Rattle.mm_frame.specs.Code.KeptAsked.{KnowsAsked, AsksOn};
-ghost use Rattle.mm_frame.specs.Code.BlockMarks.{stays_by};
-ghost use Rattle.mm_frame.specs.declared.paired.PairTable.{PairTable};
+ghost use Rattle.mm_statement.specs.Language.Item as meant;
 
 use crate::active::drop_ended;
 use crate::asked::{Answer, AskedPairs};

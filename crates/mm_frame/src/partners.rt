@@ -1,14 +1,10 @@
 //! The variables of a frame that an active `$d` has together with one of them, from the `$d` of that one.
 
 ghost use Rattle.std.specs.Prelude.{◌≡◌, ◌++◌, ◌<◌, ◌+◌, ◌↔◌, ℕ, List, All, IfOk, IfSome, OnOk, Contains, filter, flat_map, map, drop, length, slice_get};
-ghost use Rattle.mm_machine.specs.Language.Frame.{Symbol as Meaning};
-ghost use Rattle.mm_statement.specs.Language.Item as meant;
-ghost use Rattle.mm_frame.specs.Language.Answering.{are_paired};
-ghost use Rattle.mm_frame.specs.Language.Framing.{active_pairs};
-ghost use Rattle.mm_machine.specs.Language.NumberedSymbols.{symbol_of, symbols_of, IsNumbered, ArePairsRead};
-ghost use Rattle.mm_frame.specs.Code.KeptPlaces.{ArePlaces, later_place, later_places_at, pair_at};
-ghost use Rattle.mm_frame.specs.Code.KeptEarlier.{KnowsEarlier};
+ghost use Rattle.mm_machine.specs.Language.{Frame.{Symbol as Meaning}, NumberedSymbols.{symbol_of, symbols_of, IsNumbered, ArePairsRead}};
+ghost use Rattle.mm_frame.specs.{Language.{Answering.{are_paired}, Framing.{active_pairs}}, Code.{KeptPlaces.{ArePlaces, later_place, later_places_at, pair_at}, KeptEarlier.{KnowsEarlier}}};
 ghost use Rattle.mm_frame.specs.Code.LastItems.{IsRising};
+ghost use Rattle.mm_statement.specs.Language.Item as meant;
 
 use crate::blocks::Blocks;
 use crate::earlier::Earlier;

@@ -1,9 +1,7 @@
 //! Whether what two bases keep is the same.
 
 ghost use Rattle.std.specs.Prelude.{◌≡◌, ◌↔◌, ◌⊎◌, ℕ, List, IsTrue, true, All, Contains, map};
-ghost use Rattle.mm_frame.specs.Language.Base.{BaseView, before, said_at, is_shown_at, is_framed_at, is_proof_at, hypothesis_at, frame_at};
-ghost use Rattle.mm_frame.specs.Language.Framing.{active_pairs, expression};
-ghost use Rattle.mm_frame.specs.Language.Answering.{IsBaseBy};
+ghost use Rattle.mm_frame.specs.Language.{Base.{BaseView, before, said_at, is_shown_at, is_framed_at, is_proof_at, hypothesis_at, frame_at}, Framing.{active_pairs, expression}, Answering.{IsBaseBy}};
 ghost use Rattle.mm_machine.specs.Language.Frame.{AreSameFrame, AreSamePairs};
 
 use crate::base::Base;

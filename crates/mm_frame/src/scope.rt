@@ -1,20 +1,15 @@
 //! What the sound items so far declare, and which of it is active.
 
 ghost use Rattle.std.specs.Prelude.{◌≡◌, ℕ, is_none, true, List, [], ◌∷◌, ◌++◌, OnOk, IfOk, IsTrue, slice_index_or};
+ghost use Rattle.mm_frame.specs.{Language.{Marks.{mark_of}, Sound.{AreSound}}, Code.{BlockMarks.{block_marks}, KeptTables.{Knows}, KeptScope.{float_typecode}, KeptSymbols.{symbol_by}}};
+ghost use Rattle.mm_frame.specs.Code.Numbers.{IsNameNumber};
+ghost use Rattle.mm_statement.specs.Language.Statement.{kind_of};
+ghost use Rattle.mm_machine.specs.Language.Names.{AreDistinct};
 ghost use Rattle.mm_statement.specs.Language.Item as meant;
 ghost use Rattle.mm_frame.specs.Language.Scope as scopes;
-ghost use Rattle.mm_frame.specs.Language.Marks.{mark_of};
-ghost use Rattle.mm_statement.specs.Language.Statement.{kind_of};
 ghost use Rattle.mm_frame.specs.Language.Sound as sound;
-ghost use Rattle.mm_frame.specs.Language.Sound.{AreSound};
 ghost use Rattle.mm_frame.specs.Code.FaultInOrder as judging;
 ghost use Rattle.mm_frame.specs.Code.LastItems as numbered;
-ghost use Rattle.mm_frame.specs.Code.BlockMarks.{block_marks};
-ghost use Rattle.mm_frame.specs.Code.KeptTables.{Knows};
-ghost use Rattle.mm_frame.specs.Code.KeptScope.{float_typecode};
-ghost use Rattle.mm_frame.specs.Code.KeptSymbols.{symbol_by};
-ghost use Rattle.mm_machine.specs.Language.Names.{AreDistinct};
-ghost use Rattle.mm_frame.specs.Code.Numbers.{IsNameNumber};
 
 use crate::blocks::Blocks;
 use crate::names::Names;

@@ -1,12 +1,18 @@
 //! What some items have, and others do not, where several items can have the same.
 
-ghost use Rattle.std.specs.Prelude.{◌≡◌, ◌∷◌, ◌++◌, [], Some, None, IfOk, OnOk, is_some, slice_get};
-ghost use Rattle.std.specs.Option.{option_map};
+ghost use Rattle.std.specs.{Prelude.{◌≡◌, ◌∷◌, ◌++◌, [], Some, None, IfOk, OnOk, is_some, length, slice_get}, Option.{option_map}};
 ghost use Rattle.mm_frame.specs.Code.KeptSparse.{value_kept};
 
 use crate::sparse::Sparse;
 use std::alloc::{AllocError, Global};
 use std::marker::Model;
+
+/// The element at a place of a list, if there is such a place.
+pub fn element_at<T>(list: &[T], i: usize) -> Option<&T>
+    ensures { option_map (λ element. element.now) result ≡ slice_get list.now i }
+{
+    list.get(i)
+}
 
 /// A value of each of some items, by the numbers of all items from 0. A value that several items have is kept once.
 ///
@@ -16,13 +22,6 @@ pub struct Shared<T> {
     values: Vec<T>,
     /// For each item that has a value, where it is.
     places: Sparse,
-}
-
-/// The element at a place of a list, if there is such a place.
-pub fn element_at<T>(list: &[T], i: usize) -> Option<&T>
-    ensures { option_map (λ element. element.now) result ≡ slice_get list.now i }
-{
-    list.get(i)
 }
 
 impl<T> Model for Shared<T> {
@@ -50,7 +49,9 @@ impl<T: Drop> Shared<T> {
     }
 
     /// How many items there are.
-    pub fn count(&self) -> usize {
+    pub fn count(&self) -> usize
+        ensures { result ≡ length self.now }
+    {
         self.places.count()
     }
 

@@ -32,8 +32,7 @@ pub struct SortedLists {
 }
 
 impl Model for SortedLists {
-    ghost use Rattle.std.specs.Prelude.{List, Vec};
-    ghost use Rattle.std.specs.Global.{Global as Place};
+    ghost use Rattle.std.specs.{Prelude.{List, Vec}, Global.{Global as Place}};
     ghost use Rattle.mm_machine.specs.declared.symbol.NumberedSymbol.{NumberedSymbol as Kept};
 
     ghost Value = { List (Vec (Kept × Kept) Place) };

@@ -1,6 +1,6 @@
 //! Numbers that some items have, and others do not.
 
-ghost use Rattle.std.specs.Prelude.{◌≡◌, ◌<◌, ◌∷◌, ◌++◌, [], IfNone, IfOk, IfSome, IsSomeAnd, OnErr, OnOk, is_some};
+ghost use Rattle.std.specs.Prelude.{◌≡◌, ◌<◌, ◌∷◌, ◌++◌, [], IfNone, IfOk, IfSome, IsSomeAnd, OnErr, OnOk, is_some, length};
 ghost use Rattle.mm_frame.specs.Code.KeptSparse.{number_of, value_kept};
 
 use std::alloc::{AllocError, Global};
@@ -67,7 +67,9 @@ impl Sparse {
     }
 
     /// How many items there are.
-    pub fn count(&self) -> usize {
+    pub fn count(&self) -> usize
+        ensures { result ≡ length self.now }
+    {
         self.narrow.len() + self.wide.len()
     }
 

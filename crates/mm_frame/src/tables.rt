@@ -1,14 +1,11 @@
 //! What the items so far declare, found by hash.
 
-ghost use Rattle.std.specs.Prelude.{◌≡◌, ◌<◌, ◌++◌, ◌∷◌, ℕ, IfOk, OnOk, List, [], None, Some, true, length, nat_eq, option_to_list};
-ghost use Rattle.std.specs.Prelude.{if◌then◌else◌, slice_index_or};
+ghost use Rattle.std.specs.Prelude.{◌≡◌, ◌<◌, ◌++◌, ◌∷◌, ℕ, IfOk, OnOk, List, [], None, Some, true, length, nat_eq, option_to_list, if◌then◌else◌, slice_index_or};
+ghost use Rattle.mm_frame.specs.{Language.Scope.{constants}, Code.{KeptScope.{uses_numbers}, Numbers.{IsNameNumber, AreNameNumbers}}};
+ghost use Rattle.mm_machine.specs.Language.Names.{AreDistinct};
 ghost use Rattle.mm_statement.specs.Language.Item as meant;
-ghost use Rattle.mm_frame.specs.Language.Scope.{constants};
 ghost use Rattle.mm_frame.specs.Language.Sound as sound;
 ghost use Rattle.mm_frame.specs.Code.LastItems as numbered;
-ghost use Rattle.mm_machine.specs.Language.Names.{AreDistinct};
-ghost use Rattle.mm_frame.specs.Code.KeptScope.{uses_numbers};
-ghost use Rattle.mm_frame.specs.Code.Numbers.{IsNameNumber, AreNameNumbers};
 
 use crate::label_numbers::LabelNumbers;
 use crate::names::Names;
@@ -42,8 +39,7 @@ pub struct Tables {
 }
 
 impl Tables {
-    ghost use Rattle.mm_frame.specs.Code.KeptTables.{declared_at, is_constant_as, table_label, float_of};
-    ghost use Rattle.mm_frame.specs.Code.KeptTables.{Knows, Declares, TypesName, Carries};
+    ghost use Rattle.mm_frame.specs.Code.KeptTables.{declared_at, is_constant_as, table_label, float_of, Knows, Declares, TypesName, Carries};
 
     /// No item is taken yet. There is room for the labels of this many items, as often as databases have labels.
     pub fn with_room(alloc: Global, count: usize) -> Result<Self, AllocError>

@@ -1,19 +1,11 @@
 //! What is kept of the assertions of an older base is taken over, as long as the items so far are its first ones.
 
-ghost use Rattle.std.specs.Prelude.{◌≡◌, ◌∷◌, ◌++◌, ℕ, List, [], true, IfOk, IfSome, OnOk, length};
-ghost use Rattle.std.specs.Option.{option_map};
-ghost use Rattle.mm_statement.specs.Language.Item as meant;
-ghost use Rattle.mm_frame.specs.Language.Scope.{active_numbers};
-ghost use Rattle.mm_frame.specs.Language.Sound.{sound_items};
-ghost use Rattle.mm_frame.specs.Language.Framing.{active_pairs, frame};
-ghost use Rattle.mm_frame.specs.Language.Base.{BaseView, is_proof_at};
+ghost use Rattle.std.specs.{Prelude.{◌≡◌, ◌∷◌, ◌++◌, ℕ, List, [], true, IfOk, IfSome, OnOk, length}, Option.{option_map}};
+ghost use Rattle.mm_frame.specs.Language.{Scope.{active_numbers}, Sound.{sound_items}, Framing.{active_pairs, frame}, Base.{BaseView, is_proof_at}};
+ghost use Rattle.mm_frame.specs.{Language.Answering.{AreRows, IsBaseBy, pairs_in_order, told_numbers}, Code.KeptAssertions.{AreAssertions, AreFrames, TellsPairs}};
+ghost use Rattle.mm_frame.specs.Code.{KeptPairLists.{AreMade, IsList, KeepsLists}, KeptSymbols.{AreSymbols}, LastItems.{is_disjoint_item}, TakenOver.{AreFirst, IsNextOf}};
 ghost use Rattle.mm_machine.specs.Language.NumberedSymbols.{AreInOrder, ArePairsRead, AreSamePairsRead};
-ghost use Rattle.mm_frame.specs.Language.Answering.{AreRows, IsBaseBy, pairs_in_order, told_numbers};
-ghost use Rattle.mm_frame.specs.Code.KeptAssertions.{AreAssertions, AreFrames, TellsPairs};
-ghost use Rattle.mm_frame.specs.Code.KeptPairLists.{AreMade, IsList, KeepsLists};
-ghost use Rattle.mm_frame.specs.Code.KeptSymbols.{AreSymbols};
-ghost use Rattle.mm_frame.specs.Code.LastItems.{is_disjoint_item};
-ghost use Rattle.mm_frame.specs.Code.TakenOver.{AreFirst, IsNextOf};
+ghost use Rattle.mm_statement.specs.Language.Item as meant;
 
 use crate::assertions::Assertions;
 use crate::base::Base;

@@ -1,24 +1,13 @@
 //! What a session answers of its items.
 
 ghost use Rattle.std.specs.Prelude.{◌≡◌, ◌↔◌, ◌<◌, ℕ, List, true, false, Some, None, IfOk, IfErr, IfSome, IsErrOf, length};
+ghost use Rattle.mm_proof.specs.{mm_store.Language.{FileFacts.{CanBeRead, StandsIn}, FilesView.{FilesView}}, mm_frame.Language.{Answering.{IsBase}, Base.{BaseView, said_at, is_sound_at, is_proof_at}}};
+ghost use Rattle.mm_proof.specs.{mm_statement.Language.Item.{Theorem, is_kind}, mm_verdict.Language.VerdictAt.{IsVerdictAt}};
+ghost use Rattle.mm_keep.specs.Language.{Findings.{told, counted}, Derivable.{IsDerivable, IsLabelDerivable}, Sessions.{HasAssertion, HasItem, IsAssertion, IsFinding, IsTally, IsVerdictOf, OfItems}};
+ghost use Rattle.mm_keep.specs.{Language.Told.{Told, counts}, Code.{FoundKinds.{IsFoundAs}, KeptSession.{AreChecked}, KeyedTold.{AreKeyedTold, IsKeyedTold, TellsFaultAt}}};
+ghost use Rattle.mm_keep.specs.{Code.OfFiles.{IsOf, HasChecked, HasCheckedItem, HasVerdictOf}, declared.{answers.KeepError.TheVariants.{NoAssertion}, finding.Finding.TheVariants.{Proved}}};
 ghost use Rattle.mm_proof.specs.mm_store.declared.item.Item as store;
-ghost use Rattle.mm_proof.specs.mm_store.Language.FileFacts.{CanBeRead, StandsIn};
-ghost use Rattle.mm_proof.specs.mm_store.Language.FilesView.{FilesView};
-ghost use Rattle.mm_proof.specs.mm_frame.Language.Answering.{IsBase};
-ghost use Rattle.mm_proof.specs.mm_frame.Language.Base.{BaseView, said_at, is_sound_at, is_proof_at};
-ghost use Rattle.mm_proof.specs.mm_statement.Language.Item.{Theorem, is_kind};
 ghost use Rattle.mm_proof.specs.mm_statement.Language.Statement as spoken;
-ghost use Rattle.mm_proof.specs.mm_verdict.Language.VerdictAt.{IsVerdictAt};
-ghost use Rattle.mm_keep.specs.Language.Findings.{told, counted};
-ghost use Rattle.mm_keep.specs.Code.FoundKinds.{IsFoundAs};
-ghost use Rattle.mm_keep.specs.Code.KeptSession.{AreChecked};
-ghost use Rattle.mm_keep.specs.Code.KeyedTold.{AreKeyedTold, IsKeyedTold, TellsFaultAt};
-ghost use Rattle.mm_keep.specs.Code.OfFiles.{IsOf, HasChecked, HasCheckedItem, HasVerdictOf};
-ghost use Rattle.mm_keep.specs.declared.answers.KeepError.TheVariants.{NoAssertion};
-ghost use Rattle.mm_keep.specs.declared.finding.Finding.TheVariants.{Proved};
-ghost use Rattle.mm_keep.specs.Language.Derivable.{IsDerivable, IsLabelDerivable};
-ghost use Rattle.mm_keep.specs.Language.Sessions.{HasAssertion, HasItem, IsAssertion, IsFinding, IsTally, IsVerdictOf, OfItems};
-ghost use Rattle.mm_keep.specs.Language.Told.{Told, counts};
 
 use crate::finding::{Finding, FindingKind};
 use crate::kept::Checks;

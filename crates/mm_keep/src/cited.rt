@@ -1,12 +1,8 @@
 //! Which items a theorem cites, by the words of its proof that cite.
 
-ghost use Rattle.std.specs.Prelude.{◌≡◌, ◌<◌, ◌≤◌, ◌+◌, ◌↔◌, ℕ, List, IsTrue, drop, length, slice_get, slice_index};
-ghost use Rattle.std.specs.Option.{option_map};
-ghost use Rattle.mm_proof.specs.mm_frame.Language.Base.{BaseView};
-ghost use Rattle.mm_proof.specs.mm_frame.Language.Resolving.{IsCarrier};
-ghost use Rattle.mm_proof.specs.mm_frame.Language.Answering.{IsBase};
-ghost use Rattle.mm_keep.specs.Language.Citations.{CitesItem};
-ghost use Rattle.mm_keep.specs.Language.Sessions.{IsAssertion};
+ghost use Rattle.std.specs.{Prelude.{◌≡◌, ◌<◌, ◌≤◌, ◌+◌, ◌↔◌, ℕ, List, IsTrue, drop, length, slice_get, slice_index}, Option.{option_map}};
+ghost use Rattle.mm_proof.specs.mm_frame.Language.{Base.{BaseView}, Resolving.{IsCarrier}, Answering.{IsBase}};
+ghost use Rattle.mm_keep.specs.Language.{Citations.{CitesItem}, Sessions.{IsAssertion}};
 ghost use Rattle.mm_keep.specs.Code.Cited.{AreRising, HasChecks, HasLabelAmong, HasPlaceFor, HasPlaces, IsAmongCited, MarksMore, OfChecks, passed_words};
 
 use crate::kept::{Checks, KeptCheck};

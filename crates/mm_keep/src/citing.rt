@@ -1,14 +1,9 @@
 //! What a session answers of citations: what an assertion cites, what cites it, and its axioms.
 
 ghost use Rattle.std.specs.Prelude.{◌≡◌, ◌<◌, ◌≤◌, ◌↔◌, ℕ, IfOk, IsErrOf, IsTrue, length};
-ghost use Rattle.mm_proof.specs.mm_frame.Language.Base.{BaseView};
-ghost use Rattle.mm_proof.specs.mm_frame.Language.Answering.{IsBase};
-ghost use Rattle.mm_keep.specs.declared.answers.KeepError.TheVariants.{NoAssertion};
-ghost use Rattle.mm_keep.specs.Language.Citations.{CitesItem, IsAxiomOf};
-ghost use Rattle.mm_keep.specs.Language.Runs.{AreThose};
-ghost use Rattle.mm_keep.specs.Language.Sessions.{AreAxiomsOf, AreCitesOf, AreNumbersOf, AreUsersOf, HasAssertion, IsAssertion};
-ghost use Rattle.mm_keep.specs.Language.Told.{IsAxiom};
-ghost use Rattle.mm_keep.specs.Code.Asked.{stands};
+ghost use Rattle.mm_proof.specs.mm_frame.Language.{Base.{BaseView}, Answering.{IsBase}};
+ghost use Rattle.mm_keep.specs.{declared.answers.KeepError.TheVariants.{NoAssertion}, Language.{Citations.{CitesItem, IsAxiomOf}, Runs.{AreThose}}};
+ghost use Rattle.mm_keep.specs.{Language.{Sessions.{AreAxiomsOf, AreCitesOf, AreNumbersOf, AreUsersOf, HasAssertion, IsAssertion}, Told.{IsAxiom}}, Code.Asked.{stands}};
 ghost use Rattle.mm_keep.specs.Code.Cited.{HasChecks, IsMarked, MarksBehind, OfChecks};
 
 use crate::answers::KeepError;

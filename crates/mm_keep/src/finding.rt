@@ -1,8 +1,7 @@
 //! What is found of an item.
 
 ghost use Rattle.std.specs.Prelude.{◌≡◌};
-ghost use Rattle.mm_keep.specs.Code.FoundKinds.{kind_told, kind_of_verdict};
-ghost use Rattle.mm_keep.specs.Language.Findings.{told};
+ghost use Rattle.mm_keep.specs.{Code.FoundKinds.{kind_told, kind_of_verdict}, Language.Findings.{told}};
 
 use mm_proof::{FrameNumber, ProofNumber, Verdict};
 

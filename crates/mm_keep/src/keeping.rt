@@ -1,15 +1,9 @@
 //! What a session goes on with: the base of its files as they are, and what is checked of it.
 
 ghost use Rattle.std.specs.Prelude.{◌≡◌, ◌↔◌, None, Ok, IfOk, IfErr, IsErrOf};
-ghost use Rattle.mm_proof.specs.mm_store.declared.error.StoreError.TheVariants.{Memory, NoTop};
-ghost use Rattle.mm_proof.specs.mm_store.Language.Answers.{IsExpansionError};
-ghost use Rattle.mm_proof.specs.mm_store.Language.FilesView.{files_in, number_of};
-ghost use Rattle.mm_proof.specs.mm_frame.Language.Base.{BaseView};
-ghost use Rattle.mm_proof.specs.mm_machine.Language.Names.{AreDistinct, Begins};
-ghost use Rattle.mm_proof.specs.mm_verdict.Language.ReadIn.{IsReadIn};
-ghost use Rattle.mm_proof.specs.mm_frame.Language.Older.{HasOlder, IsOlder};
-ghost use Rattle.mm_keep.specs.Code.Next.{KeepsOrRuns, HasTop, IsBuilt, IsFirst, IsNextBase, RunsAll};
-ghost use Rattle.mm_keep.specs.Code.Planned.{AreBothRead};
+ghost use Rattle.mm_proof.specs.{mm_store.{declared.error.StoreError.TheVariants.{Memory, NoTop}, Language.{Answers.{IsExpansionError}, FilesView.{files_in, number_of}}}, mm_frame.Language.Base.{BaseView}};
+ghost use Rattle.mm_proof.specs.{mm_frame.Language.Older.{HasOlder, IsOlder}, mm_machine.Language.Names.{AreDistinct, Begins}, mm_verdict.Language.ReadIn.{IsReadIn}};
+ghost use Rattle.mm_keep.specs.Code.{Next.{KeepsOrRuns, HasTop, IsBuilt, IsFirst, IsNextBase, RunsAll}, Planned.{AreBothRead}};
 
 use crate::kept::Checks;
 use crate::plan::Plan;

@@ -1,8 +1,6 @@
 //! What is kept of the checks of proofs.
 
-ghost use Rattle.std.specs.Prelude.{◌≡◌, ◌<◌, ◌++◌, ◌∷◌, [], true, None, Some, IfOk, IfSome, OnOk, is_some, length};
-ghost use Rattle.std.specs.Prelude.{slice_index, slice_index_or, slice_set};
-ghost use Rattle.std.specs.Option.{option_map};
+ghost use Rattle.std.specs.{Prelude.{◌≡◌, ◌<◌, ◌++◌, ◌∷◌, [], true, None, Some, IfOk, IfSome, OnOk, is_some, length, slice_index, slice_index_or, slice_set}, Option.{option_map}};
 ghost use Rattle.mm_keep.specs.Code.KeptCheck.{numbers_in, said};
 
 use mm_proof::{Checked, Verdict};

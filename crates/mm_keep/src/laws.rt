@@ -1,8 +1,7 @@
 //! What is proved of the definitions: each law is the contract of a function.
 
-ghost use Rattle.mm_keep.specs.Language.Laws.{AppendingKeepsFindings, AxiomsHaveThemselves, ChainsLeadBack, ItemsHaveFindings, OneListEach, OneListOfRuns};
-ghost use Rattle.mm_keep.specs.Language.Laws.{HasListEach, HasListOfRuns, LabelsAreDecided, ProvedRestsOnAxioms};
-ghost use Rattle.mm_keep.specs.Language.Laws.{OneCount, OneFinding, OneLabel, OneTally, OneVerdict, ProvedIsDerivable};
+ghost use Rattle.mm_keep.specs.Language.Laws.{AppendingKeepsFindings, AxiomsHaveThemselves, ChainsLeadBack, ItemsHaveFindings, OneListEach, OneListOfRuns, HasListEach, HasListOfRuns, LabelsAreDecided};
+ghost use Rattle.mm_keep.specs.Language.Laws.{ProvedRestsOnAxioms, OneCount, OneFinding, OneLabel, OneTally, OneVerdict, ProvedIsDerivable};
 
 /// Between files before and files after there is one list of runs.
 pub fn one_list_of_runs()

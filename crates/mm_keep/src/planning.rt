@@ -1,13 +1,9 @@
 //! Which theorems keep what was checked before, and the runs of the others.
 
 ghost use Rattle.std.specs.Prelude.{◌≡◌, ◌<◌, ◌+◌, ◌^◌, ℕ, true, Some, None, IfOk, OnOk, is_some, length, slice_index_or, slice_set};
-ghost use Rattle.mm_proof.specs.mm_frame.Language.Base.{BaseView};
-ghost use Rattle.mm_proof.specs.mm_frame.Language.Answering.{IsBase};
-ghost use Rattle.mm_proof.specs.mm_verdict.Language.ReadIn.{IsReadIn};
-ghost use Rattle.mm_keep.specs.Code.KeptPlan.{number_planned};
-ghost use Rattle.mm_keep.specs.Code.KeptSession.{AreChecked, IsCheckedAt};
-ghost use Rattle.mm_keep.specs.Code.Planned.{AddsOne, AreBothRead, AreMarksBy, ArePlanned, AreRecorded, AreRunBy, CanBeCarried, CanCarry};
-ghost use Rattle.mm_keep.specs.Code.Planned.{HasItemBothRead, HasItemRead, IsPlanned, IsRunBy, RecordsIf};
+ghost use Rattle.mm_proof.specs.{mm_frame.Language.{Base.{BaseView}, Answering.{IsBase}}, mm_verdict.Language.ReadIn.{IsReadIn}};
+ghost use Rattle.mm_keep.specs.Code.{KeptPlan.{number_planned}, KeptSession.{AreChecked, IsCheckedAt}};
+ghost use Rattle.mm_keep.specs.Code.Planned.{AddsOne, AreBothRead, AreMarksBy, ArePlanned, AreRecorded, AreRunBy, CanBeCarried, CanCarry, HasItemBothRead, HasItemRead, IsPlanned, IsRunBy, RecordsIf};
 
 use crate::kept::{Checks, KeptCheck};
 use crate::plan::Plan;

@@ -1,11 +1,8 @@
 //! Where words of items and spots of proofs are.
 
 ghost use Rattle.std.specs.Prelude.{◌≡◌, ◌≤◌, ◌+◌, ℕ, List, true, IfSome};
-ghost use Rattle.mm_proof.specs.mm_text.Language.Reading.{LiesIn};
-ghost use Rattle.mm_proof.specs.mm_store.Language.FileFacts.{CanBeRead, StandsIn};
-ghost use Rattle.mm_proof.specs.mm_frame.Language.Base.{BaseView, is_proof_at};
-ghost use Rattle.mm_keep.specs.Code.KeyedTold.{IsKeyedPlaceOfSpot, IsKeyedShown, word_spelling, word_start};
-ghost use Rattle.mm_keep.specs.Code.OfFiles.{IsOf, HasSpotOf, IsPlaceIn};
+ghost use Rattle.mm_proof.specs.{mm_text.Language.Reading.{LiesIn}, mm_store.Language.FileFacts.{CanBeRead, StandsIn}, mm_frame.Language.Base.{BaseView, is_proof_at}};
+ghost use Rattle.mm_keep.specs.Code.{KeyedTold.{IsKeyedPlaceOfSpot, IsKeyedShown, word_spelling, word_start}, OfFiles.{IsOf, HasSpotOf, IsPlaceIn}};
 
 use crate::finding::At;
 use mm_proof::{Base, Files, Item, Place, Spot, Word, nth_of_proof, nth_word};

@@ -1,21 +1,12 @@
 //! A session: files whose items are verified, and stay verified from edit to edit.
 
-ghost use Rattle.std.specs.Prelude.{◌≡◌, ◌≤◌, ◌↔◌, ℕ, List, Ok, Err, None, IfOk, IfErr, OnOk, OnErr, IsErrOf, map};
-ghost use Rattle.std.specs.Option.{option_map};
-ghost use Rattle.mm_proof.specs.mm_store.declared.batch.BatchError.TheVariants as batch;
-ghost use Rattle.mm_proof.specs.mm_store.declared.edit.EditError.{EditError};
-ghost use Rattle.mm_proof.specs.mm_store.declared.edit.EditError.TheVariants.{Memory, NoFile, NoPiece};
-ghost use Rattle.mm_proof.specs.mm_store.declared.error.StoreError.TheVariants.{NoTop};
-ghost use Rattle.mm_proof.specs.mm_store.Language.Answers.{IsExpansionError};
-ghost use Rattle.mm_proof.specs.mm_store.Language.Batches.{IsBatchOf};
+ghost use Rattle.std.specs.{Prelude.{◌≡◌, ◌≤◌, ◌↔◌, ℕ, List, Ok, Err, None, IfOk, IfErr, OnOk, OnErr, IsErrOf, map}, Option.{option_map}};
+ghost use Rattle.mm_proof.specs.mm_store.{declared.{edit.EditError.{EditError, TheVariants.{Memory, NoFile, NoPiece}}, error.StoreError.TheVariants.{NoTop}}, Language.Answers.{IsExpansionError}};
+ghost use Rattle.mm_proof.specs.mm_store.Language.{Batches.{IsBatchOf}, Edits.{IsEditOf, NamesNoMember}, FileFacts.{parked_in}, FilesView.{FilesView, files_in, file_number, number_of, plain}};
 ghost use Rattle.mm_proof.specs.mm_text.Language.Asked.{asked, edited_name};
-ghost use Rattle.mm_proof.specs.mm_store.Language.Edits.{IsEditOf, NamesNoMember};
-ghost use Rattle.mm_proof.specs.mm_store.Language.FileFacts.{parked_in};
-ghost use Rattle.mm_proof.specs.mm_store.Language.FilesView.{FilesView, files_in, file_number, number_of, plain};
-ghost use Rattle.mm_keep.specs.Code.Changing.{CanTake, HasKept, HasRun, HasTaking, WereKept};
-ghost use Rattle.mm_keep.specs.Code.Next.{IsFirst};
-ghost use Rattle.mm_keep.specs.Language.Refusals.{IsRefusal, IsBatchRefusal};
+ghost use Rattle.mm_keep.specs.{Code.{Changing.{CanTake, HasKept, HasRun, HasTaking, WereKept}, Next.{IsFirst}}, Language.Refusals.{IsRefusal, IsBatchRefusal}};
 ghost use Rattle.mm_keep.specs.Language.Sessions.{IsBegun, IsChanged, IsCount, IsLabelOfItem};
+ghost use Rattle.mm_proof.specs.mm_store.declared.batch.BatchError.TheVariants as batch;
 
 use crate::keeping::{Next, Ran, first_of, next_of};
 use crate::kept::Checks;
@@ -52,8 +43,8 @@ pub struct Session {
 
 impl Model for Session {
     ghost use Rattle.std.specs.Coded.{codes};
-    ghost use Rattle.mm_proof.specs.mm_store.contracts.files.Files as store;
     ghost use Rattle.mm_keep.specs.Language.Sessions.{SessionView};
+    ghost use Rattle.mm_proof.specs.mm_store.contracts.files.Files as store;
 
     ghost Value = { SessionView };
 

@@ -1,9 +1,7 @@
 //! How many items there are of each kind that a summary counts.
 
 ghost use Rattle.std.specs.Prelude.{◌≡◌, ◌+◌, ◌++◌, ◌∷◌, [], List};
-ghost use Rattle.mm_keep.specs.Code.FoundKinds.{one_more};
-ghost use Rattle.mm_keep.specs.Language.Findings.{counted, told, AreFew};
-ghost use Rattle.mm_keep.specs.Language.Told.{Told, counts};
+ghost use Rattle.mm_keep.specs.{Code.FoundKinds.{one_more}, Language.{Findings.{counted, told, AreFew}, Told.{Told, counts}}};
 
 use crate::finding::{Finding, FindingKind};
 

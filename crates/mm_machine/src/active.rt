@@ -1,10 +1,7 @@
 //! The active pairs at a statement, and which symbols they keep apart.
 
 ghost use Rattle.std.specs.Prelude.{◌≡◌, ◌↔◌, ◌<◌, ℕ, true, IsTrue, MatchBool, Some, length, slice_get};
-ghost use Rattle.mm_machine.specs.Language.Frame.{Symbol as Meaning, ArePair};
-ghost use Rattle.mm_machine.specs.Language.CodeLists.{meant_pairs};
-ghost use Rattle.mm_machine.specs.Language.NumberedSymbols.{comes_before};
-ghost use Rattle.mm_machine.specs.Language.Keys.{AreInKeyOrder, lower_first as lower_first_lem, pair_keys};
+ghost use Rattle.mm_machine.specs.Language.{Frame.{Symbol as Meaning, ArePair}, CodeLists.{meant_pairs}, NumberedSymbols.{comes_before}, Keys.{AreInKeyOrder, lower_first as lower_first_lem, pair_keys}};
 ghost use Rattle.mm_machine.specs.Code.PairClause.{IsPair, Apart, NotApart};
 
 use crate::kept::Kept;

@@ -1,8 +1,7 @@
 //! Which variables of a run are apart, and which are known to be.
 
 ghost use Rattle.std.specs.Prelude.{◌<◌, ℕ, List, OnOk, IfOk, MatchBool, length, map};
-ghost use Rattle.mm_machine.specs.Language.Frame.{Symbol as Meaning};
-ghost use Rattle.mm_machine.specs.Language.CodeLists.{meant_pairs};
+ghost use Rattle.mm_machine.specs.Language.{Frame.{Symbol as Meaning}, CodeLists.{meant_pairs}};
 ghost use Rattle.mm_machine.specs.Code.PairClause.{ApartAt, ApartFrom, AreNumbersOf, EachApart, HasNumber, InChunk, KnowsApart, NotApartAt, SomeNotApart, SomeShared};
 
 use crate::active::Active;

@@ -1,13 +1,8 @@
 //! What is right or wrong when an assertion is cited.
 
 ghost use Rattle.std.specs.Prelude.{◌≡◌, ◌↔◌, ◌<◌, ◌≤◌, ◌+◌, List, IsTrue, IfNone, IfOk, OnOk, MatchBool, MatchOption, length, map, slice_get};
-ghost use Rattle.mm_machine.specs.Language.Frame.{Symbol as Meaning};
-ghost use Rattle.mm_machine.specs.Language.Faults.{AnyZip};
-ghost use Rattle.mm_machine.specs.Language.CodeLists.{meant_pairs};
-ghost use Rattle.mm_machine.specs.Language.Lasting.{pattern_symbols};
-ghost use Rattle.mm_machine.specs.Code.Flat.{IsEntryWithin, read};
-ghost use Rattle.mm_machine.specs.Code.Citation.{AreFloating, GivesEntries, OtherTypecode, OtherEssential, CitingSays};
-ghost use Rattle.mm_machine.specs.Code.Filling.{AllGive, AreTaken, entries_of, frame_taking, variables_of};
+ghost use Rattle.mm_machine.specs.{Language.{Frame.{Symbol as Meaning}, Faults.{AnyZip}, CodeLists.{meant_pairs}, Lasting.{pattern_symbols}}, Code.Flat.{IsEntryWithin, read}};
+ghost use Rattle.mm_machine.specs.Code.{Citation.{AreFloating, GivesEntries, OtherTypecode, OtherEssential, CitingSays}, Filling.{AllGive, AreTaken, entries_of, frame_taking, variables_of}};
 ghost use Rattle.mm_machine.specs.Code.PairClause.{IsPairRoom};
 
 use crate::ProofNumber;

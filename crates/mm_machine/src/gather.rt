@@ -1,10 +1,7 @@
 //! The variables of the entries that an assertion takes, as sets of numbers.
 
 ghost use Rattle.std.specs.Prelude.{◌≡◌, ◌≤◌, ◌++◌, List, OnOk, length, map};
-ghost use Rattle.mm_machine.specs.Language.Frame.{Symbol as Meaning};
-ghost use Rattle.mm_machine.specs.Language.Keys.{AreNumbered};
-ghost use Rattle.mm_machine.specs.Code.Flat.{IsEntryWithin, read};
-ghost use Rattle.mm_machine.specs.Code.Filling.{AreTaken, entries_of, frame_taking};
+ghost use Rattle.mm_machine.specs.{Language.{Frame.{Symbol as Meaning}, Keys.{AreNumbered}}, Code.{Flat.{IsEntryWithin, read}, Filling.{AreTaken, entries_of, frame_taking}}};
 ghost use Rattle.mm_machine.specs.Code.PairClause.{GathersOne, GathersSymbols, GathersEntry, Gathers, IsPairRoom};
 
 use crate::apart::KnownApart;

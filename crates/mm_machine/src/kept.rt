@@ -1,11 +1,11 @@
 //! What the machine needs of symbols that it keeps in a list.
 
-ghost use Rattle.std.specs.Prelude.{◌≡◌, ◌<◌, ◌≤◌, ◌+◌, ◌^◌, ◌++◌, ◌↔◌, ℕ, IfOk, OnOk, IsTrue, length, map, take, drop};
-ghost use Rattle.mm_machine.specs.Language.Frame.{Symbol as Meaning};
-ghost use Rattle.mm_machine.specs.Language.Keys.{key_by_number, key_from, key_next};
+ghost use Rattle.std.specs.{Prelude.{◌≡◌, ◌<◌, ◌≤◌, ◌+◌, ◌^◌, ◌++◌, ◌↔◌, ℕ, IfOk, OnOk, IsTrue, length, map, take, drop}, Simd.Lanes.{chunk}};
+ghost use Rattle.mm_machine.specs.Language.{Frame.{Symbol as Meaning}, Keys.{key_by_number, key_from, key_next}};
 
 use crate::symbol::{CodedSymbol, NamedSymbol, NumberedSymbol, Symbol};
 use std::alloc::{AllocError, Global};
+use std::simd::u32x4;
 
 /// Symbols are copied and compared in blocks of this many, the last block over the end of what is asked for.
 pub const BLOCK: usize = 4;
@@ -52,10 +52,10 @@ pub trait Kept: Symbol {
         ensures copied { OnOk result (take (to + len) (map Self.means all.new)
             ≡ take to (map Self.means all.old) ++ take len (drop from (map Self.means all.old))) };
 
-    /// Whether ranges of two lists have the same symbols.
+    /// Whether ranges of two lists have the same symbols. Behind each there is a block.
     fn are_same(one: &[Self], at: usize, other: &[Self], from: usize, len: usize) -> bool
-        requires one { at + len ≤ length one.now }
-        requires other { from + len ≤ length other.now }
+        requires one { at + len + 4 ≤ length one.now }
+        requires other { from + len + 4 ≤ length other.now }
         ensures { IsTrue result
             ↔ (take len (drop at (map Self.means one.now)) ≡ take len (drop from (map Self.means other.now))) };
 }
@@ -153,17 +153,36 @@ fn block_on(all: &mut [CodedSymbol], to: usize, from: usize)
     all[to + 3] = d;
 }
 
-/// Whether blocks of two lists have the same symbols.
+/// The codes of a block of a list.
 #[inline(always)]
-fn same_block(one: &[CodedSymbol], at: usize, other: &[CodedSymbol], from: usize) -> bool
+fn codes(all: &[CodedSymbol], at: usize) -> u32x4
+    requires { at + 4 ≤ length all.now }
+    ensures { result ≡ map (λ symbol. symbol.code) (chunk at 4 all.now) }
+{
+    u32x4::from_array([
+        all[at].code,
+        all[at + 1].code,
+        all[at + 2].code,
+        all[at + 3].code,
+    ])
+}
+
+/// Whether so many symbols at the beginning of blocks of two lists are the same.
+#[inline(always)]
+fn same_in_block(
+    one: &[CodedSymbol],
+    at: usize,
+    other: &[CodedSymbol],
+    from: usize,
+    len: usize,
+) -> bool
     requires one { at + 4 ≤ length one.now }
     requires other { from + 4 ≤ length other.now }
-    ensures { IsTrue result ↔ (take 4 (drop at one.now) ≡ take 4 (drop from other.now)) }
+    requires few { len ≤ 4 }
+    ensures { IsTrue result ↔ (take len (drop at one.now) ≡ take len (drop from other.now)) }
 {
-    (one[at].code == other[from].code)
-        & (one[at + 1].code == other[from + 1].code)
-        & (one[at + 2].code == other[from + 2].code)
-        & (one[at + 3].code == other[from + 3].code)
+    let different = codes(one, at).simd_ne(codes(other, from)).to_bitmask();
+    different & ((1 << len) - 1) == 0
 }
 
 impl Kept for CodedSymbol {
@@ -212,18 +231,12 @@ impl Kept for CodedSymbol {
     #[inline(always)]
     fn are_same(one: &[Self], at: usize, other: &[Self], from: usize, len: usize) -> bool {
         let mut n = 0;
-        while len - n >= 4 {
-            if !same_block(one, at + n, other, from + n) {
+        while len - n > 4 {
+            if !same_in_block(one, at + n, other, from + n, 4) {
                 return false;
             }
             n += 4;
         }
-        while n < len {
-            if !one[at + n].same(&other[from + n]) {
-                return false;
-            }
-            n += 1;
-        }
-        true
+        same_in_block(one, at + n, other, from + n, len - n)
     }
 }

@@ -1,14 +1,8 @@
 //! The machine: a stack of expressions and what was saved, as ranges of one flat list of symbols.
 
 ghost use Rattle.std.specs.Prelude.{◌≡◌, ◌≢◌, ◌↔◌, ◌⊎◌, ◌+◌, ◌++◌, ◌∷◌, [], ◌<◌, ◌≤◌, ◌-◌, ℕ, List, All, IsTrue, IfOk, OnOk, MatchBool, MatchOption, Some, length, map, max, take, drop, slice_get, slice_set};
-ghost use Rattle.mm_machine.specs.Code.Ranges.{AreOrderedRanges, Saves};
-ghost use Rattle.mm_machine.specs.Language.CodeLists.{meant_pairs};
-ghost use Rattle.mm_machine.specs.Language.Lasting.{IsCited, cited_frame, lasting_or};
-ghost use Rattle.mm_machine.specs.Language.Frame.{Symbol as Meaning, Mandatory};
-ghost use Rattle.mm_machine.specs.Code.Citation.{IsLowestCiting};
-ghost use Rattle.mm_machine.specs.Code.PairClause.{IsPairRoom};
-ghost use Rattle.mm_machine.specs.Code.Filling.{IsFillable, pattern_filled};
-ghost use Rattle.mm_machine.specs.Language.Steps.{Cites};
+ghost use Rattle.mm_machine.specs.{Code.{Ranges.{AreOrderedRanges, Saves}, Citation.{IsLowestCiting}, PairClause.{IsPairRoom}, Filling.{IsFillable, pattern_filled}}, Language.CodeLists.{meant_pairs}};
+ghost use Rattle.mm_machine.specs.Language.{Lasting.{IsCited, cited_frame, lasting_or}, Frame.{Symbol as Meaning, Mandatory}, Steps.{Cites}};
 
 use crate::ProofNumber;
 use crate::active::Active;
@@ -188,8 +182,7 @@ fn give_places(given: &mut Vec<Given>, count: usize) -> Result<(), AllocError>
 }
 
 impl<S: Kept> Machine<S> {
-    ghost use Rattle.mm_machine.specs.Language.Lasting.{HoldsLasting, KeepsLasting, lasting_of};
-    ghost use Rattle.mm_machine.specs.Code.MachineState.{state_of, AreRanges};
+    ghost use Rattle.mm_machine.specs.{Language.Lasting.{HoldsLasting, KeepsLasting, lasting_of}, Code.MachineState.{state_of, AreRanges}};
 
     /// A machine with no lasting expression. It takes no memory. A run begins by itself with nothing on the stack and nothing
     /// saved, so of what a machine has from other runs its lasting expressions alone count.
@@ -246,6 +239,7 @@ impl<S: Kept> Machine<S> {
     }
 
     /// Makes places for lasting expressions until there are so many: each new one has no symbol until it is loaded.
+    /// After out of memory the lasting expressions have to be forgotten.
     pub fn make_places(&mut self, count: usize) -> Result<(), AllocError>
         requires { HoldsLasting S.means S.key_of self.old }
         ensures holds { OnOk result (HoldsLasting S.means S.key_of self.new) }

@@ -1,7 +1,6 @@
 //! The laws of numbers in place of names.
 
-ghost use Rattle.mm_machine.specs.Language.RunLaws.{NumbersKeepFrames, NumbersKeepOrder, NumbersKeepPairs};
-ghost use Rattle.mm_machine.specs.Language.RunLaws.{NumbersKeepPlaces, NumbersNameSymbols, NumbersSayTheSame};
+ghost use Rattle.mm_machine.specs.Language.RunLaws.{NumbersKeepFrames, NumbersKeepOrder, NumbersKeepPairs, NumbersKeepPlaces, NumbersNameSymbols, NumbersSayTheSame};
 
 /// Symbols by number, read by the names and then renamed to numbers, are the symbols whose names are these numbers.
 ///

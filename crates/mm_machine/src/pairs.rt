@@ -1,14 +1,9 @@
 //! The pair clause: whether the entries of mandatory pairs are kept apart.
 
 ghost use Rattle.std.specs.Prelude.{◌≡◌, ◌<◌, ℕ, List, Some, IfOk, OnOk, MatchBool, length, map, slice_get};
-ghost use Rattle.mm_machine.specs.Language.Frame.{Symbol as Meaning};
-ghost use Rattle.mm_machine.specs.Language.CodeLists.{meant_pairs};
-ghost use Rattle.mm_machine.specs.Code.Citation.{GivesEntries};
-ghost use Rattle.mm_machine.specs.Language.Keys.{AreNumbered};
+ghost use Rattle.mm_machine.specs.{Language.{Frame.{Symbol as Meaning}, CodeLists.{meant_pairs}, Keys.{AreNumbered}}, Code.{Citation.{GivesEntries}, Filling.{AllGive, AreTaken, entries_of, frame_taking}}};
+ghost use Rattle.mm_machine.specs.Code.PairClause.{EachApart, SomeNotApart, SomeShared, AreNumbersOf, AreSpans, AreSlotPairs, AtEachPair, AtSomePair, HasSlots, IsPairRoom, KnowsApart, PairsSay, set_at};
 ghost use Rattle.mm_machine.specs.declared.pattern.Given.{Given as Put};
-ghost use Rattle.mm_machine.specs.Code.Filling.{AllGive, AreTaken, entries_of, frame_taking};
-ghost use Rattle.mm_machine.specs.Code.PairClause.{EachApart, SomeNotApart, SomeShared, AreNumbersOf, AreSpans, AreSlotPairs, AtEachPair, AtSomePair};
-ghost use Rattle.mm_machine.specs.Code.PairClause.{HasSlots, IsPairRoom, KnowsApart, PairsSay, set_at};
 
 use crate::ProofNumber;
 use crate::active::Active;

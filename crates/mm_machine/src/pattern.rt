@@ -1,8 +1,7 @@
 //! Lasting expressions under the substitution that entries give.
 
-ghost use Rattle.std.specs.Prelude.{◌≡◌, ◌↔◌, ◌≤◌, ◌+◌, ◌<◌, IsTrue, OnOk, IfOk, MatchOption, drop, take, length, map};
-ghost use Rattle.mm_machine.specs.Code.Flat.{IsEntryWithin, read};
-ghost use Rattle.mm_machine.specs.Code.Filling.{IsFillable, pattern_filled};
+ghost use Rattle.std.specs.Prelude.{◌≡◌, ◌↔◌, ◌≤◌, ◌+◌, ◌-◌, ◌<◌, IsTrue, OnOk, IfOk, MatchOption, drop, take, length, map};
+ghost use Rattle.mm_machine.specs.Code.{Flat.{IsEntryWithin, read}, Filling.{IsFillable, pattern_filled}};
 
 use crate::kept::{BLOCK, Kept};
 use crate::lasting::Pattern;
@@ -83,7 +82,7 @@ pub fn build<S: Kept>(
     Ok(Some(at + rest - top))
 }
 
-/// Whether an entry is an expression under the substitution.
+/// Whether an entry is an expression under the substitution. Behind all of them there is a block.
 #[inline(always)]
 pub fn fits<S: Kept>(
     all: &[S],
@@ -92,8 +91,9 @@ pub fn fits<S: Kept>(
     slots: &[Slot],
     pattern: Pattern,
 ) -> bool
-    requires entry { IsEntryWithin (length all.now) entry }
-    requires fillable { IsFillable given.now (length all.now) slots.now pattern }
+    requires room { 4 ≤ length all.now }
+    requires entry { IsEntryWithin (length all.now - 4) entry }
+    requires fillable { IsFillable given.now (length all.now - 4) slots.now pattern }
     ensures { IsTrue result ↔ (pattern_filled (map S.means all.now) given.now slots.now pattern ≡ read (map S.means all.now) entry) }
 {
     let slots = &slots[pattern.first as usize..pattern.last as usize];

@@ -1,9 +1,7 @@
 //! The slots of an expression: where its variables are.
 
 ghost use Rattle.std.specs.Prelude.{◌≡◌, ◌+◌, ◌++◌, ◌≤◌, List, IfOk, OnOk, length, map, take};
-ghost use Rattle.mm_machine.specs.Language.Frame.{Symbol as Meaning};
-ghost use Rattle.mm_machine.specs.Language.Lasting.{AreSlotsOf};
-ghost use Rattle.mm_machine.specs.Language.Keys.{AreNumbered};
+ghost use Rattle.mm_machine.specs.Language.{Frame.{Symbol as Meaning}, Lasting.{AreSlotsOf}, Keys.{AreNumbered}};
 
 use crate::kept::Kept;
 use crate::narrow::narrow;

@@ -1,21 +1,10 @@
 //! A run of the steps of a proof.
 
-ghost use Rattle.std.specs.Prelude.{◌≡◌, ◌+◌, ◌-◌, ◌↔◌, ◌∷◌, [], ℕ, List, All, IfOk, OnOk, IfNone, IsTrue, MatchOption, IfSome, length};
-ghost use Rattle.std.specs.Prelude.{map, slice_index_or};
-ghost use Rattle.std.specs.List.{AllZip};
-ghost use Rattle.mm_machine.specs.Language.Frame.{Symbol as Meaning, Frame, Setting, AreSamePairs};
-ghost use Rattle.mm_machine.specs.Language.Typing.{HasFrames};
-ghost use Rattle.mm_machine.specs.Language.Expansion.{Step, NotKnown};
-ghost use Rattle.mm_machine.specs.Language.Faults.{IsLowest};
-ghost use Rattle.mm_machine.specs.Language.Machine.{State, Turns};
-ghost use Rattle.mm_machine.specs.Language.Lasting.{HoldsLasting, IsCited, KeepsLasting, cited_frame, lasting_of};
-ghost use Rattle.mm_machine.specs.Language.CodeLists.{meant_pairs};
-ghost use Rattle.mm_machine.specs.Language.NamedSteps.{AreDoneTo, AreSavedBefore, AreUses, AreUsesWithin};
-ghost use Rattle.mm_machine.specs.Language.NamedSteps.{IsOutcomeWithin, IsSavedWithin, IsUseWithin, MeansUse, RunSays, StopsAt, actions_mean, meant};
-ghost use Rattle.mm_machine.specs.Language.NamedSteps.{saves_by};
-ghost use Rattle.mm_machine.specs.Code.PairClause.{IsPairRoom};
-ghost use Rattle.mm_machine.specs.Code.Tasks.{HasState, IsTaskWithin, MeansTask, saves_of};
-ghost use Rattle.mm_machine.specs.Code.MachineState.{state_of, AreRanges};
+ghost use Rattle.std.specs.{Prelude.{◌≡◌, ◌+◌, ◌-◌, ◌↔◌, ◌∷◌, [], ℕ, List, All, IfOk, OnOk, IfNone, IsTrue, MatchOption, IfSome, length, map, slice_index_or}, List.{AllZip}};
+ghost use Rattle.mm_machine.specs.Language.{Frame.{Symbol as Meaning, Frame, Setting, AreSamePairs}, Typing.{HasFrames}, Expansion.{Step, NotKnown}, Faults.{IsLowest}, Machine.{State, Turns}};
+ghost use Rattle.mm_machine.specs.Language.{Lasting.{HoldsLasting, IsCited, KeepsLasting, cited_frame, lasting_of}, CodeLists.{meant_pairs}};
+ghost use Rattle.mm_machine.specs.Language.NamedSteps.{AreDoneTo, AreSavedBefore, AreUses, AreUsesWithin, IsOutcomeWithin, IsSavedWithin, IsUseWithin, MeansUse, RunSays, StopsAt, actions_mean, meant};
+ghost use Rattle.mm_machine.specs.{Language.NamedSteps.{saves_by}, Code.{PairClause.{IsPairRoom}, Tasks.{HasState, IsTaskWithin, MeansTask, saves_of}, MachineState.{state_of, AreRanges}}};
 
 use crate::ProofNumber;
 use crate::active::Active;

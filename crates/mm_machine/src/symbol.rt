@@ -1,8 +1,7 @@
 //! Symbols of expressions.
 
 ghost use Rattle.std.specs.Prelude.{◌≡◌, ◌↔◌, ◌/◌, ◌^◌, ◌<◌, ◌≤◌, IsTrue, IfOk, OnErr, Ok};
-ghost use Rattle.mm_machine.specs.Language.NumberedSymbols.{by_code, by_number, named_symbol};
-ghost use Rattle.mm_machine.specs.Language.Frame.{Symbol as Meaning};
+ghost use Rattle.mm_machine.specs.Language.{NumberedSymbols.{by_code, by_number, named_symbol}, Frame.{Symbol as Meaning}};
 
 use crate::narrow::narrow;
 use std::alloc::{AllocError, Global};
@@ -23,35 +22,6 @@ pub struct NamedSymbol {
     pub name: Vec<u8>,
     /// It is a variable, and else a constant.
     pub variable: bool,
-}
-
-impl NumberedSymbol {
-    /// Whether two symbols are the same, by one list of names: of one number, and both constants or both variables.
-    pub fn same(&self, other: &NumberedSymbol) -> bool
-        ensures { IsTrue result ↔ (self.now ≡ other.now) }
-    {
-        self.name == other.name && self.variable == other.variable
-    }
-}
-
-impl NamedSymbol {
-    /// Whether two symbols are the same: of one name, and both constants or both variables.
-    pub fn same(&self, other: &NamedSymbol) -> bool
-        ensures { IsTrue result ↔ (named_symbol self.now ≡ named_symbol other.now) }
-    {
-        self.variable == other.variable && self.name == other.name
-    }
-
-    /// The same symbol once more. It fails if there is no memory for the name.
-    pub fn copy(&self, alloc: Global) -> Result<NamedSymbol, AllocError>
-        ensures { IfOk result (λ copy. named_symbol copy ≡ named_symbol self.now) }
-    {
-        let name = Vec::from_slice(alloc, &self.name)?;
-        Ok(NamedSymbol {
-            name,
-            variable: self.variable,
-        })
-    }
 }
 
 /// A symbol by number in four bytes, for lists that are copied and compared often.
@@ -105,7 +75,7 @@ impl Symbol for NamedSymbol {
     ghost means = { named_symbol };
 
     fn same(&self, other: &Self) -> bool {
-        NamedSymbol::same(self, other)
+        self.variable == other.variable && self.name == other.name
     }
 
     fn is_variable(&self) -> bool {
@@ -113,7 +83,11 @@ impl Symbol for NamedSymbol {
     }
 
     fn copy(&self, alloc: Global) -> Result<Self, AllocError> {
-        NamedSymbol::copy(self, alloc)
+        let name = Vec::from_slice(alloc, &self.name)?;
+        Ok(NamedSymbol {
+            name,
+            variable: self.variable,
+        })
     }
 }
 
@@ -121,7 +95,7 @@ impl Symbol for NumberedSymbol {
     ghost means = { by_number };
 
     fn same(&self, other: &Self) -> bool {
-        NumberedSymbol::same(self, other)
+        self.name == other.name && self.variable == other.variable
     }
 
     fn is_variable(&self) -> bool {

@@ -1,10 +1,7 @@
 //! What an assertion takes when it is cited.
 
 ghost use Rattle.std.specs.Prelude.{◌≡◌, ◌<◌, Some, length, map, slice_get};
-ghost use Rattle.mm_machine.specs.Language.Frame.{Symbol as Meaning};
-ghost use Rattle.mm_machine.specs.Language.Typing.{IsTyping};
-ghost use Rattle.mm_machine.specs.Language.Lasting.{IsPattern, lasting_at, pattern_symbols};
-ghost use Rattle.mm_machine.specs.Code.Filling.{AreTaken, frame_taking, variables_of};
+ghost use Rattle.mm_machine.specs.{Language.{Frame.{Symbol as Meaning}, Typing.{IsTyping}, Lasting.{IsPattern, lasting_at, pattern_symbols}}, Code.Filling.{AreTaken, frame_taking, variables_of}};
 
 use crate::kept::Kept;
 use crate::lasting::{Lasting, Pattern};

@@ -1,8 +1,7 @@
 //! The variables of a run, by numbers.
 
 ghost use Rattle.std.specs.Prelude.{◌≡◌, ◌++◌, List, [], Contains, Some, MatchOption, IfOk, OnOk, map, slice_get, slice_set};
-ghost use Rattle.mm_machine.specs.Language.Frame.{Symbol as Meaning};
-ghost use Rattle.mm_machine.specs.Language.Keys.{AreNumbered, home as home_lem};
+ghost use Rattle.mm_machine.specs.Language.{Frame.{Symbol as Meaning}, Keys.{AreNumbered, home as home_lem}};
 
 use crate::kept::Kept;
 use crate::symbol::Symbol;

@@ -1,9 +1,7 @@
 //! What is proved of derivations, of the machine and of verdicts: each law is the contract of a function.
 
-ghost use Rattle.mm_machine.specs.Language.Laws.{DerivesAtMostOne, OnlyMandatoryCount, DerivedWeighsOne, ShorterWeighsLess, LastPartIsShortest};
-ghost use Rattle.mm_machine.specs.Language.Laws.{SaveKeepsLastEntry};
-ghost use Rattle.mm_machine.specs.Language.Laws.{HasOneVerdict, HasVerdict, ProvedIsDerived, RenamingKeepsVerdict, SameProofSameVerdict};
-ghost use Rattle.mm_machine.specs.Language.Laws.{MachineReaches, TurnsOrFails, NeverTurnsAndFails, HasOneStepFault, HasOneCount, HasCount};
+ghost use Rattle.mm_machine.specs.Language.Laws.{DerivesAtMostOne, OnlyMandatoryCount, DerivedWeighsOne, ShorterWeighsLess, LastPartIsShortest, SaveKeepsLastEntry, HasOneVerdict, HasVerdict};
+ghost use Rattle.mm_machine.specs.Language.Laws.{ProvedIsDerived, RenamingKeepsVerdict, SameProofSameVerdict, MachineReaches, TurnsOrFails, NeverTurnsAndFails, HasOneStepFault, HasOneCount, HasCount};
 
 /// A list of labels derives at most one expression, where each label of an assertion has a frame with typed variables.
 ///

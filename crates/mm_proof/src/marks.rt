@@ -1,12 +1,9 @@
 //! What stays of an old base in a new one.
 
 ghost use Rattle.std.specs.Prelude.{◌≡◌, ◌↔◌, ◌+◌, ◌<◌, ℕ, true, Some, IfOk, IsTrue, map};
-ghost use Rattle.mm_frame.specs.Language.Base.{BaseView, hypothesis_at, is_shown_at};
-ghost use Rattle.mm_frame.specs.Language.Answering.{BaseAnswers, IsBase, IsBaseBy};
-ghost use Rattle.mm_frame.specs.Language.Resolving.{IsCarrier};
+ghost use Rattle.mm_frame.specs.Language.{Base.{BaseView, hypothesis_at, is_shown_at}, Answering.{BaseAnswers, IsBase, IsBaseBy}, Resolving.{IsCarrier}};
 ghost use Rattle.mm_proof.specs.Code.InStep.{AreOrdinalsOf, HasLevel, IsStepAt, MeanOne, changed_behind};
-ghost use Rattle.mm_proof.specs.Code.KeptMarks.{OfBases, AreTheorems, SharePairs, ShareFrame, IsCompared, IsComparedOf};
-ghost use Rattle.mm_proof.specs.Code.KeptMarks.{IsHypothesisMark, IsOneHypothesis, AreHypothesisMarks, kept_mark};
+ghost use Rattle.mm_proof.specs.Code.KeptMarks.{OfBases, AreTheorems, SharePairs, ShareFrame, IsCompared, IsComparedOf, IsHypothesisMark, IsOneHypothesis, AreHypothesisMarks, kept_mark};
 ghost use Rattle.mm_proof.specs.Language.BaseMarks.{AreMarks, HaveOneLabel, IsMark, KeepsLabels, mark_at};
 
 use crate::ordinals::{Ordinals, end_alike, in_full_width, is_labelled, narrowed};

@@ -1,10 +1,8 @@
 //! The ordinals of labelled items, by which two bases are found to be in step.
 
 ghost use Rattle.std.specs.Prelude.{◌≡◌, ◌<◌, ◌≤◌, true, suc, IfOk, IsTrue, length, slice_index};
-ghost use Rattle.mm_frame.specs.Language.Base.{BaseView, is_shown_at};
-ghost use Rattle.mm_frame.specs.Language.Answering.{IsBase};
-ghost use Rattle.mm_proof.specs.Code.InStep.{AreOrdinals, AreOrdinalsOf, SharesEnd};
-ghost use Rattle.mm_proof.specs.Code.KeptMarks.{OfBases};
+ghost use Rattle.mm_frame.specs.Language.{Base.{BaseView, is_shown_at}, Answering.{IsBase}};
+ghost use Rattle.mm_proof.specs.Code.{InStep.{AreOrdinals, AreOrdinalsOf, SharesEnd}, KeptMarks.{OfBases}};
 
 use mm_frame::Base;
 use std::alloc::{AllocError, Global};

@@ -1,21 +1,13 @@
 //! Whether two theorems have the same view: all that the verdicts on their proofs depend on.
 
-ghost use Rattle.std.specs.Prelude.{◌≡◌, ◌↔◌, true, ℕ, List, Some, IsTrue, IsFalse, filter, length};
-ghost use Rattle.std.specs.List.{AllByRecursion, before_first};
-ghost use Rattle.mm_frame.specs.mm_store.Language.FileFacts.{CanBeRead};
-ghost use Rattle.mm_frame.specs.Language.Base.{BaseView, is_framed_at, is_proof_at};
-ghost use Rattle.mm_frame.specs.mm_statement.Language.Item as meant;
+ghost use Rattle.std.specs.{Prelude.{◌≡◌, ◌↔◌, true, ℕ, List, Some, IsTrue, IsFalse, filter, length}, List.{AllByRecursion, before_first}};
+ghost use Rattle.mm_frame.specs.{mm_store.Language.FileFacts.{CanBeRead}, Language.{Base.{BaseView, is_framed_at, is_proof_at}, Resolving.{IsCarrier, Resolves}, Answering.{IsBase, IsBaseBy}}};
 ghost use Rattle.mm_frame.specs.mm_statement.Language.Statement.{Says};
-ghost use Rattle.mm_frame.specs.Language.Resolving.{IsCarrier, Resolves};
-ghost use Rattle.mm_frame.specs.Language.Answering.{IsBase, IsBaseBy};
 ghost use Rattle.mm_proof.specs.Code.KeptMarks.{AreTheorems, IsOneCarrier, IsShownItem, SharePairs, ShareHypotheses, ShareProof, is_label_word, stands_for};
-ghost use Rattle.mm_proof.specs.Code.TwoTheorems.{AreMarked, AreUnnamed, CanBeCompared, IsUnnamed, OfTwo, OfTwoIn, MeansSame, TellsLabels, TellsShared};
-ghost use Rattle.mm_verdict.specs.Language.ReadIn.{IsReadIn, HasTheorem};
-ghost use Rattle.mm_proof.specs.Language.BaseMarks.{AreMarks, mark_at};
-ghost use Rattle.mm_verdict.specs.Language.Decoding.{is_close as is_closing};
-ghost use Rattle.mm_verdict.specs.Language.SameToDecode.{labels_named};
+ghost use Rattle.mm_proof.specs.{Code.TwoTheorems.{AreMarked, AreUnnamed, CanBeCompared, IsUnnamed, OfTwo, OfTwoIn, MeansSame, TellsLabels, TellsShared}, Language.BaseMarks.{AreMarks, mark_at}};
+ghost use Rattle.mm_verdict.specs.Language.{ReadIn.{IsReadIn, HasTheorem}, Decoding.{is_close as is_closing}, SameToDecode.{labels_named}, View.{view_at, AreSameViews}};
 ghost use Rattle.mm_verdict.specs.mm_machine.Language.SameProof.{AreSameMeaning};
-ghost use Rattle.mm_verdict.specs.Language.View.{view_at, AreSameViews};
+ghost use Rattle.mm_frame.specs.mm_statement.Language.Item as meant;
 
 use crate::marks::Marks;
 use mm_frame::{

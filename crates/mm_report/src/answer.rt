@@ -1,26 +1,15 @@
 //! The answers to the commands of a script.
 
-ghost use Rattle.std.specs.Prelude.{◌≡◌, ◌≢◌, ◌≤◌, ◌<◌, ◌↔◌, ◌⊎◌, ◌++◌, ℕ};
-ghost use Rattle.std.specs.Prelude.{List, Contains, Err, IsOk, IsTrue, true, false, IfOk, IfErr, IsErrOf, OnOk, codes, length, map};
-ghost use Rattle.std.specs.Io.KnownBytes.{Appends};
-ghost use Rattle.mm_keep.specs.mm_store.declared.edit.EditError.TheVariants as refusals;
-ghost use Rattle.mm_keep.specs.mm_text.Language.Asked.{asked};
-ghost use Rattle.mm_keep.specs.mm_store.Language.FilesView.{File, plain};
-ghost use Rattle.mm_keep.specs.mm_frame.Language.Base.{said_at};
-ghost use Rattle.mm_keep.specs.declared.answers.KeepError.TheVariants as keep;
-ghost use Rattle.mm_keep.specs.Language.Findings.{told};
-ghost use Rattle.mm_keep.specs.Language.Refusals.{IsRefusal, IsBatchRefusal};
+ghost use Rattle.std.specs.{Prelude.{◌≡◌, ◌≢◌, ◌≤◌, ◌<◌, ◌↔◌, ◌⊎◌, ◌++◌, ℕ, List, Contains, Err, IsOk, IsTrue, true, false, IfOk, IfErr, IsErrOf, OnOk, codes, length, map}, Io.KnownBytes.{Appends}};
+ghost use Rattle.mm_keep.specs.{mm_text.Language.Asked.{asked}, mm_store.Language.FilesView.{File, plain}, mm_frame.Language.Base.{said_at}, Language.{Findings.{told}, Refusals.{IsRefusal, IsBatchRefusal}}};
 ghost use Rattle.mm_keep.specs.Language.Sessions.{HasAssertion, SessionView};
+ghost use Rattle.mm_report.specs.Code.{Answered.{Answers, Finds, IsToldIn, WritesAnswer, WritesOf, label_lines, text_brought}, InFiles.{IsInFiles}};
+ghost use Rattle.mm_report.specs.Language.{Answers.{IsAnswer, batch_refusal_line, numbers_listed, refusal_line, refusal_words, text_code, told_line}, Report.{names_of}};
+ghost use Rattle.mm_script.specs.Language.{Commands.{IsCommandIn, IsEditWithin, edit_in}, Script.{Command, Listed, Change, Batch, Ask}, Stream.{AppendsPart, written, has_failed, Writes}};
+ghost use Rattle.mm_script.specs.declared.command.Question.{Question, TheVariants.{Verdict, Axioms}};
+ghost use Rattle.mm_keep.specs.mm_store.declared.edit.EditError.TheVariants as refusals;
+ghost use Rattle.mm_keep.specs.declared.answers.KeepError.TheVariants as keep;
 ghost use Rattle.mm_script.specs.declared.error.ScriptError.TheVariants as errors;
-ghost use Rattle.mm_report.specs.Code.Answered.{Answers, Finds, IsToldIn, WritesAnswer, WritesOf, label_lines, text_brought};
-ghost use Rattle.mm_report.specs.Code.InFiles.{IsInFiles};
-ghost use Rattle.mm_script.specs.Language.Commands.{IsCommandIn, IsEditWithin, edit_in};
-ghost use Rattle.mm_report.specs.Language.Answers.{IsAnswer, batch_refusal_line, numbers_listed, refusal_line, refusal_words, text_code, told_line};
-ghost use Rattle.mm_report.specs.Language.Report.{names_of};
-ghost use Rattle.mm_script.specs.declared.command.Question.{Question};
-ghost use Rattle.mm_script.specs.declared.command.Question.TheVariants.{Verdict, Axioms};
-ghost use Rattle.mm_script.specs.Language.Script.{Command, Listed, Change, Batch, Ask};
-ghost use Rattle.mm_script.specs.Language.Stream.{AppendsPart, written, has_failed, Writes};
 
 use crate::report::{
     write_count, write_incomplete, write_number, write_part, write_report, write_wrong,

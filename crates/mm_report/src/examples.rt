@@ -1,8 +1,7 @@
 //! A database worked out by the definitions. Each function does nothing; what it promises is the examples.
 
-ghost use Rattle.mm_report.specs.Language.Examples.{AnswersFive, BeginsWithTwo, ChangesOne, CountsSo, HasNoLine, HasThisReport};
-ghost use Rattle.mm_report.specs.Language.Examples.{CountsEach, FindingsAreSeen, FindsLast, HasSixItems, LastIsDerivable, LastRestsOnAxiom};
-ghost use Rattle.mm_report.specs.Language.Examples.{RefusesSecond, RefusesSo, RestsOnOne, RunsOne, WritesLines};
+ghost use Rattle.mm_report.specs.Language.Examples.{AnswersFive, BeginsWithTwo, ChangesOne, CountsSo, HasNoLine, HasThisReport, CountsEach, FindingsAreSeen, FindsLast, HasSixItems, LastIsDerivable};
+ghost use Rattle.mm_report.specs.Language.Examples.{LastRestsOnAxiom, RefusesSecond, RefusesSo, RestsOnOne, RunsOne, WritesLines};
 
 /// A file of six pieces: its report and its counts, what a session begins with, an edit that runs one proof, the axioms of a
 /// theorem, edits of which the second is refused, and a script.

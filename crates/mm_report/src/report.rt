@@ -1,14 +1,9 @@
 //! The report of a session.
 
-ghost use Rattle.std.specs.Prelude.{◌≡◌, ◌<◌, ◌++◌, [], true, decimal, length, IfOk, OnOk, OnErr, ℕ, List, unwrap_or};
-ghost use Rattle.std.specs.Io.KnownBytes.{Appends};
-ghost use Rattle.mm_keep.specs.mm_store.Language.FilesView.{plain};
-ghost use Rattle.mm_keep.specs.mm_statement.Language.Item.{Said};
-ghost use Rattle.mm_keep.specs.Language.Findings.{counted, told};
-ghost use Rattle.mm_report.specs.Code.InFiles.{IsInFiles};
-ghost use Rattle.mm_report.specs.Code.Written.{AreAllWritten, FailsWithin};
-ghost use Rattle.mm_report.specs.Language.Report.{code_of, proof_code, place_in, fault_line, incomplete_line};
-ghost use Rattle.mm_report.specs.Language.Report.{wrong_line, item_line, names_of, summary, IsReport, BeginsReport};
+ghost use Rattle.std.specs.{Prelude.{◌≡◌, ◌<◌, ◌++◌, [], true, decimal, length, IfOk, OnOk, OnErr, ℕ, List, unwrap_or}, Io.KnownBytes.{Appends}};
+ghost use Rattle.mm_keep.specs.{mm_store.Language.FilesView.{plain}, mm_statement.Language.Item.{Said}, Language.Findings.{counted, told}};
+ghost use Rattle.mm_report.specs.Code.{InFiles.{IsInFiles}, Written.{AreAllWritten, FailsWithin}};
+ghost use Rattle.mm_report.specs.Language.Report.{code_of, proof_code, place_in, fault_line, incomplete_line, wrong_line, item_line, names_of, summary, IsReport, BeginsReport};
 ghost use Rattle.mm_script.specs.Language.Stream.{written, has_failed, Writes};
 
 use itoa::Buffer;

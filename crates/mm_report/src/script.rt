@@ -2,12 +2,9 @@
 
 ghost use Rattle.std.specs.Prelude.{◌≡◌, ◌≤◌, ◌+◌, ℕ, List, Option, true, OnOk, IfErr, IfOk, IsErrOf};
 ghost use Rattle.mm_keep.specs.Language.Sessions.{SessionView};
-ghost use Rattle.mm_report.specs.Code.Answered.{HasAnswered, AnswersSoFar, StopsAnswering};
-ghost use Rattle.mm_script.specs.Language.Commands.{to_come, pending};
+ghost use Rattle.mm_report.specs.{Code.Answered.{HasAnswered, AnswersSoFar, StopsAnswering}, Language.Scripting.{AnswersScript, AnswersFirst, AnswersRead, BeginsAnswers}};
+ghost use Rattle.mm_script.specs.Language.{Commands.{to_come, pending}, Script.{Done, CutShort, BadLine}, Stream.{cannot_read, has_failed, unread, written}};
 ghost use Rattle.mm_script.specs.declared.error.ScriptError.TheVariants as errors;
-ghost use Rattle.mm_script.specs.Language.Script.{Done, CutShort, BadLine};
-ghost use Rattle.mm_report.specs.Language.Scripting.{AnswersScript, AnswersFirst, AnswersRead, BeginsAnswers};
-ghost use Rattle.mm_script.specs.Language.Stream.{cannot_read, has_failed, unread, written};
 
 use crate::answer::answer;
 use crate::report::ReportError;

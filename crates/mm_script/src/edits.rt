@@ -1,15 +1,10 @@
 //! Reading the edits of a script: the line of each, and its text.
 
-ghost use Rattle.std.specs.Prelude.{◌≡◌, ◌≢◌, ◌≤◌, ◌<◌, ◌+◌, ◌⊎◌, true, false, drop, length, Err, IfOk, IsErrOf, OnOk};
-ghost use Rattle.std.specs.Io.KnownBytes.{IsAtEnd};
-ghost use Rattle.mm_script.specs.declared.error.ScriptError.TheVariants as errors;
-ghost use Rattle.mm_script.specs.Code.Batches.{EndsBatch, HoldsBatch, IsBatchRead, IsListedRead};
-ghost use Rattle.mm_script.specs.Code.Growing.{InputGrows, IsEditRead, IsLineAt, IsTextBad, IsTextLine, IsTextShort, line_bytes};
-ghost use Rattle.mm_script.specs.Language.Commands.{to_come, pending, HasNoEntry, StopsSo, rest_of_script};
-ghost use Rattle.mm_script.specs.Code.Lines.{SaysEdit, text_part};
-ghost use Rattle.mm_script.specs.Code.Stops.{batch_line};
-ghost use Rattle.mm_script.specs.Language.Script.{BadLine, CutShort, IsNumber};
+ghost use Rattle.std.specs.{Prelude.{◌≡◌, ◌≢◌, ◌≤◌, ◌<◌, ◌+◌, ◌⊎◌, true, false, drop, length, Err, IfOk, IsErrOf, OnOk}, Io.KnownBytes.{IsAtEnd}};
+ghost use Rattle.mm_script.specs.Code.{Batches.{EndsBatch, HoldsBatch, IsBatchRead, IsListedRead}, Growing.{InputGrows, IsEditRead, IsLineAt, IsTextBad, IsTextLine, IsTextShort, line_bytes}};
+ghost use Rattle.mm_script.specs.{Code.{Lines.{SaysEdit, text_part}, Stops.{batch_line}}, Language.{Commands.{to_come, pending, HasNoEntry, StopsSo, rest_of_script}, Script.{BadLine, CutShort, IsNumber}}};
 ghost use Rattle.mm_script.specs.Language.Stream.{cannot_read, unread};
+ghost use Rattle.mm_script.specs.declared.error.ScriptError.TheVariants as errors;
 
 use crate::command::{Complete, EditAt, PendingRange};
 use crate::error::ScriptError;

@@ -1,14 +1,9 @@
 //! The commands of a script, read until each is complete.
 
-ghost use Rattle.std.specs.Prelude.{◌≡◌, ◌≢◌, ◌<◌, ◌≤◌, ◌⊎◌, [], true, Err, None, IfOk, IfSome, IsErrOf, OnErr, OnOk};
-ghost use Rattle.std.specs.Io.KnownBytes.{IsAtEnd};
+ghost use Rattle.std.specs.{Prelude.{◌≡◌, ◌≢◌, ◌<◌, ◌≤◌, ◌⊎◌, [], true, Err, None, IfOk, IfSome, IsErrOf, OnErr, OnOk}, Io.KnownBytes.{IsAtEnd}};
+ghost use Rattle.mm_script.specs.Language.{Commands.{pending, rest_of_script, to_come, HasNoEntry, IsNextCommand, ReadsOn, StopsSo}, Script.{CutShort, BadLine}, Stream.{cannot_read, unread}};
+ghost use Rattle.mm_script.specs.Code.{Growing.{InputGrows, IsLineAt}, Stops.{IsOneLine}};
 ghost use Rattle.mm_script.specs.declared.error.ScriptError.TheVariants as errors;
-ghost use Rattle.mm_script.specs.Language.Commands.{pending, rest_of_script, to_come};
-ghost use Rattle.mm_script.specs.Language.Commands.{HasNoEntry, IsNextCommand, ReadsOn, StopsSo};
-ghost use Rattle.mm_script.specs.Code.Growing.{InputGrows, IsLineAt};
-ghost use Rattle.mm_script.specs.Code.Stops.{IsOneLine};
-ghost use Rattle.mm_script.specs.Language.Script.{CutShort, BadLine};
-ghost use Rattle.mm_script.specs.Language.Stream.{cannot_read, unread};
 
 use crate::command::{CommandAt, Complete};
 use crate::edits::{read_batch, read_edit};

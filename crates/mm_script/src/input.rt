@@ -19,12 +19,9 @@ pub struct Input {
 }
 
 impl Input {
-    ghost use Rattle.std.specs.Prelude.{◌≡◌, ◌<◌, ◌+◌, ◌⊎◌, [], true, false, drop, length, Err, IfOk, IsErrOf, OnErr};
-    ghost use Rattle.std.specs.Io.KnownBytes.{IsAtEnd};
+    ghost use Rattle.std.specs.{Prelude.{◌≡◌, ◌<◌, ◌+◌, ◌⊎◌, [], true, false, drop, length, Err, IfOk, IsErrOf, OnErr}, Io.KnownBytes.{IsAtEnd}};
+    ghost use Rattle.mm_script.specs.{Code.Growing.{InputGrows}, Language.{Commands.{to_come, pending}, Stream.{cannot_read, unread}}};
     ghost use Rattle.mm_script.specs.declared.error.ScriptError.TheVariants as errors;
-    ghost use Rattle.mm_script.specs.Code.Growing.{InputGrows};
-    ghost use Rattle.mm_script.specs.Language.Commands.{to_come, pending};
-    ghost use Rattle.mm_script.specs.Language.Stream.{cannot_read, unread};
 
     /// Nothing is pending. It takes no memory.
     pub fn new(alloc: Global) -> Input

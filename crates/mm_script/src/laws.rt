@@ -1,10 +1,8 @@
 //! What holds of the reading of all scripts. Each function does nothing; what it promises is the law.
 
-ghost use Rattle.mm_script.specs.Language.ReadingLaws.{CommandsLeaveNothing, DivisionsAgree, HasReading, OneEnd, OneReading, OneReadSoFar};
-ghost use Rattle.mm_script.specs.Language.ReadingLaws.{ReadingGoesOn, ReadingsJoin};
-ghost use Rattle.mm_script.specs.Language.ScriptExamples.{CutsBatch, CutsBatchText, CutsFeed, CutsLine, CutsText};
-ghost use Rattle.mm_script.specs.Language.ScriptExamples.{EndsAtLine, EndsAtText, EndsInEdit, ReadsBatch, ReadsLastEdit, ReadsText};
-ghost use Rattle.mm_script.specs.Language.ScriptExamples.{BoundWords, GrowsByTwo, HasTwoCommands, TellsWriter, WaitsForFeed};
+ghost use Rattle.mm_script.specs.Language.ReadingLaws.{CommandsLeaveNothing, DivisionsAgree, HasReading, OneEnd, OneReading, OneReadSoFar, ReadingGoesOn, ReadingsJoin};
+ghost use Rattle.mm_script.specs.Language.ScriptExamples.{CutsBatch, CutsBatchText, CutsFeed, CutsLine, CutsText, EndsAtLine, EndsAtText, EndsInEdit, ReadsBatch, ReadsLastEdit, ReadsText, BoundWords};
+ghost use Rattle.mm_script.specs.Language.ScriptExamples.{GrowsByTwo, HasTwoCommands, TellsWriter, WaitsForFeed};
 
 /// A script is read in one way, and what is left of it ends it in one way at most.
 pub fn one_reading()

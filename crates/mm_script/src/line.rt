@@ -2,10 +2,7 @@
 
 ghost use Rattle.std.specs.Prelude.{◌≡◌, ◌≢◌, ◌<◌, ◌^◌, ◌++◌, ◌∷◌, true, false, None, decimal, length, IfSome, List, Option, ℕ};
 ghost use Rattle.mm_text.specs.Language.Asked.{Asked};
-ghost use Rattle.mm_script.specs.declared.command.Question.{Question};
-ghost use Rattle.mm_script.specs.Code.Growing.{IsLineAt, line_bytes};
-ghost use Rattle.mm_script.specs.Code.Lines.{AreNumbers, CutsAt, CutsName, HasNoSpace, SaysEdit, SaysLine};
-ghost use Rattle.mm_script.specs.Code.Stops.{IsOneLine};
+ghost use Rattle.mm_script.specs.{declared.command.Question.{Question}, Code.{Growing.{IsLineAt, line_bytes}, Lines.{AreNumbers, CutsAt, CutsName, HasNoSpace, SaysEdit, SaysLine}, Stops.{IsOneLine}}};
 ghost use Rattle.mm_script.specs.Language.Script.{Command, IsGood, IsGoodEdit, IsName, IsNumber, edit_line, line_of, question_word};
 
 use crate::command::{CommandAt, EditAt, PendingRange, Question};

@@ -1,7 +1,6 @@
 //! A reader that stops at its first failure.
 
-ghost use Rattle.std.specs.Prelude.{◌≡◌, ◌≤◌, ◌+◌, true, false, length, IfOk, IsErr, OnOk, OnErr};
-ghost use Rattle.std.specs.Io.KnownBytes.{ReadConsumes};
+ghost use Rattle.std.specs.{Prelude.{◌≡◌, ◌≤◌, ◌+◌, true, false, length, IfOk, IsErr, OnOk, OnErr}, Io.KnownBytes.{ReadConsumes}};
 
 use std::io::Read;
 

@@ -1,12 +1,8 @@
 //! Reading on until a line is complete, or a text.
 
-ghost use Rattle.std.specs.Prelude.{◌≡◌, ◌≢◌, ◌≤◌, ◌<◌, ◌+◌, ◌^◌, ◌⊎◌, ◌∷◌, true, false, drop, length, Err, IfOk, IsErrOf, OnOk, OnErr};
-ghost use Rattle.std.specs.Io.KnownBytes.{IsAtEnd};
+ghost use Rattle.std.specs.{Prelude.{◌≡◌, ◌≢◌, ◌≤◌, ◌<◌, ◌+◌, ◌^◌, ◌⊎◌, ◌∷◌, true, false, drop, length, Err, IfOk, IsErrOf, OnOk, OnErr}, Io.KnownBytes.{IsAtEnd}};
+ghost use Rattle.mm_script.specs.{Code.{Growing.{InputGrows, HasBlanks, IsLineAt, IsLineBegun, IsOtherByte}, Stops.{IsOneLine}}, Language.{Commands.{to_come, pending}, Stream.{cannot_read, unread}}};
 ghost use Rattle.mm_script.specs.declared.error.ScriptError.TheVariants as errors;
-ghost use Rattle.mm_script.specs.Code.Growing.{InputGrows, HasBlanks, IsLineAt, IsLineBegun, IsOtherByte};
-ghost use Rattle.mm_script.specs.Language.Commands.{to_come, pending};
-ghost use Rattle.mm_script.specs.Code.Stops.{IsOneLine};
-ghost use Rattle.mm_script.specs.Language.Stream.{cannot_read, unread};
 
 use crate::error::ScriptError;
 use crate::input::Input;

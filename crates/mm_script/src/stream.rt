@@ -1,7 +1,6 @@
 //! A writer that stops at its first failure.
 
-ghost use Rattle.std.specs.Prelude.{◌≡◌, true, false, IsErr, OnOk, OnErr};
-ghost use Rattle.std.specs.Io.KnownBytes.{Keeps};
+ghost use Rattle.std.specs.{Prelude.{◌≡◌, true, false, IsErr, OnOk, OnErr}, Io.KnownBytes.{Keeps}};
 
 use std::io::{BufWriter, Write};
 

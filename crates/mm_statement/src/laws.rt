@@ -1,8 +1,7 @@
 //! What is proved of statements: each law is the contract of a function.
 
-ghost use Rattle.mm_statement.specs.Language.Laws.{DatabasesAreThere, DatabasesHaveOneListOfNames, ExpansionsTakeNames, FilesHaveOneDatabase};
-ghost use Rattle.mm_statement.specs.Language.Laws.{ItemsAreLocated, LocatedAreItems, MissingAreNamed, WalksTakeNames};
-ghost use Rattle.mm_statement.specs.Language.Statement.{OneRangeSaysOne};
+ghost use Rattle.mm_statement.specs.Language.Laws.{DatabasesAreThere, DatabasesHaveOneListOfNames, ExpansionsTakeNames, FilesHaveOneDatabase, ItemsAreLocated, LocatedAreItems, MissingAreNamed};
+ghost use Rattle.mm_statement.specs.Language.{Laws.{WalksTakeNames}, Statement.{OneRangeSaysOne}};
 
 /// Items that are the same bytes of one piece, read as one kind, say the same.
 pub fn one_range_says_one()

@@ -1,7 +1,6 @@
 //! The words of a proof.
 
-ghost use Rattle.std.specs.Prelude.{◌≡◌, ◌<◌, ◌≤◌, ◌∷◌, [], MatchOption, length};
-ghost use Rattle.std.specs.List.{AllByRecursion, flat_map};
+ghost use Rattle.std.specs.{Prelude.{◌≡◌, ◌<◌, ◌≤◌, ◌∷◌, [], MatchOption, length}, List.{AllByRecursion, flat_map}};
 ghost use Rattle.mm_statement.specs.Code.PlainWords.{AreFewWords, plain_bytes};
 
 use crate::plain_words::{bytes_of, is_plain};

@@ -1,19 +1,12 @@
 //! What an item of the files says.
 
-ghost use Rattle.std.specs.Prelude.{◌≡◌, ◌≢◌, ◌↔◌, ◌+◌, ◌<◌, ◌≤◌, [], List, Some, false, None, All, IsTrue};
-ghost use Rattle.std.specs.Prelude.{IsFalse, IfOk, IfSome, OnOk, length, drop, is_some, slice_get, slice_index_or};
-ghost use Rattle.std.specs.List.{AllByRecursion, flat_map};
-ghost use Rattle.std.specs.Option.{option_map};
-ghost use Rattle.mm_store.specs.Language.FileFacts.{CanBeRead};
-ghost use Rattle.mm_statement.specs.Language.Item as meant;
-ghost use Rattle.mm_statement.specs.Language.Item.{first_symbol};
-ghost use Rattle.mm_statement.specs.Code.Occurring.{OccurIn};
+ghost use Rattle.std.specs.Prelude.{◌≡◌, ◌≢◌, ◌↔◌, ◌+◌, ◌<◌, ◌≤◌, [], List, Some, false, None, All, IsTrue, IsFalse, IfOk, IfSome, OnOk, length, drop, is_some, slice_get, slice_index_or};
+ghost use Rattle.std.specs.{List.{AllByRecursion, flat_map}, Option.{option_map}};
+ghost use Rattle.mm_store.specs.{Language.FileFacts.{CanBeRead}, mm_text.{declared.word.Word.{Word}, Language.{Reading.{HasWords}, Unit.{tokens_of}}}};
+ghost use Rattle.mm_statement.specs.{Language.{Item.{first_symbol}, Statement.{AreOneRange, HasBytes, Says}}, Code.Occurring.{OccurIn}};
 ghost use Rattle.mm_statement.specs.Code.PlainWords.{AreWordsOf, LiesInText, TakesLabel, plain_words, word_bytes};
+ghost use Rattle.mm_statement.specs.Language.Item as meant;
 ghost use Rattle.mm_statement.specs.Language.Statement as spoken;
-ghost use Rattle.mm_statement.specs.Language.Statement.{AreOneRange, HasBytes, Says};
-ghost use Rattle.mm_store.specs.mm_text.declared.word.Word.{Word};
-ghost use Rattle.mm_store.specs.mm_text.Language.Reading.{HasWords};
-ghost use Rattle.mm_store.specs.mm_text.Language.Unit.{tokens_of};
 
 use crate::laws::one_range_says_one;
 use crate::plain_words::{bytes_of, is_plain};
@@ -41,8 +34,7 @@ pub struct Statement<'a> {
 }
 
 impl<'a> Model for Statement<'a> {
-    ghost use Rattle.mm_statement.specs.Language.Item.{Said};
-    ghost use Rattle.mm_statement.specs.Code.KeptStatement.{item_inside, IsSpoken};
+    ghost use Rattle.mm_statement.specs.{Language.Item.{Said}, Code.KeptStatement.{item_inside, IsSpoken}};
 
     ghost Value = { Said };
 

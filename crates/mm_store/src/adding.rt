@@ -1,16 +1,9 @@
 //! Adding a file.
 
-ghost use Rattle.std.specs.Prelude.{◌≡◌, ◌+◌, ◌<◌, ◌≤◌, ◌↔◌, ◌≢◌};
-ghost use Rattle.std.specs.Prelude.{◌++◌, None, IfErr, OnOk, OnErr};
-ghost use Rattle.std.specs.Prelude.{IsErrOf, All, length, map};
-ghost use Rattle.std.specs.List.{concat, insert};
-ghost use Rattle.mm_text.specs.Language.Cut.{ArePieces};
-ghost use Rattle.mm_text.specs.Language.Part.{HasOwnParts};
-ghost use Rattle.mm_store.specs.declared.error.StoreError.TheVariants.{Known};
-ghost use Rattle.mm_store.specs.Language.FilesView.{bytes_of, file_number, number_of, plain};
-ghost use Rattle.mm_store.specs.Language.FileFacts.{IsAdded, KeepsPieces, parked_in};
-ghost use Rattle.mm_store.specs.Language.Answers.{IsAddError, IsAddErrorIn};
-ghost use Rattle.mm_store.specs.Code.Edited.{with_file};
+ghost use Rattle.std.specs.{Prelude.{◌≡◌, ◌+◌, ◌<◌, ◌≤◌, ◌↔◌, ◌≢◌, ◌++◌, None, IfErr, OnOk, OnErr, IsErrOf, All, length, map}, List.{concat, insert}};
+ghost use Rattle.mm_text.specs.Language.{Cut.{ArePieces}, Part.{HasOwnParts}};
+ghost use Rattle.mm_store.specs.{declared.error.StoreError.TheVariants.{Known}, Language.{FilesView.{bytes_of, file_number, number_of, plain}, FileFacts.{IsAdded, KeepsPieces, parked_in}}};
+ghost use Rattle.mm_store.specs.{Language.Answers.{IsAddError, IsAddErrorIn}, Code.Edited.{with_file}};
 
 use crate::error::StoreError;
 use crate::file_text::{FileText, starts};

@@ -1,15 +1,10 @@
 //! Several edits, one after another: all of them, or none.
 
 ghost use Rattle.std.specs.Prelude.{◌≡◌, [], ◌∷◌, ◌++◌, IfOk, IfErr, OnOk, OnErr, map};
-ghost use Rattle.mm_store.specs.declared.batch.BatchError.TheVariants.{Memory};
-ghost use Rattle.mm_store.specs.Language.Batches.{IsBatchOf, IsBatchError, IsSpendable, KeepsReading, KeepsStanding};
-ghost use Rattle.mm_text.specs.Language.Asked.{asked};
-ghost use Rattle.mm_store.specs.Language.Edits.{IsEditOf};
-ghost use Rattle.mm_store.specs.Language.EditedKeys.{IsBatchByKeys, IsEditByKeys};
-ghost use Rattle.mm_store.specs.Language.FileFacts.{parked_in};
-ghost use Rattle.mm_store.specs.Language.FilesView.{FilesView, files_in, plain};
-ghost use Rattle.mm_store.specs.Language.Undoing.{KeepsKeys, UndoView};
+ghost use Rattle.mm_store.specs.{declared.batch.BatchError.TheVariants.{Memory}, Language.{Batches.{IsBatchOf, IsBatchError, IsSpendable, KeepsReading, KeepsStanding}, Edits.{IsEditOf}}};
+ghost use Rattle.mm_store.specs.Language.{EditedKeys.{IsBatchByKeys, IsEditByKeys}, FileFacts.{parked_in}, FilesView.{FilesView, files_in, plain}, Undoing.{KeepsKeys, UndoView}};
 ghost use Rattle.mm_store.specs.Code.Batched.{IsNextError, refusal};
+ghost use Rattle.mm_text.specs.Language.Asked.{asked};
 
 use crate::edit::EditError;
 use crate::files::Files;

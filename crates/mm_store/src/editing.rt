@@ -1,22 +1,11 @@
 //! Edits of files: single pieces that come, go and move, and edits by the names of files.
 
-ghost use Rattle.std.specs.Prelude.{◌≡◌, ℕ, ◌+◌, ◌<◌, ◌≤◌, ◌↔◌};
-ghost use Rattle.std.specs.Prelude.{Some, None, IfOk, IfErr, OnOk, OnErr};
-ghost use Rattle.std.specs.Prelude.{IsErrOf, length, slice_index_or, slice_set, []};
-ghost use Rattle.std.specs.List.{insert};
-ghost use Rattle.std.specs.FinMap as finite;
-ghost use Rattle.mm_store.specs.declared.edit.EditError.TheVariants.{NoFile, NoPiece};
-ghost use Rattle.mm_store.specs.Language.Pieces.{Replaced, Deleted};
-ghost use Rattle.mm_store.specs.Language.FilesView.{bytes_of, file_number, number_of, plain};
-ghost use Rattle.mm_store.specs.Language.FileFacts.{parked_in};
+ghost use Rattle.std.specs.{Prelude.{◌≡◌, ℕ, ◌+◌, ◌<◌, ◌≤◌, ◌↔◌, Some, None, IfOk, IfErr, OnOk, OnErr, IsErrOf, length, slice_index_or, slice_set, []}, List.{insert}};
+ghost use Rattle.mm_store.specs.{declared.edit.EditError.TheVariants.{NoFile, NoPiece}, Language.{Pieces.{Replaced, Deleted}, FilesView.{bytes_of, file_number, number_of, plain}, FileFacts.{parked_in}}};
+ghost use Rattle.mm_store.specs.Language.{Edits.{IsEditOf, NamesNoMember}, EditedKeys.{inserted, replaced, IsEditByKeys, parks}, Undoing.{keys_in, key_at, IsUndoable, KeepsKeys}, Answers.{IsEditError}};
+ghost use Rattle.mm_store.specs.Code.{Edited.{pieces_in, with_pieces, IsDone, NamesPlace}, Inside.{IsPieceKept}};
 ghost use Rattle.mm_text.specs.Language.Asked.{asked, edited_name};
-ghost use Rattle.mm_store.specs.Language.Edits.{IsEditOf, NamesNoMember};
-ghost use Rattle.mm_store.specs.Language.EditedKeys.{inserted, replaced, IsEditByKeys, parks};
-ghost use Rattle.mm_store.specs.Language.Undoing.{keys_in, key_at};
-ghost use Rattle.mm_store.specs.Language.Undoing.{IsUndoable, KeepsKeys};
-ghost use Rattle.mm_store.specs.Language.Answers.{IsEditError};
-ghost use Rattle.mm_store.specs.Code.Edited.{pieces_in, with_pieces, IsDone, NamesPlace};
-ghost use Rattle.mm_store.specs.Code.Inside.{IsPieceKept};
+ghost use Rattle.std.specs.FinMap as finite;
 
 use crate::edit::{EditError, edited_file, is_among};
 use crate::files::Files;

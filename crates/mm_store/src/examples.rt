@@ -1,7 +1,6 @@
 //! Files worked out by the definitions. The functions do nothing; what they promise is the examples.
 
-ghost use Rattle.mm_store.specs.Language.EditExamples.{BatchIsDone, BatchIsRefused, EditsAreDone, EditsAreNotDone, EditsAreRefused, EditsAreSeen};
-ghost use Rattle.mm_store.specs.Language.EditExamples.{FilesAreBounded, FilesAreFound, KeysAreTexts, TextsAreAdded};
+ghost use Rattle.mm_store.specs.Language.EditExamples.{BatchIsDone, BatchIsRefused, EditsAreDone, EditsAreNotDone, EditsAreRefused, EditsAreSeen, FilesAreBounded, FilesAreFound, KeysAreTexts, TextsAreAdded};
 ghost use Rattle.mm_store.specs.Language.Examples.{RingGivesThree};
 
 /// Two files that include each other, and one that is missing: each counts at its first reference.

@@ -1,13 +1,8 @@
 //! The items that the pieces of the files give.
 
 ghost use Rattle.std.specs.Prelude.{◌≡◌, ℕ, ◌≤◌, ◌↔◌, List, None, All, ◌++◌, IfOk, IfErr, IsErrOf, OnOk, length, map};
-ghost use Rattle.mm_store.specs.declared.error.StoreError.TheVariants.{NoTop};
-ghost use Rattle.mm_store.specs.Language.FilesView.{bytes_of, files_in, number_of, plain};
-ghost use Rattle.mm_store.specs.Language.FileFacts.{CanBeRead, NamesNoFile, StandsIn};
-ghost use Rattle.mm_store.specs.Language.Answers.{IsExpansionError};
-ghost use Rattle.mm_store.specs.Language.Expansion.{item_kind, IsExpansion};
-ghost use Rattle.mm_store.specs.Language.Walking.{IsWalk};
-ghost use Rattle.mm_store.specs.Code.Gains.{item_of_part};
+ghost use Rattle.mm_store.specs.{declared.error.StoreError.TheVariants.{NoTop}, Language.{FilesView.{bytes_of, files_in, number_of, plain}, FileFacts.{CanBeRead, NamesNoFile, StandsIn}}};
+ghost use Rattle.mm_store.specs.{Language.{Answers.{IsExpansionError}, Expansion.{item_kind, IsExpansion}, Walking.{IsWalk}}, Code.Gains.{item_of_part}};
 
 use crate::error::StoreError;
 use crate::files::Files;

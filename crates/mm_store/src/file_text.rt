@@ -1,13 +1,7 @@
 //! A file by the keys of its pieces.
 
-ghost use Rattle.std.specs.Prelude.{◌≡◌, ◌+◌, ◌<◌, ◌≤◌, All, IfOk, OnOk, OnErr, length, map, slice_index_or, slice_set, take};
-ghost use Rattle.std.specs.List.{concat, insert, remove};
-ghost use Rattle.std.specs.VecDeque.{deque_len};
-ghost use Rattle.mm_store.specs.Language.Pieces.{Pieces, text_under};
-ghost use Rattle.mm_store.specs.Language.Undoing.{moved_list};
-ghost use Rattle.mm_store.specs.Code.Inside.{IsPieceKept};
-ghost use Rattle.mm_store.specs.Code.Lines.{AreStarts, AreStartsTo, IsStart};
-ghost use Rattle.mm_store.specs.Code.Room.{HasRoom};
+ghost use Rattle.std.specs.{Prelude.{◌≡◌, ◌+◌, ◌<◌, ◌≤◌, All, IfOk, OnOk, OnErr, length, map, slice_index_or, slice_set, take}, List.{concat, insert, remove}, VecDeque.{deque_len}};
+ghost use Rattle.mm_store.specs.{Language.{Pieces.{Pieces, text_under}, Undoing.{moved_list}}, Code.{Inside.{IsPieceKept}, Lines.{AreStarts, AreStartsTo, IsStart}, Room.{HasRoom}}};
 ghost use Rattle.mm_store.specs.Code.Starts.{HasKeys, KnowsStarts};
 
 use crate::piece_text::PieceText;

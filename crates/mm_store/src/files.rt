@@ -1,25 +1,12 @@
 //! Files by name.
 
-ghost use Rattle.std.specs.Prelude.{◌≡◌, ℕ, ◌+◌, ◌<◌, ◌≤◌, IsSome};
-ghost use Rattle.std.specs.Prelude.{◌++◌, List, Some, None, IfSome, IfOk};
-ghost use Rattle.std.specs.Prelude.{All, length, map, slice_get, slice_index_or, []};
-ghost use Rattle.std.specs.Prelude.{IfNone};
-ghost use Rattle.std.specs.Option.{option_map};
-ghost use Rattle.std.specs.List.{concat};
+ghost use Rattle.std.specs.{Prelude.{◌≡◌, ℕ, ◌+◌, ◌<◌, ◌≤◌, IsSome, ◌++◌, List, Some, None, IfSome, IfOk, All, length, map, slice_get, slice_index_or, [], IfNone}, Option.{option_map}, List.{concat}};
 ghost use Rattle.std.specs.VecDeque.{deque_len};
+ghost use Rattle.mm_text.specs.Language.{Place.{line_at, column_at}, Part.{HasParts}};
+ghost use Rattle.mm_store.specs.Language.{Pieces.{text_under}, FilesView.{no_files, bytes_of, file_number, files_in, find_file, number_of, piece_view, plain, text_of}, Holding.{HoldOneEach}};
+ghost use Rattle.mm_store.specs.{Language.{FileFacts.{HoldsPieces, IsByte, IsLive, parked_in}, Undoing.{keys_in}}, Code.{Gains.{HoldUnits}, Steps.{Includes, IncludesNothing, piece_at}}};
+ghost use Rattle.mm_store.specs.Code.{Lines.{AreLines, bytes_before}, Starts.{KnowsStarts}, Batched.{StandOnce}};
 ghost use Rattle.std.specs.FinMap as finite;
-ghost use Rattle.mm_text.specs.Language.Place.{line_at, column_at};
-ghost use Rattle.mm_store.specs.Language.Pieces.{text_under};
-ghost use Rattle.mm_store.specs.Language.FilesView.{no_files, bytes_of, file_number, files_in, find_file, number_of, piece_view, plain, text_of};
-ghost use Rattle.mm_store.specs.Language.Holding.{HoldOneEach};
-ghost use Rattle.mm_store.specs.Language.FileFacts.{HoldsPieces, IsByte, IsLive, parked_in};
-ghost use Rattle.mm_store.specs.Language.Undoing.{keys_in};
-ghost use Rattle.mm_store.specs.Code.Gains.{HoldUnits};
-ghost use Rattle.mm_store.specs.Code.Steps.{Includes, IncludesNothing, piece_at};
-ghost use Rattle.mm_text.specs.Language.Part.{HasParts};
-ghost use Rattle.mm_store.specs.Code.Lines.{AreLines, bytes_before};
-ghost use Rattle.mm_store.specs.Code.Starts.{KnowsStarts};
-ghost use Rattle.mm_store.specs.Code.Batched.{StandOnce};
 
 use crate::file_text::{FileText, starts};
 use crate::included::included_name;
@@ -47,8 +34,8 @@ pub struct Files {
 
 impl Model for Files {
     ghost use Rattle.std.specs.Coded.{codes};
-    ghost use Rattle.mm_store.specs.contracts.pieces.PieceStore as store;
     ghost use Rattle.mm_store.specs.Language.FilesView.{FilesView};
+    ghost use Rattle.mm_store.specs.contracts.pieces.PieceStore as store;
 
     ghost Value = { FilesView };
 

@@ -1,14 +1,8 @@
 //! The name that a piece includes.
 
 ghost use Rattle.std.specs.Prelude.{◌≡◌, ℕ, ◌↔◌, IsTrue, List, IfNone, IfSome};
-ghost use Rattle.mm_text.specs.declared.word.Word.{Word};
-ghost use Rattle.mm_text.specs.declared.part.PartKind.TheVariants.{Inclusion};
-ghost use Rattle.mm_text.specs.Language.Reading.{HasWords};
-ghost use Rattle.mm_text.specs.Language.Cut.{HoldsOneUnit};
-ghost use Rattle.mm_text.specs.Language.Part.{HasParts, IsReadable, part_bytes};
-ghost use Rattle.mm_store.specs.declared.key.PieceKey.{PieceKey};
-ghost use Rattle.mm_store.specs.Language.FileFacts.{second_word};
-ghost use Rattle.mm_store.specs.Code.Steps.{Includes, IncludesNothing};
+ghost use Rattle.mm_text.specs.{declared.{word.Word.{Word}, part.PartKind.TheVariants.{Inclusion}}, Language.{Reading.{HasWords}, Cut.{HoldsOneUnit}, Part.{HasParts, IsReadable, part_bytes}}};
+ghost use Rattle.mm_store.specs.{declared.key.PieceKey.{PieceKey}, Language.FileFacts.{second_word}, Code.Steps.{Includes, IncludesNothing}};
 
 use crate::kept_part::KeptPart;
 use mm_text::{Part, PartKind, nth_word};

@@ -1,22 +1,11 @@
 //! What holds of all files. Each function does nothing; what it promises is the law.
 
-ghost use Rattle.std.specs.Prelude.{◌≡◌, ◌≢◌, ◌⊎◌, ◌+◌, ◌≤◌, ℕ, All, Contains, List, ◌∷◌, ◌++◌, Some, None, length, map, slice_get};
-ghost use Rattle.std.specs.List.{concat};
-ghost use Rattle.std.specs.Option.{option_map};
-ghost use Rattle.mm_text.specs.Language.Cut.{ended};
-ghost use Rattle.mm_store.specs.declared.item.Item.{Item};
-ghost use Rattle.mm_store.specs.declared.edit.EditError.{EditError};
-ghost use Rattle.mm_store.specs.declared.edit.EditError.TheVariants.{Memory};
-ghost use Rattle.mm_store.specs.Language.Answers.{IsEditError};
+ghost use Rattle.std.specs.{Prelude.{◌≡◌, ◌≢◌, ◌⊎◌, ◌+◌, ◌≤◌, ℕ, All, Contains, List, ◌∷◌, ◌++◌, Some, None, length, map, slice_get}, List.{concat}, Option.{option_map}};
+ghost use Rattle.mm_text.specs.Language.{Cut.{ended}, Asked.{Asked, Insert, Replace, Delete, Move, edited_name}};
+ghost use Rattle.mm_store.specs.{declared.{item.Item.{Item}, edit.EditError.{EditError, TheVariants.{Memory}}}, Language.Answers.{IsEditError}};
 ghost use Rattle.mm_store.specs.Language.FilesView.{File, FileView, FilesView, file_number, files_in, find_file, number_of, plain, text_of, without_keys};
-ghost use Rattle.mm_store.specs.Language.FileFacts.{CanBeRead, HoldsPieces, IsAdded, IsByte, StandsIn};
-ghost use Rattle.mm_text.specs.Language.Asked.{Asked, Insert, Replace, Delete, Move, edited_name};
-ghost use Rattle.mm_store.specs.Language.Appending.{IsAppended};
-ghost use Rattle.mm_store.specs.Language.Edits.{edited, with_members, IsEditOf};
-ghost use Rattle.mm_store.specs.Language.Expansion.{IsExpansion, Placed};
-ghost use Rattle.mm_store.specs.Language.Holding.{HoldOneEach};
-ghost use Rattle.mm_store.specs.Language.Walking.{IsWalk, StandsBefore, WalkView};
-ghost use Rattle.mm_store.specs.Language.Keyless.{bare, keyless_item};
+ghost use Rattle.mm_store.specs.Language.{FileFacts.{CanBeRead, HoldsPieces, IsAdded, IsByte, StandsIn}, Appending.{IsAppended}, Edits.{edited, with_members, IsEditOf}, Expansion.{IsExpansion, Placed}};
+ghost use Rattle.mm_store.specs.Language.{Holding.{HoldOneEach}, Walking.{IsWalk, StandsBefore, WalkView}, Keyless.{bare, keyless_item}};
 
 /// Files give one list of items at most from a top file on.
 pub fn one_expansion()

@@ -1,15 +1,11 @@
 //! Pieces under keys.
 
 ghost use Rattle.std.specs.Prelude.{◌≡◌, ℕ, ◌+◌, ◌++◌, ◌≤◌, List, All, length, map, IsSome, IfOk, OnErr, take, vec_len, vec_capacity};
-ghost use Rattle.std.specs.FinMap as finite;
 ghost use Rattle.slab.specs.Slab.{HasRoomFor};
-ghost use Rattle.mm_text.specs.Language.Cut.{HoldsOneUnit};
-ghost use Rattle.mm_store.specs.Language.Pieces.{text_under, with_state, parked_pieces, parked_state, parked_under, state_in};
-ghost use Rattle.mm_text.specs.Language.Part.{HasParts};
-ghost use Rattle.mm_store.specs.Code.Inside.{IsPieceKept, ArePut};
-ghost use Rattle.mm_store.specs.Code.Lines.{AreLines, IsStart, StaysSmall};
-ghost use Rattle.mm_store.specs.Code.Slots.{ArePutIn};
-ghost use Rattle.mm_store.specs.Code.States.{piece_state};
+ghost use Rattle.mm_text.specs.Language.{Cut.{HoldsOneUnit}, Part.{HasParts}};
+ghost use Rattle.mm_store.specs.{Language.Pieces.{text_under, with_state, parked_pieces, parked_state, parked_under, state_in}, Code.{Inside.{IsPieceKept, ArePut}, Lines.{AreLines, IsStart, StaysSmall}}};
+ghost use Rattle.mm_store.specs.Code.{Slots.{ArePutIn}, States.{piece_state}};
+ghost use Rattle.std.specs.FinMap as finite;
 
 use crate::kept_part::KeptPart;
 use crate::line_feeds::{Lines, lines_before};
@@ -35,10 +31,9 @@ pub struct PieceStore {
 }
 
 impl Model for PieceStore {
-    ghost use Rattle.std.specs.FinMap as finite;
     ghost use Rattle.std.specs.Coded.{coded_ℕ, codes};
-    ghost use Rattle.mm_store.specs.Language.Pieces.{Pieces};
-    ghost use Rattle.mm_store.specs.Code.States.{state_code};
+    ghost use Rattle.mm_store.specs.{Language.Pieces.{Pieces}, Code.States.{state_code}};
+    ghost use Rattle.std.specs.FinMap as finite;
 
     ghost Value = { Pieces };
 

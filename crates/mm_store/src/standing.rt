@@ -1,13 +1,9 @@
 //! How pieces that stand in a file are parked, and parked ones stand.
 
 ghost use Rattle.std.specs.Prelude.{◌≡◌, ◌+◌, ◌<◌, ◌≤◌, IfOk, OnErr, length};
-ghost use Rattle.mm_store.specs.Language.Pieces.{IsParked, Replaced, Deleted, parked_under};
-ghost use Rattle.mm_store.specs.Language.FilesView.{bytes_of, plain};
-ghost use Rattle.mm_store.specs.Language.EditedKeys.{deleted};
+ghost use Rattle.mm_store.specs.Language.{Pieces.{IsParked, Replaced, Deleted, parked_under}, FilesView.{bytes_of, plain}, EditedKeys.{deleted}, Undoing.{Fits, dropped, keys_in, key_at, moved, reversed}};
+ghost use Rattle.mm_store.specs.Code.{Edited.{IsHeld, exchanged}, Inside.{IsPieceKept}};
 ghost use Rattle.mm_store.specs.Language.Undoing as action;
-ghost use Rattle.mm_store.specs.Language.Undoing.{Fits, dropped, keys_in, key_at, moved, reversed};
-ghost use Rattle.mm_store.specs.Code.Edited.{IsHeld, exchanged};
-ghost use Rattle.mm_store.specs.Code.Inside.{IsPieceKept};
 
 use crate::files::Files;
 use crate::piece_text::PieceText;

@@ -1,8 +1,7 @@
 //! Where the pieces of a file begin.
 
 ghost use Rattle.std.specs.Prelude.{ℕ, ◌++◌, List, []};
-ghost use Rattle.mm_store.specs.Code.Lines.{IsStart, StaysSmall};
-ghost use Rattle.mm_store.specs.Code.Inside.{IsPieceKept};
+ghost use Rattle.mm_store.specs.Code.{Lines.{IsStart, StaysSmall}, Inside.{IsPieceKept}};
 
 use crate::line_feeds::Lines;
 use crate::piece_text::PieceText;

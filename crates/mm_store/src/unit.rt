@@ -2,8 +2,7 @@
 
 ghost use Rattle.std.specs.Prelude.{◌≡◌, ◌+◌, ◌≤◌, ◌++◌, length, IfOk, IfErr};
 ghost use Rattle.mm_text.specs.Language.Part.{HasOwnParts};
-ghost use Rattle.mm_store.specs.Code.Inside.{IsPieceKept};
-ghost use Rattle.mm_store.specs.Code.Units.{IsUnit, IsUnitError, IsTextRefused};
+ghost use Rattle.mm_store.specs.Code.{Inside.{IsPieceKept}, Units.{IsUnit, IsUnitError, IsTextRefused}};
 
 use crate::edit::EditError;
 use crate::piece_text::{PieceText, kept_piece};

@@ -1,15 +1,8 @@
 //! The walk through the files, from the top file on, in the order in which they are read.
 
-ghost use Rattle.std.specs.Prelude.{◌≡◌, ℕ, ◌+◌, ◌<◌, ◌≤◌, ◌↔◌, IsTrue, false, List, [], ◌∷◌, ◌++◌, Contains};
-ghost use Rattle.std.specs.Prelude.{None, Some, IfErr, IfNone, IfSome, IfOk, IsErrOf, OnOk, OnErr, length, vec_len, vec_capacity};
-ghost use Rattle.mm_store.specs.declared.item.Item.{Item};
-ghost use Rattle.mm_store.specs.declared.error.StoreError.TheVariants.{NoTop};
-ghost use Rattle.mm_store.specs.Language.Answers.{IsExpansionError};
-ghost use Rattle.mm_store.specs.Language.FilesView.{FileView, file_number, files_in, number_of, plain};
-ghost use Rattle.mm_store.specs.Language.Keyless.{bare};
-ghost use Rattle.mm_store.specs.Language.Walking.{WalkView, IsWalk, GoesOn, FindsMissing, FindsEnd};
-ghost use Rattle.mm_store.specs.Code.Gains.{names_in};
-ghost use Rattle.mm_store.specs.Code.Steps.{behind, beginning, first_walk, IsReference, IsStep};
+ghost use Rattle.std.specs.Prelude.{◌≡◌, ℕ, ◌+◌, ◌<◌, ◌≤◌, ◌↔◌, IsTrue, false, List, [], ◌∷◌, ◌++◌, Contains, None, Some, IfErr, IfNone, IfSome, IfOk, IsErrOf, OnOk, OnErr, length, vec_len, vec_capacity};
+ghost use Rattle.mm_store.specs.{declared.{item.Item.{Item}, error.StoreError.TheVariants.{NoTop}}, Language.{Answers.{IsExpansionError}, FilesView.{FileView, file_number, files_in, number_of, plain}}};
+ghost use Rattle.mm_store.specs.{Language.{Keyless.{bare}, Walking.{WalkView, IsWalk, GoesOn, FindsMissing, FindsEnd}}, Code.{Gains.{names_in}, Steps.{behind, beginning, first_walk, IsReference, IsStep}}};
 
 use crate::error::StoreError;
 use crate::files::Files;

@@ -1,11 +1,7 @@
 //! A cursor over the words of a text.
 
-ghost use Rattle.std.specs.Prelude.{◌≡◌, ◌<◌, ◌≤◌, ◌∷◌, [], List, IfSome, MatchOption, length};
-ghost use Rattle.std.specs.List.{AllByRecursion, flat_map};
-ghost use Rattle.mm_text.specs.declared.word.Word.{Word};
-ghost use Rattle.mm_text.specs.Language.Reading.{HasWords, LiesIn};
-ghost use Rattle.mm_text.specs.Language.Unit.{spellings};
-ghost use Rattle.mm_text.specs.Language.WordsLeft.{SkipsPlainWords};
+ghost use Rattle.std.specs.{Prelude.{◌≡◌, ◌<◌, ◌≤◌, ◌∷◌, [], List, IfSome, MatchOption, length}, List.{AllByRecursion, flat_map}};
+ghost use Rattle.mm_text.specs.{declared.word.Word.{Word}, Language.{Reading.{HasWords, LiesIn}, Unit.{spellings}, WordsLeft.{SkipsPlainWords}}};
 
 use crate::reader::Reader;
 use crate::word::Word;

@@ -1,11 +1,8 @@
 //! The cut of a text into pieces.
 
 ghost use Rattle.std.specs.Prelude.{◌≡◌, ◌≤◌, [], ◌∷◌, ◌++◌, None, IfOk, IfErr, OnOk, All, map, length, drop, slice_range};
-ghost use Rattle.mm_text.specs.Language.Reading.{first_bad, IsTextErrorIn};
-ghost use Rattle.mm_text.specs.Language.Unit.{Units};
-ghost use Rattle.mm_text.specs.Language.Part.{HasUnits, HasParts, HasOwnParts, IsReadable};
+ghost use Rattle.mm_text.specs.Language.{Reading.{first_bad, IsTextErrorIn}, Unit.{Units}, Part.{HasUnits, HasParts, HasOwnParts, IsReadable}, Cut.{ended, IsCut, IsCutError}};
 ghost use Rattle.mm_text.specs.Language.Cut as pieces;
-ghost use Rattle.mm_text.specs.Language.Cut.{ended, IsCut, IsCutError};
 
 use crate::division::PartReading;
 use crate::fault::{TextError, TextFault, TextNumber};

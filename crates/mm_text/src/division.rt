@@ -1,9 +1,8 @@
 //! The division of pieces into parts.
 
 ghost use Rattle.std.specs.Prelude.{◌≡◌, ◌≤◌, None, [], IfOk, OnOk};
-ghost use Rattle.mm_text.specs.Language.Part.{word_part};
+ghost use Rattle.mm_text.specs.{Language.Part.{word_part}, Code.PartReading.{TakesPartWord}};
 ghost use Rattle.mm_text.specs.Code.PartReading as reading;
-ghost use Rattle.mm_text.specs.Code.PartReading.{TakesPartWord};
 
 use crate::part::{Part, PartKind};
 use crate::word::{Keyword, Word, WordKind};

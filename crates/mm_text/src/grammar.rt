@@ -1,12 +1,9 @@
 //! The reading of units from their beginning, word by word.
 
-ghost use Rattle.std.specs.Prelude.{◌≡◌, ◌↔◌, ℕ, Bool, IsTrue, [], OnOk};
-ghost use Rattle.std.specs.List.{list_all};
+ghost use Rattle.std.specs.{Prelude.{◌≡◌, ◌↔◌, ℕ, Bool, IsTrue, [], OnOk}, List.{list_all}};
+ghost use Rattle.mm_text.specs.{Language.Unit.{is_label_byte}, Code.{UnitReading.{next}, Grammar.{phase_of, level, is_within, blocks_behind, GrammarTakes, EndsAs}}};
 ghost use Rattle.mm_text.specs.declared.grammar.Phase.TheVariants as phases;
 ghost use Rattle.mm_text.specs.declared.word.WordKind.TheVariants as kinds;
-ghost use Rattle.mm_text.specs.Language.Unit.{is_label_byte};
-ghost use Rattle.mm_text.specs.Code.UnitReading.{next};
-ghost use Rattle.mm_text.specs.Code.Grammar.{phase_of, level, is_within, blocks_behind, GrammarTakes, EndsAs};
 
 use crate::fault::{TextError, TextFault, TextNumber};
 use crate::spelling::could_label;

@@ -1,18 +1,9 @@
 //! What holds of every text. Each function does nothing; what it promises is the law.
 
-ghost use Rattle.std.specs.Prelude.{◌≡◌, ◌<◌, ◌⊎◌, ℕ, true, All, List, [], ◌∷◌, length, map, slice_range};
-ghost use Rattle.std.specs.List.{AllByRecursion, flat_map};
-ghost use Rattle.mm_text.specs.declared.word.Word.{Word};
-ghost use Rattle.mm_text.specs.declared.fault.TextFault.{TextFault};
-ghost use Rattle.mm_text.specs.Language.Run.{Run, runs};
-ghost use Rattle.mm_text.specs.Language.Layout.{IsLaidOut};
-ghost use Rattle.mm_text.specs.Language.Reading.{HasWords, IsWordsFault};
-ghost use Rattle.mm_text.specs.declared.fault.TextNumber.{TextNumber};
-ghost use Rattle.mm_text.specs.Language.Cut.{HoldsOneUnit, IsCut, IsFirstFault, end_of_words, ended};
-ghost use Rattle.mm_text.specs.Language.Part.{HasUnits, part_bytes, parts_of, shape_part, token_end, IsReadable};
-ghost use Rattle.mm_text.specs.Language.Stretch.{IsStretch, moved};
-ghost use Rattle.mm_text.specs.Language.Unit.{Token, spellings, tokens_of, Shape, shape_tokens, IsShape, Units, Nothing, Simple, unit_tokens, AreUnits, IsWhole};
-ghost use Rattle.mm_text.specs.Language.Unit.{IsUnitFault};
+ghost use Rattle.std.specs.{Prelude.{◌≡◌, ◌<◌, ◌⊎◌, ℕ, true, All, List, [], ◌∷◌, length, map, slice_range}, List.{AllByRecursion, flat_map}};
+ghost use Rattle.mm_text.specs.{declared.{word.Word.{Word}, fault.{TextFault.{TextFault}, TextNumber.{TextNumber}}}, Language.{Run.{Run, runs}, Layout.{IsLaidOut}, Reading.{HasWords, IsWordsFault}}};
+ghost use Rattle.mm_text.specs.Language.{Cut.{HoldsOneUnit, IsCut, IsFirstFault, end_of_words, ended}, Part.{HasUnits, part_bytes, parts_of, shape_part, token_end, IsReadable}, Stretch.{IsStretch, moved}};
+ghost use Rattle.mm_text.specs.Language.Unit.{Token, spellings, tokens_of, Shape, shape_tokens, IsShape, Units, Nothing, Simple, unit_tokens, AreUnits, IsWhole, IsUnitFault};
 
 /// Each text has its words or its fault: one list of words or one fault, and never both.
 ///

@@ -1,9 +1,8 @@
 //! Bytes without `$`, passed over at once.
 
 ghost use Rattle.std.specs.Prelude.{◌≡◌, ◌≤◌, ◌||◌, false, true, length, take, drop};
-ghost use Rattle.mm_text.specs.Language.Run.{ends_run};
+ghost use Rattle.mm_text.specs.{Language.Run.{ends_run}, Code.LeftToRight.{has_dollar}};
 ghost use Rattle.mm_text.specs.Language.Cut as pieces;
-ghost use Rattle.mm_text.specs.Code.LeftToRight.{has_dollar};
 
 use crate::spelling::ends_white;
 use memchr::memchr;

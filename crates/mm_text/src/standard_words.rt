@@ -1,8 +1,7 @@
 //! Names of the standard library, each of a few values. The function does nothing; what it promises is the examples.
 
-ghost use Rattle.mm_text.specs.Language.StandardExamples.{DigitsAreDecimal, EmptyListsHaveNone, FirstPasses, LengthsAreEqual, ListsAreCounted, ListsAreJoined};
-ghost use Rattle.mm_text.specs.Language.StandardExamples.{ListsAreParted, MembersAreChanged, MembersAreCounted, MembersAreNumbered, NoneHasNothing, NumbersEndAtZero};
-ghost use Rattle.mm_text.specs.Language.StandardExamples.{RangesStopAtEnd, StreamsAreKnown, TestsOfLists, TextsAreBytes};
+ghost use Rattle.mm_text.specs.Language.StandardExamples.{DigitsAreDecimal, EmptyListsHaveNone, FirstPasses, LengthsAreEqual, ListsAreCounted, ListsAreJoined, ListsAreParted, MembersAreChanged};
+ghost use Rattle.mm_text.specs.Language.StandardExamples.{MembersAreCounted, MembersAreNumbered, NoneHasNothing, NumbersEndAtZero, RangesStopAtEnd, StreamsAreKnown, TestsOfLists, TextsAreBytes};
 
 /// What names of the standard library mean that could be read in more than one way: each of a few values, also of nothing and
 /// past the end.

@@ -1,11 +1,8 @@
 //! The words of a whole text.
 
-ghost use Rattle.std.specs.Prelude.{◌≡◌, ◌<◌, List, None, IfOk, IfErr, IfSome, OnOk, All, slice_get};
-ghost use Rattle.mm_text.specs.declared.word.Word.{Word};
-ghost use Rattle.std.specs.List.{list_all};
-ghost use Rattle.mm_text.specs.Language.Run.{runs};
+ghost use Rattle.std.specs.{Prelude.{◌≡◌, ◌<◌, List, None, IfOk, IfErr, IfSome, OnOk, All, slice_get}, List.{list_all}};
+ghost use Rattle.mm_text.specs.{declared.word.Word.{Word}, Language.{Run.{runs}, Reading.{first_bad, is_allowed, HasWords, IsWordsError, IsTextErrorIn, LiesIn, AreWithin}}};
 ghost use Rattle.mm_text.specs.Code.LeftToRight.{read_runs, read_text, GivesWords};
-ghost use Rattle.mm_text.specs.Language.Reading.{first_bad, is_allowed, HasWords, IsWordsError, IsTextErrorIn, LiesIn, AreWithin};
 
 use crate::cursor::WordCursor;
 use crate::fault::{TextError, TextFault, TextNumber};

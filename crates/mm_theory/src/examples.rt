@@ -1,7 +1,6 @@
 //! Small formal systems worked out by the definitions. The function does nothing; what it promises is the examples.
 
-ghost use Rattle.mm_theory.specs.Language.Examples.{AxiomIsUsed, AxiomsAreNeeded, DummiesAreNeeded, DummiesArePaired};
-ghost use Rattle.mm_theory.specs.Language.Examples.{PairsAreNeeded, VariablesAreReplacedAtOnce, VariablesAreTyped};
+ghost use Rattle.mm_theory.specs.Language.Examples.{AxiomIsUsed, AxiomsAreNeeded, DummiesAreNeeded, DummiesArePaired, PairsAreNeeded, VariablesAreReplacedAtOnce, VariablesAreTyped};
 
 /// What is provable in small formal systems, and what is not: pairs, dummy variables, their pairs and axioms are needed, and
 /// all variables are replaced at once. And the system of a small database.

@@ -1,7 +1,6 @@
 //! What is proved of formal systems: each law is the contract of a function.
 
-ghost use Rattle.mm_theory.specs.Language.Laws.{DatabasesAreSystems, FramesAreStatements, ProvableActs, ProvableAddsNothing};
-ghost use Rattle.mm_theory.specs.Language.Laws.{CleanIsProvable, ProvableByPairs, ProvedIsProvable, RestingIsProvable};
+ghost use Rattle.mm_theory.specs.Language.Laws.{DatabasesAreSystems, FramesAreStatements, ProvableActs, ProvableAddsNothing, CleanIsProvable, ProvableByPairs, ProvedIsProvable, RestingIsProvable};
 
 /// A statement is provable exactly if it is provable by some list of extra pairs, as the book has it.
 pub fn provable_by_pairs()

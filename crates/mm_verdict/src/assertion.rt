@@ -1,14 +1,9 @@
 //! What pushing and citing an item of a base needs.
 
 ghost use Rattle.std.specs.Prelude.{◌≡◌, ◌<◌, List, true, length};
-ghost use Rattle.mm_frame.specs.Language.Base.{BaseView, is_shown_at, is_proof_at};
-ghost use Rattle.mm_frame.specs.Language.Answering.{IsBase};
-ghost use Rattle.mm_machine.specs.Language.Frame.{AreSamePairs, Mandatory};
-ghost use Rattle.mm_machine.specs.Language.CodeLists.{meant_pairs};
-ghost use Rattle.mm_machine.specs.Language.Keys.{AreInKeyOrder, key_by_number};
-ghost use Rattle.mm_machine.specs.Language.NumberedSymbols.{by_number, all_by_number};
-ghost use Rattle.mm_verdict.specs.Language.Loaded.{CanBeCited, CitesItem, HasCited, IsAssertionOf, IsItemOf, IsLoaded};
-ghost use Rattle.mm_verdict.specs.Code.NumberedBase.{ByNames, numbered_hypothesis, numbered_setting};
+ghost use Rattle.mm_frame.specs.Language.{Base.{BaseView, is_shown_at, is_proof_at}, Answering.{IsBase}};
+ghost use Rattle.mm_machine.specs.Language.{Frame.{AreSamePairs, Mandatory}, CodeLists.{meant_pairs}, Keys.{AreInKeyOrder, key_by_number}, NumberedSymbols.{by_number, all_by_number}};
+ghost use Rattle.mm_verdict.specs.{Language.Loaded.{CanBeCited, CitesItem, HasCited, IsAssertionOf, IsItemOf, IsLoaded}, Code.NumberedBase.{ByNames, numbered_hypothesis, numbered_setting}};
 
 use mm_frame::{Base, assertions_have_frames};
 use mm_machine::{

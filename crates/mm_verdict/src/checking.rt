@@ -2,15 +2,9 @@
 
 ghost use Rattle.std.specs.Prelude.{◌≡◌, ◌≤◌, List, IfOk, OnOk, length};
 ghost use Rattle.mm_frame.specs.Language.Base.{BaseView};
-ghost use Rattle.mm_verdict.specs.Language.Decoding.{word_spot};
-ghost use Rattle.mm_machine.specs.Language.Verdict.{IsVerdictOnSteps};
-ghost use Rattle.mm_machine.specs.Language.Frame.{Symbol, Setting};
-ghost use Rattle.mm_verdict.specs.Language.DecodedSteps.{decoded_steps};
-ghost use Rattle.mm_verdict.specs.Code.DecodedProof.{IsDecoded, IsJudgedProof, IsRun, OfDecoded};
-ghost use Rattle.mm_machine.specs.Language.NamedSteps.{IsOutcomeWithin, RunSays};
-ghost use Rattle.mm_verdict.specs.Code.Judged.{HasProof, OfProof, done_by};
-ghost use Rattle.mm_verdict.specs.Code.NamedItems.{AreKnownOf};
-ghost use Rattle.mm_verdict.specs.Language.Checking.{CanCheck, IsCheck};
+ghost use Rattle.mm_verdict.specs.{Language.{Decoding.{word_spot}, DecodedSteps.{decoded_steps}, Checking.{CanCheck, IsCheck}}, Code.DecodedProof.{IsDecoded, IsJudgedProof, IsRun, OfDecoded}};
+ghost use Rattle.mm_verdict.specs.Code.{Judged.{HasProof, OfProof, done_by}, NamedItems.{AreKnownOf}};
+ghost use Rattle.mm_machine.specs.Language.{Verdict.{IsVerdictOnSteps}, Frame.{Symbol, Setting}, NamedSteps.{IsOutcomeWithin, RunSays}};
 ghost use Rattle.mm_verdict.specs.declared.undecoded.Undecoded.TheVariants as errors;
 
 use crate::assertion::{active, expression};

@@ -1,9 +1,7 @@
 //! Which words of a proof cite an assertion.
 
 ghost use Rattle.std.specs.Prelude.{◌≡◌, ◌≤◌, true, false, ℕ, ◌+◌, ◌++◌, ◌∷◌, ◌||◌, if◌then◌else◌, Some, List, IfOk, OnOk, length};
-ghost use Rattle.mm_verdict.specs.Code.Cited.{cited_item, is_item, item_cites, without, marked_at, masked, is_listed};
-ghost use Rattle.mm_verdict.specs.Code.DecodedProof.{IsDecoded, OfDecoded};
-ghost use Rattle.mm_verdict.specs.Language.VerdictAt.{cites_at};
+ghost use Rattle.mm_verdict.specs.{Code.{Cited.{cited_item, is_item, item_cites, without, marked_at, masked, is_listed}, DecodedProof.{IsDecoded, OfDecoded}}, Language.VerdictAt.{cites_at}};
 ghost use Rattle.mm_frame.specs.declared.base.Resolved as labels;
 ghost use Rattle.mm_frame.specs.declared.base.Resolved.TheVariants as answers;
 

@@ -1,9 +1,7 @@
 //! The laws of decoding.
 
-ghost use Rattle.mm_verdict.specs.Language.DecodingLaws.{LabelsAreOwn, MandatoryAreActive};
-ghost use Rattle.mm_verdict.specs.Language.DecodingLaws.{HasNumberTable, NumbersAreApart, EachIsWritten, HasOneDivision};
-ghost use Rattle.mm_verdict.specs.Language.DecodingLaws.{TellsFirstFault, LettersReadOn, DecodesShort, DecodesSurely, CitesRise};
-ghost use Rattle.mm_verdict.specs.Language.DecodingLaws.{RenamingKeepsDecoding, SameCitesSame, SameDecodesSame};
+ghost use Rattle.mm_verdict.specs.Language.DecodingLaws.{LabelsAreOwn, MandatoryAreActive, HasNumberTable, NumbersAreApart, EachIsWritten, HasOneDivision, TellsFirstFault, LettersReadOn, DecodesShort};
+ghost use Rattle.mm_verdict.specs.Language.DecodingLaws.{DecodesSurely, CitesRise, RenamingKeepsDecoding, SameCitesSame, SameDecodesSame};
 
 use mm_frame::{has_own_labels, items_have_labels, mandatory_means, mandatory_stand_before};
 use mm_machine::sure_by_counting;

@@ -1,11 +1,9 @@
 //! Proofs worked out by the definitions. The functions do nothing; what they promise is the examples.
 
 ghost use Rattle.mm_verdict.specs.Language.Examples.{HasSixSteps, HasThisView, IsProved, NamesNothing, StandForSevenLabels};
-ghost use Rattle.mm_verdict.specs.Language.FaultExamples.{EndsAtUnknown, FourAreTooMany, HasNoEnd, HasOtherTypecode, IsCutNumber, IsEnded, IsNoActivePair};
-ghost use Rattle.mm_verdict.specs.Language.FaultExamples.{IsNoLabel, IsNoLetter, IsOtherEssential, IsShared, IsTakenWithPair, LacksEntry, LeavesAnother};
-ghost use Rattle.mm_verdict.specs.Language.FaultExamples.{LeavesTwo, SavesNothing, TellsLowest, ThreeAreTaken};
-ghost use Rattle.mm_verdict.specs.Language.StepExamples.{ChangesView, CitesFirstWord, CitesNothing, HasTypedVariable, IsDoneAndDerived, KeepsView};
-ghost use Rattle.mm_verdict.specs.Language.StepExamples.{LastIsShorter, NamesUpToEnd, SavesAreNumbered, WeighsOne};
+ghost use Rattle.mm_verdict.specs.Language.FaultExamples.{EndsAtUnknown, FourAreTooMany, HasNoEnd, HasOtherTypecode, IsCutNumber, IsEnded, IsNoActivePair, IsNoLabel, IsNoLetter, IsOtherEssential, IsShared};
+ghost use Rattle.mm_verdict.specs.Language.FaultExamples.{IsTakenWithPair, LacksEntry, LeavesAnother, LeavesTwo, SavesNothing, TellsLowest, ThreeAreTaken};
+ghost use Rattle.mm_verdict.specs.Language.StepExamples.{ChangesView, CitesFirstWord, CitesNothing, HasTypedVariable, IsDoneAndDerived, KeepsView, LastIsShorter, NamesUpToEnd, SavesAreNumbered, WeighsOne};
 
 /// A compressed proof: its steps, the labels that they stand for, its view and its verdict; and one that does not decode.
 pub fn proofs_are_read_so()

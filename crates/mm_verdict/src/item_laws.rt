@@ -1,7 +1,6 @@
 //! The laws of the proofs of items.
 
-ghost use Rattle.mm_verdict.specs.Language.ItemLaws.{MandatoryLabelsMean, HasOneVerdictAt, HasVerdictAt, ProvedIsDerivedAt};
-ghost use Rattle.mm_verdict.specs.Language.ItemLaws.{LabelsAreAProof, HasOneCountAt, HasCountAt, SpotsAreIn};
+ghost use Rattle.mm_verdict.specs.Language.ItemLaws.{MandatoryLabelsMean, HasOneVerdictAt, HasVerdictAt, ProvedIsDerivedAt, LabelsAreAProof, HasOneCountAt, HasCountAt, SpotsAreIn};
 
 use crate::decoding_laws::decodes_surely;
 use mm_frame::{items_have_labels, mandatory_means, mandatory_stand_before, places_have_frames};

@@ -1,16 +1,11 @@
 //! What checks of a base keep of it: the expressions of its items, as the machine has them.
 
 ghost use Rattle.std.specs.Prelude.{◌≡◌, ◌<◌, false, ℕ, List, All, IsTrue, IfOk, OnOk, length};
-ghost use Rattle.mm_frame.specs.Language.Answering.{IsBase};
-ghost use Rattle.mm_frame.specs.Language.Base.{BaseView, is_framed_at};
-ghost use Rattle.mm_frame.specs.declared.base.Base.{Base as Meant};
-ghost use Rattle.mm_frame.specs.declared.base.Resolved.TheVariants as answers;
-ghost use Rattle.mm_machine.specs.Language.Frame.{Mandatory};
-ghost use Rattle.mm_machine.specs.Language.Keys.{key_by_number};
-ghost use Rattle.mm_machine.specs.Language.Lasting.{HoldsLasting, lasting_of};
-ghost use Rattle.mm_machine.specs.Language.NumberedSymbols.{by_code};
+ghost use Rattle.mm_frame.specs.{Language.{Answering.{IsBase}, Base.{BaseView, is_framed_at}}, declared.base.Base.{Base as Meant}};
+ghost use Rattle.mm_machine.specs.Language.{Frame.{Mandatory}, Keys.{key_by_number}, Lasting.{HoldsLasting, lasting_of}, NumberedSymbols.{by_code}};
 ghost use Rattle.mm_verdict.specs.Language.Loaded.{CitesItem, HasHypotheses, HasItem, IsAssertionOf, IsLoaded};
 ghost use Rattle.mm_verdict.specs.Code.NamedItems.{AreCited, AreKnownOf, AreNamesOf, HasItems, IsNamedBy, IsOneMore, IsThere, KeepsItems, TakesNothing};
+ghost use Rattle.mm_frame.specs.declared.base.Resolved.TheVariants as answers;
 
 use crate::assertion::{cited_of, expression, loaded_of};
 use mm_frame::{Base, Resolved};
@@ -66,8 +61,6 @@ fn load_each(
 }
 
 /// Loads an item, and with an assertion its hypotheses.
-#[cold]
-#[inline(never)]
 fn load(
     alloc: Global,
     machine: &mut Machine<CodedSymbol>,

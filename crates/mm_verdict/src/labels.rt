@@ -1,14 +1,10 @@
 //! The labels of a proof.
 
 ghost use Rattle.std.specs.Prelude.{◌≡◌, ◌≤◌, ◌+◌, ℕ, List, Ok, IfOk, IfErr, length};
-ghost use Rattle.mm_frame.specs.Language.Base.{BaseView};
-ghost use Rattle.mm_frame.specs.Language.Answering.{IsBase};
-ghost use Rattle.mm_verdict.specs.Language.BaseLabels.{setting_at};
-ghost use Rattle.mm_verdict.specs.Language.Decoding.{word_spot, read_label as read_label_lem};
+ghost use Rattle.mm_frame.specs.Language.{Base.{BaseView}, Answering.{IsBase}};
+ghost use Rattle.mm_verdict.specs.Language.{BaseLabels.{setting_at}, Decoding.{word_spot, read_label as read_label_lem}, DecodedSteps.{IsEntry, entry_step}};
+ghost use Rattle.mm_verdict.specs.Code.{Labels.{TellsWord, FromBegin, IsListed, TellsListed}, Left.{AreLeft}};
 ghost use Rattle.mm_verdict.specs.declared.undecoded.Undecoded.TheVariants as errors;
-ghost use Rattle.mm_verdict.specs.Language.DecodedSteps.{IsEntry, entry_step};
-ghost use Rattle.mm_verdict.specs.Code.Labels.{TellsWord, FromBegin, IsListed, TellsListed};
-ghost use Rattle.mm_verdict.specs.Code.Left.{AreLeft};
 
 use crate::undecoded::Undecoded;
 use crate::words::is_close;

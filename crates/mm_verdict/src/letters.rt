@@ -1,13 +1,9 @@
 //! The letters of a compressed proof, read in one pass.
 
-ghost use Rattle.std.specs.Prelude.{◌≡◌, false, ℕ, ◌+◌, ◌-◌, ◌*◌, ◌^◌, ◌<◌, ◌≤◌, min, nat_lt, length, List, slice_get, IfOk, IfErr, Ok};
+ghost use Rattle.std.specs.{Prelude.{◌≡◌, false, ℕ, ◌+◌, ◌-◌, ◌*◌, ◌^◌, ◌<◌, ◌≤◌, min, nat_lt, length, List, slice_get, IfOk, IfErr, Ok}, Option.{ok_or}};
 ghost use Rattle.mm_machine.specs.Language.Expansion.{Step};
+ghost use Rattle.mm_verdict.specs.{Language.Decoding.{nameable}, Code.{LeftToRight.{read_behind, read_on}, Coded.{TellsSteps, meant_or, meant_steps, LettersGive}, UsedLabels.{AreUseMarks, IsLabelWithin}}};
 ghost use Rattle.mm_verdict.specs.Language.Numbers as numbers;
-ghost use Rattle.std.specs.Option.{ok_or};
-ghost use Rattle.mm_verdict.specs.Language.Decoding.{nameable};
-ghost use Rattle.mm_verdict.specs.Code.LeftToRight.{read_behind, read_on};
-ghost use Rattle.mm_verdict.specs.Code.Coded.{TellsSteps, meant_or, meant_steps, LettersGive};
-ghost use Rattle.mm_verdict.specs.Code.UsedLabels.{AreUseMarks, IsLabelWithin};
 
 use crate::undecoded::Undecoded;
 use crate::used::mark;
@@ -104,8 +100,7 @@ pub struct LetterReader {
 
 impl LetterReader {
     ghost use Rattle.std.specs.Prelude.{[], ◌∷◌, ◌++◌, OnOk};
-    ghost use Rattle.mm_verdict.specs.Language.Letters.{Letter, letters_in};
-    ghost use Rattle.mm_verdict.specs.Code.Reader.{Aim, HasRoom, IsFound, ReadsLetters};
+    ghost use Rattle.mm_verdict.specs.{Language.Letters.{Letter, letters_in}, Code.Reader.{Aim, HasRoom, IsFound, ReadsLetters}};
 
     /// A reader before the first letter, where numbers name this many labels. It puts the steps and the marks in place of
     /// what the lists have.
@@ -230,6 +225,7 @@ impl LetterReader {
 /// The steps of the letters of a proof, with marks for the labels. The letters are the words that are left, and the first
 /// of these has the number `from`. Numbers name this many labels, and then the saves. The steps are put in place of what
 /// the lists have.
+#[inline(never)]
 pub fn read_letters(
     room: MarkedSteps,
     words: &mut ProofWords,

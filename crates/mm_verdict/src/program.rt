@@ -1,15 +1,8 @@
 //! A proof as the machine runs it.
 
 ghost use Rattle.std.specs.Prelude.{ℕ, List, All, IfErr, IfOk};
-ghost use Rattle.mm_machine.specs.Language.Keys.{key_by_number};
-ghost use Rattle.mm_machine.specs.Language.Lasting.{HoldsLasting, IsCited, lasting_of};
-ghost use Rattle.mm_machine.specs.Language.NamedSteps.{AreSavedBefore, AreUsesWithin};
-ghost use Rattle.mm_machine.specs.Language.NumberedSymbols.{by_code, by_number};
-ghost use Rattle.mm_verdict.specs.Language.DecodedSteps.{TellsFault};
-ghost use Rattle.mm_verdict.specs.Language.Loaded.{AreItemsOf, CanBeCited, IsAssertionOf};
-ghost use Rattle.mm_verdict.specs.Language.Programs.{IsProgramAt};
-ghost use Rattle.mm_verdict.specs.Language.ReadIn.{HasTheorem, OfTheorem};
-ghost use Rattle.mm_verdict.specs.Language.VerdictAt.{decoding_at};
+ghost use Rattle.mm_machine.specs.Language.{Keys.{key_by_number}, Lasting.{HoldsLasting, IsCited, lasting_of}, NamedSteps.{AreSavedBefore, AreUsesWithin}, NumberedSymbols.{by_code, by_number}};
+ghost use Rattle.mm_verdict.specs.Language.{DecodedSteps.{TellsFault}, Loaded.{AreItemsOf, CanBeCited, IsAssertionOf}, Programs.{IsProgramAt}, ReadIn.{HasTheorem, OfTheorem}, VerdictAt.{decoding_at}};
 
 use crate::decoding::Decoding;
 use crate::decoding_laws::{decodes_surely, mandatory_are_active};

@@ -1,19 +1,11 @@
 //! Decoding: the steps of a proof, or its first fault.
 
 ghost use Rattle.std.specs.Prelude.{◌≡◌, true, false, ◌+◌, List, Ok, IfOk, IfErr, map, length, ◌∷◌, ◌++◌};
-ghost use Rattle.mm_machine.specs.Language.Expansion.{Step};
-ghost use Rattle.mm_frame.specs.Language.Base.{BaseView, before, said_at, is_framed_at};
-ghost use Rattle.mm_frame.specs.Language.Framing.{mandatory_numbers};
-ghost use Rattle.mm_frame.specs.Language.Answering.{IsBase};
-ghost use Rattle.mm_verdict.specs.Language.BaseLabels.{setting_at};
-ghost use Rattle.mm_verdict.specs.Language.Decoding.{read_word as read_word_lem, is_compressed as is_compressed_lem};
+ghost use Rattle.mm_machine.specs.Language.{Expansion.{Step}, NamedSteps.{meant}};
+ghost use Rattle.mm_frame.specs.Language.{Base.{BaseView, before, said_at, is_framed_at}, Framing.{mandatory_numbers}, Answering.{IsBase}};
+ghost use Rattle.mm_verdict.specs.Language.{BaseLabels.{setting_at}, Decoding.{read_word as read_word_lem, is_compressed as is_compressed_lem}, VerdictAt.{decoding_at}};
+ghost use Rattle.mm_verdict.specs.{Language.DecodedSteps.{IsEntry, TellsFault, entry_step}, Code.{Judged.{HasProof, IsDecoding, OfProof}, Labels.{InViews, TellsWord}, UsedLabels.{IsLabelWithin}}};
 ghost use Rattle.mm_frame.specs.declared.base.Resolved.TheVariants as answers;
-ghost use Rattle.mm_verdict.specs.Language.VerdictAt.{decoding_at};
-ghost use Rattle.mm_machine.specs.Language.NamedSteps.{meant};
-ghost use Rattle.mm_verdict.specs.Language.DecodedSteps.{IsEntry, TellsFault, entry_step};
-ghost use Rattle.mm_verdict.specs.Code.Judged.{HasProof, IsDecoding, OfProof};
-ghost use Rattle.mm_verdict.specs.Code.Labels.{InViews, TellsWord};
-ghost use Rattle.mm_verdict.specs.Code.UsedLabels.{IsLabelWithin};
 
 use crate::decoding::Decoding;
 use crate::decoding_laws::mandatory_are_active;

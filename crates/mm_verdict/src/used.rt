@@ -1,8 +1,7 @@
 //! Which labels of a proof its steps name.
 
 ghost use Rattle.std.specs.Prelude.{◌≡◌, ◌||◌, ℕ, length};
-ghost use Rattle.mm_verdict.specs.Code.Cited.{is_item, marked_at};
-ghost use Rattle.mm_verdict.specs.Code.UsedLabels.{IsLabelWithin, label_named};
+ghost use Rattle.mm_verdict.specs.Code.{Cited.{is_item, marked_at}, UsedLabels.{IsLabelWithin, label_named}};
 
 use mm_machine::Action;
 

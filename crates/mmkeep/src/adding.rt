@@ -1,13 +1,10 @@
 //! Files that are read and added to those of a database.
 
 ghost use Rattle.std.specs.Prelude.{◌≡◌, ◌⊎◌, ◌↔◌, ℕ, None, List, true, OnErr, OnOk, IfErr, IfOk, IfSome, IsErrOf};
-ghost use Rattle.mm_report.specs.mm_store.Language.Answers.{IsAddError, IsAddErrorIn};
-ghost use Rattle.mm_report.specs.mm_store.Language.FileFacts.{IsAdded, parked_in};
-ghost use Rattle.mm_report.specs.mm_store.Language.FilesView.{File, file_number, plain};
+ghost use Rattle.mm_report.specs.mm_store.Language.{Answers.{IsAddError, IsAddErrorIn}, FileFacts.{IsAdded, parked_in}, FilesView.{File, file_number, plain}};
 ghost use Rattle.mm_report.specs.mm_script.Language.Stream.{calls_left, cannot_read, unread};
+ghost use Rattle.mmkeep.specs.{Code.Loaded.{IsNewNameError}, Language.Loading.{AddsFile, IsFileError, IsTextError, ReadsOn}};
 ghost use Rattle.mmkeep.specs.declared.adding.FileError.TheVariants as errors;
-ghost use Rattle.mmkeep.specs.Code.Loaded.{IsNewNameError};
-ghost use Rattle.mmkeep.specs.Language.Loading.{AddsFile, IsFileError, IsTextError, ReadsOn};
 
 use bytes::Bytes;
 use mm_report::{Files, Place, ReadFailed, Reading, StoreError, TextNumber, place};

@@ -1,8 +1,7 @@
 //! Which words are a command.
 
 ghost use Rattle.std.specs.Prelude.{◌≡◌, Some, None, IfOk, IfSome, IfNone, map, string_bytes};
-ghost use Rattle.mmkeep.specs.Language.Asking.{file_of, given, said, words_of};
-ghost use Rattle.mmkeep.specs.declared.arguments.Invocation.{Invocation as Asked};
+ghost use Rattle.mmkeep.specs.{Language.Asking.{file_of, given, said, words_of}, declared.arguments.Invocation.{Invocation as Asked}};
 
 use crate::arguments::Invocation;
 use std::alloc::{AllocError, Global};

@@ -1,8 +1,7 @@
 //! What keeps the program from its work, reported by a line on standard error.
 
 ghost use Rattle.std.specs.Prelude.{◌≡◌};
-ghost use Rattle.mmkeep.specs.declared.outcome.Outcome.TheVariants.{Words, Memory};
-ghost use Rattle.mmkeep.specs.Language.Status.{outcome_of};
+ghost use Rattle.mmkeep.specs.{declared.outcome.Outcome.TheVariants.{Words, Memory}, Language.Status.{outcome_of}};
 
 use crate::adding::FileError;
 use crate::outcome::Outcome;

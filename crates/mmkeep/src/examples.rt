@@ -1,7 +1,6 @@
 //! Commands and loading worked out by the definitions. Each function does nothing; what it promises is the examples.
 
-ghost use Rattle.mmkeep.specs.Language.Examples.{AxiomsLists, GivesWords, HasTheseWords, HasThisStatus, IsCutThere, IsInOrderThen};
-ghost use Rattle.mmkeep.specs.Language.Examples.{SessionEnds, VerifyFinds};
+ghost use Rattle.mmkeep.specs.Language.Examples.{AxiomsLists, GivesWords, HasTheseWords, HasThisStatus, IsCutThere, IsInOrderThen, SessionEnds, VerifyFinds};
 ghost use Rattle.mmkeep.specs.Language.LoadingExamples.{FaultStops, HasFaultThere, LoopIsLoaded, OpensKnown};
 
 /// What the three commands do with a small database, a report that is cut off, the words of commands, and each exit status.

@@ -1,9 +1,7 @@
 //! What is proved of the files that are loaded. The function does nothing; what it promises is the law.
 
 ghost use Rattle.std.specs.Prelude.{◌≡◌, ℕ, All, Contains, List, [], None};
-ghost use Rattle.mm_report.specs.mm_statement.Language.Database.{Refers};
-ghost use Rattle.mm_report.specs.mm_statement.Language.Item.{Missing};
-ghost use Rattle.mm_report.specs.mm_store.Language.FilesView.{File, file_number};
+ghost use Rattle.mm_report.specs.{mm_statement.Language.{Database.{Refers}, Item.{Missing}}, mm_store.Language.FilesView.{File, file_number}};
 ghost use Rattle.mmkeep.specs.Language.Loading.{AreLoaded, GivesFile, KnownFile};
 
 /// A name of the database of loaded files that no file has is one that the source lacks. Each reference to a missing file in

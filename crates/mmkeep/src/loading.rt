@@ -1,10 +1,7 @@
 //! Loads the files of a database from a source.
 
-ghost use Rattle.std.specs.Prelude.{◌≡◌, ◌≢◌, ◌⊎◌, ℕ, None, List, [], IfErr, IfOk, IsErrOf, IsOk, OnOk};
-ghost use Rattle.std.specs.IoError.{error_kind};
-ghost use Rattle.mm_report.specs.mm_store.Language.FileFacts.{parked_in};
-ghost use Rattle.mm_report.specs.mm_store.Language.FilesView.{file_number, plain};
-ghost use Rattle.mm_report.specs.mm_store.declared.error.StoreError.TheVariants.{Memory as Lacking};
+ghost use Rattle.std.specs.{Prelude.{◌≡◌, ◌≢◌, ◌⊎◌, ℕ, None, List, [], IfErr, IfOk, IsErrOf, IsOk, OnOk}, IoError.{error_kind}};
+ghost use Rattle.mm_report.specs.mm_store.{Language.{FileFacts.{parked_in}, FilesView.{file_number, plain}}, declared.error.StoreError.TheVariants.{Memory as Lacking}};
 ghost use Rattle.mmkeep.specs.declared.unloaded.Unloaded.TheVariants.{Input, Memory};
 ghost use Rattle.mmkeep.specs.Code.Loaded.{AddsIfOpened, AddsOpened, HasBegun, HasFile, KeepsFiles, Loads, StopsOpened, TakesFile, TakesTop, unloaded_by};
 ghost use Rattle.mmkeep.specs.Language.Loading.{AddsFile, AreLoaded, IsUnloaded, StopsAt, StopsAtTop, StopsLoading};

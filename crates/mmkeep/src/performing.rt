@@ -1,16 +1,11 @@
 //! What a command does with a session: what it writes, and how the program then ends.
 
-ghost use Rattle.std.specs.Prelude.{◌≡◌, ◌≢◌, ◌↔◌, ℕ, List, [], true, false, IfErr, IfOk, IsErrOf, IsTrue, OnOk, length};
-ghost use Rattle.std.specs.Io.Buffered.{writer_contents};
-ghost use Rattle.mm_report.specs.mm_statement.Language.Item.{Said};
-ghost use Rattle.mm_report.specs.mm_keep.Language.Findings.{counted};
-ghost use Rattle.mm_report.specs.mm_keep.Language.Told.{Told, counts};
-ghost use Rattle.mm_report.specs.Language.Report.{lines};
-ghost use Rattle.mm_report.specs.mm_script.declared.error.ScriptError.TheVariants as errors;
+ghost use Rattle.std.specs.{Prelude.{◌≡◌, ◌≢◌, ◌↔◌, ℕ, List, [], true, false, IfErr, IfOk, IsErrOf, IsTrue, OnOk, length}, Io.Buffered.{writer_contents}};
+ghost use Rattle.mm_report.specs.{mm_statement.Language.Item.{Said}, mm_keep.Language.{Findings.{counted}, Told.{Told, counts}}, Language.Report.{lines}};
 ghost use Rattle.mm_report.specs.mm_script.Language.Stream.{cannot_read, gone_out, has_failed, unread, written};
 ghost use Rattle.mmkeep.specs.declared.outcome.Outcome.TheVariants.{Clean};
-ghost use Rattle.mmkeep.specs.Language.Performing.{AllInOrder, EndsScript, IsCutOff, IsDone, IsInOrderAfter, IsJudged, IsStopped};
-ghost use Rattle.mmkeep.specs.Language.Performing.{ListsAxioms, Reports, StopsAxioms, StopsReport, StopsScript};
+ghost use Rattle.mmkeep.specs.Language.Performing.{AllInOrder, EndsScript, IsCutOff, IsDone, IsInOrderAfter, IsJudged, IsStopped, ListsAxioms, Reports, StopsAxioms, StopsReport, StopsScript};
+ghost use Rattle.mm_report.specs.mm_script.declared.error.ScriptError.TheVariants as errors;
 
 use crate::arguments::Invocation;
 use crate::outcome::Outcome;

@@ -1,7 +1,6 @@
 //! Where the files of a database are opened.
 
-ghost use Rattle.std.specs.Prelude.{◌≡◌, ℕ, List};
-ghost use Rattle.std.specs.IoError.{error_kind};
+ghost use Rattle.std.specs.{Prelude.{◌≡◌, ℕ, List}, IoError.{error_kind}};
 ghost use Rattle.mmkeep.specs.Language.Loading.{KnownFile, Opens, Unknown};
 
 use std::fs::File;

@@ -1,8 +1,7 @@
 //! Why the files of a database are not loaded.
 
 ghost use Rattle.std.specs.Prelude.{◌≡◌};
-ghost use Rattle.mmkeep.specs.declared.unloaded.Unloaded.TheVariants.{Memory};
-ghost use Rattle.mmkeep.specs.Language.Status.{outcome_of_unloaded};
+ghost use Rattle.mmkeep.specs.{declared.unloaded.Unloaded.TheVariants.{Memory}, Language.Status.{outcome_of_unloaded}};
 
 use crate::outcome::Outcome;
 use mm_report::Reading;

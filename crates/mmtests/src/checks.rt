@@ -1,7 +1,6 @@
 //! What calls answer of small databases: the verdict of a check, the words that cite, the run and its steps.
 
-ghost use Rattle.mm_verdict.specs.mm_frame.Language.Base.{BaseView};
-ghost use Rattle.mm_verdict.specs.Language.ReadIn.{IsReadIn};
+ghost use Rattle.mm_verdict.specs.{mm_frame.Language.Base.{BaseView}, Language.ReadIn.{IsReadIn}};
 
 use crate::machines::agrees;
 use crate::theorems::theorem;

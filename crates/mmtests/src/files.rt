@@ -1,7 +1,6 @@
 //! What the program does not call of files: the text of one.
 
-ghost use Rattle.std.specs.Prelude.{◌≡◌, ◌↔◌, IfOk, IsTrue, Some};
-ghost use Rattle.std.specs.Option.{option_map};
+ghost use Rattle.std.specs.{Prelude.{◌≡◌, ◌↔◌, IfOk, IsTrue, Some}, Option.{option_map}};
 ghost use Rattle.mm_report.specs.mm_store.Language.FilesView.{find_file, plain, text_of};
 
 use mm_report::{Files, StoreError};

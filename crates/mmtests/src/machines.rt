@@ -1,16 +1,10 @@
 //! The machine over names and over numbers: it says the same of a proof.
 
 ghost use Rattle.std.specs.Prelude.{◌≡◌, ◌<◌, ℕ, [], List, All, IfOk, OnOk, length, map};
-ghost use Rattle.mm_machine.specs.Language.Frame.{Mandatory};
-ghost use Rattle.mm_machine.specs.Language.NumberedSymbols.{by_code, by_number, named_symbol, all_by_number};
-ghost use Rattle.mm_machine.specs.Language.CodeLists.{meant_pairs};
-ghost use Rattle.mm_machine.specs.Language.Lasting.{HoldsLasting, IsCited, lasting_of};
-ghost use Rattle.mm_machine.specs.Language.NamedSteps.{AreSavedBefore, AreUsesWithin, IsUseWithin};
-ghost use Rattle.mm_machine.specs.Language.Keys.{AreInKeyOrder, key_by_number};
-ghost use Rattle.mmtests.specs.Code.Spelled.{HasOneKey, key_by_name};
-ghost use Rattle.mmtests.specs.Code.SpelledAssertions.{IsCitedSo};
-ghost use Rattle.mm_verdict.specs.Language.Loaded.{CanBeCited, HasItem};
-ghost use Rattle.mm_verdict.specs.Language.ReadIn.{HasTheorem};
+ghost use Rattle.mm_machine.specs.Language.{Frame.{Mandatory}, NumberedSymbols.{by_code, by_number, named_symbol, all_by_number}, CodeLists.{meant_pairs}, Lasting.{HoldsLasting, IsCited, lasting_of}};
+ghost use Rattle.mm_machine.specs.Language.{NamedSteps.{AreSavedBefore, AreUsesWithin, IsUseWithin}, Keys.{AreInKeyOrder, key_by_number}};
+ghost use Rattle.mmtests.specs.Code.{Spelled.{HasOneKey, key_by_name}, SpelledAssertions.{IsCitedSo}};
+ghost use Rattle.mm_verdict.specs.Language.{Loaded.{CanBeCited, HasItem}, ReadIn.{HasTheorem}};
 
 use mm_machine::{
     Active, Cited, Machine, NamedSymbol, NumberedSymbol, ProofStep, RunOutcome, Use,

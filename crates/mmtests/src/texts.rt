@@ -2,8 +2,7 @@
 //! error is printed.
 
 ghost use Rattle.std.specs.Prelude.{List};
-ghost use Rattle.mm_text.specs.Language.Reading.{HasWords};
-ghost use Rattle.mm_text.specs.declared.word.Word.{Word as Found};
+ghost use Rattle.mm_text.specs.{Language.Reading.{HasWords}, declared.word.Word.{Word as Found}};
 
 use bytes::Bytes;
 use mm_text::{

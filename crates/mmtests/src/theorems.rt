@@ -1,8 +1,7 @@
 //! Theorems that tests ask for by their labels.
 
 ghost use Rattle.std.specs.Prelude.{◌≡◌, ◌<◌, true, IfSome, length};
-ghost use Rattle.mm_proof.specs.mm_frame.Language.Answering.{IsBase};
-ghost use Rattle.mm_proof.specs.mm_frame.Language.Base.{BaseView, is_proof_at};
+ghost use Rattle.mm_proof.specs.mm_frame.Language.{Answering.{IsBase}, Base.{BaseView, is_proof_at}};
 
 use mm_proof::Base;
 

@@ -1,7 +1,6 @@
 //! Whether two views are the same, of theorems of two databases.
 
-ghost use Rattle.mm_proof.specs.mm_frame.Language.Base.{BaseView};
-ghost use Rattle.mm_proof.specs.mm_verdict.Language.ReadIn.{IsReadIn};
+ghost use Rattle.mm_proof.specs.{mm_frame.Language.Base.{BaseView}, mm_verdict.Language.ReadIn.{IsReadIn}};
 
 use crate::theorems::theorem;
 use mm_proof::{Base, Files, Names, same_view};

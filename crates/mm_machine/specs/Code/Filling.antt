@@ -58,11 +58,11 @@ variables_of means taken = map means taken.lasting.now.variables.all.items
 abbrev pub frame_taking : {S L : Type 0} → (S → Symbol) → (L → Symbol) → Taken S L → Frame
 frame_taking means listed taken = cited_frame listed (lasting_taken means taken) taken.cited.now
 
--- the entries are as many as the assertion has hypotheses, and within the symbols; the lasting expressions are within them, too
+-- the entries are as many as the assertion has hypotheses; they and the lasting expressions are within the symbols, with a block behind
 pub record AreTaken {S L : Type 0} (means : S → Symbol) (listed : L → Symbol) (key : Symbol → ℕ) (taken : Taken S L) : Type 0 where
-  pub within : All (IsEntryWithin (length taken.symbols.now)) taken.entries.now
+  pub within : All (IsEntryWithin (length taken.symbols.now - 4)) taken.entries.now
   pub count : length taken.entries.now ≡ length taken.cited.now.hypotheses.now
-  pub below : taken.lasting.now.ground ≤ length taken.symbols.now
+  pub below : taken.lasting.now.ground + 4 ≤ length taken.symbols.now
   pub patterns : All (IsPattern taken.lasting.now.ground (map means taken.symbols.now) (variables_of means taken) taken.lasting.now.slots.items)
       taken.lasting.now.patterns.items
   pub numbered : AreNumbered key (variables_of means taken) taken.lasting.now.variables.places.items

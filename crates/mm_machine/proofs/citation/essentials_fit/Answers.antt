@@ -1,4 +1,4 @@
-use Rattle.std.proofs.{Common.{◌≡◌, Bool, not, refl, true, false, List, map, length, get_or, sym, ◌∙◌, subst, arith}, lemmas.Bool.{false≢true}}
+use Rattle.std.proofs.{Common.{◌-◌, ◌≡◌, Bool, not, refl, true, false, List, map, length, get_or, sym, ◌∙◌, subst, arith}, lemmas.Bool.{false≢true}}
 use Rattle.mm_machine.specs.{Language.{Substitution.{substituted}, Lasting.{lasting_at, pattern_symbols}}, Code.{Flat.{read}, Citation.{OtherEssential}}}
 use Rattle.mm_machine.specs.{Code.Filling.{IsFillable, entries_of, frame_taking, pattern_filled}, declared.{slots.Slot.{Slot}, pattern.Entry.{Entry}}}
 use Rattle.mm_machine.proofs.lemmas.{machine.{FlatLemmas.{mapped_or_get}, EntryFaults.{none_more, none_all}, TakenLemmas.{taken_count, taken_typed, typed_fillable, typed_filled}}, lists.Zips.{any_at}}
@@ -20,9 +20,9 @@ fits-requires-clause-fillable g c =
     let taken = c.args.taken.now in
     let h = c.hypothesis_at-hypothesis in
     let is = c.requires.taken in
-    subst (λ (w : List Slot). IsFillable c.args.given.now (length taken.symbols.now) w h.result) (sym c.deref.ensures.value)
+    subst (λ (w : List Slot). IsFillable c.args.given.now (length taken.symbols.now - 4) w h.result) (sym c.deref.ensures.value)
     (typed_fillable m g.S.Listed.Symbol.means g.S.Kept.key_of taken is c.args.given.now c.requires.given h.result h.ensures.pattern
-    (taken_typed m g.S.Listed.Symbol.means g.S.Kept.key_of taken is c.loop-place.place (lasting_at (map m taken.symbols.now) h.result) h.ensures.is) (length taken.symbols.now) is.within is.below)
+    (taken_typed m g.S.Listed.Symbol.means g.S.Kept.key_of taken is c.loop-place.place (lasting_at (map m taken.symbols.now) h.result) h.ensures.is) (length taken.symbols.now - 4) is.within (omega (arith, is.below)))
 
 pub returns-then-not-fits : goal.returns-then-not-fits
 returns-then-not-fits g c gives all =

@@ -1,4 +1,4 @@
-use Rattle.std.proofs.{Common.{rules, ◌≡◌, ◌<◌, ◌+◌, ℕ, true, false, Some, List, map, length, length-set, get_or, sym, ◌∙◌, ap, subst, arith, slice_get}, lemmas.Grind.{common_steps}}
+use Rattle.std.proofs.{Common.{rules, ◌≡◌, ◌<◌, ◌+◌, ◌-◌, ℕ, true, false, Some, List, map, length, length-set, get_or, sym, ◌∙◌, ap, subst, arith, slice_get}, lemmas.Grind.{common_steps}}
 use Rattle.std.proofs.{lemmas.{Bool.{false≢true}, List.Elements.{All-contains}, Option.{same_Some, slice_get_within, slice_get-get_or}}, Math.Decide.{ℕ_discrete}}
 use Rattle.mm_machine.specs.{Language.{Frame.{Symbol, Mandatory}, Lasting.{lasting_at}}, Code.{Flat.{IsEntryWithin, read}, Citation.{AreGiven, OtherTypecode}}}
 use Rattle.mm_machine.{specs.{Code.Filling.{entries_of, frame_taking, variables_of}, declared.pattern.{Entry.{Entry}, Given.{Given}}}, proofs.lemmas.machine.FlatLemmas.{mapped_or_get}}
@@ -47,9 +47,9 @@ overflow_add-given g c =
     let e : Entry = get_or taken.entries.now n (record { start = 0; end = 0; floor = 0 }) in
     let some = taken_some m g.S.Listed.Symbol.means g.S.Kept.key_of taken c.requires.taken n (lasting_at (map m taken.symbols.now) c.hypothesis_at-hypothesis.result) (map m taken.symbols.now) e
     c.hypothesis_at-hypothesis.ensures.is c.if-hypothesis.true (c.has_typecode.ensures.0 c.if-not-has_typecode.false) in
-    let within = All-contains (IsEntryWithin (length taken.symbols.now)) taken.entries.now e c.requires.taken.within
+    let within = All-contains (IsEntryWithin (length taken.symbols.now - 4)) taken.entries.now e c.requires.taken.within
     (contains_at taken.entries.now n e (slice_get-get_or taken.entries.now n (record { start = 0; end = 0; floor = 0 }) c.loop-place-test.true)) in
-    omega (arith, some, within.1, c.type_inv.taken.0.0.1)
+    omega (arith, some, within.1, c.requires.taken.below, c.type_inv.taken.0.0.1)
 
 pub bounds-given-variable : goal.bounds-given-variable
 bounds-given-variable g c =

@@ -1,8 +1,10 @@
 -- Copies of ranges of lists, and whether two ranges are the same.
 use Rattle.std.proofs.lemmas.Grind.{common_steps}
 use Rattle.std.proofs.lemmas.List.{append_assoc, map-append, take_more_set, map-set, length-map, take-take, take-map, drop-map, drop-take, drop-drop, drop_more, length-take-le, take_at}
-use Rattle.std.proofs.{lemmas.List.{same_from_push}, Math.Seq.{take-add, take-append-add}}
-use Rattle.std.proofs.Common.{rules, ◌≡◌, ℕ, ◌+◌, ◌-◌, ◌<◌, ◌≤◌, ◌↔◌, List, [], ◌∷◌, ◌++◌, length, map, take, drop, set, get_or, min, sym, ◌∙◌, ap, arith, refl}
+use Rattle.std.proofs.{lemmas.{List.{same_from_push}, Bool.{eq-eqb, ne_eqb}, Nat.{mod-pow-add}}, Math.{Seq.{take-add, take-append-add}, Decide.{ℕ_discrete}}}
+use Rattle.std.proofs.Common.{rules, ◌≡◌, ℕ, zero, suc, ap₂, ◌+◌, ◌-◌, ◌*◌, ◌/◌, ◌%◌, ◌^◌, ◌<◌, ◌≤◌, ◌↔◌, not, eqb, List, [], ◌∷◌, ◌++◌, length, map, take, drop, set, get_or, min, sym, ◌∙◌, ap, arith}
+use Rattle.std.proofs.Common.{refl}
+use lib.Lanes.{mask_l, zip2}
 use Rattle.mm_machine.specs.{Language.NumberedSymbols.{by_code}, declared.symbol.CodedSymbol.{CodedSymbol}}
 
 -- after a write at a place, up to it and under a map
@@ -104,3 +106,41 @@ coded_ranges xs ys at from n = (
   (λ e. unmapped_same by_code coded_apart (take n (drop at xs)) (take n (drop from ys)) (sym (mapped_range by_code xs at n) ∙ e ∙ mapped_range by_code ys from n)),
   (λ e. mapped_range by_code xs at n ∙ ap (map by_code) e ∙ sym (mapped_range by_code ys from n)),
 )
+
+-- ---- blocks
+
+low_bit : (b m n : ℕ) → b < 2 → (b + 2 * m) % 2 ^ suc n ≡ m % 2 ^ n * 2 + b
+low_bit b m n l =
+    let half : (b + 2 * m) / 2 ≡ m = omega (arith, l) in
+    let first : (b + 2 * m) % 2 ≡ b = omega (arith, l) in
+    ap (λ k. (b + 2 * m) % 2 ^ k) (omega arith) ∙ mod-pow-add (b + 2 * m) n 1 ∙ ap₂ (λ h k. h % 2 ^ n * 2 + k) half first
+
+-- the first so many bits of the mask of what is different are 0 if and only if so many elements are the same
+pub low_bits : (xs ys : List ℕ) (n : ℕ) → n ≤ length xs → n ≤ length ys → (mask_l (zip2 (λ a b. not (eqb a b)) xs ys) % 2 ^ n ≡ 0) ↔ (take n xs ≡ take n ys)
+low_bits xs ys zero l m = ((λ e. refl), (λ e. omega arith))
+low_bits [] ys (suc n) l m = absurd (omega arith)
+low_bits (x ∷ xs) [] (suc n) l m = absurd (omega arith)
+low_bits (x ∷ xs) (y ∷ ys) (suc n) l m =
+    let rest = mask_l (zip2 (λ a b. not (eqb a b)) xs ys) in
+    let more = low_bits xs ys n (omega arith) (omega arith) in
+    elim (ℕ_discrete x y) [
+      | yes e ↦ rw (eq-eqb x y e) (let next = low_bit 0 rest n (omega arith) in (
+        (λ none. ap₂ (λ h t. h ∷ t) e (more.0 (omega (arith, none, next)))),
+        (λ same. omega (arith, more.1 (ap (drop 1) same), next)),
+      ))
+      | no o ↦ rw (ne_eqb x y o) (let next = low_bit 1 rest n (omega arith) in (
+        (λ none. absurd (omega (arith, none, next))),
+        (λ same. absurd (o (ap (λ w. get_or w 0 x) same))),
+      ))
+    ]
+
+-- ranges in blocks are the same if and only if their codes are
+pub block_codes : (xs ys : List CodedSymbol) (at from n : ℕ) → n ≤ 4
+    → (take n (map (λ (s : CodedSymbol). s.code) (take 4 (drop at xs))) ≡ take n (map (λ (s : CodedSymbol). s.code) (take 4 (drop from ys)))) ↔ (take n (drop at xs) ≡ take n (drop from ys))
+block_codes xs ys at from n l = (
+  (λ e. unmapped_same (λ (s : CodedSymbol). s.code) (λ x y same. search rules) (take n (drop at xs)) (take n (drop from ys)) (sym (part (drop at xs)) ∙ e ∙ part (drop from ys))),
+  (λ e. part (drop at xs) ∙ ap (map (λ (s : CodedSymbol). s.code)) e ∙ sym (part (drop from ys))),
+)
+  where
+    part : (zs : List CodedSymbol) → take n (map (λ (s : CodedSymbol). s.code) (take 4 zs)) ≡ map (λ (s : CodedSymbol). s.code) (take n zs)
+    part zs = take-map (λ (s : CodedSymbol). s.code) n (take 4 zs) ∙ ap (map (λ (s : CodedSymbol). s.code)) (take-take n 4 zs l)

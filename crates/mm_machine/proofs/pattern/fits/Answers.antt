@@ -15,13 +15,13 @@ loop-n-init g c = record {
 pub bounds-given-slots : goal.bounds-given-slots
 bounds-given-slots g c =
     let slots = take (c.args.pattern.last - c.args.pattern.first) (drop c.args.pattern.first c.args.slots.now) in
-    let k = slot_known c.args.given.now (length c.args.all.now) (c.args.pattern.end - c.loop-n.from) slots c.loop-n.n (omega (arith, c.loop-n-test.true)) c.loop-n.invariant.slots in
+    let k = slot_known c.args.given.now (length c.args.all.now - 4) (c.args.pattern.end - c.loop-n.from) slots c.loop-n.n (omega (arith, c.loop-n-test.true)) c.loop-n.invariant.slots in
     slice_get_within c.args.given.now (slot_at slots c.loop-n.n).variable (given_at c.args.given.now slots c.loop-n.n) k.0.0
 
 pub overflow_sub-count : goal.overflow_sub-count
 overflow_sub-count g c =
     let slots = take (c.args.pattern.last - c.args.pattern.first) (drop c.args.pattern.first c.args.slots.now) in
-    let k = slot_known c.args.given.now (length c.args.all.now) (c.args.pattern.end - c.loop-n.from) slots c.loop-n.n (omega (arith, c.loop-n-test.true)) c.loop-n.invariant.slots in
+    let k = slot_known c.args.given.now (length c.args.all.now - 4) (c.args.pattern.end - c.loop-n.from) slots c.loop-n.n (omega (arith, c.loop-n-test.true)) c.loop-n.invariant.slots in
     k.0.1.0
 
 pub returns-then-not-have_room : goal.returns-then-not-have_room
@@ -33,7 +33,7 @@ returns-then-not-have_room g c = (
       let all = map m c.args.all.now in
       let slots = take (c.args.pattern.last - c.args.pattern.first) (drop c.args.pattern.first c.args.slots.now) in
       absurd (false≢true (sym c.if-not-have_room.true ∙ c.have_room.ensures.1 (fits_room all c.args.given.now c.args.entry
-      (pattern_filled all c.args.given.now c.args.slots.now c.args.pattern) (length c.args.all.now) c.loop-n.at c.loop-n.from c.args.pattern.end (omega (arith, length-map c.args.all.now m))
+      (pattern_filled all c.args.given.now c.args.slots.now c.args.pattern) (length c.args.all.now - 4) c.loop-n.at c.loop-n.from c.args.pattern.end (omega (arith, length-map c.args.all.now m, c.requires.room))
       c.requires.fillable.within is.within slots c.loop-n.n (omega (arith, c.loop-n-test.true)) is.slots is.fitting is_whole))),
 )
 
@@ -46,14 +46,14 @@ returns-then-not-are_same g c = (
       let all = map m c.args.all.now in
       let slots = take (c.args.pattern.last - c.args.pattern.first) (drop c.args.pattern.first c.args.slots.now) in
       absurd (false≢true (sym c.if-not-are_same.true ∙ c.are_same.ensures.1 (fits_constants all c.args.given.now c.args.entry
-      (pattern_filled all c.args.given.now c.args.slots.now c.args.pattern) (length c.args.all.now) c.loop-n.at c.loop-n.from c.args.pattern.end (omega (arith, length-map c.args.all.now m))
+      (pattern_filled all c.args.given.now c.args.slots.now c.args.pattern) (length c.args.all.now - 4) c.loop-n.at c.loop-n.from c.args.pattern.end (omega (arith, length-map c.args.all.now m, c.requires.room))
       c.requires.fillable.within is.within slots c.loop-n.n (omega (arith, c.loop-n-test.true)) is.slots is.fitting is_whole))),
 )
 
 pub are_same-requires-in-loop-n-clause-other : goal.are_same-requires-in-loop-n-clause-other
 are_same-requires-in-loop-n-clause-other g c =
     let slots = take (c.args.pattern.last - c.args.pattern.first) (drop c.args.pattern.first c.args.slots.now) in
-    let k = slot_known c.args.given.now (length c.args.all.now) (c.args.pattern.end - c.loop-n.from) slots c.loop-n.n (omega (arith, c.loop-n-test.true)) c.loop-n.invariant.slots in
+    let k = slot_known c.args.given.now (length c.args.all.now - 4) (c.args.pattern.end - c.loop-n.from) slots c.loop-n.n (omega (arith, c.loop-n-test.true)) c.loop-n.invariant.slots in
     omega (arith, k.0.1.0, k.0.1.1)
 
 pub returns-then-not-are_same-2 : goal.returns-then-not-are_same-2
@@ -65,7 +65,7 @@ returns-then-not-are_same-2 g c = (
       let all = map m c.args.all.now in
       let slots = take (c.args.pattern.last - c.args.pattern.first) (drop c.args.pattern.first c.args.slots.now) in
       absurd (false≢true (sym c.if-not-are_same-2.true ∙ c.are_same-in-loop-n.ensures.1 (fits_given all c.args.given.now c.args.entry
-      (pattern_filled all c.args.given.now c.args.slots.now c.args.pattern) (length c.args.all.now) c.loop-n.at c.loop-n.from c.args.pattern.end (omega (arith, length-map c.args.all.now m))
+      (pattern_filled all c.args.given.now c.args.slots.now c.args.pattern) (length c.args.all.now - 4) c.loop-n.at c.loop-n.from c.args.pattern.end (omega (arith, length-map c.args.all.now m, c.requires.room))
       c.requires.fillable.within is.within slots c.loop-n.n (omega (arith, c.loop-n-test.true)) is.slots is.fitting is_whole))),
 )
 
@@ -77,14 +77,14 @@ loop-n-preserved g c =
     let slots = take (c.args.pattern.last - c.args.pattern.first) (drop c.args.pattern.first c.args.slots.now) in
     let n = c.loop-n.n in
     let some : n < length slots = omega (arith, c.loop-n-test.true) in
-    let k = slot_known c.args.given.now (length c.args.all.now) (c.args.pattern.end - c.loop-n.from) slots n some is.slots in
+    let k = slot_known c.args.given.now (length c.args.all.now - 4) (c.args.pattern.end - c.loop-n.from) slots n some is.slots in
     let room = c.have_room.ensures.0 c.if-not-have_room.false in
     record {
       within = omega (arith, room, is.within);
       from = omega (arith, k.1);
-      slots = subst (λ size. AreSlotsWithin c.args.given.now (length c.args.all.now) size (drop (n + 1) slots)) (omega arith) k.2;
-      fitting = fitting_more all c.args.given.now c.args.entry (pattern_filled all c.args.given.now c.args.slots.now c.args.pattern) (length c.args.all.now) c.loop-n.at c.loop-n.from
-          c.args.pattern.end (omega (arith, length-map c.args.all.now m)) c.requires.fillable.within is.within slots n some is.slots is.fitting room
+      slots = subst (λ size. AreSlotsWithin c.args.given.now (length c.args.all.now - 4) size (drop (n + 1) slots)) (omega arith) k.2;
+      fitting = fitting_more all c.args.given.now c.args.entry (pattern_filled all c.args.given.now c.args.slots.now c.args.pattern) (length c.args.all.now - 4) c.loop-n.at c.loop-n.from
+          c.args.pattern.end (omega (arith, length-map c.args.all.now m, c.requires.room)) c.requires.fillable.within is.within slots n some is.slots is.fitting room
           (c.are_same.ensures.0 c.if-not-are_same.false) (c.are_same-in-loop-n.ensures.0 c.if-not-are_same-2.false);
     }
 

@@ -10,12 +10,3 @@ invariant-loop-n l = record {
 
 abbrev pub decreases-loop-n : goal.decreases-loop-n
 decreases-loop-n l = l.len - l.n
-
-abbrev pub invariant-loop-n-2 : goal.invariant-loop-n-2
-invariant-loop-n-2 l = record {
-  within : l.n ≤ l.len;
-  so_far : take l.n (drop l.at (map by_code l.one)) ≡ take l.n (drop l.from (map by_code l.other));
-}
-
-abbrev pub decreases-loop-n-2 : goal.decreases-loop-n-2
-decreases-loop-n-2 l = l.len - l.n

@@ -68,10 +68,10 @@ citing_fault-requires-clause-taken g c =
     let p = place g d in
     let es = rest c.deref-2.result.now self.stack.items p c.deref-2.ensures.value in
     record {
-      within = subst (λ xs. All (IsEntryWithin (length xs)) (take (length c.deref-2.result.now - p) (drop p c.deref-2.result.now))) (sym c.deref.ensures.value)
-          (subst (All (IsEntryWithin (length self.symbols.items))) (sym es) (λ k e o. let w = taken_within self.top self.stack.items p c.requires.whole.0.within k e o in (w.0, omega (arith, w.1, c.requires.whole.1))));
+      within = subst (λ xs. All (IsEntryWithin (length xs - 4)) (take (length c.deref-2.result.now - p) (drop p c.deref-2.result.now))) (sym c.deref.ensures.value)
+          (subst (All (IsEntryWithin (length self.symbols.items - 4))) (sym es) (λ k e o. let w = taken_within self.top self.stack.items p c.requires.whole.0.within k e o in (w.0, omega (arith, w.1, c.requires.whole.1))));
       count = omega (arith, ap length es, length-drop p self.stack.items, some g d);
-      below = omega (arith, ap length c.deref.ensures.value, holds.below);
+      below = omega (arith, ap length c.deref.ensures.value, c.requires.whole);
       patterns = subst (λ xs. All (IsPattern l.ground (map m xs) (map m l.variables.all.items) l.slots.items) l.patterns.items) (sym c.deref.ensures.value) holds.patterns;
       numbered = holds.numbered;
       cited = subst (λ xs. IsCited g.S.Listed.Symbol.means (map (lasting_at (map m xs)) l.patterns.items) c.args.cited.now) (sym c.deref.ensures.value) c.requires.cited;
@@ -122,7 +122,7 @@ are_taken g c some =
     record {
       within = λ k e o. let w = taken_within self.top self.stack.items p c.requires.whole.0.within k e o in (w.0, omega (arith, w.1, c.requires.whole.1));
       count = omega (arith, length-drop p self.stack.items, some);
-      below = holds.below;
+      below = omega (arith, c.requires.whole);
       patterns = holds.patterns;
       numbered = holds.numbered;
       cited = c.requires.cited;
