@@ -117,6 +117,9 @@ pub fn citing_fault<'s, 'c, 'a, S: Kept>(
     if !essentials_fit(&*taken, &*given, first) {
         return Ok(Some(ProofNumber::P09));
     }
+    if taken.cited.pairs.is_empty() {
+        return Ok(None);
+    }
     let found = pairs_fault(alloc, &*taken, &*given, &*active, &mut *room)?;
     Ok(found)
 }

@@ -7,7 +7,7 @@ use crate::symbol::{CodedSymbol, NamedSymbol, NumberedSymbol, Symbol};
 use std::alloc::{AllocError, Global};
 use std::simd::u32x4;
 
-/// Symbols are copied and compared in blocks of this many, the last block over the end of what is asked for.
+/// Symbols are copied and compared in blocks of this many; the last block of a copy goes over the end of what is asked for.
 pub const BLOCK: usize = 4;
 
 /// A symbol that the machine keeps in its list.

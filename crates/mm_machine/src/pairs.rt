@@ -114,9 +114,10 @@ fn find_slots<'s, 'c, S: Kept>(
     Ok(())
 }
 
-/// What is wrong with mandatory pairs: the lower number of those that hold. Most citations have none, and do not come here.
+/// What is wrong with the mandatory pairs of an assertion: the lower number of those that hold. Most citations have no pairs,
+/// and do not come here.
 #[inline(never)]
-fn some_pairs_fault<'s, 'c, 'a, S: Kept>(
+pub fn pairs_fault<'s, 'c, 'a, S: Kept>(
     alloc: Global,
     taken: &Taken<'s, 'c, S, S::Listed>,
     given: &[Given],
@@ -147,28 +148,4 @@ fn some_pairs_fault<'s, 'c, 'a, S: Kept>(
         return Ok(Some(ProofNumber::P10));
     }
     Ok(Some(ProofNumber::P11))
-}
-
-/// What is wrong with the mandatory pairs of an assertion: the lower number of those that hold.
-#[inline(always)]
-pub fn pairs_fault<'s, 'c, 'a, S: Kept>(
-    alloc: Global,
-    taken: &Taken<'s, 'c, S, S::Listed>,
-    given: &[Given],
-    active: &Active<'a, S>,
-    room: &mut PairRoom<S>,
-) -> Result<Option<ProofNumber>, AllocError>
-    requires taken { AreTaken S.means S.Listed.means S.key_of taken.now }
-    requires given { AllGive S.means S.Listed.means taken.now given.now }
-    requires room { IsPairRoom S.means S.key_of (meant_pairs S.Listed.means active.now.pairs.now) room.old }
-    ensures room { OnOk result (IsPairRoom S.means S.key_of (meant_pairs S.Listed.means active.now.pairs.now) room.new) }
-    ensures says { IfOk result (λ found. (gives : Meaning → List Meaning)
-        → GivesEntries gives (frame_taking S.means S.Listed.means taken.now).hypotheses (entries_of S.means taken.now)
-        → PairsSay (meant_pairs S.Listed.means active.now.pairs.now) gives (frame_taking S.means S.Listed.means taken.now).pairs found) }
-{
-    if taken.cited.pairs.is_empty() {
-        return Ok(None);
-    }
-    let found = some_pairs_fault(alloc, &*taken, given, &*active, &mut *room)?;
-    Ok(found)
 }

@@ -56,6 +56,8 @@ impl<S: Kept> Variables<S> {
     }
 
     /// The number of a symbol, if it is one of the variables: all of them are searched.
+    #[cold]
+    #[inline(never)]
     fn position(&self, symbol: &S) -> Option<usize>
         ensures { MatchOption result (Contains (map S.means self.now.all.items) (S.means symbol.now) → ⊥)
             (λ n. slice_get (map S.means self.now.all.items) n ≡ Some (S.means symbol.now)) }
@@ -93,6 +95,7 @@ impl<S: Kept> Variables<S> {
     }
 
     /// The number of a variable, which it gets if it has none yet.
+    #[inline(always)]
     pub fn number(&mut self, alloc: Global, symbol: &S) -> Result<usize, AllocError>
         requires { AreNumbered S.key_of (map S.means self.old.all.items) self.old.places.items }
         ensures numbered { OnOk result (AreNumbered S.key_of (map S.means self.new.all.items) self.new.places.items) }

@@ -1,6 +1,6 @@
 //! How words are spelled.
 
-ghost use Rattle.std.specs.{Prelude.{◌≡◌, ◌<◌, ◌≤◌, ◌↔◌, ◌+◌, ℕ, IfSome, IsTrue, Some, false, length, nat_lt, not, slice_index_or, take}, Simd.Lanes.{chunk}, List.{list_all, position, prefix_len}};
+ghost use Rattle.std.specs.{Prelude.{◌≡◌, ◌<◌, ◌≤◌, ◌↔◌, IfSome, IsTrue, Some, false, length, not, take}, List.{list_all, position, prefix_len}};
 ghost use Rattle.mm_text.specs.Language.{Run.{is_white, is_solid, ends_run}, Reading.{is_allowed}, Spelling.{opening, closing}};
 ghost use Rattle.mm_text.specs.Code.LeftToRight.{has_dollar, is_dollarless, keyword_at, word_kind, is_mark, holds_mark};
 ghost use Rattle.mm_text.specs.declared.word.WordKind.TheVariants as kinds;
@@ -8,7 +8,6 @@ ghost use Rattle.mm_text.specs.Language.Cut as pieces;
 ghost use Rattle.mm_text.specs.Language.Unit as labels;
 
 use crate::word::{Keyword, WordKind};
-use std::simd::u8x16;
 
 /// Whether a byte is a space, a tab, a carriage return, a line feed or a form feed.
 #[tactic(auto, unfolding(crate::specs::Language::Run::is_white))]
@@ -56,39 +55,6 @@ fn is_plain_byte(byte: u8) -> bool
     byte > b'$' || !(byte == b'$' || is_white_space(byte))
 }
 
-/// How many of sixteen bytes are before the first that is a `$` or below it.
-#[inline(always)]
-fn block_len(bytes: &[u8], from: usize) -> usize
-    requires { from + 16 ≤ length bytes.now }
-    ensures { result ≡ prefix_len (λ b. not (nat_lt b 37)) (chunk from 16 bytes.now) }
-{
-    let others = u8x16::from_slice(&bytes[from..])
-        .simd_lt(u8x16::splat(b'%'))
-        .to_bitmask();
-    if others == 0 {
-        16
-    } else {
-        others.trailing_zeros() as usize
-    }
-}
-
-/// How many bytes at the beginning are above `$`, as far as blocks of sixteen tell.
-#[inline(always)]
-fn above_len(bytes: &[u8]) -> usize
-    ensures within { result ≤ length bytes.now }
-    ensures above { (k : ℕ) → k < result → 36 < slice_index_or bytes.now k 0 }
-{
-    let mut n = 0;
-    while bytes.len() - n >= 16 {
-        let len = block_len(bytes, n);
-        n += len;
-        if len < 16 {
-            return n;
-        }
-    }
-    n
-}
-
 /// Where the first white space or `$` is.
 fn plain_end(bytes: &[u8]) -> Option<usize>
     ensures { result ≡ position (λ b. not (is_dollarless b)) bytes.now }
@@ -102,10 +68,9 @@ pub fn plain_run_len(bytes: &[u8]) -> usize
     ensures len { 0 < result → result ≡ prefix_len is_solid bytes.now }
     ensures plain { 0 < result → has_dollar (take result bytes.now) ≡ false }
 {
-    let above = above_len(bytes);
-    match plain_end(&bytes[above..]) {
-        Some(at) if bytes[above + at] == b'$' => 0,
-        Some(at) => above + at,
+    match plain_end(bytes) {
+        Some(at) if bytes[at] == b'$' => 0,
+        Some(at) => at,
         None => bytes.len(),
     }
 }

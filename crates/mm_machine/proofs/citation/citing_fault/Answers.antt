@@ -1,5 +1,5 @@
-use Rattle.std.proofs.Common.{List, Option, Some, None}
-use Rattle.mm_machine.specs.{Language.{Frame.{Symbol, Frame}, Typing.{IsFrame}, CodeLists.{meant_pairs}, Faults.{AnyZip}}, declared.ProofNumber.{ProofNumber}}
+use Rattle.std.proofs.{Common.{arith, sym, ◌∙◌, length, List, Option, Some, None}, lemmas.{Bool.{eqb-true}, List.{length-map}}}
+use Rattle.mm_machine.specs.{Language.{Frame.{Symbol, Frame}, Typing.{IsFrame}, CodeLists.{meant_pair, meant_pairs}, Faults.{AnyZip}}, declared.ProofNumber.{ProofNumber}}
 use Rattle.mm_machine.specs.Code.{Citation.{CitingSays, GivesEntries, OtherEssential, OtherTypecode}, PairClause.{PairsSay}, Filling.{entries_of, frame_taking}}
 use Rattle.mm_machine.proofs.lemmas.machine.CitingFaults.{says08, says09, says_pairs}
 use Rattle.mm_machine.proofs.citation.citing_fault.Goals as goal
@@ -23,6 +23,15 @@ returns-then-not-essentials_fit-clause-says g c stack l at =
     let taken = c.args.taken.now in
     says09 (meant_pairs g.S.Listed.Symbol.means c.args.active.now.pairs.now) (frame_taking g.S.Symbol.means g.S.Listed.Symbol.means taken) c.requires.taken.cited.frame
     (entries_of g.S.Symbol.means taken) stack l at c.in-Some.ensures.gives.0 c.if-not-essentials_fit.ensures
+
+pub returns-then-is_empty-clause-says : goal.returns-then-is_empty-clause-says
+returns-then-is_empty-clause-says g c =
+    let taken = c.args.taken.now in
+    let pairs = taken.cited.now.pairs.now in
+    let none = eqb-true (length pairs) 0 (sym c.is_empty.ensures ∙ c.if-is_empty.true) in
+    pairs_say (meant_pairs g.S.Listed.Symbol.means c.args.active.now.pairs.now) (frame_taking g.S.Symbol.means g.S.Listed.Symbol.means taken) c.requires.taken.cited.frame
+    (entries_of g.S.Symbol.means taken) None c.in-Some.ensures.gives.0 c.if-not-essentials_fit.ensures
+    (λ given gives k d l. absurd (omega (arith, l, none, length-map pairs (meant_pair g.S.Listed.Symbol.means))))
 
 pub returns-clause-says : goal.returns-clause-says
 returns-clause-says g c =

@@ -1,7 +1,7 @@
 use Rattle.std.proofs.Common.{◌++◌, length, map, sym, subst}
 use Rattle.mm_machine.specs.{Language.CodeLists.{meant_pairs}, declared.apart.KnownApart.{KnownApart}, Code.{Filling.{entries_of, frame_taking}, PairClause.{KnowsApart}}}
 use Rattle.mm_machine.proofs.lemmas.machine.{EntryFaults.{hypotheses_known}, PairClauseLemmas.{apart_given, shared_given, none_shared, lack_given, slots_within, knows_more}, TakenLemmas.{taken_count}}
-use Rattle.mm_machine.proofs.pairs.some_pairs_fault.Goals as goal
+use Rattle.mm_machine.proofs.pairs.pairs_fault.Goals as goal
 
 pub all_apart-requires-clause-known : goal.all_apart-requires-clause-known
 all_apart-requires-clause-known g c =
