@@ -5,6 +5,7 @@ pub mod KeptBlocks
 pub mod LastItems
 pub mod FaultInOrder
 pub mod Numbers
+pub mod Codes
 pub mod KeptNames
 pub mod KeptLabels
 pub mod KeptTables

@@ -1,13 +1,11 @@
 //! Labels with the numbers of their items, found by hash.
 
-ghost use Rattle.std.specs.Prelude.{◌≡◌, ℕ, List, true, false, None, Some, MatchOption, IfOk, OnOk, bytes_eq, if◌then◌else◌};
-ghost use Rattle.mm_frame.specs.Code.KeptLabels.{is_coded, label_code, label_number};
+ghost use Rattle.std.specs.Prelude.{◌≡◌, ℕ, List, None, Some, IfOk, OnOk, bytes_eq, if◌then◌else◌};
+ghost use Rattle.mm_frame.specs.Code.KeptLabels.{label_number};
 
+use crate::codes::code_of;
 use std::alloc::{AllocError, Global};
 use std::collections::HashMap;
-
-/// The most bytes of a label that is kept by its code.
-const MOST_SHORT: usize = 9;
 
 /// Labels, each with the number of an item.
 ///
@@ -17,27 +15,6 @@ const MOST_SHORT: usize = 9;
 pub struct LabelNumbers {
     short: HashMap<u64, usize>,
     long: HashMap<Vec<u8>, usize>,
-}
-
-/// The number whose digits to the base 128 are these bytes, the first one the lowest, with a 1 on top; none if there
-/// are more bytes than it has room for, or one is no ASCII.
-fn code_of(label: &[u8]) -> Option<u64>
-    ensures { MatchOption result (is_coded label.now ≡ false) (λ code. (is_coded label.now ≡ true) × (code ≡ label_code label.now)) }
-{
-    if label.len() > MOST_SHORT {
-        return None;
-    }
-    let mut code = 1;
-    let mut left = label.len();
-    while left > 0 {
-        left -= 1;
-        let byte = label[left];
-        if !byte.is_ascii() {
-            return None;
-        }
-        code = code * 128 + u64::from(byte);
-    }
-    Some(code)
 }
 
 impl LabelNumbers {

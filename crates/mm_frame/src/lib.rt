@@ -10,6 +10,7 @@ mod assertions;
 mod base;
 mod blocks;
 mod build;
+mod codes;
 mod copied_lists;
 mod counts;
 mod draft;

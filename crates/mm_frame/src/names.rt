@@ -1,22 +1,31 @@
 //! Names of symbols, numbered from 0 in the order in which they come.
 
-ghost use Rattle.std.specs.{Prelude.{◌≡◌, ℕ, List, [], ◌∷◌, ◌++◌, Some, false, IfOk, IsTrue, OnErr, length, slice_get, bytes_eq}, List.{list_any}};
+ghost use Rattle.std.specs.{Prelude.{◌≡◌, ℕ, List, [], ◌∷◌, ◌++◌, Some, false, IfOk, IfSome, OnErr, length, slice_get, bytes_eq}, List.{list_any}};
 ghost use Rattle.mm_machine.specs.Language.Names.{AreDistinct, Begins};
-ghost use Rattle.mm_frame.specs.Code.Numbers.{number_in};
+ghost use Rattle.mm_frame.specs.Code.{KeptNames.{IsFoundIn}, Numbers.{number_in}};
 
+use crate::codes::code_of;
 use indexmap::IndexSet;
 use std::alloc::{AllocError, Global};
 use std::marker::Model;
 
+/// A short name that was found, and its number.
+#[derive(Clone, Copy)]
+struct Found {
+    /// The code of the name; 0 if none was found.
+    code: u64,
+    number: usize,
+}
+
 /// Names, each once, numbered from 0. A name keeps its number: new ones come after the others.
 ///
-/// Few names make up most of a text. So what a look-up found is kept as a guess, which the next look-up of a name with a
-/// similar spelling compares before it looks the name up by hash.
+/// Few names make up most of a text, and they are short. So what a look-up of a short name found is kept by the number that
+/// its bytes make, and is told without a look-up by hash.
 #[derive(Drop)]
 pub struct Names {
     names: IndexSet<Vec<u8>>,
-    /// The numbers that were found last, by the spelling: none before the first name.
-    guesses: Vec<usize>,
+    /// The short names that were found last, by their codes: none before the first name.
+    found: Vec<Found>,
 }
 
 impl Model for Names {
@@ -24,37 +33,19 @@ impl Model for Names {
 
     ghost Value = { List (List ℕ) };
 
-    ghost use Rattle.mm_frame.specs.Code.KeptNames.{names_inside, AreKeptOnce};
+    ghost use Rattle.mm_frame.specs.Code.KeptNames.{names_inside, AreKept};
 
     ghost view = { names_inside };
 
-    ghost invariant = { AreKeptOnce };
+    ghost invariant = { AreKept };
 }
 
-/// How many guesses are kept.
-const GUESSES: usize = 4096;
+/// How many short names are kept that were found.
+const MOST_FOUND: usize = 4096;
 
-/// Where the guess for a name is kept: names of one or two bytes, which most are, have mostly places of their own.
-fn place_of_guess(name: &[u8]) -> usize {
-    if name.is_empty() {
-        return 0;
-    }
-    let first = usize::from(name[0]);
-    let middle = usize::from(name[name.len() / 2]);
-    let last = usize::from(name[name.len() - 1]);
-    (first + 61 * middle + 17 * last) % GUESSES
-}
-
-/// Makes places for guesses, if there are none.
-fn make_places(guesses: &mut Vec<usize>) -> Result<(), AllocError> {
-    if !guesses.is_empty() {
-        return Ok(());
-    }
-    guesses.reserve(GUESSES)?;
-    for _place in 0..GUESSES {
-        guesses.push(0)?;
-    }
-    Ok(())
+/// Where the short name with a code is kept when it is found.
+fn place_of(code: u64) -> usize {
+    code as usize % MOST_FOUND
 }
 
 impl Names {
@@ -64,7 +55,7 @@ impl Names {
     {
         Names {
             names: IndexSet::new(alloc),
-            guesses: Vec::new(alloc),
+            found: Vec::new(alloc),
         }
     }
 
@@ -91,30 +82,24 @@ impl Names {
         self.names.get_index_of(name)
     }
 
-    /// Whether the name with this number is this one.
-    fn is_name(&self, number: usize, name: &[u8]) -> bool
-        ensures { IsTrue result → slice_get self.now number ≡ Some name.now }
+    /// The number of the name with a code, if it was found last at its place.
+    fn number_by(&self, code: u64) -> Option<usize>
+        ensures { IfSome result (IsFoundIn self.now code) }
     {
-        match self.names.get_index(number) {
-            Some(known) => **known == *name,
-            None => false,
+        match self.found.get(place_of(code)) {
+            Some(found) if found.code == code => Some(found.number),
+            _ => None,
         }
     }
 
-    /// The guess that is kept at a place.
-    fn guess(&self, place: usize) -> usize {
-        match self.guesses.get(place) {
-            Some(number) => *number,
-            None => 0,
-        }
-    }
-
-    /// Keeps a guess, if there is a place for it.
-    fn keep_guess(&mut self, place: usize, number: usize)
+    /// Keeps the number of the name with a code, if there is a place for it.
+    fn keep(&mut self, code: u64, number: usize)
+        requires { IsFoundIn self.old code number }
         ensures { self.new ≡ self.old }
     {
-        if place < self.guesses.len() {
-            self.guesses[place] = number;
+        let place = place_of(code);
+        if place < self.found.len() {
+            self.found[place] = Found { code, number };
         }
     }
 
@@ -125,13 +110,14 @@ impl Names {
         ensures grows { Begins self.old self.new }
         ensures err { OnErr result (self.new ≡ self.old) }
     {
-        let place = place_of_guess(name);
-        let guess = self.guess(place);
-        if self.is_name(guess, name) {
-            return Ok(guess);
+        let Some(code) = code_of(name) else {
+            return self.find_or_add(alloc, name);
+        };
+        if let Some(number) = self.number_by(code) {
+            return Ok(number);
         }
         let number = self.find_or_add(alloc, name)?;
-        self.keep_guess(place, number);
+        self.keep(code, number);
         Ok(number)
     }
 
@@ -147,13 +133,24 @@ impl Names {
         }
     }
 
+    /// Makes places for short names that are found, if there are none.
+    fn make_places(&mut self) -> Result<(), AllocError>
+        ensures { self.new ≡ self.old }
+    {
+        if self.found.is_empty() {
+            let none = Found { code: 0, number: 0 };
+            self.found.resize(MOST_FOUND, none)?;
+        }
+        Ok(())
+    }
+
     /// Adds a new name after the others.
     fn add(&mut self, alloc: Global, name: &[u8]) -> Result<usize, AllocError>
         requires { list_any (bytes_eq name.now) self.old ≡ false }
         ensures ok { IfOk result (λ n. (n ≡ length self.old) × (self.new ≡ self.old ++ name.now ∷ [])) }
         ensures err { OnErr result (self.new ≡ self.old) }
     {
-        make_places(&mut self.guesses)?;
+        self.make_places()?;
         let number = self.names.len();
         let key = Vec::from_slice(alloc, name)?;
         self.names.insert(key)?;

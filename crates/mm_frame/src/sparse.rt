@@ -47,11 +47,7 @@ fn code_of(number: Option<usize>) -> Option<u32>
 fn number_from(code: u32) -> Option<usize>
     ensures { result ≡ number_of code }
 {
-    if code == 0 {
-        None
-    } else {
-        Some(code as usize - 1)
-    }
+    (code as usize).checked_sub(1)
 }
 
 impl Sparse {
@@ -81,10 +77,7 @@ impl Sparse {
         if item < self.narrow.len() {
             return number_from(self.narrow[item]);
         }
-        match self.wide.get(item - self.narrow.len()) {
-            Some(number) => *number,
-            None => None,
-        }
+        *self.wide.get(item - self.narrow.len())?
     }
 
     /// Whether an item has a number.

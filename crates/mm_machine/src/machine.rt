@@ -171,14 +171,12 @@ fn give_places(given: &mut Vec<Given>, count: usize) -> Result<(), AllocError>
     requires { length given.old.items ≤ count }
     ensures { OnOk result (length given.new.items ≡ count) }
 {
-    while given.len() < count {
-        given.push(Given {
-            start: 0,
-            end: 0,
-            place: 0,
-        })?;
-    }
-    Ok(())
+    let nothing = Given {
+        start: 0,
+        end: 0,
+        place: 0,
+    };
+    given.resize(count, nothing)
 }
 
 impl<S: Kept> Machine<S> {

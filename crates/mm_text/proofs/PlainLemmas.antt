@@ -1,20 +1,19 @@
 -- Runs without a `$`.
-use Rattle.std.proofs.{Common.{◌≡◌, ℕ, ◌<◌, true, false, not, eqb, List, length, take, get_or, Some, None, refl, sym, inl, inr, arith}, lemmas.Bool.{cases_Bool, false≢true, ne_eqb}}
-use Rattle.std.{proofs.lemmas.List.{Sums.{prefix_len_is}, Quantifiers.{position-Some}}, specs.List.{position, prefix_len}}
-use Rattle.mm_text.{specs.{Language.Run.{is_white, is_solid}, Code.LeftToRight.{is_dollarless, has_dollar}}, proofs.{PositionLemmas.{none_found}, SkipLemmas.{none_before}}}
+use Rattle.std.proofs.{Common.{◌≡◌, ℕ, ◌<◌, ◌≤◌, true, false, eqb, List, length, take, get_or, sym, arith}, lemmas.{Grind.{common_steps}, Bool.{cases_Bool, false≢true, ne_eqb}}}
+use Rattle.std.{proofs.lemmas.List.Sums.{prefix_len_is}, specs.List.{prefix_len}}
+use Rattle.mm_text.{specs.{Language.Run.{is_solid}, Code.LeftToRight.{is_dollarless, has_dollar}}, proofs.SkipLemmas.{none_before}}
 
--- a run that ends at the first byte that is white space or a `$`, or at the end
-solid_is : (b : ℕ) → not (is_dollarless b) ≡ false → (is_solid b ≡ true) × (¬ (eqb b 36 ≡ true))
-solid_is b e = elim (cases_Bool (is_white b)) [ inl white ↦ absurd (false≢true (sym (rw white at e))) | inr solid ↦ (rw solid refl, λ dollar. false≢true (sym (rw (solid, dollar) at e))) ]
+plain_parts : (b : ℕ) → is_dollarless b ≡ true → (is_solid b ≡ true) × (¬ (eqb b 36 ≡ true))
+plain_parts b e = grind (arith, common_steps, cases_Bool (is_solid b), cases_Bool (eqb b 36), false≢true) steps 200000
 
-pub plain_stop : (bytes : List ℕ) (at : ℕ) → position (λ b. not (is_dollarless b)) bytes ≡ Some at → ¬ (get_or bytes at 0 ≡ 36) → (at ≡ prefix_len is_solid bytes) × (has_dollar (take at bytes) ≡ false)
-plain_stop bytes at is other =
-    let found = position-Some (λ b. not (is_dollarless b)) bytes at 0 is in
-    grind (arith, found.2, prefix_len_is, solid_is, none_before, cases_Bool, false≢true, ne_eqb) steps 200000
+white_end : (b : ℕ) → is_dollarless b ≡ false → ¬ (b ≡ 36) → is_solid b ≡ false
+white_end b e other = grind (arith, common_steps, cases_Bool (is_solid b), ne_eqb b 36 other, false≢true) steps 200000
 
-pub plain_all : (bytes : List ℕ) → position (λ b. not (is_dollarless b)) bytes ≡ None → (length bytes ≡ prefix_len is_solid bytes) × (has_dollar (take (length bytes) bytes) ≡ false)
-plain_all bytes is =
-    let none : (k : ℕ) → k < length bytes → not (is_dollarless (get_or bytes k 0)) ≡ false = λ k lt. none_found (λ b. not (is_dollarless b)) bytes is k 0 lt in (
-      sym (prefix_len_is is_solid bytes (length bytes) 0 (omega arith) (λ k lt. (solid_is (get_or bytes k 0) (none k lt)).0) (λ lt. absurd (omega (arith, lt)))),
-      none_before (length bytes) bytes (omega arith) (λ k lt. (solid_is (get_or bytes k 0) (none k lt)).1),
-    )
+-- the first bytes of a text are a run without a `$`, if the byte after them is white space, or there is none
+pub plain_run : (bytes : List ℕ) (n : ℕ) → n ≤ length bytes → ((k : ℕ) → k < n → is_dollarless (get_or bytes k 0) ≡ true)
+    → (n < length bytes → (is_dollarless (get_or bytes n 0) ≡ false) × (¬ (get_or bytes n 0 ≡ 36)))
+    → (n ≡ prefix_len is_solid bytes) × (has_dollar (take n bytes) ≡ false)
+plain_run bytes n within plain end = (
+  sym (prefix_len_is is_solid bytes n 0 within (λ k lt. (plain_parts (get_or bytes k 0) (plain k lt)).0) (λ lt. let e = end lt in white_end (get_or bytes n 0) e.0 e.1)),
+  none_before n bytes within (λ k lt. (plain_parts (get_or bytes k 0) (plain k lt)).1),
+)

@@ -55,24 +55,20 @@ fn is_plain_byte(byte: u8) -> bool
     byte > b'$' || !(byte == b'$' || is_white_space(byte))
 }
 
-/// Where the first white space or `$` is.
-fn plain_end(bytes: &[u8]) -> Option<usize>
-    ensures { result ≡ position (λ b. not (is_dollarless b)) bytes.now }
-{
-    bytes.iter().position(|byte| !is_plain_byte(*byte))
-}
-
 /// The length of the run that these bytes begin with, if it has no `$`; 0 if it has one, or if there is no run.
 pub fn plain_run_len(bytes: &[u8]) -> usize
     ensures within { result ≤ length bytes.now }
     ensures len { 0 < result → result ≡ prefix_len is_solid bytes.now }
     ensures plain { 0 < result → has_dollar (take result bytes.now) ≡ false }
 {
-    match plain_end(bytes) {
-        Some(at) if bytes[at] == b'$' => 0,
-        Some(at) => at,
-        None => bytes.len(),
+    let mut n = 0;
+    while n < bytes.len() && is_plain_byte(bytes[n]) {
+        n += 1;
     }
+    if n < bytes.len() && bytes[n] == b'$' {
+        return 0;
+    }
+    n
 }
 
 /// The keyword that has this byte after its `$`, if there is one.

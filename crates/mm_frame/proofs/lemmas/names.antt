@@ -1,5 +1,6 @@
 -- Names, labels and symbols by their numbers.
 
+pub mod Codes
 pub mod ExpressionLemmas
 pub mod KnownSymbols
 pub mod LabelCodes

@@ -1,15 +1,22 @@
-use Rattle.std.proofs.Common.{sym, ◌∙◌}
-use Rattle.mm_text.proofs.PlainLemmas.{plain_stop, plain_all}
+use Rattle.std.{proofs.Common.{◌≡◌, take, false, sym, arith}, specs.List.{prefix_len}}
+use Rattle.mm_text.{specs.{Language.Run.{is_solid}, Code.LeftToRight.{has_dollar}}, proofs.PlainLemmas.{plain_run}}
+use Rattle.mm_text.proofs.spelling.plain_run_len.Goals.{Joined-else-n-bytes, else-n-bytes-via-else-n-bytes, else-n-bytes-via-then-n-bytes+else-bytes-n-eq36, else-loop-n-test}
+use Rattle.mm_text.proofs.spelling.plain_run_len.Goals.{then-loop-n-test+else-is_plain_byte}
 use Rattle.mm_text.proofs.spelling.plain_run_len.Goals as goal
 
-pub returns-in-Some-2-clause-len : goal.returns-in-Some-2-clause-len
-returns-in-Some-2-clause-len c = λ some. (plain_stop c.args.bytes.now c.in-Some.at (sym c.plain_end.ensures ∙ c.in-Some.is) c.if-bytes-at-eq36.false).0
+-- the bytes that were passed over are a run without a `$`
+is_run : (c : Joined-else-n-bytes) → (c.loop-n.n ≡ prefix_len is_solid c.args.bytes.now) × (has_dollar (take c.loop-n.n c.args.bytes.now) ≡ false)
+is_run c =
+    plain_run c.args.bytes.now c.loop-n.n c.loop-n.invariant.within c.loop-n.invariant.plain (λ more. (
+      elim c.loop-n-test.branch [ then-loop-n-test+else-is_plain_byte w ↦ sym w.if-is_plain_byte.ensures | else-loop-n-test w ↦ absurd (omega (arith, w.loop-n-test.false)) ],
+      λ dollar. elim c.else-n-bytes.branch [
+        | else-n-bytes-via-then-n-bytes+else-bytes-n-eq36 w ↦ w.if-bytes-n-eq36.false dollar
+        | else-n-bytes-via-else-n-bytes w ↦ absurd (omega (arith, w.if-n-bytes.false))
+      ],
+    ))
 
-pub returns-in-Some-2-clause-plain : goal.returns-in-Some-2-clause-plain
-returns-in-Some-2-clause-plain c = λ some. (plain_stop c.args.bytes.now c.in-Some.at (sym c.plain_end.ensures ∙ c.in-Some.is) c.if-bytes-at-eq36.false).1
+pub returns-clause-len : goal.returns-clause-len
+returns-clause-len c = λ some. (is_run c).0
 
-pub returns-in-None-clause-len : goal.returns-in-None-clause-len
-returns-in-None-clause-len c = λ some. (plain_all c.args.bytes.now (sym c.plain_end.ensures ∙ c.in-None.is)).0
-
-pub returns-in-None-clause-plain : goal.returns-in-None-clause-plain
-returns-in-None-clause-plain c = λ some. (plain_all c.args.bytes.now (sym c.plain_end.ensures ∙ c.in-None.is)).1
+pub returns-clause-plain : goal.returns-clause-plain
+returns-clause-plain c = λ some. (is_run c).1

@@ -1,5 +1,5 @@
 use Rattle.std.proofs.{Common.{arith, ◌≡◌, false, refl}, lemmas.Grind.{common_steps}}
-use Rattle.mm_frame.{specs.Code.KeptLabels.{is_coded}, proofs.lemmas.names.LabelCodes.{inserted, short_put, long_put}}
+use Rattle.mm_frame.{specs.Code.Codes.{is_coded}, proofs.lemmas.names.LabelCodes.{inserted, short_put, long_put}}
 use Rattle.mm_frame.proofs.label_numbers.LabelNumbers.insert.Goals as goal
 
 pub returns-in_ok-insert-in-Some : goal.returns-in_ok-insert-in-Some

@@ -4,4 +4,4 @@ use Rattle.mm_frame.proofs.lemmas.names.NumberLemmas.{distinct_names}
 use Rattle.mm_frame.proofs.names.Names.distinct.Goals as goal
 
 pub returns : goal.returns
-returns c = subst AreDistinct c.self.view_is (distinct_names c.self.inside.names.keys c.self.invariant)
+returns c = subst AreDistinct c.self.view_is (distinct_names c.self.inside.names.keys c.self.invariant.once)
