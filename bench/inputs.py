@@ -401,6 +401,11 @@ def edited(n, edits):
     return {"input.mm": statements(n), "script": [f"batch {len(edits)}", *edits]}
 
 
+def edits_beside_equal_pairs(n):
+    """The same file as `equal_pairs_in_blocks`, and two edits of it."""
+    return {"input.mm": equal_pairs_in_blocks(n), "script": ["insert input.mm 0 5\n${ $}", "delete input.mm 0"]}
+
+
 def insertions(n):
     """As many insertions at the front of a file as it has pieces, in one batch."""
     return edited(n, ["insert input.mm 0 5\n${ $}"] * n)

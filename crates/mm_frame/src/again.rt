@@ -23,8 +23,6 @@ pub struct KnownStatement<'a> {
     pub label: Option<&'a [u8]>,
     /// Its symbols.
     pub symbols: &'a [NumberedSymbol],
-    /// The number of the list of its symbols there.
-    pub list: Option<usize>,
 }
 
 /// Whether the item with this number in an older base is the same bytes of one piece, of the same kind.
@@ -62,7 +60,6 @@ fn known_of<'a>(old: &'a Base, i: usize, item: &Item) -> Option<KnownStatement<'
         Some(symbols) => Some(KnownStatement {
             label: old.label(i),
             symbols,
-            list: old.list_number(i),
         }),
         None => None,
     }
@@ -109,11 +106,11 @@ fn read_known<'a>(
 {
     let statement = Statement::known(alloc, files, item, known.label, known.symbols.len());
     names.distinct();
-    if draft.take_known(alloc, names, &statement, known.symbols, known.list)? {
+    if draft.take_known(alloc, names, &statement, known.symbols)? {
         return Ok(());
     }
     put_numbers(known.symbols, &mut draft.numbers)?;
-    draft.add_numbered(alloc, names, &statement, known.list)
+    draft.add_numbered(alloc, names, &statement)
 }
 
 /// An older base, and the number of the item of it that may be the next one.
@@ -149,7 +146,7 @@ fn read_again<'a>(
     let next = place_behind(old, i, item, statement.label());
     number_all(alloc, names, &statement, &mut draft.numbers)?;
     names.distinct();
-    draft.add_numbered(alloc, names, &statement, None)?;
+    draft.add_numbered(alloc, names, &statement)?;
     Ok(next)
 }
 

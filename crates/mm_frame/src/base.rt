@@ -139,11 +139,6 @@ impl Base {
         Some(symbols)
     }
 
-    /// The number of the list of the symbols of the item with this number among those of the base: equal symbols have one list.
-    pub(crate) fn list_number(&self, i: usize) -> Option<usize> {
-        self.parts.expressions.list_number(i)
-    }
-
     /// The expression of the item with this number, which is known to be a sound `$f`, `$e`, `$a` or `$p`: no look is taken
     /// whether it is.
     pub fn known_expression(&self, i: usize) -> &[NumberedSymbol]
@@ -202,7 +197,7 @@ impl Base {
 
     /// A number that sound `$p` have in common if they share their list of active pairs. Any number will do: whether they
     /// share it is asked for.
-    pub(crate) fn list_guess(&self, i: usize) -> usize {
+    pub fn list_guess(&self, i: usize) -> usize {
         self.parts.pair_numbers.at(i).unwrap_or(0)
     }
 

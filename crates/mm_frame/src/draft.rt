@@ -200,15 +200,13 @@ impl<'a> Draft<'a> {
     }
 
     /// Goes on past one more statement, which has these symbols, and this fault or none, and of which the assertions are told
-    /// already. Where they are needed, the numbers of its symbols are kept; the list with the expected number may have the
-    /// symbols.
+    /// already. Where they are needed, the numbers of its symbols are kept.
     fn follow(
         &mut self,
         alloc: Global,
         statement: &Statement<'a>,
         symbols: &[NumberedSymbol],
         fault: &Option<FrameFault>,
-        expected: Option<usize>,
     ) -> Result<(), AllocError>
         ensures follows { OnOk result ((all : List (List ℕ)) (said : List meant.Said) → IsDraftApart all said self.old
             → option_map (λ f. (f.word, f.number)) fault.now ≡ meaning.fault (sound_items said) statement.now
@@ -224,7 +222,7 @@ impl<'a> Draft<'a> {
         };
         let blocks = self.scope.blocks();
         follow_pairs(alloc, &mut self.pair_table, blocks, &self.numbers, item)?;
-        self.expressions.add(&mut self.guesses, symbols, expected)?;
+        self.expressions.add(&mut self.guesses, symbols)?;
         self.rows
             .add(statement.label(), told_fault(item.kind, fault))?;
         self.scope
@@ -235,14 +233,13 @@ impl<'a> Draft<'a> {
     }
 
     /// Adds one more statement, which has these symbols, and this fault or none. Where they are needed, the numbers of its
-    /// symbols are kept; the list with the expected number may have the symbols.
+    /// symbols are kept.
     fn add(
         &mut self,
         alloc: Global,
         statement: &Statement<'a>,
         symbols: &[NumberedSymbol],
         fault: &Option<FrameFault>,
-        expected: Option<usize>,
     ) -> Result<(), AllocError>
         ensures { OnOk result ((all : List (List ℕ)) (said : List meant.Said) → IsDraft all said self.old
             → option_map (λ f. (f.word, f.number)) fault.now ≡ meaning.fault (sound_items said) statement.now
@@ -264,17 +261,15 @@ impl<'a> Draft<'a> {
         );
         self.assertions
             .keep(alloc, &earlier, disjoints, symbols, item)?;
-        self.follow(alloc, statement, symbols, fault, expected)
+        self.follow(alloc, statement, symbols, fault)
     }
 
-    /// Adds one more statement, whose symbols have the numbers that are kept; the list with the expected number may have what
-    /// is kept of them.
+    /// Adds one more statement, whose symbols have the numbers that are kept.
     pub fn add_numbered(
         &mut self,
         alloc: Global,
         names: &Names,
         statement: &Statement<'a>,
-        expected: Option<usize>,
     ) -> Result<(), AllocError>
         requires { length self.old.numbers.items ≡ length statement.now.symbols }
         ensures { OnOk result ((all : List (List ℕ)) (said : List meant.Said) → IsDraft names.now said self.old → IsDraft all said self.old
@@ -286,20 +281,19 @@ impl<'a> Draft<'a> {
         let sound = fault.is_none();
         let mut symbols = mem::replace(&mut self.symbols, Vec::new(alloc));
         keep_symbols(tables, statement, &self.numbers, sound, &mut symbols)?;
-        self.add(alloc, statement, &symbols, &fault, expected)?;
+        self.add(alloc, statement, &symbols, &fault)?;
         self.symbols = symbols;
         Ok(())
     }
 
     /// Takes one more statement, whose symbols are known, if it is a `$e`, `$a` or `$p` that is sound with them as they are;
-    /// else nothing changes, and the answer is `false`. The list with the expected number may have these symbols.
+    /// else nothing changes, and the answer is `false`.
     pub fn take_known(
         &mut self,
         alloc: Global,
         names: &Names,
         statement: &Statement<'a>,
         symbols: &[NumberedSymbol],
-        expected: Option<usize>,
     ) -> Result<bool, AllocError>
         requires { length symbols.now ≡ length statement.now.symbols }
         ensures { IfOk result (λ taken. MatchBool taken ((all : List (List ℕ)) (said : List meant.Said) → IsDraft names.now said self.old
@@ -310,7 +304,7 @@ impl<'a> Draft<'a> {
         if !is_sound_as_known(names, &self.scope, statement, symbols) {
             return Ok(false);
         }
-        self.add(alloc, statement, symbols, &None, expected)?;
+        self.add(alloc, statement, symbols, &None)?;
         Ok(true)
     }
 
@@ -344,7 +338,7 @@ impl<'a> Draft<'a> {
         };
         let from = OldItem { base: old, number };
         self.assertions.take_over(alloc, active, from)?;
-        self.follow(alloc, statement, symbols, &None, old.list_number(number))
+        self.follow(alloc, statement, symbols, &None)
     }
 
     /// Reads one more item of the files. After out of memory there may be more names.
@@ -363,7 +357,7 @@ impl<'a> Draft<'a> {
         let statement = Statement::read(alloc, files, item)?;
         number_all(alloc, names, &statement, &mut self.numbers)?;
         names.distinct();
-        self.add_numbered(alloc, names, &statement, None)
+        self.add_numbered(alloc, names, &statement)
     }
 
     /// Reads items of the files, from the first one on.

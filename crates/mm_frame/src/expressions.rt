@@ -34,7 +34,7 @@ impl Model for Expressions {
 }
 
 /// The number of a list with these symbols. It is added, if none is found by a guess.
-fn number_guessed(
+fn number_of(
     lists: &mut SymbolLists,
     guesses: &mut ListGuesses,
     symbols: &[NumberedSymbol],
@@ -51,29 +51,6 @@ fn number_guessed(
     lists.add(symbols)?;
     guesses.keep(place, number);
     Ok(number)
-}
-
-/// The number of a list with these symbols: the number that is expected, if that list has them or is the next one; else one
-/// that is found by a guess.
-fn number_of(
-    lists: &mut SymbolLists,
-    guesses: &mut ListGuesses,
-    symbols: &[NumberedSymbol],
-    expected: Option<usize>,
-) -> Result<usize, AllocError>
-    ensures keeps { KeepsExpressions lists.old lists.new }
-    ensures there { IfOk result (λ number. slice_get lists.new number ≡ Some symbols.now) }
-{
-    if let Some(number) = expected {
-        if lists.is_at(number, symbols) {
-            return Ok(number);
-        }
-        if number == lists.count() {
-            lists.add(symbols)?;
-            return Ok(number);
-        }
-    }
-    number_guessed(lists, guesses, symbols)
 }
 
 impl Expressions {
@@ -103,22 +80,15 @@ impl Expressions {
         }
     }
 
-    /// The number of the list of the item with this number, if there is such an item.
-    pub fn list_number(&self, number: usize) -> Option<usize> {
-        self.numbers.get(number)
-    }
-
-    /// Adds the symbols of one more item, for which there may be a guess; or the list with the expected number may have them.
-    /// Out of memory changes nothing.
+    /// Adds the symbols of one more item, for which there may be a guess. Out of memory changes nothing.
     pub fn add(
         &mut self,
         guesses: &mut ListGuesses,
         symbols: &[NumberedSymbol],
-        expected: Option<usize>,
     ) -> Result<(), AllocError>
         ensures { OnOk result (self.new ≡ self.old ++ symbols.now ∷ []) }
     {
-        let number = number_of(&mut self.lists, guesses, symbols, expected)?;
+        let number = number_of(&mut self.lists, guesses, symbols)?;
         self.numbers.push(number)?;
         Ok(())
     }

@@ -2,7 +2,7 @@
 use Rattle.std.proofs.{Common.{arith, ◌≡◌, ℕ, zero, suc, true, Some, List, [], ◌∷◌, subst, slice_get}, lemmas.{Grind.{common_steps}, Bool.{false≢true, and_from, and_parts}, Option.{same_Some}}}
 use Rattle.std.specs.List.{AllZip}
 use Rattle.mm_frame.specs.{mm_store.Language.{FilesView.{FilesView}, FileFacts.{CanBeRead}}, mm_statement.Language.{Item.{Said, item_at}, Statement.{Says}}}
-use Rattle.mm_frame.specs.{Language.{Base.{BaseView, said_at, is_shown_at, is_framed_at, is_proof_at}, Answering.{IsBase}}, declared.base.Base.{Base}}
+use Rattle.mm_frame.specs.{Language.Base.{BaseView, said_at, is_shown_at, is_framed_at, is_proof_at}, declared.base.Base.{Base}}
 use Rattle.mm_verdict.specs.Language.ReadIn.{HasTheorem, IsReadIn}
 use Rattle.mm_frame.specs.mm_store.declared.item.Item as store
 

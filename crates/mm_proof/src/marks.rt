@@ -1,11 +1,12 @@
 //! What stays of an old base in a new one.
 
-ghost use Rattle.std.specs.Prelude.{◌≡◌, ◌↔◌, ◌+◌, ◌<◌, ℕ, true, Some, IfOk, IsTrue, map};
+ghost use Rattle.std.specs.Prelude.{◌≡◌, ◌↔◌, ◌+◌, ◌<◌, ℕ, true, Some, IfOk, IsTrue, OnOk, map};
 ghost use Rattle.mm_frame.specs.Language.{Base.{BaseView, hypothesis_at, is_shown_at}, Answering.{BaseAnswers, IsBase, IsBaseBy}, Resolving.{IsCarrier}};
 ghost use Rattle.mm_proof.specs.Code.InStep.{AreOrdinalsOf, HasLevel, IsStepAt, MeanOne, changed_behind};
-ghost use Rattle.mm_proof.specs.Code.KeptMarks.{OfBases, AreTheorems, SharePairs, ShareFrame, IsCompared, IsComparedOf, IsHypothesisMark, IsOneHypothesis, AreHypothesisMarks, kept_mark};
+ghost use Rattle.mm_proof.specs.Code.KeptMarks.{OfBases, AreCompared, AreTheorems, SharePairs, ShareFrame, IsCompared, IsComparedOf, IsHypothesisMark, IsOneHypothesis, AreHypothesisMarks, kept_mark};
 ghost use Rattle.mm_proof.specs.Language.BaseMarks.{AreMarks, HaveOneLabel, IsMark, KeepsLabels, mark_at};
 
+use crate::compared::{Compared, ComparedLists};
 use crate::ordinals::{Ordinals, end_alike, in_full_width, is_labelled, narrowed};
 use mm_frame::{
     Base, Names, has_own_labels, labels_mean, same_active_pairs, same_but_hypotheses,
@@ -57,15 +58,6 @@ impl Model for Marks {
     ghost view = { marks_of };
 }
 
-/// Two theorems whose active pairs were compared, the one of the old base and the other of the new, and whether they are
-/// the same.
-#[derive(Clone, Copy)]
-struct Compared {
-    i: usize,
-    j: usize,
-    same: bool,
-}
-
 /// Whether two sound `$p` share their lists of active pairs with those that were compared.
 fn shares(compared: Compared, old: &Base, i: usize, new: &Base, j: usize) -> bool
     ensures { OfBases old.now new.now (λ base copy. AreTheorems base copy compared.i compared.j → AreTheorems base copy i j → IsTrue result
@@ -74,27 +66,27 @@ fn shares(compared: Compared, old: &Base, i: usize, new: &Base, j: usize) -> boo
     old.shares_pairs(compared.i, i) && new.shares_pairs(compared.j, j)
 }
 
-/// Whether two sound `$p` have the same active pairs. Where both share their lists with those that were compared last,
-/// nothing is compared.
-fn same_pairs(old: &Base, i: usize, new: &Base, j: usize, last: Option<Compared>) -> bool
-    requires { IsCompared old.now new.now last }
+/// Whether two sound `$p` have the same active pairs. Where both share their lists with two that were compared, nothing is
+/// compared.
+fn same_pairs(old: &Base, i: usize, new: &Base, j: usize, lists: &ComparedLists) -> bool
+    requires { AreCompared old.now new.now lists.now }
     ensures { OfBases old.now new.now (λ base copy. AreTheorems base copy i j → IsTrue result ↔ SharePairs base copy i j) }
 {
-    match last {
+    match lists.of((old.list_guess(i), new.list_guess(j))) {
         Some(compared) if shares(compared, old, i, new, j) => compared.same,
         _ => same_active_pairs(old, i, new, j),
     }
 }
 
 /// Compares the active pairs of two items, if both are sound `$p`.
-fn compare(old: &Base, i: usize, new: &Base, j: usize, last: Option<Compared>) -> Option<Compared>
-    requires { IsCompared old.now new.now last }
+fn compare(old: &Base, i: usize, new: &Base, j: usize, lists: &ComparedLists) -> Option<Compared>
+    requires { AreCompared old.now new.now lists.now }
     ensures told { IsCompared old.now new.now result }
     ensures these { IsComparedOf old.now new.now i j result }
 {
     old.pairs(i)?;
     new.pairs(j)?;
-    let same = same_pairs(old, i, new, j, last);
+    let same = same_pairs(old, i, new, j, lists);
     Some(Compared { i, j, same })
 }
 
@@ -183,24 +175,24 @@ fn old_of(old: &Base, expected: usize, new: &Base, j: usize) -> Option<usize>
     find_expected(old, new.label(j)?, expected)
 }
 
-/// What stays of the item with this number, by the marks of those before it; and the two theorems that were compared
-/// last.
+/// What stays of the item with this number, by the marks of those before it; and the two theorems that were compared, if it is
+/// one of them.
 fn mark_of(
     old: &Base,
     new: &Base,
     j: usize,
-    last: Option<Compared>,
+    lists: &ComparedLists,
     expected: usize,
     marks: &[Mark],
 ) -> (Mark, Option<Compared>)
-    requires last { IsCompared old.now new.now last }
+    requires lists { AreCompared old.now new.now lists.now }
     requires marks { AreHypothesisMarks old.now new.now marks.now }
     ensures mark { OfBases old.now new.now (λ base copy. IsMark base copy j (kept_mark result.0)) }
     ensures kept { IsHypothesisMark old.now new.now j result.0 }
     ensures last { IsCompared old.now new.now result.1 }
 {
     let Some(i) = old_of(old, expected, new, j) else {
-        return (NO_MARK, last);
+        return (NO_MARK, None);
     };
     let mark = Mark {
         old: Some(narrowed(old, i)),
@@ -208,12 +200,12 @@ fn mark_of(
         hypothesis: same_hypothesis(old, i, new, j),
         ..NO_MARK
     };
-    match compare(old, i, new, j, last) {
+    match compare(old, i, new, j, lists) {
         Some(compared) => {
             let pairs = compared.same;
             (Mark { pairs, ..mark }, Some(compared))
         }
-        None => (mark, last),
+        None => (mark, None),
     }
 }
 
@@ -261,10 +253,28 @@ struct TwoBases<'a> {
     ordinals: &'a Ordinals,
 }
 
+/// Keeps two theorems that were compared, if there are two.
+fn keep(
+    lists: &mut ComparedLists,
+    old: &Base,
+    new: &Base,
+    compared: Option<Compared>,
+) -> Result<(), AllocError>
+    requires lists { AreCompared old.now new.now lists.old }
+    requires compared { IsCompared old.now new.now compared }
+    ensures { OnOk result (AreCompared old.now new.now lists.new) }
+{
+    if let Some(compared) = compared {
+        let numbers = (old.list_guess(compared.i), new.list_guess(compared.j));
+        lists.keep(numbers, compared)?;
+    }
+    Ok(())
+}
+
 /// What is known before an item of the new base is marked.
 #[derive(Clone, Copy)]
 struct Step {
-    /// The two theorems that were compared last.
+    /// The two theorems that were compared at the item before.
     last: Option<Compared>,
     /// Whether each labelled item so far has the label of the one of the old base with its ordinal, and means the same but
     /// if it is listed as changed.
@@ -289,11 +299,13 @@ fn marked(
     bases: TwoBases<'_>,
     j: usize,
     step: Step,
+    lists: &ComparedLists,
     marks: &[Mark],
     changed: &[usize],
 ) -> (Mark, Step)
     requires ordinals { AreOrdinalsOf bases.old.now bases.new.now bases.ordinals.now }
     requires step { IsStepAt bases.old.now bases.new.now changed.now j step }
+    requires lists { AreCompared bases.old.now bases.new.now lists.now }
     requires marks { AreHypothesisMarks bases.old.now bases.new.now marks.now }
     ensures mark { OfBases bases.entry.old.now bases.entry.new.now (λ base copy. IsMark base copy j (kept_mark result.0)) }
     ensures labels { IsTrue result.0.in_step
@@ -303,7 +315,7 @@ fn marked(
 {
     labels_mean(); // A law: a label is that of a sound item before, or means nothing.
     let TwoBases { old, new, ordinals } = bases;
-    let (mark, last) = mark_of(old, new, j, step.last, step.expected, marks);
+    let (mark, last) = mark_of(old, new, j, lists, step.expected, marks);
     let placed = step.in_step && keeps_place(new, j, ordinals, mark);
     let alike = placed && is_alike(old, new, j, ordinals, mark);
     let here = placed && !alike && changed.len() < MOST_CHANGED;
@@ -345,9 +357,11 @@ impl Marks {
             new,
             ordinals: &ordinals,
         };
+        let mut lists = ComparedLists::new(alloc);
         let mut step = FIRST_STEP;
         for j in 0..new.count() {
-            let (mark, next) = marked(bases, j, step, &marks, &changed);
+            let (mark, next) = marked(bases, j, step, &lists, &marks, &changed);
+            keep(&mut lists, old, new, next.last)?;
             marks.push(mark)?;
             if next.changed {
                 changed.push(j)?;

@@ -1,5 +1,5 @@
 -- What is kept of what stays of an old base in a new one.
-use Rattle.std.specs.Prelude.{◌≡◌, ◌↔◌, ◌<◌, ℕ, Bool, true, false, not, Option, Some, None, List, length, map, slice_get, bytes_eq, codes}
+use Rattle.std.specs.Prelude.{◌≡◌, ◌↔◌, ◌<◌, ℕ, Bool, true, false, not, Option, Some, None, List, length, map, slice_get, bytes_eq, codes, All}
 use Rattle.std.specs.List.{AllByRecursion}
 use Rattle.mm_frame.specs.Language.Base.{BaseView, before, said_at, is_shown_at, is_framed_at, is_proof_at, frame_at, hypothesis_at}
 use Rattle.mm_frame.specs.mm_machine.Language.Frame.{LabelMeaning, Hypothesis, Assertion, Inactive, Unknown, AreSameFrame, AreSamePairs}
@@ -12,7 +12,7 @@ use Rattle.mm_frame.specs.declared.base.Resolved.TheVariants as answers
 use Rattle.mm_verdict.specs.Language.BaseLabels.{setting_at}
 use Rattle.mm_proof.specs.Language.BaseMarks.{ItemMark, MarksView, AreMarks, IsMark, KeepsLabels, mark_at}
 use Rattle.mm_verdict.specs.Language.SameToDecode.{IsSameLabel, labels_named}
-use Rattle.mm_proof.specs.declared.marks.Compared.{Compared}
+use Rattle.mm_proof.specs.declared.compared.{Compared.{Compared}, ComparedLists.{ComparedLists}}
 use Rattle.mm_proof.specs.declared.marks.Mark as code
 use Rattle.mm_proof.specs.declared.marks.Marks.TheInside.{Inside}
 
@@ -61,6 +61,10 @@ SharePairs base copy i j = AreSamePairs (active_pairs (before base i)) (active_p
 abbrev pub IsCompared : Base → Base → Option Compared → Type 0
 IsCompared old new None = Unit {0}
 IsCompared old new (Some c) = OfBases old new (λ base copy. AreTheorems base copy c.i c.j × ((c.same ≡ true) ↔ SharePairs base copy c.i c.j))
+
+-- what is kept of theorems that were compared is right
+abbrev pub AreCompared : Base → Base → ComparedLists → Type 0
+AreCompared old new lists = All (λ (c : Compared). IsCompared old new (Some c)) lists.found.items
 
 -- what is reported of these two is right, and nothing is reported if one of them is no theorem
 abbrev pub IsComparedOf : Base → Base → ℕ → ℕ → Option Compared → Type 0

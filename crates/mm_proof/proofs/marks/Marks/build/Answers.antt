@@ -1,4 +1,4 @@
-use Rattle.std.proofs.{Common.{◌≡◌, ◌+◌, ℕ, List, [], ◌∷◌, sym, ◌∙◌, ap, subst, arith, length}, lemmas.List.{length-append, map-append}}
+use Rattle.std.proofs.{Common.{rules, ◌≡◌, ◌+◌, ℕ, List, [], ◌∷◌, sym, ◌∙◌, ap, subst, arith, length}, lemmas.List.{length-append, map-append}}
 use Rattle.mm_proof.specs.{Language.BaseMarks.{ItemMark, KeepsLabels}, Code.{InStep.{IsStepAt, changed_behind}, KeptMarks.{AreItemMarks, AreHypothesisMarks, kept_mark, kept_marks}}}
 use Rattle.mm_proof.proofs.{KeptMarkLemmas.{kept_more, marked_behind, marked_more, all_marked}, marks.Marks.build.Goals.{then-next+in_ok-push-2, else-next}}
 use Rattle.mm_proof.specs.declared.marks.Mark as code
@@ -6,6 +6,12 @@ use Rattle.mm_proof.proofs.marks.Marks.build.Goals as goal
 
 pub marked-requires-clause-marks : goal.marked-requires-clause-marks
 marked-requires-clause-marks c = subst (AreHypothesisMarks c.args.old.now c.args.new.now) (sym c.deref.ensures.value) c.loop-j.invariant.kept
+
+pub marked-requires-clause-lists : goal.marked-requires-clause-lists
+marked-requires-clause-lists c = c.loop-j.invariant.lists
+
+pub keep-requires-clause-lists : goal.keep-requires-clause-lists
+keep-requires-clause-lists c = c.loop-j.invariant.lists
 
 -- what is listed as changed after the item
 told_behind : (c : goal.Joined-next) → c.if-next.changed.items ≡ changed_behind c.loop-j.changed.items c.loop-j.j c.marked.result.1.changed
@@ -16,6 +22,7 @@ told_behind c = elim c.if-next.branch [
 
 pub loop-j-preserved : goal.loop-j-preserved
 loop-j-preserved c = record {
+  lists = c.in_ok-keep.ensures;
   step = subst (λ (changed : List ℕ). IsStepAt c.args.old.now c.args.new.now changed (c.loop-j.j + 1) c.marked.result.1)
       (ap (λ (changed : List ℕ). changed_behind changed c.loop-j.j c.marked.result.1.changed) c.deref-in-loop-j.ensures.value ∙ sym (told_behind c)) c.marked.ensures.step;
   count = ap length c.in_ok-push.ensures.items ∙ length-append c.loop-j.marks.items (c.marked.result.0 ∷ []) ∙ ap (λ k. k + 1) c.loop-j.invariant.count;
@@ -40,3 +47,12 @@ returns c base copy f g =
     let count = c.count-j-end.ensures.count copy (c.args.names.now, g) in
     let all : c.loop-j.j ≡ length copy = omega (arith, count, c.loop-j.auto.j-end, c.loop-j-test.false) in
     all_marked base copy c.loop-j.j (record { items = kept_marks c.loop-j.marks.items; changed = c.loop-j.changed.items }) (c.loop-j.invariant.marks c.args.names.now base copy f g) all
+
+pub loop-j-init : goal.loop-j-init
+loop-j-init c = record {
+  lists = c.new-lists.ensures c.args.old.now c.args.new.now;
+  step = (search rules);
+  count = (search rules);
+  kept = (search rules);
+  marks = (search rules);
+}

@@ -1,9 +1,10 @@
 use Rattle.std.proofs.Common.{◌≡◌, length}
-use Rattle.mm_proof.specs.Code.{InStep.{IsStepAt}, KeptMarks.{OfBases, AreItemMarks, AreHypothesisMarks, kept_marks}}
+use Rattle.mm_proof.specs.Code.{InStep.{IsStepAt}, KeptMarks.{AreCompared, OfBases, AreItemMarks, AreHypothesisMarks, kept_marks}}
 use Rattle.mm_proof.proofs.marks.Marks.build.Given as goal
 
 abbrev pub invariant-loop-j : goal.invariant-loop-j
 invariant-loop-j l = record {
+  lists : AreCompared l.old l.new l.lists;
   step : IsStepAt l.old l.new l.changed.items l.j l.step;
   count : length l.marks.items ≡ l.j;
   kept : AreHypothesisMarks l.old l.new l.marks.items;
