@@ -406,6 +406,13 @@ def edits_beside_equal_pairs(n):
     return {"input.mm": equal_pairs_in_blocks(n), "script": ["insert input.mm 0 5\n${ $}", "delete input.mm 0"]}
 
 
+def edits_beside_equal_frames(n):
+    """A `$d` and an `$e` of so many variables, and as many axioms with one frame; and two edits."""
+    names, lines = variables(n)
+    lines += [f"$d {' '.join(names)} $.", f"e0 $e |- {' '.join(names)} $.", *(f"a{k} $a |- x0 $." for k in range(n))]
+    return {"input.mm": lines, "script": ["insert input.mm 0 5\n${ $}", "delete input.mm 0"]}
+
+
 def insertions(n):
     """As many insertions at the front of a file as it has pieces, in one batch."""
     return edited(n, ["insert input.mm 0 5\n${ $}"] * n)
