@@ -1,11 +1,12 @@
 //! What the items of files mean, from a top file on.
 
-ghost use Rattle.std.specs.{Prelude.{All, true, false, ◌≡◌, ◌<◌, ◌≤◌, ◌↔◌, ◌&&◌, is_some, Some, None, List, length, ℕ, IfSome, IsTrue, slice_get}, Option.{option_map}};
+ghost use Rattle.std.specs.{Prelude.{All, true, false, ◌≡◌, ◌<◌, ◌≤◌, ◌↔◌, ◌&&◌, is_some, Some, None, List, length, ℕ, IfSome, slice_get}, Option.{option_map}};
 ghost use Rattle.mm_statement.specs.Language.{Item.{is_labelled}, Statement.{kind_of}};
 ghost use Rattle.mm_machine.specs.Language.{Frame.{AreSamePairs}, NumberedSymbols.{symbols_of, kept_pairs, AreInOrder, IsNumbered, IsPairNumbered, ArePairsRead}};
 ghost use Rattle.mm_frame.specs.Language.Framing.{active_pairs, expression, mandatory_numbers, resolve};
-ghost use Rattle.mm_frame.specs.Language.Base.{BaseView, AreHypotheses, before, said_at, fault_at, expression_at, frame_at, is_proof_at, is_framed_at, is_shown_at, is_sound_at};
-ghost use Rattle.mm_frame.specs.{Language.{Answering.{IsBase, IsBaseBy, pairs_in_order}, Resolving.{IsCarrier, IsMeaning, IsUpTo, Resolves}}, Code.{KeptSymbols.{expression_kept}, KeptBase.{hypotheses_at}}};
+ghost use Rattle.mm_frame.specs.Language.Base.{BaseView, AreHypotheses, ShareMandatory, before, said_at, fault_at, expression_at, frame_at, is_proof_at, is_framed_at, is_shown_at, is_sound_at};
+ghost use Rattle.mm_frame.specs.{Language.{Answering.{HasNumber, IsBase, IsBaseBy, pairs_in_order}, Resolving.{IsCarrier, IsMeaning, IsUpTo, Resolves}}, Code.KeptSymbols.{expression_kept}};
+ghost use Rattle.mm_frame.specs.Code.KeptBase.{hypotheses_at};
 ghost use Rattle.mm_statement.specs.Language.Item as meant;
 ghost use Rattle.mm_frame.specs.declared.base.Resolved.TheVariants as answers;
 
@@ -176,7 +177,7 @@ impl Base {
     fn is_framed(&self, i: usize) -> bool
         ensures { (base : BaseView) → IsBase base self.now → result ≡ is_framed_at base i }
     {
-        self.parts.frames.has(i)
+        self.frame_number(i).is_some()
     }
 
     /// All active pairs at the item with this number, if it is a sound `$p`: its own and those of its scope,
@@ -195,19 +196,27 @@ impl Base {
         }
     }
 
-    /// A number that sound `$p` have in common if they share their list of active pairs. Any number will do: whether they
-    /// share it is asked for.
-    pub fn list_guess(&self, i: usize) -> usize {
-        self.parts.pair_numbers.at(i).unwrap_or(0)
+    /// The number of the frame of the item with this number, if it is a sound `$a` or `$p`. Those that have one number have the
+    /// same mandatory hypotheses and pairs; others may have the same, too.
+    pub fn frame_number(&self, i: usize) -> Option<usize>
+        ensures some { (base : BaseView) → IsBase base self.now → is_some result ≡ is_framed_at base i }
+        ensures number { IfSome result (HasNumber self.now.frame_numbers i) }
+        ensures same { (base : BaseView) → IsBase base self.now
+            → IfSome result (λ number. (j : ℕ) → HasNumber self.now.frame_numbers j number → ShareMandatory base base i j) }
+    {
+        self.parts.frames.place(i)
     }
 
-    /// Whether two sound `$p` share their list of active pairs, as neighbours often do. Where they do not, they may still
-    /// have the same pairs.
-    pub fn shares_pairs(&self, i: usize, j: usize) -> bool
-        ensures { (base : BaseView) → IsBase base self.now → is_proof_at base i ≡ true → is_proof_at base j ≡ true
-            → IsTrue result → AreSamePairs (active_pairs (before base i)) (active_pairs (before base j)) }
+    /// The number of the list of active pairs of the item with this number, if it is a sound `$p`. Those that have one number
+    /// have the same active pairs; others may have the same, too.
+    pub fn list_number(&self, i: usize) -> Option<usize>
+        ensures some { (base : BaseView) → IsBase base self.now → is_some result ≡ is_proof_at base i }
+        ensures number { IfSome result (HasNumber self.now.list_numbers i) }
+        ensures same { (base : BaseView) → IsBase base self.now
+            → IfSome result (λ number. (j : ℕ) → HasNumber self.now.list_numbers j number
+            → AreSamePairs (active_pairs (before base i)) (active_pairs (before base j))) }
     {
-        self.parts.pair_numbers.at(i) == self.parts.pair_numbers.at(j)
+        self.parts.pair_numbers.at(i)
     }
 
     /// The number of the sound item that has a label, if one has it, active or not.

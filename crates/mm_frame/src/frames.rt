@@ -1,7 +1,7 @@
 //! The frames of assertions, of which equal ones are one.
 
 ghost use Rattle.std.specs.Prelude.{◌≡◌, [], None, IfOk, IfSome, IsTrue, OnOk, MatchBool};
-ghost use Rattle.mm_frame.specs.Code.KeptFrames.{AddsEqual, AddsFrame, AddsSame, IsEqualAt, IsFrameAt, KeepsEqual};
+ghost use Rattle.mm_frame.specs.Code.KeptFrames.{AddsEqual, AddsFrame, AddsSame, IsEqualAt, IsFrameAt, KeepsEqual, frames_kept};
 
 use crate::frame::Frame;
 use crate::guesses::ListGuesses;
@@ -42,7 +42,7 @@ fn are_equal(one: &Frame, other: &Frame) -> bool
 impl Frames {
     /// No items, with room for this many.
     pub fn with_room(alloc: Global, count: usize) -> Result<Frames, AllocError>
-        ensures { IfOk result (λ frames. (frames.kept ≡ []) × (frames.reaches ≡ [])) }
+        ensures { IfOk result (λ frames. (frames_kept frames ≡ []) × (frames.reaches ≡ [])) }
     {
         let kept = Shared::with_room(alloc, count)?;
         let reaches = Sparse::with_room(alloc, count)?;
@@ -111,7 +111,7 @@ impl Frames {
 
     /// Keeps a frame equal to this one for one more item: that of an earlier item, if one is found.
     fn keep(&mut self, frame: Frame) -> Result<(), AllocError>
-        ensures kept { OnOk result (KeepsEqual self.old.kept self.new.kept frame) }
+        ensures kept { OnOk result (KeepsEqual (frames_kept self.old) (frames_kept self.new) frame) }
         ensures reaches { self.new.reaches ≡ self.old.reaches }
     {
         if let Some(number) = self.find_equal(&frame) {

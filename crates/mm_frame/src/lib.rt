@@ -69,7 +69,8 @@ pub use mm_store::{
 };
 pub use names::Names;
 pub use same::{
-    same_active_pairs, same_but_hypotheses, same_but_pairs, same_expression, same_frame,
+    same_active_pairs, same_but_pairs, same_expression, same_frame, same_mandatory_hypotheses,
+    same_mandatory_pairs,
 };
 
 /// The number of a fault of a statement, or of a missing inclusion.

@@ -45,6 +45,33 @@ fn same_hypotheses(one: &Base, mine: &[usize], other: &Base, yours: &[usize]) ->
     true
 }
 
+/// Whether two sound `$a` or `$p` of bases over the same names have the same mandatory hypotheses, in the same order. It
+/// takes no memory, and time linear in the hypotheses.
+pub fn same_mandatory_hypotheses(one: &Base, i: usize, other: &Base, j: usize) -> bool
+    ensures { (names : List (List ℕ)) (base copy : BaseView) → IsBaseBy names base one.now → IsBaseBy names copy other.now
+        → is_framed_at base i ≡ true → is_framed_at copy j ≡ true → IsTrue result ↔ ((frame_at base i).hypotheses ≡ (frame_at copy j).hypotheses) }
+{
+    match (one.frame(i), other.frame(j)) {
+        (Some(mine), Some(yours)) => {
+            same_hypotheses(one, &mine.hypotheses, other, &yours.hypotheses)
+        }
+        _ => false,
+    }
+}
+
+/// Whether two sound `$a` or `$p` of bases over the same names, which are known to have the same mandatory hypotheses, have the
+/// same mandatory pairs, whatever `$d` they are in. It takes no memory, and time linear in the pairs.
+pub fn same_mandatory_pairs(one: &Base, i: usize, other: &Base, j: usize) -> bool
+    ensures { (names : List (List ℕ)) (base copy : BaseView) → IsBaseBy names base one.now → IsBaseBy names copy other.now
+        → is_framed_at base i ≡ true → is_framed_at copy j ≡ true → (frame_at base i).hypotheses ≡ (frame_at copy j).hypotheses
+        → IsTrue result ↔ AreSamePairs (frame_at base i).pairs (frame_at copy j).pairs }
+{
+    match (one.kept_frame(i), other.kept_frame(j)) {
+        (Some(mine), Some(yours)) => same_pairs(&mine.pairs, &yours.pairs),
+        _ => false,
+    }
+}
+
 /// Whether two sound `$a` or `$p` of bases over the same names have the same expression and the same mandatory hypotheses,
 /// in the same order. It takes no memory.
 pub fn same_but_pairs(one: &Base, i: usize, other: &Base, j: usize) -> bool
@@ -52,13 +79,7 @@ pub fn same_but_pairs(one: &Base, i: usize, other: &Base, j: usize) -> bool
         → is_framed_at base i ≡ true → is_framed_at copy j ≡ true
         → IsTrue result ↔ (((frame_at base i).expression ≡ (frame_at copy j).expression) × ((frame_at base i).hypotheses ≡ (frame_at copy j).hypotheses)) }
 {
-    match (one.frame(i), other.frame(j)) {
-        (Some(mine), Some(yours)) => {
-            same_expression(one, i, other, j)
-                && same_hypotheses(one, &mine.hypotheses, other, &yours.hypotheses)
-        }
-        _ => false,
-    }
+    same_expression(one, i, other, j) && same_mandatory_hypotheses(one, i, other, j)
 }
 
 /// Whether two sound `$a` or `$p` of bases over the same names have the same frame: the same expression, the same
@@ -68,27 +89,7 @@ pub fn same_frame(names: &Names, one: &Base, i: usize, other: &Base, j: usize) -
     ensures { (base copy : BaseView) → IsBaseBy names.now base one.now → IsBaseBy names.now copy other.now → is_framed_at base i ≡ true
         → is_framed_at copy j ≡ true → IsTrue result ↔ AreSameFrame (frame_at base i) (frame_at copy j) }
 {
-    match (one.kept_frame(i), other.kept_frame(j)) {
-        (Some(mine), Some(yours)) => {
-            same_but_pairs(one, i, other, j) && same_pairs(&mine.pairs, &yours.pairs)
-        }
-        _ => false,
-    }
-}
-
-/// Whether two sound `$a` or `$p` of bases over the same names, which are known to have the same mandatory hypotheses, have the
-/// same frame. No hypothesis is looked at. It takes no memory, and time linear in the two expressions and the pairs.
-pub fn same_but_hypotheses(one: &Base, i: usize, other: &Base, j: usize) -> bool
-    ensures { (names : List (List ℕ)) (base copy : BaseView) → IsBaseBy names base one.now → IsBaseBy names copy other.now
-        → is_framed_at base i ≡ true → is_framed_at copy j ≡ true → (frame_at base i).hypotheses ≡ (frame_at copy j).hypotheses
-        → IsTrue result ↔ AreSameFrame (frame_at base i) (frame_at copy j) }
-{
-    match (one.kept_frame(i), other.kept_frame(j)) {
-        (Some(mine), Some(yours)) => {
-            same_expression(one, i, other, j) && same_pairs(&mine.pairs, &yours.pairs)
-        }
-        _ => false,
-    }
+    same_but_pairs(one, i, other, j) && same_mandatory_pairs(one, i, other, j)
 }
 
 /// Whether a list has a pair, in this order. Lists are sorted, so a search finds it; if it does not, each is compared.

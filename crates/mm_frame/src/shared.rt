@@ -1,7 +1,7 @@
 //! What some items have, and others do not, where several items can have the same.
 
 ghost use Rattle.std.specs.{Prelude.{◌≡◌, ◌∷◌, ◌++◌, [], Some, None, IfOk, OnOk, is_some, length, slice_get}, Option.{option_map}};
-ghost use Rattle.mm_frame.specs.Code.KeptSparse.{value_kept};
+ghost use Rattle.mm_frame.specs.Code.{KeptShared.{shared_values}, KeptSparse.{value_kept}};
 
 use crate::sparse::Sparse;
 use std::alloc::{AllocError, Global};
@@ -25,9 +25,9 @@ pub struct Shared<T> {
 }
 
 impl<T> Model for Shared<T> {
-    ghost use Rattle.std.specs.Prelude.{List, Option};
+    ghost use Rattle.mm_frame.specs.Code.KeptShared.{SharedView};
 
-    ghost Value = { List (Option T) };
+    ghost Value = { SharedView T };
 
     ghost use Rattle.mm_frame.specs.Code.KeptShared.{shared_inside, ArePlacesWithin};
 
@@ -39,7 +39,7 @@ impl<T> Model for Shared<T> {
 impl<T: Drop> Shared<T> {
     /// No items, with room for this many, of which some have a value.
     pub fn with_room(alloc: Global, count: usize) -> Result<Shared<T>, AllocError>
-        ensures { IfOk result (λ shared. shared ≡ []) }
+        ensures { IfOk result (λ shared. shared_values shared ≡ []) }
     {
         let places = Sparse::with_room(alloc, count)?;
         Ok(Shared {
@@ -50,29 +50,30 @@ impl<T: Drop> Shared<T> {
 
     /// How many items there are.
     pub fn count(&self) -> usize
-        ensures { result ≡ length self.now }
+        ensures { result ≡ length self.now.places }
     {
         self.places.count()
     }
 
     /// The value of the item with this number, if it has one.
     pub fn at(&self, number: usize) -> Option<&T>
-        ensures { option_map (λ value. value.now) result ≡ value_kept self.now number }
+        ensures { option_map (λ value. value.now) result ≡ value_kept (shared_values self.now) number }
     {
         let place = self.places.at(number)?;
         element_at(&self.values, place)
     }
 
-    /// Whether the item with this number has a value. No value is looked at.
-    pub fn has(&self, number: usize) -> bool
-        ensures { result ≡ is_some (value_kept self.now number) }
+    /// Where the value of the item with this number is, if it has one. No value is looked at.
+    pub fn place(&self, number: usize) -> Option<usize>
+        ensures place { result ≡ value_kept self.now.places number }
+        ensures some { is_some result ≡ is_some (value_kept (shared_values self.now) number) }
     {
-        self.places.has(number)
+        self.places.at(number)
     }
 
     /// Adds one more item, which has this value.
     pub fn add(&mut self, value: T) -> Result<(), AllocError>
-        ensures { OnOk result (self.new ≡ self.old ++ Some value ∷ []) }
+        ensures { OnOk result (shared_values self.new ≡ shared_values self.old ++ Some value ∷ []) }
     {
         let place = self.values.len();
         self.values.push(value)?;
@@ -81,7 +82,7 @@ impl<T: Drop> Shared<T> {
 
     /// Adds one more item, which has what the one with this number has. Out of memory changes nothing.
     pub fn add_again(&mut self, number: usize) -> Result<(), AllocError>
-        ensures { OnOk result (self.new ≡ self.old ++ value_kept self.old number ∷ []) }
+        ensures { OnOk result (shared_values self.new ≡ shared_values self.old ++ value_kept (shared_values self.old) number ∷ []) }
     {
         let place = self.places.at(number);
         self.places.add(place)
@@ -89,7 +90,7 @@ impl<T: Drop> Shared<T> {
 
     /// Adds one more item, which has no value. Out of memory changes nothing.
     pub fn pass(&mut self) -> Result<(), AllocError>
-        ensures { OnOk result (self.new ≡ self.old ++ None ∷ []) }
+        ensures { OnOk result (shared_values self.new ≡ shared_values self.old ++ None ∷ []) }
     {
         self.places.add(None)
     }

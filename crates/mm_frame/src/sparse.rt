@@ -1,6 +1,6 @@
 //! Numbers that some items have, and others do not.
 
-ghost use Rattle.std.specs.Prelude.{◌≡◌, ◌<◌, ◌∷◌, ◌++◌, [], IfNone, IfOk, IfSome, IsSomeAnd, OnErr, OnOk, is_some, length};
+ghost use Rattle.std.specs.Prelude.{◌≡◌, ◌<◌, ◌∷◌, ◌++◌, [], IfNone, IfOk, IfSome, IsSomeAnd, OnErr, OnOk, length};
 ghost use Rattle.mm_frame.specs.Code.KeptSparse.{number_of, value_kept};
 
 use std::alloc::{AllocError, Global};
@@ -78,14 +78,6 @@ impl Sparse {
             return number_from(self.narrow[item]);
         }
         *self.wide.get(item - self.narrow.len())?
-    }
-
-    /// Whether an item has a number.
-    #[inline(always)]
-    pub fn has(&self, item: usize) -> bool
-        ensures { result ≡ is_some (value_kept self.now item) }
-    {
-        self.at(item).is_some()
     }
 
     /// Adds one more item, with its number if it has one. Out of memory changes nothing.

@@ -66,14 +66,16 @@ struct OldProof<'a> {
     pairs: &'a [(NumberedSymbol, NumberedSymbol)],
 }
 
-/// The number of the list of an earlier `$p`, if it shares its list with the `$p` of the older base.
-fn shared_list(numbers: &Sparse, proof: OldProof, earlier: usize) -> Option<usize>
+/// The number of the list of an earlier `$p`, if one is known that shares its list with the `$p` of the older base.
+fn shared_list(numbers: &Sparse, copied: &CopiedLists, proof: OldProof) -> Option<usize>
     ensures { IfSome result (λ k. (all : List (List ℕ)) (lists : PairLists) (base : BaseView) (said : List meant.Said) → IsBaseBy all base proof.entry.base.now
         → AreFirst base said → proof.entry.number ≡ length said → is_proof_at base proof.entry.number ≡ true → AreRows (TellsPairs all lists) said numbers.now
         → IsList all lists k (active_pairs (sound_items said))) }
 {
+    let list = proof.base.list_number(proof.number)?;
+    let earlier = copied.guess(list);
     let k = numbers.at(earlier)?;
-    if proof.base.shares_pairs(earlier, proof.number) {
+    if proof.base.list_number(earlier)? == list {
         Some(k)
     } else {
         None
@@ -95,12 +97,13 @@ fn copied_list(
     ensures kept { OnOk result (KeepsLists lists.old lists.new) }
     ensures made { OnOk result (lists.new.made ≡ lists.old.made) }
 {
-    let list = proof.base.list_guess(proof.number);
-    if let Some(k) = shared_list(numbers, proof, copied.guess(list)) {
+    if let Some(k) = shared_list(numbers, copied, proof) {
         return Ok(k);
     }
     let k = lists.lists.keep_copy(alloc, proof.pairs)?;
-    copied.set(list, proof.number)?;
+    if let Some(list) = proof.base.list_number(proof.number) {
+        copied.set(list, proof.number)?;
+    }
     Ok(k)
 }
 

@@ -7,23 +7,14 @@ use Rattle.mm_frame.specs.{Language.{Base.{BaseView, said_at, is_shown_at, is_so
 use Rattle.mm_frame.specs.{mm_statement.Language.Item.{is_labelled}, declared.base.Base.{Base}}
 use Rattle.mm_proof.specs.{Language.BaseMarks.{ItemMark, MarksView, IsMark, HaveOneLabel, KeepsLabels, AreMarks, no_mark, mark_at}, Code.InStep.{changed_behind}}
 use Rattle.mm_proof.specs.Code.KeptMarks.{AreTheorems, ShareFrame, SharePairs, AreItemMarks, IsHypothesisMark, AreHypothesisMarks}
-use Rattle.mm_proof.specs.declared.marks.Mark as code
+use Rattle.mm_proof.specs.declared.mark.Mark as code
 
 -- the same unordered pairs, the other way round and one after the other
-turned : (ps qs : List (Symbol × Symbol)) → AreSamePairs ps qs → AreSamePairs qs ps
+pub turned : (ps qs : List (Symbol × Symbol)) → AreSamePairs ps qs → AreSamePairs qs ps
 turned ps qs h x y = ((h x y).1, (h x y).0)
 
 pub joined : (ps qs rs : List (Symbol × Symbol)) → AreSamePairs ps qs → AreSamePairs qs rs → AreSamePairs ps rs
 joined ps qs rs h k x y = (λ p. (k x y).0 ((h x y).0 p), λ r. (h x y).1 ((k x y).1 r))
-
--- theorems that share their pairs with those that were compared
-pub told_again :
-    (ps qs rs ss : List (Symbol × Symbol)) (same : Bool) → (same ≡ true) ↔ AreSamePairs ps qs → AreSamePairs ps rs → AreSamePairs qs ss →
-    (same ≡ true) ↔ AreSamePairs rs ss
-told_again ps qs rs ss same h k l = (
-  λ e. joined rs qs ss (joined rs ps qs (turned ps rs k) (h.0 e)) l,
-  λ m. h.1 (joined ps ss qs (joined ps rs ss k m) (turned qs ss l)),
-)
 
 -- an item with a label is one of the items
 pub shown_within : (view : BaseView) (i : ℕ) → is_shown_at view i ≡ true → i < length view

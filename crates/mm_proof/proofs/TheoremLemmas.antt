@@ -14,6 +14,10 @@ shown_proof view n e = grind (arith, common_steps, and_from, and_parts, false≢
 pub framed_proof : (view : BaseView) (n : ℕ) → is_proof_at view n ≡ true → is_framed_at view n ≡ true
 framed_proof view n e = grind (arith, common_steps, and_from, and_parts, false≢true) steps 200000
 
+-- and that is a sound statement with a label
+pub shown_framed : (view : BaseView) (n : ℕ) → is_framed_at view n ≡ true → is_shown_at view n ≡ true
+shown_framed view n e = grind (arith, common_steps, and_from, and_parts, false≢true) steps 200000
+
 says_in : (files : FilesView) (found : List store.Item) (said : List Said) (n : ℕ) (item : store.Item) → AllZip (Says files) found said → slice_get found n ≡ Some item → Says files item (item_at said n)
 says_in files [] said n item h e = cc
 says_in files (x ∷ found) (y ∷ said) zero item h e = subst (λ w. Says files w y) (same_Some x item e) h.0

@@ -1,64 +1,114 @@
-//! Which lists of active pairs of two bases were compared.
+//! What was compared of two bases.
 
-ghost use Rattle.std.specs.Prelude.{Some, OnOk};
-ghost use Rattle.mm_frame.specs.declared.base.Base.{Base};
-ghost use Rattle.mm_proof.specs.Code.KeptMarks.{AreCompared, IsCompared};
+ghost use Rattle.std.specs.Prelude.{◌≡◌, ◌↔◌, true, IfOk, IsTrue, OnOk};
+ghost use Rattle.mm_frame.specs.{declared.base.Base.{Base}, Language.Base.{ShareMandatory, is_framed_at}};
+ghost use Rattle.mm_proof.specs.Code.KeptMarks.{AreCompared, AreHypothesisMarks, AreTheorems, OfBases, ShareFrame, SharePairs};
 
+use crate::mark::{Mark, are_marked};
+use mm_frame::{
+    Base, same_active_pairs, same_expression, same_mandatory_hypotheses, same_mandatory_pairs,
+};
 use std::alloc::{AllocError, Global};
 use std::collections::HashMap;
 
-/// Two theorems whose active pairs were compared, the one of the old base and the other of the new, and whether they are
-/// the same.
-#[derive(Clone, Copy)]
-pub struct Compared {
-    pub i: usize,
-    pub j: usize,
-    pub same: bool,
-}
-
-/// For each two lists of active pairs that were compared, one of the old base and the other of the new, two theorems that have
-/// them: so that no two lists are compared twice.
+/// What was compared of an old base and a new one, by the numbers that frames and lists of active pairs have there: so that no
+/// two of them are compared twice, in whatever order the items come that have them.
 #[derive(Drop)]
-pub struct ComparedLists {
-    found: Vec<Compared>,
-    /// Where two lists may be, by their numbers. What is found by it is looked at, so that no answer depends on it.
-    places: HashMap<(usize, usize), usize>,
+pub struct Compared {
+    /// For a frame of the old base and one of the new, whether they have the same hypotheses and pairs.
+    frames: HashMap<(usize, usize), bool>,
+    /// For a list of active pairs of the old base and one of the new, whether they have the same pairs.
+    lists: HashMap<(usize, usize), bool>,
 }
 
-impl ComparedLists {
-    /// No lists were compared. It takes no memory.
-    pub fn new(alloc: Global) -> ComparedLists
+/// A frame that has no more hypotheses than this, and no more pairs, is compared at once: it takes no longer than to look up
+/// whether it was.
+const FEW: usize = 16;
+
+/// Whether the frame of an item has few hypotheses and pairs.
+fn has_few(base: &Base, i: usize) -> bool {
+    match base.frame(i) {
+        Some(frame) => frame.hypotheses.len() <= FEW && frame.pairs.len() <= FEW,
+        None => true,
+    }
+}
+
+/// Whether two sound assertions have the same mandatory hypotheses and pairs. Hypotheses that are the same by the marks so far
+/// are not looked at.
+fn same_mandatory(old: &Base, i: usize, new: &Base, j: usize, marks: &[Mark]) -> bool
+    requires { AreHypothesisMarks old.now new.now marks.now }
+    ensures { OfBases old.now new.now (λ base copy. is_framed_at base i ≡ true → is_framed_at copy j ≡ true → IsTrue result ↔ ShareMandatory base copy i j) }
+{
+    let (Some(mine), Some(yours)) = (old.frame(i), new.frame(j)) else {
+        return false;
+    };
+    let told = are_marked(marks, &mine.hypotheses, &yours.hypotheses);
+    (told || same_mandatory_hypotheses(old, i, new, j)) && same_mandatory_pairs(old, i, new, j)
+}
+
+impl Compared {
+    /// Nothing was compared. It takes no memory.
+    pub fn new(alloc: Global) -> Compared
         ensures { (old new : Base) → AreCompared old new result }
     {
-        ComparedLists {
-            found: Vec::new(alloc),
-            places: HashMap::new(alloc),
+        Compared {
+            frames: HashMap::new(alloc),
+            lists: HashMap::new(alloc),
         }
     }
 
-    /// Two theorems that were compared, which may have the lists with these numbers.
-    pub fn of(&self, lists: (usize, usize)) -> Option<Compared>
-        ensures { (old new : Base) → AreCompared old new self.now → IsCompared old new result }
+    /// Whether two items are sound assertions with the same frame. Hypotheses that are the same by the marks so far are not
+    /// looked at.
+    pub fn same_frame(
+        &mut self,
+        old: &Base,
+        i: usize,
+        new: &Base,
+        j: usize,
+        marks: &[Mark],
+    ) -> Result<bool, AllocError>
+        requires compared { AreCompared old.now new.now self.old }
+        requires marks { AreHypothesisMarks old.now new.now marks.now }
+        ensures compared { OnOk result (AreCompared old.now new.now self.new) }
+        ensures same { IfOk result (λ same. OfBases old.now new.now (λ base copy. IsTrue same ↔ ShareFrame base copy i j)) }
     {
-        let place = *self.places.get(&lists)?;
-        if place >= self.found.len() {
-            return None;
+        let (Some(mine), Some(yours)) = (old.frame_number(i), new.frame_number(j)) else {
+            return Ok(false);
+        };
+        if !same_expression(old, i, new, j) {
+            return Ok(false);
         }
-        Some(self.found[place])
+        if has_few(old, i) {
+            return Ok(same_mandatory(old, i, new, j, marks));
+        }
+        if let Some(same) = self.frames.get(&(mine, yours)) {
+            return Ok(*same);
+        }
+        let same = same_mandatory(old, i, new, j, marks);
+        self.frames.insert((mine, yours), same)?;
+        Ok(same)
     }
 
-    /// Keeps two theorems that were compared, which have the lists with these numbers.
-    pub fn keep(&mut self, lists: (usize, usize), compared: Compared) -> Result<(), AllocError>
-        ensures { OnOk result ((old new : Base) → AreCompared old new self.old → IsCompared old new (Some compared) → AreCompared old new self.new) }
+    /// Whether two items are sound `$p` with the same active pairs.
+    pub fn same_pairs(
+        &mut self,
+        old: &Base,
+        i: usize,
+        new: &Base,
+        j: usize,
+    ) -> Result<bool, AllocError>
+        requires { AreCompared old.now new.now self.old }
+        ensures compared { OnOk result (AreCompared old.now new.now self.new) }
+        ensures same { IfOk result (λ same. OfBases old.now new.now (λ base copy. IsTrue same ↔ (AreTheorems base copy i j × SharePairs base copy i j))) }
     {
-        if let Some(place) = self.places.get(&lists).copied() {
-            if place < self.found.len() {
-                self.found[place] = compared;
-                return Ok(());
-            }
+        let (Some(mine), Some(yours)) = (old.list_number(i), new.list_number(j)) else {
+            return Ok(false);
+        };
+        if let Some(same) = self.lists.get(&(mine, yours)) {
+            return Ok(*same);
         }
-        self.places.insert(lists, self.found.len())?;
-        self.found.push(compared)?;
-        Ok(())
+        let same = same_active_pairs(old, i, new, j);
+        self.lists.insert((mine, yours), same)?;
+        Ok(same)
     }
 }

@@ -1,40 +1,16 @@
 //! What stays of an old base in a new one.
 
-ghost use Rattle.std.specs.Prelude.{◌≡◌, ◌↔◌, ◌+◌, ◌<◌, ℕ, true, Some, IfOk, IsTrue, OnOk, map};
-ghost use Rattle.mm_frame.specs.Language.{Base.{BaseView, hypothesis_at, is_shown_at}, Answering.{BaseAnswers, IsBase, IsBaseBy}, Resolving.{IsCarrier}};
-ghost use Rattle.mm_proof.specs.Code.InStep.{AreOrdinalsOf, HasLevel, IsStepAt, MeanOne, changed_behind};
-ghost use Rattle.mm_proof.specs.Code.KeptMarks.{OfBases, AreCompared, AreTheorems, SharePairs, ShareFrame, IsCompared, IsComparedOf, IsHypothesisMark, IsOneHypothesis, AreHypothesisMarks, kept_mark};
+ghost use Rattle.std.specs.Prelude.{◌≡◌, ◌↔◌, ◌+◌, ◌<◌, ℕ, true, Some, IfOk, IsTrue, OnOk};
+ghost use Rattle.mm_frame.specs.Language.{Base.{BaseView, is_shown_at}, Answering.{BaseAnswers, IsBase, IsBaseBy}, Resolving.{IsCarrier}};
+ghost use Rattle.mm_proof.specs.Code.{InStep.{AreOrdinalsOf, HasLevel, IsStepAt, MeanOne, changed_behind}, KeptMarks.{OfBases, AreCompared, AreHypothesisMarks, IsHypothesisMark, IsOneHypothesis, kept_mark}};
 ghost use Rattle.mm_proof.specs.Language.BaseMarks.{AreMarks, HaveOneLabel, IsMark, KeepsLabels, mark_at};
 
-use crate::compared::{Compared, ComparedLists};
+use crate::compared::Compared;
+use crate::mark::{Mark, NO_MARK};
 use crate::ordinals::{Ordinals, end_alike, in_full_width, is_labelled, narrowed};
-use mm_frame::{
-    Base, Names, has_own_labels, labels_mean, same_active_pairs, same_but_hypotheses,
-    same_but_pairs, same_expression,
-};
+use mm_frame::{Base, Names, has_own_labels, labels_mean, same_expression};
 use std::alloc::{AllocError, Global};
 use std::marker::Model;
-
-/// What stays of an item: the number of the sound item of the old base that has its label, and what is the same of both.
-/// That is their frame, their hypothesis, their active pairs, or the meaning at both of every label that is not listed as
-/// changed.
-#[derive(Clone, Copy)]
-struct Mark {
-    old: Option<u32>,
-    frame: bool,
-    hypothesis: bool,
-    pairs: bool,
-    in_step: bool,
-}
-
-/// Nothing stays.
-const NO_MARK: Mark = Mark {
-    old: None,
-    frame: false,
-    hypothesis: false,
-    pairs: false,
-    in_step: false,
-};
 
 /// What stays of an old base in a new one, for each item of the new one: so that frames and active pairs are compared
 /// once, and a label of the new base is looked up in the old one once.
@@ -56,83 +32,6 @@ impl Model for Marks {
     ghost use Rattle.mm_proof.specs.Code.KeptMarks.{marks_of};
 
     ghost view = { marks_of };
-}
-
-/// Whether two sound `$p` share their lists of active pairs with those that were compared.
-fn shares(compared: Compared, old: &Base, i: usize, new: &Base, j: usize) -> bool
-    ensures { OfBases old.now new.now (λ base copy. AreTheorems base copy compared.i compared.j → AreTheorems base copy i j → IsTrue result
-        → SharePairs base base compared.i i × SharePairs copy copy compared.j j) }
-{
-    old.shares_pairs(compared.i, i) && new.shares_pairs(compared.j, j)
-}
-
-/// Whether two sound `$p` have the same active pairs. Where both share their lists with two that were compared, nothing is
-/// compared.
-fn same_pairs(old: &Base, i: usize, new: &Base, j: usize, lists: &ComparedLists) -> bool
-    requires { AreCompared old.now new.now lists.now }
-    ensures { OfBases old.now new.now (λ base copy. AreTheorems base copy i j → IsTrue result ↔ SharePairs base copy i j) }
-{
-    match lists.of((old.list_guess(i), new.list_guess(j))) {
-        Some(compared) if shares(compared, old, i, new, j) => compared.same,
-        _ => same_active_pairs(old, i, new, j),
-    }
-}
-
-/// Compares the active pairs of two items, if both are sound `$p`.
-fn compare(old: &Base, i: usize, new: &Base, j: usize, lists: &ComparedLists) -> Option<Compared>
-    requires { AreCompared old.now new.now lists.now }
-    ensures told { IsCompared old.now new.now result }
-    ensures these { IsComparedOf old.now new.now i j result }
-{
-    old.pairs(i)?;
-    new.pairs(j)?;
-    let same = same_pairs(old, i, new, j, lists);
-    Some(Compared { i, j, same })
-}
-
-/// Whether the marks so far say that the hypothesis `m` of the new base is the hypothesis `n` of the old one.
-fn is_marked(marks: &[Mark], n: usize, m: usize) -> bool
-    ensures { IsTrue result → (old new : BaseAnswers) → AreHypothesisMarks old new marks.now
-        → OfBases old new (λ base copy. hypothesis_at base n ≡ hypothesis_at copy m) }
-{
-    match marks.get(m) {
-        Some(mark) if mark.hypothesis => match mark.old {
-            Some(i) => i as usize == n,
-            None => false,
-        },
-        _ => false,
-    }
-}
-
-/// Whether the marks so far say that hypotheses of the old base are those of the new one, one by one.
-fn are_marked(marks: &[Mark], mine: &[usize], yours: &[usize]) -> bool
-    ensures { IsTrue result → (old new : BaseAnswers) → AreHypothesisMarks old new marks.now
-        → OfBases old new (λ base copy. map (hypothesis_at base) mine.now ≡ map (hypothesis_at copy) yours.now) }
-{
-    if mine.len() != yours.len() {
-        return false;
-    }
-    for k in 0..mine.len() {
-        if !is_marked(marks, mine[k], yours[k]) {
-            return false;
-        }
-    }
-    true
-}
-
-/// Whether two items are sound assertions with the same frame. Hypotheses that are the same by the marks so far are not
-/// looked at.
-fn same_frames(old: &Base, i: usize, new: &Base, j: usize, marks: &[Mark]) -> bool
-    requires { AreHypothesisMarks old.now new.now marks.now }
-    ensures { OfBases old.now new.now (λ base copy. IsTrue result ↔ ShareFrame base copy i j) }
-{
-    match (old.frame(i), new.frame(j)) {
-        (Some(mine), Some(yours)) => {
-            let told = are_marked(marks, &mine.hypotheses, &yours.hypotheses);
-            (told || same_but_pairs(old, i, new, j)) && same_but_hypotheses(old, i, new, j)
-        }
-        _ => false,
-    }
 }
 
 /// Whether two sound items are the same hypothesis.
@@ -175,38 +74,33 @@ fn old_of(old: &Base, expected: usize, new: &Base, j: usize) -> Option<usize>
     find_expected(old, new.label(j)?, expected)
 }
 
-/// What stays of the item with this number, by the marks of those before it; and the two theorems that were compared, if it is
-/// one of them.
+/// What stays of the item with this number, by the marks of those before it.
 fn mark_of(
     old: &Base,
     new: &Base,
     j: usize,
-    lists: &ComparedLists,
+    compared: &mut Compared,
     expected: usize,
     marks: &[Mark],
-) -> (Mark, Option<Compared>)
-    requires lists { AreCompared old.now new.now lists.now }
+) -> Result<Mark, AllocError>
+    requires compared { AreCompared old.now new.now compared.old }
     requires marks { AreHypothesisMarks old.now new.now marks.now }
-    ensures mark { OfBases old.now new.now (λ base copy. IsMark base copy j (kept_mark result.0)) }
-    ensures kept { IsHypothesisMark old.now new.now j result.0 }
-    ensures last { IsCompared old.now new.now result.1 }
+    ensures compared { OnOk result (AreCompared old.now new.now compared.new) }
+    ensures mark { IfOk result (λ mark. OfBases old.now new.now (λ base copy. IsMark base copy j (kept_mark mark))) }
+    ensures kept { IfOk result (IsHypothesisMark old.now new.now j) }
 {
     let Some(i) = old_of(old, expected, new, j) else {
-        return (NO_MARK, None);
+        return Ok(NO_MARK);
     };
-    let mark = Mark {
+    let frame = compared.same_frame(old, i, new, j, marks)?;
+    let pairs = compared.same_pairs(old, i, new, j)?;
+    Ok(Mark {
         old: Some(narrowed(old, i)),
-        frame: same_frames(old, i, new, j, marks),
+        frame,
         hypothesis: same_hypothesis(old, i, new, j),
-        ..NO_MARK
-    };
-    match compare(old, i, new, j, lists) {
-        Some(compared) => {
-            let pairs = compared.same;
-            (Mark { pairs, ..mark }, Some(compared))
-        }
-        None => (mark, None),
-    }
+        pairs,
+        in_step: false,
+    })
 }
 
 /// Whether the item `j` of the new base has no label, or the old base has an item with its label and its ordinal.
@@ -253,29 +147,9 @@ struct TwoBases<'a> {
     ordinals: &'a Ordinals,
 }
 
-/// Keeps two theorems that were compared, if there are two.
-fn keep(
-    lists: &mut ComparedLists,
-    old: &Base,
-    new: &Base,
-    compared: Option<Compared>,
-) -> Result<(), AllocError>
-    requires lists { AreCompared old.now new.now lists.old }
-    requires compared { IsCompared old.now new.now compared }
-    ensures { OnOk result (AreCompared old.now new.now lists.new) }
-{
-    if let Some(compared) = compared {
-        let numbers = (old.list_guess(compared.i), new.list_guess(compared.j));
-        lists.keep(numbers, compared)?;
-    }
-    Ok(())
-}
-
 /// What is known before an item of the new base is marked.
 #[derive(Clone, Copy)]
 struct Step {
-    /// The two theorems that were compared at the item before.
-    last: Option<Compared>,
     /// Whether each labelled item so far has the label of the one of the old base with its ordinal, and means the same but
     /// if it is listed as changed.
     in_step: bool,
@@ -287,7 +161,6 @@ struct Step {
 
 /// What is known before the first item is marked.
 const FIRST_STEP: Step = Step {
-    last: None,
     in_step: true,
     changed: false,
     expected: 0,
@@ -299,28 +172,28 @@ fn marked(
     bases: TwoBases<'_>,
     j: usize,
     step: Step,
-    lists: &ComparedLists,
+    compared: &mut Compared,
     marks: &[Mark],
     changed: &[usize],
-) -> (Mark, Step)
+) -> Result<(Mark, Step), AllocError>
     requires ordinals { AreOrdinalsOf bases.old.now bases.new.now bases.ordinals.now }
     requires step { IsStepAt bases.old.now bases.new.now changed.now j step }
-    requires lists { AreCompared bases.old.now bases.new.now lists.now }
+    requires compared { AreCompared bases.old.now bases.new.now compared.old }
     requires marks { AreHypothesisMarks bases.old.now bases.new.now marks.now }
-    ensures mark { OfBases bases.entry.old.now bases.entry.new.now (λ base copy. IsMark base copy j (kept_mark result.0)) }
-    ensures labels { IsTrue result.0.in_step
-        → OfBases bases.entry.old.now bases.entry.new.now (λ base copy. KeepsLabels base copy changed.now j) }
-    ensures kept { IsHypothesisMark bases.entry.old.now bases.entry.new.now j result.0 }
-    ensures step { IsStepAt bases.entry.old.now bases.entry.new.now (changed_behind changed.now j result.1.changed) (j + 1) result.1 }
+    ensures compared { OnOk result (AreCompared bases.entry.old.now bases.entry.new.now compared.new) }
+    ensures mark { IfOk result (λ it. OfBases bases.entry.old.now bases.entry.new.now (λ base copy. IsMark base copy j (kept_mark it.0))) }
+    ensures labels { IfOk result (λ it. IsTrue it.0.in_step
+        → OfBases bases.entry.old.now bases.entry.new.now (λ base copy. KeepsLabels base copy changed.now j)) }
+    ensures kept { IfOk result (λ it. IsHypothesisMark bases.entry.old.now bases.entry.new.now j it.0) }
+    ensures step { IfOk result (λ it. IsStepAt bases.entry.old.now bases.entry.new.now (changed_behind changed.now j it.1.changed) (j + 1) it.1) }
 {
     labels_mean(); // A law: a label is that of a sound item before, or means nothing.
     let TwoBases { old, new, ordinals } = bases;
-    let (mark, last) = mark_of(old, new, j, lists, step.expected, marks);
+    let mark = mark_of(old, new, j, compared, step.expected, marks)?;
     let placed = step.in_step && keeps_place(new, j, ordinals, mark);
     let alike = placed && is_alike(old, new, j, ordinals, mark);
     let here = placed && !alike && changed.len() < MOST_CHANGED;
     let next = Step {
-        last,
         in_step: alike || here,
         changed: here,
         expected: next_expected(old, in_full_width(mark.old), step.expected),
@@ -329,7 +202,7 @@ fn marked(
         in_step: placed,
         ..mark
     };
-    (mark, next)
+    Ok((mark, next))
 }
 
 /// Whether there is a number, and it is below another one.
@@ -357,11 +230,10 @@ impl Marks {
             new,
             ordinals: &ordinals,
         };
-        let mut lists = ComparedLists::new(alloc);
+        let mut compared = Compared::new(alloc);
         let mut step = FIRST_STEP;
         for j in 0..new.count() {
-            let (mark, next) = marked(bases, j, step, &lists, &marks, &changed);
-            keep(&mut lists, old, new, next.last)?;
+            let (mark, next) = marked(bases, j, step, &mut compared, &marks, &changed)?;
             marks.push(mark)?;
             if next.changed {
                 changed.push(j)?;

@@ -3,7 +3,7 @@ use Rattle.std.specs.Prelude.{◌≡◌, ◌↔◌, ℕ, Some, None, List, map, 
 use Rattle.mm_frame.specs.declared.base.Base.TheInside.{Inside}
 use Rattle.mm_frame.specs.Language.Answering.{BaseAnswers}
 use Rattle.mm_frame.specs.Code.KeptTables.{table_label}
-use Rattle.mm_frame.specs.Code.KeptRows.{AreRowsKept, rows_of}
+use Rattle.mm_frame.specs.Code.{KeptRows.{AreRowsKept, rows_of}, KeptShared.{shared_values}}
 use Rattle.mm_frame.specs.Code.KeptBase.{frame_told, list_told, is_float_item}
 
 abbrev pub answers_of : Inside → BaseAnswers
@@ -11,8 +11,10 @@ answers_of inside = record {
   items = inside.items.items;
   rows = rows_of inside.parts.rows;
   expressions = inside.parts.expressions;
-  frames = map frame_told inside.parts.frames;
+  frames = map frame_told (shared_values inside.parts.frames);
+  frame_numbers = inside.parts.frames.places;
   actives = map (list_told inside.parts.pair_lists) inside.parts.pair_numbers;
+  list_numbers = inside.parts.pair_numbers;
   marks = inside.parts.blocks;
 }
 

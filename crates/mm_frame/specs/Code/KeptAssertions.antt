@@ -11,7 +11,7 @@ use Rattle.mm_frame.specs.Language.Framing.{frame, active_pairs}
 use Rattle.mm_frame.specs.Language.Base.{told_fault}
 use Rattle.mm_machine.specs.Language.NumberedSymbols.{ArePairsRead}
 use Rattle.mm_frame.specs.Language.Answering.{AreRows, told_numbers, is_told_proof, pairs_in_order}
-use Rattle.mm_frame.specs.Code.KeptAsked.{KnowsAsked}
+use Rattle.mm_frame.specs.Code.{KeptAsked.{KnowsAsked}, KeptFrames.{frames_kept}}
 use Rattle.mm_frame.specs.Code.KeptPairLists.{AreFrontNumbers, IsList, AreMade}
 use Rattle.mm_frame.specs.Code.LastItems.{is_disjoint_item}
 use Rattle.mm_frame.specs.Language.Scope.{active_numbers}
@@ -31,7 +31,7 @@ TellsReach before item reach = IfSome reach (AreFrontNumbers before (active_numb
 
 -- the frames are those of items that say this
 pub record AreFrames (all : List (List ℕ)) (said : List Said) (frames : Frames) : Type 0 where
-  pub kept : AreRows (TellsFrame all) said frames.kept
+  pub kept : AreRows (TellsFrame all) said (frames_kept frames)
   pub reaches : AreRows TellsReach said frames.reaches
 
 -- there is a number of a list exactly for a sound `$p`, and the list is of the pairs that are active there

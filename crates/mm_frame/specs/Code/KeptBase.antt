@@ -11,7 +11,7 @@ use Rattle.mm_frame.specs.Code.KeptAssertions.{TellsFrame, TellsPairs, AreAssert
 use Rattle.mm_frame.specs.Code.KeptActiveItems.{AreActiveKept}
 use Rattle.mm_frame.specs.Code.KeptRows.{AreRowsKept, rows_of}
 use Rattle.mm_frame.specs.Code.KeptSymbols.{AreSymbols}
-use Rattle.mm_frame.specs.Code.KeptPairTable.{KnowsPairs}
+use Rattle.mm_frame.specs.Code.{KeptPairTable.{KnowsPairs}, KeptShared.{shared_values}}
 use Rattle.mm_statement.specs.Language.Item.{Said, is_kind, Floating}
 use Rattle.mm_statement.specs.Language.Statement.{kind_of}
 use Rattle.mm_frame.specs.Language.Sound.{sound_items}
@@ -65,7 +65,7 @@ pub record AreParts (all : List (List ℕ)) (said : List Said) (parts : BasePart
   pub kept : AreRowsKept parts.rows
   pub rows : AreRows IsLabelTold said (rows_of parts.rows)
   pub symbols : AreSymbols all (sound_items said) parts.expressions
-  pub frames : AreRows (TellsFrame all) said parts.frames
+  pub frames : AreRows (TellsFrame all) said (shared_values parts.frames)
   pub labels : KnowsLabels (sound_items said) parts.tables
   pub marks : parts.blocks ≡ block_marks (sound_items said)
   pub pair_numbers : AreRows (TellsPairs all parts.pair_lists) said parts.pair_numbers

@@ -17,14 +17,21 @@ use Rattle.mm_machine.specs.Language.NumberedSymbols.{symbols_of, IsNumbered, Ar
 use Rattle.mm_frame.specs.Language.Base.{BaseView, AreLabelled, told_fault}
 
 -- what is reported of the items, each by its number: the items themselves; their labels and faults; the symbols; the numbers of the
--- hypotheses and the pairs of a frame; all active pairs; and what an item does to the blocks
+-- hypotheses and the pairs of a frame; all active pairs; the numbers of the last two, which several items can have; and what an item
+-- does to the blocks
 pub record BaseAnswers : Type 0 where
   pub items : List store.Item
   pub rows : List (Option (List ℕ) × Option (ℕ × FrameNumber))
   pub expressions : List (List NumberedSymbol)
   pub frames : List (Option (List ℕ × List (NumberedSymbol × NumberedSymbol)))
   pub actives : List (Option (List (NumberedSymbol × NumberedSymbol)))
+  pub frame_numbers : List (Option ℕ)
+  pub list_numbers : List (Option ℕ)
   pub marks : List Mark
+
+-- an item has this number
+abbrev pub HasNumber : List (Option ℕ) → ℕ → ℕ → Type 0
+HasNumber numbers i number = slice_get numbers i ≡ Some (Some number)
 
 -- there is a row for each item, which reports on it, after the sound items before it
 pub record AreRows {X : Type 0} (tells : List Said → Said → X → Type 0) (said : List Said) (rows : List X) : Type 0 where

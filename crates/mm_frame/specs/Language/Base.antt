@@ -7,7 +7,7 @@ use Rattle.mm_store.specs.Language.FilesView.{FilesView, files_in}
 use Rattle.mm_store.specs.Language.Expansion.{IsExpansion}
 use Rattle.mm_frame.specs.declared.FrameNumber.{FrameNumber}
 use Rattle.mm_frame.specs.declared.FrameNumber.TheVariants.{F14}
-use Rattle.mm_machine.specs.Language.Frame.{Symbol, Mandatory, Frame}
+use Rattle.mm_machine.specs.Language.Frame.{Symbol, Mandatory, Frame, AreSamePairs}
 use Rattle.mm_statement.specs.Language.Item.{Kind, Missing, Said, is_labelled, is_assertion, is_kind, Theorem, item_at}
 use Rattle.mm_frame.specs.Language.Sound.{fault, sound_items}
 use Rattle.mm_statement.specs.Language.Statement.{Says}
@@ -80,6 +80,11 @@ hypothesis_at base n = hypothesis (before base n) (said_at base n)
 -- the frame of the assertion with this number
 abbrev pub frame_at : BaseView → ℕ → Frame
 frame_at base i = frame (before base i) (said_at base i)
+
+-- two assertions have the same mandatory hypotheses and the same mandatory pairs
+pub record ShareMandatory (base copy : BaseView) (i j : ℕ) : Type 0 where
+  pub hypotheses : (frame_at base i).hypotheses ≡ (frame_at copy j).hypotheses
+  pub pairs : AreSamePairs (frame_at base i).pairs (frame_at copy j).pairs
 
 -- item n is an active hypothesis that is mandatory for item i
 pub record IsMandatoryAt (base : BaseView) (i n : ℕ) : Type 0 where

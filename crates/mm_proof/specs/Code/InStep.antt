@@ -7,7 +7,7 @@ use Rattle.mm_frame.specs.Language.Resolving.{IsCarrier, IsUpTo, Resolves}
 use Rattle.mm_frame.specs.declared.base.Base.{Base}
 use Rattle.mm_frame.specs.declared.base.Resolved.TheVariants as answers
 use Rattle.mm_proof.specs.Language.BaseMarks.{HaveOneLabel}
-use Rattle.mm_proof.specs.Code.KeptMarks.{OfBases, IsCompared, ShareFrame}
+use Rattle.mm_proof.specs.Code.KeptMarks.{OfBases, ShareFrame}
 use Rattle.mm_proof.specs.declared.marks.Step.{Step}
 use Rattle.mm_proof.specs.declared.ordinals.Ordinals.{Ordinals}
 
@@ -85,5 +85,4 @@ changed_behind changed j here = if here then changed ++ j ∷ [] else changed
 
 -- what is known of the items before item j, if these are listed as changed
 pub record IsStepAt (old new : Base) (changed : List ℕ) (j : ℕ) (step : Step) : Type 0 where
-  pub last : IsCompared old new step.last
   pub in_step : step.in_step ≡ true → OfBases old new (λ base copy. AreInStep base copy changed j)

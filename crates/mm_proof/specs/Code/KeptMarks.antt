@@ -1,19 +1,20 @@
 -- What is kept of what stays of an old base in a new one.
-use Rattle.std.specs.Prelude.{◌≡◌, ◌↔◌, ◌<◌, ℕ, Bool, true, false, not, Option, Some, None, List, length, map, slice_get, bytes_eq, codes, All}
+use Rattle.std.specs.Prelude.{◌≡◌, ◌↔◌, ◌<◌, ℕ, Bool, true, false, not, ◌&&◌, nat_eq, Option, Some, List, length, map, slice_get, bytes_eq, codes}
+use Rattle.std.specs.HashMap.{get}
 use Rattle.std.specs.List.{AllByRecursion}
-use Rattle.mm_frame.specs.Language.Base.{BaseView, before, said_at, is_shown_at, is_framed_at, is_proof_at, frame_at, hypothesis_at}
+use Rattle.mm_frame.specs.Language.Base.{BaseView, before, said_at, is_shown_at, is_framed_at, is_proof_at, frame_at, hypothesis_at, ShareMandatory}
 use Rattle.mm_frame.specs.mm_machine.Language.Frame.{LabelMeaning, Hypothesis, Assertion, Inactive, Unknown, AreSameFrame, AreSamePairs}
 use Rattle.mm_frame.specs.Language.Framing.{active_pairs, expression}
 use Rattle.mm_frame.specs.Language.Resolving.{IsCarrier}
-use Rattle.mm_frame.specs.Language.Answering.{IsBaseBy}
+use Rattle.mm_frame.specs.Language.Answering.{HasNumber, IsBaseBy}
 use Rattle.mm_frame.specs.declared.base.Base.{Base}
 use Rattle.mm_frame.specs.declared.base.Resolved as answer
 use Rattle.mm_frame.specs.declared.base.Resolved.TheVariants as answers
 use Rattle.mm_verdict.specs.Language.BaseLabels.{setting_at}
 use Rattle.mm_proof.specs.Language.BaseMarks.{ItemMark, MarksView, AreMarks, IsMark, KeepsLabels, mark_at}
 use Rattle.mm_verdict.specs.Language.SameToDecode.{IsSameLabel, labels_named}
-use Rattle.mm_proof.specs.declared.compared.{Compared.{Compared}, ComparedLists.{ComparedLists}}
-use Rattle.mm_proof.specs.declared.marks.Mark as code
+use Rattle.mm_proof.specs.declared.compared.Compared.{Compared}
+use Rattle.mm_proof.specs.declared.mark.Mark as code
 use Rattle.mm_proof.specs.declared.marks.Marks.TheInside.{Inside}
 
 -- what is kept of an item
@@ -57,19 +58,21 @@ pub record AreTheorems (base copy : BaseView) (i j : ℕ) : Type 0 where
 abbrev pub SharePairs : BaseView → BaseView → ℕ → ℕ → Type 0
 SharePairs base copy i j = AreSamePairs (active_pairs (before base i)) (active_pairs (before copy j))
 
--- what is reported of two theorems that were compared is right
-abbrev pub IsCompared : Base → Base → Option Compared → Type 0
-IsCompared old new None = Unit {0}
-IsCompared old new (Some c) = OfBases old new (λ base copy. AreTheorems base copy c.i c.j × ((c.same ≡ true) ↔ SharePairs base copy c.i c.j))
+-- two numbers are the same two
+abbrev pub same_numbers : ℕ × ℕ → ℕ × ℕ → Bool
+same_numbers a b = nat_eq a.0 b.0 && nat_eq a.1 b.1
 
--- what is kept of theorems that were compared is right
-abbrev pub AreCompared : Base → Base → ComparedLists → Type 0
-AreCompared old new lists = All (λ (c : Compared). IsCompared old new (Some c)) lists.found.items
+-- an answer for two numbers, one of each base, is right of all items that have them
+abbrev pub IsAnswered : Base → Base → (Base → List (Option ℕ)) → (BaseView → BaseView → ℕ → ℕ → Type 0) → ℕ × ℕ → Bool → Type 0
+IsAnswered old new numbers Share both same = (i j : ℕ) → HasNumber (numbers old) i both.0 → HasNumber (numbers new) j both.1
+    → OfBases old new (λ base copy. (same ≡ true) ↔ Share base copy i j)
 
--- what is reported of these two is right, and nothing is reported if one of them is no theorem
-abbrev pub IsComparedOf : Base → Base → ℕ → ℕ → Option Compared → Type 0
-IsComparedOf old new i j None = OfBases old new (λ base copy. AreTheorems base copy i j → ⊥)
-IsComparedOf old new i j (Some c) = OfBases old new (λ base copy. AreTheorems base copy i j × ((c.same ≡ true) ↔ SharePairs base copy i j))
+-- what is kept of what was compared is right
+pub record AreCompared (old new : Base) (compared : Compared) : Type 0 where
+  pub frames : (both : ℕ × ℕ) (same : Bool) → get same_numbers compared.frames both ≡ Some same
+      → IsAnswered old new (λ answers. answers.frame_numbers) ShareMandatory both same
+  pub lists : (both : ℕ × ℕ) (same : Bool) → get same_numbers compared.lists both ≡ Some same
+      → IsAnswered old new (λ answers. answers.list_numbers) SharePairs both same
 
 -- both items are the same hypothesis
 pub record IsOneHypothesis (base copy : BaseView) (i j : ℕ) : Type 0 where

@@ -1,16 +1,17 @@
 -- What a base says, from what is kept, and that it is right.
-use Rattle.std.proofs.lemmas.{Grind.{common_steps}, List.{length-map, Elements.{All-nil}}, Bool.{false≢true, and_from, and_parts, Decides.{Decides-eqb}}}
-use Rattle.std.proofs.lemmas.Option.{slice_get-map, slice_get_within, slice_get_cases}
-use Rattle.std.proofs.Common.{◌≡◌, ◌↔◌, ℕ, zero, suc, ◌≤◌, true, false, ◌&&◌, Option, Some, None, List, [], ◌∷◌, length, map, take, slice_get, nat_eq, is_none, refl, sym, ◌∙◌, ap, subst, arith, All}
-use Rattle.std.{proofs.Common.{IfSome}, specs.{Borrow.{Bor}, Option.{option_map, option_eq}, List.{AllZip}}}
-use Rattle.mm_frame.proofs.lemmas.base.{BaseLemmas.{item_there, kept_front_at, kept_item_at, none_told, row_none, item_beyond, kept_count}, ResolvingLemmas.{carrier_found, found_carrier}}
-use Rattle.mm_frame.{proofs.lemmas.{faults.FoundFaults.{sound_found}, frames.FrameNumbers.{HasKind}, pairs.SharedPairs.{same_turned, same_joined}}, specs.Code.KeptPairLists.{list_kept}}
+use Rattle.std.proofs.lemmas.{Grind.{common_steps}, List.{length-map, Elements.{All-nil}}, Bool.{false≢true, and_from, and_parts}, Option.{slice_get-map, slice_get_within, slice_get_cases}}
+use Rattle.std.proofs.Common.{◌≡◌, ◌↔◌, ℕ, zero, suc, ◌≤◌, true, false, ◌&&◌, Option, Some, None, List, [], ◌∷◌, length, map, take, slice_get, is_none, is_some, refl, sym, ◌∙◌, ap, subst, arith, All}
+use Rattle.std.{proofs.Common.{IfSome}, specs.{Borrow.{Bor}, Option.{option_map}, List.{AllZip}}}
+use Rattle.mm_frame.proofs.lemmas.base.BaseLemmas.{framed_in_order, item_there, kept_front_at, kept_item_at, none_told, row_none, item_beyond, kept_count}
+use Rattle.mm_frame.proofs.lemmas.{base.ResolvingLemmas.{carrier_found, found_carrier}, faults.FoundFaults.{sound_found}, frames.FrameNumbers.{HasKind, frame_numbers, framed_some}}
+use Rattle.mm_frame.{proofs.lemmas.{frames.SameFrames.{same_from_order}, lists.SharedValues.{value_there}, pairs.SharedPairs.{same_turned, same_joined}}, specs.Code.KeptPairLists.{list_kept}}
 use Rattle.mm_frame.specs.Code.{KeptSortedLists.{pairs_or_none}, KeptSymbols.{AreSymbols, expression_kept, kept_or_none}, KeptTables.{table_label}, BaseInside.{answers_of}}
-use Rattle.mm_frame.specs.Code.{KeptRows.{rows_of, row_label, row_fault, is_shown_in}, KeptAssertions.{TellsFrame, TellsPairs}, KeptBase.{AreParts, is_float_item, frame_told, list_told}}
-use Rattle.mm_frame.specs.{Code.KeptSparse.{value_or_none, value_kept}, Language.Base.{told_fault, AreLabelled, BaseView, before, said_at, fault_at, is_sound_at, is_proof_at}}
-use Rattle.mm_frame.specs.Language.{Sound.{fault, sound_items}, Framing.{active_pairs, expression}, Resolving.{IsCarrier}}
-use Rattle.mm_frame.specs.{Language.Answering.{AreRows, IsLabelTold, IsExpressionTold, IsFrameTold, AreActiveTold, BaseAnswers, IsBaseBy}, declared.{FrameNumber.{FrameNumber}, frame.Frame.{Frame}}}
-use Rattle.mm_frame.specs.declared.{parts.BaseParts.{BaseParts}, base.Base.TheInside.{Inside}, pair_lists.PairLists.{PairLists}}
+use Rattle.mm_frame.specs.Code.{KeptRows.{rows_of, row_label, row_fault, is_shown_in}, KeptAssertions.{TellsFrame, TellsPairs}}
+use Rattle.mm_frame.specs.Code.{KeptBase.{AreParts, is_float_item, frame_told, hypotheses_at, list_told}, KeptShared.{shared_values}, KeptSparse.{value_or_none, value_kept}}
+use Rattle.mm_frame.specs.Language.{Base.{told_fault, AreLabelled, BaseView, before, said_at, fault_at, frame_at, is_framed_at, is_sound_at, ShareMandatory}, Sound.{fault, sound_items}}
+use Rattle.mm_frame.specs.Language.{Framing.{active_pairs, expression}, Resolving.{IsCarrier}}
+use Rattle.mm_frame.specs.{Language.Answering.{AreRows, HasNumber, IsLabelTold, IsExpressionTold, IsFrameTold, AreActiveTold, BaseAnswers, IsBaseBy}, declared.FrameNumber.{FrameNumber}}
+use Rattle.mm_frame.specs.declared.{frame.Frame.{Frame}, parts.BaseParts.{BaseParts}, base.Base.TheInside.{Inside}, pair_lists.PairLists.{PairLists}}
 use Rattle.mm_machine.specs.Language.{NumberedSymbols.{AreInOrder, AreSamePairsRead, symbols_of, kept_pairs, IsNumbered, ArePairsRead}, Names.{AreDistinct}, Frame.{Symbol, AreSamePairs}}
 use Rattle.mm_machine.specs.declared.symbol.NumberedSymbol.{NumberedSymbol}
 use Rattle.mm_statement.specs.Language.Item.{passed, Said, is_kind, Floating, is_labelled, is_read, item_at}
@@ -113,14 +114,42 @@ active_in all base answers lists numbers same is i number other e o =
     (told_at (list_told lists) (AreActiveTold all) base numbers (subst (AreRows (AreActiveTold all) base) (sym same) is.actives) i
     (λ past. record { some = sym (grind (arith, common_steps, item_beyond) steps 200000); pairs = tt; order = tt }))
 
+-- there is a list where there is a number of one
+pub list_some : (lists : PairLists) (number : Option ℕ) → is_some number ≡ is_some (list_told lists number)
+list_some lists None = refl
+list_some lists (Some k) = refl
+
 -- a list that two `$p` share
-pub shared_told : (all : List (List ℕ)) (lists : PairLists) (base : BaseView) (i j : ℕ) (mine yours : Option ℕ) → AreActiveTold all (before base i) (said_at base i) (list_told lists mine)
-    → AreActiveTold all (before base j) (said_at base j) (list_told lists yours) → is_proof_at base i ≡ true → option_eq nat_eq mine yours ≡ true → AreSamePairs (active_pairs (before base i)) (active_pairs (before base j))
-shared_told all lists base i j None yours a b s e = absurd (false≢true (a.some ∙ s))
-shared_told all lists base i j (Some k) None a b s e = absurd (false≢true e)
-shared_told all lists base i j (Some k) (Some l) a b s e =
-    let mine = subst (λ n. AreSamePairs (kept_pairs all (list_kept lists n)) (active_pairs (before base i))) ((Decides-eqb k l).0 e) a.pairs.pairs in
-    same_joined (active_pairs (before base i)) (kept_pairs all (list_kept lists l)) (active_pairs (before base j)) (same_turned (kept_pairs all (list_kept lists l)) (active_pairs (before base i)) mine) b.pairs.pairs
+pub list_shared : (all : List (List ℕ)) (lists : PairLists) (base : BaseView) (i j k : ℕ) → AreActiveTold all (before base i) (said_at base i) (list_told lists (Some k))
+    → AreActiveTold all (before base j) (said_at base j) (list_told lists (Some k)) → AreSamePairs (active_pairs (before base i)) (active_pairs (before base j))
+list_shared all lists base i j k mine yours =
+    let pairs = kept_pairs all (list_kept lists k) in
+    same_joined (active_pairs (before base i)) pairs (active_pairs (before base j)) (same_turned pairs (active_pairs (before base i)) mine.pairs.pairs) yours.pairs.pairs
+
+-- a frame that two assertions share
+pub frame_shared : (all : List (List ℕ)) (base : BaseView) (i j : ℕ) (kept : Option Frame) → is_some kept ≡ true → IsFrameTold all (before base i) (said_at base i) (frame_told kept)
+    → IsFrameTold all (before base j) (said_at base j) (frame_told kept) → ShareMandatory base base i j
+frame_shared all base i j None some mine yours = absurd (false≢true some)
+frame_shared all base i j (Some frame) some mine yours =
+    let numbers = frame.hypotheses.items in
+    let framed : (n : ℕ) → hypotheses_at base n ≡ Some numbers → is_framed_at base n ≡ true = λ n e. sym (framed_some (λ (frame : Frame). frame.hypotheses.items) (Some frame) base n (sym e)) in
+    let first = framed i (sym mine.hypotheses) in
+    let second = framed j (sym yours.hypotheses) in
+    record {
+      hypotheses = sym (frame_numbers base i numbers (sym mine.hypotheses)).are ∙ (frame_numbers base j numbers (sym yours.hypotheses)).are;
+      pairs = same_from_order (frame_at base i) (frame_at base j) (framed_in_order base i first) (framed_in_order base j second) (sym mine.pairs.pairs ∙ yours.pairs.pairs);
+    }
+
+-- a number that is found is the one that is reported
+pub number_told : (kept told : List (Option ℕ)) (i : ℕ) (found : Option ℕ) → found ≡ value_kept kept i → kept ≡ told → IfSome found (HasNumber told i)
+number_told kept told i None e same = tt
+number_told kept told i (Some k) e same = subst (λ w. HasNumber w i k) same (value_there kept i k (sym e))
+
+-- what items share that have it by the numbers that are kept, they share by those that are reported
+pub number_shared : (kept told : List (Option ℕ)) (i : ℕ) (found : Option ℕ) (Shares : ℕ → Type 0) → found ≡ value_kept kept i → kept ≡ told
+    → ((j k : ℕ) → value_kept kept i ≡ Some k → value_kept kept j ≡ Some k → Shares j) → IfSome found (λ k. (j : ℕ) → HasNumber told j k → Shares j)
+number_shared kept told i None Shares e same share = tt
+number_shared kept told i (Some k) Shares e same share = λ j has. share j k (sym e) (ap value_or_none (ap (λ w. slice_get w j) same ∙ has))
 
 -- past the last item none is a `$f`
 pub float_none : (found : List store.Item) (said : List Said) (i : ℕ) → AllZip HasKind found said → slice_get (map is_float_item found) i ≡ None → false ≡ is_kind Floating (item_at said i).kind
@@ -191,7 +220,7 @@ base_told all base inside distinct count few labelled kinds parts =
       expressions = expressions_told all base inside.parts.expressions parts.symbols;
       frames =
           rows_told frame_told (TellsFrame all) (IsFrameTold all)
-          ((λ front item kept t. grind (arith, common_steps) steps 200000)) base inside.parts.frames parts.frames;
+          ((λ front item kept t. grind (arith, common_steps) steps 200000)) base (shared_values inside.parts.frames) parts.frames;
       actives = rows_told (list_told lists) (TellsPairs all lists) (AreActiveTold all) (actives_told all lists) base inside.parts.pair_numbers parts.pair_numbers;
       marks = parts.marks;
     }

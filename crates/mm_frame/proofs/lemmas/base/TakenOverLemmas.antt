@@ -3,10 +3,9 @@ use Rattle.std.proofs.lemmas.{Grind.{common_steps}, Bool.{false≢true}, List.{l
 use Rattle.std.proofs.Common.{◌≡◌, ℕ, zero, suc, ◌<◌, Bool, true, Option, Some, List, [], ◌∷◌, ◌++◌, length, take, slice_get, nat_eq, refl, sym, ◌∙◌, ap, subst, arith, take-suc, take-append-drop}
 use Rattle.std.specs.{HashMap.{get}, List.{AllZip}}
 use Rattle.mm_store.specs.Language.FilesView.{FilesView}
-use Rattle.mm_frame.specs.{declared.pair_lists.PairLists.{PairLists}, Language.{Sound.{sound_items}, Framing.{active_pairs}, Base.{BaseView, before, said_at, is_proof_at}}}
-use Rattle.mm_frame.specs.{Language.Answering.{AreRows, BaseAnswers, is_told_proof}, Code.{KeptAssertions.{TellsPairs}, KeptPairLists.{AreMade, IsList, KeepsLists}, KeptSparse.{value_kept}}}
-use Rattle.mm_frame.{specs.Code.{KnownItem.{IsAgain}, TakenOver.{AreFirst, AreFirstIf}}, proofs.lemmas.pairs.{PairListLemmas.{list_stays}, SharedPairs.{same_joined}}}
-use Rattle.mm_frame.proofs.lemmas.reading.KnownItems.{same_again}
+use Rattle.mm_frame.specs.{declared.pair_lists.PairLists.{PairLists}, Language.{Sound.{sound_items}, Framing.{active_pairs}, Base.{BaseView, before, said_at}, Answering.{AreRows, BaseAnswers}}}
+use Rattle.mm_frame.specs.Code.{KeptAssertions.{TellsPairs}, KeptPairLists.{AreMade, IsList, KeepsLists}, KeptSparse.{value_kept}, KnownItem.{IsAgain}, TakenOver.{AreFirst, AreFirstIf}}
+use Rattle.mm_frame.proofs.lemmas.{pairs.{PairListLemmas.{list_stays}, SharedPairs.{same_joined}}, reading.KnownItems.{same_again}}
 use Rattle.mm_machine.specs.Language.{Frame.{Symbol, AreSamePairs}, NumberedSymbols.{kept_pairs}}
 use Rattle.mm_statement.specs.Language.{Item.{Said, item_at}, Statement.{OneRangeSaysOne, Says}}
 use Rattle.mm_store.specs.declared.item.Item as store
@@ -63,16 +62,15 @@ list_shared all lists k pairs others is same = record {
 }
 
 pub list_here : (all : List (List ℕ)) (lists : PairLists) (base : BaseView) (said : List Said) (numbers : List (Option ℕ)) (j i k : ℕ) → AreFirst base said → i ≡ length said → AreRows (TellsPairs all lists) said numbers
-    → Some k ≡ value_kept numbers j → (is_proof_at base j ≡ true → AreSamePairs (active_pairs (before base j)) (active_pairs (before base i))) → IsList all lists k (active_pairs (sound_items said))
+    → Some k ≡ value_kept numbers j → AreSamePairs (active_pairs (before base j)) (active_pairs (before base i)) → IsList all lists k (active_pairs (sound_items said))
 list_here all lists base said numbers j i k front number rows e shared =
     let row = value_there numbers j k e in
     let within = slice_get_within numbers j (Some k) row in
     let earlier : j < length said = omega arith in
     let told = rows.each j (Some k) row in
     let same = ap sound_items (first_take base said j front earlier) in
-    let proof : is_proof_at base j ≡ true = (λ n. is_told_proof (same n) (first_item base said j front earlier n)) ∙ sym told.some in
     list_shared all lists k (active_pairs (sound_items (take j said))) (active_pairs (sound_items said)) (told.list k refl)
-    (subst (λ w. AreSamePairs (active_pairs w) (active_pairs (sound_items said))) same (subst (λ w. AreSamePairs (active_pairs (before base j)) (active_pairs w)) (before_next base said i front number) (shared proof)))
+    (subst (λ w. AreSamePairs (active_pairs w) (active_pairs (sound_items said))) same (subst (λ w. AreSamePairs (active_pairs (before base j)) (active_pairs w)) (before_next base said i front number) shared))
 
 -- more lists, and none is made for other counts
 pub made_stays : (all : List (List ℕ)) (before : List Said) (old new : PairLists) → KeepsLists old new → new.made ≡ old.made → AreMade all before old → AreMade all before new

@@ -5,10 +5,11 @@ use Rattle.std.proofs.Common.{take-append-drop}
 use Rattle.mm_frame.specs.{declared.{frame.Frame.{Frame}, frames.Frames.{Frames}}, Language.{Scope.{active_numbers}, Sound.{AreSound, sound_items}}}
 use Rattle.mm_frame.specs.Language.Answering.{AreRows, are_paired, numbers_if, pairs_in_order, told_numbers, typed_variables}
 use Rattle.mm_frame.specs.Language.Framing.{active_pairs, expression, frame, is_mandatory, mandatory_hypotheses, mandatory_numbers, mandatory_variables, pairs_of}
-use Rattle.mm_frame.specs.Code.{KeptAssertions.{AreFrames, TellsFrame, TellsReach, is_told_framed}, KeptFrames.{AddsEqual, AddsFrame, AddsSame, IsFrameAt}, KeptPairLists.{AreFrontNumbers}}
-use Rattle.mm_frame.{specs.Code.{KeptSparse.{value_kept}, LastItems.{is_disjoint_item}}, proofs.lemmas.{base.BaseLemmas.{kept_are_sound, kept_front_at, rows_more}, frames.Frames.{float_labelled}}}
-use Rattle.mm_frame.proofs.lemmas.{frames.HypothesisNumbers.{from_active_number}, lists.{Members.{In, get_join}, SharedValues.{value_there}}, pairs.ActivePairLemmas.{expression_at_number, flat_same}}
-use Rattle.mm_frame.proofs.lemmas.{pairs.{FramePairs.{active_in_order, typed_by_numbers, variables_if}, PairListLemmas.{whole_front}}, scope.Facts.{sound_front}}
+use Rattle.mm_frame.specs.Code.{KeptAssertions.{AreFrames, TellsFrame, TellsReach, is_told_framed}, KeptFrames.{AddsEqual, AddsFrame, AddsSame, IsFrameAt, frames_kept}}
+use Rattle.mm_frame.{specs.Code.{KeptPairLists.{AreFrontNumbers}, KeptSparse.{value_kept}, LastItems.{is_disjoint_item}}, proofs.lemmas.base.BaseLemmas.{kept_are_sound, kept_front_at, rows_more}}
+use Rattle.mm_frame.proofs.lemmas.{frames.{Frames.{float_labelled}, HypothesisNumbers.{from_active_number}}, lists.{Members.{In, get_join}, SharedValues.{value_there}}}
+use Rattle.mm_frame.proofs.lemmas.pairs.{ActivePairLemmas.{expression_at_number, flat_same}, FramePairs.{active_in_order, typed_by_numbers, variables_if}, PairListLemmas.{whole_front}}
+use Rattle.mm_frame.proofs.lemmas.scope.Facts.{sound_front}
 use Rattle.mm_machine.specs.Language.{Frame.{Symbol}, NumberedSymbols.{ArePairsRead}}
 use Rattle.mm_statement.specs.Language.Item.{Said, passed, is_kind, is_labelled, Essential, Floating, has, item_at, variable_of}
 
@@ -78,10 +79,10 @@ told_some b before item xs e = grind (arith, common_steps) steps 200000
 -- the frame of an earlier assertion with the same hypotheses, made where the same `$d` are active, is that of one more
 frame_again : (all : List (List ℕ)) (said : List Said) (item : Said) (frames : Frames) (hypotheses : List ℕ) (reach number : ℕ) → IsFrameAt frames hypotheses reach number → AreFrames all said frames
     → Some hypotheses ≡ told_numbers (sound_items said) item → AreFrontNumbers (sound_items said) (active_numbers is_disjoint_item (sound_items said)) reach
-    → TellsFrame all (sound_items said) item (value_kept frames.kept number)
+    → TellsFrame all (sound_items said) item (value_kept (frames_kept frames) number)
 frame_again all said item frames hypotheses reach number s are e now =
-    let there = value_there frames.kept number s.frame s.there in
-    let within : number < length said = (let w = slice_get_within frames.kept number (Some s.frame) there in omega (arith, are.kept.count)) in
+    let there = value_there (frames_kept frames) number s.frame s.there in
+    let within : number < length said = (let w = slice_get_within (frames_kept frames) number (Some s.frame) there in omega (arith, are.kept.count)) in
     let other = item_at said number in
     let later = sound_items said in
     let before = take number later in
@@ -102,7 +103,7 @@ frame_again all said item frames hypotheses reach number s are e now =
 frames_more : (all : List (List ℕ)) (said : List Said) (item : Said) (old new : Frames) (kept : Option Frame) (reach : Option ℕ) → AddsFrame old new kept reach → AreFrames all said old
     → TellsFrame all (sound_items said) item kept → TellsReach (sound_items said) item reach → AreFrames all (said ++ item ∷ []) new
 frames_more all said item old new kept reach adds are told known = record {
-  kept = subst (AreRows (TellsFrame all) (said ++ item ∷ [])) (sym adds.kept) (rows_more (TellsFrame all) said item old.kept kept are.kept told);
+  kept = subst (AreRows (TellsFrame all) (said ++ item ∷ [])) (sym adds.kept) (rows_more (TellsFrame all) said item (frames_kept old) kept are.kept told);
   reaches = subst (AreRows TellsReach (said ++ item ∷ [])) (sym adds.reaches) (rows_more TellsReach said item old.reaches reach are.reaches known);
 }
 
@@ -113,7 +114,7 @@ frames_none all said item old new adds are e = frames_more all said item old new
 pub frames_same : (all : List (List ℕ)) (said : List Said) (item : Said) (old new : Frames) (hypotheses : List ℕ) (reach : ℕ) → AddsSame old new hypotheses reach → AreFrames all said old
     → Some hypotheses ≡ told_numbers (sound_items said) item → AreFrontNumbers (sound_items said) (active_numbers is_disjoint_item (sound_items said)) reach → AreFrames all (said ++ item ∷ []) new
 frames_same all said item old new hypotheses reach adds are e now =
-    frames_more all said item old new (value_kept old.kept adds.number) (Some reach) adds.added are (frame_again all said item old hypotheses reach adds.number adds.same are e now) now
+    frames_more all said item old new (value_kept (frames_kept old) adds.number) (Some reach) adds.added are (frame_again all said item old hypotheses reach adds.number adds.same are e now) now
 
 pub frames_equal : (all : List (List ℕ)) (said : List Said) (item : Said) (old new : Frames) (made : Frame) (reach : ℕ) → AddsEqual old new made reach → AreFrames all said old
     → TellsFrame all (sound_items said) item (Some made) → AreFrontNumbers (sound_items said) (active_numbers is_disjoint_item (sound_items said)) reach → AreFrames all (said ++ item ∷ []) new

@@ -5,14 +5,14 @@ use Rattle.mm_proof.proofs.marks.marked.Goals as goal
 
 pub returns-clause-mark : goal.returns-clause-mark
 returns-clause-mark c names base copy f g =
-    let mark = c.mark_of-last.result.0 in
-    stepped base copy c.args.j mark.old mark.frame mark.pairs mark.in_step c.if-step.placed (c.mark_of-last.ensures.mark names base copy f g)
+    let mark = c.in_ok-mark.mark in
+    stepped base copy c.args.j mark.old mark.frame mark.pairs mark.in_step c.if-step.placed (c.in_ok-mark.ensures.mark names base copy f g)
 
 pub returns-clause-labels : goal.returns-clause-labels
 returns-clause-labels c t names base copy f g i h label unchanged = elim c.if-step.branch [
   | then-step w ↦
       let j = c.args.j in
-      let is = c.mark_of-last.ensures.mark names base copy f g in
+      let is = c.in_ok-mark.ensures.mark names base copy f g in
       let found = w.keeps_place-placed.ensures (sym w.placed-is ∙ t) c.args.bases.old.now c.requires.ordinals names base copy f g is h.is in
       let both = found.1 in
       let same = same_Some found.0 i (sym ((is.old_is found.0).1 both.one_label) ∙ (is.old_is i).1 h) in
@@ -24,16 +24,15 @@ returns-clause-labels c t names base copy f g i h label unchanged = elim c.if-st
 
 -- what is listed as changed has its place, and so has what is alike
 is_placed : (c : goal.After-next_expected) → c.if-not-alike.here ≡ true → c.if-step.placed ≡ true
-is_placed c e = grind (arith, common_steps, then-not-alike, then-placed-2, else-placed-2, false≢true, else-not-alike) steps 200000
+is_placed c e = grind (arith, common_steps, then-not-alike, then-placed-2, else-placed-2, false≢true, else-not-alike) steps 1000000
 
 alike_placed : (c : goal.After-next_expected) → c.if-placed.alike ≡ true → c.if-step.placed ≡ true
-alike_placed c e = grind (arith, common_steps, then-placed, else-placed, false≢true) steps 200000
+alike_placed c e = grind (arith, common_steps, then-placed, else-placed, false≢true) steps 1000000
 
 pub returns-clause-step : goal.returns-clause-step
 returns-clause-step c = record {
-  last = c.mark_of-last.ensures.last;
   in_step = λ t names base copy f g. (
-      let is = c.mark_of-last.ensures.mark names base copy f g in
+      let is = c.in_ok-mark.ensures.mark names base copy f g in
       in_step_behind base copy c.args.changed.now c.args.j c.if-not-alike.here c.if-step.placed c.if-placed.alike c.if-alike.next (is_placed c) (
       λ e. elim c.if-alike.branch [
         | then-alike w ↦ inr (alike_placed c w.if-alike.true, w.if-alike.true)
@@ -44,7 +43,7 @@ returns-clause-step c = record {
         | else-step w ↦ absurd (false≢true (sym (w.placed-is ∙ w.if-step.false) ∙ e))
       ]) (
       λ e. elim c.if-placed.branch [
-        | then-placed w ↦ w.is_alike-alike.ensures (sym w.alike-is ∙ e) c.mark_of-last.ensures.kept names base copy f g is
+        | then-placed w ↦ w.is_alike-alike.ensures (sym w.alike-is ∙ e) c.in_ok-mark.ensures.kept names base copy f g is
         | else-placed w ↦ absurd (false≢true (sym (w.alike-is ∙ w.if-placed.false) ∙ e))
       ]) t);
 }

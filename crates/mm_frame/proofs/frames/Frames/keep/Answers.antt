@@ -1,4 +1,5 @@
 use Rattle.std.proofs.{Common.{◌++◌, ◌∷◌, [], refl, ap, ◌∙◌}, lemmas.Result.{on_ok_weaker}}
+use Rattle.mm_frame.specs.Code.KeptFrames.{frames_kept}
 use Rattle.mm_frame.proofs.frames.Frames.keep.Goals as goal
 
 pub returns-in-Some-clause-kept : goal.returns-in-Some-clause-kept
@@ -8,7 +9,7 @@ returns-in-Some-clause-kept c =
       kept = equal.kept;
       hypotheses = equal.hypotheses;
       pairs = equal.pairs;
-      added = added ∙ ap (λ frame. c.args.self.now.kept ++ frame ∷ []) equal.there;
+      added = added ∙ ap (λ frame. frames_kept c.args.self.now ++ frame ∷ []) equal.there;
     }) c.add_again.ensures
 
 pub returns-clause-kept : goal.returns-clause-kept

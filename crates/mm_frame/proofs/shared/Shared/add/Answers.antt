@@ -1,5 +1,5 @@
 use Rattle.std.proofs.{Common.{◌≡◌, ◌++◌, ◌∷◌, [], Some, OnOk, length, map, sym, ◌∙◌, ap, subst, arith, length-append}, lemmas.Option.{same_Some}}
-use Rattle.mm_frame.{specs.Code.KeptShared.{value_at}, proofs.lemmas.{lists.SharedValues.{AreBelow, still_below, shared_push}, scope.BlockLemmas.{get_last}}}
+use Rattle.mm_frame.{specs.Code.KeptShared.{shared_values, value_at}, proofs.lemmas.{lists.SharedValues.{AreBelow, still_below, shared_push}, scope.BlockLemmas.{get_last}}}
 use Rattle.mm_frame.proofs.shared.Shared.add.Goals as goal
 
 pub invariant_of-self : goal.invariant_of-self
@@ -19,6 +19,6 @@ returns g c =
     let more = c.args.value ∷ [] in
     let whole : c.push.new.self.items ≡ values.items ++ more = c.in_ok-push.ensures.items in
     let place : c.len-place.result ≡ length values.items = omega (arith, c.len-place.ensures, values.ok.0) in
-    subst (λ w. OnOk c.add.result (map (value_at w) c.add.new.self ≡ c.args.self.now ++ Some c.args.value ∷ [])) (sym whole)
-    (subst (λ o. OnOk c.add.result (map (value_at (values.items ++ more)) c.add.new.self ≡ c.args.self.now ++ o ∷ [])) (get_last values.items c.args.value c.len-place.result place)
-    (shared_push values.items more c.self.inside.places c.add.new.self (Some c.len-place.result) c.args.self.now c.add.result c.add.ensures.ok c.self.invariant c.self.view_is))
+    subst (λ w. OnOk c.add.result (map (value_at w) c.add.new.self ≡ shared_values c.args.self.now ++ Some c.args.value ∷ [])) (sym whole)
+    (subst (λ o. OnOk c.add.result (map (value_at (values.items ++ more)) c.add.new.self ≡ shared_values c.args.self.now ++ o ∷ [])) (get_last values.items c.args.value c.len-place.result place)
+    (shared_push values.items more c.self.inside.places c.add.new.self (Some c.len-place.result) (shared_values c.args.self.now) c.add.result c.add.ensures.ok c.self.invariant (ap shared_values c.self.view_is)))

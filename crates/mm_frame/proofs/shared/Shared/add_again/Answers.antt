@@ -1,5 +1,5 @@
-use Rattle.std.proofs.Common.{length, sym, ◌∙◌}
-use Rattle.mm_frame.proofs.lemmas.lists.SharedValues.{shared_again, still_below, value_there}
+use Rattle.std.proofs.Common.{length, ap, sym, ◌∙◌}
+use Rattle.mm_frame.{proofs.lemmas.lists.SharedValues.{shared_again, still_below, value_there}, specs.Code.KeptShared.{shared_values}}
 use Rattle.mm_frame.proofs.shared.Shared.add_again.Goals as goal
 
 pub invariant_of-self : goal.invariant_of-self
@@ -11,4 +11,4 @@ invariant_of-self g c =
 pub returns : goal.returns
 returns g c =
     let inside = c.self.inside in
-    shared_again inside.values.items inside.places c.add.new.self c.at-place.result c.args.number c.args.self.now c.add.result c.add.ensures.ok c.at-place.ensures c.self.view_is
+    shared_again inside.values.items inside.places c.add.new.self c.at-place.result c.args.number (shared_values c.args.self.now) c.add.result c.add.ensures.ok c.at-place.ensures (ap shared_values c.self.view_is)

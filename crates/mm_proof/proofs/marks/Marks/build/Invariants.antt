@@ -4,7 +4,7 @@ use Rattle.mm_proof.proofs.marks.Marks.build.Given as goal
 
 abbrev pub invariant-loop-j : goal.invariant-loop-j
 invariant-loop-j l = record {
-  lists : AreCompared l.old l.new l.lists;
+  compared : AreCompared l.old l.new l.compared;
   step : IsStepAt l.old l.new l.changed.items l.j l.step;
   count : length l.marks.items ≡ l.j;
   kept : AreHypothesisMarks l.old l.new l.marks.items;

@@ -1,6 +1,6 @@
 use Rattle.std.proofs.{Common.{◌≡◌, Some, sym, ◌∙◌, ap, subst, eqb-true}, lemmas.Option.{slice_get-get_or}}
 use Rattle.mm_frame.specs.Language.Base.{hypothesis_at}
-use Rattle.mm_proof.proofs.marks.is_marked.Goals as goal
+use Rattle.mm_proof.proofs.mark.is_marked.Goals as goal
 
 pub returns-in-Some-old : goal.returns-in-Some-old
 returns-in-Some-old c t old new are names base copy f g =

@@ -1,7 +1,7 @@
 use Rattle.std.proofs.{Common.{get_or, arith}, lemmas.Option.{slice_get-get_or}}
 use Rattle.mm_frame.specs.Language.Base.{hypothesis_at}
 use Rattle.mm_proof.proofs.KeptMarkLemmas.{same_more, same_whole}
-use Rattle.mm_proof.proofs.marks.are_marked.Goals as goal
+use Rattle.mm_proof.proofs.mark.are_marked.Goals as goal
 
 pub loop-k-init : goal.loop-k-init
 loop-k-init c old new are names base copy f g m x y l p q = absurd (omega (arith, l))
