@@ -15,7 +15,7 @@ use crate::judge::FrameFault;
 use crate::parts::BaseParts;
 use crate::shared::element_at;
 use mm_machine::NumberedSymbol;
-use mm_store::Item;
+use mm_store::{Item, ItemKind};
 use std::marker::Model;
 
 /// The items of files from a top file on, which of them are sound, and the frames of the assertions.
@@ -25,8 +25,6 @@ use std::marker::Model;
 #[derive(Drop)]
 pub struct Base {
     pub(crate) items: Vec<Item>,
-    /// For each item whether it is a `$f`.
-    pub(crate) floats: Vec<bool>,
     pub(crate) parts: BaseParts,
 }
 
@@ -40,6 +38,13 @@ impl Model for Base {
     ghost view = { answers_of };
 
     ghost invariant = { KnowsItems };
+}
+
+/// Whether items of this kind are `$f`.
+fn is_float(kind: ItemKind) -> bool
+    ensures { result ≡ meant.is_kind meant.Floating (kind_of kind) }
+{
+    matches!(kind, ItemKind::Floating)
 }
 
 /// What a label means at an item.
@@ -70,12 +75,12 @@ impl Base {
         self.parts.expressions.at(i)
     }
 
-    /// Whether the item with this number is a `$f`. The items themselves are not looked at.
+    /// Whether the item with this number is a `$f`.
     pub fn is_floating(&self, i: usize) -> bool
         ensures { (base : BaseView) → IsBase base self.now → result ≡ meant.is_kind meant.Floating (said_at base i).kind }
     {
-        match element_at(&self.floats, i) {
-            Some(floating) => *floating,
+        match element_at(&self.items, i) {
+            Some(item) => is_float(item.kind),
             None => false,
         }
     }

@@ -1,35 +1,16 @@
 //! How a base is built.
 
-ghost use Rattle.std.specs.Prelude.{◌≡◌, ◌↔◌, None, IfOk, IfErr, IsErrOf, map};
+ghost use Rattle.std.specs.Prelude.{◌≡◌, ◌↔◌, None, IfOk, IfErr, IsErrOf};
 ghost use Rattle.mm_store.specs.{Language.{FilesView.{files_in, number_of}, Answers.{IsExpansionError}}, declared.error.StoreError.TheVariants.{NoTop}};
-ghost use Rattle.mm_statement.specs.Language.Statement.{kind_of};
 ghost use Rattle.mm_machine.specs.Language.Names.{Begins};
-ghost use Rattle.mm_frame.specs.{Language.{Base.{BaseView, IsOfFiles}, Older.{HasOlder}, Answering.{IsBaseBy, StandsLater}}, Code.KeptBase.{is_float_item}};
-ghost use Rattle.mm_statement.specs.Language.Item as meant;
+ghost use Rattle.mm_frame.specs.Language.{Base.{BaseView, IsOfFiles}, Older.{HasOlder}, Answering.{IsBaseBy, StandsLater}};
 
 use crate::again::read_all_again;
 use crate::base::Base;
 use crate::draft::Draft;
 use crate::names::Names;
-use mm_store::{Files, Item, ItemKind, StoreError};
-use std::alloc::{AllocError, Global};
-
-fn is_floating(kind: ItemKind) -> bool
-    ensures { result ≡ meant.is_kind meant.Floating (kind_of kind) }
-{
-    matches!(kind, ItemKind::Floating)
-}
-
-/// For each of some items whether it is a `$f`.
-fn floats_among(alloc: Global, items: &[Item]) -> Result<Vec<bool>, AllocError>
-    ensures { IfOk result (λ floats. floats.items ≡ map is_float_item items.now) }
-{
-    let mut floats = Vec::with_capacity(alloc, items.len())?;
-    for item in items {
-        floats.push(is_floating(item.kind))?;
-    }
-    Ok(floats)
-}
+use mm_store::{Files, StoreError};
+use std::alloc::Global;
 
 impl Base {
     /// Builds the base of the files from a top file on. `NoTop` comes if no file has the name `top`; any other
@@ -51,12 +32,10 @@ impl Base {
         ensures err { IfErr result IsExpansionError }
     {
         let items = files.statements(top)?;
-        let floats = floats_among(alloc, &items)?;
         let draft = Draft::read_all(alloc, names, files, &items)?;
         names.distinct();
         Ok(Base {
             items,
-            floats,
             parts: draft.parts(),
         })
     }
@@ -80,12 +59,10 @@ impl Base {
         ensures err { IfErr result IsExpansionError }
     {
         let found = files.statements(top)?;
-        let floats = floats_among(alloc, &found)?;
         let draft = read_all_again(alloc, names, files, &found, old)?;
         names.distinct();
         Ok(Base {
             items: found,
-            floats,
             parts: draft.parts(),
         })
     }

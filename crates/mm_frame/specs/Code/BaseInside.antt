@@ -4,7 +4,7 @@ use Rattle.mm_frame.specs.declared.base.Base.TheInside.{Inside}
 use Rattle.mm_frame.specs.Language.Answering.{BaseAnswers}
 use Rattle.mm_frame.specs.Code.KeptTables.{table_label}
 use Rattle.mm_frame.specs.Code.{KeptRows.{AreRowsKept, rows_of}, KeptShared.{shared_values}}
-use Rattle.mm_frame.specs.Code.KeptBase.{frame_told, list_told, is_float_item}
+use Rattle.mm_frame.specs.Code.KeptBase.{frame_told, list_told}
 
 abbrev pub answers_of : Inside → BaseAnswers
 answers_of inside = record {
@@ -18,10 +18,8 @@ answers_of inside = record {
   marks = inside.parts.blocks;
 }
 
--- what is kept of labels and faults fits together; for each item it is kept whether it is a `$f`, and for each label of an item without a
--- fault, which item that is
+-- what is kept of labels and faults fits together, and for each label of an item without a fault it is kept which item that is
 pub record KnowsItems (inside : Inside) : Type 0 where
   pub rows : AreRowsKept inside.parts.rows
-  pub floats : inside.floats.items ≡ map is_float_item inside.items.items
   pub labels : (label : List ℕ) (j : ℕ) → (table_label inside.parts.tables label ≡ Some j)
       ↔ (slice_get (rows_of inside.parts.rows) j ≡ Some (Some label, None))

@@ -1,7 +1,6 @@
 -- What the code keeps of the items for a base.
-use Rattle.std.specs.Prelude.{◌≡◌, ℕ, Bool, List, Option}
+use Rattle.std.specs.Prelude.{◌≡◌, ℕ, List, Option}
 use Rattle.std.specs.Option.{option_map}
-use Rattle.mm_store.specs.declared.item.Item as store
 use Rattle.mm_frame.specs.declared.draft.Draft.{Draft}
 use Rattle.mm_frame.specs.declared.parts.BaseParts.{BaseParts}
 use Rattle.mm_frame.specs.declared.frame.Frame.{Frame}
@@ -12,8 +11,7 @@ use Rattle.mm_frame.specs.Code.KeptActiveItems.{AreActiveKept}
 use Rattle.mm_frame.specs.Code.KeptRows.{AreRowsKept, rows_of}
 use Rattle.mm_frame.specs.Code.KeptSymbols.{AreSymbols}
 use Rattle.mm_frame.specs.Code.{KeptPairTable.{KnowsPairs}, KeptShared.{shared_values}}
-use Rattle.mm_statement.specs.Language.Item.{Said, is_kind, Floating}
-use Rattle.mm_statement.specs.Language.Statement.{kind_of}
+use Rattle.mm_statement.specs.Language.Item.{Said}
 use Rattle.mm_frame.specs.Language.Sound.{sound_items}
 use Rattle.mm_frame.specs.declared.pair_lists.PairLists.{PairLists}
 use Rattle.mm_frame.specs.Code.KeptPairLists.{list_kept}
@@ -69,10 +67,6 @@ pub record AreParts (all : List (List ℕ)) (said : List Said) (parts : BasePart
   pub labels : KnowsLabels (sound_items said) parts.tables
   pub marks : parts.blocks ≡ block_marks (sound_items said)
   pub pair_numbers : AreRows (TellsPairs all parts.pair_lists) said parts.pair_numbers
-
--- the item is a `$f`
-abbrev pub is_float_item : store.Item → Bool
-is_float_item item = is_kind Floating (kind_of item.kind)
 
 -- what is reported from the frame that is kept, if one is
 abbrev pub frame_told : Option Frame → Option (List ℕ × List (NumberedSymbol × NumberedSymbol))

@@ -6,8 +6,8 @@ use Rattle.mm_frame.proofs.lemmas.base.BaseLemmas.{framed_in_order, item_there, 
 use Rattle.mm_frame.proofs.lemmas.{base.ResolvingLemmas.{carrier_found, found_carrier}, faults.FoundFaults.{sound_found}, frames.FrameNumbers.{HasKind, frame_numbers, framed_some}}
 use Rattle.mm_frame.{proofs.lemmas.{frames.SameFrames.{same_from_order}, lists.SharedValues.{value_there}, pairs.SharedPairs.{same_turned, same_joined}}, specs.Code.KeptPairLists.{list_kept}}
 use Rattle.mm_frame.specs.Code.{KeptSortedLists.{pairs_or_none}, KeptSymbols.{AreSymbols, expression_kept, kept_or_none}, KeptTables.{table_label}, BaseInside.{answers_of}}
-use Rattle.mm_frame.specs.Code.{KeptRows.{rows_of, row_label, row_fault, is_shown_in}, KeptAssertions.{TellsFrame, TellsPairs}}
-use Rattle.mm_frame.specs.Code.{KeptBase.{AreParts, is_float_item, frame_told, hypotheses_at, list_told}, KeptShared.{shared_values}, KeptSparse.{value_or_none, value_kept}}
+use Rattle.mm_frame.specs.Code.{KeptRows.{rows_of, row_label, row_fault, is_shown_in}, KeptAssertions.{TellsFrame, TellsPairs}, KeptBase.{AreParts, frame_told, hypotheses_at, list_told}}
+use Rattle.mm_frame.specs.Code.{KeptShared.{shared_values}, KeptSparse.{value_or_none, value_kept}}
 use Rattle.mm_frame.specs.Language.{Base.{told_fault, AreLabelled, BaseView, before, said_at, fault_at, frame_at, is_framed_at, is_sound_at, ShareMandatory}, Sound.{fault, sound_items}}
 use Rattle.mm_frame.specs.Language.{Framing.{active_pairs, expression}, Resolving.{IsCarrier}}
 use Rattle.mm_frame.specs.{Language.Answering.{AreRows, HasNumber, IsLabelTold, IsExpressionTold, IsFrameTold, AreActiveTold, BaseAnswers, IsBaseBy}, declared.FrameNumber.{FrameNumber}}
@@ -152,7 +152,7 @@ number_shared kept told i None Shares e same share = tt
 number_shared kept told i (Some k) Shares e same share = λ j has. share j k (sym e) (ap value_or_none (ap (λ w. slice_get w j) same ∙ has))
 
 -- past the last item none is a `$f`
-pub float_none : (found : List store.Item) (said : List Said) (i : ℕ) → AllZip HasKind found said → slice_get (map is_float_item found) i ≡ None → false ≡ is_kind Floating (item_at said i).kind
+pub float_none : (found : List store.Item) (said : List Said) (i : ℕ) → AllZip HasKind found said → slice_get found i ≡ None → false ≡ is_kind Floating (item_at said i).kind
 float_none [] [] i z e = refl
 float_none (x ∷ found) (y ∷ said) zero z e = cc
 float_none (x ∷ found) (y ∷ said) (suc i) z e = float_none found said i z.1 e

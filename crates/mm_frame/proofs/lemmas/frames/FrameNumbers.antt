@@ -1,15 +1,15 @@
 -- What is kept of an item at its number, and the hypotheses of a frame by their numbers.
-use Rattle.std.proofs.lemmas.{Option.{slice_get_within, get_or_from_slice_get, same_Some, slice_get_cases, slice_get-get_or}, Grind.{common_steps}, Bool.{and_from, and_parts}, List.{take-take}}
+use Rattle.std.proofs.lemmas.{Option.{slice_get_within, get_or_from_slice_get, slice_get_cases, slice_get-get_or}, Grind.{common_steps}, Bool.{and_from, and_parts}, List.{take-take}}
 use Rattle.std.proofs.lemmas.List.Elements.{All-from_get_or}
-use Rattle.std.proofs.Common.{◌≡◌, ◌↔◌, ℕ, zero, suc, ◌<◌, Bool, true, false, ◌&&◌, ◌||◌, Option, Some, None, List, [], ◌∷◌, length, map, take, take_all, slice_get, get_or, is_none, is_some, refl}
-use Rattle.std.{proofs.Common.{sym, ◌∙◌, ap, subst, arith, inl, inr}, specs.{Option.{option_map, IfSome}, Prelude.{Contains}, List.{AllZip}}}
+use Rattle.std.proofs.Common.{◌≡◌, ◌↔◌, ℕ, zero, suc, ◌<◌, Bool, true, false, ◌&&◌, ◌||◌, Option, Some, None, List, [], ◌∷◌, length, take, take_all, slice_get, get_or, is_none, is_some, refl, sym}
+use Rattle.std.{proofs.Common.{◌∙◌, ap, subst, arith, inl, inr}, specs.{Option.{option_map, IfSome}, Prelude.{Contains}, List.{AllZip}}}
 use Rattle.mm_frame.proofs.lemmas.lists.Members.{get_taken, front_get, get_between, In, in_contains, contains_in}
 use Rattle.mm_frame.proofs.lemmas.{base.BaseLemmas.{item_there, kept_item_at, none_told, kept_count, kept_at, kept_front_at, kept_are_sound}, frames.Frames.{in_at}}
 use Rattle.mm_frame.proofs.lemmas.{frames.HypothesisNumbers.{to_active_number, from_active_number, active_numbers_rise, hypotheses_by_numbers}, scope.SoundItems.{map_same}}
 use Rattle.mm_frame.{proofs.lemmas.pairs.ActivePairLemmas.{expression_at_number}, specs.{declared.FrameNumber.{FrameNumber}, Language.Sound.{fault, judged, sound_items}}}
 use Rattle.mm_frame.specs.Language.Framing.{is_mandatory, mandatory_variables, hypothesis, mandatory_numbers}
 use Rattle.mm_frame.specs.Language.{Base.{BaseView, before, said_at, fault_by, hypothesis_at, is_sound_at, is_shown_at, is_framed_at, IsMandatoryAt, AreHypotheses}, Answering.{numbers_if}}
-use Rattle.mm_frame.specs.Code.KeptBase.{is_float_item, hypotheses_at}
+use Rattle.mm_frame.specs.Code.KeptBase.{hypotheses_at}
 use Rattle.mm_store.specs.Language.FilesView.{FilesView}
 use Rattle.mm_statement.specs.Language.{Item.{Kind, Said, passed, is_kind, Essential, Floating, is_labelled, has, variable_of, item_at}, Statement.{kind_of, Says}}
 use Rattle.mm_store.specs.declared.item.Item as store
@@ -145,10 +145,3 @@ kind_at [] said i item z e = cc
 kind_at (x ∷ found) [] i item z e = absurd z
 kind_at (x ∷ found) (y ∷ said) zero item z e = let q : x ≡ item = cc in sym (ap (λ (w : store.Item). kind_of w.kind) q) ∙ z.0
 kind_at (x ∷ found) (y ∷ said) (suc i) item z e = kind_at found said i item z.1 e
-
--- whether it is a `$f` is kept of each item
-pub float_at : (found : List store.Item) (said : List Said) (i : ℕ) (b : Bool) → AllZip HasKind found said → slice_get (map is_float_item found) i ≡ Some b → b ≡ is_kind Floating (item_at said i).kind
-float_at [] said i b z e = cc
-float_at (x ∷ found) [] i b z e = absurd z
-float_at (x ∷ found) (y ∷ said) zero b z e = sym (same_Some _ _ e) ∙ ap (is_kind Floating) z.0
-float_at (x ∷ found) (y ∷ said) (suc i) b z e = float_at found said i b z.1 e

@@ -1,5 +1,5 @@
-use Rattle.std.{proofs.{Common.{ℕ, List, map, sym, ◌∙◌, ap, subst, arith}, lemmas.Slice.Zip.{AllZip-long}}, specs.List.{AllZip}}
-use Rattle.mm_frame.specs.{declared.base.Base.TheInside.{Inside}, Language.{Base.{BaseView}, Answering.{IsBaseBy}}, Code.{BaseInside.{answers_of}, KeptBase.{is_float_item}}}
+use Rattle.std.{proofs.{Common.{ℕ, List, sym, subst, arith}, lemmas.Slice.Zip.{AllZip-long}}, specs.List.{AllZip}}
+use Rattle.mm_frame.specs.{declared.base.Base.TheInside.{Inside}, Language.{Base.{BaseView}, Answering.{IsBaseBy}}, Code.BaseInside.{answers_of}}
 use Rattle.mm_frame.proofs.lemmas.{base.{AnswerLemmas.{base_told, labels_told}, SaidLabels.{said_labelled}}, frames.FrameNumbers.{kinds_said}}
 use Rattle.mm_machine.specs.Language.Names.{AreDistinct, Begins}
 use Rattle.mm_statement.specs.Language.Statement.{Says}
@@ -12,7 +12,6 @@ invariant_of-result c =
     let parts = c.parts.ensures names read.0 (read.2 names c.distinct.ensures (λ n name there. there)) in
     record {
       rows = parts.kept;
-      floats = c.in_ok-floats.ensures ∙ ap (map is_float_item) c.deref.ensures.value;
       labels = labels_told names read.0 c.parts.result parts;
     }
 
@@ -21,9 +20,9 @@ returns-clause-base c =
     let files = c.args.files.now in
     let found = c.in_ok-found.found.items in
     let read = c.in_ok-draft.ensures.read in
-    let each = subst (λ w. AllZip (Says files) w read.0) c.deref-2.ensures.value read.1 in
+    let each = subst (λ w. AllZip (Says files) w read.0) c.deref.ensures.value read.1 in
     let base : BaseView = read.0 in
-    let built : Inside = record { items = c.in_ok-found.found; floats = c.in_ok-floats.floats; parts = c.parts.result } in
+    let built : Inside = record { items = c.in_ok-found.found; parts = c.parts.result } in
     let by : (all : List (List ℕ)) → AreDistinct all → Begins c.read_all_again.new.names all → IsBaseBy all base (answers_of built) = λ all distinct more.
     base_told all base built distinct (sym (AllZip-long (Says files) found read.0 each)) (omega
     (arith, AllZip-long (Says files) found read.0 each, c.in_ok-found.ensures.small)) (said_labelled files found read.0 each) (kinds_said files found read.0 each)
