@@ -21,18 +21,6 @@ pub struct Compared {
     lists: HashMap<(usize, usize), bool>,
 }
 
-/// A frame that has no more hypotheses than this, and no more pairs, is compared at once: it takes no longer than to look up
-/// whether it was.
-const FEW: usize = 16;
-
-/// Whether the frame of an item has few hypotheses and pairs.
-fn has_few(base: &Base, i: usize) -> bool {
-    match base.frame(i) {
-        Some(frame) => frame.hypotheses.len() <= FEW && frame.pairs.len() <= FEW,
-        None => true,
-    }
-}
-
 /// Whether two sound assertions have the same mandatory hypotheses and pairs. Hypotheses that are the same by the marks so far
 /// are not looked at.
 fn same_mandatory(old: &Base, i: usize, new: &Base, j: usize, marks: &[Mark]) -> bool
@@ -77,9 +65,6 @@ impl Compared {
         };
         if !same_expression(old, i, new, j) {
             return Ok(false);
-        }
-        if has_few(old, i) {
-            return Ok(same_mandatory(old, i, new, j, marks));
         }
         if let Some(same) = self.frames.get(&(mine, yours)) {
             return Ok(*same);

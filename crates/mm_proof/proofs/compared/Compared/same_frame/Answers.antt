@@ -9,13 +9,6 @@ returns-then-not-same_expression-clause-same c names base copy f g = (
   λ s. sym c.if-not-same_expression.true ∙ (c.same_expression.ensures names base copy f g (shown_framed base c.args.i s.was) (shown_framed copy c.args.j s.is)).1 s.same.expression,
 )
 
-pub returns-then-has_few-clause-same : goal.returns-then-has_few-clause-same
-returns-then-has_few-clause-same c names base copy f g =
-    let was = sym (c.in-Some-Some.ensures.some base (names, f)) in
-    let is = sym (c.in-Some-Some.ensures'.some copy (names, g)) in
-    of_frames base copy c.args.i c.args.j c.same_expression.result c.same_mandatory.result was is c.if-not-same_expression.false (c.same_expression.ensures names base copy f g)
-    (c.same_mandatory.ensures names base copy f g was is)
-
 pub returns-in-Some-clause-same : goal.returns-in-Some-clause-same
 returns-in-Some-clause-same c names base copy f g =
     let found = c.in-Some-Some in
